@@ -1,21 +1,12 @@
 -- An event of a link of a line is one of this link alone.
-use Rattle.std.proofs.Common.{◌≡◌, ◌≢◌, ℕ, true, false, Some, None, refl, sym, ap, ◌∙◌, subst, ⊎_elim}
+use Rattle.laws_line.proofs.Vocabulary.{◌≡◌, ◌≢◌, ℕ, true, false, Some, None, refl, sym, ap, ◌∙◌, subst, ⊎_elim, Service, Parts, LinkTimer, Config, hears, request, next, told, at_link, told_of_link, of_aim, at_timer, aim_of_expiry, Line, place_in, link_in, terms, unless_refused_told, of_request, Request, Deactivate, at_requested, at_deactivated, aim_of_request}
 use Rattle.model_bits.specs.Stream as stream
-use Rattle.lapd_frame.specs.declared.services.Service.{Service}
-use Rattle.lapd_frame.specs.Grammar.{Parts}
-use Rattle.model_link.specs.declared.timers.LinkTimer.{LinkTimer}
 use Rattle.model_link.specs.declared.timers.LinkTimer.TheVariants.{T200, T203}
 use Rattle.model_link.specs.Events as link
 use Rattle.model_link.specs.Machine as links
-use Rattle.model_line.specs.declared.config.Config.{Config}
-use Rattle.model_line.specs.Event.{Event, hears, expiry, request, next, told}
-use Rattle.model_line.specs.Effect.{at_link, told_of_link, of_aim}
-use Rattle.model_line.specs.Expiry.{at_timer, aim_of_expiry}
-use Rattle.model_line.specs.Line.{Line, place_in, link_in, terms}
-use Rattle.model_line.specs.Machine.{after, answer, unless_refused, unless_refused_told, of_request}
+use Rattle.model_line.specs.Event.{Event, expiry}
+use Rattle.model_line.specs.Machine.{after, answer, unless_refused}
 use Rattle.model_line.specs.Refusal.{refusal}
-use Rattle.model_line.specs.Request.{Request, Deactivate}
-use Rattle.model_line.specs.Requested.{at_requested, at_deactivated, aim_of_request}
 use Rattle.laws_line.specs.Heard.{IsTo, IsOneEvent as IsOneHeard}
 use Rattle.laws_line.specs.OneEvent.{IsAlone}
 use Rattle.laws_line.specs.Requests.{of_link}

@@ -1,33 +1,12 @@
 -- A control frame that waits is taken by one of so many calls also where other events of its line are between them.
-use Rattle.std.proofs.Common.{◌≡◌, ℕ, ◌+◌, ◌-◌, ◌<◌, ◌≤◌, ◌==◌, ◌&&◌, Bool, true, false, cond, List, [], ◌∷◌, ◌++◌, length, take, Option, Some, None, refl, sym, ap, subst, ◌∙◌, ◌⊎◌, inl, inr, arith, append_assoc, append-nil, length-append, eq-eqb, true≢false}
-use Rattle.lapd_frame.specs.declared.services.Service.{Service}
-use Rattle.lapd_frame.specs.Grammar.{Parts}
-use Rattle.model_link.specs.declared.frames.ControlFrame.{ControlFrame}
-use Rattle.model_link.specs.declared.states.State.{State}
-use Rattle.model_link.specs.declared.terms.Terms.{Terms}
+use Rattle.laws_line.proofs.Vocabulary.{◌≡◌, ℕ, ◌+◌, ◌-◌, ◌<◌, ◌≤◌, ◌==◌, ◌&&◌, Bool, true, false, cond, List, [], ◌∷◌, ◌++◌, length, take, Option, Some, None, refl, sym, ap, subst, ◌∙◌, ◌⊎◌, inl, inr, arith, append_assoc, append-nil, length-append, eq-eqb, true≢false, Service, Parts, ControlFrame, State, Terms, Link, event-follows, as_heard, is_overlong, waiting_left, room, put, Change, Gained, Left, one_more_waits, Config, hears, request, next, LineTold, Answer, Aim, at_none, at_link, at_management, at_units, told_of_management, of_change, of_aim, aim_of_expiry, Line, link_count, service_at, place_at, tei_at, terms, link_at, aim_of_heard, Taken, taken, Deactivate, aim_of_request, IsInRange, after_sound}
 use Rattle.model_link.specs.Events as link
-use Rattle.model_link.specs.Link.{Link}
 use Rattle.model_link.specs.Machine as links
-use Rattle.laws_link.proofs.Follows.{event-follows}
-use Rattle.laws_link.specs.States.{as_heard, is_overlong}
-use Rattle.laws_link.specs.Waiting.{waiting_left, room, put}
 use Rattle.lapd_tei.specs.Events as teis
-use Rattle.lapd_tei.specs.declared.outcome.Change.{Change}
-use Rattle.lapd_tei.specs.declared.outcome.Change.TheVariants.{Gained, Left}
-use Rattle.lapd_tei.proofs.LawLemmas.{one_more_waits}
-use Rattle.model_line.specs.declared.config.Config.{Config}
-use Rattle.model_line.specs.Event.{Event, hears, expiry, request, next, LineTold, Answer}
-use Rattle.model_line.specs.Effect.{Aim, at_none, at_link, at_management, at_units, told_of_management, of_change, of_aim}
-use Rattle.model_line.specs.Expiry.{aim_of_expiry}
-use Rattle.model_line.specs.Line.{Line, link_count, service_at, place_at, tei_at, terms, link_at}
+use Rattle.model_line.specs.Event.{Event, expiry}
 use Rattle.model_line.specs.Machine.{after, answer, unless_refused}
-use Rattle.model_line.specs.Heard.{aim_of_heard}
-use Rattle.model_line.specs.Taken.{Taken, taken}
 use Rattle.model_line.specs.Refusal.{refusal}
-use Rattle.model_line.specs.Request.{Deactivate}
-use Rattle.model_line.specs.Requested.{aim_of_request}
-use Rattle.model_line.specs.Sound.{IsInRange, IsSound}
-use Rattle.model_line.proofs.LineSound.{after_sound}
+use Rattle.model_line.specs.Sound.{IsSound}
 use Rattle.laws_line.specs.Requests.{deactivates}
 use Rattle.laws_line.specs.Steady.{IsBy}
 use Rattle.laws_line.proofs.Happening.{IsGivenUp, Happens, event-happens}

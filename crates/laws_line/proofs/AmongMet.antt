@@ -1,20 +1,10 @@
 -- A line that meets what the law of calls among other events asks, and what that gives.
-use Rattle.std.proofs.Common.{◌≡◌, ℕ, zero, suc, true, [], ◌∷◌, replicate, Some, refl, arith}
+use Rattle.laws_line.proofs.Vocabulary.{◌≡◌, ℕ, zero, suc, true, [], ◌∷◌, replicate, Some, refl, arith, Fcs, ReceiveReady, Ua, Call, reading, header_of, control_of, unnumbered_of, supervisory_of, seq, distance_of, named, response, hears, request, next, Line, place_at, tei_at, after_sound}
 use Rattle.model_bits.specs.Stream.{dropped}
-use Rattle.model_bits.specs.declared.heard.Cause.TheVariants.{Fcs}
-use Rattle.lapd_frame.specs.declared.controls.Control.TheVariants.{ReceiveReady, Ua}
-use Rattle.lapd_frame.specs.declared.services.Service.TheVariants.{Call}
-use Rattle.lapd_frame.specs.Reading.{reading, header_of, control_of, unnumbered_of, supervisory_of}
-use Rattle.lapd_seq.specs.Numbers.{seq}
-use Rattle.lapd_seq.specs.Circle.{distance_of, named}
 use Rattle.lapd_tei.specs.Events as teis
-use Rattle.model_link.specs.Words.{response}
-use Rattle.model_line.specs.Event.{hears, request, next}
-use Rattle.model_line.specs.Line.{Line, place_at, tei_at}
 use Rattle.model_line.specs.Machine.{after}
 use Rattle.model_line.specs.Request
 use Rattle.model_line.specs.Sound.{IsSound}
-use Rattle.model_line.proofs.LineSound.{after_sound}
 use Rattle.laws_line.specs.Among.{StaysOnLine, IsTakenIn}
 use Rattle.laws_line.specs.Drains.{control_text}
 use Rattle.laws_line.specs.WorkedPolled.{small, asked, both_wait, still_on_line}

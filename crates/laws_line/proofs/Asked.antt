@@ -1,32 +1,15 @@
 -- An event accepts for a link what its request asks and its answer grants.
-use Rattle.std.proofs.Common.{◌≡◌, ℕ, Bool, true, false, cond, ◌==◌, List, [], ◌∷◌, length, Option, Some, None, is_some, refl, sym, ap, ◌∙◌}
-use Rattle.std.specs.Prelude.{nat_lt}
-use Rattle.std.specs.Option.{option_map_or}
+use Rattle.laws_line.proofs.Vocabulary.{◌≡◌, ℕ, Bool, true, false, cond, ◌==◌, List, [], ◌∷◌, length, Option, Some, None, is_some, refl, sym, ap, ◌∙◌, nat_lt, option_map_or, Refusal, TooLong, QueueFull, PoolFull, WrongState, Service, Timer, T201, Link, LinkTimer, accepted, contents_of, share, not_not, Config, hears, request, next, Aim, at_link, at_timer, aim_of_expiry, Line, link_number, place_in, link_in, link_of, terms, unless_refused_told, of_request, aim_of_heard, Row, first_that_holds, bad_tei, no_link, wrong_state, too_long, queue_full, pool_full, Request, Establish, Release, Assign, Remove, SetBusy, ClearBusy, Deactivate, at_requested, at_deactivated, aim_of_request, heard_aims}
 use Rattle.model_bits.specs.Stream as stream
-use Rattle.lapd_frame.specs.declared.refusals.Refusal.{Refusal}
-use Rattle.lapd_frame.specs.declared.refusals.Refusal.TheVariants.{TooLong, QueueFull, PoolFull, WrongState}
-use Rattle.lapd_frame.specs.declared.services.Service.{Service}
-use Rattle.lapd_frame.specs.declared.timers.Timer.{Timer}
-use Rattle.lapd_frame.specs.declared.timers.Timer.TheVariants.{T200, T203, T201}
+use Rattle.lapd_frame.specs.declared.timers.Timer.TheVariants.{T200, T203}
 use Rattle.model_link.specs.Events as link
-use Rattle.model_link.specs.Link.{Link, fresh}
+use Rattle.model_link.specs.Link.{fresh}
 use Rattle.model_link.specs.Requests as requests
-use Rattle.model_link.specs.declared.timers.LinkTimer.{LinkTimer}
 use Rattle.model_link.specs.declared.timers.LinkTimer.TheVariants as link_timer
-use Rattle.laws_link.specs.Accepted.{accepted, contents_of}
-use Rattle.laws_link.specs.History.{share}
-use Rattle.lapd_tei.proofs.Tables.{not_not}
-use Rattle.model_line.specs.declared.config.Config.{Config}
-use Rattle.model_line.specs.Event.{Event, hears, expiry, request, next}
-use Rattle.model_line.specs.Effect.{Aim, at_link}
-use Rattle.model_line.specs.Expiry.{at_timer, aim_of_expiry}
-use Rattle.model_line.specs.Line.{Line, link_number, place_in, link_in, link_of, terms}
-use Rattle.model_line.specs.Machine.{answer, unless_refused, unless_refused_told, of_request}
-use Rattle.model_line.specs.Heard.{aim_of_heard}
-use Rattle.model_line.specs.Refusal.{Row, first_that_holds, bad_tei, no_link, wrong_state, too_long, queue_full, pool_full, refusal}
-use Rattle.model_line.specs.Request.{Request, Establish, Release, Data, Unit, Assign, Remove, Check, SetBusy, ClearBusy, Deactivate}
-use Rattle.model_line.specs.Requested.{at_requested, at_deactivated, aim_of_request}
-use Rattle.model_line.proofs.ProperAims.{heard_aims}
+use Rattle.model_line.specs.Event.{Event, expiry}
+use Rattle.model_line.specs.Machine.{answer, unless_refused}
+use Rattle.model_line.specs.Refusal.{refusal}
+use Rattle.model_line.specs.Request.{Data, Unit, Check}
 use Rattle.laws_line.specs.Share.{no_share, ending, share_aimed, share_of, is_link, is_granted, asked_for, asked_by}
 
 -- a row that does not hold is passed over

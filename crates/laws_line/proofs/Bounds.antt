@@ -1,16 +1,7 @@
 -- What a configuration gives: the most frames that are to go.
-use Rattle.std.proofs.Common.{ℕ, ◌+◌, ◌-◌, ◌≤◌, ◌<◌, max, min, Bool, true, false, cond, not, ◌&&◌, length, Option, Some, None, sym, subst, arith}
-use Rattle.std.specs.Option.{unwrap_or}
-use Rattle.lapd_frame.specs.declared.services.Service.{Service}
-use Rattle.lapd_frame.specs.declared.services.Service.TheVariants.{Call, Packet}
-use Rattle.model_link.specs.declared.terms.Terms.{Terms}
-use Rattle.model_link.specs.Link.{Link, outstanding, unsent}
-use Rattle.model_link.specs.Offers.{is_established}
+use Rattle.laws_line.proofs.Vocabulary.{ℕ, ◌+◌, ◌-◌, ◌≤◌, ◌<◌, max, min, Bool, true, false, cond, not, ◌&&◌, length, Option, Some, None, sym, subst, arith, unwrap_or, Service, Call, Packet, Terms, Link, outstanding, unsent, is_established, Config, Line, link_count, service_at, place_at, tei_at, window, terms, link_at, IsSoundAt, sum_bounded}
 use Rattle.model_link.specs.Sound as link_sound
-use Rattle.model_line.specs.declared.config.Config.{Config}
-use Rattle.model_line.specs.Line.{Line, link_count, service_at, place_at, tei_at, window, terms, link_at}
-use Rattle.model_line.specs.Sound.{IsSoundAt, IsSound}
-use Rattle.model_line.proofs.Numbers.{sum_bounded}
+use Rattle.model_line.specs.Sound.{IsSound}
 use Rattle.laws_line.specs.Drains.{link_to_go, to_go_at_link, frames_to_go, most_frames}
 
 -- of a link

@@ -1,39 +1,18 @@
 -- Why a message of TEI management comes to wait: each event of a line.
-use Rattle.std.proofs.Common.{◌≡◌, ◌⊎◌, inl, inr, ℕ, ◌<◌, ◌==◌, true, false, cond, List, [], ◌∷◌, length, Option, Some, None, refl, sym, ap, ◌∙◌, subst, arith}
+use Rattle.laws_line.proofs.Vocabulary.{◌≡◌, ◌⊎◌, inl, inr, ℕ, ◌<◌, ◌==◌, true, false, cond, List, [], ◌∷◌, length, Option, Some, None, refl, sym, ap, ◌∙◌, subst, arith, option_map_or, Tei, Address, Refusal, Service, T201, Parts, service_of, LinkTimer, Management, heard_in, Change, Gained, Left, Config, hears, request, next, Answer, Aim, at_management, told_of_management, of_change, of_aim, at_timer, Line, place_in, has_tei, unless_refused_told, management_sapi, drop_for, to_service, addressed, message_of, aim_of_reading, aim_of_heard, Taken, taken, line_of, wrong_side, bad_tei, no_link, tei_taken, table_full, check_running, control_full, at_side, managed_at, Request, Establish, Release, Assign, Remove, SetBusy, ClearBusy, Deactivate, at_requested, at_deactivated, aim_of_request, IsInRange, next_walk, ranges_of, not_not}
 use Rattle.model_bits.specs.Stream as stream
-use Rattle.std.specs.Option.{option_map_or}
-use Rattle.model_bits.specs.declared.heard.Cause.TheVariants.{Tei}
-use Rattle.lapd_frame.specs.declared.addresses.Address.{Address}
-use Rattle.lapd_frame.specs.declared.refusals.Refusal.{Refusal}
-use Rattle.lapd_frame.specs.declared.services.Service.{Service}
-use Rattle.lapd_frame.specs.declared.timers.Timer.TheVariants.{T200, T203, T201}
-use Rattle.lapd_frame.specs.Grammar.{Parts}
-use Rattle.lapd_frame.specs.Services.{service_of}
+use Rattle.lapd_frame.specs.declared.timers.Timer.TheVariants.{T200, T203}
 use Rattle.model_link.specs.Events as link
-use Rattle.model_link.specs.declared.timers.LinkTimer.{LinkTimer}
 use Rattle.model_link.specs.declared.timers.LinkTimer.TheVariants as link_timer
 use Rattle.lapd_tei.specs.Events as teis
-use Rattle.lapd_tei.specs.Machine.{Management}
-use Rattle.lapd_tei.specs.Messages.{heard_in}
 use Rattle.lapd_tei.specs.Rows as rows
 use Rattle.lapd_tei.specs.Words as words
-use Rattle.lapd_tei.specs.declared.outcome.Change.{Change}
-use Rattle.lapd_tei.specs.declared.outcome.Change.TheVariants.{Gained, Left}
-use Rattle.model_line.specs.declared.config.Config.{Config}
-use Rattle.model_line.specs.Event.{Event, hears, expiry, request, next, Answer}
-use Rattle.model_line.specs.Effect.{Aim, at_management, told_of_management, of_change, of_aim}
-use Rattle.model_line.specs.Expiry.{at_timer}
-use Rattle.model_line.specs.Line.{Line, place_in, has_tei}
-use Rattle.model_line.specs.Machine.{after, answer, unless_refused, unless_refused_told}
-use Rattle.model_line.specs.Heard.{management_sapi, group_tei, drop_for, to_service, addressed, message_of, aim_of_reading, aim_of_heard}
-use Rattle.model_line.specs.Taken.{Taken, taken, line_of}
-use Rattle.model_line.specs.Refusal.{wrong_side, bad_tei, no_link, tei_taken, table_full, check_running, control_full, refusal}
-use Rattle.model_line.specs.Sides.{at_side, managed_at}
-use Rattle.model_line.specs.Request.{Request, Establish, Release, Data, Unit, Assign, Remove, Check, SetBusy, ClearBusy, Deactivate}
-use Rattle.model_line.specs.Requested.{at_requested, at_deactivated, aim_of_request}
-use Rattle.model_line.specs.Sound.{IsInRange, IsSound}
-use Rattle.model_line.proofs.TakenWalk.{next_walk}
-use Rattle.model_line.proofs.Ranges.{ranges_of}
+use Rattle.model_line.specs.Event.{Event, expiry}
+use Rattle.model_line.specs.Machine.{after, answer, unless_refused}
+use Rattle.model_line.specs.Heard.{group_tei}
+use Rattle.model_line.specs.Refusal.{refusal}
+use Rattle.model_line.specs.Request.{Data, Unit, Check}
+use Rattle.model_line.specs.Sound.{IsSound}
 use Rattle.laws_line.specs.Causes.{Hears, HasCause, IsTaken, HaveCauses}
 use Rattle.laws_line.specs.Frames.{lost_in}
 use Rattle.laws_line.specs.Messages.{Said, Says, Serves, Expires, Grants}
@@ -45,7 +24,6 @@ use Rattle.laws_line.proofs.GroupAims.{IsUi, hears-said, heard-aims-at}
 use Rattle.laws_line.proofs.LinkMoves.{IsOne, taken-one}
 use Rattle.laws_line.proofs.Managing.{by-two, by-three, managed}
 use Rattle.laws_line.proofs.Messaging.{serves, told-or-not, expires, puts-on, takes-off, begins-asked}
-use Rattle.lapd_tei.proofs.Tables.{not_not}
 
 -- How many messages an event of TEI management loses is what the line tells.
 module _ (c : Config) (l : Line) (e : teis.Event) where

@@ -1,23 +1,13 @@
 -- With calls for the next frame alone the frames to go become fewer, until nothing waits.
-use Rattle.std.proofs.Common.{◌≡◌, ℕ, zero, suc, ◌+◌, ◌≤◌, ◌<◌, List, [], ◌∷◌, slice_get, Option, Some, None, is_some, option_map, refl, sym, ap, subst, ◌∙◌, ◌⊎◌, inl, inr, ⊎_elim, arith}
-use Rattle.std.specs.Prelude.{All, IfSome}
-use Rattle.std.specs.Option.{option_map_or, option_or, unwrap_or}
-use Rattle.std.proofs.lemmas.List.Elements.{All-head, All-tail}
-use Rattle.model_link.specs.Link.{Link}
+use Rattle.laws_line.proofs.Vocabulary.{◌≡◌, ℕ, zero, suc, ◌+◌, ◌≤◌, ◌<◌, List, [], ◌∷◌, slice_get, Option, Some, None, is_some, refl, sym, ap, subst, ◌∙◌, ◌⊎◌, inl, inr, ⊎_elim, arith, IfSome, option_map_or, option_or, unwrap_or, All-head, All-tail, Link, nothing-to_send, Config, next, may_send, is_given, Line, link_count, service_at, place_at, tei_at, terms, terms_at, link_at, Taken, with_unit, unit_taken, with_given_frame, link_taken, first_taken, round, taken, next_of, line_of, IsInRange, IsSoundAt, after_sound, next_falls, fresh_gives_nothing, round_below}
+use Rattle.std.proofs.Common.{option_map}
+use Rattle.std.specs.Prelude.{All}
 use Rattle.model_link.specs.Machine as links
-use Rattle.laws_link.proofs.OfTwo.Waiting.{nothing-to_send}
 use Rattle.lapd_tei.specs.Messages.{frame_of}
-use Rattle.model_line.specs.declared.config.Config.{Config}
-use Rattle.model_line.specs.Event.{next}
-use Rattle.model_line.specs.Counts.{one, may_send, is_given}
-use Rattle.model_line.specs.Line.{Line, link_count, service_at, place_at, tei_at, terms, terms_at, link_at}
+use Rattle.model_line.specs.Counts.{one}
 use Rattle.model_line.specs.Machine.{after, answer}
-use Rattle.model_line.specs.Taken.{Taken, with_message, with_unit, unit_taken, with_given_frame, link_taken, first_taken, round, taken, next_of, line_of}
-use Rattle.model_line.specs.Sound.{IsInRange, IsSoundAt, IsSound}
-use Rattle.model_line.proofs.LineSound.{after_sound}
-use Rattle.model_line.proofs.NextRises.{next_falls}
-use Rattle.model_line.proofs.Offered.{fresh_gives_nothing}
-use Rattle.model_line.proofs.TakenSound.{round_below}
+use Rattle.model_line.specs.Taken.{with_message}
+use Rattle.model_line.specs.Sound.{IsSound}
 use Rattle.laws_line.specs.Served.{HasNothing}
 use Rattle.laws_line.specs.Drains.{after_takes, frames_to_go, IsIdling}
 use Rattle.laws_line.proofs.Serving.{none-waits}

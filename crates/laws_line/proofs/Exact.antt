@@ -1,16 +1,6 @@
 -- No frame is to go exactly where nothing waits that may go.
-use Rattle.std.proofs.Common.{◌≡◌, ℕ, zero, suc, ◌+◌, ◌-◌, ◌≤◌, ◌<◌, ◌↔◌, min, Bool, true, false, cond, not, ◌&&◌, List, [], ◌∷◌, length, Option, Some, None, refl, sym, ap, subst, ⊎_elim, arith}
-use Rattle.std.specs.Prelude.{nat_lt, sum_by}
-use Rattle.std.specs.List.{range_with_len}
-use Rattle.std.proofs.lemmas.Bool.{ltb-true, ltb-false, cases_eq}
-use Rattle.std.proofs.lemmas.List.Sums.{sum_by-cons}
-use Rattle.model_link.specs.declared.terms.Terms.{Terms}
-use Rattle.model_link.specs.Link.{Link, outstanding}
-use Rattle.model_link.specs.Offers.{is_established}
-use Rattle.laws_link.specs.two.Waits.{HasNothingToSend}
-use Rattle.model_line.specs.declared.config.Config.{Config}
-use Rattle.model_line.specs.Line.{Line, link_count, service_at, place_at, tei_at, terms, link_at}
-use Rattle.model_line.specs.Sound.{IsSoundAt, IsSound}
+use Rattle.laws_line.proofs.Vocabulary.{◌≡◌, ℕ, zero, suc, ◌+◌, ◌-◌, ◌≤◌, ◌<◌, ◌↔◌, min, Bool, true, false, cond, not, ◌&&◌, List, [], ◌∷◌, length, Option, Some, None, refl, sym, ap, subst, ⊎_elim, arith, nat_lt, sum_by, range_with_len, ltb-true, ltb-false, cases_eq, sum_by-cons, Terms, Link, outstanding, is_established, HasNothingToSend, Config, Line, link_count, service_at, place_at, tei_at, terms, link_at, IsSoundAt}
+use Rattle.model_line.specs.Sound.{IsSound}
 use Rattle.laws_line.specs.Served.{HasNothing}
 use Rattle.laws_line.proofs.Silence.{silent, sends-none}
 use Rattle.laws_line.specs.Drains.{link_to_go, to_go_at_link, frames_to_go}

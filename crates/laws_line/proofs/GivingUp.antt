@@ -1,28 +1,11 @@
 -- A link that is deactivated is given up.
-use Rattle.std.proofs.Common.{◌≡◌, ℕ, true, false, not, nat_lt, cond, Option, Some, None, refl, ap, ◌∙◌}
-use Rattle.std.proofs.lemmas.Bool.{le-ltb}
-use Rattle.lapd_frame.specs.declared.refusals.Refusal.TheVariants.{BadTei, NoLink}
-use Rattle.lapd_frame.specs.declared.services.Service.{Service}
-use Rattle.model_link.specs.declared.states.State.{State}
-use Rattle.model_link.specs.declared.states.State.TheVariants.{TeiAssigned, AwaitingEstablishment, AwaitingRelease, Established, TimerRecovery}
-use Rattle.model_link.specs.declared.terms.Terms.{Terms}
-use Rattle.model_link.specs.declared.timers.LinkTimer.{LinkTimer}
+use Rattle.laws_line.proofs.Vocabulary.{◌≡◌, ℕ, true, false, not, nat_lt, cond, Option, Some, None, refl, ap, ◌∙◌, le-ltb, BadTei, NoLink, Service, State, TeiAssigned, AwaitingEstablishment, AwaitingRelease, Established, TimerRecovery, Terms, LinkTimer, Link, ◌then◌, begin_anew, is_on-at, place_of-is, told_cleared, Config, LineTold, told, nothing, told_of_link, of_aim, Line, place_in, link_in, has_tei, terms, unless_refused_told, Deactivate, at_deactivated}
 use Rattle.model_link.specs.declared.timers.LinkTimer.TheVariants.{T200, T203}
 use Rattle.model_link.specs.Events as link
-use Rattle.model_link.specs.Link.{Link}
 use Rattle.model_link.specs.Machine as links
-use Rattle.model_link.specs.Steps.{begun, ◌then◌}
-use Rattle.model_link.specs.Words.{begin_anew}
-use Rattle.lapd_tei.proofs.Tables.{is_on-at, place_of-is}
-use Rattle.laws_link.specs.Telling.{told_cleared}
-use Rattle.model_line.specs.declared.config.Config.{Config}
-use Rattle.model_line.specs.Event.{LineTold, told, nothing}
-use Rattle.model_line.specs.Effect.{told_of_link, of_aim}
-use Rattle.model_line.specs.Line.{Line, place_in, link_in, has_tei, terms}
-use Rattle.model_line.specs.Machine.{after, answer, unless_refused, unless_refused_told}
+use Rattle.model_link.specs.Steps.{begun}
+use Rattle.model_line.specs.Machine.{after, answer, unless_refused}
 use Rattle.model_line.specs.Refusal.{refusal}
-use Rattle.model_line.specs.Request.{Deactivate}
-use Rattle.model_line.specs.Requested.{at_deactivated}
 use Rattle.model_line.specs.Sound.{IsSound}
 use Rattle.laws_line.specs.Deactivated.{stopped, IsGivenUp, DeactivationsGiveUp}
 

@@ -1,29 +1,14 @@
 -- A frame that is taken is no longer among those to go.
-use Rattle.std.proofs.Common.{◌≡◌, ℕ, zero, suc, ◌+◌, ◌-◌, ◌≤◌, ◌<◌, min, Bool, true, false, cond, not, ◌&&◌, List, [], ◌∷◌, length, drop, get_or, set, Some, IfSome, refl, ap, ◌⊎◌, inl, inr, arith}
-use Rattle.std.specs.Prelude.{nat_lt}
-use Rattle.std.proofs.lemmas.Bool.{ltb-true, and_parts}
-use Rattle.std.proofs.lemmas.List.{get_or-set_same, get_or-set_other}
-use Rattle.model_link.specs.declared.frames.ControlFrame.{ControlFrame}
-use Rattle.model_link.specs.declared.terms.Terms.{Terms}
+use Rattle.laws_line.proofs.Vocabulary.{◌≡◌, ℕ, zero, suc, ◌+◌, ◌-◌, ◌≤◌, ◌<◌, min, Bool, true, false, cond, not, ◌&&◌, List, [], ◌∷◌, length, drop, get_or, set, Some, IfSome, refl, ap, ◌⊎◌, inl, inr, arith, nat_lt, ltb-true, and_parts, get_or-set_same, get_or-set_other, ControlFrame, Terms, Link, Given, HasNothingToSend, nothing-to_send, Message, Config, Line, UnitData, link_count, service_at, place_at, terms, link_at, Taken, with_unit, with_given_frame, taken, sum_of_links, sum_changed, IsAt, taken_walk}
 use Rattle.model_link.specs.Events as link
-use Rattle.model_link.specs.Link.{Link, fresh}
+use Rattle.model_link.specs.Link.{fresh}
 use Rattle.model_link.specs.Machine as links
 use Rattle.model_link.specs.Offers
 use Rattle.model_link.specs.Steps.{begun as course_begun}
-use Rattle.model_link.specs.Told.{Given}
-use Rattle.laws_link.specs.two.Waits.{HasNothingToSend}
-use Rattle.laws_link.proofs.OfTwo.Waiting.{nothing-to_send}
 use Rattle.lapd_tei.specs.Messages.{frame_of}
-use Rattle.lapd_tei.specs.declared.messages.Message.{Message}
-use Rattle.model_line.specs.declared.config.Config.{Config}
-use Rattle.model_line.specs.Line.{Line, UnitData, link_count, service_at, place_at, terms, link_at}
-use Rattle.model_line.specs.Taken.{Taken, with_message, with_unit, with_given_frame, taken}
+use Rattle.model_line.specs.Taken.{with_message}
 use Rattle.model_line.specs.Sound.{IsSound}
-use Rattle.model_line.specs.Stored.{sum_of_links}
-use Rattle.model_line.proofs.Numbers.{sum_changed}
 use Rattle.model_link.specs.Sound as link_sounds
-use Rattle.lapd_tei.specs.Sound.{IsAt}
-use Rattle.model_line.proofs.TakenWalk.{taken_walk}
 use Rattle.laws_line.specs.Drains.{link_to_go, frames_to_go}
 
 -- An offer takes one of a link's frames to go, or nothing is left there.

@@ -1,12 +1,7 @@
 -- A request that is granted is not refused.
-use Rattle.std.proofs.Common.{◌≡◌, true, false, Option, Some, None, refl, sym, true≢false}
-use Rattle.lapd_frame.specs.declared.refusals.Refusal.{Refusal}
-use Rattle.model_line.specs.declared.config.Config.{Config}
-use Rattle.model_line.specs.Event.{request}
-use Rattle.model_line.specs.Line.{Line}
-use Rattle.model_line.specs.Machine.{answer, unless_refused_told, of_request}
+use Rattle.laws_line.proofs.Vocabulary.{◌≡◌, true, false, Option, Some, None, refl, sym, true≢false, Refusal, Config, request, Line, unless_refused_told, of_request, Request}
+use Rattle.model_line.specs.Machine.{answer}
 use Rattle.model_line.specs.Refusal.{refusal}
-use Rattle.model_line.specs.Request.{Request}
 use Rattle.laws_line.specs.Share.{is_granted}
 
 pub not-refused : (c : Config) (r : Request) (l : Line) → is_granted (answer c (request r) l) ≡ true → refusal c false r l ≡ None

@@ -1,29 +1,12 @@
 -- What is heard is to TEI management: nothing, or what a UI to the group brings.
-use Rattle.std.proofs.Common.{◌≡◌, ℕ, ◌==◌, Bool, true, false, cond, List, Option, Some, None, Result, Ok, Err, refl, ap, eqb-true}
+use Rattle.laws_line.proofs.Vocabulary.{◌≡◌, ℕ, ◌==◌, Bool, true, false, cond, List, Option, Some, None, Result, Ok, Err, refl, ap, Cause, Tei, Unserved, Address, Network, Control, ReadFault, BadExtension, Undefined, WrongSize, Short, Long, Service, Parts, reading, long_reading, service_of, Config, hears, Aim, at_none, at_link, at_management, at_units, Line, place_in, management_sapi, drop_for, to_service, addressed, message_of, aim_of_reading, unless_at_link, aim_of_long, heard_side, aim_of_heard, group_told, IsToGroup, WhereServed, everywhere, side_where}
+use Rattle.std.proofs.Common.{eqb-true}
 use Rattle.model_bits.specs.Stream as stream
-use Rattle.model_bits.specs.declared.heard.Cause.{Cause}
-use Rattle.model_bits.specs.declared.heard.Cause.TheVariants.{Tei, Unserved}
-use Rattle.lapd_frame.specs.declared.addresses.Address.{Address}
-use Rattle.lapd_frame.specs.declared.addresses.Side.TheVariants.{Network}
-use Rattle.lapd_frame.specs.declared.controls.Control.{Control}
 use Rattle.lapd_frame.specs.declared.controls.Control.TheVariants as control
-use Rattle.lapd_frame.specs.declared.faults.ReadFault.{ReadFault}
-use Rattle.lapd_frame.specs.declared.faults.ReadFault.TheVariants.{BadExtension, Undefined, WrongSize, Short}
-use Rattle.lapd_frame.specs.declared.overlong.Long.{Long}
 use Rattle.lapd_frame.specs.declared.overlong.Long.TheVariants as long
-use Rattle.lapd_frame.specs.declared.services.Service.{Service}
-use Rattle.lapd_frame.specs.Grammar.{Parts}
-use Rattle.lapd_frame.specs.Reading.{reading, long_reading}
-use Rattle.lapd_frame.specs.Services.{service_of}
 use Rattle.model_link.specs.Events as link
 use Rattle.lapd_tei.specs.Events as teis
-use Rattle.model_line.specs.declared.config.Config.{Config}
-use Rattle.model_line.specs.Event.{hears}
-use Rattle.model_line.specs.Effect.{Aim, at_none, at_link, at_management, at_units}
-use Rattle.model_line.specs.Line.{Line, place_in}
-use Rattle.model_line.specs.Heard.{management_sapi, group_tei, drop_for, at_place, to_service, addressed, message_of, aim_of_reading, unless_at_link, aim_of_long, heard_side, aim_of_heard}
-use Rattle.model_line.specs.Sides.{group_told, IsToGroup}
-use Rattle.model_line.proofs.Sides.{WhereServed, everywhere, side_where}
+use Rattle.model_line.specs.Heard.{group_tei, at_place}
 use Rattle.laws_line.specs.Causes.{Hears}
 use Rattle.laws_line.specs.Messages.{Said, Says}
 

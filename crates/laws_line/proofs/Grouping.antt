@@ -1,27 +1,13 @@
 -- What the user's side hears of the network for the group: unit data, and messages of TEI management.
-use Rattle.std.proofs.Common.{◌≡◌, ℕ, ◌==◌, cond, List, length, Option, Some, None, Ok, refl, ap, ◌∙◌, arith}
-use Rattle.std.proofs.lemmas.Bool.{le-leb}
+use Rattle.laws_line.proofs.Vocabulary.{◌≡◌, ℕ, ◌==◌, cond, List, length, Option, Some, None, Ok, refl, ap, ◌∙◌, arith, le-leb, Tei, Unserved, Address, Control, Service, Call, Packet, Parts, Spells, reading, service_of, sapi_of, reading-again, place_of-is, Config, LineTold, hears, Aim, at_none, Line, place_in, drop_for, management_sapi, to_service, addressed, message_of, aim_of_reading, heard_side, aim_of_heard, group_told, told_of_ui, told_of_group, told_at, at_side, IsToGroup}
 use Rattle.model_bits.specs.Stream as stream
-use Rattle.model_bits.specs.declared.heard.Cause.TheVariants.{Tei, Unserved}
-use Rattle.lapd_frame.specs.declared.addresses.Address.{Address}
-use Rattle.lapd_frame.specs.declared.controls.Control.{Control}
 use Rattle.lapd_frame.specs.declared.controls.Control.TheVariants as control
-use Rattle.lapd_frame.specs.declared.services.Service.{Service}
-use Rattle.lapd_frame.specs.declared.services.Service.TheVariants.{Call, Packet}
-use Rattle.lapd_frame.specs.Grammar.{Parts, Spells}
-use Rattle.lapd_frame.specs.Reading.{reading}
-use Rattle.lapd_frame.specs.Services.{service_of, sapi_of}
-use Rattle.lapd_frame.proofs.Spelling.{reading-again}
-use Rattle.lapd_tei.proofs.Tables.{place_of-is}
 use Rattle.lapd_tei.specs.Events as teis
 use Rattle.model_link.specs.Events as link
-use Rattle.model_line.specs.declared.config.Config.{Config}
-use Rattle.model_line.specs.Event.{LineTold, hears, dropped}
-use Rattle.model_line.specs.Effect.{Aim, at_none}
-use Rattle.model_line.specs.Line.{Line, place_in}
+use Rattle.model_line.specs.Event.{dropped}
 use Rattle.model_line.specs.Machine.{after, answer}
-use Rattle.model_line.specs.Heard.{drop_for, management_sapi, at_place, to_service, addressed, message_of, aim_of_reading, heard_side, aim_of_heard}
-use Rattle.model_line.specs.Sides.{group_tei, group_told, told_of_ui, told_of_group, told_at, at_side, IsToGroup}
+use Rattle.model_line.specs.Heard.{at_place}
+use Rattle.model_line.specs.Sides.{group_tei}
 use Rattle.model_line.specs.Sound.{IsSound}
 use Rattle.laws_line.specs.Heard.{OnlyTells, IsToManagement}
 use Rattle.laws_line.proofs.Causing.{to-group}

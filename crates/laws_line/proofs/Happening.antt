@@ -1,35 +1,16 @@
 -- What an event of a line is to one of its links.
-use Rattle.std.proofs.Common.{◌≡◌, ◌≢◌, ℕ, ◌<◌, Bool, true, false, ◌==◌, length, get_or, set, Option, Some, None, refl, ap, sym, ◌∙◌, subst, arith, eqb-true, eq-eqb, true≢false, option_map, IfSome, inl, inr, ◌⊎◌, ⊎_elim}
-use Rattle.std.specs.Option.{option_map_or}
-use Rattle.std.proofs.lemmas.List.{get_or-set_same, get_or-set_other}
-use Rattle.lapd_frame.specs.declared.refusals.Refusal.{Refusal}
-use Rattle.lapd_frame.specs.declared.services.Service.{Service}
-use Rattle.lapd_frame.specs.declared.services.Service.TheVariants.{Call, Packet}
+use Rattle.laws_line.proofs.Vocabulary.{◌≡◌, ◌≢◌, ℕ, ◌<◌, Bool, true, false, ◌==◌, length, get_or, set, Option, Some, None, refl, ap, sym, ◌∙◌, subst, arith, eq-eqb, true≢false, IfSome, inl, inr, ◌⊎◌, ⊎_elim, option_map_or, get_or-set_same, get_or-set_other, Refusal, Service, Call, Packet, Link, IsAt, Change, Gained, Left, Config, hears, request, next, Answer, told, gave, is_change_at, Aim, at_none, at_link, at_management, at_units, told_of_management, of_change, of_aim, aim_of_expiry, Line, link_number, service_at, place_at, tei_at, link_at, link_in, terms, link_count, unless_refused_told, aim_of_heard, Taken, taken, next_of, line_of, aim_of_request, IsProper, place_at-number, service_at-number, heard_proper, expiry_proper, request_proper, taken_walk, next_walk}
+use Rattle.std.proofs.Common.{eqb-true, option_map}
 use Rattle.model_link.specs.Events as link
-use Rattle.model_link.specs.Link.{Link, fresh}
+use Rattle.model_link.specs.Link.{fresh}
 use Rattle.model_link.specs.Machine as links
 use Rattle.lapd_tei.specs.Events as teis
 use Rattle.lapd_tei.specs.Laws as tei_laws
-use Rattle.lapd_tei.specs.Sound.{IsAt}
-use Rattle.lapd_tei.specs.declared.outcome.Change.{Change}
-use Rattle.lapd_tei.specs.declared.outcome.Change.TheVariants.{Gained, Left}
 use Rattle.lapd_tei.proofs.LawLemmas as tei_lemmas
-use Rattle.model_line.specs.declared.config.Config.{Config}
-use Rattle.model_line.specs.Event.{Event, hears, expiry, request, next, Answer, told, gave}
-use Rattle.model_line.specs.Deliveries.{is_change_at}
-use Rattle.model_line.specs.Effect.{Aim, at_none, at_link, at_management, at_units, told_of_management, of_change, of_aim}
-use Rattle.model_line.specs.Expiry.{aim_of_expiry}
-use Rattle.model_line.specs.Line.{Line, link_number, service_at, place_at, tei_at, link_at, link_in, terms, link_count}
-use Rattle.model_line.specs.Machine.{after, answer, unless_refused, unless_refused_told}
-use Rattle.model_line.specs.Heard.{aim_of_heard}
-use Rattle.model_line.specs.Taken.{Taken, taken, next_of, line_of}
+use Rattle.model_line.specs.Event.{Event, expiry}
+use Rattle.model_line.specs.Machine.{after, answer, unless_refused}
 use Rattle.model_line.specs.Refusal.{refusal}
-use Rattle.model_line.specs.Requested.{aim_of_request}
 use Rattle.model_line.specs.Sound.{IsSound}
-use Rattle.model_line.proofs.AimsSound.{IsProper}
-use Rattle.model_line.proofs.Numbers.{place_at-number, service_at-number}
-use Rattle.model_line.proofs.ProperAims.{heard_proper, expiry_proper, request_proper}
-use Rattle.model_line.proofs.TakenWalk.{taken_walk, next_walk}
 use Rattle.laws_line.specs.Loss.{IsMoved}
 use Rattle.laws_line.specs.Steady.{IsBy, IsDeactivated, IsOf}
 use Rattle.laws_line.proofs.Kept.{begin_here, begin_away}

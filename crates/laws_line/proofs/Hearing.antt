@@ -1,25 +1,12 @@
 -- What is heard brings to a link.
-use Rattle.std.proofs.Common.{◌≡◌, ℕ, Bool, true, false, cond, ◌==◌, List, Some, None, Ok, refl, ap, ◌∙◌, eqb-true}
-use Rattle.std.proofs.lemmas.Option.{none-some}
+use Rattle.laws_line.proofs.Vocabulary.{◌≡◌, ℕ, Bool, true, false, cond, ◌==◌, List, Some, None, Ok, refl, ap, ◌∙◌, none-some, Cause, Tei, Unserved, Address, Service, Call, Packet, Parts, reading, long_reading, service_of, sapi_of, same_service, reading-again, Config, LineTold, hears, told, Aim, at_none, at_link, told_of_link, of_aim, Line, place_in, link_in, terms, drop_for, management_sapi, to_service, addressed, message_of, aim_of_reading, aim_of_long, heard_side, aim_of_heard, at_side}
+use Rattle.std.proofs.Common.{eqb-true}
 use Rattle.model_bits.specs.Stream as stream
-use Rattle.model_bits.specs.declared.heard.Cause.{Cause}
-use Rattle.model_bits.specs.declared.heard.Cause.TheVariants.{Tei, Unserved}
-use Rattle.lapd_frame.specs.declared.addresses.Address.{Address}
-use Rattle.lapd_frame.specs.declared.services.Service.{Service}
-use Rattle.lapd_frame.specs.declared.services.Service.TheVariants.{Call, Packet}
-use Rattle.lapd_frame.specs.Grammar.{Parts}
-use Rattle.lapd_frame.specs.Reading.{reading, long_reading}
-use Rattle.lapd_frame.specs.Services.{service_of, sapi_of, same_service}
-use Rattle.lapd_frame.proofs.Spelling.{reading-again}
 use Rattle.model_link.specs.Events as link
 use Rattle.model_link.specs.Machine as links
-use Rattle.model_line.specs.declared.config.Config.{Config}
-use Rattle.model_line.specs.Event.{LineTold, hears, told, dropped}
-use Rattle.model_line.specs.Effect.{Aim, at_none, at_link, told_of_link, of_aim}
-use Rattle.model_line.specs.Line.{Line, place_in, link_in, terms}
+use Rattle.model_line.specs.Event.{dropped}
 use Rattle.model_line.specs.Machine.{after, answer}
-use Rattle.model_line.specs.Heard.{drop_for, management_sapi, group_tei, at_place, to_service, addressed, message_of, aim_of_reading, aim_of_long, heard_side, aim_of_heard}
-use Rattle.model_line.specs.Sides.{at_side}
+use Rattle.model_line.specs.Heard.{group_tei, at_place}
 use Rattle.laws_line.specs.Heard.{IsFor, IsTo, IsMalformed, IsTooLong, IsOneEvent, OnlyTells}
 
 -- The SAPI of a service.

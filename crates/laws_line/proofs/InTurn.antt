@@ -1,12 +1,6 @@
 -- The first link of a round that has something to give is the one that is served.
-use Rattle.std.proofs.Common.{◌≡◌, ℕ, ◌+◌, List, [], ◌∷◌, ◌++◌, Option, Some, None, refl, ap, sym, ◌∙◌}
+use Rattle.laws_line.proofs.Vocabulary.{◌≡◌, ℕ, ◌+◌, List, [], ◌∷◌, ◌++◌, Option, Some, None, refl, ap, sym, ◌∙◌, option_or, All-nil, All-cons, Given, Config, Line, terms_at, link_at, Taken, message_taken, unit_taken, with_given_frame, link_taken, first_taken, round}
 use Rattle.std.specs.Prelude.{All}
-use Rattle.std.specs.Option.{option_or}
-use Rattle.std.proofs.lemmas.List.Elements.{All-nil, All-cons}
-use Rattle.model_link.specs.Told.{Given}
-use Rattle.model_line.specs.declared.config.Config.{Config}
-use Rattle.model_line.specs.Line.{Line, terms_at, link_at}
-use Rattle.model_line.specs.Taken.{Taken, message_taken, unit_taken, with_given_frame, link_taken, first_taken, round}
 use Rattle.laws_line.specs.Turns.{LinksTakeTurns}
 use Rattle.std.specs.Option.{option_map}
 use Rattle.model_link.specs.Machine as links

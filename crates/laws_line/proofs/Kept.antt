@@ -1,41 +1,16 @@
 -- What an event makes of the contents of a link of a line.
-use Rattle.std.proofs.Common.{⊎_elim, length-set, ◌≡◌, ◌≢◌, ℕ, ◌+◌, ◌*◌, ◌<◌, zero, suc, Bool, true, false, cond, ◌==◌, List, [], ◌∷◌, length, get_or, set, Option, Some, None, refl, ap, sym, ◌∙◌, subst, arith, eqb-true, eq-eqb, true≢false, IfSome}
-use Rattle.std.specs.Option.{option_map_or}
-use Rattle.std.proofs.lemmas.List.{get_or-set_same, get_or-set_other}
-use Rattle.lapd_frame.specs.declared.services.Service.{Service}
-use Rattle.lapd_frame.specs.declared.services.Service.TheVariants.{Call, Packet}
+use Rattle.laws_line.proofs.Vocabulary.{⊎_elim, length-set, ◌≡◌, ◌≢◌, ℕ, ◌+◌, ◌*◌, ◌<◌, zero, suc, Bool, true, false, cond, ◌==◌, List, [], ◌∷◌, length, get_or, set, Option, Some, None, refl, ap, sym, ◌∙◌, subst, arith, eq-eqb, true≢false, IfSome, option_map_or, get_or-set_same, get_or-set_other, Service, Call, Packet, Link, Terms, Share, share, Comes, event-done, same-comes, restarted, offer-leaves, Moves, Management, IsAt, Places, Change, Gained, Left, Config, hears, request, next, LineTold, is_change_at, Aim, at_none, at_link, at_management, at_units, told_of_management, of_change, of_aim, Line, link_number, service_at, place_at, link_at, link_in, terms, link_count, aim_of_heard, aim_of_expiry, Taken, taken, line_of, aim_of_request, IsInRange, IsProper, sound_in, place_at-number, taken_walk, next_walk, heard_proper, expiry_proper, request_proper}
+use Rattle.std.proofs.Common.{eqb-true}
 use Rattle.model_link.specs.Events as link
-use Rattle.model_link.specs.Link.{Link, fresh}
+use Rattle.model_link.specs.Link.{fresh}
 use Rattle.model_link.specs.Machine as links
-use Rattle.model_link.specs.declared.terms.Terms.{Terms}
-use Rattle.laws_link.specs.History.{Share, share}
-use Rattle.laws_link.proofs.Keeping.{Comes, event-done, same-comes, restarted}
-use Rattle.laws_link.proofs.Offering.{offer-leaves}
 use Rattle.lapd_tei.specs.Events as teis
-use Rattle.lapd_tei.specs.Laws.{Moves}
-use Rattle.lapd_tei.specs.Machine.{Management}
-use Rattle.lapd_tei.specs.Sound.{IsAt}
-use Rattle.lapd_tei.specs.Table.{Places}
-use Rattle.lapd_tei.specs.declared.outcome.Change.{Change}
-use Rattle.lapd_tei.specs.declared.outcome.Change.TheVariants.{Gained, Left}
 use Rattle.lapd_tei.proofs.LawLemmas as tei_lemmas
-use Rattle.model_line.specs.declared.config.Config.{Config}
-use Rattle.model_line.specs.Event.{Event, hears, expiry, request, next, LineTold}
-use Rattle.model_line.specs.Deliveries.{is_change_at}
-use Rattle.model_line.specs.Effect.{Aim, at_none, at_link, at_management, at_units, told_of_management, of_change, of_aim}
-use Rattle.model_line.specs.Line.{Line, link_number, service_at, place_at, link_at, link_in, terms, link_count}
+use Rattle.model_line.specs.Event.{Event, expiry}
 use Rattle.model_line.specs.Machine.{after, unless_refused}
-use Rattle.model_line.specs.Heard.{aim_of_heard}
-use Rattle.model_line.specs.Expiry.{aim_of_expiry}
-use Rattle.model_line.specs.Taken.{Taken, taken, line_of}
 use Rattle.model_line.specs.Refusal.{refusal}
-use Rattle.model_line.specs.Requested.{aim_of_request}
-use Rattle.model_line.specs.Sound.{IsInRange, IsSound}
-use Rattle.model_line.proofs.AimsSound.{IsProper}
-use Rattle.model_line.proofs.LinksSound.{sound_in}
-use Rattle.model_line.proofs.Numbers.{place_at-number, at_place}
-use Rattle.model_line.proofs.TakenWalk.{taken_walk, next_walk}
-use Rattle.model_line.proofs.ProperAims.{heard_proper, expiry_proper, request_proper}
+use Rattle.model_line.specs.Sound.{IsSound}
+use Rattle.model_line.proofs.Numbers.{at_place}
 use Rattle.laws_line.specs.Share.{no_share, ending, share_aimed, share_of}
 
 -- both links of a place begin anew

@@ -1,55 +1,21 @@
 -- By notes and granted requests management knows which TEIs are on the line: each event.
-use Rattle.std.proofs.Common.{◌≡◌, ℕ, ◌==◌, Bool, true, false, cond, not, is_some, nat_lt, List, ◌++◌, set, get_or, replicate, Option, Some, None, option_map, refl, ap, sym, ◌∙◌, subst, eqb-true, eq-eqb, true≢false, inl, inr}
-use Rattle.model_line.proofs.TakenWalk.{next_walk}
-use Rattle.std.specs.Prelude.{fold}
-use Rattle.std.specs.Option.{option_map_or}
-use Rattle.std.proofs.lemmas.List.{get_or-set_same}
-use Rattle.std.proofs.lemmas.List.Sums.{fold-append}
-use Rattle.std.proofs.lemmas.Option.{none-some}
+use Rattle.laws_line.proofs.Vocabulary.{◌≡◌, ℕ, ◌==◌, Bool, true, false, cond, not, is_some, nat_lt, List, ◌++◌, set, get_or, replicate, Option, Some, None, refl, ap, sym, ◌∙◌, subst, eq-eqb, true≢false, inl, inr, next_walk, fold, option_map_or, get_or-set_same, fold-append, none-some, Note, Refusal, TeiTaken, TableFull, NoLink, ControlFull, Service, Call, Packet, T201, is_up, LinkTimer, notes-own, refusal_if, Moves, Management, IdentityRemove, join_at, put_on, take_off, is_checked, nothing_happens, no_room, send, leave, left, end_check, IsSoundTable, Places, is_on, place_of, free_place, Change, Gained, Left, is_on-at, place_of-is, Config, hears, request, next, at_link, at_management, told_of_management, of_change, of_aim, at_timer, Line, link_number, place_in, has_tei, link_in, terms, fresh_line, unless_refused_told, aim_of_heard, Taken, taken, line_of, has_management, Request, Establish, Release, Assign, Remove, SetBusy, ClearBusy, Deactivate, at_requested, at_deactivated, aim_of_request, IsProper, heard_aims, request_proper}
+use Rattle.std.proofs.Common.{option_map, eqb-true}
 use Rattle.model_bits.specs.Stream as stream
-use Rattle.lapd_frame.specs.declared.notes.Note.{Note}
-use Rattle.lapd_frame.specs.declared.refusals.Refusal.{Refusal}
-use Rattle.lapd_frame.specs.declared.refusals.Refusal.TheVariants.{TeiTaken, TableFull, NoLink, ControlFull}
-use Rattle.lapd_frame.specs.declared.services.Service.{Service}
-use Rattle.lapd_frame.specs.declared.services.Service.TheVariants.{Call, Packet}
-use Rattle.lapd_frame.specs.declared.timers.Timer.TheVariants.{T200, T203, T201}
+use Rattle.lapd_frame.specs.declared.timers.Timer.TheVariants.{T200, T203}
 use Rattle.model_link.specs.Events as link
-use Rattle.laws_link.specs.Known.{is_up}
 use Rattle.model_link.specs.Link.{fresh}
 use Rattle.model_link.specs.Machine as links
-use Rattle.model_link.specs.declared.timers.LinkTimer.{LinkTimer}
 use Rattle.model_link.specs.declared.timers.LinkTimer.TheVariants as link_timer
-use Rattle.model_link.proofs.OwnNotes.{notes-own}
 use Rattle.lapd_tei.specs.Events as teis
-use Rattle.lapd_tei.specs.Events.{refusal_if}
 use Rattle.lapd_tei.specs.Laws as tei_laws
-use Rattle.lapd_tei.specs.Laws.{Moves}
-use Rattle.lapd_tei.specs.Machine.{Management}
-use Rattle.lapd_tei.specs.declared.messages.Message.TheVariants.{IdentityRemove}
-use Rattle.lapd_tei.specs.Rows.{join_at, put_on, take_off, is_checked, nothing_happens}
 use Rattle.lapd_tei.specs.Words as words
-use Rattle.lapd_tei.specs.Words.{no_room, send, leave, left, end_check}
-use Rattle.lapd_tei.specs.Sound.{IsSoundTable}
-use Rattle.lapd_tei.specs.Table.{Places, is_on, place_of, free_place}
-use Rattle.lapd_tei.specs.declared.outcome.Change.{Change}
-use Rattle.lapd_tei.specs.declared.outcome.Change.TheVariants.{Gained, Left}
 use Rattle.lapd_tei.proofs.LawLemmas as tei_lemmas
-use Rattle.lapd_tei.proofs.Tables.{is_on-at, place_of-is}
-use Rattle.model_line.specs.declared.config.Config.{Config}
-use Rattle.model_line.specs.Event.{Event, hears, expiry, request, next}
-use Rattle.model_line.specs.Effect.{at_link, at_management, told_of_management, of_change, of_aim}
-use Rattle.model_line.specs.Expiry.{at_timer}
-use Rattle.model_line.specs.Line.{Line, link_number, place_in, has_tei, link_in, terms, fresh_line}
-use Rattle.model_line.specs.Machine.{after, answer, unless_refused, unless_refused_told}
-use Rattle.model_line.specs.Heard.{aim_of_heard}
-use Rattle.model_line.specs.Taken.{Taken, taken, line_of}
+use Rattle.model_line.specs.Event.{Event, expiry}
+use Rattle.model_line.specs.Machine.{after, answer, unless_refused}
 use Rattle.model_line.specs.Refusal.{refusal}
-use Rattle.model_line.specs.Sides.{has_management}
-use Rattle.model_line.specs.Request.{Request, Establish, Release, Data, Unit, Assign, Remove, Check, SetBusy, ClearBusy, Deactivate}
-use Rattle.model_line.specs.Requested.{at_requested, at_deactivated, aim_of_request}
+use Rattle.model_line.specs.Request.{Data, Unit, Check}
 use Rattle.model_line.specs.Sound.{IsSound}
-use Rattle.model_line.proofs.AimsSound.{IsProper}
-use Rattle.model_line.proofs.ProperAims.{heard_aims, request_proper}
 use Rattle.laws_line.specs.Knowledge.{on_by_note, on_by_request, taken_for_on}
 use Rattle.laws_line.proofs.Following.{some-same}
 use Rattle.laws_line.proofs.LinkMoves.{IsOne, taken-one}

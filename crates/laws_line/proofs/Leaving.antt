@@ -1,30 +1,16 @@
 -- What waits on a link stays in its order, until it is taken.
-use Rattle.std.proofs.Common.{◌≡◌, ℕ, zero, suc, ◌<◌, List, [], ◌∷◌, ◌++◌, slice_get, get_or, Option, Some, None, option_map, refl, sym, ap, subst, ◌∙◌, ◌⊎◌, inl, inr, ⊎_elim, arith, ◌≤◌}
-use Rattle.std.specs.Prelude.{IfSome}
-use Rattle.std.specs.Option.{option_or, unwrap_or}
-use Rattle.std.proofs.lemmas.Bool.{cases_eq}
-use Rattle.std.proofs.lemmas.List.{get_or-set_same, get_or-set_other}
-use Rattle.lapd_frame.specs.Grammar.{spelling}
-use Rattle.model_link.specs.declared.frames.ControlFrame.{ControlFrame}
-use Rattle.model_link.specs.declared.terms.Terms.{Terms}
+use Rattle.laws_line.proofs.Vocabulary.{◌≡◌, ℕ, zero, suc, ◌<◌, List, [], ◌∷◌, ◌++◌, slice_get, get_or, Option, Some, None, refl, sym, ap, subst, ◌∙◌, ◌⊎◌, inl, inr, ⊎_elim, arith, ◌≤◌, IfSome, option_or, unwrap_or, cases_eq, get_or-set_same, get_or-set_other, spelling, ControlFrame, Terms, Link, Given, Goes, GoesWhole, after_offers, in-turn, Config, next, Line, UnitData, link_count, service_at, place_at, tei_at, terms, terms_at, link_at, Taken, message_taken, with_unit, unit_taken, with_given_frame, link_taken, first_taken, round, taken, IsInRange, after_sound, next_walk}
+use Rattle.std.proofs.Common.{option_map}
 use Rattle.model_link.specs.Events as link
-use Rattle.model_link.specs.Link.{Link, fresh, frame_of}
+use Rattle.model_link.specs.Link.{fresh, frame_of}
 use Rattle.model_link.specs.Machine as links
 use Rattle.model_link.specs.Offers
 use Rattle.model_link.specs.Steps.{begun as course_begun}
-use Rattle.model_link.specs.Told.{Given}
-use Rattle.laws_link.specs.two.Waits.{Goes, GoesWhole, after_offers}
-use Rattle.laws_link.proofs.OfTwo.Waiting.{in-turn}
 use Rattle.lapd_tei.specs.Messages as messages
-use Rattle.model_line.specs.declared.config.Config.{Config}
-use Rattle.model_line.specs.Event.{next}
-use Rattle.model_line.specs.Line.{Line, UnitData, link_count, service_at, place_at, tei_at, terms, terms_at, link_at}
 use Rattle.model_line.specs.Machine.{after}
 use Rattle.model_line.specs.Taken as taking
-use Rattle.model_line.specs.Taken.{Taken, with_message, message_taken, with_unit, unit_taken, with_given_frame, link_taken, first_taken, round, taken}
-use Rattle.model_line.specs.Sound.{IsInRange, IsSound}
-use Rattle.model_line.proofs.LineSound.{after_sound}
-use Rattle.model_line.proofs.TakenWalk.{next_walk}
+use Rattle.model_line.specs.Taken.{with_message}
+use Rattle.model_line.specs.Sound.{IsSound}
 use Rattle.laws_line.specs.Served.{HasNothing}
 use Rattle.laws_line.specs.Drains.{after_takes, frames_to_go, control_text, IsTakenWithin}
 use Rattle.laws_line.proofs.Draining.{drains}

@@ -1,4 +1,5 @@
 -- Lemmas.
+pub mod Vocabulary
 pub mod MachineLaws
 pub mod Kept
 pub mod Asked

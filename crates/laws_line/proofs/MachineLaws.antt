@@ -1,9 +1,5 @@
 -- What a line never does: it stays sound, it sends no more than was paid for, and what is dropped changes nothing.
-use Rattle.model_line.proofs.Drops.{heard_leaves, drop_costs_nothing}
-use Rattle.model_line.proofs.EventsReject.{event_rejects}
-use Rattle.model_line.proofs.EventsRise.{event_rises}
-use Rattle.model_line.proofs.LineSound.{after_sound, fresh_sound}
-use Rattle.model_line.proofs.NextRises.{next_falls}
+use Rattle.laws_line.proofs.Vocabulary.{heard_leaves, drop_costs_nothing, event_rejects, event_rises, after_sound, fresh_sound, next_falls}
 use Rattle.laws_line.specs.Machine.{DropsChangeNothing, LinesRise, LinesStaySound}
 
 pub lines_stay_sound : LinesStaySound

@@ -1,12 +1,6 @@
 -- What TEI management makes of an event, and when it refuses none.
-use Rattle.std.proofs.Common.{◌≡◌, Bool, false, Option, Some, None, refl}
-use Rattle.lapd_frame.specs.declared.refusals.Refusal.{Refusal}
-use Rattle.lapd_tei.specs.declared.outcome.Change.{Change}
-use Rattle.lapd_tei.specs.declared.outcome.Change.TheVariants.{Gained, Left}
+use Rattle.laws_line.proofs.Vocabulary.{◌≡◌, Bool, false, Option, Some, None, refl, Refusal, Change, Gained, Left, Config, at_management, told_of_management, of_change, of_aim, Line}
 use Rattle.lapd_tei.specs.Events as teis
-use Rattle.model_line.specs.declared.config.Config.{Config}
-use Rattle.model_line.specs.Effect.{at_management, told_of_management, of_change, of_aim}
-use Rattle.model_line.specs.Line.{Line}
 
 pub by-two : (a b : Bool) (x y : Refusal) → a ≡ false → b ≡ false → teis.refusal_if a x (teis.refusal_if b y None) ≡ None
 by-two a b x y e e' = rw (e, e') refl

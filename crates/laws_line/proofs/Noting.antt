@@ -1,14 +1,7 @@
 -- What notes say: those of a link of this link alone, and those of TEI management of TEIs alone.
-use Rattle.std.proofs.Common.{◌≡◌, ℕ, ◌==◌, ◌&&◌, Bool, true, false, cond, List, [], ◌∷◌, refl, ap, ◌∙◌}
-use Rattle.std.specs.Prelude.{All, fold}
-use Rattle.std.proofs.lemmas.List.Elements.{All-head, All-tail}
-use Rattle.lapd_frame.specs.declared.notes.Note.{Note}
-use Rattle.lapd_frame.specs.declared.notes.Note.TheVariants.{EstablishIndication, EstablishConfirm, ReleaseIndication, ReleaseConfirm, Data, Unit, Error, Assigned, Removed, Doubled, Xid}
-use Rattle.lapd_frame.specs.declared.services.Service.{Service}
-use Rattle.lapd_frame.specs.Services.{same_service}
-use Rattle.laws_link.specs.Known.{seen, known}
-use Rattle.model_link.specs.Notes.{IsOwn}
-use Rattle.model_link.specs.declared.terms.Terms.{Terms}
+use Rattle.laws_line.proofs.Vocabulary.{◌≡◌, ℕ, ◌==◌, ◌&&◌, Bool, true, false, cond, List, [], ◌∷◌, refl, ap, ◌∙◌, fold, All-head, All-tail, Note, EstablishIndication, EstablishConfirm, ReleaseIndication, ReleaseConfirm, Error, Assigned, Removed, Doubled, Service, same_service, seen, known, IsOwn, Terms}
+use Rattle.std.specs.Prelude.{All}
+use Rattle.lapd_frame.specs.declared.notes.Note.TheVariants.{Data, Unit, Xid}
 use Rattle.laws_line.specs.Knowledge.{up_by_note, on_by_note}
 use Rattle.laws_line.proofs.Told.{its-own}
 

@@ -1,26 +1,16 @@
 -- A control frame that waits is taken in its turn: after the messages, the unit data, and at most one frame of each other
 -- link for each of its own that goes before it.
-use Rattle.std.proofs.Common.{◌≡◌, ◌≢◌, ℕ, zero, suc, ◌+◌, ◌*◌, ◌<◌, ◌≤◌, List, [], ◌∷◌, ◌++◌, length, drop, slice_get, Option, Some, None, option_map, refl, sym, ap, subst, ◌∙◌, ◌⊎◌, inl, inr, ⊎_elim, arith}
-use Rattle.std.specs.Option.{option_map_or, option_or}
-use Rattle.std.proofs.lemmas.Bool.{cases_eq}
-use Rattle.std.proofs.lemmas.List.{get_or-set_same, get_or-set_other}
-use Rattle.model_link.specs.declared.frames.ControlFrame.{ControlFrame}
+use Rattle.laws_line.proofs.Vocabulary.{◌≡◌, ◌≢◌, ℕ, zero, suc, ◌+◌, ◌*◌, ◌<◌, ◌≤◌, List, [], ◌∷◌, ◌++◌, length, drop, slice_get, Option, Some, None, refl, sym, ap, subst, ◌∙◌, ◌⊎◌, inl, inr, ⊎_elim, arith, option_map_or, option_or, cases_eq, get_or-set_same, get_or-set_other, ControlFrame, Link, Given, GoesWhole, Message, Config, next, Line, UnitData, link_count, place_at, tei_at, terms_at, link_at, Taken, with_unit, with_given_frame, link_taken, first_taken, round, taken, line_of, IsInRange, after_sound}
+use Rattle.std.proofs.Common.{option_map}
 use Rattle.model_link.specs.Events as link
-use Rattle.model_link.specs.Link.{Link, fresh}
+use Rattle.model_link.specs.Link.{fresh}
 use Rattle.model_link.specs.Machine as links
-use Rattle.model_link.specs.Told.{Given}
-use Rattle.laws_link.specs.two.Waits.{GoesWhole}
-use Rattle.lapd_tei.specs.declared.messages.Message.{Message}
 use Rattle.lapd_tei.specs.Messages as messages
-use Rattle.model_line.specs.declared.config.Config.{Config}
-use Rattle.model_line.specs.Event.{next}
-use Rattle.model_line.specs.Line.{Line, UnitData, link_count, place_at, tei_at, terms_at, link_at}
 use Rattle.model_line.specs.Machine.{after}
-use Rattle.model_line.specs.Taken.{Taken, with_message, with_unit, with_given_frame, link_taken, first_taken, round, taken, line_of}
-use Rattle.model_line.specs.Sound.{IsInRange, IsSound}
+use Rattle.model_line.specs.Taken.{with_message}
+use Rattle.model_line.specs.Sound.{IsSound}
 use Rattle.laws_line.specs.Turns.{IsInTurn}
 use Rattle.laws_line.proofs.InTurn.{links_take_turns}
-use Rattle.model_line.proofs.LineSound.{after_sound}
 use Rattle.laws_line.specs.Drains.{way_round, frames_before, IsEnough, control_text, IsTakenWithin}
 use Rattle.laws_line.proofs.Serving.{none-waits}
 use Rattle.laws_line.proofs.InRounds.{served-last, comes-first}

@@ -1,36 +1,20 @@
 -- Each event of a line is one of one of its parts, or nothing changes.
-use Rattle.std.proofs.Common.{◌≡◌, ◌≢◌, ◌⊎◌, inl, inr, ℕ, ◌<◌, Bool, true, false, ◌==◌, List, [], ◌∷◌, ◌++◌, length, get_or, set, Option, Some, None, refl, sym, ap, ◌∙◌, subst, arith, append-nil, append_assoc, eqb-true, eq-eqb, true≢false}
+use Rattle.laws_line.proofs.Vocabulary.{◌≡◌, ◌≢◌, ◌⊎◌, inl, inr, ℕ, ◌<◌, Bool, true, false, ◌==◌, List, [], ◌∷◌, ◌++◌, length, get_or, set, Option, Some, None, refl, sym, ap, ◌∙◌, subst, arith, append-nil, append_assoc, eq-eqb, true≢false, get_or-set_other, Refusal, Service, Call, Packet, Timer, T201, Change, Gained, Left, LinkTimer, Link, Config, is_change_at, Aim, at_link, at_management, told_of_management, of_change, of_aim, hears, request, next, told, nothing, at_timer, aim_of_expiry, Line, UnitData, link_number, link_count, place_at, tei_at, place_in, link_at, link_in, terms, unless_refused_told, aim_of_heard, Request, Establish, Release, Assign, Remove, SetBusy, ClearBusy, Deactivate, at_requested, at_deactivated, aim_of_request, IsProper, heard_proper, expiry_proper, request_proper}
+use Rattle.std.proofs.Common.{eqb-true}
 use Rattle.model_bits.specs.Stream as stream
-use Rattle.std.proofs.lemmas.List.{get_or-set_other}
-use Rattle.lapd_frame.specs.declared.refusals.Refusal.{Refusal}
-use Rattle.lapd_frame.specs.declared.services.Service.{Service}
-use Rattle.lapd_frame.specs.declared.services.Service.TheVariants.{Call, Packet}
-use Rattle.lapd_frame.specs.declared.timers.Timer.{Timer}
-use Rattle.lapd_frame.specs.declared.timers.Timer.TheVariants.{T200, T203, T201}
+use Rattle.lapd_frame.specs.declared.timers.Timer.TheVariants.{T200, T203}
 use Rattle.lapd_tei.specs.Events as teis
 use Rattle.lapd_tei.specs.Laws as tei_laws
-use Rattle.lapd_tei.specs.declared.outcome.Change.{Change}
-use Rattle.lapd_tei.specs.declared.outcome.Change.TheVariants.{Gained, Left}
 use Rattle.lapd_tei.proofs.LawLemmas as tei_lemmas
-use Rattle.model_link.specs.declared.timers.LinkTimer.{LinkTimer}
 use Rattle.model_link.specs.declared.timers.LinkTimer.TheVariants as link_timer
 use Rattle.model_link.specs.Events as link
-use Rattle.model_link.specs.Link.{Link, fresh}
+use Rattle.model_link.specs.Link.{fresh}
 use Rattle.model_link.specs.Machine as links
-use Rattle.model_line.specs.declared.config.Config.{Config}
-use Rattle.model_line.specs.Deliveries.{is_change_at}
-use Rattle.model_line.specs.Effect.{Aim, at_link, at_management, told_of_management, of_change, of_aim}
-use Rattle.model_line.specs.Event.{Event, hears, expiry, request, next, told, nothing}
-use Rattle.model_line.specs.Expiry.{at_timer, aim_of_expiry}
-use Rattle.model_line.specs.Line.{Line, UnitData, link_number, link_count, place_at, tei_at, place_in, link_at, link_in, terms}
-use Rattle.model_line.specs.Machine.{after, answer, unless_refused, unless_refused_told}
-use Rattle.model_line.specs.Heard.{aim_of_heard}
+use Rattle.model_line.specs.Event.{Event, expiry}
+use Rattle.model_line.specs.Machine.{after, answer, unless_refused}
 use Rattle.model_line.specs.Refusal.{refusal}
-use Rattle.model_line.specs.Request.{Request, Establish, Release, Data, Assign, Remove, Check, SetBusy, ClearBusy, Deactivate}
-use Rattle.model_line.specs.Requested.{at_requested, at_deactivated, aim_of_request}
+use Rattle.model_line.specs.Request.{Data, Check}
 use Rattle.model_line.specs.Sound.{IsSound}
-use Rattle.model_line.proofs.AimsSound.{IsProper}
-use Rattle.model_line.proofs.ProperAims.{heard_proper, expiry_proper, request_proper}
 use Rattle.laws_line.specs.OneEvent.{noted_ending, noted_behind, IsManaged, IsGranted, IsOfPart, of_link, of_management, of_units, of_group, of_next, SaysNothing, IsOneEvent}
 use Rattle.laws_line.specs.Share.{is_granted}
 use Rattle.laws_line.specs.Steady.{BringsMessage, IsOfManagement}

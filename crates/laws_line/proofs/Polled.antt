@@ -1,24 +1,11 @@
 -- A poll's answer is taken by one of so many calls for the next frame.
-use Rattle.std.proofs.Common.{◌≡◌, ℕ, ◌+◌, ◌<◌, ◌≤◌, false, List, [], ◌∷◌, ◌++◌, length, get_or, Option, Some, None, sym, ap, subst, ◌∙◌, arith}
-use Rattle.std.proofs.lemmas.List.{get_or-set_same}
+use Rattle.laws_line.proofs.Vocabulary.{◌≡◌, ℕ, ◌+◌, ◌<◌, ◌≤◌, false, List, [], ◌∷◌, ◌++◌, length, get_or, Option, Some, None, sym, ap, subst, ◌∙◌, arith, get_or-set_same, Control, Service, Parts, ControlFrame, Link, IsPollWhileUp, Answered, AnsweredBy, asked_of, SaysReceived, poll-answered, unnumbered-answered, place_of-is, Config, hears, Line, link_number, link_count, place_at, tei_at, link_at, link_in, terms, IsInRange, after_sound, place_at-number, number_within}
 use Rattle.model_bits.specs.Stream as stream
-use Rattle.lapd_frame.specs.declared.controls.Control.{Control}
-use Rattle.lapd_frame.specs.declared.services.Service.{Service}
-use Rattle.lapd_frame.specs.Grammar.{Parts}
-use Rattle.model_link.specs.declared.frames.ControlFrame.{ControlFrame}
 use Rattle.model_link.specs.Events as link
-use Rattle.model_link.specs.Link.{Link, fresh}
+use Rattle.model_link.specs.Link.{fresh}
 use Rattle.model_link.specs.Machine as links
-use Rattle.laws_link.specs.two.Polls.{IsPollWhileUp, Answered, AnsweredBy, asked_of, SaysReceived}
-use Rattle.laws_link.proofs.OfTwo.Answering.{poll-answered, unnumbered-answered}
-use Rattle.lapd_tei.proofs.Tables.{place_of-is}
-use Rattle.model_line.specs.declared.config.Config.{Config}
-use Rattle.model_line.specs.Event.{hears}
-use Rattle.model_line.specs.Line.{Line, link_number, link_count, place_at, tei_at, link_at, link_in, terms}
 use Rattle.model_line.specs.Machine.{after}
-use Rattle.model_line.specs.Sound.{IsInRange, IsSound}
-use Rattle.model_line.proofs.LineSound.{after_sound}
-use Rattle.model_line.proofs.Numbers.{place_at-number, number_within}
+use Rattle.model_line.specs.Sound.{IsSound}
 use Rattle.laws_line.specs.Heard.{IsFor}
 use Rattle.laws_line.proofs.Hearing.{one-event}
 use Rattle.laws_line.specs.Drains.{IsEnough, control_text, IsTakenWithin, IsAnsweredWithin}

@@ -1,19 +1,8 @@
 -- Lines that meet what the laws of what waits ask, and what those give.
-use Rattle.std.proofs.Common.{true, ◌+◌, ◌≤◌, [], ◌∷◌, length, refl, inl, arith}
+use Rattle.laws_line.proofs.Vocabulary.{true, ◌+◌, ◌≤◌, [], ◌∷◌, length, refl, inl, arith, ReceiveReady, Ua, Call, Spells, seq, response, IsPollWhileUp, hears, request, fresh_line, terms, heard_side, Assign, after_sound, fresh_sound}
 use Rattle.model_bits.specs.Stream as stream
-use Rattle.lapd_frame.specs.declared.controls.Control.TheVariants.{ReceiveReady, Ua}
-use Rattle.lapd_frame.specs.declared.services.Service.TheVariants.{Call}
-use Rattle.lapd_frame.specs.Grammar.{Spells}
-use Rattle.lapd_seq.specs.Numbers.{seq}
-use Rattle.model_link.specs.Words.{response}
-use Rattle.laws_link.specs.two.Polls.{IsPollWhileUp}
-use Rattle.model_line.specs.Event.{hears, request}
-use Rattle.model_line.specs.Line.{fresh_line, terms}
 use Rattle.model_line.specs.Machine.{after}
-use Rattle.model_line.specs.Heard.{heard_side}
-use Rattle.model_line.specs.Request.{Assign}
 use Rattle.model_line.specs.Sound.{IsSound}
-use Rattle.model_line.proofs.LineSound.{after_sound, fresh_sound}
 use Rattle.laws_line.specs.Heard.{IsFor}
 use Rattle.laws_line.specs.Served.{HasNothing}
 use Rattle.laws_line.specs.Drains.{after_takes, IsEnough, control_text, IsTakenWithin, IsAnsweredWithin, IsIdling, most_frames_before}

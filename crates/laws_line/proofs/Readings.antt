@@ -1,22 +1,8 @@
 -- What is read of the links of a line, by service and TEI, and else where the TEI is not on it: through an event of one
 -- link, and where a TEI comes or leaves.
-use Rattle.std.proofs.Common.{◌≡◌, ◌≢◌, ℕ, ◌+◌, ◌*◌, ◌<◌, ◌⊎◌, inl, inr, ◌==◌, ◌&&◌, false, List, length, get_or, set, Option, Some, None, refl, ap, sym, ◌∙◌, subst, arith, length-set, eq-eqb, true≢false}
-use Rattle.std.specs.Option.{option_map_or}
-use Rattle.std.proofs.lemmas.Bool.{cases_eq}
-use Rattle.std.proofs.lemmas.List.{get_or-set_same, get_or-set_other}
-use Rattle.std.proofs.lemmas.Option.{none-some}
-use Rattle.lapd_frame.specs.declared.services.Service.{Service}
-use Rattle.lapd_frame.specs.declared.services.Service.TheVariants.{Call, Packet}
-use Rattle.lapd_frame.specs.Services.{same_service}
-use Rattle.model_link.specs.Link.{Link, fresh}
-use Rattle.lapd_tei.specs.Machine.{Management}
-use Rattle.lapd_tei.specs.Sound.{IsAt, IsSoundTable}
-use Rattle.lapd_tei.specs.Table.{place_of}
-use Rattle.lapd_tei.proofs.Tables.{at-within, place_of-is}
-use Rattle.model_line.specs.declared.config.Config.{Config}
-use Rattle.model_line.specs.Line.{Line, link_number, link_in, place_in, with_link}
+use Rattle.laws_line.proofs.Vocabulary.{◌≡◌, ◌≢◌, ℕ, ◌+◌, ◌*◌, ◌<◌, ◌⊎◌, inl, inr, ◌==◌, ◌&&◌, false, List, length, get_or, set, Option, Some, None, refl, ap, sym, ◌∙◌, subst, arith, length-set, eq-eqb, true≢false, option_map_or, cases_eq, get_or-set_same, get_or-set_other, none-some, Service, Call, Packet, same_service, Link, Management, IsAt, IsSoundTable, place_of, at-within, place_of-is, Config, Line, link_number, link_in, place_in, with_link, number_within}
+use Rattle.model_link.specs.Link.{fresh}
 use Rattle.model_line.specs.Sound.{IsSound}
-use Rattle.model_line.proofs.Numbers.{number_within}
 use Rattle.laws_line.proofs.Following.{same-number, some-same}
 use Rattle.laws_line.proofs.Obeyed.{service-same}
 use Rattle.laws_line.proofs.Places.{has-no-place, has-place, stays-placed}

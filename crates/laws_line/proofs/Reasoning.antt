@@ -1,45 +1,21 @@
 -- Why notes say that a TEI came or left: each row of TEI management, and each event of a line.
-use Rattle.std.proofs.Common.{◌≡◌, ℕ, ◌+◌, ◌*◌, ◌/◌, ◌%◌, ◌==◌, ◌&&◌, nat_le, Bool, true, false, cond, List, [], ◌∷◌, ◌++◌, Option, Some, None, refl, sym, subst, eqb-true}
+use Rattle.laws_line.proofs.Vocabulary.{◌≡◌, ℕ, ◌+◌, ◌*◌, ◌/◌, ◌%◌, ◌==◌, ◌&&◌, nat_le, Bool, true, false, cond, List, [], ◌∷◌, ◌++◌, Option, Some, None, refl, sym, subst, and_parts, All-nil, All-cons, All-append, All-weaker, Note, Assigned, Removed, Doubled, Refusal, Service, Call, Packet, T201, Terms, LinkTimer, IsOwn, Link, notes-own, Period, First, Second, Change, Gained, Left, IdentityRemove, Management, heard_in, heard_of_type, free_place, free_tei, no_room, lose_one, unserved, check_is, begin_check, end_check, send, leave, Config, hears, request, next, LineTold, at_management, told_of_management, of_link, of_change, of_aim, at_timer, Line, place_in, link_in, terms, unless_refused_told, Request, Establish, Release, Assign, Remove, SetBusy, ClearBusy, Deactivate, at_requested, at_deactivated, aim_of_request}
+use Rattle.std.proofs.Common.{eqb-true}
 use Rattle.std.specs.List.{All}
-use Rattle.std.proofs.lemmas.Bool.{and_parts}
-use Rattle.std.proofs.lemmas.List.Elements.{All-nil, All-cons, All-append, All-weaker}
-use Rattle.lapd_frame.specs.declared.notes.Note.{Note}
 use Rattle.lapd_frame.specs.declared.notes.Note.TheVariants as notes
-use Rattle.lapd_frame.specs.declared.notes.Note.TheVariants.{Assigned, Removed, Doubled}
-use Rattle.lapd_frame.specs.declared.refusals.Refusal.{Refusal}
-use Rattle.lapd_frame.specs.declared.services.Service.{Service}
-use Rattle.lapd_frame.specs.declared.services.Service.TheVariants.{Call, Packet}
-use Rattle.lapd_frame.specs.declared.timers.Timer.TheVariants.{T200, T203, T201}
-use Rattle.model_link.specs.declared.terms.Terms.{Terms}
-use Rattle.model_link.specs.declared.timers.LinkTimer.{LinkTimer}
+use Rattle.lapd_frame.specs.declared.timers.Timer.TheVariants.{T200, T203}
 use Rattle.model_link.specs.declared.timers.LinkTimer.TheVariants as link_timer
 use Rattle.model_link.specs.Events as link
-use Rattle.model_link.specs.Notes.{IsOwn}
-use Rattle.model_link.specs.Link.{Link}
 use Rattle.model_link.specs.Machine as links
-use Rattle.model_link.proofs.OwnNotes.{notes-own}
 use Rattle.lapd_tei.specs.declared.check.Check.{Check}
-use Rattle.lapd_tei.specs.declared.check.Period.{Period}
-use Rattle.lapd_tei.specs.declared.check.Period.TheVariants.{First, Second}
-use Rattle.lapd_tei.specs.declared.outcome.Change.{Change}
-use Rattle.lapd_tei.specs.declared.outcome.Change.TheVariants.{Gained, Left}
-use Rattle.lapd_tei.specs.declared.messages.Message.TheVariants.{IdentityRemove}
 use Rattle.lapd_tei.specs.Events as teis
-use Rattle.lapd_tei.specs.Machine.{Management}
-use Rattle.lapd_tei.specs.Messages.{heard_in, heard_of_type}
 use Rattle.lapd_tei.specs.Rows as rows
-use Rattle.lapd_tei.specs.Table.{free_place, free_tei}
-use Rattle.lapd_tei.specs.Words.{Course, begun, no_room, lose_one, unserved, check_is, begin_check, end_check, send, leave}
-use Rattle.model_line.specs.declared.config.Config.{Config}
-use Rattle.model_line.specs.Event.{Event, hears, expiry, request, next, LineTold}
-use Rattle.model_line.specs.Effect.{at_management, told_of_management, of_link, of_change, of_aim}
-use Rattle.model_line.specs.Expiry.{at_timer}
-use Rattle.model_line.specs.Line.{Line, place_in, link_in, terms}
-use Rattle.model_line.specs.Machine.{answer, unless_refused, unless_refused_told}
+use Rattle.lapd_tei.specs.Words.{Course, begun}
+use Rattle.model_line.specs.Event.{Event, expiry}
+use Rattle.model_line.specs.Machine.{answer, unless_refused}
 use Rattle.model_line.specs.Heard.{group_tei}
 use Rattle.model_line.specs.Refusal.{refusal}
-use Rattle.model_line.specs.Request.{Request, Establish, Release, Data, Unit, Assign, Remove, Check as Checking, SetBusy, ClearBusy, Deactivate}
-use Rattle.model_line.specs.Requested.{at_requested, at_deactivated, aim_of_request}
+use Rattle.model_line.specs.Request.{Data, Unit, Check as Checking}
 use Rattle.laws_line.specs.Heard.{notes_of}
 use Rattle.laws_line.specs.Messages.{asks, responds, Says}
 use Rattle.laws_line.specs.Reasons.{HasReason, HaveReasons}

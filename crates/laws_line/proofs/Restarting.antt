@@ -1,23 +1,13 @@
 -- A call for the next frame leaves the timers that run.
-use Rattle.std.proofs.Common.{option_map, ◌≡◌, List, [], Some, refl, ap, sym, subst, arith, IfSome, inl, inr, ◌⊎◌}
-use Rattle.std.specs.Option.{option_map_or}
-use Rattle.std.proofs.lemmas.List.{get_or-set_same}
-use Rattle.lapd_frame.specs.declared.timers.Order.{Order}
-use Rattle.model_link.specs.declared.terms.Terms.{Terms}
+use Rattle.laws_line.proofs.Vocabulary.{◌≡◌, List, [], Some, refl, ap, sym, subst, arith, IfSome, inl, inr, ◌⊎◌, option_map_or, get_or-set_same, Order, Terms, Link, Given, given-leaves, Config, hears, request, next, orders_in, Line, service_at, link_at, terms, Taken, with_given_frame, taken, next_of, line_of, next_walk}
+use Rattle.std.proofs.Common.{option_map}
 use Rattle.model_link.specs.Events as link
-use Rattle.model_link.specs.Link.{Link, fresh}
+use Rattle.model_link.specs.Link.{fresh}
 use Rattle.model_link.specs.Machine as links
-use Rattle.model_link.specs.Told.{Given}
 use Rattle.laws_link.specs.Starting as starting
-use Rattle.laws_link.proofs.Starting.{given-leaves}
-use Rattle.model_line.specs.declared.config.Config.{Config}
-use Rattle.model_line.specs.Event.{Event, hears, expiry, request, next, gave as gives}
-use Rattle.model_line.specs.Laws.{orders_in}
-use Rattle.model_line.specs.Line.{Line, service_at, link_at, terms}
+use Rattle.model_line.specs.Event.{Event, expiry, gave as gives}
 use Rattle.model_line.specs.Machine.{after, answer}
-use Rattle.model_line.specs.Taken.{Taken, with_given_frame, taken, next_of, line_of}
 use Rattle.model_line.specs.Sound.{IsSound}
-use Rattle.model_line.proofs.TakenWalk.{next_walk}
 use Rattle.laws_line.specs.Timers.{StartsOne, LeavesTimers}
 use Rattle.laws_line.proofs.LinkMoves.{IsOne, taken-one}
 

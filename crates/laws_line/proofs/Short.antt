@@ -1,40 +1,19 @@
 -- An answer has at most four notes and four orders.
-use Rattle.std.proofs.Common.{ℕ, ◌≤◌, false, List, [], ◌∷◌, ◌++◌, length, Option, Some, None, option_map, IfSome, arith, length-append}
-use Rattle.std.specs.Option.{option_or}
-use Rattle.lapd_frame.specs.declared.refusals.Refusal.{Refusal}
-use Rattle.lapd_frame.specs.declared.services.Service.{Service}
-use Rattle.lapd_frame.specs.declared.services.Service.TheVariants.{Call, Packet}
-use Rattle.lapd_frame.specs.declared.timers.Timer.{Timer}
-use Rattle.lapd_frame.specs.declared.timers.Timer.TheVariants.{T200, T203, T201}
-use Rattle.model_link.specs.declared.terms.Terms.{Terms}
-use Rattle.model_link.specs.declared.timers.LinkTimer.{LinkTimer}
-use Rattle.model_link.specs.Link.{Link}
-use Rattle.model_link.specs.Steps.{Sent}
-use Rattle.model_link.proofs.TellRows.{event-tells, cleared-tells, two-orders, cleared-orders}
-use Rattle.lapd_tei.specs.declared.outcome.Change.{Change}
-use Rattle.lapd_tei.specs.declared.outcome.Change.TheVariants.{Gained, Left}
-use Rattle.model_line.specs.declared.config.Config.{Config}
-use Rattle.model_line.specs.Event.{Event, hears, expiry, request, next, LineTold, nothing, gave}
-use Rattle.model_line.specs.Expiry.{at_timer, aim_of_expiry}
-use Rattle.model_line.specs.Laws.{notes_in, orders_in}
+use Rattle.laws_line.proofs.Vocabulary.{ℕ, ◌≤◌, false, List, [], ◌∷◌, ◌++◌, length, Option, Some, None, IfSome, arith, length-append, option_or, Refusal, Service, Call, Packet, Timer, T201, Terms, LinkTimer, Link, Sent, event-tells, cleared-tells, two-orders, cleared-orders, Change, Gained, Left, Config, hears, request, next, LineTold, nothing, gave, at_timer, aim_of_expiry, notes_in, orders_in, Line, link_in, link_at, terms, terms_at, place_in, unless_refused_told, aim_of_heard, told_of_management, of_link, of_change, of_management, of_aim, Taken, message_taken, with_unit, unit_taken, with_given_frame, link_taken, first_taken, round, taken, next_of, Request, Establish, Release, Assign, Remove, SetBusy, ClearBusy, Deactivate, at_requested, at_deactivated, aim_of_request, IsBrief, told_brief, heard_aims, expiry_starts}
+use Rattle.std.proofs.Common.{option_map}
+use Rattle.lapd_frame.specs.declared.timers.Timer.TheVariants.{T200, T203}
+use Rattle.model_line.specs.Event.{Event, expiry}
 use Rattle.laws_line.specs.Short.{AnswersAreShort}
-use Rattle.model_line.specs.Line.{Line, link_in, link_at, terms, terms_at, place_in}
-use Rattle.model_line.specs.Machine.{answer, unless_refused, unless_refused_told}
-use Rattle.model_line.specs.Heard.{aim_of_heard}
-use Rattle.model_line.specs.Effect.{told_of_management, of_link, of_change, of_management, of_aim}
-use Rattle.model_line.specs.Taken.{Taken, with_message, message_taken, with_unit, unit_taken, with_given_frame, link_taken, first_taken, round, taken, next_of}
+use Rattle.model_line.specs.Machine.{answer, unless_refused}
+use Rattle.model_line.specs.Taken.{with_message}
 use Rattle.model_line.specs.Refusal.{refusal}
-use Rattle.model_line.specs.Request.{Request, Establish, Release, Data, Unit, Assign, Remove, Check, SetBusy, ClearBusy, Deactivate}
-use Rattle.model_line.specs.Requested.{at_requested, at_deactivated, aim_of_request}
-use Rattle.lapd_tei.proofs.Brief.{IsBrief, told_brief}
+use Rattle.model_line.specs.Request.{Data, Unit, Check}
 use Rattle.model_bits.specs.Stream as stream
 use Rattle.model_link.specs.declared.timers.LinkTimer.TheVariants as link_timer
 use Rattle.model_link.specs.Events as link
 use Rattle.model_link.specs.Machine as links
 use Rattle.lapd_tei.specs.Events as teis
 use Rattle.lapd_tei.specs.Machine as tei
-use Rattle.model_line.proofs.ProperAims.{heard_aims}
-use Rattle.model_line.proofs.Starts.{expiry_starts}
 
 record IsShort (t : LineTold) : Type 0 where
   notes : length t.notes ≤ 4

@@ -1,9 +1,6 @@
 -- A link has nothing to send exactly where the machine gives nothing.
-use Rattle.model_link.specs.declared.terms.Terms.{Terms}
-use Rattle.model_link.specs.Link.{Link}
+use Rattle.laws_line.proofs.Vocabulary.{Terms, Link, none-goes, goes-not, HasNothingToSend}
 use Rattle.model_link.specs.Sound.{IsSound}
-use Rattle.laws_link.proofs.MayGo.{none-goes, goes-not}
-use Rattle.laws_link.specs.two.Waits.{HasNothingToSend}
 use Rattle.laws_line.specs.Served.{IsSilent}
 
 module _ (t : Terms) (l : Link) (s : IsSound t l) where

@@ -1,11 +1,6 @@
 -- What a configuration lets go before a control frame that waits.
-use Rattle.std.proofs.Common.{◌≡◌, ℕ, ◌+◌, ◌-◌, ◌*◌, ◌≤◌, ◌<◌, Bool, true, false, cond, List, ◌∷◌, ◌++◌, length, Option, Some, None, refl, ap, inr, arith, length-append, nat_le}
-use Rattle.std.proofs.Math.Nat.{mul-le-mul_right}
-use Rattle.std.proofs.lemmas.Bool.{leb-false}
-use Rattle.model_link.specs.declared.frames.ControlFrame.{ControlFrame}
-use Rattle.model_line.specs.declared.config.Config.{Config}
-use Rattle.model_line.specs.Line.{Line, link_count, place_at, tei_at, link_at}
-use Rattle.model_line.specs.Sound.{IsInRange, IsSoundAt, IsSound}
+use Rattle.laws_line.proofs.Vocabulary.{◌≡◌, ℕ, ◌+◌, ◌-◌, ◌*◌, ◌≤◌, ◌<◌, Bool, true, false, cond, List, ◌∷◌, ◌++◌, length, Option, Some, None, refl, ap, inr, arith, length-append, nat_le, mul-le-mul_right, leb-false, ControlFrame, Config, Line, link_count, place_at, tei_at, link_at, IsInRange, IsSoundAt}
+use Rattle.model_line.specs.Sound.{IsSound}
 use Rattle.laws_line.specs.Drains.{way_round, frames_before, IsEnough, control_text, IsTakenWithin, most_frames_before}
 use Rattle.laws_line.proofs.Ordered.{enough-goes}
 

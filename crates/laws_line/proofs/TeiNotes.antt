@@ -1,21 +1,11 @@
 -- Which event of TEI management changes the table, and what is noted of it: each row.
-use Rattle.std.proofs.Common.{◌≡◌, ℕ, ◌+◌, ◌*◌, ◌/◌, ◌%◌, ◌==◌, ◌&&◌, nat_le, Bool, true, false, cond, List, [], ◌∷◌, Option, Some, None, IfSome, option_map, refl, sym, ap, ◌∙◌, true≢false, eqb-true}
-use Rattle.lapd_frame.specs.declared.notes.Note.{Note}
-use Rattle.lapd_frame.specs.declared.notes.Note.TheVariants.{Assigned, Removed, Doubled}
-use Rattle.lapd_frame.specs.declared.refusals.Refusal.{Refusal}
+use Rattle.laws_line.proofs.Vocabulary.{◌≡◌, ℕ, ◌+◌, ◌*◌, ◌/◌, ◌%◌, ◌==◌, ◌&&◌, nat_le, Bool, true, false, cond, List, [], ◌∷◌, Option, Some, None, IfSome, refl, sym, ap, ◌∙◌, true≢false, Note, Assigned, Removed, Doubled, Refusal, Period, First, Second, IdentityRemove, Change, Gained, Left, heard_in, heard_of_type, Places, is_on, place_of, free_place, free_tei, Management, Step, no_room, send, lose_one, unserved, leave, left, check_is, begin_check, end_check, remembered_in, assign_new, assign, may_be_checked, responses, doubled, count, respond, serve, removed, is_unanswered, expire_period, expire_check, nothing_happens, join_at, put_on, is_checked, take_off, message, remove, check, step, course, IsSoundCheck}
+use Rattle.std.proofs.Common.{option_map, eqb-true}
 use Rattle.lapd_tei.specs.declared.check.Check.{Check}
-use Rattle.lapd_tei.specs.declared.check.Period.{Period}
-use Rattle.lapd_tei.specs.declared.check.Period.TheVariants.{First, Second}
-use Rattle.lapd_tei.specs.declared.messages.Message.TheVariants.{IdentityRemove}
-use Rattle.lapd_tei.specs.declared.outcome.Change.{Change}
-use Rattle.lapd_tei.specs.declared.outcome.Change.TheVariants.{Gained, Left}
-use Rattle.lapd_tei.specs.Messages.{heard_in, heard_of_type}
-use Rattle.lapd_tei.specs.Table.{Places, is_on, place_of, free_place, free_tei}
-use Rattle.lapd_tei.specs.Machine.{Management}
-use Rattle.lapd_tei.specs.Words.{Course, Step, begun, no_room, send, lose_one, unserved, leave, left, check_is, begin_check, end_check}
-use Rattle.lapd_tei.specs.Rows.{remembered_in, assign_new, assign, may_be_checked, counted, responses, doubled, count, respond, serve, removed, is_unanswered, expire_period, expire_check, nothing_happens, join_at, put_on, is_checked, take_off}
-use Rattle.lapd_tei.specs.Events.{Event, message, expiry, assign as assigning, remove, check, refusal, step, unless_refused, course}
-use Rattle.lapd_tei.specs.Sound.{IsSound, IsSoundCheck}
+use Rattle.lapd_tei.specs.Words.{Course, begun}
+use Rattle.lapd_tei.specs.Rows.{counted}
+use Rattle.lapd_tei.specs.Events.{Event, expiry, assign as assigning, refusal, unless_refused}
+use Rattle.lapd_tei.specs.Sound.{IsSound}
 use Rattle.laws_line.proofs.Places.{is-off}
 
 -- A change of the table has its event, and its note.

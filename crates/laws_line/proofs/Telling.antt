@@ -1,21 +1,11 @@
 -- A TEI that is told to a terminal is on the line when its message comes to wait: each row.
-use Rattle.std.proofs.Common.{◌≡◌, ◌⊎◌, inl, inr, ℕ, ◌==◌, Bool, true, false, List, [], ◌∷◌, ◌++◌, length, drop, get_or, Option, Some, None, refl, sym, ap, ◌∙◌, arith, true≢false, length-append, length-drop}
-use Rattle.std.proofs.lemmas.List.{append_cancel_left, get_or-set_same}
-use Rattle.lapd_tei.specs.Machine.{Management}
+use Rattle.laws_line.proofs.Vocabulary.{◌≡◌, ◌⊎◌, inl, inr, ℕ, ◌==◌, Bool, true, false, List, [], ◌∷◌, ◌++◌, length, drop, get_or, Option, Some, None, refl, sym, ap, ◌∙◌, arith, true≢false, length-append, append_cancel_left, get_or-set_same, Management, Period, First, Second, Message, IdentityAssigned, IdentityDenied, IdentityCheckRequest, IdentityRemove, action_of, is_on, is_on-at, Config, Answer, Line, Request, Establish, Release, Assign, Remove, SetBusy, ClearBusy, Deactivate, IsInRange}
+use Rattle.std.proofs.Common.{length-drop}
 use Rattle.lapd_tei.specs.declared.check.Check.{Check}
-use Rattle.lapd_tei.specs.declared.check.Period.{Period}
-use Rattle.lapd_tei.specs.declared.check.Period.TheVariants.{First, Second}
-use Rattle.lapd_tei.specs.declared.messages.Message.{Message}
-use Rattle.lapd_tei.specs.declared.messages.Message.TheVariants.{IdentityAssigned, IdentityDenied, IdentityCheckRequest, IdentityRemove}
-use Rattle.lapd_tei.specs.Messages.{action_of}
-use Rattle.lapd_tei.specs.Table.{is_on}
-use Rattle.lapd_tei.proofs.Tables.{is_on-at}
-use Rattle.model_line.specs.declared.config.Config.{Config}
-use Rattle.model_line.specs.Event.{Event, Answer}
-use Rattle.model_line.specs.Line.{Line}
+use Rattle.model_line.specs.Event.{Event}
 use Rattle.model_line.specs.Machine.{after, answer}
-use Rattle.model_line.specs.Request.{Request, Establish, Release, Data, Unit, Assign, Remove, Check as Checking, SetBusy, ClearBusy, Deactivate}
-use Rattle.model_line.specs.Sound.{IsInRange, IsSound}
+use Rattle.model_line.specs.Request.{Data, Unit, Check as Checking}
+use Rattle.model_line.specs.Sound.{IsSound}
 use Rattle.laws_line.specs.Causes.{HasCause, IsTaken, HaveCauses, AreThere}
 use Rattle.laws_line.specs.Messages.{Said, asks, verifies, responds, IsSent, IsUnmoved, IsToldAgain, IsAssigned, IsDenied, Verifies, may_begin, is_answered, RespondsTo, Responds, Serves, ExpiresIn, Expires, Grants, is_of_management}
 use Rattle.laws_line.proofs.Causing.{have-causes}

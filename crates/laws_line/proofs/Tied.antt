@@ -1,32 +1,14 @@
 -- How what an event aims at is tied to the event.
-use Rattle.std.proofs.Common.{◌≡◌, ℕ, Bool, true, false, ◌==◌, cond, List, Option, Some, None, Result, Ok, Err, refl, inl, inr}
+use Rattle.laws_line.proofs.Vocabulary.{◌≡◌, ℕ, Bool, true, false, ◌==◌, cond, List, Option, Some, None, Result, Ok, Err, refl, inl, inr, Address, Control, ReadFault, BadExtension, Undefined, WrongSize, Short, Long, Service, Timer, T201, Tei, Unserved, Parts, reading, long_reading, service_of, LinkTimer, Config, hears, request, Answer, Aim, at_none, at_link, at_management, at_units, at_timer, aim_of_expiry, Line, place_in, drop_for, management_sapi, to_service, addressed, message_of, aim_of_reading, unless_at_link, aim_of_long, heard_side, aim_of_heard, side_aims, Request, Establish, Release, Assign, Remove, SetBusy, ClearBusy, Deactivate, at_requested, at_deactivated, aim_of_request}
 use Rattle.model_bits.specs.Stream as stream
-use Rattle.lapd_frame.specs.declared.addresses.Address.{Address}
-use Rattle.lapd_frame.specs.declared.controls.Control.{Control}
 use Rattle.lapd_frame.specs.declared.controls.Control.TheVariants as control
-use Rattle.lapd_frame.specs.declared.faults.ReadFault.{ReadFault}
-use Rattle.lapd_frame.specs.declared.faults.ReadFault.TheVariants.{BadExtension, Undefined, WrongSize, Short}
-use Rattle.lapd_frame.specs.declared.overlong.Long.{Long}
 use Rattle.lapd_frame.specs.declared.overlong.Long.TheVariants as long
-use Rattle.lapd_frame.specs.declared.services.Service.{Service}
-use Rattle.lapd_frame.specs.declared.timers.Timer.{Timer}
-use Rattle.lapd_frame.specs.declared.timers.Timer.TheVariants.{T200, T203, T201}
-use Rattle.model_bits.specs.declared.heard.Cause.TheVariants.{Tei, Unserved}
-use Rattle.lapd_frame.specs.Grammar.{Parts}
-use Rattle.lapd_frame.specs.Reading.{reading, long_reading}
-use Rattle.lapd_frame.specs.Services.{service_of}
+use Rattle.lapd_frame.specs.declared.timers.Timer.TheVariants.{T200, T203}
 use Rattle.model_link.specs.Events as link
-use Rattle.model_link.specs.declared.timers.LinkTimer.{LinkTimer}
 use Rattle.model_link.specs.declared.timers.LinkTimer.TheVariants as link_timer
-use Rattle.model_line.specs.declared.config.Config.{Config}
-use Rattle.model_line.specs.Event.{Event, hears, expiry, request, Answer}
-use Rattle.model_line.specs.Effect.{Aim, at_none, at_link, at_management, at_units}
-use Rattle.model_line.specs.Expiry.{at_timer, aim_of_expiry}
-use Rattle.model_line.specs.Line.{Line, place_in}
-use Rattle.model_line.specs.Heard.{drop_for, management_sapi, group_tei, at_place, to_service, addressed, message_of, aim_of_reading, unless_at_link, aim_of_long, heard_side, aim_of_heard}
-use Rattle.model_line.proofs.Sides.{side_aims}
-use Rattle.model_line.specs.Request.{Request, Establish, Release, Data, Assign, Remove, Check, SetBusy, ClearBusy, Deactivate}
-use Rattle.model_line.specs.Requested.{at_requested, at_deactivated, aim_of_request}
+use Rattle.model_line.specs.Event.{Event, expiry}
+use Rattle.model_line.specs.Heard.{group_tei, at_place}
+use Rattle.model_line.specs.Request.{Data, Check}
 use Rattle.laws_line.specs.Share.{is_granted}
 use Rattle.laws_line.specs.Heard.{IsTooLong}
 use Rattle.laws_line.specs.Steady.{BringsMalformed, IsBy, IsOf}

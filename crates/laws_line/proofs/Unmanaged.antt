@@ -1,31 +1,15 @@
 -- The user's side has no TEI management.
-use Rattle.std.proofs.Common.{◌≡◌, ℕ, Bool, true, false, not, [], ◌∷◌, drop, Option, Some, None, refl, sym, ap, ◌∙◌, true≢false, inl, inr}
-use Rattle.model_line.proofs.TakenWalk.{next_walk}
-use Rattle.std.specs.Option.{option_map_or}
+use Rattle.laws_line.proofs.Vocabulary.{◌≡◌, ℕ, Bool, true, false, not, [], ◌∷◌, drop, Option, Some, None, refl, sym, ap, ◌∙◌, true≢false, inl, inr, next_walk, option_map_or, User, Network, Refusal, Service, T201, Management, expire_check, join_at, put_on, free_place, LinkTimer, Config, at_management, of_aim, hears, request, next, at_timer, Line, place_in, Taken, taken, line_of, wrong_side, bad_tei, no_link, check_running, control_full, Request, Establish, Release, Assign, Remove, SetBusy, ClearBusy, Deactivate, at_requested, at_deactivated, aim_of_request, has_management}
 use Rattle.model_bits.specs.Stream as stream
-use Rattle.lapd_frame.specs.declared.addresses.Side.TheVariants.{User, Network}
-use Rattle.lapd_frame.specs.declared.refusals.Refusal.{Refusal}
-use Rattle.lapd_frame.specs.declared.services.Service.{Service}
-use Rattle.lapd_frame.specs.declared.timers.Timer.TheVariants.{T200, T203, T201}
+use Rattle.lapd_frame.specs.declared.timers.Timer.TheVariants.{T200, T203}
 use Rattle.lapd_tei.specs.Events as teis
-use Rattle.lapd_tei.specs.Machine.{Management}
-use Rattle.lapd_tei.specs.Rows.{expire_check, join_at, put_on}
-use Rattle.lapd_tei.specs.Table.{free_place}
 use Rattle.lapd_tei.specs.Words.{begun}
-use Rattle.model_link.specs.declared.timers.LinkTimer.{LinkTimer}
 use Rattle.model_link.specs.declared.timers.LinkTimer.TheVariants as link_timer
 use Rattle.model_link.specs.Events as link
-use Rattle.model_line.specs.declared.config.Config.{Config}
-use Rattle.model_line.specs.Effect.{at_management, of_aim}
-use Rattle.model_line.specs.Event.{Event, hears, expiry, request, next}
-use Rattle.model_line.specs.Expiry.{at_timer}
-use Rattle.model_line.specs.Line.{Line, place_in}
+use Rattle.model_line.specs.Event.{Event, expiry}
 use Rattle.model_line.specs.Machine.{after, unless_refused}
-use Rattle.model_line.specs.Taken.{Taken, taken, line_of}
-use Rattle.model_line.specs.Refusal.{wrong_side, bad_tei, no_link, check_running, control_full, refusal}
-use Rattle.model_line.specs.Request.{Request, Establish, Release, Data, Unit, Assign, Remove, Check, SetBusy, ClearBusy, Deactivate}
-use Rattle.model_line.specs.Requested.{at_requested, at_deactivated, aim_of_request}
-use Rattle.model_line.specs.Sides.{has_management}
+use Rattle.model_line.specs.Refusal.{refusal}
+use Rattle.model_line.specs.Request.{Data, Unit, Check}
 use Rattle.model_line.specs.Sound.{IsSound}
 use Rattle.laws_line.specs.Unmanaged.{IsUnmanaged, UsersManageNothing}
 use Rattle.laws_line.proofs.Asked.{passed}

@@ -1,21 +1,8 @@
 -- An I-frame is offered only where it may go; and with offers alone contents go one after the other.
-use Rattle.std.proofs.Common.{◌≡◌, ℕ, zero, suc, ◌+◌, ◌-◌, ◌<◌, Bool, true, false, cond, IsTrue, ◌&&◌, not, List, [], ◌∷◌, length, Option, Some, None, refl, sym, ap, ◌∙◌, subst, true≢false, arith}
-use Rattle.std.specs.Prelude.{All, IfSome, nat_lt}
-use Rattle.std.proofs.lemmas.Bool.{ltb-true, and_parts}
-use Rattle.std.proofs.lemmas.List.Elements.{All-head}
-use Rattle.model_link.specs.declared.states.State.{State}
-use Rattle.model_link.specs.declared.states.State.TheVariants.{TeiAssigned, AwaitingEstablishment, AwaitingRelease, Established, TimerRecovery}
-use Rattle.model_link.specs.declared.frames.ControlFrame.{ControlFrame}
-use Rattle.model_link.specs.declared.timers.LinkTimer.TheVariants.{T200}
-use Rattle.model_link.specs.declared.terms.Terms.{Terms}
-use Rattle.model_link.specs.Link.{Link, outstanding}
+use Rattle.laws_link.proofs.Vocabulary.{◌≡◌, ℕ, zero, suc, ◌+◌, ◌-◌, ◌<◌, Bool, true, false, cond, IsTrue, ◌&&◌, not, List, [], ◌∷◌, length, Option, Some, None, refl, sym, ap, ◌∙◌, subst, true≢false, arith, All, IfSome, nat_lt, ltb-true, and_parts, All-head, State, TeiAssigned, AwaitingEstablishment, AwaitingRelease, Established, TimerRecovery, ControlFrame, T200, Terms, Link, outstanding, course, after, given, given_of, IsInRange, IsSound, IsWaitingFrame, is_information, Course, Sent, begun, ◌then◌, changed, sound-after}
 use Rattle.model_link.specs.Events as link
-use Rattle.model_link.specs.Machine.{course, after, given, given_of}
 use Rattle.model_link.specs.Offers
-use Rattle.model_link.specs.Sound.{IsInRange, IsSound, IsWaitingFrame, is_information}
-use Rattle.model_link.specs.Steps.{Course, Sent, begun, ◌then◌, changed}
 use Rattle.model_link.specs.Words
-use Rattle.model_link.proofs.SoundEvents.{sound-after}
 use Rattle.laws_link.specs.Offered.{IsOffered, is_i_frame, i_frames}
 use Rattle.laws_link.specs.Sending.{MayGo, offered, i_frames_offered}
 use Rattle.laws_link.proofs.Offering.{given-is-offered, offer-leaves, offer-counts}

@@ -1,16 +1,7 @@
 -- What is told where the numbers begin anew.
-use Rattle.std.proofs.Common.{◌≡◌, ℕ, Bool, true, false, cond, List, refl, ◌⊎◌, inl, inr, sym, true≢false}
-use Rattle.std.specs.List.{list_any}
-use Rattle.lapd_frame.specs.declared.controls.Control.{Control}
-use Rattle.lapd_frame.specs.declared.controls.Control.TheVariants.{Information, ReceiveReady, ReceiveNotReady, Reject, Sabme, Disc, Ui, Ua, Dm, Frmr, Xid}
+use Rattle.laws_link.proofs.Vocabulary.{◌≡◌, ℕ, Bool, true, false, cond, List, refl, ◌⊎◌, inl, inr, sym, true≢false, list_any, Control, Information, ReceiveReady, ReceiveNotReady, Reject, Sabme, Disc, Ui, Ua, Dm, Frmr, Xid, State, TeiAssigned, AwaitingEstablishment, AwaitingRelease, Established, TimerRecovery, Terms, Link, has_outstanding, restarts, MayEstablish, Establishes, Course, begun, ◌then◌}
 use Rattle.lapd_frame.specs.declared.notes.ErrorCode.TheVariants as code
-use Rattle.model_link.specs.declared.states.State.{State}
-use Rattle.model_link.specs.declared.states.State.TheVariants.{TeiAssigned, AwaitingEstablishment, AwaitingRelease, Established, TimerRecovery}
-use Rattle.model_link.specs.declared.terms.Terms.{Terms}
-use Rattle.model_link.specs.Link.{Link, has_outstanding}
-use Rattle.model_link.specs.Deliveries.{restarts, MayEstablish, Establishes}
 use Rattle.model_link.specs.Events
-use Rattle.model_link.specs.Steps.{Course, begun, ◌then◌}
 use Rattle.model_link.specs.Words
 use Rattle.model_link.specs.Machine
 use Rattle.laws_link.proofs.Restarts.{establishes}

@@ -1,19 +1,8 @@
 -- What an event leaves of a link, row by row of the tables.
-use Rattle.std.proofs.Common.{◌≡◌, ℕ, ◌+◌, Bool, true, false, cond, not, ◌||◌, List, [], ◌∷◌, ◌++◌, length, drop, Option, None, Some, is_some, refl}
-use Rattle.std.specs.Prelude.{nat_lt}
-use Rattle.lapd_frame.specs.declared.controls.Control.{Control}
-use Rattle.lapd_frame.specs.declared.notes.Note.{Note}
+use Rattle.laws_link.proofs.Vocabulary.{◌≡◌, ℕ, ◌+◌, Bool, true, false, cond, not, ◌||◌, List, [], ◌∷◌, ◌++◌, length, drop, Option, None, Some, is_some, refl, nat_lt, Control, Note, Parts, State, AwaitingEstablishment, LinkTimer, ControlFrame, Terms, Link, Course, begun, Step, ◌then◌}
 use Rattle.lapd_frame.specs.declared.notes.Note.TheVariants as said
 use Rattle.lapd_frame.specs.declared.notes.ErrorCode.TheVariants as code
-use Rattle.lapd_frame.specs.Grammar.{Parts}
-use Rattle.model_link.specs.declared.states.State.{State}
-use Rattle.model_link.specs.declared.states.State.TheVariants.{AwaitingEstablishment}
-use Rattle.model_link.specs.declared.timers.LinkTimer.{LinkTimer}
-use Rattle.model_link.specs.declared.frames.ControlFrame.{ControlFrame}
-use Rattle.model_link.specs.declared.terms.Terms.{Terms}
-use Rattle.model_link.specs.Link.{Link}
 use Rattle.model_link.specs.Events
-use Rattle.model_link.specs.Steps.{Course, begun, Step, ◌then◌}
 use Rattle.model_link.specs.Words
 use Rattle.model_link.specs.Machine
 use Rattle.laws_link.specs.States.{as_heard, state_after, numbers_begin}

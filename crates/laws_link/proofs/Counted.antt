@@ -1,11 +1,5 @@
 -- What a link keeps, and the contents that were accepted since its numbers began.
-use Rattle.std.proofs.Common.{◌≡◌, ℕ, List, [], ◌∷◌, refl, ap, ◌∙◌}
-use Rattle.model_link.specs.declared.terms.Terms.{Terms}
-use Rattle.model_link.specs.Link.{Link, fresh}
-use Rattle.model_link.specs.Events.{Event}
-use Rattle.model_link.specs.Machine.{after, after_all}
-use Rattle.model_link.specs.Sound.{IsInRange, IsSound}
-use Rattle.model_link.proofs.SoundEvents.{sound-after, sound-fresh}
+use Rattle.laws_link.proofs.Vocabulary.{◌≡◌, ℕ, List, [], ◌∷◌, refl, ap, ◌∙◌, Terms, Link, fresh, Event, after, after_all, IsInRange, IsSound, sound-after, sound-fresh}
 use Rattle.laws_link.specs.History.{Share, share, History, nothing_yet, with_share, with_all, IsKept, IsCounted}
 use Rattle.laws_link.proofs.Keeping.{Comes, event-done}
 

@@ -1,15 +1,6 @@
 -- What is delivered is the information of the I-frame that was heard.
-use Rattle.std.proofs.Common.{◌≡◌, ℕ, ◌<◌, ◌≤◌, Bool, true, false, cond, not, List, Some, None, ap, ◌∙◌, arith}
-use Rattle.std.specs.Prelude.{nat_lt, nat_le}
-use Rattle.std.proofs.lemmas.Bool.{ltb-true, ltb-false, leb-true, leb-false, false_from_ne_true, true_from_ne_false}
-use Rattle.lapd_frame.specs.declared.controls.Control.{Control}
-use Rattle.lapd_frame.specs.declared.controls.Control.TheVariants.{Information, ReceiveReady, ReceiveNotReady, Reject, Sabme, Disc, Ui, Ua, Dm, Frmr, Xid}
-use Rattle.model_link.specs.declared.terms.Terms.{Terms}
-use Rattle.model_link.specs.Link.{Link}
-use Rattle.model_link.specs.Deliveries.{Arrived, information_of, information_in, is_eligible, eligible_of}
+use Rattle.laws_link.proofs.Vocabulary.{◌≡◌, ℕ, ◌<◌, ◌≤◌, Bool, true, false, cond, not, List, Some, None, ap, ◌∙◌, arith, nat_lt, nat_le, ltb-true, ltb-false, leb-true, leb-false, false_from_ne_true, true_from_ne_false, Control, Information, ReceiveReady, ReceiveNotReady, Reject, Sabme, Disc, Ui, Ua, Dm, Frmr, Xid, Terms, Link, Arrived, information_of, information_in, is_eligible, eligible_of, told, delivered-at_once}
 use Rattle.model_link.specs.Events
-use Rattle.model_link.specs.Machine.{told}
-use Rattle.model_link.proofs.Numbering.{delivered-at_once}
 use Rattle.laws_link.specs.Heard.{in_i_frame, contents_heard}
 
 module _ (t : Terms) (l : Link) where

@@ -1,21 +1,9 @@
 -- What comes of a request that is granted.
-use Rattle.std.proofs.Common.{◌≡◌, ℕ, ◌+◌, ◌≤◌, Bool, true, false, cond, List, [], ◌∷◌, ◌++◌, length, take, drop, length-take-le, Option, None, Some, refl, ap, sym, ◌∙◌, subst, true≢false, arith, ◌⊎◌, inl, inr, ⊎_elim}
-use Rattle.std.specs.Prelude.{nat_lt}
-use Rattle.std.proofs.lemmas.Bool.{cases_lt, lt-ltb, le-ltb}
-use Rattle.std.proofs.lemmas.List.{drop_all, drop-append-le}
-use Rattle.lapd_frame.specs.declared.refusals.Refusal.{Refusal}
-use Rattle.lapd_frame.specs.declared.refusals.Refusal.TheVariants.{WrongState}
-use Rattle.model_link.specs.declared.states.State.{State}
-use Rattle.model_link.specs.declared.states.State.TheVariants.{TeiAssigned, AwaitingEstablishment, AwaitingRelease, Established, TimerRecovery}
-use Rattle.model_link.specs.declared.frames.ControlFrame.{ControlFrame}
-use Rattle.model_link.specs.declared.terms.Terms.{Terms}
-use Rattle.model_link.specs.Link.{Link}
+use Rattle.laws_link.proofs.Vocabulary.{◌≡◌, ℕ, ◌+◌, ◌≤◌, Bool, true, false, cond, List, [], ◌∷◌, ◌++◌, length, take, drop, length-take-le, Option, None, Some, refl, ap, sym, ◌∙◌, subst, true≢false, arith, ◌⊎◌, inl, inr, ⊎_elim, nat_lt, cases_lt, lt-ltb, le-ltb, drop_all, drop-append-le, Refusal, WrongState, State, TeiAssigned, AwaitingEstablishment, AwaitingRelease, Established, TimerRecovery, ControlFrame, Terms, Link, IsSound, Course, begun, ◌then◌}
 use Rattle.model_link.specs.Events
 use Rattle.model_link.specs.Machine
 use Rattle.model_link.specs.Words
 use Rattle.model_link.specs.Requests
-use Rattle.model_link.specs.Sound.{IsSound}
-use Rattle.model_link.specs.Steps.{Course, begun, ◌then◌}
 use Rattle.laws_link.specs.Effects.{IsReleasedIn, TakesEffect}
 
 -- A frame that is put behind those that wait.

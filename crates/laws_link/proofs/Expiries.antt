@@ -1,20 +1,9 @@
 -- What comes of the expiry of a timer that runs.
-use Rattle.std.proofs.Common.{◌≡◌, ◌+◌, ◌<◌, ◌≤◌, true, cond, [], ◌∷◌, refl, sym, subst}
-use Rattle.std.specs.Prelude.{nat_lt}
-use Rattle.std.proofs.lemmas.Bool.{lt-ltb, le-ltb}
-use Rattle.lapd_frame.specs.declared.controls.Control.TheVariants.{Sabme, Disc}
+use Rattle.laws_link.proofs.Vocabulary.{◌≡◌, ◌+◌, ◌<◌, ◌≤◌, true, cond, [], ◌∷◌, refl, sym, subst, nat_lt, lt-ltb, le-ltb, Sabme, Disc, State, TeiAssigned, AwaitingEstablishment, AwaitingRelease, Established, TimerRecovery, LinkTimer, T200, T203, Terms, Link, Course, begun, runs}
 use Rattle.lapd_frame.specs.declared.notes.Note.TheVariants as notes
 use Rattle.lapd_frame.specs.declared.notes.ErrorCode.TheVariants as code
-use Rattle.model_link.specs.declared.states.State.{State}
-use Rattle.model_link.specs.declared.states.State.TheVariants.{TeiAssigned, AwaitingEstablishment, AwaitingRelease, Established, TimerRecovery}
-use Rattle.model_link.specs.declared.timers.LinkTimer.{LinkTimer}
-use Rattle.model_link.specs.declared.timers.LinkTimer.TheVariants.{T200, T203}
-use Rattle.model_link.specs.declared.terms.Terms.{Terms}
-use Rattle.model_link.specs.Link.{Link}
 use Rattle.model_link.specs.Events
 use Rattle.model_link.specs.Machine
-use Rattle.model_link.specs.Steps.{Course, begun}
-use Rattle.model_link.specs.Told.{runs}
 use Rattle.laws_link.specs.Expiries.{IsSent, enquiry, IsGivenUp, ExpiresIn, Expires}
 use Rattle.laws_link.proofs.Effects.{put}
 

@@ -1,13 +1,6 @@
 -- What follows an event, from what it leaves.
-use Rattle.std.proofs.Common.{◌≡◌, ℕ, Bool, List, refl, ap, sym, ◌∙◌, subst}
-use Rattle.lapd_frame.specs.declared.notes.Note.{Note}
-use Rattle.model_link.specs.declared.states.State.{State}
-use Rattle.model_link.specs.declared.frames.ControlFrame.{ControlFrame}
-use Rattle.model_link.specs.declared.terms.Terms.{Terms}
-use Rattle.model_link.specs.Deliveries.{restarts}
-use Rattle.model_link.specs.Link.{Link}
+use Rattle.laws_link.proofs.Vocabulary.{◌≡◌, ℕ, Bool, List, refl, ap, sym, ◌∙◌, subst, Note, State, ControlFrame, Terms, restarts, Link, after, told}
 use Rattle.model_link.specs.Events
-use Rattle.model_link.specs.Machine.{after, told}
 use Rattle.laws_link.specs.Following.{Follows}
 use Rattle.laws_link.specs.States.{as_heard, state_after, numbers_begin}
 use Rattle.laws_link.specs.Waiting.{put, waiting_left, lost_by}

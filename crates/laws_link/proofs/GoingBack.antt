@@ -1,24 +1,11 @@
 -- From where a link sends again.
-use Rattle.std.proofs.Common.{◌≡◌, ℕ, Bool, true, false, List, Option, Some, None, refl, sym, ap, ◌∙◌, subst}
-use Rattle.lapd_seq.specs.declared.numbers.Seq.{Seq}
-use Rattle.lapd_seq.specs.Circle.{named}
-use Rattle.lapd_frame.specs.declared.controls.Control.{Control}
-use Rattle.lapd_frame.specs.declared.controls.Control.TheVariants.{Information, ReceiveReady, ReceiveNotReady, Reject, Sabme, Disc, Ui, Ua, Dm, Frmr, Xid}
+use Rattle.laws_link.proofs.Vocabulary.{◌≡◌, ℕ, Bool, true, false, List, Option, Some, None, refl, sym, ap, ◌∙◌, subst, Seq, named, Control, Information, ReceiveReady, ReceiveNotReady, Reject, Sabme, Disc, Ui, Ua, Dm, Frmr, Xid, Note, State, TeiAssigned, AwaitingEstablishment, AwaitingRelease, Established, TimerRecovery, LinkTimer, T200, T203, Terms, Link, Course, begun, Step, ◌then◌, Leads, keeping_then, nothing_leads, depending_leads, bit_leads}
 use Rattle.lapd_frame.specs.declared.notes.ErrorCode.TheVariants as code
-use Rattle.lapd_frame.specs.declared.notes.Note.{Note}
-use Rattle.model_link.specs.declared.states.State.{State}
-use Rattle.model_link.specs.declared.states.State.TheVariants.{TeiAssigned, AwaitingEstablishment, AwaitingRelease, Established, TimerRecovery}
-use Rattle.model_link.specs.declared.timers.LinkTimer.{LinkTimer}
-use Rattle.model_link.specs.declared.timers.LinkTimer.TheVariants.{T200, T203}
-use Rattle.model_link.specs.declared.terms.Terms.{Terms}
-use Rattle.model_link.specs.Link.{Link}
-use Rattle.model_link.specs.Steps.{Course, begun, Step, ◌then◌}
 use Rattle.model_link.specs.Words
 use Rattle.model_link.specs.MultipleFrame
 use Rattle.model_link.specs.Established
 use Rattle.model_link.specs.TimerRecovery
 use Rattle.model_link.specs.Machine
-use Rattle.model_link.proofs.Leads.{Leads, keeping_then, nothing_leads, depending_leads, bit_leads}
 use Rattle.laws_link.specs.Sending.{asked_from, reported, GoesBackTo}
 
 -- The link as it is before its N(R) has its effect.

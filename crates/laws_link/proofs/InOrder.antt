@@ -1,16 +1,7 @@
 -- A link gives what waits in its order.
-use Rattle.std.proofs.Common.{◌≡◌, Bool, true, false, cond, List, [], ◌∷◌, Option, Some, None, refl, subst, inl, inr}
-use Rattle.std.specs.Prelude.{All, IfSome}
-use Rattle.std.proofs.lemmas.List.Elements.{All-head}
-use Rattle.model_link.specs.declared.frames.ControlFrame.{ControlFrame}
-use Rattle.model_link.specs.declared.timers.LinkTimer.TheVariants.{T200}
-use Rattle.model_link.specs.declared.terms.Terms.{Terms}
-use Rattle.model_link.specs.Link.{Link}
+use Rattle.laws_link.proofs.Vocabulary.{◌≡◌, Bool, true, false, cond, List, [], ◌∷◌, Option, Some, None, refl, subst, inl, inr, All, IfSome, All-head, ControlFrame, T200, Terms, Link, course, after, given, given_of, IsSound, IsWaitingFrame, Course, Sent, begun, ◌then◌, changed}
 use Rattle.model_link.specs.Events as link
-use Rattle.model_link.specs.Machine.{course, after, given, given_of}
 use Rattle.model_link.specs.Offers
-use Rattle.model_link.specs.Sound.{IsSound, IsWaitingFrame}
-use Rattle.model_link.specs.Steps.{Course, Sent, begun, ◌then◌, changed}
 use Rattle.model_link.specs.Words
 use Rattle.laws_link.specs.InOrder.{IsInOrder}
 use Rattle.laws_link.proofs.Alone.{may-go}

@@ -1,13 +1,7 @@
 -- Orders keep a caller's timers in step with the link's.
-use Rattle.std.proofs.Common.{◌≡◌, true, Option, None, sym, ◌⊎◌, inr, true≢false}
-use Rattle.model_link.specs.declared.timers.LinkTimer.{LinkTimer}
-use Rattle.model_link.specs.declared.terms.Terms.{Terms}
+use Rattle.laws_link.proofs.Vocabulary.{◌≡◌, true, Option, None, sym, ◌⊎◌, inr, true≢false, LinkTimer, Terms, Course, runs, Kept, every_event}
 use Rattle.model_link.specs.Events
-use Rattle.model_link.specs.Steps.{Course}
 use Rattle.model_link.specs.Machine
-use Rattle.model_link.specs.Told.{runs}
-use Rattle.model_link.proofs.Kept.{Kept}
-use Rattle.model_link.proofs.Rows.{every_event}
 
 -- The timer that runs ran before the event, or the event started it.
 pub record Comes (before : Option LinkTimer) (running started : Option LinkTimer) : Type 0 where

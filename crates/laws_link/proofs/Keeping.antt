@@ -1,26 +1,7 @@
 -- What each event makes of the contents of a link, of V(A) and of V(S).
-use Rattle.std.proofs.Common.{◌≡◌, ℕ, ◌+◌, ◌≤◌, Bool, true, false, cond, List, [], ◌∷◌, ◌++◌, length, take, drop, Option, Some, None, is_some, refl, ◌⊎◌, inl, inr, sym, ap, ◌∙◌, subst, true≢false, arith, length-take-le, append-nil, drop-drop, add-zero, ⊎_elim}
-use Rattle.std.specs.Prelude.{All, nat_lt, nat_le}
-use Rattle.std.specs.Option.{option_map_or}
-use Rattle.std.proofs.lemmas.List.{drop_all, drop-append-le}
-use Rattle.std.proofs.lemmas.List.Elements.{All-head}
-use Rattle.lapd_frame.specs.declared.controls.Control.{Control}
-use Rattle.lapd_frame.specs.declared.controls.Control.TheVariants.{Information, ReceiveReady, ReceiveNotReady, Reject, Sabme, Disc, Ui, Ua, Dm, Frmr, Xid}
-use Rattle.lapd_frame.specs.declared.notes.ErrorCode.{ErrorCode}
+use Rattle.laws_link.proofs.Vocabulary.{◌≡◌, ℕ, ◌+◌, ◌≤◌, Bool, true, false, cond, List, [], ◌∷◌, ◌++◌, length, take, drop, Option, Some, None, is_some, refl, ◌⊎◌, inl, inr, sym, ap, ◌∙◌, subst, true≢false, arith, length-take-le, append-nil, drop-drop, add-zero, ⊎_elim, All, nat_lt, nat_le, option_map_or, drop_all, drop-append-le, All-head, Control, Information, ReceiveReady, ReceiveNotReady, Reject, Sabme, Disc, Ui, Ua, Dm, Frmr, Xid, ErrorCode, Refusal, WrongState, State, TeiAssigned, AwaitingEstablishment, AwaitingRelease, Established, TimerRecovery, LinkTimer, T200, T203, ControlFrame, Terms, Link, is_multiple_frame, IsSettledIn, IsSound, IsWaitingFrame, Course, begun, Step, ◌then◌, nothing, changed, Leads, nothing_leads}
 use Rattle.lapd_frame.specs.declared.notes.ErrorCode.TheVariants as code
-use Rattle.lapd_frame.specs.declared.refusals.Refusal.{Refusal}
-use Rattle.lapd_frame.specs.declared.refusals.Refusal.TheVariants.{WrongState}
-use Rattle.model_link.specs.declared.states.State.{State}
-use Rattle.model_link.specs.declared.states.State.TheVariants.{TeiAssigned, AwaitingEstablishment, AwaitingRelease, Established, TimerRecovery}
-use Rattle.model_link.specs.declared.timers.LinkTimer.{LinkTimer}
-use Rattle.model_link.specs.declared.timers.LinkTimer.TheVariants.{T200, T203}
-use Rattle.model_link.specs.declared.frames.ControlFrame.{ControlFrame}
-use Rattle.model_link.specs.declared.terms.Terms.{Terms}
-use Rattle.model_link.specs.Link.{Link, is_multiple_frame}
 use Rattle.model_link.specs.Events
-use Rattle.model_link.specs.Sound.{IsSettledIn, IsSound, IsWaitingFrame}
-use Rattle.model_link.specs.Steps.{Course, begun, Step, ◌then◌, nothing, changed}
-use Rattle.model_link.proofs.Leads.{Leads, nothing_leads}
 use Rattle.model_link.specs.Words
 use Rattle.model_link.specs.Requests
 use Rattle.model_link.specs.Offers

@@ -1,22 +1,9 @@
 -- What layer 3 is told is what becomes of the link: every row keeps that.
-use Rattle.std.proofs.Common.{◌≡◌, ℕ, Bool, true, false, IsTrue, List, [], ◌∷◌, Option, Some, None, refl, sym, subst, ◌∙◌, ap, cond, not, ◌++◌, fold, true≢false}
-use Rattle.lapd_seq.specs.declared.numbers.Seq.{Seq}
-use Rattle.lapd_seq.specs.Circle.{named}
-use Rattle.lapd_frame.specs.declared.notes.Note.{Note}
-use Rattle.lapd_frame.specs.declared.notes.ErrorCode.{ErrorCode}
+use Rattle.laws_link.proofs.Vocabulary.{◌≡◌, ℕ, Bool, true, false, IsTrue, List, [], ◌∷◌, Option, Some, None, refl, sym, subst, ◌∙◌, ap, cond, not, ◌++◌, fold, true≢false, Seq, named, Note, ErrorCode, State, TeiAssigned, AwaitingEstablishment, AwaitingRelease, Established, TimerRecovery, LinkTimer, T203, ControlFrame, Terms, Link, is_asked, has_outstanding, Course, Step, ◌then◌, nothing, depending_on, changed, Leads, then_leads, keeping_then, nothing_leads, depending_leads, bit_leads, tested_leads, Passed, from_more, to_less}
 use Rattle.lapd_frame.specs.declared.notes.ErrorCode.TheVariants as code
-use Rattle.model_link.specs.declared.states.State.{State}
-use Rattle.model_link.specs.declared.states.State.TheVariants.{TeiAssigned, AwaitingEstablishment, AwaitingRelease, Established, TimerRecovery}
-use Rattle.model_link.specs.declared.timers.LinkTimer.{LinkTimer}
-use Rattle.model_link.specs.declared.timers.LinkTimer.TheVariants.{T203}
-use Rattle.model_link.specs.declared.frames.ControlFrame.{ControlFrame}
-use Rattle.model_link.specs.declared.terms.Terms.{Terms}
-use Rattle.model_link.specs.Link.{Link, is_asked, has_outstanding}
-use Rattle.model_link.specs.Steps.{Course, Step, ◌then◌, nothing, depending_on, changed}
 use Rattle.model_link.specs.Words
 use Rattle.model_link.specs.MultipleFrame
 use Rattle.model_link.specs.Offers
-use Rattle.model_link.proofs.Leads.{Leads, then_leads, keeping_then, nothing_leads, depending_leads, bit_leads, tested_leads, Passed, from_more, to_less}
 use Rattle.lapd_frame.specs.declared.notes.Note.TheVariants as notes
 use Rattle.laws_link.specs.Known.{seen, known, is_up_in}
 

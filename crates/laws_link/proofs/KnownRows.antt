@@ -1,32 +1,14 @@
 -- What layer 3 is told is what becomes of the link: the rows by state, and every event.
-use Rattle.std.proofs.Common.{◌≡◌, ℕ, Bool, true, false, List, [], ◌∷◌, Option, Some, None, refl, sym, subst, ◌∙◌, cond, ◌&&◌}
-use Rattle.lapd_seq.specs.declared.numbers.Seq.{Seq}
-use Rattle.lapd_frame.specs.declared.controls.Control.{Control}
-use Rattle.lapd_frame.specs.declared.controls.Control.TheVariants.{Information, ReceiveReady, ReceiveNotReady, Reject, Sabme, Disc, Ui, Ua, Dm, Frmr, Xid}
-use Rattle.lapd_frame.specs.declared.notes.ErrorCode.{ErrorCode}
+use Rattle.laws_link.proofs.Vocabulary.{◌≡◌, ℕ, Bool, true, false, List, [], ◌∷◌, Option, Some, None, refl, sym, subst, ◌∙◌, cond, ◌&&◌, Seq, Control, Information, ReceiveReady, ReceiveNotReady, Reject, Sabme, Disc, Ui, Ua, Dm, Frmr, Xid, ErrorCode, Refusal, WrongState, State, TeiAssigned, AwaitingEstablishment, AwaitingRelease, Established, TimerRecovery, LinkTimer, T200, T203, ControlFrame, Terms, Link, has_outstanding, is_own_busy, is_rejecting, is_peer_busy, Course, begun, Step, ◌then◌, nothing, by_bit, frame_in_4, establish_in_4, frame_in_5, frame_in_6, Leads, then_leads, keeping_then, nothing_leads, depending_leads, bit_leads}
 use Rattle.lapd_frame.specs.declared.notes.ErrorCode.TheVariants as code
-use Rattle.lapd_frame.specs.declared.refusals.Refusal.{Refusal}
-use Rattle.lapd_frame.specs.declared.refusals.Refusal.TheVariants.{WrongState}
-use Rattle.model_link.specs.declared.states.State.{State}
-use Rattle.model_link.specs.declared.states.State.TheVariants.{TeiAssigned, AwaitingEstablishment, AwaitingRelease, Established, TimerRecovery}
-use Rattle.model_link.specs.declared.timers.LinkTimer.{LinkTimer}
-use Rattle.model_link.specs.declared.timers.LinkTimer.TheVariants.{T200, T203}
-use Rattle.model_link.specs.declared.frames.ControlFrame.{ControlFrame}
-use Rattle.model_link.specs.declared.terms.Terms.{Terms}
-use Rattle.model_link.specs.Link.{Link, has_outstanding, is_own_busy, is_rejecting, is_peer_busy}
 use Rattle.model_link.specs.Events
-use Rattle.model_link.specs.Steps.{Course, begun, Step, ◌then◌, nothing, by_bit}
 use Rattle.model_link.specs.Words
-use Rattle.model_link.specs.TeiAssigned.{frame_in_4, establish_in_4}
-use Rattle.model_link.specs.AwaitingEstablishment.{frame_in_5}
-use Rattle.model_link.specs.AwaitingRelease.{frame_in_6}
 use Rattle.model_link.specs.MultipleFrame
 use Rattle.model_link.specs.Established
 use Rattle.model_link.specs.TimerRecovery
 use Rattle.model_link.specs.Requests
 use Rattle.model_link.specs.Offers
 use Rattle.model_link.specs.Machine
-use Rattle.model_link.proofs.Leads.{Leads, then_leads, keeping_then, nothing_leads, depending_leads, bit_leads}
 use Rattle.laws_link.specs.Known.{known, is_up_in, is_up}
 use Rattle.laws_link.proofs.Knowing.{up_by, is-up-by, At, Ends, at_ends, acknowledge_knows, transfer_knows, own_busy_knows, report_knows, send_knows, flags_knows, zero_knows, discard_knows, repeats_knows, indication_7, indication_8, indicates_release, enters_7_from_7, enters_6_from_7, enters_6_from_8, answer_knows, count_knows, rejecting_knows, deliver_knows, pending_knows, reject_knows, peer_busy_knows, note_knows, send_again_knows, start_knows, enters_7_from_8, confirms_in_4, established_up, zero_enters, ends, failed_7, failed_8, number_7, number_8}
 

@@ -1,4 +1,5 @@
 -- Lemmas.
+pub mod Vocabulary
 pub mod Queueing
 pub mod Moves
 pub mod QueueRows

@@ -1,13 +1,8 @@
 -- An event loses at most two control frames: a purse holds how many may still be lost.
-use Rattle.std.proofs.Common.{ℕ, ◌+◌, ◌≤◌, Bool, true, false, cond, arith}
-use Rattle.model_link.specs.declared.terms.Terms.{Terms}
-use Rattle.model_link.specs.Link.{Link}
+use Rattle.laws_link.proofs.Vocabulary.{ℕ, ◌+◌, ◌≤◌, Bool, true, false, cond, arith, Terms, Link, Course, begun, Purse, another, two, how_many, Kept, every_event}
 use Rattle.model_link.specs.Events
-use Rattle.model_link.specs.Steps.{Course, begun}
 use Rattle.model_link.specs.Words
 use Rattle.model_link.specs.Machine
-use Rattle.model_link.proofs.Kept.{Purse, another, two, how_many, Kept}
-use Rattle.model_link.proofs.Rows.{every_event}
 
 pub record Loses (p : Purse) (lost : ℕ) : Type 0 where
   pub count : lost + how_many p ≤ 2

@@ -1,12 +1,5 @@
 -- An I-frame may go exactly where the machine lets one go.
-use Rattle.std.proofs.Common.{◌≡◌, ℕ, ◌-◌, ◌<◌, Bool, true, false, ◌&&◌, not, length, refl, ap, ◌∙◌, arith}
-use Rattle.std.specs.Prelude.{nat_lt}
-use Rattle.std.proofs.lemmas.Bool.{ltb-false}
-use Rattle.model_link.specs.declared.states.State.{State}
-use Rattle.model_link.specs.declared.terms.Terms.{Terms}
-use Rattle.model_link.specs.Link.{Link, outstanding}
-use Rattle.model_link.specs.Offers.{is_established, may_send_information}
-use Rattle.model_link.specs.Sound.{IsSound}
+use Rattle.laws_link.proofs.Vocabulary.{◌≡◌, ℕ, ◌-◌, ◌<◌, Bool, true, false, ◌&&◌, not, length, refl, ap, ◌∙◌, arith, nat_lt, ltb-false, State, Terms, Link, outstanding, is_established, may_send_information, IsSound}
 use Rattle.laws_link.specs.Sending.{MayGo}
 use Rattle.laws_link.proofs.Alone.{may-go}
 

@@ -1,15 +1,8 @@
 -- What a row makes of the contents of a link, of V(A) and of V(S): they stay, some are acknowledged, all go, or the
 -- numbers begin anew.
-use Rattle.std.proofs.Common.{◌≡◌, ℕ, ◌+◌, ◌-◌, ◌≤◌, Bool, true, false, cond, List, [], length, take, drop, Option, Some, None, refl, ◌⊎◌, inl, arith}
-use Rattle.std.specs.Option.{option_map_or}
-use Rattle.lapd_seq.specs.declared.numbers.Seq.{Seq}
-use Rattle.lapd_seq.specs.Circle.{named}
+use Rattle.laws_link.proofs.Vocabulary.{◌≡◌, ℕ, ◌+◌, ◌-◌, ◌≤◌, Bool, true, false, cond, List, [], length, take, drop, Option, Some, None, refl, ◌⊎◌, inl, arith, option_map_or, Seq, named, Terms, Course, Step, ◌then◌, Leads, keeping_then, to_less, named-within}
 use Rattle.lapd_frame.specs.declared.notes.ErrorCode.TheVariants as code
-use Rattle.model_link.specs.declared.terms.Terms.{Terms}
-use Rattle.model_link.specs.Steps.{Course, Step, ◌then◌}
 use Rattle.model_link.specs.Words
-use Rattle.model_link.proofs.Leads.{Leads, keeping_then, to_less}
-use Rattle.model_link.proofs.SoundRows.{named-within}
 use Rattle.laws_link.specs.Accepted.{beyond}
 use Rattle.laws_link.proofs.Queueing.{Claim, On, error_keeps, re_establish_keeps}
 

@@ -1,25 +1,9 @@
 -- What obeying orders comes to.
-use Rattle.std.proofs.Common.{◌≡◌, ℕ, Bool, true, false, List, [], ◌∷◌, Option, Some, None, refl, sym, ◌∙◌, ap, ◌==◌, eq-eqb, cond, not, ◌&&◌, ◌++◌, ◌⊎◌, inl, inr, true≢false}
-use Rattle.model_link.specs.declared.states.State.{State}
-use Rattle.model_link.specs.declared.states.State.TheVariants.{TeiAssigned, AwaitingEstablishment, AwaitingRelease, Established, TimerRecovery}
-use Rattle.model_link.specs.declared.timers.LinkTimer.{LinkTimer}
-use Rattle.model_link.specs.declared.timers.LinkTimer.TheVariants.{T200, T203}
-use Rattle.model_link.specs.declared.terms.Terms.{Terms}
-use Rattle.model_link.specs.Link.{Link, may_repeat}
+use Rattle.laws_link.proofs.Vocabulary.{◌≡◌, ℕ, Bool, true, false, List, [], ◌∷◌, Option, Some, None, refl, sym, ◌∙◌, ap, ◌==◌, eq-eqb, cond, not, ◌&&◌, ◌++◌, ◌⊎◌, inl, inr, true≢false, State, TeiAssigned, AwaitingEstablishment, AwaitingRelease, Established, TimerRecovery, LinkTimer, T200, T203, Terms, Link, may_repeat, Course, begun, t200_in_5, t200_in_6, Leads, depending_leads, same_service, Service, Call, Packet, Order, Timer, runs, timer_at, orders_for}
 use Rattle.model_link.specs.Events
-use Rattle.model_link.specs.Steps.{Course, begun}
-use Rattle.model_link.specs.AwaitingEstablishment.{t200_in_5}
-use Rattle.model_link.specs.AwaitingRelease.{t200_in_6}
 use Rattle.model_link.specs.TimerRecovery
 use Rattle.model_link.specs.Machine
-use Rattle.model_link.proofs.Leads.{Leads, depending_leads}
-use Rattle.lapd_frame.specs.Services.{same_service}
-use Rattle.lapd_frame.specs.declared.services.Service.{Service}
-use Rattle.lapd_frame.specs.declared.services.Service.TheVariants.{Call, Packet}
-use Rattle.lapd_frame.specs.declared.timers.Order.{Order}
 use Rattle.lapd_frame.specs.declared.timers.Order.TheVariants as orders
-use Rattle.lapd_frame.specs.declared.timers.Timer.{Timer}
-use Rattle.model_link.specs.Told.{runs, timer_at, orders_for}
 use Rattle.laws_link.specs.Timed.{is_same, obeyed, IsTimed, IsTimedIn, StaysInStep, ComesInStep}
 use Rattle.laws_link.proofs.InStep.{comes-step}
 

@@ -1,23 +1,7 @@
 -- What an offer gives.
-use Rattle.std.proofs.Common.{◌≡◌, ℕ, ◌+◌, ◌<◌, Bool, true, false, cond, ◌&&◌, not, List, [], ◌∷◌, length, slice_get, Option, Some, None, refl, sym, ap, ◌∙◌, true≢false, add-zero}
-use Rattle.std.specs.Prelude.{All, IfSome, nat_lt}
-use Rattle.std.specs.Option.{option_map_or}
-use Rattle.std.proofs.lemmas.Bool.{ltb-true, and_parts}
-use Rattle.std.proofs.lemmas.Option.{slice_get-get_or}
-use Rattle.std.specs.Prelude.{get_or}
-use Rattle.std.proofs.lemmas.List.Elements.{All-head}
-use Rattle.lapd_seq.specs.Numbers.{seq}
-use Rattle.lapd_frame.specs.declared.controls.Control.{Control}
-use Rattle.lapd_frame.specs.declared.controls.Control.TheVariants.{Information, ReceiveReady, ReceiveNotReady, Reject, Sabme, Disc, Ui, Ua, Dm, Frmr, Xid}
-use Rattle.model_link.specs.declared.frames.ControlFrame.{ControlFrame}
-use Rattle.model_link.specs.declared.timers.LinkTimer.TheVariants.{T200}
-use Rattle.model_link.specs.declared.terms.Terms.{Terms}
-use Rattle.model_link.specs.Link.{Link}
+use Rattle.laws_link.proofs.Vocabulary.{◌≡◌, ℕ, ◌+◌, ◌<◌, Bool, true, false, cond, ◌&&◌, not, List, [], ◌∷◌, length, slice_get, Option, Some, None, refl, sym, ap, ◌∙◌, true≢false, add-zero, All, IfSome, nat_lt, option_map_or, ltb-true, and_parts, slice_get-get_or, get_or, All-head, seq, Control, Information, ReceiveReady, ReceiveNotReady, Reject, Sabme, Disc, Ui, Ua, Dm, Frmr, Xid, ControlFrame, T200, Terms, Link, course, after, given, given_of, IsSound, IsWaitingFrame, is_information, Course, Sent, begun, ◌then◌, changed}
 use Rattle.model_link.specs.Events as link
-use Rattle.model_link.specs.Machine.{course, after, given, given_of}
 use Rattle.model_link.specs.Offers
-use Rattle.model_link.specs.Sound.{IsSound, IsWaitingFrame, is_information}
-use Rattle.model_link.specs.Steps.{Course, Sent, begun, ◌then◌, changed}
 use Rattle.model_link.specs.Words
 use Rattle.laws_link.specs.Offered.{IsOffered, one, is_i_frame}
 

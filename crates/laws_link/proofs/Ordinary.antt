@@ -1,22 +1,9 @@
 -- Most words of the tables leave V(S) and own busy, and tell no loss; an error that is told may end own busy.
-use Rattle.std.proofs.Common.{◌≡◌, ℕ, Bool, true, false, ◌||◌, List, [], ◌∷◌, ◌++◌, Option, None, Some, refl, ap, sym, ◌∙◌, ◌⊎◌, inl, inr, ⊎_elim}
-use Rattle.std.specs.List.{list_any}
-use Rattle.std.proofs.lemmas.List.Folds.{list_any-append}
-use Rattle.lapd_seq.specs.declared.numbers.Seq.{Seq}
-use Rattle.lapd_seq.specs.Circle.{named}
-use Rattle.lapd_frame.specs.declared.notes.Note.{Note}
+use Rattle.laws_link.proofs.Vocabulary.{◌≡◌, ℕ, Bool, true, false, ◌||◌, List, [], ◌∷◌, ◌++◌, Option, None, Some, refl, ap, sym, ◌∙◌, ◌⊎◌, inl, inr, ⊎_elim, list_any, list_any-append, Seq, named, Note, ErrorCode, State, LinkTimer, ControlFrame, Terms, Link, Course, begun, Step, ◌then◌, Leads, keeping_then, nothing_leads, depending_leads, bit_leads}
 use Rattle.lapd_frame.specs.declared.notes.Note.TheVariants as notes
-use Rattle.lapd_frame.specs.declared.notes.ErrorCode.{ErrorCode}
 use Rattle.lapd_frame.specs.declared.notes.ErrorCode.TheVariants as code
-use Rattle.model_link.specs.declared.states.State.{State}
-use Rattle.model_link.specs.declared.timers.LinkTimer.{LinkTimer}
-use Rattle.model_link.specs.declared.frames.ControlFrame.{ControlFrame}
-use Rattle.model_link.specs.declared.terms.Terms.{Terms}
-use Rattle.model_link.specs.Link.{Link}
-use Rattle.model_link.specs.Steps.{Course, begun, Step, ◌then◌}
 use Rattle.model_link.specs.MultipleFrame
 use Rattle.model_link.specs.Words
-use Rattle.model_link.proofs.Leads.{Leads, keeping_then, nothing_leads, depending_leads, bit_leads}
 use Rattle.laws_link.specs.Accepted.{is_loss, tells_loss}
 use Rattle.laws_link.specs.Steady.{is_anew, tells_anew}
 use Rattle.laws_link.proofs.Queueing.{no_loss-note}

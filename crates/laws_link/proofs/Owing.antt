@@ -1,27 +1,11 @@
 -- Each delivery is acknowledged.
-use Rattle.std.proofs.Common.{◌≡◌, ℕ, ◌+◌, ◌≤◌, Bool, true, false, cond, List, [], ◌∷◌, ◌++◌, length, Option, Some, None, refl, ◌⊎◌, inl, inr, sym, ◌∙◌, arith}
-use Rattle.std.specs.Prelude.{nat_lt}
-use Rattle.lapd_seq.specs.declared.numbers.Seq.{Seq}
-use Rattle.lapd_seq.specs.Numbers.{seq}
-use Rattle.lapd_seq.specs.Circle.{named}
-use Rattle.lapd_frame.specs.declared.controls.Control.{Control}
-use Rattle.lapd_frame.specs.declared.controls.Control.TheVariants.{Information, ReceiveReady, ReceiveNotReady, Reject, Sabme, Disc, Ui, Ua, Dm, Frmr, Xid}
+use Rattle.laws_link.proofs.Vocabulary.{◌≡◌, ℕ, ◌+◌, ◌≤◌, Bool, true, false, cond, List, [], ◌∷◌, ◌++◌, length, Option, Some, None, refl, ◌⊎◌, inl, inr, sym, ◌∙◌, arith, nat_lt, Seq, seq, named, Control, Information, ReceiveReady, ReceiveNotReady, Reject, Sabme, Disc, Ui, Ua, Dm, Frmr, Xid, State, TeiAssigned, AwaitingEstablishment, AwaitingRelease, Established, TimerRecovery, LinkTimer, ControlFrame, Terms, Link, Arrived, information_of, eligible_of, Course, begun, Step, ◌then◌, by_bit, Leads, keeping_then, nothing_leads, depending_leads, delivered-at_once}
 use Rattle.lapd_frame.specs.declared.notes.ErrorCode.TheVariants as code
-use Rattle.model_link.specs.declared.states.State.{State}
-use Rattle.model_link.specs.declared.states.State.TheVariants.{TeiAssigned, AwaitingEstablishment, AwaitingRelease, Established, TimerRecovery}
-use Rattle.model_link.specs.declared.timers.LinkTimer.{LinkTimer}
-use Rattle.model_link.specs.declared.frames.ControlFrame.{ControlFrame}
-use Rattle.model_link.specs.declared.terms.Terms.{Terms}
-use Rattle.model_link.specs.Link.{Link}
-use Rattle.model_link.specs.Deliveries.{Arrived, information_of, eligible_of}
 use Rattle.model_link.specs.Events
-use Rattle.model_link.specs.Steps.{Course, begun, Step, ◌then◌, by_bit}
 use Rattle.model_link.specs.Words
 use Rattle.model_link.specs.MultipleFrame
 use Rattle.model_link.specs.Established
 use Rattle.model_link.specs.Machine
-use Rattle.model_link.proofs.Leads.{Leads, keeping_then, nothing_leads, depending_leads}
-use Rattle.model_link.proofs.Numbering.{delivered-at_once}
 use Rattle.laws_link.specs.Owing.{receipt, HasReceipt, Owes, IsBegunAgain}
 
 -- Nothing is delivered, or its acknowledgement is owed.

@@ -1,16 +1,7 @@
 -- The contents of a link, its numbers, and what its notes tell of them: most words of the tables leave them.
-use Rattle.std.proofs.Common.{◌≡◌, ℕ, Bool, true, false, ◌||◌, List, [], ◌∷◌, ◌++◌, Option, refl, subst, sym, ◌∙◌}
-use Rattle.std.proofs.lemmas.List.Folds.{list_any-append}
-use Rattle.lapd_frame.specs.declared.notes.Note.{Note}
+use Rattle.laws_link.proofs.Vocabulary.{◌≡◌, ℕ, Bool, true, false, ◌||◌, List, [], ◌∷◌, ◌++◌, Option, refl, subst, sym, ◌∙◌, list_any-append, Note, ErrorCode, State, LinkTimer, ControlFrame, Terms, Course, Leads, keeping_then, nothing_leads, depending_leads, bit_leads}
 use Rattle.lapd_frame.specs.declared.notes.Note.TheVariants as notes
-use Rattle.lapd_frame.specs.declared.notes.ErrorCode.{ErrorCode}
-use Rattle.model_link.specs.declared.states.State.{State}
-use Rattle.model_link.specs.declared.timers.LinkTimer.{LinkTimer}
-use Rattle.model_link.specs.declared.frames.ControlFrame.{ControlFrame}
-use Rattle.model_link.specs.declared.terms.Terms.{Terms}
-use Rattle.model_link.specs.Steps.{Course}
 use Rattle.model_link.specs.Words
-use Rattle.model_link.proofs.Leads.{Leads, keeping_then, nothing_leads, depending_leads, bit_leads}
 use Rattle.laws_link.specs.Accepted.{is_loss, tells_loss}
 
 -- A claim on the contents, on V(A) and V(S), on whether the notes tell a loss, on whether the numbers began anew, and on

@@ -1,17 +1,7 @@
 -- The numbers of a link begin anew by nothing but an establishment, or the end of its TEI.
-use Rattle.std.proofs.Common.{◌≡◌, ℕ, Bool, true, false, List, refl, sym, ◌∙◌, true≢false}
-use Rattle.lapd_frame.specs.declared.controls.Control.{Control}
-use Rattle.lapd_frame.specs.declared.controls.Control.TheVariants.{Information, ReceiveReady, ReceiveNotReady, Reject, Sabme, Disc, Ui, Ua, Dm, Frmr, Xid}
-use Rattle.model_link.specs.declared.states.State.{State}
-use Rattle.model_link.specs.declared.states.State.TheVariants.{TeiAssigned, AwaitingEstablishment, AwaitingRelease, Established, TimerRecovery}
-use Rattle.model_link.specs.declared.terms.Terms.{Terms}
-use Rattle.model_link.specs.Link.{Link}
+use Rattle.laws_link.proofs.Vocabulary.{◌≡◌, ℕ, Bool, true, false, List, refl, sym, ◌∙◌, true≢false, Control, Information, ReceiveReady, ReceiveNotReady, Reject, Sabme, Disc, Ui, Ua, Dm, Frmr, Xid, State, TeiAssigned, AwaitingEstablishment, AwaitingRelease, Established, TimerRecovery, Terms, Link, Course, begun, restarts, IsEstablished, Establishes, Fits, FitsEvent, Kept, frame_row, event_row}
 use Rattle.model_link.specs.Events
-use Rattle.model_link.specs.Steps.{Course, begun}
 use Rattle.model_link.specs.Machine
-use Rattle.model_link.specs.Deliveries.{restarts, IsEstablished, Establishes}
-use Rattle.model_link.proofs.Kept.{Fits, FitsEvent, Kept}
-use Rattle.model_link.proofs.Rows.{frame_row, event_row}
 
 -- The numbers go on.
 pub record GoesOn (zeroed : Bool) : Type 0 where

@@ -1,16 +1,7 @@
 -- What frames leave of a link in states 4, 5 and 6.
-use Rattle.std.proofs.Common.{◌≡◌, Bool, true, false, cond, length, refl, ◌==◌, not, [], ◌∷◌, List, ℕ}
-use Rattle.std.specs.Prelude.{nat_lt}
-use Rattle.lapd_frame.specs.declared.controls.Control.{Control}
-use Rattle.lapd_frame.specs.declared.controls.Control.TheVariants.{Information, ReceiveReady, ReceiveNotReady, Reject, Sabme, Disc, Ui, Ua, Dm, Frmr, Xid}
+use Rattle.laws_link.proofs.Vocabulary.{◌≡◌, Bool, true, false, cond, length, refl, ◌==◌, not, [], ◌∷◌, List, ℕ, nat_lt, Control, Information, ReceiveReady, ReceiveNotReady, Reject, Sabme, Disc, Ui, Ua, Dm, Frmr, Xid, Parts, TeiAssigned, AwaitingEstablishment, AwaitingRelease, Established, T203, Terms, Link, begun, ◌then◌}
 use Rattle.lapd_frame.specs.declared.notes.Note.TheVariants as said
-use Rattle.lapd_frame.specs.Grammar.{Parts}
-use Rattle.model_link.specs.declared.states.State.TheVariants.{TeiAssigned, AwaitingEstablishment, AwaitingRelease, Established}
-use Rattle.model_link.specs.declared.timers.LinkTimer.TheVariants.{T203}
-use Rattle.model_link.specs.declared.terms.Terms.{Terms}
-use Rattle.model_link.specs.Link.{Link}
 use Rattle.model_link.specs.Events
-use Rattle.model_link.specs.Steps.{begun, ◌then◌}
 use Rattle.model_link.specs.Words
 use Rattle.laws_link.specs.States.{state_after}
 use Rattle.laws_link.proofs.Columns.{left, due, at, hears, Row, unit-left}

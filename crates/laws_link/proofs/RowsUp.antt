@@ -1,19 +1,8 @@
 -- What frames leave of a link in state 7.
-use Rattle.std.proofs.Common.{◌≡◌, ℕ, Bool, true, false, cond, not, List, length, is_some, refl, ◌==◌, [], ◌∷◌}
-use Rattle.std.specs.Prelude.{nat_lt}
-use Rattle.lapd_seq.specs.declared.numbers.Seq.{Seq}
-use Rattle.lapd_seq.specs.Circle.{named}
-use Rattle.lapd_frame.specs.declared.controls.Control.{Control}
-use Rattle.lapd_frame.specs.declared.controls.Control.TheVariants.{Information, ReceiveReady, ReceiveNotReady, Reject, Sabme, Disc, Ui, Ua, Dm, Frmr, Xid}
+use Rattle.laws_link.proofs.Vocabulary.{◌≡◌, ℕ, Bool, true, false, cond, not, List, length, is_some, refl, ◌==◌, [], ◌∷◌, nat_lt, Seq, named, Control, Information, ReceiveReady, ReceiveNotReady, Reject, Sabme, Disc, Ui, Ua, Dm, Frmr, Xid, Parts, AwaitingEstablishment, Established, T203, Terms, Link, Course, begun, ◌then◌}
 use Rattle.lapd_frame.specs.declared.notes.ErrorCode.TheVariants as code
 use Rattle.lapd_frame.specs.declared.notes.Note.TheVariants as said
-use Rattle.lapd_frame.specs.Grammar.{Parts}
-use Rattle.model_link.specs.declared.states.State.TheVariants.{AwaitingEstablishment, Established}
-use Rattle.model_link.specs.declared.timers.LinkTimer.TheVariants.{T203}
-use Rattle.model_link.specs.declared.terms.Terms.{Terms}
-use Rattle.model_link.specs.Link.{Link}
 use Rattle.model_link.specs.Events
-use Rattle.model_link.specs.Steps.{Course, begun, ◌then◌}
 use Rattle.model_link.specs.Words
 use Rattle.model_link.specs.MultipleFrame
 use Rattle.model_link.specs.Established as seven

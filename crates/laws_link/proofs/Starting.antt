@@ -1,17 +1,7 @@
 -- An offer leaves the timers that run.
-use Rattle.std.proofs.Common.{◌≡◌, Bool, true, false, cond, List, [], ◌∷◌, Option, Some, None, refl, inl, inr}
-use Rattle.std.specs.Prelude.{IfSome}
-use Rattle.lapd_frame.specs.declared.timers.Order.TheVariants.{Start, Stop}
-use Rattle.model_link.specs.declared.frames.ControlFrame.{ControlFrame}
-use Rattle.model_link.specs.declared.timers.LinkTimer.{LinkTimer}
-use Rattle.model_link.specs.declared.timers.LinkTimer.TheVariants.{T200, T203}
-use Rattle.model_link.specs.declared.terms.Terms.{Terms}
-use Rattle.model_link.specs.Link.{Link}
+use Rattle.laws_link.proofs.Vocabulary.{◌≡◌, Bool, true, false, cond, List, [], ◌∷◌, Option, Some, None, refl, inl, inr, IfSome, Start, Stop, ControlFrame, LinkTimer, T200, T203, Terms, Link, course, after, given, given_of, Course, Sent, begun, ◌then◌, changed, runs, timer_at, orders_for}
 use Rattle.model_link.specs.Events as link
-use Rattle.model_link.specs.Machine.{course, after, given, given_of}
 use Rattle.model_link.specs.Offers
-use Rattle.model_link.specs.Steps.{Course, Sent, begun, ◌then◌, changed}
-use Rattle.model_link.specs.Told.{runs, timer_at, orders_for}
 use Rattle.model_link.specs.Words
 use Rattle.laws_link.specs.Starting.{LeavesTimers}
 

@@ -1,24 +1,11 @@
 -- An event that leaves a link in state 7 or 8 leaves its contents, and behind them those that it accepts.
-use Rattle.std.proofs.Common.{◌≡◌, ℕ, Bool, cond, IsTrue, List, [], ◌++◌, Option, Some, None, is_some, refl, sym, ◌∙◌, true≢false, append-nil}
-use Rattle.lapd_frame.specs.declared.refusals.Refusal.{Refusal}
-use Rattle.lapd_frame.specs.Grammar.{Parts}
-use Rattle.model_link.specs.declared.states.State.{State}
-use Rattle.model_link.specs.declared.states.State.TheVariants.{TeiAssigned, AwaitingEstablishment, AwaitingRelease, Established, TimerRecovery}
-use Rattle.model_link.specs.declared.timers.LinkTimer.{LinkTimer}
-use Rattle.model_link.specs.declared.terms.Terms.{Terms}
-use Rattle.model_link.specs.Events.{Request, Establish, Release, Data, SetBusy, ClearBusy, received, frame, expired, requested, offer}
-use Rattle.model_link.specs.Link.{Link, is_multiple_frame}
-use Rattle.model_link.specs.Machine.{course, after}
+use Rattle.laws_order.proofs.Vocabulary.{◌≡◌, ℕ, Bool, cond, IsTrue, List, [], ◌++◌, Option, Some, None, is_some, refl, sym, ◌∙◌, true≢false, append-nil, Refusal, Parts, State, TeiAssigned, AwaitingEstablishment, AwaitingRelease, Established, TimerRecovery, LinkTimer, Terms, Release, SetBusy, ClearBusy, received, expired, requested, offer, Link, is_multiple_frame, course, Course, event-delivers, Up, still, set_busy_up, clear_busy_up, at-first, Means, offer-gave, frame-taken, none-delivered, accepted}
+use Rattle.model_link.specs.Events.{Request, Establish, Data, frame}
+use Rattle.model_link.specs.Machine.{after}
 use Rattle.model_link.specs.Requests
 use Rattle.model_link.specs.Sound.{IsInRange, IsSound}
-use Rattle.model_link.specs.Steps.{Course, begun}
-use Rattle.model_link.proofs.Delivering.{event-delivers}
-use Rattle.model_link.proofs.Facing.{Up, still, set_busy_up, clear_busy_up}
-use Rattle.model_link.proofs.FacingInformation.{at-first}
-use Rattle.model_link.proofs.Lines.{Means}
-use Rattle.model_link.proofs.Sending.{offer-gave}
-use Rattle.model_link.proofs.Taking.{frame-taken, none-delivered}
-use Rattle.laws_link.specs.Accepted.{accepted, contents_of}
+use Rattle.model_link.specs.Steps.{begun}
+use Rattle.laws_link.specs.Accepted.{contents_of}
 use Rattle.laws_wire.proofs.Joint as joint
 
 module _ (t : Terms) (l : Link) where

@@ -1,55 +1,15 @@
 -- What an event of a line is to the link of a service with a TEI that is in state 7 or 8.
-use Rattle.std.proofs.Common.{◌≡◌, ℕ, ◌==◌, ◌&&◌, ◌||◌, not, Bool, true, false, cond, IsTrue, List, [], ◌∷◌, ◌++◌, Option, Some, None, Ok, refl, sym, ap, ◌∙◌, subst, eq-eqb, true≢false, ◌⊎◌, inl, inr}
-use Rattle.std.specs.Prelude.{All, fold, is_some, option_to_list, unwrap_or}
-use Rattle.std.specs.List.{list_any}
-use Rattle.std.specs.Option.{option_or, option_map_or}
-use Rattle.std.proofs.lemmas.List.Elements.{All-head, All-tail}
+use Rattle.laws_order.proofs.Vocabulary.{◌≡◌, ℕ, ◌==◌, ◌&&◌, ◌||◌, not, Bool, true, false, cond, IsTrue, List, [], ◌∷◌, ◌++◌, Option, Some, None, Ok, refl, sym, ap, ◌∙◌, subst, eq-eqb, true≢false, ◌⊎◌, inl, inr, All, fold, is_some, option_to_list, unwrap_or, list_any, option_or, option_map_or, All-head, All-tail, Ui, Note, Service, Parts, reading, sapi_of, information_of, State, TeiAssigned, AwaitingEstablishment, AwaitingRelease, Established, TimerRecovery, Terms, Link, is_multiple_frame, address_at, Config, hears, expiry, request, next, Answer, heard_side, Line, link_in, link_of, place_in, terms, aim_of, refusal, accepted, is_up, is_up_in, notes_of, contents_in, up_by_note, link_is_up, is_up_of, of_link, is_granted, IsBy, timer_of, link-grants, not-refused, same-sapi, sapi-is, known-up, data_asked, is_for, frame_in, is_own, seen, is_ui, unless, granted-data, elsewhere, data-noted, no-data, frames_given, is_at_link, HasOne, IsForeign, HasNone, Goes, event-goes, read-again, frames_by}
 use Rattle.model_bits.specs.Stream as stream
-use Rattle.lapd_frame.specs.declared.controls.Control.TheVariants.{Ui}
-use Rattle.lapd_frame.specs.declared.notes.Note.{Note}
 use Rattle.lapd_frame.specs.declared.notes.Note.TheVariants as notes
-use Rattle.lapd_frame.specs.declared.services.Service.{Service}
-use Rattle.lapd_frame.specs.Grammar.{Parts}
-use Rattle.lapd_frame.specs.Reading.{reading}
-use Rattle.lapd_frame.specs.Services.{sapi_of}
-use Rattle.lapd_tei.specs.Messages.{information_of}
-use Rattle.model_link.specs.declared.states.State.{State}
-use Rattle.model_link.specs.declared.states.State.TheVariants.{TeiAssigned, AwaitingEstablishment, AwaitingRelease, Established, TimerRecovery}
-use Rattle.model_link.specs.declared.terms.Terms.{Terms}
 use Rattle.model_link.specs.Events as link
-use Rattle.model_link.specs.Link.{Link, fresh, is_multiple_frame, address_at}
+use Rattle.model_link.specs.Link.{fresh}
 use Rattle.model_link.specs.Machine as links
 use Rattle.model_link.specs.Requests as requests
-use Rattle.model_line.specs.declared.config.Config.{Config}
-use Rattle.model_line.specs.Event.{Event, hears, expiry, request, next, Answer}
-use Rattle.model_line.specs.Heard.{heard_side}
-use Rattle.model_line.specs.Line.{Line, link_in, link_of, place_in, terms}
+use Rattle.model_line.specs.Event.{Event}
 use Rattle.model_line.specs.Machine as lines
-use Rattle.model_line.specs.Machine.{aim_of}
-use Rattle.model_line.specs.Refusal.{refusal}
 use Rattle.model_line.specs.Request.{Data}
 use Rattle.model_line.specs.Sound as line_sound
-use Rattle.laws_link.specs.Accepted.{accepted}
-use Rattle.laws_link.specs.Known.{is_up, is_up_in}
-use Rattle.laws_line.specs.Heard.{notes_of, contents_in}
-use Rattle.laws_line.specs.Knowledge.{up_by_note, link_is_up, is_up_of}
-use Rattle.laws_line.specs.Requests.{of_link}
-use Rattle.laws_line.specs.Share.{is_granted}
-use Rattle.laws_line.specs.Steady.{IsBy, timer_of}
-use Rattle.laws_line.proofs.Asked.{link-grants}
-use Rattle.laws_line.proofs.Granting.{not-refused}
-use Rattle.laws_line.proofs.Hearing.{same-sapi, sapi-is}
-use Rattle.laws_line.proofs.Knowing.{known-up}
-use Rattle.laws_trace.specs.Outgoing.{data_asked}
-use Rattle.laws_trace.specs.LinkFrames.{is_for}
-use Rattle.laws_trace.specs.Trace.{frame_in, is_own, seen}
-use Rattle.laws_trace.specs.Units.{is_ui}
-use Rattle.laws_trace.proofs.Begins.{unless}
-use Rattle.laws_trace.proofs.DataAsked.{granted-data, elsewhere}
-use Rattle.laws_trace.proofs.DeliveriesRun.{data-noted, no-data}
-use Rattle.laws_trace.proofs.OneLink.{frames_given, is_at_link, HasOne, IsForeign, HasNone, Goes, event-goes}
-use Rattle.laws_trace.proofs.ReadAgain.{read-again}
-use Rattle.laws_wire.specs.Wire.{frames_by}
 use Rattle.laws_order.specs.Happenings.{is_of_link, of_link_in}
 use Rattle.laws_order.specs.Order.{data_noted, data_granted, ends_by_note, ends_by, of_link_on}
 use Rattle.laws_order.proofs.LinkEnds.{or-true, Ended, own, Leaves, IsNoRelease, event-leaves, Fallen, undefined-falls, wrong-size-falls, overlong-falls, release-falls, unit-data-stays}

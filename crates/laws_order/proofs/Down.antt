@@ -1,19 +1,7 @@
 -- A link in states 4 to 6 stays there, whatever happens, as long as it hears I-frames, supervisory frames and unit data.
-use Rattle.std.proofs.Common.{◌≡◌, ◌&&◌, Bool, true, false, cond, ap, ◌∙◌, refl, true≢false}
-use Rattle.lapd_frame.specs.declared.controls.Control.{Control}
-use Rattle.lapd_frame.specs.declared.controls.Control.TheVariants.{Information, ReceiveReady, ReceiveNotReady, Reject, Ui}
-use Rattle.lapd_frame.specs.Grammar.{Parts}
-use Rattle.model_link.specs.declared.states.State.{State}
-use Rattle.model_link.specs.declared.states.State.TheVariants.{TeiAssigned, AwaitingEstablishment, AwaitingRelease, Established, TimerRecovery}
-use Rattle.model_link.specs.declared.timers.LinkTimer.{LinkTimer}
-use Rattle.model_link.specs.declared.timers.LinkTimer.TheVariants.{T200, T203}
-use Rattle.model_link.specs.declared.terms.Terms.{Terms}
-use Rattle.model_link.specs.Events.{Event, received, frame, undefined, wrong_size, overlong, Request, Establish, Release, Data, SetBusy, ClearBusy, expired, requested, offer, cleared}
-use Rattle.model_link.specs.Link.{Link, is_multiple_frame, may_repeat}
+use Rattle.laws_order.proofs.Vocabulary.{◌≡◌, ◌&&◌, Bool, true, false, cond, ap, ◌∙◌, refl, true≢false, Control, Information, ReceiveReady, ReceiveNotReady, Reject, Ui, Parts, State, TeiAssigned, AwaitingEstablishment, AwaitingRelease, Established, TimerRecovery, LinkTimer, T200, T203, Terms, received, undefined, wrong_size, overlong, Release, SetBusy, ClearBusy, expired, requested, offer, cleared, Link, is_multiple_frame, may_repeat, runs, is_overlong, is_faulty, by_frame, by_received, by_expiry, by_request, event-follows}
+use Rattle.model_link.specs.Events.{Event, frame, Request, Establish, Data}
 use Rattle.model_link.specs.Machine.{after}
-use Rattle.model_link.specs.Told.{runs}
-use Rattle.laws_link.specs.States.{is_overlong, is_faulty, by_frame, by_received, by_expiry, by_request}
-use Rattle.laws_link.proofs.Follows.{event-follows}
 
 -- I-frames and supervisory frames; and what leaves such a link where it is.
 abbrev pub Speaks : Control → Type 0

@@ -1,49 +1,16 @@
 -- A release is told in the end: to the end that releases, whose RC counts the expiries of T200, and to the other before that.
-use Rattle.std.proofs.Common.{◌≡◌, ℕ, ◌+◌, ◌≤◌, ◌<◌, ◌||◌, Bool, true, false, cond, List, [], ◌∷◌, ◌++◌, get_or, set, Option, Some, None, refl, sym, ap, ◌∙◌, subst, arith, append-nil, true≢false, ◌⊎◌, inl, inr}
-use Rattle.std.specs.Prelude.{All, filter, length, nat_lt}
-use Rattle.std.specs.List.{list_any}
-use Rattle.std.proofs.lemmas.Bool.{ltb-true}
-use Rattle.std.proofs.lemmas.List.{get_or-set_same}
-use Rattle.std.proofs.lemmas.List.Elements.{All-nil, All-cons, All-head, All-tail}
+use Rattle.laws_order.proofs.Vocabulary.{◌≡◌, ℕ, ◌+◌, ◌≤◌, ◌<◌, ◌||◌, Bool, true, false, cond, List, [], ◌∷◌, ◌++◌, get_or, set, Option, Some, None, refl, sym, ap, ◌∙◌, subst, arith, append-nil, true≢false, ◌⊎◌, inl, inr, All, filter, length, nat_lt, list_any, ltb-true, get_or-set_same, All-nil, All-cons, All-head, All-tail, Note, Service, other_side, TeiAssigned, AwaitingRelease, Terms, LinkTimer, T200, T203, Link, is_multiple_frame, runs, came, Config, hears, expiry, request, next, Answer, Line, fresh_line, has_tei, link_of, place_in, terms, line_at, wants_room, has_lines, by_room, repeats_left, as_heard, is_clearing, moves, by_expiry, IsTimedIn, is_time, event-follows, timed-after, deactivates, IsBy, Seen, is_own, none-ticks, own-is, Goes, event-goes, expired_of, off-fresh, nothing_yet, Station, Wire, requests, times_out, gives, takes, loses, happens, turned}
 use Rattle.model_bits.specs.Stream as stream
-use Rattle.lapd_frame.specs.declared.notes.Note.{Note}
-use Rattle.lapd_frame.specs.declared.services.Service.{Service}
 use Rattle.lapd_frame.specs.declared.timers.Timer.TheVariants as timers
-use Rattle.lapd_frame.specs.Grammar.{other_side}
-use Rattle.model_link.specs.declared.states.State.TheVariants.{TeiAssigned, AwaitingRelease}
-use Rattle.model_link.specs.declared.terms.Terms.{Terms}
-use Rattle.model_link.specs.declared.timers.LinkTimer.{LinkTimer}
-use Rattle.model_link.specs.declared.timers.LinkTimer.TheVariants.{T200, T203}
 use Rattle.model_link.specs.Events as link
-use Rattle.model_link.specs.Link.{Link, fresh, is_multiple_frame}
+use Rattle.model_link.specs.Link.{fresh}
 use Rattle.model_link.specs.Machine as links
-use Rattle.model_link.specs.Told.{runs}
-use Rattle.model_line.specs.Came.{came}
-use Rattle.model_line.specs.declared.config.Config.{Config}
-use Rattle.model_line.specs.Event.{Event, hears, expiry, request, next, Answer}
-use Rattle.model_line.specs.Line.{Line, fresh_line, has_tei, link_of, place_in, terms}
+use Rattle.model_line.specs.Event.{Event}
 use Rattle.model_line.specs.Machine as lines
 use Rattle.model_line.specs.Sound as line_sound
-use Rattle.model_card.specs.Card.{line_at}
 use Rattle.model_card.specs.Event.{at}
-use Rattle.model_card.specs.Machine.{wants_room}
-use Rattle.model_card.proofs.Steps.{has_lines, by_room, line_sound as sound_line}
-use Rattle.laws_link.specs.Flags.{repeats_left}
-use Rattle.laws_link.specs.States.{as_heard, is_clearing, moves, by_expiry}
-use Rattle.laws_link.specs.Timed.{IsTimedIn}
-use Rattle.laws_link.specs.Waiting.{is_time}
-use Rattle.laws_link.proofs.Follows.{event-follows}
-use Rattle.laws_link.proofs.TimedRows.{timed-after}
-use Rattle.laws_line.specs.Requests.{deactivates}
-use Rattle.laws_line.specs.Steady.{IsBy}
-use Rattle.laws_trace.specs.Trace.{Seen, is_own}
-use Rattle.laws_trace.proofs.LinkLed.{none-ticks, own-is}
-use Rattle.laws_trace.proofs.OneLink.{Goes, event-goes}
-use Rattle.laws_trace.proofs.States.{expired_of}
-use Rattle.laws_trace.proofs.TimersOfEvent.{off-fresh}
-use Rattle.laws_trace.proofs.TimersWatched.{nothing_yet}
+use Rattle.model_card.proofs.Steps.{line_sound as sound_line}
 use Rattle.laws_wire.specs.Facing.{line_of}
-use Rattle.laws_wire.specs.Wire.{Station, Wire, requests, times_out, gives, takes, loses, happens, turned}
 use Rattle.laws_order.specs.Happenings.{Deed, acts, disturbed, elsewhere, befalling, Happening, by_near, by_far, IsPossible, IsPossibleAt, happening, happening_all, events_here, seen_by, seen_at_near, seen_near, seen_far}
 use Rattle.laws_order.specs.InTheEnd.{is_t200, t200_by, t200s, IsToldAtLast, ReleasesAreTold, StaysThere, IsNotDeactivated, BothAreTold}
 use Rattle.laws_order.specs.Order.{ends_by, StaysEstablished, link_here}

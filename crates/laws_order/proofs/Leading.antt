@@ -1,29 +1,12 @@
 -- Two cards whose links face each other: where anything that happens at one of them leads.
-use Rattle.std.proofs.Common.{◌≡◌, ℕ, Bool, true, false, cond, List, [], ◌∷◌, ◌++◌, drop, get_or, Result, Ok, Err, refl, sym, ap, ◌∙◌, subst, append-nil, ◌⊎◌, inl, inr}
-use Rattle.std.proofs.lemmas.List.{get_or-set_other}
+use Rattle.laws_order.proofs.Vocabulary.{◌≡◌, ℕ, Bool, true, false, cond, List, [], ◌∷◌, ◌++◌, drop, get_or, Result, Ok, Err, refl, sym, ap, ◌∙◌, subst, append-nil, ◌⊎◌, inl, inr, get_or-set_other, ReadFault, Service, Parts, other_side, reading, Link, End, Joined, joined-turned, done-at, came, Config, hears, expiry, request, next, heard_side, fresh_line, link_of, line_at, after_is_sound, by_room, Seen, seen, Station, Wire, requests, times_out, gives, takes, loses, answered, happens, comes, with_first_lost}
 use Rattle.model_bits.specs.Stream as stream
-use Rattle.lapd_frame.specs.declared.faults.ReadFault.{ReadFault}
-use Rattle.lapd_frame.specs.declared.services.Service.{Service}
-use Rattle.lapd_frame.specs.Grammar.{Parts, other_side}
-use Rattle.lapd_frame.specs.Reading.{reading}
 use Rattle.model_link.specs.Events as link
-use Rattle.model_link.specs.Link.{Link}
-use Rattle.model_link.specs.TwoEnds.{End}
 use Rattle.model_link.specs.TwoEnds as two
-use Rattle.model_link.proofs.Joined.{Joined, joined-turned, done-at}
-use Rattle.model_line.specs.Came.{came}
-use Rattle.model_line.specs.declared.config.Config.{Config}
-use Rattle.model_line.specs.Event.{Event, hears, expiry, request, next}
-use Rattle.model_line.specs.Heard.{heard_side}
-use Rattle.model_line.specs.Line.{fresh_line, link_of}
+use Rattle.model_line.specs.Event.{Event}
 use Rattle.model_line.specs.Machine as lines
-use Rattle.model_card.specs.Card.{line_at}
 use Rattle.model_card.specs.Event as card
 use Rattle.model_card.specs.Machine.{after}
-use Rattle.model_card.proofs.CardSound.{after_is_sound}
-use Rattle.model_card.proofs.Steps.{by_room}
-use Rattle.laws_trace.specs.Trace.{Seen, seen}
-use Rattle.laws_wire.specs.Wire.{Station, Wire, requests, times_out, gives, takes, loses, answered, happens, comes, with_first_lost}
 use Rattle.laws_order.specs.Happenings.{is_of_link, of_link_in, of_link_at, Deed, acts, disturbed, elsewhere, IsNotOf, IsElsewhere, IsPossibleAt, elsewhere_on, befalling, seen_by}
 use Rattle.laws_order.specs.Order.{data_noted, data_granted, of_link_on, link_here}
 use Rattle.laws_order.proofs.Contents.{frame-same}

@@ -1,4 +1,5 @@
 -- Lemmas.
+pub mod Vocabulary
 pub mod Putting
 pub mod LinkEnds
 pub mod Shown

@@ -1,35 +1,11 @@
 -- An event of a link in state 7 or 8 leaves it there, or a note ends the establishment or renews it.
-use Rattle.std.proofs.Common.{◌≡◌, ℕ, ◌==◌, ◌&&◌, ◌||◌, not, Bool, true, false, cond, IsTrue, List, [], ◌∷◌, ◌++◌, length, Some, None, refl, sym, ap, ◌∙◌, subst, eq-eqb, true≢false, ◌⊎◌, inl, inr}
-use Rattle.std.specs.Prelude.{nat_lt}
-use Rattle.std.specs.List.{list_any}
-use Rattle.std.proofs.lemmas.List.Folds.{list_any-append}
-use Rattle.lapd_frame.specs.declared.controls.Control.{Control}
-use Rattle.lapd_frame.specs.declared.controls.Control.TheVariants.{Information, ReceiveReady, ReceiveNotReady, Reject, Sabme, Disc, Ui, Ua, Dm, Frmr, Xid}
-use Rattle.lapd_frame.specs.declared.notes.ErrorCode.{ErrorCode}
+use Rattle.laws_order.proofs.Vocabulary.{◌≡◌, ℕ, ◌==◌, ◌&&◌, ◌||◌, not, Bool, true, false, cond, IsTrue, List, [], ◌∷◌, ◌++◌, length, Some, None, refl, sym, ap, ◌∙◌, subst, eq-eqb, true≢false, ◌⊎◌, inl, inr, nat_lt, list_any, list_any-append, Control, Information, ReceiveReady, ReceiveNotReady, Reject, Sabme, Disc, Ui, Ua, Dm, Frmr, Xid, ErrorCode, Note, Parts, Seq, State, TeiAssigned, AwaitingEstablishment, AwaitingRelease, Established, TimerRecovery, LinkTimer, T200, T203, Terms, Link, is_multiple_frame, may_repeat, Received, received, undefined, wrong_size, overlong, expired, requested, offer, cleared, Release, SetBusy, ClearBusy, Course, runs, takes_contents, as_heard, is_overlong, is_invalid, receipt_of, is_faulty, by_frame, by_received, by_expiry, by_request, state_after, is_anew, error, establish_indication, numbered_as, final_as, told_by, told_by_frame, told_malformed, told_expired, told_cleared, event-follows, service-same, is_own, is_ui}
 use Rattle.lapd_frame.specs.declared.notes.ErrorCode.TheVariants as code
-use Rattle.lapd_frame.specs.declared.notes.Note.{Note}
 use Rattle.lapd_frame.specs.declared.notes.Note.TheVariants as notes
-use Rattle.lapd_frame.specs.Grammar.{Parts}
-use Rattle.lapd_seq.specs.declared.numbers.Seq.{Seq}
-use Rattle.model_link.specs.declared.states.State.{State}
-use Rattle.model_link.specs.declared.states.State.TheVariants.{TeiAssigned, AwaitingEstablishment, AwaitingRelease, Established, TimerRecovery}
-use Rattle.model_link.specs.declared.timers.LinkTimer.{LinkTimer}
-use Rattle.model_link.specs.declared.timers.LinkTimer.TheVariants.{T200, T203}
-use Rattle.model_link.specs.declared.terms.Terms.{Terms}
-use Rattle.model_link.specs.Link.{Link, is_multiple_frame, may_repeat}
-use Rattle.model_link.specs.Events.{Event, Received, received, frame, undefined, wrong_size, overlong, expired, requested, offer, cleared, Request, Establish, Release, Data, SetBusy, ClearBusy}
+use Rattle.model_link.specs.Events.{Event, frame, Request, Establish, Data}
 use Rattle.model_link.specs.Machine
 use Rattle.model_link.specs.Machine.{after, told}
-use Rattle.model_link.specs.Steps.{Course, begun}
-use Rattle.model_link.specs.Told.{runs}
-use Rattle.laws_link.specs.Flags.{takes_contents}
-use Rattle.laws_link.specs.States.{as_heard, is_overlong, is_invalid, receipt_of, is_faulty, by_frame, by_received, by_expiry, by_request, state_after}
-use Rattle.laws_link.specs.Steady.{is_anew}
-use Rattle.laws_link.specs.Telling.{error, establish_indication, numbered_as, final_as, told_by, told_by_frame, told_malformed, told_expired, told_cleared}
-use Rattle.laws_link.proofs.Follows.{event-follows}
-use Rattle.laws_line.proofs.Obeyed.{service-same}
-use Rattle.laws_trace.specs.Trace.{is_own}
-use Rattle.laws_trace.specs.Units.{is_ui}
+use Rattle.model_link.specs.Steps.{begun}
 use Rattle.laws_order.specs.Order.{ends_by_note}
 
 pub or-true : (b : Bool) → (b || true) ≡ true

@@ -1,26 +1,9 @@
 -- What each event tells of a link in state 6, and in state 4.
-use Rattle.std.proofs.Common.{◌≡◌, ℕ, ◌||◌, Bool, true, false, cond, List, [], ◌∷◌, refl, sym, ap, ◌∙◌, subst, ◌⊎◌, inl, inr}
-use Rattle.std.specs.Prelude.{filter, nat_lt, length}
-use Rattle.std.specs.List.{list_any}
-use Rattle.lapd_frame.specs.declared.controls.Control.{Control}
-use Rattle.lapd_frame.specs.declared.controls.Control.TheVariants.{Information, ReceiveReady, ReceiveNotReady, Reject, Sabme, Disc, Ui, Ua, Dm, Frmr, Xid}
+use Rattle.laws_order.proofs.Vocabulary.{◌≡◌, ℕ, ◌||◌, Bool, true, false, cond, List, [], ◌∷◌, refl, sym, ap, ◌∙◌, subst, ◌⊎◌, inl, inr, filter, nat_lt, length, list_any, Control, Information, ReceiveReady, ReceiveNotReady, Reject, Sabme, Disc, Ui, Ua, Dm, Frmr, Xid, Note, State, TeiAssigned, AwaitingRelease, LinkTimer, T200, T203, Terms, received, undefined, wrong_size, overlong, Release, SetBusy, ClearBusy, expired, requested, offer, cleared, Link, may_repeat, runs, as_heard, is_overlong, by_frame, by_expiry, by_request, state_after, told_in_4, told_in_6, unasked, told_by, told_expired, told_requested, event-follows, is_data_of, own-is}
 use Rattle.lapd_frame.specs.declared.notes.ErrorCode.TheVariants as code
-use Rattle.lapd_frame.specs.declared.notes.Note.{Note}
 use Rattle.lapd_frame.specs.declared.notes.Note.TheVariants as notes
-use Rattle.model_link.specs.declared.states.State.{State}
-use Rattle.model_link.specs.declared.states.State.TheVariants.{TeiAssigned, AwaitingRelease}
-use Rattle.model_link.specs.declared.timers.LinkTimer.{LinkTimer}
-use Rattle.model_link.specs.declared.timers.LinkTimer.TheVariants.{T200, T203}
-use Rattle.model_link.specs.declared.terms.Terms.{Terms}
-use Rattle.model_link.specs.Events.{Event, received, frame, undefined, wrong_size, overlong, Request, Establish, Release, Data, SetBusy, ClearBusy, expired, requested, offer, cleared}
-use Rattle.model_link.specs.Link.{Link, may_repeat}
+use Rattle.model_link.specs.Events.{Event, frame, Request, Establish, Data}
 use Rattle.model_link.specs.Machine.{after, told}
-use Rattle.model_link.specs.Told.{runs}
-use Rattle.laws_link.specs.States.{as_heard, is_overlong, by_frame, by_expiry, by_request, state_after}
-use Rattle.laws_link.specs.Telling.{told_in_4, told_in_6, unasked, told_by, told_expired, told_requested}
-use Rattle.laws_link.proofs.Follows.{event-follows}
-use Rattle.laws_line.specs.Heard.{is_data_of}
-use Rattle.laws_trace.proofs.LinkLed.{own-is}
 use Rattle.laws_order.specs.Release.{is_news, begins_by_note}
 
 -- What confirms a release: UA and DM with F=1, and that the link is as one that begins.

@@ -1,22 +1,8 @@
 -- The far end lasts in its establishment, and that of the near end is over: what happens at the near end.
-use Rattle.std.proofs.Common.{◌≡◌, ℕ, ◌+◌, ◌≤◌, false, IsTrue, List, [], ◌∷◌, ◌++◌, length, take, sym, ap, ◌∙◌, subst, true≢false, ◌⊎◌, inl, inr}
+use Rattle.laws_order.proofs.Vocabulary.{◌≡◌, ℕ, ◌+◌, ◌≤◌, false, IsTrue, List, [], ◌∷◌, ◌++◌, length, take, sym, ap, ◌∙◌, subst, true≢false, ◌⊎◌, inl, inr, Control, Service, Parts, other_side, reading, State, TeiAssigned, AwaitingEstablishment, AwaitingRelease, Established, TimerRecovery, Link, is_multiple_frame, frames_of, came, Config, hears, expiry, request, next, heard_side, link_of, terms, after_is_sound, Station, Wire, requests, times_out, gives, takes, loses, happens, comes}
 use Rattle.model_bits.specs.Stream as stream
-use Rattle.lapd_frame.specs.declared.controls.Control.{Control}
-use Rattle.lapd_frame.specs.declared.services.Service.{Service}
-use Rattle.lapd_frame.specs.Grammar.{Parts, other_side}
-use Rattle.lapd_frame.specs.Reading.{reading}
-use Rattle.model_link.specs.declared.states.State.{State}
-use Rattle.model_link.specs.declared.states.State.TheVariants.{TeiAssigned, AwaitingEstablishment, AwaitingRelease, Established, TimerRecovery}
-use Rattle.model_link.specs.Link.{Link, is_multiple_frame}
-use Rattle.model_link.proofs.Direction.{frames_of}
-use Rattle.model_line.specs.Came.{came}
-use Rattle.model_line.specs.declared.config.Config.{Config}
-use Rattle.model_line.specs.Event.{Event, hears, expiry, request, next}
-use Rattle.model_line.specs.Heard.{heard_side}
-use Rattle.model_line.specs.Line.{link_of, terms}
+use Rattle.model_line.specs.Event.{Event}
 use Rattle.model_card.specs.Event as card
-use Rattle.model_card.proofs.CardSound.{after_is_sound}
-use Rattle.laws_wire.specs.Wire.{Station, Wire, requests, times_out, gives, takes, loses, happens, comes}
 use Rattle.laws_order.specs.Happenings.{of_link_at, Deed, acts, disturbed, elsewhere, IsElsewhere, IsPossibleAt, elsewhere_on, befalling}
 use Rattle.laws_order.specs.Order.{of_link_on, link_here}
 use Rattle.laws_order.proofs.Down.{Speaks}

@@ -1,33 +1,10 @@
 -- The far end lasts in its establishment, and that of the near end is over: what happens at the far end.
-use Rattle.std.proofs.Common.{◌≡◌, ℕ, ◌+◌, ◌≤◌, cond, IsTrue, List, [], ◌∷◌, ◌++◌, length, take, Option, None, refl, sym, ap, ◌∙◌, subst, append-nil, true≢false, inl, inr, arith}
-use Rattle.std.specs.Prelude.{option_to_list}
+use Rattle.laws_order.proofs.Vocabulary.{◌≡◌, ℕ, ◌+◌, ◌≤◌, cond, IsTrue, List, [], ◌∷◌, ◌++◌, length, take, Option, None, refl, sym, ap, ◌∙◌, subst, append-nil, true≢false, inl, inr, arith, option_to_list, Seq, seq, is_seq, Control, Information, ReceiveReady, ReceiveNotReady, Reject, Sabme, Disc, Service, Parts, other_side, State, TeiAssigned, AwaitingEstablishment, AwaitingRelease, Established, TimerRecovery, Terms, Link, is_multiple_frame, frames_of, Means, frame-taken, came, hears, expiry, request, next, link_of, terms, after_is_sound, Seen, seen, offer-tells_nothing, frames_given, Station, Wire, requests, times_out, gives, takes, loses, answered, happens, frames_by, turned, twice-other}
 use Rattle.std.proofs.lemmas.List.Concat.{flat_map-append}
-use Rattle.lapd_seq.specs.declared.numbers.Seq.{Seq}
-use Rattle.lapd_seq.specs.Numbers.{seq}
-use Rattle.lapd_seq.proofs.Callers.{is_seq}
-use Rattle.lapd_frame.specs.declared.controls.Control.{Control}
-use Rattle.lapd_frame.specs.declared.controls.Control.TheVariants.{Information, ReceiveReady, ReceiveNotReady, Reject, Sabme, Disc}
-use Rattle.lapd_frame.specs.declared.services.Service.{Service}
-use Rattle.lapd_frame.specs.Grammar.{Parts, other_side}
-use Rattle.model_link.specs.declared.states.State.{State}
-use Rattle.model_link.specs.declared.states.State.TheVariants.{TeiAssigned, AwaitingEstablishment, AwaitingRelease, Established, TimerRecovery}
-use Rattle.model_link.specs.declared.terms.Terms.{Terms}
 use Rattle.model_link.specs.Events as link
-use Rattle.model_link.specs.Link.{Link, is_multiple_frame}
 use Rattle.model_link.specs.Machine as links
-use Rattle.model_link.proofs.Direction.{frames_of}
-use Rattle.model_link.proofs.Lines.{Means}
-use Rattle.model_link.proofs.Taking.{frame-taken}
-use Rattle.model_line.specs.Came.{came}
-use Rattle.model_line.specs.Event.{Event, hears, expiry, request, next}
-use Rattle.model_line.specs.Line.{link_of, terms}
+use Rattle.model_line.specs.Event.{Event}
 use Rattle.model_card.specs.Event as card
-use Rattle.model_card.proofs.CardSound.{after_is_sound}
-use Rattle.laws_trace.specs.Trace.{Seen, seen}
-use Rattle.laws_trace.proofs.OfferTells.{offer-tells_nothing}
-use Rattle.laws_trace.proofs.OneLink.{frames_given}
-use Rattle.laws_wire.specs.Wire.{Station, Wire, requests, times_out, gives, takes, loses, answered, happens, frames_by, turned}
-use Rattle.laws_wire.proofs.Spelled.{twice-other}
 use Rattle.laws_order.specs.Happenings.{of_link_in, of_link_at, Deed, acts, disturbed, elsewhere, IsElsewhere, IsPossibleAt, elsewhere_on, befalling, seen_by}
 use Rattle.laws_order.specs.Order.{data_noted, StaysEstablished, of_link_on, link_here}
 use Rattle.laws_order.proofs.Contents.{request-grows, request-delivers, timer-same, timer-delivers, offer-same}

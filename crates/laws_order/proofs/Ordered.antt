@@ -1,21 +1,7 @@
 -- Whole runs of two cards whose links face each other.
-use Rattle.std.proofs.Common.{◌≡◌, ℕ, zero, suc, ◌+◌, ◌<◌, ◌≤◌, ◌||◌, Bool, true, false, List, [], ◌∷◌, ◌++◌, take, drop, refl, sym, ap, ◌∙◌, subst, append-nil, append_assoc, true≢false, ◌⊎◌, inl, inr}
-use Rattle.std.specs.Prelude.{All}
-use Rattle.std.specs.List.{list_any}
+use Rattle.laws_order.proofs.Vocabulary.{◌≡◌, ℕ, zero, suc, ◌+◌, ◌<◌, ◌≤◌, ◌||◌, Bool, true, false, List, [], ◌∷◌, ◌++◌, take, drop, refl, sym, ap, ◌∙◌, subst, append-nil, append_assoc, true≢false, ◌⊎◌, inl, inr, All, list_any, All-nil, All-cons, All-head, All-tail, list_any-append, Service, other_side, Link, is_multiple_frame, Direction, frames_of, joined-turned, Carried, Rising, rising-low, Config, terms, Seen, IsFront, Station, Wire, requests, times_out, gives, takes, loses, turned, with_first_of, twice-other}
 use Rattle.std.proofs.lemmas.List.Concat.{flat_map-append}
-use Rattle.std.proofs.lemmas.List.Elements.{All-nil, All-cons, All-head, All-tail}
-use Rattle.std.proofs.lemmas.List.Folds.{list_any-append}
-use Rattle.lapd_frame.specs.declared.services.Service.{Service}
-use Rattle.lapd_frame.specs.Grammar.{other_side}
-use Rattle.model_link.specs.Link.{Link, is_multiple_frame}
-use Rattle.model_link.proofs.Direction.{Direction, frames_of, line_of}
-use Rattle.model_link.proofs.Joined.{joined-turned}
-use Rattle.model_link.proofs.Lines.{Carried, Rising, rising-low}
-use Rattle.model_line.specs.declared.config.Config.{Config}
-use Rattle.model_line.specs.Line.{terms}
-use Rattle.laws_trace.specs.Trace.{Seen, IsFront}
-use Rattle.laws_wire.specs.Wire.{Station, Wire, requests, times_out, gives, takes, loses, turned, with_first_of}
-use Rattle.laws_wire.proofs.Spelled.{twice-other}
+use Rattle.model_link.proofs.Direction.{line_of}
 use Rattle.laws_order.specs.Happenings.{Deed, acts, disturbed, elsewhere, IsNotOf, IsPossibleAt, befalling, Happening, by_near, by_far, IsPossible, seen_by, seen_near, seen_far}
 use Rattle.laws_order.specs.Order.{noted_in, granted_in, data_noted, data_granted, ends_by, StaysEstablished, link_here, IsAtRest, HasReceivedOf, FaceAtRest, kept_by, DeliveredInOrder}
 use Rattle.laws_order.proofs.Leading.{near-led}

@@ -1,54 +1,20 @@
 -- Two cards whose links face each other: what each thing that happens makes of the two ends.
-use Rattle.std.proofs.Common.{◌≡◌, ℕ, ◌+◌, ◌<◌, ◌==◌, ◌&&◌, not, Bool, true, false, cond, IsTrue, List, [], ◌∷◌, ◌++◌, map, length, take, get_or, set, Option, Some, None, IfSome, refl, sym, ap, ◌∙◌, subst, arith, append-nil, eq-eqb, true≢false, inl, inr}
-use Rattle.std.specs.Prelude.{All, option_to_list, unwrap_or, nat_lt}
-use Rattle.std.specs.List.{list_any}
-use Rattle.std.specs.Option.{option_map_or}
-use Rattle.std.proofs.lemmas.List.{get_or-set_same}
+use Rattle.laws_order.proofs.Vocabulary.{◌≡◌, ℕ, ◌+◌, ◌<◌, ◌==◌, ◌&&◌, not, Bool, true, false, cond, IsTrue, List, [], ◌∷◌, ◌++◌, map, length, take, get_or, set, Option, Some, None, IfSome, refl, sym, ap, ◌∙◌, subst, arith, append-nil, eq-eqb, true≢false, inl, inr, All, option_to_list, unwrap_or, nat_lt, list_any, option_map_or, get_or-set_same, All-nil, All-cons, All-head, Control, Information, ReceiveReady, ReceiveNotReady, Reject, Sabme, Disc, Ui, Ua, Dm, Frmr, Xid, PoolFull, Service, Parts, other_side, sapi_of, reading-again, place_of-is, Terms, LinkTimer, Link, is_multiple_frame, frame_of, Given, End, with_link, with_sent, frame_given, frames_of, given_is_frame, Joined, done-at, Means, Rising, came, is_too_short, Config, Line, fresh_line, link_in, link_of, place_in, terms, sound_in, terms_in_range, line_at, after_is_sound, has_lines, by_room, accepted, Seen, seen, is_ui, offer-tells_nothing, frames_given, Station, Wire, answered, happens, frames_by}
 use Rattle.std.proofs.lemmas.List.Concat.{flat_map-append}
-use Rattle.std.proofs.lemmas.List.Elements.{All-nil, All-cons, All-head}
 use Rattle.model_bits.specs.Stream as stream
 use Rattle.model_bits.specs.declared.heard.Cause.TheVariants as cause
-use Rattle.lapd_frame.specs.declared.controls.Control.{Control}
-use Rattle.lapd_frame.specs.declared.controls.Control.TheVariants.{Information, ReceiveReady, ReceiveNotReady, Reject, Sabme, Disc, Ui, Ua, Dm, Frmr, Xid}
-use Rattle.lapd_frame.specs.declared.refusals.Refusal.TheVariants.{PoolFull}
-use Rattle.lapd_frame.specs.declared.services.Service.{Service}
-use Rattle.lapd_frame.specs.Grammar.{Parts, other_side}
-use Rattle.lapd_frame.specs.Services.{sapi_of}
-use Rattle.lapd_frame.proofs.Spelling.{reading-again}
-use Rattle.lapd_tei.proofs.Tables.{place_of-is}
-use Rattle.model_link.specs.declared.terms.Terms.{Terms}
-use Rattle.model_link.specs.declared.timers.LinkTimer.{LinkTimer}
 use Rattle.model_link.specs.Events as link
-use Rattle.model_link.specs.Link.{Link, fresh, is_multiple_frame, frame_of}
+use Rattle.model_link.specs.Link.{fresh}
 use Rattle.model_link.specs.Machine as links
 use Rattle.model_link.specs.Sound as link_sound
-use Rattle.model_link.specs.Told.{Given}
-use Rattle.model_link.specs.TwoEnds.{End, with_link, with_sent, frame_given}
 use Rattle.model_link.specs.TwoEnds as two
-use Rattle.model_link.proofs.Direction.{frames_of}
-use Rattle.model_link.proofs.Giving.{given_is_frame}
-use Rattle.model_link.proofs.Joined.{Joined, done-at}
-use Rattle.model_link.proofs.Lines.{Means, Rising}
-use Rattle.model_line.specs.Came.{came, is_too_short}
-use Rattle.model_line.specs.declared.config.Config.{Config}
 use Rattle.model_line.specs.Event.{Event}
-use Rattle.model_line.specs.Line.{Line, fresh_line, link_in, link_of, place_in, terms}
 use Rattle.model_line.specs.Machine as lines
 use Rattle.model_line.specs.Sound as line_sound
 use Rattle.model_line.specs.Taken as taken
-use Rattle.model_line.proofs.LinksSound.{sound_in}
-use Rattle.model_line.proofs.Ranges.{terms_in_range}
-use Rattle.model_card.specs.Card.{line_at}
 use Rattle.model_card.specs.Event.{at}
 use Rattle.model_card.specs.Sound as card_sound
-use Rattle.model_card.proofs.CardSound.{after_is_sound}
-use Rattle.model_card.proofs.Steps.{has_lines, by_room, line_sound as line_sound_at}
-use Rattle.laws_link.specs.Accepted.{accepted}
-use Rattle.laws_trace.specs.Trace.{Seen, seen}
-use Rattle.laws_trace.specs.Units.{is_ui}
-use Rattle.laws_trace.proofs.OfferTells.{offer-tells_nothing}
-use Rattle.laws_trace.proofs.OneLink.{frames_given}
-use Rattle.laws_wire.specs.Wire.{Station, Wire, answered, happens, frames_by}
+use Rattle.model_card.proofs.Steps.{line_sound as line_sound_at}
 use Rattle.laws_order.specs.Happenings.{is_of_link, of_link_in, of_link_at}
 use Rattle.laws_order.specs.Order.{data_noted, data_granted, ends_by, of_link_on, link_here}
 use Rattle.laws_order.proofs.Contents.{request-grows, timer-same, offer-same}

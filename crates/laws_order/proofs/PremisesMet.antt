@@ -1,29 +1,9 @@
 -- The premises of the law are met by the worked run.
-use Rattle.std.proofs.Common.{◌≡◌, ℕ, ◌<◌, true, IsTrue, List, [], ◌∷◌, ◌++◌, refl, sym, ap, ◌∙◌, subst, arith}
-use Rattle.std.specs.Prelude.{All}
-use Rattle.std.specs.List.{list_any}
-use Rattle.std.proofs.lemmas.Bool.{leb-true}
-use Rattle.std.proofs.lemmas.List.Elements.{All-nil, All-cons}
-use Rattle.lapd_frame.specs.declared.addresses.Side.TheVariants.{User, Network}
-use Rattle.lapd_frame.specs.declared.services.Service.{Service}
-use Rattle.lapd_frame.specs.declared.services.Service.TheVariants.{Call, Packet}
-use Rattle.lapd_frame.specs.Grammar.{other_side}
-use Rattle.lapd_frame.specs.Reading.{reading, header_of, control_of, unnumbered_of, supervisory_of}
-use Rattle.lapd_seq.specs.Circle.{distance_of, named}
-use Rattle.lapd_seq.specs.Numbers.{seq}
+use Rattle.laws_order.proofs.Vocabulary.{◌≡◌, ℕ, ◌<◌, true, IsTrue, List, [], ◌∷◌, ◌++◌, refl, sym, ap, ◌∙◌, subst, arith, All, list_any, leb-true, All-nil, All-cons, User, Network, Service, Call, Packet, other_side, reading, header_of, control_of, unnumbered_of, supervisory_of, distance_of, named, seq, is_multiple_frame, Config, terms, Assign, came, hears, expiry, request, next, fresh_is_sound, IsFront, station, assigned, calling, Station, Wire, Act, requests, times_out, gives, takes, loses, turned, acting, Doing, at_near, at_far, doing, doing_all, with_first_of}
 use Rattle.lapd_tei.specs.Events as teis
-use Rattle.model_link.specs.Link.{is_multiple_frame}
-use Rattle.model_line.specs.declared.config.Config.{Config}
-use Rattle.model_line.specs.Line.{terms}
 use Rattle.model_line.specs.Machine as lines
-use Rattle.model_line.specs.Request.{Assign, Establish}
-use Rattle.model_line.specs.Came.{came}
-use Rattle.model_line.specs.Event.{hears, expiry, request, next}
+use Rattle.model_line.specs.Request.{Establish}
 use Rattle.model_card.specs.Event.{at}
-use Rattle.model_card.proofs.CardSound.{fresh_is_sound}
-use Rattle.laws_trace.specs.Trace.{IsFront}
-use Rattle.laws_wire.specs.Call.{station, assigned, calling}
-use Rattle.laws_wire.specs.Wire.{Station, Wire, Act, requests, times_out, gives, takes, loses, turned, acting, Doing, at_near, at_far, doing, doing_all, with_first_of}
 use Rattle.laws_order.specs.Happenings.{acts, disturbed, elsewhere, IsElsewhere, Happening, by_near, by_far, IsPossible, happening_all, seen_near, seen_far}
 use Rattle.laws_order.specs.InTheEnd.{t200s, IsToldAtLast, IsNotDeactivated}
 use Rattle.laws_order.specs.Order.{data_noted, data_granted, ends_by, link_here, of_link_on, HasReceivedOf, FaceAtRest, kept_by}

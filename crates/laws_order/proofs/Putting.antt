@@ -1,27 +1,11 @@
 -- What an event of a link puts behind the control frames that wait, and what an offer gives: of each frame a predicate holds that holds of
 -- supervisory frames, of the answers to what is heard, and of the command that the state awaits the answer to.
-use Rattle.std.proofs.Common.{◌≡◌, ℕ, zero, suc, ◌+◌, ◌&&◌, ◌||◌, not, Bool, true, false, cond, IsTrue, List, [], ◌∷◌, ◌++◌, take, refl, sym, ap, ◌∙◌, append-nil, append_assoc, true≢false}
-use Rattle.std.specs.Prelude.{slice_get, unwrap_or, nat_lt, length}
-use Rattle.lapd_seq.specs.declared.numbers.Seq.{Seq}
-use Rattle.lapd_seq.specs.Numbers.{seq}
-use Rattle.lapd_frame.specs.declared.controls.Control.{Control}
-use Rattle.lapd_frame.specs.declared.controls.Control.TheVariants.{Information, ReceiveReady, ReceiveNotReady, Reject, Sabme, Disc, Ui, Ua, Dm, Frmr, Xid}
-use Rattle.lapd_frame.specs.Grammar.{Parts}
-use Rattle.model_link.specs.declared.states.State.{State}
-use Rattle.model_link.specs.declared.states.State.TheVariants.{TeiAssigned, AwaitingEstablishment, AwaitingRelease, Established, TimerRecovery}
-use Rattle.model_link.specs.declared.frames.ControlFrame.{ControlFrame}
-use Rattle.model_link.specs.declared.terms.Terms.{Terms}
-use Rattle.model_link.specs.Events.{Event, received, frame, undefined, wrong_size, overlong, expired, requested, offer, cleared, Establish, Release, Data, SetBusy, ClearBusy}
-use Rattle.model_link.specs.Link.{Link, is_multiple_frame, frame_of, outstanding}
-use Rattle.model_link.specs.Machine.{course, after, given_of}
+use Rattle.laws_order.proofs.Vocabulary.{◌≡◌, ℕ, zero, suc, ◌+◌, ◌&&◌, ◌||◌, not, Bool, true, false, cond, IsTrue, List, [], ◌∷◌, ◌++◌, take, refl, sym, ap, ◌∙◌, append-nil, append_assoc, true≢false, slice_get, unwrap_or, nat_lt, length, Seq, seq, Control, Information, ReceiveReady, ReceiveNotReady, Reject, Sabme, Disc, Ui, Ua, Dm, Frmr, Xid, Parts, State, TeiAssigned, AwaitingEstablishment, AwaitingRelease, Established, TimerRecovery, ControlFrame, Terms, received, undefined, wrong_size, overlong, expired, requested, offer, cleared, Release, SetBusy, ClearBusy, Link, is_multiple_frame, frame_of, outstanding, course, given_of, Course, frame_given, frames_of, is_overlong, as_heard, moves, receipt_as, is_next, is_taken, to_information, to_sabme, to_disc, answers_up, answers_to, answers, is_time, command_in, commands, put, room, event-follows}
+use Rattle.model_link.specs.Events.{Event, frame, Establish, Data}
+use Rattle.model_link.specs.Machine.{after}
 use Rattle.model_link.specs.Offers
-use Rattle.model_link.specs.Steps.{Course, begun}
-use Rattle.model_link.specs.TwoEnds.{frame_given}
+use Rattle.model_link.specs.Steps.{begun}
 use Rattle.model_link.specs.Words
-use Rattle.model_link.proofs.Direction.{frames_of}
-use Rattle.laws_link.specs.States.{is_overlong, as_heard, moves}
-use Rattle.laws_link.specs.Waiting.{receipt_as, is_next, is_taken, to_information, to_sabme, to_disc, answers_up, answers_to, answers, is_time, command_in, commands, put, room}
-use Rattle.laws_link.proofs.Follows.{event-follows}
 
 -- Each of some frames, and each of some that wait.
 abbrev pub Each : (Control → Type 0) → List Parts → Type 0

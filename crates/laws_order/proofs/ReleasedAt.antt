@@ -1,48 +1,17 @@
 -- What one event at an end tells of its link in state 6, and in state 4.
-use Rattle.std.proofs.Common.{◌≡◌, ℕ, ◌&&◌, ◌||◌, not, Bool, true, false, cond, List, [], ◌∷◌, get_or, set, Option, Some, None, refl, sym, ap, ◌∙◌, subst, arith, append-nil, true≢false, ◌⊎◌, inl, inr}
-use Rattle.std.specs.Prelude.{filter, option_to_list}
-use Rattle.std.specs.List.{list_any}
-use Rattle.std.proofs.lemmas.List.{get_or-set_same}
-use Rattle.lapd_frame.specs.declared.controls.Control.{Control}
-use Rattle.lapd_frame.specs.declared.controls.Control.TheVariants.{Ua, Dm}
-use Rattle.lapd_frame.specs.declared.notes.ErrorCode.TheVariants.{H}
-use Rattle.lapd_frame.specs.declared.notes.Note.{Note}
+use Rattle.laws_order.proofs.Vocabulary.{◌≡◌, ℕ, ◌&&◌, ◌||◌, not, Bool, true, false, cond, List, [], ◌∷◌, get_or, set, Option, Some, None, refl, sym, ap, ◌∙◌, subst, arith, append-nil, true≢false, ◌⊎◌, inl, inr, filter, option_to_list, list_any, get_or-set_same, Control, Ua, Dm, H, Note, Refusal, PoolFull, Service, TeiAssigned, AwaitingRelease, Terms, Link, state_number, Config, hears, expiry, request, next, Answer, refused, gave, Line, fresh_line, has_tei, link_of, place_in, terms, line_at, has_lines, by_room, notes_of, contents_in, is_data_of, of_link, deactivates, is_granted, IsBy, is-off, seen, is_ui, unless, no-data, on-line, own-is, leaving-due, none-filtered, others-silent, due, HasOne, HasNone, IsGivenUp, Goes, event-goes, off-fresh, Station, takes, answered, happens}
 use Rattle.lapd_frame.specs.declared.notes.Note.TheVariants as notes
-use Rattle.lapd_frame.specs.declared.refusals.Refusal.{Refusal}
-use Rattle.lapd_frame.specs.declared.refusals.Refusal.TheVariants.{PoolFull}
-use Rattle.lapd_frame.specs.declared.services.Service.{Service}
-use Rattle.model_link.specs.declared.states.State.TheVariants.{TeiAssigned, AwaitingRelease}
-use Rattle.model_link.specs.declared.terms.Terms.{Terms}
 use Rattle.model_link.specs.Events as link
-use Rattle.model_link.specs.Link.{Link, fresh, state_number}
+use Rattle.model_link.specs.Link.{fresh}
 use Rattle.model_link.specs.Machine as links
-use Rattle.model_line.specs.declared.config.Config.{Config}
-use Rattle.model_line.specs.Event.{Event, hears, expiry, request, next, Answer, told, refused, gave}
-use Rattle.model_line.specs.Line.{Line, fresh_line, has_tei, link_of, place_in, terms}
+use Rattle.model_line.specs.Event.{Event, told}
 use Rattle.model_line.specs.Machine as lines
 use Rattle.model_line.specs.Request.{Request}
 use Rattle.model_line.specs.Sound as line_sound
-use Rattle.model_card.specs.Card.{line_at}
 use Rattle.model_card.specs.Event.{at}
-use Rattle.model_card.proofs.Steps.{has_lines, by_room, line_sound as sound_line}
-use Rattle.laws_line.specs.Heard.{notes_of, contents_in, is_data_of}
-use Rattle.laws_line.specs.Requests.{of_link, deactivates}
-use Rattle.laws_line.specs.Share.{is_granted}
-use Rattle.laws_line.specs.Steady.{IsBy}
-use Rattle.laws_line.proofs.Places.{is-off}
+use Rattle.model_card.proofs.Steps.{line_sound as sound_line}
 use Rattle.laws_trace.specs.News as trace
-use Rattle.laws_trace.specs.Trace.{seen}
-use Rattle.laws_trace.specs.Units.{is_ui}
-use Rattle.laws_trace.proofs.Begins.{unless}
-use Rattle.laws_trace.proofs.DeliveriesRun.{no-data}
-use Rattle.laws_trace.proofs.LinkLed.{on-line, own-is}
-use Rattle.laws_trace.proofs.NewsOfLeaving.{leaving-due}
-use Rattle.laws_trace.proofs.NewsOfOthers.{none-filtered, others-silent}
-use Rattle.laws_trace.proofs.NewsWatched.{due}
-use Rattle.laws_trace.proofs.OneLink.{HasOne, HasNone, IsGivenUp, Goes, event-goes}
-use Rattle.laws_trace.proofs.TimersOfEvent.{off-fresh}
 use Rattle.laws_wire.specs.Facing.{line_of}
-use Rattle.laws_wire.specs.Wire.{Station, takes, answered, happens}
 use Rattle.laws_order.specs.Order.{data_noted, link_here}
 use Rattle.laws_order.specs.Release.{is_unasked, is_news, news, begins_by_note, begins_by_request, begins_by, BeginsNothing}
 use Rattle.laws_order.proofs.Down.{Speaks}

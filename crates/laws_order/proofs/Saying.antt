@@ -1,45 +1,17 @@
 -- The line from a station: the frames of the link that are on their way, and then those that wait; and what an event adds to it, in any
 -- state of the link.
-use Rattle.std.proofs.Common.{◌≡◌, ℕ, ◌+◌, ◌==◌, ◌&&◌, not, Bool, true, false, cond, IsTrue, List, [], ◌∷◌, ◌++◌, get_or, set, refl, sym, ap, ◌∙◌, subst, arith, append-nil, append_assoc, eq-eqb, true≢false, ◌⊎◌, inl, inr}
-use Rattle.std.specs.Prelude.{All}
-use Rattle.std.specs.Option.{option_map_or}
-use Rattle.std.proofs.lemmas.List.{get_or-set_same}
+use Rattle.laws_order.proofs.Vocabulary.{◌≡◌, ℕ, ◌+◌, ◌==◌, ◌&&◌, not, Bool, true, false, cond, IsTrue, List, [], ◌∷◌, ◌++◌, get_or, set, refl, sym, ap, ◌∙◌, subst, arith, append-nil, append_assoc, eq-eqb, true≢false, ◌⊎◌, inl, inr, All, option_map_or, get_or-set_same, All-nil, All-cons, Seq, Control, Information, ReceiveReady, ReceiveNotReady, Reject, Sabme, Disc, Ui, Service, Parts, sapi_of, place_of-is, Terms, Link, is_multiple_frame, frame_given, frames_of, frames-append, given_is_frame, Config, hears, Answer, heard_side, Line, fresh_line, link_in, link_of, terms, sound_in, terms_in_range, line_at, has_lines, by_room, event-follows, IsBy, sapi-is, is_for, is_ui, frames_given, Goes, event-goes, Station, answered, happens, frames_by}
 use Rattle.std.proofs.lemmas.List.Concat.{flat_map-append}
-use Rattle.std.proofs.lemmas.List.Elements.{All-nil, All-cons}
 use Rattle.model_bits.specs.Stream as stream
-use Rattle.lapd_seq.specs.declared.numbers.Seq.{Seq}
-use Rattle.lapd_frame.specs.declared.controls.Control.{Control}
-use Rattle.lapd_frame.specs.declared.controls.Control.TheVariants.{Information, ReceiveReady, ReceiveNotReady, Reject, Sabme, Disc, Ui}
-use Rattle.lapd_frame.specs.declared.services.Service.{Service}
-use Rattle.lapd_frame.specs.Grammar.{Parts}
-use Rattle.lapd_frame.specs.Services.{sapi_of}
-use Rattle.lapd_tei.proofs.Tables.{place_of-is}
-use Rattle.model_link.specs.declared.terms.Terms.{Terms}
 use Rattle.model_link.specs.Events as link
-use Rattle.model_link.specs.Link.{Link, fresh, is_multiple_frame}
+use Rattle.model_link.specs.Link.{fresh}
 use Rattle.model_link.specs.Machine as links
 use Rattle.model_link.specs.Sound as link_sound
-use Rattle.model_link.specs.TwoEnds.{frame_given}
-use Rattle.model_link.proofs.Direction.{frames_of, frames-append}
-use Rattle.model_link.proofs.Giving.{given_is_frame}
-use Rattle.model_line.specs.declared.config.Config.{Config}
-use Rattle.model_line.specs.Event.{Event, hears, Answer}
-use Rattle.model_line.specs.Heard.{heard_side}
-use Rattle.model_line.specs.Line.{Line, fresh_line, link_in, link_of, terms}
+use Rattle.model_line.specs.Event.{Event}
 use Rattle.model_line.specs.Machine as lines
 use Rattle.model_line.specs.Sound as line_sound
-use Rattle.model_line.proofs.LinksSound.{sound_in}
-use Rattle.model_line.proofs.Ranges.{terms_in_range}
-use Rattle.model_card.specs.Card.{line_at}
 use Rattle.model_card.specs.Event.{at}
-use Rattle.model_card.proofs.Steps.{has_lines, by_room, line_sound as sound_line}
-use Rattle.laws_link.proofs.Follows.{event-follows}
-use Rattle.laws_line.specs.Steady.{IsBy}
-use Rattle.laws_line.proofs.Hearing.{sapi-is}
-use Rattle.laws_trace.specs.LinkFrames.{is_for}
-use Rattle.laws_trace.specs.Units.{is_ui}
-use Rattle.laws_trace.proofs.OneLink.{frames_given, Goes, event-goes}
-use Rattle.laws_wire.specs.Wire.{Station, answered, happens, frames_by}
+use Rattle.model_card.proofs.Steps.{line_sound as sound_line}
 use Rattle.laws_order.specs.Happenings.{is_of_link, of_link_in, of_link_at}
 use Rattle.laws_order.specs.Order.{of_link_on, link_here}
 use Rattle.laws_order.proofs.Does.{all-foreign}

@@ -1,19 +1,8 @@
 -- What is seen of an event with its answer, of the link of a service with a TEI.
-use Rattle.std.proofs.Common.{◌≡◌, ℕ, ◌||◌, Bool, true, false, cond, List, [], Some, None, refl, sym, ap, ◌∙◌, true≢false, append-nil}
-use Rattle.std.specs.Prelude.{option_to_list}
-use Rattle.std.specs.List.{list_any}
-use Rattle.lapd_frame.specs.declared.refusals.Refusal.{Refusal}
-use Rattle.lapd_frame.specs.declared.services.Service.{Service}
-use Rattle.model_line.specs.declared.config.Config.{Config}
-use Rattle.model_line.specs.Event.{Event, hears, expiry, request, next, Answer, told, refused, gave}
-use Rattle.model_line.specs.Line.{Line}
+use Rattle.laws_order.proofs.Vocabulary.{◌≡◌, ℕ, ◌||◌, Bool, true, false, cond, List, [], Some, None, refl, sym, ap, ◌∙◌, true≢false, append-nil, option_to_list, list_any, Refusal, Service, Config, hears, expiry, request, next, Answer, refused, gave, Line, notes_of, contents_in, is_data_of, is_granted, data_asked, frame_in, seen, frames_by}
+use Rattle.model_line.specs.Event.{Event, told}
 use Rattle.model_line.specs.Machine as lines
 use Rattle.model_line.specs.Request.{Request}
-use Rattle.laws_line.specs.Heard.{notes_of, contents_in, is_data_of}
-use Rattle.laws_line.specs.Share.{is_granted}
-use Rattle.laws_trace.specs.Outgoing.{data_asked}
-use Rattle.laws_trace.specs.Trace.{frame_in, seen}
-use Rattle.laws_wire.specs.Wire.{frames_by}
 use Rattle.laws_order.specs.Order.{data_noted, data_granted, ends_by_note, ends_by_request, ends_by}
 use Rattle.laws_order.proofs.LinkEnds.{or-true}
 

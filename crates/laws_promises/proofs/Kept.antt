@@ -1,16 +1,8 @@
 -- Every card that is reached keeps all that is promised, of every list of events at its lines.
-use Rattle.std.proofs.Common.{ℕ, List, take}
-use Rattle.std.proofs.lemmas.List.Elements.{All-take}
-use Rattle.model_card.specs.Card.{Card}
+use Rattle.laws_promises.proofs.Vocabulary.{ℕ, List, take, All-take, Card, IsAtLine, IsSound, reached-sound, GivesWhatWaits, Wherever, WaitingIsTaken, CallsComeToAnEnd, gives-what-waits, others-stay, causes-are-told, waiting-taken, come-to-an-end}
 use Rattle.model_card.specs.Event.{Event}
 use Rattle.model_card.specs.Reached.{IsReached}
-use Rattle.model_card.specs.Run.{IsAtLine, AreAtLines}
-use Rattle.model_card.specs.Sound.{IsSound}
-use Rattle.model_card.proofs.Reaching.{reached-sound}
-use Rattle.laws_line.specs.card.Brief.{GivesWhatWaits}
-use Rattle.laws_line.specs.card.PromisesOfTakes.{Wherever, WaitingIsTaken, CallsComeToAnEnd}
-use Rattle.laws_line.proofs.OfCard.Brief.{gives-what-waits, others-stay, causes-are-told}
-use Rattle.laws_line.proofs.OfCard.Wherever.{waiting-taken, come-to-an-end}
+use Rattle.model_card.specs.Run.{AreAtLines}
 use Rattle.laws_promises.specs.Promises.{Promises}
 
 module _ (m : Card) (events : List Event) (reached : IsReached m) (within : AreAtLines m events) where

@@ -1,4 +1,5 @@
 -- Lemmas.
+pub mod Vocabulary
 pub mod Kept
 mod Telling
 pub mod OctetsKept

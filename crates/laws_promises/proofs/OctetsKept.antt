@@ -1,6 +1,5 @@
 -- Every card of octets that is reached keeps all that is promised of its octets, of every list of events at its lines.
-use Rattle.std.proofs.Common.{List}
-use Rattle.model_card.specs.ports.Card.{OctetCard}
+use Rattle.laws_promises.proofs.Vocabulary.{List, OctetCard}
 use Rattle.model_card.specs.ports.Event.{Event}
 use Rattle.model_card.specs.ports.Reached.{IsReached}
 use Rattle.model_card.specs.ports.Run.{AreAtLines}

@@ -1,18 +1,10 @@
 -- The answer says that a frame was begun only where fewer than eight bits were left.
-use Rattle.std.proofs.Common.{◌≡◌, ℕ, ◌<◌, Bool, true, false, cond, List, [], ◌∷◌, length, Option, None, Some, refl, sym, ap, ◌∙◌, subst, true≢false}
-use Rattle.std.specs.Prelude.{All, option_map}
-use Rattle.std.specs.Option.{option_map_or}
-use Rattle.std.proofs.lemmas.Bool.{ltb-true}
-use Rattle.std.proofs.lemmas.List.Elements.{All-nil, All-cons}
-use Rattle.lapd_frame.specs.declared.timers.Order.{Order}
+use Rattle.laws_promises.proofs.Vocabulary.{◌≡◌, ℕ, ◌<◌, Bool, true, false, cond, List, [], ◌∷◌, length, Option, None, Some, refl, sym, ap, ◌∙◌, subst, true≢false, All, option_map, option_map_or, ltb-true, All-nil, All-cons, Order, OctetCard, port_at, Port, Answer, pull, left_of, is_due, told, refused, pulled, asked_at, said_is}
 use Rattle.model_line.specs.Event as line
-use Rattle.model_card.specs.ports.Card.{OctetCard, port_at}
 unfoldable use Rattle.model_card.specs.ports.Card.{meant, after, answer}
 use Rattle.model_card.specs.ports.Event.{Event}
 use Rattle.model_card.specs.ports.Port as port
-use Rattle.model_card.specs.ports.Port.{Port, Answer, pull, left_of, is_due, told, refused, pulled}
 unfoldable use Rattle.model_card.specs.ports.Run.{moments}
-use Rattle.model_card.proofs.OfPorts.Codec.{asked_at, said_is}
 use Rattle.laws_promises.specs.PromisesOfOctets.{IsBegunIn}
 
 begun : Answer → Bool

@@ -1,41 +1,17 @@
 -- What one event of a line leaves to be acknowledged of a link.
-use Rattle.std.proofs.Common.{◌≡◌, ℕ, ◌<◌, ◌==◌, ◌&&◌, Bool, true, false, cond, List, [], ◌∷◌, ◌++◌, map, Option, Some, None, IfSome, refl, sym, ap, ◌∙◌, subst, arith, true≢false, ◌⊎◌, inl, inr, append-nil, eqb-true, eq-eqb}
-use Rattle.std.specs.Prelude.{All, fold, flat_map, option_to_list, is_some}
-use Rattle.std.specs.List.{list_any}
-use Rattle.std.specs.Option.{option_map_or, unwrap_or}
-use Rattle.std.proofs.lemmas.List.Elements.{All-head, All-tail}
-use Rattle.lapd_frame.specs.declared.controls.Control.TheVariants.{Ui}
-use Rattle.lapd_frame.specs.declared.services.Service.{Service}
-use Rattle.lapd_frame.specs.Reading.{reading}
-use Rattle.lapd_frame.specs.Services.{sapi_of}
-use Rattle.lapd_frame.proofs.Spelling.{reading-again}
+use Rattle.laws_trace.proofs.Vocabulary.{◌≡◌, ℕ, ◌<◌, ◌==◌, ◌&&◌, Bool, true, false, cond, List, [], ◌∷◌, ◌++◌, map, Option, Some, None, IfSome, refl, sym, ap, ◌∙◌, subst, arith, true≢false, ◌⊎◌, inl, inr, append-nil, eq-eqb, All, fold, flat_map, option_to_list, is_some, list_any, option_map_or, All-head, All-tail, Ui, Service, reading, sapi_of, reading-again, place_of-is, IsInOrder, given-in-order, nothing-given, silent-stays, Terms, restarts, Link, is_multiple_frame, address_at, Given, IsGiven, given_is_frame, Config, hears, expiry, request, next, Answer, refused, gave, Line, link_in, link_of, terms, of_request, unless_refused_told, IsInRange, sound_in, terms_in_range, lost_in, notes_of, is_data_of, IsBy, same-sapi, Effect, Refusal}
+use Rattle.std.proofs.Common.{eqb-true}
+use Rattle.std.specs.Option.{unwrap_or}
 use Rattle.lapd_tei.specs.Messages.{information_of}
-use Rattle.lapd_tei.proofs.Tables.{place_of-is}
-use Rattle.laws_link.specs.InOrder.{IsInOrder}
-use Rattle.laws_link.proofs.InOrder.{given-in-order}
-use Rattle.laws_link.proofs.OfTwo.Waiting.{nothing-given, silent-stays}
-use Rattle.model_link.specs.declared.terms.Terms.{Terms}
-use Rattle.model_link.specs.Deliveries.{restarts}
 use Rattle.model_link.specs.Events as link
-use Rattle.model_link.specs.Link.{Link, fresh, is_multiple_frame, address_at}
+use Rattle.model_link.specs.Link.{fresh}
 use Rattle.model_link.specs.Machine as links
 use Rattle.model_link.specs.Sound as link_sound
-use Rattle.model_link.specs.Told.{Given}
-use Rattle.model_link.specs.Sound.{IsGiven}
-use Rattle.model_link.proofs.Giving.{given_is_frame}
-use Rattle.model_line.specs.declared.config.Config.{Config}
-use Rattle.model_line.specs.Event.{Event, hears, expiry, request, next, Answer, told, refused, gave}
-use Rattle.model_line.specs.Line.{Line, link_in, link_of, terms}
-use Rattle.model_line.specs.Machine.{after, answer, of_request, unless_refused_told}
+use Rattle.model_line.specs.Event.{Event, told}
+use Rattle.model_line.specs.Machine.{after, answer}
 use Rattle.model_line.specs.Taken.{frame_of}
 use Rattle.model_line.specs.Request.{Request}
-use Rattle.model_line.specs.Sound.{IsInRange, IsSound}
-use Rattle.model_line.proofs.LinksSound.{sound_in}
-use Rattle.model_line.proofs.Ranges.{terms_in_range}
-use Rattle.laws_line.specs.Frames.{lost_in}
-use Rattle.laws_line.specs.Heard.{notes_of, is_data_of}
-use Rattle.laws_line.specs.Steady.{IsBy}
-use Rattle.laws_line.proofs.Hearing.{same-sapi}
+use Rattle.model_line.specs.Sound.{IsSound}
 use Rattle.laws_trace.specs.AllAreAcknowledged.{number_in, numbers_at, lost_since}
 use Rattle.laws_trace.specs.ControlFrames.{of_link}
 use Rattle.laws_trace.specs.Trace.{frame_in, Seen, lost, seen, seen_told, seen_granted}
@@ -49,8 +25,6 @@ use Rattle.laws_trace.proofs.ReadAgain.{read-again}
 use Rattle.laws_trace.proofs.Spelled.{whole-parts, given-spells}
 use Rattle.laws_trace.specs.Trace as traces
 use Rattle.model_line.specs.Refusal.{refusal}
-use Rattle.model_line.specs.Effect.{Effect}
-use Rattle.lapd_frame.specs.declared.refusals.Refusal.{Refusal}
 
 no : {A : Type 0} → false ≡ true → A
 no e = absurd (true≢false (sym e))

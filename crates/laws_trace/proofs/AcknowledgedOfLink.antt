@@ -1,30 +1,11 @@
 -- Contents that are told are acknowledged: one event of a link.
-use Rattle.std.proofs.Common.{◌≡◌, ℕ, ◌+◌, ◌%◌, ◌&&◌, ◌||◌, Bool, true, false, cond, List, [], ◌∷◌, ◌++◌, length, take, drop, Some, None, refl, sym, ap, ◌∙◌, subst, arith, true≢false, ◌⊎◌, inl, inr, append-nil, append_assoc}
-use Rattle.std.specs.Prelude.{not, flat_map, is_some}
-use Rattle.std.proofs.lemmas.Grind.{flat_map-append}
-use Rattle.std.proofs.lemmas.List.{take-append-drop}
-use Rattle.std.proofs.lemmas.Option.{none-some}
-use Rattle.lapd_seq.specs.declared.numbers.Seq.{Seq}
-use Rattle.lapd_seq.specs.Numbers.{seq}
+use Rattle.laws_trace.proofs.Vocabulary.{◌≡◌, ℕ, ◌+◌, ◌%◌, ◌&&◌, ◌||◌, Bool, true, false, cond, List, [], ◌∷◌, ◌++◌, length, take, drop, Some, None, refl, sym, ap, ◌∙◌, subst, arith, true≢false, ◌⊎◌, inl, inr, append-nil, append_assoc, not, flat_map, is_some, flat_map-append, take-append-drop, none-some, Seq, seq, Information, ReceiveReady, ReceiveNotReady, Reject, Sabme, Disc, Ui, Ua, Dm, Frmr, Parts, flag_left, takes_contents, unless_put, owed_in, pending_left, Owes, IsBegunAgain, receipt, as_heard, numbers_begin, state_after, moves, receipt_as, as_response, is_next, is_taken, to_information, to_supervisory, answers, command_in, is_time, commands, put, behind, waiting_left, lost_by, IsInOrder, event-follows, State, TeiAssigned, AwaitingEstablishment, AwaitingRelease, Established, TimerRecovery, ControlFrame, Terms, restarts, eligible, undefined, wrong_size, overlong, received, expired, requested, offer, cleared, Link, is_multiple_frame, delivery, event-delivers}
 use Rattle.lapd_frame.specs.declared.controls.Control.{Control}
-use Rattle.lapd_frame.specs.declared.controls.Control.TheVariants.{Information, ReceiveReady, ReceiveNotReady, Reject, Sabme, Disc, Ui, Ua, Dm, Frmr, Xid}
-use Rattle.lapd_frame.specs.Grammar.{Parts}
-use Rattle.laws_link.specs.Flags.{flag_left, takes_contents, unless_put, owed_in, pending_left}
-use Rattle.laws_link.specs.Owing.{Owes, IsBegunAgain, receipt}
-use Rattle.laws_link.specs.States.{as_heard, numbers_begin, state_after, moves}
-use Rattle.laws_link.specs.Waiting.{receipt_as, as_response, is_next, is_taken, to_information, to_supervisory, answers, command_in, is_time, commands, put, room, behind, waiting_left, lost_by}
-use Rattle.laws_link.specs.InOrder.{IsInOrder}
-use Rattle.laws_link.proofs.Follows.{event-follows}
+use Rattle.lapd_frame.specs.declared.controls.Control.TheVariants.{Xid}
+use Rattle.laws_link.specs.Waiting.{room}
 use Rattle.laws_link.proofs.Owing.{acknowledged}
-use Rattle.model_link.specs.declared.states.State.{State}
-use Rattle.model_link.specs.declared.states.State.TheVariants.{TeiAssigned, AwaitingEstablishment, AwaitingRelease, Established, TimerRecovery}
-use Rattle.model_link.specs.declared.frames.ControlFrame.{ControlFrame}
-use Rattle.model_link.specs.declared.terms.Terms.{Terms}
-use Rattle.model_link.specs.Deliveries.{restarts, eligible}
-use Rattle.model_link.specs.Events.{Event, frame, undefined, wrong_size, overlong, Establish, Release, Data, SetBusy, ClearBusy, received, expired, requested, offer, cleared}
-use Rattle.model_link.specs.Link.{Link, is_multiple_frame}
+use Rattle.model_link.specs.Events.{Event, frame, Establish, Release, Data, SetBusy, ClearBusy}
 use Rattle.model_link.specs.Machine as links
-use Rattle.model_link.proofs.Delivering.{delivery, event-delivers}
 use Rattle.laws_trace.specs.AllAreAcknowledged.{number_in, IsLast}
 use Rattle.laws_trace.proofs.Begins.{in-state, up-before}
 use Rattle.laws_trace.proofs.CommandsCaused.{IsNoOther}

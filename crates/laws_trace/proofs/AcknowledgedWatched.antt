@@ -1,14 +1,8 @@
 -- All that is told of a link is acknowledged.
-use Rattle.std.specs.Prelude.{◌≡◌, ◌≤◌, ◌<◌, ℕ, ◌%◌, true, false, List, ◌++◌, fold, flat_map}
-use Rattle.std.specs.Option.{option_map_or}
-use Rattle.lapd_frame.specs.declared.services.Service.{Service}
-use Rattle.model_line.specs.declared.config.Config.{Config}
-use Rattle.model_line.specs.Line.{state_of}
-use Rattle.laws_line.specs.Drains.{most_frames}
-use Rattle.model_card.specs.Card.{fresh, line_at}
+use Rattle.laws_trace.proofs.Vocabulary.{◌≡◌, ◌≤◌, ◌<◌, ℕ, ◌%◌, true, false, List, ◌++◌, fold, flat_map, option_map_or, Service, Config, state_of, most_frames, line_at, AreTakesAt, takes_at}
+use Rattle.model_card.specs.Card.{fresh}
 use Rattle.model_card.specs.Event.{Event}
 use Rattle.model_card.specs.Run.{after_all}
-use Rattle.laws_line.specs.card.Among.{AreTakesAt, takes_at}
 use Rattle.laws_trace.proofs.Counting.{nothing_yet, watch}
 use Rattle.laws_trace.specs.Trace.{trace_of, is_up}
 use Rattle.laws_trace.specs.AllAreAcknowledged.{numbers_at, lost_since, IsLast}

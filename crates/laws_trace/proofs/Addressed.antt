@@ -1,14 +1,6 @@
 -- Frames for a link.
-use Rattle.std.proofs.Common.{◌≡◌, ℕ, ◌==◌, Bool, true, cond, Option, Some, None, refl, sym, ap, ◌∙◌, true≢false}
-use Rattle.model_bits.specs.declared.heard.Cause.TheVariants.{Tei}
-use Rattle.lapd_frame.specs.declared.services.Service.{Service}
-use Rattle.lapd_frame.specs.declared.services.Service.TheVariants.{Call, Packet}
-use Rattle.lapd_frame.specs.Services.{sapi_of, service_of}
-use Rattle.laws_line.proofs.Places.{is-off}
+use Rattle.laws_trace.proofs.Vocabulary.{◌≡◌, ℕ, ◌==◌, Bool, true, cond, Option, Some, None, refl, sym, ap, ◌∙◌, true≢false, Tei, Service, Call, Packet, sapi_of, service_of, is-off, Aim, at_link, Line, place_in, has_tei, management_sapi, group_tei, drop_for, at_place, to_service, addressed}
 use Rattle.model_link.specs.Events as link
-use Rattle.model_line.specs.Effect.{Aim, at_link}
-use Rattle.model_line.specs.Line.{Line, place_in, has_tei}
-use Rattle.model_line.specs.Heard.{management_sapi, group_tei, drop_for, at_place, to_service, addressed}
 
 -- A frame for a link is an event of this link.
 pub addressed-is : (l : Line) (sapi to : ℕ) (command : Bool) (service : Service) (tei place : ℕ) (what : link.Received) (m : Aim)

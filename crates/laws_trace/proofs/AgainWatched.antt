@@ -1,14 +1,9 @@
 -- What is to go again goes again: by the numbers of a link, a part of what an observer knows.
-use Rattle.std.specs.Prelude.{◌≡◌, ◌<◌, ℕ, ◌+◌, ◌-◌, ◌%◌, false, List, ◌∷◌, ◌++◌, fold, All, Option, Some, IfSome}
-use Rattle.lapd_frame.specs.declared.services.Service.{Service}
-use Rattle.lapd_frame.specs.Reading.{reading}
-use Rattle.model_line.specs.declared.config.Config.{Config}
-use Rattle.model_line.specs.Event.{next}
-use Rattle.model_line.specs.Line.{window}
+use Rattle.laws_trace.proofs.Vocabulary.{◌≡◌, ◌<◌, ℕ, ◌+◌, ◌-◌, ◌%◌, false, List, ◌∷◌, ◌++◌, fold, All, Option, Some, IfSome, Service, reading, Config, next, window, at, moments}
 use Rattle.model_card.specs.Card.{fresh}
-use Rattle.model_card.specs.Event.{Event, at}
+use Rattle.model_card.specs.Event.{Event}
 use Rattle.model_card.specs.Machine.{answer}
-use Rattle.model_card.specs.Run.{moments, after_all}
+use Rattle.model_card.specs.Run.{after_all}
 use Rattle.laws_trace.specs.LinkFrames.{Sent, sent_in}
 use Rattle.laws_trace.proofs.TimersWatched.{Known, nothing_yet, watch}
 use Rattle.laws_trace.specs.Trace.{frame_in}

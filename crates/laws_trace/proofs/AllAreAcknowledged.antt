@@ -1,25 +1,12 @@
 -- All that is told of a link is acknowledged, where a line is only called for its next frame, as often as the
 -- configuration says: the law.
-use Rattle.std.proofs.Common.{◌≡◌, ℕ, ◌%◌, Bool, true, false, List, [], ◌++◌, Option, Some, None, refl, sym, ap, ◌∙◌, subst, inl, inr, append-nil, append_assoc, true≢false}
-use Rattle.std.specs.Prelude.{fold}
-use Rattle.std.specs.Option.{option_map_or}
-use Rattle.std.proofs.lemmas.Grind.{flat_map-append}
-use Rattle.std.proofs.lemmas.List.{get_or-replicate}
-use Rattle.std.proofs.lemmas.List.Sums.{fold-append}
-use Rattle.lapd_frame.specs.declared.services.Service.{Service}
-use Rattle.model_link.specs.Link.{Link, fresh, is_multiple_frame}
-use Rattle.model_line.specs.declared.config.Config.{Config}
+use Rattle.laws_trace.proofs.Vocabulary.{◌≡◌, ℕ, ◌%◌, Bool, true, false, List, [], ◌++◌, Option, Some, None, refl, sym, ap, ◌∙◌, subst, inl, inr, append-nil, append_assoc, true≢false, fold, option_map_or, flat_map-append, get_or-replicate, fold-append, Service, Link, is_multiple_frame, Config, Line, place_in, link_in, link_of, terms, fresh_line, IsInRange, HasNothing, IsSilent, nowhere, line_at, fresh_is_sound, card-drains}
+use Rattle.model_link.specs.Link.{fresh}
 use Rattle.model_line.specs.Event.{Event}
-use Rattle.model_line.specs.Line.{Line, place_in, link_in, link_of, terms, fresh_line}
 use Rattle.model_line.specs.Machine.{after, answer}
-use Rattle.model_line.specs.Sound.{IsInRange, IsSound}
-use Rattle.laws_line.specs.Served.{HasNothing, IsSilent}
-use Rattle.laws_line.proofs.TimersFollow.{nowhere}
+use Rattle.model_line.specs.Sound.{IsSound}
 use Rattle.model_card.specs.Card as cards
-use Rattle.model_card.specs.Card.{line_at}
 use Rattle.model_card.specs.Run.{after_all}
-use Rattle.model_card.proofs.CardSound.{fresh_is_sound}
-use Rattle.laws_line.proofs.OfCard.Meanwhile.{card-drains}
 use Rattle.laws_trace.specs.AllAreAcknowledged.{numbers_at, lost_since, IsLast}
 use Rattle.laws_trace.proofs.AcknowledgedWatched.{AllAreAcknowledged}
 use Rattle.laws_trace.proofs.Counting.{Watched, nothing_yet, watch}

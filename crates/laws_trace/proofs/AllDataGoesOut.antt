@@ -1,29 +1,13 @@
 -- All data goes out, where a line is only called for its next frame, as often as the configuration says.
-use Rattle.std.proofs.Common.{◌≡◌, ℕ, ◌+◌, ◌<◌, ◌≤◌, Bool, true, false, List, ◌++◌, length, get_or, Option, Some, None, sym, ap, ◌∙◌, subst, refl, arith, true≢false}
-use Rattle.std.specs.Prelude.{nat_lt}
+use Rattle.laws_trace.proofs.Vocabulary.{◌≡◌, ℕ, ◌+◌, ◌<◌, ◌≤◌, Bool, true, false, List, ◌++◌, length, get_or, Option, Some, None, sym, ap, ◌∙◌, subst, refl, arith, true≢false, nat_lt, option_map_or, Service, place_of-is, Link, is_multiple_frame, Terms, Established, Config, Line, link_in, link_of, link_at, link_number, place_at, place_in, service_at, tei_at, terms, IsInRange, sound_in, place_at-number, service_at-number, number_within, most_frames, HasNothing, IsSilent, line_at, fresh_is_sound, AreTakesAt, takes_at, line-sound, card-drains, config-stays}
 use Rattle.std.proofs.lemmas.Bool.{ltb-true, ltb-false}
-use Rattle.std.specs.Option.{option_map_or}
-use Rattle.lapd_frame.specs.declared.services.Service.{Service}
-use Rattle.lapd_tei.proofs.Tables.{place_of-is}
-use Rattle.model_link.specs.Link.{Link, fresh, is_multiple_frame}
-use Rattle.model_link.specs.declared.terms.Terms.{Terms}
+use Rattle.model_link.specs.Link.{fresh}
 use Rattle.model_link.specs.Sound as link_sound
-use Rattle.model_link.specs.declared.states.State.TheVariants.{Established}
-use Rattle.model_line.specs.declared.config.Config.{Config}
-use Rattle.model_line.specs.Line.{Line, link_in, link_of, link_at, link_number, place_at, place_in, service_at, tei_at, terms}
-use Rattle.model_line.specs.Sound.{IsInRange, IsSound}
-use Rattle.model_line.proofs.LinksSound.{sound_in}
-use Rattle.model_line.proofs.Numbers.{place_at-number, service_at-number, number_within}
-use Rattle.laws_line.specs.Drains.{most_frames}
-use Rattle.laws_line.specs.Served.{HasNothing, IsSilent}
+use Rattle.model_line.specs.Sound.{IsSound}
 use Rattle.model_card.specs.Card as cards
-use Rattle.model_card.specs.Card.{line_at}
 use Rattle.model_card.specs.Event.{Event}
 use Rattle.model_card.specs.Run.{after_all, AreAtLines}
-use Rattle.model_card.proofs.CardSound.{fresh_is_sound, always_sound}
-use Rattle.laws_line.specs.card.Among.{AreTakesAt, takes_at}
-use Rattle.laws_line.proofs.OfCard.Meanwhile.{line-sound, card-drains}
-use Rattle.laws_line.proofs.OfCard.Wherever.{config-stays}
+use Rattle.model_card.proofs.CardSound.{always_sound}
 use Rattle.laws_trace.proofs.WaitedBegins as frames
 use Rattle.laws_trace.proofs.WaitedBegins.{after-both}
 

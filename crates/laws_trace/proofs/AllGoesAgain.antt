@@ -1,24 +1,10 @@
 -- What is to go again goes again, where a line is only called for its next frame, as often as the configuration says: the law.
-use Rattle.std.proofs.Common.{◌≡◌, ℕ, ◌+◌, ◌-◌, ◌%◌, ◌≤◌, ◌<◌, List, ◌++◌, length, Option, Some, None, refl, sym, ap, ◌∙◌, subst, arith, length-drop}
-use Rattle.std.specs.Prelude.{All, IfSome, fold}
-use Rattle.std.proofs.lemmas.Option.{none-some}
-use Rattle.lapd_frame.specs.declared.services.Service.{Service}
-use Rattle.lapd_tei.proofs.Tables.{place_of-is}
-use Rattle.model_link.specs.declared.states.State.{State}
-use Rattle.model_link.specs.declared.states.State.TheVariants.{TeiAssigned, AwaitingEstablishment, AwaitingRelease, Established, TimerRecovery}
+use Rattle.laws_trace.proofs.Vocabulary.{◌≡◌, ℕ, ◌+◌, ◌-◌, ◌%◌, ◌≤◌, ◌<◌, List, ◌++◌, length, Option, Some, None, refl, sym, ap, ◌∙◌, subst, arith, All, IfSome, fold, none-some, Service, place_of-is, State, TeiAssigned, AwaitingEstablishment, AwaitingRelease, Established, TimerRecovery, Line, link_of, place_in, state_of, terms, window, Config, next, IsInRange, terms_in_range, has_lines, line_sound, line_at, at, moments, queue_of, most_frames, AreTakesAt, takes_at}
+use Rattle.std.proofs.Common.{length-drop}
 use Rattle.model_line.specs.Machine as lines
-use Rattle.model_line.specs.Line.{Line, link_of, place_in, state_of, terms, window}
-use Rattle.model_line.specs.declared.config.Config.{Config}
-use Rattle.model_line.specs.Event.{next}
-use Rattle.model_line.specs.Sound.{IsInRange}
-use Rattle.model_line.proofs.Ranges.{terms_in_range}
-use Rattle.model_card.proofs.Steps.{has_lines, line_sound}
-use Rattle.model_card.specs.Card.{fresh, line_at}
-use Rattle.model_card.specs.Event.{Event, at}
-use Rattle.model_card.specs.Run.{moments, after_all, AreAtLines}
-use Rattle.model_link.specs.Link.{queue_of}
-use Rattle.laws_line.specs.Drains.{most_frames}
-use Rattle.laws_line.specs.card.Among.{AreTakesAt, takes_at}
+use Rattle.model_card.specs.Card.{fresh}
+use Rattle.model_card.specs.Event.{Event}
+use Rattle.model_card.specs.Run.{after_all, AreAtLines}
 use Rattle.laws_trace.specs.Observer.{steps}
 use Rattle.laws_trace.proofs.AgainWatched.{is_next, MayGo, NextGoes}
 use Rattle.laws_trace.proofs.TimersWatched.{nothing_yet, watch}

@@ -1,26 +1,10 @@
 -- When the numbers of a link begin, by what is heard and noted.
-use Rattle.std.proofs.Common.{◌≡◌, ◌==◌, Bool, true, false, cond, [], ◌∷◌, refl, sym, ap, ◌∙◌, subst, true≢false}
-use Rattle.std.specs.Prelude.{not, if◌then◌else◌}
-use Rattle.std.specs.List.{list_any}
-use Rattle.lapd_frame.specs.Grammar.{Parts}
+use Rattle.laws_trace.proofs.Vocabulary.{◌≡◌, ◌==◌, Bool, true, false, cond, [], ◌∷◌, refl, sym, ap, ◌∙◌, subst, true≢false, not, if◌then◌else◌, list_any, Parts, Information, ReceiveReady, ReceiveNotReady, Reject, Sabme, Disc, Ui, Ua, Dm, Frmr, EstablishIndication, EstablishConfirm, State, TeiAssigned, AwaitingEstablishment, AwaitingRelease, Established, TimerRecovery, LinkTimer, Terms, restarts, Received, received, undefined, wrong_size, overlong, expired, requested, offer, cleared, Link, is_multiple_frame, may_repeat, runs, Leaves, as_heard, by_frame, by_received, by_expiry, by_request, state_after, numbers_begin, told_by, establishes, event-follows}
 use Rattle.lapd_frame.specs.declared.controls.Control.{Control}
-use Rattle.lapd_frame.specs.declared.controls.Control.TheVariants.{Information, ReceiveReady, ReceiveNotReady, Reject, Sabme, Disc, Ui, Ua, Dm, Frmr, Xid}
-use Rattle.lapd_frame.specs.declared.notes.Note.TheVariants.{EstablishIndication, EstablishConfirm}
-use Rattle.model_link.specs.declared.states.State.{State}
-use Rattle.model_link.specs.declared.states.State.TheVariants.{TeiAssigned, AwaitingEstablishment, AwaitingRelease, Established, TimerRecovery}
-use Rattle.model_link.specs.declared.timers.LinkTimer.{LinkTimer}
+use Rattle.lapd_frame.specs.declared.controls.Control.TheVariants.{Xid}
 use Rattle.model_link.specs.declared.timers.LinkTimer.TheVariants.{T200, T203}
-use Rattle.model_link.specs.declared.terms.Terms.{Terms}
-use Rattle.model_link.specs.Deliveries.{restarts}
-use Rattle.model_link.specs.Events.{Received, Event, received, frame, undefined, wrong_size, overlong, expired, requested, offer, cleared, Request, Establish, Release, Data, SetBusy, ClearBusy}
-use Rattle.model_link.specs.Link.{Link, is_multiple_frame, may_repeat}
+use Rattle.model_link.specs.Events.{Event, frame, Request, Establish, Release, Data, SetBusy, ClearBusy}
 use Rattle.model_link.specs.Machine.{after, told}
-use Rattle.model_link.specs.Told.{runs}
-use Rattle.laws_link.specs.Following.{Leaves}
-use Rattle.laws_link.specs.States.{as_heard, by_frame, by_received, by_expiry, by_request, state_after, numbers_begin}
-use Rattle.laws_link.specs.Telling.{told_by}
-use Rattle.laws_link.proofs.Restarts.{establishes}
-use Rattle.laws_link.proofs.Follows.{event-follows}
 use Rattle.laws_trace.proofs.Counting.{begins_by, is_end}
 
 -- A link in a state is itself.

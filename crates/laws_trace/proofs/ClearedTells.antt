@@ -1,18 +1,8 @@
 -- What a link tells that is cleared, as its TEI leaves the line or it is deactivated.
-use Rattle.std.proofs.Common.{◌≡◌, ℕ, Bool, false, ◌||◌, None, refl, ap}
-use Rattle.std.specs.List.{list_any}
-use Rattle.std.specs.Option.{option_or}
-use Rattle.lapd_frame.specs.declared.notes.Note.{Note}
-use Rattle.lapd_frame.specs.declared.notes.Note.TheVariants.{ReleaseIndication, ReleaseConfirm}
-use Rattle.lapd_frame.specs.declared.services.Service.{Service}
-use Rattle.model_link.specs.declared.states.State.{State}
-use Rattle.model_link.specs.declared.states.State.TheVariants.{TeiAssigned, AwaitingEstablishment, AwaitingRelease, Established, TimerRecovery}
-use Rattle.model_link.specs.declared.terms.Terms.{Terms}
+use Rattle.laws_trace.proofs.Vocabulary.{◌≡◌, ℕ, Bool, false, ◌||◌, None, refl, ap, list_any, option_or, Note, ReleaseIndication, ReleaseConfirm, Service, State, TeiAssigned, AwaitingEstablishment, AwaitingRelease, Established, TimerRecovery, Terms, Link, ◌then◌, begin_anew}
 use Rattle.model_link.specs.Events as link
-use Rattle.model_link.specs.Link.{Link}
 use Rattle.model_link.specs.Machine as links
-use Rattle.model_link.specs.Steps.{begun, ◌then◌}
-use Rattle.model_link.specs.Words.{begin_anew}
+use Rattle.model_link.specs.Steps.{begun}
 
 -- It delivers nothing, and loses no frame.
 pub none-delivered : (t : Terms) (x : Link) → option_or (links.told t link.cleared x).delivered (links.told t link.cleared x).unit ≡ None

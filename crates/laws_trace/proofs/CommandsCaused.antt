@@ -1,16 +1,8 @@
 -- What puts an enquiry: nothing but the expiry of a timer leads a link to state 8.
-use Rattle.std.proofs.Common.{◌≡◌, ◌&&◌, ◌||◌, Bool, true, false, cond, refl}
+use Rattle.laws_trace.proofs.Vocabulary.{◌≡◌, ◌&&◌, ◌||◌, Bool, true, false, cond, refl, Information, ReceiveReady, ReceiveNotReady, Reject, Sabme, Disc, Ui, Ua, Dm, Frmr, Service, Call, Packet, same_service, State, TeiAssigned, AwaitingEstablishment, AwaitingRelease, Established, TimerRecovery, Terms, Link, is_multiple_frame, Received, undefined, wrong_size, overlong, received, expired, requested, offer, cleared, moves, by_frame, by_request, is_invalid, receipt_of, state_after}
 use Rattle.lapd_frame.specs.declared.controls.Control.{Control}
-use Rattle.lapd_frame.specs.declared.controls.Control.TheVariants.{Information, ReceiveReady, ReceiveNotReady, Reject, Sabme, Disc, Ui, Ua, Dm, Frmr, Xid}
-use Rattle.lapd_frame.specs.declared.services.Service.{Service}
-use Rattle.lapd_frame.specs.declared.services.Service.TheVariants.{Call, Packet}
-use Rattle.lapd_frame.specs.Services.{same_service}
-use Rattle.model_link.specs.declared.states.State.{State}
-use Rattle.model_link.specs.declared.states.State.TheVariants.{TeiAssigned, AwaitingEstablishment, AwaitingRelease, Established, TimerRecovery}
-use Rattle.model_link.specs.declared.terms.Terms.{Terms}
-use Rattle.model_link.specs.Link.{Link, is_multiple_frame}
-use Rattle.model_link.specs.Events.{Event, Received, Request, frame, undefined, wrong_size, overlong, Establish, Release, Data, SetBusy, ClearBusy, received, expired, requested, offer, cleared}
-use Rattle.laws_link.specs.States.{moves, by_frame, by_request, is_invalid, receipt_of, state_after}
+use Rattle.lapd_frame.specs.declared.controls.Control.TheVariants.{Xid}
+use Rattle.model_link.specs.Events.{Event, Request, frame, Establish, Release, Data, SetBusy, ClearBusy}
 
 pub same-itself : (s : Service) → same_service s s ≡ true
 same-itself Call = refl

@@ -1,12 +1,6 @@
 -- Which configurations are in range: the law.
-use Rattle.std.proofs.Common.{◌≡◌, ℕ, ◌≤◌, Bool, true, false, not, cond, ◌&&◌, Option, Some, None, max, nat_le, refl, ap, ◌∙◌, arith}
-use Rattle.std.proofs.lemmas.Bool.{le-leb}
-use Rattle.model_line.specs.declared.config.Config.{Config}
-use Rattle.model_line.specs.declared.config.Field.{Field}
-use Rattle.model_line.specs.declared.config.Field.TheVariants.{Lines, Terminals, K, K16, Queue, UnitQueue, Control, Slots, N201, N200}
-use Rattle.model_line.specs.Config.{is_within, first_fault}
-use Rattle.model_line.specs.Sound.{IsInRange}
-use Rattle.model_line.proofs.Ranges.{ranges_of}
+use Rattle.laws_trace.proofs.Vocabulary.{◌≡◌, ℕ, ◌≤◌, Bool, true, false, not, cond, ◌&&◌, Option, Some, None, max, nat_le, refl, ap, ◌∙◌, arith, le-leb, Config, Field, Lines, Terminals, K, K16, Queue, UnitQueue, Slots, N201, N200, is_within, first_fault, IsInRange, ranges_of}
+use Rattle.model_line.specs.declared.config.Field.TheVariants.{Control}
 use Rattle.laws_trace.specs.Configurations.{HasRanges, RangesAreServed}
 
 within : (low high n : ℕ) → low ≤ n → n ≤ high → is_within low high n ≡ true

@@ -1,35 +1,16 @@
 -- The control frames of a link that go are those that are due: the laws.
-use Rattle.std.proofs.Common.{◌≡◌, ℕ, ◌<◌, ◌==◌, ◌&&◌, ◌||◌, Bool, true, false, cond, List, [], ◌∷◌, ◌++◌, get_or, length, take, ◌-◌, Option, Some, None, refl, sym, ap, ◌∙◌, subst, arith, eqb-true, eq-eqb, true≢false, append_assoc, append-nil}
-use Rattle.std.specs.Prelude.{All, flat_map, fold}
-use Rattle.std.specs.Option.{option_map_or}
-use Rattle.std.proofs.lemmas.Bool.{and_parts}
-use Rattle.std.proofs.lemmas.Grind.{flat_map-append}
-use Rattle.std.proofs.lemmas.List.{get_or-set_same}
-use Rattle.std.proofs.lemmas.List.Elements.{All-append, All-head, All-tail, All-weaker}
-use Rattle.lapd_frame.specs.declared.services.Service.{Service}
-use Rattle.lapd_tei.proofs.Tables.{place_of-is, at-within}
-use Rattle.model_link.specs.declared.frames.ControlFrame.{ControlFrame}
-use Rattle.model_link.specs.Link.{Link, fresh as fresh_link}
-use Rattle.model_line.specs.declared.config.Config.{Config}
+use Rattle.laws_trace.proofs.Vocabulary.{◌≡◌, ℕ, ◌<◌, ◌==◌, ◌&&◌, ◌||◌, Bool, true, false, cond, List, [], ◌∷◌, ◌++◌, get_or, length, take, ◌-◌, Option, Some, None, refl, sym, ap, ◌∙◌, subst, arith, eq-eqb, true≢false, append_assoc, append-nil, All, flat_map, fold, option_map_or, and_parts, flat_map-append, get_or-set_same, All-append, All-head, All-tail, All-weaker, Service, place_of-is, at-within, ControlFrame, Link, Config, Line, fresh_line, link_count, link_number, link_in, link_of, place_in, tei_at, has_tei, state_of, place_at-number, number_within, lost_in, deactivates, HasNothing, Card, line_at, is_full, moments, fresh_is_sound, after_is_sound, has_lines, by_room, line_sound, AllHaveTheirTimers, AreTakesAt, timely-all, timely-after, begins-timely-card, all-left, all-right, config-stays}
+use Rattle.std.proofs.Common.{eqb-true}
+use Rattle.model_link.specs.Link.{fresh as fresh_link}
 use Rattle.model_line.specs.Event as line_event
-use Rattle.model_line.specs.Line.{Line, fresh_line, link_count, link_number, link_in, link_of, place_in, tei_at, has_tei, state_of}
 use Rattle.model_line.specs.Machine as lines
 use Rattle.model_line.specs.Sound.{IsSound}
-use Rattle.model_line.proofs.Numbers.{place_at-number, number_within}
-use Rattle.laws_line.specs.Frames.{lost_in}
-use Rattle.laws_line.specs.Requests.{deactivates}
-use Rattle.laws_line.specs.Served.{HasNothing}
-use Rattle.model_card.specs.Card.{Card, fresh, line_at, is_full}
+use Rattle.model_card.specs.Card.{fresh}
 use Rattle.model_card.specs.Event as card
 use Rattle.model_card.specs.Machine as cards
-use Rattle.model_card.specs.Run.{Moment, moments, after_all, IsAtLine, AreAtLines}
+use Rattle.model_card.specs.Run.{Moment, after_all, IsAtLine, AreAtLines}
 use Rattle.model_card.specs.Sound as card_sound
-use Rattle.model_card.proofs.CardSound.{fresh_is_sound, always_sound, after_is_sound}
-use Rattle.model_card.proofs.Steps.{has_lines, by_room, line_sound}
-use Rattle.laws_line.specs.card.Timers.{AllHaveTheirTimers}
-use Rattle.laws_line.specs.card.Among.{AreTakesAt}
-use Rattle.laws_line.proofs.OfCard.TimersRun.{timely-all, timely-after, begins-timely-card}
-use Rattle.laws_line.proofs.OfCard.Wherever.{all-left, all-right, config-stays}
+use Rattle.model_card.proofs.CardSound.{always_sound}
 use Rattle.laws_trace.specs.ControlFrames.{controls_at, IsPart, StaysOn, is_deactivated_at, IsNotDeactivated}
 use Rattle.laws_trace.proofs.ControlsWatched.{command_of, due_in, may_go_in, along, OnlyDueGo, AllDueGo}
 use Rattle.laws_trace.proofs.DeliveriesWatched.{Standing, at_first, stand}

@@ -1,39 +1,13 @@
 -- The control frames of a link that wait and go: one event of a line.
-use Rattle.std.proofs.Common.{◌≡◌, ℕ, ◌+◌, ◌-◌, ◌==◌, ◌||◌, Bool, true, false, cond, List, [], ◌++◌, length, map, take, zero, suc, Option, Some, None, refl, sym, ap, ◌∙◌, subst, ◌⊎◌, inl, inr, append-nil, true≢false}
-use Rattle.std.specs.Prelude.{flat_map, not, option_to_list, is_some}
-use Rattle.std.specs.List.{list_any}
-use Rattle.std.specs.Option.{option_map_or}
-use Rattle.lapd_frame.specs.declared.services.Service.{Service}
-use Rattle.lapd_tei.proofs.Tables.{place_of-is}
-use Rattle.laws_link.specs.Flags.{takes_contents}
-use Rattle.laws_link.specs.States.{as_heard, moves}
-use Rattle.laws_link.specs.Waiting.{as_response}
-use Rattle.laws_link.proofs.Follows.{event-follows}
-use Rattle.laws_link.proofs.InOrder.{given-in-order}
-use Rattle.laws_link.specs.two.Needed.{HasItsTimer}
-use Rattle.model_link.specs.declared.states.State.{State}
-use Rattle.model_link.specs.declared.states.State.TheVariants.{TeiAssigned, AwaitingEstablishment, AwaitingRelease, Established, TimerRecovery}
-use Rattle.model_link.specs.declared.frames.ControlFrame.{ControlFrame}
-use Rattle.model_link.specs.declared.terms.Terms.{Terms}
-use Rattle.model_link.specs.Deliveries.{restarts, eligible}
+use Rattle.laws_trace.proofs.Vocabulary.{◌≡◌, ℕ, ◌+◌, ◌-◌, ◌==◌, ◌||◌, Bool, true, false, cond, List, [], ◌++◌, length, map, take, zero, suc, Option, Some, None, refl, sym, ap, ◌∙◌, subst, ◌⊎◌, inl, inr, append-nil, true≢false, flat_map, not, option_to_list, is_some, list_any, option_map_or, Service, place_of-is, takes_contents, as_heard, moves, as_response, event-follows, given-in-order, HasItsTimer, State, TeiAssigned, AwaitingEstablishment, AwaitingRelease, Established, TimerRecovery, ControlFrame, Terms, restarts, eligible, Link, is_multiple_frame, state_number, delivery, event-delivers, Config, next, Answer, Line, link_in, link_number, link_of, place_in, has_tei, state_of, terms, IsInRange, sound_in, terms_in_range, lost_in, notes_of, is_data_of, deactivates, IsBy, HaveTheirTimers}
 use Rattle.model_link.specs.Events as link
-use Rattle.model_link.specs.Link.{Link, fresh, is_multiple_frame, state_number}
+use Rattle.model_link.specs.Link.{fresh}
 use Rattle.model_link.specs.Machine as links
 use Rattle.model_link.specs.Sound as link_sound
-use Rattle.model_link.proofs.Delivering.{delivery, event-delivers}
-use Rattle.model_line.specs.declared.config.Config.{Config}
-use Rattle.model_line.specs.Event.{Event, next, Answer}
-use Rattle.model_line.specs.Line.{Line, link_in, link_number, link_of, place_in, has_tei, state_of, terms}
+use Rattle.model_line.specs.Event.{Event}
 use Rattle.model_line.specs.Machine.{after, answer}
 use Rattle.model_line.specs.Taken.{frame_of}
-use Rattle.model_line.specs.Sound.{IsInRange, IsSound}
-use Rattle.model_line.proofs.LinksSound.{sound_in}
-use Rattle.model_line.proofs.Ranges.{terms_in_range}
-use Rattle.laws_line.specs.Frames.{lost_in}
-use Rattle.laws_line.specs.Heard.{notes_of, is_data_of}
-use Rattle.laws_line.specs.Requests.{deactivates}
-use Rattle.laws_line.specs.Steady.{IsBy}
-use Rattle.laws_line.specs.Timers.{HaveTheirTimers}
+use Rattle.model_line.specs.Sound.{IsSound}
 use Rattle.laws_trace.proofs.ControlsWatched.{receipt, changed, command_of, acknowledged_at}
 use Rattle.laws_trace.specs.ControlFrames.{IsPart}
 use Rattle.laws_trace.proofs.DeliveriesWatched.{Standing}

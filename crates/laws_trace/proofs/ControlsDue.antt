@@ -1,17 +1,8 @@
 -- What an event of a link makes due are control frames.
-use Rattle.std.proofs.Common.{◌≡◌, ℕ, ◌==◌, ◌&&◌, ◌||◌, Bool, true, false, cond, List, [], ◌∷◌, ◌++◌, Some, refl, ap, ◌∙◌}
-use Rattle.std.specs.Prelude.{not, flat_map, All, nat_lt, length}
-use Rattle.std.proofs.lemmas.List.Elements.{All-nil, All-cons, All-append, All-head, All-tail}
+use Rattle.laws_trace.proofs.Vocabulary.{◌≡◌, ℕ, ◌==◌, ◌&&◌, ◌||◌, Bool, true, false, cond, List, [], ◌∷◌, ◌++◌, Some, refl, ap, ◌∙◌, not, flat_map, All, nat_lt, length, All-nil, All-cons, All-append, All-head, All-tail, Information, ReceiveReady, ReceiveNotReady, Reject, Sabme, Disc, Ui, Ua, Dm, Frmr, seq, State, TeiAssigned, AwaitingEstablishment, AwaitingRelease, Established, TimerRecovery, ControlFrame, undefined, wrong_size, overlong, received, expired, requested, offer, cleared, state_number, moves, as_response}
 use Rattle.lapd_frame.specs.declared.controls.Control.{Control}
-use Rattle.lapd_frame.specs.declared.controls.Control.TheVariants.{Information, ReceiveReady, ReceiveNotReady, Reject, Sabme, Disc, Ui, Ua, Dm, Frmr, Xid}
-use Rattle.lapd_seq.specs.Numbers.{seq}
-use Rattle.model_link.specs.declared.states.State.{State}
-use Rattle.model_link.specs.declared.states.State.TheVariants.{TeiAssigned, AwaitingEstablishment, AwaitingRelease, Established, TimerRecovery}
-use Rattle.model_link.specs.declared.frames.ControlFrame.{ControlFrame}
-use Rattle.model_link.specs.Events.{Event, frame, undefined, wrong_size, overlong, received, expired, requested, offer, cleared}
-use Rattle.model_link.specs.Link.{state_number}
-use Rattle.laws_link.specs.States.{moves}
-use Rattle.laws_link.specs.Waiting.{as_response}
+use Rattle.lapd_frame.specs.declared.controls.Control.TheVariants.{Xid}
+use Rattle.model_link.specs.Events.{Event, frame}
 use Rattle.laws_trace.specs.ControlFrames.{control_in}
 use Rattle.laws_trace.proofs.ControlsWatched.{receipt, polled, to_information, while_up, answer_to, changed, command_of}
 use Rattle.laws_trace.proofs.DeliveriesWatched.{Standing}

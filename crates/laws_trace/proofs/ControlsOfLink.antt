@@ -1,31 +1,13 @@
 -- What an event of a link puts is what it makes due.
-use Rattle.std.proofs.Common.{◌≡◌, ℕ, ◌+◌, ◌-◌, ◌≤◌, ◌==◌, ◌&&◌, ◌||◌, Bool, true, false, cond, List, [], ◌∷◌, ◌++◌, length, take, drop, zero, suc, Some, refl, sym, ap, ◌∙◌, subst, arith, true≢false}
-use Rattle.std.specs.Prelude.{not, nat_lt}
-use Rattle.std.proofs.lemmas.Grind.{flat_map-append}
+use Rattle.laws_trace.proofs.Vocabulary.{◌≡◌, ℕ, ◌+◌, ◌-◌, ◌≤◌, ◌==◌, ◌&&◌, ◌||◌, Bool, true, false, cond, List, [], ◌∷◌, ◌++◌, length, take, drop, zero, suc, Some, refl, sym, ap, ◌∙◌, subst, arith, true≢false, not, nat_lt, flat_map-append, All-take, Information, ReceiveReady, ReceiveNotReady, Reject, Sabme, Disc, Ui, Ua, Dm, Frmr, Parts, seq, HasItsTimer, needed_in, State, TeiAssigned, AwaitingEstablishment, AwaitingRelease, Established, TimerRecovery, ControlFrame, Terms, LinkTimer, restarts, undefined, wrong_size, overlong, received, expired, requested, offer, cleared, Received, Link, is_multiple_frame, may_repeat, state_number, runs, establishes, busy_asked, takes_contents, as_heard, moves, by_expiry, state_after, is_overlong, receipt_as, as_response, as_command, is_next, to_supervisory, to_sabme, to_disc, answers, command_in, commands, put, behind, waiting_left, event-follows, Seq}
 use Rattle.std.proofs.lemmas.List.{length-drop}
-use Rattle.std.proofs.lemmas.List.Elements.{All-take}
 use Rattle.lapd_frame.specs.declared.controls.Control.{Control}
-use Rattle.lapd_frame.specs.declared.controls.Control.TheVariants.{Information, ReceiveReady, ReceiveNotReady, Reject, Sabme, Disc, Ui, Ua, Dm, Frmr, Xid}
-use Rattle.lapd_frame.specs.Grammar.{Parts}
-use Rattle.lapd_seq.specs.Numbers.{seq}
-use Rattle.laws_link.specs.two.Needed.{HasItsTimer, needed_in}
-use Rattle.model_link.specs.declared.states.State.{State}
-use Rattle.model_link.specs.declared.states.State.TheVariants.{TeiAssigned, AwaitingEstablishment, AwaitingRelease, Established, TimerRecovery}
-use Rattle.model_link.specs.declared.frames.ControlFrame.{ControlFrame}
-use Rattle.model_link.specs.declared.terms.Terms.{Terms}
-use Rattle.model_link.specs.declared.timers.LinkTimer.{LinkTimer}
+use Rattle.lapd_frame.specs.declared.controls.Control.TheVariants.{Xid}
 use Rattle.model_link.specs.declared.timers.LinkTimer.TheVariants.{T200, T203}
-use Rattle.model_link.specs.Deliveries.{restarts}
-use Rattle.model_link.specs.Events.{Event, frame, undefined, wrong_size, overlong, Request, Establish, Release, Data, SetBusy, ClearBusy, received, expired, requested, offer, cleared, Received}
-use Rattle.model_link.specs.Link.{Link, is_multiple_frame, may_repeat, state_number}
+use Rattle.model_link.specs.Events.{Event, frame, Request, Establish, Release, Data, SetBusy, ClearBusy}
 use Rattle.model_link.specs.Machine as links
-use Rattle.model_link.specs.Told.{runs}
-use Rattle.laws_link.proofs.Restarts.{establishes}
-use Rattle.laws_link.specs.Flags.{busy_asked, takes_contents}
-use Rattle.laws_link.specs.States.{as_heard, moves, by_expiry, state_after, is_overlong}
 use Rattle.laws_link.specs.Waiting as waiting
-use Rattle.laws_link.specs.Waiting.{receipt_as, as_response, as_command, is_next, to_supervisory, to_sabme, to_disc, answers, command_in, commands, put, room, behind, waiting_left}
-use Rattle.laws_link.proofs.Follows.{event-follows}
+use Rattle.laws_link.specs.Waiting.{room}
 use Rattle.laws_trace.specs.ControlFrames.{control_in}
 use Rattle.laws_trace.proofs.ControlsWatched.{receipt, polled, to_information, while_up, answer_to, changed, command_of}
 use Rattle.laws_trace.proofs.DeliveriesWatched.{Standing}
@@ -33,7 +15,6 @@ use Rattle.laws_trace.proofs.CommandsCaused.{enquires, IsNoOther, none-heard, no
 use Rattle.laws_trace.proofs.ControlsDue.{controls, answers_of, put_by, IsControl, all-put, all-controls}
 use Rattle.laws_trace.proofs.MovesOfLink.{ticks}
 use Rattle.laws_trace.proofs.StandingOfLink.{calm, rejected_behind}
-use Rattle.lapd_seq.specs.declared.numbers.Seq.{Seq}
 
 -- V(R), own busy and whether REJ stands while the link is up, before an event and behind it.
 abbrev pub number_after : Event → Link → ℕ

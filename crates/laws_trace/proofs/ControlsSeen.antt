@@ -1,47 +1,19 @@
 -- What is seen of the control frames of a link, and which are due by it.
-use Rattle.std.proofs.Common.{◌≡◌, ℕ, ◌==◌, ◌&&◌, ◌||◌, Bool, true, false, cond, List, [], ◌∷◌, ◌++◌, map, drop, Option, Some, None, refl, sym, ap, ◌∙◌, subst, ◌⊎◌, inl, inr, eqb-true, eq-eqb, append-nil, true≢false, Result, Ok, Err}
-use Rattle.std.specs.Prelude.{All, IfSome, flat_map, option_to_list, nat_lt, length}
+use Rattle.laws_trace.proofs.Vocabulary.{◌≡◌, ℕ, ◌==◌, ◌&&◌, ◌||◌, Bool, true, false, cond, List, [], ◌∷◌, ◌++◌, map, drop, Option, Some, None, refl, sym, ap, ◌∙◌, subst, ◌⊎◌, inl, inr, eq-eqb, append-nil, true≢false, Result, Ok, Err, All, IfSome, flat_map, option_to_list, nat_lt, length, All-head, All-tail, ReceiveNotReady, ReceiveReady, Ui, ReadFault, Service, Parts, reading, sapi_of, reading-again, seq, IsInOrder, as_response, event-follows, ControlFrame, Terms, Link, address_at, state_number, IsGiven, Given, orders_for, given_is_frame, Config, Effect, hears, expiry, request, next, Answer, refused, gave, Line, place_in, terms, aim_of, of_request, unless_refused_told, heard_side, message_of, aim_of_reading, aim_of_heard, at_side, IsMalformed, IsTooLong, is_granted, IsBy, Brings, BringsMalformed, sapi-is, same-sapi, both-true, Refusal}
+use Rattle.std.proofs.Common.{eqb-true}
 use Rattle.std.specs.Option.{unwrap_or}
-use Rattle.std.proofs.lemmas.List.Elements.{All-head, All-tail}
 use Rattle.model_bits.specs.Stream as stream
-use Rattle.lapd_frame.specs.declared.controls.Control.TheVariants.{ReceiveNotReady, ReceiveReady, Ui}
-use Rattle.lapd_frame.specs.declared.faults.ReadFault.{ReadFault}
-use Rattle.lapd_frame.specs.declared.services.Service.{Service}
-use Rattle.lapd_frame.specs.Grammar.{Parts}
-use Rattle.lapd_frame.specs.Reading.{reading}
-use Rattle.lapd_frame.specs.Services.{sapi_of}
-use Rattle.lapd_frame.proofs.Spelling.{reading-again}
-use Rattle.lapd_seq.specs.Numbers.{seq}
 use Rattle.lapd_tei.specs.Messages.{information_of}
-use Rattle.laws_link.specs.InOrder.{IsInOrder}
-use Rattle.laws_link.specs.Waiting.{as_response}
-use Rattle.laws_link.proofs.Follows.{event-follows}
-use Rattle.model_link.specs.declared.frames.ControlFrame.{ControlFrame}
-use Rattle.model_link.specs.declared.terms.Terms.{Terms}
 use Rattle.model_link.specs.Events as link
-use Rattle.model_link.specs.Link.{Link, address_at, state_number}
 use Rattle.model_link.specs.Machine as links
 use Rattle.model_link.specs.Offers
 use Rattle.model_link.specs.Sound as link_sound
-use Rattle.model_link.specs.Sound.{IsGiven}
 use Rattle.model_link.specs.Steps.{begun as course_begun}
-use Rattle.model_link.specs.Told.{Given, orders_for}
-use Rattle.model_link.proofs.Giving.{given_is_frame}
-use Rattle.model_line.specs.declared.config.Config.{Config}
-use Rattle.model_line.specs.Effect.{Effect}
-use Rattle.model_line.specs.Event.{Event, hears, expiry, request, next, Answer, told, refused, gave}
-use Rattle.model_line.specs.Line.{Line, place_in, terms}
-use Rattle.model_line.specs.Machine.{aim_of, answer, of_request, unless_refused_told}
-use Rattle.model_line.specs.Heard.{heard_side, message_of, aim_of_reading, aim_of_heard}
+use Rattle.model_line.specs.Event.{Event, told}
+use Rattle.model_line.specs.Machine.{answer}
 use Rattle.model_line.specs.Taken.{frame_of}
 use Rattle.model_line.specs.Request.{Request}
-use Rattle.model_line.specs.Sides.{at_side}
-use Rattle.laws_line.specs.Heard.{IsMalformed, IsTooLong}
 use Rattle.laws_line.specs.Requests as requests
-use Rattle.laws_line.specs.Share.{is_granted}
-use Rattle.laws_line.specs.Steady.{IsBy, Brings, BringsMalformed}
-use Rattle.laws_line.proofs.Hearing.{sapi-is, same-sapi}
-use Rattle.laws_line.proofs.Obeyed.{both-true}
 use Rattle.laws_trace.specs.ControlFrames.{of_link, control_in, controls_at, IsPart}
 use Rattle.laws_trace.proofs.ControlsWatched.{while_up, answer_to, changed, answers_at, acknowledged_by, acknowledged_at, answers_to_frame}
 use Rattle.laws_trace.proofs.DeliveriesWatched.{Standing}
@@ -56,7 +28,6 @@ use Rattle.laws_trace.proofs.Spelled.{whole-parts, given-spells}
 use Rattle.laws_trace.specs.Trace as traces
 use Rattle.laws_trace.proofs.Parts as parts
 use Rattle.model_line.specs.Refusal.{refusal}
-use Rattle.lapd_frame.specs.declared.refusals.Refusal.{Refusal}
 
 abbrev control_of : ControlFrame → List ControlFrame
 control_of f = control_in f.command f.control

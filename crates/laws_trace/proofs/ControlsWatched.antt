@@ -1,25 +1,10 @@
 -- The control frames of a link that go are those that are due.
-use Rattle.std.specs.Prelude.{◌≡◌, ◌≤◌, ℕ, ◌-◌, ◌==◌, ◌&&◌, ◌||◌, not, Bool, true, false, List, [], ◌∷◌, ◌++◌, length, take, fold, flat_map, Option, Result, Ok, Err, nat_lt, if◌then◌else◌}
-use Rattle.std.specs.Option.{option_map_or}
+use Rattle.laws_trace.proofs.Vocabulary.{◌≡◌, ◌≤◌, ℕ, ◌-◌, ◌==◌, ◌&&◌, ◌||◌, not, Bool, true, false, List, [], ◌∷◌, ◌++◌, length, take, fold, flat_map, Option, Result, Ok, Err, nat_lt, if◌then◌else◌, option_map_or, seq, Information, ReceiveReady, ReceiveNotReady, Reject, Sabme, Disc, Ua, Dm, ReadFault, Service, Parts, reading, ControlFrame, Config, has_tei, heard_side, as_response, as_command, most_frames, lost_in, line_at, moments, AreTakesAt, takes_at}
 use Rattle.model_bits.specs.Stream as stream
-use Rattle.lapd_seq.specs.Numbers.{seq}
 use Rattle.lapd_frame.specs.declared.controls.Control.{Control}
-use Rattle.lapd_frame.specs.declared.controls.Control.TheVariants.{Information, ReceiveReady, ReceiveNotReady, Reject, Sabme, Disc, Ua, Dm}
-use Rattle.lapd_frame.specs.declared.faults.ReadFault.{ReadFault}
-use Rattle.lapd_frame.specs.declared.services.Service.{Service}
-use Rattle.lapd_frame.specs.Grammar.{Parts}
-use Rattle.lapd_frame.specs.Reading.{reading}
-use Rattle.model_link.specs.declared.frames.ControlFrame.{ControlFrame}
-use Rattle.model_line.specs.declared.config.Config.{Config}
-use Rattle.model_line.specs.Line.{has_tei}
-use Rattle.model_line.specs.Heard.{heard_side}
-use Rattle.laws_link.specs.Waiting.{as_response, as_command}
-use Rattle.laws_line.specs.Drains.{most_frames}
-use Rattle.laws_line.specs.Frames.{lost_in}
-use Rattle.model_card.specs.Card.{fresh, line_at}
+use Rattle.model_card.specs.Card.{fresh}
 use Rattle.model_card.specs.Event.{Event}
-use Rattle.model_card.specs.Run.{Moment, moments, after_all}
-use Rattle.laws_line.specs.card.Among.{AreTakesAt, takes_at}
+use Rattle.model_card.specs.Run.{Moment, after_all}
 use Rattle.laws_trace.proofs.DeliveriesWatched.{Standing, at_first, stand}
 use Rattle.laws_trace.proofs.States.{expired_of, one_more, is_state, state_before, state_after, differ}
 use Rattle.laws_trace.specs.Trace.{is_up, Seen, heard, begun, granted, seen_in, trace, trace_of}

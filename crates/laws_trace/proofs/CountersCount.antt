@@ -1,26 +1,12 @@
 -- Counters count what is seen: the law.
-use Rattle.std.proofs.Common.{◌≡◌, ℕ, ◌+◌, ◌<◌, ◌==◌, Bool, true, false, cond, List, [], ◌∷◌, ◌++◌, map, Option, Some, None, refl, sym, ap, ◌∙◌, arith, eqb-true, true≢false, ◌⊎◌, inl, inr, append-nil}
-use Rattle.std.specs.Prelude.{flat_map}
-use Rattle.std.proofs.lemmas.Grind.{flat_map-append}
-use Rattle.std.proofs.lemmas.List.Sums.{sum_by-append}
-use Rattle.model_bits.specs.declared.heard.Cause.{Cause}
-use Rattle.lapd_count.specs.declared.counter.Counter.{Counter}
-use Rattle.lapd_count.specs.declared.counter.Counter.TheVariants.{Frames, Octets, Polls, Overlong, Dropped, Errors, EstablishIndications, EstablishConfirms, ReleaseIndications, ReleaseConfirms, Data, Units, Xids, Assigned, Removed, Doubled, Lost, Messages}
-use Rattle.lapd_count.specs.declared.counter.Way.TheVariants.{Heard, Begun}
-use Rattle.lapd_count.specs.declared.kinds.Kind.{Kind}
-use Rattle.lapd_count.specs.Counters.{More, place, cause_place, amount_of, amount_in}
-use Rattle.lapd_count.specs.Kinds.{kind_place}
-use Rattle.lapd_count.specs.Shown.{heard_shown, note_shown, drop_shown, lost_shown}
-use Rattle.lapd_frame.specs.declared.addresses.Side.{Side}
-use Rattle.model_line.specs.declared.config.Config.{Config}
-use Rattle.model_line.specs.Counted.{shown, told_in_answer, given_shown}
+use Rattle.laws_trace.proofs.Vocabulary.{◌≡◌, ℕ, ◌+◌, ◌<◌, ◌==◌, Bool, true, false, cond, List, [], ◌∷◌, ◌++◌, map, Option, Some, None, refl, sym, ap, ◌∙◌, arith, true≢false, ◌⊎◌, inl, inr, append-nil, flat_map, flat_map-append, sum_by-append, Cause, Counter, Frames, Octets, Polls, Overlong, Dropped, Errors, EstablishIndications, EstablishConfirms, ReleaseIndications, ReleaseConfirms, Units, Xids, Assigned, Lost, Messages, Heard, Begun, Kind, More, place, cause_place, amount_of, amount_in, kind_place, heard_shown, note_shown, drop_shown, lost_shown, Side, Config, shown, told_in_answer, given_shown, Answer, refused, gave, Card, all_shown, moments}
+use Rattle.std.proofs.Common.{eqb-true}
+use Rattle.lapd_count.specs.declared.counter.Counter.TheVariants.{Data, Removed, Doubled}
 use Rattle.model_line.specs.Event as line_event
-use Rattle.model_line.specs.Event.{Answer, told, refused, gave}
-use Rattle.model_card.specs.Card.{Card, fresh}
-use Rattle.model_card.specs.Counted.{all_shown}
+use Rattle.model_line.specs.Event.{told}
+use Rattle.model_card.specs.Card.{fresh}
 use Rattle.model_card.specs.Event.{Event}
 use Rattle.model_card.specs.Machine.{after, answer}
-use Rattle.model_card.specs.Run.{moments}
 use Rattle.laws_trace.specs.CountersCount.{names, is_drop, CountersCount}
 use Rattle.laws_trace.specs.Trace.{Seen, seen, seen_told, heard, begun, trace, Always}
 

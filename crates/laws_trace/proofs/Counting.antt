@@ -1,15 +1,6 @@
 -- When the numbers of a link begin, and how many contents were told since, by what is heard and noted.
-use Rattle.std.specs.Prelude.{ℕ, ◌+◌, ◌&&◌, not, Bool, true, false, List, [], ◌∷◌, Option, Some, None, if◌then◌else◌}
-use Rattle.std.specs.List.{list_any}
+use Rattle.laws_trace.proofs.Vocabulary.{ℕ, ◌+◌, ◌&&◌, not, Bool, true, false, List, [], ◌∷◌, Option, Some, None, if◌then◌else◌, list_any, Sabme, Ua, C, Note, Error, ReleaseConfirm, Service, Parts, Config, is_data_of}
 use Rattle.lapd_frame.specs.declared.controls.Control.{Control}
-use Rattle.lapd_frame.specs.declared.controls.Control.TheVariants.{Sabme, Ua}
-use Rattle.lapd_frame.specs.declared.notes.ErrorCode.TheVariants.{C}
-use Rattle.lapd_frame.specs.declared.notes.Note.{Note}
-use Rattle.lapd_frame.specs.declared.notes.Note.TheVariants.{Error, ReleaseConfirm}
-use Rattle.lapd_frame.specs.declared.services.Service.{Service}
-use Rattle.lapd_frame.specs.Grammar.{Parts}
-use Rattle.model_line.specs.declared.config.Config.{Config}
-use Rattle.laws_line.specs.Heard.{is_data_of}
 use Rattle.laws_trace.specs.LinkFrames.{frame_of, is_for}
 use Rattle.laws_trace.specs.Trace.{Seen, heard, noted}
 

@@ -1,30 +1,13 @@
 -- What an event of a line is to the data of a link: what it asks for, and what it does not.
-use Rattle.std.proofs.Common.{◌≡◌, ℕ, ◌==◌, ◌&&◌, Bool, true, false, cond, List, [], ◌∷◌, Option, Some, None, refl, sym, ap, ◌∙◌, eq-eqb, true≢false}
-use Rattle.std.specs.Prelude.{is_some}
+use Rattle.laws_trace.proofs.Vocabulary.{◌≡◌, ℕ, ◌==◌, ◌&&◌, Bool, true, false, cond, List, [], ◌∷◌, Option, Some, None, refl, sym, ap, ◌∙◌, eq-eqb, true≢false, is_some, Service, same_service, not_not, Terms, Link, accepted, i_frames, Config, hears, request, next, Answer, Line, has_tei, place_in, aim_of, unless_refused, bad_tei, no_link, wrong_state, too_long, queue_full, pool_full, Assign, Remove, Deactivate, at_requested, is_granted, IsBy, passed, not-refused, service-same, is-off}
 use Rattle.model_bits.specs.Stream as stream
-use Rattle.lapd_frame.specs.declared.services.Service.{Service}
-use Rattle.lapd_frame.specs.Services.{same_service}
-use Rattle.lapd_tei.proofs.Tables.{not_not}
-use Rattle.model_link.specs.declared.terms.Terms.{Terms}
 use Rattle.model_link.specs.Events as link
-use Rattle.model_link.specs.Link.{Link}
 use Rattle.model_link.specs.Requests as requests
-use Rattle.laws_link.specs.Accepted.{accepted}
-use Rattle.laws_link.specs.Offered.{i_frames}
-use Rattle.model_line.specs.declared.config.Config.{Config}
-use Rattle.model_line.specs.Event.{Event, hears, request, next, Answer}
-use Rattle.model_line.specs.Line.{Line, has_tei, place_in}
-use Rattle.model_line.specs.Machine.{aim_of, answer, unless_refused}
-use Rattle.model_line.specs.Refusal.{refusal, bad_tei, no_link, wrong_state, too_long, queue_full, pool_full}
-use Rattle.model_line.specs.Request.{Request, Establish, Release, Data, Assign, Remove, Check, SetBusy, ClearBusy, Deactivate}
-use Rattle.model_line.specs.Requested.{at_requested}
+use Rattle.model_line.specs.Event.{Event}
+use Rattle.model_line.specs.Machine.{answer}
+use Rattle.model_line.specs.Refusal.{refusal}
+use Rattle.model_line.specs.Request.{Request, Establish, Release, Data, Check, SetBusy, ClearBusy}
 use Rattle.laws_line.specs.Requests.{of_link}
-use Rattle.laws_line.specs.Share.{is_granted}
-use Rattle.laws_line.specs.Steady.{IsBy}
-use Rattle.laws_line.proofs.Asked.{passed}
-use Rattle.laws_line.proofs.Granting.{not-refused}
-use Rattle.laws_line.proofs.Obeyed.{service-same}
-use Rattle.laws_line.proofs.Places.{is-off}
 use Rattle.laws_trace.specs.Outgoing.{data_asked}
 use Rattle.laws_trace.proofs.OneLink.{is_at_link}
 use Rattle.laws_trace.proofs.Deliveries.{heard-by}

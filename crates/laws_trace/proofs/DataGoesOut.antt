@@ -1,26 +1,12 @@
 -- I-frames of a link that go out, as they are read.
-use Rattle.std.proofs.Common.{◌≡◌, ℕ, ◌==◌, ◌&&◌, Bool, true, false, cond, List, [], Option, Some, None, refl, ap, ◌∙◌, subst, eq-eqb, inl, inr, true≢false}
-use Rattle.std.specs.Prelude.{IfSome, unwrap_or}
-use Rattle.std.specs.Option.{option_map_or}
+use Rattle.laws_trace.proofs.Vocabulary.{◌≡◌, ℕ, ◌==◌, ◌&&◌, Bool, true, false, cond, List, [], Option, Some, None, refl, ap, ◌∙◌, subst, eq-eqb, inl, inr, true≢false, IfSome, option_map_or, Information, ReceiveReady, ReceiveNotReady, Reject, Sabme, Disc, Ui, Ua, Dm, Frmr, Service, Parts, reading, sapi_of, reading-again, Link, address_at, is_information, Given, given_is_frame, Config, NextFrame, terms, same-sapi}
+use Rattle.std.specs.Prelude.{unwrap_or}
 use Rattle.lapd_frame.specs.declared.controls.Control.{Control}
-use Rattle.lapd_frame.specs.declared.controls.Control.TheVariants.{Information, ReceiveReady, ReceiveNotReady, Reject, Sabme, Disc, Ui, Ua, Dm, Frmr, Xid}
-use Rattle.lapd_frame.specs.declared.services.Service.{Service}
-use Rattle.lapd_frame.specs.Grammar.{Parts}
-use Rattle.lapd_frame.specs.Reading.{reading}
-use Rattle.lapd_frame.specs.Services.{sapi_of}
-use Rattle.lapd_frame.proofs.Spelling.{reading-again}
+use Rattle.lapd_frame.specs.declared.controls.Control.TheVariants.{Xid}
 use Rattle.lapd_tei.specs.Messages.{information_of}
-use Rattle.model_link.specs.Link.{Link, address_at}
 use Rattle.model_link.specs.Machine as links
 use Rattle.model_link.specs.Sound as link_sound
-use Rattle.model_link.specs.Sound.{is_information}
-use Rattle.model_link.specs.Told.{Given}
-use Rattle.model_link.proofs.Giving.{given_is_frame}
-use Rattle.model_line.specs.declared.config.Config.{Config}
-use Rattle.model_line.specs.Event.{NextFrame}
-use Rattle.model_line.specs.Line.{terms}
 use Rattle.model_line.specs.Taken.{frame_of}
-use Rattle.laws_line.proofs.Hearing.{same-sapi}
 use Rattle.laws_trace.specs.Trace as traces
 use Rattle.laws_trace.specs.LinkFrames.{Sent, sent_by, sent_in}
 use Rattle.laws_trace.proofs.OneLink.{IsForeign}

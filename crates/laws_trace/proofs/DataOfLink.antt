@@ -1,16 +1,8 @@
 -- What an event of a link is to the contents that it keeps: what is acknowledged of them, and what is accepted.
-use Rattle.std.proofs.Common.{◌≡◌, ℕ, ◌+◌, ◌≤◌, Bool, true, false, cond, List, [], ◌∷◌, Option, Some, None, refl, ap, arith}
-use Rattle.std.specs.Prelude.{is_some}
-use Rattle.std.specs.Option.{option_map_or}
-use Rattle.lapd_seq.specs.declared.numbers.Seq.{Seq}
-use Rattle.lapd_seq.specs.Circle.{named}
-use Rattle.lapd_frame.specs.declared.refusals.Refusal.TheVariants.{WrongState}
-use Rattle.model_link.specs.declared.terms.Terms.{Terms}
-use Rattle.model_link.specs.Events.{Event, received, expired, requested, offer, cleared, Request, Establish, Release, Data, SetBusy, ClearBusy}
-use Rattle.model_link.specs.Link.{Link, is_multiple_frame}
-use Rattle.model_link.specs.Requests.{refusal, refusal_for_room}
-use Rattle.model_link.proofs.SoundRows.{named-within}
-use Rattle.laws_link.specs.Accepted.{acknowledged, acknowledged_by, accepted, beyond, number_received}
+use Rattle.laws_trace.proofs.Vocabulary.{◌≡◌, ℕ, ◌+◌, ◌≤◌, Bool, true, false, cond, List, [], ◌∷◌, Option, Some, None, refl, ap, arith, is_some, option_map_or, Seq, named, WrongState, Terms, received, expired, requested, offer, cleared, Link, is_multiple_frame, refusal_for_room, named-within, acknowledged_by, accepted, beyond, number_received}
+use Rattle.model_link.specs.Events.{Event, Request, Establish, Release, Data, SetBusy, ClearBusy}
+use Rattle.model_link.specs.Requests.{refusal}
+use Rattle.laws_link.specs.Accepted.{acknowledged}
 
 -- What is acknowledged had gone.
 acknowledged-number : (l : Link) → l.a ≤ l.s → (o : Option Seq) → l.a + acknowledged_by o l ≤ l.s

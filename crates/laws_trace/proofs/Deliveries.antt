@@ -1,47 +1,18 @@
 -- What is told is what was heard.
-use Rattle.std.proofs.Common.{◌≡◌, ℕ, ◌%◌, ◌≤◌, ◌==◌, ◌&&◌, Bool, true, false, cond, List, [], ◌∷◌, length, Option, Some, None, option_map, refl, sym, ap, ◌∙◌, arith, eq-eqb, ◌⊎◌, inl, inr, true≢false}
-use Rattle.std.specs.Prelude.{All, ◌||◌, not, nat_le, count_by, option_to_list}
-use Rattle.std.specs.List.{list_any}
-use Rattle.std.specs.Option.{option_map_or}
-use Rattle.std.proofs.lemmas.Bool.{and_parts}
-use Rattle.std.proofs.lemmas.List.Elements.{All-head, All-tail}
-use Rattle.std.proofs.lemmas.List.Sums.{sum_by-cons}
-use Rattle.std.proofs.lemmas.Option.{none-some}
+use Rattle.laws_trace.proofs.Vocabulary.{◌≡◌, ℕ, ◌%◌, ◌≤◌, ◌==◌, ◌&&◌, Bool, true, false, cond, List, [], ◌∷◌, length, Option, Some, None, option_map, refl, sym, ap, ◌∙◌, arith, eq-eqb, ◌⊎◌, inl, inr, true≢false, All, ◌||◌, not, nat_le, count_by, option_to_list, list_any, option_map_or, and_parts, All-head, All-tail, sum_by-cons, none-some, Seq, Address, Note, Service, Parts, reading, sapi_of, service_of, same_service, Terms, Arrived, restarts, eligible, eligible_of, is_eligible, State, TeiAssigned, AwaitingEstablishment, AwaitingRelease, Established, TimerRecovery, Link, is_multiple_frame, state_number, notes-own, establishes, unit_heard, in_ui_frame, Config, hears, expiry, request, next, Answer, Line, link_in, link_of, place_in, state_in, state_of, terms, aim_of, heard_side, group_tei, IsInRange, IsMalformed, IsTooLong, notes_of, contents_in, is_data_of, is_unit_of, tells_contents, IsBy, Brings, BringsMalformed, contents-heard, sapi-is, read-aim, read-event, told-once, group-read}
 use Rattle.model_bits.specs.Stream as stream
-use Rattle.lapd_seq.specs.declared.numbers.Seq.{Seq}
-use Rattle.lapd_frame.specs.declared.addresses.Address.{Address}
 use Rattle.lapd_frame.specs.declared.controls.Control.{Control}
 use Rattle.lapd_frame.specs.declared.controls.Control.TheVariants as control
-use Rattle.lapd_frame.specs.declared.notes.Note.{Note}
 use Rattle.lapd_frame.specs.declared.notes.Note.TheVariants as notes
-use Rattle.lapd_frame.specs.declared.services.Service.{Service}
-use Rattle.lapd_frame.specs.Grammar.{Parts}
-use Rattle.lapd_frame.specs.Reading.{reading}
-use Rattle.lapd_frame.specs.Services.{sapi_of, service_of, same_service}
-use Rattle.model_link.specs.declared.terms.Terms.{Terms}
-use Rattle.model_link.specs.Deliveries.{Arrived, restarts, eligible, eligible_of, is_eligible, information_of}
+use Rattle.model_link.specs.Deliveries.{information_of}
 use Rattle.model_link.specs.Events as link
 use Rattle.model_link.specs.Notes.{IsOwn}
-use Rattle.model_link.specs.declared.states.State.{State}
-use Rattle.model_link.specs.declared.states.State.TheVariants.{TeiAssigned, AwaitingEstablishment, AwaitingRelease, Established, TimerRecovery}
-use Rattle.model_link.specs.Link.{Link, fresh, is_multiple_frame, state_number}
+use Rattle.model_link.specs.Link.{fresh}
 use Rattle.model_link.specs.Machine as links
-use Rattle.model_link.proofs.OwnNotes.{notes-own}
-use Rattle.laws_link.proofs.Restarts.{establishes}
-use Rattle.laws_link.specs.Heard.{unit_heard, in_ui_frame}
-use Rattle.model_line.specs.declared.config.Config.{Config}
-use Rattle.model_line.specs.Event.{Event, hears, expiry, request, next, Answer}
-use Rattle.model_line.specs.Line.{Line, link_in, link_of, place_in, state_in, state_of, terms}
-use Rattle.model_line.specs.Machine.{aim_of, answer}
-use Rattle.model_line.specs.Heard.{heard_side, group_tei}
-use Rattle.model_line.specs.Sound.{IsInRange, IsSound}
-use Rattle.laws_line.specs.Heard.{IsMalformed, IsTooLong, notes_of, contents_in, is_data_of, is_unit_of, tells_contents}
+use Rattle.model_line.specs.Event.{Event}
+use Rattle.model_line.specs.Machine.{answer}
+use Rattle.model_line.specs.Sound.{IsSound}
 use Rattle.laws_line.specs.Heard as line_heard
-use Rattle.laws_line.specs.Steady.{IsBy, Brings, BringsMalformed}
-use Rattle.laws_line.proofs.HandedOn.{contents-heard}
-use Rattle.laws_line.proofs.Hearing.{sapi-is, read-aim, read-event}
-use Rattle.laws_line.proofs.ToldOnce.{told-once}
-use Rattle.laws_line.proofs.Grouping.{group-read}
 use Rattle.laws_trace.specs.LinkFrames.{parts_of, frame_of, is_for}
 use Rattle.laws_trace.proofs.Counting.{begins_by, begins}
 use Rattle.laws_trace.proofs.DeliveriesWatched.{number_in, IsOfFrame}

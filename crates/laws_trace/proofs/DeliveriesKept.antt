@@ -1,22 +1,12 @@
 -- How a link stands by what is heard and noted: over runs.
-use Rattle.std.proofs.Common.{◌≡◌, ℕ, ◌<◌, Bool, false, List, [], ◌∷◌, ◌++◌, None, refl, sym, ap, ◌∙◌, subst}
-use Rattle.std.specs.Prelude.{fold}
-use Rattle.std.specs.Option.{option_map_or}
-use Rattle.std.proofs.lemmas.List.{get_or-replicate}
-use Rattle.std.proofs.lemmas.List.Sums.{fold-append}
-use Rattle.lapd_frame.specs.declared.services.Service.{Service}
-use Rattle.model_link.specs.Link.{Link, fresh}
-use Rattle.model_line.specs.declared.config.Config.{Config}
+use Rattle.laws_trace.proofs.Vocabulary.{◌≡◌, ℕ, ◌<◌, Bool, false, List, [], ◌∷◌, ◌++◌, None, refl, sym, ap, ◌∙◌, subst, fold, option_map_or, get_or-replicate, fold-append, Service, Link, Config, Line, link_in, link_of, fresh_line, IsInRange, nowhere, line_at, fresh_is_sound}
+use Rattle.model_link.specs.Link.{fresh}
 use Rattle.model_line.specs.Event.{Event}
-use Rattle.model_line.specs.Line.{Line, link_in, link_of, fresh_line}
 use Rattle.model_line.specs.Machine.{after, answer}
-use Rattle.model_line.specs.Sound.{IsInRange, IsSound}
-use Rattle.laws_line.proofs.TimersFollow.{nowhere}
+use Rattle.model_line.specs.Sound.{IsSound}
 use Rattle.model_card.specs.Card as cards
-use Rattle.model_card.specs.Card.{line_at}
 use Rattle.model_card.specs.Event as card
 use Rattle.model_card.specs.Run.{after_all, AreAtLines}
-use Rattle.model_card.proofs.CardSound.{fresh_is_sound}
 use Rattle.laws_trace.specs.Trace.{Seen, seen, trace_of}
 use Rattle.laws_trace.proofs.DeliveriesWatched.{Standing, at_first, stand}
 use Rattle.laws_trace.proofs.Counting.{watch}

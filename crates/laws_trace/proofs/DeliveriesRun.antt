@@ -1,46 +1,16 @@
 -- What is told is what was heard: over runs.
-use Rattle.std.proofs.Common.{◌≡◌, ℕ, ◌+◌, ◌%◌, ◌&&◌, ◌||◌, Bool, true, false, cond, List, [], ◌∷◌, ◌++◌, map, Option, Some, None, option_map, refl, sym, ap, ◌∙◌, subst, eqb-true, eq-eqb, ◌==◌, Result, Ok, Err, true≢false, ◌⊎◌, inl, inr}
-use Rattle.std.specs.Prelude.{fold, is_some}
-use Rattle.lapd_frame.specs.declared.notes.Note.{Note}
+use Rattle.laws_trace.proofs.Vocabulary.{◌≡◌, ℕ, ◌+◌, ◌%◌, ◌&&◌, ◌||◌, Bool, true, false, cond, List, [], ◌∷◌, ◌++◌, map, Option, Some, None, option_map, refl, sym, ap, ◌∙◌, subst, eq-eqb, ◌==◌, Result, Ok, Err, true≢false, ◌⊎◌, inl, inr, fold, is_some, Note, list_any, option_or, option_map_or, none-some, ReadFault, reading, sapi_of, same_service, Service, Parts, Terms, restarts, Link, is_multiple_frame, event-delivers, delivered-at_once, notes-own, event-tells, unit_heard, event-unit, within-is, place_of-is, Config, hears, expiry, request, next, Answer, LineTold, refused, gave, NextFrame, Line, place_in, link_in, link_of, terms, aim_of, of_heard, aim_of_heard, aim_of_reading, message_of, heard_side, group_tei, taken, next_of, IsInRange, sound_in, at_side, notes_of, contents_in, is_data_of, is_unit_of, own-all, addressed-is, sapi-is, same-sapi, service-same, both-true, told-once}
+use Rattle.std.proofs.Common.{eqb-true}
 use Rattle.lapd_frame.specs.declared.notes.Note.TheVariants as notes
-use Rattle.std.specs.List.{list_any}
-use Rattle.std.specs.Option.{option_or, option_map_or}
-use Rattle.std.proofs.lemmas.Option.{none-some}
 use Rattle.model_bits.specs.Stream as stream
-use Rattle.lapd_frame.specs.declared.faults.ReadFault.{ReadFault}
-use Rattle.lapd_frame.specs.Reading.{reading}
-use Rattle.lapd_frame.specs.Services.{sapi_of, same_service}
-use Rattle.lapd_frame.specs.declared.services.Service.{Service}
-use Rattle.lapd_frame.specs.Grammar.{Parts}
-use Rattle.model_link.specs.declared.terms.Terms.{Terms}
-use Rattle.model_link.specs.Deliveries.{restarts}
 use Rattle.model_link.specs.Events as link
-use Rattle.model_link.specs.Link.{Link, fresh, is_multiple_frame}
+use Rattle.model_link.specs.Link.{fresh}
 use Rattle.model_link.specs.Machine as links
 use Rattle.model_link.specs.Sound as link_sound
-use Rattle.model_link.proofs.Delivering.{event-delivers}
-use Rattle.model_link.proofs.Numbering.{delivered-at_once}
-use Rattle.model_link.proofs.OwnNotes.{notes-own}
-use Rattle.model_link.proofs.TellRows.{event-tells}
-use Rattle.laws_link.specs.Heard.{unit_heard}
-use Rattle.laws_link.proofs.Keeping.{event-unit}
-use Rattle.laws_link.proofs.Once.{within-is}
-use Rattle.lapd_tei.proofs.Tables.{place_of-is}
-use Rattle.model_line.specs.declared.config.Config.{Config}
-use Rattle.model_line.specs.Event.{Event, hears, expiry, request, next, Answer, LineTold, told, refused, gave, NextFrame}
-use Rattle.model_line.specs.Line.{Line, place_in, link_in, link_of, terms}
-use Rattle.model_line.specs.Machine.{aim_of, after, answer, of_heard}
-use Rattle.model_line.specs.Heard.{aim_of_heard, aim_of_reading, message_of, heard_side, group_tei}
-use Rattle.model_line.specs.Taken.{taken, next_of}
+use Rattle.model_line.specs.Event.{Event, told}
+use Rattle.model_line.specs.Machine.{after, answer}
 use Rattle.model_line.specs.Request.{Request}
-use Rattle.model_line.specs.Sound.{IsInRange, IsSound}
-use Rattle.model_line.proofs.LinksSound.{sound_in}
-use Rattle.model_line.specs.Sides.{at_side}
-use Rattle.laws_line.specs.Heard.{notes_of, contents_in, is_data_of, is_unit_of}
-use Rattle.laws_line.proofs.HandedOn.{own-all}
-use Rattle.laws_line.proofs.Hearing.{addressed-is, sapi-is, same-sapi}
-use Rattle.laws_line.proofs.Obeyed.{service-same, both-true}
-use Rattle.laws_line.proofs.ToldOnce.{told-once}
+use Rattle.model_line.specs.Sound.{IsSound}
 use Rattle.laws_trace.specs.Trace as traces
 use Rattle.laws_trace.specs.Trace.{frame_in, Seen, seen_told, seen}
 use Rattle.laws_trace.proofs.Counting.{Watched, begins, counted, watch}

@@ -1,14 +1,7 @@
 -- What layer 3 is told of what is heard.
-use Rattle.std.specs.Prelude.{◌≡◌, ℕ, ◌%◌, ◌&&◌, ◌||◌, not, Bool, true, false, List, length, option_to_list, count_by, Option, Some, None, if◌then◌else◌}
-use Rattle.std.specs.List.{list_any}
+use Rattle.laws_trace.proofs.Vocabulary.{◌≡◌, ℕ, ◌%◌, ◌&&◌, ◌||◌, not, Bool, true, false, List, length, option_to_list, count_by, Option, Some, None, if◌then◌else◌, list_any, Information, Note, Service, Parts, Config, is_data_of, is_unit_of, tells_contents}
 use Rattle.lapd_frame.specs.declared.controls.Control.{Control}
-use Rattle.lapd_frame.specs.declared.controls.Control.TheVariants.{Information}
-use Rattle.lapd_frame.specs.declared.notes.Note.{Note}
-use Rattle.lapd_frame.specs.declared.services.Service.{Service}
-use Rattle.lapd_frame.specs.Grammar.{Parts}
-use Rattle.model_line.specs.declared.config.Config.{Config}
 use Rattle.model_line.specs.Request.{Request, SetBusy, ClearBusy}
-use Rattle.laws_line.specs.Heard.{is_data_of, is_unit_of, tells_contents}
 use Rattle.laws_trace.specs.LinkFrames.{is_for}
 use Rattle.laws_trace.specs.Trace.{is_own, Seen, noted, granted}
 use Rattle.laws_trace.specs.Units.{is_ui}

@@ -1,27 +1,11 @@
 -- What is wrong with what is seen of a link: one event of its line.
-use Rattle.std.proofs.Common.{◌≡◌, ℕ, ◌==◌, ◌&&◌, Bool, true, false, cond, List, [], ◌∷◌, ◌++◌, Option, Some, None, Result, Ok, Err, refl, sym, ap, ◌∙◌, subst, eqb-true, true≢false, ◌⊎◌, inl, inr, append-nil}
-use Rattle.std.specs.Prelude.{option_to_list}
-use Rattle.std.specs.Option.{option_map_or}
+use Rattle.laws_trace.proofs.Vocabulary.{◌≡◌, ℕ, ◌==◌, ◌&&◌, Bool, true, false, cond, List, [], ◌∷◌, ◌++◌, Option, Some, None, Result, Ok, Err, refl, sym, ap, ◌∙◌, subst, true≢false, ◌⊎◌, inl, inr, append-nil, option_to_list, option_map_or, Unserved, Address, ReadFault, BadExtension, Undefined, WrongSize, Short, ErrorCode, Long, Service, Parts, reading, long_reading, Config, hears, expiry, request, next, Answer, heard_side, aim_of_heard, aim_of_reading, aim_of_long, drop_for, Line, place_in, terms, aim_of, IsMalformed, IsTooLong, IsBy, BringsMalformed}
+use Rattle.std.proofs.Common.{eqb-true}
 use Rattle.model_bits.specs.Stream as stream
-use Rattle.model_bits.specs.declared.heard.Cause.TheVariants.{Unserved}
-use Rattle.lapd_frame.specs.declared.addresses.Address.{Address}
-use Rattle.lapd_frame.specs.declared.faults.ReadFault.{ReadFault}
-use Rattle.lapd_frame.specs.declared.faults.ReadFault.TheVariants.{BadExtension, Undefined, WrongSize, Short}
-use Rattle.lapd_frame.specs.declared.notes.ErrorCode.{ErrorCode}
 use Rattle.lapd_frame.specs.declared.notes.ErrorCode.TheVariants as code
-use Rattle.lapd_frame.specs.declared.overlong.Long.{Long}
 use Rattle.lapd_frame.specs.declared.overlong.Long.TheVariants as long
-use Rattle.lapd_frame.specs.declared.services.Service.{Service}
-use Rattle.lapd_frame.specs.Grammar.{Parts}
-use Rattle.lapd_frame.specs.Reading.{reading, long_reading}
 use Rattle.model_link.specs.Events as link
-use Rattle.model_line.specs.declared.config.Config.{Config}
-use Rattle.model_line.specs.Event.{Event, hears, expiry, request, next, Answer}
-use Rattle.model_line.specs.Heard.{heard_side, aim_of_heard, aim_of_reading, aim_of_long, drop_for}
-use Rattle.model_line.specs.Line.{Line, place_in, terms}
-use Rattle.model_line.specs.Machine.{aim_of}
-use Rattle.laws_line.specs.Heard.{IsMalformed, IsTooLong}
-use Rattle.laws_line.specs.Steady.{IsBy, BringsMalformed}
+use Rattle.model_line.specs.Event.{Event}
 use Rattle.laws_trace.specs.LinkFrames.{parts_of, frame_of, its_frame, is_for, faulty, faulty_long, malformed}
 use Rattle.laws_trace.specs.News.{wrong_parts, given_up, wrong}
 use Rattle.laws_trace.specs.Trace.{is_up}

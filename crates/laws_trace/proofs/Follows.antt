@@ -1,27 +1,14 @@
 -- What the observer of a line knows of its TEIs is what TEI management has, and what is due by an event is what that tells.
-use Rattle.std.proofs.Common.{◌≡◌, ℕ, ◌+◌, ◌*◌, ◌/◌, ◌%◌, ◌≤◌, ◌<◌, ◌==◌, ◌&&◌, ◌||◌, Bool, true, false, cond, not, List, [], ◌∷◌, length, Option, Some, None, IfSome, option_map, refl, sym, ap, ◌∙◌, subst, arith, eqb-true, eq-eqb, true≢false}
-use Rattle.std.specs.Prelude.{filter, is_some, nat_le, nat_lt}
-use Rattle.std.specs.List.{find, range_with_len}
-use Rattle.std.proofs.lemmas.Bool.{leb-true, leb-false, ltb-true, ltb-false}
+use Rattle.laws_trace.proofs.Vocabulary.{◌≡◌, ℕ, ◌+◌, ◌*◌, ◌/◌, ◌%◌, ◌≤◌, ◌<◌, ◌==◌, ◌&&◌, ◌||◌, Bool, true, false, cond, not, List, [], ◌∷◌, length, Option, Some, None, IfSome, option_map, refl, sym, ap, ◌∙◌, subst, arith, eq-eqb, true≢false, filter, is_some, nat_le, nat_lt, find, range_with_len, leb-true, leb-false, Stop, T201, Management, Remembered, Period, First, Second, Message, IdentityAssigned, IdentityDenied, IdentityCheckRequest, IdentityRemove, heard_of_type, heard_in, IsSoundCheck, place_of, free_place, free_tei-is, Config}
+use Rattle.std.proofs.Common.{eqb-true}
+use Rattle.std.proofs.lemmas.Bool.{ltb-true, ltb-false}
 use Rattle.lapd_frame.specs.declared.notes.Note.TheVariants.{Removed, Doubled}
-use Rattle.lapd_frame.specs.declared.timers.Order.TheVariants.{Stop}
-use Rattle.lapd_frame.specs.declared.timers.Timer.TheVariants.{T201}
-use Rattle.lapd_tei.specs.Machine.{Management}
-use Rattle.lapd_tei.specs.declared.remembered.Remembered.{Remembered}
 use Rattle.lapd_tei.specs.declared.check.Check.{Check}
-use Rattle.lapd_tei.specs.declared.check.Period.{Period}
-use Rattle.lapd_tei.specs.declared.check.Period.TheVariants.{First, Second}
-use Rattle.lapd_tei.specs.declared.messages.Message.{Message}
-use Rattle.lapd_tei.specs.declared.messages.Message.TheVariants.{IdentityAssigned, IdentityDenied, IdentityCheckRequest, IdentityRemove}
-use Rattle.lapd_tei.specs.Messages.{heard_of_type, heard_in}
 use Rattle.lapd_tei.specs.Rows as rows
-use Rattle.lapd_tei.specs.Sound.{IsSound, IsSoundCheck}
+use Rattle.lapd_tei.specs.Sound.{IsSound}
 use Rattle.lapd_tei.specs.Table as table
-use Rattle.lapd_tei.specs.Table.{place_of, free_place}
 use Rattle.lapd_tei.specs.Words as words
 use Rattle.lapd_tei.specs.Words.{Course, begun}
-use Rattle.lapd_tei.proofs.Tables.{free_tei-is}
-use Rattle.model_line.specs.declared.config.Config.{Config}
 use Rattle.model_line.specs.Request as request
 use Rattle.laws_trace.specs.Managing.{by_type, by_message, Checked, Managed, Due, nothing_due, owes, free_tei, gives, asked, is_checked, without, first_check, may_check, responded, ran_out, by_granted, is_on}
 use Rattle.laws_trace.specs.TeisAreManaged.{is_of_teis, is_of_t201}

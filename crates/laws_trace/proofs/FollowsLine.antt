@@ -1,42 +1,17 @@
 -- What is due of TEI management by one event of a line is what its answer shows, and the observer follows it.
-use Rattle.std.proofs.Common.{◌≡◌, ℕ, ◌==◌, Bool, true, false, cond, List, [], ◌∷◌, ◌++◌, map, take, drop, slice_get, All, filter, Option, Some, None, IfSome, option_map, refl, sym, ap, ◌∙◌, subst, append-nil, true≢false, ◌⊎◌, inl, inr, arith}
-use Rattle.std.specs.Option.{option_map_or, unwrap_or}
-use Rattle.std.proofs.lemmas.List.Elements.{filter-append}
+use Rattle.laws_trace.proofs.Vocabulary.{◌≡◌, ℕ, ◌==◌, Bool, true, false, cond, List, [], ◌∷◌, ◌++◌, map, take, drop, slice_get, All, filter, Option, Some, None, IfSome, option_map, refl, sym, ap, ◌∙◌, subst, append-nil, true≢false, ◌⊎◌, inl, inr, arith, option_map_or, filter-append, Ui, Note, Service, Call, Packet, Timer, T201, Parts, sapi_of, reading-again, Management, Message, LinkTimer, Config, Aim, at_none, at_link, at_management, of_aim, hears, expiry, next, Answer, LineTold, gave, at_timer, orders_in, Line, link_in, link_at, place_in, terms, service_at, aim_of, aim_of_heard, management_sapi, Taken, taken, next_of, line_of, at_requested, at_deactivated, heard_aims, lost_in, IsOwed, IsIdle, contents_of, IsOne, taken-one, served}
+use Rattle.std.specs.Option.{unwrap_or}
 use Rattle.model_bits.specs.Stream as stream
-use Rattle.lapd_frame.specs.declared.controls.Control.TheVariants.{Ui}
-use Rattle.lapd_frame.specs.declared.notes.Note.{Note}
-use Rattle.lapd_frame.specs.declared.services.Service.{Service}
-use Rattle.lapd_frame.specs.declared.services.Service.TheVariants.{Call, Packet}
-use Rattle.lapd_frame.specs.declared.timers.Timer.{Timer}
-use Rattle.lapd_frame.specs.declared.timers.Timer.TheVariants.{T200, T203, T201}
-use Rattle.lapd_frame.specs.Grammar.{Parts}
-use Rattle.lapd_frame.specs.Services.{sapi_of}
-use Rattle.lapd_frame.proofs.Spelling.{reading-again}
+use Rattle.lapd_frame.specs.declared.timers.Timer.TheVariants.{T200, T203}
 use Rattle.lapd_tei.specs.Events as teis
-use Rattle.lapd_tei.specs.Machine.{Management}
-use Rattle.lapd_tei.specs.declared.messages.Message.{Message}
 use Rattle.lapd_tei.specs.Messages.{frame_of, information_of}
 use Rattle.lapd_tei.specs.Words.{Course}
 use Rattle.model_link.specs.Events as link
 use Rattle.model_link.specs.Machine as links
-use Rattle.model_link.specs.declared.timers.LinkTimer.{LinkTimer}
 use Rattle.model_link.specs.declared.timers.LinkTimer.TheVariants as link_timer
-use Rattle.model_line.specs.declared.config.Config.{Config}
-use Rattle.model_line.specs.Effect.{Aim, at_none, at_link, at_management, of_aim}
-use Rattle.model_line.specs.Event.{Event, hears, expiry, next, Answer, LineTold, told, gave, nothing}
-use Rattle.model_line.specs.Expiry.{at_timer}
-use Rattle.model_line.specs.Laws.{orders_in}
-use Rattle.model_line.specs.Line.{Line, link_in, link_at, place_in, terms, service_at}
-use Rattle.model_line.specs.Machine.{after, answer, aim_of}
-use Rattle.model_line.specs.Heard.{aim_of_heard, management_sapi}
-use Rattle.model_line.specs.Taken.{Taken, taken, next_of, line_of}
-use Rattle.model_line.specs.Requested.{at_requested, at_deactivated}
+use Rattle.model_line.specs.Event.{Event, told, nothing}
+use Rattle.model_line.specs.Machine.{after, answer}
 use Rattle.model_line.specs.Sound.{IsSound}
-use Rattle.model_line.proofs.ProperAims.{heard_aims}
-use Rattle.laws_line.specs.Frames.{lost_in}
-use Rattle.laws_line.specs.Served.{IsOwed, IsIdle, contents_of}
-use Rattle.laws_line.proofs.LinkMoves.{IsOne, taken-one}
-use Rattle.laws_line.proofs.Serving.{served}
 use Rattle.laws_trace.specs.Managing.{Managed, Due, nothing_due, by_message, message_in, ran_out, due}
 use Rattle.laws_trace.specs.TeisAreManaged.{is_of_teis, is_of_t201, of_management, is_message, IsAsDue}
 use Rattle.laws_trace.specs.Trace.{frame_in}

@@ -1,27 +1,14 @@
 -- What is due of TEI management by a request, and by any event of a line, is what its answer shows.
-use Rattle.std.proofs.Common.{◌≡◌, ℕ, ◌==◌, ◌&&◌, Bool, true, false, cond, not, List, [], ◌∷◌, length, Option, Some, None, IfSome, is_some, refl, sym, ap, ◌∙◌, subst, true≢false, inl, arith}
-use Rattle.std.proofs.lemmas.Bool.{leb-true, leb-false, ltb-true, ltb-false}
-use Rattle.std.specs.Prelude.{nat_le, nat_lt}
-use Rattle.std.specs.List.{list_any}
-use Rattle.lapd_frame.specs.declared.refusals.Refusal.{Refusal}
+use Rattle.laws_trace.proofs.Vocabulary.{◌≡◌, ℕ, ◌==◌, ◌&&◌, Bool, true, false, cond, not, List, [], ◌∷◌, length, Option, Some, None, IfSome, is_some, refl, sym, ap, ◌∙◌, subst, true≢false, inl, arith, leb-true, leb-false, nat_le, nat_lt, list_any, Refusal, Management, free_place, on-range, Config, at_management, of_aim, hears, expiry, request, next, Line, place_in, has_tei, unless_refused, unless_refused_told, wrong_side, bad_tei, no_link, tei_taken, table_full, check_running, control_full, Assign, Remove, Deactivate, aim_of_request, has_management, is_granted, passed}
+use Rattle.std.proofs.lemmas.Bool.{ltb-true, ltb-false}
 use Rattle.lapd_tei.specs.Events as teis
-use Rattle.lapd_tei.specs.Machine.{Management}
-use Rattle.lapd_tei.specs.Table.{free_place}
 use Rattle.lapd_tei.specs.Words.{Course, begun}
-use Rattle.lapd_tei.proofs.Tables.{on-range}
 use Rattle.model_link.specs.Events as link
-use Rattle.model_line.specs.declared.config.Config.{Config}
-use Rattle.model_line.specs.Effect.{at_management, of_aim}
-use Rattle.model_line.specs.Event.{Event, hears, expiry, request, next, told}
-use Rattle.model_line.specs.Line.{Line, place_in, has_tei}
-use Rattle.model_line.specs.Machine.{after, answer, unless_refused, unless_refused_told}
-use Rattle.model_line.specs.Refusal.{refusal, wrong_side, bad_tei, no_link, tei_taken, table_full, check_running, control_full}
-use Rattle.model_line.specs.Request.{Request, Establish, Release, Data, Assign, Remove, Check, SetBusy, ClearBusy, Deactivate}
-use Rattle.model_line.specs.Requested.{aim_of_request}
-use Rattle.model_line.specs.Sides.{has_management}
+use Rattle.model_line.specs.Event.{Event, told}
+use Rattle.model_line.specs.Machine.{after, answer}
+use Rattle.model_line.specs.Refusal.{refusal}
+use Rattle.model_line.specs.Request.{Request, Establish, Release, Data, Check, SetBusy, ClearBusy}
 use Rattle.model_line.specs.Sound.{IsSound}
-use Rattle.laws_line.specs.Share.{is_granted}
-use Rattle.laws_line.proofs.Asked.{passed}
 use Rattle.laws_trace.specs.Managing.{Managed, nothing_due, is_grantable, by_granted, due}
 use Rattle.laws_trace.specs.TeisAreManaged.{IsGrantedSo}
 use Rattle.laws_trace.proofs.Follows.{Follows, Leads, InOrder, as_seen, here, assign-leads, remove-leads, begins-check, may-is, fewer-on, all-on}

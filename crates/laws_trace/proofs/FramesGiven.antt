@@ -1,25 +1,12 @@
 -- Which events of a line give a frame: of a link, only an offer.
-use Rattle.std.proofs.Common.{◌≡◌, ℕ, List, [], map, Option, Some, None, refl}
-use Rattle.std.specs.Prelude.{option_to_list}
+use Rattle.laws_trace.proofs.Vocabulary.{◌≡◌, ℕ, List, [], map, Option, Some, None, refl, option_to_list, Service, Timer, Terms, Link, LinkTimer, Config, Aim, at_none, at_link, at_management, at_units, at_timer, aim_of_expiry, Line, place_in, link_of, terms, aim_of_heard, Assign, Remove, Deactivate, at_requested, at_deactivated, aim_of_request, heard_aims}
 use Rattle.model_bits.specs.Stream as stream
-use Rattle.lapd_frame.specs.declared.services.Service.{Service}
-use Rattle.lapd_frame.specs.declared.timers.Timer.{Timer}
 use Rattle.lapd_frame.specs.declared.timers.Timer.TheVariants as timers
-use Rattle.model_link.specs.declared.terms.Terms.{Terms}
 use Rattle.model_link.specs.Events as link
-use Rattle.model_link.specs.Link.{Link}
 use Rattle.model_link.specs.Machine as links
-use Rattle.model_link.specs.declared.timers.LinkTimer.{LinkTimer}
 use Rattle.model_link.specs.declared.timers.LinkTimer.TheVariants as link_timer
-use Rattle.model_line.specs.declared.config.Config.{Config}
-use Rattle.model_line.specs.Effect.{Aim, at_none, at_link, at_management, at_units}
-use Rattle.model_line.specs.Expiry.{at_timer, aim_of_expiry}
-use Rattle.model_line.specs.Line.{Line, place_in, link_of, terms}
-use Rattle.model_line.specs.Heard.{aim_of_heard}
 use Rattle.model_line.specs.Taken.{frame_of}
-use Rattle.model_line.specs.Request.{Request, Establish, Release, Data, Assign, Remove, Check, SetBusy, ClearBusy, Deactivate}
-use Rattle.model_line.specs.Requested.{at_requested, at_deactivated, aim_of_request}
-use Rattle.model_line.proofs.ProperAims.{heard_aims}
+use Rattle.model_line.specs.Request.{Request, Establish, Release, Data, Check, SetBusy, ClearBusy}
 
 -- The frame that an offer of a link gives; no other event gives one.
 abbrev pub frames_given : Config → Terms → link.Event → Link → List (List ℕ)

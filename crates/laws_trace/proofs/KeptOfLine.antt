@@ -1,42 +1,17 @@
 -- What an event of a line leaves of the contents that a link keeps.
-use Rattle.std.proofs.Common.{◌≡◌, ℕ, ◌%◌, Bool, true, false, cond, not, List, [], ◌∷◌, ◌++◌, ◌&&◌, ◌||◌, drop, Some, None, refl, sym, ap, ◌∙◌, subst, ◌⊎◌, inl, inr, arith, append-nil}
-use Rattle.std.specs.Prelude.{All, is_some}
-use Rattle.std.specs.List.{list_any}
-use Rattle.std.specs.Option.{option_map_or}
-use Rattle.std.proofs.lemmas.List.Elements.{All-head, All-tail}
-use Rattle.std.proofs.lemmas.Option.{none-some}
-use Rattle.lapd_frame.specs.declared.notes.Note.{Note}
+use Rattle.laws_trace.proofs.Vocabulary.{◌≡◌, ℕ, ◌%◌, Bool, true, false, cond, not, List, [], ◌∷◌, ◌++◌, ◌&&◌, ◌||◌, drop, Some, None, refl, sym, ap, ◌∙◌, subst, ◌⊎◌, inl, inr, arith, append-nil, All, is_some, list_any, option_map_or, All-head, All-tail, none-some, Note, WrongState, Service, place_of-is, is_on-at, not_not, accepted, ends, is_release, tells_loss, empties, Terms, Link, is_multiple_frame, queue_of, state_number, notes-own, Config, at_link, Answer, hears, expiry, request, next, Line, has_tei, link_in, link_of, place_in, terms, aim_of, unless_refused, bad_tei, no_link, wrong_state, Assign, Remove, Deactivate, at_requested, at_deactivated, aim_of_request, IsInRange, terms_in_range, notes_of, is_loss_of, is_granted, IsBy, link-grants, passed, not-refused}
 use Rattle.lapd_frame.specs.declared.notes.Note.TheVariants as notes
-use Rattle.lapd_frame.specs.declared.refusals.Refusal.TheVariants.{WrongState}
-use Rattle.lapd_frame.specs.declared.services.Service.{Service}
-use Rattle.lapd_tei.proofs.Tables.{place_of-is, is_on-at, not_not}
-use Rattle.laws_link.specs.Accepted.{accepted, ends, is_release, tells_loss, empties}
-use Rattle.model_link.specs.declared.terms.Terms.{Terms}
 use Rattle.model_link.specs.Events as link
-use Rattle.model_link.specs.Link.{Link, fresh as fresh_link, is_multiple_frame, queue_of, state_number}
+use Rattle.model_link.specs.Link.{fresh as fresh_link}
 use Rattle.model_link.specs.Machine as links
 use Rattle.model_link.specs.Requests as requests
 use Rattle.model_link.specs.Sound as link_sound
-use Rattle.model_link.proofs.OwnNotes.{notes-own}
-use Rattle.model_line.specs.declared.config.Config.{Config}
-use Rattle.model_line.specs.Effect.{at_link}
 use Rattle.model_line.specs.Event as line_event
-use Rattle.model_line.specs.Event.{Answer, hears, expiry, request, next}
-use Rattle.model_line.specs.Line.{Line, has_tei, link_in, link_of, place_in, terms}
 use Rattle.model_line.specs.Machine as lines
-use Rattle.model_line.specs.Machine.{aim_of, unless_refused}
-use Rattle.model_line.specs.Refusal.{refusal, bad_tei, no_link, wrong_state}
-use Rattle.model_line.specs.Request.{Request, Establish, Release, Data, Assign, Remove, Check, SetBusy, ClearBusy, Deactivate}
-use Rattle.model_line.specs.Requested.{at_requested, at_deactivated, aim_of_request}
-use Rattle.model_line.specs.Sound.{IsInRange, IsSound}
-use Rattle.model_line.proofs.Ranges.{terms_in_range}
-use Rattle.laws_line.specs.Heard.{notes_of}
-use Rattle.laws_line.specs.Loss.{is_loss_of}
+use Rattle.model_line.specs.Refusal.{refusal}
+use Rattle.model_line.specs.Request.{Request, Establish, Release, Data, Check, SetBusy, ClearBusy}
+use Rattle.model_line.specs.Sound.{IsSound}
 use Rattle.laws_line.specs.Requests.{of_link}
-use Rattle.laws_line.specs.Share.{is_granted}
-use Rattle.laws_line.specs.Steady.{IsBy}
-use Rattle.laws_line.proofs.Asked.{link-grants, passed}
-use Rattle.laws_line.proofs.Granting.{not-refused}
 use Rattle.laws_trace.specs.News.{brings, is_news, is_sabme}
 use Rattle.laws_trace.specs.Observer.{steps}
 use Rattle.laws_trace.specs.Outgoing.{data_asked, is_release_of}

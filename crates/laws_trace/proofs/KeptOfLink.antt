@@ -1,37 +1,14 @@
 -- What an event of a link leaves of the contents that it keeps, and how far V(A) goes on.
-use Rattle.std.proofs.Common.{◌≡◌, ℕ, ◌+◌, ◌-◌, ◌%◌, ◌≤◌, Bool, true, false, cond, not, List, [], ◌∷◌, ◌++◌, ◌&&◌, ◌||◌, ◌==◌, length, drop, Option, Some, None, is_some, refl, sym, ap, ◌∙◌, subst, arith, eq-eqb, true≢false}
-use Rattle.std.specs.Prelude.{All, nat_lt}
-use Rattle.std.specs.List.{list_any}
-use Rattle.std.specs.Option.{option_map_or}
-use Rattle.std.proofs.lemmas.List.Elements.{All-head, All-tail}
-use Rattle.std.proofs.lemmas.Option.{none-some}
+use Rattle.laws_trace.proofs.Vocabulary.{◌≡◌, ℕ, ◌+◌, ◌-◌, ◌%◌, ◌≤◌, Bool, true, false, cond, not, List, [], ◌∷◌, ◌++◌, ◌&&◌, ◌||◌, ◌==◌, length, drop, Option, Some, None, is_some, refl, sym, ap, ◌∙◌, subst, arith, eq-eqb, true≢false, All, nat_lt, list_any, option_map_or, All-head, All-tail, none-some, Information, ReceiveReady, ReceiveNotReady, Reject, Sabme, Disc, Ui, Ua, Dm, Frmr, Note, Service, Parts, same_service, Seq, named, State, TeiAssigned, AwaitingEstablishment, AwaitingRelease, Established, TimerRecovery, Terms, restarts, MayEstablish, received, undefined, wrong_size, overlong, expired, requested, offer, cleared, Link, is_multiple_frame, queue_of, state_number, frame_in, accepted, acknowledged_by, beyond, number_of, number_received, ends, empties, is_loss, tells_loss, with_share, as_heard, by_frame, is_faulty, is_invalid, is_overlong, receipt_of, state_after, event-follows, event-done, establishes, is_loss_of, service-same}
 use Rattle.lapd_frame.specs.declared.controls.Control.{Control}
-use Rattle.lapd_frame.specs.declared.controls.Control.TheVariants.{Information, ReceiveReady, ReceiveNotReady, Reject, Sabme, Disc, Ui, Ua, Dm, Frmr, Xid}
-use Rattle.lapd_frame.specs.declared.notes.Note.{Note}
+use Rattle.lapd_frame.specs.declared.controls.Control.TheVariants.{Xid}
 use Rattle.lapd_frame.specs.declared.notes.Note.TheVariants as notes
-use Rattle.lapd_frame.specs.declared.services.Service.{Service}
-use Rattle.lapd_frame.specs.Grammar.{Parts}
-use Rattle.lapd_frame.specs.Services.{same_service}
-use Rattle.lapd_seq.specs.declared.numbers.Seq.{Seq}
-use Rattle.lapd_seq.specs.Circle.{named}
-use Rattle.model_link.specs.declared.states.State.{State}
-use Rattle.model_link.specs.declared.states.State.TheVariants.{TeiAssigned, AwaitingEstablishment, AwaitingRelease, Established, TimerRecovery}
-use Rattle.model_link.specs.declared.terms.Terms.{Terms}
-use Rattle.model_link.specs.Deliveries.{restarts, MayEstablish}
-use Rattle.model_link.specs.Events.{Event, received, frame, undefined, wrong_size, overlong, expired, requested, offer, cleared}
-use Rattle.model_link.specs.Link.{Link, is_multiple_frame, queue_of, state_number}
-use Rattle.model_link.specs.Machine.{after, frame_in, told}
+use Rattle.model_link.specs.Events.{Event, frame}
+use Rattle.model_link.specs.Machine.{after, told}
 use Rattle.model_link.specs.Notes.{IsOwn}
 use Rattle.model_link.specs.Sound.{IsSound}
 use Rattle.model_link.specs.Steps.{begun}
-use Rattle.laws_link.specs.Accepted.{accepted, acknowledged, acknowledged_by, beyond, number_of, number_received, ends, empties, is_loss, tells_loss}
-use Rattle.laws_link.specs.History.{with_share}
-use Rattle.laws_link.specs.States.{as_heard, by_frame, is_faulty, is_invalid, is_overlong, receipt_of, state_after}
-use Rattle.laws_link.proofs.Follows.{event-follows}
-use Rattle.laws_link.proofs.Keeping.{event-done}
-use Rattle.laws_link.proofs.Restarts.{establishes}
-use Rattle.laws_line.specs.Loss.{is_loss_of}
-use Rattle.laws_line.proofs.Obeyed.{service-same}
+use Rattle.laws_link.specs.Accepted.{acknowledged}
 use Rattle.laws_trace.specs.News.{is_sabme}
 use Rattle.laws_trace.specs.Observer.{steps}
 use Rattle.laws_trace.specs.Trace.{is_up}

@@ -1,4 +1,5 @@
 -- Lemmas.
+pub mod Vocabulary
 pub mod Counting
 pub mod States
 pub mod DeliveriesWatched

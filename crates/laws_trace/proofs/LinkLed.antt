@@ -1,44 +1,16 @@
 -- Which state a link moves to: one event of a line, by what is seen of it.
-use Rattle.std.proofs.Common.{◌≡◌, ℕ, ◌==◌, ◌&&◌, Bool, true, false, cond, List, [], ◌∷◌, ◌++◌, length, map, Option, Some, None, Result, Ok, Err, refl, sym, ap, ◌∙◌, eqb-true, eq-eqb, true≢false, ◌⊎◌, inl, inr}
-use Rattle.std.specs.Prelude.{fold, is_some, nat_lt}
-use Rattle.std.specs.Option.{option_map_or}
+use Rattle.laws_trace.proofs.Vocabulary.{◌≡◌, ℕ, ◌==◌, ◌&&◌, Bool, true, false, cond, List, [], ◌∷◌, ◌++◌, length, map, Option, Some, None, Result, Ok, Err, refl, sym, ap, ◌∙◌, eq-eqb, true≢false, ◌⊎◌, inl, inr, fold, is_some, nat_lt, option_map_or, Unserved, Address, ReadFault, BadExtension, Undefined, WrongSize, Short, ErrorCode, L, N, O, Long, Refusal, Service, Timer, Parts, reading, long_reading, sapi_of, service_of, same_service, place_of-is, is_on-at, LinkTimer, Config, Aim, Effect, at_link, hears, expiry, request, next, Answer, refused, gave, aim_of_expiry, at_timer, Line, has_tei, place_in, terms, aim_of, unless_refused, unless_refused_told, of_request, heard_side, addressed, aim_of_heard, aim_of_reading, aim_of_long, drop_for, message_of, Assign, Remove, Deactivate, aim_of_request, at_requested, at_deactivated, at_side, IsMalformed, IsTooLong, is_granted, IsBy, BringsMalformed, timer_of, IsDeactivated, addressed-is, sapi-is, service-same, both-true}
+use Rattle.std.proofs.Common.{eqb-true}
 use Rattle.model_bits.specs.Stream as stream
-use Rattle.model_bits.specs.declared.heard.Cause.TheVariants.{Unserved}
-use Rattle.lapd_frame.specs.declared.addresses.Address.{Address}
-use Rattle.lapd_frame.specs.declared.faults.ReadFault.{ReadFault}
-use Rattle.lapd_frame.specs.declared.faults.ReadFault.TheVariants.{BadExtension, Undefined, WrongSize, Short}
-use Rattle.lapd_frame.specs.declared.notes.ErrorCode.{ErrorCode}
-use Rattle.lapd_frame.specs.declared.notes.ErrorCode.TheVariants.{L, N, O}
-use Rattle.lapd_frame.specs.declared.overlong.Long.{Long}
 use Rattle.lapd_frame.specs.declared.overlong.Long.TheVariants as long
-use Rattle.lapd_frame.specs.declared.refusals.Refusal.{Refusal}
-use Rattle.lapd_frame.specs.declared.services.Service.{Service}
-use Rattle.lapd_frame.specs.declared.timers.Timer.{Timer}
 use Rattle.lapd_frame.specs.declared.timers.Timer.TheVariants as timers
-use Rattle.lapd_frame.specs.Grammar.{Parts}
-use Rattle.lapd_frame.specs.Reading.{reading, long_reading}
-use Rattle.lapd_frame.specs.Services.{sapi_of, service_of, same_service}
-use Rattle.lapd_tei.proofs.Tables.{place_of-is, is_on-at}
-use Rattle.model_link.specs.declared.timers.LinkTimer.{LinkTimer}
 use Rattle.model_link.specs.declared.timers.LinkTimer.TheVariants.{T200, T203}
 use Rattle.model_link.specs.Events as link
-use Rattle.model_line.specs.declared.config.Config.{Config}
-use Rattle.model_line.specs.Effect.{Aim, Effect, at_link}
-use Rattle.model_line.specs.Event.{Event, hears, expiry, request, next, Answer, told, refused, gave}
-use Rattle.model_line.specs.Expiry.{aim_of_expiry, at_timer}
-use Rattle.model_line.specs.Line.{Line, has_tei, place_in, terms}
-use Rattle.model_line.specs.Machine.{aim_of, answer, unless_refused, unless_refused_told, of_request}
-use Rattle.model_line.specs.Heard.{heard_side, addressed, aim_of_heard, aim_of_reading, aim_of_long, drop_for, message_of}
+use Rattle.model_line.specs.Event.{Event, told}
+use Rattle.model_line.specs.Machine.{answer}
 use Rattle.model_line.specs.Refusal.{refusal}
-use Rattle.model_line.specs.Request.{Request, Establish, Release, Data, Assign, Remove, Check, SetBusy, ClearBusy, Deactivate}
-use Rattle.model_line.specs.Requested.{aim_of_request, at_requested, at_deactivated}
-use Rattle.model_line.specs.Sides.{at_side}
+use Rattle.model_line.specs.Request.{Request, Establish, Release, Data, Check, SetBusy, ClearBusy}
 use Rattle.laws_line.specs.Requests as requests
-use Rattle.laws_line.specs.Heard.{IsMalformed, IsTooLong}
-use Rattle.laws_line.specs.Share.{is_granted}
-use Rattle.laws_line.specs.Steady.{IsBy, BringsMalformed, timer_of, IsDeactivated}
-use Rattle.laws_line.proofs.Hearing.{addressed-is, sapi-is}
-use Rattle.laws_line.proofs.Obeyed.{service-same, both-true}
 use Rattle.laws_trace.specs.LinkFrames.{parts_of, is_for, faulty, faulty_long}
 use Rattle.laws_trace.proofs.MovesWatched.{by_frame, by_parts, by_request, by_seen, by_expiry, led}
 use Rattle.laws_trace.proofs.States.{expired_of, one_more}

@@ -1,36 +1,18 @@
 -- Links take turns: over runs of a card of which a line is only called for its next frame.
-use Rattle.std.proofs.Common.{◌≡◌, ℕ, ◌<◌, ⊎_elim, true, false, cond, List, [], ◌∷◌, ◌++◌, get_or, map, Option, Some, None, option_map, refl, sym, ap, ◌∙◌, subst, inl, inr, arith, true≢false}
-use Rattle.std.specs.Prelude.{filter}
+use Rattle.laws_trace.proofs.Vocabulary.{◌≡◌, ℕ, ◌<◌, ⊎_elim, true, false, cond, List, [], ◌∷◌, ◌++◌, get_or, map, Option, Some, None, option_map, refl, sym, ap, ◌∙◌, subst, inl, inr, arith, true≢false, filter, cases_eq, map-append, get_or-set_other, filter-append, Service, Call, Packet, sapi_of, Link, IsInOrder, Config, next, gave, Line, link_count, link_at, place_at, service_at, terms, Taken, taken, next_of, ranges_of, IsSilent, IsSilentAt, IsOfLink, IsOwed, IsIdle, contents_of, next-moves, served, line_at, moments, config-stays}
 use Rattle.std.specs.Option.{unwrap_or}
-use Rattle.std.proofs.lemmas.Bool.{cases_eq}
-use Rattle.std.proofs.lemmas.List.{map-append, get_or-set_other}
-use Rattle.std.proofs.lemmas.List.Elements.{filter-append}
-use Rattle.lapd_frame.specs.declared.services.Service.{Service}
-use Rattle.lapd_frame.specs.declared.services.Service.TheVariants.{Call, Packet}
-use Rattle.lapd_frame.specs.Services.{sapi_of}
 use Rattle.lapd_tei.specs.Messages.{information_of}
-use Rattle.model_link.specs.Link.{Link}
 use Rattle.model_link.specs.Link.{fresh as fresh_link}
-use Rattle.laws_link.specs.InOrder.{IsInOrder}
-use Rattle.model_line.specs.declared.config.Config.{Config}
-use Rattle.model_line.specs.Event.{next, gave}
-use Rattle.model_line.specs.Line.{Line, link_count, link_at, place_at, service_at, terms}
 use Rattle.model_line.specs.Machine as lines
-use Rattle.model_line.specs.Taken.{Taken, taken, next_of}
 use Rattle.model_line.specs.Sound as line
-use Rattle.model_line.proofs.Ranges.{ranges_of}
-use Rattle.laws_line.specs.Served.{IsSilent, IsSilentAt, IsOfLink, IsOwed, IsIdle, contents_of}
-use Rattle.laws_line.proofs.Leaving.{next-moves}
-use Rattle.laws_line.proofs.Serving.{served}
-use Rattle.model_card.specs.Card.{fresh, line_at}
-use Rattle.model_card.specs.Run.{moments, after_all}
+use Rattle.model_card.specs.Card.{fresh}
+use Rattle.model_card.specs.Run.{after_all}
 use Rattle.laws_trace.specs.Trace.{frame_in, Always, seen, trace, frames_begun}
 use Rattle.laws_trace.specs.LinksTakeTurns.{TakeTurns, LinkName, named_in, is_of_a_link, links_begun, LinksTakeTurns}
 use Rattle.laws_trace.proofs.CallRuns.{called-behind}
 use Rattle.laws_trace.proofs.Turns.{link-frame, ui-frame, name-is}
 use Rattle.laws_trace.proofs.Units.{NoneWaits, plain-order, first-of, given-frames}
 use Rattle.laws_trace.proofs.Walking.{named, Stays, Walk, still, goes, ends, take-turns}
-use Rattle.laws_line.proofs.OfCard.Wherever.{config-stays}
 
 small-sapi : (service : Service) → sapi_of service < 64
 small-sapi Call = omega arith

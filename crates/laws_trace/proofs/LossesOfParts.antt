@@ -1,20 +1,10 @@
 -- What a link tells as lost found no room; and what holds of the rows of TEI management for each message of a terminal.
-use Rattle.std.proofs.Common.{◌≡◌, ℕ, ◌+◌, ◌-◌, ◌*◌, ◌/◌, ◌%◌, ◌<◌, ◌≤◌, ◌==◌, ◌&&◌, Bool, true, false, cond, List, [], ◌∷◌, length, take, drop, refl, ap, ◌∙◌, subst, arith, length-append, length-take-le}
-use Rattle.std.specs.Prelude.{nat_le}
-use Rattle.std.proofs.lemmas.Bool.{leb-true, leb-false}
-use Rattle.std.proofs.lemmas.List.{drop_all}
-use Rattle.lapd_tei.specs.Machine.{Management}
-use Rattle.lapd_tei.specs.Messages.{heard_of_type, heard_in}
+use Rattle.laws_trace.proofs.Vocabulary.{◌≡◌, ℕ, ◌+◌, ◌-◌, ◌*◌, ◌/◌, ◌%◌, ◌<◌, ◌≤◌, ◌==◌, ◌&&◌, Bool, true, false, cond, List, [], ◌∷◌, length, take, drop, refl, ap, ◌∙◌, subst, arith, length-append, length-take-le, nat_le, leb-true, leb-false, drop_all, Management, heard_of_type, heard_in, no_room, lost_after, as_heard, put, behind, waiting_left, event-follows, ControlFrame, Terms, Link}
 use Rattle.lapd_tei.specs.Rows as rows
 use Rattle.lapd_tei.specs.Words as words
-use Rattle.lapd_tei.specs.Words.{Course, begun, no_room, with_message, lost_after}
-use Rattle.laws_link.specs.States.{as_heard}
-use Rattle.laws_link.specs.Waiting.{put, room, behind, waiting_left}
-use Rattle.laws_link.proofs.Follows.{event-follows}
-use Rattle.model_link.specs.declared.frames.ControlFrame.{ControlFrame}
-use Rattle.model_link.specs.declared.terms.Terms.{Terms}
+use Rattle.lapd_tei.specs.Words.{Course, begun, with_message}
+use Rattle.laws_link.specs.Waiting.{room}
 use Rattle.model_link.specs.Events as link
-use Rattle.model_link.specs.Link.{Link}
 use Rattle.model_link.specs.Machine as links
 use Rattle.model_link.specs.Sound as link_sound
 use Rattle.laws_trace.proofs.CommandsCaused.{IsNoOther}

@@ -1,29 +1,16 @@
 -- What an event of TEI management is to the link of a service with a TEI: it stays as it is, or its TEI comes or
 -- leaves; and none of its timers is started.
-use Rattle.std.proofs.Common.{◌≡◌, ℕ, ◌==◌, Bool, true, false, List, ◌++◌, Option, Some, None, refl, sym, ap, ◌∙◌, eqb-true, eq-eqb, true≢false, ◌⊎◌, inl, inr}
-use Rattle.std.specs.Prelude.{is_some}
-use Rattle.std.proofs.lemmas.Option.{none-some}
-use Rattle.lapd_frame.specs.declared.services.Service.{Service}
-use Rattle.lapd_frame.specs.declared.timers.Order.{Order}
-use Rattle.lapd_frame.specs.declared.services.Service.TheVariants.{Call, Packet}
+use Rattle.laws_trace.proofs.Vocabulary.{◌≡◌, ℕ, ◌==◌, Bool, true, false, List, ◌++◌, Option, Some, None, refl, sym, ap, ◌∙◌, eq-eqb, true≢false, ◌⊎◌, inl, inr, is_some, none-some, Service, Order, Call, Packet, Management, IsSoundTable, Change, Gained, Left, t201_follows, Link, Config, told_of_management, of_change, Line, has_tei, link_in, link_of, terms, some-same, is-off, has-no-place}
+use Rattle.std.proofs.Common.{eqb-true}
 use Rattle.lapd_tei.specs.Events as teis
 use Rattle.lapd_tei.specs.Laws as tei_laws
-use Rattle.lapd_tei.specs.Machine.{Management}
-use Rattle.lapd_tei.specs.Sound.{IsSoundTable}
-use Rattle.lapd_tei.specs.declared.outcome.Change.{Change}
-use Rattle.lapd_tei.specs.declared.outcome.Change.TheVariants.{Gained, Left}
 use Rattle.lapd_tei.proofs.LawLemmas as tei_lemmas
-use Rattle.lapd_tei.proofs.Followed.{t201_follows}
 use Rattle.model_link.specs.Events as link
-use Rattle.model_link.specs.Link.{Link, fresh}
+use Rattle.model_link.specs.Link.{fresh}
 use Rattle.model_link.specs.Machine as links
-use Rattle.model_line.specs.declared.config.Config.{Config}
-use Rattle.model_line.specs.Effect.{of_link, told_of_management, of_change}
-use Rattle.model_line.specs.Line.{Line, has_tei, link_in, link_of, terms}
+use Rattle.model_line.specs.Effect.{of_link}
 use Rattle.model_line.specs.Machine.{after}
 use Rattle.model_line.specs.Sound.{IsSound}
-use Rattle.laws_line.proofs.Following.{some-same}
-use Rattle.laws_line.proofs.Places.{is-off, has-no-place}
 use Rattle.laws_line.proofs.Readings as read
 use Rattle.laws_trace.proofs.OrdersOfLink.{StartNone, two-start-none, management-starts-none, cleared-starts-none}
 

@@ -1,16 +1,8 @@
 -- The table of TEIs, and the list of those on a line that an observer has: what is on it after a TEI came or left, and how
 -- many are.
-use Rattle.std.proofs.Common.{◌≡◌, ℕ, zero, suc, ◌+◌, ◌<◌, ◌≤◌, ◌==◌, ◌&&◌, ◌||◌, Bool, true, false, cond, not, List, [], ◌∷◌, length, replicate, set, get_or, Option, Some, None, refl, sym, ap, ◌∙◌, subst, arith, eqb-true, eq-eqb, true≢false}
-use Rattle.std.specs.Prelude.{filter, nat_lt}
-use Rattle.std.specs.List.{list_any, prefix_len}
+use Rattle.laws_trace.proofs.Vocabulary.{◌≡◌, ℕ, zero, suc, ◌+◌, ◌<◌, ◌≤◌, ◌==◌, ◌&&◌, ◌||◌, Bool, true, false, cond, not, List, [], ◌∷◌, length, replicate, set, get_or, Option, Some, None, refl, sym, ap, ◌∙◌, subst, arith, eq-eqb, true≢false, filter, nat_lt, list_any, prefix_len, any-filter_same, none-some, IsAt, IsSoundTable, Places, is_free, has, is_on, place_of, free_place, freed, place_of-is, is_on-at, free_place-is, is-off}
+use Rattle.std.proofs.Common.{eqb-true}
 use Rattle.std.proofs.lemmas.Bool.{ltb-false}
-use Rattle.std.proofs.lemmas.Map.Views.{any-filter_same}
-use Rattle.std.proofs.lemmas.Option.{none-some}
-use Rattle.lapd_tei.specs.Sound.{IsAt, IsSoundTable}
-use Rattle.lapd_tei.specs.Table.{Places, is_free, has, is_on, place_of, free_place}
-use Rattle.lapd_tei.specs.Words.{freed}
-use Rattle.lapd_tei.proofs.Tables.{place_of-is, is_on-at, free_place-is}
-use Rattle.laws_line.proofs.Places.{is-off}
 
 -- A TEI that comes.
 swap : (a b c : Bool) → (a || (b || c)) ≡ (b || (a || c))

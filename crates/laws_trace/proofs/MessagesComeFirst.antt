@@ -1,26 +1,11 @@
 -- Messages of TEI management come first, then unit data, then frames of links: in calls alone.
-use Rattle.std.proofs.Common.{◌≡◌, ℕ, ◌≤◌, ◌<◌, true, false, cond, List, [], ◌∷◌, ◌++◌, slice_get, Option, Some, None, option_map, refl, sym, ap, ◌∙◌, subst, inl, inr, arith}
-use Rattle.std.specs.Prelude.{All}
+use Rattle.laws_trace.proofs.Vocabulary.{◌≡◌, ℕ, ◌≤◌, ◌<◌, true, false, cond, List, [], ◌∷◌, ◌++◌, slice_get, Option, Some, None, option_map, refl, sym, ap, ◌∙◌, subst, inl, inr, arith, All, All-nil, All-cons, All-head, Side, Address, Ui, Service, Call, Packet, sapi_of, Config, next, gave, Line, service_at, Taken, taken, next_of, moments, all-right, config-stays, IsMessage, IsUnit, IsOfLink, IsOwed, IsIdle, contents_of, served}
 use Rattle.std.specs.Option.{unwrap_or}
-use Rattle.std.proofs.lemmas.List.Elements.{All-nil, All-cons, All-head}
-use Rattle.lapd_frame.specs.declared.addresses.Side.{Side}
-use Rattle.lapd_frame.specs.declared.addresses.Address.{Address}
-use Rattle.lapd_frame.specs.declared.controls.Control.TheVariants.{Ui}
-use Rattle.lapd_frame.specs.declared.services.Service.{Service}
-use Rattle.lapd_frame.specs.declared.services.Service.TheVariants.{Call, Packet}
-use Rattle.lapd_frame.specs.Services.{sapi_of}
 use Rattle.lapd_tei.specs.Messages.{information_of}
-use Rattle.model_line.specs.declared.config.Config.{Config}
-use Rattle.model_line.specs.Event.{next, gave}
-use Rattle.model_line.specs.Line.{Line, service_at}
 use Rattle.model_line.specs.Machine.{after, answer}
-use Rattle.model_line.specs.Taken.{Taken, taken, next_of}
 use Rattle.model_line.specs.Sound.{IsSound}
 use Rattle.model_card.specs.Card.{fresh}
-use Rattle.model_card.specs.Run.{moments, after_all}
-use Rattle.laws_line.proofs.OfCard.Wherever.{all-right, config-stays}
-use Rattle.laws_line.specs.Served.{IsMessage, IsUnit, IsOfLink, IsOwed, IsIdle, contents_of}
-use Rattle.laws_line.proofs.Serving.{served}
+use Rattle.model_card.specs.Run.{after_all}
 use Rattle.laws_trace.specs.LinksTakeTurns.{is_of_a_link}
 use Rattle.laws_trace.specs.MessagesComeFirst.{rank, AreByRank, MessagesComeFirst}
 use Rattle.laws_trace.specs.Trace.{frame_in, Always, seen, frames_begun, trace}

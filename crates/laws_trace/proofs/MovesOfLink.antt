@@ -1,30 +1,12 @@
 -- Which state an event of a link leads to, and how often its command was repeated: by what an observer knows, row by row.
-use Rattle.std.proofs.Common.{◌≡◌, ℕ, ◌+◌, ◌-◌, ◌%◌, ◌≤◌, ◌<◌, ◌==◌, not, Bool, true, false, cond, List, length, Option, Some, None, refl, sym, ap, ◌∙◌, subst, arith, ltb-true, ltb-false}
-use Rattle.std.specs.Prelude.{nat_le, nat_lt, is_some}
-use Rattle.std.proofs.lemmas.Bool.{leb-true, leb-false}
-use Rattle.lapd_frame.specs.declared.addresses.Address.{Address}
+use Rattle.laws_trace.proofs.Vocabulary.{◌≡◌, ℕ, ◌+◌, ◌-◌, ◌%◌, ◌≤◌, ◌<◌, ◌==◌, not, Bool, true, false, cond, List, length, Option, Some, None, refl, sym, ap, ◌∙◌, subst, arith, nat_le, nat_lt, is_some, leb-true, leb-false, Address, Information, ReceiveReady, ReceiveNotReady, Reject, Sabme, Disc, Ui, Ua, Dm, Frmr, Call, Parts, Seq, named, distance_of, seq, HasItsTimer, needed_in, State, TeiAssigned, AwaitingEstablishment, AwaitingRelease, Established, TimerRecovery, Terms, LinkTimer, Received, undefined, wrong_size, overlong, received, expired, requested, offer, cleared, Link, state_number, runs, awaits_answer, repeats_left, as_heard, state_after, moves, is_time, event-follows}
+use Rattle.std.proofs.Common.{ltb-true, ltb-false}
 use Rattle.lapd_frame.specs.declared.controls.Control.{Control}
-use Rattle.lapd_frame.specs.declared.controls.Control.TheVariants.{Information, ReceiveReady, ReceiveNotReady, Reject, Sabme, Disc, Ui, Ua, Dm, Frmr, Xid}
-use Rattle.lapd_frame.specs.declared.services.Service.TheVariants.{Call}
-use Rattle.lapd_frame.specs.Grammar.{Parts}
-use Rattle.lapd_seq.specs.declared.numbers.Seq.{Seq}
-use Rattle.lapd_seq.specs.Circle.{named, distance_of}
-use Rattle.lapd_seq.specs.Numbers.{seq}
-use Rattle.laws_link.specs.two.Needed.{HasItsTimer, needed_in}
-use Rattle.model_link.specs.declared.states.State.{State}
-use Rattle.model_link.specs.declared.states.State.TheVariants.{TeiAssigned, AwaitingEstablishment, AwaitingRelease, Established, TimerRecovery}
-use Rattle.model_link.specs.declared.terms.Terms.{Terms}
-use Rattle.model_link.specs.declared.timers.LinkTimer.{LinkTimer}
+use Rattle.lapd_frame.specs.declared.controls.Control.TheVariants.{Xid}
 use Rattle.model_link.specs.declared.timers.LinkTimer.TheVariants.{T200, T203}
-use Rattle.model_link.specs.Events.{Event, Received, Request, frame, undefined, wrong_size, overlong, Establish, Release, Data, SetBusy, ClearBusy, received, expired, requested, offer, cleared}
-use Rattle.model_link.specs.Link.{Link, state_number}
+use Rattle.model_link.specs.Events.{Event, Request, frame, Establish, Release, Data, SetBusy, ClearBusy}
 use Rattle.model_link.specs.Machine as links
-use Rattle.model_link.specs.Told.{runs}
-use Rattle.laws_link.specs.Flags.{awaits_answer, repeats_left}
 use Rattle.laws_link.specs.States as states
-use Rattle.laws_link.specs.States.{as_heard, state_after, moves}
-use Rattle.laws_link.specs.Waiting.{is_time}
-use Rattle.laws_link.proofs.Follows.{event-follows}
 use Rattle.laws_trace.specs.Trace.{is_up}
 use Rattle.laws_trace.specs.Observer.{steps}
 use Rattle.laws_trace.proofs.MovesWatched.{is_invalid, by_frame, by_expiry}

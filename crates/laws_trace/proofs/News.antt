@@ -1,32 +1,16 @@
 -- What layer 3 is told of establishments and releases: the law.
-use Rattle.std.proofs.Common.{◌≡◌, ℕ, ◌<◌, ◌==◌, ◌&&◌, not, Bool, true, false, cond, List, [], ◌∷◌, get_or, set, Option, Some, None, refl, sym, ap, ◌∙◌, subst, arith, eqb-true, eq-eqb, true≢false}
-use Rattle.std.specs.Prelude.{fold, filter}
-use Rattle.std.specs.List.{list_any}
-use Rattle.std.specs.Option.{option_map_or, unwrap_or}
-use Rattle.std.proofs.lemmas.Bool.{and_parts}
-use Rattle.std.proofs.lemmas.List.{get_or-set_same, get_or-replicate}
-use Rattle.std.proofs.lemmas.List.Elements.{All-head, All-tail}
-use Rattle.lapd_frame.specs.declared.refusals.Refusal.TheVariants.{PoolFull}
-use Rattle.lapd_frame.specs.declared.services.Service.{Service}
-use Rattle.model_link.specs.Link.{Link, fresh as fresh_link}
-use Rattle.model_line.specs.declared.config.Config.{Config}
+use Rattle.laws_trace.proofs.Vocabulary.{◌≡◌, ℕ, ◌<◌, ◌==◌, ◌&&◌, not, Bool, true, false, cond, List, [], ◌∷◌, get_or, set, Option, Some, None, refl, sym, ap, ◌∙◌, subst, arith, eq-eqb, true≢false, fold, filter, list_any, option_map_or, and_parts, get_or-set_same, get_or-replicate, All-head, All-tail, PoolFull, Service, Link, Config, hears, expiry, request, next, Answer, refused, Line, fresh_line, link_of, link_in, state_of, IsInRange, Assign, Remove, Deactivate, Card, line_at, is_full, at, moments, fresh_is_sound, after_is_sound, has_lines, by_room, line_sound, AllHaveTheirTimers, timely-after, begins-timely-card, notes_of, nowhere}
+use Rattle.std.proofs.Common.{eqb-true}
+use Rattle.std.specs.Option.{unwrap_or}
+use Rattle.model_link.specs.Link.{fresh as fresh_link}
 use Rattle.model_line.specs.Event as line_event
-use Rattle.model_line.specs.Event.{hears, expiry, request, next, Answer, refused}
-use Rattle.model_line.specs.Line.{Line, fresh_line, link_of, link_in, state_of}
 use Rattle.model_line.specs.Machine as lines
-use Rattle.model_line.specs.Sound.{IsInRange}
-use Rattle.model_line.specs.Request.{Request, Establish, Release, Data, Assign, Remove, Check, SetBusy, ClearBusy, Deactivate}
-use Rattle.model_card.specs.Card.{Card, fresh, line_at, is_full}
-use Rattle.model_card.specs.Event.{Event, at}
+use Rattle.model_line.specs.Request.{Request, Establish, Release, Data, Check, SetBusy, ClearBusy}
+use Rattle.model_card.specs.Card.{fresh}
+use Rattle.model_card.specs.Event.{Event}
 use Rattle.model_card.specs.Machine.{after, answer}
-use Rattle.model_card.specs.Run.{Moment, moments, after_all, IsAtLine, AreAtLines}
+use Rattle.model_card.specs.Run.{Moment, after_all, IsAtLine, AreAtLines}
 use Rattle.model_card.specs.Sound as card_sound
-use Rattle.model_card.proofs.CardSound.{fresh_is_sound, after_is_sound}
-use Rattle.model_card.proofs.Steps.{has_lines, by_room, line_sound}
-use Rattle.laws_line.specs.card.Timers.{AllHaveTheirTimers}
-use Rattle.laws_line.proofs.OfCard.TimersRun.{timely-after, begins-timely-card}
-use Rattle.laws_line.specs.Heard.{notes_of}
-use Rattle.laws_line.proofs.TimersFollow.{nowhere}
 use Rattle.laws_trace.specs.News.{is_news, is_sabme, is_xid, releases, wrong}
 use Rattle.laws_trace.proofs.NewsWatched.{establishes, asked, Owing, none_owed, owing, due, NewsIsTold}
 use Rattle.laws_trace.proofs.TimersWatched.{brings, Known, watch}

@@ -1,22 +1,8 @@
 -- What a link tells of establishments and releases: each event of it; and who asked for the establishment that it awaits.
-use Rattle.std.proofs.Common.{◌≡◌, ◌==◌, ◌&&◌, not, Bool, true, false, cond, List, [], refl, sym, ◌∙◌, subst}
-use Rattle.std.specs.Prelude.{filter}
-use Rattle.lapd_frame.specs.Grammar.{Parts}
-use Rattle.model_link.specs.declared.states.State.{State}
-use Rattle.model_link.specs.declared.states.State.TheVariants.{TeiAssigned, AwaitingEstablishment, AwaitingRelease, Established, TimerRecovery}
-use Rattle.model_link.specs.declared.terms.Terms.{Terms}
-use Rattle.model_link.specs.declared.timers.LinkTimer.{LinkTimer}
+use Rattle.laws_trace.proofs.Vocabulary.{◌≡◌, ◌==◌, ◌&&◌, not, Bool, true, false, cond, List, [], refl, sym, ◌∙◌, subst, filter, Parts, State, TeiAssigned, AwaitingEstablishment, AwaitingRelease, Established, TimerRecovery, Terms, LinkTimer, Received, undefined, wrong_size, overlong, received, expired, requested, offer, cleared, Link, state_number, may_repeat, runs, notes-own, asked_left, asks_establishment, as_heard, state_after, moves, by_expiry, told_by, told_expired, event-follows, Note}
 use Rattle.model_link.specs.declared.timers.LinkTimer.TheVariants.{T200, T203}
-use Rattle.model_link.specs.Events.{Event, Received, Request, frame, undefined, wrong_size, overlong, Establish, Release, Data, SetBusy, ClearBusy, received, expired, requested, offer, cleared}
-use Rattle.model_link.specs.Link.{Link, state_number, may_repeat}
+use Rattle.model_link.specs.Events.{Event, Request, frame, Establish, Release, Data, SetBusy, ClearBusy}
 use Rattle.model_link.specs.Machine as links
-use Rattle.model_link.specs.Told.{runs}
-use Rattle.model_link.proofs.OwnNotes.{notes-own}
-use Rattle.laws_link.specs.Flags.{asked_left, asks_establishment}
-use Rattle.laws_link.specs.States.{as_heard, state_after, moves, by_expiry}
-use Rattle.laws_link.specs.Telling.{told_by, told_expired}
-use Rattle.laws_link.proofs.Follows.{event-follows}
-use Rattle.lapd_frame.specs.declared.notes.Note.{Note}
 use Rattle.laws_trace.specs.News.{is_news, given_up}
 use Rattle.laws_trace.proofs.NewsWatched.{due}
 use Rattle.laws_trace.proofs.NewsRows.{all-news, errors_of, xid_of, sabme_of, released_of, Fits, Told, nothing-fits, by-control}

@@ -1,26 +1,11 @@
 -- What a link tells of establishments, releases and errors, by each frame that it hears.
-use Rattle.std.proofs.Common.{◌≡◌, ℕ, ◌==◌, ◌&&◌, not, Bool, true, false, cond, List, [], ◌∷◌, ◌++◌, length, refl, sym, ap, ◌∙◌}
-use Rattle.std.specs.Prelude.{All, filter, nat_lt, is_some}
-use Rattle.std.proofs.lemmas.List.Elements.{All-head, All-tail}
-use Rattle.lapd_frame.specs.declared.addresses.Address.{Address}
+use Rattle.laws_trace.proofs.Vocabulary.{◌≡◌, ℕ, ◌==◌, ◌&&◌, not, Bool, true, false, cond, List, [], ◌∷◌, ◌++◌, length, refl, sym, ap, ◌∙◌, All, filter, nat_lt, is_some, All-head, All-tail, Address, Information, ReceiveReady, ReceiveNotReady, Reject, Sabme, Disc, Ui, Ua, Dm, Frmr, ErrorCode, Note, Service, Seq, named, State, TeiAssigned, AwaitingEstablishment, AwaitingRelease, Established, TimerRecovery, Terms, undefined, wrong_size, overlong, received, expired, requested, offer, cleared, Link, state_number, takes_contents, as_heard, state_after, by_frame, told_by, numbered_as, final_as}
 use Rattle.lapd_frame.specs.declared.controls.Control.{Control}
-use Rattle.lapd_frame.specs.declared.controls.Control.TheVariants.{Information, ReceiveReady, ReceiveNotReady, Reject, Sabme, Disc, Ui, Ua, Dm, Frmr, Xid}
-use Rattle.lapd_frame.specs.declared.notes.ErrorCode.{ErrorCode}
+use Rattle.lapd_frame.specs.declared.controls.Control.TheVariants.{Xid}
 use Rattle.lapd_frame.specs.declared.notes.ErrorCode.TheVariants as code
-use Rattle.lapd_frame.specs.declared.notes.Note.{Note}
 use Rattle.lapd_frame.specs.declared.notes.Note.TheVariants as notes
-use Rattle.lapd_frame.specs.declared.services.Service.{Service}
-use Rattle.lapd_seq.specs.declared.numbers.Seq.{Seq}
-use Rattle.lapd_seq.specs.Circle.{named}
-use Rattle.model_link.specs.declared.states.State.{State}
-use Rattle.model_link.specs.declared.states.State.TheVariants.{TeiAssigned, AwaitingEstablishment, AwaitingRelease, Established, TimerRecovery}
-use Rattle.model_link.specs.declared.terms.Terms.{Terms}
-use Rattle.model_link.specs.Events.{Event, frame, undefined, wrong_size, overlong, Release, received, expired, requested, offer, cleared}
+use Rattle.model_link.specs.Events.{Event, frame, Release}
 use Rattle.model_link.specs.Notes.{IsOwn}
-use Rattle.model_link.specs.Link.{Link, state_number}
-use Rattle.laws_link.specs.Flags.{takes_contents}
-use Rattle.laws_link.specs.States.{as_heard, state_after, by_frame}
-use Rattle.laws_link.specs.Telling.{told_by, numbered_as, final_as}
 use Rattle.laws_trace.specs.Trace.{is_own, is_up}
 use Rattle.laws_trace.specs.News.{is_news, is_sabme, is_xid, wrong_number, wrong_frame, given_up}
 use Rattle.laws_trace.proofs.NewsWatched.{due}

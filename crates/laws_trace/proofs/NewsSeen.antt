@@ -1,22 +1,11 @@
 -- What is seen of a link: SABME, and requests that are granted.
-use Rattle.std.proofs.Common.{◌≡◌, ℕ, ◌&&◌, Bool, true, false, cond, Option, Some, None, refl, sym, ap, ◌∙◌, true≢false}
-use Rattle.std.specs.List.{list_any}
-use Rattle.std.specs.Option.{option_map_or}
+use Rattle.laws_trace.proofs.Vocabulary.{◌≡◌, ℕ, ◌&&◌, Bool, true, false, cond, Option, Some, None, refl, sym, ap, ◌∙◌, true≢false, list_any, option_map_or, Service, Config, hears, expiry, request, next, Answer, Line, place_in, Assign, Remove, Deactivate, at_requested, aim_of_request, is_granted, IsBy, asks_establishment, Parts}
 use Rattle.lapd_frame.specs.declared.controls.Control.{Control}
-use Rattle.lapd_frame.specs.declared.services.Service.{Service}
 use Rattle.model_link.specs.declared.timers.LinkTimer.TheVariants.{T200, T203}
 use Rattle.model_link.specs.Events as link
-use Rattle.model_line.specs.declared.config.Config.{Config}
 use Rattle.model_line.specs.Event as line_event
-use Rattle.model_line.specs.Event.{hears, expiry, request, next, Answer}
-use Rattle.model_line.specs.Line.{Line, place_in}
 use Rattle.model_line.specs.Machine as lines
-use Rattle.model_line.specs.Request.{Request, Establish, Release, Data, Assign, Remove, Check, SetBusy, ClearBusy, Deactivate}
-use Rattle.model_line.specs.Requested.{at_requested, aim_of_request}
-use Rattle.laws_line.specs.Share.{is_granted}
-use Rattle.laws_line.specs.Steady.{IsBy}
-use Rattle.laws_link.specs.Flags.{asks_establishment}
-use Rattle.lapd_frame.specs.Grammar.{Parts}
+use Rattle.model_line.specs.Request.{Request, Establish, Release, Data, Check, SetBusy, ClearBusy}
 use Rattle.laws_trace.specs.LinkFrames.{is_for}
 use Rattle.laws_trace.proofs.NewsWatched.{establishes}
 use Rattle.laws_trace.specs.News.{releases}

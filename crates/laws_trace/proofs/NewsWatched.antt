@@ -1,21 +1,13 @@
 -- Whether layer 3 asked, and whether I-frames are outstanding: a part of what an observer knows; and by it the news.
-use Rattle.std.specs.Prelude.{◌≡◌, ℕ, ◌==◌, ◌&&◌, ◌||◌, not, Bool, false, List, [], ◌∷◌, ◌++◌, fold, map, filter, Some, if◌then◌else◌}
-use Rattle.std.specs.List.{list_any}
+use Rattle.laws_trace.proofs.Vocabulary.{◌≡◌, ℕ, ◌==◌, ◌&&◌, ◌||◌, not, Bool, false, List, [], ◌∷◌, ◌++◌, fold, map, filter, Some, if◌then◌else◌, list_any, ErrorCode, Note, EstablishIndication, EstablishConfirm, ReleaseIndication, ReleaseConfirm, Error, Service, Config, request, Answer, notes_of, is_granted, at, moments}
 use Rattle.std.specs.Option.{unwrap_or}
-use Rattle.lapd_frame.specs.declared.notes.ErrorCode.{ErrorCode}
-use Rattle.lapd_frame.specs.declared.notes.Note.{Note}
-use Rattle.lapd_frame.specs.declared.notes.Note.TheVariants.{EstablishIndication, EstablishConfirm, ReleaseIndication, ReleaseConfirm, Xid, Error}
-use Rattle.lapd_frame.specs.declared.services.Service.{Service}
-use Rattle.model_line.specs.declared.config.Config.{Config}
+use Rattle.lapd_frame.specs.declared.notes.Note.TheVariants.{Xid}
 use Rattle.model_line.specs.Event as line_event
-use Rattle.model_line.specs.Event.{request, Answer}
 use Rattle.model_line.specs.Request.{Establish}
-use Rattle.laws_line.specs.Heard.{notes_of}
-use Rattle.laws_line.specs.Share.{is_granted}
 use Rattle.model_card.specs.Card.{fresh}
-use Rattle.model_card.specs.Event.{Event, at}
+use Rattle.model_card.specs.Event.{Event}
 use Rattle.model_card.specs.Machine.{answer}
-use Rattle.model_card.specs.Run.{Moment, moments, after_all}
+use Rattle.model_card.specs.Run.{Moment, after_all}
 use Rattle.laws_trace.specs.News.{is_news, is_sabme, is_xid, releases, wrong}
 use Rattle.laws_trace.proofs.TimersWatched.{Known, nothing_yet, watch, brings}
 use Rattle.laws_trace.proofs.States.{is_state, state_before, state_after, differ}

@@ -1,54 +1,22 @@
 -- Nothing is told as lost in vain: the law.
-use Rattle.std.proofs.Common.{◌≡◌, ◌≢◌, ℕ, zero, suc, ◌<◌, ◌==◌, ◌&&◌, ◌||◌, Bool, true, false, cond, List, length, get_or, is_some, Result, Ok, Err, Option, Some, None, refl, sym, ap, ◌∙◌, subst, arith, eq-eqb, true≢false, ◌⊎◌, inl, inr}
-use Rattle.std.specs.Option.{option_map_or}
-use Rattle.std.proofs.lemmas.List.{get_or-set_same}
+use Rattle.laws_trace.proofs.Vocabulary.{◌≡◌, ◌≢◌, ℕ, zero, suc, ◌<◌, ◌==◌, ◌&&◌, ◌||◌, Bool, true, false, cond, List, length, get_or, is_some, Result, Ok, Err, Option, Some, None, refl, sym, ap, ◌∙◌, subst, arith, eq-eqb, true≢false, ◌⊎◌, inl, inr, option_map_or, get_or-set_same, Address, ReadFault, ErrorCode, L, N, O, Refusal, Parts, reading, long_reading, sapi_of, service_of, Service, Timer, place_of-is, LinkTimer, Link, Config, Aim, at_none, at_link, at_management, at_units, of_aim, hears, expiry, request, next, Answer, at_timer, aim_of_expiry, Line, link_in, link_of, place_in, terms, fresh_line, aim_of, unless_refused, unless_refused_told, aim_of_heard, heard_side, Assign, Remove, Deactivate, at_requested, at_deactivated, aim_of_request, IsInRange, sound_in, heard_aims, Card, line_at, at, fresh_is_sound, has_lines, by_room, line_sound, config-stays, lost_in, IsMalformed, IsTooLong, IsBy, BringsMalformed, sapi-is, service-same}
 use Rattle.model_bits.specs.Stream as stream
-use Rattle.lapd_frame.specs.declared.addresses.Address.{Address}
-use Rattle.lapd_frame.specs.declared.faults.ReadFault.{ReadFault}
-use Rattle.lapd_frame.specs.declared.notes.ErrorCode.{ErrorCode}
-use Rattle.lapd_frame.specs.declared.notes.ErrorCode.TheVariants.{L, N, O}
-use Rattle.lapd_frame.specs.declared.refusals.Refusal.{Refusal}
-use Rattle.lapd_frame.specs.Grammar.{Parts}
-use Rattle.lapd_frame.specs.Reading.{reading, long_reading}
-use Rattle.lapd_frame.specs.Services.{sapi_of, service_of}
-use Rattle.lapd_frame.specs.declared.services.Service.{Service}
-use Rattle.lapd_frame.specs.declared.timers.Timer.{Timer}
 use Rattle.lapd_frame.specs.declared.timers.Timer.TheVariants as timers
-use Rattle.lapd_tei.proofs.Tables.{place_of-is}
-use Rattle.model_link.specs.declared.timers.LinkTimer.{LinkTimer}
 use Rattle.model_link.specs.declared.timers.LinkTimer.TheVariants as link_timer
 use Rattle.model_link.specs.Events as link
-use Rattle.model_link.specs.Link.{Link, fresh}
+use Rattle.model_link.specs.Link.{fresh}
 use Rattle.model_link.specs.Sound as link_sound
-use Rattle.model_line.specs.declared.config.Config.{Config}
-use Rattle.model_line.specs.Effect.{Aim, at_none, at_link, at_management, at_units, of_aim}
-use Rattle.model_line.specs.Event.{Event, hears, expiry, request, next, Answer}
-use Rattle.model_line.specs.Expiry.{at_timer, aim_of_expiry}
-use Rattle.model_line.specs.Line.{Line, link_in, link_of, place_in, terms, fresh_line}
+use Rattle.model_line.specs.Event.{Event}
 use Rattle.model_line.specs.Machine as lines
-use Rattle.model_line.specs.Machine.{aim_of, unless_refused, unless_refused_told}
-use Rattle.model_line.specs.Heard.{aim_of_heard, heard_side}
 use Rattle.model_line.specs.Refusal.{refusal}
-use Rattle.model_line.specs.Request.{Request, Establish, Release, Data, Assign, Remove, Check as Checking, SetBusy, ClearBusy, Deactivate}
-use Rattle.model_line.specs.Requested.{at_requested, at_deactivated, aim_of_request}
-use Rattle.model_line.specs.Sound.{IsInRange, IsSound}
-use Rattle.model_line.proofs.LinksSound.{sound_in}
-use Rattle.model_line.proofs.ProperAims.{heard_aims}
+use Rattle.model_line.specs.Request.{Request, Establish, Release, Data, Check as Checking, SetBusy, ClearBusy}
+use Rattle.model_line.specs.Sound.{IsSound}
 use Rattle.model_card.specs.Card as cards
-use Rattle.model_card.specs.Card.{Card, line_at}
 use Rattle.model_card.specs.Event as card_event
-use Rattle.model_card.specs.Event.{at}
 use Rattle.model_card.specs.Machine.{after, answer}
 use Rattle.model_card.specs.Run.{after_all, AreAtLines}
 use Rattle.model_card.specs.Sound as card_sound
-use Rattle.model_card.proofs.CardSound.{fresh_is_sound, always_sound}
-use Rattle.model_card.proofs.Steps.{has_lines, by_room, line_sound}
-use Rattle.laws_line.proofs.OfCard.Wherever.{config-stays}
-use Rattle.laws_line.specs.Frames.{lost_in}
-use Rattle.laws_line.specs.Heard.{IsMalformed, IsTooLong}
-use Rattle.laws_line.specs.Steady.{IsBy, BringsMalformed}
-use Rattle.laws_line.proofs.Hearing.{sapi-is}
-use Rattle.laws_line.proofs.Obeyed.{service-same}
+use Rattle.model_card.proofs.CardSound.{always_sound}
 use Rattle.laws_trace.specs.Managing.{due, managed_after}
 use Rattle.laws_trace.specs.NoLossInVain.{is_event_of, HasFullLink, NoLossInVain}
 use Rattle.laws_trace.specs.LinkFrames.{is_for, parts_of, its_frame, fault_of, faulty, faulty_long}

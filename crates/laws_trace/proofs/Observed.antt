@@ -1,17 +1,9 @@
 -- What an observer knows of a link is what follows its parts: over runs.
-use Rattle.std.proofs.Common.{◌≡◌, ℕ, ◌+◌, ◌==◌, ◌&&◌, ◌||◌, not, Bool, true, false, cond, Option, Some, None, is_some, refl, sym, ap, ◌∙◌, subst, arith, eqb-true, eq-eqb, true≢false}
-use Rattle.std.specs.Prelude.{fold, nat_lt, IfSome}
-use Rattle.std.specs.Option.{option_map_or}
-use Rattle.lapd_frame.specs.declared.services.Service.{Service}
+use Rattle.laws_trace.proofs.Vocabulary.{◌≡◌, ℕ, ◌+◌, ◌==◌, ◌&&◌, ◌||◌, not, Bool, true, false, cond, Option, Some, None, is_some, refl, sym, ap, ◌∙◌, subst, arith, eq-eqb, true≢false, fold, nat_lt, IfSome, option_map_or, Service, State, TeiAssigned, AwaitingEstablishment, AwaitingRelease, Established, TimerRecovery, LinkTimer, state_number, Config, hears, expiry, request, Answer}
+use Rattle.std.proofs.Common.{eqb-true}
 use Rattle.lapd_frame.specs.declared.timers.Timer.TheVariants as timers
-use Rattle.model_link.specs.declared.states.State.{State}
-use Rattle.model_link.specs.declared.states.State.TheVariants.{TeiAssigned, AwaitingEstablishment, AwaitingRelease, Established, TimerRecovery}
-use Rattle.model_link.specs.declared.timers.LinkTimer.{LinkTimer}
 use Rattle.model_link.specs.declared.timers.LinkTimer.TheVariants.{T200, T203}
-use Rattle.model_link.specs.Link.{state_number}
-use Rattle.model_line.specs.declared.config.Config.{Config}
 use Rattle.model_line.specs.Event as line_event
-use Rattle.model_line.specs.Event.{hears, expiry, request, Answer}
 use Rattle.laws_trace.specs.Observer.{Observed, in_state, by_event}
 use Rattle.laws_trace.proofs.States as states
 use Rattle.laws_trace.specs.Trace.{is_own, seen}

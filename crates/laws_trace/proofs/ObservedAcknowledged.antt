@@ -1,17 +1,8 @@
 -- What the observer knows of this side of a link from the start on; and that all that is told is acknowledged.
-use Rattle.std.proofs.Common.{◌≡◌, ℕ, ◌<◌, ◌%◌, Bool, true, false, List, ◌++◌, Option, refl, sym, ap, ◌∙◌, subst, inl, inr, true≢false}
-use Rattle.std.specs.Prelude.{fold, flat_map}
-use Rattle.std.specs.Option.{option_map_or}
-use Rattle.lapd_frame.specs.declared.services.Service.{Service}
-use Rattle.model_link.specs.Link.{Link}
-use Rattle.model_line.specs.declared.config.Config.{Config}
-use Rattle.model_line.specs.Line.{state_of}
-use Rattle.model_line.specs.Sound.{IsInRange}
-use Rattle.model_card.specs.Card.{fresh, line_at}
+use Rattle.laws_trace.proofs.Vocabulary.{◌≡◌, ℕ, ◌<◌, ◌%◌, Bool, true, false, List, ◌++◌, Option, refl, sym, ap, ◌∙◌, subst, inl, inr, true≢false, fold, flat_map, option_map_or, Service, Link, Config, state_of, IsInRange, line_at, fresh_is_sound, begins-timely-card}
+use Rattle.model_card.specs.Card.{fresh}
 use Rattle.model_card.specs.Event.{Event}
 use Rattle.model_card.specs.Run.{after_all, AreAtLines}
-use Rattle.model_card.proofs.CardSound.{fresh_is_sound}
-use Rattle.laws_line.proofs.OfCard.TimersRun.{begins-timely-card}
 use Rattle.laws_trace.specs.AllAreAcknowledged.{numbers_at, IsLast, AllAreAcknowledged}
 use Rattle.laws_trace.proofs.Counting.{nothing_yet, watch}
 use Rattle.laws_trace.specs.Observer as observer

@@ -1,25 +1,13 @@
 -- The control frames of a link that are due by what the observer knows are those that are due by how the link stands.
-use Rattle.std.proofs.Common.{◌≡◌, ℕ, ◌+◌, ◌%◌, ◌==◌, ◌&&◌, ◌||◌, not, Bool, true, false, cond, length, List, [], ◌∷◌, ◌++◌, Option, Some, None, refl, sym, ap, ◌∙◌, true≢false}
-use Rattle.std.specs.Prelude.{fold, nat_lt, Result, Ok, Err}
-use Rattle.std.specs.Option.{option_map_or}
+use Rattle.laws_trace.proofs.Vocabulary.{◌≡◌, ℕ, ◌+◌, ◌%◌, ◌==◌, ◌&&◌, ◌||◌, not, Bool, true, false, cond, length, List, [], ◌∷◌, ◌++◌, Option, Some, None, refl, sym, ap, ◌∙◌, true≢false, fold, nat_lt, Result, Ok, Err, option_map_or, seq, Information, ReceiveReady, ReceiveNotReady, Reject, Sabme, Disc, Ui, Ua, Dm, Frmr, ReadFault, Service, Parts, reading, ControlFrame, Config, hears, expiry, request, next, Answer, refused, gave, heard_side, Assign, Remove, Deactivate, as_response, is_granted}
 use Rattle.model_bits.specs.Stream as stream
-use Rattle.lapd_seq.specs.Numbers.{seq}
 use Rattle.lapd_frame.specs.declared.controls.Control.{Control}
-use Rattle.lapd_frame.specs.declared.controls.Control.TheVariants.{Information, ReceiveReady, ReceiveNotReady, Reject, Sabme, Disc, Ui, Ua, Dm, Frmr, Xid}
-use Rattle.lapd_frame.specs.declared.faults.ReadFault.{ReadFault}
-use Rattle.lapd_frame.specs.declared.services.Service.{Service}
+use Rattle.lapd_frame.specs.declared.controls.Control.TheVariants.{Xid}
 use Rattle.lapd_frame.specs.declared.timers.Timer.TheVariants as timers
-use Rattle.lapd_frame.specs.Grammar.{Parts}
-use Rattle.lapd_frame.specs.Reading.{reading}
-use Rattle.model_link.specs.declared.frames.ControlFrame.{ControlFrame}
 use Rattle.model_link.specs.declared.timers.LinkTimer.TheVariants.{T200, T203}
-use Rattle.model_line.specs.declared.config.Config.{Config}
 use Rattle.model_line.specs.Event as line_event
-use Rattle.model_line.specs.Event.{hears, expiry, request, next, Answer, told, refused, gave}
-use Rattle.model_line.specs.Heard.{heard_side}
-use Rattle.model_line.specs.Request.{Request, Establish, Release, Data, Assign, Remove, Check, SetBusy, ClearBusy, Deactivate}
-use Rattle.laws_link.specs.Waiting.{as_response}
-use Rattle.laws_line.specs.Share.{is_granted}
+use Rattle.model_line.specs.Event.{told}
+use Rattle.model_line.specs.Request.{Request, Establish, Release, Data, Check, SetBusy, ClearBusy}
 use Rattle.laws_trace.specs.ControlFrames as now_due
 use Rattle.laws_trace.specs.ControlFrames.{of_link}
 use Rattle.laws_trace.specs.LinkFrames.{parts_of, frame_of, its_frame, is_for, Sent, sent_in}

@@ -1,26 +1,11 @@
 -- The control frames of a link that are due, and may go, in a moment, by what the observer knows.
-use Rattle.std.proofs.Common.{◌≡◌, inl, inr, ℕ, ◌<◌, ◌-◌, ◌==◌, ◌&&◌, ◌||◌, not, Bool, true, false, cond, length, take, List, [], ◌++◌, Option, Some, None, is_some, refl, sym, ap, ◌∙◌, subst, eqb-true, eq-eqb, true≢false}
-use Rattle.std.specs.Prelude.{flat_map, nat_lt}
-use Rattle.std.specs.List.{list_any}
-use Rattle.std.specs.Option.{option_map_or}
-use Rattle.std.proofs.lemmas.Option.{none-some}
+use Rattle.laws_trace.proofs.Vocabulary.{◌≡◌, inl, inr, ℕ, ◌<◌, ◌-◌, ◌==◌, ◌&&◌, ◌||◌, not, Bool, true, false, cond, length, take, List, [], ◌++◌, Option, Some, None, is_some, refl, sym, ap, ◌∙◌, subst, eq-eqb, true≢false, flat_map, nat_lt, list_any, option_map_or, none-some, Sabme, Disc, Service, Parts, State, state_number, Config, hears, expiry, request, next, Answer, refused, gave, Line, link_of, place_in, state_of, as_response, as_command, lost_in, is_granted, AllHaveTheirTimers, Card, line_at, at}
+use Rattle.std.proofs.Common.{eqb-true}
 use Rattle.model_bits.specs.Stream as stream
-use Rattle.lapd_frame.specs.declared.controls.Control.TheVariants.{Sabme, Disc}
-use Rattle.lapd_frame.specs.declared.services.Service.{Service}
-use Rattle.lapd_frame.specs.Grammar.{Parts}
-use Rattle.model_link.specs.declared.states.State.{State}
-use Rattle.model_link.specs.Link.{state_number}
-use Rattle.model_line.specs.declared.config.Config.{Config}
 use Rattle.model_line.specs.Event as line_event
-use Rattle.model_line.specs.Event.{hears, expiry, request, next, Answer, told, refused, gave}
-use Rattle.model_line.specs.Line.{Line, link_of, place_in, state_of}
+use Rattle.model_line.specs.Event.{told}
 use Rattle.model_line.specs.Request.{Request}
-use Rattle.laws_link.specs.Waiting.{as_response, as_command}
-use Rattle.laws_line.specs.Frames.{lost_in}
-use Rattle.laws_line.specs.Share.{is_granted}
-use Rattle.laws_line.specs.card.Timers.{AllHaveTheirTimers}
-use Rattle.model_card.specs.Card.{Card, line_at}
-use Rattle.model_card.specs.Event.{Event, at}
+use Rattle.model_card.specs.Event.{Event}
 use Rattle.model_card.specs.Machine.{after, answer}
 use Rattle.model_card.specs.Run.{Moment, IsAtLine}
 use Rattle.model_card.specs.Sound as card_sound

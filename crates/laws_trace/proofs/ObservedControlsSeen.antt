@@ -1,25 +1,9 @@
 -- What is seen of the control frames of a link in a moment, by what the observer knows.
-use Rattle.std.proofs.Common.{◌≡◌, ℕ, ◌==◌, ◌&&◌, Bool, true, false, cond, List, [], ◌∷◌, ◌++◌, Option, Some, None, refl, sym, ap, ◌∙◌, eqb-true, true≢false}
-use Rattle.std.specs.Prelude.{flat_map, Result, Ok, Err}
-use Rattle.std.specs.Option.{option_map_or}
-use Rattle.std.proofs.lemmas.Option.{none-some}
+use Rattle.laws_trace.proofs.Vocabulary.{◌≡◌, ℕ, ◌==◌, ◌&&◌, Bool, true, false, cond, List, [], ◌∷◌, ◌++◌, Option, Some, None, refl, sym, ap, ◌∙◌, true≢false, flat_map, Result, Ok, Err, option_map_or, none-some, ReadFault, Service, Call, Packet, Parts, reading, sapi_of, ControlFrame, State, TeiAssigned, AwaitingEstablishment, AwaitingRelease, Established, TimerRecovery, state_number, Config, hears, request, Answer, refused, gave, management_sapi, has_management, is_granted}
+use Rattle.std.proofs.Common.{eqb-true}
 use Rattle.model_bits.specs.Stream as stream
-use Rattle.lapd_frame.specs.declared.faults.ReadFault.{ReadFault}
-use Rattle.lapd_frame.specs.declared.services.Service.{Service}
-use Rattle.lapd_frame.specs.declared.services.Service.TheVariants.{Call, Packet}
-use Rattle.lapd_frame.specs.Grammar.{Parts}
-use Rattle.lapd_frame.specs.Reading.{reading}
-use Rattle.lapd_frame.specs.Services.{sapi_of}
-use Rattle.model_link.specs.declared.frames.ControlFrame.{ControlFrame}
-use Rattle.model_link.specs.declared.states.State.{State}
-use Rattle.model_link.specs.declared.states.State.TheVariants.{TeiAssigned, AwaitingEstablishment, AwaitingRelease, Established, TimerRecovery}
-use Rattle.model_link.specs.Link.{state_number}
-use Rattle.model_line.specs.declared.config.Config.{Config}
-use Rattle.model_line.specs.Event.{hears, request, Answer, told, refused, gave}
-use Rattle.model_line.specs.Heard.{management_sapi}
+use Rattle.model_line.specs.Event.{told}
 use Rattle.model_line.specs.Request.{Request}
-use Rattle.model_line.specs.Sides.{has_management}
-use Rattle.laws_line.specs.Share.{is_granted}
 use Rattle.laws_trace.specs.ControlFrames as now_due
 use Rattle.laws_trace.specs.ControlFrames.{of_link, controls_at, IsPart, OnlyDueGo, AllDueGo}
 use Rattle.laws_trace.specs.LinkFrames.{frame_of, its_frame, is_for}

@@ -1,16 +1,8 @@
 -- What an observer knows of this side of a link is how the link stands by what is heard and noted: over runs.
-use Rattle.std.proofs.Common.{◌≡◌, ℕ, ◌+◌, ◌&&◌, ◌||◌, not, Bool, true, false, cond, Some, refl, sym, ap, ◌∙◌, subst, true≢false}
-use Rattle.std.specs.List.{list_any}
-use Rattle.lapd_frame.specs.declared.services.Service.{Service}
-use Rattle.model_link.specs.declared.states.State.{State}
-use Rattle.model_link.specs.declared.states.State.TheVariants.{TeiAssigned, AwaitingEstablishment, AwaitingRelease, Established, TimerRecovery}
-use Rattle.model_link.specs.Link.{Link, is_multiple_frame, state_number}
-use Rattle.model_line.specs.declared.config.Config.{Config}
-use Rattle.model_line.specs.Event.{Event, hears, expiry, request, next, Answer}
-use Rattle.model_line.specs.Line.{Line, link_of, place_in}
+use Rattle.laws_trace.proofs.Vocabulary.{◌≡◌, ℕ, ◌+◌, ◌&&◌, ◌||◌, not, Bool, true, false, cond, Some, refl, sym, ap, ◌∙◌, subst, true≢false, list_any, Service, State, TeiAssigned, AwaitingEstablishment, AwaitingRelease, Established, TimerRecovery, Link, is_multiple_frame, state_number, Config, hears, expiry, request, next, Answer, Line, link_of, place_in, IsInRange, notes_of, is_data_of}
+use Rattle.model_line.specs.Event.{Event}
 use Rattle.model_line.specs.Machine as lines
-use Rattle.model_line.specs.Sound.{IsInRange, IsSound}
-use Rattle.laws_line.specs.Heard.{notes_of, is_data_of}
+use Rattle.model_line.specs.Sound.{IsSound}
 use Rattle.laws_trace.proofs.Counting.{begins}
 use Rattle.laws_trace.specs.Deliveries.{brought}
 use Rattle.laws_trace.specs.Observer.{Observed, by_event}

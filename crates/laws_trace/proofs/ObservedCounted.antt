@@ -1,26 +1,12 @@
 -- What an observer knows of this side of a link, after a list of events.
-use Rattle.std.proofs.Common.{◌≡◌, ℕ, ◌==◌, not, Bool, true, false, cond, List, [], ◌∷◌, Option, Some, None, is_some, refl, sym, ap, ◌∙◌, subst, eqb-true, true≢false, inl, inr}
-use Rattle.std.specs.Prelude.{fold}
-use Rattle.std.proofs.lemmas.Bool.{and_parts}
-use Rattle.std.proofs.lemmas.List.Elements.{All-head, All-tail}
-use Rattle.std.proofs.lemmas.List.Sums.{fold-append}
-use Rattle.lapd_frame.specs.declared.refusals.Refusal.TheVariants.{PoolFull}
-use Rattle.lapd_frame.specs.declared.services.Service.{Service}
-use Rattle.model_link.specs.Link.{state_number}
-use Rattle.model_line.specs.declared.config.Config.{Config}
+use Rattle.laws_trace.proofs.Vocabulary.{◌≡◌, ℕ, ◌==◌, not, Bool, true, false, cond, List, [], ◌∷◌, Option, Some, None, is_some, refl, sym, ap, ◌∙◌, subst, true≢false, inl, inr, fold, and_parts, All-head, All-tail, fold-append, PoolFull, Service, state_number, Config, refused, Line, link_of, place_in, state_of, Card, line_at, is_full, moments, after_is_sound, has_lines, by_room, line_sound, AllHaveTheirTimers, timely-after}
+use Rattle.std.proofs.Common.{eqb-true}
 use Rattle.model_line.specs.Event as line_event
-use Rattle.model_line.specs.Event.{refused}
-use Rattle.model_line.specs.Line.{Line, link_of, place_in, state_of}
 use Rattle.model_line.specs.Machine as lines
-use Rattle.model_card.specs.Card.{Card, line_at, is_full}
 use Rattle.model_card.specs.Event.{Event}
 use Rattle.model_card.specs.Machine.{after, answer}
-use Rattle.model_card.specs.Run.{Moment, moments, after_all, IsAtLine, AreAtLines}
+use Rattle.model_card.specs.Run.{Moment, after_all, IsAtLine, AreAtLines}
 use Rattle.model_card.specs.Sound as card_sound
-use Rattle.model_card.proofs.CardSound.{after_is_sound}
-use Rattle.model_card.proofs.Steps.{has_lines, by_room, line_sound}
-use Rattle.laws_line.specs.card.Timers.{AllHaveTheirTimers}
-use Rattle.laws_line.proofs.OfCard.TimersRun.{timely-after}
 use Rattle.laws_trace.specs.Managing.{is_on, led}
 use Rattle.laws_trace.specs.Observer.{Observed, View, in_state, by_event, views}
 use Rattle.laws_trace.specs.Trace.{seen, seen_in, trace}

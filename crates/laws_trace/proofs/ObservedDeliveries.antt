@@ -1,28 +1,11 @@
 -- What layer 3 is told of what is heard, by what the observer knows of the link.
-use Rattle.std.proofs.Common.{◌≡◌, ℕ, ◌<◌, ◌||◌, Bool, true, false, cond, Option, Some, None, option_map, refl, sym, ap, ◌∙◌, subst, true≢false, inl, inr}
-use Rattle.std.specs.Prelude.{fold, count_by, length, option_to_list}
-use Rattle.std.specs.List.{list_any}
-use Rattle.std.specs.Option.{option_map_or}
-use Rattle.std.proofs.lemmas.Bool.{and_parts}
-use Rattle.std.proofs.lemmas.Option.{none-some}
-use Rattle.lapd_frame.specs.declared.refusals.Refusal.TheVariants.{PoolFull}
-use Rattle.lapd_frame.specs.declared.services.Service.{Service}
-use Rattle.lapd_frame.specs.Grammar.{Parts}
-use Rattle.model_link.specs.declared.states.State.{State}
-use Rattle.model_link.specs.declared.states.State.TheVariants.{TeiAssigned, AwaitingEstablishment, AwaitingRelease, Established, TimerRecovery}
-use Rattle.model_link.specs.Link.{is_multiple_frame, state_number}
-use Rattle.model_line.specs.declared.config.Config.{Config}
+use Rattle.laws_trace.proofs.Vocabulary.{◌≡◌, ℕ, ◌<◌, ◌||◌, Bool, true, false, cond, Option, Some, None, option_map, refl, sym, ap, ◌∙◌, subst, true≢false, inl, inr, fold, count_by, length, option_to_list, list_any, option_map_or, and_parts, none-some, PoolFull, Service, Parts, State, TeiAssigned, AwaitingEstablishment, AwaitingRelease, Established, TimerRecovery, is_multiple_frame, state_number, Config, hears, expiry, request, next, Answer, refused, Line, link_of, place_in, state_of, IsInRange, notes_of, contents_in, is_data_of, is_unit_of, tells_contents, line_at, is_full, at, has_lines, by_room, line_sound}
 use Rattle.model_line.specs.Event as line_event
-use Rattle.model_line.specs.Event.{hears, expiry, request, next, Answer, refused}
-use Rattle.model_line.specs.Line.{Line, link_of, place_in, state_of}
 use Rattle.model_line.specs.Machine as lines
-use Rattle.model_line.specs.Sound.{IsInRange, IsSound}
-use Rattle.laws_line.specs.Heard.{notes_of, contents_in, is_data_of, is_unit_of, tells_contents}
-use Rattle.model_card.specs.Card.{fresh, line_at, is_full}
-use Rattle.model_card.specs.Event.{at}
+use Rattle.model_line.specs.Sound.{IsSound}
+use Rattle.model_card.specs.Card.{fresh}
 use Rattle.model_card.specs.Machine.{answer}
 use Rattle.model_card.specs.Run.{after_all, AreAtLines}
-use Rattle.model_card.proofs.Steps.{has_lines, by_room, line_sound}
 use Rattle.laws_trace.specs.Deliveries.{brought, Deliveries}
 use Rattle.laws_trace.specs.LinkFrames.{its_frame, is_for}
 use Rattle.laws_trace.specs.Observer.{Observed, in_state, view_of}

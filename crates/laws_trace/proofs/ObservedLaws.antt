@@ -1,31 +1,13 @@
 -- What the observer knows of a link gives the laws of it, by what follows its parts.
-use Rattle.std.proofs.Common.{◌≡◌, ℕ, ◌+◌, ◌-◌, ◌%◌, ◌<◌, ◌==◌, ◌&&◌, ◌||◌, inl, inr, not, Bool, false, cond, List, [], ◌∷◌, ◌++◌, length, map, Option, Some, None, is_some, refl, sym, ap, ◌∙◌, subst, eqb-true, eq-eqb, true≢false}
-use Rattle.std.specs.Prelude.{fold, filter, nat_le, IfSome, All, if◌then◌else◌}
-use Rattle.std.specs.List.{list_any}
+use Rattle.laws_trace.proofs.Vocabulary.{◌≡◌, ℕ, ◌+◌, ◌-◌, ◌%◌, ◌<◌, ◌==◌, ◌&&◌, ◌||◌, inl, inr, not, Bool, false, cond, List, [], ◌∷◌, ◌++◌, length, map, Option, Some, None, is_some, refl, sym, ap, ◌∙◌, subst, eq-eqb, true≢false, fold, filter, nat_le, IfSome, All, if◌then◌else◌, list_any, Note, EstablishIndication, EstablishConfirm, ReleaseIndication, ReleaseConfirm, Error, Service, reading, State, TeiAssigned, AwaitingEstablishment, AwaitingRelease, Established, TimerRecovery, LinkTimer, state_number, Config, next, orders_in, Line, state_of, window, IsInRange, obeyed, notes_of, timer_of, left_by, runs_at_callers, line_at, at, moments}
+use Rattle.std.proofs.Common.{eqb-true}
 use Rattle.std.specs.Option.{unwrap_or}
-use Rattle.lapd_frame.specs.declared.notes.Note.{Note}
-use Rattle.lapd_frame.specs.declared.notes.Note.TheVariants.{EstablishIndication, EstablishConfirm, ReleaseIndication, ReleaseConfirm, Xid, Error}
-use Rattle.lapd_frame.specs.declared.services.Service.{Service}
-use Rattle.lapd_frame.specs.Reading.{reading}
-use Rattle.model_link.specs.declared.states.State.{State}
-use Rattle.model_link.specs.declared.states.State.TheVariants.{TeiAssigned, AwaitingEstablishment, AwaitingRelease, Established, TimerRecovery}
-use Rattle.model_link.specs.declared.timers.LinkTimer.{LinkTimer}
-use Rattle.model_link.specs.Link.{state_number}
-use Rattle.model_line.specs.declared.config.Config.{Config}
+use Rattle.lapd_frame.specs.declared.notes.Note.TheVariants.{Xid}
 use Rattle.model_line.specs.Event as line_event
-use Rattle.model_line.specs.Event.{next}
-use Rattle.model_line.specs.Laws.{orders_in}
-use Rattle.model_line.specs.Line.{Line, state_of, window}
-use Rattle.model_line.specs.Sound.{IsInRange}
-use Rattle.laws_link.specs.Timed.{obeyed}
-use Rattle.laws_line.specs.Heard.{notes_of}
-use Rattle.laws_line.specs.Steady.{timer_of}
-use Rattle.laws_line.specs.Timers.{left_by}
-use Rattle.laws_line.specs.card.Timers.{runs_at_callers}
-use Rattle.model_card.specs.Card.{fresh, line_at}
-use Rattle.model_card.specs.Event.{Event, at}
+use Rattle.model_card.specs.Card.{fresh}
+use Rattle.model_card.specs.Event.{Event}
 use Rattle.model_card.specs.Machine.{after, answer}
-use Rattle.model_card.specs.Run.{Moment, moments, after_all, AreAtLines}
+use Rattle.model_card.specs.Run.{Moment, after_all, AreAtLines}
 use Rattle.laws_trace.specs.AllGoesAgain.{MayGo, AllGoesAgain}
 use Rattle.laws_trace.specs.LinkFrames.{Sent, sent_in}
 use Rattle.laws_trace.specs.LinksMove.{LinksMove}

@@ -1,23 +1,11 @@
 -- How an event moves what an observer knows of a link: the state, the numbers, what layer 3 asked and how often T200 expired.
-use Rattle.std.proofs.Common.{◌≡◌, ℕ, ◌+◌, ◌==◌, ◌&&◌, ◌||◌, not, Bool, true, false, cond, length, Option, Some, None, refl, sym, subst}
-use Rattle.std.specs.Prelude.{is_some, nat_lt}
-use Rattle.std.specs.Option.{option_map_or}
+use Rattle.laws_trace.proofs.Vocabulary.{◌≡◌, ℕ, ◌+◌, ◌==◌, ◌&&◌, ◌||◌, not, Bool, true, false, cond, length, Option, Some, None, refl, sym, subst, is_some, nat_lt, option_map_or, Information, ReceiveReady, ReceiveNotReady, Reject, Sabme, Disc, Ui, Ua, Dm, Frmr, Service, Timer, Parts, reading, Seq, State, TeiAssigned, AwaitingEstablishment, AwaitingRelease, Established, TimerRecovery, LinkTimer, state_number, Config, hears, expiry, request, next, Answer, LineTold, refused, gave, Assign, Remove, Deactivate}
 use Rattle.lapd_frame.specs.declared.controls.Control.{Control}
-use Rattle.lapd_frame.specs.declared.controls.Control.TheVariants.{Information, ReceiveReady, ReceiveNotReady, Reject, Sabme, Disc, Ui, Ua, Dm, Frmr, Xid}
-use Rattle.lapd_frame.specs.declared.services.Service.{Service}
-use Rattle.lapd_frame.specs.declared.timers.Timer.{Timer}
+use Rattle.lapd_frame.specs.declared.controls.Control.TheVariants.{Xid}
 use Rattle.lapd_frame.specs.declared.timers.Timer.TheVariants as timers
-use Rattle.lapd_frame.specs.Grammar.{Parts}
-use Rattle.lapd_frame.specs.Reading.{reading}
-use Rattle.lapd_seq.specs.declared.numbers.Seq.{Seq}
-use Rattle.model_link.specs.declared.states.State.{State}
-use Rattle.model_link.specs.declared.states.State.TheVariants.{TeiAssigned, AwaitingEstablishment, AwaitingRelease, Established, TimerRecovery}
-use Rattle.model_link.specs.declared.timers.LinkTimer.{LinkTimer}
 use Rattle.model_link.specs.declared.timers.LinkTimer.TheVariants.{T200, T203}
-use Rattle.model_link.specs.Link.{state_number}
-use Rattle.model_line.specs.declared.config.Config.{Config}
-use Rattle.model_line.specs.Event.{Event, hears, expiry, request, next, Answer, LineTold, told, refused, gave}
-use Rattle.model_line.specs.Request.{Request, Establish, Release, Data, Assign, Remove, Check, SetBusy, ClearBusy, Deactivate}
+use Rattle.model_line.specs.Event.{Event, told}
+use Rattle.model_line.specs.Request.{Request, Establish, Release, Data, Check, SetBusy, ClearBusy}
 use Rattle.laws_trace.specs.LinkFrames.{frame_of, its_frame, is_for, malformed, Sent, sent_in}
 use Rattle.laws_trace.specs.Observer.{Observed, in_state, awaits, anew, while_up, while_down, by_frame, by_t200, by_expiry, enquires, sends, by_event, takes}
 use Rattle.laws_trace.proofs.States as states

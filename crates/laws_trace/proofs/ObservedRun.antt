@@ -1,27 +1,13 @@
 -- What an observer knows of a link after a list of events.
-use Rattle.std.proofs.Common.{◌≡◌, ℕ, ◌+◌, ◌<◌, ◌==◌, ◌&&◌, ◌⊎◌, inl, inr, not, Bool, true, false, cond, List, [], ◌∷◌, Option, Some, None, is_some, refl, sym, ap, ◌∙◌, subst, eqb-true, eq-eqb, true≢false}
-use Rattle.std.specs.Prelude.{fold, IfSome}
-use Rattle.std.specs.Option.{option_map_or}
-use Rattle.std.proofs.lemmas.List.{get_or-replicate}
-use Rattle.std.proofs.lemmas.List.Elements.{All-head, All-tail}
-use Rattle.lapd_frame.specs.declared.services.Service.{Service}
-use Rattle.model_link.specs.declared.states.State.{State}
-use Rattle.model_link.specs.declared.states.State.TheVariants.{TeiAssigned, AwaitingEstablishment, AwaitingRelease, Established, TimerRecovery}
-use Rattle.model_link.specs.Link.{Link, fresh as fresh_link, state_number}
-use Rattle.model_line.specs.declared.config.Config.{Config}
+use Rattle.laws_trace.proofs.Vocabulary.{◌≡◌, ℕ, ◌+◌, ◌<◌, ◌==◌, ◌&&◌, ◌⊎◌, inl, inr, not, Bool, true, false, cond, List, [], ◌∷◌, Option, Some, None, is_some, refl, sym, ap, ◌∙◌, subst, eq-eqb, true≢false, fold, IfSome, option_map_or, get_or-replicate, All-head, All-tail, Service, State, TeiAssigned, AwaitingEstablishment, AwaitingRelease, Established, TimerRecovery, Link, state_number, Config, Line, fresh_line, link_of, place_in, state_of, has_tei, IsInRange, is-off, nowhere, Card, line_at, at, moments, fresh_is_sound, after_is_sound, AllHaveTheirTimers, timely-after, begins-timely-card}
+use Rattle.std.proofs.Common.{eqb-true}
+use Rattle.model_link.specs.Link.{fresh as fresh_link}
 use Rattle.model_line.specs.Event as line_event
-use Rattle.model_line.specs.Line.{Line, fresh_line, link_of, place_in, state_of, has_tei}
-use Rattle.model_line.specs.Sound.{IsInRange}
-use Rattle.laws_line.proofs.Places.{is-off}
-use Rattle.laws_line.proofs.TimersFollow.{nowhere}
-use Rattle.model_card.specs.Card.{Card, fresh, line_at}
-use Rattle.model_card.specs.Event.{Event, at}
+use Rattle.model_card.specs.Card.{fresh}
+use Rattle.model_card.specs.Event.{Event}
 use Rattle.model_card.specs.Machine.{after, answer}
-use Rattle.model_card.specs.Run.{Moment, moments, after_all, IsAtLine, AreAtLines}
+use Rattle.model_card.specs.Run.{Moment, after_all, IsAtLine, AreAtLines}
 use Rattle.model_card.specs.Sound as card_sound
-use Rattle.model_card.proofs.CardSound.{fresh_is_sound, after_is_sound}
-use Rattle.laws_line.specs.card.Timers.{AllHaveTheirTimers}
-use Rattle.laws_line.proofs.OfCard.TimersRun.{timely-after, begins-timely-card}
 use Rattle.laws_trace.specs.Managing.{is_on, led}
 use Rattle.laws_trace.specs.Observer.{Observed, View, at_first, in_state, by_event, views, view_of, moment_of, view_behind}
 use Rattle.laws_trace.specs.Trace.{seen}

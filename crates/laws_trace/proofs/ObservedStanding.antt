@@ -1,21 +1,11 @@
 -- How an event of a line moves what an observer knows of this side of a link: how many contents were told, whether layer 3
 -- is busy, and whether an I-frame is rejected.
-use Rattle.std.proofs.Common.{◌≡◌, ℕ, ◌+◌, ◌==◌, ◌&&◌, ◌||◌, not, Bool, true, false, cond, length, Option, Some, None, refl, ap}
-use Rattle.std.specs.Prelude.{is_some, nat_lt}
-use Rattle.std.specs.Option.{option_map_or}
+use Rattle.laws_trace.proofs.Vocabulary.{◌≡◌, ℕ, ◌+◌, ◌==◌, ◌&&◌, ◌||◌, not, Bool, true, false, cond, length, Option, Some, None, refl, ap, is_some, nat_lt, option_map_or, Information, ReceiveReady, ReceiveNotReady, Reject, Sabme, Disc, Ui, Ua, Dm, Frmr, Service, Timer, Parts, reading, State, TeiAssigned, AwaitingEstablishment, AwaitingRelease, Established, TimerRecovery, state_number, Config, hears, expiry, request, next, Answer, LineTold, refused, gave, Assign, Remove, Deactivate}
 use Rattle.lapd_frame.specs.declared.controls.Control.{Control}
-use Rattle.lapd_frame.specs.declared.controls.Control.TheVariants.{Information, ReceiveReady, ReceiveNotReady, Reject, Sabme, Disc, Ui, Ua, Dm, Frmr, Xid}
-use Rattle.lapd_frame.specs.declared.services.Service.{Service}
-use Rattle.lapd_frame.specs.declared.timers.Timer.{Timer}
+use Rattle.lapd_frame.specs.declared.controls.Control.TheVariants.{Xid}
 use Rattle.lapd_frame.specs.declared.timers.Timer.TheVariants as timers
-use Rattle.lapd_frame.specs.Grammar.{Parts}
-use Rattle.lapd_frame.specs.Reading.{reading}
-use Rattle.model_link.specs.declared.states.State.{State}
-use Rattle.model_link.specs.declared.states.State.TheVariants.{TeiAssigned, AwaitingEstablishment, AwaitingRelease, Established, TimerRecovery}
-use Rattle.model_link.specs.Link.{state_number}
-use Rattle.model_line.specs.declared.config.Config.{Config}
-use Rattle.model_line.specs.Event.{Event, hears, expiry, request, next, Answer, LineTold, told, refused, gave}
-use Rattle.model_line.specs.Request.{Request, Establish, Release, Data, Assign, Remove, Check, SetBusy, ClearBusy, Deactivate}
+use Rattle.model_line.specs.Event.{Event, told}
+use Rattle.model_line.specs.Request.{Request, Establish, Release, Data, Check, SetBusy, ClearBusy}
 use Rattle.laws_trace.specs.Deliveries.{brings_next, is_taken, brought}
 use Rattle.laws_trace.specs.LinkFrames.{frame_of, its_frame, malformed, Sent, sent_in}
 use Rattle.laws_trace.specs.Observer.{Observed, in_state, awaits, anew, takes, is_next, is_invalid, while_up, while_down, by_frame, by_t200, by_expiry, enquires, sends, by_event}

@@ -1,34 +1,14 @@
 -- What an event of a line tells of data, by what an observer knows of the link; and when the numbers begin.
-use Rattle.std.proofs.Common.{◌≡◌, ℕ, ◌%◌, ◌==◌, ◌&&◌, ◌≤◌, ◌<◌, not, Bool, true, false, cond, List, length, Option, Some, None, refl, sym, ap, ◌∙◌, arith, inl, inr, ltb-true, ltb-false, true≢false}
-use Rattle.std.specs.Prelude.{nat_lt, nat_le, is_some}
-use Rattle.std.specs.List.{list_any}
-use Rattle.std.specs.Option.{option_map_or}
-use Rattle.std.proofs.lemmas.Bool.{leb-true, leb-false}
-use Rattle.std.proofs.lemmas.Option.{none-some}
+use Rattle.laws_trace.proofs.Vocabulary.{◌≡◌, ℕ, ◌%◌, ◌==◌, ◌&&◌, ◌≤◌, ◌<◌, not, Bool, true, false, cond, List, length, Option, Some, None, refl, sym, ap, ◌∙◌, arith, inl, inr, true≢false, nat_lt, nat_le, is_some, list_any, option_map_or, leb-true, leb-false, none-some, Information, ReceiveReady, ReceiveNotReady, Reject, Sabme, Disc, Ui, Ua, Dm, Frmr, Service, Parts, Seq, State, TeiAssigned, AwaitingEstablishment, AwaitingRelease, Established, TimerRecovery, Terms, restarts, eligible, eligible_of, Link, is_multiple_frame, state_number, in_sequence, as_heard, state_after, numbers_begin, event-follows, data-is, establishes, Config, hears, expiry, request, next, Answer, Line, link_of, place_in, terms, IsInRange, notes_of, is_data_of, IsBy}
+use Rattle.std.proofs.Common.{ltb-true, ltb-false}
 use Rattle.lapd_frame.specs.declared.controls.Control.{Control}
-use Rattle.lapd_frame.specs.declared.controls.Control.TheVariants.{Information, ReceiveReady, ReceiveNotReady, Reject, Sabme, Disc, Ui, Ua, Dm, Frmr, Xid}
-use Rattle.lapd_frame.specs.declared.services.Service.{Service}
-use Rattle.lapd_frame.specs.Grammar.{Parts}
-use Rattle.lapd_seq.specs.declared.numbers.Seq.{Seq}
-use Rattle.model_link.specs.declared.states.State.{State}
-use Rattle.model_link.specs.declared.states.State.TheVariants.{TeiAssigned, AwaitingEstablishment, AwaitingRelease, Established, TimerRecovery}
-use Rattle.model_link.specs.declared.terms.Terms.{Terms}
-use Rattle.model_link.specs.Deliveries.{restarts, eligible, eligible_of, information_of}
+use Rattle.lapd_frame.specs.declared.controls.Control.TheVariants.{Xid}
+use Rattle.model_link.specs.Deliveries.{information_of}
 use Rattle.model_link.specs.Events as link
-use Rattle.model_link.specs.Link.{Link, is_multiple_frame, state_number}
 use Rattle.model_link.specs.Machine as links
-use Rattle.laws_link.specs.Heard.{in_sequence}
-use Rattle.laws_link.specs.States.{as_heard, state_after, numbers_begin}
-use Rattle.laws_link.proofs.Follows.{event-follows}
-use Rattle.laws_link.proofs.Once.{data-is}
-use Rattle.laws_link.proofs.Restarts.{establishes}
-use Rattle.model_line.specs.declared.config.Config.{Config}
-use Rattle.model_line.specs.Event.{Event, hears, expiry, request, next, Answer}
-use Rattle.model_line.specs.Line.{Line, link_of, place_in, terms}
+use Rattle.model_line.specs.Event.{Event}
 use Rattle.model_line.specs.Machine as lines
-use Rattle.model_line.specs.Sound.{IsInRange, IsSound}
-use Rattle.laws_line.specs.Heard.{notes_of, is_data_of}
-use Rattle.laws_line.specs.Steady.{IsBy}
+use Rattle.model_line.specs.Sound.{IsSound}
 use Rattle.laws_trace.proofs.Counting as counting
 use Rattle.laws_trace.proofs.Counting.{begins}
 use Rattle.laws_trace.specs.Deliveries.{brings_next, brought}

@@ -1,55 +1,22 @@
 -- Where the contents that are granted, and the frames that are heard, are octets, so are those of each frame that
 -- begins: the law.
-use Rattle.std.proofs.Common.{◌≡◌, ℕ, zero, suc, ◌<◌, ◌≤◌, Bool, true, false, cond, List, [], ◌∷◌, ◌++◌, drop, get_or, replicate, slice_get, Option, Some, None, IfSome, option_map, refl, sym, ap, ◌∙◌, subst, arith, ◌⊎◌, inl, inr}
-use Rattle.std.specs.Prelude.{All, is_some}
-use Rattle.std.specs.Option.{option_or, option_map_or, unwrap_or}
-use Rattle.std.proofs.lemmas.Grind.{flat_map-append}
-use Rattle.std.proofs.lemmas.List.{get_or-replicate}
-use Rattle.std.proofs.lemmas.List.Elements.{All-nil, All-cons, All-head, All-tail, All-append, All-drop}
-use Rattle.model_bits.specs.StuffingLaws.{AreOctets}
-use Rattle.lapd_frame.specs.declared.addresses.Address.{Address}
-use Rattle.lapd_frame.specs.declared.addresses.Side.{Side}
+use Rattle.laws_trace.proofs.Vocabulary.{◌≡◌, ℕ, zero, suc, ◌<◌, ◌≤◌, Bool, true, false, cond, List, [], ◌∷◌, ◌++◌, drop, get_or, replicate, slice_get, Option, Some, None, IfSome, option_map, refl, sym, ap, ◌∙◌, subst, arith, ◌⊎◌, inl, inr, All, is_some, option_or, option_map_or, flat_map-append, get_or-replicate, All-nil, All-cons, All-head, All-tail, All-append, All-drop, AreOctets, Address, Side, Ui, Refusal, Service, sapi_of, action_of, Message, accepted, share, IsOffered, Carries, number_sent, kept-after, given-is-offered, Seq, Link, queue_of, address_at, Given, Terms, Config, hears, expiry, request, next, Answer, refused, gave, Line, UnitData, link_count, link_number, service_at, place_at, place_in, tei_at, link_at, link_in, link_of, terms, fresh_line, Taken, with_unit, unit_frame, first_taken, round, taken, next_of, line_of, IsInRange, IsSoundAt, IsUnitData, sound_in, round_below, place_of-is, unit_asked, units_asked, is_granted, IsBy, OfLink, of-links, IsOne, taken-one, has-place, units-wait, number-is, fresh_is_sound, head, Call, Packet}
+use Rattle.std.specs.Option.{unwrap_or}
 use Rattle.lapd_frame.specs.declared.controls.Control.{Control}
-use Rattle.lapd_frame.specs.declared.controls.Control.TheVariants.{Ui}
-use Rattle.lapd_frame.specs.declared.refusals.Refusal.{Refusal}
-use Rattle.lapd_frame.specs.declared.services.Service.{Service}
 use Rattle.lapd_frame.specs.Grammar.{head_of}
-use Rattle.lapd_frame.specs.Services.{sapi_of}
-use Rattle.lapd_tei.specs.Messages.{information_of, action_of, frame_of as message_frame}
-use Rattle.lapd_tei.specs.declared.messages.Message.{Message}
-use Rattle.laws_link.specs.Accepted.{accepted}
-use Rattle.laws_link.specs.History.{share}
-use Rattle.laws_link.specs.Offered.{IsOffered, Carries, number_sent}
-use Rattle.laws_link.proofs.Counted.{kept-after}
-use Rattle.laws_link.proofs.Offering.{given-is-offered}
-use Rattle.lapd_seq.specs.declared.numbers.Seq.{Seq}
+use Rattle.lapd_tei.specs.Messages.{information_of, frame_of as message_frame}
 use Rattle.model_link.specs.Events as link
-use Rattle.model_link.specs.Link.{Link, fresh as fresh_link, queue_of, address_at}
+use Rattle.model_link.specs.Link.{fresh as fresh_link}
 use Rattle.model_link.specs.Machine as links
 use Rattle.model_link.specs.Requests as link_requests
 use Rattle.model_link.specs.Sound as link_sound
-use Rattle.model_link.specs.Told.{Given}
-use Rattle.model_link.specs.declared.terms.Terms.{Terms}
-use Rattle.model_line.specs.declared.config.Config.{Config}
-use Rattle.model_line.specs.Event.{Event, hears, expiry, request, next, Answer, told, refused, gave}
-use Rattle.model_line.specs.Line.{Line, UnitData, link_count, link_number, service_at, place_at, place_in, tei_at, link_at, link_in, link_of, terms, fresh_line}
+use Rattle.model_line.specs.Event.{Event, told}
 use Rattle.model_line.specs.Machine.{after, answer}
-use Rattle.model_line.specs.Taken.{Taken, with_message, with_unit, unit_frame, first_taken, round, taken, next_of, line_of}
+use Rattle.model_line.specs.Taken.{with_message}
 use Rattle.model_line.specs.Request as asked
 use Rattle.model_line.specs.Request.{Request}
-use Rattle.model_line.specs.Sound.{IsInRange, IsSoundAt, IsSound, IsUnitData}
-use Rattle.model_line.proofs.LinksSound.{sound_in}
-use Rattle.model_line.proofs.TakenWalk.{round_below}
-use Rattle.lapd_tei.proofs.Tables.{place_of-is}
-use Rattle.laws_line.specs.Served.{unit_asked, units_asked}
-use Rattle.laws_line.specs.Share.{is_granted}
-use Rattle.laws_line.specs.Steady.{IsBy}
-use Rattle.laws_line.proofs.LinkMoves.{OfLink, of-links, IsOne, taken-one}
-use Rattle.laws_line.proofs.Places.{has-place}
-use Rattle.laws_line.proofs.Serving.{units-wait}
-use Rattle.laws_line.proofs.TimersFollow.{number-is}
+use Rattle.model_line.specs.Sound.{IsSound}
 use Rattle.model_card.specs.Card.{fresh}
-use Rattle.model_card.proofs.CardSound.{fresh_is_sound}
 use Rattle.laws_line.proofs.OfCard.Wherever.{all-left as all-front, all-right as all-back}
 use Rattle.laws_trace.specs.FramesAreRead.{contents_given, GivesOctets, FramesAreOctets}
 use Rattle.laws_trace.specs.Trace.{frame_in, Seen, granted, seen_told, seen, frames_begun, Always}
@@ -60,8 +27,6 @@ use Rattle.laws_trace.proofs.SmallMessagesWait.{messages-after}
 use Rattle.laws_trace.proofs.Units.{none-told, none-requested, given-frames}
 use Rattle.laws_trace.proofs.Spelled.{Anything}
 use Rattle.laws_trace.specs.Trace as traces
-use Rattle.laws_line.proofs.OfCard.Spelling.{head}
-use Rattle.lapd_frame.specs.declared.services.Service.TheVariants.{Call, Packet}
 
 abbrev IsUnit : UnitData → Type 0
 IsUnit u = AreOctets u.contents

@@ -1,12 +1,9 @@
 -- An offer of a link tells layer 3 nothing.
-use Rattle.std.proofs.Common.{◌≡◌, Bool, true, false, cond, List, [], ◌∷◌, None, refl}
-use Rattle.model_link.specs.declared.frames.ControlFrame.{ControlFrame}
-use Rattle.model_link.specs.declared.terms.Terms.{Terms}
+use Rattle.laws_trace.proofs.Vocabulary.{◌≡◌, Bool, true, false, cond, List, [], ◌∷◌, None, refl, ControlFrame, Terms, Link, ◌then◌, changed}
 use Rattle.model_link.specs.Events as link
-use Rattle.model_link.specs.Link.{Link}
 use Rattle.model_link.specs.Machine as links
 use Rattle.model_link.specs.Offers
-use Rattle.model_link.specs.Steps.{Course, begun as course_begun, ◌then◌, changed}
+use Rattle.model_link.specs.Steps.{Course, begun as course_begun}
 use Rattle.model_link.specs.Words
 use Rattle.model_link.specs.declared.timers.LinkTimer.TheVariants.{T200}
 

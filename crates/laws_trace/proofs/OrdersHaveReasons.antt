@@ -1,56 +1,23 @@
 -- Orders have reasons: one event of a line.
-use Rattle.std.proofs.Common.{◌≡◌, ℕ, ◌==◌, ◌&&◌, Bool, true, false, cond, not, is_some, List, [], ◌∷◌, ◌++◌, Option, Some, None, IfSome, refl, sym, ap, ◌∙◌, subst, arith, get_or, set, true≢false, inl, inr}
-use Rattle.std.specs.Prelude.{All, nat_le, option_map}
-use Rattle.std.proofs.lemmas.List.{get_or-set_other}
-use Rattle.std.proofs.lemmas.List.Elements.{All-nil, All-cons, All-append}
+use Rattle.laws_trace.proofs.Vocabulary.{◌≡◌, ℕ, ◌==◌, ◌&&◌, Bool, true, false, cond, not, is_some, List, [], ◌∷◌, ◌++◌, Option, Some, None, IfSome, refl, sym, ap, ◌∙◌, subst, arith, get_or, set, true≢false, inl, inr, All, nat_le, option_map, get_or-set_other, All-nil, All-cons, All-append, Refusal, Service, Call, Packet, Order, Start, Stop, Timer, Period, First, Second, Change, Gained, Left, Management, IdentityRemove, heard_in, free_place, free_tei, Terms, LinkTimer, Link, runs, timer_at, Config, told_of_management, of_change, of_aim, at_management, hears, expiry, request, next, gave, at_timer, runs_at, is_running, orders_in, Line, link_number, service_at, place_at, place_in, link_at, link_in, terms, unless_refused, unless_refused_told, aim_of_heard, Taken, taken, next_of, Unit, Assign, Remove, Deactivate, at_requested, at_deactivated, aim_of_request, IsProper, heard_aims, request_proper, IsOne, taken-one, has-place, number-is}
 use Rattle.model_bits.specs.Stream as stream
-use Rattle.lapd_frame.specs.declared.refusals.Refusal.{Refusal}
-use Rattle.lapd_frame.specs.declared.services.Service.{Service}
-use Rattle.lapd_frame.specs.declared.services.Service.TheVariants.{Call, Packet}
-use Rattle.lapd_frame.specs.declared.timers.Order.{Order}
-use Rattle.lapd_frame.specs.declared.timers.Order.TheVariants.{Start, Stop}
-use Rattle.lapd_frame.specs.declared.timers.Timer.{Timer}
 use Rattle.lapd_frame.specs.declared.timers.Timer.TheVariants as timers
 use Rattle.lapd_tei.specs.declared.check.Check.{Check}
-use Rattle.lapd_tei.specs.declared.check.Period.{Period}
-use Rattle.lapd_tei.specs.declared.check.Period.TheVariants.{First, Second}
-use Rattle.lapd_tei.specs.declared.outcome.Change.{Change}
-use Rattle.lapd_tei.specs.declared.outcome.Change.TheVariants.{Gained, Left}
 use Rattle.lapd_tei.specs.Events as teis
 use Rattle.lapd_tei.specs.Laws as tei_laws
-use Rattle.lapd_tei.specs.Machine.{Management}
-use Rattle.lapd_tei.specs.declared.messages.Message.TheVariants.{IdentityRemove}
-use Rattle.lapd_tei.specs.Messages.{heard_in}
 use Rattle.lapd_tei.specs.Rows as rows
-use Rattle.lapd_tei.specs.Table.{free_place, free_tei}
 use Rattle.lapd_tei.specs.Words as words
 use Rattle.lapd_tei.specs.Words.{Course, Step, begun}
 use Rattle.lapd_tei.proofs.LawLemmas as tei_lemmas
-use Rattle.model_link.specs.declared.terms.Terms.{Terms}
-use Rattle.model_link.specs.declared.timers.LinkTimer.{LinkTimer}
 use Rattle.model_link.specs.declared.timers.LinkTimer.TheVariants.{T200, T203}
 use Rattle.model_link.specs.Events as link
-use Rattle.model_link.specs.Link.{Link, fresh}
+use Rattle.model_link.specs.Link.{fresh}
 use Rattle.model_link.specs.Machine as links
-use Rattle.model_link.specs.Told.{runs, timer_at}
-use Rattle.model_line.specs.declared.config.Config.{Config}
-use Rattle.model_line.specs.Effect.{told_of_management, of_change, of_aim, at_management}
-use Rattle.model_line.specs.Event.{Event, hears, expiry, request, next, gave}
-use Rattle.model_line.specs.Expiry.{at_timer, runs_at, is_running}
-use Rattle.model_line.specs.Laws.{orders_in}
-use Rattle.model_line.specs.Line.{Line, link_number, service_at, place_at, place_in, link_at, link_in, terms}
-use Rattle.model_line.specs.Machine.{after, answer, unless_refused, unless_refused_told}
-use Rattle.model_line.specs.Heard.{aim_of_heard}
-use Rattle.model_line.specs.Taken.{Taken, taken, next_of}
+use Rattle.model_line.specs.Event.{Event}
+use Rattle.model_line.specs.Machine.{after, answer}
 use Rattle.model_line.specs.Refusal.{refusal}
-use Rattle.model_line.specs.Request.{Request, Establish, Release, Data, Unit, Assign, Remove, Check as check_tei, SetBusy, ClearBusy, Deactivate}
-use Rattle.model_line.specs.Requested.{at_requested, at_deactivated, aim_of_request}
+use Rattle.model_line.specs.Request.{Request, Establish, Release, Data, Check as check_tei, SetBusy, ClearBusy}
 use Rattle.model_line.specs.Sound.{IsSound}
-use Rattle.model_line.proofs.AimsSound.{IsProper}
-use Rattle.model_line.proofs.ProperAims.{heard_aims, request_proper}
-use Rattle.laws_line.proofs.LinkMoves.{IsOne, taken-one}
-use Rattle.laws_line.proofs.Places.{has-place}
-use Rattle.laws_line.proofs.TimersFollow.{number-is}
 use Rattle.laws_trace.specs.OrdersHaveReasons.{HasReason}
 use Rattle.laws_trace.proofs.LossesOfParts.{served-by}
 use Rattle.laws_trace.proofs.OneLink.{given-orders}

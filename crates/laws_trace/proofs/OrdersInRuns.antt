@@ -1,21 +1,9 @@
 -- Orders have reasons: the law.
-use Rattle.std.proofs.Common.{◌≡◌, ℕ, ◌<◌, Bool, false, List, sym, ap, ◌∙◌, subst}
-use Rattle.std.specs.Prelude.{All}
-use Rattle.std.proofs.lemmas.List.Elements.{All-nil}
-use Rattle.lapd_frame.specs.declared.timers.Timer.{Timer}
-use Rattle.model_line.specs.declared.config.Config.{Config}
-use Rattle.model_line.specs.Laws.{orders_in}
-use Rattle.model_line.specs.Sound.{IsInRange}
-use Rattle.laws_line.specs.Timers.{is_needed}
-use Rattle.laws_line.proofs.TimersFollow.{needed-runs}
-use Rattle.model_card.specs.Card.{fresh, line_at}
-use Rattle.model_card.specs.Event.{Event, at}
-use Rattle.model_card.specs.Run.{moments, after_all, AreAtLines}
-use Rattle.model_card.proofs.CardSound.{fresh_is_sound, always_sound}
-use Rattle.model_card.proofs.Steps.{has_lines, by_room, line_sound}
-use Rattle.laws_line.specs.card.Timers.{runs_at_callers}
-use Rattle.laws_line.proofs.OfCard.TimersRun.{needed-run, needs-none, timely-all, begins-timely-card}
-use Rattle.laws_line.proofs.OfCard.Wherever.{config-stays}
+use Rattle.laws_trace.proofs.Vocabulary.{◌≡◌, ℕ, ◌<◌, Bool, false, List, sym, ap, ◌∙◌, subst, All, All-nil, Timer, Config, orders_in, IsInRange, is_needed, needed-runs, line_at, at, moments, fresh_is_sound, has_lines, by_room, line_sound, runs_at_callers, needed-run, needs-none, timely-all, begins-timely-card, config-stays}
+use Rattle.model_card.specs.Card.{fresh}
+use Rattle.model_card.specs.Event.{Event}
+use Rattle.model_card.specs.Run.{after_all, AreAtLines}
+use Rattle.model_card.proofs.CardSound.{always_sound}
 use Rattle.laws_trace.specs.OrdersHaveReasons.{HasReason, OrdersHaveReasons}
 use Rattle.laws_trace.specs.Trace.{Always}
 use Rattle.laws_trace.proofs.OrdersHaveReasons.{event-due}

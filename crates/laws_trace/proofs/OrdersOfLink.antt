@@ -1,23 +1,9 @@
 -- Orders that start no timer of a link.
-use Rattle.std.proofs.Common.{◌≡◌, ℕ, ◌==◌, ◌&&◌, Bool, true, false, cond, List, [], ◌∷◌, ◌++◌, Option, Some, None, refl, ap, ◌∙◌}
-use Rattle.lapd_frame.specs.declared.services.Service.{Service}
-use Rattle.lapd_frame.specs.declared.timers.Order.{Order}
-use Rattle.lapd_frame.specs.declared.timers.Order.TheVariants.{Stop}
-use Rattle.lapd_frame.specs.declared.timers.Timer.{Timer}
+use Rattle.laws_trace.proofs.Vocabulary.{◌≡◌, ℕ, ◌==◌, ◌&&◌, Bool, true, false, cond, List, [], ◌∷◌, ◌++◌, Option, Some, None, refl, ap, ◌∙◌, Service, Order, Stop, Timer, same_service, Follows, Terms, LinkTimer, Link, is_same, obeyed, timer_at, orders_for, leaves-others, timer_of, obeyed-append, t201-leaves}
 use Rattle.lapd_frame.specs.declared.timers.Timer.TheVariants as timers
-use Rattle.lapd_frame.specs.Services.{same_service}
-use Rattle.lapd_tei.specs.Laws.{Follows}
-use Rattle.model_link.specs.declared.terms.Terms.{Terms}
-use Rattle.model_link.specs.declared.timers.LinkTimer.{LinkTimer}
 use Rattle.model_link.specs.declared.timers.LinkTimer.TheVariants.{T200, T203}
 use Rattle.model_link.specs.Events as link
-use Rattle.model_link.specs.Link.{Link}
 use Rattle.model_link.specs.Machine as links
-use Rattle.laws_link.specs.Timed.{is_same, obeyed}
-use Rattle.model_link.specs.Told.{timer_at, orders_for}
-use Rattle.laws_link.proofs.Obeying.{leaves-others}
-use Rattle.laws_line.specs.Steady.{timer_of}
-use Rattle.laws_line.proofs.Obeyed.{obeyed-append, t201-leaves}
 
 -- None of the timers of a link is started.
 abbrev pub StartNone : Service → ℕ → List Order → Type 0

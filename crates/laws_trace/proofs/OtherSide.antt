@@ -1,16 +1,6 @@
 -- Whose frames a card hears, and whose it sends: the law.
-use Rattle.std.proofs.Common.{◌≡◌, ℕ, ◌==◌, Bool, true, false, cond, List, length, drop, slice_index, Option, Some, None, Result, Ok, Err, refl, ap, ◌∙◌, subst}
-use Rattle.std.specs.Prelude.{IfOk}
-use Rattle.lapd_frame.specs.declared.addresses.Address.{Address}
-use Rattle.lapd_frame.specs.declared.addresses.Side.{Side}
-use Rattle.lapd_frame.specs.declared.addresses.Side.TheVariants.{Network, User}
+use Rattle.laws_trace.proofs.Vocabulary.{◌≡◌, ℕ, ◌==◌, Bool, true, false, cond, List, length, drop, slice_index, Option, Some, None, Result, Ok, Err, refl, ap, ◌∙◌, subst, IfOk, Address, Side, Network, User, ReadFault, BadExtension, Undefined, WrongSize, Short, is_short, has_bad_extension, Parts, cr_bit, other_side, allows, takes, row, address_of, checked, control_of, header_of, start_of, completed, reading, heard_side}
 use Rattle.lapd_frame.specs.declared.controls.Control.{Control}
-use Rattle.lapd_frame.specs.declared.faults.ReadFault.{ReadFault}
-use Rattle.lapd_frame.specs.declared.faults.ReadFault.TheVariants.{BadExtension, Undefined, WrongSize, Short}
-use Rattle.lapd_frame.specs.Faults.{is_short, has_bad_extension}
-use Rattle.lapd_frame.specs.Grammar.{Parts, cr_bit, other_side, allows, takes, row}
-use Rattle.lapd_frame.specs.Reading.{address_of, checked, control_of, header_of, start_of, completed, reading}
-use Rattle.model_line.specs.Heard.{heard_side}
 use Rattle.laws_trace.specs.OtherSide.{bit_in, TheOtherSideIsHeard}
 
 -- A frame that is read is a command by its C/R bit.

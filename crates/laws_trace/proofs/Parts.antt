@@ -1,5 +1,5 @@
 -- Lists from which some things are left out.
-use Rattle.std.proofs.Common.{◌≡◌, List, [], ◌∷◌, ◌++◌, refl, sym, subst, append-nil}
+use Rattle.laws_trace.proofs.Vocabulary.{◌≡◌, List, [], ◌∷◌, ◌++◌, refl, sym, subst, append-nil}
 use Rattle.laws_trace.specs.ControlFrames.{IsPart, none, left_out, taken}
 
 pub of-itself : {X : Type 0} → (xs : List X) → IsPart xs xs

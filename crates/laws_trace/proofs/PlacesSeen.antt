@@ -1,18 +1,10 @@
 -- What an event shows of the places of a link: data that is granted, and that layer 3 learns of a loss.
-use Rattle.std.proofs.Common.{◌≡◌, ℕ, Bool, true, false, cond, List, [], ◌++◌, ◌||◌, map, Some, None, refl, ap, append-nil}
-use Rattle.std.specs.Prelude.{flat_map}
-use Rattle.std.specs.List.{list_any}
+use Rattle.laws_trace.proofs.Vocabulary.{◌≡◌, ℕ, Bool, true, false, cond, List, [], ◌++◌, ◌||◌, map, Some, None, refl, ap, append-nil, flat_map, list_any, Service, Timer, is_release, Answer, hears, expiry, request, next, refused, gave, notes_of, is_loss_of, is_granted}
 use Rattle.model_bits.specs.Stream as stream
-use Rattle.lapd_frame.specs.declared.services.Service.{Service}
-use Rattle.lapd_frame.specs.declared.timers.Timer.{Timer}
 use Rattle.model_link.specs.Events as link
-use Rattle.laws_link.specs.Accepted.{is_release}
-use Rattle.model_line.specs.Event.{Answer, hears, expiry, request, next, told, refused, gave}
+use Rattle.model_line.specs.Event.{told}
 use Rattle.model_line.specs.Request.{Request}
-use Rattle.laws_line.specs.Heard.{notes_of}
-use Rattle.laws_line.specs.Loss.{is_loss_of}
 use Rattle.laws_line.specs.Requests.{of_link}
-use Rattle.laws_line.specs.Share.{is_granted}
 use Rattle.laws_trace.specs.Outgoing.{data_asked, data_granted, is_release_of, shows_loss}
 use Rattle.laws_trace.specs.Trace as traces
 use Rattle.laws_trace.specs.Trace.{seen, seen_told, seen_granted, frame_in}

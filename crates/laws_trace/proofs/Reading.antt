@@ -1,25 +1,6 @@
 -- Which frames that a line begins are unit data.
-use Rattle.std.proofs.Common.{◌≡◌, ℕ, ◌+◌, ◌*◌, ◌++◌, ◌<◌, ◌≤◌, ◌==◌, ◌&&◌, Bool, true, false, cond, List, length, drop, slice_index, refl, sym, ap, ◌∙◌, subst, Result, Ok, Err, Some, arith}
-use Rattle.std.specs.Prelude.{not}
-use Rattle.lapd_frame.specs.declared.addresses.Address.{Address}
-use Rattle.lapd_frame.specs.declared.addresses.Side.{Side}
+use Rattle.laws_trace.proofs.Vocabulary.{◌≡◌, ℕ, ◌+◌, ◌*◌, ◌++◌, ◌<◌, ◌≤◌, ◌==◌, ◌&&◌, Bool, true, false, cond, List, length, drop, slice_index, refl, sym, ap, ◌∙◌, subst, Result, Ok, Err, Some, arith, not, Address, Side, Ui, ReadFault, BadExtension, Undefined, WrongSize, Short, Service, Call, Packet, is_short, has_bad_extension, Parts, cr_bit, allows, takes, row, spelling, address_of, checked, header_of, start_of, completed, reading, sapi_of, address-again, control-again, reading-again, Config, UnitData, management_sapi, unit_frame}
 use Rattle.lapd_frame.specs.declared.controls.Control.{Control}
-use Rattle.lapd_frame.specs.declared.controls.Control.TheVariants.{Ui}
-use Rattle.lapd_frame.specs.declared.faults.ReadFault.{ReadFault}
-use Rattle.lapd_frame.specs.declared.faults.ReadFault.TheVariants.{BadExtension, Undefined, WrongSize, Short}
-use Rattle.lapd_frame.specs.declared.services.Service.{Service}
-use Rattle.lapd_frame.specs.declared.services.Service.TheVariants.{Call, Packet}
-use Rattle.lapd_frame.specs.Faults.{is_short, has_bad_extension}
-use Rattle.lapd_frame.specs.Grammar.{Parts, cr_bit, allows, takes, row, spelling}
-use Rattle.lapd_frame.specs.Reading.{address_of, checked, header_of, start_of, completed, reading}
-use Rattle.lapd_frame.specs.Services.{sapi_of}
-use Rattle.lapd_frame.proofs.AddressField.{address-again}
-use Rattle.lapd_frame.proofs.ControlField.{control-again}
-use Rattle.lapd_frame.proofs.Spelling.{reading-again}
-use Rattle.model_line.specs.declared.config.Config.{Config}
-use Rattle.model_line.specs.Line.{UnitData}
-use Rattle.model_line.specs.Heard.{management_sapi}
-use Rattle.model_line.specs.Taken.{unit_frame}
 use Rattle.laws_trace.specs.Units.{is_ui, carries_unit, is_unit}
 
 -- What is no UI, or has SAPI 63, is none, whether the grammar has it or not.

@@ -1,24 +1,10 @@
 -- V(R) of a link behind an event, and when an acknowledgement is owed.
-use Rattle.std.proofs.Common.{◌≡◌, ℕ, ◌%◌, ◌==◌, ◌&&◌, ◌||◌, Bool, true, false, cond, List, [], ◌∷◌, length, Some, None, refl, sym, ap, ◌∙◌, arith, true≢false}
-use Rattle.std.specs.Prelude.{is_some, nat_le, nat_lt, not}
-use Rattle.std.proofs.lemmas.Bool.{ltb-true, ltb-false, leb-true, leb-false}
+use Rattle.laws_trace.proofs.Vocabulary.{◌≡◌, ℕ, ◌%◌, ◌==◌, ◌&&◌, ◌||◌, Bool, true, false, cond, List, [], ◌∷◌, length, Some, None, refl, sym, ap, ◌∙◌, arith, true≢false, is_some, nat_le, nat_lt, not, leb-true, leb-false, Information, ReceiveReady, ReceiveNotReady, Reject, Sabme, Disc, Ui, Ua, Dm, Frmr, Parts, Seq, seq, ControlFrame, State, Terms, Arrived, eligible, undefined, wrong_size, overlong, received, expired, requested, offer, cleared, Link, is_multiple_frame, delivery, takes_contents, owed_in, owed_behind, unless_put, pending_left, as_heard, is_anew, state_after, put, event-follows}
+use Rattle.std.proofs.lemmas.Bool.{ltb-true, ltb-false}
 use Rattle.lapd_frame.specs.declared.controls.Control.{Control}
-use Rattle.lapd_frame.specs.declared.controls.Control.TheVariants.{Information, ReceiveReady, ReceiveNotReady, Reject, Sabme, Disc, Ui, Ua, Dm, Frmr, Xid}
-use Rattle.lapd_frame.specs.Grammar.{Parts}
-use Rattle.lapd_seq.specs.declared.numbers.Seq.{Seq}
-use Rattle.lapd_seq.specs.Numbers.{seq}
-use Rattle.model_link.specs.declared.frames.ControlFrame.{ControlFrame}
-use Rattle.model_link.specs.declared.states.State.{State}
-use Rattle.model_link.specs.declared.terms.Terms.{Terms}
-use Rattle.model_link.specs.Deliveries.{Arrived, eligible}
-use Rattle.model_link.specs.Events.{Event, frame, undefined, wrong_size, overlong, received, expired, requested, offer, cleared}
-use Rattle.model_link.specs.Link.{Link, is_multiple_frame}
+use Rattle.lapd_frame.specs.declared.controls.Control.TheVariants.{Xid}
+use Rattle.model_link.specs.Events.{Event, frame}
 use Rattle.model_link.specs.Machine as links
-use Rattle.model_link.proofs.Delivering.{delivery}
-use Rattle.laws_link.specs.Flags.{takes_contents, owed_in, owed_behind, unless_put, pending_left}
-use Rattle.laws_link.specs.States.{as_heard, is_anew, state_after}
-use Rattle.laws_link.specs.Waiting.{put}
-use Rattle.laws_link.proofs.Follows.{event-follows}
 
 -- Contents that are next are delivered.
 not-less : (n m : ℕ) → (b : Bool) → nat_lt n m ≡ b → nat_le m n ≡ not b

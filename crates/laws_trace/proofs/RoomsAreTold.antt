@@ -1,27 +1,11 @@
 -- What is told of the room of a link: the law.
-use Rattle.std.proofs.Common.{◌≡◌, ℕ, ◌-◌, ◌≤◌, Bool, true, false, not, cond, length, Option, Some, None, Ok, refl, sym, ap, ◌∙◌, subst, arith, true≢false}
-use Rattle.std.specs.Prelude.{nat_lt}
-use Rattle.std.proofs.lemmas.Bool.{le-ltb}
-use Rattle.lapd_frame.specs.declared.refusals.Refusal.{Refusal}
-use Rattle.lapd_frame.specs.declared.refusals.Refusal.TheVariants.{BadTei, NoLink}
-use Rattle.lapd_tei.proofs.Tables.{place_of-is, is_on-at}
-use Rattle.model_link.specs.declared.rooms.Room.{Room}
-use Rattle.model_link.specs.Link.{queue_of, is_multiple_frame}
-use Rattle.model_link.specs.Room.{room_of}
-use Rattle.model_line.specs.declared.config.Config.{Config}
-use Rattle.model_line.specs.Effect.{Effect}
-use Rattle.model_line.specs.Line.{Line, link_of, place_in, terms, has_tei}
+use Rattle.laws_trace.proofs.Vocabulary.{◌≡◌, ℕ, ◌-◌, ◌≤◌, Bool, true, false, not, cond, length, Option, Some, None, Ok, refl, sym, ap, ◌∙◌, subst, arith, true≢false, nat_lt, le-ltb, Refusal, BadTei, NoLink, place_of-is, is_on-at, Room, queue_of, is_multiple_frame, room_of, Config, Effect, Line, link_of, place_in, terms, has_tei, unless_refused_told, unless, Card, line_at, is_full, free, answer_is, refuses_by, is-off}
 use Rattle.model_line.specs.Machine as lines
-use Rattle.model_line.specs.Machine.{unless_refused_told}
 use Rattle.model_line.specs.Request.{Data}
 use Rattle.model_line.specs.Refusal.{refusal}
-use Rattle.model_line.specs.Room.{unless}
-use Rattle.model_card.specs.Card.{Card, fresh, line_at, is_full}
-use Rattle.model_card.specs.Room.{room, free}
+use Rattle.model_card.specs.Card.{fresh}
+use Rattle.model_card.specs.Room.{room}
 use Rattle.model_card.specs.Run.{after_all}
-use Rattle.model_card.proofs.Refusals.{answer_is}
-use Rattle.model_card.proofs.Rooms.{refuses_by}
-use Rattle.laws_line.proofs.Places.{is-off}
 use Rattle.laws_trace.specs.Managing.{is_on}
 use Rattle.laws_trace.specs.Observer.{View, view_of}
 use Rattle.laws_trace.specs.Outgoing.{Outgoing, outgoing_of}

@@ -1,22 +1,13 @@
 -- What holds of every event of a line, and of what it shows, holds of the trace of a run.
-use Rattle.std.proofs.Common.{◌≡◌, ◌≢◌, ℕ, ◌==◌, Bool, true, false, cond, List, [], ◌∷◌, ◌++◌, get_or, refl, sym, ◌∙◌, subst, arith, eqb-true, eq-eqb, true≢false}
-use Rattle.std.proofs.lemmas.Bool.{and_parts}
-use Rattle.std.proofs.lemmas.List.{get_or-set_same, get_or-set_other}
-use Rattle.std.proofs.lemmas.List.Elements.{All-head, All-tail}
-use Rattle.lapd_frame.specs.declared.refusals.Refusal.TheVariants.{PoolFull}
-use Rattle.model_line.specs.declared.config.Config.{Config}
+use Rattle.laws_trace.proofs.Vocabulary.{◌≡◌, ◌≢◌, ℕ, ◌==◌, Bool, true, false, cond, List, [], ◌∷◌, ◌++◌, get_or, refl, sym, ◌∙◌, subst, arith, eq-eqb, true≢false, and_parts, get_or-set_same, get_or-set_other, All-head, All-tail, PoolFull, Config, refused, Line, fresh_line, Card, line_at, is_full, moments, after_is_sound, has_lines, by_room, line_sound}
+use Rattle.std.proofs.Common.{eqb-true}
 use Rattle.model_line.specs.Event as line_event
-use Rattle.model_line.specs.Event.{refused}
-use Rattle.model_line.specs.Line.{Line, fresh_line}
 use Rattle.model_line.specs.Machine as lines
 use Rattle.model_line.specs.Sound as line
 use Rattle.model_card.specs.Event.{Event}
-use Rattle.model_card.specs.Card.{Card, line_at, is_full}
 use Rattle.model_card.specs.Machine.{after, answer}
-use Rattle.model_card.specs.Run.{moments, after_all, IsAtLine, AreAtLines}
+use Rattle.model_card.specs.Run.{after_all, IsAtLine, AreAtLines}
 use Rattle.model_card.specs.Sound.{IsSound}
-use Rattle.model_card.proofs.CardSound.{after_is_sound}
-use Rattle.model_card.proofs.Steps.{has_lines, by_room, line_sound}
 use Rattle.laws_trace.specs.Trace.{Seen, seen, trace}
 
 -- A request that finds the pool full shows nothing, and no other event does find it.

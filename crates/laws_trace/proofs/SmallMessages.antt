@@ -1,21 +1,11 @@
 -- The Ri of each message of TEI management that waits on a line has two octets.
-use Rattle.std.proofs.Common.{ℕ, ◌+◌, ◌*◌, ◌/◌, ◌%◌, ◌<◌, ◌≤◌, ◌==◌, ◌&&◌, Bool, true, false, cond, List, [], ◌∷◌, ◌++◌, nat_le, Option, Some, None, arith}
-use Rattle.std.specs.Prelude.{All}
-use Rattle.std.proofs.lemmas.List.Elements.{All-nil, All-cons, All-head, All-tail, All-append}
-use Rattle.model_bits.specs.StuffingLaws.{AreOctets}
-use Rattle.lapd_frame.specs.declared.refusals.Refusal.{Refusal}
+use Rattle.laws_trace.proofs.Vocabulary.{ℕ, ◌+◌, ◌*◌, ◌/◌, ◌%◌, ◌<◌, ◌≤◌, ◌==◌, ◌&&◌, Bool, true, false, cond, List, [], ◌∷◌, ◌++◌, nat_le, Option, Some, None, arith, All, All-nil, All-cons, All-head, All-tail, All-append, AreOctets, Refusal, Management, Message, IdentityAssigned, IdentityDenied, IdentityCheckRequest, IdentityRemove, Period, First, Second, heard_of_type, heard_in, action_of, free_place, free_tei, no_room}
 use Rattle.lapd_tei.specs.Events as teis
-use Rattle.lapd_tei.specs.Machine.{Management}
 use Rattle.lapd_tei.specs.declared.check.Check.{Check}
-use Rattle.lapd_tei.specs.declared.messages.Message.{Message}
-use Rattle.lapd_tei.specs.declared.messages.Message.TheVariants.{IdentityAssigned, IdentityDenied, IdentityCheckRequest, IdentityRemove}
-use Rattle.lapd_tei.specs.declared.check.Period.{Period}
-use Rattle.lapd_tei.specs.declared.check.Period.TheVariants.{First, Second}
-use Rattle.lapd_tei.specs.Messages.{heard_of_type, heard_in, action_of, information_of}
+use Rattle.lapd_tei.specs.Messages.{information_of}
 use Rattle.lapd_tei.specs.Rows as rows
-use Rattle.lapd_tei.specs.Table.{free_place, free_tei}
 use Rattle.lapd_tei.specs.Words as words
-use Rattle.lapd_tei.specs.Words.{Course, begun, no_room, with_message}
+use Rattle.lapd_tei.specs.Words.{Course, begun, with_message}
 
 abbrev pub ri_of : Message → ℕ
 ri_of (IdentityAssigned ri tei) = ri

@@ -1,46 +1,20 @@
 -- The messages of TEI management that wait stay small: what it hears are octets.
-use Rattle.std.proofs.Common.{◌≡◌, ℕ, ◌<◌, ◌==◌, Bool, true, false, cond, List, [], ◌∷◌, ◌++◌, length, drop, Option, Some, None, IfSome, refl, sym, subst, inl, inr, Result, Ok, Err}
-use Rattle.std.specs.Prelude.{All}
-use Rattle.std.specs.Option.{option_map_or}
-use Rattle.std.proofs.lemmas.List.Elements.{All-drop, All-head}
+use Rattle.laws_trace.proofs.Vocabulary.{◌≡◌, ℕ, ◌<◌, ◌==◌, Bool, true, false, cond, List, [], ◌∷◌, ◌++◌, length, drop, Option, Some, None, IfSome, refl, sym, subst, inl, inr, Result, Ok, Err, All, option_map_or, All-drop, All-head, AreOctets, Tei, Unserved, Address, ReadFault, BadExtension, Undefined, WrongSize, Short, Long, Refusal, Service, Timer, Parts, reading, long_reading, service_of, reading-found, Change, Gained, Left, Config, Aim, at_none, at_link, at_management, at_units, told_of_management, of_change, of_aim, LineTold, hears, expiry, request, next, Answer, aim_of_expiry, at_timer, Line, place_in, unless_refused, management_sapi, group_tei, drop_for, at_place, to_service, addressed, message_of, aim_of_reading, unless_at_link, aim_of_long, aim_of_heard, heard_side, Taken, taken, line_of, aim_of_request, at_requested, at_deactivated, side_aims, IsOne, taken-one}
 use Rattle.model_bits.specs.Stream as stream
-use Rattle.model_bits.specs.StuffingLaws.{AreOctets}
-use Rattle.model_bits.specs.declared.heard.Cause.TheVariants.{Tei, Unserved}
-use Rattle.lapd_frame.specs.declared.addresses.Address.{Address}
 use Rattle.lapd_frame.specs.declared.controls.Control.{Control}
 use Rattle.lapd_frame.specs.declared.controls.Control.TheVariants as control
-use Rattle.lapd_frame.specs.declared.faults.ReadFault.{ReadFault}
-use Rattle.lapd_frame.specs.declared.faults.ReadFault.TheVariants.{BadExtension, Undefined, WrongSize, Short}
-use Rattle.lapd_frame.specs.declared.overlong.Long.{Long}
 use Rattle.lapd_frame.specs.declared.overlong.Long.TheVariants as long
-use Rattle.lapd_frame.specs.declared.refusals.Refusal.{Refusal}
-use Rattle.lapd_frame.specs.declared.services.Service.{Service}
-use Rattle.lapd_frame.specs.declared.timers.Timer.{Timer}
 use Rattle.lapd_frame.specs.declared.timers.Timer.TheVariants as timers
-use Rattle.lapd_frame.specs.Grammar.{Parts, head_of}
-use Rattle.lapd_frame.specs.Reading.{reading, long_reading}
-use Rattle.lapd_frame.specs.Services.{service_of}
-use Rattle.lapd_frame.proofs.Spelling.{reading-found}
+use Rattle.lapd_frame.specs.Grammar.{head_of}
 use Rattle.lapd_tei.specs.Events as teis
-use Rattle.lapd_tei.specs.declared.outcome.Change.{Change}
-use Rattle.lapd_tei.specs.declared.outcome.Change.TheVariants.{Gained, Left}
 use Rattle.model_link.specs.Events as link
 use Rattle.model_link.specs.declared.timers.LinkTimer.TheVariants as link_timer
-use Rattle.model_line.specs.declared.config.Config.{Config}
-use Rattle.model_line.specs.Effect.{Aim, at_none, at_link, at_management, at_units, told_of_management, of_change, of_aim}
-use Rattle.model_line.specs.Event.{Event, LineTold, hears, expiry, request, next, Answer}
-use Rattle.model_line.specs.Expiry.{aim_of_expiry, at_timer}
-use Rattle.model_line.specs.Line.{Line, place_in}
-use Rattle.model_line.specs.Machine.{after, unless_refused}
-use Rattle.model_line.specs.Heard.{management_sapi, group_tei, drop_for, at_place, to_service, addressed, message_of, aim_of_reading, unless_at_link, aim_of_long, aim_of_heard, heard_side}
-use Rattle.model_line.specs.Taken.{Taken, taken, line_of}
+use Rattle.model_line.specs.Event.{Event}
+use Rattle.model_line.specs.Machine.{after}
 use Rattle.model_line.specs.Refusal.{refusal}
 use Rattle.model_line.specs.Request as asked
 use Rattle.model_line.specs.Request.{Request}
-use Rattle.model_line.specs.Requested.{aim_of_request, at_requested, at_deactivated}
 use Rattle.model_line.specs.Sound.{IsSound}
-use Rattle.model_line.proofs.Sides.{side_aims}
-use Rattle.laws_line.proofs.LinkMoves.{IsOne, taken-one}
 use Rattle.laws_trace.proofs.SmallMessages.{IsSmall, IsOfOctets, after-small}
 use Rattle.laws_trace.specs.FramesAreRead.{HasOctets, GivesOctets}
 use Rattle.laws_trace.specs.Trace.{seen}

@@ -1,34 +1,14 @@
 -- Each frame that begins on a line is one that the grammar has, of a service or of TEI management: the law.
-use Rattle.std.proofs.Common.{◌≡◌, ◌<◌, ◌≤◌, true, false, List, [], ◌∷◌, ◌++◌, slice_get, Option, Some, None, IfSome, option_map, refl, sym, subst, arith}
-use Rattle.std.specs.Prelude.{All}
-use Rattle.std.specs.Option.{option_or, unwrap_or}
-use Rattle.std.proofs.lemmas.Grind.{flat_map-append}
-use Rattle.std.proofs.lemmas.List.Elements.{All-nil, All-cons, All-head, All-append}
-use Rattle.lapd_frame.specs.declared.services.Service.{Service}
-use Rattle.lapd_frame.specs.declared.services.Service.TheVariants.{Call, Packet}
-use Rattle.lapd_frame.specs.Grammar.{Parts, Spells}
-use Rattle.lapd_frame.specs.declared.controls.Control.TheVariants.{Ui}
-use Rattle.lapd_frame.specs.Services.{sapi_of}
+use Rattle.laws_trace.proofs.Vocabulary.{◌≡◌, ◌<◌, ◌≤◌, true, false, List, [], ◌∷◌, ◌++◌, slice_get, Option, Some, None, IfSome, option_map, refl, sym, subst, arith, All, option_or, flat_map-append, All-nil, All-cons, All-head, All-append, Service, Call, Packet, Parts, Spells, Ui, sapi_of, Message, address_at, IsGiven, Given, Terms, given_is_frame, Config, hears, expiry, request, next, gave, Line, UnitData, service_at, place_at, terms, link_at, Taken, with_unit, unit_frame, first_taken, round, taken, next_of, IsInRange, IsSoundAt, IsUnitData, round_below, terms_in_range, OfLink, of-links, fresh_is_sound}
+use Rattle.std.specs.Option.{unwrap_or}
 use Rattle.lapd_tei.specs.Messages.{information_of, frame_of as message_frame}
-use Rattle.lapd_tei.specs.declared.messages.Message.{Message}
-use Rattle.model_link.specs.Link.{address_at}
 use Rattle.model_link.specs.Machine as links
 use Rattle.model_link.specs.Sound as link_sound
-use Rattle.model_link.specs.Sound.{IsGiven}
-use Rattle.model_link.specs.Told.{Given}
-use Rattle.model_link.specs.declared.terms.Terms.{Terms}
-use Rattle.model_link.proofs.Giving.{given_is_frame}
-use Rattle.model_line.specs.declared.config.Config.{Config}
-use Rattle.model_line.specs.Event.{Event, hears, expiry, request, next, gave}
-use Rattle.model_line.specs.Line.{Line, UnitData, service_at, place_at, terms, link_at}
+use Rattle.model_line.specs.Event.{Event}
 use Rattle.model_line.specs.Machine.{after, answer}
-use Rattle.model_line.specs.Taken.{Taken, with_message, with_unit, unit_frame, frame_of, first_taken, round, taken, next_of}
-use Rattle.model_line.specs.Sound.{IsInRange, IsSoundAt, IsSound, IsUnitData}
-use Rattle.model_line.proofs.TakenWalk.{round_below}
-use Rattle.model_line.proofs.Ranges.{terms_in_range}
-use Rattle.laws_line.proofs.LinkMoves.{OfLink, of-links}
+use Rattle.model_line.specs.Taken.{with_message, frame_of}
+use Rattle.model_line.specs.Sound.{IsSound}
 use Rattle.model_card.specs.Card.{fresh}
-use Rattle.model_card.proofs.CardSound.{fresh_is_sound}
 use Rattle.laws_trace.specs.FramesAreRead.{is_of_use, IsSpelled, FramesAreRead}
 use Rattle.laws_trace.specs.Trace.{frame_in, Seen, seen, frames_begun, Always}
 use Rattle.laws_trace.proofs.Runs.{run-shows}

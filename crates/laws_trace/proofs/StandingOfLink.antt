@@ -1,26 +1,9 @@
 -- How a link stands behind an event: own busy, and whether REJ stands.
-use Rattle.std.proofs.Common.{◌≡◌, ℕ, ◌&&◌, ◌||◌, Bool, true, false, cond, List, [], ◌∷◌, ◌++◌, length, Option, Some, None, refl, sym, ap, ◌∙◌, true≢false, inl, inr}
-use Rattle.std.specs.Prelude.{not, is_some, nat_lt, nat_le}
-use Rattle.std.proofs.lemmas.Bool.{and_parts, and_right, or_parts, or_from, or_right}
-use Rattle.std.proofs.lemmas.Option.{none-some}
-use Rattle.lapd_seq.specs.declared.numbers.Seq.{Seq}
+use Rattle.laws_trace.proofs.Vocabulary.{◌≡◌, ℕ, ◌&&◌, ◌||◌, Bool, true, false, cond, List, [], ◌∷◌, ◌++◌, length, Option, Some, None, refl, sym, ap, ◌∙◌, true≢false, inl, inr, not, is_some, nat_lt, nat_le, and_parts, and_right, or_parts, or_from, or_right, none-some, Seq, Information, ReceiveReady, ReceiveNotReady, Reject, Sabme, Disc, Ui, Ua, Dm, Frmr, Parts, State, TeiAssigned, AwaitingEstablishment, AwaitingRelease, Established, TimerRecovery, ControlFrame, Terms, Arrived, information_in, is_eligible, eligible_of, restarts, eligible, Received, undefined, wrong_size, overlong, received, expired, requested, offer, cleared, Link, is_multiple_frame, delivery, event-delivers, delivered-at_once, flag_left, busy_asked, own_busy_left, rejecting_heard, takes_contents, unless_put, owed_in, owed_behind, pending_left, as_heard, is_anew, is_clearing, leads_by_sabme, leads_by_agreement, comes_to, moves, numbers_begin, state_after, is_next, as_response, receipt_as, commands, put, event-follows}
 use Rattle.lapd_frame.specs.declared.controls.Control.{Control}
-use Rattle.lapd_frame.specs.declared.controls.Control.TheVariants.{Information, ReceiveReady, ReceiveNotReady, Reject, Sabme, Disc, Ui, Ua, Dm, Frmr, Xid}
-use Rattle.lapd_frame.specs.Grammar.{Parts}
-use Rattle.model_link.specs.declared.states.State.{State}
-use Rattle.model_link.specs.declared.states.State.TheVariants.{TeiAssigned, AwaitingEstablishment, AwaitingRelease, Established, TimerRecovery}
-use Rattle.model_link.specs.declared.frames.ControlFrame.{ControlFrame}
-use Rattle.model_link.specs.declared.terms.Terms.{Terms}
-use Rattle.model_link.specs.Deliveries.{Arrived, information_in, is_eligible, eligible_of, restarts, eligible}
-use Rattle.model_link.specs.Events.{Event, Received, frame, undefined, wrong_size, overlong, Establish, Release, Data, SetBusy, ClearBusy, received, expired, requested, offer, cleared}
-use Rattle.model_link.specs.Link.{Link, is_multiple_frame}
+use Rattle.lapd_frame.specs.declared.controls.Control.TheVariants.{Xid}
+use Rattle.model_link.specs.Events.{Event, frame, Establish, Release, Data, SetBusy, ClearBusy}
 use Rattle.model_link.specs.Machine as links
-use Rattle.model_link.proofs.Delivering.{delivery, event-delivers}
-use Rattle.model_link.proofs.Numbering.{delivered-at_once}
-use Rattle.laws_link.specs.Flags.{flag_left, busy_asked, own_busy_left, rejecting_heard, takes_contents, unless_put, owed_in, owed_behind, pending_left}
-use Rattle.laws_link.specs.States.{as_heard, is_anew, is_clearing, leads_by_sabme, leads_by_agreement, comes_to, moves, numbers_begin, state_after}
-use Rattle.laws_link.specs.Waiting.{is_next, as_response, receipt_as, commands, put}
-use Rattle.laws_link.proofs.Follows.{event-follows}
 use Rattle.laws_trace.proofs.Counting.{Watched}
 use Rattle.laws_trace.proofs.DeliveriesWatched.{Standing, is_information}
 use Rattle.laws_trace.proofs.Begins.{in-state, up-before}

@@ -1,24 +1,13 @@
 -- While a TEI stays on the line, and calls keep it there.
-use Rattle.std.proofs.Common.{◌≡◌, ℕ, ◌==◌, Bool, true, false, List, [], ◌∷◌, ◌++◌, get_or, Option, Some, None, IfSome, refl, sym, ◌∙◌, subst, inl, inr, arith, eqb-true, eq-eqb, true≢false}
-use Rattle.std.specs.Option.{option_map_or}
-use Rattle.std.proofs.lemmas.List.{get_or-set_same}
-use Rattle.std.proofs.lemmas.List.Elements.{All-head, All-tail}
-use Rattle.model_line.specs.declared.config.Config.{Config}
-use Rattle.model_line.specs.Event.{next}
-use Rattle.model_line.specs.Line.{Line, fresh_line, has_tei}
+use Rattle.laws_trace.proofs.Vocabulary.{◌≡◌, ℕ, ◌==◌, Bool, true, false, List, [], ◌∷◌, ◌++◌, get_or, Option, Some, None, IfSome, refl, sym, ◌∙◌, subst, inl, inr, arith, eq-eqb, true≢false, option_map_or, get_or-set_same, All-head, All-tail, Config, next, Line, fresh_line, has_tei, line_of, Taken, taken, IsOne, taken-one, Card, line_at, after_is_sound, has_lines, by_room, line_sound, AreTakesAt}
+use Rattle.std.proofs.Common.{eqb-true}
 use Rattle.model_line.specs.Machine as lines
 use Rattle.model_line.specs.Machine.{after}
-use Rattle.model_line.specs.Taken.{line_of, Taken, taken}
 use Rattle.model_line.specs.Sound.{IsSound}
-use Rattle.laws_line.proofs.LinkMoves.{IsOne, taken-one}
-use Rattle.model_card.specs.Card.{Card, line_at}
 use Rattle.model_card.specs.Event as card
 use Rattle.model_card.specs.Machine as cards
 use Rattle.model_card.specs.Run.{after_all, IsAtLine, AreAtLines}
 use Rattle.model_card.specs.Sound as card_sound
-use Rattle.model_card.proofs.CardSound.{after_is_sound}
-use Rattle.model_card.proofs.Steps.{has_lines, by_room, line_sound}
-use Rattle.laws_line.specs.card.Among.{AreTakesAt}
 use Rattle.laws_trace.specs.ControlFrames.{StaysOn}
 use Rattle.laws_trace.proofs.CallRuns.{apart}
 

@@ -1,26 +1,17 @@
 -- TEIs are managed as the procedures say: runs of a card, and the law.
-use Rattle.std.proofs.Common.{◌≡◌, ℕ, ◌<◌, ◌==◌, Bool, true, false, cond, List, [], ◌∷◌, get_or, refl, sym, ◌∙◌, subst, arith, eqb-true, eq-eqb, true≢false, inl}
-use Rattle.std.specs.Prelude.{fold}
-use Rattle.std.proofs.lemmas.Bool.{and_parts}
-use Rattle.std.proofs.lemmas.List.{get_or-replicate, get_or-set_same}
-use Rattle.std.proofs.lemmas.List.Elements.{All-head, All-tail}
-use Rattle.lapd_frame.specs.declared.refusals.Refusal.TheVariants.{PoolFull}
-use Rattle.model_line.specs.declared.config.Config.{Config}
+use Rattle.laws_trace.proofs.Vocabulary.{◌≡◌, ℕ, ◌<◌, ◌==◌, Bool, true, false, cond, List, [], ◌∷◌, get_or, refl, sym, ◌∙◌, subst, arith, eq-eqb, true≢false, inl, fold, and_parts, get_or-replicate, get_or-set_same, All-head, All-tail, PoolFull, Config, Answer, refused, Line, fresh_line, Assign, Remove, Deactivate, IsInRange, Card, line_at, is_full, at, after_is_sound, fresh_is_sound, has_lines, by_room, config-stays}
+use Rattle.std.proofs.Common.{eqb-true}
 use Rattle.model_line.specs.Event as line_event
-use Rattle.model_line.specs.Event.{Answer, refused}
 use Rattle.model_line.specs.Request as request
-use Rattle.model_line.specs.Line.{Line, fresh_line}
 use Rattle.model_line.specs.Machine as lines
-use Rattle.model_line.specs.Request.{Establish, Release, Data, Assign, Remove, Check, SetBusy, ClearBusy, Deactivate}
-use Rattle.model_line.specs.Sound.{IsInRange}
-use Rattle.model_card.specs.Card.{Card, fresh, line_at, is_full}
-use Rattle.model_card.specs.Event.{Event, at}
+use Rattle.model_line.specs.Request.{Establish, Release, Data, Check, SetBusy, ClearBusy}
+use Rattle.model_card.specs.Card.{fresh}
+use Rattle.model_card.specs.Event.{Event}
 use Rattle.model_card.specs.Machine.{after, answer}
 use Rattle.model_card.specs.Run.{after_all, IsAtLine, AreAtLines}
 use Rattle.model_card.specs.Sound as card_sound
-use Rattle.model_card.proofs.CardSound.{after_is_sound, fresh_is_sound, always_sound}
-use Rattle.model_card.proofs.Steps.{has_lines, by_room, line_sound as sound-at}
-use Rattle.laws_line.proofs.OfCard.Wherever.{config-stays}
+use Rattle.model_card.proofs.CardSound.{always_sound}
+use Rattle.model_card.proofs.Steps.{line_sound as sound-at}
 use Rattle.laws_trace.specs.Managing.{Managed, none_on, due, led, managed_after}
 use Rattle.laws_trace.specs.TeisAreManaged.{IsGrantedSo, TeisAreManaged}
 use Rattle.laws_trace.specs.Trace.{Always}

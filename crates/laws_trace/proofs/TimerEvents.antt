@@ -1,26 +1,16 @@
 -- What is known of a link, and when its timers are started anew: any event of a link but an offer.
-use Rattle.std.proofs.Common.{◌≡◌, ℕ, ◌≤◌, ◌+◌, ◌==◌, ◌||◌, not, Bool, true, false, cond, List, Option, Some, None, refl, sym, ap, ◌∙◌, subst, arith, eqb-true, true≢false}
-use Rattle.std.specs.Prelude.{nat_lt, if◌then◌else◌}
+use Rattle.laws_trace.proofs.Vocabulary.{◌≡◌, ℕ, ◌≤◌, ◌+◌, ◌==◌, ◌||◌, not, Bool, true, false, cond, List, Option, Some, None, refl, sym, ap, ◌∙◌, subst, arith, true≢false, nat_lt, if◌then◌else◌, Sabme, Disc, Refusal, HasItsTimer, IsCalmIn, needed_in, State, TeiAssigned, AwaitingEstablishment, AwaitingRelease, Established, TimerRecovery, Terms, LinkTimer, received, expired, requested, offer, cleared, undefined, wrong_size, overlong, Link, is_own_busy, course, ◌then◌, runs, is_timer}
+use Rattle.std.proofs.Common.{eqb-true}
 use Rattle.lapd_frame.specs.declared.controls.Control.{Control}
-use Rattle.lapd_frame.specs.declared.controls.Control.TheVariants.{Sabme, Disc}
 use Rattle.lapd_frame.specs.declared.notes.ErrorCode.TheVariants as code
-use Rattle.lapd_frame.specs.declared.refusals.Refusal.{Refusal}
-use Rattle.laws_link.specs.two.Needed.{HasItsTimer, IsCalmIn, needed_in}
-use Rattle.model_link.specs.declared.states.State.{State}
-use Rattle.model_link.specs.declared.states.State.TheVariants.{TeiAssigned, AwaitingEstablishment, AwaitingRelease, Established, TimerRecovery}
-use Rattle.model_link.specs.declared.terms.Terms.{Terms}
-use Rattle.model_link.specs.declared.timers.LinkTimer.{LinkTimer}
 use Rattle.model_link.specs.declared.timers.LinkTimer.TheVariants.{T200, T203}
 use Rattle.model_link.specs.Events
-use Rattle.model_link.specs.Events.{Event, received, expired, requested, offer, cleared, frame, undefined, wrong_size, overlong}
-use Rattle.model_link.specs.Link.{Link, is_own_busy}
+use Rattle.model_link.specs.Events.{Event, frame}
 use Rattle.model_link.specs.Machine
-use Rattle.model_link.specs.Machine.{course}
 use Rattle.model_link.specs.MultipleFrame
 use Rattle.model_link.specs.Requests
 use Rattle.model_link.specs.Sound.{IsSound}
-use Rattle.model_link.specs.Steps.{Course, Step, begun, nothing, ◌then◌}
-use Rattle.model_link.specs.Told.{runs, is_timer}
+use Rattle.model_link.specs.Steps.{Course, Step, begun, nothing}
 use Rattle.model_link.specs.Words
 use Rattle.laws_trace.proofs.TimersWatched.{Known}
 use Rattle.laws_trace.proofs.TimerActs.{timing, Acts, itself, whichever}

@@ -1,29 +1,12 @@
 -- What is known of a link, and its timers, over an offer; and what its orders start.
-use Rattle.std.proofs.Common.{◌≡◌, ℕ, ◌+◌, ◌%◌, ◌&&◌, ◌||◌, Bool, true, false, cond, List, [], ◌∷◌, ◌++◌, Option, Some, None, refl, sym, ap, ◌∙◌, subst, arith, eq-eqb, true≢false}
-use Rattle.std.specs.Prelude.{All, IfSome, ◌==◌, not, nat_lt, length}
-use Rattle.std.specs.Option.{option_map_or, unwrap_or}
-use Rattle.std.proofs.lemmas.List.Elements.{All-head}
-use Rattle.lapd_frame.specs.declared.services.Service.{Service}
-use Rattle.lapd_frame.specs.declared.services.Service.TheVariants.{Call, Packet}
-use Rattle.lapd_frame.specs.declared.timers.Order.TheVariants.{Start, Stop}
-use Rattle.lapd_frame.specs.declared.timers.Timer.{Timer}
-use Rattle.lapd_frame.specs.Services.{same_service}
-use Rattle.lapd_seq.specs.Numbers.{seq}
-use Rattle.model_link.specs.declared.frames.ControlFrame.{ControlFrame}
-use Rattle.model_link.specs.declared.states.State.{State}
-use Rattle.model_link.specs.declared.states.State.TheVariants.{TeiAssigned, AwaitingEstablishment, AwaitingRelease, Established, TimerRecovery}
-use Rattle.model_link.specs.declared.terms.Terms.{Terms}
-use Rattle.model_link.specs.declared.timers.LinkTimer.{LinkTimer}
+use Rattle.laws_trace.proofs.Vocabulary.{◌≡◌, ℕ, ◌+◌, ◌%◌, ◌&&◌, ◌||◌, Bool, true, false, cond, List, [], ◌∷◌, ◌++◌, Option, Some, None, refl, sym, ap, ◌∙◌, subst, arith, eq-eqb, true≢false, All, IfSome, ◌==◌, not, nat_lt, length, option_map_or, All-head, Service, Call, Packet, Start, Stop, Timer, same_service, seq, ControlFrame, State, TeiAssigned, AwaitingEstablishment, AwaitingRelease, Established, TimerRecovery, Terms, LinkTimer, Link, outstanding, is_established, IsWaitingFrame, is_same, obeyed, Given, runs, timer_at}
+use Rattle.std.specs.Option.{unwrap_or}
 use Rattle.model_link.specs.declared.timers.LinkTimer.TheVariants.{T200, T203}
 use Rattle.model_link.specs.Events as link
-use Rattle.model_link.specs.Link.{Link, outstanding}
 use Rattle.model_link.specs.Machine as links
 use Rattle.model_link.specs.Offers
-use Rattle.model_link.specs.Offers.{is_established}
-use Rattle.model_link.specs.Sound.{IsSound, IsWaitingFrame}
+use Rattle.model_link.specs.Sound.{IsSound}
 use Rattle.model_link.specs.Steps.{Course, begun}
-use Rattle.laws_link.specs.Timed.{is_same, obeyed}
-use Rattle.model_link.specs.Told.{Given, runs, timer_at}
 use Rattle.model_link.specs.Words
 use Rattle.laws_trace.proofs.AgainWatched.{is_next}
 use Rattle.laws_trace.specs.LinkFrames.{Sent, sent_by}

@@ -1,35 +1,15 @@
 -- What is known of a link stays true: each event of a line.
-use Rattle.std.proofs.Common.{◌≡◌, ℕ, ◌==◌, ◌&&◌, ◌||◌, Bool, true, false, cond, List, [], ◌∷◌, map, Option, Some, None, option_map, refl, sym, ap, ◌∙◌, subst, eq-eqb, true≢false, ◌⊎◌, inl, inr}
-use Rattle.std.specs.Prelude.{All, IfSome, option_to_list, option_map}
-use Rattle.std.specs.Option.{option_map_or}
-use Rattle.std.proofs.lemmas.List.Elements.{All-head, All-nil, All-cons}
+use Rattle.laws_trace.proofs.Vocabulary.{◌≡◌, ℕ, ◌==◌, ◌&&◌, ◌||◌, Bool, true, false, cond, List, [], ◌∷◌, map, Option, Some, None, option_map, refl, sym, ap, ◌∙◌, subst, eq-eqb, true≢false, ◌⊎◌, inl, inr, All, IfSome, option_to_list, option_map_or, All-head, All-nil, All-cons, Service, Call, Packet, same_service, Parts, place_of-is, HasItsTimer, needed, State, Terms, LinkTimer, Link, is_same, Given, runs, is_timer, Config, hears, expiry, request, next, Answer, NextFrame, gave, Line, link_in, link_of, link_number, place_in, state_of, state_in, terms, taken, next_of, IsInRange, sound_in, terms_in_range, IsBy, timer_of, is_needed, left_by, HaveTheirTimers}
 use Rattle.model_bits.specs.Stream as stream
-use Rattle.lapd_frame.specs.declared.services.Service.{Service}
-use Rattle.lapd_frame.specs.declared.services.Service.TheVariants.{Call, Packet}
-use Rattle.lapd_frame.specs.Services.{same_service}
-use Rattle.lapd_frame.specs.Grammar.{Parts}
-use Rattle.lapd_tei.proofs.Tables.{place_of-is}
-use Rattle.laws_link.specs.two.Needed.{HasItsTimer, needed}
-use Rattle.model_link.specs.declared.states.State.{State}
-use Rattle.model_link.specs.declared.terms.Terms.{Terms}
-use Rattle.model_link.specs.declared.timers.LinkTimer.{LinkTimer}
 use Rattle.model_link.specs.declared.timers.LinkTimer.TheVariants.{T200, T203}
 use Rattle.model_link.specs.Events as link
-use Rattle.model_link.specs.Link.{Link, fresh}
+use Rattle.model_link.specs.Link.{fresh}
 use Rattle.model_link.specs.Machine as links
 use Rattle.model_link.specs.Sound as link_sound
-use Rattle.laws_link.specs.Timed.{is_same}
-use Rattle.model_link.specs.Told.{Given, runs, is_timer}
-use Rattle.model_line.specs.declared.config.Config.{Config}
-use Rattle.model_line.specs.Event.{Event, hears, expiry, request, next, Answer, NextFrame, gave}
-use Rattle.model_line.specs.Line.{Line, link_in, link_of, link_number, place_in, state_of, state_in, terms}
+use Rattle.model_line.specs.Event.{Event}
 use Rattle.model_line.specs.Machine.{after, answer}
-use Rattle.model_line.specs.Taken.{taken, frame_of, next_of}
-use Rattle.model_line.specs.Sound.{IsInRange, IsSound}
-use Rattle.model_line.proofs.LinksSound.{sound_in}
-use Rattle.model_line.proofs.Ranges.{terms_in_range}
-use Rattle.laws_line.specs.Steady.{IsBy, timer_of}
-use Rattle.laws_line.specs.Timers.{is_needed, left_by, HaveTheirTimers}
+use Rattle.model_line.specs.Taken.{frame_of}
+use Rattle.model_line.specs.Sound.{IsSound}
 use Rattle.laws_trace.proofs.AgainWatched.{is_next}
 use Rattle.laws_trace.specs.LinkFrames.{Sent, is_for}
 use Rattle.laws_trace.proofs.TimersWatched.{Known, nothing_yet, listens, sends, control_in, learned}

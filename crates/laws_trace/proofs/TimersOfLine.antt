@@ -1,15 +1,8 @@
 -- What is known of a link, and what is heard of it: one event of a line.
-use Rattle.std.proofs.Common.{◌≡◌, List, [], ◌∷◌, ℕ, ◌||◌, Bool, true, false, ◌++◌, map, Option, Some, None, option_map, refl, ap, ◌∙◌}
-use Rattle.std.specs.Prelude.{fold}
-use Rattle.std.specs.List.{list_any}
-use Rattle.std.specs.Option.{option_map_or}
+use Rattle.laws_trace.proofs.Vocabulary.{◌≡◌, List, [], ◌∷◌, ℕ, ◌||◌, Bool, true, false, ◌++◌, map, Option, Some, None, option_map, refl, ap, ◌∙◌, fold, list_any, option_map_or, Service, Config, hears, expiry, request, next, NextFrame, Answer, refused, gave, Line, taken, next_of}
 use Rattle.lapd_frame.specs.declared.controls.Control.{Control}
-use Rattle.lapd_frame.specs.declared.services.Service.{Service}
-use Rattle.model_line.specs.declared.config.Config.{Config}
-use Rattle.model_line.specs.Event.{Event, hears, expiry, request, next, NextFrame, Answer, told, refused, gave}
-use Rattle.model_line.specs.Line.{Line}
+use Rattle.model_line.specs.Event.{Event, told}
 use Rattle.model_line.specs.Machine.{answer}
-use Rattle.model_line.specs.Taken.{taken, next_of}
 use Rattle.model_line.specs.Request.{Request}
 use Rattle.laws_trace.specs.LinkFrames.{Sent, frame_of as frame_heard}
 use Rattle.laws_trace.proofs.TimersWatched.{Known, listens, sends, control_in, learns, brings}

@@ -1,26 +1,12 @@
 -- A part of what an observer knows of a link, its numbers; and by it when timers run, and when they are started.
-use Rattle.std.specs.Prelude.{◌≡◌, ℕ, ◌+◌, ◌%◌, ◌==◌, ◌&&◌, ◌||◌, not, Bool, true, false, List, ◌∷◌, ◌++◌, fold, Option, Some, None, if◌then◌else◌}
-use Rattle.std.specs.List.{list_any}
-use Rattle.std.specs.Option.{option_map_or}
+use Rattle.laws_trace.proofs.Vocabulary.{◌≡◌, ℕ, ◌+◌, ◌%◌, ◌==◌, ◌&&◌, ◌||◌, not, Bool, true, false, List, ◌∷◌, ◌++◌, fold, Option, Some, None, if◌then◌else◌, list_any, option_map_or, Information, ReceiveReady, ReceiveNotReady, Reject, Sabme, Service, Parts, reading, LinkTimer, obeyed, Config, orders_in, state_of, timer_of, left_by, line_at, at, moments, runs_at_callers}
 use Rattle.lapd_frame.specs.declared.controls.Control.{Control}
-use Rattle.lapd_frame.specs.declared.controls.Control.TheVariants.{Information, ReceiveReady, ReceiveNotReady, Reject, Sabme}
-use Rattle.lapd_frame.specs.declared.services.Service.{Service}
 use Rattle.lapd_frame.specs.declared.timers.Timer.TheVariants as timers
-use Rattle.lapd_frame.specs.Grammar.{Parts}
-use Rattle.lapd_frame.specs.Reading.{reading}
-use Rattle.model_link.specs.declared.timers.LinkTimer.{LinkTimer}
-use Rattle.laws_link.specs.Timed.{obeyed}
-use Rattle.model_line.specs.declared.config.Config.{Config}
 use Rattle.model_line.specs.Event as line_event
-use Rattle.model_line.specs.Laws.{orders_in}
-use Rattle.model_line.specs.Line.{state_of}
-use Rattle.laws_line.specs.Steady.{timer_of}
-use Rattle.laws_line.specs.Timers.{left_by}
-use Rattle.model_card.specs.Card.{fresh, line_at}
-use Rattle.model_card.specs.Event.{Event, at}
+use Rattle.model_card.specs.Card.{fresh}
+use Rattle.model_card.specs.Event.{Event}
 use Rattle.model_card.specs.Machine.{after, answer}
-use Rattle.model_card.specs.Run.{Moment, moments, after_all}
-use Rattle.laws_line.specs.card.Timers.{runs_at_callers}
+use Rattle.model_card.specs.Run.{Moment, after_all}
 use Rattle.laws_trace.specs.LinkFrames.{Sent, sent_in, is_for, frame_of}
 use Rattle.laws_trace.proofs.States.{is_state, state_before, state_after, differ}
 use Rattle.laws_trace.specs.Trace.{Seen, heard, begun, seen_in}

@@ -1,19 +1,6 @@
 -- Links take turns: over runs of a card of which a line is only called for its next frame.
-use Rattle.std.proofs.Common.{◌≡◌, ℕ, ◌+◌, ◌*◌, ◌/◌, ◌<◌, ◌≤◌, Bool, true, false, cond, List, ◌++◌, length, drop, slice_index, Some, Result, Ok, Err, refl, sym, ap, ◌∙◌, subst, arith}
-use Rattle.std.specs.Prelude.{not}
-use Rattle.lapd_frame.specs.declared.addresses.Address.{Address}
-use Rattle.lapd_frame.specs.declared.addresses.Side.{Side}
-use Rattle.lapd_frame.specs.declared.addresses.Side.TheVariants.{User, Network}
+use Rattle.laws_trace.proofs.Vocabulary.{◌≡◌, ℕ, ◌+◌, ◌*◌, ◌/◌, ◌<◌, ◌≤◌, Bool, true, false, cond, List, ◌++◌, length, drop, slice_index, Some, Result, Ok, Err, refl, sym, ap, ◌∙◌, subst, arith, not, Address, Side, User, Network, Ui, ReadFault, BadExtension, Undefined, WrongSize, Short, is_short, has_bad_extension, Parts, cr_bit, allows, takes, row, spelling, address_of, checked, header_of, start_of, completed, reading, address-again, control-again, reading-again}
 use Rattle.lapd_frame.specs.declared.controls.Control.{Control}
-use Rattle.lapd_frame.specs.declared.controls.Control.TheVariants.{Ui}
-use Rattle.lapd_frame.specs.declared.faults.ReadFault.{ReadFault}
-use Rattle.lapd_frame.specs.declared.faults.ReadFault.TheVariants.{BadExtension, Undefined, WrongSize, Short}
-use Rattle.lapd_frame.specs.Faults.{is_short, has_bad_extension}
-use Rattle.lapd_frame.specs.Grammar.{Parts, cr_bit, allows, takes, row, spelling}
-use Rattle.lapd_frame.specs.Reading.{address_of, checked, header_of, start_of, completed, reading}
-use Rattle.lapd_frame.proofs.AddressField.{address-again}
-use Rattle.lapd_frame.proofs.ControlField.{control-again}
-use Rattle.lapd_frame.proofs.Spelling.{reading-again}
 use Rattle.laws_trace.specs.Units.{is_ui}
 use Rattle.laws_trace.specs.LinksTakeTurns.{named_in, is_no_ui, is_of_a_link}
 

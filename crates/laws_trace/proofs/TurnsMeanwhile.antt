@@ -1,37 +1,17 @@
 -- Links take turns, whatever else happens meanwhile: the law.
-use Rattle.std.proofs.Common.{◌≡◌, ◌≢◌, ℕ, zero, suc, ◌+◌, ◌<◌, ◌≤◌, ◌==◌, ◌⊎◌, ⊎_elim, Bool, true, false, cond, List, [], ◌∷◌, ◌++◌, get_or, map, Option, Some, None, option_map, refl, sym, ap, ◌∙◌, subst, inl, inr, arith, eqb-true, eq-eqb, true≢false}
-use Rattle.std.specs.Prelude.{All, filter, replicate}
+use Rattle.laws_trace.proofs.Vocabulary.{◌≡◌, ◌≢◌, ℕ, zero, suc, ◌+◌, ◌<◌, ◌≤◌, ◌==◌, ◌⊎◌, ⊎_elim, Bool, true, false, cond, List, [], ◌∷◌, ◌++◌, get_or, map, Option, Some, None, option_map, refl, sym, ap, ◌∙◌, subst, inl, inr, arith, eq-eqb, true≢false, All, filter, replicate, and_parts, flat_map-append, get_or-set_same, get_or-replicate, map-append, All-nil, All-cons, All-head, All-tail, filter-append, Address, Service, Call, Packet, sapi_of, Config, hears, expiry, request, next, Answer, gave, Line, fresh_line, link_count, service_at, place_at, tei_at, Taken, taken, next_of, way_round, in_turn, IsSilentAt, IsOfLink, IsOwed, IsIdle, contents_of, comes-first, served, turn-stays, Card, line_at, is_full, at, moments, after_is_sound, fresh_is_sound, has_lines, by_room, line_sound, AreTakesAt, StaysAt, all-left, all-right, config-stays}
+use Rattle.std.proofs.Common.{eqb-true}
 use Rattle.std.specs.Option.{unwrap_or}
-use Rattle.std.proofs.lemmas.Bool.{and_parts}
-use Rattle.std.proofs.lemmas.Grind.{flat_map-append}
-use Rattle.std.proofs.lemmas.List.{get_or-set_same, get_or-replicate, map-append}
-use Rattle.std.proofs.lemmas.List.Elements.{All-nil, All-cons, All-head, All-tail, filter-append}
-use Rattle.lapd_frame.specs.declared.addresses.Address.{Address}
-use Rattle.lapd_frame.specs.declared.services.Service.{Service}
-use Rattle.lapd_frame.specs.declared.services.Service.TheVariants.{Call, Packet}
-use Rattle.lapd_frame.specs.Services.{sapi_of}
 use Rattle.lapd_tei.specs.Messages.{information_of}
-use Rattle.model_line.specs.declared.config.Config.{Config}
 use Rattle.model_line.specs.Event as line_event
-use Rattle.model_line.specs.Event.{hears, expiry, request, next, Answer, gave}
-use Rattle.model_line.specs.Line.{Line, fresh_line, link_count, service_at, place_at, tei_at}
 use Rattle.model_line.specs.Machine as lines
-use Rattle.model_line.specs.Taken.{Taken, taken, next_of}
 use Rattle.model_line.specs.Sound as line
-use Rattle.laws_line.specs.Drains.{way_round}
-use Rattle.laws_line.specs.Served.{in_turn, IsSilentAt, IsOfLink, IsOwed, IsIdle, contents_of}
-use Rattle.laws_line.proofs.InRounds.{comes-first}
-use Rattle.laws_line.proofs.Serving.{served, turn-stays}
-use Rattle.model_card.specs.Card.{Card, fresh, line_at, is_full}
-use Rattle.model_card.specs.Event.{Event, at}
+use Rattle.model_card.specs.Card.{fresh}
+use Rattle.model_card.specs.Event.{Event}
 use Rattle.model_card.specs.Machine.{after, answer}
-use Rattle.model_card.specs.Run.{moments, after_all, IsAtLine, AreAtLines}
+use Rattle.model_card.specs.Run.{after_all, IsAtLine, AreAtLines}
 use Rattle.model_card.specs.Sound.{IsSound}
-use Rattle.model_card.proofs.CardSound.{after_is_sound, always_sound, fresh_is_sound}
-use Rattle.model_card.proofs.Steps.{has_lines, by_room, line_sound}
-use Rattle.laws_line.specs.card.Among.{AreTakesAt}
-use Rattle.laws_line.specs.card.PromisesOfTakes.{StaysAt}
-use Rattle.laws_line.proofs.OfCard.Wherever.{all-left, all-right, config-stays}
+use Rattle.model_card.proofs.CardSound.{always_sound}
 use Rattle.laws_trace.specs.Trace as traces
 use Rattle.laws_trace.specs.Trace.{frame_in, Always, Seen, seen, trace, frames_begun, IsAmong}
 use Rattle.laws_trace.specs.LinksTakeTurns.{LinkName, named_in, is_of_a_link, links_begun}

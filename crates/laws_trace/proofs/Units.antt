@@ -1,28 +1,12 @@
 -- Unit data goes out in the order in which it was granted, over runs.
-use Rattle.std.proofs.Common.{◌≡◌, ℕ, ◌<◌, ◌≤◌, ◌==◌, ◌&&◌, Bool, true, false, cond, List, [], ◌∷◌, ◌++◌, drop, map, slice_get, Option, Some, None, option_map, refl, sym, ap, ◌∙◌, subst, inl, inr, append_assoc, append-nil}
-use Rattle.std.specs.Prelude.{All, not, filter}
-use Rattle.std.proofs.lemmas.Grind.{flat_map-append}
-use Rattle.std.proofs.lemmas.List.{get_or-replicate, map-append}
-use Rattle.std.proofs.lemmas.List.Elements.{All-nil, All-head, filter-append}
-use Rattle.lapd_frame.specs.declared.controls.Control.TheVariants.{Ui}
-use Rattle.lapd_frame.specs.Services.{sapi_of}
+use Rattle.laws_trace.proofs.Vocabulary.{◌≡◌, ℕ, ◌<◌, ◌≤◌, ◌==◌, ◌&&◌, Bool, true, false, cond, List, [], ◌∷◌, ◌++◌, drop, map, slice_get, Option, Some, None, option_map, refl, sym, ap, ◌∙◌, subst, inl, inr, append_assoc, append-nil, All, not, filter, flat_map-append, get_or-replicate, map-append, All-nil, All-head, filter-append, Ui, sapi_of, IsInOrder, Link, ControlFrame, Config, hears, expiry, request, next, NextFrame, Answer, refused, gave, Line, UnitData, link_count, link_at, service_at, terms, fresh_line, management_sapi, Taken, taken, unit_frame, next_of, IsInRange, IsUnitData, IsOfLink, IsOwed, IsIdle, contents_of, units_asked, unit_asked, event-follows, event-happens, served, units-wait}
 use Rattle.lapd_tei.specs.Messages.{information_of}
-use Rattle.laws_link.specs.InOrder.{IsInOrder}
-use Rattle.model_link.specs.Link.{Link, fresh}
-use Rattle.model_link.specs.declared.frames.ControlFrame.{ControlFrame}
-use Rattle.model_line.specs.declared.config.Config.{Config}
-use Rattle.model_line.specs.Event.{Event, hears, expiry, request, next, NextFrame, Answer, told, refused, gave}
-use Rattle.model_line.specs.Line.{Line, UnitData, link_count, link_at, service_at, terms, fresh_line}
+use Rattle.model_link.specs.Link.{fresh}
+use Rattle.model_line.specs.Event.{Event, told}
 use Rattle.model_line.specs.Machine.{after, answer}
-use Rattle.model_line.specs.Heard.{management_sapi}
-use Rattle.model_line.specs.Taken.{Taken, taken, unit_frame, next_of}
 use Rattle.model_line.specs.Request as asked
 use Rattle.model_line.specs.Request.{Request}
-use Rattle.model_line.specs.Sound.{IsInRange, IsUnitData, IsSound}
-use Rattle.laws_line.specs.Served.{IsOfLink, IsOwed, IsIdle, contents_of, units_asked, unit_asked}
-use Rattle.laws_link.proofs.Follows.{event-follows}
-use Rattle.laws_line.proofs.Happening.{event-happens}
-use Rattle.laws_line.proofs.Serving.{served, units-wait}
+use Rattle.model_line.specs.Sound.{IsSound}
 use Rattle.laws_trace.specs.Trace as traces
 use Rattle.laws_trace.specs.Trace.{frame_in, Seen, seen_told, seen_granted, seen, frames_begun}
 use Rattle.laws_trace.specs.Units.{is_ui, is_unit, units_begun, units_granted}

@@ -1,31 +1,14 @@
 -- Unit data is told of TEIs on the line, or of the group.
-use Rattle.std.proofs.Common.{◌≡◌, ℕ, ◌<◌, ◌==◌, ◌&&◌, ◌||◌, not, Bool, true, false, cond, length, List, ◌∷◌, ◌++◌, Option, Some, None, is_some, refl, sym, ap, ◌∙◌, subst, eqb-true, eq-eqb, true≢false, ◌⊎◌, inl, inr}
-use Rattle.std.specs.Prelude.{nat_le, Result, Ok, Err}
-use Rattle.std.specs.List.{list_any}
-use Rattle.std.specs.Option.{option_map_or}
-use Rattle.std.proofs.lemmas.Bool.{and_parts, leb-true}
+use Rattle.laws_trace.proofs.Vocabulary.{◌≡◌, ℕ, ◌<◌, ◌==◌, ◌&&◌, ◌||◌, not, Bool, true, false, cond, length, List, ◌∷◌, ◌++◌, Option, Some, None, is_some, refl, sym, ap, ◌∙◌, subst, eq-eqb, true≢false, ◌⊎◌, inl, inr, nat_le, Result, Ok, Err, list_any, option_map_or, and_parts, leb-true, Side, User, Network, ReadFault, Service, Parts, reading, same_service, Config, Answer, hears, expiry, request, next, group_tei, heard_side, Line, has_tei, state_of, has_management, IsInRange, line_at, at, has_lines, by_room, line_sound, notes_of, is_unit_of}
+use Rattle.std.proofs.Common.{eqb-true}
 use Rattle.model_bits.specs.Stream as stream
-use Rattle.lapd_frame.specs.declared.addresses.Side.{Side}
-use Rattle.lapd_frame.specs.declared.addresses.Side.TheVariants.{User, Network}
-use Rattle.lapd_frame.specs.declared.faults.ReadFault.{ReadFault}
-use Rattle.lapd_frame.specs.declared.services.Service.{Service}
-use Rattle.lapd_frame.specs.Grammar.{Parts}
-use Rattle.lapd_frame.specs.Reading.{reading}
-use Rattle.lapd_frame.specs.Services.{same_service}
-use Rattle.model_line.specs.declared.config.Config.{Config}
 use Rattle.model_line.specs.Event as line_event
-use Rattle.model_line.specs.Event.{Answer, hears, expiry, request, next}
-use Rattle.model_line.specs.Heard.{group_tei, heard_side}
-use Rattle.model_line.specs.Line.{Line, has_tei, state_of}
 use Rattle.model_line.specs.Machine as lines
-use Rattle.model_line.specs.Sides.{has_management}
-use Rattle.model_line.specs.Sound.{IsInRange, IsSound}
-use Rattle.model_card.specs.Card.{fresh, line_at}
-use Rattle.model_card.specs.Event.{Event, at}
+use Rattle.model_line.specs.Sound.{IsSound}
+use Rattle.model_card.specs.Card.{fresh}
+use Rattle.model_card.specs.Event.{Event}
 use Rattle.model_card.specs.Machine.{answer}
 use Rattle.model_card.specs.Run.{after_all, AreAtLines}
-use Rattle.model_card.proofs.Steps.{has_lines, by_room, line_sound}
-use Rattle.laws_line.specs.Heard.{notes_of, is_unit_of}
 use Rattle.laws_trace.specs.Deliveries.{is_unit_for, brought}
 use Rattle.laws_trace.specs.LinkFrames.{frame_of, its_frame, is_for, parts_of}
 use Rattle.laws_trace.specs.Managing.{is_on}

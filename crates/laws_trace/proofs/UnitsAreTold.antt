@@ -1,48 +1,21 @@
 -- Unit data that is heard is told: the law.
 use Rattle.model_card.specs.Machine.{answer}
-use Rattle.std.proofs.Common.{◌≡◌, ℕ, ◌≤◌, ◌==◌, ◌&&◌, ◌||◌, Bool, true, false, cond, List, length, Option, Some, None, refl, sym, ap, ◌∙◌, subst, eqb-true, true≢false, ◌⊎◌, inl, inr}
-use Rattle.std.specs.Prelude.{Ok, is_some, ◌∷◌, ◌++◌}
-use Rattle.std.specs.List.{list_any}
-use Rattle.std.specs.Option.{option_or, option_map_or}
-use Rattle.std.proofs.lemmas.Bool.{le-leb}
-use Rattle.std.proofs.lemmas.Option.{none-some}
+use Rattle.laws_trace.proofs.Vocabulary.{◌≡◌, ℕ, ◌≤◌, ◌==◌, ◌&&◌, ◌||◌, Bool, true, false, cond, List, length, Option, Some, None, refl, sym, ap, ◌∙◌, subst, true≢false, ◌⊎◌, inl, inr, Ok, is_some, ◌∷◌, ◌++◌, list_any, option_or, option_map_or, le-leb, none-some, User, Information, ReceiveReady, ReceiveNotReady, Reject, Sabme, Disc, Ui, Ua, Dm, Frmr, Service, Call, Packet, Parts, reading, sapi_of, service_of, place_of-is, in_ui_frame, in_sequence, within, event-unit, data-is, Terms, eligible_of, Link, notes-own, event-tells, Config, hears, Answer, heard_side, Line, link_in, link_of, place_in, state_of, terms, IsToGroup, IsInRange, sound_in, line_at, at, notes_of, contents_in, is_unit_of, group-read, own-all, service-same, both-true, IsBy}
+use Rattle.std.proofs.Common.{eqb-true}
 use Rattle.model_bits.specs.Stream as stream
-use Rattle.lapd_frame.specs.declared.addresses.Side.TheVariants.{User}
 use Rattle.lapd_frame.specs.declared.controls.Control.{Control}
-use Rattle.lapd_frame.specs.declared.controls.Control.TheVariants.{Information, ReceiveReady, ReceiveNotReady, Reject, Sabme, Disc, Ui, Ua, Dm, Frmr, Xid}
-use Rattle.lapd_frame.specs.declared.services.Service.{Service}
-use Rattle.lapd_frame.specs.declared.services.Service.TheVariants.{Call, Packet}
-use Rattle.lapd_frame.specs.Grammar.{Parts}
-use Rattle.lapd_frame.specs.Reading.{reading}
-use Rattle.lapd_frame.specs.Services.{sapi_of, service_of}
-use Rattle.lapd_tei.proofs.Tables.{place_of-is}
-use Rattle.laws_link.specs.Heard.{in_ui_frame, in_sequence, within}
-use Rattle.laws_link.proofs.Keeping.{event-unit}
-use Rattle.laws_link.proofs.Once.{data-is}
-use Rattle.model_link.specs.declared.terms.Terms.{Terms}
-use Rattle.model_link.specs.Deliveries.{eligible_of, information_of}
+use Rattle.lapd_frame.specs.declared.controls.Control.TheVariants.{Xid}
+use Rattle.model_link.specs.Deliveries.{information_of}
 use Rattle.model_link.specs.Events as link
-use Rattle.model_link.specs.Link.{Link, fresh as fresh_link}
+use Rattle.model_link.specs.Link.{fresh as fresh_link}
 use Rattle.model_link.specs.Machine as links
 use Rattle.model_link.specs.Sound as link_sound
-use Rattle.model_link.proofs.OwnNotes.{notes-own}
-use Rattle.model_link.proofs.TellRows.{event-tells}
-use Rattle.model_line.specs.declared.config.Config.{Config}
-use Rattle.model_line.specs.Event.{Event as LineEvent, hears, Answer}
-use Rattle.model_line.specs.Heard.{heard_side}
-use Rattle.model_line.specs.Line.{Line, link_in, link_of, place_in, state_of, terms}
+use Rattle.model_line.specs.Event.{Event as LineEvent}
 use Rattle.model_line.specs.Machine as lines
-use Rattle.model_line.specs.Sides.{IsToGroup}
-use Rattle.model_line.specs.Sound.{IsInRange, IsSound}
-use Rattle.model_line.proofs.LinksSound.{sound_in}
-use Rattle.model_card.specs.Card.{fresh, line_at}
-use Rattle.model_card.specs.Event.{at, Event}
+use Rattle.model_line.specs.Sound.{IsSound}
+use Rattle.model_card.specs.Card.{fresh}
+use Rattle.model_card.specs.Event.{Event}
 use Rattle.model_card.specs.Run.{after_all, AreAtLines}
-use Rattle.laws_line.specs.Heard.{notes_of, contents_in, is_unit_of}
-use Rattle.laws_line.proofs.Grouping.{group-read}
-use Rattle.laws_line.proofs.HandedOn.{own-all}
-use Rattle.laws_line.proofs.Obeyed.{service-same, both-true}
-use Rattle.laws_line.specs.Steady.{IsBy}
 use Rattle.laws_trace.specs.LinkFrames.{is_for, parts_of}
 use Rattle.laws_trace.specs.Trace.{Always}
 use Rattle.laws_trace.specs.Units.{is_ui}

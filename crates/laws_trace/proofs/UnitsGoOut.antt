@@ -1,16 +1,9 @@
 -- Unit data goes out: the laws.
-use Rattle.std.proofs.Common.{◌≡◌, ℕ, ◌<◌, ◌≤◌, List, [], ◌++◌, map, sym, ap, ◌∙◌, subst, append-nil}
-use Rattle.std.proofs.lemmas.List.{get_or-replicate}
-use Rattle.model_line.specs.declared.config.Config.{Config}
-use Rattle.model_line.specs.Line.{Line, fresh_line}
-use Rattle.model_line.specs.Taken.{unit_frame}
+use Rattle.laws_trace.proofs.Vocabulary.{◌≡◌, ℕ, ◌<◌, ◌≤◌, List, [], ◌++◌, map, sym, ap, ◌∙◌, subst, append-nil, get_or-replicate, Config, Line, fresh_line, unit_frame, most_frames, line_at, fresh_is_sound, AreTakesAt, takes_at}
 use Rattle.model_line.specs.Sound as line
-use Rattle.laws_line.specs.Drains.{most_frames}
-use Rattle.model_card.specs.Card.{fresh, line_at}
+use Rattle.model_card.specs.Card.{fresh}
 use Rattle.model_card.specs.Event.{Event}
 use Rattle.model_card.specs.Run.{after_all, AreAtLines}
-use Rattle.model_card.proofs.CardSound.{fresh_is_sound}
-use Rattle.laws_line.specs.card.Among.{AreTakesAt, takes_at}
 use Rattle.laws_trace.specs.Trace.{trace_of, Always}
 use Rattle.laws_trace.specs.Units.{units_begun, units_granted}
 use Rattle.laws_trace.specs.UnitsGoOut.{UnitsGoOut, AllUnitsGoOut}

@@ -1,26 +1,13 @@
 -- What waited on a link begins, where a line is only called for its next frame, as often as the configuration says: the law.
-use Rattle.std.proofs.Common.{◌≡◌, ℕ, ◌<◌, ◌≤◌, cond, List, [], ◌∷◌, ◌++◌, Some, option_map, refl, sym, ap, ◌∙◌, subst, inl, arith, eq-eqb}
-use Rattle.std.specs.Prelude.{All}
-use Rattle.std.proofs.lemmas.Grind.{flat_map-append}
-use Rattle.model_link.specs.declared.frames.ControlFrame.{ControlFrame}
-use Rattle.model_line.specs.declared.config.Config.{Config}
-use Rattle.model_line.specs.Event.{next, gave}
+use Rattle.laws_trace.proofs.Vocabulary.{◌≡◌, ℕ, ◌<◌, ◌≤◌, cond, List, [], ◌∷◌, ◌++◌, Some, option_map, refl, sym, ap, ◌∙◌, subst, inl, arith, eq-eqb, All, flat_map-append, ControlFrame, Config, next, gave, taken, next_of, frames_to_go, most_frames, control_text, HasNothing, to-go-few, Card, line_at, at, moments, fresh_is_sound, AreTakesAt, takes_at, IsTakenAmong, IsWaiting, line-sound, card-drains, card-waits, all-left, all-right, config-stays}
 use Rattle.model_line.specs.Machine as lines
-use Rattle.model_line.specs.Taken.{taken, next_of}
 use Rattle.model_line.specs.Sound as line
-use Rattle.laws_line.specs.Drains.{frames_to_go, most_frames, control_text}
-use Rattle.laws_line.specs.Served.{HasNothing}
-use Rattle.laws_line.proofs.Bounds.{to-go-few}
-use Rattle.model_card.specs.Card.{Card, fresh, line_at}
-use Rattle.model_card.specs.Event.{Event, at}
+use Rattle.model_card.specs.Card.{fresh}
+use Rattle.model_card.specs.Event.{Event}
 use Rattle.model_card.specs.Machine.{after, answer}
-use Rattle.model_card.specs.Run.{moments, after_all, IsAtLine, AreAtLines}
+use Rattle.model_card.specs.Run.{after_all, IsAtLine, AreAtLines}
 use Rattle.model_card.specs.Sound.{IsSound}
-use Rattle.model_card.proofs.CardSound.{fresh_is_sound, always_sound}
-use Rattle.laws_line.specs.card.Among.{AreTakesAt, takes_at, IsTakenAmong}
-use Rattle.laws_line.specs.card.PromisesOfTakes.{IsWaiting}
-use Rattle.laws_line.proofs.OfCard.Meanwhile.{line-sound, card-drains, card-waits}
-use Rattle.laws_line.proofs.OfCard.Wherever.{all-left, all-right, config-stays}
+use Rattle.model_card.proofs.CardSound.{always_sound}
 use Rattle.laws_trace.specs.Trace as traces
 use Rattle.laws_trace.specs.Trace.{Always, frame_in, trace, seen, frames_begun, IsAmong}
 use Rattle.laws_trace.specs.WaitedBegins.{AllThatWaitedBegins}

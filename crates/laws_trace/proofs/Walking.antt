@@ -1,15 +1,7 @@
 -- How the turn goes round the links of a line that is only called for its next frame.
-use Rattle.std.proofs.Common.{◌≡◌, ◌≢◌, ℕ, ◌+◌, ◌/◌, ◌%◌, ◌<◌, ◌≤◌, ◌==◌, ⊎_elim, Bool, true, false, cond, List, [], ◌∷◌, ◌++◌, Option, Some, None, refl, sym, ap, ◌∙◌, subst, arith, eqb-true, append_assoc}
-use Rattle.std.specs.Prelude.{All, get_or}
-use Rattle.std.proofs.lemmas.Bool.{eqb-false}
-use Rattle.lapd_frame.specs.Services.{sapi_of}
-use Rattle.lapd_frame.specs.declared.services.Service.TheVariants.{Call, Packet}
-use Rattle.model_line.specs.declared.config.Config.{Config}
-use Rattle.model_line.specs.Line.{Line, link_count, service_at, place_at, tei_at}
+use Rattle.laws_trace.proofs.Vocabulary.{◌≡◌, ◌≢◌, ℕ, ◌+◌, ◌/◌, ◌%◌, ◌<◌, ◌≤◌, ◌==◌, ⊎_elim, Bool, true, false, cond, List, [], ◌∷◌, ◌++◌, Option, Some, None, refl, sym, ap, ◌∙◌, subst, arith, append_assoc, All, get_or, eqb-false, sapi_of, Call, Packet, Config, Line, link_count, service_at, place_at, tei_at, way_round, in_turn, IsSilentAt, comes-first}
+use Rattle.std.proofs.Common.{eqb-true}
 use Rattle.model_line.specs.Sound.{IsSound}
-use Rattle.laws_line.specs.Drains.{way_round}
-use Rattle.laws_line.specs.Served.{in_turn, IsSilentAt}
-use Rattle.laws_line.proofs.InRounds.{comes-first}
 use Rattle.laws_trace.specs.LinksTakeTurns.{LinkName, TakeTurns}
 use Rattle.laws_trace.specs.Trace.{IsAmong}
 

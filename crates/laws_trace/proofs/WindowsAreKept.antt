@@ -1,36 +1,19 @@
 -- I-frames begin only where they may, and carry what is next: the laws.
-use Rattle.std.proofs.Common.{◌≡◌, ℕ, zero, suc, ◌+◌, ◌-◌, ◌%◌, ◌<◌, ◌≤◌, true, false, List, [], ◌∷◌, drop, map, slice_get, Option, Some, None, option_map, refl, sym, ap, ◌∙◌, subst, inl, inr, eqb-true, arith}
-use Rattle.std.specs.Prelude.{All, IfSome, fold, option_to_list, unwrap_or}
-use Rattle.std.specs.Option.{option_map_or}
-use Rattle.std.proofs.lemmas.List.Elements.{All-head, All-tail, All-nil, All-cons}
-use Rattle.lapd_frame.specs.declared.services.Service.{Service}
-use Rattle.lapd_tei.proofs.Tables.{place_of-is}
-use Rattle.lapd_frame.specs.declared.controls.Control.TheVariants.{Information}
-use Rattle.lapd_seq.specs.Numbers.{seq}
-use Rattle.laws_link.proofs.InOrder.{given-in-order}
-use Rattle.laws_link.proofs.Offering.{given-is-offered}
-use Rattle.laws_link.specs.InOrder.{IsInOrder}
-use Rattle.laws_link.specs.Offered.{IsOffered}
-use Rattle.model_link.specs.declared.frames.ControlFrame.{ControlFrame}
-use Rattle.model_link.specs.declared.terms.Terms.{Terms}
+use Rattle.laws_trace.proofs.Vocabulary.{◌≡◌, ℕ, zero, suc, ◌+◌, ◌-◌, ◌%◌, ◌<◌, ◌≤◌, true, false, List, [], ◌∷◌, drop, map, slice_get, Option, Some, None, option_map, refl, sym, ap, ◌∙◌, subst, inl, inr, arith, All, IfSome, fold, option_to_list, option_map_or, All-head, All-tail, All-nil, All-cons, Service, place_of-is, Information, seq, given-in-order, given-is-offered, IsInOrder, IsOffered, ControlFrame, Terms, Link, is_multiple_frame, Given, Config, next, NextFrame, gave, Line, link_in, link_of, place_in, state_of, terms, window, IsInRange, taken, next_of, sound_in, terms_in_range, line_at, at, moments}
+use Rattle.std.proofs.Common.{eqb-true}
+use Rattle.std.specs.Prelude.{unwrap_or}
 use Rattle.model_link.specs.Events as link
-use Rattle.model_link.specs.Link.{Link, fresh as fresh_link, is_multiple_frame}
+use Rattle.model_link.specs.Link.{fresh as fresh_link}
 use Rattle.model_link.specs.Machine as links
 use Rattle.model_link.specs.Sound as link_sound
-use Rattle.model_link.specs.Told.{Given}
-use Rattle.model_line.specs.declared.config.Config.{Config}
-use Rattle.model_line.specs.Event.{next, NextFrame, gave}
-use Rattle.model_line.specs.Line.{Line, link_in, link_of, place_in, state_of, terms, window}
 use Rattle.model_line.specs.Machine as lines
 use Rattle.model_line.specs.Machine.{answer as line_answer, after as line_after}
-use Rattle.model_line.specs.Sound.{IsInRange, IsSound}
-use Rattle.model_line.specs.Taken.{taken, frame_of, next_of}
-use Rattle.model_line.proofs.LinksSound.{sound_in}
-use Rattle.model_line.proofs.Ranges.{terms_in_range}
-use Rattle.model_card.specs.Card.{fresh, line_at}
-use Rattle.model_card.specs.Event.{Event, at}
+use Rattle.model_line.specs.Sound.{IsSound}
+use Rattle.model_line.specs.Taken.{frame_of}
+use Rattle.model_card.specs.Card.{fresh}
+use Rattle.model_card.specs.Event.{Event}
 use Rattle.model_card.specs.Machine.{answer}
-use Rattle.model_card.specs.Run.{moments, after_all, AreAtLines}
+use Rattle.model_card.specs.Run.{after_all, AreAtLines}
 use Rattle.laws_trace.specs.AllGoesAgain.{MayGo}
 use Rattle.laws_trace.specs.DataGoesOut.{IsNext, DataGoesOut}
 use Rattle.laws_trace.specs.LinkFrames.{Sent, sent_by}

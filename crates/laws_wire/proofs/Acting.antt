@@ -1,24 +1,11 @@
 -- What happens at one end of a wire whose link is up, where frames are lost and timers expire.
-use Rattle.std.proofs.Common.{◌≡◌, ℕ, IsTrue, List, [], ◌∷◌, ◌++◌, drop, refl, sym, ap, subst, ◌∙◌, ◌⊎◌, inl, inr, append-nil}
-use Rattle.lapd_frame.specs.declared.services.Service.{Service}
-use Rattle.lapd_frame.specs.declared.timers.Timer.{Timer}
-use Rattle.lapd_frame.specs.Grammar.{Parts, spelling}
-use Rattle.model_link.specs.declared.frames.ControlFrame.{ControlFrame}
-use Rattle.model_link.specs.declared.timers.LinkTimer.{LinkTimer}
+use Rattle.laws_wire.proofs.Vocabulary.{◌≡◌, ℕ, IsTrue, List, [], ◌∷◌, ◌++◌, drop, refl, sym, ap, subst, ◌∙◌, ◌⊎◌, inl, inr, append-nil, Service, Timer, Parts, spelling, ControlFrame, LinkTimer, is_multiple_frame, course, IsInRange, End, with_link, with_sent, frames_of, Config, LineTold, expiry, request, next, at_timer, aim_of_expiry, Line, place_in, event-follows}
 use Rattle.model_link.specs.Events as link
-use Rattle.model_link.specs.Link.{is_multiple_frame}
-use Rattle.model_link.specs.Machine.{course}
-use Rattle.model_link.specs.Sound.{IsInRange, IsSound}
+use Rattle.model_link.specs.Sound.{IsSound}
 use Rattle.model_link.specs.Steps.{Course}
-use Rattle.model_link.specs.TwoEnds.{End, with_link, with_sent}
 use Rattle.model_link.specs.TwoEnds as two_ends
-use Rattle.model_link.proofs.Direction.{frames_of, line_of}
-use Rattle.model_line.specs.declared.config.Config.{Config}
-use Rattle.model_line.specs.Event.{LineTold, expiry, request, next}
-use Rattle.model_line.specs.Expiry.{at_timer, aim_of_expiry}
-use Rattle.model_line.specs.Line.{Line, place_in}
+use Rattle.model_link.proofs.Direction.{line_of}
 use Rattle.model_line.specs.Request.{Data}
-use Rattle.laws_link.proofs.Follows.{event-follows}
 use Rattle.laws_wire.specs.Wire.{Station, happens, with_first_lost, comes}
 use Rattle.laws_wire.proofs.Asking.{with_more}
 use Rattle.laws_wire.proofs.Fair.{HasError, Fine, frame-fair, timer-fair}

@@ -1,15 +1,6 @@
 -- Where no turn is left the two cards face each other again.
-use Rattle.std.proofs.Common.{◌≡◌, ℕ, ◌<◌, [], length, flat_map, sym, ap, subst, ◌∙◌, arith}
-use Rattle.std.specs.Option.{option_map_or}
-use Rattle.lapd_frame.specs.declared.services.Service.{Service}
-use Rattle.lapd_frame.specs.Grammar.{other_side}
-use Rattle.model_link.specs.Link.{fresh}
-use Rattle.model_link.specs.TwoEnds.{End}
-use Rattle.model_line.specs.declared.config.Config.{Config}
-use Rattle.model_line.specs.Line.{link_in, link_at, terms, terms_at}
-use Rattle.laws_link.specs.two.Rounds.{IsReady, IsTaken, HasArrived}
-use Rattle.laws_link.proofs.OfTwo.AnyOrder.{Steady, Direction}
-use Rattle.laws_link.proofs.OfTwo.Waiting.{nothing-given}
+use Rattle.laws_wire.proofs.Vocabulary.{◌≡◌, ℕ, ◌<◌, [], length, flat_map, sym, ap, subst, ◌∙◌, arith, option_map_or, Service, other_side, fresh, End, Config, link_in, link_at, terms, terms_at, IsReady, IsTaken, HasArrived, Steady, nothing-given}
+use Rattle.laws_link.proofs.OfTwo.AnyOrder.{Direction}
 use Rattle.laws_wire.specs.Wire.{Station, Wire, IsStill}
 use Rattle.laws_wire.specs.Facing as facing
 use Rattle.laws_wire.specs.Facing.{line_of, data_of, read_as, end_of}

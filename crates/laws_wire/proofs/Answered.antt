@@ -1,18 +1,8 @@
 -- What an event leaves as it was at a station.
-use Rattle.std.proofs.Common.{◌≡◌, Bool, true, false, cond, ℕ, List, [], ◌++◌, Option, None, Some, option_map, refl, ap, ◌∙◌, append-nil}
-use Rattle.lapd_frame.specs.declared.refusals.Refusal.{Refusal}
-use Rattle.lapd_frame.specs.declared.refusals.Refusal.TheVariants.{PoolFull}
-use Rattle.lapd_frame.specs.declared.timers.Timer.{Timer}
-use Rattle.model_line.specs.Came.{came}
-use Rattle.model_line.specs.Event.{Event, hears, expiry, request, next, Answer, told, refused, gave}
+use Rattle.laws_wire.proofs.Vocabulary.{◌≡◌, Bool, true, false, cond, ℕ, List, [], ◌++◌, Option, None, Some, option_map, refl, ap, ◌∙◌, append-nil, Refusal, PoolFull, Timer, came, hears, expiry, request, next, Answer, refused, gave, unless_refused_told, of_request, Request, taken, next_of, line_at, at, wants_room}
+use Rattle.model_line.specs.Event.{Event, told}
 use Rattle.model_line.specs.Machine as lines
-use Rattle.model_line.specs.Machine.{unless_refused_told, of_request}
 use Rattle.model_line.specs.Refusal.{refusal}
-use Rattle.model_line.specs.Request.{Request}
-use Rattle.model_line.specs.Taken.{taken, next_of}
-use Rattle.model_card.specs.Card.{line_at}
-use Rattle.model_card.specs.Event.{at}
-use Rattle.model_card.specs.Machine.{wants_room}
 use Rattle.laws_wire.specs.Wire.{Station, answered, happens, comes, frames_by, unless_refused, contents_in}
 
 -- A call for the next frame gives what is taken at the line, and tells nothing.

@@ -1,19 +1,11 @@
 -- Two ends in state 7: layer 3 of one asks to send more contents, and the request is granted.
-use Rattle.std.proofs.Common.{◌≡◌, ℕ, zero, suc, ◌+◌, ◌-◌, ◌*◌, ◌<◌, ◌≤◌, Bool, false, List, [], ◌∷◌, ◌++◌, length, take, Option, None, Some, refl, sym, ap, subst, ◌∙◌, inl, inr, append-nil, arith, length-append}
-use Rattle.std.specs.Prelude.{slice_get, unwrap_or}
-use Rattle.std.proofs.lemmas.List.Elements.{All-nil, All-cons, All-append}
-use Rattle.lapd_frame.specs.declared.refusals.Refusal.{Refusal}
-use Rattle.lapd_frame.specs.Grammar.{Parts}
-use Rattle.model_link.specs.declared.terms.Terms.{Terms}
-use Rattle.model_link.specs.Link.{Link}
-use Rattle.model_link.specs.Events.{Data, requested}
-use Rattle.model_link.specs.Requests.{refusal, granted}
-use Rattle.model_link.specs.Steps.{Course, begun}
+use Rattle.laws_wire.proofs.Vocabulary.{◌≡◌, ℕ, zero, suc, ◌+◌, ◌-◌, ◌*◌, ◌<◌, ◌≤◌, Bool, false, List, [], ◌∷◌, ◌++◌, length, take, Option, None, Some, refl, sym, ap, subst, ◌∙◌, inl, inr, append-nil, arith, length-append, slice_get, All-nil, All-cons, All-append, Refusal, Parts, Terms, Link, requested, granted, begun, End, with_link, sound-after, load, weight_at, Informs, Lane, lane-order, Steady}
+use Rattle.std.specs.Prelude.{unwrap_or}
+use Rattle.model_link.specs.Events.{Data}
+use Rattle.model_link.specs.Requests.{refusal}
+use Rattle.model_link.specs.Steps.{Course}
 use Rattle.model_link.specs.Sound.{IsSound}
-use Rattle.model_link.specs.TwoEnds.{End, with_link}
-use Rattle.model_link.proofs.SoundEvents.{sound-after}
-use Rattle.laws_link.specs.two.AnyOrder.{load, weight_at}
-use Rattle.laws_link.proofs.OfTwo.AnyOrder.{Informs, Lane, lane-order, Steady, Direction}
+use Rattle.laws_link.proofs.OfTwo.AnyOrder.{Direction}
 
 -- contents at a place below what was there stay
 pub get-front : (xs ys : List (List ℕ)) (i : ℕ) → i < length xs → slice_get (xs ++ ys) i ≡ slice_get xs i

@@ -1,20 +1,5 @@
 -- What is awaited at a station is awaited at the end for which it stands: there a T200 that is long enough is timely.
-use Rattle.std.proofs.Common.{◌≡◌, ℕ, ◌<◌, Bool, true, false, List, [], ◌∷◌, ◌++◌, map, refl, sym, ap, subst, ◌∙◌, true≢false}
-use Rattle.std.specs.Prelude.{All, flat_map}
-use Rattle.std.specs.Option.{option_map_or}
-use Rattle.std.proofs.lemmas.List.Elements.{All-head, All-tail, All-weaker}
-use Rattle.lapd_frame.specs.declared.controls.Control.{Control}
-use Rattle.lapd_frame.specs.declared.controls.Control.TheVariants.{Information, ReceiveReady, ReceiveNotReady, Reject, Sabme, Disc, Ui, Ua, Dm, Frmr, Xid}
-use Rattle.lapd_frame.specs.declared.services.Service.{Service}
-use Rattle.lapd_frame.specs.Grammar.{Parts, spelling}
-use Rattle.model_link.specs.declared.states.State.{State}
-use Rattle.model_link.specs.declared.frames.ControlFrame.{ControlFrame}
-use Rattle.model_link.specs.Link.{fresh}
-use Rattle.model_link.specs.TwoEnds.{End}
-use Rattle.model_line.specs.declared.config.Config.{Config}
-use Rattle.model_line.specs.Line.{link_in, terms}
-use Rattle.laws_link.specs.Flags.{awaits_answer}
-use Rattle.laws_link.specs.two.Timely.{is_enquiry, is_answer, supervisory_bit, HasNo}
+use Rattle.laws_wire.proofs.Vocabulary.{◌≡◌, ℕ, ◌<◌, Bool, true, false, List, [], ◌∷◌, ◌++◌, map, refl, sym, ap, subst, ◌∙◌, true≢false, All, flat_map, option_map_or, All-head, All-tail, All-weaker, Control, Information, ReceiveReady, ReceiveNotReady, Reject, Sabme, Disc, Ui, Ua, Dm, Frmr, Xid, Service, Parts, spelling, State, ControlFrame, fresh, End, Config, link_in, terms, awaits_answer, is_enquiry, is_answer, supervisory_bit, HasNo}
 use Rattle.laws_link.specs.two.Timely as two_links
 use Rattle.laws_wire.specs.Wire.{Station}
 use Rattle.laws_wire.specs.Facing.{line_of, read_as, parts_of, end_of}

@@ -1,49 +1,21 @@
 -- Two cards that have just begun: each has the TEI assigned, and one is asked to establish.
-use Rattle.std.proofs.Common.{◌≡◌, ℕ, zero, suc, ◌<◌, ◌≤◌, Bool, true, false, not, cond, List, [], ◌∷◌, ◌++◌, length, get_or, set, replicate, Option, Some, None, is_some, refl, sym, ap, subst, ◌∙◌, append-nil, arith}
-use Rattle.std.specs.Prelude.{nat_lt}
-use Rattle.std.specs.Option.{option_map_or}
-use Rattle.std.proofs.lemmas.Bool.{le-ltb, lt-ltb}
-use Rattle.std.proofs.lemmas.List.{get_or-set_same, length-replicate}
-use Rattle.std.proofs.lemmas.List.Elements.{All-nil}
-use Rattle.lapd_frame.specs.declared.refusals.Refusal.{Refusal}
-use Rattle.lapd_frame.specs.declared.refusals.Refusal.TheVariants.{BadTei, NoLink, WrongState, TeiTaken, TableFull}
-use Rattle.lapd_frame.specs.declared.services.Service.{Service}
-use Rattle.lapd_frame.specs.declared.services.Service.TheVariants.{Call, Packet}
+use Rattle.laws_wire.proofs.Vocabulary.{◌≡◌, ℕ, zero, suc, ◌<◌, ◌≤◌, Bool, true, false, not, cond, List, [], ◌∷◌, ◌++◌, length, get_or, set, replicate, Option, Some, None, is_some, refl, sym, ap, subst, ◌∙◌, append-nil, arith, nat_lt, option_map_or, le-ltb, lt-ltb, get_or-set_same, length-replicate, All-nil, Refusal, BadTei, NoLink, WrongState, TeiTaken, TableFull, Service, Call, Packet, empty, Places, is_on, free_place, join_at, put_on, join, is_on-at, place_of-is, table-put, table-empty, Link, fresh, serves, End, with_link, Config, Effect, at_management, of_aim, of_change, told_of_management, request, Line, fresh_line, link_number, terms, terms_at, link_at, link_of, link_in, link_count, has_tei, unless_refused, unless_refused_told, Assign, fresh_gives_nothing, ranges_of, Card, line_at, wants_room, after_is_sound, fresh_is_sound, by-two, has-place}
 use Rattle.lapd_tei.specs.Events as teis
-use Rattle.lapd_tei.specs.Machine.{empty}
-use Rattle.lapd_tei.specs.Table.{Places, is_on, free_place}
-use Rattle.lapd_tei.specs.Rows.{join_at, put_on}
-use Rattle.lapd_tei.specs.Words.{Course, begun as tei_begun, join}
-use Rattle.lapd_tei.proofs.Tables.{is_on-at, place_of-is, table-put}
-use Rattle.lapd_tei.proofs.SoundWords.{table-empty}
+use Rattle.lapd_tei.specs.Words.{Course, begun as tei_begun}
 use Rattle.model_link.specs.Events as link
-use Rattle.model_link.specs.Link.{Link, fresh}
 use Rattle.model_link.specs.Machine as links
-use Rattle.model_link.specs.Requests.{serves}
-use Rattle.model_link.specs.TwoEnds.{End, with_link}
-use Rattle.model_line.specs.declared.config.Config.{Config}
-use Rattle.model_line.specs.Effect.{Effect, at_management, of_aim, of_change, told_of_management}
-use Rattle.model_line.specs.Event.{Event, nothing, request, told}
-use Rattle.model_line.specs.Line.{Line, fresh_line, link_number, terms, terms_at, link_at, link_of, link_in, link_count, has_tei}
+use Rattle.model_line.specs.Event.{Event, nothing, told}
 use Rattle.model_line.specs.Machine as lines
-use Rattle.model_line.specs.Machine.{unless_refused, unless_refused_told}
 use Rattle.model_line.specs.Refusal.{refusal}
-use Rattle.model_line.specs.Request.{Assign, Establish}
+use Rattle.model_line.specs.Request.{Establish}
 use Rattle.model_line.specs.Sound as line_sound
-use Rattle.model_line.proofs.Offered.{fresh_gives_nothing}
-use Rattle.model_line.proofs.Ranges.{ranges_of}
-use Rattle.model_card.specs.Card.{Card, line_at}
 use Rattle.model_card.specs.Card as cards
 use Rattle.model_card.specs.Event.{at as event_at}
-use Rattle.model_card.specs.Machine.{wants_room}
-use Rattle.model_card.proofs.CardSound.{after_is_sound, fresh_is_sound}
 use Rattle.laws_wire.specs.Wire.{Station, answered, happens, told_by}
 use Rattle.laws_wire.specs.Call.{station, assigned}
 use Rattle.laws_wire.proofs.Answered.{asks-way, same-granted}
 use Rattle.laws_wire.proofs.Calling.{asked, asks-establish, told-of-establish, end}
 use Rattle.laws_wire.proofs.LineSpeaks.{Speaks}
-use Rattle.laws_line.proofs.Managing.{by-two}
-use Rattle.laws_line.proofs.Places.{has-place}
 use Rattle.laws_wire.proofs.Standing.{IsCarried, Stands, asks-granted, link-ranges}
 use Rattle.laws_wire.proofs.Talking.{unheard, Holds, none-told}
 

@@ -1,31 +1,13 @@
 -- What is done in a call. Layer 3 asks for the establishment of the link: in state 4 it is granted, and in any other state it is
 -- refused, which changes nothing.
-use Rattle.std.proofs.Common.{◌≡◌, ℕ, ◌+◌, ◌≤◌, Bool, true, false, true≢false, not, cond, List, [], ◌∷◌, ◌++◌, Option, None, Some, refl, sym, ap, subst, ◌∙◌, ◌⊎◌, inl, inr, append-nil}
-use Rattle.std.specs.Prelude.{nat_lt}
-use Rattle.std.specs.Option.{option_map_or}
-use Rattle.std.proofs.lemmas.Bool.{le-ltb}
-use Rattle.lapd_frame.specs.declared.refusals.Refusal.{Refusal}
-use Rattle.lapd_frame.specs.declared.refusals.Refusal.TheVariants.{BadTei, NoLink, WrongState}
-use Rattle.lapd_frame.specs.declared.services.Service.{Service}
-use Rattle.lapd_tei.proofs.Tables.{is_on-at, place_of-is, not_not}
-use Rattle.model_link.specs.declared.terms.Terms.{Terms}
+use Rattle.laws_wire.proofs.Vocabulary.{◌≡◌, ℕ, ◌+◌, ◌≤◌, Bool, true, false, true≢false, not, cond, List, [], ◌∷◌, ◌++◌, Option, None, Some, refl, sym, ap, subst, ◌∙◌, ◌⊎◌, inl, inr, append-nil, nat_lt, option_map_or, le-ltb, Refusal, BadTei, NoLink, WrongState, Service, is_on-at, place_of-is, not_not, Terms, Link, fresh, is_down, End, with_link, Config, request, Line, link_in, link_of, has_tei, terms, unless_refused_told, of_request, bad_tei, no_link, wrong_state, Request, line_at, wants_room, is_granted, passed}
 use Rattle.model_link.specs.Events as link
-use Rattle.model_link.specs.Link.{Link, fresh}
-use Rattle.model_link.specs.Requests.{is_down}
-use Rattle.model_link.specs.TwoEnds.{End, with_link}
-use Rattle.model_line.specs.declared.config.Config.{Config}
-use Rattle.model_line.specs.Event.{Event, request}
-use Rattle.model_line.specs.Line.{Line, link_in, link_of, has_tei, terms}
+use Rattle.model_line.specs.Event.{Event}
 use Rattle.model_line.specs.Machine as lines
-use Rattle.model_line.specs.Machine.{unless_refused_told, of_request}
-use Rattle.model_line.specs.Refusal.{refusal, bad_tei, no_link, wrong_state}
+use Rattle.model_line.specs.Refusal.{refusal}
 use Rattle.model_line.specs.Request as asked_for
-use Rattle.model_line.specs.Request.{Request, Establish, Data}
-use Rattle.model_card.specs.Card.{line_at}
+use Rattle.model_line.specs.Request.{Establish, Data}
 use Rattle.model_card.specs.Event.{at as event_at}
-use Rattle.model_card.specs.Machine.{wants_room}
-use Rattle.laws_line.specs.Share.{is_granted}
-use Rattle.laws_line.proofs.Asked.{passed}
 use Rattle.laws_wire.specs.Wire.{Station, Wire, happens, answered, requests, times_out, gives, takes, loses, Doing, at_near, at_far}
 use Rattle.laws_wire.specs.Call.{IsTalkOf, IsTalk, IsCall, IsCallOf, calls_back}
 use Rattle.laws_wire.proofs.Calling.{asked, asks-establish, told-of-establish, end}

@@ -1,25 +1,10 @@
 -- Both ends call, and SABMEs cross: how far each call has come, and what each step does.
-use Rattle.std.proofs.Common.{◌≡◌, ℕ, ◌+◌, ◌*◌, ◌<◌, ◌≤◌, true, false, cond, List, [], ◌∷◌, ◌++◌, length, map, None, refl, sym, ap, subst, ◌∙◌, ◌⊎◌, inl, inr, append-nil, arith}
-use Rattle.std.specs.Prelude.{nat_lt, if◌then◌else◌}
-use Rattle.std.proofs.lemmas.Bool.{lt-ltb}
-use Rattle.std.proofs.lemmas.List.Elements.{All-nil}
-use Rattle.lapd_frame.specs.declared.services.Service.{Service}
-use Rattle.lapd_frame.specs.Grammar.{Parts, spelling}
-use Rattle.model_link.specs.declared.frames.ControlFrame.{ControlFrame}
-use Rattle.model_link.specs.declared.terms.Terms.{Terms}
+use Rattle.laws_wire.proofs.Vocabulary.{◌≡◌, ℕ, ◌+◌, ◌*◌, ◌<◌, ◌≤◌, true, false, cond, List, [], ◌∷◌, ◌++◌, length, map, None, refl, sym, ap, subst, ◌∙◌, ◌⊎◌, inl, inr, append-nil, arith, nat_lt, if◌then◌else◌, lt-ltb, All-nil, Service, Parts, spelling, ControlFrame, Terms, received, course, given, IsInRange, begun, End, with_link, with_sent, Config, terms, Request, next, Pair}
 use Rattle.model_link.specs.Events as link
-use Rattle.model_link.specs.Events.{frame, received}
-use Rattle.model_link.specs.Machine.{after, course, given}
+use Rattle.model_link.specs.Events.{frame}
+use Rattle.model_link.specs.Machine.{after}
 use Rattle.model_link.specs.Requests.{refusal}
-use Rattle.model_link.specs.Sound.{IsInRange}
-use Rattle.model_link.specs.Steps.{begun}
-use Rattle.model_link.specs.TwoEnds.{End, with_link, with_sent}
 use Rattle.model_link.specs.TwoEnds as two_ends
-use Rattle.model_line.specs.declared.config.Config.{Config}
-use Rattle.model_line.specs.Line.{terms}
-use Rattle.model_line.specs.Request.{Request}
-use Rattle.model_line.specs.Event.{next}
-use Rattle.laws_link.proofs.OfTwo.AnyOrderRuns.{Pair}
 use Rattle.laws_wire.specs.Wire.{Station, Wire, happens, frames_by, with_first_of, with_first_lost, Act, requests, times_out, gives, takes, loses, acting, turned, is_turn_of, answered, comes}
 use Rattle.laws_wire.specs.Call.{IsTalkOf, confirmed}
 use Rattle.laws_wire.proofs.Answered.{takes-granted}

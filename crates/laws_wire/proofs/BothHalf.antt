@@ -1,20 +1,8 @@
 -- A call of which one end is up, and its UA waits or is on its way; and then both are up.
-use Rattle.std.proofs.Common.{◌≡◌, ℕ, ◌+◌, ◌*◌, ◌≤◌, false, List, [], ◌++◌, length, None, refl, sym, ap, subst, ◌∙◌, ◌⊎◌, inl, inr, arith}
-use Rattle.std.specs.Prelude.{if◌then◌else◌}
-use Rattle.lapd_frame.specs.declared.services.Service.{Service}
-use Rattle.lapd_frame.specs.Grammar.{spelling}
-use Rattle.model_link.specs.declared.terms.Terms.{Terms}
+use Rattle.laws_wire.proofs.Vocabulary.{◌≡◌, ℕ, ◌+◌, ◌*◌, ◌≤◌, false, List, [], ◌++◌, length, None, refl, sym, ap, subst, ◌∙◌, ◌⊎◌, inl, inr, arith, if◌then◌else◌, Service, spelling, Terms, course, is_down, IsInRange, End, with_sent, Config, terms, LineTold, request, next, weight_at, Pair}
 use Rattle.model_link.specs.Events as link
-use Rattle.model_link.specs.Machine.{course}
-use Rattle.model_link.specs.Requests.{refusal, is_down}
-use Rattle.model_link.specs.Sound.{IsInRange}
-use Rattle.model_link.specs.TwoEnds.{End, with_sent}
-use Rattle.model_line.specs.declared.config.Config.{Config}
-use Rattle.model_line.specs.Line.{terms}
+use Rattle.model_link.specs.Requests.{refusal}
 use Rattle.model_line.specs.Request.{Data}
-use Rattle.model_line.specs.Event.{LineTold, request, next}
-use Rattle.laws_link.specs.two.AnyOrder.{weight_at}
-use Rattle.laws_link.proofs.OfTwo.AnyOrderRuns.{Pair}
 use Rattle.laws_wire.specs.Wire.{Station, Wire, happens, frames_by, with_first_of, Act, requests, times_out, gives, takes, loses, Doing, at_near, at_far, acting, turned, doing, is_turn_of, is_turn, answered, comes}
 use Rattle.laws_wire.specs.Call.{IsTalkOf, IsTalk, confirmed}
 use Rattle.laws_wire.proofs.Answered.{gives-granted, takes-granted}

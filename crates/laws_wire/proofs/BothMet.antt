@@ -1,10 +1,5 @@
 -- The premises of the law are met by the worked call in which SABMEs cross: so each was told all, and the two face each other.
-use Rattle.std.proofs.Common.{[], ◌∷◌, refl}
-use Rattle.std.specs.Prelude.{All}
-use Rattle.lapd_frame.specs.declared.services.Service.TheVariants.{Call}
-use Rattle.lapd_frame.specs.Reading.{reading, header_of, control_of, unnumbered_of, supervisory_of}
-use Rattle.lapd_seq.specs.Circle.{distance_of, named}
-use Rattle.lapd_seq.specs.Numbers.{seq}
+use Rattle.laws_wire.proofs.Vocabulary.{[], ◌∷◌, refl, All, Call, reading, header_of, control_of, unnumbered_of, supervisory_of, distance_of, named, seq}
 use Rattle.lapd_tei.specs.Events as teis
 use Rattle.model_line.specs.Machine as lines
 use Rattle.model_line.specs.Request.{Data}

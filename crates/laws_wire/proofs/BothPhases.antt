@@ -1,18 +1,7 @@
 -- A call from its beginning: the near end calls, and the far one may call back before SABME comes; each step of it.
-use Rattle.std.proofs.Common.{◌≡◌, ℕ, ◌+◌, ◌*◌, ◌≤◌, Bool, true, false, cond, ◌||◌, [], ◌∷◌, ◌++◌, length, refl, sym, ap, subst, ◌∙◌, ◌⊎◌, inl, inr, arith}
-use Rattle.std.specs.Prelude.{if◌then◌else◌}
-use Rattle.lapd_frame.specs.declared.services.Service.{Service}
-use Rattle.lapd_frame.specs.Grammar.{spelling}
-use Rattle.model_link.specs.declared.terms.Terms.{Terms}
+use Rattle.laws_wire.proofs.Vocabulary.{◌≡◌, ℕ, ◌+◌, ◌*◌, ◌≤◌, Bool, true, false, cond, ◌||◌, [], ◌∷◌, ◌++◌, length, refl, sym, ap, subst, ◌∙◌, ◌⊎◌, inl, inr, arith, if◌then◌else◌, Service, spelling, Terms, fresh, course, IsInRange, with_link, Config, terms, next}
 use Rattle.model_link.specs.Events as link
-use Rattle.model_link.specs.Link.{fresh}
-use Rattle.model_link.specs.Machine.{course}
-use Rattle.model_link.specs.Sound.{IsInRange}
-use Rattle.model_link.specs.TwoEnds.{with_link}
-use Rattle.model_line.specs.declared.config.Config.{Config}
-use Rattle.model_line.specs.Line.{terms}
 use Rattle.model_line.specs.Request.{Establish}
-use Rattle.model_line.specs.Event.{next}
 use Rattle.laws_wire.specs.Wire.{Station, Wire, frames_by, with_first_of, Act, requests, times_out, gives, takes, loses, Doing, at_near, at_far, acting, turned, doing, is_turn_of, is_turn, answered, comes}
 use Rattle.laws_wire.specs.Call.{IsTalkOf, IsTalk, IsCall, calls_back, confirmed, indicated, told_first}
 use Rattle.laws_wire.proofs.Answered.{takes-granted}

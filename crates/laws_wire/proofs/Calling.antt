@@ -1,25 +1,11 @@
 -- An establishment between two links, before both are up: SABME waits and goes, then UA; behind it I-frames may be on their way.
-use Rattle.std.proofs.Common.{◌≡◌, ℕ, ◌≤◌, true, false, cond, List, [], ◌∷◌, ◌++◌, length, None, Some, refl, sym, ap, subst, ◌∙◌, arith}
-use Rattle.std.specs.Prelude.{nat_lt}
-use Rattle.std.proofs.lemmas.Bool.{lt-ltb}
-use Rattle.std.proofs.lemmas.List.Elements.{All-nil}
-use Rattle.lapd_frame.specs.declared.controls.Control.TheVariants.{Sabme, Ua}
-use Rattle.lapd_frame.specs.Grammar.{Parts}
+use Rattle.laws_wire.proofs.Vocabulary.{◌≡◌, ℕ, ◌≤◌, true, false, cond, List, [], ◌∷◌, ◌++◌, length, None, Some, refl, sym, ap, subst, ◌∙◌, arith, nat_lt, lt-ltb, All-nil, Sabme, Ua, Parts, T203, ControlFrame, Terms, Link, fresh, frame_of, received, requested, offer, course, IsInRange, begun, End, with_sent, command, response, sound-after, sound-fresh, Steady, Pair}
 use Rattle.model_link.specs.declared.states.State.TheVariants as state
-use Rattle.model_link.specs.declared.timers.LinkTimer.TheVariants.{T200, T203}
-use Rattle.model_link.specs.declared.frames.ControlFrame.{ControlFrame}
-use Rattle.model_link.specs.declared.terms.Terms.{Terms}
-use Rattle.model_link.specs.Link.{Link, fresh, frame_of}
-use Rattle.model_link.specs.Events.{frame, received, requested, offer, Establish, Data}
-use Rattle.model_link.specs.Machine.{after, course}
+use Rattle.model_link.specs.declared.timers.LinkTimer.TheVariants.{T200}
+use Rattle.model_link.specs.Events.{frame, Establish, Data}
+use Rattle.model_link.specs.Machine.{after}
 use Rattle.model_link.specs.Requests.{refusal}
-use Rattle.model_link.specs.Sound.{IsInRange, IsSound}
-use Rattle.model_link.specs.Steps.{begun}
-use Rattle.model_link.specs.TwoEnds.{End, with_sent}
-use Rattle.model_link.specs.Words.{command, response}
-use Rattle.model_link.proofs.SoundEvents.{sound-after, sound-fresh}
-use Rattle.laws_link.proofs.OfTwo.AnyOrder.{Steady}
-use Rattle.laws_link.proofs.OfTwo.AnyOrderRuns.{Pair}
+use Rattle.model_link.specs.Sound.{IsSound}
 use Rattle.laws_wire.specs.Call.{confirmed, indicated}
 use Rattle.laws_wire.proofs.Speaking.{said_by}
 

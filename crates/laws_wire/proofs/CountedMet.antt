@@ -1,9 +1,5 @@
 -- The premises of the law on counted expiries are met, by the worked call that recovers from its losses.
-use Rattle.std.proofs.Common.{◌≡◌, refl, arith}
-use Rattle.lapd_frame.specs.declared.services.Service.TheVariants.{Call}
-use Rattle.lapd_frame.specs.Reading.{reading, header_of, control_of, unnumbered_of, supervisory_of}
-use Rattle.lapd_seq.specs.Circle.{distance_of, named}
-use Rattle.lapd_seq.specs.Numbers.{seq}
+use Rattle.laws_wire.proofs.Vocabulary.{◌≡◌, refl, arith, Call, reading, header_of, control_of, unnumbered_of, supervisory_of, distance_of, named, seq}
 use Rattle.lapd_tei.specs.Events as teis
 use Rattle.model_line.specs.Machine as lines
 use Rattle.laws_wire.specs.Wire.{gives, loses, at_near, doing, doing_all, turns}

@@ -1,28 +1,11 @@
 -- RC is never above the number of expiries of T200 since a link was last in state 7.
-use Rattle.std.proofs.Common.{◌≡◌, ℕ, ◌+◌, ◌<◌, ◌≤◌, Bool, true, false, cond, not, ◌==◌, List, [], ◌∷◌, map, refl, sym, ap, subst, ◌∙◌, ◌⊎◌, inl, inr, true≢false, eqb-true, arith}
-use Rattle.std.specs.Prelude.{All}
-use Rattle.std.proofs.lemmas.List.Elements.{All-head, All-tail}
-use Rattle.lapd_frame.specs.declared.services.Service.{Service}
+use Rattle.laws_wire.proofs.Vocabulary.{◌≡◌, ℕ, ◌+◌, ◌<◌, ◌≤◌, Bool, true, false, cond, not, ◌==◌, List, [], ◌∷◌, map, refl, sym, ap, subst, ◌∙◌, ◌⊎◌, inl, inr, true≢false, eqb-true, arith, All, All-head, All-tail, Service, Parts, spelling, State, TeiAssigned, AwaitingEstablishment, AwaitingRelease, Established, TimerRecovery, Terms, T203, Link, state_number, IsInRange, End, Config, LineTold, request, terms, awaits_answer, repeats_left, as_heard, moves, is_clearing, is_time, event-follows}
 use Rattle.lapd_frame.specs.declared.timers.Timer.TheVariants as timers
-use Rattle.lapd_frame.specs.Grammar.{Parts, spelling}
-use Rattle.model_link.specs.declared.states.State.{State}
-use Rattle.model_link.specs.declared.states.State.TheVariants.{TeiAssigned, AwaitingEstablishment, AwaitingRelease, Established, TimerRecovery}
-use Rattle.model_link.specs.declared.terms.Terms.{Terms}
-use Rattle.model_link.specs.declared.timers.LinkTimer.TheVariants.{T200, T203}
+use Rattle.model_link.specs.declared.timers.LinkTimer.TheVariants.{T200}
 use Rattle.model_link.specs.Events as link
 use Rattle.model_link.specs.Events.{Event}
-use Rattle.model_link.specs.Link.{Link, state_number}
 use Rattle.model_link.specs.Machine.{after}
-use Rattle.model_link.specs.Sound.{IsInRange}
-use Rattle.model_link.specs.TwoEnds.{End}
-use Rattle.model_line.specs.declared.config.Config.{Config}
-use Rattle.model_line.specs.Event.{LineTold, request}
-use Rattle.model_line.specs.Line.{terms}
 use Rattle.model_line.specs.Request.{Data}
-use Rattle.laws_link.specs.Flags.{awaits_answer, repeats_left}
-use Rattle.laws_link.specs.States.{as_heard, moves, is_clearing}
-use Rattle.laws_link.specs.Waiting.{is_time}
-use Rattle.laws_link.proofs.Follows.{event-follows}
 use Rattle.laws_wire.specs.Wire.{Station, Wire, happens, with_first_of, Act, requests, times_out, gives, takes, loses, Doing, at_near, at_far, acting, turned, doing}
 use Rattle.laws_wire.specs.Call.{calling}
 use Rattle.laws_wire.specs.Losing.{IsRoughTalkOf, IsRoughTalk}

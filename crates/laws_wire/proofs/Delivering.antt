@@ -1,22 +1,7 @@
 -- Two cards that face each other deliver what layer 3 hands over.
-use Rattle.std.proofs.Common.{◌≡◌, ℕ, ◌+◌, ◌*◌, ◌≤◌, ◌==◌, ◌&&◌, ◌||◌, Bool, true, false, cond, List, [], ◌∷◌, ◌++◌, map, flat_map, refl, sym, ap, subst, ◌∙◌, append-nil, arith, eq-eqb}
-use Rattle.std.specs.Prelude.{All}
-use Rattle.std.specs.Option.{option_map_or}
+use Rattle.laws_wire.proofs.Vocabulary.{◌≡◌, ℕ, ◌+◌, ◌*◌, ◌≤◌, ◌==◌, ◌&&◌, ◌||◌, Bool, true, false, cond, List, [], ◌∷◌, ◌++◌, map, flat_map, refl, sym, ap, subst, ◌∙◌, append-nil, arith, eq-eqb, All, option_map_or, All-nil, Service, spelling, other_side, fresh, End, Ends, Config, LineTold, link_in, service-same, AreTurns, weight_at, IsReady, IsTaken, Pair, all-turns, nothing-to_send}
 use Rattle.std.proofs.lemmas.Grind.{flat_map-append}
-use Rattle.std.proofs.lemmas.List.Elements.{All-nil}
-use Rattle.lapd_frame.specs.declared.services.Service.{Service}
-use Rattle.lapd_frame.specs.Grammar.{spelling, other_side}
-use Rattle.model_link.specs.Link.{fresh}
-use Rattle.model_link.specs.TwoEnds.{End, Ends}
 use Rattle.model_link.specs.TwoEnds as two_ends
-use Rattle.model_line.specs.declared.config.Config.{Config}
-use Rattle.model_line.specs.Event.{LineTold}
-use Rattle.model_line.specs.Line.{link_in}
-use Rattle.laws_line.proofs.Obeyed.{service-same}
-use Rattle.laws_link.specs.two.AnyOrder.{AreTurns, weight_at}
-use Rattle.laws_link.specs.two.Rounds.{IsReady, IsTaken}
-use Rattle.laws_link.proofs.OfTwo.AnyOrderRuns.{Pair, all-turns}
-use Rattle.laws_link.proofs.OfTwo.Waiting.{nothing-to_send}
 use Rattle.laws_wire.specs.Wire.{Station, Wire, Doing, doing_all, turns, IsStill}
 use Rattle.laws_wire.specs.Call.{calling, IsTalk, confirmed, data_told, told_first, both_call}
 use Rattle.laws_wire.specs.Facing as facing

@@ -1,33 +1,11 @@
 -- Two stations of which one releases the link where both rest: what each thing that is done makes of them.
-use Rattle.std.proofs.Common.{◌≡◌, ℕ, ◌+◌, ◌<◌, Bool, true, false, List, [], ◌∷◌, ◌++◌, cond, refl, sym, ap, subst, ◌∙◌, ◌⊎◌, inl, inr, append-nil, arith}
-use Rattle.std.specs.Prelude.{All, nat_lt, flat_map}
-use Rattle.std.proofs.lemmas.Bool.{lt-ltb}
-use Rattle.std.proofs.lemmas.List.Elements.{All-head, All-tail}
-use Rattle.lapd_frame.specs.declared.services.Service.{Service}
-use Rattle.lapd_frame.specs.declared.timers.Timer.{Timer}
+use Rattle.laws_wire.proofs.Vocabulary.{◌≡◌, ℕ, ◌+◌, ◌<◌, Bool, true, false, List, [], ◌∷◌, ◌++◌, cond, refl, sym, ap, subst, ◌∙◌, ◌⊎◌, inl, inr, append-nil, arith, All, nat_lt, flat_map, lt-ltb, All-head, All-tail, Service, Timer, Parts, spelling, Established, ControlFrame, Terms, LinkTimer, T203, Link, frame_of, course, End, with_link, response, Ua, Dm, IsInRange, begun, Config, LineTold, expiry, next, terms, HasNothingToSend, awaits_answer}
 use Rattle.lapd_frame.specs.declared.timers.Timer.TheVariants as timers
-use Rattle.lapd_frame.specs.Grammar.{Parts, spelling}
-use Rattle.model_link.specs.declared.states.State.TheVariants.{Established}
-use Rattle.model_link.specs.declared.frames.ControlFrame.{ControlFrame}
-use Rattle.model_link.specs.declared.terms.Terms.{Terms}
-use Rattle.model_link.specs.declared.timers.LinkTimer.{LinkTimer}
-use Rattle.model_link.specs.declared.timers.LinkTimer.TheVariants.{T200, T203}
+use Rattle.model_link.specs.declared.timers.LinkTimer.TheVariants.{T200}
 use Rattle.model_link.specs.Events as link
-use Rattle.model_link.specs.Link.{Link, frame_of}
-use Rattle.model_link.specs.Machine.{course}
-use Rattle.model_link.specs.TwoEnds.{End, with_link}
-use Rattle.model_link.specs.Words.{response}
-use Rattle.lapd_frame.specs.declared.controls.Control.TheVariants.{Ua, Dm}
-use Rattle.model_link.specs.Sound.{IsInRange}
-use Rattle.model_link.specs.Steps.{begun}
-use Rattle.model_line.specs.declared.config.Config.{Config}
-use Rattle.model_line.specs.Event.{LineTold, expiry, next}
-use Rattle.model_line.specs.Line.{terms}
-use Rattle.laws_link.specs.two.Waits.{HasNothingToSend}
 use Rattle.laws_wire.specs.Wire.{Station, Wire, happens, comes, with_first_of, Act, requests, times_out, gives, takes, loses, acting, turned, Doing, at_near, at_far, doing, doing_all}
 use Rattle.laws_wire.specs.Facing.{end_of}
 use Rattle.laws_wire.specs.Timely.{is_poll, is_final, IsNoneOpen, IsTimelyOf}
-use Rattle.laws_link.specs.Flags.{awaits_answer}
 use Rattle.laws_wire.specs.Losing.{for_layer_3}
 use Rattle.laws_wire.specs.Ending.{IsLeaving, IsTimelyThere, StayTimelyThere, release_confirmed, release_indicated}
 use Rattle.laws_wire.proofs.Awaited.{as-here, may-there, open-there, waits-first, goes-first}

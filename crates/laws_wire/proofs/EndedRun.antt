@@ -1,34 +1,12 @@
 -- A call that ends where both ends rest: from its release on.
-use Rattle.std.proofs.Common.{◌≡◌, ℕ, suc, ◌≤◌, Bool, true, false, not, cond, List, [], ◌∷◌, ◌++◌, Option, None, Some, refl, sym, ap, subst, ◌∙◌, ◌⊎◌, inl, inr, append-nil, true≢false}
-use Rattle.std.specs.Prelude.{All, nat_lt, flat_map, replicate}
-use Rattle.std.specs.Option.{option_map_or}
-use Rattle.std.proofs.lemmas.Bool.{le-ltb, lt-ltb}
+use Rattle.laws_wire.proofs.Vocabulary.{◌≡◌, ℕ, suc, ◌≤◌, Bool, true, false, not, cond, List, [], ◌∷◌, ◌++◌, Option, None, Some, refl, sym, ap, subst, ◌∙◌, ◌⊎◌, inl, inr, append-nil, true≢false, All, nat_lt, flat_map, replicate, option_map_or, le-ltb, lt-ltb, Refusal, BadTei, NoLink, WrongState, Service, is_on-at, place_of-is, Established, Terms, Link, fresh, course, serves, IsInRange, runs, End, with_link, Config, LineTold, request, Line, link_in, link_of, terms, line_at, wants_room, HasNothingToSend, nothing-given}
 use Rattle.std.proofs.lemmas.List.Concat.{flat_map-append}
-use Rattle.lapd_frame.specs.declared.refusals.Refusal.{Refusal}
-use Rattle.lapd_frame.specs.declared.refusals.Refusal.TheVariants.{BadTei, NoLink, WrongState}
-use Rattle.lapd_frame.specs.declared.services.Service.{Service}
-use Rattle.lapd_tei.proofs.Tables.{is_on-at, place_of-is}
-use Rattle.model_link.specs.declared.states.State.TheVariants.{Established}
-use Rattle.model_link.specs.declared.terms.Terms.{Terms}
 use Rattle.model_link.specs.declared.timers.LinkTimer.TheVariants.{T200}
 use Rattle.model_link.specs.Events as link
-use Rattle.model_link.specs.Link.{Link, fresh}
-use Rattle.model_link.specs.Machine.{course}
-use Rattle.model_link.specs.Requests.{serves}
-use Rattle.model_link.specs.Sound.{IsInRange}
-use Rattle.model_link.specs.Told.{runs}
-use Rattle.model_link.specs.TwoEnds.{End, with_link}
-use Rattle.model_line.specs.declared.config.Config.{Config}
-use Rattle.model_line.specs.Event.{LineTold, request}
-use Rattle.model_line.specs.Line.{Line, link_in, link_of, terms}
 use Rattle.model_line.specs.Machine as lines
 use Rattle.model_line.specs.Refusal.{refusal}
 use Rattle.model_line.specs.Request.{Release}
-use Rattle.model_card.specs.Card.{line_at}
 use Rattle.model_card.specs.Event.{at as event_at}
-use Rattle.model_card.specs.Machine.{wants_room}
-use Rattle.laws_link.specs.two.Waits.{HasNothingToSend}
-use Rattle.laws_link.proofs.OfTwo.Waiting.{nothing-given}
 use Rattle.laws_wire.specs.Wire.{Station, Wire, happens, requests, acting, turned, Doing, doing_all, IsStill}
 use Rattle.laws_wire.specs.Call.{calling, confirmed, indicated}
 use Rattle.laws_wire.specs.Losing.{for_layer_3, heard_in}

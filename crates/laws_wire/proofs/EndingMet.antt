@@ -1,12 +1,6 @@
 -- The premises of the law on a call that ends are met by the worked call.
-use Rattle.std.proofs.Common.{◌≡◌, ℕ, ◌<◌, List, [], ◌∷◌, ◌++◌, refl, inl, arith}
-use Rattle.std.specs.Prelude.{All}
-use Rattle.std.proofs.lemmas.List.Elements.{All-nil, All-cons}
-use Rattle.lapd_frame.specs.declared.services.Service.TheVariants.{Call}
+use Rattle.laws_wire.proofs.Vocabulary.{◌≡◌, ℕ, ◌<◌, List, [], ◌∷◌, ◌++◌, refl, inl, arith, All, All-nil, All-cons, Call, reading, header_of, control_of, unnumbered_of, supervisory_of, distance_of, named, seq}
 use Rattle.lapd_frame.specs.declared.timers.Timer.TheVariants.{T200}
-use Rattle.lapd_frame.specs.Reading.{reading, header_of, control_of, unnumbered_of, supervisory_of}
-use Rattle.lapd_seq.specs.Circle.{distance_of, named}
-use Rattle.lapd_seq.specs.Numbers.{seq}
 use Rattle.lapd_tei.specs.Events as teis
 use Rattle.model_line.specs.Machine as lines
 use Rattle.laws_wire.specs.Wire.{Wire, times_out, gives, loses, Doing, at_near, doing_all, turns}

@@ -1,32 +1,15 @@
 -- An event of a link in states 7 and 8 tells an error; or it leaves the link there, tells what it delivers, and nothing else.
-use Rattle.std.proofs.Common.{◌≡◌, ℕ, Bool, true, false, cond, ◌||◌, IsTrue, List, [], ◌∷◌, ◌++◌, length, map, Option, None, Some, refl, sym, ap, subst, ◌∙◌, ◌⊎◌, inl, inr, true≢false}
-use Rattle.std.specs.Prelude.{nat_lt, option_to_list}
-use Rattle.std.specs.List.{list_any}
-use Rattle.std.proofs.lemmas.List.Folds.{list_any-append}
-use Rattle.lapd_seq.specs.declared.numbers.Seq.{Seq}
-use Rattle.lapd_seq.specs.Circle.{named}
-use Rattle.lapd_frame.specs.declared.controls.Control.{Control}
-use Rattle.lapd_frame.specs.declared.controls.Control.TheVariants.{Information, ReceiveReady, ReceiveNotReady, Reject, Sabme, Disc, Ui, Ua, Dm, Frmr, Xid}
-use Rattle.lapd_frame.specs.declared.notes.ErrorCode.{ErrorCode}
+use Rattle.laws_wire.proofs.Vocabulary.{◌≡◌, ℕ, Bool, true, false, cond, ◌||◌, IsTrue, List, [], ◌∷◌, ◌++◌, length, map, Option, None, Some, refl, sym, ap, subst, ◌∙◌, ◌⊎◌, inl, inr, true≢false, nat_lt, option_to_list, list_any, list_any-append, Seq, named, Control, Information, ReceiveReady, ReceiveNotReady, Reject, Sabme, Disc, Ui, Ua, Dm, Frmr, Xid, ErrorCode, Note, Parts, State, TeiAssigned, AwaitingEstablishment, AwaitingRelease, Established, TimerRecovery, LinkTimer, T203, Terms, Link, is_multiple_frame, has_outstanding, received, expired, begun, Step, ◌then◌, by_bit, Leads, keeping_then, nothing_leads, depending_leads, bit_leads, Means}
 use Rattle.lapd_frame.specs.declared.notes.ErrorCode.TheVariants as code
-use Rattle.lapd_frame.specs.declared.notes.Note.{Note}
 use Rattle.lapd_frame.specs.declared.notes.Note.TheVariants as notes
-use Rattle.lapd_frame.specs.Grammar.{Parts}
-use Rattle.model_link.specs.declared.states.State.{State}
-use Rattle.model_link.specs.declared.states.State.TheVariants.{TeiAssigned, AwaitingEstablishment, AwaitingRelease, Established, TimerRecovery}
-use Rattle.model_link.specs.declared.timers.LinkTimer.{LinkTimer}
-use Rattle.model_link.specs.declared.timers.LinkTimer.TheVariants.{T200, T203}
-use Rattle.model_link.specs.declared.terms.Terms.{Terms}
-use Rattle.model_link.specs.Link.{Link, is_multiple_frame, has_outstanding}
-use Rattle.model_link.specs.Events.{frame, received, expired}
-use Rattle.model_link.specs.Steps.{Course, begun, Step, ◌then◌, by_bit}
+use Rattle.model_link.specs.declared.timers.LinkTimer.TheVariants.{T200}
+use Rattle.model_link.specs.Events.{frame}
+use Rattle.model_link.specs.Steps.{Course}
 use Rattle.model_link.specs.Words
 use Rattle.model_link.specs.MultipleFrame
 use Rattle.model_link.specs.Established
 use Rattle.model_link.specs.TimerRecovery
 use Rattle.model_link.specs.Machine
-use Rattle.model_link.proofs.Leads.{Leads, keeping_then, nothing_leads, depending_leads, bit_leads}
-use Rattle.model_link.proofs.Lines.{Means}
 use Rattle.laws_wire.specs.Losing.{is_error}
 
 abbrev pub HasError : List Note → Type 0

@@ -1,38 +1,8 @@
 -- Two ends that are up, and whose T200 is timely: they stay so, and no frame that one takes makes it tell an error.
-use Rattle.std.proofs.Common.{◌≡◌, ℕ, ◌≤◌, Bool, true, false, cond, not, ◌&&◌, IsTrue, List, [], ◌∷◌, ◌++◌, refl, sym, ap, subst, ◌∙◌, ◌⊎◌, inl, inr, true≢false}
-use Rattle.std.specs.List.{list_any}
-use Rattle.lapd_seq.specs.declared.numbers.Seq.{Seq}
-use Rattle.lapd_frame.specs.declared.controls.Control.{Control}
-use Rattle.lapd_frame.specs.declared.controls.Control.TheVariants.{Information, ReceiveReady, ReceiveNotReady, Reject, Sabme, Disc, Ui, Ua, Dm, Frmr, Xid}
-use Rattle.lapd_frame.specs.declared.notes.Note.{Note}
+use Rattle.laws_wire.proofs.Vocabulary.{◌≡◌, ℕ, ◌≤◌, Bool, true, false, cond, not, ◌&&◌, IsTrue, List, [], ◌∷◌, ◌++◌, refl, sym, ap, subst, ◌∙◌, ◌⊎◌, inl, inr, true≢false, list_any, Seq, Control, Information, ReceiveReady, ReceiveNotReady, Reject, Sabme, Disc, Ui, Ua, Dm, Frmr, Xid, Note, Parts, State, TeiAssigned, AwaitingEstablishment, AwaitingRelease, Established, TimerRecovery, LinkTimer, Terms, Link, is_multiple_frame, received, expired, requested, offer, course, End, Ends, Act, asks, expires, sends, receives, loses, at_near, with_link, with_sent, with_first_of, with_first_lost, acting, IsUp, frames_of, Joined, joined-turned, done-at, Rising, frame-taken, busy_asked, flag_left, takes_contents, as_heard, is_overlong, state_after, numbered_as, final_as, told_up, told_by_frame, told_expired, told_by, event-follows, CanRepeat, IsMildAct, IsTimely, IsTimelyAct, is_recovering, Flow, flow-low, no-answer, line, NoAlien, is-no-alien, Sane, sane-doing, Flows, acted-flows, done-up, same-after, Kind, numbered, enquiry, answer, report, rejection, alien, kind_of, kind_of_ready, kind_of_reject}
 use Rattle.lapd_frame.specs.declared.notes.Note.TheVariants as notes
-use Rattle.lapd_frame.specs.Grammar.{Parts}
-use Rattle.model_link.specs.declared.states.State.{State}
-use Rattle.model_link.specs.declared.states.State.TheVariants.{TeiAssigned, AwaitingEstablishment, AwaitingRelease, Established, TimerRecovery}
-use Rattle.model_link.specs.declared.timers.LinkTimer.{LinkTimer}
-use Rattle.model_link.specs.declared.terms.Terms.{Terms}
-use Rattle.model_link.specs.Link.{Link, is_multiple_frame}
-use Rattle.model_link.specs.Events.{Event, frame, overlong, received, expired, requested, offer, Data}
-use Rattle.model_link.specs.Machine.{course, after}
-use Rattle.model_link.specs.TwoEnds.{End, Ends, Act, asks, expires, sends, receives, loses, at_near, with_link, with_sent, with_first_of, with_first_lost, acting, IsUp}
-use Rattle.model_link.proofs.Direction.{frames_of}
-use Rattle.model_link.proofs.Joined.{Joined, joined-turned, done-at}
-use Rattle.model_link.proofs.Lines.{Rising}
-use Rattle.model_link.proofs.Taking.{frame-taken}
-use Rattle.laws_link.specs.Flags.{busy_asked, flag_left, takes_contents}
-use Rattle.laws_link.specs.States.{as_heard, is_overlong, state_after}
-use Rattle.laws_link.specs.Telling.{numbered_as, final_as, told_up, told_by_frame, told_expired, told_by}
-use Rattle.laws_link.proofs.Follows.{event-follows}
-use Rattle.laws_link.specs.two.Ahead.{CanRepeat, IsMildAct}
-use Rattle.laws_link.specs.two.Timely.{IsTimely, IsTimelyAct}
-use Rattle.laws_link.proofs.OfTwo.Effects.{is_recovering}
-use Rattle.laws_link.proofs.OfTwo.Flow.{Flow, flow-low}
-use Rattle.laws_link.proofs.OfTwo.Flowing.{no-answer}
-use Rattle.laws_link.proofs.OfTwo.Meeting.{line, NoAlien, is-no-alien}
-use Rattle.laws_link.proofs.OfTwo.Reached.{Sane, sane-doing}
-use Rattle.laws_link.proofs.OfTwo.StayingUp.{Flows, acted-flows}
-use Rattle.laws_link.proofs.OfTwo.Together.{done-up, same-after}
-use Rattle.laws_link.proofs.OfTwo.Trains.{Kind, numbered, enquiry, answer, report, rejection, alien, kind_of, kind_of_ready, kind_of_reject}
+use Rattle.model_link.specs.Events.{Event, frame, overlong, Data}
+use Rattle.model_link.specs.Machine.{after}
 use Rattle.laws_wire.specs.Losing.{is_error}
 use Rattle.laws_wire.proofs.Fair.{HasError, Fine, frame-fair}
 use Rattle.laws_wire.proofs.Tame.{Tame, tame-asks, tame-expires, tame-sends, tame-loses, tame-takes}

@@ -1,30 +1,12 @@
 -- Two ends whose links are up, by what is on the line from each to the other: first what is on its way, and then what waits.
-use Rattle.std.proofs.Common.{◌≡◌, ℕ, ◌+◌, ◌≤◌, Bool, true, false, cond, IsTrue, List, [], ◌∷◌, ◌++◌, length, take, drop, None, refl, sym, ap, subst, ◌∙◌, append_assoc, append-nil, true≢false, arith}
-use Rattle.std.specs.Prelude.{option_to_list}
-use Rattle.std.proofs.lemmas.List.Elements.{All-nil}
-use Rattle.std.proofs.lemmas.List.Prefix.{front_rest}
-use Rattle.lapd_frame.specs.Grammar.{Parts}
-use Rattle.model_link.specs.declared.states.State.{State}
-use Rattle.model_link.specs.declared.states.State.TheVariants.{TeiAssigned, AwaitingEstablishment, AwaitingRelease, Established, TimerRecovery}
-use Rattle.model_link.specs.declared.timers.LinkTimer.{LinkTimer}
-use Rattle.model_link.specs.declared.timers.LinkTimer.TheVariants.{T200, T203}
-use Rattle.model_link.specs.declared.frames.ControlFrame.{ControlFrame}
-use Rattle.model_link.specs.declared.terms.Terms.{Terms}
-use Rattle.model_link.specs.Events.{frame, received, expired, offer}
-use Rattle.model_link.specs.Link.{Link, is_multiple_frame}
+use Rattle.laws_wire.proofs.Vocabulary.{◌≡◌, ℕ, ◌+◌, ◌≤◌, Bool, true, false, cond, IsTrue, List, [], ◌∷◌, ◌++◌, length, take, drop, None, refl, sym, ap, subst, ◌∙◌, append_assoc, append-nil, true≢false, arith, option_to_list, All-nil, front_rest, Parts, State, TeiAssigned, AwaitingEstablishment, AwaitingRelease, Established, TimerRecovery, LinkTimer, T203, ControlFrame, Terms, received, expired, offer, Link, is_multiple_frame, course, IsInRange, IsSettledIn, IsWaitingFrame, begun, End, with_link, with_sent, event-delivers, frames_of, frames-append, sender-goes, receiver-goes, sender-loses, receiver-loses, Reports, Up, no-reports, any_number, still, timer_7_up, t200_8_up, at-first, sender-hears, receiver-hears, Carried, Means, Rising, Gave, offer-gave, frame-taken, none-delivered}
+use Rattle.model_link.specs.declared.timers.LinkTimer.TheVariants.{T200}
+use Rattle.model_link.specs.Events.{frame}
 use Rattle.model_link.specs.Machine
-use Rattle.model_link.specs.Machine.{course, after}
-use Rattle.model_link.specs.Sound.{IsInRange, IsSound, IsSettledIn, IsWaitingFrame}
-use Rattle.model_link.specs.Steps.{Course, begun}
-use Rattle.model_link.specs.TwoEnds.{End, with_link, with_sent}
-use Rattle.model_link.proofs.Delivering.{event-delivers}
-use Rattle.model_link.proofs.Direction.{Direction, frames_of, frames-append, line_of, sender-goes, receiver-goes, sender-loses, receiver-loses}
-use Rattle.model_link.proofs.Facing.{Reports, Up, no-reports, any_number, still, timer_7_up, t200_8_up}
-use Rattle.model_link.proofs.FacingInformation.{at-first}
-use Rattle.model_link.proofs.Hearing.{sender-hears, receiver-hears}
-use Rattle.model_link.proofs.Lines.{Carried, Means, Rising}
-use Rattle.model_link.proofs.Sending.{Gave, offer-gave}
-use Rattle.model_link.proofs.Taking.{frame-taken, none-delivered}
+use Rattle.model_link.specs.Machine.{after}
+use Rattle.model_link.specs.Sound.{IsSound}
+use Rattle.model_link.specs.Steps.{Course}
+use Rattle.model_link.proofs.Direction.{Direction, line_of}
 
 -- An end with this on its line.
 abbrev pub bare : Link → Link

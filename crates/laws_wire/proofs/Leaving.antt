@@ -1,20 +1,11 @@
 -- A link that is released, and the one that is told of it: what each event makes of them.
-use Rattle.std.proofs.Common.{◌≡◌, ℕ, ◌+◌, ◌<◌, Bool, true, false, cond, List, [], ◌∷◌, ◌++◌, take, None, Some, refl, sym, ap, ◌∙◌}
-use Rattle.std.specs.Prelude.{nat_lt}
-use Rattle.std.proofs.lemmas.Bool.{lt-ltb}
-use Rattle.lapd_frame.specs.declared.controls.Control.TheVariants.{Disc, Ua, Dm}
+use Rattle.laws_wire.proofs.Vocabulary.{◌≡◌, ℕ, ◌+◌, ◌<◌, Bool, true, false, cond, List, [], ◌∷◌, ◌++◌, take, None, Some, refl, sym, ap, ◌∙◌, nat_lt, lt-ltb, Disc, Ua, Dm, Parts, TeiAssigned, AwaitingRelease, Established, ControlFrame, Terms, received, expired, requested, Link, frame_of, course, begun, ◌then◌, command, response}
 use Rattle.lapd_frame.specs.declared.notes.ErrorCode.TheVariants as code
-use Rattle.lapd_frame.specs.Grammar.{Parts}
-use Rattle.model_link.specs.declared.states.State.TheVariants.{TeiAssigned, AwaitingRelease, Established}
 use Rattle.model_link.specs.declared.timers.LinkTimer.TheVariants.{T200}
-use Rattle.model_link.specs.declared.frames.ControlFrame.{ControlFrame}
-use Rattle.model_link.specs.declared.terms.Terms.{Terms}
-use Rattle.model_link.specs.Events.{frame, received, expired, requested, Release}
-use Rattle.model_link.specs.Link.{Link, frame_of}
-use Rattle.model_link.specs.Machine.{after, course}
-use Rattle.model_link.specs.Steps.{Course, begun, ◌then◌}
+use Rattle.model_link.specs.Events.{frame, Release}
+use Rattle.model_link.specs.Machine.{after}
+use Rattle.model_link.specs.Steps.{Course}
 use Rattle.model_link.specs.Words
-use Rattle.model_link.specs.Words.{command, response}
 use Rattle.laws_wire.specs.Ending.{release_indicated}
 use Rattle.laws_wire.proofs.Speaking.{said_by}
 

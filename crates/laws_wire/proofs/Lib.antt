@@ -1,4 +1,5 @@
 -- Lemmas.
+pub mod Vocabulary
 pub mod Answered
 pub mod Asking
 pub mod Speaking

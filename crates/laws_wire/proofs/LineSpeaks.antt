@@ -1,48 +1,16 @@
 -- A line on which one link alone has anything to say.
-use Rattle.std.proofs.Common.{◌≡◌, ◌≢◌, ℕ, false, ◌<◌, ◌==◌, List, [], ◌∷◌, get_or, set, slice_get, Option, Some, None, option_map, Ok, refl, sym, ap, subst, ◌∙◌, ◌⊎◌, inl, inr, arith, ⊎_elim, if◌then◌else◌}
-use Rattle.std.specs.Prelude.{All}
-use Rattle.std.specs.Option.{option_map_or, option_or, unwrap_or}
-use Rattle.std.proofs.lemmas.Bool.{cases_eq}
-use Rattle.std.proofs.lemmas.List.{get_or-set_same, get_or-set_other}
-use Rattle.std.proofs.lemmas.List.Elements.{All-head, All-tail}
+use Rattle.laws_wire.proofs.Vocabulary.{◌≡◌, ◌≢◌, ℕ, false, ◌<◌, ◌==◌, List, [], ◌∷◌, get_or, set, slice_get, Option, Some, None, option_map, Ok, refl, sym, ap, subst, ◌∙◌, ◌⊎◌, inl, inr, arith, ⊎_elim, if◌then◌else◌, All, option_map_or, option_or, cases_eq, get_or-set_same, get_or-set_other, All-head, All-tail, Service, Call, Packet, Timer, Parts, reading, sapi_of, service_of, IsAt, place_of-is, Terms, LinkTimer, Link, fresh, Given, Config, Aim, at_link, told_of_link, of_aim, hears, expiry, request, next, at_timer, aim_of_expiry, Line, link_number, service_at, place_at, tei_at, terms, terms_at, link_at, link_in, link_count, place_in, unless_refused, unless_refused_told, of_heard, of_request, management_sapi, group_tei, drop_for, at_place, to_service, addressed, message_of, aim_of_heard, aim_of_reading, heard_side, at_side, Taken, with_message, with_unit, unit_taken, with_given_frame, link_taken, first_taken, round, taken, Request, at_requested, aim_of_request, IsSoundAt, came, place_at-number, service_at-number, number_within, round_below, IsSilent, none-waits, sends-none, nothing-given, nothing-to_send, silent-stays}
+use Rattle.std.specs.Option.{unwrap_or}
 use Rattle.model_bits.specs.Stream as stream
-use Rattle.lapd_frame.specs.declared.services.Service.{Service}
-use Rattle.lapd_frame.specs.declared.services.Service.TheVariants.{Call, Packet}
-use Rattle.lapd_frame.specs.declared.timers.Timer.{Timer}
-use Rattle.lapd_frame.specs.Grammar.{Parts}
-use Rattle.lapd_frame.specs.Reading.{reading}
-use Rattle.lapd_frame.specs.Services.{sapi_of, service_of}
 use Rattle.lapd_tei.specs.Messages.{frame_of as message_frame}
-use Rattle.lapd_tei.specs.Sound.{IsAt}
-use Rattle.lapd_tei.proofs.Tables.{place_of-is}
-use Rattle.model_link.specs.declared.terms.Terms.{Terms}
-use Rattle.model_link.specs.declared.timers.LinkTimer.{LinkTimer}
 use Rattle.model_link.specs.Events as link
-use Rattle.model_link.specs.Link.{Link, fresh}
 use Rattle.model_link.specs.Machine as links
 use Rattle.model_link.specs.Sound as link_sound
-use Rattle.model_link.specs.Told.{Given}
-use Rattle.model_line.specs.declared.config.Config.{Config}
-use Rattle.model_line.specs.Effect.{Aim, at_link, told_of_link, of_aim}
-use Rattle.model_line.specs.Event.{hears, expiry, request, next, told}
-use Rattle.model_line.specs.Expiry.{at_timer, aim_of_expiry}
-use Rattle.model_line.specs.Line.{Line, link_number, service_at, place_at, tei_at, terms, terms_at, link_at, link_in, link_count, place_in}
+use Rattle.model_line.specs.Event.{told}
 use Rattle.model_line.specs.Machine as lines
-use Rattle.model_line.specs.Machine.{unless_refused, unless_refused_told, of_heard, of_request}
-use Rattle.model_line.specs.Heard.{management_sapi, group_tei, drop_for, at_place, to_service, addressed, message_of, aim_of_heard, aim_of_reading, heard_side}
-use Rattle.model_line.specs.Sides.{at_side}
-use Rattle.model_line.specs.Taken.{Taken, with_message, with_unit, unit_taken, with_given_frame, link_taken, first_taken, round, taken, line_of}
+use Rattle.model_line.specs.Taken.{line_of}
 use Rattle.model_line.specs.Refusal.{refusal}
-use Rattle.model_line.specs.Request.{Request}
-use Rattle.model_line.specs.Requested.{at_requested, aim_of_request}
-use Rattle.model_line.specs.Sound.{IsSoundAt, IsSound}
-use Rattle.model_line.specs.Came.{came}
-use Rattle.model_line.proofs.Numbers.{place_at-number, service_at-number, number_within}
-use Rattle.model_line.proofs.TakenSound.{round_below}
-use Rattle.laws_line.specs.Served.{IsSilent}
-use Rattle.laws_line.proofs.Serving.{none-waits}
-use Rattle.laws_line.proofs.Silence.{sends-none}
-use Rattle.laws_link.proofs.OfTwo.Waiting.{nothing-given, nothing-to_send, silent-stays}
+use Rattle.model_line.specs.Sound.{IsSound}
 
 -- The TEI is on the line, neither a message nor unit data waits, and no other link has anything to give.
 pub record Speaks (c : Config) (service : Service) (tei place : ℕ) (x : Link) (l : Line) : Type 0 where

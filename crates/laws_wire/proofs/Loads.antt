@@ -1,22 +1,8 @@
 -- What a link has to send, in turns, where w turns go again at most: what waits, what is unsent, an acknowledgement that is owed,
 -- a REJ that may still be sent, and in state 8 what the answer may bring back.
-use Rattle.std.proofs.Common.{◌≡◌, ℕ, ◌+◌, ◌-◌, ◌*◌, ◌<◌, ◌≤◌, Bool, true, false, cond, not, ◌&&◌, List, [], ◌∷◌, ◌++◌, length, refl, ap, arith}
-use Rattle.std.specs.Prelude.{nat_lt}
-use Rattle.std.proofs.lemmas.Bool.{and_parts, ltb-true}
-use Rattle.lapd_frame.specs.declared.controls.Control.{Control}
-use Rattle.lapd_frame.specs.declared.controls.Control.TheVariants.{Information, ReceiveReady, ReceiveNotReady, Reject, Sabme, Disc, Ui, Ua, Dm, Frmr, Xid}
-use Rattle.lapd_frame.specs.Grammar.{Parts}
-use Rattle.lapd_seq.specs.Numbers.{seq}
-use Rattle.model_link.specs.declared.states.State.{State}
-use Rattle.model_link.specs.declared.states.State.TheVariants.{TeiAssigned, AwaitingEstablishment, AwaitingRelease, Established, TimerRecovery}
-use Rattle.model_link.specs.declared.frames.ControlFrame.{ControlFrame}
-use Rattle.model_link.specs.declared.terms.Terms.{Terms}
-use Rattle.model_link.specs.Link.{Link, unsent}
-use Rattle.model_link.specs.Events.{offer}
-use Rattle.model_link.specs.Machine.{course, given_of}
+use Rattle.laws_wire.proofs.Vocabulary.{◌≡◌, ℕ, ◌+◌, ◌-◌, ◌*◌, ◌<◌, ◌≤◌, Bool, true, false, cond, not, ◌&&◌, List, [], ◌∷◌, ◌++◌, length, refl, ap, arith, nat_lt, and_parts, ltb-true, Control, Information, ReceiveReady, ReceiveNotReady, Reject, Sabme, Disc, Ui, Ua, Dm, Frmr, Xid, Parts, seq, State, TeiAssigned, AwaitingEstablishment, AwaitingRelease, Established, TimerRecovery, ControlFrame, Terms, Link, unsent, offer, course, given_of, begun, frame_given}
 use Rattle.model_link.specs.Offers
-use Rattle.model_link.specs.Steps.{Course, begun}
-use Rattle.model_link.specs.TwoEnds.{frame_given}
+use Rattle.model_link.specs.Steps.{Course}
 use Rattle.model_link.specs.Words
 
 -- what a frame brings about, beyond itself

@@ -1,16 +1,8 @@
 -- A timer that expires lets a link send w turns more, and an enquiry and its answer; or an error is told.
-use Rattle.std.proofs.Common.{◌≡◌, ℕ, ◌+◌, ◌≤◌, Bool, true, false, cond, refl, ap, ◌⊎◌, inl, inr, arith}
-use Rattle.lapd_frame.specs.declared.controls.Control.TheVariants.{Sabme, Disc}
-use Rattle.model_link.specs.declared.states.State.{State}
-use Rattle.model_link.specs.declared.states.State.TheVariants.{TeiAssigned, AwaitingEstablishment, AwaitingRelease, Established, TimerRecovery}
-use Rattle.model_link.specs.declared.timers.LinkTimer.{LinkTimer}
-use Rattle.model_link.specs.declared.timers.LinkTimer.TheVariants.{T200, T203}
-use Rattle.model_link.specs.declared.terms.Terms.{Terms}
-use Rattle.model_link.specs.Link.{Link, may_repeat}
-use Rattle.model_link.specs.Events.{expired}
+use Rattle.laws_wire.proofs.Vocabulary.{◌≡◌, ℕ, ◌+◌, ◌≤◌, Bool, true, false, cond, refl, ap, ◌⊎◌, inl, inr, arith, Sabme, Disc, State, TeiAssigned, AwaitingEstablishment, AwaitingRelease, Established, TimerRecovery, LinkTimer, T203, Terms, Link, may_repeat, expired, course, begun}
+use Rattle.model_link.specs.declared.timers.LinkTimer.TheVariants.{T200}
 use Rattle.model_link.specs.Machine
-use Rattle.model_link.specs.Machine.{course}
-use Rattle.model_link.specs.Steps.{Course, begun}
+use Rattle.model_link.specs.Steps.{Course}
 use Rattle.model_link.specs.Words
 use Rattle.laws_wire.proofs.Fair.{HasError}
 use Rattle.laws_wire.proofs.Loads.{load, back, one-waits, ready-brings}

@@ -1,36 +1,10 @@
 -- Two ends that are up, either of which may be busy, and whose T200 is timely: they stay up, and no frame that one takes makes it tell an
 -- error.
-use Rattle.std.proofs.Common.{◌≡◌, ◌-◌, ◌≤◌, Bool, true, false, not, ◌&&◌, IsTrue, List, ◌∷◌, ◌++◌, length, Some, refl, sym, ap, subst, ◌∙◌, ◌⊎◌, inl, inr, true≢false, arith}
-use Rattle.std.specs.Prelude.{nat_lt}
-use Rattle.std.proofs.lemmas.Bool.{lt-ltb, ltb-false}
-use Rattle.std.proofs.lemmas.List.{take_all}
-use Rattle.lapd_frame.specs.Grammar.{Parts}
-use Rattle.model_link.specs.declared.states.State.{State}
-use Rattle.model_link.specs.declared.states.State.TheVariants.{TeiAssigned, AwaitingEstablishment, AwaitingRelease, Established, TimerRecovery}
-use Rattle.model_link.specs.declared.timers.LinkTimer.TheVariants.{T200, T203}
-use Rattle.model_link.specs.Events.{frame, received}
-use Rattle.model_link.specs.Link.{is_multiple_frame}
-use Rattle.model_link.specs.Machine.{course, after}
-use Rattle.model_link.specs.Offers.{is_established}
-use Rattle.model_link.specs.Told.{runs}
-use Rattle.model_link.specs.TwoEnds.{End, Ends, Act, asks, expires, sends, receives, loses, at_near, with_link, with_first_of, acting, IsUp}
-use Rattle.model_link.proofs.Direction.{frames_of, line_of}
-use Rattle.model_link.proofs.Joined.{Joined, joined-turned, done-at}
-use Rattle.model_link.proofs.Lines.{Rising, rising-low}
-use Rattle.model_link.proofs.Taking.{frame-taken}
-use Rattle.laws_link.specs.Timed.{IsTimedIn}
-use Rattle.laws_link.specs.two.Ahead.{IsMildAct}
-use Rattle.laws_link.specs.two.Heeds.{HeedsIn}
-use Rattle.laws_link.specs.two.Timely.{IsTimelyAct}
-use Rattle.laws_link.specs.two.Waits.{HasNothingToSend}
-use Rattle.laws_link.proofs.OfTwo.Effects.{is_recovering}
-use Rattle.laws_link.proofs.OfTwo.Flow.{Flow}
-use Rattle.laws_link.proofs.OfTwo.Flowing.{no-answer}
-use Rattle.laws_link.proofs.OfTwo.Meeting.{line, NoAlien, is-no-alien}
-use Rattle.laws_link.proofs.OfTwo.Reached.{Sane, sane-doing}
-use Rattle.laws_link.proofs.OfTwo.StayingUp.{Flows, acted-flows}
-use Rattle.laws_link.proofs.OfTwo.Together.{done-up, same-after}
-use Rattle.laws_link.proofs.OfTwo.Trains.{Kind, numbered, enquiry, answer, report, rejection, alien, kind_of}
+use Rattle.laws_wire.proofs.Vocabulary.{◌≡◌, ◌-◌, ◌≤◌, Bool, true, false, not, ◌&&◌, IsTrue, List, ◌∷◌, ◌++◌, length, Some, refl, sym, ap, subst, ◌∙◌, ◌⊎◌, inl, inr, true≢false, arith, nat_lt, lt-ltb, ltb-false, take_all, Parts, State, TeiAssigned, AwaitingEstablishment, AwaitingRelease, Established, TimerRecovery, T203, received, is_multiple_frame, course, is_established, runs, End, Ends, Act, asks, expires, sends, receives, loses, at_near, with_link, with_first_of, acting, IsUp, frames_of, Joined, joined-turned, done-at, Rising, rising-low, frame-taken, IsTimedIn, IsMildAct, HeedsIn, IsTimelyAct, HasNothingToSend, is_recovering, Flow, no-answer, line, NoAlien, is-no-alien, Sane, sane-doing, Flows, acted-flows, done-up, same-after, Kind, numbered, enquiry, answer, report, rejection, alien, kind_of}
+use Rattle.model_link.specs.declared.timers.LinkTimer.TheVariants.{T200}
+use Rattle.model_link.specs.Events.{frame}
+use Rattle.model_link.specs.Machine.{after}
+use Rattle.model_link.proofs.Direction.{line_of}
 use Rattle.laws_wire.proofs.Fair.{HasError, Fine, frame-fair}
 use Rattle.laws_wire.proofs.Firm.{Firm, IsQuiet, no-error, not-behind}
 

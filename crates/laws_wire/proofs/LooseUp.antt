@@ -1,36 +1,14 @@
 -- Two stations that are up, either of which may be busy, where each timer is timely: both stay up, whatever is lost.
-use Rattle.std.proofs.Common.{◌≡◌, ℕ, Bool, true, false, cond, List, [], ◌∷◌, ◌++◌, length, drop, map, Option, None, Some, refl, sym, ap, subst, ◌∙◌, ◌⊎◌, inl, inr, append-nil}
-use Rattle.std.specs.Prelude.{All}
-use Rattle.std.proofs.lemmas.List.Elements.{All-head}
-use Rattle.lapd_frame.specs.declared.refusals.Refusal.{Refusal}
-use Rattle.lapd_frame.specs.declared.services.Service.{Service}
-use Rattle.lapd_frame.specs.declared.timers.Timer.{Timer}
+use Rattle.laws_wire.proofs.Vocabulary.{◌≡◌, ℕ, Bool, true, false, cond, List, [], ◌∷◌, ◌++◌, length, drop, map, Option, None, Some, refl, sym, ap, subst, ◌∙◌, ◌⊎◌, inl, inr, append-nil, All, All-head, Refusal, Service, Timer, Parts, spelling, TimerRecovery, Terms, LinkTimer, T203, Link, state_number, queue_of, course, begun, End, with_link, with_sent, offer-gave, Config, LineTold, request, Line, place_in, Request, at_requested, aim_of_request, awaits_answer, IsMildRequest, CanRepeat, HasNothingToSend, nothing-given, runs}
 use Rattle.lapd_frame.specs.declared.timers.Timer.TheVariants as timers
-use Rattle.lapd_frame.specs.Grammar.{Parts, spelling}
-use Rattle.model_link.specs.declared.states.State.TheVariants.{TimerRecovery}
-use Rattle.model_link.specs.declared.terms.Terms.{Terms}
-use Rattle.model_link.specs.declared.timers.LinkTimer.{LinkTimer}
-use Rattle.model_link.specs.declared.timers.LinkTimer.TheVariants.{T200, T203}
+use Rattle.model_link.specs.declared.timers.LinkTimer.TheVariants.{T200}
 use Rattle.model_link.specs.Events as link
-use Rattle.model_link.specs.Link.{Link, state_number, queue_of}
-use Rattle.model_link.specs.Machine.{course}
 use Rattle.model_link.specs.Requests as requests
-use Rattle.model_link.specs.Steps.{Course, begun}
-use Rattle.model_link.specs.TwoEnds.{End, with_link, with_sent}
+use Rattle.model_link.specs.Steps.{Course}
 use Rattle.model_link.specs.TwoEnds as two_ends
-use Rattle.model_link.proofs.Sending.{offer-gave}
-use Rattle.model_line.specs.declared.config.Config.{Config}
-use Rattle.model_line.specs.Event.{LineTold, request}
-use Rattle.model_line.specs.Line.{Line, place_in}
-use Rattle.model_line.specs.Request.{Request, Data, SetBusy, ClearBusy}
+use Rattle.model_line.specs.Request.{Data, SetBusy, ClearBusy}
 use Rattle.model_line.specs.Request as asked
-use Rattle.model_line.specs.Requested.{at_requested, aim_of_request}
-use Rattle.laws_link.specs.Flags.{awaits_answer}
-use Rattle.laws_link.specs.two.Ahead.{IsMildRequest, CanRepeat}
 use Rattle.laws_link.specs.two.Timely as two_links_timely
-use Rattle.laws_link.specs.two.Waits.{HasNothingToSend}
-use Rattle.laws_link.proofs.OfTwo.Waiting.{nothing-given}
-use Rattle.model_link.specs.Told.{runs}
 use Rattle.laws_wire.specs.Wire.{Station, Wire, happens, with_first_of, Act, requests, times_out, gives, takes, loses, acting, turned, IsStill, contents_of}
 use Rattle.laws_wire.specs.Call.{data_told}
 use Rattle.laws_wire.specs.Losing.{heard_in}

@@ -1,19 +1,7 @@
 -- The first phase of such a call: one end rings, and the other is down.
-use Rattle.std.proofs.Common.{◌≡◌, ℕ, false, List, [], ◌∷◌, ◌++◌, map, drop, None, refl, sym, ap, subst, ◌∙◌, ◌⊎◌, inl, inr, arith}
-use Rattle.std.proofs.lemmas.List.Elements.{All-head}
-use Rattle.lapd_frame.specs.declared.services.Service.{Service}
-use Rattle.lapd_frame.specs.Grammar.{Parts, spelling}
-use Rattle.model_link.specs.declared.terms.Terms.{Terms}
+use Rattle.laws_wire.proofs.Vocabulary.{◌≡◌, ℕ, false, List, [], ◌∷◌, ◌++◌, map, drop, None, refl, sym, ap, subst, ◌∙◌, ◌⊎◌, inl, inr, arith, All-head, Service, Parts, spelling, Terms, fresh, course, IsInRange, with_link, frames_of, Config, LineTold, request, terms}
 use Rattle.model_link.specs.Events as link
-use Rattle.model_link.specs.Link.{fresh}
-use Rattle.model_link.specs.Machine.{course}
 use Rattle.model_link.specs.Requests.{refusal}
-use Rattle.model_link.specs.Sound.{IsInRange}
-use Rattle.model_link.specs.TwoEnds.{with_link}
-use Rattle.model_link.proofs.Direction.{frames_of}
-use Rattle.model_line.specs.declared.config.Config.{Config}
-use Rattle.model_line.specs.Event.{LineTold, request}
-use Rattle.model_line.specs.Line.{terms}
 use Rattle.model_line.specs.Request.{Data}
 use Rattle.laws_wire.specs.Wire.{Station, Wire, happens, with_first_of, with_first_lost, Act, requests, times_out, gives, takes, loses, acting, turned, comes}
 use Rattle.laws_wire.specs.Call.{confirmed, indicated}

@@ -1,18 +1,10 @@
 -- What changes nothing at a station: a call for a frame where none waits, taking a frame where none is on its way, and data that is refused.
-use Rattle.std.proofs.Common.{◌≡◌, ℕ, ◌+◌, ◌≤◌, false, List, [], ◌∷◌, length, map, drop, None, refl, sym, ap, subst, ◌∙◌, ◌⊎◌, inl, inr, arith}
-use Rattle.std.specs.Prelude.{All}
-use Rattle.std.proofs.lemmas.List.Elements.{All-head}
-use Rattle.lapd_frame.specs.declared.services.Service.{Service}
-use Rattle.lapd_frame.specs.Grammar.{Parts, spelling}
+use Rattle.laws_wire.proofs.Vocabulary.{◌≡◌, ℕ, ◌+◌, ◌≤◌, false, List, [], ◌∷◌, length, map, drop, None, refl, sym, ap, subst, ◌∙◌, ◌⊎◌, inl, inr, arith, All, All-head, Service, Parts, spelling, given, End, frame_given, Config, Request, Assign, Remove, Check, Deactivate, request, next}
 use Rattle.model_link.specs.Events as link
-use Rattle.model_link.specs.Machine.{given}
 use Rattle.model_link.specs.Requests.{refusal}
-use Rattle.model_link.specs.TwoEnds.{End, frame_given}
 use Rattle.model_link.specs.TwoEnds as two_ends
-use Rattle.model_line.specs.declared.config.Config.{Config}
 use Rattle.model_line.specs.Request as asked
-use Rattle.model_line.specs.Request.{Request, Establish, Release, Data, Assign, Remove, Check, SetBusy, ClearBusy, Deactivate}
-use Rattle.model_line.specs.Event.{request, next}
+use Rattle.model_line.specs.Request.{Establish, Release, Data, SetBusy, ClearBusy}
 use Rattle.laws_wire.specs.Wire.{Station, Wire, happens, frames_by, with_first_of, with_first_lost, requests, gives, takes, acting, turned, answered}
 use Rattle.laws_wire.specs.Call.{IsTalkOf}
 use Rattle.laws_wire.proofs.Answered.{gives-granted}

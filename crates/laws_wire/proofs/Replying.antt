@@ -1,32 +1,15 @@
 -- What an end that was never busy answers, puts and gives: which N(R) it has, and what is owed.
-use Rattle.std.proofs.Common.{◌≡◌, ℕ, ◌+◌, Bool, true, false, cond, ◌&&◌, IsTrue, List, [], ◌∷◌, ◌++◌, length, Option, None, Some, refl, sym, ap, subst, ◌∙◌, append_assoc, append-nil, ◌⊎◌, inl, inr, true≢false}
-use Rattle.std.specs.Prelude.{nat_lt, slice_get, unwrap_or}
-use Rattle.lapd_seq.specs.declared.numbers.Seq.{Seq}
-use Rattle.lapd_seq.specs.Numbers.{seq}
-use Rattle.lapd_seq.specs.Circle.{named}
-use Rattle.lapd_frame.specs.declared.controls.Control.TheVariants.{Information, ReceiveReady, ReceiveNotReady, Reject}
+use Rattle.laws_wire.proofs.Vocabulary.{◌≡◌, ℕ, ◌+◌, Bool, true, false, cond, ◌&&◌, IsTrue, List, [], ◌∷◌, ◌++◌, length, Option, None, Some, refl, sym, ap, subst, ◌∙◌, append_assoc, append-nil, ◌⊎◌, inl, inr, true≢false, nat_lt, slice_get, Seq, seq, named, Information, ReceiveReady, ReceiveNotReady, Reject, Parts, State, TeiAssigned, AwaitingEstablishment, AwaitingRelease, Established, TimerRecovery, LinkTimer, T203, ControlFrame, Terms, Link, is_multiple_frame, frame_of, may_repeat, expired, offer, Step, begun, frame_given, frames_of, frames-append, Means, c-7, c-8, enquiry, kind_of}
+use Rattle.std.specs.Prelude.{unwrap_or}
 use Rattle.lapd_frame.specs.declared.notes.ErrorCode.TheVariants as code
-use Rattle.lapd_frame.specs.Grammar.{Parts}
-use Rattle.model_link.specs.declared.states.State.{State}
-use Rattle.model_link.specs.declared.states.State.TheVariants.{TeiAssigned, AwaitingEstablishment, AwaitingRelease, Established, TimerRecovery}
-use Rattle.model_link.specs.declared.timers.LinkTimer.{LinkTimer}
-use Rattle.model_link.specs.declared.timers.LinkTimer.TheVariants.{T200, T203}
-use Rattle.model_link.specs.declared.frames.ControlFrame.{ControlFrame}
-use Rattle.model_link.specs.declared.terms.Terms.{Terms}
-use Rattle.model_link.specs.Link.{Link, is_multiple_frame, frame_of, may_repeat}
-use Rattle.model_link.specs.Events.{expired, offer}
-use Rattle.model_link.specs.Steps.{Course, Step, begun}
+use Rattle.model_link.specs.declared.timers.LinkTimer.TheVariants.{T200}
+use Rattle.model_link.specs.Steps.{Course}
 use Rattle.model_link.specs.Words
 use Rattle.model_link.specs.MultipleFrame
 use Rattle.model_link.specs.Established
 use Rattle.model_link.specs.TimerRecovery
 use Rattle.model_link.specs.Offers
 use Rattle.model_link.specs.Machine
-use Rattle.model_link.specs.TwoEnds.{frame_given}
-use Rattle.model_link.proofs.Direction.{frames_of, frames-append}
-use Rattle.model_link.proofs.Lines.{Means}
-use Rattle.laws_link.proofs.OfTwo.Effects.{c-7, c-8}
-use Rattle.laws_link.proofs.OfTwo.Trains.{enquiry, kind_of}
 use Rattle.laws_wire.proofs.Dense.{Replies}
 
 abbrev IsUpIn : Course → Type 0

@@ -1,17 +1,9 @@
 -- What is done at one end of a call in which frames are lost and timers expire makes what is still to do less, or tells an error.
-use Rattle.std.proofs.Common.{◌≡◌, ℕ, ◌+◌, ◌-◌, ◌*◌, ◌≤◌, cond, List, [], ◌∷◌, ◌++◌, length, map, drop, refl, sym, ap, subst, ◌∙◌, ◌⊎◌, inl, inr, length-append, arith}
-use Rattle.lapd_frame.specs.declared.services.Service.{Service}
-use Rattle.lapd_frame.specs.declared.timers.Timer.{Timer}
-use Rattle.lapd_frame.specs.Grammar.{Parts, spelling}
-use Rattle.model_link.specs.declared.timers.LinkTimer.{LinkTimer}
+use Rattle.laws_wire.proofs.Vocabulary.{◌≡◌, ℕ, ◌+◌, ◌-◌, ◌*◌, ◌≤◌, cond, List, [], ◌∷◌, ◌++◌, length, map, drop, refl, sym, ap, subst, ◌∙◌, ◌⊎◌, inl, inr, length-append, arith, Service, Timer, Parts, spelling, LinkTimer, Link, course, given, End, with_link, with_sent, frame_given, Config, LineTold, expiry, request}
 use Rattle.model_link.specs.Events as link
-use Rattle.model_link.specs.Link.{Link}
-use Rattle.model_link.specs.Machine.{course, given, after}
+use Rattle.model_link.specs.Machine.{after}
 use Rattle.model_link.specs.Steps.{Course}
-use Rattle.model_link.specs.TwoEnds.{End, with_link, with_sent, frame_given}
 use Rattle.model_link.specs.TwoEnds as two_ends
-use Rattle.model_line.specs.declared.config.Config.{Config}
-use Rattle.model_line.specs.Event.{LineTold, expiry, request}
 use Rattle.model_line.specs.Request.{Data}
 use Rattle.laws_wire.specs.Wire.{Station, Wire, happens, with_first_of, with_first_lost, Act, requests, times_out, gives, takes, loses, acting, is_any, comes}
 use Rattle.laws_wire.specs.Losing.{IsRoughTalkOf}

@@ -1,11 +1,5 @@
 -- Rounds in which no error is told lead to where no turn is left.
-use Rattle.std.proofs.Common.{◌≡◌, ℕ, zero, suc, ◌+◌, ◌*◌, ◌<◌, ◌≤◌, Bool, true, false, cond, List, [], ◌∷◌, ◌++◌, length, Option, None, Some, option_map, refl, sym, ap, subst, ◌∙◌, arith}
-use Rattle.std.specs.Prelude.{All}
-use Rattle.std.proofs.lemmas.List.Elements.{All-nil, All-cons, All-append}
-use Rattle.lapd_frame.specs.declared.services.Service.{Service}
-use Rattle.model_line.specs.Event.{next, NextFrame, gave}
-use Rattle.model_card.specs.Card.{line_at}
-use Rattle.model_line.specs.Taken.{taken, next_of}
+use Rattle.laws_wire.proofs.Vocabulary.{◌≡◌, ℕ, zero, suc, ◌+◌, ◌*◌, ◌<◌, ◌≤◌, Bool, true, false, cond, List, [], ◌∷◌, ◌++◌, length, Option, None, Some, option_map, refl, sym, ap, subst, ◌∙◌, arith, All, All-nil, All-cons, All-append, Service, next, NextFrame, gave, line_at, taken, next_of}
 use Rattle.laws_wire.specs.Wire as wire
 use Rattle.laws_wire.specs.Wire.{Station, Wire, with_first_of, frames_by, is_any, Doing, at_near, at_far, acting, turned, doing, doing_all, IsStill, answered}
 use Rattle.laws_wire.specs.Call.{calling}

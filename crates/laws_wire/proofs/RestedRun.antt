@@ -1,21 +1,7 @@
 -- A whole call in which frames are lost and timers expire: its moves are at most what there was to do, and what was asked for since.
-use Rattle.std.proofs.Common.{◌≡◌, ℕ, ◌+◌, ◌*◌, ◌≤◌, true, cond, List, [], ◌∷◌, ◌++◌, length, refl, sym, ap, subst, ◌∙◌, ◌⊎◌, inl, inr, arith}
-use Rattle.std.specs.Prelude.{All}
-use Rattle.std.proofs.lemmas.List.Elements.{All-nil, All-cons, All-head, All-tail}
-use Rattle.lapd_frame.specs.declared.services.Service.{Service}
-use Rattle.lapd_frame.specs.Grammar.{Parts, other_side}
-use Rattle.model_link.specs.declared.frames.ControlFrame.{ControlFrame}
-use Rattle.model_link.specs.declared.terms.Terms.{Terms}
+use Rattle.laws_wire.proofs.Vocabulary.{◌≡◌, ℕ, ◌+◌, ◌*◌, ◌≤◌, true, cond, List, [], ◌∷◌, ◌++◌, length, refl, sym, ap, subst, ◌∙◌, ◌⊎◌, inl, inr, arith, All, All-nil, All-cons, All-head, All-tail, Service, Parts, other_side, ControlFrame, Terms, Link, fresh, course, IsInRange, End, frames_of, Config, LineTold, terms, terms_in_range}
 use Rattle.model_link.specs.Events as link
-use Rattle.model_link.specs.Link.{Link, fresh}
-use Rattle.model_link.specs.Machine.{course, after}
-use Rattle.model_link.specs.Sound.{IsInRange}
-use Rattle.model_link.specs.TwoEnds.{End}
-use Rattle.model_link.proofs.Direction.{frames_of}
-use Rattle.model_line.specs.declared.config.Config.{Config}
-use Rattle.model_line.specs.Event.{LineTold}
-use Rattle.model_line.specs.Line.{terms}
-use Rattle.model_line.proofs.Ranges.{terms_in_range}
+use Rattle.model_link.specs.Machine.{after}
 use Rattle.laws_wire.specs.Wire.{Station, Wire, Doing, at_near, at_far, acting, turned, doing, doing_all}
 use Rattle.laws_wire.specs.Call.{calling, confirmed, indicated}
 use Rattle.laws_wire.specs.Facing.{granted_of}

@@ -1,6 +1,5 @@
 -- Rounds after a call in which T200 is long enough tell no error, so they lead to where no turn is left.
-use Rattle.std.proofs.Common.{ℕ, zero, suc, ◌+◌, ◌*◌, List, [], ◌∷◌, ◌++◌, subst, ◌∙◌}
-use Rattle.std.proofs.lemmas.List.Elements.{All-append}
+use Rattle.laws_wire.proofs.Vocabulary.{ℕ, zero, suc, ◌+◌, ◌*◌, List, [], ◌∷◌, ◌++◌, subst, ◌∙◌, All-append}
 use Rattle.laws_wire.specs.Wire.{Wire, Doing, doing, doing_all}
 use Rattle.laws_wire.specs.Call.{calling}
 use Rattle.laws_wire.specs.Facing.{granted_of}

@@ -1,14 +1,6 @@
 -- The premises of the laws on how turns come to an end are met, by worked calls.
-use Rattle.std.proofs.Common.{◌≡◌, ◌≤◌, ℕ, ◌*◌, false, List, [], ◌∷◌, ◌++◌, refl, sym, subst, arith}
-use Rattle.std.specs.Prelude.{All}
-use Rattle.std.specs.List.{list_any}
-use Rattle.std.proofs.lemmas.List.Elements.{All-nil, All-cons}
-use Rattle.lapd_frame.specs.declared.services.Service.TheVariants.{Call}
-use Rattle.lapd_frame.specs.Reading.{reading, header_of, control_of, unnumbered_of, supervisory_of}
-use Rattle.lapd_seq.specs.Circle.{distance_of, named}
-use Rattle.lapd_seq.specs.Numbers.{seq}
+use Rattle.laws_wire.proofs.Vocabulary.{◌≡◌, ◌≤◌, ℕ, ◌*◌, false, List, [], ◌∷◌, ◌++◌, refl, sym, subst, arith, All, list_any, All-nil, All-cons, Call, reading, header_of, control_of, unnumbered_of, supervisory_of, distance_of, named, seq, LineTold}
 use Rattle.lapd_tei.specs.Events as teis
-use Rattle.model_line.specs.Event.{LineTold}
 use Rattle.model_line.specs.Machine as lines
 use Rattle.model_line.specs.Request.{Data}
 use Rattle.laws_wire.specs.Wire.{requests, Doing, at_near, doing_all, IsStill}

@@ -1,26 +1,12 @@
 -- A link that awaits its establishment, as often as SABME was repeated and whatever waits; and what comes of it.
-use Rattle.std.proofs.Common.{◌≡◌, ℕ, ◌+◌, ◌<◌, Bool, true, false, cond, List, [], ◌∷◌, ◌++◌, length, drop, None, Some, refl, sym, ap, subst, ◌∙◌, ◌⊎◌, inl, inr, append-nil, append_assoc}
-use Rattle.std.specs.Prelude.{All, nat_lt}
-use Rattle.std.specs.List.{list_any}
-use Rattle.std.proofs.lemmas.Bool.{lt-ltb}
-use Rattle.std.proofs.lemmas.List.Elements.{All-nil, All-cons, All-tail, All-append}
-use Rattle.lapd_frame.specs.declared.controls.Control.{Control}
-use Rattle.lapd_frame.specs.declared.controls.Control.TheVariants.{Information, ReceiveReady, ReceiveNotReady, Reject, Sabme, Disc, Ui, Ua, Dm, Frmr, Xid}
+use Rattle.laws_wire.proofs.Vocabulary.{◌≡◌, ℕ, ◌+◌, ◌<◌, Bool, true, false, cond, List, [], ◌∷◌, ◌++◌, length, drop, None, Some, refl, sym, ap, subst, ◌∙◌, ◌⊎◌, inl, inr, append-nil, append_assoc, All, nat_lt, list_any, lt-ltb, All-nil, All-cons, All-tail, All-append, Control, Information, ReceiveReady, ReceiveNotReady, Reject, Sabme, Disc, Ui, Ua, Dm, Frmr, Xid, Parts, T203, ControlFrame, Terms, Link, fresh, frame_of, received, expired, course, begun, ◌then◌, with_sent, command, frames_of, frames-append, Means}
 use Rattle.lapd_frame.specs.declared.notes.ErrorCode.TheVariants as code
-use Rattle.lapd_frame.specs.Grammar.{Parts}
 use Rattle.model_link.specs.declared.states.State.TheVariants as state
-use Rattle.model_link.specs.declared.timers.LinkTimer.TheVariants.{T200, T203}
-use Rattle.model_link.specs.declared.frames.ControlFrame.{ControlFrame}
-use Rattle.model_link.specs.declared.terms.Terms.{Terms}
-use Rattle.model_link.specs.Link.{Link, fresh, frame_of}
-use Rattle.model_link.specs.Events.{frame, received, expired}
-use Rattle.model_link.specs.Machine.{after, course}
-use Rattle.model_link.specs.Steps.{Course, begun, ◌then◌}
-use Rattle.model_link.specs.TwoEnds.{with_sent}
+use Rattle.model_link.specs.declared.timers.LinkTimer.TheVariants.{T200}
+use Rattle.model_link.specs.Events.{frame}
+use Rattle.model_link.specs.Machine.{after}
+use Rattle.model_link.specs.Steps.{Course}
 use Rattle.model_link.specs.Words
-use Rattle.model_link.specs.Words.{command}
-use Rattle.model_link.proofs.Direction.{frames_of, frames-append}
-use Rattle.model_link.proofs.Lines.{Means}
 use Rattle.laws_wire.specs.Losing.{is_error}
 use Rattle.laws_wire.proofs.Calling.{sabme, end}
 use Rattle.laws_wire.proofs.Fair.{HasError}

@@ -1,19 +1,5 @@
 -- There is room for each enquiry and each answer of two ends of which neither was ever busy, where three control frames may wait.
-use Rattle.std.proofs.Common.{◌≡◌, ℕ, ◌+◌, ◌≤◌, Bool, true, false, List, [], ◌∷◌, ◌++◌, length, refl, ap, ◌∙◌, arith, true≢false}
-use Rattle.std.specs.Prelude.{All}
-use Rattle.std.proofs.lemmas.Bool.{lt-ltb}
-use Rattle.std.proofs.lemmas.List.Elements.{All-head, All-tail}
-use Rattle.lapd_frame.specs.declared.controls.Control.{Control}
-use Rattle.lapd_frame.specs.declared.controls.Control.TheVariants.{Information, ReceiveReady, ReceiveNotReady, Reject, Sabme, Disc, Ui, Ua, Dm, Frmr, Xid}
-use Rattle.lapd_frame.specs.Grammar.{Parts}
-use Rattle.model_link.specs.declared.frames.ControlFrame.{ControlFrame}
-use Rattle.model_link.specs.declared.terms.Terms.{Terms}
-use Rattle.model_link.specs.TwoEnds.{End}
-use Rattle.model_link.specs.Words.{has_room}
-use Rattle.model_link.proofs.Direction.{frames_of}
-use Rattle.laws_link.specs.two.Timely.{is_enquiry, HasNo}
-use Rattle.laws_link.proofs.OfTwo.Meeting.{line}
-use Rattle.laws_link.proofs.OfTwo.Trains.{Kind, kind_of, kinds_of, kinds-append, tally, one_enquiry, one_answer, one_rejection}
+use Rattle.laws_wire.proofs.Vocabulary.{◌≡◌, ℕ, ◌+◌, ◌≤◌, Bool, true, false, List, [], ◌∷◌, ◌++◌, length, refl, ap, ◌∙◌, arith, true≢false, All, lt-ltb, All-head, All-tail, Control, Information, ReceiveReady, ReceiveNotReady, Reject, Sabme, Disc, Ui, Ua, Dm, Frmr, Xid, Parts, ControlFrame, Terms, End, has_room, frames_of, is_enquiry, HasNo, line, Kind, kind_of, kinds_of, kinds-append, tally, one_enquiry, one_answer, one_rejection}
 use Rattle.laws_wire.proofs.Firm.{Firm}
 use Rattle.laws_wire.proofs.Tame.{WaitsSo}
 

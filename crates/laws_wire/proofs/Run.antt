@@ -1,20 +1,5 @@
 -- A whole call: how many turns there are, what layer 3 was told so far, and what it was told where no turn is left.
-use Rattle.std.proofs.Common.{◌≡◌, ℕ, ◌+◌, ◌*◌, ◌≤◌, Bool, true, false, ◌||◌, List, [], ◌∷◌, map, take, None, refl, sym, ap, subst, ◌∙◌, inl, inr, arith}
-use Rattle.std.specs.Prelude.{All, if◌then◌else◌}
-use Rattle.std.proofs.lemmas.List.Elements.{All-head, All-tail}
-use Rattle.lapd_frame.specs.declared.services.Service.{Service}
-use Rattle.lapd_frame.specs.Grammar.{Parts, spelling, other_side}
-use Rattle.model_link.specs.Link.{fresh}
-use Rattle.model_link.specs.Machine.{given}
-use Rattle.model_link.specs.Sound.{IsInRange}
-use Rattle.model_link.specs.TwoEnds.{End}
-use Rattle.model_line.specs.declared.config.Config.{Config}
-use Rattle.model_line.specs.Event.{LineTold, next, gave}
-use Rattle.model_line.specs.Line.{terms}
-use Rattle.model_line.proofs.Ranges.{terms_in_range}
-use Rattle.laws_link.specs.two.Rounds.{HasArrived}
-use Rattle.laws_link.proofs.OfTwo.AnyOrderRuns.{Pair, all-there}
-use Rattle.laws_link.proofs.OfTwo.Waiting.{nothing-given}
+use Rattle.laws_wire.proofs.Vocabulary.{◌≡◌, ℕ, ◌+◌, ◌*◌, ◌≤◌, Bool, true, false, ◌||◌, List, [], ◌∷◌, map, take, None, refl, sym, ap, subst, ◌∙◌, inl, inr, arith, All, if◌then◌else◌, All-head, All-tail, Service, Parts, spelling, other_side, fresh, given, IsInRange, End, Config, LineTold, next, gave, terms, terms_in_range, HasArrived, Pair, all-there, nothing-given}
 use Rattle.laws_wire.specs.Wire.{Station, Wire, Doing, turned, doing, is_turn, IsStill, answered}
 unfoldable use Rattle.laws_wire.specs.Wire.{doing_all, turns}
 use Rattle.laws_wire.specs.Call.{calling, IsCall, calls_back, confirmed, data_told, told_first, IsBeginningOf, CanCall, ComesThrough, CallsComeThrough}

@@ -1,29 +1,14 @@
 -- What layer 3 is told by an event of a link.
-use Rattle.std.proofs.Common.{◌≡◌, ℕ, ◌+◌, ◌≤◌, true, false, cond, ◌==◌, List, [], ◌∷◌, ◌++◌, length, map, Some, refl, sym, ap, subst, ◌∙◌, inl, inr, eq-eqb, append_assoc, arith}
-use Rattle.std.specs.Prelude.{All, slice_get, unwrap_or, option_to_list, if◌then◌else◌}
-use Rattle.std.specs.Option.{option_or}
-use Rattle.std.proofs.lemmas.Bool.{le-ltb}
-use Rattle.std.proofs.lemmas.List.{map-append}
-use Rattle.lapd_seq.specs.Numbers.{seq}
-use Rattle.lapd_seq.specs.Circle.{named}
+use Rattle.laws_wire.proofs.Vocabulary.{◌≡◌, ℕ, ◌+◌, ◌≤◌, true, false, cond, ◌==◌, List, [], ◌∷◌, ◌++◌, length, map, Some, refl, sym, ap, subst, ◌∙◌, inl, inr, eq-eqb, append_assoc, arith, All, slice_get, option_to_list, if◌then◌else◌, option_or, le-ltb, map-append, seq, named, Service, Parts, Terms, Link, received, course, begun, End, unserved_cause, LineTold, plain, information_frame, named-number, fits-at, acked, noted, Informs, Notes, Lane, lane-low, lane-order, Steady, is-steady}
+use Rattle.std.specs.Prelude.{unwrap_or}
 use Rattle.lapd_frame.specs.declared.notes.ErrorCode.TheVariants as code
-use Rattle.lapd_frame.specs.declared.services.Service.{Service}
-use Rattle.lapd_frame.specs.Grammar.{Parts}
-use Rattle.model_link.specs.declared.terms.Terms.{Terms}
-use Rattle.model_link.specs.Link.{Link}
-use Rattle.model_link.specs.Events.{frame, received}
+use Rattle.model_link.specs.Events.{frame}
 use Rattle.model_link.specs.Established
-use Rattle.model_link.specs.Machine.{course, told}
+use Rattle.model_link.specs.Machine.{told}
 use Rattle.model_link.specs.MultipleFrame
-use Rattle.model_link.specs.Steps.{Course, begun}
-use Rattle.model_link.specs.TwoEnds.{End}
+use Rattle.model_link.specs.Steps.{Course}
 use Rattle.model_link.specs.Words
-use Rattle.model_line.specs.Effect.{unserved_cause}
-use Rattle.model_line.specs.Event.{LineTold}
-use Rattle.laws_link.proofs.OfTwo.Plain.{plain, information_frame}
-use Rattle.laws_link.proofs.OfTwo.Halves.{named-number, fits-at}
-use Rattle.laws_link.proofs.OfTwo.BusyMoves.{acked, noted}
-use Rattle.laws_link.proofs.OfTwo.AnyOrder.{Informs, Notes, Lane, lane-low, lane-order, Steady, Direction, is-steady}
+use Rattle.laws_link.proofs.OfTwo.AnyOrder.{Direction}
 use Rattle.laws_wire.specs.Wire.{tells_nothing}
 use Rattle.laws_wire.specs.Call.{data_told}
 

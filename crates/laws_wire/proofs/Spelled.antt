@@ -1,15 +1,7 @@
 -- A frame that a sound link gives comes as it is, and is read again.
-use Rattle.std.proofs.Common.{◌≡◌, ℕ, ◌+◌, ◌≤◌, ◌%◌, ◌⊎◌, inl, inr, false, cond, not, ◌&&◌, ◌||◌, nat_eq, nat_lt, List, length, take, slice_index, Ok, refl, ap, ◌∙◌, arith}
-use Rattle.std.proofs.lemmas.Bool.{le-ltb, ne_eqb}
-use Rattle.model_bits.specs.Stream.{frame, overlong, dropped}
+use Rattle.laws_wire.proofs.Vocabulary.{◌≡◌, ℕ, ◌+◌, ◌≤◌, ◌%◌, ◌⊎◌, inl, inr, false, cond, not, ◌&&◌, ◌||◌, nat_eq, nat_lt, List, length, take, slice_index, Ok, refl, ap, ◌∙◌, arith, le-ltb, ne_eqb, dropped, Side, User, Network, Parts, IsFrame, spelling, other_side, reading, reading-again, came, IsNotShort, not-short}
+use Rattle.model_bits.specs.Stream.{frame, overlong}
 use Rattle.model_bits.specs.declared.heard.Cause.TheVariants as cause
-use Rattle.lapd_frame.specs.declared.addresses.Side.{Side}
-use Rattle.lapd_frame.specs.declared.addresses.Side.TheVariants.{User, Network}
-use Rattle.lapd_frame.specs.Grammar.{Parts, IsFrame, spelling, other_side}
-use Rattle.lapd_frame.specs.Reading.{reading}
-use Rattle.lapd_frame.proofs.Spelling.{reading-again}
-use Rattle.model_line.specs.Came.{came}
-use Rattle.laws_line.proofs.OfCard.Spelling.{IsNotShort, not-short}
 
 -- A frame that is neither too short nor too long comes as it is.
 not-three : (n : ℕ) → 4 ≤ n → nat_eq n 3 ≡ false

@@ -1,31 +1,13 @@
 -- Where T200 expires only as no turn is left it is long enough: the law with this premise follows.
-use Rattle.std.proofs.Common.{◌≡◌, ◌≢◌, ℕ, ◌+◌, ◌<◌, Bool, true, false, cond, IsTrue, List, [], ◌∷◌, refl, sym, ap, ◌∙◌, inl, inr, true≢false}
-use Rattle.std.specs.Prelude.{All, nat_lt}
-use Rattle.std.specs.List.{list_any}
-use Rattle.std.proofs.lemmas.Bool.{ltb-true}
-use Rattle.std.proofs.lemmas.List.Elements.{All-head, All-tail}
+use Rattle.laws_wire.proofs.Vocabulary.{◌≡◌, ◌≢◌, ℕ, ◌+◌, ◌<◌, Bool, true, false, cond, IsTrue, List, [], ◌∷◌, refl, sym, ap, ◌∙◌, inl, inr, true≢false, All, nat_lt, list_any, ltb-true, All-head, All-tail, Service, State, TeiAssigned, AwaitingEstablishment, AwaitingRelease, Established, TimerRecovery, Terms, Link, fresh, is_multiple_frame, course, is_running, begun, ◌then◌, IsInRange, End, Config, LineTold, expiry, terms, awaits_answer, IsTimed}
 use Rattle.lapd_frame.specs.declared.notes.ErrorCode.TheVariants as code
-use Rattle.lapd_frame.specs.declared.services.Service.{Service}
 use Rattle.lapd_frame.specs.declared.timers.Timer.TheVariants.{T200}
-use Rattle.model_link.specs.declared.states.State.{State}
-use Rattle.model_link.specs.declared.states.State.TheVariants.{TeiAssigned, AwaitingEstablishment, AwaitingRelease, Established, TimerRecovery}
 use Rattle.model_link.specs.declared.timers.LinkTimer.TheVariants as timer
-use Rattle.model_link.specs.declared.terms.Terms.{Terms}
 use Rattle.model_link.specs.Events as link
-use Rattle.model_link.specs.Link.{Link, fresh, is_multiple_frame}
 use Rattle.model_link.specs.Machine
-use Rattle.model_link.specs.Machine.{course, is_running}
 use Rattle.model_link.specs.MultipleFrame
-use Rattle.model_link.specs.Steps.{begun, ◌then◌}
 use Rattle.model_link.specs.Told.{runs as timer_runs}
 use Rattle.model_link.specs.Words
-use Rattle.model_link.specs.Sound.{IsInRange}
-use Rattle.model_link.specs.TwoEnds.{End}
-use Rattle.model_line.specs.declared.config.Config.{Config}
-use Rattle.model_line.specs.Event.{LineTold, expiry}
-use Rattle.model_line.specs.Line.{terms}
-use Rattle.laws_link.specs.Flags.{awaits_answer}
-use Rattle.laws_link.specs.Timed.{IsTimed}
 use Rattle.laws_wire.specs.Wire.{Station, Wire, happens, Act, requests, times_out, gives, takes, loses, Doing, at_near, at_far, acting, turned, doing, doing_all, IsStill}
 use Rattle.laws_wire.specs.Call.{calling, CanCall}
 use Rattle.laws_wire.specs.Losing.{heard_in, is_error, HasNoError, IsRoughTalkOf, IsRoughTalk}

@@ -1,22 +1,10 @@
 -- An end that rings, whatever the other does.
-use Rattle.std.proofs.Common.{◌≡◌, ℕ, false, List, [], map, drop, None, sym, ap, subst, ◌∙◌, ◌⊎◌, inl, inr}
-use Rattle.std.specs.Prelude.{All, option_to_list}
-use Rattle.lapd_frame.specs.declared.services.Service.{Service}
-use Rattle.lapd_frame.specs.declared.timers.Timer.{Timer}
-use Rattle.lapd_frame.specs.Grammar.{Parts}
-use Rattle.model_link.specs.declared.frames.ControlFrame.{ControlFrame}
-use Rattle.model_link.specs.declared.terms.Terms.{Terms}
-use Rattle.model_link.specs.declared.timers.LinkTimer.{LinkTimer}
+use Rattle.laws_wire.proofs.Vocabulary.{◌≡◌, ℕ, false, List, [], map, drop, None, sym, ap, subst, ◌∙◌, ◌⊎◌, inl, inr, All, option_to_list, Service, Timer, Parts, ControlFrame, Terms, LinkTimer, course, End, with_link, with_sent, Config, terms, expiry, request, next}
 use Rattle.model_link.specs.declared.timers.LinkTimer.TheVariants as link_timer
 use Rattle.model_link.specs.Events as link
-use Rattle.model_link.specs.Machine.{course}
 use Rattle.model_link.specs.Requests.{refusal}
 use Rattle.model_link.specs.Steps.{Course}
-use Rattle.model_link.specs.TwoEnds.{End, with_link, with_sent}
-use Rattle.model_line.specs.declared.config.Config.{Config}
-use Rattle.model_line.specs.Line.{terms}
 use Rattle.model_line.specs.Request.{Data}
-use Rattle.model_line.specs.Event.{expiry, request, next}
 use Rattle.laws_wire.specs.Wire.{Station, happens, with_first_lost}
 use Rattle.laws_wire.proofs.Calling.{end}
 use Rattle.laws_wire.proofs.Fair.{HasError}

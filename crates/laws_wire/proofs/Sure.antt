@@ -1,36 +1,11 @@
 -- What an end sends arrives for sure once it has asked, where nothing more is lost: it awaits the answer, or nothing that it sent is
 -- missing. What it does itself leaves that so.
-use Rattle.std.proofs.Common.{◌≡◌, ℕ, ◌+◌, ◌≤◌, Bool, true, false, IsTrue, List, [], ◌∷◌, ◌++◌, Some, refl, sym, ap, subst, ◌∙◌, ◌⊎◌, inl, inr, true≢false, arith}
-use Rattle.lapd_frame.specs.declared.controls.Control.{Control}
-use Rattle.lapd_frame.specs.declared.controls.Control.TheVariants.{Information, ReceiveReady, ReceiveNotReady, Reject, Sabme, Disc, Ui, Ua, Dm, Frmr, Xid}
-use Rattle.lapd_frame.specs.Grammar.{Parts}
-use Rattle.lapd_seq.specs.declared.numbers.Seq.{Seq}
-use Rattle.lapd_seq.specs.Numbers.{seq}
-use Rattle.lapd_seq.specs.Circle.{named}
-use Rattle.model_link.specs.declared.states.State.{State}
-use Rattle.model_link.specs.declared.states.State.TheVariants.{TeiAssigned, AwaitingEstablishment, AwaitingRelease, Established, TimerRecovery}
-use Rattle.model_link.specs.declared.timers.LinkTimer.{LinkTimer}
+use Rattle.laws_wire.proofs.Vocabulary.{◌≡◌, ℕ, ◌+◌, ◌≤◌, Bool, true, false, IsTrue, List, [], ◌∷◌, ◌++◌, Some, refl, sym, ap, subst, ◌∙◌, ◌⊎◌, inl, inr, true≢false, arith, Control, Information, ReceiveReady, ReceiveNotReady, Reject, Sabme, Disc, Ui, Ua, Dm, Frmr, Xid, Parts, Seq, seq, named, State, TeiAssigned, AwaitingEstablishment, AwaitingRelease, Established, TimerRecovery, LinkTimer, received, expired, offer, Link, is_multiple_frame, course, is_running, given_of, End, with_link, with_sent, frame_given, has_room, frames_of, named-means, Means, Rising, rising-low, offer-gave, named-within, frame-taken, named-is_seq, IsTimely, is_recovering, Takes, Heard, Flow, most, answer-says, no-answer, offer-goes, Gives, named-number, heard, line, Longer, line-longer, NoAlien, is-no-alien, Kind, numbered, enquiry, answer, report, rejection, alien, kind_of, kinds_of, kinds-append, tally, tally-push, one_enquiry, one_answer, Calm}
 use Rattle.model_link.specs.declared.timers.LinkTimer.TheVariants.{T200}
-use Rattle.model_link.specs.Events.{frame, received, expired, offer}
-use Rattle.model_link.specs.Link.{Link, is_multiple_frame}
-use Rattle.model_link.specs.Machine.{after, course, is_running, given_of}
+use Rattle.model_link.specs.Events.{frame}
+use Rattle.model_link.specs.Machine.{after}
 use Rattle.model_link.specs.Steps.{Course}
-use Rattle.model_link.specs.TwoEnds.{End, with_link, with_sent, frame_given}
-use Rattle.model_link.specs.Words.{has_room}
-use Rattle.model_link.proofs.Direction.{line_of, frames_of, named-means}
-use Rattle.model_link.proofs.Lines.{Means, Rising, rising-low}
-use Rattle.model_link.proofs.Sending.{offer-gave}
-use Rattle.model_link.proofs.SoundRows.{named-within}
-use Rattle.model_link.proofs.Taking.{frame-taken, named-is_seq}
-use Rattle.laws_link.specs.two.Timely.{IsTimely}
-use Rattle.laws_link.proofs.OfTwo.Effects.{is_recovering, Takes, Heard}
-use Rattle.laws_link.proofs.OfTwo.Flow.{Flow, most}
-use Rattle.laws_link.proofs.OfTwo.Flowing.{answer-says, no-answer}
-use Rattle.laws_link.proofs.OfTwo.Going.{offer-goes, Gives}
-use Rattle.laws_link.proofs.OfTwo.Halves.{named-number}
-use Rattle.laws_link.proofs.OfTwo.HeardRows.{heard}
-use Rattle.laws_link.proofs.OfTwo.Meeting.{line, Longer, line-longer, NoAlien, is-no-alien}
-use Rattle.laws_link.proofs.OfTwo.Trains.{Kind, numbered, enquiry, answer, report, rejection, alien, kind_of, kinds_of, kinds-append, tally, tally-push, one_enquiry, one_answer, Calm}
+use Rattle.model_link.proofs.Direction.{line_of}
 use Rattle.laws_wire.proofs.Asking.{with_more}
 use Rattle.laws_wire.proofs.Dense.{Dense, dense-push, dense-next, calm-dense, dense-beyond, Reaches, reaches-low, reaches-flat, Owed}
 use Rattle.laws_wire.proofs.Firm.{Firm, not-behind}

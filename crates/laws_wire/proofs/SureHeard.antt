@@ -1,28 +1,9 @@
 -- What the other end does leaves what an end sends as sure as it was, where nothing more is lost.
-use Rattle.std.proofs.Common.{◌≡◌, ℕ, ◌+◌, ◌≤◌, ◌==◌, Bool, true, false, cond, IsTrue, List, [], ◌∷◌, ◌++◌, refl, sym, ap, subst, ◌∙◌, ◌⊎◌, inl, inr, true≢false, eq-eqb, arith}
-use Rattle.lapd_frame.specs.declared.controls.Control.{Control}
-use Rattle.lapd_frame.specs.declared.controls.Control.TheVariants.{Information, ReceiveReady, ReceiveNotReady, Reject, Sabme, Disc, Ui, Ua, Dm, Frmr, Xid}
-use Rattle.lapd_frame.specs.Grammar.{Parts}
-use Rattle.lapd_seq.specs.declared.numbers.Seq.{Seq}
-use Rattle.lapd_seq.specs.Numbers.{seq}
-use Rattle.model_link.specs.declared.timers.LinkTimer.{LinkTimer}
-use Rattle.model_link.specs.declared.terms.Terms.{Terms}
-use Rattle.model_link.specs.Events.{frame, received, expired}
-use Rattle.model_link.specs.Link.{Link, is_multiple_frame, frame_of}
-use Rattle.model_link.specs.Machine.{after, frame_step}
+use Rattle.laws_wire.proofs.Vocabulary.{◌≡◌, ℕ, ◌+◌, ◌≤◌, ◌==◌, Bool, true, false, cond, IsTrue, List, [], ◌∷◌, ◌++◌, refl, sym, ap, subst, ◌∙◌, ◌⊎◌, inl, inr, true≢false, eq-eqb, arith, Control, Information, ReceiveReady, ReceiveNotReady, Reject, Sabme, Disc, Ui, Ua, Dm, Frmr, Xid, Parts, Seq, seq, LinkTimer, Terms, received, expired, Link, is_multiple_frame, frame_of, frame_step, begun, End, with_link, with_sent, has_room, ready_to_receive, response, frames_of, Rising, IsTimely, is_recovering, Takes, Heard, Flow, most, offer-goes, heard, line, Longer, line-longer, NoAlien, is-no-alien, Kind, numbered, enquiry, answer, report, rejection, alien, kind_of, kinds_of, kinds-append, tally, tally-push, one_enquiry, one_answer}
+use Rattle.model_link.specs.Events.{frame}
+use Rattle.model_link.specs.Machine.{after}
 use Rattle.model_link.specs.MultipleFrame.{is_next}
-use Rattle.model_link.specs.Steps.{begun}
-use Rattle.model_link.specs.TwoEnds.{End, with_link, with_sent}
-use Rattle.model_link.specs.Words.{has_room, ready_to_receive, response}
-use Rattle.model_link.proofs.Direction.{line_of, frames_of}
-use Rattle.model_link.proofs.Lines.{Rising}
-use Rattle.laws_link.specs.two.Timely.{IsTimely}
-use Rattle.laws_link.proofs.OfTwo.Effects.{is_recovering, Takes, Heard}
-use Rattle.laws_link.proofs.OfTwo.Flow.{Flow, most}
-use Rattle.laws_link.proofs.OfTwo.Going.{offer-goes}
-use Rattle.laws_link.proofs.OfTwo.HeardRows.{heard}
-use Rattle.laws_link.proofs.OfTwo.Meeting.{line, Longer, line-longer, NoAlien, is-no-alien}
-use Rattle.laws_link.proofs.OfTwo.Trains.{Kind, numbered, enquiry, answer, report, rejection, alien, kind_of, kinds_of, kinds-append, tally, tally-push, one_enquiry, one_answer}
+use Rattle.model_link.proofs.Direction.{line_of}
 use Rattle.laws_wire.proofs.Asking.{with_more}
 use Rattle.laws_wire.proofs.Dense.{Dense, Owed, Replies, owed-after}
 use Rattle.laws_wire.proofs.Firm.{Firm}

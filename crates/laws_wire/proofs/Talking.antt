@@ -1,28 +1,11 @@
 -- A station in a call: what its layer 3 was granted is what its link accepted, and it was told what its link delivered.
-use Rattle.std.proofs.Common.{◌≡◌, ℕ, ◌≤◌, Bool, true, false, cond, List, [], ◌∷◌, ◌++◌, length, map, drop, Option, Some, None, Ok, refl, sym, ap, subst, ◌∙◌, ◌⊎◌, inl, inr, append-nil, append_assoc}
-use Rattle.std.specs.Prelude.{All, option_to_list, nat_lt}
-use Rattle.std.proofs.lemmas.Bool.{ltb-false}
-use Rattle.std.proofs.lemmas.List.Elements.{All-tail}
-use Rattle.lapd_frame.specs.declared.refusals.Refusal.{Refusal}
-use Rattle.lapd_frame.specs.declared.refusals.Refusal.TheVariants.{WrongState, TooLong}
-use Rattle.lapd_frame.specs.declared.services.Service.{Service}
-use Rattle.lapd_frame.specs.Grammar.{Parts, spelling, other_side}
+use Rattle.laws_wire.proofs.Vocabulary.{◌≡◌, ℕ, ◌≤◌, Bool, true, false, cond, List, [], ◌∷◌, ◌++◌, length, map, drop, Option, Some, None, Ok, refl, sym, ap, subst, ◌∙◌, ◌⊎◌, inl, inr, append-nil, append_assoc, All, option_to_list, nat_lt, ltb-false, All-tail, Refusal, WrongState, TooLong, Service, Parts, spelling, other_side, Terms, Link, End, with_link, with_sent, Config, came, LineTold, request, next, link_in, terms, heard_side, line_at, link-grants}
 use Rattle.model_bits.specs.Stream.{frame}
-use Rattle.model_link.specs.declared.terms.Terms.{Terms}
 use Rattle.model_link.specs.Events as link
-use Rattle.model_link.specs.Link.{Link}
 use Rattle.model_link.specs.Machine as links
 use Rattle.model_link.specs.Requests as requests
-use Rattle.model_link.specs.TwoEnds.{End, with_link, with_sent}
 use Rattle.model_link.specs.TwoEnds as two_ends
-use Rattle.model_line.specs.declared.config.Config.{Config}
-use Rattle.model_line.specs.Came.{came}
-use Rattle.model_line.specs.Event.{LineTold, request, next}
-use Rattle.model_line.specs.Line.{link_in, terms}
-use Rattle.model_line.specs.Heard.{heard_side}
 use Rattle.model_line.specs.Request.{Data}
-use Rattle.model_card.specs.Card.{line_at}
-use Rattle.laws_line.proofs.Asked.{link-grants}
 use Rattle.laws_wire.specs.Wire.{Station, happens, with_first_lost, comes}
 use Rattle.laws_wire.specs.Call.{data_told}
 use Rattle.laws_wire.proofs.Answered.{gives-told, gives-granted, takes-granted}

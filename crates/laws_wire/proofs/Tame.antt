@@ -1,28 +1,10 @@
 -- Two ends of which neither was ever busy: no RNR is on their ways, and what waits at either is enquiries, answers and REJ.
-use Rattle.std.proofs.Common.{◌≡◌, ℕ, ◌+◌, Bool, true, false, cond, not, ◌&&◌, ◌||◌, IsTrue, List, [], ◌∷◌, ◌++◌, take, refl, sym, ap, subst, ◌∙◌, true≢false}
-use Rattle.std.specs.Prelude.{All}
-use Rattle.std.proofs.lemmas.List.Elements.{All-nil, All-cons, All-head, All-append, All-take, All-drop}
-use Rattle.lapd_seq.specs.Numbers.{seq}
-use Rattle.lapd_frame.specs.declared.controls.Control.{Control}
-use Rattle.lapd_frame.specs.declared.controls.Control.TheVariants.{Information, ReceiveReady, ReceiveNotReady, Reject, Sabme, Disc, Ui, Ua, Dm, Frmr, Xid}
-use Rattle.lapd_frame.specs.Grammar.{Parts}
-use Rattle.model_link.specs.declared.states.State.{State}
-use Rattle.model_link.specs.declared.states.State.TheVariants.{TeiAssigned, AwaitingEstablishment, AwaitingRelease, Established, TimerRecovery}
-use Rattle.model_link.specs.declared.timers.LinkTimer.{LinkTimer}
-use Rattle.model_link.specs.declared.frames.ControlFrame.{ControlFrame}
-use Rattle.model_link.specs.declared.terms.Terms.{Terms}
-use Rattle.model_link.specs.Link.{Link, is_multiple_frame}
-use Rattle.model_link.specs.Events.{Event, frame, undefined, wrong_size, overlong, received, expired, requested, offer, cleared, Establish, Release, Data, SetBusy, ClearBusy}
-use Rattle.model_link.specs.Machine.{after, given_of}
+use Rattle.laws_wire.proofs.Vocabulary.{◌≡◌, ℕ, ◌+◌, Bool, true, false, cond, not, ◌&&◌, ◌||◌, IsTrue, List, [], ◌∷◌, ◌++◌, take, refl, sym, ap, subst, ◌∙◌, true≢false, All, All-nil, All-cons, All-head, All-append, All-take, All-drop, seq, Control, Information, ReceiveReady, ReceiveNotReady, Reject, Sabme, Disc, Ui, Ua, Dm, Frmr, Xid, Parts, State, TeiAssigned, AwaitingEstablishment, AwaitingRelease, Established, TimerRecovery, LinkTimer, ControlFrame, Terms, Link, is_multiple_frame, undefined, wrong_size, received, expired, requested, offer, cleared, given_of, begun, End, with_link, with_sent, with_first_of, with_first_lost, frame_given, busy_by, busy_heard, flag_left, as_heard, is_overlong, moves, receipt_as, as_response, answers_to, command_in, is_time, room, waiting_left, event-follows, NoAlien, Kind, kind_of, one_enquiry, one_answer, one_rejection}
+use Rattle.model_link.specs.Events.{Event, frame, overlong, Establish, Release, Data, SetBusy, ClearBusy}
+use Rattle.model_link.specs.Machine.{after}
 use Rattle.model_link.specs.Offers
-use Rattle.model_link.specs.Steps.{Course, begun}
-use Rattle.model_link.specs.TwoEnds.{End, with_link, with_sent, with_first_of, with_first_lost, frame_given}
-use Rattle.laws_link.specs.Flags.{busy_by, busy_heard, flag_left}
-use Rattle.laws_link.specs.States.{as_heard, is_overlong, moves}
-use Rattle.laws_link.specs.Waiting.{receipt_as, as_response, answers_to, command_in, is_next, is_time, room, waiting_left}
-use Rattle.laws_link.proofs.Follows.{event-follows}
-use Rattle.laws_link.proofs.OfTwo.Meeting.{NoAlien}
-use Rattle.laws_link.proofs.OfTwo.Trains.{Kind, kind_of, one_enquiry, one_answer, one_rejection}
+use Rattle.model_link.specs.Steps.{Course}
+use Rattle.laws_link.specs.Waiting.{is_next}
 
 abbrev pub IsFree : Control → Type 0
 IsFree control = busy_by control false ≡ false

@@ -1,19 +1,7 @@
 -- A station, the end for which it stands, and what its layer 3 heard.
-use Rattle.std.proofs.Common.{◌≡◌, ℕ, List, [], ◌∷◌, ◌++◌, map, drop, refl, sym, ap, subst, ◌∙◌}
-use Rattle.std.specs.Prelude.{All, flat_map}
+use Rattle.laws_wire.proofs.Vocabulary.{◌≡◌, ℕ, List, [], ◌∷◌, ◌++◌, map, drop, refl, sym, ap, subst, ◌∙◌, All, flat_map, All-nil, All-head, Service, Timer, Parts, spelling, LinkTimer, course, End, with_link, with_sent, Config, LineTold, expiry, next, HasNothingToSend, nothing-to_send}
 use Rattle.std.proofs.lemmas.List.Concat.{flat_map-append}
-use Rattle.std.proofs.lemmas.List.Elements.{All-nil, All-head}
-use Rattle.lapd_frame.specs.declared.services.Service.{Service}
-use Rattle.lapd_frame.specs.declared.timers.Timer.{Timer}
-use Rattle.lapd_frame.specs.Grammar.{Parts, spelling}
-use Rattle.model_link.specs.declared.timers.LinkTimer.{LinkTimer}
 use Rattle.model_link.specs.Events as link
-use Rattle.model_link.specs.Machine.{course}
-use Rattle.model_link.specs.TwoEnds.{End, with_link, with_sent}
-use Rattle.model_line.specs.declared.config.Config.{Config}
-use Rattle.model_line.specs.Event.{LineTold, expiry, next}
-use Rattle.laws_link.specs.two.Waits.{HasNothingToSend}
-use Rattle.laws_link.proofs.OfTwo.Waiting.{nothing-to_send}
 use Rattle.laws_wire.specs.Wire.{Station, happens, comes, with_first_lost}
 use Rattle.laws_wire.specs.Losing.{for_layer_3, heard_in}
 use Rattle.laws_wire.proofs.Answered.{gives-told}

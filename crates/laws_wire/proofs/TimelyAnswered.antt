@@ -1,31 +1,15 @@
 -- The next phases of such a call: the other end is up, and its UA waits, or is on its way before all else.
-use Rattle.std.proofs.Common.{◌≡◌, ℕ, false, List, [], ◌∷◌, ◌++◌, None, refl, sym, ap, subst, ◌∙◌, ◌⊎◌, inl, inr}
-use Rattle.std.proofs.lemmas.List.Elements.{All-tail}
-use Rattle.lapd_frame.specs.declared.services.Service.{Service}
-use Rattle.lapd_frame.specs.declared.timers.Timer.{Timer}
+use Rattle.laws_wire.proofs.Vocabulary.{◌≡◌, ℕ, false, List, [], ◌∷◌, ◌++◌, None, refl, sym, ap, subst, ◌∙◌, ◌⊎◌, inl, inr, All-tail, Service, Timer, Parts, spelling, Terms, TimerRecovery, LinkTimer, T203, course, given, IsInRange, End, with_link, with_sent, offer-gave, Config, LineTold, expiry, request, next, terms, awaits_answer, CanRepeat}
 use Rattle.lapd_frame.specs.declared.timers.Timer.TheVariants as timers
-use Rattle.lapd_frame.specs.Grammar.{Parts, spelling}
-use Rattle.model_link.specs.declared.terms.Terms.{Terms}
-use Rattle.model_link.specs.declared.states.State.TheVariants.{TimerRecovery}
-use Rattle.model_link.specs.declared.timers.LinkTimer.{LinkTimer}
-use Rattle.model_link.specs.declared.timers.LinkTimer.TheVariants.{T200, T203}
+use Rattle.model_link.specs.declared.timers.LinkTimer.TheVariants.{T200}
 use Rattle.model_link.specs.Events as link
-use Rattle.model_link.specs.Machine.{course, given}
 use Rattle.model_link.specs.Requests.{refusal}
-use Rattle.model_link.specs.Sound.{IsInRange}
-use Rattle.model_link.specs.TwoEnds.{End, with_link, with_sent}
-use Rattle.model_link.proofs.Sending.{offer-gave}
-use Rattle.model_line.specs.declared.config.Config.{Config}
-use Rattle.model_line.specs.Event.{LineTold, expiry, request, next}
-use Rattle.model_line.specs.Line.{terms}
 use Rattle.model_line.specs.Request.{Data}
 use Rattle.laws_wire.specs.Wire.{Station, Wire, happens, with_first_of, Act, requests, times_out, gives, takes, loses, acting, turned, IsStill, comes}
 use Rattle.laws_wire.specs.Call.{confirmed, indicated}
 use Rattle.laws_wire.specs.Losing.{IsRoughTalkOf}
 use Rattle.laws_wire.specs.Facing.{end_of}
 use Rattle.laws_wire.specs.Timely.{is_final, IsLongEnough, IsTimelyOf, IsSpared}
-use Rattle.laws_link.specs.Flags.{awaits_answer}
-use Rattle.laws_link.specs.two.Ahead.{CanRepeat}
 use Rattle.laws_link.specs.two.Timely as two_links_timely
 use Rattle.laws_wire.proofs.Answered.{takes-granted}
 use Rattle.laws_wire.proofs.Awaited.{closed, link-is, as-here, may-there, open-there, waits-first, goes-first}

@@ -1,31 +1,11 @@
 -- Where both ends are up and no turn is left: once T200 expires, so many rounds are enough for all that is missing.
-use Rattle.std.proofs.Common.{◌≡◌, ℕ, suc, ◌+◌, ◌<◌, ◌≤◌, false, List, [], ◌∷◌, ◌++◌, length, map, take, None, refl, sym, ap, subst, ◌∙◌, ◌⊎◌, inl, inr, arith}
-use Rattle.std.specs.Prelude.{All}
-use Rattle.std.proofs.lemmas.List.{length-map, length-take-le}
-use Rattle.std.proofs.lemmas.List.Elements.{All-nil, All-cons}
-use Rattle.lapd_frame.specs.declared.services.Service.{Service}
-use Rattle.lapd_frame.specs.declared.timers.Timer.{Timer}
+use Rattle.laws_wire.proofs.Vocabulary.{◌≡◌, ℕ, suc, ◌+◌, ◌<◌, ◌≤◌, false, List, [], ◌∷◌, ◌++◌, length, map, take, None, refl, sym, ap, subst, ◌∙◌, ◌⊎◌, inl, inr, arith, All, length-map, length-take-le, All-nil, All-cons, Service, Timer, spelling, ControlFrame, TimerRecovery, given, End, Ends, with_link, rising-low, Config, LineTold, next, gave, IsCutOff, HasNo, Asking, Resting, expires-one, all-recovered, enquiry_with, nothing-to_send, awaits_answer}
 use Rattle.lapd_frame.specs.declared.timers.Timer.TheVariants as timers
-use Rattle.lapd_frame.specs.Grammar.{spelling}
-use Rattle.model_link.specs.declared.frames.ControlFrame.{ControlFrame}
-use Rattle.model_link.specs.declared.states.State.TheVariants.{TimerRecovery}
 use Rattle.model_link.specs.declared.timers.LinkTimer.TheVariants.{T200}
 use Rattle.model_link.specs.Events as link
-use Rattle.model_link.specs.Machine.{given}
-use Rattle.model_link.specs.TwoEnds.{End, Ends, with_link}
 use Rattle.model_link.proofs.Direction.{line_of}
-use Rattle.model_link.proofs.Lines.{rising-low}
-use Rattle.model_line.specs.declared.config.Config.{Config}
-use Rattle.model_line.specs.Event.{LineTold, next, gave}
 use Rattle.laws_link.specs.two.CutOff as cut_off
-use Rattle.laws_link.specs.two.CutOff.{IsCutOff}
 use Rattle.laws_link.specs.two.Rounds as two_links
-use Rattle.laws_link.specs.two.Timely.{HasNo}
-use Rattle.laws_link.proofs.OfTwo.Expiring.{Asking, Resting, expires-one}
-use Rattle.laws_link.proofs.OfTwo.Recovery.{all-recovered}
-use Rattle.laws_link.proofs.OfTwo.Shapes.{enquiry_with}
-use Rattle.laws_link.proofs.OfTwo.Waiting.{nothing-to_send}
-use Rattle.laws_link.specs.Flags.{awaits_answer}
 use Rattle.laws_wire.specs.Wire.{Station, Wire, times_out, acting, turned, IsStill, answered}
 use Rattle.laws_wire.specs.Call.{confirmed, indicated, data_told}
 use Rattle.laws_wire.specs.Losing.{heard_in}

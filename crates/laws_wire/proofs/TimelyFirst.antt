@@ -1,27 +1,10 @@
 -- The ends as an establishment leaves them, and what changes nothing at a station or on a wire.
-use Rattle.std.proofs.Common.{◌≡◌, ℕ, ◌≤◌, false, not, List, [], ◌∷◌, length, drop, None, refl, sym, ap, subst, ◌∙◌, ◌⊎◌, inl, inr, true≢false, arith}
-use Rattle.std.specs.Option.{option_map_or}
-use Rattle.std.proofs.lemmas.List.Elements.{All-nil}
-use Rattle.lapd_frame.specs.declared.services.Service.{Service}
-use Rattle.model_link.specs.declared.terms.Terms.{Terms}
+use Rattle.laws_wire.proofs.Vocabulary.{◌≡◌, ℕ, ◌≤◌, false, not, List, [], ◌∷◌, length, drop, None, refl, sym, ap, subst, ◌∙◌, ◌⊎◌, inl, inr, true≢false, arith, option_map_or, All-nil, Service, Terms, Link, fresh, given, serves, IsInRange, End, Begins, joined-first, Config, LineTold, request, next, Line, link_in, link_of, place_in, bad_tei, no_link, wrong_state, first_that_holds, Request, aim_of_request, at_requested, line_at, passed, IsReady, IsTaken, Flow}
 use Rattle.model_link.specs.Events as link
-use Rattle.model_link.specs.Link.{Link, fresh}
-use Rattle.model_link.specs.Machine.{given}
-use Rattle.model_link.specs.Requests.{refusal, serves}
-use Rattle.model_link.specs.Sound.{IsInRange, IsSound}
-use Rattle.model_link.specs.TwoEnds.{End, Begins}
-use Rattle.model_link.proofs.Joined.{joined-first}
-use Rattle.model_line.specs.declared.config.Config.{Config}
-use Rattle.model_line.specs.Event.{LineTold, request, next}
-use Rattle.model_line.specs.Line.{Line, link_in, link_of, place_in}
-use Rattle.model_line.specs.Refusal.{bad_tei, no_link, wrong_state, first_that_holds}
+use Rattle.model_link.specs.Requests.{refusal}
+use Rattle.model_link.specs.Sound.{IsSound}
 use Rattle.model_line.specs.Refusal.{refusal as refusal_on}
-use Rattle.model_line.specs.Request.{Request, Data, SetBusy, ClearBusy}
-use Rattle.model_line.specs.Requested.{aim_of_request, at_requested}
-use Rattle.model_card.specs.Card.{line_at}
-use Rattle.laws_line.proofs.Asked.{passed}
-use Rattle.laws_link.specs.two.Rounds.{IsReady, IsTaken}
-use Rattle.laws_link.proofs.OfTwo.Flow.{Flow}
+use Rattle.model_line.specs.Request.{Data, SetBusy, ClearBusy}
 use Rattle.laws_wire.specs.Wire.{Station, Wire, happens, with_first_of, with_first_lost, takes, loses, acting}
 use Rattle.laws_wire.proofs.Calling.{end, called, sound-caller, sound-called}
 use Rattle.laws_wire.proofs.Tame.{WaitsSo, IsFreeFrame}

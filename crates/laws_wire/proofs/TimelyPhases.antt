@@ -1,17 +1,6 @@
 -- A call in which T200 is timely: SABME waits, is on its way, or was lost; then UA waits, and is on its way; then both ends are up.
-use Rattle.std.proofs.Common.{◌≡◌, ℕ, List, [], ◌∷◌, refl, ap, ◌⊎◌}
-use Rattle.lapd_frame.specs.declared.services.Service.{Service}
+use Rattle.laws_wire.proofs.Vocabulary.{◌≡◌, ℕ, List, [], ◌∷◌, refl, ap, ◌⊎◌, Service, Parts, ControlFrame, Terms, T203, fresh, End, Config, LineTold, expiry, terms, awaits_answer}
 use Rattle.lapd_frame.specs.declared.timers.Timer.TheVariants as timers
-use Rattle.lapd_frame.specs.Grammar.{Parts}
-use Rattle.model_link.specs.declared.frames.ControlFrame.{ControlFrame}
-use Rattle.model_link.specs.declared.terms.Terms.{Terms}
-use Rattle.model_link.specs.declared.timers.LinkTimer.TheVariants.{T203}
-use Rattle.model_link.specs.Link.{fresh}
-use Rattle.model_link.specs.TwoEnds.{End}
-use Rattle.model_line.specs.declared.config.Config.{Config}
-use Rattle.model_line.specs.Event.{LineTold, expiry}
-use Rattle.model_line.specs.Line.{terms}
-use Rattle.laws_link.specs.Flags.{awaits_answer}
 use Rattle.laws_wire.specs.Wire.{Station, Wire, happens}
 use Rattle.laws_wire.specs.Call.{confirmed, indicated}
 use Rattle.laws_wire.specs.Facing.{end_of}

@@ -1,25 +1,10 @@
 -- The first phases of such a call: one end rings, and the other is down.
-use Rattle.std.proofs.Common.{◌≡◌, ℕ, ◌+◌, ◌<◌, true, List, [], ◌∷◌, map, None, refl, sym, ap, subst, ◌∙◌, inl, inr, arith}
-use Rattle.std.specs.Prelude.{nat_lt, option_to_list}
-use Rattle.std.proofs.lemmas.Bool.{lt-ltb}
+use Rattle.laws_wire.proofs.Vocabulary.{◌≡◌, ℕ, ◌+◌, ◌<◌, true, List, [], ◌∷◌, map, None, refl, sym, ap, subst, ◌∙◌, inl, inr, arith, nat_lt, option_to_list, lt-ltb, Service, Timer, Parts, spelling, ControlFrame, Terms, LinkTimer, fresh, course, given, IsInRange, End, with_link, Config, LineTold, expiry, terms}
 use Rattle.lapd_frame.specs.declared.notes.Note.TheVariants as notes
-use Rattle.lapd_frame.specs.declared.services.Service.{Service}
-use Rattle.lapd_frame.specs.declared.timers.Timer.{Timer}
 use Rattle.lapd_frame.specs.declared.timers.Timer.TheVariants as timers
-use Rattle.lapd_frame.specs.Grammar.{Parts, spelling}
-use Rattle.model_link.specs.declared.frames.ControlFrame.{ControlFrame}
-use Rattle.model_link.specs.declared.terms.Terms.{Terms}
-use Rattle.model_link.specs.declared.timers.LinkTimer.{LinkTimer}
 use Rattle.model_link.specs.declared.timers.LinkTimer.TheVariants.{T200}
 use Rattle.model_link.specs.Events as link
-use Rattle.model_link.specs.Link.{fresh}
-use Rattle.model_link.specs.Machine.{course, given}
-use Rattle.model_link.specs.Sound.{IsInRange}
 use Rattle.model_link.specs.Steps.{Course}
-use Rattle.model_link.specs.TwoEnds.{End, with_link}
-use Rattle.model_line.specs.declared.config.Config.{Config}
-use Rattle.model_line.specs.Event.{LineTold, expiry}
-use Rattle.model_line.specs.Line.{terms}
 use Rattle.model_line.specs.Request.{Data}
 use Rattle.laws_wire.specs.Wire.{Wire, happens, with_first_of, Act, requests, times_out, gives, takes, loses, acting, turned, IsStill, comes}
 use Rattle.laws_wire.specs.Call.{confirmed, indicated}

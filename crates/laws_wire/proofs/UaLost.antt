@@ -1,28 +1,14 @@
 -- The phases of a call in which UA may be lost: one end rings, and the other is down, or up as its UA left it, or is about to send UA again.
-use Rattle.std.proofs.Common.{◌≡◌, ℕ, zero, suc, ◌+◌, ◌<◌, Bool, true, false, cond, ◌&&◌, List, [], ◌∷◌, ◌++◌, map, None, refl, sym, ap, subst, ◌∙◌, ◌⊎◌, inl, inr, append-nil, arith}
-use Rattle.std.specs.Prelude.{nat_lt, replicate, flat_map, option_to_list}
-use Rattle.std.proofs.lemmas.Bool.{lt-ltb}
+use Rattle.laws_wire.proofs.Vocabulary.{◌≡◌, ℕ, zero, suc, ◌+◌, ◌<◌, Bool, true, false, cond, ◌&&◌, List, [], ◌∷◌, ◌++◌, map, None, refl, sym, ap, subst, ◌∙◌, ◌⊎◌, inl, inr, append-nil, arith, nat_lt, replicate, flat_map, option_to_list, lt-ltb, F, Service, Parts, spelling, ControlFrame, Terms, fresh, course, given, IsInRange, begun, End, with_link, Config, LineTold, expiry, terms, Request, nothing-to_send}
 use Rattle.std.proofs.lemmas.List.Concat.{flat_map-append}
-use Rattle.lapd_frame.specs.declared.notes.ErrorCode.TheVariants.{F}
 use Rattle.lapd_frame.specs.declared.notes.Note.TheVariants as notes
-use Rattle.lapd_frame.specs.declared.services.Service.{Service}
 use Rattle.lapd_frame.specs.declared.timers.Timer.TheVariants as timers
-use Rattle.lapd_frame.specs.Grammar.{Parts, spelling}
-use Rattle.model_link.specs.declared.frames.ControlFrame.{ControlFrame}
-use Rattle.model_link.specs.declared.terms.Terms.{Terms}
 use Rattle.model_link.specs.declared.timers.LinkTimer.TheVariants.{T200}
 use Rattle.model_link.specs.Events as link
-use Rattle.model_link.specs.Link.{fresh}
-use Rattle.model_link.specs.Machine.{course, after, given}
-use Rattle.model_link.specs.Sound.{IsInRange}
-use Rattle.model_link.specs.Steps.{Course, begun}
-use Rattle.model_link.specs.TwoEnds.{End, with_link}
-use Rattle.model_line.specs.declared.config.Config.{Config}
-use Rattle.model_line.specs.Event.{LineTold, expiry}
-use Rattle.model_line.specs.Line.{terms}
-use Rattle.model_line.specs.Request.{Request, Data}
+use Rattle.model_link.specs.Machine.{after}
+use Rattle.model_link.specs.Steps.{Course}
+use Rattle.model_line.specs.Request.{Data}
 use Rattle.model_line.specs.Request as ask
-use Rattle.laws_link.proofs.OfTwo.Waiting.{nothing-to_send}
 use Rattle.laws_wire.specs.Wire.{Station, Wire, happens, comes, with_first_of, Act, requests, times_out, gives, takes, loses, acting, turned}
 use Rattle.laws_wire.specs.Call.{confirmed, indicated}
 use Rattle.laws_wire.specs.Losing.{for_layer_3, heard_in}

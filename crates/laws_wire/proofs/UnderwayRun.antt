@@ -1,9 +1,5 @@
 -- A call from nothing, in which nothing is lost any more from some time on.
-use Rattle.std.proofs.Common.{◌≡◌, ℕ, true, false, List, [], ◌∷◌, ◌⊎◌, inl, inr}
-use Rattle.std.specs.Prelude.{◌≢◌}
-use Rattle.lapd_frame.specs.declared.services.Service.{Service}
-use Rattle.model_line.specs.declared.config.Config.{Config}
-use Rattle.model_line.specs.Event.{LineTold}
+use Rattle.laws_wire.proofs.Vocabulary.{◌≡◌, ℕ, true, false, List, [], ◌∷◌, ◌⊎◌, inl, inr, ◌≢◌, Service, Config, LineTold}
 use Rattle.laws_wire.specs.Wire.{Wire, turned, doing_all, IsStill}
 use Rattle.laws_wire.specs.Call.{calling, confirmed, indicated, all_told}
 use Rattle.laws_wire.specs.Losing.{heard_in}

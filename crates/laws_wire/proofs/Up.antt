@@ -1,27 +1,11 @@
 -- Two stations whose links are up: each turn lowers their weight, and each request that is granted raises it by four.
-use Rattle.std.proofs.Common.{◌≡◌, ℕ, ◌+◌, ◌*◌, ◌≤◌, false, List, [], ◌∷◌, ◌++◌, length, map, drop, Option, Some, None, refl, sym, ap, subst, ◌∙◌, ◌⊎◌, inl, inr, append-nil, length-append, arith}
-use Rattle.std.specs.Prelude.{All, if◌then◌else◌}
-use Rattle.std.proofs.lemmas.List.Elements.{All-head, All-tail}
-use Rattle.lapd_frame.specs.declared.services.Service.{Service}
-use Rattle.lapd_frame.specs.Grammar.{Parts, spelling}
-use Rattle.model_link.specs.declared.terms.Terms.{Terms}
+use Rattle.laws_wire.proofs.Vocabulary.{◌≡◌, ℕ, ◌+◌, ◌*◌, ◌≤◌, false, List, [], ◌∷◌, ◌++◌, length, map, drop, Option, Some, None, refl, sym, ap, subst, ◌∙◌, ◌⊎◌, inl, inr, append-nil, length-append, arith, All, if◌then◌else◌, All-head, All-tail, Service, Parts, spelling, Terms, Link, given, Given, End, Ends, with_link, with_sent, frame_given, Config, Request, Assign, Remove, Check, Deactivate, request, next, weight_at, HasNothingToSend, takes-first, Pair, nothing-given, nothing-to_send, silent-stays}
 use Rattle.model_link.specs.Events as link
-use Rattle.model_link.specs.Link.{Link}
-use Rattle.model_link.specs.Machine.{given}
 use Rattle.model_link.specs.Requests.{refusal}
-use Rattle.model_link.specs.Told.{Given}
-use Rattle.model_link.specs.TwoEnds.{End, Ends, with_link, with_sent, frame_given}
 use Rattle.model_link.specs.TwoEnds as two_ends
-use Rattle.model_line.specs.declared.config.Config.{Config}
 use Rattle.model_line.specs.Request as asked
-use Rattle.model_line.specs.Request.{Request, Establish, Release, Data, Assign, Remove, Check, SetBusy, ClearBusy, Deactivate}
-use Rattle.model_line.specs.Event.{request, next}
-use Rattle.laws_link.specs.two.AnyOrder.{weight_at}
-use Rattle.laws_link.specs.two.Waits.{HasNothingToSend}
+use Rattle.model_line.specs.Request.{Establish, Release, Data, SetBusy, ClearBusy}
 use Rattle.laws_link.proofs.OfTwo.AnyOrder as any_order
-use Rattle.laws_link.proofs.OfTwo.AnyOrder.{takes-first}
-use Rattle.laws_link.proofs.OfTwo.AnyOrderRuns.{Pair}
-use Rattle.laws_link.proofs.OfTwo.Waiting.{nothing-given, nothing-to_send, silent-stays}
 use Rattle.laws_wire.specs.Wire.{Station, Wire, happens, frames_by, with_first_of, with_first_lost, Act, requests, times_out, gives, takes, loses, Doing, at_near, at_far, acting, turned, doing, doing_all, is_any, is_turn_of, is_turn, turns, answered, comes}
 use Rattle.laws_wire.specs.Call.{IsTalkOf, IsTalk}
 use Rattle.laws_wire.proofs.Answered.{gives-granted, takes-granted}

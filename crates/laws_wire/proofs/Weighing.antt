@@ -1,14 +1,6 @@
 -- What two ends still have to do, where v turns go again at most: what their links have to send, what is on their ways, and for
 -- each contents that are not delivered yet a REJ, v turns, and an acknowledgement.
-use Rattle.std.proofs.Common.{◌≡◌, ℕ, ◌+◌, ◌-◌, ◌*◌, ◌≤◌, List, [], ◌∷◌, length, map, refl, sym, ap, subst, ◌∙◌, arith}
-use Rattle.std.specs.Prelude.{All}
-use Rattle.std.proofs.lemmas.List.Elements.{All-head, All-tail}
-use Rattle.lapd_frame.specs.declared.services.Service.{Service}
-use Rattle.lapd_frame.specs.Grammar.{Parts, spelling}
-use Rattle.lapd_frame.specs.Reading.{reading}
-use Rattle.model_link.specs.Link.{Link}
-use Rattle.model_link.specs.TwoEnds.{End}
-use Rattle.model_line.specs.declared.config.Config.{Config}
+use Rattle.laws_wire.proofs.Vocabulary.{◌≡◌, ℕ, ◌+◌, ◌-◌, ◌*◌, ◌≤◌, List, [], ◌∷◌, length, map, refl, sym, ap, subst, ◌∙◌, arith, All, All-head, All-tail, Service, Parts, spelling, reading, Link, End, Config}
 use Rattle.laws_wire.specs.Wire.{Station}
 use Rattle.laws_wire.proofs.Loads.{load, load_way}
 use Rattle.laws_wire.proofs.Standing.{IsCarried, Stands}

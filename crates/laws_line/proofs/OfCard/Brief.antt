@@ -1,26 +1,16 @@
 -- What laws of whole runs say in brief.
-use Rattle.std.proofs.Common.{⊎_elim, ◌≡◌, ◌≢◌, ◌<◌, ℕ, List, set, Option, Some, None, option_map, refl, sym, ap, ◌∙◌, subst, inl, inr}
-use Rattle.std.proofs.lemmas.List.{set-get_or, get_or-set_other}
-use Rattle.std.specs.Option.{option_map_or}
+use Rattle.laws_line.proofs.Vocabulary.{⊎_elim, ◌≡◌, ◌≢◌, ◌<◌, ℕ, List, set, Option, Some, None, refl, sym, ap, ◌∙◌, subst, inl, inr, set-get_or, get_or-set_other, option_map_or, Config, next, gave, Line, fresh_line, link_number, link_count, link_at, Taken, taken, next_of, line_of, Card, line_at, at, after_all, IsAtLine, AreAtLines, always_sound, moment_of, each_moment, has_lines, line_sound}
+use Rattle.std.proofs.Common.{option_map}
 use Rattle.model_link.specs.Link.{fresh as fresh_link}
-use Rattle.model_line.specs.declared.config.Config.{Config}
 use Rattle.model_line.specs.Event as line_event
-use Rattle.model_line.specs.Event.{next, gave}
-use Rattle.model_line.specs.Line.{Line, fresh_line, link_number, link_count, link_at}
 use Rattle.model_line.specs.Machine as lines
 use Rattle.model_line.specs.Sound as line
-use Rattle.model_line.specs.Taken.{Taken, taken, next_of, line_of}
 use Rattle.laws_line.specs.OneEvent.{IsOneEvent, IsOfPart, of_link, of_management, of_units, of_group, of_next}
 use Rattle.laws_line.specs.Served.{IsIdle, IsOwed, contents_of}
 use Rattle.laws_line.proofs.Serving.{served}
-use Rattle.model_card.specs.Card.{Card, line_at}
-use Rattle.model_card.specs.Event.{Event, at}
+use Rattle.model_card.specs.Event.{Event}
 use Rattle.model_card.specs.Machine.{after, answer}
-use Rattle.model_card.specs.Run.{after_all, IsAtLine, AreAtLines}
 use Rattle.model_card.specs.Sound.{IsSound}
-use Rattle.model_card.proofs.CardSound.{always_sound}
-use Rattle.model_card.proofs.EachMoment.{moment_of, each_moment}
-use Rattle.model_card.proofs.Steps.{has_lines, line_sound}
 use Rattle.laws_line.specs.card.Brief.{IsIdleAt, GivesWhatWaits, LinksStay, LeavesOthers, OthersStay, TellsCause, CausesAreTold}
 use Rattle.laws_line.proofs.OfCard.Hearing.{heard-group, tells-cause}
 use Rattle.laws_line.proofs.OfCard.OneEvent.{one-in}

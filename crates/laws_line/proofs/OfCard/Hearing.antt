@@ -1,18 +1,7 @@
 -- What is heard, in a moment of a run.
-use Rattle.std.proofs.Common.{◌≡◌, ℕ, false, List, Ok, get_or, refl, sym, ap, ◌∙◌, subst, arith, true≢false}
-use Rattle.std.proofs.lemmas.Bool.{and_parts}
-use Rattle.std.proofs.lemmas.List.{get_or-set_same}
+use Rattle.laws_line.proofs.Vocabulary.{◌≡◌, ℕ, false, List, Ok, get_or, refl, sym, ap, ◌∙◌, subst, arith, true≢false, and_parts, get_or-set_same, Cause, Unserved, Service, Parts, reading, Config, heard_side, group_told, IsToGroup, Answer, hears, Line, fresh_line, Card, line_at, is_full, IsAtLine, moment_of, has_lines, by_room, line_sound}
 use Rattle.model_bits.specs.Stream as stream
-use Rattle.model_bits.specs.declared.heard.Cause.{Cause}
-use Rattle.model_bits.specs.declared.heard.Cause.TheVariants.{Unserved}
-use Rattle.lapd_frame.specs.declared.services.Service.{Service}
-use Rattle.lapd_frame.specs.Grammar.{Parts}
-use Rattle.lapd_frame.specs.Reading.{reading}
-use Rattle.model_line.specs.declared.config.Config.{Config}
-use Rattle.model_line.specs.Heard.{heard_side}
-use Rattle.model_line.specs.Sides.{group_told, IsToGroup}
-use Rattle.model_line.specs.Event.{Answer, hears, dropped}
-use Rattle.model_line.specs.Line.{Line, fresh_line}
+use Rattle.model_line.specs.Event.{dropped}
 use Rattle.model_line.specs.Machine as lines
 use Rattle.model_line.specs.Sound as line
 use Rattle.laws_line.specs.Steady.{HearsFrame}
@@ -20,12 +9,8 @@ use Rattle.laws_line.specs.Heard.{OnlyTells, IsToManagement}
 use Rattle.laws_line.proofs.Hearing.{dropped-stretch}
 use Rattle.laws_line.proofs.Grouping.{group-read, managed-read}
 use Rattle.model_card.specs.Event.{Event}
-use Rattle.model_card.specs.Card.{Card, line_at, is_full}
 use Rattle.model_card.specs.Machine.{after, answer}
-use Rattle.model_card.specs.Run.{IsAtLine}
 use Rattle.model_card.specs.Sound.{IsSound}
-use Rattle.model_card.proofs.EachMoment.{moment_of}
-use Rattle.model_card.proofs.Steps.{has_lines, by_room, line_sound}
 use Rattle.laws_line.specs.card.Brief.{TellsCause}
 
 -- What is heard makes this of its line, and is answered so.

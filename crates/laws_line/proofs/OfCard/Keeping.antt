@@ -1,25 +1,14 @@
 -- What each moment of a run makes of the contents of a link.
-use Rattle.std.proofs.Common.{◌≡◌, ◌≢◌, ◌<◌, Bool, true, false, cond, ◌==◌, List, [], ◌∷◌, get_or, set, refl, sym, ap, ◌∙◌, subst, arith, eqb-true, eq-eqb, true≢false}
-use Rattle.std.specs.Prelude.{fold}
-use Rattle.std.proofs.lemmas.List.{get_or-set_same, get_or-set_other}
-use Rattle.std.proofs.lemmas.List.Elements.{All-head, All-tail}
-use Rattle.laws_link.specs.History.{History, IsCounted}
+use Rattle.laws_line.proofs.Vocabulary.{◌≡◌, ◌≢◌, ◌<◌, Bool, true, false, cond, ◌==◌, List, [], ◌∷◌, get_or, set, refl, sym, ap, ◌∙◌, subst, arith, eq-eqb, true≢false, fold, get_or-set_same, get_or-set_other, All-head, All-tail, History, IsCounted, is_pool_full, Line, fresh_line, link_at, link_count, line_not_pool, Card, line_at, LinkName, moments, after_all, IsAtLine, AreAtLines, moment_of, HasLines, has_lines, by_room, line_sound, after_lines}
+use Rattle.std.proofs.Common.{eqb-true}
 use Rattle.laws_link.proofs.Counted.{counted}
-use Rattle.model_line.specs.Counts.{is_pool_full}
-use Rattle.model_line.specs.Line.{Line, fresh_line, link_at, link_count}
 use Rattle.model_line.specs.Machine as lines
-use Rattle.model_line.proofs.NotPool.{line_not_pool}
 use Rattle.laws_line.specs.Share as line
 use Rattle.laws_line.specs.Share.{no_share}
 use Rattle.laws_line.proofs.Kept.{Goes, stays, event-goes}
 use Rattle.model_card.specs.Event.{Event}
-use Rattle.model_card.specs.Card.{Card, line_at}
 use Rattle.model_card.specs.Machine.{after}
-use Rattle.model_card.specs.Numbered.{LinkName}
-use Rattle.model_card.specs.Run.{moments, after_all, IsAtLine, AreAtLines}
 use Rattle.model_card.specs.Sound.{IsSound}
-use Rattle.model_card.proofs.EachMoment.{moment_of}
-use Rattle.model_card.proofs.Steps.{HasLines, has_lines, by_room, line_sound, after_lines}
 use Rattle.laws_line.specs.card.Contents.{link_named, share_in, one_more, begun}
 use Rattle.laws_line.specs.card.Promises.{IsCountedIn}
 

@@ -1,5 +1,5 @@
 -- Which cards are reached.
-use Rattle.model_card.proofs.Reaching.{reached-after, reached-fresh, reached-sound}
+use Rattle.laws_line.proofs.Vocabulary.{reached-after, reached-fresh, reached-sound}
 use Rattle.laws_line.specs.card.Machine.{CardsAreReached}
 
 pub cards_are_reached : CardsAreReached

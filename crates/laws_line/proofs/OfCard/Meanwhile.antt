@@ -1,26 +1,16 @@
 -- A line of a card after so many calls for its next frame, whatever happened at the other lines meanwhile.
-use Rattle.std.proofs.Common.{◌≡◌, ◌≢◌, ℕ, zero, suc, ◌+◌, ◌<◌, ◌≤◌, ◌==◌, Bool, true, false, cond, List, [], ◌∷◌, ◌++◌, length, get_or, set, refl, sym, ap, subst, ◌∙◌, arith}
-use Rattle.std.proofs.lemmas.Bool.{eqb-true, eqb-false}
-use Rattle.std.proofs.lemmas.List.{get_or-set_same, get_or-set_other}
-use Rattle.std.proofs.lemmas.List.Elements.{All-nil, All-cons, All-head, All-tail, All-get_or}
-use Rattle.model_link.specs.declared.frames.ControlFrame.{ControlFrame}
-use Rattle.model_line.specs.declared.config.Config.{Config}
-use Rattle.model_line.specs.Event.{hears, next}
-use Rattle.model_line.specs.Line.{Line, fresh_line}
+use Rattle.laws_line.proofs.Vocabulary.{◌≡◌, ◌≢◌, ℕ, zero, suc, ◌+◌, ◌<◌, ◌≤◌, ◌==◌, Bool, true, false, cond, List, [], ◌∷◌, ◌++◌, length, get_or, set, refl, sym, ap, subst, ◌∙◌, arith, eqb-false, get_or-set_same, get_or-set_other, All-nil, All-cons, All-head, All-tail, All-get_or, ControlFrame, Config, hears, next, Line, fresh_line, taken, Card, line_at, at, wants_room, IsAtLine, AreAtLines, after_all, after_is_sound}
+use Rattle.std.proofs.lemmas.Bool.{eqb-true}
 use Rattle.model_line.specs.Machine as lines
-use Rattle.model_line.specs.Taken.{taken}
 use Rattle.model_line.specs.Sound as line_sound
 use Rattle.laws_line.specs.Served.{HasNothing}
 use Rattle.laws_line.specs.Drains.{after_takes, frames_to_go, IsEnough, control_text, IsTakenWithin}
 use Rattle.laws_line.proofs.Draining.{drains, idles}
 use Rattle.laws_line.proofs.Ordered.{enough-goes}
 use Rattle.model_bits.specs.Stream as stream
-use Rattle.model_card.specs.Card.{Card, line_at}
-use Rattle.model_card.specs.Event.{Event, at}
-use Rattle.model_card.specs.Machine.{wants_room, after}
-use Rattle.model_card.specs.Run.{IsAtLine, AreAtLines, after_all}
+use Rattle.model_card.specs.Event.{Event}
+use Rattle.model_card.specs.Machine.{after}
 use Rattle.model_card.specs.Sound.{IsSound}
-use Rattle.model_card.proofs.CardSound.{after_is_sound}
 use Rattle.laws_line.specs.card.Among.{AreTakesAt, takes_at, IsTakenAmong, IsIdleAmong}
 use Rattle.laws_line.specs.card.PromisesOfTakes.{IsWaiting}
 

@@ -1,27 +1,16 @@
 -- In a moment of a run one part of one line has one event, and all else is as it was.
-use Rattle.std.proofs.Common.{⊎_elim, ◌≡◌, ◌≢◌, ℕ, true, List, get_or, refl, sym, ap, ◌∙◌, subst, arith, inr, true≢false}
-use Rattle.std.proofs.lemmas.Bool.{and_parts}
-use Rattle.std.proofs.lemmas.List.{get_or-set_same, get_or-set_other}
-use Rattle.lapd_frame.specs.declared.refusals.Refusal.TheVariants.{PoolFull}
-use Rattle.lapd_frame.specs.declared.services.Service.{Service}
+use Rattle.laws_line.proofs.Vocabulary.{⊎_elim, ◌≡◌, ◌≢◌, ℕ, true, List, get_or, refl, sym, ap, ◌∙◌, subst, arith, inr, true≢false, and_parts, get_or-set_same, get_or-set_other, PoolFull, Service, Config, refused, Line, fresh_line, Card, line_at, is_full, IsAtLine, AreAtLines, moment_of, each_moment, has_lines, by_room, line_sound}
 use Rattle.lapd_tei.specs.Events as teis
 use Rattle.model_bits.specs.Stream as stream
 use Rattle.model_link.specs.Events as link
-use Rattle.model_line.specs.declared.config.Config.{Config}
 use Rattle.model_line.specs.Event as line_event
-use Rattle.model_line.specs.Event.{refused}
-use Rattle.model_line.specs.Line.{Line, fresh_line}
 use Rattle.model_line.specs.Machine as lines
 use Rattle.laws_line.specs.OneEvent.{IsOneEvent}
 use Rattle.laws_line.specs.Steady.{IsOf, IsOfManagement}
 use Rattle.laws_line.proofs.Parts.{one-event}
 use Rattle.model_card.specs.Event.{Event}
-use Rattle.model_card.specs.Card.{Card, line_at, is_full}
 use Rattle.model_card.specs.Machine.{after, answer}
-use Rattle.model_card.specs.Run.{IsAtLine, AreAtLines}
 use Rattle.model_card.specs.Sound.{IsSound}
-use Rattle.model_card.proofs.EachMoment.{moment_of, each_moment}
-use Rattle.model_card.proofs.Steps.{has_lines, by_room, line_sound}
 use Rattle.laws_line.specs.card.OneEvent.{IsOneEventIn}
 use Rattle.laws_line.specs.card.Promises.{HasOneEvent}
 

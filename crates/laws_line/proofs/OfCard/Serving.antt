@@ -1,20 +1,11 @@
 -- What is taken after a list of events.
-use Rattle.std.proofs.Common.{◌≡◌, ℕ, ◌<◌, cond, slice_get, List, [], ◌∷◌, Option, Some, None, refl, sym, subst, inl, inr}
-use Rattle.model_link.specs.Sound.{is_information}
-use Rattle.model_line.specs.declared.config.Config.{Config}
-use Rattle.model_line.specs.Event.{next}
-use Rattle.model_line.specs.Line.{Line, link_at, link_count}
+use Rattle.laws_line.proofs.Vocabulary.{◌≡◌, ℕ, ◌<◌, cond, slice_get, List, [], ◌∷◌, Option, Some, None, refl, sym, subst, inl, inr, is_information, Config, next, Line, link_at, link_count, Taken, taken, Card, line_at, after_all, AreAtLines, always_sound, has_lines, line_sound}
 use Rattle.model_line.specs.Machine as lines
-use Rattle.model_line.specs.Taken.{Taken, taken}
 use Rattle.laws_line.specs.Served.{IsOfLink, IsOwed, IsIdle, contents_of, IsServed}
 use Rattle.laws_line.proofs.Serving.{served}
 use Rattle.model_card.specs.Event.{Event}
-use Rattle.model_card.specs.Card.{Card, line_at}
 use Rattle.model_card.specs.Machine.{after}
-use Rattle.model_card.specs.Run.{after_all, AreAtLines}
 use Rattle.model_card.specs.Sound.{IsSound}
-use Rattle.model_card.proofs.CardSound.{always_sound}
-use Rattle.model_card.proofs.Steps.{has_lines, line_sound}
 use Rattle.laws_line.specs.card.Contents.{accepted_at}
 use Rattle.laws_line.specs.card.Promises.{IsServedIn}
 use Rattle.laws_line.proofs.OfCard.Keeping.{run-counted}

@@ -1,24 +1,14 @@
 -- A caller that obeys the orders runs the timers that are needed: over runs of a card.
-use Rattle.std.proofs.Common.{◌≡◌, ◌≢◌, ℕ, ◌<◌, ◌==◌, Bool, true, false, cond, List, [], ◌∷◌, get_or, set, refl, sym, ap, ◌∙◌, subst, arith, eqb-true, eq-eqb, true≢false}
-use Rattle.std.proofs.lemmas.Bool.{and_parts}
-use Rattle.std.proofs.lemmas.List.{get_or-set_same, get_or-set_other, get_or-replicate}
-use Rattle.std.proofs.lemmas.List.Elements.{All-head, All-tail}
-use Rattle.lapd_frame.specs.declared.timers.Timer.{Timer}
-use Rattle.model_line.specs.declared.config.Config.{Config}
+use Rattle.laws_line.proofs.Vocabulary.{◌≡◌, ◌≢◌, ℕ, ◌<◌, ◌==◌, Bool, true, false, cond, List, [], ◌∷◌, get_or, set, refl, sym, ap, ◌∙◌, subst, arith, eq-eqb, true≢false, and_parts, get_or-set_same, get_or-set_other, get_or-replicate, All-head, All-tail, Timer, Config, Line, fresh_line, Card, line_at, is_full, IsReached, moments, after_all, IsAtLine, AreAtLines, after_is_sound, fresh_is_sound, moment_of, has_lines, by_room, line_sound}
+use Rattle.std.proofs.Common.{eqb-true}
 use Rattle.model_line.specs.Event as line_event
-use Rattle.model_line.specs.Line.{Line, fresh_line}
 use Rattle.model_line.specs.Machine as lines
 use Rattle.laws_line.specs.Timers.{is_needed, runs_then, left_by, HaveTheirTimers}
 use Rattle.laws_line.proofs.TimersFollow.{timely-line, followed, begins-timely, begins-with-none}
 use Rattle.model_card.specs.Event.{Event}
-use Rattle.model_card.specs.Card.{Card, fresh, line_at, is_full}
+use Rattle.model_card.specs.Card.{fresh}
 use Rattle.model_card.specs.Machine.{after, answer}
-use Rattle.model_card.specs.Reached.{IsReached}
-use Rattle.model_card.specs.Run.{moments, after_all, IsAtLine, AreAtLines}
 use Rattle.model_card.specs.Sound.{IsSound}
-use Rattle.model_card.proofs.CardSound.{after_is_sound, fresh_is_sound}
-use Rattle.model_card.proofs.EachMoment.{moment_of}
-use Rattle.model_card.proofs.Steps.{has_lines, by_room, line_sound}
 use Rattle.laws_line.specs.card.Promises.{RunsWhatIsNeeded}
 use Rattle.laws_line.specs.card.Timers.{one_more, runs_at_callers, AllHaveTheirTimers}
 

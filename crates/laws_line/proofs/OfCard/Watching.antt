@@ -1,24 +1,12 @@
 -- What is watched at a line from moment to moment, and keeps in step with the line, does so over whole runs.
-use Rattle.std.proofs.Common.{◌≡◌, ◌≢◌, ℕ, ◌==◌, Bool, true, false, cond, List, [], ◌∷◌, get_or, refl, sym, ap, ◌∙◌, subst, arith, eqb-true, eq-eqb, true≢false}
-use Rattle.std.specs.Prelude.{fold}
-use Rattle.std.proofs.lemmas.Bool.{and_parts}
-use Rattle.std.proofs.lemmas.List.{get_or-set_same, get_or-set_other}
-use Rattle.std.proofs.lemmas.List.Elements.{All-head, All-tail}
-use Rattle.lapd_frame.specs.declared.refusals.Refusal.TheVariants.{PoolFull}
-use Rattle.model_line.specs.declared.config.Config.{Config}
+use Rattle.laws_line.proofs.Vocabulary.{◌≡◌, ◌≢◌, ℕ, ◌==◌, Bool, true, false, cond, List, [], ◌∷◌, get_or, refl, sym, ap, ◌∙◌, subst, arith, eq-eqb, true≢false, fold, and_parts, get_or-set_same, get_or-set_other, All-head, All-tail, PoolFull, Config, Answer, refused, Line, fresh_line, Request, Card, line_at, is_full, Moment, moments, after_all, IsAtLine, AreAtLines, after_is_sound, has_lines, by_room, line_sound}
+use Rattle.std.proofs.Common.{eqb-true}
 use Rattle.model_line.specs.Event as line_event
-use Rattle.model_line.specs.Event.{Answer, refused}
-use Rattle.model_line.specs.Line.{Line, fresh_line}
 use Rattle.model_line.specs.Machine as lines
-use Rattle.model_line.specs.Request.{Request}
 use Rattle.model_line.specs.Sound as line
 use Rattle.model_card.specs.Event.{Event}
-use Rattle.model_card.specs.Card.{Card, line_at, is_full}
 use Rattle.model_card.specs.Machine.{after, answer}
-use Rattle.model_card.specs.Run.{Moment, moments, after_all, IsAtLine, AreAtLines}
 use Rattle.model_card.specs.Sound.{IsSound}
-use Rattle.model_card.proofs.CardSound.{after_is_sound}
-use Rattle.model_card.proofs.Steps.{has_lines, by_room, line_sound}
 
 module _ {X : Type 0} (seen : Line → X) (watch : X → line_event.Event → Answer → X)
     (steps : (c : Config) (e : line_event.Event) (l : Line) → line.IsSound c l → watch (seen l) e (lines.answer c e l) ≡ seen (lines.after c e l))

@@ -1,20 +1,14 @@
 -- The laws of a line's takes wherever they come in a list of events.
-use Rattle.std.proofs.Common.{◌≡◌, ◌<◌, List, [], ◌∷◌, ◌++◌, length, option_map, refl, sym, ap, subst, arith}
+use Rattle.laws_line.proofs.Vocabulary.{◌≡◌, ◌<◌, List, [], ◌∷◌, ◌++◌, length, refl, sym, ap, subst, arith, All-nil, All-cons, All-head, All-tail, Config, gave, next_of, Card, line_at, IsAtLine, AreAtLines, after_all, after_is_sound, always_sound}
+use Rattle.std.proofs.Common.{option_map}
 use Rattle.std.specs.Prelude.{All}
-use Rattle.std.proofs.lemmas.List.Elements.{All-nil, All-cons, All-head, All-tail}
-use Rattle.model_line.specs.declared.config.Config.{Config}
-use Rattle.model_line.specs.Event.{gave}
 use Rattle.model_line.specs.Machine as lines
-use Rattle.model_line.specs.Taken.{next_of}
 use Rattle.laws_line.specs.Served.{HasNothing}
 use Rattle.laws_line.proofs.Bounds.{to-go-few}
 use Rattle.laws_line.proofs.Soon.{few-before, others-fit}
-use Rattle.model_card.specs.Card.{Card, line_at}
 use Rattle.model_card.specs.Event.{Event}
 use Rattle.model_card.specs.Machine.{after}
-use Rattle.model_card.specs.Run.{IsAtLine, AreAtLines, after_all}
 use Rattle.model_card.specs.Sound.{IsSound}
-use Rattle.model_card.proofs.CardSound.{after_is_sound, always_sound}
 use Rattle.laws_line.specs.card.PromisesOfTakes.{Wherever, WaitingIsTaken, CallsComeToAnEnd}
 use Rattle.laws_line.proofs.OfCard.Amid.{taken-amid}
 use Rattle.laws_line.proofs.OfCard.Meanwhile.{IsServed, line-sound, card-drains, card-idles}

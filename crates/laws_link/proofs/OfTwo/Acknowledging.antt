@@ -1,13 +1,5 @@
 -- What a valid N(R) does in state 7: V(A) becomes the number that it names. Which timer then runs is left open.
-use Rattle.std.proofs.Common.{◌≡◌, ℕ, ◌≤◌, Bool, true, false, cond, ◌==◌, Option, Some, refl, sym, subst, arith}
-use Rattle.std.specs.Prelude.{nat_lt}
-use Rattle.std.proofs.lemmas.Bool.{ltb-false}
-use Rattle.lapd_seq.specs.declared.numbers.Seq.{Seq}
-use Rattle.lapd_seq.specs.Circle.{named}
-use Rattle.model_link.specs.declared.timers.LinkTimer.{LinkTimer}
-use Rattle.model_link.specs.declared.timers.LinkTimer.TheVariants.{T200, T203}
-use Rattle.model_link.specs.declared.terms.Terms.{Terms}
-use Rattle.model_link.specs.Steps.{Course, ◌then◌}
+use Rattle.laws_link.proofs.Vocabulary.{◌≡◌, ℕ, ◌≤◌, Bool, true, false, cond, ◌==◌, Option, Some, refl, sym, subst, arith, nat_lt, ltb-false, Seq, named, LinkTimer, T200, T203, Terms, Course, ◌then◌}
 use Rattle.model_link.specs.Words
 use Rattle.model_link.specs.Established
 use Rattle.laws_link.proofs.OfTwo.Shapes.{effect}

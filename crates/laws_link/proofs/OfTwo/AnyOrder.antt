@@ -1,19 +1,8 @@
 -- Two ends in state 7 with frames on both ways, none of which is lost: each turn lowers their weight, and in the end all has
 -- arrived.
-use Rattle.std.proofs.Common.{◌≡◌, ℕ, suc, ◌+◌, ◌-◌, ◌*◌, ◌<◌, ◌≤◌, Bool, true, false, ◌==◌, List, [], ◌∷◌, ◌++◌, length, take, drop, Some, refl, sym, ap, subst, ◌∙◌, ◌⊎◌, inl, inr, append-nil, eq-eqb, true≢false, arith}
-use Rattle.std.specs.Prelude.{All, if◌then◌else◌, nat_lt, slice_get, unwrap_or}
-use Rattle.std.proofs.lemmas.Bool.{ltb-true, le-ltb, and_parts}
-use Rattle.lapd_seq.specs.Numbers.{seq}
-use Rattle.lapd_seq.specs.Circle.{named}
-use Rattle.lapd_frame.specs.Grammar.{Parts}
+use Rattle.laws_link.proofs.Vocabulary.{◌≡◌, ℕ, suc, ◌+◌, ◌-◌, ◌*◌, ◌<◌, ◌≤◌, Bool, true, false, ◌==◌, List, [], ◌∷◌, ◌++◌, length, take, drop, Some, refl, sym, ap, subst, ◌∙◌, ◌⊎◌, inl, inr, append-nil, eq-eqb, true≢false, arith, All, if◌then◌else◌, nat_lt, slice_get, unwrap_or, ltb-true, le-ltb, and_parts, seq, named, Parts, Terms, Link, frame, received, offer, IsInRange, IsSound, End, with_link, with_sent, with_first_of, sound-after}
 use Rattle.model_link.specs.declared.states.State.TheVariants as state
-use Rattle.model_link.specs.declared.terms.Terms.{Terms}
-use Rattle.model_link.specs.Link.{Link}
-use Rattle.model_link.specs.Events.{frame, received, offer}
 use Rattle.model_link.specs.Offers
-use Rattle.model_link.specs.Sound.{IsInRange, IsSound}
-use Rattle.model_link.specs.TwoEnds.{End, with_link, with_sent, with_first_of}
-use Rattle.model_link.proofs.SoundEvents.{sound-after}
 use Rattle.laws_link.specs.two.Waits.{HasNothingToSend}
 use Rattle.laws_link.specs.two.AnyOrder.{load_of, load, weight_at}
 use Rattle.laws_link.proofs.OfTwo.Plain.{plain, plain_end, with_information, with_acknowledgement, information_frame, acknowledgement_frame, gives-information, gives-acknowledgement}

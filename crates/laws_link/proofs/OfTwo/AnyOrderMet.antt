@@ -1,18 +1,9 @@
 -- The premises of the law on turns in any order are met: by the worked run in which both ways are busy at once, and after which
 -- no turn is left.
-use Rattle.std.proofs.Common.{◌≡◌, ℕ, Bool, true, false, ◌&&◌, List, [], ◌∷◌, length, refl, sym, ap, ◌∙◌, true≢false, arith}
-use Rattle.std.specs.Prelude.{◌||◌, nat_le}
-use Rattle.std.proofs.lemmas.Bool.{and_parts, leb-true}
-use Rattle.lapd_seq.specs.Numbers.{seq}
-use Rattle.lapd_seq.specs.Circle.{distance_of, named}
-use Rattle.lapd_frame.specs.Reading.{supervisory_of, unnumbered_of, control_of, header_of, reading}
-use Rattle.model_link.specs.Events.{Event, Data, requested}
-use Rattle.model_link.specs.Machine.{after_all}
+use Rattle.laws_link.proofs.Vocabulary.{◌≡◌, ℕ, Bool, true, false, ◌&&◌, List, [], ◌∷◌, length, refl, sym, ap, ◌∙◌, true≢false, arith, ◌||◌, nat_le, and_parts, leb-true, seq, distance_of, named, supervisory_of, unnumbered_of, control_of, header_of, reading, Event, Data, requested, after_all, End, Ends, Act, asks, expires, sends, receives, loses, Doing, at_near, at_far, doing, doing_all, sound-all}
 use Rattle.model_link.specs.Offers
 use Rattle.laws_link.specs.Samples.{usual, up}
-use Rattle.model_link.specs.TwoEnds.{End, Ends, Act, asks, expires, sends, receives, loses, Doing, at_near, at_far, doing, doing_all}
 use Rattle.laws_link.proofs.OfTwo.Premises.{begins}
-use Rattle.model_link.proofs.SoundEvents.{sound-all}
 use Rattle.laws_link.specs.two.Rounds.{IsReady, IsTaken}
 use Rattle.laws_link.specs.two.WorkedRounds.{asked}
 use Rattle.laws_link.specs.two.AnyOrder.{IsTurnOf, IsTurn, AreTurns, IsStill}

@@ -1,9 +1,6 @@
 -- Runs of turns in any order, and where they end.
-use Rattle.std.proofs.Common.{◌≡◌, ℕ, suc, ◌+◌, ◌≤◌, false, List, [], ◌∷◌, length, take, refl, sym, ap, subst, ◌∙◌, arith}
-use Rattle.std.specs.Prelude.{nat_lt}
-use Rattle.std.proofs.Math.Seq.{take-length}
+use Rattle.laws_link.proofs.Vocabulary.{◌≡◌, ℕ, suc, ◌+◌, ◌≤◌, false, List, [], ◌∷◌, length, take, refl, sym, ap, subst, ◌∙◌, arith, nat_lt, take-length, End, Ends, Act, asks, expires, sends, receives, loses, Doing, at_near, at_far, acting, turned, doing, doing_all}
 use Rattle.model_link.specs.Offers
-use Rattle.model_link.specs.TwoEnds.{End, Ends, Act, asks, expires, sends, receives, loses, Doing, at_near, at_far, acting, turned, doing, doing_all}
 use Rattle.laws_link.specs.two.Waits.{HasNothingToSend}
 use Rattle.laws_link.specs.two.Rounds.{IsReady, IsTaken, HasArrived}
 use Rattle.laws_link.specs.two.AnyOrder.{IsTurnOf, IsTurn, AreTurns, IsStill, weight_at, weight}

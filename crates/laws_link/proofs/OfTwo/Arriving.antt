@@ -1,10 +1,6 @@
 -- Half a round after another, until all contents have arrived.
-use Rattle.std.proofs.Common.{◌≡◌, ℕ, zero, suc, ◌+◌, ◌-◌, ◌≤◌, Bool, true, false, ◌&&◌, List, length, take, refl, sym, ap, subst, ◌∙◌, ◌⊎◌, inl, inr, true≢false, arith}
-use Rattle.std.specs.Prelude.{nat_lt}
-use Rattle.std.proofs.lemmas.Bool.{lt-ltb, le-ltb, ltb-false, and_right}
-use Rattle.std.proofs.Math.Seq.{take-length}
+use Rattle.laws_link.proofs.Vocabulary.{◌≡◌, ℕ, zero, suc, ◌+◌, ◌-◌, ◌≤◌, Bool, true, false, ◌&&◌, List, length, take, refl, sym, ap, subst, ◌∙◌, ◌⊎◌, inl, inr, true≢false, arith, nat_lt, lt-ltb, le-ltb, ltb-false, and_right, take-length, End, Ends}
 use Rattle.model_link.specs.Offers
-use Rattle.model_link.specs.TwoEnds.{End, Ends}
 use Rattle.laws_link.specs.two.Rounds.{IsReady, IsTaken, HasUnsent, HasArrived, rounds}
 use Rattle.laws_link.proofs.OfTwo.Plain.{plain}
 use Rattle.laws_link.proofs.OfTwo.Halves.{One, Nothing, giver_of, taker_of, moves, ready-giver, ready-taker, takes, taken}

@@ -1,21 +1,9 @@
 -- The premises of the laws on an end that is busy itself are met: by a link where own busy has begun, and by the worked run in
 -- which RNR and all frames are lost.
-use Rattle.std.proofs.Common.{ℕ, true, false, List, [], ◌∷◌, length, refl, arith}
-use Rattle.std.proofs.lemmas.Bool.{ltb-true, leb-true}
-use Rattle.lapd_seq.specs.Numbers.{seq}
-use Rattle.lapd_seq.specs.Circle.{distance_of, named}
-use Rattle.lapd_frame.specs.Reading.{supervisory_of, unnumbered_of, control_of, header_of, reading}
-use Rattle.lapd_frame.specs.declared.controls.Control.TheVariants.{Information, ReceiveNotReady}
-use Rattle.lapd_frame.specs.Grammar.{Parts}
-use Rattle.model_link.specs.Link.{frame_of}
-use Rattle.model_link.specs.Words.{command, response}
-use Rattle.model_link.specs.Events.{Data, SetBusy, frame, Event, received, requested, offer}
-use Rattle.model_link.specs.Machine.{after_all}
+use Rattle.laws_link.proofs.Vocabulary.{ℕ, true, false, List, [], ◌∷◌, length, refl, arith, ltb-true, leb-true, seq, distance_of, named, supervisory_of, unnumbered_of, control_of, header_of, reading, Information, ReceiveNotReady, Parts, frame_of, command, response, Data, SetBusy, frame, Event, received, requested, offer, after_all, Ends, asks, sends, receives, Doing, at_near, at_far, doing_all, StayUp, sound-all}
 use Rattle.laws_link.specs.Samples.{usual, up}
-use Rattle.model_link.specs.TwoEnds.{Ends, asks, sends, receives, Doing, at_near, at_far, doing_all, StayUp}
 use Rattle.laws_link.specs.two.WorkedEnds.{both}
 use Rattle.laws_link.proofs.OfTwo.Premises.{begins}
-use Rattle.model_link.proofs.SoundEvents.{sound-all}
 use Rattle.laws_link.specs.two.Ahead.{StayAhead}
 use Rattle.laws_link.specs.two.Rounds.{IsTaken, HasUnsent}
 use Rattle.laws_link.specs.two.CutOff.{IsSilent, IsSilentWith, HasMissing}

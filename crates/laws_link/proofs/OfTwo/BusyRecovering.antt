@@ -1,15 +1,7 @@
 -- After the loss of all frames, an end that is busy itself and the other, of which each asks or has nothing outstanding:
 -- after a round or two both are in state 7, and what was sent is taken.
-use Rattle.std.proofs.Common.{◌≡◌, ℕ, suc, ◌+◌, ◌-◌, ◌<◌, ◌≤◌, Bool, true, false, cond, ◌==◌, List, [], ◌∷◌, ◌++◌, length, take, Option, Some, refl, sym, ap, subst, ◌∙◌, eq-eqb, arith}
-use Rattle.std.specs.Prelude.{nat_lt, slice_get, unwrap_or}
-use Rattle.std.proofs.lemmas.Bool.{le-ltb, ltb-true, and_parts}
-use Rattle.lapd_seq.specs.Numbers.{seq}
-use Rattle.lapd_seq.specs.Circle.{named}
-use Rattle.model_link.specs.declared.timers.LinkTimer.{LinkTimer}
-use Rattle.model_link.specs.declared.timers.LinkTimer.TheVariants.{T200, T203}
+use Rattle.laws_link.proofs.Vocabulary.{◌≡◌, ℕ, suc, ◌+◌, ◌-◌, ◌<◌, ◌≤◌, Bool, true, false, cond, ◌==◌, List, [], ◌∷◌, ◌++◌, length, take, Option, Some, refl, sym, ap, subst, ◌∙◌, eq-eqb, arith, nat_lt, slice_get, unwrap_or, le-ltb, ltb-true, and_parts, seq, named, LinkTimer, T200, T203, IsSound, End, Ends, with_first_of, with_first_lost}
 use Rattle.model_link.specs.Offers
-use Rattle.model_link.specs.Sound.{IsSound}
-use Rattle.model_link.specs.TwoEnds.{End, Ends, with_first_of, with_first_lost}
 use Rattle.laws_link.proofs.OfTwo.Plain.{plain, plain_with, plain_end, plain_end_with, with_information_with, gives-information, gives-acknowledgement, gives-nothing}
 use Rattle.laws_link.proofs.OfTwo.Halves.{named-number, fits-at, take-one}
 use Rattle.laws_link.specs.two.Rounds.{HasUnsent}

@@ -1,15 +1,6 @@
 -- Turn after turn of an end that is busy itself and of the other, until all contents of the busy end have arrived.
-use Rattle.std.proofs.Common.{◌≡◌, ℕ, zero, suc, ◌+◌, ◌-◌, ◌<◌, ◌≤◌, Bool, true, false, ◌&&◌, List, [], ◌∷◌, ◌++◌, length, take, Option, refl, sym, ap, subst, ◌∙◌, ◌⊎◌, inl, inr, true≢false, arith}
-use Rattle.std.specs.Prelude.{All, nat_lt, slice_get, unwrap_or}
-use Rattle.std.proofs.lemmas.Bool.{lt-ltb, le-ltb, ltb-false, and_right}
-use Rattle.std.proofs.Math.Seq.{take-length}
-use Rattle.lapd_frame.specs.Grammar.{Parts}
-use Rattle.model_link.specs.declared.timers.LinkTimer.{LinkTimer}
-use Rattle.model_link.specs.Events.{frame, received, offer}
+use Rattle.laws_link.proofs.Vocabulary.{◌≡◌, ℕ, zero, suc, ◌+◌, ◌-◌, ◌<◌, ◌≤◌, Bool, true, false, ◌&&◌, List, [], ◌∷◌, ◌++◌, length, take, Option, refl, sym, ap, subst, ◌∙◌, ◌⊎◌, inl, inr, true≢false, arith, All, nat_lt, slice_get, unwrap_or, lt-ltb, le-ltb, ltb-false, and_right, take-length, Parts, LinkTimer, frame, received, offer, IsInRange, IsSound, End, Ends, with_sent, with_first_of, sound-after}
 use Rattle.model_link.specs.Offers
-use Rattle.model_link.specs.Sound.{IsInRange, IsSound}
-use Rattle.model_link.specs.TwoEnds.{End, Ends, with_sent, with_first_of}
-use Rattle.model_link.proofs.SoundEvents.{sound-after}
 use Rattle.laws_link.specs.two.Rounds.{IsTaken, HasUnsent, HasArrived, rounds}
 use Rattle.laws_link.specs.two.OwnBusy.{IsBusyItself, IsOpenItself, IsDropped, GetsThrough}
 use Rattle.laws_link.proofs.OfTwo.Plain.{plain}

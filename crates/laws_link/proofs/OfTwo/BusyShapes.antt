@@ -1,22 +1,10 @@
 -- An end that is busy itself, and the other end: what each makes of the other's frames in states 7 and 8.
-use Rattle.std.proofs.Common.{◌≡◌, ℕ, Bool, true, false, cond, List, [], ◌∷◌, ◌++◌, length, Option, Some, ap, ◌∙◌, append-nil}
-use Rattle.std.specs.Prelude.{nat_lt, slice_get, unwrap_or}
-use Rattle.lapd_seq.specs.Numbers.{seq}
-use Rattle.lapd_seq.specs.Circle.{named}
-use Rattle.lapd_frame.specs.declared.controls.Control.TheVariants.{ReceiveNotReady}
+use Rattle.laws_link.proofs.Vocabulary.{◌≡◌, ℕ, Bool, true, false, cond, List, [], ◌∷◌, ◌++◌, length, Option, Some, ap, ◌∙◌, append-nil, nat_lt, slice_get, unwrap_or, seq, named, ReceiveNotReady, LinkTimer, T200, ControlFrame, Terms, Link, frame_of, frame, received, begun, End, with_link}
 use Rattle.lapd_frame.specs.declared.notes.ErrorCode.TheVariants as code
-use Rattle.model_link.specs.declared.timers.LinkTimer.{LinkTimer}
-use Rattle.model_link.specs.declared.timers.LinkTimer.TheVariants.{T200}
-use Rattle.model_link.specs.declared.frames.ControlFrame.{ControlFrame}
-use Rattle.model_link.specs.declared.terms.Terms.{Terms}
-use Rattle.model_link.specs.Link.{Link, frame_of}
-use Rattle.model_link.specs.Events.{frame, received}
-use Rattle.model_link.specs.Steps.{begun}
 use Rattle.model_link.specs.Words
 use Rattle.model_link.specs.MultipleFrame
 use Rattle.model_link.specs.Established
 use Rattle.model_link.specs.TimerRecovery
-use Rattle.model_link.specs.TwoEnds.{End, with_link}
 use Rattle.laws_link.proofs.OfTwo.Plain.{information_frame}
 use Rattle.laws_link.proofs.OfTwo.Shapes.{enquiry_with, reply, reply_with, in_8, in_8_with, in_7_with, effect, having, replied}
 

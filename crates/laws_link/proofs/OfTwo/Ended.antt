@@ -1,15 +1,7 @@
 -- What comes of two ends once own busy is over at one of them.
-use Rattle.std.proofs.Common.{◌≡◌, ℕ, ◌+◌, ◌<◌, ◌≤◌, Bool, true, false, IsTrue, [], length, take, Some, refl, sym, ap, subst, ◌∙◌, arith}
-use Rattle.std.specs.Prelude.{All}
-use Rattle.model_link.specs.declared.states.State.{State}
+use Rattle.laws_link.proofs.Vocabulary.{◌≡◌, ℕ, ◌+◌, ◌<◌, ◌≤◌, Bool, true, false, IsTrue, [], length, take, Some, refl, sym, ap, subst, ◌∙◌, arith, All, State, T200, is_multiple_frame, requested, ClearBusy, IsInRange, IsSound, End, Ends, asks, sends, receives, loses, at_near, at_far, with_first_of, turned, doing, sound-after}
 use Rattle.model_link.specs.declared.states.State.TheVariants as state
-use Rattle.model_link.specs.declared.timers.LinkTimer.TheVariants.{T200}
-use Rattle.model_link.specs.Link.{is_multiple_frame}
-use Rattle.model_link.specs.Events.{requested, ClearBusy}
-use Rattle.model_link.specs.Sound.{IsInRange, IsSound}
-use Rattle.model_link.specs.TwoEnds.{End, Ends, asks, sends, receives, loses, at_near, at_far, with_first_of, turned, doing}
 use Rattle.laws_link.specs.Timed.{IsTimedIn}
-use Rattle.model_link.proofs.SoundEvents.{sound-after}
 use Rattle.laws_link.specs.two.Rounds.{rounds, IsReady, IsTaken, HasUnsent}
 use Rattle.laws_link.specs.two.CutOff.{IsCutOff, IsCutOffWith, HasMissing, with_t200_expired}
 use Rattle.laws_link.specs.two.OwnBusy.{IsBusyItself, IsOpenItself}

@@ -1,20 +1,8 @@
 -- Ends that meet what the end of own busy asks, and what it gives them.
-use Rattle.std.proofs.Common.{true, false, [], ◌∷◌, length, refl, arith}
-use Rattle.std.proofs.lemmas.Bool.{leb-true}
-use Rattle.lapd_seq.specs.Numbers.{seq}
-use Rattle.lapd_seq.specs.Circle.{distance_of, named}
-use Rattle.lapd_frame.specs.Reading.{supervisory_of, unnumbered_of, control_of, header_of, reading}
-use Rattle.lapd_frame.specs.declared.controls.Control.TheVariants.{ReceiveNotReady}
-use Rattle.model_link.specs.Link.{frame_of}
-use Rattle.model_link.specs.Words.{response}
-use Rattle.model_link.specs.Events.{Data, SetBusy, frame, received, requested, offer}
-use Rattle.model_link.specs.Machine.{after_all}
+use Rattle.laws_link.proofs.Vocabulary.{true, false, [], ◌∷◌, length, refl, arith, leb-true, seq, distance_of, named, supervisory_of, unnumbered_of, control_of, header_of, reading, ReceiveNotReady, frame_of, response, Data, SetBusy, frame, received, requested, offer, after_all, doing_all, sound-all, ends-agree}
 use Rattle.laws_link.specs.Samples.{usual, up}
-use Rattle.model_link.specs.TwoEnds.{doing_all}
 use Rattle.laws_link.proofs.OfTwo.Premises.{begins}
-use Rattle.model_link.proofs.SoundEvents.{sound-all}
 use Rattle.laws_link.specs.two.WorkedEnds.{both}
-use Rattle.model_link.proofs.Joined.{ends-agree}
 use Rattle.laws_link.specs.two.Rounds.{rounds, IsTaken, HasUnsent}
 use Rattle.laws_link.specs.two.CutOff.{HasMissing, with_t200_expired}
 use Rattle.laws_link.specs.two.OwnBusy.{IsBusyItself, IsOpenItself}

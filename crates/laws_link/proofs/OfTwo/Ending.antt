@@ -1,22 +1,7 @@
 -- Own busy ends at an end: what its request and its RR leave, at that end and at the other.
-use Rattle.std.proofs.Common.{◌≡◌, ℕ, ◌≤◌, Bool, true, false, cond, IsTrue, List, [], ◌∷◌, ◌++◌, Option, Some, refl, sym, ap, subst, ◌∙◌, append-nil, true≢false, arith}
-use Rattle.std.specs.Prelude.{nat_lt}
-use Rattle.std.proofs.lemmas.Bool.{lt-ltb}
-use Rattle.lapd_seq.specs.Numbers.{seq}
-use Rattle.lapd_seq.specs.Circle.{named}
-use Rattle.lapd_frame.specs.declared.controls.Control.TheVariants.{ReceiveReady}
-use Rattle.lapd_frame.specs.Grammar.{Parts}
-use Rattle.model_link.specs.declared.states.State.{State}
+use Rattle.laws_link.proofs.Vocabulary.{◌≡◌, ℕ, ◌≤◌, Bool, true, false, cond, IsTrue, List, [], ◌∷◌, ◌++◌, Option, Some, refl, sym, ap, subst, ◌∙◌, append-nil, true≢false, arith, nat_lt, lt-ltb, seq, named, ReceiveReady, Parts, State, LinkTimer, T200, Terms, Link, is_multiple_frame, frame, received, requested, ClearBusy, IsInRange, Course, begun, End, with_link, with_sent, with_first_lost}
 use Rattle.model_link.specs.declared.states.State.TheVariants as state
-use Rattle.model_link.specs.declared.timers.LinkTimer.{LinkTimer}
-use Rattle.model_link.specs.declared.timers.LinkTimer.TheVariants.{T200}
-use Rattle.model_link.specs.declared.terms.Terms.{Terms}
-use Rattle.model_link.specs.Link.{Link, is_multiple_frame}
-use Rattle.model_link.specs.Events.{frame, received, requested, ClearBusy}
-use Rattle.model_link.specs.Sound.{IsInRange}
-use Rattle.model_link.specs.Steps.{Course, begun}
 use Rattle.model_link.specs.Words
-use Rattle.model_link.specs.TwoEnds.{End, with_link, with_sent, with_first_lost}
 use Rattle.laws_link.proofs.OfTwo.Plain.{acknowledgement_frame}
 use Rattle.laws_link.proofs.OfTwo.Shapes.{in_8_with, in_7_with, having, acknowledged-8}
 use Rattle.laws_link.proofs.OfTwo.Acknowledging.{Acknowledges, by-rr}

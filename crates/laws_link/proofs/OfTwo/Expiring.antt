@@ -1,19 +1,10 @@
 -- What the expiry of T200 makes of an end that is cut off: it asks, or it has nothing outstanding.
-use Rattle.std.proofs.Common.{◌≡◌, ℕ, ◌+◌, ◌≤◌, Bool, true, false, cond, IsTrue, [], ◌∷◌, ◌++◌, Option, Some, refl, sym, ap, ◌∙◌, ◌⊎◌, inl, inr, append-nil, true≢false, arith}
-use Rattle.std.specs.Prelude.{nat_lt, option_to_list}
-use Rattle.std.proofs.lemmas.Bool.{lt-ltb}
-use Rattle.model_link.specs.declared.states.State.{State}
+use Rattle.laws_link.proofs.Vocabulary.{◌≡◌, ℕ, ◌+◌, ◌≤◌, Bool, true, false, cond, IsTrue, [], ◌∷◌, ◌++◌, Option, Some, refl, sym, ap, ◌∙◌, ◌⊎◌, inl, inr, append-nil, true≢false, arith, nat_lt, option_to_list, lt-ltb, State, LinkTimer, T200, T203, Link, is_multiple_frame, expired, Course, begun, End, with_link}
 use Rattle.model_link.specs.declared.states.State.TheVariants as state
-use Rattle.model_link.specs.declared.timers.LinkTimer.{LinkTimer}
-use Rattle.model_link.specs.declared.timers.LinkTimer.TheVariants.{T200, T203}
 use Rattle.lapd_frame.specs.declared.notes.ErrorCode.TheVariants as code
-use Rattle.model_link.specs.Link.{Link, is_multiple_frame}
-use Rattle.model_link.specs.Events.{expired}
-use Rattle.model_link.specs.Steps.{Course, begun}
 use Rattle.model_link.specs.Words
 use Rattle.model_link.specs.MultipleFrame
 use Rattle.laws_link.specs.Timed.{IsTimedIn}
-use Rattle.model_link.specs.TwoEnds.{End, with_link}
 use Rattle.laws_link.specs.two.Heeds.{HeedsIn}
 use Rattle.laws_link.specs.two.CutOff.{IsCutOffWith}
 use Rattle.laws_link.proofs.OfTwo.Shapes.{enquiry_with, in_8_with, in_7_with}

@@ -1,8 +1,5 @@
 -- What a frame that is heard does to one direction between two links whose T200 is timely.
-use Rattle.std.proofs.Common.{◌≡◌, ℕ, ◌+◌, ◌%◌, ◌<◌, ◌≤◌, Bool, true, false, List, [], ◌∷◌, ◌++◌, refl, sym, arith, true≢false}
-use Rattle.lapd_seq.specs.declared.numbers.Seq.{Seq}
-use Rattle.lapd_seq.specs.Numbers.{seq}
-use Rattle.lapd_seq.proofs.Callers.{seq-value}
+use Rattle.laws_link.proofs.Vocabulary.{◌≡◌, ℕ, ◌+◌, ◌%◌, ◌<◌, ◌≤◌, Bool, true, false, List, [], ◌∷◌, ◌++◌, refl, sym, arith, true≢false, Seq, seq, seq-value}
 use Rattle.laws_link.proofs.OfTwo.Trains.{Kind, numbered, enquiry, answer, report, rejection, alien, tally, one_enquiry, one_answer, one_rejection, tally-push, Every, every-push, behind-first, Beyond, beyond-late, rise-other}
 use Rattle.laws_link.proofs.OfTwo.Flow.{RejectsAt, AnswersAt, IsNoRejection, most, Flow, order-tail, order-calm, order-beyond, order-next, few-more}
 

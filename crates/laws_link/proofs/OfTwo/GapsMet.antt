@@ -1,13 +1,5 @@
 -- A link that meets what the law of a gap asks, and the REJ that the law gives.
-use Rattle.std.proofs.Common.{◌≡◌, ◌+◌, ◌≤◌, false, [], ◌∷◌, ◌++◌, length, refl, arith}
-use Rattle.lapd_seq.specs.Numbers.{seq}
-use Rattle.lapd_seq.specs.Circle.{distance_of, named}
-use Rattle.lapd_frame.specs.declared.addresses.Address.{Address}
-use Rattle.lapd_frame.specs.declared.controls.Control.TheVariants.{Reject}
-use Rattle.lapd_frame.specs.Reading.{supervisory_of, unnumbered_of, control_of, header_of, reading}
-use Rattle.model_link.specs.Events.{frame, received}
-use Rattle.model_link.specs.Machine.{after, after_all}
-use Rattle.model_link.specs.Words.{response}
+use Rattle.laws_link.proofs.Vocabulary.{◌≡◌, ◌+◌, ◌≤◌, false, [], ◌∷◌, ◌++◌, length, refl, arith, seq, distance_of, named, Address, Reject, supervisory_of, unnumbered_of, control_of, header_of, reading, frame, received, after, after_all, response}
 use Rattle.laws_link.specs.Samples.{usual, up}
 use Rattle.laws_link.specs.two.Gaps.{i_frame, IsFirstGap}
 use Rattle.laws_link.proofs.OfTwo.Gapping.{gap-rejected}

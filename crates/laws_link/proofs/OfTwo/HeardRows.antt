@@ -1,13 +1,5 @@
 -- What each frame does to a link that stays in states 7 and 8.
-use Rattle.std.proofs.Common.{◌≡◌, ℕ, Bool, true, false, IsTrue, List, refl, sym, true≢false}
-use Rattle.lapd_frame.specs.declared.controls.Control.{Control}
-use Rattle.lapd_frame.specs.declared.controls.Control.TheVariants.{Information, ReceiveReady, ReceiveNotReady, Reject, Sabme, Disc, Ui, Ua, Dm, Frmr, Xid}
-use Rattle.model_link.specs.declared.states.State.{State}
-use Rattle.model_link.specs.declared.states.State.TheVariants.{TeiAssigned, AwaitingEstablishment, AwaitingRelease, Established, TimerRecovery}
-use Rattle.model_link.specs.declared.timers.LinkTimer.TheVariants.{T200, T203}
-use Rattle.model_link.specs.declared.terms.Terms.{Terms}
-use Rattle.model_link.specs.Link.{Link, is_multiple_frame}
-use Rattle.model_link.specs.Steps.{Course, begun}
+use Rattle.laws_link.proofs.Vocabulary.{◌≡◌, ℕ, Bool, true, false, IsTrue, List, refl, sym, true≢false, Control, Information, ReceiveReady, ReceiveNotReady, Reject, Sabme, Disc, Ui, Ua, Dm, Frmr, Xid, State, TeiAssigned, AwaitingEstablishment, AwaitingRelease, Established, TimerRecovery, T200, T203, Terms, Link, is_multiple_frame, Course, begun}
 use Rattle.model_link.specs.Words
 use Rattle.model_link.specs.Established
 use Rattle.model_link.specs.TimerRecovery

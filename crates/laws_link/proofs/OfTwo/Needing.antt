@@ -1,16 +1,7 @@
 -- A link runs the timer that it needs: from what each event keeps.
-use Rattle.std.proofs.Common.{◌≡◌, ◌≢◌, ◌⊎◌, inl, inr, ℕ, ◌≤◌, ◌==◌, Bool, true, false, not, cond, ◌||◌, IsTrue, Option, None, Some, refl, sym, ap, ◌∙◌, arith, true≢false, eqb-true, eq-eqb}
-use Rattle.model_link.specs.declared.states.State.{State}
-use Rattle.model_link.specs.declared.states.State.TheVariants.{TeiAssigned, AwaitingEstablishment, AwaitingRelease, Established, TimerRecovery}
-use Rattle.model_link.specs.declared.timers.LinkTimer.{LinkTimer}
-use Rattle.model_link.specs.declared.timers.LinkTimer.TheVariants.{T200, T203}
-use Rattle.model_link.specs.declared.terms.Terms.{Terms}
-use Rattle.model_link.specs.Link.{Link, fresh}
-use Rattle.model_link.specs.Events.{Event}
-use Rattle.model_link.specs.Machine.{after}
-use Rattle.model_link.specs.Sound.{IsSound}
+use Rattle.laws_link.proofs.Vocabulary.{◌≡◌, ◌≢◌, ◌⊎◌, inl, inr, ℕ, ◌≤◌, ◌==◌, Bool, true, false, not, cond, ◌||◌, IsTrue, Option, None, Some, refl, sym, ap, ◌∙◌, arith, true≢false, eq-eqb, State, TeiAssigned, AwaitingEstablishment, AwaitingRelease, Established, TimerRecovery, LinkTimer, T200, T203, Terms, Link, fresh, Event, after, IsSound, runs}
+use Rattle.std.proofs.Common.{eqb-true}
 use Rattle.laws_link.specs.Timed.{IsTimedIn, IsTimed}
-use Rattle.model_link.specs.Told.{runs}
 use Rattle.laws_link.proofs.TimedRows.{timed-after}
 use Rattle.laws_link.specs.two.Heeds.{HeedsIn}
 use Rattle.laws_link.specs.two.Needed.{needed_in, IsCalmIn, HasItsTimer}

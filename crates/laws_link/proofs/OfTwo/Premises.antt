@@ -1,18 +1,8 @@
 -- The premises on two ends are met: two links that the terminal established, through the loss of a frame and its
 -- recovery.
-use Rattle.std.proofs.Common.{◌≡◌, Bool, true, ◌&&◌, List, [], ◌∷◌, refl, arith}
-use Rattle.std.proofs.lemmas.Bool.{and_parts}
-use Rattle.lapd_seq.specs.Numbers.{seq}
-use Rattle.lapd_seq.specs.Circle.{distance_of, named}
-use Rattle.lapd_frame.specs.Reading.{supervisory_of, unnumbered_of, control_of, header_of, reading}
-use Rattle.model_link.specs.Link.{fresh, is_multiple_frame}
-use Rattle.model_link.specs.Events.{offer}
-use Rattle.model_link.specs.Machine.{after_all}
-use Rattle.model_link.specs.Sound.{IsInRange}
-use Rattle.model_link.specs.TwoEnds.{Ends, Doing, doing, Begins, StayUp}
+use Rattle.laws_link.proofs.Vocabulary.{◌≡◌, Bool, true, ◌&&◌, List, [], ◌∷◌, refl, arith, and_parts, seq, distance_of, named, supervisory_of, unnumbered_of, control_of, header_of, reading, fresh, is_multiple_frame, offer, after_all, IsInRange, Ends, Doing, doing, Begins, StayUp, sound-fresh, sound-all}
 use Rattle.laws_link.specs.Samples.{usual, sabme}
 use Rattle.laws_link.specs.two.WorkedEnds.{both, mended}
-use Rattle.model_link.proofs.SoundEvents.{sound-fresh, sound-all}
 
 in-range : IsInRange usual
 in-range =

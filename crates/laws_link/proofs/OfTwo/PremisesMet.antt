@@ -1,15 +1,7 @@
 -- The premises are met: by two links that begin, by the worked run in which every frame is lost, and by one in which a
 -- frame is lost and REJ makes it good.
-use Rattle.std.proofs.Common.{◌≡◌, Bool, true, false, ◌&&◌, List, [], ◌∷◌, length, refl, inr, arith}
-use Rattle.std.specs.Prelude.{nat_lt, nat_le}
-use Rattle.std.proofs.lemmas.Bool.{and_parts, ltb-true, leb-true}
-use Rattle.lapd_seq.specs.Numbers.{seq}
-use Rattle.lapd_seq.specs.Circle.{distance_of, named}
-use Rattle.lapd_frame.specs.Reading.{supervisory_of, unnumbered_of, control_of, header_of, reading}
-use Rattle.model_link.specs.Events.{Request, Establish, Release, Data, SetBusy, ClearBusy}
-use Rattle.model_link.specs.Machine.{after_all}
+use Rattle.laws_link.proofs.Vocabulary.{◌≡◌, Bool, true, false, ◌&&◌, List, [], ◌∷◌, length, refl, inr, arith, nat_lt, nat_le, and_parts, ltb-true, leb-true, seq, distance_of, named, supervisory_of, unnumbered_of, control_of, header_of, reading, Request, Establish, Release, Data, SetBusy, ClearBusy, after_all, End, Ends, Act, asks, expires, sends, receives, loses, Doing, at_near, at_far, doing, doing_all, StayUp}
 use Rattle.laws_link.specs.Timed.{IsTimed}
-use Rattle.model_link.specs.TwoEnds.{End, Ends, Act, asks, expires, sends, receives, loses, Doing, at_near, at_far, doing, doing_all, StayUp}
 use Rattle.laws_link.specs.two.WorkedEnds.{both, mended}
 use Rattle.laws_link.proofs.OfTwo.Premises.{begins}
 use Rattle.laws_link.specs.two.Ahead.{IsMildRequest, IsMildAct, IsMild, StayAhead}

@@ -1,13 +1,7 @@
 -- What holds of two links that came from an establishment, and stayed up: all that recovery asks but silence.
-use Rattle.std.proofs.Common.{◌≡◌, ℕ, ◌+◌, ◌≤◌, Bool, false, List, [], ◌∷◌, length, sym, subst, ◌∙◌, true≢false}
-use Rattle.std.specs.Prelude.{All}
-use Rattle.lapd_frame.specs.Grammar.{Parts}
-use Rattle.model_link.specs.Link.{Link}
-use Rattle.model_link.specs.Events.{frame, received, expired, requested, offer}
+use Rattle.laws_link.proofs.Vocabulary.{◌≡◌, ℕ, ◌+◌, ◌≤◌, Bool, false, List, [], ◌∷◌, length, sym, subst, ◌∙◌, true≢false, All, Parts, Link, frame, received, expired, requested, offer, End, Ends, Act, asks, expires, sends, receives, loses, Doing, at_near, at_far, with_first_of, acting, turned, doing, doing_all, Begins, StayUp, Agree, Joined, joined-first, done-at, ends-agree}
 use Rattle.laws_link.specs.Timed.{IsTimed}
-use Rattle.model_link.specs.TwoEnds.{End, Ends, Act, asks, expires, sends, receives, loses, Doing, at_near, at_far, with_first_of, acting, turned, doing, doing_all, Begins, StayUp, Agree}
 use Rattle.laws_link.proofs.TimedRows.{timed-after}
-use Rattle.model_link.proofs.Joined.{Joined, joined-first, done-at, ends-agree}
 use Rattle.laws_link.specs.two.Heeds.{HeedsIn, Heeds}
 use Rattle.laws_link.specs.two.Rounds.{rounds}
 use Rattle.laws_link.specs.two.CutOff.{IsCutOffWith, IsSilent, IsSilentWith, HasMissing, with_t200_expired}

@@ -1,24 +1,6 @@
 -- Two links stay up where T200 is timely: what holds in both directions is kept by each act.
-use Rattle.std.proofs.Common.{◌≡◌, ℕ, ◌+◌, ◌≤◌, Bool, true, false, IsTrue, List, [], ◌∷◌, ◌++◌, refl, sym, ap, subst, ◌∙◌, inl, inr, true≢false, arith}
-use Rattle.std.specs.Prelude.{All, drop}
-use Rattle.std.proofs.lemmas.List.Elements.{All-head, All-tail}
-use Rattle.lapd_seq.specs.Numbers.{seq}
-use Rattle.lapd_frame.specs.declared.controls.Control.{Control}
-use Rattle.lapd_frame.specs.declared.controls.Control.TheVariants.{Information, ReceiveReady, ReceiveNotReady, Reject, Sabme, Disc, Ui, Ua, Dm, Frmr, Xid}
-use Rattle.lapd_frame.specs.Grammar.{Parts}
-use Rattle.model_link.specs.declared.states.State.{State}
-use Rattle.model_link.specs.declared.states.State.TheVariants.{TeiAssigned, AwaitingEstablishment, AwaitingRelease, Established, TimerRecovery}
-use Rattle.model_link.specs.declared.timers.LinkTimer.{LinkTimer}
-use Rattle.model_link.specs.declared.frames.ControlFrame.{ControlFrame}
-use Rattle.model_link.specs.declared.terms.Terms.{Terms}
-use Rattle.model_link.specs.Link.{Link, is_multiple_frame}
-use Rattle.model_link.specs.Events.{Request, frame, received, expired, requested, offer}
-use Rattle.model_link.specs.Steps.{Course}
+use Rattle.laws_link.proofs.Vocabulary.{◌≡◌, ℕ, ◌+◌, ◌≤◌, Bool, true, false, IsTrue, List, [], ◌∷◌, ◌++◌, refl, sym, ap, subst, ◌∙◌, inl, inr, true≢false, arith, All, drop, All-head, All-tail, seq, Control, Information, ReceiveReady, ReceiveNotReady, Reject, Sabme, Disc, Ui, Ua, Dm, Frmr, Xid, Parts, State, TeiAssigned, AwaitingEstablishment, AwaitingRelease, Established, TimerRecovery, LinkTimer, ControlFrame, Terms, Link, is_multiple_frame, Request, frame, received, expired, requested, offer, Course, End, Act, asks, expires, sends, receives, loses, with_link, with_sent, with_first_of, frame_given, acting, IsUp, rising-low, frames_of, line_of, Joined}
 use Rattle.model_link.specs.Machine
-use Rattle.model_link.specs.TwoEnds.{End, Act, asks, expires, sends, receives, loses, with_link, with_sent, with_first_of, frame_given, acting, IsUp}
-use Rattle.model_link.proofs.Lines.{rising-low}
-use Rattle.model_link.proofs.Direction.{frames_of, line_of}
-use Rattle.model_link.proofs.Joined.{Joined}
 use Rattle.laws_link.specs.two.Ahead.{IsMildRequest}
 use Rattle.laws_link.specs.two.Timely.{is_enquiry, is_answer, IsNoneOpen, IsTimelyAct}
 use Rattle.laws_link.proofs.OfTwo.Trains.{Kind, numbered, enquiry, report, kind_of, kinds_of, tally, one_enquiry, one_answer}

@@ -1,8 +1,6 @@
 -- Two links whose T200 is timely, from an establishment on.
-use Rattle.std.proofs.Common.{◌≡◌, ℕ, ◌+◌, ◌≤◌, false, List, [], ◌∷◌, ap, ◌∙◌, arith}
-use Rattle.model_link.specs.TwoEnds.{End, Ends, Act, asks, expires, sends, receives, loses, Doing, at_near, at_far, doing, doing_all, Begins, IsUp, StayUp, Agree}
+use Rattle.laws_link.proofs.Vocabulary.{◌≡◌, ℕ, ◌+◌, ◌≤◌, false, List, [], ◌∷◌, ap, ◌∙◌, arith, End, Ends, Act, asks, expires, sends, receives, loses, Doing, at_near, at_far, doing, doing_all, Begins, IsUp, StayUp, Agree, Joined, joined-turned, joined-first, done-at, ends-agree}
 use Rattle.laws_link.specs.Timed.{IsTimed}
-use Rattle.model_link.proofs.Joined.{Joined, joined-turned, joined-first, done-at, ends-agree}
 use Rattle.laws_link.specs.two.Ahead.{IsAhead, IsMild, IsMildAct}
 use Rattle.laws_link.specs.two.Timely.{IsTimelyAct, IsTimelyDoing, StayTimely, IsHushed}
 use Rattle.laws_link.specs.two.CutOff.{IsSilent, HasMissing, with_t200_expired}

@@ -1,19 +1,5 @@
 -- Two links stay up while neither's V(S) is below the other's V(R).
-use Rattle.std.proofs.Common.{◌≡◌, ℕ, zero, suc, ◌+◌, ◌≤◌, IsTrue, List, [], ◌∷◌, ◌++◌, length, Some, refl, sym, ap, subst, ◌∙◌, arith}
-use Rattle.std.specs.Prelude.{All, slice_get}
-use Rattle.std.proofs.lemmas.List.Elements.{All-head, All-tail}
-use Rattle.lapd_seq.specs.Numbers.{seq}
-use Rattle.lapd_seq.specs.Circle.{named}
-use Rattle.lapd_frame.specs.declared.controls.Control.{Control}
-use Rattle.lapd_frame.specs.declared.controls.Control.TheVariants.{Information, ReceiveReady, ReceiveNotReady, Reject, Sabme, Disc, Ui, Ua, Dm, Frmr, Xid}
-use Rattle.lapd_frame.specs.Grammar.{Parts}
-use Rattle.model_link.specs.declared.terms.Terms.{Terms}
-use Rattle.model_link.specs.Link.{is_multiple_frame}
-use Rattle.model_link.specs.Events.{frame, received}
-use Rattle.model_link.specs.TwoEnds.{End, Ends, Act, asks, expires, sends, receives, loses, Doing, at_near, at_far, with_link, with_first_of, acting, turned, doing, Begins, IsUp, StayUp}
-use Rattle.model_link.proofs.Lines.{Piece, Carried, Rising, rising-low}
-use Rattle.model_link.proofs.Direction.{frames_of}
-use Rattle.model_link.proofs.Joined.{Joined, joined-turned, joined-first, done-at}
+use Rattle.laws_link.proofs.Vocabulary.{◌≡◌, ℕ, zero, suc, ◌+◌, ◌≤◌, IsTrue, List, [], ◌∷◌, ◌++◌, length, Some, refl, sym, ap, subst, ◌∙◌, arith, All, slice_get, All-head, All-tail, seq, named, Control, Information, ReceiveReady, ReceiveNotReady, Reject, Sabme, Disc, Ui, Ua, Dm, Frmr, Xid, Parts, Terms, is_multiple_frame, frame, received, End, Ends, Act, asks, expires, sends, receives, loses, Doing, at_near, at_far, with_link, with_first_of, acting, turned, doing, Begins, IsUp, StayUp, Piece, Carried, Rising, rising-low, frames_of, Joined, joined-turned, joined-first, done-at}
 use Rattle.laws_link.specs.two.Ahead.{IsAhead, IsMild, IsMildAct, StayAhead}
 use Rattle.laws_link.proofs.OfTwo.Halves.{named-number}
 use Rattle.laws_link.proofs.OfTwo.Staying.{Fits, frame-stays, request-stays, timer-stays, offer-stays}

@@ -1,14 +1,6 @@
 -- What an offer gives, and what is left behind it.
-use Rattle.std.proofs.Common.{◌≡◌, ℕ, zero, suc, ◌+◌, ◌-◌, ◌<◌, ◌≤◌, Bool, true, false, cond, not, ◌&&◌, List, [], ◌∷◌, ◌++◌, length, Option, None, Some, refl, sym, ap, subst, ◌∙◌, ◌⊎◌, inl, inr, arith}
-use Rattle.std.specs.Prelude.{nat_lt}
-use Rattle.std.proofs.lemmas.Bool.{ltb-true, and_parts}
-use Rattle.model_link.specs.declared.frames.ControlFrame.{ControlFrame}
-use Rattle.model_link.specs.declared.terms.Terms.{Terms}
-use Rattle.model_link.specs.Link.{Link}
-use Rattle.model_link.specs.Steps.{Sent, Course, begun}
-use Rattle.model_link.specs.Events.{offer}
+use Rattle.laws_link.proofs.Vocabulary.{◌≡◌, ℕ, zero, suc, ◌+◌, ◌-◌, ◌<◌, ◌≤◌, Bool, true, false, cond, not, ◌&&◌, List, [], ◌∷◌, ◌++◌, length, Option, None, Some, refl, sym, ap, subst, ◌∙◌, ◌⊎◌, inl, inr, arith, nat_lt, ltb-true, and_parts, ControlFrame, Terms, Link, Sent, Course, begun, offer, after, given, given_of}
 use Rattle.model_link.specs.Offers
-use Rattle.model_link.specs.Machine.{after, given, given_of}
 use Rattle.laws_link.specs.two.Waits.{HasNothingToSend, after_offers, GoesWhole, turns}
 
 -- nothing is given where nothing was sent

@@ -1,26 +1,17 @@
 -- What happens at an end of a circuit, as the card of frames inside has it.
-use Rattle.std.proofs.Common.{◌≡◌, ℕ, Bool, true, false, cond, List, [], ◌++◌, Option, None, Some, option_map, refl, sym, ap, ◌∙◌, append-nil}
-use Rattle.std.specs.Option.{option_map_or}
-use Rattle.lapd_frame.specs.declared.refusals.Refusal.{Refusal}
-use Rattle.lapd_frame.specs.declared.refusals.Refusal.TheVariants.{PoolFull}
+use Rattle.laws_order.proofs.Vocabulary.{◌≡◌, ℕ, Bool, true, false, cond, List, [], ◌++◌, Option, None, Some, option_map, refl, sym, ap, ◌∙◌, append-nil, option_map_or, Refusal, PoolFull, Effect, LineTold, nothing, refusal, Card, line_at, answer_to, card_after, answer_of, gained, is_due, Station}
 use Rattle.model_bits.specs.Stream as stream
 use Rattle.model_line.specs.Event as line
-use Rattle.model_line.specs.Effect.{Effect}
-use Rattle.model_line.specs.Event.{LineTold, nothing}
 use Rattle.model_line.specs.Machine as lines
 unfoldable use Rattle.model_line.specs.Machine.{answer as line_answer, takes_slot}
-use Rattle.model_line.specs.Refusal.{refusal}
 use Rattle.model_line.specs.Request.{Request}
-use Rattle.model_card.specs.Card.{Card, line_at}
 use Rattle.model_card.specs.Event as frames
 use Rattle.model_card.specs.Machine as machine
-use Rattle.model_card.specs.ports.Card.{answer_to, card_after}
 unfoldable use Rattle.model_card.specs.ports.Card.{after, answer, meant}
 use Rattle.model_card.specs.ports.Port as port
-use Rattle.model_card.specs.ports.Port.{answer_of, gained, is_due}
 use Rattle.laws_line.specs.Share as share
 use Rattle.laws_wire.specs.Wire as wire
-use Rattle.laws_wire.specs.Wire.{Station, contents_of}
+use Rattle.laws_wire.specs.Wire.{contents_of}
 use Rattle.laws_order.specs.circuit.Circuit.{Termination, port_of, happens, answered, told_by, unless_refused}
 use Rattle.laws_order.specs.circuit.Through.{is_granted}
 

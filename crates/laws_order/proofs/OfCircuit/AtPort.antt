@@ -1,18 +1,10 @@
 -- An end, as its octets are pulled, and as octets are heard there that end nothing.
-use Rattle.std.proofs.Common.{◌≡◌, ℕ, ◌+◌, Bool, true, false, cond, [], ◌∷◌, ◌++◌, length, Option, None, Some, option_map, refl, ap, ◌∙◌, arith, length-drop}
-use Rattle.model_line.specs.declared.config.Config.{Config}
+use Rattle.laws_order.proofs.Vocabulary.{◌≡◌, ℕ, ◌+◌, Bool, true, false, cond, [], ◌∷◌, ◌++◌, length, Option, None, Some, option_map, refl, ap, ◌∙◌, arith, length-drop, Config, Card, answer_to, IsTextOf, Port, given_in, is_due, item_of, left_of, gained, next_octet, with_item, with_octet, ready_where, left_with_octet, Station}
 use Rattle.model_line.specs.Event as line
-use Rattle.model_card.specs.Card.{Card}
 use Rattle.model_card.specs.Event as frames
 use Rattle.model_card.specs.Machine as machine
-use Rattle.model_card.specs.ports.Card.{answer_to}
 unfoldable use Rattle.model_card.specs.ports.Card.{meant}
-use Rattle.model_card.specs.ports.Codec.{IsTextOf}
 use Rattle.model_card.specs.ports.Port as port
-use Rattle.model_card.specs.ports.Port.{Port, given_in, is_due, item_of, left_of, gained, next_octet, with_item, with_octet}
-use Rattle.model_card.proofs.OfPorts.PortGoesOn.{ready_where}
-use Rattle.model_card.proofs.OfPorts.TextGoesOn.{left_with_octet}
-use Rattle.laws_wire.specs.Wire.{Station}
 use Rattle.laws_order.specs.circuit.Circuit.{Termination, port_of, happens}
 use Rattle.laws_order.proofs.OfCircuit.AsFrames.{as_station, if_meant, heard-as, pulled-as}
 use Rattle.laws_order.proofs.OfCircuit.Projected.{Fits, port-after}

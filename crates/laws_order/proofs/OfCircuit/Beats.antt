@@ -1,19 +1,9 @@
 -- So many beats are enough.
-use Rattle.std.proofs.Common.{◌≡◌, ℕ, zero, suc, ◌+◌, ◌*◌, ◌-◌, ◌≤◌, ◌<◌, Bool, true, false, ◌||◌, List, [], ◌∷◌, ◌++◌, length, map, refl, sym, ap, ◌∙◌, subst, arith, append-nil, append_assoc}
-use Rattle.std.specs.Prelude.{All, if◌then◌else◌}
-use Rattle.std.proofs.lemmas.List.{append_cancel_left}
-use Rattle.std.proofs.lemmas.List.Elements.{All-append, All-head, All-tail}
-use Rattle.lapd_frame.specs.declared.services.Service.{Service}
-use Rattle.model_line.specs.declared.config.Config.{Config}
-use Rattle.model_line.specs.Event.{LineTold}
-use Rattle.model_line.specs.Request.{Establish, Assign}
+use Rattle.laws_order.proofs.Vocabulary.{◌≡◌, ℕ, zero, suc, ◌+◌, ◌*◌, ◌-◌, ◌≤◌, ◌<◌, Bool, true, false, ◌||◌, List, [], ◌∷◌, ◌++◌, length, map, refl, sym, ap, ◌∙◌, subst, arith, append-nil, append_assoc, All, if◌then◌else◌, append_cancel_left, All-append, All-head, All-tail, Service, Config, LineTold, Assign, CanCall, confirmed, told_first, data_told, Wire, IsStill, asks-way, doing-append}
+use Rattle.model_line.specs.Request.{Establish}
 use Rattle.laws_wire.specs.Call as call
-use Rattle.laws_wire.specs.Call.{CanCall, confirmed, told_first, data_told}
 use Rattle.laws_wire.specs.Wire as wire
-use Rattle.laws_wire.specs.Wire.{Wire, IsStill}
 unfoldable use Rattle.laws_wire.specs.Wire.{doing_all as frames_done}
-use Rattle.laws_wire.proofs.Answered.{asks-way}
-use Rattle.laws_wire.proofs.RestedRounds.{doing-append}
 use Rattle.laws_order.specs.circuit.Beats.{beats, enough_beats, granted_of, AllIsToldInBeats}
 use Rattle.laws_order.specs.circuit.Circuit.{Circuit, asks, pulls, hears, OctetDoing, at_near, at_far, doing}
 unfoldable use Rattle.laws_order.specs.circuit.Circuit.{doing_all}

@@ -1,19 +1,7 @@
 -- Where no frame comes in so many beats, no turn was left before them.
-use Rattle.std.proofs.Common.{◌≡◌, ℕ, ◌+◌, ◌*◌, ◌≤◌, ◌<◌, ◌⊎◌, inl, inr, Bool, true, false, List, [], ◌∷◌, ◌++◌, length, Option, None, Some, option_map, refl, sym, ap, ◌∙◌, subst, arith, append-nil, length-append}
-use Rattle.lapd_frame.specs.declared.services.Service.{Service}
+use Rattle.laws_order.proofs.Vocabulary.{◌≡◌, ℕ, ◌+◌, ◌*◌, ◌≤◌, ◌<◌, ◌⊎◌, inl, inr, Bool, true, false, List, [], ◌∷◌, ◌++◌, length, Option, None, Some, option_map, refl, sym, ap, ◌∙◌, subst, arith, append-nil, length-append, Service, heard_in, Item, Config, NextFrame, gave, taken, next_of, line_at, frames_among, left_of, longest_text, Wire, IsStill, gives-taken}
 use Rattle.model_bits.specs.Stream as stream
-use Rattle.model_bits.specs.Stream.{heard_in}
-use Rattle.model_bits.specs.Sent.{Item}
-use Rattle.model_line.specs.declared.config.Config.{Config}
-use Rattle.model_line.specs.Event.{NextFrame, gave}
-use Rattle.model_line.specs.Taken.{taken, next_of}
-use Rattle.model_card.specs.Card.{line_at}
-use Rattle.model_card.specs.ports.Codec.{frames_among}
-use Rattle.model_card.specs.ports.Port.{left_of}
-use Rattle.model_card.specs.ports.Pulls.{longest_text}
 use Rattle.laws_wire.specs.Wire as wire
-use Rattle.laws_wire.specs.Wire.{Wire, IsStill}
-use Rattle.laws_wire.proofs.Answered.{gives-taken}
 use Rattle.laws_order.specs.circuit.Beats.{longest}
 use Rattle.laws_order.specs.circuit.Circuit.{Termination, port_of, Circuit, doing_all}
 use Rattle.laws_order.proofs.OfCircuit.AsFrames.{as_station}

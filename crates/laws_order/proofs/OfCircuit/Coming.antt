@@ -1,21 +1,9 @@
 -- A frame that an end has to give, or that is on its way, comes in so many beats, whatever else is given meanwhile.
-use Rattle.std.proofs.Common.{◌≡◌, ℕ, ◌+◌, ◌*◌, ◌-◌, ◌≤◌, ◌<◌, ◌⊎◌, inl, inr, Bool, true, false, cond, List, [], ◌∷◌, ◌++◌, length, drop, Option, None, Some, is_some, option_map, option_to_list, refl, sym, ap, ◌∙◌, subst, arith, append-nil, append_assoc, length-append}
-use Rattle.std.specs.Prelude.{All}
-use Rattle.std.proofs.lemmas.List.{length-map}
-use Rattle.std.proofs.lemmas.List.Elements.{All-head, All-tail}
-use Rattle.lapd_frame.specs.declared.services.Service.{Service}
-use Rattle.model_bits.specs.Sent.{Item, idle, frame}
+use Rattle.laws_order.proofs.Vocabulary.{◌≡◌, ℕ, ◌+◌, ◌*◌, ◌-◌, ◌≤◌, ◌<◌, ◌⊎◌, inl, inr, Bool, true, false, cond, List, [], ◌∷◌, ◌++◌, length, drop, Option, None, Some, is_some, option_map, option_to_list, refl, sym, ap, ◌∙◌, subst, arith, append-nil, append_assoc, length-append, All, length-map, All-head, All-tail, Service, Item, idle, heard_in, Config, NextFrame, gave, frames_among, Port, gained, given_in, is_due, item_of, left_of, IsSoundPort, heard_with, Wire, is_any}
+use Rattle.model_bits.specs.Sent.{frame}
 use Rattle.model_bits.specs.Stream as stream
-use Rattle.model_bits.specs.Stream.{heard_in}
-use Rattle.model_line.specs.declared.config.Config.{Config}
-use Rattle.model_line.specs.Event.{NextFrame, gave}
-use Rattle.model_card.specs.ports.Codec.{frames_among}
 use Rattle.model_card.specs.ports.Port as port
-use Rattle.model_card.specs.ports.Port.{Port, gained, given_in, is_due, item_of, left_of}
-use Rattle.model_card.specs.ports.Sound.{IsSoundPort}
-use Rattle.model_card.proofs.OfPorts.Gains.{heard_with}
 use Rattle.laws_wire.specs.Wire as wire
-use Rattle.laws_wire.specs.Wire.{Wire, is_any}
 use Rattle.laws_order.specs.circuit.Circuit.{Termination, port_of, happens, with_first_of, Circuit, OctetAct, asks, pulls, hears, OctetDoing, at_near, at_far, acting, turned, doing}
 unfoldable use Rattle.laws_order.specs.circuit.Circuit.{doing_all}
 use Rattle.laws_order.proofs.OfCircuit.AtPort.{next_of_card, pull-between, pull-put, pull-given, pull-received, card-heard, port-heard}

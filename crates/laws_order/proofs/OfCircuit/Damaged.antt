@@ -1,24 +1,13 @@
 -- What happens on a circuit on which octets are damaged is, at the cards of frames inside, what happens on a wire of frames.
-use Rattle.std.proofs.Common.{◌≡◌, ℕ, ◌<◌, Bool, true, false, cond, List, [], ◌∷◌, ◌++◌, drop, Option, None, Some, option_map, option_to_list, refl, sym, ap, ◌∙◌, subst, append-nil}
-use Rattle.std.specs.Prelude.{All, flat_map}
-use Rattle.std.specs.Option.{option_map_or}
-use Rattle.std.proofs.lemmas.List.Elements.{All-nil, All-cons, All-head}
-use Rattle.lapd_frame.specs.declared.services.Service.{Service}
+use Rattle.laws_order.proofs.Vocabulary.{◌≡◌, ℕ, ◌<◌, Bool, true, false, cond, List, [], ◌∷◌, ◌++◌, drop, Option, None, Some, option_map, option_to_list, refl, sym, ap, ◌∙◌, subst, append-nil, All, flat_map, option_map_or, All-nil, All-cons, All-head, Service, Config, LineTold, Card, OctetCard, port_at, answer_to, card_after, gained, is_due, Seen, IsFront, Station, Wire, frames_by}
 use Rattle.model_bits.specs.Stream as stream
-use Rattle.model_line.specs.declared.config.Config.{Config}
 use Rattle.model_line.specs.Event as line
-use Rattle.model_line.specs.Event.{LineTold}
-use Rattle.model_card.specs.Card.{Card}
 use Rattle.model_card.specs.Event as frames
 use Rattle.model_card.specs.Machine as machine
-use Rattle.model_card.specs.ports.Card.{OctetCard, port_at, answer_to, card_after}
 unfoldable use Rattle.model_card.specs.ports.Card.{after, meant}
 use Rattle.model_card.specs.ports.Event.{Event}
 use Rattle.model_card.specs.ports.Port as port
-use Rattle.model_card.specs.ports.Port.{gained, is_due}
-use Rattle.laws_trace.specs.Trace.{Seen, IsFront}
 use Rattle.laws_wire.specs.Wire as wire
-use Rattle.laws_wire.specs.Wire.{Station, Wire, frames_by}
 use Rattle.laws_order.specs.Happenings as order
 unfoldable use Rattle.laws_order.specs.Happenings.{seen_near as frames_near, seen_far as frames_far}
 use Rattle.laws_order.specs.Order.{StaysEstablished, data_noted, data_granted, kept_by}

@@ -1,24 +1,11 @@
 -- The premises of the law on damaged octets are met by the worked run.
-use Rattle.std.proofs.Common.{◌≡◌, ℕ, ◌<◌, ◌&&◌, ◌==◌, Bool, true, false, IsTrue, List, [], ◌∷◌, ◌++◌, Option, None, Some, eqb-true, refl, arith, sym, ap, ◌∙◌, subst}
-use Rattle.std.proofs.lemmas.Bool.{and_parts}
-use Rattle.lapd_frame.specs.declared.services.Service.TheVariants.{Call}
-use Rattle.lapd_frame.specs.Grammar.{Parts, other_side}
-use Rattle.lapd_frame.specs.Reading.{reading, header_of, control_of, unnumbered_of, supervisory_of}
-use Rattle.lapd_seq.specs.Circle.{distance_of, named}
-use Rattle.lapd_seq.specs.Numbers.{seq}
+use Rattle.laws_order.proofs.Vocabulary.{◌≡◌, ℕ, ◌<◌, ◌&&◌, ◌==◌, Bool, true, false, IsTrue, List, [], ◌∷◌, ◌++◌, Option, None, Some, eqb-true, refl, arith, sym, ap, ◌∙◌, subst, and_parts, Call, Parts, other_side, reading, header_of, control_of, unnumbered_of, supervisory_of, distance_of, named, seq, low_bits, is_multiple_frame, Config, heard_side, IsFront, user, network, Station}
 use Rattle.lapd_tei.specs.Events as teis
-use Rattle.model_bits.specs.Bits.{low_bits}
 use Rattle.model_bits.specs.Stream as stream
-use Rattle.model_link.specs.Link.{is_multiple_frame}
-use Rattle.model_line.specs.declared.config.Config.{Config}
 use Rattle.model_line.specs.Event as line
-use Rattle.model_line.specs.Heard.{heard_side}
 use Rattle.model_line.specs.Machine as lines
 use Rattle.model_card.specs.ports.Card as ports
 use Rattle.model_card.specs.ports.Port as port
-use Rattle.laws_trace.specs.Trace.{IsFront}
-use Rattle.laws_wire.specs.Worked.{user, network}
-use Rattle.laws_wire.specs.Wire.{Station}
 use Rattle.laws_order.specs.Happenings.{of_link_at}
 use Rattle.laws_order.specs.Order.{data_noted, data_granted, link_here, HasReceivedOf, FaceAtRest, kept_by}
 use Rattle.laws_order.specs.circuit.Circuit.{Circuit, doing_all}

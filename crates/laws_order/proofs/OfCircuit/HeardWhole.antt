@@ -1,18 +1,6 @@
 -- A frame that is heard whole in octets is neither too short nor overlong, so where it comes as a frame it is heard as itself.
-use Rattle.std.proofs.Common.{◌≡◌, ℕ, ◌+◌, ◌-◌, ◌≤◌, ◌%◌, Bool, true, false, true≢false, not, ◌&&◌, ◌||◌, cond, nat_eq, nat_lt, List, [], ◌∷◌, ◌++◌, length, take, drop, reverse, Option, Some, None, option_and_then, option_to_list, refl, subst, arith}
-use Rattle.std.specs.Prelude.{All}
-use Rattle.std.proofs.lemmas.Bool.{and_left, le-ltb, ltb-false, ne_eqb, or_from}
-use Rattle.std.proofs.lemmas.List.{length-take-le}
-use Rattle.std.proofs.lemmas.List.Elements.{All-nil, All-cons, All-append, All-tail}
-use Rattle.model_bits.specs.Bits.{bits}
-use Rattle.model_bits.specs.Check.{is_good}
-use Rattle.model_bits.specs.Stuffing.{octets_sent}
+use Rattle.laws_order.proofs.Vocabulary.{◌≡◌, ℕ, ◌+◌, ◌-◌, ◌≤◌, ◌%◌, Bool, true, false, true≢false, not, ◌&&◌, ◌||◌, cond, nat_eq, nat_lt, List, [], ◌∷◌, ◌++◌, length, take, drop, reverse, Option, Some, None, option_and_then, option_to_list, refl, subst, arith, All, and_left, le-ltb, ltb-false, ne_eqb, or_from, length-take-le, All-nil, All-cons, All-append, All-tail, bits, is_good, octets_sent, ends_flag, ends_abort, has_abort, since_flag, is_short, judged, text_event, gap_event, closed_by_flag, given_up, heard_at, heard_until, heard_in, room_for, Abort, Short, Fcs, came, is_too_short, gained, heard_with}
 use Rattle.model_bits.specs.Stream as stream
-use Rattle.model_bits.specs.Stream.{ends_flag, ends_abort, has_abort, since_flag, is_short, judged, text_event, gap_event, closed_by_flag, given_up, heard_at, heard_until, heard_in, room_for}
-use Rattle.model_bits.specs.declared.heard.Cause.TheVariants.{Abort, Short, Fcs}
-use Rattle.model_line.specs.Came.{came, is_too_short}
-use Rattle.model_card.specs.ports.Port.{gained}
-use Rattle.model_card.proofs.OfPorts.Gains.{heard_with}
 
 module _ (n201 : ℕ) where
   abbrev pub HasCome : stream.Event → Type 0

@@ -1,8 +1,5 @@
 -- Pulls and hearings alone: how often each is done at either end, and that they are what is done in a call.
-use Rattle.std.proofs.Common.{ℕ, ◌+◌, List, [], ◌∷◌}
-use Rattle.std.specs.Prelude.{All}
-use Rattle.std.proofs.lemmas.List.Elements.{All-cons, All-head, All-nil, All-tail}
-use Rattle.lapd_frame.specs.declared.services.Service.{Service}
+use Rattle.laws_order.proofs.Vocabulary.{ℕ, ◌+◌, List, [], ◌∷◌, All, All-cons, All-head, All-nil, All-tail, Service}
 use Rattle.laws_order.specs.circuit.Circuit.{OctetAct, asks, pulls, hears, OctetDoing, at_near, at_far}
 use Rattle.laws_order.specs.circuit.Through.{IsTalkOf, IsTalk}
 

@@ -1,26 +1,8 @@
 -- One direction of a circuit: the octets that an end gave, those of them that the other has heard, and the frames on their way.
-use Rattle.std.proofs.Common.{◌≡◌, ℕ, ◌+◌, ◌≤◌, ◌⊎◌, ◌%◌, ◌&&◌, ◌||◌, inl, inr, false, cond, not, nat_eq, nat_lt, List, [], ◌∷◌, ◌++◌, length, map, take, slice_index, None, Some, option_to_list, refl, sym, ap, ◌∙◌, subst, arith, append-nil, append_assoc}
-use Rattle.std.specs.Prelude.{All}
-use Rattle.std.proofs.lemmas.Bool.{le-ltb, ne_eqb}
-use Rattle.std.proofs.lemmas.List.{append_cancel_left, map-append}
-use Rattle.std.proofs.lemmas.List.Elements.{All-append, All-cons, All-head, All-nil, All-tail}
-use Rattle.model_bits.specs.Framer.{item_octets}
-use Rattle.model_bits.specs.Sent.{Item, idle, frame}
+use Rattle.laws_order.proofs.Vocabulary.{◌≡◌, ℕ, ◌+◌, ◌≤◌, ◌⊎◌, ◌%◌, ◌&&◌, ◌||◌, inl, inr, false, cond, not, nat_eq, nat_lt, List, [], ◌∷◌, ◌++◌, length, map, take, slice_index, None, Some, option_to_list, refl, sym, ap, ◌∙◌, subst, arith, append-nil, append_assoc, All, le-ltb, ne_eqb, append_cancel_left, map-append, All-append, All-cons, All-head, All-nil, All-tail, item_octets, Item, idle, heard_in, AreOctets, came, IsNotShort, frames_among, GoOut, Port, gained, left_of, IsSoundPort, sent, same_text, frames_sent, cut_sent, heard_whole, all_exact, heard_with, IsLongItem, IsOnItsWay, go_out, all_out, all-right}
+use Rattle.model_bits.specs.Sent.{frame}
 use Rattle.model_bits.specs.Stream as stream
-use Rattle.model_bits.specs.Stream.{heard_in}
-use Rattle.model_bits.specs.StuffingLaws.{AreOctets}
 use Rattle.model_bits.specs.declared.heard.Cause.TheVariants as cause
-use Rattle.model_line.specs.Came.{came}
-use Rattle.model_line.proofs.NotShort.{IsNotShort}
-use Rattle.model_card.specs.ports.Codec.{frames_among}
-use Rattle.model_card.specs.ports.GoingOut.{GoOut}
-use Rattle.model_card.specs.ports.Port.{Port, gained, left_of}
-use Rattle.model_card.specs.ports.Sound.{IsSoundPort}
-use Rattle.model_card.proofs.OfPorts.AsOctets.{sent, same_text, frames_sent, cut_sent, heard_whole, all_exact}
-use Rattle.model_card.proofs.OfPorts.Gains.{heard_with}
-use Rattle.model_card.proofs.OfPorts.LastItem.{IsLongItem, IsOnItsWay}
-use Rattle.model_card.proofs.OfPorts.LineHeard.{go_out, all_out}
-use Rattle.laws_line.proofs.OfCard.Wherever.{all-right}
 
 -- ---- a frame comes as it is
 

@@ -1,24 +1,12 @@
 -- The premises of the laws are met by the worked call: all has gone behind it, so layer 3 of each was told all.
-use Rattle.std.proofs.Common.{◌≡◌, Bool, true, false, List, [], ◌∷◌, ◌++◌, ◌&&◌, ◌<◌, None, refl, ap, arith}
-use Rattle.std.specs.Prelude.{All}
-use Rattle.std.proofs.lemmas.Bool.{and_parts}
-use Rattle.std.proofs.lemmas.List.Elements.{All-append, All-cons, All-nil}
-use Rattle.lapd_frame.specs.declared.services.Service.TheVariants.{Call}
-use Rattle.lapd_frame.specs.Reading.{reading, header_of, control_of, unnumbered_of, supervisory_of}
-use Rattle.lapd_seq.specs.Circle.{distance_of, named}
-use Rattle.lapd_seq.specs.Numbers.{seq}
+use Rattle.laws_order.proofs.Vocabulary.{◌≡◌, Bool, true, false, List, [], ◌∷◌, ◌++◌, ◌&&◌, ◌<◌, None, refl, ap, arith, All, and_parts, All-append, All-cons, All-nil, Call, reading, header_of, control_of, unnumbered_of, supervisory_of, distance_of, named, seq, low_bits, Item, idle, AreOctets, next, gave, CanCall, user, network}
 use Rattle.lapd_tei.specs.Events as teis
-use Rattle.model_bits.specs.Bits.{low_bits}
-use Rattle.model_bits.specs.Sent.{Item, idle, frame}
-use Rattle.model_bits.specs.StuffingLaws.{AreOctets}
-use Rattle.model_line.specs.Event.{next, gave}
+use Rattle.model_bits.specs.Sent.{frame}
 use Rattle.model_line.specs.Machine as lines
 use Rattle.model_line.specs.Request.{Data}
 use Rattle.model_card.specs.Event as frames
 use Rattle.model_card.specs.Machine as machine
 use Rattle.model_card.specs.ports.Card as ports
-use Rattle.laws_wire.specs.Call.{CanCall}
-use Rattle.laws_wire.specs.Worked.{user, network}
 use Rattle.laws_order.specs.circuit.Circuit.{Circuit, OctetAct, asks, pulls, hears, OctetDoing, at_near, at_far, doing_all, port_of}
 use Rattle.laws_order.specs.circuit.Through.{IsTalkOf, IsTalk, both_call, HasAllGone, IsToldAll}
 use Rattle.laws_order.specs.circuit.WorkedCall.{begins, establishes, goes_on, sends}

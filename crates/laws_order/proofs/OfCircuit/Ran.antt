@@ -1,13 +1,8 @@
 -- What a run keeps at one end of a circuit.
-use Rattle.std.proofs.Common.{◌≡◌, ℕ, ◌<◌, ◌≤◌, ◌==◌, Bool, true, false, cond, List, [], ◌∷◌, ◌++◌, length, append_assoc, Option, None, Some, option_map, option_to_list, refl, sym, ap, ◌∙◌, subst, arith, append-nil, eq-eqb}
-use Rattle.std.specs.Prelude.{All}
+use Rattle.laws_order.proofs.Vocabulary.{◌≡◌, ℕ, ◌<◌, ◌≤◌, ◌==◌, Bool, true, false, cond, List, [], ◌∷◌, ◌++◌, length, append_assoc, Option, None, Some, option_map, option_to_list, refl, sym, ap, ◌∙◌, subst, arith, append-nil, eq-eqb, All, All-append, All-cons, All-head, All-nil, AreOctets, Config, NextFrame, OctetCard, port_at, gained, is_due, left_of, longest_text, IsAtLine, AreAtLines, IsSoundPort, meant_at_lines, refined_card, on_its_way, heard_frames_are_octets, IsOnItsWay, pulls_are_takes, always_sound, fresh_octets_sound, port_sound, config_stays, moments-append, all-right, contents_given, HasOctets, GivesOctets, seen, seen_told, trace, trace_of, frames_begun, frames-are-octets}
 use Rattle.std.proofs.lemmas.Grind.{flat_map-append}
-use Rattle.std.proofs.lemmas.List.Elements.{All-append, All-cons, All-head, All-nil}
 use Rattle.model_bits.specs.Stream as stream
-use Rattle.model_bits.specs.StuffingLaws.{AreOctets}
-use Rattle.model_line.specs.declared.config.Config.{Config}
 use Rattle.model_line.specs.Event as line
-use Rattle.model_line.specs.Event.{NextFrame}
 use Rattle.model_line.specs.Request as asked
 use Rattle.model_line.specs.Sound.{IsInRange}
 use Rattle.model_card.specs.Card as cards
@@ -15,28 +10,15 @@ use Rattle.model_card.specs.Event as frames
 use Rattle.model_card.specs.Machine as machine
 use Rattle.model_card.specs.Run as runs
 unfoldable use Rattle.model_card.specs.Run.{after_all as frames_after, moments as frame_moments}
-use Rattle.model_card.specs.ports.Card.{OctetCard, fresh, port_at}
+use Rattle.model_card.specs.ports.Card.{fresh}
 unfoldable use Rattle.model_card.specs.ports.Card.{after, meant}
 use Rattle.model_card.specs.ports.Event.{Event, at}
 use Rattle.model_card.specs.ports.HeardOctets as ports
 use Rattle.model_card.specs.ports.Port as port
-use Rattle.model_card.specs.ports.Port.{gained, is_due, left_of}
-use Rattle.model_card.specs.ports.Pulls.{longest_text}
-use Rattle.model_card.specs.ports.Run.{IsAtLine, AreAtLines}
 unfoldable use Rattle.model_card.specs.ports.Run.{after_all, meant_all}
-use Rattle.model_card.specs.ports.Sound.{IsSound, IsSoundPort}
-use Rattle.model_card.proofs.OfPorts.Codec.{meant_at_lines, refined_card}
-use Rattle.model_card.proofs.OfPorts.GoingOut.{on_its_way}
-use Rattle.model_card.proofs.OfPorts.HeardOctets.{heard_frames_are_octets}
-use Rattle.model_card.proofs.OfPorts.LastItem.{IsOnItsWay}
-use Rattle.model_card.proofs.OfPorts.Pulls.{pulls_are_takes}
-use Rattle.model_card.proofs.OfPorts.Sound.{always_sound, fresh_octets_sound, port_sound}
-use Rattle.model_card.proofs.OfPorts.Steps.{config_stays, moments-append}
-use Rattle.laws_line.proofs.OfCard.Wherever.{all-right}
-use Rattle.laws_trace.specs.FramesAreRead.{contents_given, HasOctets, GivesOctets}
+use Rattle.model_card.specs.ports.Sound.{IsSound}
 use Rattle.laws_trace.specs.Trace as traces
-use Rattle.laws_trace.specs.Trace.{begun, seen, seen_told, trace, trace_of, frames_begun}
-use Rattle.laws_trace.proofs.OctetsBegin.{frames-are-octets}
+use Rattle.laws_trace.specs.Trace.{begun}
 use Rattle.laws_order.specs.circuit.Circuit.{Termination, port_of, happens}
 
 -- ---- one event more

@@ -1,14 +1,5 @@
 -- Two cards that face each other as a call leaves them are at rest.
-use Rattle.std.proofs.Common.{ℕ, List, refl, sym, ap, subst, arith}
-use Rattle.std.specs.Prelude.{All}
-use Rattle.lapd_frame.specs.declared.services.Service.{Service}
-use Rattle.model_link.specs.Link.{is_multiple_frame}
-use Rattle.model_line.specs.declared.config.Config.{Config}
-use Rattle.laws_link.specs.two.Rounds.{IsReady, IsTaken}
-use Rattle.laws_wire.specs.Call.{CanCall}
-use Rattle.laws_wire.specs.Facing.{Face, end_of}
-use Rattle.laws_wire.specs.Wire.{Station, IsStill}
-use Rattle.laws_wire.proofs.Delivering.{calls-face}
+use Rattle.laws_order.proofs.Vocabulary.{ℕ, List, refl, sym, ap, subst, arith, All, Service, is_multiple_frame, Config, IsReady, IsTaken, CanCall, Face, end_of, Station, IsStill, calls-face}
 use Rattle.laws_order.specs.Order.{HasReceivedOf}
 use Rattle.laws_order.specs.circuit.Circuit.{Circuit, OctetDoing}
 use Rattle.laws_order.specs.circuit.Resting.{CallsComeToRest}

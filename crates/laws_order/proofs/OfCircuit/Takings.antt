@@ -1,15 +1,9 @@
 -- How often a frame is taken: at most half as often as there are turns, since each was given first.
-use Rattle.std.proofs.Common.{◌≡◌, ℕ, ◌+◌, ◌*◌, ◌≤◌, Bool, false, List, [], ◌∷◌, ◌++◌, length, drop, None, Some, refl, ap, arith, length-append}
-use Rattle.std.specs.Prelude.{All, if◌then◌else◌}
-use Rattle.std.proofs.lemmas.List.Elements.{All-head, All-tail}
-use Rattle.lapd_frame.specs.declared.services.Service.{Service}
+use Rattle.laws_order.proofs.Vocabulary.{◌≡◌, ℕ, ◌+◌, ◌*◌, ◌≤◌, Bool, false, List, [], ◌∷◌, ◌++◌, length, drop, None, Some, refl, ap, arith, length-append, All, if◌then◌else◌, All-head, All-tail, Service, Answer, Station, Wire, Act, Doing, frames_by, is_any, asks-way, takes-way}
 use Rattle.model_line.specs.Event as line
-use Rattle.model_line.specs.Event.{Answer}
 use Rattle.laws_wire.specs.Call as call
 use Rattle.laws_wire.specs.Wire as wire
-use Rattle.laws_wire.specs.Wire.{Station, Wire, Act, Doing, frames_by, is_any}
 unfoldable use Rattle.laws_wire.specs.Wire.{doing_all, turns}
-use Rattle.laws_wire.proofs.Answered.{asks-way, takes-way}
 
 abbrev pub is_taking_of : Act → Wire → Bool
 is_taking_of wire.takes f = is_any f.far.way

@@ -1,31 +1,14 @@
 -- A call by octets is a call of frames.
-use Rattle.std.proofs.Common.{◌≡◌, ℕ, ◌<◌, List, [], ◌∷◌, ◌++◌, refl, sym, ap, ◌∙◌, subst, append-nil}
-use Rattle.std.specs.Prelude.{All}
-use Rattle.std.proofs.lemmas.List.{append_cancel_left}
-use Rattle.std.proofs.lemmas.List.Elements.{All-nil}
-use Rattle.lapd_frame.specs.declared.services.Service.{Service}
-use Rattle.model_bits.specs.Sent.{Item, idle}
-use Rattle.model_bits.specs.Stream.{heard_in}
-use Rattle.model_bits.specs.StuffingLaws.{AreOctets}
-use Rattle.model_line.specs.declared.config.Config.{Config}
+use Rattle.laws_order.proofs.Vocabulary.{◌≡◌, ℕ, ◌<◌, List, [], ◌∷◌, ◌++◌, refl, sym, ap, ◌∙◌, subst, append-nil, All, append_cancel_left, All-nil, Service, Item, idle, heard_in, AreOctets, Config, Assign, frames_among, Port, fresh_port, IsAtLine, IsSoundPort, fresh_at, GivesOctets, CanCall, Wire, IsStill, calls-come-through}
 use Rattle.model_line.specs.Event as line_event
-use Rattle.model_line.specs.Request.{Request, Establish, Assign}
+use Rattle.model_line.specs.Request.{Request, Establish}
 use Rattle.model_line.specs.Sound.{IsInRange}
 unfoldable use Rattle.model_card.specs.Run.{moments as frame_moments}
 use Rattle.model_card.specs.ports.Card.{fresh}
-use Rattle.model_card.specs.ports.Codec.{frames_among}
 use Rattle.model_card.specs.ports.Port as port
-use Rattle.model_card.specs.ports.Port.{Port, fresh_port}
 unfoldable use Rattle.model_card.specs.ports.Run.{after_all, meant_all}
-use Rattle.model_card.specs.ports.Run.{IsAtLine}
-use Rattle.model_card.specs.ports.Sound.{IsSoundPort}
-use Rattle.model_card.proofs.OfPorts.GoingOut.{fresh_at}
-use Rattle.laws_trace.specs.FramesAreRead.{GivesOctets}
 use Rattle.laws_wire.specs.Call as call
-use Rattle.laws_wire.specs.Call.{CanCall}
 use Rattle.laws_wire.specs.Wire as wire
-use Rattle.laws_wire.specs.Wire.{Wire, IsStill}
-use Rattle.laws_wire.proofs.Run.{calls-come-through}
 use Rattle.laws_order.specs.circuit.Circuit.{Termination, port_of, happens, Circuit, OctetDoing, doing_all}
 use Rattle.laws_order.specs.circuit.Through.{termination, assigned, calling, IsTalk, both_call, HasGone, HasAllGone, ComesThrough, CallsComeThroughInOctets}
 use Rattle.laws_order.proofs.OfCircuit.AsFrames.{asked-as}

@@ -1,19 +1,13 @@
 -- Who calls on a circuit, calls on the wire of frames.
-use Rattle.std.proofs.Common.{◌≡◌, ℕ, Bool, true, false, ◌||◌, cond, List, [], ◌∷◌, ◌++◌, Option, None, Some, is_some, option_map, option_to_list, refl, sym, ap, ◌∙◌}
-use Rattle.std.specs.Prelude.{All}
-use Rattle.std.proofs.lemmas.List.Elements.{All-head, All-tail}
-use Rattle.lapd_frame.specs.declared.services.Service.{Service}
-use Rattle.model_line.specs.declared.config.Config.{Config}
+use Rattle.laws_order.proofs.Vocabulary.{◌≡◌, ℕ, Bool, true, false, ◌||◌, cond, List, [], ◌∷◌, ◌++◌, Option, None, Some, is_some, option_map, option_to_list, refl, sym, ap, ◌∙◌, All, All-head, All-tail, Service, Config, gained, is_due, Wire}
 use Rattle.model_line.specs.Event as line
 use Rattle.model_line.specs.Request as asked
 use Rattle.model_line.specs.Request.{Request}
 use Rattle.model_card.specs.ports.Port as port
-use Rattle.model_card.specs.ports.Port.{gained, is_due}
 use Rattle.laws_line.specs.Share as share
 use Rattle.laws_wire.specs.Call as call
 unfoldable use Rattle.laws_wire.specs.Call.{both_call as frames_both}
 use Rattle.laws_wire.specs.Wire as wire
-use Rattle.laws_wire.specs.Wire.{Wire}
 unfoldable use Rattle.laws_wire.specs.Wire.{doing_all as frames_done}
 use Rattle.laws_order.specs.circuit.Circuit.{Termination, port_of, Circuit, answered, asks, pulls, hears, OctetDoing, at_near, at_far, doing}
 use Rattle.laws_order.specs.circuit.Through.{IsTalk, is_granted, calls_back}

@@ -1,19 +1,9 @@
 -- As octets a frame that the grammar has is one that it has, with the same address and control field.
-use Rattle.std.proofs.Common.{◌≡◌, ℕ, ◌%◌, ◌<◌, Bool, true, false, cond, List, [], ◌∷◌, ◌++◌, length, map, refl, sym, ap, ◌∙◌, subst, arith, IsTrue}
-use Rattle.std.specs.Prelude.{All, filter}
-use Rattle.std.proofs.lemmas.List.{map-append}
-use Rattle.std.proofs.lemmas.List.Elements.{All-head, All-tail}
-use Rattle.model_bits.specs.StuffingLaws.{AreOctets}
-use Rattle.lapd_frame.specs.declared.addresses.Address.{Address}
-use Rattle.lapd_frame.specs.declared.addresses.Side.{Side}
+use Rattle.laws_trace.proofs.Vocabulary.{◌≡◌, ℕ, ◌%◌, ◌<◌, Bool, true, false, cond, List, [], ◌∷◌, ◌++◌, length, map, refl, sym, ap, ◌∙◌, subst, arith, IsTrue, All, filter, map-append, All-head, All-tail, AreOctets, Address, Side, Parts, Spells, row, spelling, takes, reading-again, Config, head, as_octets}
 use Rattle.lapd_frame.specs.declared.controls.Control.{Control}
-use Rattle.lapd_frame.specs.Grammar.{Parts, Spells, head_of, row, spelling, takes}
-use Rattle.lapd_frame.proofs.Spelling.{reading-again}
-use Rattle.model_line.specs.declared.config.Config.{Config}
-use Rattle.laws_line.proofs.OfCard.Spelling.{head}
+use Rattle.lapd_frame.specs.Grammar.{head_of}
 use Rattle.laws_trace.specs.FramesAreRead.{IsSpelled}
 use Rattle.laws_trace.specs.Units.{carries_unit, is_unit}
-use Rattle.model_card.specs.ports.GoingOut.{as_octets}
 
 -- octets are as they were
 exact : (numbers : List ℕ) → AreOctets numbers → as_octets numbers ≡ numbers

@@ -1,26 +1,16 @@
 -- What a receiver hears of a line are frames, and in the end all of them: the laws.
-use Rattle.std.proofs.Common.{◌≡◌, ℕ, ◌<◌, List, [], ◌∷◌, map, sym, subst}
-use Rattle.std.specs.Prelude.{All}
-use Rattle.std.proofs.lemmas.List.Elements.{All-nil, All-cons, All-head, All-tail}
+use Rattle.laws_trace.proofs.Vocabulary.{◌≡◌, ℕ, ◌<◌, List, [], ◌∷◌, map, sym, subst, All, All-nil, All-cons, All-head, All-tail, AreOctets, Config, IsInRange, all-left, as_octets, octets_given, frames_to_hear, OfEachLine, meant_all, refines, given_frames_are_heard, heard_frames_are_octets}
 use Rattle.model_bits.specs.Stream as stream
-use Rattle.model_bits.specs.StuffingLaws.{AreOctets}
-use Rattle.model_line.specs.declared.config.Config.{Config}
-use Rattle.model_line.specs.Sound.{IsInRange}
 use Rattle.model_card.specs.Card as cards
 use Rattle.model_card.specs.Event as frames
 use Rattle.model_card.specs.Run as runs
-use Rattle.laws_line.proofs.OfCard.Wherever.{all-left}
 use Rattle.laws_trace.specs.FramesAreRead.{IsSpelled, contents_given}
 use Rattle.laws_trace.specs.Trace.{Seen, trace_of, frames_begun}
 use Rattle.laws_trace.proofs.OctetsBegin.{frames-are-octets}
 use Rattle.laws_trace.proofs.Spelled.{frames-are-read}
 use Rattle.model_card.specs.ports.Card.{fresh}
 use Rattle.model_card.specs.ports.Event.{Event}
-use Rattle.model_card.specs.ports.GoingOut.{as_octets, octets_given, frames_to_hear, OfEachLine}
-use Rattle.model_card.specs.ports.Run.{AreAtLines, meant_all}
-use Rattle.model_card.proofs.OfPorts.Codec.{refines}
-use Rattle.model_card.proofs.OfPorts.GoingOut.{given_frames_are_heard}
-use Rattle.model_card.proofs.OfPorts.HeardOctets.{heard_frames_are_octets}
+use Rattle.model_card.specs.ports.Run.{AreAtLines}
 use Rattle.laws_trace.specs.octets.FramesGoOut.{IsReadable, OnlyFramesAreHeard, GivenAreOctets, GoOutAsTheyAre, AllFramesGoOut}
 use Rattle.laws_trace.proofs.OfOctets.AsOctets.{still_spelled}
 use Rattle.laws_trace.proofs.OfOctets.Emptied.{before_none, latest_gave_none}

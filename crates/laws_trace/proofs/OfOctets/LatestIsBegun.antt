@@ -1,15 +1,8 @@
 -- A card of octets tells the frame that a pull of a line began last: the law.
-use Rattle.std.proofs.Common.{◌≡◌, ℕ, ◌<◌, List, [], ◌∷◌, ◌++◌, length, refl, ap, ◌∙◌, arith}
-use Rattle.std.specs.Prelude.{fold}
-use Rattle.std.proofs.lemmas.List.{length-replicate}
-use Rattle.model_bits.specs.Heads.{head_of, latest_frame, or_later}
-use Rattle.model_bits.specs.Sent.{Item, idle, frame}
+use Rattle.laws_trace.proofs.Vocabulary.{◌≡◌, ℕ, ◌<◌, List, [], ◌∷◌, ◌++◌, length, refl, ap, ◌∙◌, arith, fold, length-replicate, latest_frame, or_later, Item, idle, frames_among, OfEachLine, Port, fresh_port, run_goes_on, fresh_at}
+use Rattle.model_bits.specs.Heads.{head_of}
+use Rattle.model_bits.specs.Sent.{frame}
 use Rattle.model_card.specs.ports.Card.{fresh}
-use Rattle.model_card.specs.ports.Codec.{frames_among}
-use Rattle.model_card.specs.ports.GoingOut.{OfEachLine}
-use Rattle.model_card.specs.ports.Port.{Port, fresh_port}
-use Rattle.model_card.proofs.OfPorts.Codec.{run_goes_on}
-use Rattle.model_card.proofs.OfPorts.GoingOut.{fresh_at}
 use Rattle.laws_trace.specs.octets.LatestIsBegun.{later_of, last_among, LatestIsBegun}
 
 -- idle flags apart

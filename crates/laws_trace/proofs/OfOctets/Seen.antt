@@ -1,17 +1,10 @@
 -- What an observer sees of the events of frames that events of octets mean, in the words of ports.
-use Rattle.std.proofs.Common.{◌≡◌, ℕ, ◌==◌, Bool, true, false, cond, List, [], ◌∷◌, ◌++◌, map, Option, None, Some, option_map, refl, sym, ap, ◌∙◌, append-nil}
-use Rattle.std.specs.Prelude.{All, flat_map, option_to_list}
-use Rattle.std.proofs.lemmas.Grind.{flat_map-append}
-use Rattle.std.proofs.lemmas.List.Elements.{All-nil, All-cons, All-head, All-tail, All-append}
+use Rattle.laws_trace.proofs.Vocabulary.{◌≡◌, ℕ, ◌==◌, Bool, true, false, cond, List, [], ◌∷◌, ◌++◌, map, Option, None, Some, option_map, refl, sym, ap, ◌∙◌, append-nil, All, flat_map, option_to_list, flat_map-append, All-nil, All-cons, All-head, All-tail, All-append, AreOctets, PoolFull, Config, Card, OctetCard, port_at, answer_to, frame_moment, meant_in, frames_given, given_of, HearsOctets, Port, gained, given_in, is_due, answer_of, meant_all, asked_at, gives_at_next, neither, refines}
 use Rattle.model_bits.specs.Stream as stream
-use Rattle.model_bits.specs.StuffingLaws.{AreOctets}
-use Rattle.lapd_frame.specs.declared.refusals.Refusal.TheVariants.{PoolFull}
-use Rattle.model_line.specs.declared.config.Config.{Config}
 use Rattle.model_line.specs.Event as line
 use Rattle.model_line.specs.Machine as lines
 unfoldable use Rattle.model_line.specs.Machine.{answer as line_answer}
 use Rattle.model_line.specs.Request.{Request}
-use Rattle.model_card.specs.Card.{Card}
 use Rattle.model_card.specs.Event as frames
 use Rattle.model_card.specs.Machine as machine
 use Rattle.model_card.specs.Run as runs
@@ -22,18 +15,13 @@ use Rattle.laws_trace.specs.Trace as traces
 use Rattle.laws_trace.specs.Trace.{Seen, seen, seen_told, seen_granted, frame_in, seen_in, trace, frames_begun}
 use Rattle.laws_trace.specs.Units.{unit_asked, units_granted}
 use Rattle.laws_trace.proofs.Units.{none-told, none-requested}
-use Rattle.model_card.specs.ports.Card.{OctetCard, port_at, answer_to}
 unfoldable use Rattle.model_card.specs.ports.Card.{after, answer, meant}
 use Rattle.model_card.specs.ports.Codec as codec
-use Rattle.model_card.specs.ports.Codec.{frame_moment, meant_in, frames_given, given_of}
 use Rattle.model_card.specs.ports.Event.{Event}
 use Rattle.model_card.specs.ports.HeardOctets as comes
-use Rattle.model_card.specs.ports.HeardOctets.{HearsOctets}
 use Rattle.model_card.specs.ports.Port as port
-use Rattle.model_card.specs.ports.Port.{Port, gained, given_in, is_due, answer_of}
-use Rattle.model_card.specs.ports.Run.{Moment, meant_all}
+use Rattle.model_card.specs.ports.Run.{Moment}
 unfoldable use Rattle.model_card.specs.ports.Run.{moments}
-use Rattle.model_card.proofs.OfPorts.Codec.{asked_at, gives_at_next, neither, refines}
 use Rattle.laws_trace.specs.octets.Granted.{if_granted, request_granted, requests_of}
 
 -- ---- the frames that begin are those that the card of frames gives

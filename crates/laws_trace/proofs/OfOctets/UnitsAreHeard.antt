@@ -1,21 +1,11 @@
 -- What a receiver hears of unit data: the laws.
-use Rattle.std.proofs.Common.{◌≡◌, ℕ, ◌<◌, List, [], ◌∷◌, ◌++◌, map, refl, sym, ap, ◌∙◌, append_assoc, arith}
-use Rattle.std.specs.Prelude.{filter, flat_map}
-use Rattle.std.proofs.lemmas.Grind.{flat_map-append}
-use Rattle.std.proofs.lemmas.List.{map-append}
-use Rattle.std.proofs.lemmas.List.Elements.{filter-append}
+use Rattle.laws_trace.proofs.Vocabulary.{◌≡◌, ℕ, ◌<◌, List, [], ◌∷◌, ◌++◌, map, refl, sym, ap, ◌∙◌, append_assoc, arith, filter, flat_map, flat_map-append, map-append, filter-append, Config, IsInRange, most_frames, takes_at, as_octets, octets_given, frames_to_hear, OfEachLine, given_frames_are_heard}
 use Rattle.model_bits.specs.Stream as stream
-use Rattle.model_line.specs.declared.config.Config.{Config}
-use Rattle.model_line.specs.Sound.{IsInRange}
-use Rattle.laws_line.specs.Drains.{most_frames}
-use Rattle.laws_line.specs.card.Among.{takes_at}
 use Rattle.laws_trace.specs.Units.{is_unit, unit_asked, units_begun, units_granted}
 use Rattle.laws_trace.proofs.UnitsGoOut.{units-go-out, all-units-go-out}
 use Rattle.model_card.specs.ports.Card.{fresh}
 use Rattle.model_card.specs.ports.Event.{Event}
-use Rattle.model_card.specs.ports.GoingOut.{as_octets, octets_given, frames_to_hear, OfEachLine}
 use Rattle.model_card.specs.ports.Run.{AreAtLines}
-use Rattle.model_card.proofs.OfPorts.GoingOut.{given_frames_are_heard}
 use Rattle.laws_trace.specs.octets.Granted.{units_to_hear}
 use Rattle.laws_trace.specs.octets.UnitsAreHeard.{whole_frame, whole_frames, UnitsAreHeard, AllUnitsAreHeard}
 use Rattle.laws_trace.proofs.OfOctets.AsOctets.{same_units}

@@ -1,27 +1,13 @@
 -- What waited on a link is heard at the other end: the law.
-use Rattle.std.proofs.Common.{◌≡◌, ℕ, ◌<◌, List, ◌∷◌, ◌++◌, map, sym, ap, ◌∙◌, subst, append_assoc, arith}
-use Rattle.std.proofs.lemmas.Grind.{flat_map-append}
-use Rattle.std.proofs.lemmas.List.{map-append}
+use Rattle.laws_trace.proofs.Vocabulary.{◌≡◌, ℕ, ◌<◌, List, ◌∷◌, ◌++◌, map, sym, ap, ◌∙◌, subst, append_assoc, arith, flat_map-append, map-append, ControlFrame, Config, IsInRange, most_frames, control_text, Card, line_at, takes_at, IsWaiting, frames_given, given_of, as_octets, octets_given, frames_to_hear, OfEachLine, refined_card, given_frames_are_heard, moments-append}
 use Rattle.model_bits.specs.Stream as stream
-use Rattle.model_link.specs.declared.frames.ControlFrame.{ControlFrame}
-use Rattle.model_line.specs.declared.config.Config.{Config}
-use Rattle.model_line.specs.Sound.{IsInRange}
-use Rattle.laws_line.specs.Drains.{most_frames, control_text}
 use Rattle.model_card.specs.Card as cards
-use Rattle.model_card.specs.Card.{Card, line_at}
 use Rattle.model_card.specs.Run as runs
-use Rattle.laws_line.specs.card.Among.{takes_at}
-use Rattle.laws_line.specs.card.PromisesOfTakes.{IsWaiting}
 use Rattle.laws_trace.specs.Trace.{IsAmong}
 use Rattle.laws_trace.proofs.WaitedBegins.{all-that-waited-begins}
 use Rattle.model_card.specs.ports.Card.{fresh}
-use Rattle.model_card.specs.ports.Codec.{frames_given, given_of}
 use Rattle.model_card.specs.ports.Event.{Event}
-use Rattle.model_card.specs.ports.GoingOut.{as_octets, octets_given, frames_to_hear, OfEachLine}
 use Rattle.model_card.specs.ports.Run.{AreAtLines, after_all}
-use Rattle.model_card.proofs.OfPorts.Codec.{refined_card}
-use Rattle.model_card.proofs.OfPorts.GoingOut.{given_frames_are_heard}
-use Rattle.model_card.proofs.OfPorts.Steps.{moments-append}
 use Rattle.laws_trace.specs.octets.Pulled.{EndsInPulls}
 use Rattle.laws_trace.specs.octets.WaitedIsHeard.{IsHeardSince, AllThatWaitedIsHeard}
 use Rattle.laws_trace.proofs.OfOctets.Emptied as emptied

@@ -1,5 +1,5 @@
 -- Hand-written answers for `what_waits_is_taken`.
-use Rattle.std.proofs.Common.{◌+◌, ◌<◌, arith}
+use Rattle.laws_line.proofs.Vocabulary.{◌+◌, ◌<◌, arith}
 use Rattle.laws_line.specs.Drains.{most_frames_before}
 use Rattle.laws_line.proofs.Ordered.{enough-goes}
 use Rattle.laws_line.proofs.Polled.{poll-goes, unnumbered-goes}

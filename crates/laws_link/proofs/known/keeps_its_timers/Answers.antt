@@ -1,5 +1,5 @@
 -- Hand-written answers for `keeps_its_timers`.
-use Rattle.model_link.specs.Link.{fresh}
+use Rattle.laws_link.proofs.Vocabulary.{fresh}
 use Rattle.laws_link.proofs.Obeying.{stays-in-step, comes-in-step, leaves-others}
 use Rattle.laws_link.proofs.TimedRows.{timed-after, timed-all, timed-fresh}
 use Rattle.laws_link.proofs.known.keeps_its_timers.Goals as goal

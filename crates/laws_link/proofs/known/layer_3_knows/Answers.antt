@@ -1,6 +1,6 @@
 -- Hand-written answers for `layer_3_knows`.
 use Rattle.laws_link.proofs.KnownRows
-use Rattle.model_link.proofs.OwnNotes.{notes-own}
+use Rattle.laws_link.proofs.Vocabulary.{notes-own}
 use Rattle.laws_link.proofs.known.layer_3_knows.Goals as goal
 
 pub returns-clause-each : goal.returns-clause-each

@@ -1,7 +1,5 @@
 -- Hand-written answers for `drive`.
-use Rattle.model_card.specs.ports.Run.{meant_all}
-use Rattle.model_card.proofs.OfPorts.Codec.{refines}
-use Rattle.model_card.proofs.OfPorts.Reaching.{frames_reached}
+use Rattle.laws_promises.proofs.Vocabulary.{meant_all, refines, frames_reached}
 use Rattle.lapd_card.specs.Drive.{events_of}
 use Rattle.lapd_card.proofs.OctetHeadline.{events_at_lines}
 use Rattle.laws_promises.proofs.Kept.{promises-kept}

@@ -1,9 +1,5 @@
 -- Hand-written answers for `drive_frames`.
-use Rattle.std.proofs.Common.{ap, sym, subst, take}
-use Rattle.std.specs.Prelude.{All}
-use Rattle.std.proofs.lemmas.List.Elements.{All-take}
-use Rattle.model_card.specs.Run.{IsAtLine}
-use Rattle.model_card.proofs.Reaching.{reached-sound}
+use Rattle.laws_promises.proofs.Vocabulary.{ap, sym, subst, take, All, All-take, IsAtLine, reached-sound}
 use Rattle.lapd_card.specs.FrameDrive.{events_of}
 use Rattle.lapd_card.proofs.Headline.{events_at_lines}
 use Rattle.laws_promises.proofs.Kept.{promises-kept}

@@ -1,5 +1,5 @@
 -- Hand-written answers for `arrives_in_any_order`.
-use Rattle.model_link.specs.TwoEnds.{doing_all}
+use Rattle.laws_link.proofs.Vocabulary.{doing_all}
 use Rattle.laws_link.proofs.OfTwo.AnyOrderRuns.{all-turns, all-there}
 use Rattle.laws_link.proofs.two.any_order.arrives_in_any_order.Goals as goal
 

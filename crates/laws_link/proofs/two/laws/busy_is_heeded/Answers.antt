@@ -1,5 +1,5 @@
 -- Hand-written answers for `busy_is_heeded`.
-use Rattle.model_link.specs.Link.{fresh}
+use Rattle.laws_link.proofs.Vocabulary.{fresh}
 use Rattle.laws_link.proofs.OfTwo.HeedingEvents.{heeds-fresh, heeds-after, heeds-all}
 use Rattle.laws_link.proofs.two.laws.busy_is_heeded.Goals as goal
 

@@ -1,5 +1,5 @@
 -- Hand-written answers for `stay_up_while_ahead`.
-use Rattle.model_link.proofs.Joined.{ends-agree}
+use Rattle.laws_link.proofs.Vocabulary.{ends-agree}
 use Rattle.laws_link.proofs.OfTwo.Together.{all-stay_up}
 use Rattle.laws_link.proofs.two.laws.stay_up_while_ahead.Goals as goal
 

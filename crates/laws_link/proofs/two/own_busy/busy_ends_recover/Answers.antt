@@ -1,7 +1,5 @@
 -- Hand-written answers for `busy_ends_recover`.
-use Rattle.std.proofs.Common.{true, false}
-use Rattle.model_link.specs.TwoEnds.{doing_all}
-use Rattle.model_link.proofs.Joined.{ends-agree}
+use Rattle.laws_link.proofs.Vocabulary.{true, false, doing_all, ends-agree}
 use Rattle.laws_link.proofs.OfTwo.Reached.{whole-first, cut-off, cut-off-far}
 use Rattle.laws_link.proofs.OfTwo.BusyRecovery.{finished-through, knows-after, near-finished, far-finished}
 use Rattle.laws_link.proofs.two.own_busy.busy_ends_recover.Goals as goal

@@ -1,7 +1,5 @@
 -- Hand-written answers for `kept_contents_arrive`.
-use Rattle.std.proofs.Common.{true, false}
-use Rattle.model_link.specs.TwoEnds.{turned, doing_all}
-use Rattle.model_link.proofs.Joined.{ends-agree}
+use Rattle.laws_link.proofs.Vocabulary.{true, false, turned, doing_all, ends-agree}
 use Rattle.laws_link.proofs.OfTwo.Reached.{whole-first, cut-off, cut-off-far}
 use Rattle.laws_link.proofs.OfTwo.Ended.{told-recovers, untold-recovers, near-arrives, far-arrives}
 use Rattle.laws_link.proofs.two.own_busy.kept_contents_arrive.Goals as goal

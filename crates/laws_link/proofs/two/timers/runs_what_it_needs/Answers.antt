@@ -1,5 +1,5 @@
 -- Hand-written answers for `runs_what_it_needs`.
-use Rattle.model_link.proofs.SoundEvents.{sound-after}
+use Rattle.laws_link.proofs.Vocabulary.{sound-after}
 use Rattle.laws_link.proofs.OfTwo.Needing.{timely-after, timely-fresh}
 use Rattle.laws_link.proofs.two.timers.runs_what_it_needs.Goals as goal
 

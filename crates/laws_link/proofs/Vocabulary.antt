@@ -1,0 +1,66 @@
+-- The words of std and of the crates below with which the proofs of this crate speak, from where they are defined.
+pub use Rattle.std.proofs.Common.{Bool, IsTrue, List, None, Option, Some, [], add-zero, ap, append-nil, append_assoc, arith, cond, drop, drop-drop, eq-eqb, false, fold, inl, inr, is_some, length, length-append, length-take-le, nat_lt, not, option_to_list, refl, slice_get, subst, suc, sym, take, true, true≢false, zero, ℕ, ⊎_elim, ◌%◌, ◌&&◌, ◌*◌, ◌++◌, ◌+◌, ◌-◌, ◌<◌, ◌==◌, ◌||◌, ◌∙◌, ◌∷◌, ◌≡◌, ◌≢◌, ◌≤◌, ◌⊎◌}
+pub use Rattle.std.proofs.Math.Seq.{take-length}
+pub use Rattle.std.proofs.lemmas.Bool.{and_parts, and_right, cases_lt, eqb-false, false_from_ne_true, le-leb, le-ltb, leb-false, leb-true, lt-ltb, ltb-false, ltb-true, or_parts, true_from_ne_false}
+pub use Rattle.std.proofs.lemmas.List.{drop-append-le, drop_all, take_all}
+pub use Rattle.std.proofs.lemmas.List.Elements.{All-cons, All-head, All-nil, All-tail}
+pub use Rattle.std.proofs.lemmas.List.Folds.{list_any-append}
+pub use Rattle.std.proofs.lemmas.List.Sums.{sum_by-cons, sum_by_push}
+pub use Rattle.std.proofs.lemmas.Option.{none-some, slice_get-get_or}
+pub use Rattle.std.specs.List.{list_any}
+pub use Rattle.std.specs.Option.{option_map_or}
+pub use Rattle.std.specs.Prelude.{All, IfSome, count_by, get_or, if◌then◌else◌, nat_le, unwrap_or}
+pub use Rattle.lapd_frame.specs.Grammar.{Parts}
+unfoldable pub use Rattle.lapd_frame.specs.Reading.{control_of, header_of, reading, supervisory_of, unnumbered_of}
+pub use Rattle.lapd_frame.specs.Services.{same_service}
+pub use Rattle.lapd_frame.specs.declared.addresses.Address.{Address}
+pub use Rattle.lapd_frame.specs.declared.controls.Control.{Control}
+pub use Rattle.lapd_frame.specs.declared.controls.Control.TheVariants.{Disc, Dm, Frmr, Information, ReceiveNotReady, ReceiveReady, Reject, Sabme, Ua, Ui, Xid}
+pub use Rattle.lapd_frame.specs.declared.notes.ErrorCode.{ErrorCode}
+pub use Rattle.lapd_frame.specs.declared.notes.Note.{Note}
+pub use Rattle.lapd_frame.specs.declared.refusals.Refusal.{Refusal}
+pub use Rattle.lapd_frame.specs.declared.refusals.Refusal.TheVariants.{WrongState}
+pub use Rattle.lapd_frame.specs.declared.services.Service.{Service}
+pub use Rattle.lapd_frame.specs.declared.services.Service.TheVariants.{Call, Packet}
+pub use Rattle.lapd_frame.specs.declared.timers.Order.{Order}
+pub use Rattle.lapd_frame.specs.declared.timers.Order.TheVariants.{Start, Stop}
+pub use Rattle.lapd_frame.specs.declared.timers.Timer.{Timer}
+pub use Rattle.lapd_seq.proofs.Callers.{distance-plain, is_seq, seq-value}
+unfoldable pub use Rattle.lapd_seq.specs.Circle.{distance_of, named}
+unfoldable pub use Rattle.lapd_seq.specs.Numbers.{seq}
+pub use Rattle.lapd_seq.specs.declared.numbers.Seq.{Seq}
+pub use Rattle.model_link.proofs.Delivering.{delivery, event-delivers}
+pub use Rattle.model_link.proofs.Direction.{frames-append, frames_of, line_of}
+pub use Rattle.model_link.proofs.Joined.{Joined, done-at, ends-agree, joined-first, joined-turned}
+pub use Rattle.model_link.proofs.Kept.{Fits, FitsEvent, Kept, Purse, another, two}
+unfoldable pub use Rattle.model_link.proofs.Kept.{how_many}
+pub use Rattle.model_link.proofs.Leads.{Leads, Passed, bit_leads, depending_leads, from_more, keeping_then, nothing_leads, tested_leads, then_leads, to_less}
+pub use Rattle.model_link.proofs.Lines.{Carried, Means, Piece, Rising, rising-low}
+pub use Rattle.model_link.proofs.Numbering.{delivered-at_once}
+pub use Rattle.model_link.proofs.OwnNotes.{notes-own}
+pub use Rattle.model_link.proofs.Rows.{event_row, every_event, frame_row}
+pub use Rattle.model_link.proofs.SoundEvents.{sound-after, sound-all, sound-fresh}
+pub use Rattle.model_link.proofs.SoundRows.{named-within}
+pub use Rattle.model_link.proofs.TellRows.{event-tells}
+pub use Rattle.model_link.specs.AwaitingEstablishment.{frame_in_5, t200_in_5}
+pub use Rattle.model_link.specs.AwaitingRelease.{frame_in_6, t200_in_6}
+pub use Rattle.model_link.specs.Deliveries.{Arrived, Establishes, IsEstablished, MayEstablish, eligible, eligible_of, information_in, information_of, is_eligible, restarts}
+pub use Rattle.model_link.specs.Events.{ClearBusy, Data, Establish, Event, Release, Request, SetBusy, cleared, expired, frame, offer, overlong, received, requested, undefined, wrong_size}
+pub use Rattle.model_link.specs.Link.{Link, address_at, frame_of, fresh, has_outstanding, is_asked, is_multiple_frame, is_own_busy, is_peer_busy, is_rejecting, may_repeat, outstanding}
+pub use Rattle.model_link.specs.Machine.{after, course, given, given_of, told}
+unfoldable pub use Rattle.model_link.specs.Machine.{after_all}
+pub use Rattle.model_link.specs.Notes.{is_data, is_unit}
+pub use Rattle.model_link.specs.Offers.{is_established, may_send_information}
+pub use Rattle.model_link.specs.Sound.{IsInRange, IsSettledIn, IsSound, IsWaitingFrame, is_information}
+pub use Rattle.model_link.specs.Steps.{Course, Sent, Step, begun, by_bit, changed, depending_on, nothing, ◌then◌}
+pub use Rattle.model_link.specs.TeiAssigned.{establish_in_4, frame_in_4, release_in_4}
+pub use Rattle.model_link.specs.Told.{orders_for, runs, timer_at}
+pub use Rattle.model_link.specs.TwoEnds.{Act, Agree, Begins, Doing, End, Ends, IsUp, acting, asks, at_far, at_near, doing, expires, frame_given, loses, receives, sends, turned, with_first_lost, with_first_of, with_link, with_sent}
+unfoldable pub use Rattle.model_link.specs.TwoEnds.{StayUp, doing_all}
+pub use Rattle.model_link.specs.Words.{command, response}
+pub use Rattle.model_link.specs.declared.frames.ControlFrame.{ControlFrame}
+pub use Rattle.model_link.specs.declared.states.State.{State}
+pub use Rattle.model_link.specs.declared.states.State.TheVariants.{AwaitingEstablishment, AwaitingRelease, Established, TeiAssigned, TimerRecovery}
+pub use Rattle.model_link.specs.declared.terms.Terms.{Terms}
+pub use Rattle.model_link.specs.declared.timers.LinkTimer.{LinkTimer}
+pub use Rattle.model_link.specs.declared.timers.LinkTimer.TheVariants.{T200, T203}

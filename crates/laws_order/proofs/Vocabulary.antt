@@ -1,0 +1,149 @@
+-- The words of std and of the crates below with which the proofs of this crate speak, from where they are defined.
+pub use Rattle.std.proofs.Common.{Bool, Err, IfSome, IsTrue, List, None, Ok, Option, Result, Some, [], ap, append-nil, append_assoc, arith, cond, drop, eq-eqb, eqb-true, false, get_or, inl, inr, is_some, length, length-append, length-drop, map, nat_eq, nat_lt, not, option_and_then, option_map, option_to_list, refl, reverse, set, slice_index, subst, suc, sym, take, true, true≢false, zero, ℕ, ◌%◌, ◌&&◌, ◌*◌, ◌++◌, ◌+◌, ◌-◌, ◌<◌, ◌==◌, ◌||◌, ◌∙◌, ◌∷◌, ◌≡◌, ◌≤◌, ◌⊎◌}
+pub use Rattle.std.proofs.lemmas.Bool.{and_left, and_parts, le-ltb, leb-true, ltb-false, ltb-true, ne_eqb, or_from}
+pub use Rattle.std.proofs.lemmas.List.{append_cancel_left, get_or-set_other, get_or-set_same, length-map, length-take-le, map-append}
+pub use Rattle.std.proofs.lemmas.List.Elements.{All-append, All-cons, All-head, All-nil, All-tail}
+pub use Rattle.std.proofs.lemmas.List.Folds.{list_any-append}
+pub use Rattle.std.proofs.lemmas.Option.{slice_get_within}
+pub use Rattle.std.specs.List.{list_any}
+pub use Rattle.std.specs.Option.{option_map_or, option_or}
+pub use Rattle.std.specs.Prelude.{All, filter, flat_map, fold, if◌then◌else◌, slice_get, unwrap_or}
+pub use Rattle.lapd_frame.proofs.Spelling.{reading-again}
+pub use Rattle.lapd_frame.specs.Grammar.{Parts, other_side}
+unfoldable pub use Rattle.lapd_frame.specs.Reading.{control_of, header_of, reading, supervisory_of, unnumbered_of}
+pub use Rattle.lapd_frame.specs.Services.{sapi_of}
+pub use Rattle.lapd_frame.specs.declared.addresses.Side.TheVariants.{Network, User}
+pub use Rattle.lapd_frame.specs.declared.controls.Control.{Control}
+pub use Rattle.lapd_frame.specs.declared.controls.Control.TheVariants.{Disc, Dm, Frmr, Information, ReceiveNotReady, ReceiveReady, Reject, Sabme, Ua, Ui, Xid}
+pub use Rattle.lapd_frame.specs.declared.faults.ReadFault.{ReadFault}
+pub use Rattle.lapd_frame.specs.declared.notes.ErrorCode.{ErrorCode}
+pub use Rattle.lapd_frame.specs.declared.notes.ErrorCode.TheVariants.{H}
+pub use Rattle.lapd_frame.specs.declared.notes.Note.{Note}
+pub use Rattle.lapd_frame.specs.declared.refusals.Refusal.{Refusal}
+pub use Rattle.lapd_frame.specs.declared.refusals.Refusal.TheVariants.{PoolFull}
+pub use Rattle.lapd_frame.specs.declared.services.Service.{Service}
+pub use Rattle.lapd_frame.specs.declared.services.Service.TheVariants.{Call, Packet}
+pub use Rattle.lapd_seq.proofs.Callers.{is_seq}
+unfoldable pub use Rattle.lapd_seq.specs.Circle.{distance_of, named}
+unfoldable pub use Rattle.lapd_seq.specs.Numbers.{seq}
+pub use Rattle.lapd_seq.specs.declared.numbers.Seq.{Seq}
+pub use Rattle.lapd_tei.proofs.Tables.{place_of-is}
+pub use Rattle.lapd_tei.specs.Messages.{information_of}
+pub use Rattle.laws_line.proofs.Asked.{link-grants}
+pub use Rattle.laws_line.proofs.Granting.{not-refused}
+pub use Rattle.laws_line.proofs.Hearing.{same-sapi, sapi-is}
+pub use Rattle.laws_line.proofs.Knowing.{known-up}
+pub use Rattle.laws_line.proofs.Obeyed.{service-same}
+pub use Rattle.laws_line.proofs.OfCard.Wherever.{all-right}
+pub use Rattle.laws_line.proofs.Places.{is-off}
+pub use Rattle.laws_line.specs.Heard.{contents_in, is_data_of, notes_of}
+pub use Rattle.laws_line.specs.Knowledge.{is_up_of, link_is_up, up_by_note}
+pub use Rattle.laws_line.specs.Requests.{deactivates, of_link}
+pub use Rattle.laws_line.specs.Share.{is_granted}
+pub use Rattle.laws_line.specs.Steady.{IsBy, timer_of}
+pub use Rattle.laws_link.proofs.Follows.{event-follows}
+pub use Rattle.laws_link.proofs.TimedRows.{timed-after}
+pub use Rattle.laws_link.specs.Accepted.{accepted}
+pub use Rattle.laws_link.specs.Flags.{repeats_left, takes_contents}
+pub use Rattle.laws_link.specs.Known.{is_up, is_up_in}
+pub use Rattle.laws_link.specs.States.{as_heard, by_expiry, by_frame, by_received, by_request, is_clearing, is_faulty, is_invalid, is_overlong, moves, receipt_of, state_after}
+pub use Rattle.laws_link.specs.Steady.{is_anew}
+pub use Rattle.laws_link.specs.Telling.{error, establish_indication, final_as, numbered_as, told_by, told_by_frame, told_cleared, told_expired, told_in_4, told_in_6, told_malformed, told_requested, unasked}
+pub use Rattle.laws_link.specs.Timed.{IsTimedIn}
+pub use Rattle.laws_link.specs.Waiting.{answers, answers_to, answers_up, command_in, commands, is_next, is_taken, is_time, put, receipt_as, room, to_disc, to_information, to_sabme}
+pub use Rattle.laws_link.specs.two.Rounds.{IsReady, IsTaken}
+pub use Rattle.laws_trace.proofs.Begins.{unless}
+pub use Rattle.laws_trace.proofs.DataAsked.{elsewhere, granted-data}
+pub use Rattle.laws_trace.proofs.DeliveriesRun.{data-noted, no-data}
+pub use Rattle.laws_trace.proofs.LinkLed.{none-ticks, on-line, own-is}
+pub use Rattle.laws_trace.proofs.NewsOfLeaving.{leaving-due}
+pub use Rattle.laws_trace.proofs.NewsOfOthers.{none-filtered, others-silent}
+pub use Rattle.laws_trace.proofs.NewsWatched.{due}
+pub use Rattle.laws_trace.proofs.OctetsBegin.{frames-are-octets}
+pub use Rattle.laws_trace.proofs.OfferTells.{offer-tells_nothing}
+pub use Rattle.laws_trace.proofs.OneLink.{Goes, HasNone, HasOne, IsForeign, IsGivenUp, event-goes, frames_given, is_at_link}
+pub use Rattle.laws_trace.proofs.ReadAgain.{read-again}
+pub use Rattle.laws_trace.proofs.States.{expired_of}
+pub use Rattle.laws_trace.proofs.TimersOfEvent.{off-fresh}
+pub use Rattle.laws_trace.proofs.TimersWatched.{nothing_yet}
+pub use Rattle.laws_trace.specs.FramesAreRead.{GivesOctets, HasOctets, contents_given}
+pub use Rattle.laws_trace.specs.LinkFrames.{is_for}
+pub use Rattle.laws_trace.specs.Outgoing.{data_asked}
+pub use Rattle.laws_trace.specs.Trace.{IsFront, Seen, frame_in, frames_begun, is_own, seen, seen_told, trace, trace_of}
+pub use Rattle.laws_trace.specs.Units.{is_ui}
+pub use Rattle.laws_wire.proofs.Answered.{asks-way, gives-taken, takes-way}
+pub use Rattle.laws_wire.proofs.Delivering.{calls-face}
+pub use Rattle.laws_wire.proofs.RestedRounds.{doing-append}
+pub use Rattle.laws_wire.proofs.Run.{calls-come-through}
+pub use Rattle.laws_wire.proofs.Spelled.{twice-other}
+pub use Rattle.laws_wire.specs.Call.{CanCall, assigned, calling, confirmed, data_told, station, told_first}
+pub use Rattle.laws_wire.specs.Facing.{Face, end_of}
+pub use Rattle.laws_wire.specs.Wire.{Act, Doing, IsStill, Station, Wire, acting, answered, at_far, at_near, comes, doing, frames_by, gives, happens, is_any, loses, requests, takes, times_out, turned, with_first_lost, with_first_of}
+unfoldable pub use Rattle.laws_wire.specs.Wire.{doing_all}
+pub use Rattle.laws_wire.specs.Worked.{network, user}
+pub use Rattle.model_bits.specs.Bits.{bits}
+unfoldable pub use Rattle.model_bits.specs.Bits.{low_bits}
+pub use Rattle.model_bits.specs.Check.{is_good}
+pub use Rattle.model_bits.specs.Framer.{item_octets}
+pub use Rattle.model_bits.specs.Sent.{Item, idle}
+pub use Rattle.model_bits.specs.Stream.{closed_by_flag, ends_abort, ends_flag, gap_event, given_up, has_abort, heard_at, heard_in, heard_until, is_short, judged, room_for, since_flag, text_event}
+pub use Rattle.model_bits.specs.Stuffing.{octets_sent}
+pub use Rattle.model_bits.specs.StuffingLaws.{AreOctets}
+pub use Rattle.model_bits.specs.declared.heard.Cause.TheVariants.{Abort, Fcs, Short}
+pub use Rattle.model_card.proofs.CardSound.{after_is_sound, fresh_is_sound}
+pub use Rattle.model_card.proofs.OfPorts.AsOctets.{all_exact, cut_sent, frames_sent, heard_whole, same_text, sent}
+pub use Rattle.model_card.proofs.OfPorts.Codec.{meant_at_lines, refined_card}
+pub use Rattle.model_card.proofs.OfPorts.Gains.{heard_with}
+pub use Rattle.model_card.proofs.OfPorts.GoingOut.{fresh_at, on_its_way}
+pub use Rattle.model_card.proofs.OfPorts.HeardOctets.{heard_frames_are_octets}
+pub use Rattle.model_card.proofs.OfPorts.LastItem.{IsLongItem, IsOnItsWay}
+pub use Rattle.model_card.proofs.OfPorts.LineHeard.{all_out, go_out}
+pub use Rattle.model_card.proofs.OfPorts.PortGoesOn.{ready_where}
+pub use Rattle.model_card.proofs.OfPorts.Pulls.{pulls_are_takes}
+pub use Rattle.model_card.proofs.OfPorts.Sound.{always_sound, fresh_octets_sound, port_sound}
+pub use Rattle.model_card.proofs.OfPorts.Steps.{config_stays, moments-append}
+pub use Rattle.model_card.proofs.OfPorts.TextGoesOn.{left_with_octet}
+pub use Rattle.model_card.proofs.Steps.{by_room, has_lines}
+pub use Rattle.model_card.specs.Card.{Card, line_at}
+pub use Rattle.model_card.specs.Machine.{wants_room}
+pub use Rattle.model_card.specs.ports.Card.{OctetCard, answer_to, card_after, port_at, said}
+pub use Rattle.model_card.specs.ports.Codec.{IsTextOf, frames_among, octet_pulled}
+pub use Rattle.model_card.specs.ports.GoingOut.{GoOut}
+pub use Rattle.model_card.specs.ports.Port.{Port, answer_of, fresh_port, gained, given_in, is_due, item_of, left_of, next_octet, with_item, with_octet}
+pub use Rattle.model_card.specs.ports.Pulls.{longest_text}
+pub use Rattle.model_card.specs.ports.Run.{AreAtLines, IsAtLine}
+pub use Rattle.model_card.specs.ports.Sound.{IsSoundPort}
+pub use Rattle.model_line.proofs.LinksSound.{sound_in}
+pub use Rattle.model_line.proofs.NotShort.{IsNotShort}
+pub use Rattle.model_line.proofs.Ranges.{terms_in_range}
+pub use Rattle.model_line.specs.Came.{came, is_too_short}
+pub use Rattle.model_line.specs.Effect.{Effect}
+pub use Rattle.model_line.specs.Event.{Answer, LineTold, NextFrame, expiry, gave, hears, next, nothing, refused, request}
+pub use Rattle.model_line.specs.Heard.{heard_side}
+pub use Rattle.model_line.specs.Line.{Line, fresh_line, has_tei, link_in, link_of, place_in, terms}
+pub use Rattle.model_line.specs.Machine.{aim_of}
+pub use Rattle.model_line.specs.Refusal.{refusal}
+pub use Rattle.model_line.specs.Request.{Assign}
+pub use Rattle.model_line.specs.Taken.{next_of, taken}
+pub use Rattle.model_line.specs.declared.config.Config.{Config}
+pub use Rattle.model_link.proofs.Delivering.{event-delivers}
+pub use Rattle.model_link.proofs.Direction.{Direction, carries-next, frames-append, frames_of}
+pub use Rattle.model_link.proofs.Facing.{Up, clear_busy_up, set_busy_up, still}
+pub use Rattle.model_link.proofs.FacingInformation.{at-first}
+pub use Rattle.model_link.proofs.Giving.{given_is_frame}
+pub use Rattle.model_link.proofs.Joined.{Joined, done-at, joined-turned}
+pub use Rattle.model_link.proofs.Lines.{Carried, Carries, Means, Piece, Rising, rising-low}
+pub use Rattle.model_link.proofs.Sending.{offer-gave}
+pub use Rattle.model_link.proofs.Taking.{Advance, HasNumber, frame-taken, none-delivered}
+pub use Rattle.model_link.specs.Events.{ClearBusy, Received, Release, SetBusy, cleared, expired, offer, overlong, received, requested, undefined, wrong_size}
+pub use Rattle.model_link.specs.Link.{Link, address_at, frame_of, is_multiple_frame, may_repeat, outstanding, state_number}
+pub use Rattle.model_link.specs.Machine.{course, given_of}
+pub use Rattle.model_link.specs.Steps.{Course}
+pub use Rattle.model_link.specs.Told.{Given, runs}
+pub use Rattle.model_link.specs.TwoEnds.{End, frame_given, with_link, with_sent}
+pub use Rattle.model_link.specs.declared.frames.ControlFrame.{ControlFrame}
+pub use Rattle.model_link.specs.declared.states.State.{State}
+pub use Rattle.model_link.specs.declared.states.State.TheVariants.{AwaitingEstablishment, AwaitingRelease, Established, TeiAssigned, TimerRecovery}
+pub use Rattle.model_link.specs.declared.terms.Terms.{Terms}
+pub use Rattle.model_link.specs.declared.timers.LinkTimer.{LinkTimer}
+pub use Rattle.model_link.specs.declared.timers.LinkTimer.TheVariants.{T200, T203}

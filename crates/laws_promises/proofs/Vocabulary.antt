@@ -1,0 +1,29 @@
+-- The words of std and of the crates below with which the proofs of this crate speak, from where they are defined.
+pub use Rattle.std.proofs.Common.{Bool, List, None, Option, Some, [], ap, arith, cond, false, length, map, nat_eq, nat_le, nat_lt, not, refl, subst, sym, take, true, true≢false, ℕ, ◌&&◌, ◌*◌, ◌+◌, ◌<◌, ◌||◌, ◌∙◌, ◌∷◌, ◌≡◌, ◌≤◌}
+pub use Rattle.std.proofs.Math.Nat.{mul-le-mul_left}
+pub use Rattle.std.proofs.lemmas.Bool.{leb-true, ltb-false, ltb-true}
+pub use Rattle.std.proofs.lemmas.List.Elements.{All-cons, All-head, All-nil, All-tail, All-take, All-weaker}
+pub use Rattle.std.proofs.lemmas.List.Sums.{sum_by-cons}
+pub use Rattle.std.specs.Option.{option_map_or}
+pub use Rattle.std.specs.Prelude.{All, count_by, option_map, slice_index, ◌%◌}
+pub use Rattle.lapd_frame.specs.declared.timers.Order.{Order}
+pub use Rattle.laws_line.proofs.OfCard.Brief.{causes-are-told, gives-what-waits, others-stay}
+pub use Rattle.laws_line.proofs.OfCard.Wherever.{come-to-an-end, waiting-taken}
+pub use Rattle.laws_line.specs.card.Brief.{GivesWhatWaits}
+pub use Rattle.laws_line.specs.card.PromisesOfTakes.{CallsComeToAnEnd, WaitingIsTaken, Wherever}
+pub use Rattle.model_bits.specs.declared.heard.Cause.TheVariants.{Short}
+pub use Rattle.model_card.proofs.Amortised.{frames_amortised, rejects_are_long}
+pub use Rattle.model_card.proofs.OfPorts.Codec.{asked_at, refines, said_is}
+pub use Rattle.model_card.proofs.OfPorts.Reaching.{frames_reached}
+pub use Rattle.model_card.proofs.Reaching.{reached-sound}
+pub use Rattle.model_card.specs.Card.{Card}
+pub use Rattle.model_card.specs.Counts.{accepted, expired, heard, long_heard, may_send, rejected, sent, window}
+pub use Rattle.model_card.specs.Event.{event_of}
+pub use Rattle.model_card.specs.Machine.{after, answer}
+pub use Rattle.model_card.specs.Run.{IsAtLine, Moment, after_all}
+pub use Rattle.model_card.specs.Sound.{IsSound}
+pub use Rattle.model_card.specs.ports.Card.{OctetCard, port_at}
+pub use Rattle.model_card.specs.ports.Port.{Answer, Port, is_due, left_of, pull, pulled, refused, told}
+pub use Rattle.model_card.specs.ports.Run.{meant_all}
+pub use Rattle.model_line.specs.Came.{came, is_too_short}
+pub use Rattle.model_line.specs.Counts.{hears_frame, hears_long_frame, is_frame, is_long_frame}

@@ -1,0 +1,200 @@
+-- The words of std and of the crates below with which the proofs of this crate speak, from where they are defined.
+pub use Rattle.std.proofs.Common.{All, Bool, Err, IfSome, IsTrue, List, None, Ok, Option, Result, Some, [], ap, append-nil, append_assoc, arith, cond, drop, eq-eqb, false, filter, get_or, inl, inr, is_some, length, length-append, length-take-le, map, max, nat_le, not, option_map, refl, replicate, set, slice_get, slice_index, subst, suc, sym, take, true, true≢false, zero, ℕ, ⊎_elim, ◌%◌, ◌&&◌, ◌*◌, ◌++◌, ◌+◌, ◌-◌, ◌/◌, ◌<◌, ◌==◌, ◌||◌, ◌∙◌, ◌∷◌, ◌≡◌, ◌≢◌, ◌≤◌, ◌⊎◌}
+pub use Rattle.std.proofs.lemmas.Bool.{and_parts, and_right, cases_eq, eqb-false, le-leb, le-ltb, leb-false, leb-true, or_from, or_parts, or_right}
+pub use Rattle.std.proofs.lemmas.Grind.{flat_map-append}
+pub use Rattle.std.proofs.lemmas.List.{drop_all, get_or-replicate, get_or-set_other, get_or-set_same, length-replicate, map-append, take-append-drop}
+pub use Rattle.std.proofs.lemmas.List.Elements.{All-append, All-cons, All-drop, All-head, All-nil, All-tail, All-take, All-weaker, filter-append}
+pub use Rattle.std.proofs.lemmas.List.Sums.{fold-append, sum_by-append, sum_by-cons}
+pub use Rattle.std.proofs.lemmas.Map.Views.{any-filter_same}
+pub use Rattle.std.proofs.lemmas.Option.{none-some}
+pub use Rattle.std.specs.List.{find, list_any, prefix_len, range_with_len}
+pub use Rattle.std.specs.Option.{option_map_or, option_or}
+pub use Rattle.std.specs.Prelude.{IfOk, count_by, flat_map, fold, if◌then◌else◌, nat_lt, option_to_list}
+pub use Rattle.lapd_count.specs.Counters.{More, amount_in, amount_of, cause_place, place}
+pub use Rattle.lapd_count.specs.Kinds.{kind_place}
+pub use Rattle.lapd_count.specs.Shown.{drop_shown, heard_shown, lost_shown, note_shown}
+pub use Rattle.lapd_count.specs.declared.counter.Counter.{Counter}
+pub use Rattle.lapd_count.specs.declared.counter.Counter.TheVariants.{Assigned, Dropped, Errors, EstablishConfirms, EstablishIndications, Frames, Lost, Messages, Octets, Overlong, Polls, ReleaseConfirms, ReleaseIndications, Units, Xids}
+pub use Rattle.lapd_count.specs.declared.counter.Way.TheVariants.{Begun, Heard}
+pub use Rattle.lapd_count.specs.declared.kinds.Kind.{Kind}
+pub use Rattle.lapd_frame.proofs.AddressField.{address-again}
+pub use Rattle.lapd_frame.proofs.ControlField.{control-again}
+pub use Rattle.lapd_frame.proofs.Spelling.{reading-again, reading-found}
+pub use Rattle.lapd_frame.specs.Faults.{has_bad_extension, is_short}
+pub use Rattle.lapd_frame.specs.Grammar.{Parts, Spells, allows, cr_bit, other_side, row, spelling, takes}
+pub use Rattle.lapd_frame.specs.Reading.{address_of, checked, completed, control_of, long_reading, start_of}
+unfoldable pub use Rattle.lapd_frame.specs.Reading.{header_of, reading}
+pub use Rattle.lapd_frame.specs.Services.{same_service, sapi_of, service_of}
+pub use Rattle.lapd_frame.specs.declared.addresses.Address.{Address}
+pub use Rattle.lapd_frame.specs.declared.addresses.Side.{Side}
+pub use Rattle.lapd_frame.specs.declared.addresses.Side.TheVariants.{Network, User}
+pub use Rattle.lapd_frame.specs.declared.controls.Control.TheVariants.{Disc, Dm, Frmr, Information, ReceiveNotReady, ReceiveReady, Reject, Sabme, Ua, Ui}
+pub use Rattle.lapd_frame.specs.declared.faults.ReadFault.{ReadFault}
+pub use Rattle.lapd_frame.specs.declared.faults.ReadFault.TheVariants.{BadExtension, Short, Undefined, WrongSize}
+pub use Rattle.lapd_frame.specs.declared.notes.ErrorCode.{ErrorCode}
+pub use Rattle.lapd_frame.specs.declared.notes.ErrorCode.TheVariants.{C, L, N, O}
+pub use Rattle.lapd_frame.specs.declared.notes.Note.{Note}
+pub use Rattle.lapd_frame.specs.declared.notes.Note.TheVariants.{Error, EstablishConfirm, EstablishIndication, ReleaseConfirm, ReleaseIndication}
+pub use Rattle.lapd_frame.specs.declared.overlong.Long.{Long}
+pub use Rattle.lapd_frame.specs.declared.refusals.Refusal.{Refusal}
+pub use Rattle.lapd_frame.specs.declared.refusals.Refusal.TheVariants.{BadTei, NoLink, PoolFull, WrongState}
+pub use Rattle.lapd_frame.specs.declared.services.Service.{Service}
+pub use Rattle.lapd_frame.specs.declared.services.Service.TheVariants.{Call, Packet}
+pub use Rattle.lapd_frame.specs.declared.timers.Order.{Order}
+pub use Rattle.lapd_frame.specs.declared.timers.Order.TheVariants.{Start, Stop}
+pub use Rattle.lapd_frame.specs.declared.timers.Timer.{Timer}
+pub use Rattle.lapd_frame.specs.declared.timers.Timer.TheVariants.{T201}
+pub use Rattle.lapd_seq.proofs.Callers.{seq-value}
+unfoldable pub use Rattle.lapd_seq.specs.Circle.{distance_of, named}
+unfoldable pub use Rattle.lapd_seq.specs.Numbers.{seq}
+pub use Rattle.lapd_seq.specs.declared.numbers.Seq.{Seq}
+pub use Rattle.lapd_tei.proofs.Followed.{t201_follows}
+pub use Rattle.lapd_tei.proofs.Tables.{at-within, free_place-is, free_tei-is, is_on-at, not_not, on-range, place_of-is}
+pub use Rattle.lapd_tei.specs.Laws.{Follows}
+pub use Rattle.lapd_tei.specs.Machine.{Management, TeiTold}
+pub use Rattle.lapd_tei.specs.Messages.{action_of, heard_in, heard_of_type}
+pub use Rattle.lapd_tei.specs.Sound.{IsAt, IsSoundCheck, IsSoundTable}
+pub use Rattle.lapd_tei.specs.Table.{Places, free_place, free_tei, has, is_free, is_on, place_of}
+pub use Rattle.lapd_tei.specs.Words.{freed, lost_after, no_room}
+pub use Rattle.lapd_tei.specs.declared.check.Period.{Period}
+pub use Rattle.lapd_tei.specs.declared.check.Period.TheVariants.{First, Second}
+pub use Rattle.lapd_tei.specs.declared.messages.Message.{Message}
+pub use Rattle.lapd_tei.specs.declared.messages.Message.TheVariants.{IdentityAssigned, IdentityCheckRequest, IdentityDenied, IdentityRemove}
+pub use Rattle.lapd_tei.specs.declared.outcome.Change.{Change}
+pub use Rattle.lapd_tei.specs.declared.outcome.Change.TheVariants.{Gained, Left}
+pub use Rattle.lapd_tei.specs.declared.remembered.Remembered.{Remembered}
+pub use Rattle.laws_line.proofs.Asked.{link-grants, passed}
+pub use Rattle.laws_line.proofs.Bounds.{to-go-few}
+pub use Rattle.laws_line.proofs.Following.{some-same}
+pub use Rattle.laws_line.proofs.Granting.{not-refused}
+pub use Rattle.laws_line.proofs.Grouping.{group-read}
+pub use Rattle.laws_line.proofs.HandedOn.{contents-heard, own-all}
+pub use Rattle.laws_line.proofs.Happening.{by-or-down, event-happens}
+pub use Rattle.laws_line.proofs.Hearing.{addressed-is, read-aim, read-event, same-sapi, sapi-is}
+pub use Rattle.laws_line.proofs.InRounds.{comes-first}
+pub use Rattle.laws_line.proofs.Leaving.{next-moves}
+pub use Rattle.laws_line.proofs.LinkMoves.{IsOne, OfLink, of-links, taken-one}
+pub use Rattle.laws_line.proofs.Obeyed.{both-true, obeyed-append, service-same, services-equal, t201-leaves}
+pub use Rattle.laws_line.proofs.OfCard.Meanwhile.{card-drains, card-idles, card-waits, line-sound}
+pub use Rattle.laws_line.proofs.OfCard.Spelling.{head}
+pub use Rattle.laws_line.proofs.OfCard.TimersRun.{begins-timely-card, needed-run, needs-none, timely-after, timely-all}
+pub use Rattle.laws_line.proofs.OfCard.Wherever.{all-left, all-right, config-stays}
+pub use Rattle.laws_line.proofs.Places.{has-no-place, has-place, is-off}
+pub use Rattle.laws_line.proofs.Serving.{served, turn-stays, units-wait}
+pub use Rattle.laws_line.proofs.TeiNotes.{ByChange, noted}
+pub use Rattle.laws_line.proofs.Tied.{Ties, expiry-ties, heard-ties, request-ties}
+pub use Rattle.laws_line.proofs.TimersFollow.{followed, needed-runs, nowhere, number-is, timely-line}
+pub use Rattle.laws_line.proofs.ToldOnce.{told-once}
+pub use Rattle.laws_line.specs.Drains.{control_text, frames_to_go, most_frames, way_round}
+pub use Rattle.laws_line.specs.Frames.{lost_in}
+pub use Rattle.laws_line.specs.Heard.{IsMalformed, IsTooLong, contents_in, is_data_of, is_unit_of, notes_of, tells_contents}
+pub use Rattle.laws_line.specs.Loss.{is_loss_of}
+pub use Rattle.laws_line.specs.Requests.{deactivates}
+pub use Rattle.laws_line.specs.Served.{HasNothing, IsIdle, IsMessage, IsOfLink, IsOwed, IsSilent, IsSilentAt, IsUnit, contents_of, in_turn, unit_asked, units_asked}
+pub use Rattle.laws_line.specs.Share.{is_granted}
+pub use Rattle.laws_line.specs.Steady.{Brings, BringsMalformed, IsBy, IsDeactivated, IsOf, timer_of}
+pub use Rattle.laws_line.specs.Timers.{HaveTheirTimers, is_needed, left_by}
+pub use Rattle.laws_line.specs.card.Among.{AreTakesAt, IsTakenAmong, takes_at}
+pub use Rattle.laws_line.specs.card.PromisesOfTakes.{IsWaiting}
+unfoldable pub use Rattle.laws_line.specs.card.PromisesOfTakes.{StaysAt}
+pub use Rattle.laws_line.specs.card.Timers.{AllHaveTheirTimers, runs_at_callers}
+pub use Rattle.laws_link.proofs.Counted.{kept-after}
+pub use Rattle.laws_link.proofs.Follows.{event-follows}
+pub use Rattle.laws_link.proofs.InOrder.{given-in-order}
+pub use Rattle.laws_link.proofs.Keeping.{event-done, event-unit}
+pub use Rattle.laws_link.proofs.Obeying.{leaves-others}
+pub use Rattle.laws_link.proofs.OfTwo.Waiting.{nothing-given, silent-stays}
+pub use Rattle.laws_link.proofs.Offering.{given-is-offered}
+pub use Rattle.laws_link.proofs.Once.{data-is, within-is}
+pub use Rattle.laws_link.proofs.Restarts.{establishes}
+pub use Rattle.laws_link.specs.Accepted.{accepted, acknowledged_by, beyond, empties, ends, is_loss, is_release, number_of, number_received, tells_loss}
+pub use Rattle.laws_link.specs.Flags.{asked_left, asks_establishment, awaits_answer, busy_asked, flag_left, owed_behind, owed_in, own_busy_left, pending_left, rejecting_heard, repeats_left, takes_contents, unless_put}
+pub use Rattle.laws_link.specs.Following.{Leaves}
+pub use Rattle.laws_link.specs.Heard.{in_sequence, in_ui_frame, unit_heard, within}
+pub use Rattle.laws_link.specs.History.{share, with_share}
+pub use Rattle.laws_link.specs.InOrder.{IsInOrder}
+pub use Rattle.laws_link.specs.Offered.{Carries, IsOffered, i_frames, number_sent}
+pub use Rattle.laws_link.specs.Owing.{IsBegunAgain, Owes, receipt}
+pub use Rattle.laws_link.specs.States.{as_heard, by_expiry, by_frame, by_received, by_request, comes_to, is_anew, is_clearing, is_faulty, is_invalid, is_overlong, leads_by_agreement, leads_by_sabme, moves, numbers_begin, receipt_of, state_after}
+pub use Rattle.laws_link.specs.Telling.{final_as, numbered_as, told_by, told_cleared, told_expired}
+pub use Rattle.laws_link.specs.Timed.{is_same, obeyed}
+pub use Rattle.laws_link.specs.Waiting.{answers, answers_to, answers_up, as_command, as_response, behind, command_in, commands, is_next, is_taken, is_time, lost_by, put, receipt_as, to_disc, to_information, to_sabme, to_supervisory, waiting_left}
+pub use Rattle.laws_link.specs.two.Needed.{HasItsTimer, IsCalmIn, needed, needed_in}
+pub use Rattle.model_bits.specs.Heads.{latest_frame, or_later}
+pub use Rattle.model_bits.specs.Sent.{Item, idle}
+pub use Rattle.model_bits.specs.StuffingLaws.{AreOctets}
+pub use Rattle.model_bits.specs.declared.heard.Cause.{Cause}
+pub use Rattle.model_bits.specs.declared.heard.Cause.TheVariants.{Tei, Unserved}
+pub use Rattle.model_card.proofs.CardSound.{after_is_sound, fresh_is_sound}
+pub use Rattle.model_card.proofs.OfPorts.Codec.{asked_at, gives_at_next, neither, refined_card, refines, run_goes_on}
+pub use Rattle.model_card.proofs.OfPorts.GoingOut.{fresh_at, given_frames_are_heard}
+pub use Rattle.model_card.proofs.OfPorts.HeardOctets.{heard_frames_are_octets}
+pub use Rattle.model_card.proofs.OfPorts.Pulls.{pulls_are_takes}
+pub use Rattle.model_card.proofs.OfPorts.Sound.{fresh_octets_sound}
+pub use Rattle.model_card.proofs.OfPorts.Steps.{moments-append}
+pub use Rattle.model_card.proofs.Refusals.{answer_is}
+pub use Rattle.model_card.proofs.Rooms.{refuses_by}
+pub use Rattle.model_card.proofs.Steps.{by_room, has_lines, line_sound}
+pub use Rattle.model_card.specs.Card.{Card, is_full, line_at}
+pub use Rattle.model_card.specs.Counted.{all_shown}
+pub use Rattle.model_card.specs.Event.{at}
+pub use Rattle.model_card.specs.Room.{free}
+unfoldable pub use Rattle.model_card.specs.Run.{moments}
+pub use Rattle.model_card.specs.ports.Card.{OctetCard, answer_to, port_at}
+pub use Rattle.model_card.specs.ports.Codec.{frame_moment, frames_among, frames_given, given_of, meant_in}
+pub use Rattle.model_card.specs.ports.GoingOut.{OfEachLine, answer_of_call, as_octets, call_answered, calls_answered, frames_to_hear, octets_given}
+pub use Rattle.model_card.specs.ports.HeardOctets.{HearsOctets}
+pub use Rattle.model_card.specs.ports.Port.{Port, answer_of, fresh_port, gained, given_in, is_due}
+pub use Rattle.model_card.specs.ports.Promises.{moments_meant}
+pub use Rattle.model_card.specs.ports.Pulls.{pulls_at, pulls_behind}
+pub use Rattle.model_card.specs.ports.Run.{meant_all}
+pub use Rattle.model_line.proofs.AimsSound.{IsProper}
+pub use Rattle.model_line.proofs.LinksSound.{sound_in}
+pub use Rattle.model_line.proofs.Numbers.{number_within, place_at-number, service_at-number}
+pub use Rattle.model_line.proofs.ProperAims.{expiry_proper, heard_aims, heard_proper, request_proper}
+pub use Rattle.model_line.proofs.Ranges.{ranges_of, terms_in_range}
+pub use Rattle.model_line.proofs.Sides.{side_aims}
+pub use Rattle.model_line.proofs.TakenWalk.{round_below}
+pub use Rattle.model_line.specs.Config.{first_fault, is_within}
+pub use Rattle.model_line.specs.Counted.{given_shown, shown, told_in_answer}
+pub use Rattle.model_line.specs.Effect.{Aim, Effect, at_link, at_management, at_none, at_units, of_aim, of_change, told_of_management}
+pub use Rattle.model_line.specs.Event.{Answer, LineTold, NextFrame, dropped, expiry, gave, hears, next, refused, request}
+pub use Rattle.model_line.specs.Expiry.{aim_of_expiry, at_timer, is_running, runs_at}
+pub use Rattle.model_line.specs.Heard.{addressed, aim_of_heard, aim_of_long, aim_of_reading, at_place, drop_for, group_tei, heard_side, management_sapi, message_of, to_service, unless_at_link}
+pub use Rattle.model_line.specs.Laws.{orders_in}
+pub use Rattle.model_line.specs.Line.{Line, UnitData, fresh_line, has_tei, link_at, link_count, link_in, link_number, link_of, place_at, place_in, service_at, state_in, state_of, tei_at, terms, window, with_link}
+pub use Rattle.model_line.specs.Machine.{aim_of, of_heard, of_request, unless_refused, unless_refused_told}
+pub use Rattle.model_line.specs.Refusal.{bad_tei, check_running, control_full, no_link, pool_full, queue_full, table_full, tei_taken, too_long, wrong_side, wrong_state}
+pub use Rattle.model_line.specs.Request.{Assign, Deactivate, Remove, Unit}
+pub use Rattle.model_line.specs.Requested.{aim_of_request, at_deactivated, at_requested}
+pub use Rattle.model_line.specs.Room.{unless}
+pub use Rattle.model_line.specs.Sides.{IsToGroup, at_side, group_told, has_management, managed_at}
+pub use Rattle.model_line.specs.Sound.{IsInRange, IsSoundAt, IsUnitData}
+pub use Rattle.model_line.specs.Taken.{Taken, first_taken, line_of, next_of, round, taken, unit_frame, with_given_frame, with_unit}
+pub use Rattle.model_line.specs.declared.config.Config.{Config}
+pub use Rattle.model_line.specs.declared.config.Field.{Field}
+pub use Rattle.model_line.specs.declared.config.Field.TheVariants.{K, K16, Lines, N200, N201, Queue, Slots, Terminals, UnitQueue}
+pub use Rattle.model_link.proofs.Delivering.{delivery, event-delivers}
+pub use Rattle.model_link.proofs.Giving.{given_is_frame}
+pub use Rattle.model_link.proofs.Numbering.{delivered-at_once}
+pub use Rattle.model_link.proofs.OwnNotes.{notes-own}
+pub use Rattle.model_link.proofs.SoundRows.{named-within}
+pub use Rattle.model_link.proofs.Taking.{named-is_seq}
+pub use Rattle.model_link.proofs.TellRows.{event-tells}
+pub use Rattle.model_link.specs.Deliveries.{Arrived, MayEstablish, eligible, eligible_of, information_in, is_eligible, restarts}
+pub use Rattle.model_link.specs.Events.{Received, cleared, expired, offer, overlong, received, requested, undefined, wrong_size}
+pub use Rattle.model_link.specs.Link.{Link, address_at, has_outstanding, is_asked, is_multiple_frame, is_own_busy, is_rejecting, may_repeat, outstanding, queue_of, state_number}
+pub use Rattle.model_link.specs.Machine.{course, frame_in}
+pub use Rattle.model_link.specs.Offers.{is_established}
+pub use Rattle.model_link.specs.Requests.{refusal_for_room}
+pub use Rattle.model_link.specs.Room.{room_of}
+pub use Rattle.model_link.specs.Sound.{IsGiven, IsWaitingFrame, is_information}
+pub use Rattle.model_link.specs.Steps.{Sent, by_bit, changed, depending_on, ◌then◌}
+pub use Rattle.model_link.specs.Told.{Given, is_timer, order_for, orders_for, runs, timer_at}
+pub use Rattle.model_link.specs.Words.{begin_anew}
+pub use Rattle.model_link.specs.declared.frames.ControlFrame.{ControlFrame}
+pub use Rattle.model_link.specs.declared.rooms.Room.{Room}
+pub use Rattle.model_link.specs.declared.states.State.{State}
+pub use Rattle.model_link.specs.declared.states.State.TheVariants.{AwaitingEstablishment, AwaitingRelease, Established, TeiAssigned, TimerRecovery}
+pub use Rattle.model_link.specs.declared.terms.Terms.{Terms}
+pub use Rattle.model_link.specs.declared.timers.LinkTimer.{LinkTimer}

@@ -23,9 +23,8 @@
  *    and frees run at the same time, the three functions of memory must allow it (malloc's do, heap.c's do not).
  *  - It begins as LAPD_CARD_NONE or LAPD_CLOCK_NONE, no copy of it is used, and its fields are left alone.
  *
- * No card and no clock is const, also where a call only asks: each call takes the card out of its place while it is
- * served, and puts it back, so two questions at once would meet. (An export of the toolchain's cannot read through a
- * const pointer what owns memory.)
+ * No card and no clock is const, also where a call only asks: an export of the toolchain's cannot read through a const
+ * pointer what owns memory, and nothing is proved of two questions at once.
  *
  * Everything else is tested: each function says by its status what was wrong, and then nothing has changed, neither
  * the card or clock nor what is behind the other pointers (except LAPD_NO_PLACE of lapd_clock_apply_report). Where

@@ -21,7 +21,7 @@ module _ {M : Type 1} {𝓤 : Ura M} {𝓛 : Logic 𝓤} {K : Type 0} {Γ : List
 
   -- the place of a clock is taken apart
   pub slot_opens : K → (d : slot.the_row.Denot) (vs : List Val) → IsSome d.clock
-      → ((b o : ℕ) (x : Timers) → d.clock ≡ Some x → vs ≡ word (vptr b o) ∷ []
+      → ((b o : ℕ) (x : Timers) → d.at ≡ block_ptr b o → d.clock ≡ Some x → vs ≡ word (vptr b o) ∷ []
       → Seq K 𝓛 (‵ (box_owns (ghosts.dealloc_token heap) R (block_ptr b o) x) ∷ Γ) G)
       → Seq K 𝓛 (‵ (slot.the_row.own_val d vs) ∷ Γ) G
   slot_opens t d vs is rest =
@@ -29,7 +29,7 @@ module _ {M : Type 1} {𝓤 : Ura M} {𝓛 : Logic 𝓤} {K : Type 0} {Γ : List
       by_clock t d.at d.clock is (λ x held.
       in_a_block t d.at (λ p. box_owns (ghosts.dealloc_token heap) R p x) (fst∗ 𝓤 (never 𝓤) (sem 𝓛 (ghosts.dealloc_token heap (bare (lone R.mir)) null_ptr))) (λ b o there.
       let with_word = subst (λ (ps : List Val). vs ≡ vstruct (of_list (ps ++ [])) ∷ []) pointer whole in
-      rest b o x held (subst (λ (p : Ptr). vs ≡ vstruct (of_list (ptr_val p ∷ [])) ∷ []) there with_word))))))
+      rest b o x there held (subst (λ (p : Ptr). vs ≡ vstruct (of_list (ptr_val p ∷ [])) ∷ []) there with_word))))))
 
   -- and made
   pub slot_made : K → (b o : ℕ) (x : Timers)

@@ -1,10 +1,28 @@
 -- What a report shows is what the machine answers.
-use Rattle.lapd_c.proofs.Vocabulary.{◌≡◌, ◌≤◌, length, Option, IfSome, Result, Ok, IfOk, sym, subst, arith, Report, report_told, LineTold, told, IsInRange, ranges_of, Card, Event, answer, OctetCard, PlainReport, Shows, contents_of, ShowsAnswer, ShowsReply, contents_in}
+use Rattle.lapd_c.proofs.Vocabulary.{◌≡◌, ◌≤◌, length, Option, IfSome, Result, Ok, IfOk, sym, ap, ◌∙◌, subst, arith, counters_in, Report, report_told, LineTold, told, IsInRange, ranges_of, Card, Event, answer, OctetCard, PlainReport, Shows, contents_of, ShowsAnswer, ShowsReply, contents_in, Store, AnyCard, Octets, Frames, HeldCard, Machine, with_ports, alone, AnyStands, CardStands, FrameCardStands}
+use Rattle.lapd_card.specs.Card as octets
+use Rattle.lapd_card.specs.FrameCard as frames
+use Rattle.lapd_c.specs.Cards.{StandsIn}
+use Rattle.lapd_c.specs.Counted.{counters_held}
 use Rattle.std.proofs.Common.{Some}
 use Rattle.model_card.specs.ports.Card as octet_card
-use Rattle.model_card.specs.ports.Event as octets
+use Rattle.model_card.specs.ports.Event as octet_event
 use Rattle.model_card.specs.ports.Port as port
 use Rattle.lapd_c.proofs.Contents.{contents_fit, contents_told, replies_fit}
+
+-- the card that C holds, where it lies; of either kind, for octets, for frames
+pub there : {held : HeldCard} {card : AnyCard} → held ≡ Some card → (m : Machine) → StandsIn held m → AnyStands card m
+there is m s = subst (λ h. StandsIn h m) is s
+
+pub octets_there : {held : HeldCard} {card : AnyCard} {c : octets.Held Store} → held ≡ Some card → card ≡ Octets c → (m : OctetCard) → StandsIn held (with_ports m) → CardStands c m
+octets_there is kind m s = subst (λ card. AnyStands card (with_ports m)) kind (there is (with_ports m) s)
+
+pub frames_there : {held : HeldCard} {card : AnyCard} {c : frames.Held Store} → held ≡ Some card → card ≡ Frames c → (m : Card) → StandsIn held (alone m) → FrameCardStands c m
+frames_there is kind m s = subst (λ card. AnyStands card (alone m)) kind (there is (alone m) s)
+
+-- the counters of its lines
+pub frames_counted : {held : HeldCard} {card : AnyCard} {c : frames.Held Store} → held ≡ Some card → card ≡ Frames c → counters_in c.lines ≡ counters_held held
+frames_counted is kind = sym (ap counters_held (is ∙ ap Some kind))
 
 -- a result that is known
 pub if_ok : {X E : Type 0} (P : X → Type 0) (o : Result X E) (x : X) → o ≡ Ok x → P x → IfOk o P
@@ -21,7 +39,7 @@ small m e t ranges is =
     let most : m.config.n201 ≤ 260 = (ranges_of m.config ranges).n201.most in
     omega arith
 
-pub small_reply : (m : OctetCard) (e : octets.Event) (t : LineTold) → IsInRange m.card.config → port.told t ≡ octet_card.answer e m → length (contents_of t.contents) ≤ 260
+pub small_reply : (m : OctetCard) (e : octet_event.Event) (t : LineTold) → IsInRange m.card.config → port.told t ≡ octet_card.answer e m → length (contents_of t.contents) ≤ 260
 small_reply m e t ranges is =
     let fits : length (contents_of (contents_told (port.told t))) ≤ m.card.config.n201 = subst (λ a. length (contents_of (contents_told a)) ≤ m.card.config.n201) (sym is) (replies_fit m e) in
     let most : m.card.config.n201 ≤ 260 = (ranges_of m.card.config ranges).n201.most in
@@ -36,6 +54,6 @@ pub shown : (m : Card) (e : Event) (r : Report) (p : PlainReport) → IsInRange 
     → (length (contents_of (report_told r).contents) ≤ 260 → Shows p (report_told r)) → ShowsAnswer p (answer e m)
 shown m e r p ranges is h = shown_told m e (report_told r) p ranges is h
 
-pub shown_reply : (m : OctetCard) (e : octets.Event) (r : Report) (p : PlainReport) → IsInRange m.card.config → port.told (report_told r) ≡ octet_card.answer e m
+pub shown_reply : (m : OctetCard) (e : octet_event.Event) (r : Report) (p : PlainReport) → IsInRange m.card.config → port.told (report_told r) ≡ octet_card.answer e m
     → (length (contents_of (report_told r).contents) ≤ 260 → Shows p (report_told r)) → ShowsReply p (octet_card.answer e m)
 shown_reply m e r p ranges is h = subst (ShowsReply p) is (h (small_reply m e (report_told r) ranges is))

@@ -14,9 +14,11 @@ pub mod Answers
 pub mod Counters
 pub mod ClockSlots
 pub mod Clocks
+pub mod ClockLends
 pub mod CardSlots
 pub mod Kinds
 pub mod Cards
+pub mod CardLends
 pub mod Laws
 pub mod Links
 pub mod Orders

@@ -1,5 +1,7 @@
 //! A card in C: where it lies, how one of either kind begins, and how it ends.
 
+ghost use Rattle.std.specs.Borrow.{sem};
+ghost use Rattle.std.specs.Option.{option_copied_mut};
 ghost use Rattle.std.specs.Prelude.{◌≡◌, ◌⊎◌, Some, None, Ok, Err, IfOk, IfSome, IfNone, option_map, replicate};
 ghost use Rattle.model_card.specs.Card as frames;
 ghost use Rattle.model_line.specs.Config.{first_fault};
@@ -28,6 +30,8 @@ pub struct CardHandle {
 }
 
 impl CardHandle {
+    ghost use Rattle.lapd_c.specs.CardLends.{LendsCardIf};
+
     /// Takes the card out.
     pub(crate) fn take(&mut self, alloc: Global) -> Option<Box<AnyCard>>
         requires { IsHandle self.old }
@@ -42,6 +46,19 @@ impl CardHandle {
         self.started = false;
         let slot = replace(&mut self.slot, CardSlot::none());
         Some(slot.into_box(alloc))
+    }
+
+    /// The card, where it lies.
+    pub(crate) fn card(&mut self) -> Option<&mut AnyCard>
+        requires { IsHandle self.old }
+        ensures* lends { sem 𝓛 (LendsCardIf self.entry result) }
+        ensures card { card_of self.old ≡ option_copied_mut result }
+    {
+        if self.started {
+            Some(self.slot.card_mut())
+        } else {
+            None
+        }
     }
 
     /// Puts a card in, where none is.

@@ -1,5 +1,6 @@
 //! Where a card lies.
 
+ghost use Rattle.std.specs.Borrow.{sem};
 ghost use Rattle.std.specs.Prelude.{◌≡◌, None, Some, IsSome};
 ghost use Rattle.lapd_c.specs.CardSlots.{card_owns, HeldCard, held_card_code};
 
@@ -21,6 +22,8 @@ impl Model for CardSlot {
 }
 
 impl CardSlot {
+    ghost use Rattle.lapd_c.specs.CardLends.{LendsCard};
+
     /// No card.
     pub(crate) fn none() -> CardSlot
         ensures { result.card ≡ None }
@@ -41,6 +44,15 @@ impl CardSlot {
         ensures { self.card ≡ Some result.value }
     {
         self.into_loose(alloc).into_box()
+    }
+
+    /// The card that lies there, where it lies.
+    pub(crate) fn card_mut(&mut self) -> &mut AnyCard
+        requires { IsSome self.old.card }
+        ensures* lends { sem 𝓛 (LendsCard self.entry result) }
+        ensures card { self.old.card ≡ Some result.now }
+    {
+        unsafe { &mut *(self.at as *mut AnyCard) }
     }
 
     /// Lets the place go, where no card lies.

@@ -1,7 +1,9 @@
 //! A clock in C.
 
+ghost use Rattle.std.specs.Borrow.{sem};
+ghost use Rattle.std.specs.Option.{option_copied_mut};
 ghost use Rattle.std.specs.Prelude.{◌≡◌, ◌≤◌, ◌⊎◌, Some, None, IfSome, IfNone, option_map};
-ghost use Rattle.lapd_clock.specs.Timers.{Timers, due_at, after_due, next_moment, idle, with_lengths};
+ghost use Rattle.lapd_clock.specs.Timers.{due_at, after_due, next_moment, idle, with_lengths};
 ghost use Rattle.lapd_clock.specs.Timer.{first_out_of_range};
 ghost use Rattle.lapd_c.specs.Config.{config_fault};
 ghost use Rattle.lapd_c.specs.Statuses as status;
@@ -14,7 +16,6 @@ use crate::plain::{
     SECOND_START, WRONG_LINE, WRONG_TIME,
 };
 use lapd_clock::{Clock, Lengths};
-use lapd_frame::Order;
 use std::alloc::Global;
 use std::mem::replace;
 
@@ -29,6 +30,8 @@ pub struct ClockHandle {
 }
 
 impl ClockHandle {
+    ghost use Rattle.lapd_c.specs.ClockLends.{LendsClockIf};
+
     /// Takes the clock out.
     pub(crate) fn take(&mut self, alloc: Global) -> Option<Box<Clock>>
         requires { IsHandle self.old }
@@ -44,6 +47,19 @@ impl ClockHandle {
         self.started = false;
         let slot = replace(&mut self.slot, ClockSlot::none());
         Some(slot.into_box(alloc))
+    }
+
+    /// The clock, where it lies.
+    pub(crate) fn clock(&mut self) -> Option<&mut Clock>
+        requires { IsHandle self.old }
+        ensures* lends { sem 𝓛 (LendsClockIf self.entry result) }
+        ensures clock { clock_of self.old ≡ option_copied_mut result }
+    {
+        if self.started {
+            Some(self.slot.clock_mut())
+        } else {
+            None
+        }
     }
 
     /// Puts a clock in, where none is.
@@ -100,7 +116,6 @@ pub extern "C" fn lapd_clock_start(
 /// Has timers that are started from now on run so many milliseconds: T200, T203 and T201, each 1 to 3,600,000.
 #[unsafe(no_mangle)]
 pub extern "C" fn lapd_clock_set_lengths(
-    alloc: Global,
     handle: &mut ClockHandle,
     t200: u32,
     t203: u32,
@@ -114,18 +129,16 @@ pub extern "C" fn lapd_clock_set_lengths(
     ensures set { first_out_of_range (lengths_given t200 t203 t201) ≡ None → IfSome (clock_of handle.old)
         (λ c. (result ≡ status.ok) × (clock_of handle.new ≡ Some (with_lengths (lengths_given t200 t203 t201) c))) }
 {
-    let Some(mut clock) = handle.take(alloc) else {
+    let Some(clock) = handle.clock() else {
         return NO_CLOCK;
     };
-    let status = match Lengths::new(t200, t203, t201) {
+    match Lengths::new(t200, t203, t201) {
         Ok(lengths) => {
             clock.set_lengths(lengths);
             OK
         }
         Err(_) => WRONG_TIME,
-    };
-    handle.put(clock);
-    status
+    }
 }
 
 /// Ends a clock, and gives back its memory.
@@ -148,7 +161,6 @@ pub extern "C" fn lapd_clock_free(alloc: Global, handle: &mut ClockHandle) -> u3
 /// Carries out one order for a timer of a line, at a moment.
 #[unsafe(no_mangle)]
 pub extern "C" fn lapd_clock_apply(
-    alloc: Global,
     handle: &mut ClockHandle,
     line: u32,
     order: &PlainOrder,
@@ -160,24 +172,14 @@ pub extern "C" fn lapd_clock_apply(
     ensures applied { IfSome (clock_of handle.old) (λ c. result ≡ apply_status c line (order_in order.now) now) }
     ensures after { clock_of handle.new ≡ option_map (λ c. after_apply c line (order_in order.now) now) (clock_of handle.old) }
 {
-    let Some(mut clock) = handle.take(alloc) else {
+    let Some(clock) = handle.clock() else {
         return NO_CLOCK;
     };
-    let status = apply(&mut clock, line, order.order(), now);
-    handle.put(clock);
-    status
-}
-
-fn apply(clock: &mut Clock, line: u32, order: Result<Order, u32>, now: u64) -> u32
-    ensures status { result ≡ apply_status clock.old line order now }
-    ensures after { clock.new ≡ after_apply clock.old line order now }
-    ensures lines { clock.new.lines ≡ clock.old.lines }
-{
     let line = line as usize;
     if line >= clock.lines() {
         return WRONG_LINE;
     }
-    let order = match order {
+    let order = match order.order() {
         Ok(order) => order,
         Err(wrong) => return wrong,
     };
@@ -193,12 +195,7 @@ fn apply(clock: &mut Clock, line: u32, order: Result<Order, u32>, now: u64) -> u
 
 /// Takes out the timer that falls due first, where its moment is not after `now`.
 #[unsafe(no_mangle)]
-pub extern "C" fn lapd_clock_due(
-    alloc: Global,
-    handle: &mut ClockHandle,
-    now: u64,
-    due: &mut PlainDue,
-) -> u32
+pub extern "C" fn lapd_clock_due(handle: &mut ClockHandle, now: u64, due: &mut PlainDue) -> u32
     requires { IsHandle handle.old }
     ensures handle { IsHandle handle.new }
     ensures no_clock { clock_of handle.old ≡ None
@@ -209,11 +206,10 @@ pub extern "C" fn lapd_clock_due(
     ensures due { IfSome (clock_of handle.old) (λ c. IfSome (due_at c now)
         (λ first. (result ≡ status.ok) × (due.new ≡ plain_due first))) }
 {
-    let Some(mut clock) = handle.take(alloc) else {
+    let Some(clock) = handle.clock() else {
         return NO_CLOCK;
     };
     let first = clock.due(now);
-    handle.put(clock);
     match first {
         Some((line, timer)) => {
             *due = PlainDue {
@@ -228,7 +224,7 @@ pub extern "C" fn lapd_clock_due(
 
 /// The moment of the timer that falls due first, due or not.
 #[unsafe(no_mangle)]
-pub extern "C" fn lapd_clock_next(alloc: Global, handle: &mut ClockHandle, moment: &mut u64) -> u32
+pub extern "C" fn lapd_clock_next(handle: &mut ClockHandle, moment: &mut u64) -> u32
     requires { IsHandle handle.old }
     ensures handle { IsHandle handle.new }
     ensures no_clock { clock_of handle.old ≡ None
@@ -239,11 +235,10 @@ pub extern "C" fn lapd_clock_next(alloc: Global, handle: &mut ClockHandle, momen
     ensures next { IfSome (clock_of handle.old) (λ c. IfSome (next_moment c)
         (λ first. (result ≡ status.ok) × (moment.new ≡ first))) }
 {
-    let Some(clock) = handle.take(alloc) else {
+    let Some(clock) = handle.clock() else {
         return NO_CLOCK;
     };
     let first = clock.next();
-    handle.put(clock);
     match first {
         Some(first) => {
             *moment = first;

@@ -11,12 +11,10 @@ use crate::plain::{
     NO_CLOCK, NO_PLACE, OK, PlainOrder, PlainReport, WRONG_LINE, WRONG_ORDER, WRONG_TIME,
 };
 use lapd_clock::Clock;
-use std::alloc::Global;
 
 /// Carries out all orders of a report, in order, at a moment.
 #[unsafe(no_mangle)]
 pub extern "C" fn lapd_clock_apply_report(
-    alloc: Global,
     handle: &mut ClockHandle,
     line: u32,
     report: &PlainReport,
@@ -28,19 +26,9 @@ pub extern "C" fn lapd_clock_apply_report(
     ensures applied { IfSome (clock_of handle.old) (λ c. result ≡ report_status c line report.now now) }
     ensures after { clock_of handle.new ≡ option_map (λ c. after_report c line report.now now) (clock_of handle.old) }
 {
-    let Some(mut clock) = handle.take(alloc) else {
+    let Some(clock) = handle.clock() else {
         return NO_CLOCK;
     };
-    let status = apply_report(&mut clock, line, report, now);
-    handle.put(clock);
-    status
-}
-
-fn apply_report(clock: &mut Clock, line: u32, report: &PlainReport, now: u64) -> u32
-    ensures status { result ≡ report_status clock.old line report.now now }
-    ensures after { clock.new ≡ after_report clock.old line report.now now }
-    ensures lines { clock.new.lines ≡ clock.old.lines }
-{
     let wrong = wrong_in(clock, line, report, now);
     if wrong != OK {
         return wrong;

@@ -1,5 +1,6 @@
 //! Where a clock lies.
 
+ghost use Rattle.std.specs.Borrow.{sem};
 ghost use Rattle.std.specs.Prelude.{◌≡◌, None, Some, IsSome};
 ghost use Rattle.lapd_c.specs.ClockSlots.{clock_owns, HeldClock, held_clock_code};
 
@@ -21,6 +22,8 @@ impl Model for ClockSlot {
 }
 
 impl ClockSlot {
+    ghost use Rattle.lapd_c.specs.ClockLends.{LendsClock};
+
     /// No clock.
     pub(crate) fn none() -> ClockSlot
         ensures { result.clock ≡ None }
@@ -41,6 +44,15 @@ impl ClockSlot {
         ensures { self.clock ≡ Some result.value }
     {
         self.into_loose(alloc).into_box()
+    }
+
+    /// The clock that lies there, where it lies.
+    pub(crate) fn clock_mut(&mut self) -> &mut Clock
+        requires { IsSome self.old.clock }
+        ensures* lends { sem 𝓛 (LendsClock self.entry result) }
+        ensures clock { self.old.clock ≡ Some result.now }
+    {
+        unsafe { &mut *(self.at as *mut Clock) }
     }
 
     /// Lets the place go, where no clock lies.

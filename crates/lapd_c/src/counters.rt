@@ -1,6 +1,6 @@
 //! What was counted of a line.
 
-ghost use Rattle.std.specs.Prelude.{◌≡◌, ◌≤◌, ◌<◌, None, IfSome, get_or};
+ghost use Rattle.std.specs.Prelude.{◌≡◌, ◌≢◌, ◌≤◌, ◌<◌, None, IfSome, get_or};
 ghost use Rattle.lapd_count.specs.Counters.{none_counted};
 ghost use Rattle.lapd_c.specs.Counters.{plain_counters};
 ghost use Rattle.lapd_c.specs.Statuses as status;
@@ -8,41 +8,27 @@ ghost use Rattle.lapd_c.specs.Cards.{card_of, IsHandle};
 ghost use Rattle.lapd_c.specs.Kinds.{counters_of, line_count};
 
 use crate::card::CardHandle;
-use crate::kinds::AnyCard;
 use crate::plain::{NO_CARD, OK, PlainCounters, WRONG_LINE};
-use std::alloc::Global;
 
 /// What was counted of a line since the card began.
 #[unsafe(no_mangle)]
 pub extern "C" fn lapd_counters(
-    alloc: Global,
     handle: &mut CardHandle,
     line: u32,
     counters: &mut PlainCounters,
 ) -> u32
     requires { IsHandle handle.old }
     ensures handle { IsHandle handle.new }
-    ensures no_card { card_of handle.old ≡ None
-        → (result ≡ status.no_card) × (handle.new ≡ handle.old) × (counters.new ≡ counters.old) }
+    ensures no_card { card_of handle.old ≡ None → (result ≡ status.no_card) × (handle.new ≡ handle.old) }
     ensures unchanged { card_of handle.new ≡ card_of handle.old }
-    ensures wrong_line { IfSome (card_of handle.old) (λ card. line_count card ≤ line
-        → (result ≡ status.wrong_line) × (counters.new ≡ counters.old)) }
+    ensures untold { result ≢ status.ok → counters.new ≡ counters.old }
+    ensures wrong_line { IfSome (card_of handle.old) (λ card. line_count card ≤ line → result ≡ status.wrong_line) }
     ensures told { IfSome (card_of handle.old) (λ card. line < line_count card
         → (result ≡ status.ok) × (counters.new ≡ plain_counters (get_or (counters_of card) line none_counted))) }
 {
-    let Some(card) = handle.take(alloc) else {
+    let Some(card) = handle.card() else {
         return NO_CARD;
     };
-    let status = tell_counters(&card, line, counters);
-    handle.put(card);
-    status
-}
-
-fn tell_counters(card: &AnyCard, line: u32, counters: &mut PlainCounters) -> u32
-    ensures wrong_line { line_count card.now ≤ line → (result ≡ status.wrong_line) × (counters.new ≡ counters.old) }
-    ensures told { line < line_count card.now
-        → (result ≡ status.ok) × (counters.new ≡ plain_counters (get_or (counters_of card.now) line none_counted)) }
-{
     let line = line as usize;
     if line >= card.lines() {
         return WRONG_LINE;

@@ -12,17 +12,14 @@ ghost use Rattle.lapd_c.specs.Requests.{request_in};
 ghost use Rattle.lapd_c.specs.Timers.{timer_in};
 ghost use Rattle.lapd_c.specs.Cards.{card_of, kind_in, IsHandle, Stands};
 ghost use Rattle.lapd_c.specs.Counted.{Counts, counters_at};
-ghost use Rattle.lapd_c.specs.Kinds.{Machine, card_in, after, answer, AnyStands, counters_of, kind_of};
+ghost use Rattle.lapd_c.specs.Kinds.{Machine, card_in, after, answer};
 
 use crate::card::CardHandle;
-use crate::kinds::AnyCard;
 use crate::plain::{NO_CARD, OK, PlainReport, PlainTimer, WRONG_LINE, refusal_status, request_in};
-use std::alloc::Global;
 
 /// A timer of a line expired. One that does not run has no effect, and nothing is told.
 #[unsafe(no_mangle)]
 pub extern "C" fn lapd_expire(
-    alloc: Global,
     handle: &mut CardHandle,
     line: u32,
     timer: &PlainTimer,
@@ -31,44 +28,22 @@ pub extern "C" fn lapd_expire(
     requires { IsHandle handle.old }
     ensures handle { IsHandle handle.new }
     ensures kind { kind_in handle.new ≡ kind_in handle.old }
-    ensures no_card { card_of handle.old ≡ None
-        → (result ≡ status.no_card) × (handle.new ≡ handle.old) × (report.new ≡ report.old) }
+    ensures unchanged { result ≢ status.ok → (card_of handle.new ≡ card_of handle.old) × (report.new ≡ report.old) }
+    ensures no_card { card_of handle.old ≡ None → (result ≡ status.no_card) × (handle.new ≡ handle.old) }
     ensures wrong_line { (m : Machine) → Stands handle.old m → (card_in m).config.lines ≤ line
-        → (result ≡ status.wrong_line) × Stands handle.new m × (report.new ≡ report.old) }
+        → result ≡ status.wrong_line }
     ensures wrong_timer { (m : Machine) → Stands handle.old m → line < (card_in m).config.lines
-        → IfErr (timer_in timer.now) (λ wrong.
-        (result ≡ wrong) × Stands handle.new m × (report.new ≡ report.old)) }
+        → IfErr (timer_in timer.now) (λ wrong. result ≡ wrong) }
     ensures served { (m : Machine) → Stands handle.old m → line < (card_in m).config.lines
         → IfOk (timer_in timer.now) (λ expired.
         (result ≡ status.ok) × Stands handle.new (after (at line (line_event.expiry expired)) m)
         × ShowsAnswer report.new (answer (at line (line_event.expiry expired)) m)) }
     ensures counted { (m : Machine) → Stands handle.old m → line < (card_in m).config.lines
         → IfOk (timer_in timer.now) (λ expired. Counts (at line (line_event.expiry expired)) (card_in m) (counters_at handle.old) (counters_at handle.new)) }
-    ensures uncounted { (m : Machine) → Stands handle.old m → result ≢ status.ok → counters_at handle.new ≡ counters_at handle.old }
 {
-    let Some(mut card) = handle.take(alloc) else {
+    let Some(card) = handle.card() else {
         return NO_CARD;
     };
-    let status = expire_timer(&mut card, line, timer, report);
-    handle.put(card);
-    status
-}
-
-fn expire_timer(card: &mut AnyCard, line: u32, timer: &PlainTimer, report: &mut PlainReport) -> u32
-    ensures kind { kind_of card.new ≡ kind_of card.old }
-    ensures wrong_line { (m : Machine) → AnyStands card.old m → (card_in m).config.lines ≤ line
-        → (result ≡ status.wrong_line) × AnyStands card.new m × (report.new ≡ report.old) }
-    ensures wrong_timer { (m : Machine) → AnyStands card.old m → line < (card_in m).config.lines
-        → IfErr (timer_in timer.now) (λ wrong.
-        (result ≡ wrong) × AnyStands card.new m × (report.new ≡ report.old)) }
-    ensures served { (m : Machine) → AnyStands card.old m → line < (card_in m).config.lines
-        → IfOk (timer_in timer.now) (λ expired.
-        (result ≡ status.ok) × AnyStands card.new (after (at line (line_event.expiry expired)) m)
-        × ShowsAnswer report.new (answer (at line (line_event.expiry expired)) m)) }
-    ensures counted { (m : Machine) → AnyStands card.old m → line < (card_in m).config.lines
-        → IfOk (timer_in timer.now) (λ expired. Counts (at line (line_event.expiry expired)) (card_in m) (counters_of card.old) (counters_of card.new)) }
-    ensures uncounted { (m : Machine) → AnyStands card.old m → result ≢ status.ok → counters_of card.new ≡ counters_of card.old }
-{
     let line = line as usize;
     if line >= card.lines() {
         return WRONG_LINE;
@@ -86,7 +61,6 @@ fn expire_timer(card: &mut AnyCard, line: u32, timer: &PlainTimer, report: &mut 
 /// Asks for something at a line.
 #[unsafe(no_mangle)]
 pub extern "C" fn lapd_request(
-    alloc: Global,
     handle: &mut CardHandle,
     line: u32,
     request: u8,
@@ -98,17 +72,15 @@ pub extern "C" fn lapd_request(
     requires { IsHandle handle.old }
     ensures handle { IsHandle handle.new }
     ensures kind { kind_in handle.new ≡ kind_in handle.old }
-    ensures no_card { card_of handle.old ≡ None
-        → (result ≡ status.no_card) × (handle.new ≡ handle.old) × (report.new ≡ report.old) }
+    ensures unchanged { result ≢ status.ok → (card_of handle.new ≡ card_of handle.old) × (report.new ≡ report.old) }
+    ensures no_card { card_of handle.old ≡ None → (result ≡ status.no_card) × (handle.new ≡ handle.old) }
     ensures wrong_line { (m : Machine) → Stands handle.old m → (card_in m).config.lines ≤ line
-        → (result ≡ status.wrong_line) × Stands handle.new m × (report.new ≡ report.old) }
+        → result ≡ status.wrong_line }
     ensures wrong_request { (m : Machine) → Stands handle.old m → line < (card_in m).config.lines
-        → IfErr (request_in request service tei contents.now) (λ wrong. (result ≡ wrong) × Stands handle.new m
-        × (report.new ≡ report.old)) }
+        → IfErr (request_in request service tei contents.now) (λ wrong. result ≡ wrong) }
     ensures refused { (m : Machine) → Stands handle.old m → line < (card_in m).config.lines
         → IfOk (request_in request service tei contents.now) (λ asked.
-        IfSome (refusal (card_in m).config (machine.is_full (card_in m)) asked (machine.line_at line (card_in m))) (λ why.
-        (result ≡ refusal_status why) × Stands handle.new m × (report.new ≡ report.old))) }
+        IfSome (refusal (card_in m).config (machine.is_full (card_in m)) asked (machine.line_at line (card_in m))) (λ why. result ≡ refusal_status why)) }
     ensures served { (m : Machine) → Stands handle.old m → line < (card_in m).config.lines
         → IfOk (request_in request service tei contents.now) (λ asked.
         refusal (card_in m).config (machine.is_full (card_in m)) asked (machine.line_at line (card_in m)) ≡ None
@@ -118,46 +90,10 @@ pub extern "C" fn lapd_request(
         → IfOk (request_in request service tei contents.now) (λ asked.
         refusal (card_in m).config (machine.is_full (card_in m)) asked (machine.line_at line (card_in m)) ≡ None
         → Counts (at line (line_event.request asked)) (card_in m) (counters_at handle.old) (counters_at handle.new)) }
-    ensures uncounted { (m : Machine) → Stands handle.old m → result ≢ status.ok → counters_at handle.new ≡ counters_at handle.old }
 {
-    let Some(mut card) = handle.take(alloc) else {
+    let Some(card) = handle.card() else {
         return NO_CARD;
     };
-    let status = ask(&mut card, line, request, service, tei, contents, report);
-    handle.put(card);
-    status
-}
-
-fn ask(
-    card: &mut AnyCard,
-    line: u32,
-    request: u8,
-    service: u8,
-    tei: u8,
-    contents: &[u8],
-    report: &mut PlainReport,
-) -> u32
-    ensures kind { kind_of card.new ≡ kind_of card.old }
-    ensures wrong_line { (m : Machine) → AnyStands card.old m → (card_in m).config.lines ≤ line
-        → (result ≡ status.wrong_line) × AnyStands card.new m × (report.new ≡ report.old) }
-    ensures wrong_request { (m : Machine) → AnyStands card.old m → line < (card_in m).config.lines
-        → IfErr (request_in request service tei contents.now) (λ wrong. (result ≡ wrong) × AnyStands card.new m
-        × (report.new ≡ report.old)) }
-    ensures refused { (m : Machine) → AnyStands card.old m → line < (card_in m).config.lines
-        → IfOk (request_in request service tei contents.now) (λ asked.
-        IfSome (refusal (card_in m).config (machine.is_full (card_in m)) asked (machine.line_at line (card_in m))) (λ why.
-        (result ≡ refusal_status why) × AnyStands card.new m × (report.new ≡ report.old))) }
-    ensures served { (m : Machine) → AnyStands card.old m → line < (card_in m).config.lines
-        → IfOk (request_in request service tei contents.now) (λ asked.
-        refusal (card_in m).config (machine.is_full (card_in m)) asked (machine.line_at line (card_in m)) ≡ None
-        → (result ≡ status.ok) × AnyStands card.new (after (at line (line_event.request asked)) m)
-        × ShowsAnswer report.new (answer (at line (line_event.request asked)) m)) }
-    ensures counted { (m : Machine) → AnyStands card.old m → line < (card_in m).config.lines
-        → IfOk (request_in request service tei contents.now) (λ asked.
-        refusal (card_in m).config (machine.is_full (card_in m)) asked (machine.line_at line (card_in m)) ≡ None
-        → Counts (at line (line_event.request asked)) (card_in m) (counters_of card.old) (counters_of card.new)) }
-    ensures uncounted { (m : Machine) → AnyStands card.old m → result ≢ status.ok → counters_of card.new ≡ counters_of card.old }
-{
     let line = line as usize;
     if line >= card.lines() {
         return WRONG_LINE;

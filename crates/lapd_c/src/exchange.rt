@@ -26,13 +26,11 @@ use crate::kinds::AnyCard;
 use crate::plain::{NO_CARD, OK, PlainReport, WRONG_CARD, WRONG_LENGTH, WRONG_LINE};
 use lapd_card::{BareReport, Card, Report};
 use lapd_store::RawShelf;
-use std::alloc::Global;
 
 /// Takes and gives octets in turn: step 2i takes octet i of those taken, step 2i + 1 gives octet i of those given. Goes
 /// on from a step, up to and with the first that has something to tell.
 #[unsafe(no_mangle)]
 pub extern "C" fn lapd_exchange(
-    alloc: Global,
     handle: &mut CardHandle,
     line: u32,
     taken: &[u8],
@@ -42,62 +40,27 @@ pub extern "C" fn lapd_exchange(
 ) -> u32
     requires { IsHandle handle.old }
     ensures handle { IsHandle handle.new }
-    ensures no_card { card_of handle.old ≡ None
-        → (result ≡ status.no_card) × (handle.new ≡ handle.old) × (given.new ≡ given.old) × (steps.new ≡ steps.old)
-        × (report.new ≡ report.old) }
-    ensures wrong_card { kind_in handle.old ≡ Some for_frames
-        → (result ≡ status.wrong_card) × (card_of handle.new ≡ card_of handle.old) × (given.new ≡ given.old)
-        × (steps.new ≡ steps.old) × (report.new ≡ report.old) }
+    ensures unchanged { result ≢ status.ok
+        → (card_of handle.new ≡ card_of handle.old) × (given.new ≡ given.old) × (steps.new ≡ steps.old) × (report.new ≡ report.old) }
+    ensures no_card { card_of handle.old ≡ None → (result ≡ status.no_card) × (handle.new ≡ handle.old) }
+    ensures wrong_card { kind_in handle.old ≡ Some for_frames → result ≡ status.wrong_card }
     ensures wrong_line { (m : machine.OctetCard) → OctetsStand handle.old m → m.card.config.lines ≤ line
-        → (result ≡ status.wrong_line) × OctetsStand handle.new m × (given.new ≡ given.old) × (steps.new ≡ steps.old)
-        × (report.new ≡ report.old) }
+        → result ≡ status.wrong_line }
     ensures wrong_length { (m : machine.OctetCard) → OctetsStand handle.old m → line < m.card.config.lines
-        → is_exchange taken.now given.old steps.old ≡ false
-        → (result ≡ status.wrong_length) × OctetsStand handle.new m × (given.new ≡ given.old) × (steps.new ≡ steps.old)
-        × (report.new ≡ report.old) }
+        → is_exchange taken.now given.old steps.old ≡ false → result ≡ status.wrong_length }
     ensures served { (m : machine.OctetCard) → OctetsStand handle.old m → line < m.card.config.lines
         → is_exchange taken.now given.old steps.old ≡ true
         → (result ≡ status.ok) × ExchangedIn line taken.now steps.old m (card_of handle.new) given.old given.new steps.new report.new }
     ensures counted { (m : machine.OctetCard) → OctetsStand handle.old m → line < m.card.config.lines
         → is_exchange taken.now given.old steps.old ≡ true
         → counters_at handle.new ≡ all_counted (counters_at handle.old) (moments m.card (meant_all m (steps_made line taken.now steps.old (steps.new - steps.old)))) }
-    ensures uncounted { (m : machine.OctetCard) → OctetsStand handle.old m → result ≢ status.ok → counters_at handle.new ≡ counters_at handle.old }
 {
-    let Some(mut card) = handle.take(alloc) else {
+    let Some(card) = handle.card() else {
         return NO_CARD;
     };
-    let AnyCard::Octets(octets) = &mut *card else {
-        handle.put(card);
+    let AnyCard::Octets(card) = card else {
         return WRONG_CARD;
     };
-    let status = exchange_at(octets, line, taken, given, steps, report);
-    handle.put(card);
-    status
-}
-
-fn exchange_at(
-    card: &mut Card<RawShelf>,
-    line: u32,
-    taken: &[u8],
-    given: &mut [u8],
-    steps: &mut usize,
-    report: &mut PlainReport,
-) -> u32
-    ensures wrong_line { (m : machine.OctetCard) → CardStands card.old m → m.card.config.lines ≤ line
-        → (result ≡ status.wrong_line) × CardStands card.new m × (given.new ≡ given.old) × (steps.new ≡ steps.old)
-        × (report.new ≡ report.old) }
-    ensures wrong_length { (m : machine.OctetCard) → CardStands card.old m → line < m.card.config.lines
-        → is_exchange taken.now given.old steps.old ≡ false
-        → (result ≡ status.wrong_length) × CardStands card.new m × (given.new ≡ given.old) × (steps.new ≡ steps.old)
-        × (report.new ≡ report.old) }
-    ensures served { (m : machine.OctetCard) → CardStands card.old m → line < m.card.config.lines
-        → is_exchange taken.now given.old steps.old ≡ true
-        → (result ≡ status.ok) × Exchanged line taken.now steps.old m card.new given.old given.new steps.new report.new }
-    ensures counted { (m : machine.OctetCard) → CardStands card.old m → line < m.card.config.lines
-        → is_exchange taken.now given.old steps.old ≡ true
-        → counters_in card.new.frames.lines ≡ all_counted (counters_in card.old.frames.lines) (moments m.card (meant_all m (steps_made line taken.now steps.old (steps.new - steps.old)))) }
-    ensures uncounted { (m : machine.OctetCard) → CardStands card.old m → result ≢ status.ok → counters_in card.new.frames.lines ≡ counters_in card.old.frames.lines }
-{
     let line = line as usize;
     if line >= card.lines() {
         return WRONG_LINE;

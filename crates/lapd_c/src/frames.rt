@@ -10,8 +10,7 @@ ghost use Rattle.lapd_c.specs.Reports.{ShowsPull};
 ghost use Rattle.lapd_c.specs.Statuses as status;
 ghost use Rattle.lapd_c.specs.Cards.{card_of, kind_in, IsHandle, FramesStand};
 ghost use Rattle.lapd_c.specs.Counted.{Counts, counters_at};
-ghost use Rattle.lapd_c.specs.Kinds.{FrameCardStands, for_octets};
-ghost use Rattle.lapd_card.specs.Counted.{counters_in};
+ghost use Rattle.lapd_c.specs.Kinds.{for_octets};
 ghost use Rattle.lapd_c.specs.Frames.{comes, fails, goes, next_at, IsGiven};
 
 use crate::card::CardHandle;
@@ -19,14 +18,11 @@ use crate::kinds::AnyCard;
 use crate::plain::{
     NO_CARD, NO_FRAME, OK, PlainReport, WRONG_CARD, WRONG_LENGTH, WRONG_LINE, fault_in,
 };
-use lapd_card::{BareReport, FrameCard};
-use lapd_store::RawShelf;
-use std::alloc::Global;
+use lapd_card::BareReport;
 
 /// Takes a frame that came from a line, from its address to its information, without its check.
 #[unsafe(no_mangle)]
 pub extern "C" fn lapd_frame(
-    alloc: Global,
     handle: &mut CardHandle,
     line: u32,
     octets: &[u8],
@@ -34,46 +30,23 @@ pub extern "C" fn lapd_frame(
 ) -> u32
     requires { IsHandle handle.old }
     ensures handle { IsHandle handle.new }
-    ensures no_card { card_of handle.old ≡ None
-        → (result ≡ status.no_card) × (handle.new ≡ handle.old) × (report.new ≡ report.old) }
-    ensures wrong_card { kind_in handle.old ≡ Some for_octets
-        → (result ≡ status.wrong_card) × (card_of handle.new ≡ card_of handle.old) × (report.new ≡ report.old) }
+    ensures unchanged { result ≢ status.ok → (card_of handle.new ≡ card_of handle.old) × (report.new ≡ report.old) }
+    ensures no_card { card_of handle.old ≡ None → (result ≡ status.no_card) × (handle.new ≡ handle.old) }
+    ensures wrong_card { kind_in handle.old ≡ Some for_octets → result ≡ status.wrong_card }
     ensures wrong_line { (m : machine.Card) → FramesStand handle.old m → m.config.lines ≤ line
-        → (result ≡ status.wrong_line) × FramesStand handle.new m × (report.new ≡ report.old) }
+        → result ≡ status.wrong_line }
     ensures served { (m : machine.Card) → FramesStand handle.old m → line < m.config.lines
         → (result ≡ status.ok) × FramesStand handle.new (after (comes line octets.now m) m)
         × ShowsAnswer report.new (answer (comes line octets.now m) m) }
     ensures counted { (m : machine.Card) → FramesStand handle.old m → line < m.config.lines
         → Counts (comes line octets.now m) m (counters_at handle.old) (counters_at handle.new) }
-    ensures uncounted { (m : machine.Card) → FramesStand handle.old m → result ≢ status.ok → counters_at handle.new ≡ counters_at handle.old }
 {
-    let Some(mut card) = handle.take(alloc) else {
+    let Some(card) = handle.card() else {
         return NO_CARD;
     };
-    let AnyCard::Frames(frames) = &mut *card else {
-        handle.put(card);
+    let AnyCard::Frames(card) = card else {
         return WRONG_CARD;
     };
-    let status = take_frame(frames, line, octets, report);
-    handle.put(card);
-    status
-}
-
-fn take_frame(
-    card: &mut FrameCard<RawShelf>,
-    line: u32,
-    octets: &[u8],
-    report: &mut PlainReport,
-) -> u32
-    ensures wrong_line { (m : machine.Card) → FrameCardStands card.old m → m.config.lines ≤ line
-        → (result ≡ status.wrong_line) × FrameCardStands card.new m × (report.new ≡ report.old) }
-    ensures served { (m : machine.Card) → FrameCardStands card.old m → line < m.config.lines
-        → (result ≡ status.ok) × FrameCardStands card.new (after (comes line octets.now m) m)
-        × ShowsAnswer report.new (answer (comes line octets.now m) m) }
-    ensures counted { (m : machine.Card) → FrameCardStands card.old m → line < m.config.lines
-        → Counts (comes line octets.now m) m (counters_in card.old.lines) (counters_in card.new.lines) }
-    ensures uncounted { (m : machine.Card) → FrameCardStands card.old m → result ≢ status.ok → counters_in card.new.lines ≡ counters_in card.old.lines }
-{
     let line = line as usize;
     if line >= card.lines() {
         return WRONG_LINE;
@@ -88,7 +61,6 @@ fn take_frame(
 /// frame that is too short, or one with an error in its check.
 #[unsafe(no_mangle)]
 pub extern "C" fn lapd_frame_failed(
-    alloc: Global,
     handle: &mut CardHandle,
     line: u32,
     cause: u8,
@@ -96,48 +68,26 @@ pub extern "C" fn lapd_frame_failed(
 ) -> u32
     requires { IsHandle handle.old }
     ensures handle { IsHandle handle.new }
-    ensures no_card { card_of handle.old ≡ None
-        → (result ≡ status.no_card) × (handle.new ≡ handle.old) × (report.new ≡ report.old) }
-    ensures wrong_card { kind_in handle.old ≡ Some for_octets
-        → (result ≡ status.wrong_card) × (card_of handle.new ≡ card_of handle.old) × (report.new ≡ report.old) }
+    ensures unchanged { result ≢ status.ok → (card_of handle.new ≡ card_of handle.old) × (report.new ≡ report.old) }
+    ensures no_card { card_of handle.old ≡ None → (result ≡ status.no_card) × (handle.new ≡ handle.old) }
+    ensures wrong_card { kind_in handle.old ≡ Some for_octets → result ≡ status.wrong_card }
     ensures wrong_line { (m : machine.Card) → FramesStand handle.old m → m.config.lines ≤ line
-        → (result ≡ status.wrong_line) × (card_of handle.new ≡ card_of handle.old) × (report.new ≡ report.old) }
+        → result ≡ status.wrong_line }
     ensures wrong_cause { (m : machine.Card) → FramesStand handle.old m → line < m.config.lines
-        → IfErr (fault_in cause) (λ wrong. (result ≡ wrong) × (card_of handle.new ≡ card_of handle.old)
-        × (report.new ≡ report.old)) }
+        → IfErr (fault_in cause) (λ wrong. result ≡ wrong) }
     ensures served { (m : machine.Card) → FramesStand handle.old m → line < m.config.lines
         → IfOk (fault_in cause) (λ fault. (result ≡ status.ok)
         × FramesStand handle.new (after (fails line fault) m)
         × ShowsAnswer report.new (answer (fails line fault) m)) }
     ensures counted { (m : machine.Card) → FramesStand handle.old m → line < m.config.lines
         → IfOk (fault_in cause) (λ fault. Counts (fails line fault) m (counters_at handle.old) (counters_at handle.new)) }
-    ensures uncounted { (m : machine.Card) → FramesStand handle.old m → result ≢ status.ok → counters_at handle.new ≡ counters_at handle.old }
 {
-    let Some(mut card) = handle.take(alloc) else {
+    let Some(card) = handle.card() else {
         return NO_CARD;
     };
-    let AnyCard::Frames(frames) = &mut *card else {
-        handle.put(card);
+    let AnyCard::Frames(card) = card else {
         return WRONG_CARD;
     };
-    let status = tell_fault(frames, line, cause, report);
-    handle.put(card);
-    status
-}
-
-fn tell_fault(card: &mut FrameCard<RawShelf>, line: u32, cause: u8, report: &mut PlainReport) -> u32
-    ensures wrong_line { (m : machine.Card) → FrameCardStands card.old m → m.config.lines ≤ line
-        → (result ≡ status.wrong_line) × (card.new ≡ card.old) × (report.new ≡ report.old) }
-    ensures wrong_cause { (m : machine.Card) → FrameCardStands card.old m → line < m.config.lines
-        → IfErr (fault_in cause) (λ wrong. (result ≡ wrong) × (card.new ≡ card.old) × (report.new ≡ report.old)) }
-    ensures served { (m : machine.Card) → FrameCardStands card.old m → line < m.config.lines
-        → IfOk (fault_in cause) (λ fault. (result ≡ status.ok)
-        × FrameCardStands card.new (after (fails line fault) m)
-        × ShowsAnswer report.new (answer (fails line fault) m)) }
-    ensures counted { (m : machine.Card) → FrameCardStands card.old m → line < m.config.lines
-        → IfOk (fault_in cause) (λ fault. Counts (fails line fault) m (counters_in card.old.lines) (counters_in card.new.lines)) }
-    ensures uncounted { (m : machine.Card) → FrameCardStands card.old m → result ≢ status.ok → counters_in card.new.lines ≡ counters_in card.old.lines }
-{
     let line = line as usize;
     if line >= card.lines() {
         return WRONG_LINE;
@@ -156,7 +106,6 @@ fn tell_fault(card: &mut FrameCard<RawShelf>, line: u32, cause: u8, report: &mut
 /// and tells how long it is, and whether another waits behind it. There has to be room for the longest: N201 octets and four.
 #[unsafe(no_mangle)]
 pub extern "C" fn lapd_next_frame(
-    alloc: Global,
     handle: &mut CardHandle,
     line: u32,
     out: &mut [u8],
@@ -165,69 +114,32 @@ pub extern "C" fn lapd_next_frame(
 ) -> u32
     requires { IsHandle handle.old }
     ensures handle { IsHandle handle.new }
-    ensures no_card { card_of handle.old ≡ None
-        → (result ≡ status.no_card) × (handle.new ≡ handle.old) × (out.new ≡ out.old) × (count.new ≡ count.old)
-        × (report.new ≡ report.old) }
+    ensures untold { result ≢ status.ok → (out.new ≡ out.old) × (count.new ≡ count.old) × (report.new ≡ report.old) }
+    ensures stays { (m : machine.Card) → FramesStand handle.old m → result ≢ status.ok → FramesStand handle.new m }
+    ensures uncounted { (m : machine.Card) → FramesStand handle.old m → result ≢ status.ok
+        → counters_at handle.new ≡ counters_at handle.old }
+    ensures no_card { card_of handle.old ≡ None → (result ≡ status.no_card) × (handle.new ≡ handle.old) }
     ensures wrong_card { kind_in handle.old ≡ Some for_octets
-        → (result ≡ status.wrong_card) × (card_of handle.new ≡ card_of handle.old) × (out.new ≡ out.old)
-        × (count.new ≡ count.old) × (report.new ≡ report.old) }
+        → (result ≡ status.wrong_card) × (card_of handle.new ≡ card_of handle.old) }
     ensures wrong_line { (m : machine.Card) → FramesStand handle.old m → m.config.lines ≤ line
-        → (result ≡ status.wrong_line) × FramesStand handle.new m × (out.new ≡ out.old) × (count.new ≡ count.old)
-        × (report.new ≡ report.old) }
+        → result ≡ status.wrong_line }
     ensures wrong_length { (m : machine.Card) → FramesStand handle.old m → line < m.config.lines
-        → length out.old < m.config.n201 + 4
-        → (result ≡ status.wrong_length) × FramesStand handle.new m × (out.new ≡ out.old) × (count.new ≡ count.old)
-        × (report.new ≡ report.old) }
+        → length out.old < m.config.n201 + 4 → result ≡ status.wrong_length }
     ensures none { (m : machine.Card) → FramesStand handle.old m → line < m.config.lines
-        → m.config.n201 + 4 ≤ length out.old → next_at line m ≡ None
-        → (result ≡ status.no_frame) × FramesStand handle.new m × (out.new ≡ out.old) × (count.new ≡ count.old)
-        × (report.new ≡ report.old) }
+        → m.config.n201 + 4 ≤ length out.old → next_at line m ≡ None → result ≡ status.no_frame }
     ensures given { (m : machine.Card) → FramesStand handle.old m → line < m.config.lines
         → m.config.n201 + 4 ≤ length out.old → IfSome (next_at line m) (λ next.
         (result ≡ status.ok) × FramesStand handle.new (after (goes line) m)
         × IsGiven next out.old out.new count.new × ShowsPull report.new true (has_next line (after (goes line) m)) next.orders) }
     ensures counted { (m : machine.Card) → FramesStand handle.old m → line < m.config.lines
         → m.config.n201 + 4 ≤ length out.old → Counts (goes line) m (counters_at handle.old) (counters_at handle.new) }
-    ensures uncounted { (m : machine.Card) → FramesStand handle.old m → result ≢ status.ok → counters_at handle.new ≡ counters_at handle.old }
 {
-    let Some(mut card) = handle.take(alloc) else {
+    let Some(card) = handle.card() else {
         return NO_CARD;
     };
-    let AnyCard::Frames(frames) = &mut *card else {
-        handle.put(card);
+    let AnyCard::Frames(card) = card else {
         return WRONG_CARD;
     };
-    let status = give_frame(frames, line, out, count, report);
-    handle.put(card);
-    status
-}
-
-fn give_frame(
-    card: &mut FrameCard<RawShelf>,
-    line: u32,
-    out: &mut [u8],
-    count: &mut usize,
-    report: &mut PlainReport,
-) -> u32
-    ensures wrong_line { (m : machine.Card) → FrameCardStands card.old m → m.config.lines ≤ line
-        → (result ≡ status.wrong_line) × FrameCardStands card.new m × (out.new ≡ out.old) × (count.new ≡ count.old)
-        × (report.new ≡ report.old) }
-    ensures wrong_length { (m : machine.Card) → FrameCardStands card.old m → line < m.config.lines
-        → length out.old < m.config.n201 + 4
-        → (result ≡ status.wrong_length) × FrameCardStands card.new m × (out.new ≡ out.old)
-        × (count.new ≡ count.old) × (report.new ≡ report.old) }
-    ensures none { (m : machine.Card) → FrameCardStands card.old m → line < m.config.lines
-        → m.config.n201 + 4 ≤ length out.old → next_at line m ≡ None
-        → (result ≡ status.no_frame) × FrameCardStands card.new m × (out.new ≡ out.old)
-        × (count.new ≡ count.old) × (report.new ≡ report.old) }
-    ensures given { (m : machine.Card) → FrameCardStands card.old m → line < m.config.lines
-        → m.config.n201 + 4 ≤ length out.old → IfSome (next_at line m) (λ next.
-        (result ≡ status.ok) × FrameCardStands card.new (after (goes line) m)
-        × IsGiven next out.old out.new count.new × ShowsPull report.new true (has_next line (after (goes line) m)) next.orders) }
-    ensures counted { (m : machine.Card) → FrameCardStands card.old m → line < m.config.lines
-        → m.config.n201 + 4 ≤ length out.old → Counts (goes line) m (counters_in card.old.lines) (counters_in card.new.lines) }
-    ensures uncounted { (m : machine.Card) → FrameCardStands card.old m → result ≢ status.ok → counters_in card.new.lines ≡ counters_in card.old.lines }
-{
     let line = line as usize;
     if line >= card.lines() {
         return WRONG_LINE;

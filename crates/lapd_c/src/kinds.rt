@@ -1,6 +1,6 @@
 //! A card of either kind, and what both do alike.
 
-ghost use Rattle.std.specs.Prelude.{◌≡◌, ◌<◌, get_or, Some, None, IfOk, IfErr, OnErr};
+ghost use Rattle.std.specs.Prelude.{◌≡◌, ◌≤◌, ◌<◌, get_or, Some, None, IfOk, IfErr, OnErr};
 ghost use Rattle.model_card.specs.Card as machine;
 ghost use Rattle.model_card.specs.Event.{at};
 ghost use Rattle.model_card.specs.Room.{room as machine_room};
@@ -30,6 +30,7 @@ impl AnyCard {
     pub(crate) fn lines(&self) -> usize
         ensures count { result ≡ line_count self.now }
         ensures machine { (m : Machine) → AnyStands self.now m → result ≡ (card_in m).config.lines }
+        ensures few { (m : Machine) → AnyStands self.now m → result ≤ 64 }
     {
         match self {
             AnyCard::Octets(card) => card.lines(),

@@ -1,8 +1,8 @@
 //! The card for C: what `include/lapd.h` declares. Each function there is an export here, with its contract.
 //!
-//! A card or a clock lies in memory of the library, at an address that stands in a struct of the caller's. A call takes
-//! it from there, serves, and puts it back; a ghost field says which card it is, so that the contracts speak of the
-//! card's machine (`model_card`, and for octets `model_card::ports`) and of the clock's timers (`lapd_clock`).
+//! A card or a clock lies in memory of the library, at an address that stands in a struct of the caller's. A call
+//! serves it where it lies; a ghost field says which card it is, so that the contracts speak of the card's machine
+//! (`model_card`, and for octets `model_card::ports`) and of the clock's timers (`lapd_clock`).
 //!
 //! - `card`: a card in C, how it begins and ends; `kinds`, what a card for octets and one for frames do alike;
 //!   `card_slot`, where it lies. `events`, what happens at one of either kind; for octets `octets`, one that comes and

@@ -1,6 +1,6 @@
 //! Which links a card has.
 
-ghost use Rattle.std.specs.Prelude.{◌≡◌, ◌≤◌, ◌<◌, ◌⊎◌, Some, None, IfSome};
+ghost use Rattle.std.specs.Prelude.{◌≡◌, ◌≢◌, ◌≤◌, ◌<◌, ◌⊎◌, Some, None, IfSome};
 ghost use Rattle.lapd_c.specs.Statuses as status;
 ghost use Rattle.lapd_c.specs.Cards.{card_of, IsHandle, Stands};
 ghost use Rattle.lapd_c.specs.Kinds.{Machine, card_in, AnyStands};
@@ -9,12 +9,10 @@ ghost use Rattle.lapd_c.specs.Links.{FirstFrom, IsNext, NoneFrom};
 use crate::card::CardHandle;
 use crate::kinds::AnyCard;
 use crate::plain::{LINK_PLACES, NO_CARD, NO_MORE_LINKS, OK, PlainLink, WRONG_LINE, service_at};
-use std::alloc::Global;
 
 /// The first link of a line from a place on, and the place behind it.
 #[unsafe(no_mangle)]
 pub extern "C" fn lapd_next_link(
-    alloc: Global,
     handle: &mut CardHandle,
     line: u32,
     place: &mut u8,
@@ -22,38 +20,21 @@ pub extern "C" fn lapd_next_link(
 ) -> u32
     requires { IsHandle handle.old }
     ensures handle { IsHandle handle.new }
-    ensures no_card { card_of handle.old ≡ None → (result ≡ status.no_card) × (handle.new ≡ handle.old)
-        × (place.new ≡ place.old) × (link.new ≡ link.old) }
+    ensures no_card { card_of handle.old ≡ None → (result ≡ status.no_card) × (handle.new ≡ handle.old) }
     ensures unchanged { card_of handle.new ≡ card_of handle.old }
+    ensures untold { result ≢ status.ok → (place.new ≡ place.old) × (link.new ≡ link.old) }
     ensures wrong_line { (m : Machine) → Stands handle.old m → (card_in m).config.lines ≤ line
-        → (result ≡ status.wrong_line) × (place.new ≡ place.old) × (link.new ≡ link.old) }
+        → result ≡ status.wrong_line }
     ensures either { (m : Machine) → Stands handle.old m → line < (card_in m).config.lines
         → (result ≡ status.ok) ⊎ (result ≡ status.no_more_links) }
     ensures told { (m : Machine) → Stands handle.old m → line < (card_in m).config.lines
         → result ≡ status.ok → IsNext line (card_in m) place.old place.new link.new }
-    ensures none { (m : Machine) → Stands handle.old m → line < (card_in m).config.lines
-        → result ≡ status.no_more_links
-        → NoneFrom line (card_in m) place.old × (place.new ≡ place.old) × (link.new ≡ link.old) }
+    ensures none { (m : Machine) → Stands handle.old m → line < (card_in m).config.lines → result ≡ status.no_more_links
+        → NoneFrom line (card_in m) place.old }
 {
-    let Some(card) = handle.take(alloc) else {
+    let Some(card) = handle.card() else {
         return NO_CARD;
     };
-    let status = tell_next(&card, line, place, link);
-    handle.put(card);
-    status
-}
-
-fn tell_next(card: &AnyCard, line: u32, place: &mut u8, link: &mut PlainLink) -> u32
-    ensures wrong_line { (m : Machine) → AnyStands card.now m → (card_in m).config.lines ≤ line
-        → (result ≡ status.wrong_line) × (place.new ≡ place.old) × (link.new ≡ link.old) }
-    ensures either { (m : Machine) → AnyStands card.now m → line < (card_in m).config.lines
-        → (result ≡ status.ok) ⊎ (result ≡ status.no_more_links) }
-    ensures told { (m : Machine) → AnyStands card.now m → line < (card_in m).config.lines
-        → result ≡ status.ok → IsNext line (card_in m) place.old place.new link.new }
-    ensures none { (m : Machine) → AnyStands card.now m → line < (card_in m).config.lines
-        → result ≡ status.no_more_links
-        → NoneFrom line (card_in m) place.old × (place.new ≡ place.old) × (link.new ≡ link.old) }
-{
     let line = line as usize;
     if line >= card.lines() {
         return WRONG_LINE;

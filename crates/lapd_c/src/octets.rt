@@ -9,20 +9,15 @@ ghost use Rattle.lapd_c.specs.Answers.{ShowsReply, octet_of};
 ghost use Rattle.lapd_c.specs.Statuses as status;
 ghost use Rattle.lapd_c.specs.Cards.{card_of, kind_in, IsHandle, OctetsStand};
 ghost use Rattle.lapd_c.specs.Counted.{CountsMeaning, counters_at};
-ghost use Rattle.lapd_c.specs.Kinds.{CardStands, for_frames};
-ghost use Rattle.lapd_card.specs.Counted.{counters_in};
+ghost use Rattle.lapd_c.specs.Kinds.{for_frames};
 
 use crate::card::CardHandle;
 use crate::kinds::AnyCard;
 use crate::plain::{NO_CARD, OK, PlainReport, WRONG_CARD, WRONG_LINE};
-use lapd_card::Card;
-use lapd_store::RawShelf;
-use std::alloc::Global;
 
 /// Takes an octet that came from a line, low bit first.
 #[unsafe(no_mangle)]
 pub extern "C" fn lapd_octet(
-    alloc: Global,
     handle: &mut CardHandle,
     line: u32,
     octet: u8,
@@ -30,43 +25,23 @@ pub extern "C" fn lapd_octet(
 ) -> u32
     requires { IsHandle handle.old }
     ensures handle { IsHandle handle.new }
-    ensures no_card { card_of handle.old ≡ None
-        → (result ≡ status.no_card) × (handle.new ≡ handle.old) × (report.new ≡ report.old) }
-    ensures wrong_card { kind_in handle.old ≡ Some for_frames
-        → (result ≡ status.wrong_card) × (card_of handle.new ≡ card_of handle.old) × (report.new ≡ report.old) }
+    ensures unchanged { result ≢ status.ok → (card_of handle.new ≡ card_of handle.old) × (report.new ≡ report.old) }
+    ensures no_card { card_of handle.old ≡ None → (result ≡ status.no_card) × (handle.new ≡ handle.old) }
+    ensures wrong_card { kind_in handle.old ≡ Some for_frames → result ≡ status.wrong_card }
     ensures wrong_line { (m : machine.OctetCard) → OctetsStand handle.old m → m.card.config.lines ≤ line
-        → (result ≡ status.wrong_line) × OctetsStand handle.new m × (report.new ≡ report.old) }
+        → result ≡ status.wrong_line }
     ensures served { (m : machine.OctetCard) → OctetsStand handle.old m → line < m.card.config.lines
         → (result ≡ status.ok) × OctetsStand handle.new (after (at line (port.octet octet)) m)
         × ShowsReply report.new (answer (at line (port.octet octet)) m) }
     ensures counted { (m : machine.OctetCard) → OctetsStand handle.old m → line < m.card.config.lines
         → CountsMeaning (at line (port.octet octet)) m (counters_at handle.old) (counters_at handle.new) }
-    ensures uncounted { (m : machine.OctetCard) → OctetsStand handle.old m → result ≢ status.ok
-        → counters_at handle.new ≡ counters_at handle.old }
 {
-    let Some(mut card) = handle.take(alloc) else {
+    let Some(card) = handle.card() else {
         return NO_CARD;
     };
-    let AnyCard::Octets(octets) = &mut *card else {
-        handle.put(card);
+    let AnyCard::Octets(card) = card else {
         return WRONG_CARD;
     };
-    let status = take_octet(octets, line, octet, report);
-    handle.put(card);
-    status
-}
-
-fn take_octet(card: &mut Card<RawShelf>, line: u32, octet: u8, report: &mut PlainReport) -> u32
-    ensures wrong_line { (m : machine.OctetCard) → CardStands card.old m → m.card.config.lines ≤ line
-        → (result ≡ status.wrong_line) × CardStands card.new m × (report.new ≡ report.old) }
-    ensures served { (m : machine.OctetCard) → CardStands card.old m → line < m.card.config.lines
-        → (result ≡ status.ok) × CardStands card.new (after (at line (port.octet octet)) m)
-        × ShowsReply report.new (answer (at line (port.octet octet)) m) }
-    ensures counted { (m : machine.OctetCard) → CardStands card.old m → line < m.card.config.lines
-        → CountsMeaning (at line (port.octet octet)) m (counters_in card.old.frames.lines) (counters_in card.new.frames.lines) }
-    ensures uncounted { (m : machine.OctetCard) → CardStands card.old m → result ≢ status.ok
-        → counters_in card.new.frames.lines ≡ counters_in card.old.frames.lines }
-{
     let line = line as usize;
     if line >= card.lines() {
         return WRONG_LINE;
@@ -87,7 +62,6 @@ fn take_octet(card: &mut Card<RawShelf>, line: u32, octet: u8, report: &mut Plai
 /// Gives the next octet of a line to send, low bit first.
 #[unsafe(no_mangle)]
 pub extern "C" fn lapd_pull(
-    alloc: Global,
     handle: &mut CardHandle,
     line: u32,
     octet: &mut u8,
@@ -95,46 +69,25 @@ pub extern "C" fn lapd_pull(
 ) -> u32
     requires { IsHandle handle.old }
     ensures handle { IsHandle handle.new }
-    ensures no_card { card_of handle.old ≡ None
-        → (result ≡ status.no_card) × (handle.new ≡ handle.old) × (octet.new ≡ octet.old) × (report.new ≡ report.old) }
-    ensures wrong_card { kind_in handle.old ≡ Some for_frames
-        → (result ≡ status.wrong_card) × (card_of handle.new ≡ card_of handle.old) × (octet.new ≡ octet.old)
-        × (report.new ≡ report.old) }
+    ensures unchanged { result ≢ status.ok
+        → (card_of handle.new ≡ card_of handle.old) × (octet.new ≡ octet.old) × (report.new ≡ report.old) }
+    ensures no_card { card_of handle.old ≡ None → (result ≡ status.no_card) × (handle.new ≡ handle.old) }
+    ensures wrong_card { kind_in handle.old ≡ Some for_frames → result ≡ status.wrong_card }
     ensures wrong_line { (m : machine.OctetCard) → OctetsStand handle.old m → m.card.config.lines ≤ line
-        → (result ≡ status.wrong_line) × OctetsStand handle.new m × (octet.new ≡ octet.old) × (report.new ≡ report.old) }
+        → result ≡ status.wrong_line }
     ensures served { (m : machine.OctetCard) → OctetsStand handle.old m → line < m.card.config.lines
         → (result ≡ status.ok) × OctetsStand handle.new (after (at line port.pull) m)
         × (octet.new ≡ octet_of (answer (at line port.pull) m))
         × ShowsReply report.new (answer (at line port.pull) m) }
     ensures counted { (m : machine.OctetCard) → OctetsStand handle.old m → line < m.card.config.lines
         → CountsMeaning (at line port.pull) m (counters_at handle.old) (counters_at handle.new) }
-    ensures uncounted { (m : machine.OctetCard) → OctetsStand handle.old m → result ≢ status.ok
-        → counters_at handle.new ≡ counters_at handle.old }
 {
-    let Some(mut card) = handle.take(alloc) else {
+    let Some(card) = handle.card() else {
         return NO_CARD;
     };
-    let AnyCard::Octets(octets) = &mut *card else {
-        handle.put(card);
+    let AnyCard::Octets(card) = card else {
         return WRONG_CARD;
     };
-    let status = give_octet(octets, line, octet, report);
-    handle.put(card);
-    status
-}
-
-fn give_octet(card: &mut Card<RawShelf>, line: u32, octet: &mut u8, report: &mut PlainReport) -> u32
-    ensures wrong_line { (m : machine.OctetCard) → CardStands card.old m → m.card.config.lines ≤ line
-        → (result ≡ status.wrong_line) × CardStands card.new m × (octet.new ≡ octet.old) × (report.new ≡ report.old) }
-    ensures served { (m : machine.OctetCard) → CardStands card.old m → line < m.card.config.lines
-        → (result ≡ status.ok) × CardStands card.new (after (at line port.pull) m)
-        × (octet.new ≡ octet_of (answer (at line port.pull) m))
-        × ShowsReply report.new (answer (at line port.pull) m) }
-    ensures counted { (m : machine.OctetCard) → CardStands card.old m → line < m.card.config.lines
-        → CountsMeaning (at line port.pull) m (counters_in card.old.frames.lines) (counters_in card.new.frames.lines) }
-    ensures uncounted { (m : machine.OctetCard) → CardStands card.old m → result ≢ status.ok
-        → counters_in card.new.frames.lines ≡ counters_in card.old.frames.lines }
-{
     let line = line as usize;
     if line >= card.lines() {
         return WRONG_LINE;

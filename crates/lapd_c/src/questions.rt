@@ -1,18 +1,16 @@
 //! What a card answers about itself.
 
-ghost use Rattle.std.specs.Prelude.{◌≡◌, ◌≤◌, ◌<◌, None, IfOk, IfErr};
+ghost use Rattle.std.specs.Prelude.{◌≡◌, ◌≢◌, ◌≤◌, ◌<◌, None, IfOk, IfErr};
 ghost use Rattle.std.specs.Option.{unwrap_or};
 ghost use Rattle.model_card.specs.Card as machine;
 ghost use Rattle.model_card.specs.ports.Stored.{limit};
 ghost use Rattle.lapd_c.specs.Statuses as status;
 ghost use Rattle.lapd_c.specs.Timers.{link_in};
 ghost use Rattle.lapd_c.specs.Cards.{card_of, IsHandle, Stands};
-ghost use Rattle.lapd_c.specs.Kinds.{Machine, card_in, stored, AnyStands};
+ghost use Rattle.lapd_c.specs.Kinds.{Machine, card_in, stored};
 
 use crate::card::CardHandle;
-use crate::kinds::AnyCard;
 use crate::plain::{NO_CARD, OK, WRONG_LINE, link_in};
-use std::alloc::Global;
 
 /// The most lines of a card.
 const MOST_LINES: usize = 64;
@@ -20,7 +18,6 @@ const MOST_LINES: usize = 64;
 /// The state of the link of a service with a TEI, by its number in Q.921; 0 where the TEI is not on the line.
 #[unsafe(no_mangle)]
 pub extern "C" fn lapd_state(
-    alloc: Global,
     handle: &mut CardHandle,
     line: u32,
     service: u8,
@@ -29,34 +26,20 @@ pub extern "C" fn lapd_state(
 ) -> u32
     requires { IsHandle handle.old }
     ensures handle { IsHandle handle.new }
-    ensures no_card { card_of handle.old ≡ None
-        → (result ≡ status.no_card) × (handle.new ≡ handle.old) × (state.new ≡ state.old) }
+    ensures no_card { card_of handle.old ≡ None → (result ≡ status.no_card) × (handle.new ≡ handle.old) }
     ensures unchanged { card_of handle.new ≡ card_of handle.old }
+    ensures untold { result ≢ status.ok → state.new ≡ state.old }
     ensures wrong_line { (m : Machine) → Stands handle.old m → (card_in m).config.lines ≤ line
-        → (result ≡ status.wrong_line) × (state.new ≡ state.old) }
+        → result ≡ status.wrong_line }
     ensures wrong_link { (m : Machine) → Stands handle.old m → line < (card_in m).config.lines
-        → IfErr (link_in service tei) (λ wrong. (result ≡ wrong) × (state.new ≡ state.old)) }
+        → IfErr (link_in service tei) (λ wrong. result ≡ wrong) }
     ensures told { (m : Machine) → Stands handle.old m → line < (card_in m).config.lines
         → IfOk (link_in service tei) (λ link. (result ≡ status.ok)
         × (state.new ≡ unwrap_or (machine.state line link.0 link.1 (card_in m)) 0)) }
 {
-    let Some(card) = handle.take(alloc) else {
+    let Some(card) = handle.card() else {
         return NO_CARD;
     };
-    let status = tell_state(&card, line, service, tei, state);
-    handle.put(card);
-    status
-}
-
-fn tell_state(card: &AnyCard, line: u32, service: u8, tei: u8, state: &mut u8) -> u32
-    ensures wrong_line { (m : Machine) → AnyStands card.now m → (card_in m).config.lines ≤ line
-        → (result ≡ status.wrong_line) × (state.new ≡ state.old) }
-    ensures wrong_link { (m : Machine) → AnyStands card.now m → line < (card_in m).config.lines
-        → IfErr (link_in service tei) (λ wrong. (result ≡ wrong) × (state.new ≡ state.old)) }
-    ensures told { (m : Machine) → AnyStands card.now m → line < (card_in m).config.lines
-        → IfOk (link_in service tei) (λ link. (result ≡ status.ok)
-        × (state.new ≡ unwrap_or (machine.state line link.0 link.1 (card_in m)) 0)) }
-{
     let line = line as usize;
     if line >= card.lines() {
         return WRONG_LINE;
@@ -72,60 +55,51 @@ fn tell_state(card: &AnyCard, line: u32, service: u8, tei: u8, state: &mut u8) -
 
 /// How many octets the card stores now. A card for frames has none of frames on their way.
 #[unsafe(no_mangle)]
-pub extern "C" fn lapd_stored(alloc: Global, handle: &mut CardHandle, octets: &mut u32) -> u32
+pub extern "C" fn lapd_stored(handle: &mut CardHandle, octets: &mut u32) -> u32
     requires { IsHandle handle.old }
     ensures handle { IsHandle handle.new }
-    ensures no_card { card_of handle.old ≡ None
-        → (result ≡ status.no_card) × (handle.new ≡ handle.old) × (octets.new ≡ octets.old) }
+    ensures no_card { card_of handle.old ≡ None → (result ≡ status.no_card) × (handle.new ≡ handle.old) }
     ensures unchanged { card_of handle.new ≡ card_of handle.old }
+    ensures untold { result ≢ status.ok → octets.new ≡ octets.old }
     ensures told { (m : Machine) → Stands handle.old m → (result ≡ status.ok) × (octets.new ≡ stored m) }
 {
-    let Some(card) = handle.take(alloc) else {
+    let Some(card) = handle.card() else {
         return NO_CARD;
     };
     *octets = card.stored();
-    handle.put(card);
     OK
 }
 
 /// How many octets the card stores at most.
 #[unsafe(no_mangle)]
-pub extern "C" fn lapd_limit(alloc: Global, handle: &mut CardHandle, octets: &mut u32) -> u32
+pub extern "C" fn lapd_limit(handle: &mut CardHandle, octets: &mut u32) -> u32
     requires { IsHandle handle.old }
     ensures handle { IsHandle handle.new }
-    ensures no_card { card_of handle.old ≡ None
-        → (result ≡ status.no_card) × (handle.new ≡ handle.old) × (octets.new ≡ octets.old) }
+    ensures no_card { card_of handle.old ≡ None → (result ≡ status.no_card) × (handle.new ≡ handle.old) }
     ensures unchanged { card_of handle.new ≡ card_of handle.old }
+    ensures untold { result ≢ status.ok → octets.new ≡ octets.old }
     ensures told { (m : Machine) → Stands handle.old m → (result ≡ status.ok) × (octets.new ≡ limit (card_in m).config) }
 {
-    let Some(card) = handle.take(alloc) else {
+    let Some(card) = handle.card() else {
         return NO_CARD;
     };
     *octets = card.limit();
-    handle.put(card);
     OK
 }
 
 /// How many lines the card has.
 #[unsafe(no_mangle)]
-pub extern "C" fn lapd_lines(alloc: Global, handle: &mut CardHandle, lines: &mut u32) -> u32
+pub extern "C" fn lapd_lines(handle: &mut CardHandle, lines: &mut u32) -> u32
     requires { IsHandle handle.old }
     ensures handle { IsHandle handle.new }
-    ensures no_card { card_of handle.old ≡ None
-        → (result ≡ status.no_card) × (handle.new ≡ handle.old) × (lines.new ≡ lines.old) }
+    ensures no_card { card_of handle.old ≡ None → (result ≡ status.no_card) × (handle.new ≡ handle.old) }
     ensures unchanged { card_of handle.new ≡ card_of handle.old }
+    ensures untold { result ≢ status.ok → lines.new ≡ lines.old }
     ensures told { (m : Machine) → Stands handle.old m → (result ≡ status.ok) × (lines.new ≡ (card_in m).config.lines) }
 {
-    let Some(card) = handle.take(alloc) else {
+    let Some(card) = handle.card() else {
         return NO_CARD;
     };
-    *lines = line_count(&card);
-    handle.put(card);
+    *lines = card.lines().min(MOST_LINES) as u32;
     OK
-}
-
-fn line_count(card: &AnyCard) -> u32
-    ensures { (m : Machine) → AnyStands card.now m → result ≡ (card_in m).config.lines }
-{
-    card.lines().min(MOST_LINES) as u32
 }

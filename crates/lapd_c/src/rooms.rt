@@ -1,23 +1,20 @@
 //! How many contents more a link of a card takes.
 
-ghost use Rattle.std.specs.Prelude.{◌≡◌, ◌≤◌, ◌<◌, None, IfOk, IfErr};
+ghost use Rattle.std.specs.Prelude.{◌≡◌, ◌≢◌, ◌≤◌, ◌<◌, None, IfOk, IfErr};
 ghost use Rattle.model_card.specs.Room.{room as machine_room};
 ghost use Rattle.lapd_c.specs.Rooms.{plain_room};
 ghost use Rattle.lapd_c.specs.Statuses as status;
 ghost use Rattle.lapd_c.specs.Statuses.{refusal_status};
 ghost use Rattle.lapd_c.specs.Timers.{link_in};
 ghost use Rattle.lapd_c.specs.Cards.{card_of, IsHandle, Stands};
-ghost use Rattle.lapd_c.specs.Kinds.{Machine, card_in, AnyStands};
+ghost use Rattle.lapd_c.specs.Kinds.{Machine, card_in};
 
 use crate::card::CardHandle;
-use crate::kinds::AnyCard;
 use crate::plain::{NO_CARD, OK, PlainRoom, WRONG_LINE, link_in, refusal_status};
-use std::alloc::Global;
 
 /// The room of the link of a service with a TEI, and its V(A).
 #[unsafe(no_mangle)]
 pub extern "C" fn lapd_room(
-    alloc: Global,
     handle: &mut CardHandle,
     line: u32,
     service: u8,
@@ -26,40 +23,23 @@ pub extern "C" fn lapd_room(
 ) -> u32
     requires { IsHandle handle.old }
     ensures handle { IsHandle handle.new }
-    ensures no_card { card_of handle.old ≡ None
-        → (result ≡ status.no_card) × (handle.new ≡ handle.old) × (room.new ≡ room.old) }
+    ensures no_card { card_of handle.old ≡ None → (result ≡ status.no_card) × (handle.new ≡ handle.old) }
     ensures unchanged { card_of handle.new ≡ card_of handle.old }
+    ensures untold { result ≢ status.ok → room.new ≡ room.old }
     ensures wrong_line { (m : Machine) → Stands handle.old m → (card_in m).config.lines ≤ line
-        → (result ≡ status.wrong_line) × (room.new ≡ room.old) }
+        → result ≡ status.wrong_line }
     ensures wrong_link { (m : Machine) → Stands handle.old m → line < (card_in m).config.lines
-        → IfErr (link_in service tei) (λ wrong. (result ≡ wrong) × (room.new ≡ room.old)) }
+        → IfErr (link_in service tei) (λ wrong. result ≡ wrong) }
     ensures no_link { (m : Machine) → Stands handle.old m → line < (card_in m).config.lines
         → IfOk (link_in service tei) (λ link. IfErr (machine_room line link.0 link.1 (card_in m)) (λ why.
-        (result ≡ refusal_status why) × (room.new ≡ room.old))) }
+        result ≡ refusal_status why)) }
     ensures told { (m : Machine) → Stands handle.old m → line < (card_in m).config.lines
         → IfOk (link_in service tei) (λ link. IfOk (machine_room line link.0 link.1 (card_in m)) (λ is.
         (result ≡ status.ok) × (room.new ≡ plain_room is))) }
 {
-    let Some(card) = handle.take(alloc) else {
+    let Some(card) = handle.card() else {
         return NO_CARD;
     };
-    let status = tell_room(&card, line, service, tei, room);
-    handle.put(card);
-    status
-}
-
-fn tell_room(card: &AnyCard, line: u32, service: u8, tei: u8, room: &mut PlainRoom) -> u32
-    ensures wrong_line { (m : Machine) → AnyStands card.now m → (card_in m).config.lines ≤ line
-        → (result ≡ status.wrong_line) × (room.new ≡ room.old) }
-    ensures wrong_link { (m : Machine) → AnyStands card.now m → line < (card_in m).config.lines
-        → IfErr (link_in service tei) (λ wrong. (result ≡ wrong) × (room.new ≡ room.old)) }
-    ensures no_link { (m : Machine) → AnyStands card.now m → line < (card_in m).config.lines
-        → IfOk (link_in service tei) (λ link. IfErr (machine_room line link.0 link.1 (card_in m)) (λ why.
-        (result ≡ refusal_status why) × (room.new ≡ room.old))) }
-    ensures told { (m : Machine) → AnyStands card.now m → line < (card_in m).config.lines
-        → IfOk (link_in service tei) (λ link. IfOk (machine_room line link.0 link.1 (card_in m)) (λ is.
-        (result ≡ status.ok) × (room.new ≡ plain_room is))) }
-{
     let line = line as usize;
     if line >= card.lines() {
         return WRONG_LINE;

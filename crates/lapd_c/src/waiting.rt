@@ -1,56 +1,35 @@
 //! Which lines of a card for frames have one to give.
 
-ghost use Rattle.std.specs.Prelude.{◌≡◌, Some, None, IfSome};
+ghost use Rattle.std.specs.Prelude.{◌≡◌, ◌≢◌, Some, None, IfSome};
 ghost use Rattle.model_card.specs.Card as machine;
 ghost use Rattle.lapd_card.specs.Waiting.{next_waiting};
 ghost use Rattle.lapd_c.specs.Statuses as status;
 ghost use Rattle.lapd_c.specs.Cards.{card_of, kind_in, IsHandle, FramesStand};
-ghost use Rattle.lapd_c.specs.Kinds.{FrameCardStands, for_octets};
+ghost use Rattle.lapd_c.specs.Kinds.{for_octets};
 
 use crate::card::CardHandle;
 use crate::kinds::AnyCard;
 use crate::plain::{NO_CARD, NO_FRAME, OK, WRONG_CARD};
-use lapd_card::FrameCard;
-use lapd_store::RawShelf;
-use std::alloc::Global;
 
 /// The first line on which a frame waits, of those from one on.
 #[unsafe(no_mangle)]
-pub extern "C" fn lapd_next_waiting(
-    alloc: Global,
-    handle: &mut CardHandle,
-    from: u32,
-    line: &mut u32,
-) -> u32
+pub extern "C" fn lapd_next_waiting(handle: &mut CardHandle, from: u32, line: &mut u32) -> u32
     requires { IsHandle handle.old }
     ensures handle { IsHandle handle.new }
-    ensures no_card { card_of handle.old ≡ None
-        → (result ≡ status.no_card) × (handle.new ≡ handle.old) × (line.new ≡ line.old) }
+    ensures no_card { card_of handle.old ≡ None → (result ≡ status.no_card) × (handle.new ≡ handle.old) }
     ensures unchanged { card_of handle.new ≡ card_of handle.old }
-    ensures wrong_card { kind_in handle.old ≡ Some for_octets → (result ≡ status.wrong_card) × (line.new ≡ line.old) }
-    ensures none { (m : machine.Card) → FramesStand handle.old m → next_waiting from m ≡ None
-        → (result ≡ status.no_frame) × (line.new ≡ line.old) }
+    ensures untold { result ≢ status.ok → line.new ≡ line.old }
+    ensures wrong_card { kind_in handle.old ≡ Some for_octets → result ≡ status.wrong_card }
+    ensures none { (m : machine.Card) → FramesStand handle.old m → next_waiting from m ≡ None → result ≡ status.no_frame }
     ensures told { (m : machine.Card) → FramesStand handle.old m
         → IfSome (next_waiting from m) (λ next. (result ≡ status.ok) × (line.new ≡ next)) }
 {
-    let Some(card) = handle.take(alloc) else {
+    let Some(card) = handle.card() else {
         return NO_CARD;
     };
-    let AnyCard::Frames(frames) = &*card else {
-        handle.put(card);
+    let AnyCard::Frames(card) = card else {
         return WRONG_CARD;
     };
-    let status = tell_waiting(frames, from, line);
-    handle.put(card);
-    status
-}
-
-fn tell_waiting(card: &FrameCard<RawShelf>, from: u32, line: &mut u32) -> u32
-    ensures none { (m : machine.Card) → FrameCardStands card.now m → next_waiting from m ≡ None
-        → (result ≡ status.no_frame) × (line.new ≡ line.old) }
-    ensures told { (m : machine.Card) → FrameCardStands card.now m
-        → IfSome (next_waiting from m) (λ next. (result ≡ status.ok) × (line.new ≡ next)) }
-{
     match card.next_waiting(from as usize) {
         Some(next) => {
             *line = next as u32;

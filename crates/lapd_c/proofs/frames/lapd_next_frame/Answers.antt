@@ -1,0 +1,33 @@
+-- Hand-written answers for `lapd_next_frame`.
+use Rattle.lapd_c.proofs.Vocabulary.{◌≡◌, drop, refl, ap, sym, subst, ◌∙◌, option_map, next_in, written, goes}
+use Rattle.std.proofs.Common.{◌≤◌, length, true}
+use Rattle.model_card.specs.Machine.{after}
+use Rattle.lapd_frame.specs.ShortLists.{listed}
+use Rattle.lapd_c.specs.Reports.{ShowsPull}
+use Rattle.lapd_c.proofs.Kinded.{next_is, none_goes, none_counted, given_shown, none_said}
+use Rattle.lapd_c.proofs.Served.{frames_there, frames_counted}
+use Rattle.lapd_c.proofs.frames.lapd_next_frame.Goals as goal
+
+pub returns-in-Ok-None-clause-stays : goal.returns-in-Ok-None-clause-stays
+returns-in-Ok-None-clause-stays c = λ m s not_served. let t = frames_there c.in-Some.ensures.card c.in-Frames.is m s in
+    none_goes c.args.line m c.next_frame.new.self (next_is c.args.line m c.next_frame.new.out c.in-Ok-None.field-0 (c.in-Ok-None.ensures.gave m t) ∙ ap (option_map (next_in c.next_frame.new.out)) c.in-Ok-None.field-0-is) (c.in-Ok-None.ensures.after.stands m t)
+
+pub returns-in-Ok-None-clause-uncounted : goal.returns-in-Ok-None-clause-uncounted
+returns-in-Ok-None-clause-uncounted c = λ m s not_served. let t = frames_there c.in-Some.ensures.card c.in-Frames.is m s in
+    c.in-Ok-None.ensures.after.counted m t
+    ∙ none_counted c.args.line m _ (next_is c.args.line m c.next_frame.new.out c.in-Ok-None.field-0 (c.in-Ok-None.ensures.gave m t) ∙ ap (option_map (next_in c.next_frame.new.out)) c.in-Ok-None.field-0-is)
+    ∙ frames_counted c.in-Some.ensures.card c.in-Frames.is
+
+pub returns-in-Ok-None-clause-given : goal.returns-in-Ok-None-clause-given
+returns-in-Ok-None-clause-given c = λ m s within room. let t = frames_there c.in-Some.ensures.card c.in-Frames.is m s in
+    none_said _ _ (next_is c.args.line m c.next_frame.new.out c.in-Ok-None.field-0 (c.in-Ok-None.ensures.gave m t) ∙ ap (option_map (next_in c.next_frame.new.out)) c.in-Ok-None.field-0-is)
+
+pub returns-in-Ok-Some-clause-given : goal.returns-in-Ok-Some-clause-given
+returns-in-Ok-Some-clause-given c = λ m s within room. let t = frames_there c.in-Some.ensures.card c.in-Frames.is m s in
+    let stands = c.in-Ok-Some.ensures.after.stands m t in
+    given_shown c.args.line m c.next_frame.new.self c.args.out.now c.next_frame.new.out c.in-Ok-Some.next.length 0 c.show_next.new.self c.in-Ok-Some.next c.has_next.result
+    (next_is c.args.line m c.next_frame.new.out c.in-Ok-Some.field-0 (c.in-Ok-Some.ensures.gave m t) ∙ ap (option_map (next_in c.next_frame.new.out)) c.in-Ok-Some.field-0-is)
+    refl stands (c.has_next.ensures (after (goes c.args.line) m) stands) refl
+    (subst (λ g. written g ≤ length c.next_frame.new.out) c.in-Ok-Some.field-0-is c.in-Ok-Some.ensures.fits)
+    (subst (λ g. drop (written g) c.next_frame.new.out ≡ drop (written g) c.args.out.now) c.in-Ok-Some.field-0-is c.in-Ok-Some.ensures.rest)
+    (subst (λ os. ShowsPull c.show_next.new.self true c.has_next.result (listed os)) c.order_list.ensures c.show_next.ensures)

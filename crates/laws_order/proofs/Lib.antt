@@ -16,6 +16,7 @@ pub mod Ordered
 pub mod LinkReleased
 pub mod ReleasedAt
 pub mod Released
+pub mod ReleaseCounted
 pub mod InTheEnd
 pub mod PremisesMet
 pub mod OfCircuit

@@ -1,5 +1,5 @@
 -- The far end lasts in its establishment, and that of the near end is over: what happens at the near end.
-use Rattle.laws_order.proofs.Vocabulary.{◌≡◌, ℕ, ◌+◌, ◌≤◌, false, IsTrue, List, [], ◌∷◌, ◌++◌, length, take, sym, ap, ◌∙◌, subst, true≢false, ◌⊎◌, inl, inr, Control, Service, Parts, other_side, reading, State, TeiAssigned, AwaitingEstablishment, AwaitingRelease, Established, TimerRecovery, Link, is_multiple_frame, frames_of, came, Config, hears, expiry, request, next, heard_side, link_of, terms, after_is_sound, Station, Wire, requests, times_out, gives, takes, loses, happens, comes}
+use Rattle.laws_order.proofs.Vocabulary.{◌≡◌, ℕ, ◌+◌, ◌≤◌, false, IsTrue, List, [], ◌∷◌, ◌++◌, length, take, sym, ap, ◌∙◌, subst, true≢false, ◌⊎◌, inl, inr, Control, Service, Parts, other_side, reading, State, TeiAssigned, AwaitingEstablishment, AwaitingRelease, Established, TimerRecovery, Link, is_multiple_frame, frames_of, came, Config, hears, expiry, request, next, heard_side, link_of, terms, after_is_sound, Station, Wire, requests, times_out, gives, takes, loses, happens}
 use Rattle.model_bits.specs.Stream as stream
 use Rattle.model_line.specs.Event.{Event}
 use Rattle.model_card.specs.Event as card

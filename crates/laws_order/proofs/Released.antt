@@ -1,7 +1,7 @@
 -- What an end is told of its link in state 6, and in state 4, whatever happens at it and at the other end.
 use Rattle.laws_order.proofs.Vocabulary.{◌≡◌, ℕ, List, [], ◌∷◌, ◌++◌, refl, sym, ap, ◌∙◌, subst, append-nil, ◌⊎◌, inl, inr, All, list_any, All-head, All-tail, list_any-append, Note, Service, State, TeiAssigned, AwaitingRelease, Link, came, hears, expiry, request, next, link_of, after_is_sound, Seen, seen, Station, Wire, requests, times_out, gives, takes, loses, answered, happens, turned}
 use Rattle.std.proofs.lemmas.List.Concat.{flat_map-append}
-use Rattle.model_line.specs.Event.{Event, told}
+use Rattle.model_line.specs.Event.{Event}
 use Rattle.model_card.specs.Event.{at}
 use Rattle.laws_wire.specs.Facing.{line_of}
 use Rattle.laws_order.specs.Happenings.{Deed, acts, disturbed, elsewhere, befalling, Happening, by_near, by_far, IsPossible, happening, IsPossibleAt, events_here, seen_by, seen_at_near, seen_near}

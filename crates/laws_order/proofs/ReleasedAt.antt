@@ -1,5 +1,5 @@
 -- What one event at an end tells of its link in state 6, and in state 4.
-use Rattle.laws_order.proofs.Vocabulary.{◌≡◌, ℕ, ◌&&◌, ◌||◌, not, Bool, true, false, cond, List, [], ◌∷◌, get_or, set, Option, Some, None, refl, sym, ap, ◌∙◌, subst, arith, append-nil, true≢false, ◌⊎◌, inl, inr, filter, option_to_list, list_any, get_or-set_same, Control, Ua, Dm, H, Note, Refusal, PoolFull, Service, TeiAssigned, AwaitingRelease, Terms, Link, state_number, Config, hears, expiry, request, next, Answer, refused, gave, Line, fresh_line, has_tei, link_of, place_in, terms, line_at, has_lines, by_room, notes_of, contents_in, is_data_of, of_link, deactivates, is_granted, IsBy, is-off, seen, is_ui, unless, no-data, on-line, own-is, leaving-due, none-filtered, others-silent, due, HasOne, HasNone, IsGivenUp, Goes, event-goes, off-fresh, Station, takes, answered, happens}
+use Rattle.laws_order.proofs.Vocabulary.{◌≡◌, ℕ, ◌&&◌, ◌||◌, not, Bool, true, false, cond, List, [], ◌∷◌, get_or, set, Option, Some, None, refl, sym, ap, ◌∙◌, subst, arith, append-nil, true≢false, ◌⊎◌, inl, inr, filter, option_to_list, list_any, get_or-set_same, Control, Ua, Dm, H, Note, Refusal, PoolFull, Service, TeiAssigned, AwaitingRelease, Terms, Link, state_number, Config, hears, expiry, request, next, Answer, refused, gave, Line, fresh_line, has_tei, link_of, place_in, terms, line_at, has_lines, by_room, notes_of, contents_in, is_data_of, of_link, deactivates, is_granted, IsBy, is-off, seen, is_ui, unless, no-data, on-line, own-is, leaving-due, none-filtered, others-silent, due, HasOne, HasNone, IsGivenUp, Goes, event-goes, off-fresh, Station, answered, happens}
 use Rattle.lapd_frame.specs.declared.notes.Note.TheVariants as notes
 use Rattle.model_link.specs.Events as link
 use Rattle.model_link.specs.Link.{fresh}

@@ -1,6 +1,5 @@
 -- Worked values: a release whose commands are lost, and what would be told where a premise is left out. Each computes.
 use Rattle.std.specs.Prelude.{◌≡◌, ℕ, true, List, [], ◌∷◌, ◌++◌, refl}
-use Rattle.std.specs.List.{list_any}
 use Rattle.lapd_frame.specs.declared.notes.ErrorCode.TheVariants.{H}
 use Rattle.lapd_frame.specs.declared.notes.Note.TheVariants.{ReleaseConfirm, Error}
 use Rattle.lapd_frame.specs.declared.services.Service.TheVariants.{Call}
@@ -13,9 +12,9 @@ use Rattle.model_line.specs.Machine as lines
 use Rattle.model_line.specs.Request.{Release, Remove, Deactivate}
 use Rattle.laws_wire.specs.Arriving.{runs_t200}
 use Rattle.laws_wire.specs.Wire.{Wire, requests, times_out, gives, takes, loses, turned, doing_all}
-use Rattle.laws_order.specs.Happenings.{acts, Happening, by_near, by_far, happening_all, seen_near, seen_far}
+use Rattle.laws_order.specs.Happenings.{acts, Happening, by_near, happening_all, seen_near, seen_far}
 use Rattle.laws_order.specs.InTheEnd.{t200s, StaysThere}
-use Rattle.laws_order.specs.Order.{ends_by, StaysEstablished}
+use Rattle.laws_order.specs.Order.{StaysEstablished}
 use Rattle.laws_order.specs.Release.{news, BeginsNothing}
 use Rattle.laws_order.specs.Worked.{faces}
 use Rattle.laws_order.specs.WorkedRelease.{releases, released, takes_two, takes_disc}

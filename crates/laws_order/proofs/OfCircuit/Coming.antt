@@ -1,5 +1,5 @@
 -- A frame that an end has to give, or that is on its way, comes in so many beats, whatever else is given meanwhile.
-use Rattle.laws_order.proofs.Vocabulary.{◌≡◌, ℕ, ◌+◌, ◌*◌, ◌-◌, ◌≤◌, ◌<◌, ◌⊎◌, inl, inr, Bool, true, false, cond, List, [], ◌∷◌, ◌++◌, length, drop, Option, None, Some, is_some, option_map, option_to_list, refl, sym, ap, ◌∙◌, subst, arith, append-nil, append_assoc, length-append, All, length-map, All-head, All-tail, Service, Item, idle, heard_in, Config, NextFrame, gave, frames_among, Port, gained, given_in, is_due, item_of, left_of, IsSoundPort, heard_with, Wire, is_any}
+use Rattle.laws_order.proofs.Vocabulary.{◌≡◌, ℕ, ◌+◌, ◌*◌, ◌≤◌, ◌<◌, ◌⊎◌, inl, inr, Bool, true, false, cond, List, [], ◌∷◌, ◌++◌, length, drop, Option, None, Some, is_some, option_map, option_to_list, refl, sym, ap, ◌∙◌, subst, arith, append-nil, append_assoc, length-append, All, length-map, All-head, All-tail, Service, Item, idle, heard_in, Config, NextFrame, gave, frames_among, Port, gained, given_in, is_due, item_of, left_of, IsSoundPort, heard_with, Wire, is_any}
 use Rattle.model_bits.specs.Sent.{frame}
 use Rattle.model_bits.specs.Stream as stream
 use Rattle.model_card.specs.ports.Port as port

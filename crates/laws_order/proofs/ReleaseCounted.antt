@@ -1,0 +1,266 @@
+-- An end that releases its link counts in RC the expiries of T200, until it is told.
+use Rattle.laws_order.proofs.Vocabulary.{◌≡◌, ℕ, ◌+◌, ◌≤◌, Bool, true, false, cond, List, [], ◌∷◌, ◌++◌, get_or, set, Option, Some, None, refl, sym, ap, ◌∙◌, subst, arith, true≢false, ◌⊎◌, inl, inr, All, filter, length, nat_lt, ltb-true, get_or-set_same, All-head, Note, Service, TeiAssigned, AwaitingRelease, Terms, LinkTimer, T200, T203, Link, runs, Config, hears, expiry, request, next, Line, fresh_line, link_of, place_in, terms, line_at, wants_room, has_lines, by_room, repeats_left, as_heard, is_clearing, moves, by_expiry, IsTimedIn, is_time, event-follows, timed-after, IsBy, Seen, is_own, none-ticks, own-is, Goes, event-goes, expired_of, off-fresh, nothing_yet, Station, Wire, happens}
+use Rattle.model_bits.specs.Stream as stream
+use Rattle.lapd_frame.specs.declared.timers.Timer.TheVariants as timers
+use Rattle.model_link.specs.Events as link
+use Rattle.model_link.specs.Link.{fresh}
+use Rattle.model_link.specs.Machine as links
+use Rattle.model_line.specs.Event.{Event}
+use Rattle.model_line.specs.Machine as lines
+use Rattle.model_line.specs.Sound as line_sound
+use Rattle.model_card.specs.Event.{at}
+use Rattle.model_card.proofs.Steps.{line_sound as sound_line}
+use Rattle.laws_wire.specs.Facing.{line_of}
+use Rattle.laws_order.specs.Happenings.{Happening, by_near, by_far, IsPossible, happening, seen_at_near, seen_near}
+use Rattle.laws_order.specs.InTheEnd.{is_t200, t200_by, t200s}
+use Rattle.laws_order.specs.Order.{link_here}
+use Rattle.laws_order.specs.Release.{news}
+use Rattle.laws_order.proofs.Pairs.{IsWell}
+use Rattle.laws_order.proofs.Released.{Occurs, nothing_there, one_there, then-well, news-append, step-six, StepSix, events_at, occurs, later}
+
+pub runs-so : (o : Option LinkTimer) → runs T200 o ≡ true → o ≡ Some T200
+runs-so None e = absurd (true≢false (sym e))
+runs-so (Some T200) e = refl
+runs-so (Some T203) e = absurd (true≢false (sym e))
+
+-- A link in state 6 that stays there runs T200, and RC counts its expiries, up to N200.
+pub record Counted (t : Terms) (l l' : Link) (n : ℕ) : Type 0 where
+  pub running : l'.running ≡ Some T200
+  pub repeats : l'.repeats ≡ n + l.repeats
+  pub below : (n ≡ 0) ⊎ (n + l.repeats ≤ t.n200)
+
+uncounted : (t : Terms) (l l' : Link) (n : ℕ) → l.running ≡ Some T200 → l' ≡ l → n ≡ 0 → Counted t l l' n
+uncounted t l l' n runs same none = record {
+  running = ap (λ (y : Link). y.running) same ∙ runs;
+  repeats = let was : l'.repeats ≡ l.repeats = ap (λ (y : Link). y.repeats) same in omega (arith, was, none);
+  below = inl none;
+}
+
+abbrev times : link.Event → ℕ
+times (link.expired T200) = 1
+times other = 0
+
+module _ (t : Terms) (l : Link) (is : l.state ≡ AwaitingRelease) (runs-on : l.running ≡ Some T200) where
+  abbrev l' : link.Event → Link
+  l' e = links.after t e l
+
+  keeps-running : (e : link.Event) → (l' e).state ≡ AwaitingRelease → (l' e).running ≡ Some T200
+  keeps-running e stays =
+      subst (λ s. IsTimedIn s (l' e)) stays (timed-after t e l (record { timer = subst (λ s. IsTimedIn s l) (sym is) runs-on })).timer
+
+  abbrev left : Bool → ℕ
+  left time = cond time (l.repeats + 1) l.repeats
+
+  repeats-so : (e : link.Event) → (l' e).state ≡ AwaitingRelease → is_clearing (as_heard t e) ≡ false → (l' e).repeats ≡ left (is_time (as_heard t e) l)
+  repeats-so e stays heard =
+      (event-follows t e l).leaves.repeats ∙ ap (repeats_left (as_heard t e) l) stays
+      ∙ ap (λ b. cond b 0 (cond (moves l.state AwaitingRelease) 0 (left (is_time (as_heard t e) l)))) heard
+      ∙ ap (λ s. cond (moves s AwaitingRelease) 0 (left (is_time (as_heard t e) l))) is
+
+  unexpired : (e : link.Event) → (l' e).state ≡ AwaitingRelease → is_clearing (as_heard t e) ≡ false → is_time (as_heard t e) l ≡ false → times e ≡ 0 → Counted t l (l' e) (times e)
+  unexpired e stays heard time none = record {
+    running = keeps-running e stays;
+    repeats = let same : (l' e).repeats ≡ l.repeats = repeats-so e stays heard ∙ ap left time in omega (arith, same, none);
+    below = inl none;
+  }
+
+  expires : (again : Bool) → nat_lt l.repeats t.n200 ≡ again → (l' (link.expired T200)).state ≡ AwaitingRelease → Counted t l (l' (link.expired T200)) 1
+  expires again few stays = record {
+    running = keeps-running (link.expired T200) stays;
+    repeats = let more : (l' (link.expired T200)).repeats ≡ l.repeats + 1 = repeats-so (link.expired T200) stays refl ∙ ap (λ o. left (runs T200 o)) runs-on in omega (arith, more);
+    below = go again few;
+  }
+    where
+      leads : (l' (link.expired T200)).state ≡ by_expiry AwaitingRelease T200 (nat_lt l.repeats t.n200)
+      leads =
+          (event-follows t (link.expired T200) l).leaves.state ∙ ap (λ o. cond (runs T200 o) (by_expiry l.state T200 (nat_lt l.repeats t.n200)) l.state) runs-on
+          ∙ ap (λ s. by_expiry s T200 (nat_lt l.repeats t.n200)) is
+
+      go : (again : Bool) → nat_lt l.repeats t.n200 ≡ again → (◌≡◌ {A = ℕ} 1 0) ⊎ (1 + l.repeats ≤ t.n200)
+      go true few = let less = ltb-true l.repeats t.n200 few in inr (omega (arith, less))
+      go false none = let wrong : TeiAssigned ≡ AwaitingRelease = sym (leads ∙ ap (by_expiry AwaitingRelease T200) none) ∙ stays in absurd (cc wrong)
+
+  link-counts : (e : link.Event) → (l' e).state ≡ AwaitingRelease → Counted t l (l' e) (times e)
+  link-counts (link.received (link.frame f)) stays = unexpired (link.received (link.frame f)) stays refl refl refl
+  link-counts (link.received link.undefined) stays = unexpired (link.received link.undefined) stays refl refl refl
+  link-counts (link.received link.wrong_size) stays = unexpired (link.received link.wrong_size) stays refl refl refl
+  link-counts (link.received link.overlong) stays = unexpired (link.received link.overlong) stays refl refl refl
+  link-counts (link.expired T200) stays = expires (nat_lt l.repeats t.n200) refl stays
+  link-counts (link.expired T203) stays = unexpired (link.expired T203) stays refl refl refl
+  link-counts (link.requested asked full) stays = unexpired (link.requested asked full) stays refl refl refl
+  link-counts link.offer stays = unexpired link.offer stays refl refl refl
+  link-counts link.cleared stays =
+      let wrong : TeiAssigned ≡ AwaitingRelease = sym (event-follows t link.cleared l).leaves.state ∙ stays in absurd (cc wrong)
+
+module _ (service : Service) (tei : ℕ) where
+  abbrev count_of : Event → ℕ
+  count_of e = length (filter (is_t200 service tei) (e ∷ []))
+
+  -- an expiry of no timer of the link is not counted
+  abbrev its-t200 : Option LinkTimer → Bool
+  its-t200 (Some T200) = true
+  its-t200 other = false
+
+  by-own : (b : Bool) → b ≡ its-t200 (cond b (Some T200) None)
+  by-own true = refl
+  by-own false = refl
+
+  by-other : (b : Bool) → false ≡ its-t200 (cond b (Some T203) None)
+  by-other true = refl
+  by-other false = refl
+
+  t200-is : (e : Event) → is_t200 service tei e ≡ its-t200 (expired_of service tei e)
+  t200-is (expiry (timers.T200 of by)) = by-own (is_own service tei of by)
+  t200-is (expiry (timers.T203 of by)) = by-other (is_own service tei of by)
+  t200-is (expiry timers.T201) = refl
+  t200-is (hears what) = refl
+  t200-is (request r) = refl
+  t200-is next = refl
+
+  none-counted : (e : Event) → expired_of service tei e ≡ None → count_of e ≡ 0
+  none-counted e none = ap (λ b. length (cond {A = List Event} b (e ∷ []) [])) (t200-is e ∙ ap its-t200 none)
+
+  -- One event of a line.
+  module _ (c : Config) (l : Line) (s : line_sound.IsSound c l) (e : Event) where
+    abbrev Own : Terms
+    Own = terms c service tei
+
+    abbrev k : Link
+    k = link_of service tei l
+
+    abbrev k' : Link
+    k' = link_of service tei (lines.after c e l)
+
+    faulty : (octets : List ℕ) (A B : Type 0) → ((e ≡ hears (stream.frame octets)) × A) ⊎ ((e ≡ hears (stream.overlong octets)) × B) → count_of e ≡ 0
+    faulty octets A B (inl x) = ap count_of x.0
+    faulty octets A B (inr x) = ap count_of x.0
+
+    count-is : (ev : link.Event) → IsBy c e (lines.answer c e l) service tei ev → count_of e ≡ times ev
+    count-is (link.received (link.frame f)) by = ap count_of by.by
+    count-is (link.received link.undefined) by = faulty by.octets _ _ by.by
+    count-is (link.received link.wrong_size) by = faulty by.octets _ _ by.by
+    count-is (link.received link.overlong) by = faulty by.octets _ _ by.by
+    count-is (link.expired T200) by = ap count_of by ∙ ap (λ b. length (cond {A = List Event} b (expiry (timers.T200 service tei) ∷ []) [])) (own-is service tei)
+    count-is (link.expired T203) by = ap count_of by
+    count-is (link.requested asked full) by = ap count_of by.0
+    count-is link.offer by = ap count_of by
+    count-is link.cleared by = absurd by
+
+    line-counts : k.state ≡ AwaitingRelease → k.running ≡ Some T200 → k'.state ≡ AwaitingRelease → Counted Own k k' (count_of e)
+    line-counts is runs-on stays = go (event-goes c e l service tei s)
+      where
+        not-fresh : (x : Link) → x.state ≡ AwaitingRelease → x ≡ fresh → (A : Type 0) → A
+        not-fresh x six new A = let wrong : TeiAssigned ≡ AwaitingRelease = sym (ap (λ (y : Link). y.state) new) ∙ six in absurd (cc wrong)
+
+        go : Goes c service tei e l (lines.after c e l) (lines.answer c e l) → Counted Own k k' (count_of e)
+        go (inl x) = by-place (place_in l tei) refl x.is
+          where
+            by-place : (o : Option ℕ) → place_in l tei ≡ o → (k' ≡ k) ⊎ (k' ≡ fresh) → Counted Own k k' (count_of e)
+            by-place None off h = not-fresh k is (off-fresh service tei l off) (Counted Own k k' (count_of e))
+            by-place (Some place) on (inl same) = uncounted Own k k' (count_of e) runs-on same (none-counted e (none-ticks c service tei nothing_yet l place on e x.aims))
+            by-place (Some place) on (inr new) = not-fresh k' stays new (Counted Own k k' (count_of e))
+        go (inr (inl x)) =
+            subst (Counted Own k k') (sym (count-is x.event x.by))
+            (subst (λ y. Counted Own k y (times x.event)) (sym x.is) (link-counts Own k is runs-on x.event (sym (ap (λ (y : Link). y.state) x.is) ∙ stays)))
+        go (inr (inr x)) = not-fresh k' stays x.is (Counted Own k k' (count_of e))
+
+  -- At a station.
+  module _ (s : Station) (well : IsWell s) (e : Event) where
+    abbrev conf : Config
+    conf = s.card.config
+
+    abbrev here : Line
+    here = line_at s.line s.card
+
+    abbrev Was : Link
+    Was = link_here service tei s
+
+    now : get_or (set s.card.lines s.line (lines.after conf e here)) s.line (fresh_line conf) ≡ lines.after conf e here
+    now = get_or-set_same s.card.lines s.line (lines.after conf e here) (fresh_line conf) (omega (arith, well.sound.count, well.within))
+
+    -- what finds the pool full is no expiry
+    full-none : (e : Event) → wants_room (at s.line e) s.card ≡ true → count_of e ≡ 0
+    unfolding lines.takes_slot
+    full-none (hears what) full = refl
+    full-none (expiry timer) full = absurd (true≢false (sym full))
+    full-none (request r) full = refl
+    full-none next full = refl
+
+    abbrev Then : Line → Type 0
+    Then x = (link_of service tei x).state ≡ AwaitingRelease → Counted (terms conf service tei) Was (link_of service tei x) (count_of e)
+
+    station-counts : Was.state ≡ AwaitingRelease → Was.running ≡ Some T200 → Then (line_of (happens e s))
+    station-counts is runs-on =
+        by_room (λ ls a. Then (get_or ls s.line (fresh_line conf))) (at s.line e) s.card
+        (λ full stays. uncounted (terms conf service tei) Was Was (count_of e) runs-on refl (full-none e full))
+        (λ room. subst Then (sym now) (line-counts conf here (sound_line s.card s.line (has_lines s.card well.sound) well.within) e is runs-on))
+
+  -- Whole runs.
+  abbrev Here : Wire → Link
+  Here w = link_here service tei w.near
+
+  abbrev Own_ : Wire → Terms
+  Own_ w = terms w.near.card.config service tei
+
+  step-counts : (w w' : Wire) (t : List Seen) (es : List Event) → IsWell w.near → (Here w).state ≡ AwaitingRelease → (Here w).running ≡ Some T200 → Occurs service tei w w' t es
+      → (Here w').state ≡ AwaitingRelease → Counted (Own_ w) (Here w) (Here w') (length (filter (is_t200 service tei) es)) × (w'.near.card.config ≡ w.near.card.config)
+  step-counts w w' t es well is runs-on (nothing_there same none nil) stays =
+      (uncounted (Own_ w) (Here w) (Here w') _ runs-on same.1 (ap (λ es. length (filter (is_t200 service tei) es)) nil), same.2)
+  step-counts w w' t es well is runs-on (one_there e it shown one) stays = (
+    subst (λ es. Counted (Own_ w) (Here w) (Here w') (length (filter (is_t200 service tei) es))) (sym one)
+        (subst (λ s. Counted (Own_ w) (Here w) (link_here service tei s) (count_of e)) (sym it)
+        (station-counts w.near well e is runs-on (sym (ap (λ (s : Station). (link_here service tei s).state) it) ∙ stays))),
+    ap (λ (s : Station). s.card.config) it,
+  )
+
+  t200-at : (h : Happening) (w : Wire) → t200_by service tei h w ≡ length (filter (is_t200 service tei) (events_at service tei h w))
+  t200-at (by_near deed) w = refl
+  t200-at (by_far deed) w = refl
+
+  abbrev pub Bounded : ℕ → ℕ → ℕ → Type 0
+  Bounded n r most = (n ≡ 0) ⊎ (n + r ≤ most)
+
+  add : (n m r r' most most' : ℕ) → r' ≡ n + r → most' ≡ most → Bounded n r most → Bounded m r' most' → Bounded (n + m) r most
+  add n m r r' most most' e same (inl a) (inl b) = inl (omega (arith, a, b))
+  add n m r r' most most' e same (inl a) (inr b) = inr (omega (arith, e, same, a, b))
+  add n m r r' most most' e same (inr a) (inl b) = inr (omega (arith, a, b))
+  add n m r r' most most' e same (inr a) (inr b) = inr (omega (arith, e, same, b))
+
+  abbrev IsOpen : Wire → Happening → Type 0
+  IsOpen w h = IsPossible service tei w h
+
+  untold : (ns ms : List Note) (n : Note) → ns ≡ n ∷ ms → (rest : List Note) → ns ++ rest ≡ [] → ⊥
+  untold ns ms n e rest h = let wrong : n ∷ (ms ++ rest) ≡ [] = ap (λ xs. xs ++ rest) (sym e) ∙ h in cc wrong
+
+  pub run-counts : (hs : List Happening) (w : Wire) → IsWell w.near → (Here w).state ≡ AwaitingRelease → (Here w).running ≡ Some T200 → All (IsOpen w) hs
+      → news service tei (seen_near hs w) ≡ [] → Bounded (t200s service tei hs w) (Here w).repeats (Own_ w).n200
+  unfolding seen_near t200s
+  run-counts [] w well is runs-on all none = inl refl
+  run-counts (h ∷ hs) w well is runs-on all none =
+      let o = occurs service tei h w well (All-head (IsOpen w) h hs all) in
+      go o (λ well' is' runs-on' none'. run-counts hs w' well' is' runs-on' (later service tei h hs w all) none') (step-six service tei w w' t es well is o)
+    where
+      w' : Wire
+      w' = happening h w
+
+      t : List Seen
+      t = seen_at_near h w
+
+      es : List Event
+      es = events_at service tei h w
+
+      split : news service tei t ++ news service tei (seen_near hs w') ≡ []
+      split = sym (news-append service tei t (seen_near hs w')) ∙ none
+
+      go : Occurs service tei w w' t es
+          → (IsWell w'.near → (Here w').state ≡ AwaitingRelease → (Here w').running ≡ Some T200 → news service tei (seen_near hs w') ≡ []
+          → Bounded (t200s service tei hs w') (Here w').repeats (Own_ w').n200)
+          → StepSix service tei w w' t es → Bounded (t200_by service tei h w + t200s service tei hs w') (Here w).repeats (Own_ w).n200
+      go o behind (inl (stays, x)) =
+          let c = step-counts w w' t es well is runs-on o stays in
+          let n = length (filter (is_t200 service tei) es) in
+          subst (λ n. Bounded (n + t200s service tei hs w') (Here w).repeats (Own_ w).n200) (sym (t200-at h w))
+          (add n (t200s service tei hs w') (Here w).repeats (Here w').repeats (Own_ w).n200 (Own_ w').n200 c.0.repeats (ap (λ (c : Config). (terms c service tei).n200) c.1) c.0.below
+          (behind (then-well service tei w w' t es well o) stays c.0.running (ap (λ ns. ns ++ news service tei (seen_near hs w')) (sym x.0) ∙ split)))
+      go o behind (inr (to, inl (x, may))) = absurd (untold _ [] _ x.0 _ split)
+      go o behind (inr (to, inr x)) = absurd (untold _ _ _ x.0 _ split)

@@ -1,5 +1,6 @@
 -- What is told of the room of a link: the law.
 use Rattle.laws_trace.proofs.Vocabulary.{◌≡◌, ℕ, ◌-◌, ◌≤◌, Bool, true, false, not, cond, length, Option, Some, None, Ok, refl, sym, ap, ◌∙◌, subst, arith, true≢false, nat_lt, le-ltb, Refusal, BadTei, NoLink, place_of-is, is_on-at, Room, queue_of, is_multiple_frame, room_of, Config, Effect, Line, link_of, place_in, terms, has_tei, unless_refused_told, unless, Card, line_at, is_full, free, answer_is, refuses_by, is-off}
+use Rattle.lapd_frame.specs.declared.refusals.Refusal.TheVariants.{WrongState}
 use Rattle.model_line.specs.Machine as lines
 use Rattle.model_line.specs.Request.{Data}
 use Rattle.model_line.specs.Refusal.{refusal}
@@ -25,6 +26,13 @@ refused-so (Some why) outcome = refl
 has-room : (tei : ℕ) (on : Bool) (x : Room) → nat_lt 126 tei ≡ false → on ≡ true → unless (cond (nat_lt 126 tei) (Some BadTei) (cond (not on) (Some NoLink) None)) x ≡ Ok x
 has-room tei on x low is =
     ap (λ b. unless (cond b (Some BadTei) (cond (not on) (Some NoLink) None)) x) low ∙ ap (λ b. unless (cond (not b) (Some NoLink) None) x) is
+
+-- In states 4, 5 and 6 data is refused for the state.
+while-down : (tei : ℕ) (on up : Bool) (rest : Option Refusal) → nat_lt 126 tei ≡ false → on ≡ true → up ≡ false
+    → cond (nat_lt 126 tei) (Some BadTei) (cond (not on) (Some NoLink) (cond (not up) (Some WrongState) rest)) ≡ Some WrongState
+while-down tei on up rest low is down =
+    ap (λ b. cond b (Some BadTei) (cond (not on) (Some NoLink) (cond (not up) (Some WrongState) rest))) low
+    ∙ ap (λ b. cond (not b) (Some NoLink) (cond (not up) (Some WrongState) rest)) is ∙ ap (λ b. cond (not b) (Some WrongState) rest) down
 
 on-place : (l : Line) (tei : ℕ) → has_tei tei l ≡ true → (o : Option ℕ) → place_in l tei ≡ o → (place : ℕ) × (place_in l tei ≡ Some place)
 on-place l tei on (Some place) is = (place, is)
@@ -63,15 +71,20 @@ rooms-are-told c events number ranged all within service tei is_on_line = told p
         let few : length (queue_of own) ≤ c.queue = s.queue in
         let places : card.config.queue ≡ c.queue = ap (λ (d : Config). d.queue) same in
         let kept : length o.kept ≡ length (queue_of own) = ap length (kept-now c number ranged within service tei events all place on) in
-        let up_now : is_up o.view.link.state ≡ true → is_multiple_frame own.state ≡ true =
-        λ up. sym (ap (λ (v : View). is_up v.link.state) view ∙ ap is_up seen.state_is ∙ up-number own.state) ∙ up in
+        let state : is_up o.view.link.state ≡ is_multiple_frame own.state =
+        ap (λ (v : View). is_up v.link.state) view ∙ ap is_up seen.state_is ∙ up-number own.state in
         record {
           left = left;
           is = is;
           queue = omega (arith, few, places, kept);
-          va = λ up. sym (ap (λ (v : View). v.link.acknowledged) view ∙ seen.acknowledged_is (up_now up));
+          va = λ up. sym (ap (λ (v : View). v.link.acknowledged) view ∙ seen.acknowledged_is (sym state ∙ up));
           refuses = λ up contents short.
               ap refusal_in (answer_is card number (Data service tei contents))
               ∙ refused-so (refusal card.config (is_full card) (Data service tei contents) l) (lines.of_request card.config (Data service tei contents) l)
-              ∙ refuses_by card number service tei left is contents (up_now up) (subst (λ (d : Config). length contents ≤ d.n201) (sym same) short);
+              ∙ refuses_by card number service tei left is contents (sym state ∙ up) (subst (λ (d : Config). length contents ≤ d.n201) (sym same) short);
+          down = λ off contents.
+              ap refusal_in (answer_is card number (Data service tei contents))
+              ∙ refused-so (refusal card.config (is_full card) (Data service tei contents) l) (lines.of_request card.config (Data service tei contents) l)
+              ∙ while-down tei (has_tei tei l) (is_multiple_frame own.state) _ (le-ltb 126 tei tei_low)
+              (is_on-at l.management.places place tei at) (sym state ∙ off);
         }

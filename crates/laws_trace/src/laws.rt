@@ -88,11 +88,12 @@ pub fn what_is_told_was_heard()
 /// recovery set back, and none is passed over. Its contents are those that the link keeps at V(S), counted from V(A) on, as
 /// whoever watches it has them (`Outgoing` of specs/), and its N(R) is the number of contents told of the link since its
 /// numbers began, modulo 128. A link keeps data from when it is granted, in order, each once, until V(A) goes on by it, in
-/// states 7 and 8 by the N(R) that is heard; or until layer 3 learns that all is lost: by a release or a deactivation that
-/// is granted, an indication of the establishment, or an indication or a confirm of the release. So contents stay where
-/// the numbers begin and none of these is told (`front`). And all of it has gone, once the line was only called for its
-/// next frame, as often as the configuration says, on a link for which one may go then (`again`; Q.921 clauses 3.5.2.1 to
-/// 3.5.2.6, 5.5.1.2, 5.5.3.2, 5.6.1, 5.6.4, 5.6.5, 5.6.7 and 5.7).
+/// states 7 and 8 by the N(R) that is heard; or until its TEI leaves, or layer 3 learns that all is lost: by a release or a
+/// deactivation that is granted, an indication of the establishment, or an indication or a confirm of the release, which
+/// are told as [`news_is_told`] has them. So contents stay where the numbers begin and none of these is told (`front`).
+/// And all of it has gone, once the line was only called for its next frame, as often as the configuration says, on a link
+/// for which one may go then (`again`; Q.921 clauses 3.5.2.1 to 3.5.2.6, 5.5.1.2, 5.5.3.2, 5.6.1, 5.6.4, 5.6.5, 5.6.7 and
+/// 5.7).
 pub fn data_goes_out()
     ensures front { Always DataGoesOut }
     ensures again { Always AllGoesAgain }
@@ -202,8 +203,8 @@ pub fn news_is_told()
 /// tells as left and those of the contents that the link keeps, as [`data_goes_out`] has them: so contents take a place
 /// until they are acknowledged, or layer 3 learns that they are lost, and none is lost silently. Of a link in state 7 or 8
 /// V(A) is told, which is the N(R) that was heard of it last; and what is left, of the queue and of the pool, is what the
-/// next request for data would be refused for (Q.921 clauses 3.5.2.3, 5.5.1.1, 5.5.1.2, 5.5.3.1, 5.5.3.2 and 5.7, and
-/// profile).
+/// next request for data would be refused for. In the other states that is refused for the state, so no data is granted
+/// there that nothing keeps (Q.921 clauses 3.5.2.3, 5.5.1.1, 5.5.1.2, 5.5.3.1, 5.5.3.2 and 5.7, and profile).
 pub fn rooms_are_told()
     ensures { Always RoomsAreTold }
 {}

@@ -2,8 +2,8 @@
 //!
 //! Each law holds from a fresh card of a configuration in range, for every list of events at its lines, and for every
 //! line. `specs/` has the trace (`Trace`), which of its frames are unit data (`Units`), what whoever watches the line knows
-//! of its TEIs (`Managing`), of a link (`Observer`) and of what it keeps (`Outgoing`), by the procedures of Q.921, and a file for each law, with worked
-//! values of it. Each law is the contract of a call that does nothing.
+//! of its TEIs (`Managing`), of a link (`Observer`) and of what it keeps (`Outgoing`), by the procedures of Q.921, and a
+//! file for each law, with worked values of it. Each law is the contract of a call that does nothing.
 //!
 //! - `laws`: the laws.
 //! - `octets`: what they come to in the octets of a line.

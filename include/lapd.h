@@ -19,8 +19,9 @@
  *  - A length is the true number of octets behind its pointer.
  *  - What two arguments of a call point to does not overlap, and neither overlaps what a card or a clock holds: the
  *    proofs take each as a place of its own. Where it could happen by mistake, the call says what to do.
- *  - A card or a clock is used by one call at a time; other cards and clocks may be used meanwhile. Where starts
- *    and frees run at the same time, the three functions of memory must allow it (malloc's do, heap.c's do not).
+ *  - A card or a clock is used by one call at a time, also where an interrupt comes: a second call would meet it half
+ *    changed, and nothing tells of that. Other cards and clocks may be used meanwhile. Where starts and frees run at
+ *    the same time, the three functions of memory must allow it (malloc's do, heap.c's do not).
  *  - It begins as LAPD_CARD_NONE or LAPD_CLOCK_NONE, no copy of it is used, and its fields are left alone.
  *
  * No card and no clock is const, also where a call only asks: an export of the toolchain's cannot read through a const

@@ -48,6 +48,17 @@ quiet m c waits lost served notes orders follows = record {
   follows = follows;
 }
 
+-- one after which none waits
+none_waits : (m : Management) (c : Course) → c.now.waiting ≡ [] → c.told.lost ≡ 0 → c.told.unserved ≡ false
+    → length c.told.notes ≤ 1 → length c.told.orders ≤ 1 → Follows (is_some m.check) c.told.orders (is_some c.now.check) → Counts m c
+none_waits m c waits lost served notes orders follows = record {
+  waits = subst (λ w. length w ≤ length m.waiting + 1) (sym waits) (omega arith);
+  lost = subst (λ n. n ≤ 1) (sym lost) (omega arith);
+  idle = λ other. absurd (false≢true (sym served ∙ other));
+  brief = record { notes = notes; orders = orders };
+  follows = follows;
+}
+
 -- each way in which an event ends
 ways : (e : Event) (m : Management) → OfEvents e m (Counts m)
 ways e m = record {
@@ -71,6 +82,8 @@ ways e m = record {
   joins = λ tei place is off at. quiet m _ refl (omega arith) refl (omega arith) (omega arith) refl;
   leaves_checked = λ tei on. sends (IdentityRemove tei) m _ refl refl refl (omega arith) (omega arith) refl;
   leaves = λ tei on other. sends (IdentityRemove tei) m _ refl refl refl (omega arith) (omega arith) refl;
+  gives_up = λ is. none_waits m _ refl refl refl (omega arith) (omega arith) refl;
+  gives_up_checked = λ own is. none_waits m _ refl refl refl (omega arith) (omega arith) refl;
 }
 
 pub counts : (e : Event) (m : Management) → Counts m (course e m)

@@ -1,8 +1,8 @@
 -- What each row of the table keeps.
-use Rattle.lapd_tei.proofs.Vocabulary.{◌≡◌, ℕ, ◌≤◌, true, false, set, Option, Some, None, IfSome, subst, refl, sym, arith, List, option_map, IdentityAssigned, IdentityDenied, IdentityCheckRequest, IdentityRemove, Message, action_of, Places, is_on, place_of, free_place, Management, Check, Remembered, TeiTold, Gained, Course, with_message, freed, left, is_of_other, Event, IsInRange, IsSoundCheck, IsSoundQueue, IsSound, IsSoundMemory, Moves, course, filter}
+use Rattle.lapd_tei.proofs.Vocabulary.{◌≡◌, ℕ, ◌≤◌, true, false, set, Option, Some, None, IfSome, subst, refl, sym, arith, List, [], option_map, IdentityAssigned, IdentityDenied, IdentityCheckRequest, IdentityRemove, Message, action_of, Places, is_on, place_of, free_place, Management, Check, Remembered, TeiTold, Gained, Course, with_message, freed, left, is_of_other, Event, IsInRange, IsSoundCheck, IsSoundQueue, IsSound, IsSoundMemory, Moves, course, filter}
 use Rattle.lapd_tei.proofs.Tables.{table-freed, on-newcomer, on-range, free_tei-is, free_place-is, place_of-is}
 use Rattle.lapd_tei.proofs.Memories.{memory-put, memory-remember, memory-freed, remembered-range}
-use Rattle.lapd_tei.proofs.SoundWords.{sound_came, queue-sent, check-freed, check-begun, check-again, check-counted}
+use Rattle.lapd_tei.proofs.SoundWords.{sound_came, queue-empty, queue-sent, check-freed, check-begun, check-again, check-counted}
 use Rattle.lapd_tei.proofs.Walk.{OfEvents, of_event}
 
 -- Where an event has led, from m on.
@@ -89,6 +89,8 @@ module _ (m : Management) (sound : IsSound m) where
     joins = λ tei place is off at. comes tei place _ _ _ refl off at (subst IsInRange is range) (memory-put m.places m.remembered place tei at sound.memory) sound.queue;
     leaves_checked = λ tei on. goes tei None _ _ refl tt (sent (IdentityRemove tei) (low tei on));
     leaves = λ tei on other. goes tei m.check _ _ refl (check-freed m.places m.check tei other sound.checked) (sent (IdentityRemove tei) (low tei on));
+    gives_up = λ is. stays m.check [] _ refl sound.checked queue-empty;
+    gives_up_checked = λ own is. stays None [] _ refl tt queue-empty;
   }
 
   pub leads : (e : Event) → IsInRange e → Leads m (course e m)

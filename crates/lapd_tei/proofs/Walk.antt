@@ -1,5 +1,5 @@
 -- Every event ends in one of a few ways: the rows of the table are walked once, for any claim.
-use Rattle.lapd_tei.proofs.Vocabulary.{◌≡◌, ℕ, ◌==◌, ◌&&◌, nat_le, Bool, true, false, not, cond, is_some, Option, Some, None, refl, sym, none-some, Refusal, NoLink, TeiTaken, Heard, IdentityAssigned, IdentityDenied, IdentityRemove, IdentityRequest, IdentityVerify, IdentityCheckResponse, heard_in, is_on, free_place, free_tei, Management, Check, Period, First, Second, Course, Step, begun, no_room, leave, check_is, begin_check, end_check, lose_one, send, unserved, assign, assign_new, remembered_in, may_be_checked, counted, responses, doubled, count, respond, serve, expire, expire_period, expire_check, is_unanswered, removed, join_at, put_on, is_checked, take_off, nothing_happens, Event, message, expiry, remove, check, refusal_if, refusal, unless_refused, step, course}
+use Rattle.lapd_tei.proofs.Vocabulary.{◌≡◌, ℕ, ◌==◌, ◌&&◌, nat_le, Bool, true, false, not, cond, is_some, Option, Some, None, refl, sym, none-some, Refusal, NoLink, TeiTaken, Heard, IdentityAssigned, IdentityDenied, IdentityRemove, IdentityRequest, IdentityVerify, IdentityCheckResponse, heard_in, is_on, free_place, free_tei, Management, Check, Period, First, Second, Course, Step, begun, no_room, leave, check_is, begin_check, end_check, lose_one, send, unserved, assign, assign_new, remembered_in, may_be_checked, counted, responses, doubled, count, respond, serve, expire, expire_period, expire_check, is_unanswered, removed, join_at, put_on, is_checked, take_off, nothing_happens, end_if_any, withdraw, Event, message, expiry, remove, check, down, refusal_if, refusal, unless_refused, step, course}
 use Rattle.lapd_tei.specs.Events.{assign as assigning}
 use Rattle.lapd_tei.proofs.Tables.{same_number, not_not}
 
@@ -30,6 +30,8 @@ pub record OfEvents (e : Event) (m : Management) (E : Course → Type 0) : Type 
   pub joins : (tei place : ℕ) → e ≡ assigning tei → is_on tei m.places ≡ false → free_place m.places ≡ Some place → E (join_at tei (Some place) (begun m))
   pub leaves_checked : (tei : ℕ) → is_on tei m.places ≡ true → E (leave tei (end_check (send (IdentityRemove tei) (begun m))))
   pub leaves : (tei : ℕ) → is_on tei m.places ≡ true → is_checked tei m.check ≡ false → E (leave tei (send (IdentityRemove tei) (begun m)))
+  pub gives_up : m.check ≡ None → E (withdraw (begun m))
+  pub gives_up_checked : (own : Check) → m.check ≡ Some own → E (end_check (withdraw (begun m)))
 
 -- two tests that hold
 first_true : (a b : Bool) → (a && b) ≡ true → a ≡ true
@@ -101,6 +103,11 @@ module _ (m : Management) (E : Course → Type 0) where
         | false ↦ λ other. w.leaves tei on other
       ] refl
 
+  -- the line is down
+  of_give_up : OfEvents down m E → (o : Option Check) → m.check ≡ o → E (end_if_any o (withdraw (begun m)))
+  of_give_up w None is = w.gives_up is
+  of_give_up w (Some own) is = w.gives_up_checked own is
+
   -- what is said of each way holds of every event
   pub of_event : (e : Event) → OfEvents e m E → E (course e m)
   unfolding course refusal
@@ -112,3 +119,4 @@ module _ (m : Management) (E : Course → Type 0) where
       unless (refusal (remove tei) m) (take_off tei) w.is_refused (λ o. of_take_off tei w (not_not _ (not_refused (not (is_on tei m.places)) NoLink _ o)))
   of_event (check tei) w =
       unless (refusal (check tei) m) (step (check tei)) w.is_refused (λ o. w.messages.begins tei (not_not _ (not_refused (not (is_on tei m.places)) NoLink _ o)))
+  of_event down w = of_give_up w m.check refl

@@ -7,16 +7,17 @@ use Rattle.lapd_tei.specs.Messages.{heard_in, frame_of}
 use Rattle.lapd_tei.specs.Table.{is_on, free_place}
 use Rattle.lapd_tei.specs.Machine.{Management, TeiTold}
 use Rattle.lapd_tei.specs.Words.{Course, begun, Step, no_room, begin_check}
-use Rattle.lapd_tei.specs.Rows.{serve, expire, put_on, take_off}
+use Rattle.lapd_tei.specs.Rows.{serve, expire, put_on, take_off, give_up}
 
--- The information of a UI frame of SAPI 63 to the group TEI; the expiry of T201; and the requests of layer management,
--- of a TEI of at most 126.
+-- The information of a UI frame of SAPI 63 to the group TEI; the expiry of T201; the requests of layer management, of a
+-- TEI of at most 126; and that the line is down.
 pub data Event : Type 0 where
   message : List ℕ → Event
   expiry : Event
   assign : ℕ → Event
   remove : ℕ → Event
   check : ℕ → Event
+  down : Event
 
 -- Why a request is refused: the first that holds (profile).
 abbrev pub refusal_if : Bool → Refusal → Option Refusal → Option Refusal
@@ -29,6 +30,7 @@ refusal (assign tei) m = refusal_if (is_on tei m.places) TeiTaken (refusal_if (n
 refusal (remove tei) m = refusal_if (not (is_on tei m.places)) NoLink (refusal_if (no_room m.waiting) ControlFull None)
 refusal (check tei) m =
     refusal_if (not (is_on tei m.places)) NoLink (refusal_if (is_some m.check) CheckRunning (refusal_if (no_room m.waiting) ControlFull None))
+refusal down m = None
 
 -- What an event does that is not refused.
 abbrev pub step : Event → Step
@@ -37,6 +39,7 @@ step expiry = expire
 step (assign tei) = put_on tei
 step (remove tei) = take_off tei
 step (check tei) = begin_check tei
+step down = give_up
 
 -- What an event leaves, and what is told of it. A refused request changes nothing.
 abbrev pub unless_refused : Option Refusal → Step → Management → Course

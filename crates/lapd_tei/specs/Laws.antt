@@ -8,7 +8,7 @@ use Rattle.lapd_tei.specs.Table.{Places, is_on, free_place, free_tei}
 use Rattle.lapd_tei.specs.Messages.{IdentityAssigned, IdentityRequest, heard_in}
 use Rattle.lapd_tei.specs.Machine.{Management, empty, may_send, messages_limit, nothing, Change, Gained, Left}
 use Rattle.lapd_tei.specs.Rows.{remembered_in}
-use Rattle.lapd_tei.specs.Events.{Event, message, expiry, assign, remove, check, after, told, offered, after_offer}
+use Rattle.lapd_tei.specs.Events.{Event, message, expiry, assign, remove, check, down, after, told, offered, after_offer}
 use Rattle.lapd_tei.specs.Sound.{IsAt, IsSound}
 
 -- A request names a TEI that a terminal can have.
@@ -18,6 +18,7 @@ IsInRange expiry = Unit {0}
 IsInRange (assign tei) = tei ≤ 126
 IsInRange (remove tei) = tei ≤ 126
 IsInRange (check tei) = tei ≤ 126
+IsInRange down = Unit {0}
 
 -- Events and pulls, in any order.
 pub data Act : Type 0 where

@@ -7,7 +7,7 @@ use Rattle.lapd_frame.specs.declared.timers.Timer.TheVariants.{T201}
 use Rattle.lapd_tei.specs.Messages.{IdentityAssigned, IdentityDenied, IdentityCheckRequest, IdentityRemove, Heard, IdentityRequest, IdentityCheckResponse, IdentityVerify}
 use Rattle.lapd_tei.specs.Table.{is_on, free_place, free_tei}
 use Rattle.lapd_tei.specs.Machine.{Management, Remembered, Check, Period, First, Second}
-use Rattle.lapd_tei.specs.Words.{Step, ◌then◌, no_room, send, lose_one, note, order, unserved, join, remember, leave, check_is, begin_check, end_check}
+use Rattle.lapd_tei.specs.Words.{Step, ◌then◌, no_room, send, withdraw, lose_one, note, order, unserved, join, remember, leave, check_is, begin_check, end_check}
 
 -- An identity request for any TEI (clause 5.3.2) is served by the first case that holds (profile); the cases stand here
 -- from the last to the first.
@@ -118,3 +118,12 @@ end_check_of tei c = (if is_checked tei c.now.check then end_check else nothing_
 
 abbrev pub take_off : ℕ → Step
 take_off tei = send (IdentityRemove tei) then end_check_of tei then leave tei
+
+-- The line is down (persistent deactivation, annex B): the messages that wait are given up, and a check that runs ends
+-- without a result. The TEIs stay on the line, and nothing is told (profile).
+abbrev pub end_if_any : Option Check → Step
+end_if_any None = nothing_happens
+end_if_any (Some check) = end_check
+
+abbrev pub give_up : Step
+give_up c = (withdraw then end_if_any c.now.check) c

@@ -40,6 +40,10 @@ send message c = record c {
   told = record c.told { lost = lost_after c.now.waiting c.told.lost };
 }
 
+-- The messages that wait are given up.
+abbrev pub withdraw : Step
+withdraw c = record c { now = record c.now { waiting = [] } }
+
 -- A message that would find no room is not made, and counts as lost.
 abbrev pub lose_one : Step
 lose_one c = record c { told = record c.told { lost = c.told.lost + 1 } }

@@ -70,6 +70,13 @@ impl Queue {
         self.messages.front().copied()
     }
 
+    /// Gives up the messages that wait.
+    pub fn clear(&mut self)
+        ensures { self.new ≡ [] }
+    {
+        self.messages.clear();
+    }
+
     /// Takes the message that has waited longest.
     pub fn take(&mut self) -> Option<Message>
         ensures oldest { result ≡ slice_get self.old 0 }

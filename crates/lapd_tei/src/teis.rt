@@ -7,7 +7,7 @@ ghost use Rattle.lapd_tei.specs.Machine.{empty, place, held, First, Second};
 ghost use Rattle.lapd_tei.specs.Table.{is_on};
 ghost use Rattle.lapd_tei.specs.Words.{begun, begin_check, leave, left};
 ghost use Rattle.lapd_tei.specs.Rows.{request, verify, respond, doubled, expire, expire_period, take_off, is_checked};
-ghost use Rattle.lapd_tei.specs.Events.{message, expiry, assign, remove, check, refusal, after, told, offered, after_offer};
+ghost use Rattle.lapd_tei.specs.Events.{message, expiry, assign, remove, check, down, refusal, after, told, offered, after_offer};
 ghost use Rattle.lapd_tei.specs.Outcome.{told_of, led_to, IsShort};
 
 use crate::check::{Check, Period};
@@ -167,6 +167,23 @@ impl Teis {
             return Err(Refusal::ControlFull);
         }
         Ok(self.begin_check(tei))
+    }
+
+    /// The line is down (Q.921 annex B, persistent deactivation): the messages that wait are given up, and a check that runs
+    /// ends without a result. The TEIs stay on the line.
+    pub fn give_up(&mut self) -> TeiOutcome
+        ensures told { told_of result ≡ told down self.old }
+        ensures after { self.new ≡ after down self.old }
+        ensures short { IsShort result }
+    {
+        self.queue.clear();
+        match self.check.take() {
+            Some(_) => TeiOutcome {
+                orders: ShortList::one(Order::Stop(Timer::T201)),
+                ..TeiOutcome::nothing()
+            },
+            None => TeiOutcome::nothing(),
+        }
     }
 
     /// The place of a TEI in the table, `None` where it is not on the line.

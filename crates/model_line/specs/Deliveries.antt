@@ -13,7 +13,7 @@ use Rattle.lapd_tei.specs.declared.outcome.Change.TheVariants.{Gained, Left}
 use Rattle.model_line.specs.declared.config.Config.{Config}
 use Rattle.model_line.specs.Event.{Event, Answer, told, refused, gave}
 use Rattle.model_line.specs.Line.{Line, link_number, service_at, place_at, tei_at, terms, link_in}
-use Rattle.model_line.specs.Effect.{Aim, at_none, at_link, at_management, at_units}
+use Rattle.model_line.specs.Effect.{Aim, at_none, at_link, at_management, at_units, at_no_link}
 use Rattle.model_line.specs.Machine.{aim_of}
 
 -- The eligible I-frame that an event brings to a link, if it brings one.
@@ -23,6 +23,7 @@ arrived_aimed c number l (at_link service tei place event) =
     if link_number place service == number then links.eligible (terms c service tei) event (link_in l service place) else None
 arrived_aimed c number l (at_management event) = None
 arrived_aimed c number l (at_units unit) = None
+arrived_aimed c number l at_no_link = None
 
 abbrev pub arrived : Config → ℕ → Event → Line → Option links.Arrived
 arrived c number event l = arrived_aimed c number l (aim_of c event l)
@@ -40,6 +41,7 @@ restarts_aimed c number l (at_link service tei place event) =
     if link_number place service == number then links.restarts (terms c service tei) event (link_in l service place) else false
 restarts_aimed c number l (at_management event) = is_change_at (place_at number) (teis.told event l.management).change
 restarts_aimed c number l (at_units unit) = false
+restarts_aimed c number l at_no_link = false
 
 abbrev pub restarts : Config → ℕ → Event → Line → Bool
 restarts c number event l = restarts_aimed c number l (aim_of c event l)

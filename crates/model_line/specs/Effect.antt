@@ -26,6 +26,8 @@ pub data Aim : Type 0 where
   at_management : teis.Event → Aim
   -- unit data goes to the end of those that wait
   at_units : UnitData → Aim
+  -- what waits and is of no link is given up
+  at_no_link : Aim
 
 -- What an event leaves, and what is told of it.
 pub record Effect : Type 0 where
@@ -80,9 +82,14 @@ of_management c event l =
     let t = teis.told event l.management in
     of_change c t.change (told_of_management t) (record l { management = teis.after event l.management })
 
+-- The line is down: the unit data that waits is given up, and what TEI management has going.
+abbrev pub without_units : Line → Line
+without_units l = record l { units = [] }
+
 -- Any of them.
 abbrev pub of_aim : Config → Aim → Line → Effect
 of_aim c (at_none told) l = record { line = l; told = told }
 of_aim c (at_link service tei place event) l = of_link c service tei place event l
 of_aim c (at_management event) l = of_management c event l
 of_aim c (at_units unit) l = record { line = record l { units = l.units ++ unit ∷ [] }; told = nothing }
+of_aim c at_no_link l = of_management c teis.down (without_units l)

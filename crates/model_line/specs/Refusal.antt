@@ -8,7 +8,7 @@ use Rattle.model_link.specs.Requests.{serves, is_queue_full}
 use Rattle.lapd_tei.specs.Machine.{messages_limit}
 use Rattle.lapd_tei.specs.Table.{free_place}
 use Rattle.model_line.specs.declared.config.Config.{Config}
-use Rattle.model_line.specs.Request.{Request, Establish, Release, Data, Unit, Assign, Remove, Check, SetBusy, ClearBusy, Deactivate}
+use Rattle.model_line.specs.Request.{Request, Establish, Release, Data, Unit, Assign, Remove, Check, SetBusy, ClearBusy, Deactivate, Down}
 use Rattle.model_line.specs.Sides.{last_unit_tei, has_management}
 use Rattle.model_line.specs.Line.{Line, terms, has_tei, link_of}
 
@@ -83,6 +83,7 @@ rows c full (Check tei) l = wrong_side c ∷ bad_tei tei ∷ no_link tei l ∷ c
 rows c full (SetBusy service tei) l = bad_tei tei ∷ no_link tei l ∷ wrong_state service tei link.SetBusy l ∷ []
 rows c full (ClearBusy service tei) l = bad_tei tei ∷ no_link tei l ∷ wrong_state service tei link.ClearBusy l ∷ []
 rows c full (Deactivate service tei) l = bad_tei tei ∷ no_link tei l ∷ []
+rows c full Down l = []
 
 abbrev pub refusal : Config → Bool → Request → Line → Option Refusal
 refusal c full request l = first_that_holds (rows c full request l)

@@ -14,6 +14,7 @@ pub data Request : Type 0 where
   SetBusy : Service → ℕ → Request
   ClearBusy : Service → ℕ → Request
   Deactivate : Service → ℕ → Request
+  Down : Request
 
 -- What a request of layer 3 asks, its contents seen without references.
 abbrev pub request_of : rust.Request → Request
@@ -27,3 +28,4 @@ request_of (rust.TheVariants.Check tei) = Check tei
 request_of (rust.TheVariants.SetBusy service tei) = SetBusy service tei
 request_of (rust.TheVariants.ClearBusy service tei) = ClearBusy service tei
 request_of (rust.TheVariants.Deactivate service tei) = Deactivate service tei
+request_of rust.TheVariants.Down = Down

@@ -12,7 +12,7 @@ use Rattle.lapd_frame.specs.Services.{service_of}
 use Rattle.lapd_tei.specs.Events as teis
 use Rattle.model_line.specs.declared.config.Config.{Config}
 use Rattle.model_line.specs.Event.{LineTold, nothing, dropped}
-use Rattle.model_line.specs.Effect.{Aim, at_none, at_link, at_management, at_units}
+use Rattle.model_line.specs.Effect.{Aim, at_none, at_link, at_management, at_units, at_no_link}
 
 -- The group of all terminals of a line (Q.921 clause 3.3.4).
 abbrev pub group_tei : ℕ
@@ -48,6 +48,7 @@ at_side c parts (at_none told) = at_none (told_at c c.side parts told)
 at_side c parts (at_link service tei place event) = at_link service tei place event
 at_side c parts (at_management event) = managed_at c.side event
 at_side c parts (at_units unit) = at_units unit
+at_side c parts at_no_link = at_no_link
 
 -- The frame is a UI of the network to the group, which the user's side serves.
 pub record IsToGroup (c : Config) (parts : Parts) (service : Service) : Type 0 where

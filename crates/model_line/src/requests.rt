@@ -28,4 +28,7 @@ pub enum Request<'a> {
     ClearBusy(Service, u8),
     /// The line is down: give the link up, with all that waits on it (persistent deactivation, annex B). The TEI stays.
     Deactivate(Service, u8),
+    /// The line is down: give up what waits on it and is of no link: unit data, and messages of TEI management, whose check, if
+    /// one runs, ends without a result (persistent deactivation, annex B). The TEIs stay.
+    Down,
 }

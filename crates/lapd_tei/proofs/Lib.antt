@@ -11,3 +11,4 @@ pub mod Pigeonholes
 pub mod LawLemmas
 pub mod Brief
 pub mod Followed
+pub mod GivenUp

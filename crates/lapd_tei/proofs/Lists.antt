@@ -1,5 +1,5 @@
 -- Lemmas on lists.
-use Rattle.lapd_tei.proofs.Vocabulary.{◌≡◌, ℕ, zero, suc, ◌+◌, ◌<◌, Bool, true, false, cond, List, [], ◌∷◌, ◌++◌, drop, Some, None, ◌∙◌, refl, sym, ap, All, AllByRecursion, IsDistinct, filter, find, All-from_recursion, recursion_from_All, none-some, length, get_or, find_at, get_or_from_slice_get, slice_get_within, passes_at_first, fails_before_first, position_or_len}
+use Rattle.lapd_tei.proofs.Vocabulary.{◌≡◌, ℕ, zero, suc, ◌<◌, Bool, true, false, cond, List, [], ◌∷◌, ◌++◌, drop, Some, None, ◌∙◌, refl, sym, ap, All, AllByRecursion, IsDistinct, filter, find, All-from_recursion, recursion_from_All, none-some, length, get_or, find_at, get_or_from_slice_get, slice_get_within, passes_at_first, fails_before_first, position_or_len}
 
 -- what holds of all that pass a test holds of what a filter keeps
 kept_by : {X : Type 0} (p : X → Bool) (P Q : X → Type 0) → ((x : X) → p x ≡ true → P x → Q x) → (xs : List X) → AllByRecursion P xs → AllByRecursion Q (filter p xs)

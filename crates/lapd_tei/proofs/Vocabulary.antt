@@ -16,7 +16,7 @@ pub use Rattle.lapd_frame.specs.declared.refusals.Refusal.{Refusal}
 pub use Rattle.lapd_frame.specs.declared.refusals.Refusal.TheVariants.{NoLink, TeiTaken}
 pub use Rattle.lapd_tei.specs.Events.{Event, after, after_offer, check, down, expiry, message, refusal_if, remove, step, told, unless_refused}
 unfoldable pub use Rattle.lapd_tei.specs.Events.{course, refusal}
-pub use Rattle.lapd_tei.specs.Laws.{Act, AreInRange, AssignsLowest, ChangesAreTold, ExpiredT201Follows, Follows, IsInRange, IsLowestFree, IsSoundThroughout, LowestIsAssigned, Moves, NewIsAssigned, OneIsLost, OneMoreWaits, T201Follows, UnservedChangesNothing, after_acts, event, pull}
+pub use Rattle.lapd_tei.specs.Laws.{Act, AreInRange, AssignsLowest, ChangesAreTold, DownGivesUp, ExpiredT201Follows, Follows, IsInRange, IsLowestFree, IsSoundThroughout, LowestIsAssigned, Moves, NewIsAssigned, OneIsLost, OneMoreWaits, T201Follows, UnservedChangesNothing, after_acts, event, pull, stop_of}
 pub use Rattle.lapd_tei.specs.Machine.{Check, First, Gained, Management, Period, Remembered, Second, TeiTold, empty, messages_limit}
 pub use Rattle.lapd_tei.specs.Messages.{Heard, IdentityAssigned, IdentityCheckRequest, IdentityCheckResponse, IdentityDenied, IdentityRemove, IdentityRequest, IdentityVerify, Message, action_of, heard_in}
 pub use Rattle.lapd_tei.specs.Rows.{assign, assign_new, count, counted, doubled, end_if_any, expire, expire_check, expire_period, is_checked, is_for, is_unanswered, join_at, may_be_checked, nothing_happens, put_on, remembered_in, removed, request, respond, responses, serve, take_off, tei_in}

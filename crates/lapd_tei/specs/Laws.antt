@@ -6,7 +6,7 @@ use Rattle.lapd_frame.specs.declared.timers.Order.TheVariants.{Start, Stop}
 use Rattle.lapd_frame.specs.declared.timers.Timer.TheVariants.{T201}
 use Rattle.lapd_tei.specs.Table.{Places, is_on, free_place, free_tei}
 use Rattle.lapd_tei.specs.Messages.{IdentityAssigned, IdentityRequest, heard_in}
-use Rattle.lapd_tei.specs.Machine.{Management, empty, may_send, messages_limit, nothing, Change, Gained, Left}
+use Rattle.lapd_tei.specs.Machine.{Management, Check, empty, may_send, messages_limit, nothing, Change, Gained, Left}
 use Rattle.lapd_tei.specs.Rows.{remembered_in}
 use Rattle.lapd_tei.specs.Events.{Event, message, expiry, assign, remove, check, down, after, told, offered, after_offer}
 use Rattle.lapd_tei.specs.Sound.{IsAt, IsSound}
@@ -136,3 +136,16 @@ T201Follows = (e : Event) (m : Management) → Follows (is_some m.check) (told e
 -- After its own expiry, too, where the caller's runs no more when the event begins.
 abbrev pub ExpiredT201Follows : Type 0
 ExpiredT201Follows = (m : Management) → Follows false (told expiry m).orders (is_some (after expiry m).check)
+
+-- Where the line is down no message waits and no check runs, all else stays, and all that is told is that T201 stops, if it
+-- ran.
+abbrev pub stop_of : Option Check → List Order
+stop_of None = []
+stop_of (Some own) = Stop T201 ∷ []
+
+pub record IsGivenUp (m : Management) : Type 0 where
+  pub after : after down m ≡ record m { check = None; waiting = [] }
+  pub told : told down m ≡ record nothing { orders = stop_of m.check }
+
+abbrev pub DownGivesUp : Type 0
+DownGivesUp = (m : Management) → IsGivenUp m

@@ -1,6 +1,6 @@
 //! What holds of the table of TEI management itself.
 
-ghost use Rattle.lapd_tei.specs.Laws.{IsSoundThroughout, ChangesAreTold, LowestIsAssigned, NewIsAssigned, OneIsFree, OneMoreWaits, OneIsLost, OneFewerWaits, UnservedChangesNothing, T201Follows, ExpiredT201Follows};
+ghost use Rattle.lapd_tei.specs.Laws.{IsSoundThroughout, ChangesAreTold, LowestIsAssigned, NewIsAssigned, OneIsFree, OneMoreWaits, OneIsLost, OneFewerWaits, UnservedChangesNothing, T201Follows, ExpiredT201Follows, DownGivesUp};
 
 /// From the empty table on, after any events and pulls whose requests name TEIs of at most 126: no TEI
 /// and no Ri stands twice, each TEI is at most 126, at most four assignments are remembered, each of a
@@ -53,4 +53,12 @@ pub fn unserved_changes_nothing()
 pub fn orders_follow_the_check()
     ensures each { T201Follows }
     ensures expired { ExpiredT201Follows }
+{}
+
+/// Where the line is down (Q.921 annex B, persistent deactivation) no message waits and no check runs. The TEIs and what is
+/// remembered of their assignments stay, and all that is told is that T201 stops, if it ran. A law about the definitions in
+/// `specs/`; the call does nothing.
+#[tactic(auto, using(crate::proofs::GivenUp::down_gives_up))]
+pub fn down_gives_up()
+    ensures { DownGivesUp }
 {}

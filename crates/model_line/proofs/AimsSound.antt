@@ -1,5 +1,5 @@
 -- What an event is to the parts of a line keeps the line sound.
-use Rattle.model_line.proofs.Vocabulary.{◌≡◌, ℕ, ◌<◌, [], ◌∷◌, ◌++◌, length, get_or, set, Option, Some, None, ap, sym, ◌∙◌, subst, arith, length-set, length-append, get_or-set_other, All-nil, All-cons, All-append, Moves, Management, IsAt, Change, Gained, Left, Call, Packet, fresh, Config, LineTold, Line, link_number, link_at, place_at, Aim, at_none, at_link, at_management, at_units, of_change, of_management, of_aim, IsInRange, IsSoundAt, IsSound, IsUnitData}
+use Rattle.model_line.proofs.Vocabulary.{◌≡◌, ℕ, ◌<◌, [], ◌∷◌, ◌++◌, length, get_or, set, Option, Some, None, ap, sym, ◌∙◌, subst, arith, length-set, length-append, get_or-set_other, All-nil, All-cons, All-append, Moves, Management, IsAt, Change, Gained, Left, Call, Packet, fresh, Config, LineTold, Line, link_number, link_at, place_at, Aim, at_none, at_link, at_management, at_units, at_no_link, without_units, of_change, of_management, of_aim, IsInRange, IsSoundAt, IsSound, IsUnitData}
 use Rattle.lapd_tei.specs.Events as teis
 use Rattle.lapd_tei.specs.Laws as tei_laws
 use Rattle.lapd_tei.specs.Sound as tei
@@ -14,6 +14,7 @@ IsProper c l (at_none what) = Unit {0}
 IsProper c l (at_link service tei place event) = IsAt l.management.places place tei
 IsProper c l (at_management event) = tei_laws.IsInRange event
 IsProper c l (at_units unit) = IsUnitData c unit × (length l.units < c.unit_queue)
+IsProper c l at_no_link = Unit {0}
 
 module _ (c : Config) (ranged : IsInRange c) where
   -- a TEI comes to a place, or leaves it, and both links of the place begin
@@ -50,3 +51,5 @@ module _ (c : Config) (ranged : IsInRange c) where
       with_units c l s (l.units ++ unit ∷ [])
       (All-append (IsUnitData c) l.units (unit ∷ []) s.units (All-cons (IsUnitData c) unit [] proper.0 (All-nil (IsUnitData c))))
       (omega (arith, proper.1, length-append l.units (unit ∷ [])))
+  aim_sound l at_no_link s proper =
+      management_event_sound (without_units l) teis.down (with_units c l s [] (All-nil (IsUnitData c)) (omega arith)) tt

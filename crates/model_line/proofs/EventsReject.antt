@@ -8,7 +8,7 @@ expiry_none l = expiry_aims l (λ aim. rejects_aimed l aim ≡ false) refl (λ s
 
 pub request_none : (c : Config) (l : Line) (r : Request) → rejects_aimed l (unless_refused (refusal c false r l) (aim_of_request r l)) ≡ false
 request_none c l =
-    request_aims c l (λ takes aim. rejects_aimed l aim ≡ false) (λ takes. refl) (λ service tei place what at. refl) (λ service tei place at. refl) (λ e range. refl) (λ unit is few. refl)
+    request_aims c l (λ takes aim. rejects_aimed l aim ≡ false) (λ takes. refl) (λ service tei place what at. refl) (λ service tei place at. refl) (λ e range. refl) (λ unit is few. refl) refl
 
 pub event_rejects : (c : Config) (e : Event) (l : Line) → IsRejectHeard c e l
 event_rejects c (hears e) l = heard_rejects c l e

@@ -44,7 +44,7 @@ module _ (c : Config) (ranged : IsInRange c) (l : Line) (s : IsSound c l) where
   request_costs =
       request_aims c l (λ takes aim. price_at (sends c ranged) l aim ≤ 1) (λ takes. omega arith)
       (λ service tei place what at. at_most_one (is_some (requests.refusal (terms c service tei) (link_in l service place) false what)))
-      (λ service tei place at. omega arith) (λ e range. omega arith) (λ unit is few. omega arith)
+      (λ service tei place at. omega arith) (λ e range. omega arith) (λ unit is few. omega arith) (omega arith)
     where
       at_most_one : (b : Bool) → cond {A = ℕ} b 0 1 ≤ 1
       at_most_one true = omega arith

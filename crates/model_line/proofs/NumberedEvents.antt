@@ -12,7 +12,7 @@ use Rattle.model_line.specs.Machine.{aim_of}
 event_none : (c : Config) (l : Line) (e : Event) → HasNoContents (aim_of c e l)
 event_none c l =
     event_aims c l (λ takes aim. HasNoContents aim) (λ takes service tei. refl) (λ cause service tei. refl) (λ parts service to by tei. refl)
-    (λ service tei place e at. tt) (λ e range. tt) (λ unit is few. tt)
+    (λ service tei place e at. tt) (λ e range. tt) (λ unit is few. tt) tt
 
 -- A call for the next frame leaves V(R) of each link.
 set_keeps_r : (all : List Link) (n number : ℕ) (x : Link) → x.r ≡ (get_or all n fresh).r → (get_or (set all n x) number fresh).r ≡ (get_or all number fresh).r
@@ -76,5 +76,5 @@ module _ (c : Config) (number : ℕ) (l : Line) where
   slot_brings_nothing e takes =
       let none =
       event_aims c l (λ takes aim. takes ≡ true → BringsNone aim) (λ b takes. (refl, refl)) (λ cause takes. (refl, refl)) (λ parts service to takes. (refl, refl))
-      (λ service tei place e at takes. at_transfer service tei place e takes) (λ e range takes. absurd (true≢false (sym takes))) (λ unit is few takes. (refl, refl)) e takes in
+      (λ service tei place e at takes. at_transfer service tei place e takes) (λ e range takes. absurd (true≢false (sym takes))) (λ unit is few takes. (refl, refl)) (λ takes. absurd (true≢false (sym takes))) e takes in
       record { arrives = none.0; goes_on = none.1 }

@@ -1,5 +1,5 @@
 -- What holds of each aim that events can have holds of the aim of every event.
-use Rattle.model_line.proofs.Vocabulary.{◌≡◌, ℕ, ◌<◌, Bool, true, false, ◌==◌, ◌&&◌, not, List, length, Option, Some, None, is_some, Result, Ok, Err, refl, cond, ltb-false, leb-false, Cause, Tei, Unserved, Address, Control, ReadFault, BadExtension, Undefined, WrongSize, Short, Long, Refusal, Service, Timer, T200, T203, T201, Parts, reading, long_reading, service_of, LinkTimer, place_of-is, IsAt, Config, Event, hears, expiry, request, next, nothing, Line, UnitData, place_in, takes_slot, Request, Establish, Release, Data, Unit, Assign, Remove, Check, SetBusy, ClearBusy, Deactivate, Aim, at_none, at_link, at_management, at_units, management_sapi, group_tei, drop_for, at_place, to_service, addressed, message_of, aim_of_reading, unless_at_link, aim_of_long, heard_side, aim_of_heard, group_told, IsToGroup, at_timer, aim_of_expiry, at_requested, at_deactivated, aim_of_request, carries_contents, refusal, unless_refused, IsUnitData}
+use Rattle.model_line.proofs.Vocabulary.{◌≡◌, ℕ, ◌<◌, Bool, true, false, ◌==◌, ◌&&◌, not, List, length, Option, Some, None, is_some, Result, Ok, Err, refl, cond, ltb-false, leb-false, Cause, Tei, Unserved, Address, Control, ReadFault, BadExtension, Undefined, WrongSize, Short, Long, Refusal, Service, Timer, T200, T203, T201, Parts, reading, long_reading, service_of, LinkTimer, place_of-is, IsAt, Config, Event, hears, expiry, request, next, nothing, Line, UnitData, place_in, takes_slot, Request, Establish, Release, Data, Unit, Assign, Remove, Check, SetBusy, ClearBusy, Deactivate, Down, Aim, at_none, at_link, at_management, at_units, at_no_link, management_sapi, group_tei, drop_for, at_place, to_service, addressed, message_of, aim_of_reading, unless_at_link, aim_of_long, heard_side, aim_of_heard, group_told, IsToGroup, at_timer, aim_of_expiry, at_requested, at_deactivated, aim_of_request, carries_contents, refusal, unless_refused, IsUnitData}
 use Rattle.model_bits.specs.Stream as stream
 use Rattle.lapd_frame.specs.declared.controls.Control.TheVariants as control
 use Rattle.lapd_frame.specs.declared.overlong.Long.TheVariants as long
@@ -110,7 +110,8 @@ module _ (c : Config) (l : Line) (P : Bool → Aim → Type 0) (none : (takes : 
     → P (brings_data (link.requested what false)) (at_link service tei place (link.requested what false)))
     (to_cleared : (service : Service) (tei place : ℕ) → IsAt l.management.places place tei → P false (at_link service tei place link.cleared))
     (to_management : (e : teis.Event) → tei_laws.IsInRange e → P false (at_management e))
-    (to_units : (unit : UnitData) → IsUnitData c unit → length l.units < c.unit_queue → P true (at_units unit)) where
+    (to_units : (unit : UnitData) → IsUnitData c unit → length l.units < c.unit_queue → P true (at_units unit))
+    (to_no_link : P false at_no_link) where
   requested_aims : (service : Service) (tei : ℕ) (what : link.Request) (o : Option ℕ) → place_in l tei ≡ o
       → P (brings_data (link.requested what false)) (at_requested service tei what o)
   requested_aims service tei what None e = none _
@@ -136,6 +137,7 @@ module _ (c : Config) (l : Line) (P : Bool → Aim → Type 0) (none : (takes : 
   granted_aims (SetBusy service tei) e = requested_aims service tei link.SetBusy (place_in l tei) refl
   granted_aims (ClearBusy service tei) e = requested_aims service tei link.ClearBusy (place_in l tei) refl
   granted_aims (Deactivate service tei) e = deactivated_aims service tei (place_in l tei) refl
+  granted_aims Down e = to_no_link
 
   pub request_aims : (r : Request) → P (carries_contents r && not (is_some (refusal c false r l))) (unless_refused (refusal c false r l) (aim_of_request r l))
   request_aims r = go (refusal c false r l) refl
@@ -149,7 +151,8 @@ module _ (c : Config) (l : Line) (P : Bool → Aim → Type 0) (none : (takes : 
     (to_group : (parts : Parts) (service : Service) → IsToGroup c parts service → P false (at_none (group_told service parts.info)))
     (to_link : (service : Service) (tei place : ℕ) (e : link.Event) → IsAt l.management.places place tei → P (brings_data e) (at_link service tei place e))
     (to_management : (e : teis.Event) → tei_laws.IsInRange e → P false (at_management e))
-    (to_units : (unit : UnitData) → IsUnitData c unit → length l.units < c.unit_queue → P true (at_units unit)) where
+    (to_units : (unit : UnitData) → IsUnitData c unit → length l.units < c.unit_queue → P true (at_units unit))
+    (to_no_link : P false at_no_link) where
   pub event_aims : (e : Event) → P (takes_slot c e l) (aim_of c e l)
   unfolding takes_slot
   event_aims (hears e) =
@@ -159,7 +162,7 @@ module _ (c : Config) (l : Line) (P : Bool → Aim → Type 0) (none : (takes : 
       expiry_aims l (P false) (none false) (λ service tei place timer at. to_link service tei place (link.expired timer) at) (to_management teis.expiry tt) timer
   event_aims (request r) =
       request_aims c l P none (λ service tei place what at. to_link service tei place (link.requested what false) at)
-      (λ service tei place at. to_link service tei place link.cleared at) to_management to_units r
+      (λ service tei place at. to_link service tei place link.cleared at) to_management to_units to_no_link r
   event_aims next = none false
 
 -- So the aim of each event is one that a line can have.
@@ -167,7 +170,7 @@ module _ (c : Config) (l : Line) where
   pub event_proper : (e : Event) → IsProper c l (aim_of c e l)
   event_proper =
       event_aims c l (λ takes aim. IsProper c l aim) (λ takes. tt) (λ cause. tt) (λ parts service to. tt) (λ service tei place e at. at)
-      (λ e range. range) (λ unit is few. (is, few))
+      (λ e range. range) (λ unit is few. (is, few)) tt
 
   pub heard_proper : (e : stream.Event) → IsProper c l (aim_of_heard c l e)
   heard_proper e = event_proper (hears e)

@@ -1,5 +1,5 @@
 -- What a frame is on each side of a line.
-use Rattle.model_line.proofs.Vocabulary.{◌≡◌, ℕ, ◌≤◌, nat_lt, arith, Bool, true, false, ◌==◌, length, Option, Some, None, refl, cond, eqb-true, leb-true, ltb-false, Unserved, Side, User, Network, Control, Service, Parts, service_of, Config, LineTold, Aim, at_none, at_link, at_management, at_units, group_told, told_of_ui, told_of_group, told_at, managed_at, at_side, last_unit_tei, IsToGroup}
+use Rattle.model_line.proofs.Vocabulary.{◌≡◌, ℕ, ◌≤◌, nat_lt, arith, Bool, true, false, ◌==◌, length, Option, Some, None, refl, cond, eqb-true, leb-true, ltb-false, Unserved, Side, User, Network, Control, Service, Parts, service_of, Config, LineTold, Aim, at_none, at_link, at_management, at_units, at_no_link, group_told, told_of_ui, told_of_group, told_at, managed_at, at_side, last_unit_tei, IsToGroup}
 use Rattle.std.specs.Prelude.{nat_le}
 use Rattle.lapd_frame.specs.declared.controls.Control.TheVariants as control
 use Rattle.lapd_tei.specs.Events as teis
@@ -12,12 +12,14 @@ WhereServed c P (at_none told) = P (at_none told)
 WhereServed c P (at_link service tei place event) = P (at_link service tei place event)
 WhereServed c P (at_management event) = c.side ≡ Network → P (at_management event)
 WhereServed c P (at_units unit) = P (at_units unit)
+WhereServed c P at_no_link = P at_no_link
 
 pub everywhere : (c : Config) (P : Aim → Type 0) (aim : Aim) → P aim → WhereServed c P aim
 everywhere c P (at_none told) p = p
 everywhere c P (at_link service tei place event) p = p
 everywhere c P (at_management event) p = λ network. p
 everywhere c P (at_units unit) p = p
+everywhere c P at_no_link p = p
 
 -- So it holds of what a frame is on the side of the card, if it holds of what is not served and of the group's unit data.
 module _ (c : Config) (parts : Parts) (P : Aim → Type 0) (unserved : P (at_none (dropped Unserved)))
@@ -54,6 +56,7 @@ module _ (c : Config) (parts : Parts) (P : Aim → Type 0) (unserved : P (at_non
   side_where (at_link service tei place event) p = p
   side_where (at_management event) p = of_managed event p c.side refl
   side_where (at_units unit) p = p
+  side_where at_no_link p = p
 
   pub side_aims : (aim : Aim) → P aim → P (at_side c parts aim)
   side_aims aim p = side_where aim (everywhere c P aim p)

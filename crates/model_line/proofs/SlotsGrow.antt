@@ -35,7 +35,7 @@ link_takes c service tei other x = omega arith
 event_takes : (c : Config) (l : Line) (e : Event) → price_at (grows c) l (aim_of c e l) ≤ one (takes_slot c e l)
 event_takes c l =
     event_aims c l (λ takes aim. price_at (grows c) l aim ≤ one takes) (λ takes. omega arith) (λ cause. omega arith) (λ parts service to. omega arith)
-    (λ service tei place e at. link_takes c service tei e _) (λ e range. omega arith) (λ unit is few. omega arith)
+    (λ service tei place e at. link_takes c service tei e _) (λ e range. omega arith) (λ unit is few. omega arith) (omega arith)
 
 -- calls for the next frame take none
 abbrev GrowsNot : Config → Line → Taken → Type 0

@@ -1,11 +1,12 @@
 -- Sums over the parts of a line, and by how much an event of a part raises them.
-use Rattle.model_line.proofs.Vocabulary.{◌≡◌, ℕ, zero, suc, ◌+◌, ◌≤◌, ◌<◌, List, [], ◌∷◌, length, get_or, set, Option, Some, None, refl, ap, ◌∙◌, arith, length-append, length-set, ⊎_elim, replicate, sum_by, range_with_len, cases_lt, get_or-set_same, get_or-set_other, get_or-replicate, get_or_past, length-replicate, sum_by-cons, Service, Call, Packet, Link, fresh, Moves, Management, IsAt, Change, Gained, Left, at-within, Config, LineTold, Line, fresh_line, link_number, link_count, service_at, link_in, terms, Aim, at_none, at_link, at_management, at_units, of_link, of_change, told_of_management, of_aim, IsInRange, IsSound, sum_of_links}
+use Rattle.model_line.proofs.Vocabulary.{◌≡◌, ℕ, zero, suc, ◌+◌, ◌≤◌, ◌<◌, List, [], ◌∷◌, length, get_or, set, Option, Some, None, refl, ap, ◌∙◌, arith, length-append, length-set, ⊎_elim, replicate, sum_by, range_with_len, cases_lt, get_or-set_same, get_or-set_other, get_or-replicate, get_or_past, length-replicate, sum_by-cons, Service, Call, Packet, Link, fresh, Moves, Management, IsAt, Change, Gained, Left, at-within, Config, LineTold, Line, fresh_line, link_number, link_count, service_at, link_in, terms, Aim, at_none, at_link, at_management, at_units, at_no_link, without_units, of_link, of_change, told_of_management, of_aim, IsInRange, IsSound, IsUnitData, All-nil, sum_of_links}
 use Rattle.model_link.specs.Events as link
 use Rattle.model_link.specs.Machine as links
 use Rattle.model_link.specs.Sound as link_sounds
 use Rattle.lapd_tei.specs.Events as teis
 use Rattle.lapd_tei.proofs.LawLemmas as tei_lemmas
 use Rattle.model_line.proofs.AimsSound.{IsProper}
+use Rattle.model_line.proofs.SoundParts.{with_units}
 use Rattle.model_line.proofs.LinksSound.{sound_in}
 use Rattle.model_line.proofs.Numbers.{service_at-number, number_within, sum_changed}
 
@@ -64,6 +65,7 @@ module _ {c : Config} {f : Service → Link → ℕ} {g : Management → ℕ} {p
   price_at l (at_link service tei place event) = price service tei event (link_in l service place)
   price_at l (at_management event) = most
   price_at l (at_units unit) = 1
+  price_at l at_no_link = most
 
   link_rises : (l : Line) → IsInRange c → IsSound c l → (service : Service) (tei place : ℕ) (e : link.Event) → IsAt l.management.places place tei
       → total (of_link c service tei place e l).line ≤ total l + price service tei e (link_in l service place)
@@ -93,3 +95,8 @@ module _ {c : Config} {f : Service → Link → ℕ} {g : Management → ℕ} {p
       change_rises l (teis.after e l.management) (teis.told e l.management).change (told_of_management (teis.told e l.management)) s
       (h.management e l.management) (tei_lemmas.changes_are_told e l.management proper s.management)
   aim_rises l (at_units unit) ranged s proper = omega (arith, length-append l.units (unit ∷ []))
+  aim_rises l at_no_link ranged s proper =
+      let rises = change_rises (without_units l) (teis.after teis.down l.management) (teis.told teis.down l.management).change
+      (told_of_management (teis.told teis.down l.management)) (with_units c l s [] (All-nil (IsUnitData c)) (omega arith))
+      (h.management teis.down l.management) (tei_lemmas.changes_are_told teis.down l.management tt s.management) in
+      omega (arith, rises)

@@ -48,7 +48,7 @@ pub use Rattle.model_bits.specs.declared.heard.Cause.TheVariants.{Tei, Unserved}
 pub use Rattle.model_line.specs.Config.{is_within}
 pub use Rattle.model_line.specs.Counts.{hears_frame, is_accepted, is_given, is_long_frame, is_pool, is_pool_full, may_send, one, rejects, rejects_aimed}
 pub use Rattle.model_line.specs.Deliveries.{arrived, arrived_aimed, delivered, delivered_at, delivered_in, is_change_at, is_data_of, restarts, restarts_aimed}
-pub use Rattle.model_line.specs.Effect.{Aim, Effect, at_link, at_management, at_none, at_units, of_aim, of_change, of_link, of_management, told_of_link, told_of_management, unserved_cause}
+pub use Rattle.model_line.specs.Effect.{Aim, Effect, at_link, at_management, at_no_link, at_none, at_units, of_aim, of_change, of_link, of_management, told_of_link, told_of_management, unserved_cause, without_units}
 pub use Rattle.model_line.specs.Event.{Answer, Event, LineTold, expiry, gave, hears, next, nothing, refused, request, told}
 pub use Rattle.model_line.specs.Expiry.{aim_of_expiry, at_timer, runs_at}
 pub use Rattle.model_line.specs.Laws.{FallsByNext, IsRejectHeard, Rises, cause_in, orders_in}
@@ -58,7 +58,7 @@ unfoldable pub use Rattle.model_line.specs.Machine.{after, answer, takes_slot}
 pub use Rattle.model_line.specs.Heard.{addressed, aim_of_heard, aim_of_long, aim_of_reading, at_place, drop_for, group_tei, heard_side, management_sapi, message_of, to_service, unless_at_link}
 pub use Rattle.model_line.specs.Taken.{first_taken, line_of, link_taken, message_taken, next_of, round, Taken, taken, unit_taken, with_given_frame, with_message, with_unit}
 pub use Rattle.model_line.specs.Refusal.{Row, bad_tei, bad_tei_or_group, first_that_holds, no_link, no_link_nor_group, pool_full, queue_full, refusal, too_long, unit_queue_full, wrong_state}
-pub use Rattle.model_line.specs.Request.{Assign, Check, ClearBusy, Data, Deactivate, Establish, Release, Remove, Request, SetBusy, Unit}
+pub use Rattle.model_line.specs.Request.{Assign, Check, ClearBusy, Data, Deactivate, Down, Establish, Release, Remove, Request, SetBusy, Unit}
 pub use Rattle.model_line.specs.Requested.{aim_of_request, at_deactivated, at_requested, carries_contents}
 pub use Rattle.model_line.specs.Sides.{IsToGroup, at_side, group_told, last_unit_tei, managed_at, told_at, told_of_group, told_of_ui}
 pub use Rattle.model_line.specs.Sound.{IsInRange, IsSound, IsSoundAt, IsUnitData}

@@ -1,5 +1,5 @@
 -- A control frame that waits is taken by one of so many calls also where other events of its line are between them.
-use Rattle.laws_line.proofs.Vocabulary.{◌≡◌, ℕ, ◌+◌, ◌-◌, ◌<◌, ◌≤◌, ◌==◌, ◌&&◌, Bool, true, false, cond, List, [], ◌∷◌, ◌++◌, length, take, Option, Some, None, refl, sym, ap, subst, ◌∙◌, ◌⊎◌, inl, inr, arith, append_assoc, append-nil, length-append, eq-eqb, true≢false, Service, Parts, ControlFrame, State, Terms, Link, event-follows, as_heard, is_overlong, waiting_left, room, put, Change, Gained, Left, one_more_waits, Config, hears, request, next, LineTold, Answer, Aim, at_none, at_link, at_management, at_units, told_of_management, of_change, of_aim, aim_of_expiry, Line, link_count, service_at, place_at, tei_at, terms, link_at, aim_of_heard, Taken, taken, Deactivate, aim_of_request, IsInRange, after_sound}
+use Rattle.laws_line.proofs.Vocabulary.{◌≡◌, ℕ, ◌+◌, ◌-◌, ◌<◌, ◌≤◌, ◌==◌, ◌&&◌, Bool, true, false, cond, List, [], ◌∷◌, ◌++◌, length, take, Option, Some, None, refl, sym, ap, subst, ◌∙◌, ◌⊎◌, inl, inr, arith, append_assoc, append-nil, length-append, eq-eqb, true≢false, Service, Parts, ControlFrame, State, Terms, Link, event-follows, as_heard, is_overlong, waiting_left, room, put, Change, Gained, Left, one_more_waits, Config, hears, request, next, LineTold, Answer, Aim, at_none, at_link, at_management, at_units, told_of_management, of_change, of_aim, aim_of_expiry, Line, link_count, service_at, place_at, tei_at, terms, link_at, aim_of_heard, Taken, taken, Deactivate, aim_of_request, IsInRange, after_sound, at_no_link}
 use Rattle.model_link.specs.Events as link
 use Rattle.model_link.specs.Machine as links
 use Rattle.lapd_tei.specs.Events as teis
@@ -14,6 +14,7 @@ use Rattle.laws_line.specs.Drains.{way_round, frames_before, frames_before, cont
 use Rattle.laws_line.specs.Among.{after_events, is_take, takes_in, go_first, comes_first, come_first, StaysOnLine, IsTakenIn}
 use Rattle.laws_line.proofs.Ordered.{next-goes}
 use Rattle.laws_line.proofs.Told.{same_of_itself}
+use Rattle.laws_line.proofs.Downs.{by-down}
 
 -- What an event that is no call for the next frame leaves of whose turn it is, and what it brings.
 record Meanwhile (l l' : Line) : Type 0 where
@@ -34,6 +35,7 @@ by-aim c l (at_management e) =
     let same = x.1 in
     record { turn = x.0; few = omega (arith, more, same) }
 by-aim c l (at_units unit) = let n = length-append l.units (unit ∷ []) in record { turn = refl; few = omega (arith, n) }
+by-aim c l at_no_link = by-down c l (λ f. Meanwhile l f.line) (record { turn = refl; few = omega arith })
 
 meanwhile : (c : Config) (e : Event) (l : Line) → is_take e ≡ false → Meanwhile l (after c e l)
 unfolding after

@@ -1,5 +1,5 @@
 -- An event accepts for a link what its request asks and its answer grants.
-use Rattle.laws_line.proofs.Vocabulary.{◌≡◌, ℕ, Bool, true, false, cond, ◌==◌, List, [], ◌∷◌, length, Option, Some, None, is_some, refl, sym, ap, ◌∙◌, nat_lt, option_map_or, Refusal, TooLong, QueueFull, PoolFull, WrongState, Service, Timer, T201, Link, LinkTimer, accepted, contents_of, share, not_not, Config, hears, request, next, Aim, at_link, at_timer, aim_of_expiry, Line, link_number, place_in, link_in, link_of, terms, unless_refused_told, of_request, aim_of_heard, Row, first_that_holds, bad_tei, no_link, wrong_state, too_long, queue_full, pool_full, Request, Establish, Release, Assign, Remove, SetBusy, ClearBusy, Deactivate, at_requested, at_deactivated, aim_of_request, heard_aims}
+use Rattle.laws_line.proofs.Vocabulary.{◌≡◌, ℕ, Bool, true, false, cond, ◌==◌, List, [], ◌∷◌, length, Option, Some, None, is_some, refl, sym, ap, ◌∙◌, nat_lt, option_map_or, Refusal, TooLong, QueueFull, PoolFull, WrongState, Service, Timer, T201, Link, LinkTimer, accepted, contents_of, share, not_not, Config, hears, request, next, Aim, at_link, at_timer, aim_of_expiry, Line, link_number, place_in, link_in, link_of, terms, unless_refused_told, of_request, aim_of_heard, Row, first_that_holds, bad_tei, no_link, wrong_state, too_long, queue_full, pool_full, Request, Establish, Release, Assign, Remove, SetBusy, ClearBusy, Deactivate, at_requested, at_deactivated, aim_of_request, heard_aims, Down}
 use Rattle.model_bits.specs.Stream as stream
 use Rattle.lapd_frame.specs.declared.timers.Timer.TheVariants.{T200, T203}
 use Rattle.model_link.specs.Events as link
@@ -106,6 +106,7 @@ module _ (c : Config) (l : Line) (number : ℕ) where
   granted (SetBusy service tei) e = requested service tei link.SetBusy (place_in l tei) refl
   granted (ClearBusy service tei) e = requested service tei link.ClearBusy (place_in l tei) refl
   granted (Deactivate service tei) e = deactivated service tei (place_in l tei)
+  granted Down e = refl
 
 pub asked-is : (c : Config) (e : Event) (l : Line) (number : ℕ) → (share_of c number e l).accepted ≡ asked_by number e l (answer c e l)
 unfolding answer

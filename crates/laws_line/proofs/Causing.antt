@@ -1,5 +1,5 @@
 -- Why a message of TEI management comes to wait: each event of a line.
-use Rattle.laws_line.proofs.Vocabulary.{◌≡◌, ◌⊎◌, inl, inr, ℕ, ◌<◌, ◌==◌, true, false, cond, List, [], ◌∷◌, length, Option, Some, None, refl, sym, ap, ◌∙◌, subst, arith, option_map_or, Tei, Address, Refusal, Service, T201, Parts, service_of, LinkTimer, Management, heard_in, Change, Gained, Left, Config, hears, request, next, Answer, Aim, at_management, told_of_management, of_change, of_aim, at_timer, Line, place_in, has_tei, unless_refused_told, management_sapi, drop_for, to_service, addressed, message_of, aim_of_reading, aim_of_heard, Taken, taken, line_of, wrong_side, bad_tei, no_link, tei_taken, table_full, check_running, control_full, at_side, managed_at, Request, Establish, Release, Assign, Remove, SetBusy, ClearBusy, Deactivate, at_requested, at_deactivated, aim_of_request, IsInRange, next_walk, ranges_of, not_not}
+use Rattle.laws_line.proofs.Vocabulary.{◌≡◌, ◌⊎◌, inl, inr, ℕ, ◌<◌, ◌==◌, true, false, cond, List, [], ◌∷◌, length, Option, Some, None, refl, sym, ap, ◌∙◌, subst, arith, option_map_or, Tei, Address, Refusal, Service, T201, Parts, service_of, LinkTimer, Management, heard_in, Change, Gained, Left, Config, hears, request, next, Answer, Aim, at_management, told_of_management, of_change, of_aim, at_timer, Line, place_in, has_tei, unless_refused_told, management_sapi, drop_for, to_service, addressed, message_of, aim_of_reading, aim_of_heard, Taken, taken, line_of, wrong_side, bad_tei, no_link, tei_taken, table_full, check_running, control_full, at_side, managed_at, Request, Establish, Release, Assign, Remove, SetBusy, ClearBusy, Deactivate, at_requested, at_deactivated, aim_of_request, IsInRange, next_walk, ranges_of, not_not, Down}
 use Rattle.model_bits.specs.Stream as stream
 use Rattle.lapd_frame.specs.declared.timers.Timer.TheVariants.{T200, T203}
 use Rattle.model_link.specs.Events as link
@@ -24,6 +24,7 @@ use Rattle.laws_line.proofs.GroupAims.{IsUi, hears-said, heard-aims-at}
 use Rattle.laws_line.proofs.LinkMoves.{IsOne, taken-one}
 use Rattle.laws_line.proofs.Managing.{by-two, by-three, managed}
 use Rattle.laws_line.proofs.Messaging.{serves, told-or-not, expires, puts-on, takes-off, begins-asked}
+use Rattle.laws_line.proofs.Downs.{by-down}
 
 -- How many messages an event of TEI management loses is what the line tells.
 module _ (c : Config) (l : Line) (e : teis.Event) where
@@ -95,6 +96,13 @@ module _ (c : Config) (l : Line) where
       (subst (λ n. Granted r (teis.after e l.management) n) (sym (lost-is c l e))
       (subst (λ o. let x = teis.unless_refused o (teis.step e) l.management in Granted r x.now x.told.lost) (sym own) h))))
 
+  -- that the line is down is never refused
+  down-granted : Granted Down (after c (request Down) l).management (lost_in (answer c (request Down) l))
+  unfolding after answer
+  down-granted =
+      by-down c l (λ f. Granted Down f.line.management f.told.lost)
+      (record { none = refl; stays = record { places = refl; remembered = refl; check_is = refl }; told = refl })
+
   grants : (r : Request) → refusal c false r l ≡ None → Granted r (after c (request r) l).management (lost_in (answer c (request r) l))
   unfolding teis.refusal
   grants (Assign tei) none =
@@ -122,6 +130,7 @@ module _ (c : Config) (l : Line) where
   grants (SetBusy service tei) none = tt
   grants (ClearBusy service tei) none = tt
   grants (Deactivate service tei) none = tt
+  grants Down none = down-granted
 
   granted : (e : Event) (r : Request) → e ≡ request r → is_granted (answer c e l) ≡ true → Granted r (after c e l).management (lost_in (answer c e l))
   granted e r is = subst (λ x. is_granted (answer c x l) ≡ true → Granted r (after c x l).management (lost_in (answer c x l))) (sym is) (λ g. grants r (not-refused c r l g))
@@ -171,6 +180,7 @@ module _ (c : Config) (l : Line) where
   asked-caused (Assign tei) a g = inr (inr (inr (inr (record { asked = Assign tei; by = refl; granted = g; its = refl }))))
   asked-caused (Remove tei) a g = inr (inr (inr (inr (record { asked = Remove tei; by = refl; granted = g; its = refl }))))
   asked-caused (Check tei) a g = inr (inr (inr (inr (record { asked = Check tei; by = refl; granted = g; its = refl }))))
+  asked-caused Down a g = inr (inr (inr (inr (record { asked = Down; by = refl; granted = g; its = refl }))))
 
   -- A call for the next frame takes a message, or leaves all of TEI management.
   took : (a : Answer) (t : Taken) → IsOne c l t → FromCause next t.line a

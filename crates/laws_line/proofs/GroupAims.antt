@@ -1,5 +1,5 @@
 -- What is heard is to TEI management: nothing, or what a UI to the group brings.
-use Rattle.laws_line.proofs.Vocabulary.{◌≡◌, ℕ, ◌==◌, Bool, true, false, cond, List, Option, Some, None, Result, Ok, Err, refl, ap, Cause, Tei, Unserved, Address, Network, Control, ReadFault, BadExtension, Undefined, WrongSize, Short, Long, Service, Parts, reading, long_reading, service_of, Config, hears, Aim, at_none, at_link, at_management, at_units, Line, place_in, management_sapi, drop_for, to_service, addressed, message_of, aim_of_reading, unless_at_link, aim_of_long, heard_side, aim_of_heard, group_told, IsToGroup, WhereServed, everywhere, side_where}
+use Rattle.laws_line.proofs.Vocabulary.{◌≡◌, ℕ, ◌==◌, Bool, true, false, cond, List, Option, Some, None, Result, Ok, Err, refl, ap, Cause, Tei, Unserved, Address, Network, Control, ReadFault, BadExtension, Undefined, WrongSize, Short, Long, Service, Parts, reading, long_reading, service_of, Config, hears, Aim, at_none, at_link, at_management, at_units, Line, place_in, management_sapi, drop_for, to_service, addressed, message_of, aim_of_reading, unless_at_link, aim_of_long, heard_side, aim_of_heard, group_told, IsToGroup, WhereServed, everywhere, side_where, at_no_link}
 use Rattle.std.proofs.Common.{eqb-true}
 use Rattle.model_bits.specs.Stream as stream
 use Rattle.lapd_frame.specs.declared.controls.Control.TheVariants as control
@@ -70,6 +70,7 @@ module _ (c : Config) (l : Line) (e : stream.Event) (P : Aim → Type 0) (none :
   unless (at_link service tei place event) h = none _
   unless (at_management event) h = h
   unless (at_units unit) h = h
+  unless at_no_link h = h
 
   too-long : (r : Result Long ReadFault) → P (aim_of_long l r)
   too-long (Ok (long.Information address)) = dropped-too address link.overlong

@@ -1,5 +1,5 @@
 -- What is handed on of what is heard.
-use Rattle.laws_line.proofs.Vocabulary.{◌≡◌, ℕ, Bool, true, false, cond, ◌==◌, List, [], ◌∷◌, Option, Some, None, Result, Ok, Err, is_some, refl, sym, ap, ◌∙◌, ◌⊎◌, inl, inr, list_any, option_or, unwrap_or, All-head, All-tail, none-some, Cause, Extension, Sapi, Tei, Unserved, Address, Control, ReadFault, BadExtension, Undefined, WrongSize, Short, Long, Note, Refusal, Service, Call, Packet, Timer, T201, Parts, reading, long_reading, service_of, reading-found, Terms, LinkTimer, IsOwn, Link, is_data, is_unit, notes-own, event-tells, contents_heard, unit_heard, data_due, unit_due, delivered-was-heard, event-unit, data-is, within-is, Change, Gained, Left, place_of-is, Config, hears, request, next, nothing, Aim, at_none, at_link, at_management, at_units, told_of_management, of_change, of_aim, at_timer, aim_of_expiry, Line, place_in, link_in, terms, unless_refused_told, drop_for, management_sapi, to_service, addressed, message_of, aim_of_reading, unless_at_link, aim_of_long, heard_side, aim_of_heard, group_told, IsToGroup, side_aims, Request, Establish, Release, Assign, Remove, SetBusy, ClearBusy, Deactivate, at_requested, at_deactivated, aim_of_request, IsInRange, sound_in}
+use Rattle.laws_line.proofs.Vocabulary.{◌≡◌, ℕ, Bool, true, false, cond, ◌==◌, List, [], ◌∷◌, Option, Some, None, Result, Ok, Err, is_some, refl, sym, ap, ◌∙◌, ◌⊎◌, inl, inr, list_any, option_or, unwrap_or, All-head, All-tail, none-some, Cause, Extension, Sapi, Tei, Unserved, Address, Control, ReadFault, BadExtension, Undefined, WrongSize, Short, Long, Note, Refusal, Service, Call, Packet, Timer, T201, Parts, reading, long_reading, service_of, reading-found, Terms, LinkTimer, IsOwn, Link, is_data, is_unit, notes-own, event-tells, contents_heard, unit_heard, data_due, unit_due, delivered-was-heard, event-unit, data-is, within-is, Change, Gained, Left, place_of-is, Config, hears, request, next, nothing, Aim, at_none, at_link, at_management, at_units, told_of_management, of_change, of_aim, at_timer, aim_of_expiry, Line, place_in, link_in, terms, unless_refused_told, drop_for, management_sapi, to_service, addressed, message_of, aim_of_reading, unless_at_link, aim_of_long, heard_side, aim_of_heard, group_told, IsToGroup, side_aims, Request, Establish, Release, Assign, Remove, SetBusy, ClearBusy, Deactivate, at_requested, at_deactivated, aim_of_request, IsInRange, sound_in, Down, at_no_link}
 use Rattle.std.specs.Prelude.{All}
 use Rattle.model_bits.specs.Stream as stream
 use Rattle.lapd_frame.specs.declared.controls.Control.TheVariants as control
@@ -20,6 +20,7 @@ use Rattle.model_line.specs.Sound.{IsSound}
 use Rattle.laws_line.specs.Heard.{IsFor, IsTo, contents_in, due, is_data_of, is_unit_of, IsHeard}
 use Rattle.laws_line.proofs.Told.{its-own}
 use Rattle.laws_line.proofs.Hearing.{sapi-is, spelled-for, read-event}
+use Rattle.laws_line.proofs.Downs.{by-down}
 
 -- What a frame brings to layer 3 is handed on.
 pub due-read : (c : Config) (l : Line) (service : Service) (tei place : ℕ) (parts : Parts) (octets : List ℕ) → IsInRange c → IsSound c l
@@ -153,6 +154,7 @@ module _ (c : Config) (ranged : IsInRange c) (l : Line) (s : IsSound c l) where
   unless-silent (at_link service tei place event) x = drops Unserved
   unless-silent (at_management event) x = x
   unless-silent (at_units unit) x = x
+  unless-silent at_no_link x = x
 
   too-long : (r : Result Long ReadFault) → Silent (aim_of_long l r)
   too-long (Ok (long.Information address)) = not-read address link.overlong (drop_for Unserved) (drops Unserved) refl refl
@@ -205,6 +207,7 @@ module _ (c : Config) (ranged : IsInRange c) (l : Line) (s : IsSound c l) where
   request-silent (SetBusy service tei) = asked-silent service tei link.SetBusy (place_in l tei) refl
   request-silent (ClearBusy service tei) = asked-silent service tei link.ClearBusy (place_in l tei) refl
   request-silent (Deactivate service tei) = deactivated-silent service tei (place_in l tei) refl
+  request-silent Down = dropped at_no_link (by-down c l (λ f. f.told.contents ≡ None) refl)
 
   -- contents by a frame that was heard
   pub record Heard (octets contents : List ℕ) (ns : List Note) : Type 0 where

@@ -1,5 +1,5 @@
 -- What an event of a line is to one of its links.
-use Rattle.laws_line.proofs.Vocabulary.{◌≡◌, ◌≢◌, ℕ, ◌<◌, Bool, true, false, ◌==◌, length, get_or, set, Option, Some, None, refl, ap, sym, ◌∙◌, subst, arith, eq-eqb, true≢false, IfSome, inl, inr, ◌⊎◌, ⊎_elim, option_map_or, get_or-set_same, get_or-set_other, Refusal, Service, Call, Packet, Link, IsAt, Change, Gained, Left, Config, hears, request, next, Answer, told, gave, is_change_at, Aim, at_none, at_link, at_management, at_units, told_of_management, of_change, of_aim, aim_of_expiry, Line, link_number, service_at, place_at, tei_at, link_at, link_in, terms, link_count, unless_refused_told, aim_of_heard, Taken, taken, next_of, line_of, aim_of_request, IsProper, place_at-number, service_at-number, heard_proper, expiry_proper, request_proper, taken_walk, next_walk}
+use Rattle.laws_line.proofs.Vocabulary.{◌≡◌, ◌≢◌, ℕ, ◌<◌, Bool, true, false, ◌==◌, length, get_or, set, Option, Some, None, refl, ap, sym, ◌∙◌, subst, arith, eq-eqb, true≢false, IfSome, inl, inr, ◌⊎◌, ⊎_elim, option_map_or, get_or-set_same, get_or-set_other, Refusal, Service, Call, Packet, Link, IsAt, Change, Gained, Left, Config, hears, request, next, Answer, told, gave, is_change_at, Aim, at_none, at_link, at_management, at_units, told_of_management, of_change, of_aim, aim_of_expiry, Line, link_number, service_at, place_at, tei_at, link_at, link_in, terms, link_count, unless_refused_told, aim_of_heard, Taken, taken, next_of, line_of, aim_of_request, IsProper, place_at-number, service_at-number, heard_proper, expiry_proper, request_proper, taken_walk, next_walk, at_no_link}
 use Rattle.std.proofs.Common.{eqb-true, option_map}
 use Rattle.model_link.specs.Events as link
 use Rattle.model_link.specs.Link.{fresh}
@@ -16,6 +16,7 @@ use Rattle.laws_line.specs.Steady.{IsBy, IsDeactivated, IsOf}
 use Rattle.laws_line.proofs.Kept.{begin_here, begin_away}
 use Rattle.laws_line.proofs.Tied.{Ties, heard-ties, expiry-ties, request-ties}
 use Rattle.laws_line.proofs.Told.{moved}
+use Rattle.laws_line.proofs.Downs.{by-down}
 
 -- A link of a TEI on the line is deactivated.
 pub record IsGivenUp (service : Service) (number : ℕ) (e : Event) (before : Line) (answer : Answer) : Type 0 where
@@ -127,6 +128,7 @@ module _ (c : Config) (l : Line) (s : IsSound c l) (number : ℕ) (few : number 
   aim-happens (at_link service tei place le) proper ties = at-its-link service tei place le proper ties
   aim-happens (at_management me) proper ties = managed me proper
   aim-happens (at_units unit) proper ties = inl refl
+  aim-happens at_no_link proper ties = inl (by-down c l (λ f. link_at number f.line ≡ link_at number l) refl)
 
 -- A call for the next frame takes what one link gives, and leaves the others.
 module _ (c : Config) (l : Line) (s : IsSound c l) (number : ℕ) where

@@ -1,5 +1,5 @@
 -- What an event makes of the contents of a link of a line.
-use Rattle.laws_line.proofs.Vocabulary.{⊎_elim, length-set, ◌≡◌, ◌≢◌, ℕ, ◌+◌, ◌*◌, ◌<◌, zero, suc, Bool, true, false, cond, ◌==◌, List, [], ◌∷◌, length, get_or, set, Option, Some, None, refl, ap, sym, ◌∙◌, subst, arith, eq-eqb, true≢false, IfSome, option_map_or, get_or-set_same, get_or-set_other, Service, Call, Packet, Link, Terms, Share, share, Comes, event-done, same-comes, restarted, offer-leaves, Moves, Management, IsAt, Places, Change, Gained, Left, Config, hears, request, next, LineTold, is_change_at, Aim, at_none, at_link, at_management, at_units, told_of_management, of_change, of_aim, Line, link_number, service_at, place_at, link_at, link_in, terms, link_count, aim_of_heard, aim_of_expiry, Taken, taken, line_of, aim_of_request, IsInRange, IsProper, sound_in, place_at-number, taken_walk, next_walk, heard_proper, expiry_proper, request_proper}
+use Rattle.laws_line.proofs.Vocabulary.{⊎_elim, length-set, ◌≡◌, ◌≢◌, ℕ, ◌+◌, ◌*◌, ◌<◌, zero, suc, Bool, true, false, cond, ◌==◌, List, [], ◌∷◌, length, get_or, set, Option, Some, None, refl, ap, sym, ◌∙◌, subst, arith, eq-eqb, true≢false, IfSome, option_map_or, get_or-set_same, get_or-set_other, Service, Call, Packet, Link, Terms, Share, share, Comes, event-done, same-comes, restarted, offer-leaves, Moves, Management, IsAt, Places, Change, Gained, Left, Config, hears, request, next, LineTold, is_change_at, Aim, at_none, at_link, at_management, at_units, told_of_management, of_change, of_aim, Line, link_number, service_at, place_at, link_at, link_in, terms, link_count, aim_of_heard, aim_of_expiry, Taken, taken, line_of, aim_of_request, IsInRange, IsProper, sound_in, place_at-number, taken_walk, next_walk, heard_proper, expiry_proper, request_proper, at_no_link}
 use Rattle.std.proofs.Common.{eqb-true}
 use Rattle.model_link.specs.Events as link
 use Rattle.model_link.specs.Link.{fresh}
@@ -12,6 +12,7 @@ use Rattle.model_line.specs.Refusal.{refusal}
 use Rattle.model_line.specs.Sound.{IsSound}
 use Rattle.model_line.proofs.Numbers.{at_place}
 use Rattle.laws_line.specs.Share.{no_share, ending, share_aimed, share_of}
+use Rattle.laws_line.proofs.Downs.{by-down}
 
 -- both links of a place begin anew
 pub begin_here : (all : List Link) (place number : ℕ) → place_at number ≡ place → 2 * place + 1 < length all
@@ -92,6 +93,7 @@ module _ (c : Config) (ranged : IsInRange c) (l : Line) (s : IsSound c l) (numbe
       change_parts (teis.told e l.management).change (told_of_management (teis.told e l.management)) (teis.after e l.management).places
       (teis.after e l.management) (tei_lemmas.changes_are_told e l.management proper s.management)
   aim_parts (at_units unit) proper = stays (link_at number l) (link_at number l) refl
+  aim_parts at_no_link proper = stays (link_at number l) _ (by-down c l (λ f. link_at number f.line ≡ link_at number l) refl)
 
 -- A call for the next frame leaves the contents of each link, and V(A).
 record Same (before after : Link) : Type 0 where

@@ -1,5 +1,5 @@
 -- By notes layer 3 knows which links are up: each event.
-use Rattle.laws_line.proofs.Vocabulary.{◌≡◌, ℕ, ◌==◌, ◌&&◌, Bool, true, false, cond, List, [], ◌∷◌, ◌++◌, set, get_or, Option, Some, None, refl, ap, sym, ◌∙◌, subst, arith, eq-eqb, true≢false, inl, inr, next_walk, fold, option_map_or, get_or-set_other, fold-append, none-some, Note, Refusal, Service, Call, Packet, same_service, T201, is_up, Link, offer_among, may_send_information, is_awaiting_acknowledgement, with_one_sent, ControlFrame, Terms, LinkTimer, layer_3_knows, notes-own, Moves, Management, IsAt, IsSoundTable, is_on, place_of, Change, Gained, Left, at-off, place_of-is, Config, hears, request, next, at_link, at_management, at_units, told_of_management, of_change, of_aim, at_timer, Line, link_number, service_at, place_at, place_in, link_at, link_in, terms, with_link, fresh_line, unless_refused_told, aim_of_heard, Taken, taken, line_of, with_unit, with_given_frame, Request, Establish, Release, Assign, Remove, SetBusy, ClearBusy, Deactivate, at_requested, at_deactivated, aim_of_request, IsProper, heard_aims, request_proper}
+use Rattle.laws_line.proofs.Vocabulary.{◌≡◌, ℕ, ◌==◌, ◌&&◌, Bool, true, false, cond, List, [], ◌∷◌, ◌++◌, set, get_or, Option, Some, None, refl, ap, sym, ◌∙◌, subst, arith, eq-eqb, true≢false, inl, inr, next_walk, fold, option_map_or, get_or-set_other, fold-append, none-some, Note, Refusal, Service, Call, Packet, same_service, T201, is_up, Link, offer_among, may_send_information, is_awaiting_acknowledgement, with_one_sent, ControlFrame, Terms, LinkTimer, layer_3_knows, notes-own, Moves, Management, IsAt, IsSoundTable, is_on, place_of, Change, Gained, Left, at-off, place_of-is, Config, hears, request, next, at_link, at_management, at_units, told_of_management, of_change, of_aim, at_timer, Line, link_number, service_at, place_at, place_in, link_at, link_in, terms, with_link, fresh_line, unless_refused_told, aim_of_heard, Taken, taken, line_of, with_unit, with_given_frame, Request, Establish, Release, Assign, Remove, SetBusy, ClearBusy, Deactivate, at_requested, at_deactivated, aim_of_request, IsProper, heard_aims, request_proper, Down}
 use Rattle.std.proofs.Common.{eqb-true}
 use Rattle.model_bits.specs.Stream as stream
 use Rattle.lapd_frame.specs.declared.timers.Timer.TheVariants.{T200, T203}
@@ -27,6 +27,7 @@ use Rattle.laws_line.proofs.Places.{has-place}
 use Rattle.laws_line.proofs.Readings as read
 use Rattle.laws_line.proofs.TeiNotes.{ByChange, noted}
 use Rattle.laws_line.proofs.TimersFollow.{number-is, nowhere}
+use Rattle.laws_line.proofs.Downs.{given_up, by-down}
 
 -- What layer 3 takes for up by notes is up, of each link.
 abbrev Up : Line → List Note → Line → Type 0
@@ -71,11 +72,13 @@ tei-note service tei up teis.expiry (Some (Gained by place)) ns is = absurd is
 tei-note service tei up (teis.assign asked) (Some (Gained by place)) ns is = ap (λ xs. fold (up_by_note service tei) up xs) is.1
 tei-note service tei up (teis.remove asked) (Some (Gained by place)) ns is = absurd is
 tei-note service tei up (teis.check asked) (Some (Gained by place)) ns is = absurd is
+tei-note service tei up teis.down (Some (Gained by place)) ns is = absurd is
 tei-note service tei up (teis.message octets) (Some (Left by place)) ns is = ap (λ xs. fold (up_by_note service tei) up xs) is
 tei-note service tei up teis.expiry (Some (Left by place)) ns is = ap (λ xs. fold (up_by_note service tei) up xs) is
 tei-note service tei up (teis.assign asked) (Some (Left by place)) ns is = absurd is
 tei-note service tei up (teis.remove asked) (Some (Left by place)) ns is = ap (λ xs. fold (up_by_note service tei) up xs) is.1
 tei-note service tei up (teis.check asked) (Some (Left by place)) ns is = absurd is
+tei-note service tei up teis.down (Some (Left by place)) ns is = absurd is
 
 -- An event of TEI management.
 module _ (c : Config) (l : Line) (s : IsSound c l) (e : teis.Event) (fits : tei_laws.IsInRange e) where
@@ -210,6 +213,7 @@ module _ (c : Config) (l : Line) (s : IsSound c l) where
   request-up (SetBusy service tei) proper = asked-up service tei link.SetBusy (place_in l tei) refl
   request-up (ClearBusy service tei) proper = asked-up service tei link.ClearBusy (place_in l tei) refl
   request-up (Deactivate service tei) proper = deactivated-up service tei (place_in l tei) refl
+  request-up Down proper = by-down c l (λ f. Up l f.told.notes f.line) (λ s' n'. sym (read.same-read false is_up s' n' l (given_up l).line refl refl))
 
   offered-up : (service : Service) (tei place : ℕ) → IsAt l.management.places place tei → (s' : Service) (n' : ℕ)
       → is_up_of s' n' l ≡ is_up_of s' n' (with_link (link_number place service) (links.after (terms c service tei) link.offer (link_in l service place)) l)

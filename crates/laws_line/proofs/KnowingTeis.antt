@@ -1,5 +1,5 @@
 -- By notes and granted requests management knows which TEIs are on the line: each event.
-use Rattle.laws_line.proofs.Vocabulary.{◌≡◌, ℕ, ◌==◌, Bool, true, false, cond, not, is_some, nat_lt, List, ◌++◌, set, get_or, replicate, Option, Some, None, refl, ap, sym, ◌∙◌, subst, eq-eqb, true≢false, inl, inr, next_walk, fold, option_map_or, get_or-set_same, fold-append, none-some, Note, Refusal, TeiTaken, TableFull, NoLink, ControlFull, Service, Call, Packet, T201, is_up, LinkTimer, notes-own, refusal_if, Moves, Management, IdentityRemove, join_at, put_on, take_off, is_checked, nothing_happens, no_room, send, leave, left, end_check, IsSoundTable, Places, is_on, place_of, free_place, Change, Gained, Left, is_on-at, place_of-is, Config, hears, request, next, at_link, at_management, told_of_management, of_change, of_aim, at_timer, Line, link_number, place_in, has_tei, link_in, terms, fresh_line, unless_refused_told, aim_of_heard, Taken, taken, line_of, has_management, Request, Establish, Release, Assign, Remove, SetBusy, ClearBusy, Deactivate, at_requested, at_deactivated, aim_of_request, IsProper, heard_aims, request_proper}
+use Rattle.laws_line.proofs.Vocabulary.{◌≡◌, ℕ, ◌==◌, Bool, true, false, cond, not, is_some, nat_lt, List, ◌++◌, set, get_or, replicate, Option, Some, None, refl, ap, sym, ◌∙◌, subst, eq-eqb, true≢false, inl, inr, next_walk, fold, option_map_or, get_or-set_same, fold-append, none-some, Note, Refusal, TeiTaken, TableFull, NoLink, ControlFull, Service, Call, Packet, T201, is_up, LinkTimer, notes-own, refusal_if, Moves, Management, IdentityRemove, join_at, put_on, take_off, is_checked, nothing_happens, no_room, send, leave, left, end_check, IsSoundTable, Places, is_on, place_of, free_place, Change, Gained, Left, is_on-at, place_of-is, Config, hears, request, next, at_link, at_management, told_of_management, of_change, of_aim, at_timer, Line, link_number, place_in, has_tei, link_in, terms, fresh_line, unless_refused_told, aim_of_heard, Taken, taken, line_of, has_management, Request, Establish, Release, Assign, Remove, SetBusy, ClearBusy, Deactivate, at_requested, at_deactivated, aim_of_request, IsProper, heard_aims, request_proper, Down}
 use Rattle.std.proofs.Common.{option_map, eqb-true}
 use Rattle.model_bits.specs.Stream as stream
 use Rattle.lapd_frame.specs.declared.timers.Timer.TheVariants.{T200, T203}
@@ -24,6 +24,7 @@ use Rattle.laws_line.proofs.Places.{is-off, has-no-place, stays-placed}
 use Rattle.laws_line.proofs.Readings as read
 use Rattle.laws_line.proofs.TeiNotes.{ByChange, GainedBy, LeftBy, noted}
 use Rattle.laws_line.proofs.TimersFollow.{nowhere}
+use Rattle.laws_line.proofs.Downs.{by-down}
 
 -- A TEI is on the line where it has a place.
 on-placed : (tei : ℕ) (places : Places) → is_on tei places ≡ is_some (place_of tei places)
@@ -40,6 +41,7 @@ asked-on tei on teis.expiry = on
 asked-on tei on (teis.assign asked) = cond (asked == tei) true on
 asked-on tei on (teis.remove asked) = cond (asked == tei) false on
 asked-on tei on (teis.check asked) = on
+asked-on tei on teis.down = on
 
 comes-on : (tei by : ℕ) (e : teis.Event) (ns : List Note) → GainedBy e by ns → (on : Bool) → fold (on_by_note tei) (asked-on tei on e) ns ≡ cond (by == tei) true on
 comes-on tei by (teis.message octets) ns is on = ap (λ xs. fold (on_by_note tei) on xs) is
@@ -47,6 +49,7 @@ comes-on tei by teis.expiry ns is on = absurd is
 comes-on tei by (teis.assign asked) ns is on = ap (λ xs. fold (on_by_note tei) (cond (asked == tei) true on) xs) is.1 ∙ ap (λ n. cond (n == tei) true on) is.0
 comes-on tei by (teis.remove asked) ns is on = absurd is
 comes-on tei by (teis.check asked) ns is on = absurd is
+comes-on tei by teis.down ns is on = absurd is
 
 leaves-on : (tei by : ℕ) (e : teis.Event) (ns : List Note) → LeftBy e by ns → (on : Bool) → fold (on_by_note tei) (asked-on tei on e) ns ≡ cond (by == tei) false on
 leaves-on tei by (teis.message octets) ns is on = ap (λ xs. fold (on_by_note tei) on xs) is
@@ -54,6 +57,7 @@ leaves-on tei by teis.expiry ns is on = ap (λ xs. fold (on_by_note tei) on xs) 
 leaves-on tei by (teis.assign asked) ns is on = absurd is
 leaves-on tei by (teis.remove asked) ns is on = ap (λ xs. fold (on_by_note tei) (cond (asked == tei) false on) xs) is.1 ∙ ap (λ n. cond (n == tei) false on) is.0
 leaves-on tei by (teis.check asked) ns is on = absurd is
+leaves-on tei by teis.down ns is on = absurd is
 
 -- An assignment and a removal that are granted change the table.
 not-refused : (b : Bool) (why : Refusal) (o : Option Refusal) → cond b (Some why) o ≡ None → (b ≡ false) × (o ≡ None)
@@ -190,6 +194,7 @@ module _ (c : Config) (l : Line) (s : IsSound c l) (tei : ℕ) where
   request-knows (SetBusy service by) granted proper = asked-knows service by link.SetBusy (place_in l by)
   request-knows (ClearBusy service by) granted proper = asked-knows service by link.ClearBusy (place_in l by)
   request-knows (Deactivate service by) granted proper = deactivated-knows service by (place_in l by)
+  request-knows Down granted proper = by-down c l (λ f. Knows l (λ on. on) tei f.told.notes f.line) refl
 
   took-on : (t : Taken) → IsOne c l t → has_tei tei l ≡ has_tei tei t.line
   took-on t (inl x) = ap (λ (u : Taken). has_tei tei u.line) (sym x.1)

@@ -1,6 +1,7 @@
 -- Lemmas.
 pub mod Vocabulary
 pub mod MachineLaws
+pub mod Downs
 pub mod Kept
 pub mod Asked
 pub mod Told
@@ -38,6 +39,7 @@ pub mod Noted
 pub mod Going
 pub mod Exact
 pub mod Draining
+pub mod GoingDown
 pub mod Bounds
 pub mod Leaving
 pub mod InRounds

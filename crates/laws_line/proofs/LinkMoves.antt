@@ -1,5 +1,5 @@
 -- What holds of a link that begins, and is kept by each event of a link, holds of all links of a line.
-use Rattle.laws_line.proofs.Vocabulary.{◌≡◌, ℕ, zero, suc, ◌<◌, false, List, [], ◌∷◌, get_or, set, Option, Some, None, refl, ap, sym, ◌∙◌, subst, ◌⊎◌, inl, inr, IfSome, option_map_or, option_or, unwrap_or, All-head, All-tail, Call, Packet, Link, Given, Terms, Change, Gained, Left, Config, hears, request, next, LineTold, Aim, at_none, at_link, at_management, at_units, told_of_management, of_change, of_aim, Line, UnitData, link_number, service_at, place_at, tei_at, link_at, link_in, terms, link_count, aim_of_heard, aim_of_expiry, Taken, with_unit, with_given_frame, link_taken, first_taken, taken, line_of, aim_of_request, IsInRange, IsSoundAt, IsProper, sound_in, fresh_gives_nothing, heard_proper, expiry_proper, request_proper, taken_walk, next_walk, terms_in_range}
+use Rattle.laws_line.proofs.Vocabulary.{◌≡◌, ℕ, zero, suc, ◌<◌, false, List, [], ◌∷◌, get_or, set, Option, Some, None, refl, ap, sym, ◌∙◌, subst, ◌⊎◌, inl, inr, IfSome, option_map_or, option_or, unwrap_or, All-head, All-tail, Call, Packet, Link, Given, Terms, Change, Gained, Left, Config, hears, request, next, LineTold, Aim, at_none, at_link, at_management, at_units, told_of_management, of_change, of_aim, Line, UnitData, link_number, service_at, place_at, tei_at, link_at, link_in, terms, link_count, aim_of_heard, aim_of_expiry, Taken, with_unit, with_given_frame, link_taken, first_taken, taken, line_of, aim_of_request, IsInRange, IsSoundAt, IsProper, sound_in, fresh_gives_nothing, heard_proper, expiry_proper, request_proper, taken_walk, next_walk, terms_in_range, at_no_link}
 use Rattle.std.proofs.Common.{option_map}
 use Rattle.lapd_tei.specs.Messages.{frame_of}
 use Rattle.std.specs.Prelude.{All}
@@ -87,6 +87,7 @@ module _ (P : Link → Type 0) (begins : P fresh) (keeps : (t : Terms) (e : link
         (h (link_number place service)))
     aimed (at_management e) proper = changed (teis.told e l.management).change (told_of_management (teis.told e l.management)) _ h
     aimed (at_units unit) proper = h number
+    aimed at_no_link proper = changed (teis.told teis.down l.management).change (told_of_management (teis.told teis.down l.management)) _ h
 
     took : (t : Taken) → IsOne c l t → P (link_at number t.line)
     took t (inl x) = subst (λ (u : Taken). P (link_at number u.line)) (sym x.1) (h number)

@@ -1,5 +1,5 @@
 -- All that an answer notes: each event of a line.
-use Rattle.laws_line.proofs.Vocabulary.{◌≡◌, ℕ, false, List, [], ◌++◌, get_or, set, Option, Some, None, refl, sym, ap, ◌∙◌, subst, arith, inl, inr, next_walk, option_map_or, get_or-set_same, get_or-set_other, Note, Refusal, Service, Call, Packet, Timer, T201, Terms, LinkTimer, Link, as_heard, told_by, told_cleared, event-follows, Change, Gained, Left, at-within, Config, hears, request, next, Answer, told, Aim, at_link, at_management, told_of_management, of_change, of_aim, at_timer, aim_of_expiry, Line, link_number, place_in, link_in, terms, unless_refused_told, aim_of_heard, Taken, taken, line_of, Request, Establish, Release, Assign, Remove, SetBusy, ClearBusy, Deactivate, at_requested, at_deactivated, aim_of_request, IsProper, number_within, heard_proper, expiry_proper, request_proper}
+use Rattle.laws_line.proofs.Vocabulary.{◌≡◌, ℕ, false, List, [], ◌++◌, get_or, set, Option, Some, None, refl, sym, ap, ◌∙◌, subst, arith, inl, inr, next_walk, option_map_or, get_or-set_same, get_or-set_other, Note, Refusal, Service, Call, Packet, Timer, T201, Terms, LinkTimer, Link, as_heard, told_by, told_cleared, event-follows, Change, Gained, Left, at-within, Config, hears, request, next, Answer, told, Aim, at_link, at_management, told_of_management, of_change, of_aim, at_timer, aim_of_expiry, Line, link_number, place_in, link_in, terms, unless_refused_told, aim_of_heard, Taken, taken, line_of, Request, Establish, Release, Assign, Remove, SetBusy, ClearBusy, Deactivate, at_requested, at_deactivated, aim_of_request, IsProper, number_within, heard_proper, expiry_proper, request_proper, Down}
 use Rattle.model_bits.specs.Stream as stream
 use Rattle.lapd_frame.specs.declared.timers.Timer.TheVariants.{T200, T203}
 use Rattle.model_link.specs.declared.timers.LinkTimer.TheVariants as link_timer
@@ -20,6 +20,7 @@ use Rattle.laws_line.proofs.GroupAims.{heard-aims-at}
 use Rattle.laws_line.proofs.LinkMoves.{IsOne, taken-one}
 use Rattle.laws_line.proofs.TeiNotes.{GainedBy, LeftBy, ByChange, noted}
 use Rattle.laws_line.proofs.Tied.{Ties, heard-ties, expiry-ties, request-ties}
+use Rattle.laws_line.proofs.Downs.{by-down}
 
 -- What a link tells as its TEI leaves the line
 ending-told : (t : Terms) (x : Link) → (links.told t link.cleared x).notes ≡ told_cleared x.state t
@@ -148,6 +149,7 @@ module _ (c : Config) (l : Line) (s : IsSound c l) where
   request-noted (Assign tei) proper by = managed c l s (request (Assign tei)) (teis.assign tei) proper (λ t ns is. is.1) (λ t ns is. absurd is)
   request-noted (Remove tei) proper by = managed c l s (request (Remove tei)) (teis.remove tei) proper (λ t ns is. absurd is) (λ t ns is. is.1)
   request-noted (Check tei) proper by = managed c l s (request (Check tei)) (teis.check tei) proper (λ t ns is. absurd is) (λ t ns is. absurd is)
+  request-noted Down proper by = by-down c l (λ f. NotesItsOwn c (request Down) l f.line (told f.told)) (nothing-noted c l s (request Down) _ _ refl refl)
 
 -- A call for the next frame notes nothing, and no TEI comes or leaves by it.
 module _ (c : Config) (l : Line) (s : IsSound c l) where

@@ -1,5 +1,5 @@
 -- Each event of a line is one of one of its parts, or nothing changes.
-use Rattle.laws_line.proofs.Vocabulary.{◌≡◌, ◌≢◌, ◌⊎◌, inl, inr, ℕ, ◌<◌, Bool, true, false, ◌==◌, List, [], ◌∷◌, ◌++◌, length, get_or, set, Option, Some, None, refl, sym, ap, ◌∙◌, subst, arith, append-nil, append_assoc, eq-eqb, true≢false, get_or-set_other, Refusal, Service, Call, Packet, Timer, T201, Change, Gained, Left, LinkTimer, Link, Config, is_change_at, Aim, at_link, at_management, told_of_management, of_change, of_aim, hears, request, next, told, nothing, at_timer, aim_of_expiry, Line, UnitData, link_number, link_count, place_at, tei_at, place_in, link_at, link_in, terms, unless_refused_told, aim_of_heard, Request, Establish, Release, Assign, Remove, SetBusy, ClearBusy, Deactivate, at_requested, at_deactivated, aim_of_request, IsProper, heard_proper, expiry_proper, request_proper}
+use Rattle.laws_line.proofs.Vocabulary.{◌≡◌, ◌≢◌, ◌⊎◌, inl, inr, ℕ, ◌<◌, Bool, true, false, ◌==◌, List, [], ◌∷◌, ◌++◌, length, get_or, set, Option, Some, None, refl, sym, ap, ◌∙◌, subst, arith, append-nil, append_assoc, eq-eqb, true≢false, get_or-set_other, Refusal, Service, Call, Packet, Timer, T201, Change, Gained, Left, LinkTimer, Link, Config, is_change_at, Aim, at_link, at_management, told_of_management, of_change, of_aim, hears, request, next, told, nothing, at_timer, aim_of_expiry, Line, UnitData, link_number, link_count, place_at, tei_at, place_in, link_at, link_in, terms, unless_refused_told, aim_of_heard, Request, Establish, Release, Assign, Remove, SetBusy, ClearBusy, Deactivate, at_requested, at_deactivated, aim_of_request, IsProper, heard_proper, expiry_proper, request_proper, Down}
 use Rattle.std.proofs.Common.{eqb-true}
 use Rattle.model_bits.specs.Stream as stream
 use Rattle.lapd_frame.specs.declared.timers.Timer.TheVariants.{T200, T203}
@@ -15,7 +15,7 @@ use Rattle.model_line.specs.Machine.{after, answer, unless_refused}
 use Rattle.model_line.specs.Refusal.{refusal}
 use Rattle.model_line.specs.Request.{Data, Check}
 use Rattle.model_line.specs.Sound.{IsSound}
-use Rattle.laws_line.specs.OneEvent.{noted_ending, noted_behind, IsManaged, IsGranted, IsOfPart, of_link, of_management, of_units, of_group, of_next, SaysNothing, IsOneEvent}
+use Rattle.laws_line.specs.OneEvent.{noted_ending, noted_behind, IsManaged, IsGranted, IsOfPart, of_link, of_management, of_units, of_group, of_down, of_next, SaysNothing, IsOneEvent}
 use Rattle.laws_line.specs.Share.{is_granted}
 use Rattle.laws_line.specs.Steady.{BringsMessage, IsOfManagement}
 use Rattle.laws_line.proofs.Alone.{is-alone}
@@ -26,6 +26,8 @@ use Rattle.laws_line.proofs.Kept.{begin_here, begin_away}
 use Rattle.laws_line.proofs.Places.{has-place}
 use Rattle.laws_line.proofs.Tied.{Ties, heard-ties, expiry-ties, request-ties}
 use Rattle.laws_line.proofs.Told.{moved}
+use Rattle.laws_line.proofs.Downs.{by-down}
+use Rattle.laws_line.specs.GoesDown.{GivesUp}
 
 -- An event of TEI management.
 module _ (c : Config) (l : Line) (s : IsSound c l) (me : teis.Event) (fits : tei_laws.IsInRange me) where
@@ -143,6 +145,7 @@ module _ (c : Config) (l : Line) (s : IsSound c l) where
   is-managed e (teis.assign tei) by = asked e (Assign tei) (teis.assign tei) refl by
   is-managed e (teis.remove tei) by = asked e (Remove tei) (teis.remove tei) refl by
   is-managed e (teis.check tei) by = asked e (Check tei) (teis.check tei) refl by
+  is-managed e teis.down by = absurd by
 
   -- Unit data that is granted.
   abbrev Waits : Event → UnitData → Type 0
@@ -218,6 +221,7 @@ module _ (c : Config) (l : Line) (s : IsSound c l) where
   request-falls (Assign tei) = λ proper by. inl (of_management (teis.assign tei) (refl, refl))
   request-falls (Remove tei) = λ proper by. inl (of_management (teis.remove tei) (refl, refl))
   request-falls (Check tei) = λ proper by. inl (of_management (teis.check tei) (refl, refl))
+  request-falls Down = λ proper by. inl (of_down refl)
 
   pub falls : (e : Event) → IsOfPart c l e (answer c e l) ⊎ ((after c e l ≡ l) × SaysNothing (answer c e l))
   unfolding after answer
@@ -234,11 +238,20 @@ module _ (c : Config) (l : Line) (s : IsSound c l) where
       go (Some why) some = inr (refl, tt)
   falls next = inl (of_next refl)
 
+-- What is of no link is given up.
+pub gives-up : (c : Config) (l : Line) → GivesUp l (after c (request Down) l) (answer c (request Down) l)
+unfolding after answer
+gives-up c l = by-down c l (λ f. GivesUp l f.line (told f.told)) (record { line = refl; answer_is = refl })
+
+is-down : (c : Config) (l : Line) (e : Event) → e ≡ request Down → GivesUp l (after c e l) (answer c e l)
+is-down c l e is = subst (λ e. GivesUp l (after c e l) (answer c e l)) (sym is) (gives-up c l)
+
 pub one-event : (c : Config) (e : Event) (l : Line) → IsSound c l → IsOneEvent c e l (after c e l) (answer c e l)
 one-event c e l s = record {
   link = λ service tei place event other on by. is-alone c l service tei place on e event other by;
   management = λ event by. is-managed c l s e event by;
   units = λ unit granted. is-unit c l s e unit granted;
+  down = λ is. is-down c l e is;
   takes = λ is. (ap (λ e. after c e l) is, ap (λ e. answer c e l) is);
   none = falls c l s e;
 }

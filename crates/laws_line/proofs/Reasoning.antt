@@ -1,5 +1,5 @@
 -- Why notes say that a TEI came or left: each row of TEI management, and each event of a line.
-use Rattle.laws_line.proofs.Vocabulary.{◌≡◌, ℕ, ◌+◌, ◌*◌, ◌/◌, ◌%◌, ◌==◌, ◌&&◌, nat_le, Bool, true, false, cond, List, [], ◌∷◌, ◌++◌, Option, Some, None, refl, sym, subst, and_parts, All-nil, All-cons, All-append, All-weaker, Note, Assigned, Removed, Doubled, Refusal, Service, Call, Packet, T201, Terms, LinkTimer, IsOwn, Link, notes-own, Period, First, Second, Change, Gained, Left, IdentityRemove, Management, heard_in, heard_of_type, free_place, free_tei, no_room, lose_one, unserved, check_is, begin_check, end_check, send, leave, Config, hears, request, next, LineTold, at_management, told_of_management, of_link, of_change, of_aim, at_timer, Line, place_in, link_in, terms, unless_refused_told, Request, Establish, Release, Assign, Remove, SetBusy, ClearBusy, Deactivate, at_requested, at_deactivated, aim_of_request}
+use Rattle.laws_line.proofs.Vocabulary.{◌≡◌, ℕ, ◌+◌, ◌*◌, ◌/◌, ◌%◌, ◌==◌, ◌&&◌, nat_le, Bool, true, false, cond, List, [], ◌∷◌, ◌++◌, Option, Some, None, refl, sym, subst, and_parts, All-nil, All-cons, All-append, All-weaker, Note, Assigned, Removed, Doubled, Refusal, Service, Call, Packet, T201, Terms, LinkTimer, IsOwn, Link, notes-own, Period, First, Second, Change, Gained, Left, IdentityRemove, Management, heard_in, heard_of_type, free_place, free_tei, no_room, lose_one, unserved, check_is, begin_check, end_check, send, leave, Config, hears, request, next, LineTold, at_management, told_of_management, of_link, of_change, of_aim, at_timer, Line, place_in, link_in, terms, unless_refused_told, Request, Establish, Release, Assign, Remove, SetBusy, ClearBusy, Deactivate, at_requested, at_deactivated, aim_of_request, Down}
 use Rattle.std.proofs.Common.{eqb-true}
 use Rattle.std.specs.List.{All}
 use Rattle.lapd_frame.specs.declared.notes.Note.TheVariants as notes
@@ -21,6 +21,7 @@ use Rattle.laws_line.specs.Messages.{asks, responds, Says}
 use Rattle.laws_line.specs.Reasons.{HasReason, HaveReasons}
 use Rattle.laws_line.proofs.GroupAims.{hears-said, heard-aims-at}
 use Rattle.laws_line.proofs.Messaging.{spelled}
+use Rattle.laws_line.proofs.Downs.{by-down}
 
 -- Each row: one note at most, which its event explains.
 module _ (P : Note → Type 0) (m : Management) where
@@ -183,6 +184,7 @@ module _ (c : Config) (l : Line) (e : Event) where
   granted-noted (SetBusy service tei) = asked-noted service tei link.SetBusy (place_in l tei)
   granted-noted (ClearBusy service tei) = asked-noted service tei link.ClearBusy (place_in l tei)
   granted-noted (Deactivate service tei) = deactivated-noted service tei (place_in l tei)
+  granted-noted Down = by-down c l (λ f. All P f.told.notes) (All-nil P)
   granted-noted (Assign tei) =
       management-noted (teis.assign tei) l
       (unless-noted P l.management (teis.refusal (teis.assign tei) l.management) (teis.assign tei) (put-noted P l.management tei (free_place l.management.places)))

@@ -1,5 +1,5 @@
 -- What is taken.
-use Rattle.laws_line.proofs.Vocabulary.{◌≡◌, ℕ, ◌+◌, ◌<◌, false, cond, List, [], ◌∷◌, ◌++◌, drop, take, slice_get, get_or, set, Option, Some, None, refl, sym, ap, ◌∙◌, subst, arith, zero-add, append-nil, inl, inr, IfSome, range_with_len, option_or, option_map_or, unwrap_or, get_or-set_same, take-append-drop, All-head, All-tail, All-nil, All-cons, All-get_or, All-append, get_or-range_with_len, length-range_with_len, none-some, Refusal, Service, Timer, T201, LinkTimer, Change, Gained, Left, Terms, Link, is_information, Given, IsInOrder, IsOffered, given-in-order, given-is-offered, carried-is, offer-counts, nothing-given, Message, Config, hears, request, next, Aim, at_none, at_link, at_management, at_units, told_of_management, of_change, of_aim, at_timer, aim_of_expiry, aim_of_heard, Request, Establish, Release, Assign, Remove, SetBusy, ClearBusy, Deactivate, at_requested, at_deactivated, aim_of_request, heard_aims, Line, UnitData, link_count, service_at, place_at, place_in, tei_at, terms, terms_at, link_at, with_link, unless_refused_told, Taken, with_unit, with_given_frame, link_taken, first_taken, round, taken, line_of, IsSoundAt, round_below}
+use Rattle.laws_line.proofs.Vocabulary.{◌≡◌, ℕ, ◌+◌, ◌<◌, false, cond, List, [], ◌∷◌, ◌++◌, drop, take, slice_get, get_or, set, Option, Some, None, refl, sym, ap, ◌∙◌, subst, arith, zero-add, append-nil, inl, inr, IfSome, range_with_len, option_or, option_map_or, unwrap_or, get_or-set_same, take-append-drop, All-head, All-tail, All-nil, All-cons, All-get_or, All-append, get_or-range_with_len, length-range_with_len, none-some, Refusal, Service, Timer, T201, LinkTimer, Change, Gained, Left, Terms, Link, is_information, Given, IsInOrder, IsOffered, given-in-order, given-is-offered, carried-is, offer-counts, nothing-given, Message, Config, hears, request, next, Aim, at_none, at_link, at_management, at_units, told_of_management, of_change, of_aim, at_timer, aim_of_expiry, aim_of_heard, Request, Establish, Release, Assign, Remove, SetBusy, ClearBusy, Deactivate, at_requested, at_deactivated, aim_of_request, heard_aims, Line, UnitData, link_count, service_at, place_at, place_in, tei_at, terms, terms_at, link_at, with_link, unless_refused_told, Taken, with_unit, with_given_frame, link_taken, first_taken, round, taken, line_of, IsSoundAt, round_below, Down, at_no_link}
 use Rattle.std.proofs.Common.{option_map}
 use Rattle.std.specs.Prelude.{All}
 use Rattle.model_bits.specs.Stream as stream
@@ -19,8 +19,9 @@ use Rattle.laws_line.specs.Share.{is_granted}
 use Rattle.model_line.specs.Machine.{after, answer, unless_refused}
 use Rattle.model_line.specs.Taken.{with_message}
 use Rattle.model_line.specs.Sound.{IsSound}
-use Rattle.laws_line.specs.Served.{IsSilent, IsSilentAt, IsItsTurn, IsOfLink, IsOwed, HasNothing, IsIdle, contents_of, IsServed, unit_asked, UnitsWait, TurnStays}
+use Rattle.laws_line.specs.Served.{IsSilent, IsSilentAt, IsItsTurn, IsOfLink, IsOwed, HasNothing, IsIdle, contents_of, IsServed, unit_asked, units_behind, units_left, UnitsWait, TurnStays}
 use Rattle.laws_line.proofs.Silence.{silent}
+use Rattle.laws_line.proofs.Downs.{by-down}
 
 -- the first of a list is not there
 no-first : {X : Type 0} (xs : List X) → slice_get xs 0 ≡ None → xs ≡ []
@@ -186,8 +187,19 @@ module _ (c : Config) where
   unit_of (at_link service tei place e) = []
   unit_of (at_management e) = []
   unit_of (at_units unit) = unit ∷ []
+  unit_of at_no_link = []
 
-  aim-units : (l m : Line) (aim : Aim) → m.units ≡ l.units → (of_aim c aim m).line.units ≡ l.units ++ unit_of aim
+  abbrev left_by : Aim → List UnitData → List UnitData
+  left_by (at_none t) units = units
+  left_by (at_link service tei place e) units = units
+  left_by (at_management e) units = units
+  left_by (at_units unit) units = units
+  left_by at_no_link units = []
+
+  abbrev units_by : Aim → List UnitData → List UnitData
+  units_by aim units = left_by aim units ++ unit_of aim
+
+  aim-units : (l m : Line) (aim : Aim) → m.units ≡ l.units → (of_aim c aim m).line.units ≡ units_by aim l.units
   aim-units l m (at_none t) e = e ∙ sym (append-nil l.units)
   aim-units l m (at_link service tei place what) e = e ∙ sym (append-nil l.units)
   aim-units l m (at_management what) e = by-change (teis.told what m.management).change ∙ e ∙ sym (append-nil l.units)
@@ -197,48 +209,53 @@ module _ (c : Config) where
       by-change (Some (Gained tei place)) = refl
       by-change (Some (Left tei place)) = refl
   aim-units l m (at_units unit) e = ap (λ us. us ++ unit ∷ []) e
+  aim-units l m at_no_link e = by-down c m (λ f. f.line.units ≡ []) refl
 
-  none-heard : (l : Line) (e : stream.Event) → unit_of (aim_of_heard c l e) ≡ []
-  none-heard l e = heard_aims c l (λ aim. unit_of aim ≡ []) (λ cause. refl) (λ service tei place what at. refl) (λ info. refl) (λ parts service to. refl) e
+  none-heard : (l : Line) (e : stream.Event) → units_by (aim_of_heard c l e) l.units ≡ l.units
+  none-heard l e =
+      let none = append-nil l.units in
+      heard_aims c l (λ aim. units_by aim l.units ≡ l.units) (λ cause. none) (λ service tei place what at. none) (λ info. none) (λ parts service to. none) e
 
-  by-timer : (service : Service) (tei : ℕ) (timer : LinkTimer) (o : Option ℕ) → unit_of (at_timer service tei timer o) ≡ []
-  by-timer service tei timer None = refl
-  by-timer service tei timer (Some place) = refl
+  by-timer : (service : Service) (tei : ℕ) (timer : LinkTimer) (o : Option ℕ) (units : List UnitData) → units_by (at_timer service tei timer o) units ≡ units
+  by-timer service tei timer None units = append-nil units
+  by-timer service tei timer (Some place) units = append-nil units
 
-  by-expiry : (l : Line) (timer : Timer) → unit_of (aim_of_expiry timer l) ≡ []
-  by-expiry l (T200 service tei) = by-timer service tei link_timer.T200 (place_in l tei)
-  by-expiry l (T203 service tei) = by-timer service tei link_timer.T203 (place_in l tei)
-  by-expiry l T201 = refl
+  by-expiry : (l : Line) (timer : Timer) → units_by (aim_of_expiry timer l) l.units ≡ l.units
+  by-expiry l (T200 service tei) = by-timer service tei link_timer.T200 (place_in l tei) l.units
+  by-expiry l (T203 service tei) = by-timer service tei link_timer.T203 (place_in l tei) l.units
+  by-expiry l T201 = append-nil l.units
 
-  by-asked : (service : Service) (tei : ℕ) (what : link.Request) (o : Option ℕ) → unit_of (at_requested service tei what o) ≡ []
-  by-asked service tei what None = refl
-  by-asked service tei what (Some place) = refl
+  by-asked : (service : Service) (tei : ℕ) (what : link.Request) (o : Option ℕ) (units : List UnitData) → units_by (at_requested service tei what o) units ≡ units ++ []
+  by-asked service tei what None units = refl
+  by-asked service tei what (Some place) units = refl
 
-  by-deactivated : (service : Service) (tei : ℕ) (o : Option ℕ) → unit_of (at_deactivated service tei o) ≡ []
-  by-deactivated service tei None = refl
-  by-deactivated service tei (Some place) = refl
+  by-deactivated : (service : Service) (tei : ℕ) (o : Option ℕ) (units : List UnitData) → units_by (at_deactivated service tei o) units ≡ units ++ []
+  by-deactivated service tei None units = refl
+  by-deactivated service tei (Some place) units = refl
 
-  by-request : (l : Line) (r : Request) → unit_of (aim_of_request r l) ≡ unit_asked r
-  by-request l (Establish service tei) = by-asked service tei link.Establish (place_in l tei)
-  by-request l (Release service tei) = by-asked service tei link.Release (place_in l tei)
-  by-request l (Data service tei contents) = by-asked service tei (link.Data contents) (place_in l tei)
+  by-request : (l : Line) (r : Request) → units_by (aim_of_request r l) l.units ≡ units_behind r l.units ++ unit_asked r
+  by-request l (Establish service tei) = by-asked service tei link.Establish (place_in l tei) l.units
+  by-request l (Release service tei) = by-asked service tei link.Release (place_in l tei) l.units
+  by-request l (Data service tei contents) = by-asked service tei (link.Data contents) (place_in l tei) l.units
   by-request l (Request.Unit service tei contents) = refl
   by-request l (Assign tei) = refl
   by-request l (Remove tei) = refl
   by-request l (Check tei) = refl
-  by-request l (SetBusy service tei) = by-asked service tei link.SetBusy (place_in l tei)
-  by-request l (ClearBusy service tei) = by-asked service tei link.ClearBusy (place_in l tei)
-  by-request l (Deactivate service tei) = by-deactivated service tei (place_in l tei)
+  by-request l (SetBusy service tei) = by-asked service tei link.SetBusy (place_in l tei) l.units
+  by-request l (ClearBusy service tei) = by-asked service tei link.ClearBusy (place_in l tei) l.units
+  by-request l (Deactivate service tei) = by-deactivated service tei (place_in l tei) l.units
+  by-request l Down = refl
 
 pub units-wait : (c : Config) (e : Event) (l : Line) → UnitsWait e l (after c e l) (answer c e l)
 unfolding after answer
-units-wait c (hears e) l = aim-units c l l (aim_of_heard c l e) refl ∙ ap (λ us. l.units ++ us) (none-heard c l e) ∙ append-nil l.units
-units-wait c (expiry timer) l = aim-units c l l (aim_of_expiry timer l) refl ∙ ap (λ us. l.units ++ us) (by-expiry c l timer) ∙ append-nil l.units
+units-wait c (hears e) l = aim-units c l l (aim_of_heard c l e) refl ∙ none-heard c l e
+units-wait c (expiry timer) l = aim-units c l l (aim_of_expiry timer l) refl ∙ by-expiry c l timer
 units-wait c (request r) l = go (refusal c false r l)
   where
     go : (o : Option Refusal) → (of_aim c (unless_refused o (aim_of_request r l)) l).line.units
-        ≡ l.units ++ cond (is_granted (unless_refused_told o (of_aim c (unless_refused o (aim_of_request r l)) l))) (unit_asked r) []
-    go None = aim-units c l l (aim_of_request r l) refl ∙ ap (λ us. l.units ++ us) (by-request c l r)
+        ≡ units_left r (unless_refused_told o (of_aim c (unless_refused o (aim_of_request r l)) l)) l.units
+        ++ cond (is_granted (unless_refused_told o (of_aim c (unless_refused o (aim_of_request r l)) l))) (unit_asked r) []
+    go None = aim-units c l l (aim_of_request r l) refl ∙ by-request c l r
     go (Some why) = sym (append-nil l.units)
 units-wait c next l = tt
 
@@ -253,6 +270,7 @@ aim-turn c m (at_management what) = by-change (teis.told what m.management).chan
     by-change (Some (Gained tei place)) = refl
     by-change (Some (Left tei place)) = refl
 aim-turn c m (at_units unit) = refl
+aim-turn c m at_no_link = by-down c m (λ f. f.line.turn ≡ m.turn) refl
 
 pub turn-stays : (c : Config) (e : Event) (l : Line) → TurnStays e l (after c e l)
 unfolding after

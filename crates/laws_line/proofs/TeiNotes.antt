@@ -1,10 +1,12 @@
 -- Which event of TEI management changes the table, and what is noted of it: each row.
-use Rattle.laws_line.proofs.Vocabulary.{◌≡◌, ℕ, ◌+◌, ◌*◌, ◌/◌, ◌%◌, ◌==◌, ◌&&◌, nat_le, Bool, true, false, cond, List, [], ◌∷◌, Option, Some, None, IfSome, refl, sym, ap, ◌∙◌, true≢false, Note, Assigned, Removed, Doubled, Refusal, Period, First, Second, IdentityRemove, Change, Gained, Left, heard_in, heard_of_type, Places, is_on, place_of, free_place, free_tei, Management, Step, no_room, send, lose_one, unserved, leave, left, check_is, begin_check, end_check, remembered_in, assign_new, assign, may_be_checked, responses, doubled, count, respond, serve, removed, is_unanswered, expire_period, expire_check, nothing_happens, join_at, put_on, is_checked, take_off, message, remove, check, step, course, IsSoundCheck}
+use Rattle.laws_line.proofs.Vocabulary.{◌≡◌, ℕ, ◌+◌, ◌*◌, ◌/◌, ◌%◌, ◌==◌, ◌&&◌, nat_le, Bool, true, false, cond, List, [], ◌∷◌, Option, Some, None, IfSome, refl, sym, ap, ◌∙◌, true≢false, Note, Assigned, Removed, Doubled, Refusal, Period, First, Second, IdentityRemove, Change, Gained, Left, heard_in, heard_of_type, Places, is_on, place_of, free_place, free_tei, Management, Step, no_room, send, lose_one, unserved, leave, left, check_is, begin_check, end_check, remembered_in, assign_new, assign, may_be_checked, responses, doubled, count, respond, serve, removed, is_unanswered, expire_period, expire_check, nothing_happens, join_at, put_on, is_checked, take_off, message, remove, check, step, course, IsSoundCheck, subst}
 use Rattle.std.proofs.Common.{option_map, eqb-true}
 use Rattle.lapd_tei.specs.declared.check.Check.{Check}
 use Rattle.lapd_tei.specs.Words.{Course, begun}
 use Rattle.lapd_tei.specs.Rows.{counted}
-use Rattle.lapd_tei.specs.Events.{Event, expiry, assign as assigning, refusal, unless_refused}
+use Rattle.lapd_tei.specs.Events.{Event, expiry, assign as assigning, down, refusal, unless_refused}
+use Rattle.lapd_tei.specs.Machine.{TeiTold}
+use Rattle.lapd_tei.proofs.GivenUp.{down_gives_up}
 use Rattle.lapd_tei.specs.Sound.{IsSound}
 use Rattle.laws_line.proofs.Places.{is-off}
 
@@ -15,6 +17,7 @@ GainedBy expiry tei ns = ⊥
 GainedBy (assigning asked) tei ns = (asked ≡ tei) × (ns ≡ [])
 GainedBy (remove asked) tei ns = ⊥
 GainedBy (check asked) tei ns = ⊥
+GainedBy down tei ns = ⊥
 
 abbrev pub LeftBy : Event → ℕ → List Note → Type 0
 LeftBy (message octets) tei ns = ns ≡ Doubled tei ∷ []
@@ -22,6 +25,7 @@ LeftBy expiry tei ns = ns ≡ Removed tei ∷ []
 LeftBy (assigning asked) tei ns = ⊥
 LeftBy (remove asked) tei ns = (asked ≡ tei) × (ns ≡ [])
 LeftBy (check asked) tei ns = ⊥
+LeftBy down tei ns = ⊥
 
 abbrev pub ByChange : Event → Option Change → List Note → Type 0
 ByChange e None ns = ns ≡ []
@@ -132,3 +136,4 @@ noted expiry m s = expires m m.check s.checked
 noted (assigning asked) m s = unless (assigning asked) (refusal (assigning asked) m) (put_on asked) m (joins asked m (free_place m.places))
 noted (remove asked) m s = unless (remove asked) (refusal (remove asked) m) (take_off asked) m (takes_off asked m (is_checked asked m.check))
 noted (check asked) m s = unless (check asked) (refusal (check asked) m) (step (check asked)) m refl
+noted down m s = subst (λ (t : TeiTold). ByChange down t.change t.notes) (sym (down_gives_up m).told) refl

@@ -1,5 +1,5 @@
 -- A TEI that is told to a terminal is on the line when its message comes to wait: each row.
-use Rattle.laws_line.proofs.Vocabulary.{◌≡◌, ◌⊎◌, inl, inr, ℕ, ◌==◌, Bool, true, false, List, [], ◌∷◌, ◌++◌, length, drop, get_or, Option, Some, None, refl, sym, ap, ◌∙◌, arith, true≢false, length-append, append_cancel_left, get_or-set_same, Management, Period, First, Second, Message, IdentityAssigned, IdentityDenied, IdentityCheckRequest, IdentityRemove, action_of, is_on, is_on-at, Config, Answer, Line, Request, Establish, Release, Assign, Remove, SetBusy, ClearBusy, Deactivate, IsInRange}
+use Rattle.laws_line.proofs.Vocabulary.{◌≡◌, ◌⊎◌, inl, inr, ℕ, ◌==◌, Bool, true, false, List, [], ◌∷◌, ◌++◌, length, drop, get_or, Option, Some, None, refl, sym, ap, ◌∙◌, arith, true≢false, length-append, append_cancel_left, get_or-set_same, Management, Period, First, Second, Message, IdentityAssigned, IdentityDenied, IdentityCheckRequest, IdentityRemove, action_of, is_on, is_on-at, Config, Answer, Line, Request, Establish, Release, Assign, Remove, SetBusy, ClearBusy, Deactivate, IsInRange, Down}
 use Rattle.std.proofs.Common.{length-drop}
 use Rattle.lapd_tei.specs.declared.check.Check.{Check}
 use Rattle.model_line.specs.Event.{Event}
@@ -97,6 +97,9 @@ module _ (before after : Management) (ri tei : ℕ) (more : after.waiting ≡ be
   by-request (SetBusy service own) lost its h = true≢false (sym its)
   by-request (ClearBusy service own) lost its h = true≢false (sym its)
   by-request (Deactivate service own) lost its h = true≢false (sym its)
+  by-request Down lost its h =
+      let none : 0 ≡ length (before.waiting ++ IdentityAssigned ri tei ∷ []) = ap (λ x. length x) (sym h.none ∙ more) in
+      omega (arith, none, length-append before.waiting (IdentityAssigned ri tei ∷ []))
 
 -- So of each event of a line.
 pub told-there : (c : Config) (e : Event) (before after : Line) (a : Answer) → HaveCauses c e before after a → AreThere before after

@@ -1,5 +1,5 @@
 -- How what an event aims at is tied to the event.
-use Rattle.laws_line.proofs.Vocabulary.{◌≡◌, ℕ, Bool, true, false, ◌==◌, cond, List, Option, Some, None, Result, Ok, Err, refl, inl, inr, Address, Control, ReadFault, BadExtension, Undefined, WrongSize, Short, Long, Service, Timer, T201, Tei, Unserved, Parts, reading, long_reading, service_of, LinkTimer, Config, hears, request, Answer, Aim, at_none, at_link, at_management, at_units, at_timer, aim_of_expiry, Line, place_in, drop_for, management_sapi, to_service, addressed, message_of, aim_of_reading, unless_at_link, aim_of_long, heard_side, aim_of_heard, side_aims, Request, Establish, Release, Assign, Remove, SetBusy, ClearBusy, Deactivate, at_requested, at_deactivated, aim_of_request}
+use Rattle.laws_line.proofs.Vocabulary.{◌≡◌, ℕ, Bool, true, false, ◌==◌, cond, List, Option, Some, None, Result, Ok, Err, refl, inl, inr, Address, Control, ReadFault, BadExtension, Undefined, WrongSize, Short, Long, Service, Timer, T201, Tei, Unserved, Parts, reading, long_reading, service_of, LinkTimer, Config, hears, request, Answer, Aim, at_none, at_link, at_management, at_units, at_timer, aim_of_expiry, Line, place_in, drop_for, management_sapi, to_service, addressed, message_of, aim_of_reading, unless_at_link, aim_of_long, heard_side, aim_of_heard, side_aims, Request, Establish, Release, Assign, Remove, SetBusy, ClearBusy, Deactivate, at_requested, at_deactivated, aim_of_request, Down, at_no_link}
 use Rattle.model_bits.specs.Stream as stream
 use Rattle.lapd_frame.specs.declared.controls.Control.TheVariants as control
 use Rattle.lapd_frame.specs.declared.overlong.Long.TheVariants as long
@@ -18,6 +18,7 @@ Ties c e answer (at_link service tei place event) = IsOf c e answer service tei 
 Ties c e answer (at_none what) = Unit {0}
 Ties c e answer (at_management event) = Unit {0}
 Ties c e answer (at_units unit) = Unit {0}
+Ties c e answer at_no_link = Unit {0}
 
 module _ (c : Config) (l : Line) (e : Event) (answer : Answer) where
   abbrev Tied : Aim → Type 0
@@ -58,6 +59,7 @@ module _ (c : Config) (l : Line) (e : Event) (answer : Answer) where
   unless-ties (at_link service tei place event) = tt
   unless-ties (at_management event) = tt
   unless-ties (at_units unit) = tt
+  unless-ties at_no_link = tt
 
 -- What is heard.
 module _ (c : Config) (l : Line) (answer : Answer) where
@@ -130,3 +132,4 @@ module _ (c : Config) (l : Line) (answer : Answer) (granted : is_granted answer 
   request-ties (SetBusy service tei) = asked-ties service tei link.SetBusy (place_in l tei)
   request-ties (ClearBusy service tei) = asked-ties service tei link.ClearBusy (place_in l tei)
   request-ties (Deactivate service tei) = deactivated-ties service tei (place_in l tei)
+  request-ties Down = tt

@@ -1,5 +1,5 @@
 -- A caller that obeys the orders runs the timers that are needed: each event of a line.
-use Rattle.laws_line.proofs.Vocabulary.{◌≡◌, ◌≢◌, ℕ, zero, suc, ◌/◌, ◌%◌, ◌==◌, Bool, true, false, cond, arith, eq-eqb, true≢false, is_some, List, get_or, replicate, Option, Some, None, refl, ap, sym, ◌∙◌, subst, inl, inr, next_walk, option_map_or, none-some, Refusal, Service, Call, Packet, Order, Timer, T201, LinkTimer, Link, Sent, is_same, obeyed, IsTimed, Given, runs, timer_at, Terms, HasItsTimer, is-timed, timely-after, timely-fresh, sound-after, Follows, Moves, Management, IsSoundTable, Change, Gained, Left, t201_follows, expired_t201_follows, place_of-is, Config, request, gave, hears, next, at_link, at_management, at_units, told_of_management, of_change, of_aim, at_timer, is_running, runs_at, orders_in, Line, link_number, service_at, place_at, place_in, link_at, link_in, terms, with_link, fresh_line, link_count, unless_refused_told, aim_of_heard, Taken, with_unit, with_given_frame, taken, next_of, line_of, Request, Establish, Release, Assign, Remove, SetBusy, ClearBusy, Deactivate, at_requested, at_deactivated, aim_of_request, IsInRange, IsProper, heard_aims, request_proper}
+use Rattle.laws_line.proofs.Vocabulary.{◌≡◌, ◌≢◌, ℕ, zero, suc, ◌/◌, ◌%◌, ◌==◌, Bool, true, false, cond, arith, eq-eqb, true≢false, is_some, List, get_or, replicate, Option, Some, None, refl, ap, sym, ◌∙◌, subst, inl, inr, next_walk, option_map_or, none-some, Refusal, Service, Call, Packet, Order, Timer, T201, LinkTimer, Link, Sent, is_same, obeyed, IsTimed, Given, runs, timer_at, Terms, HasItsTimer, is-timed, timely-after, timely-fresh, sound-after, Follows, Moves, Management, IsSoundTable, Change, Gained, Left, t201_follows, expired_t201_follows, place_of-is, Config, request, gave, hears, next, at_link, at_management, at_units, told_of_management, of_change, of_aim, at_timer, is_running, runs_at, orders_in, Line, link_number, service_at, place_at, place_in, link_at, link_in, terms, with_link, fresh_line, link_count, unless_refused_told, aim_of_heard, Taken, with_unit, with_given_frame, taken, next_of, line_of, Request, Establish, Release, Assign, Remove, SetBusy, ClearBusy, Deactivate, at_requested, at_deactivated, aim_of_request, IsInRange, IsProper, heard_aims, request_proper, Down, without_units, at_no_link}
 use Rattle.std.proofs.Common.{option_map, eqb-true}
 use Rattle.model_bits.specs.Stream as stream
 use Rattle.lapd_frame.specs.declared.timers.Timer.TheVariants.{T200, T203}
@@ -21,6 +21,7 @@ use Rattle.laws_line.proofs.Following.{timer_of, each-timer, running-of, same-ru
 use Rattle.laws_line.proofs.LinkMoves.{IsOne, taken-one, all-after}
 use Rattle.laws_line.proofs.Places.{has-no-place}
 use Rattle.laws_line.proofs.Obeyed.{Steers, as_it_was, without, steers-event, steers-expiry, both-true}
+use Rattle.laws_line.proofs.Downs.{down-sound}
 
 -- a number is that of its place and its service
 pub number-is : (number : ℕ) → link_number (place_at number) (service_at number) ≡ number
@@ -121,6 +122,9 @@ module _ (c : Config) (l : Line) (s : IsSound c l) where
   request-followed (SetBusy service tei) proper = asked service tei link.SetBusy (place_in l tei) refl
   request-followed (ClearBusy service tei) proper = asked service tei link.ClearBusy (place_in l tei) refl
   request-followed (Deactivate service tei) proper = deactivated service tei (place_in l tei) refl
+  request-followed Down proper = λ timer.
+      ap (λ b. obeyed timer b (of_aim c at_no_link l).told.orders) (sym (same-running l (without_units l) refl refl refl timer))
+      ∙ management-followed c (without_units l) (down-sound c l s) as_it_was (λ k service tei b. refl) teis.down tt (t201_follows teis.down l.management) timer
 
   -- an expiry: of a link's timer,
   dead : (k : LinkTimer) (service : Service) (tei : ℕ) → place_in l tei ≡ None → (timer : Timer) → without (timer_of k service tei) timer (is_running timer l) ≡ is_running timer l

@@ -1,5 +1,5 @@
 -- Where all that a link keeps goes, layer 3 learns it.
-use Rattle.laws_line.proofs.Vocabulary.{◌≡◌, ◌≢◌, ℕ, Bool, true, false, cond, ◌||◌, ◌&&◌, ◌==◌, List, [], ◌∷◌, get_or, Option, Some, None, is_some, refl, sym, ap, ◌∙◌, subst, true≢false, eq-eqb, ◌⊎◌, inl, inr, ⊎_elim, list_any, option_map_or, get_or-set_same, All-head, All-tail, none-some, Note, Refusal, Service, Call, Packet, Timer, T201, same_service, Terms, LinkTimer, IsOwn, notes-own, is_loss, tells_loss, is_release, ends, share, Management, IsAt, Change, Gained, Left, place_of-is, Config, request, LineTold, told, nothing, hears, next, is_change_at, Aim, at_none, at_link, at_management, at_units, told_of_management, of_change, of_aim, at_timer, aim_of_expiry, Line, link_number, service_at, place_at, tei_at, place_in, link_in, terms, unless_refused_told, aim_of_heard, Request, Establish, Release, Assign, Remove, SetBusy, ClearBusy, Deactivate, at_requested, at_deactivated, aim_of_request, IsProper, place_at-number, service_at-number, heard_aims, request_proper}
+use Rattle.laws_line.proofs.Vocabulary.{◌≡◌, ◌≢◌, ℕ, Bool, true, false, cond, ◌||◌, ◌&&◌, ◌==◌, List, [], ◌∷◌, get_or, Option, Some, None, is_some, refl, sym, ap, ◌∙◌, subst, true≢false, eq-eqb, ◌⊎◌, inl, inr, ⊎_elim, list_any, option_map_or, get_or-set_same, All-head, All-tail, none-some, Note, Refusal, Service, Call, Packet, Timer, T201, same_service, Terms, LinkTimer, IsOwn, notes-own, is_loss, tells_loss, is_release, ends, share, Management, IsAt, Change, Gained, Left, place_of-is, Config, request, LineTold, told, nothing, hears, next, is_change_at, Aim, at_none, at_link, at_management, at_units, told_of_management, of_change, of_aim, at_timer, aim_of_expiry, Line, link_number, service_at, place_at, tei_at, place_in, link_in, terms, unless_refused_told, aim_of_heard, Request, Establish, Release, Assign, Remove, SetBusy, ClearBusy, Deactivate, at_requested, at_deactivated, aim_of_request, IsProper, place_at-number, service_at-number, heard_aims, request_proper, Down, at_no_link}
 use Rattle.std.proofs.Common.{eqb-true}
 use Rattle.std.specs.Prelude.{All}
 use Rattle.model_bits.specs.Stream as stream
@@ -186,6 +186,7 @@ module _ (c : Config) (l : Line) (s : IsSound c l) (number : ℕ) where
   request-tells (SetBusy service tei) proper = asked-tells _ service tei link.SetBusy (place_in l tei) refl refl
   request-tells (ClearBusy service tei) proper = asked-tells _ service tei link.ClearBusy (place_in l tei) refl refl
   request-tells (Deactivate service tei) proper = deactivated-tells service tei (place_in l tei) refl
+  request-tells Down proper = no-loss _ at_no_link refl
 
 pub loss-told : (c : Config) (e : Event) (l : Line) (number : ℕ) → IsSound c l → (share_of c number e l).empties ≡ true
     → IsTold number e l (after c e l) (answer c e l)

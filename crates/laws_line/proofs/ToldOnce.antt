@@ -1,5 +1,5 @@
 -- Contents that an answer hands on are noted once.
-use Rattle.laws_line.proofs.Vocabulary.{◌≡◌, ℕ, ◌+◌, false, cond, List, [], ◌∷◌, ◌++◌, length, Option, Some, None, option_to_list, refl, ap, ◌∙◌, ◌⊎◌, inl, inr, arith, count_by, option_or, sum_by-cons, sum_by-append, Note, Refusal, Service, Call, Packet, Timer, T201, State, TeiAssigned, AwaitingEstablishment, AwaitingRelease, Established, TimerRecovery, Terms, LinkTimer, Link, is_data, is_unit, event-tells, Change, Gained, Left, place_of-is, Config, request, hears, next, Aim, at_link, at_management, told_of_management, of_link, of_change, of_aim, at_timer, aim_of_expiry, Line, place_in, link_in, terms, unless_refused_told, aim_of_heard, Request, Establish, Release, Assign, Remove, SetBusy, ClearBusy, Deactivate, at_requested, at_deactivated, aim_of_request, IsInRange, sound_in, heard_aims}
+use Rattle.laws_line.proofs.Vocabulary.{◌≡◌, ℕ, ◌+◌, false, cond, List, [], ◌∷◌, ◌++◌, length, Option, Some, None, option_to_list, refl, ap, ◌∙◌, ◌⊎◌, inl, inr, arith, count_by, option_or, sum_by-cons, sum_by-append, Note, Refusal, Service, Call, Packet, Timer, T201, State, TeiAssigned, AwaitingEstablishment, AwaitingRelease, Established, TimerRecovery, Terms, LinkTimer, Link, is_data, is_unit, event-tells, Change, Gained, Left, place_of-is, Config, request, hears, next, Aim, at_link, at_management, told_of_management, of_link, of_change, of_aim, at_timer, aim_of_expiry, Line, place_in, link_in, terms, unless_refused_told, aim_of_heard, Request, Establish, Release, Assign, Remove, SetBusy, ClearBusy, Deactivate, at_requested, at_deactivated, aim_of_request, IsInRange, sound_in, heard_aims, Down}
 use Rattle.model_bits.specs.Stream as stream
 use Rattle.lapd_frame.specs.declared.notes.Note.TheVariants as notes
 use Rattle.lapd_frame.specs.declared.timers.Timer.TheVariants.{T200, T203}
@@ -17,6 +17,7 @@ use Rattle.model_line.specs.Request.{Data, Unit, Check}
 use Rattle.model_line.specs.Sound.{IsSound}
 use Rattle.laws_line.specs.Heard.{tells_contents, IsNotedOnce}
 use Rattle.laws_line.proofs.TeiNotes.{ByChange, noted}
+use Rattle.laws_line.proofs.Downs.{by-down}
 
 -- Notes of contents are those of data and those of unit data.
 one-note : (n : Note) → cond {A = ℕ} (tells_contents n) 1 0 ≡ cond {A = ℕ} (is_data n) 1 0 + cond {A = ℕ} (is_unit n) 1 0
@@ -78,11 +79,13 @@ management-none teis.expiry (Some (Gained tei place)) ns by = absurd by
 management-none (teis.assign asked) (Some (Gained tei place)) ns by = is-none ns [] by.1 refl
 management-none (teis.remove asked) (Some (Gained tei place)) ns by = absurd by
 management-none (teis.check asked) (Some (Gained tei place)) ns by = absurd by
+management-none teis.down (Some (Gained tei place)) ns by = absurd by
 management-none (teis.message octets) (Some (Left tei place)) ns by = is-none ns (notes.Doubled tei ∷ []) by refl
 management-none teis.expiry (Some (Left tei place)) ns by = is-none ns (notes.Removed tei ∷ []) by refl
 management-none (teis.assign asked) (Some (Left tei place)) ns by = absurd by
 management-none (teis.remove asked) (Some (Left tei place)) ns by = is-none ns [] by.1 refl
 management-none (teis.check asked) (Some (Left tei place)) ns by = absurd by
+management-none teis.down (Some (Left tei place)) ns by = absurd by
 
 three-none : (a b c : List Note) → count_by tells_contents a ≡ 0 → count_by tells_contents b ≡ 0 → count_by tells_contents c ≡ 0
     → count_by tells_contents (a ++ b ++ c) ≡ 0
@@ -152,6 +155,7 @@ module _ (c : Config) (ranged : IsInRange c) (l : Line) (s : IsSound c l) where
   request-once (SetBusy service tei) = asked-once service tei link.SetBusy (place_in l tei) refl
   request-once (ClearBusy service tei) = asked-once service tei link.ClearBusy (place_in l tei) refl
   request-once (Deactivate service tei) = deactivated-once service tei (place_in l tei) refl
+  request-once Down = by-down c l (λ f. count_by tells_contents f.told.notes ≡ length (option_to_list f.told.contents)) refl
 
 pub told-once : (c : Config) (e : Event) (l : Line) → IsInRange c → IsSound c l → IsNotedOnce (answer c e l)
 unfolding answer

@@ -1,5 +1,5 @@
 -- The user's side has no TEI management.
-use Rattle.laws_line.proofs.Vocabulary.{◌≡◌, ℕ, Bool, true, false, not, [], ◌∷◌, drop, Option, Some, None, refl, sym, ap, ◌∙◌, true≢false, inl, inr, next_walk, option_map_or, User, Network, Refusal, Service, T201, Management, expire_check, join_at, put_on, free_place, LinkTimer, Config, at_management, of_aim, hears, request, next, at_timer, Line, place_in, Taken, taken, line_of, wrong_side, bad_tei, no_link, check_running, control_full, Request, Establish, Release, Assign, Remove, SetBusy, ClearBusy, Deactivate, at_requested, at_deactivated, aim_of_request, has_management}
+use Rattle.laws_line.proofs.Vocabulary.{◌≡◌, ℕ, Bool, true, false, not, [], ◌∷◌, drop, Option, Some, None, refl, sym, ap, ◌∙◌, true≢false, inl, inr, next_walk, option_map_or, User, Network, Refusal, Service, T201, Management, expire_check, join_at, put_on, free_place, LinkTimer, Config, at_management, of_aim, hears, request, next, at_timer, Line, place_in, Taken, taken, line_of, wrong_side, bad_tei, no_link, check_running, control_full, Request, Establish, Release, Assign, Remove, SetBusy, ClearBusy, Deactivate, at_requested, at_deactivated, aim_of_request, has_management, Down}
 use Rattle.model_bits.specs.Stream as stream
 use Rattle.lapd_frame.specs.declared.timers.Timer.TheVariants.{T200, T203}
 use Rattle.lapd_tei.specs.Events as teis
@@ -16,6 +16,7 @@ use Rattle.laws_line.proofs.Asked.{passed}
 use Rattle.laws_line.proofs.GroupAims.{heard-aims-at}
 use Rattle.laws_line.proofs.LinkMoves.{IsOne, taken-one}
 use Rattle.laws_line.proofs.Managing.{managed}
+use Rattle.laws_line.proofs.Downs.{by-down}
 
 sides : User ≡ Network → ⊥
 sides e = cc e
@@ -93,6 +94,7 @@ module _ (c : Config) (l : Line) (user : c.side ≡ User) (s : IsSound c l) (h :
   by-request (SetBusy service tei) none = by-asked service tei link.SetBusy (place_in l tei)
   by-request (ClearBusy service tei) none = by-asked service tei link.ClearBusy (place_in l tei)
   by-request (Deactivate service tei) none = by-deactivated service tei (place_in l tei)
+  by-request Down none = by-down c l (λ f. IsUnmanaged f.line) (record { messages = refl; remembered = h.remembered; check = refl })
   by-request (Assign tei) none = by-management (teis.assign tei) (assigned l.management tei idle)
   by-request (Remove tei) none =
       absurd (not-ours (has_management c.side) refl (passed (wrong_side c) (bad_tei tei ∷ no_link tei l ∷ control_full l ∷ []) none).0)

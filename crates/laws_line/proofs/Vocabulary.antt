@@ -118,7 +118,7 @@ pub use Rattle.model_line.proofs.TakenSound.{round_below}
 pub use Rattle.model_line.proofs.TakenWalk.{next_walk, taken_walk}
 pub use Rattle.model_line.specs.Counts.{is_given, is_pool_full, may_send}
 pub use Rattle.model_line.specs.Deliveries.{is_change_at}
-pub use Rattle.model_line.specs.Effect.{Aim, at_link, at_management, at_none, at_units, of_aim, of_change, of_link, of_management, told_of_link, told_of_management}
+pub use Rattle.model_line.specs.Effect.{Aim, Effect, at_link, at_management, at_no_link, at_none, at_units, of_aim, of_change, of_link, of_management, told_of_link, told_of_management, without_units}
 pub use Rattle.model_line.specs.Event.{Answer, LineTold, gave, hears, next, nothing, refused, request, told}
 pub use Rattle.model_line.specs.Expiry.{aim_of_expiry, at_timer, is_running, runs_at}
 pub use Rattle.model_line.specs.Heard.{addressed, aim_of_heard, aim_of_long, aim_of_reading, drop_for, heard_side, management_sapi, message_of, to_service, unless_at_link}
@@ -126,7 +126,7 @@ pub use Rattle.model_line.specs.Laws.{notes_in, orders_in}
 pub use Rattle.model_line.specs.Line.{Line, UnitData, fresh_line, has_tei, link_at, link_count, link_in, link_number, link_of, place_at, place_in, service_at, tei_at, terms, terms_at, window, with_link}
 pub use Rattle.model_line.specs.Machine.{of_request, unless_refused_told}
 pub use Rattle.model_line.specs.Refusal.{Row, bad_tei, check_running, control_full, first_that_holds, no_link, pool_full, queue_full, table_full, tei_taken, too_long, wrong_side, wrong_state}
-pub use Rattle.model_line.specs.Request.{Assign, ClearBusy, Deactivate, Establish, Release, Remove, Request, SetBusy}
+pub use Rattle.model_line.specs.Request.{Assign, ClearBusy, Deactivate, Down, Establish, Release, Remove, Request, SetBusy}
 pub use Rattle.model_line.specs.Requested.{aim_of_request, at_deactivated, at_requested}
 pub use Rattle.model_line.specs.Sides.{IsToGroup, at_side, group_told, has_management, managed_at, told_at, told_of_group, told_of_ui}
 pub use Rattle.model_line.specs.Sound.{IsInRange, IsSoundAt}

@@ -7,6 +7,7 @@ pub mod Frames
 pub mod Timers
 pub mod Requests
 pub mod Steady
+pub mod GoesDown
 pub mod OneEvent
 pub mod Knowledge
 pub mod Messages

@@ -11,7 +11,7 @@ use Rattle.lapd_tei.specs.declared.check.Period.TheVariants.{First, Second}
 use Rattle.lapd_tei.specs.declared.messages.Message.{Message}
 use Rattle.lapd_tei.specs.declared.messages.Message.TheVariants.{IdentityAssigned, IdentityDenied, IdentityCheckRequest, IdentityRemove}
 use Rattle.lapd_tei.specs.Table.{is_on}
-use Rattle.model_line.specs.Request.{Request, Assign, Remove, Check as Checking}
+use Rattle.model_line.specs.Request.{Request, Assign, Remove, Check as Checking, Down}
 
 -- The messages of terminals that are served: one asks for any TEI by an Ri, asks for a check of its TEI, or answers that it
 -- has a TEI (clauses 5.3.2, 5.3.5 and 5.3.3.2).
@@ -192,14 +192,23 @@ pub record IsPutOn (tei : ℕ) (before after : Management) (lost : ℕ) : Type 0
   pub remembered : after.remembered ≡ before.remembered
   pub check_is : after.check ≡ before.check
 
+-- The line is down: the messages that wait are given up, and the check that runs, if one does, ends without a result (annex B,
+-- persistent deactivation).
+pub record IsGivenUp (before after : Management) (lost : ℕ) : Type 0 where
+  pub none : after.waiting ≡ []
+  pub stays : KeepsTeis None before after
+  pub told : lost ≡ 0
+
 abbrev pub Grants : Request → Management → Management → ℕ → Type 0
 Grants (Assign tei) before after lost = IsPutOn tei before after lost
 Grants (Remove tei) before after lost = Waits (IdentityRemove tei) before after lost × Leaves tei (check_without tei before.check) before after
 Grants (Checking tei) before after lost = Waits (IdentityCheckRequest tei) before after lost × KeepsTeis (Some (new_check tei)) before after
+Grants Down before after lost = IsGivenUp before after lost
 Grants other before after lost = Unit {0}
 
 abbrev pub is_of_management : Request → Bool
 is_of_management (Assign tei) = true
 is_of_management (Remove tei) = true
 is_of_management (Checking tei) = true
+is_of_management Down = true
 is_of_management other = false

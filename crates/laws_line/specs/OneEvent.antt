@@ -14,9 +14,10 @@ use Rattle.model_line.specs.declared.config.Config.{Config}
 use Rattle.model_line.specs.Event.{Event, request, next, Answer, told, refused, gave, nothing}
 use Rattle.model_line.specs.Line.{Line, UnitData, link_number, link_count, place_at, tei_at, place_in, link_in, link_at, with_link, terms}
 use Rattle.model_line.specs.Machine as lines
-use Rattle.model_line.specs.Request.{Request}
+use Rattle.model_line.specs.Request.{Request, Down}
 use Rattle.model_line.specs.Sides.{IsToGroup}
 use Rattle.laws_line.specs.Frames.{lost_in}
+use Rattle.laws_line.specs.GoesDown.{GivesUp}
 use Rattle.laws_line.specs.Heard.{Says, notes_of}
 use Rattle.laws_line.specs.Loss.{IsMoved}
 use Rattle.laws_line.specs.Share.{is_granted}
@@ -50,12 +51,14 @@ pub record IsGranted (e : Event) (answer : Answer) (unit : UnitData) : Type 0 wh
   pub granted : is_granted answer ≡ true
 
 -- Whatever happens on a line is an event of a link of a TEI on it, of TEI management, unit data that is granted, unit
--- data to the group that is heard on the user's side (`Heard` has what comes of it), or a call for the next frame;
+-- data to the group that is heard on the user's side (`Heard` has what comes of it), that the line is down, or a call for the
+-- next frame;
 pub data IsOfPart (c : Config) (l : Line) (e : Event) (answer : Answer) : Type 0 where
   of_link : (service : Service) (tei place : ℕ) (event : link.Event) → place_in l tei ≡ Some place → IsOf c e answer service tei event → IsOfPart c l e answer
   of_management : (event : teis.Event) → IsOfManagement c e answer event → IsOfPart c l e answer
   of_units : (unit : UnitData) → IsGranted e answer unit → IsOfPart c l e answer
   of_group : (parts : Parts) (service : Service) → HearsFrame c e parts → IsToGroup c parts service → IsOfPart c l e answer
+  of_down : e ≡ request Down → IsOfPart c l e answer
   of_next : e ≡ next → IsOfPart c l e answer
 
 -- or nothing changes, and the answer says nothing, but why.
@@ -65,11 +68,13 @@ SaysNothing (refused why) = Unit {0}
 SaysNothing (gave frame) = ⊥
 
 -- What becomes of it: an event of one part is this event of the part, and nothing else changes. Unit data waits whole, behind
--- what waits; and a call for the next frame is one of the line's machine.
+-- what waits; where the line is down, what waits and is of no link is given up, and the links stay; and a call for the next
+-- frame is one of the line's machine.
 pub record IsOneEvent (c : Config) (e : Event) (before after : Line) (answer : Answer) : Type 0 where
   pub link : (service : Service) (tei place : ℕ) (event : link.Event) → e ≢ next → place_in before tei ≡ Some place → IsOf c e answer service tei event
       → IsAlone c before after answer service tei place event
   pub management : (event : teis.Event) → IsOfManagement c e answer event → IsManaged c before after answer event
   pub units : (unit : UnitData) → IsGranted e answer unit → (after ≡ record before { units = before.units ++ unit ∷ [] }) × (answer ≡ told nothing)
+  pub down : e ≡ request Down → GivesUp before after answer
   pub takes : e ≡ next → (after ≡ lines.after c next before) × (answer ≡ lines.answer c next before)
   pub none : IsOfPart c before e answer ⊎ ((after ≡ before) × SaysNothing answer)

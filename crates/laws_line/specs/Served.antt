@@ -18,7 +18,7 @@ use Rattle.model_line.specs.declared.config.Config.{Config}
 use Rattle.model_line.specs.Line.{Line, UnitData, link_count, service_at, place_at, tei_at, terms, link_at, with_link}
 use Rattle.model_line.specs.Machine.{after}
 use Rattle.model_line.specs.Event.{Event, hears, expiry, request, next, Answer}
-use Rattle.model_line.specs.Request.{Request}
+use Rattle.model_line.specs.Request.{Request, Down}
 use Rattle.laws_line.specs.Share.{is_granted}
 use Rattle.model_line.specs.Taken.{taken}
 
@@ -109,8 +109,8 @@ abbrev pub IsServed : Config → (ℕ → List (List ℕ)) → Line → Type 0
 IsServed c contents l =
     elim (taken c l) as (λ o. Type 0) [ None ↦ IsIdle c l (after c next l) | Some t ↦ IsOwed c contents l (after c next l) t.frame ]
 
--- Unit data waits at the end of what waits, where its request was granted: whole, once, with its service and its TEI. No
--- other event but a call for the next frame changes what waits.
+-- Unit data waits at the end of what waits, where its request was granted: whole, once, with its service and its TEI. Where the
+-- line is down, what waits is given up. No other event but a call for the next frame changes what waits.
 abbrev pub unit_asked : Request → List UnitData
 unit_asked (Request.Unit service tei contents) = record { service = service; tei = tei; contents = contents } ∷ []
 unit_asked other = []
@@ -119,11 +119,18 @@ abbrev pub units_asked : Event → Answer → List UnitData
 units_asked (request r) answer = if is_granted answer then unit_asked r else []
 units_asked other answer = []
 
+abbrev pub units_behind : Request → List UnitData → List UnitData
+units_behind Down units = []
+units_behind other units = units
+
+abbrev pub units_left : Request → Answer → List UnitData → List UnitData
+units_left r answer units = if is_granted answer then units_behind r units else units
+
 abbrev pub UnitsWait : Event → Line → Line → Answer → Type 0
 UnitsWait next before after answer = Unit {0}
 UnitsWait (hears e) before after answer = after.units ≡ before.units
 UnitsWait (expiry timer) before after answer = after.units ≡ before.units
-UnitsWait (request r) before after answer = after.units ≡ before.units ++ units_asked (request r) answer
+UnitsWait (request r) before after answer = after.units ≡ units_left r answer before.units ++ units_asked (request r) answer
 
 -- No other event changes whose turn it is.
 abbrev pub TurnStays : Event → Line → Line → Type 0

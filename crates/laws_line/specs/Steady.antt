@@ -80,10 +80,11 @@ pub record BringsMessage (c : Config) (e : Event) (info : List ℕ) : Type 0 whe
   pub info_is : parts.info ≡ info
 
 -- The event of the line is this event of TEI management: a message is brought; T201 expires; or a request of management is
--- granted.
+-- granted. That the line is down is an event of more than TEI management.
 abbrev pub IsOfManagement : Config → Event → Answer → teis.Event → Type 0
 IsOfManagement c e answer (teis.message info) = BringsMessage c e info
 IsOfManagement c e answer teis.expiry = e ≡ expiry timers.T201
 IsOfManagement c e answer (teis.assign tei) = (e ≡ request (Assign tei)) × (is_granted answer ≡ true)
 IsOfManagement c e answer (teis.remove tei) = (e ≡ request (Remove tei)) × (is_granted answer ≡ true)
 IsOfManagement c e answer (teis.check tei) = (e ≡ request (Check tei)) × (is_granted answer ≡ true)
+IsOfManagement c e answer teis.down = ⊥

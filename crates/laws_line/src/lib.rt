@@ -33,7 +33,9 @@ mod timers;
 mod turns;
 
 pub use laws::{heard_is_delivered, nothing_is_lost, one_event, takes_serve};
-pub use machine::{deactivations_give_up, drops_change_nothing, lines_rise, lines_stay_sound};
+pub use machine::{
+    deactivations_give_up, drops_change_nothing, lines_go_down, lines_rise, lines_stay_sound,
+};
 pub use management::{messages_have_causes, users_manage_nothing};
 pub use notes::{notes_tell, nothing_else_is_noted};
 pub use progress::{takes_come_to_an_end, what_waits_is_taken, what_waits_is_taken_meanwhile};

@@ -1,6 +1,7 @@
 //! What holds of the machine of a line itself. Each law is the contract of a call that does nothing.
 
 ghost use Rattle.laws_line.specs.Deactivated.{DeactivationsGiveUp};
+ghost use Rattle.laws_line.specs.GoesDown.{LinesGoDown};
 ghost use Rattle.laws_line.specs.Machine.{DropsChangeNothing, LinesRise, LinesStaySound};
 
 /// A line is sound as it begins, and each event keeps it so: TEI management and the links are, the links of free
@@ -31,4 +32,13 @@ pub fn drops_change_nothing()
 /// state has it, and all else of the line stays, its TEIs too (Q.921 annex B, persistent deactivation).
 pub fn deactivations_give_up()
     ensures { DeactivationsGiveUp }
+{}
+
+/// Where a line is down, its unit data that waits is given up, and of TEI management the messages that wait and the check
+/// that runs; all else of the line stays, its links, too, and that T201 stops, if it ran, is all that is told. Where each
+/// link of a TEI on it is deactivated besides, before or behind that, in any order, nothing waits on the line, and the next
+/// call for a frame gives none; each link is in state 4, as one that begins; no timer is needed; and the TEIs stay (Q.921
+/// annex B, persistent deactivation).
+pub fn lines_go_down()
+    ensures { LinesGoDown }
 {}

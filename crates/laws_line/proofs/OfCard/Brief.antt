@@ -5,7 +5,7 @@ use Rattle.model_link.specs.Link.{fresh as fresh_link}
 use Rattle.model_line.specs.Event as line_event
 use Rattle.model_line.specs.Machine as lines
 use Rattle.model_line.specs.Sound as line
-use Rattle.laws_line.specs.OneEvent.{IsOneEvent, IsOfPart, of_link, of_management, of_units, of_group, of_next}
+use Rattle.laws_line.specs.OneEvent.{IsOneEvent, IsOfPart, of_link, of_management, of_units, of_group, of_down, of_next}
 use Rattle.laws_line.specs.Served.{IsIdle, IsOwed, contents_of}
 use Rattle.laws_line.proofs.Serving.{served}
 use Rattle.model_card.specs.Event.{Event}
@@ -96,6 +96,7 @@ module _ (card : Card) (e : Event) (s : IsSound card) (here : IsAtLine card e) w
   by-part apart (of_management event by) = record { one = 0; others = λ other few away stays. (own.management event by).stay other few stays }
   by-part apart (of_units unit granted) = record { one = 0; others = λ other few away stays. ap (link_at other) (own.units unit granted).0 }
   by-part apart (of_group parts service h to) = none-change (heard-group card e s here parts service h to).line
+  by-part apart (of_down is) = record { one = 0; others = λ other few away stays. ap (link_at other) (own.down is).line }
   by-part apart (of_next is) = absurd (apart is)
 
   links-stay : LinksStay (link_count c) l then

@@ -1,5 +1,5 @@
 -- In a moment of a run one part of one line has one event, and all else is as it was.
-use Rattle.laws_line.proofs.Vocabulary.{⊎_elim, ◌≡◌, ◌≢◌, ℕ, true, List, get_or, refl, sym, ap, ◌∙◌, subst, arith, inr, true≢false, and_parts, get_or-set_same, get_or-set_other, PoolFull, Service, Config, refused, Line, fresh_line, Card, line_at, is_full, IsAtLine, AreAtLines, moment_of, each_moment, has_lines, by_room, line_sound}
+use Rattle.laws_line.proofs.Vocabulary.{⊎_elim, ◌≡◌, ◌≢◌, ℕ, true, List, get_or, refl, sym, ap, ◌∙◌, subst, arith, inr, true≢false, and_parts, get_or-set_same, get_or-set_other, PoolFull, Service, Config, refused, Line, fresh_line, Card, line_at, is_full, IsAtLine, AreAtLines, moment_of, each_moment, has_lines, by_room, line_sound, Down}
 use Rattle.lapd_tei.specs.Events as teis
 use Rattle.model_bits.specs.Stream as stream
 use Rattle.model_link.specs.Events as link
@@ -28,6 +28,10 @@ module _ (c : Config) (l : Line) (e : line_event.Event) (takes : lines.takes_slo
   unfolding lines.takes_slot
   no-take is = true≢false (sym takes ∙ ap (λ e. lines.takes_slot c e l) is)
 
+  no-down : e ≡ line_event.request Down → ⊥
+  unfolding lines.takes_slot
+  no-down is = true≢false (sym takes ∙ ap (λ e. lines.takes_slot c e l) is)
+
   no-link : (service : Service) (tei : ℕ) (event : link.Event) → IsOf c e (refused PoolFull) service tei event → ⊥
   no-link service tei (link.received (link.frame parts)) by = no-heard (stream.frame by.octets) by.by
   no-link service tei (link.received link.undefined) by = ⊎_elim (λ x. no-heard _ x.0) (λ x. no-heard _ x.0) by.by
@@ -44,12 +48,14 @@ module _ (c : Config) (l : Line) (e : line_event.Event) (takes : lines.takes_slo
   no-management (teis.assign tei) by = true≢false (sym by.1)
   no-management (teis.remove tei) by = true≢false (sym by.1)
   no-management (teis.check tei) by = true≢false (sym by.1)
+  no-management teis.down by = by
 
   pub no-event : IsOneEvent c e l l (refused PoolFull)
   no-event = record {
     link = λ service tei place event other on by. absurd (no-link service tei event by);
     management = λ event by. absurd (no-management event by);
     units = λ unit granted. absurd (true≢false (sym granted.granted));
+    down = λ is. absurd (no-down is);
     takes = λ is. absurd (no-take is);
     none = inr (refl, tt);
   }

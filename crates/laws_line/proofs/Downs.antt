@@ -1,0 +1,29 @@
+-- What comes of it that a line is down.
+use Rattle.laws_line.proofs.Vocabulary.{◌≡◌, [], None, ap, sym, ◌∙◌, subst, arith, All-nil, Management, Config, LineTold, nothing, Effect, at_no_link, told_of_management, of_change, of_aim, without_units, Line}
+use Rattle.lapd_tei.specs.Events as teis
+use Rattle.lapd_tei.specs.Laws.{stop_of}
+use Rattle.lapd_tei.specs.Machine.{TeiTold}
+use Rattle.lapd_tei.proofs.GivenUp.{down_gives_up}
+use Rattle.model_line.specs.Sound.{IsSound, IsUnitData}
+use Rattle.model_line.proofs.SoundParts.{with_units}
+
+-- The effect: no unit data, no message and no check are left, and T201 stops.
+abbrev pub given_up : Line → Effect
+given_up l = record {
+  line = record l { management = record l.management { check = None; waiting = [] }; units = [] };
+  told = record nothing { orders = stop_of l.management.check };
+}
+
+pub down-is : (c : Config) (l : Line) → of_aim c at_no_link l ≡ given_up l
+down-is c l =
+    let g = down_gives_up l.management in
+    ap (λ (t : TeiTold). of_change c t.change (told_of_management t) (record l { management = teis.after teis.down l.management; units = [] })) g.told
+    ∙ ap (λ (m : Management). of_change c None (record nothing { orders = stop_of l.management.check }) (record l { management = m; units = [] })) g.after
+
+-- What holds of that holds of what comes of it.
+pub by-down : (c : Config) (l : Line) (P : Effect → Type 0) → P (given_up l) → P (of_aim c at_no_link l)
+by-down c l P h = subst P (sym (down-is c l)) h
+
+-- A line without its units is as sound.
+pub down-sound : (c : Config) (l : Line) → IsSound c l → IsSound c (without_units l)
+down-sound c l s = with_units c l s [] (All-nil (IsUnitData c)) (omega arith)

@@ -1,0 +1,217 @@
+-- A line that is taken down is down.
+use Rattle.laws_line.proofs.Vocabulary.{◌≡◌, ℕ, zero, suc, ◌≤◌, ◌<◌, true, false, is_some, List, [], ◌∷◌, ◌++◌, length, get_or, set, Option, Some, None, refl, sym, ap, subst, ◌∙◌, ◌⊎◌, inl, inr, ⊎_elim, arith, true≢false, option_map_or, All-head, All-tail, Refusal, Service, Timer, T201, LinkTimer, Terms, is_on-at, Config, request, gave, Line, link_number, link_count, service_at, place_at, tei_at, place_in, link_at, of_aim, next_of, Request, Establish, Release, Assign, Remove, SetBusy, ClearBusy, Deactivate, Down, at_deactivated, IsInRange, IsSoundAt, after_sound}
+use Rattle.std.proofs.Common.{option_map, cases_lt}
+use Rattle.std.proofs.lemmas.List.{get_or_past}
+use Rattle.std.specs.Prelude.{All, Contains, map}
+use Rattle.std.proofs.lemmas.List.Elements.{Contains-append_cases}
+use Rattle.lapd_frame.specs.declared.timers.Timer.TheVariants.{T200, T203}
+use Rattle.lapd_tei.specs.Table.{place_of}
+use Rattle.model_link.specs.Link.{fresh}
+use Rattle.model_link.specs.Told.{runs}
+use Rattle.laws_link.specs.two.Needed.{needed}
+use Rattle.model_link.specs.declared.timers.LinkTimer.TheVariants as link_timer
+use Rattle.model_line.specs.Machine.{after, answer, unless_refused}
+use Rattle.model_line.specs.Refusal.{refusal}
+use Rattle.model_line.specs.Request.{Data, Unit, Check}
+use Rattle.model_line.specs.Sound.{IsSound}
+use Rattle.laws_line.specs.Among.{after_events}
+use Rattle.laws_line.specs.GoesDown.{takes_down, TakeDown, IsDown, LinesGoDown}
+use Rattle.laws_line.specs.Served.{HasNothing, IsSilent}
+use Rattle.laws_line.specs.Timers.{link_needs, is_needed}
+use Rattle.laws_line.proofs.Draining.{nothing-taken}
+use Rattle.laws_line.proofs.GivingUp.{deactivations_give_up}
+use Rattle.laws_line.proofs.Parts.{gives-up}
+use Rattle.laws_line.proofs.Places.{has-place}
+use Rattle.laws_line.proofs.TimersFollow.{number-is}
+
+-- What waits and is of no link, and the check.
+record IsQuiet (l : Line) : Type 0 where
+  messages : l.management.waiting ≡ []
+  units : l.units ≡ []
+  check : l.management.check ≡ None
+
+-- What a request that takes a line down leaves as it is.
+record Keeps (l l' : Line) : Type 0 where
+  places : l'.management.places ≡ l.management.places
+  quiet : IsQuiet l → IsQuiet l'
+  begun : (number : ℕ) → link_at number l ≡ fresh → link_at number l' ≡ fresh
+
+same : (l : Line) → Keeps l l
+same l = record { places = refl; quiet = λ q. q; begun = λ number h. h }
+
+after-both : (l l' l'' : Line) → Keeps l l' → Keeps l' l'' → Keeps l l''
+after-both l l' l'' first second = record {
+  places = second.places ∙ first.places;
+  quiet = λ q. second.quiet (first.quiet q);
+  begun = λ number h. second.begun number (first.begun number h);
+}
+
+-- a link begins anew
+begins-still : {X : Type 0} (xs : List X) (n i : ℕ) (x : X) → get_or xs i x ≡ x → get_or (set xs n x) i x ≡ x
+begins-still [] n i x h = refl
+begins-still (y ∷ ys) zero zero x h = refl
+begins-still (y ∷ ys) zero (suc i) x h = h
+begins-still (y ∷ ys) (suc n) zero x h = h
+begins-still (y ∷ ys) (suc n) (suc i) x h = begins-still ys n i x h
+
+begins-there : {X : Type 0} (xs : List X) (n : ℕ) (x : X) → get_or (set xs n x) n x ≡ x
+begins-there [] n x = refl
+begins-there (y ∷ ys) zero x = refl
+begins-there (y ∷ ys) (suc n) x = begins-there ys n x
+
+-- One of these requests.
+module _ (c : Config) (l : Line) where
+  down-keeps : Keeps l (after c (request Down) l)
+  down-keeps =
+      subst (Keeps l) (sym (gives-up c l).line)
+      (record { places = refl; quiet = λ q. record { messages = refl; units = refl; check = refl }; begun = λ number h. h })
+
+  down-quiet : IsQuiet (after c (request Down) l)
+  down-quiet = subst IsQuiet (sym (gives-up c l).line) (record { messages = refl; units = refl; check = refl })
+
+  deactivated-keeps : (service : Service) (tei : ℕ) → Keeps l (after c (request (Deactivate service tei)) l)
+  unfolding after
+  deactivated-keeps service tei = go (refusal c false (Deactivate service tei) l) (place_in l tei)
+    where
+      go : (o : Option Refusal) (p : Option ℕ) → Keeps l (of_aim c (unless_refused o (at_deactivated service tei p)) l).line
+      go (Some why) p = same l
+      go None None = same l
+      go None (Some place) = record {
+        places = refl;
+        quiet = λ q. record { messages = q.messages; units = q.units; check = q.check };
+        begun = λ number h. begins-still l.links (link_number place service) number fresh h;
+      }
+
+  deactivated-begins : (service : Service) (tei place : ℕ) → IsSound c l → place_in l tei ≡ Some place
+      → link_at (link_number place service) (after c (request (Deactivate service tei)) l) ≡ fresh
+  deactivated-begins service tei place s on =
+      ap (link_at (link_number place service)) (deactivations_give_up c l service tei place s on).line
+      ∙ begins-there l.links (link_number place service) fresh
+
+  each : (r : Request) → takes_down r ≡ true → Keeps l (after c (request r) l)
+  each Down is = down-keeps
+  each (Deactivate service tei) is = deactivated-keeps service tei
+  each (Establish service tei) is = absurd (true≢false (sym is))
+  each (Release service tei) is = absurd (true≢false (sym is))
+  each (Data service tei contents) is = absurd (true≢false (sym is))
+  each (Unit service tei contents) is = absurd (true≢false (sym is))
+  each (Assign tei) is = absurd (true≢false (sym is))
+  each (Remove tei) is = absurd (true≢false (sym is))
+  each (Check tei) is = absurd (true≢false (sym is))
+  each (SetBusy service tei) is = absurd (true≢false (sym is))
+  each (ClearBusy service tei) is = absurd (true≢false (sym is))
+
+-- Which of a list is a request: the first, or one of the others.
+here-or-behind : (r x : Request) (rs : List Request) → Contains (r ∷ rs) x → (r ≡ x) ⊎ Contains rs x
+here-or-behind r x rs has = ⊎_elim (λ here. inl (only here)) (λ behind. inr behind) (Contains-append_cases (r ∷ []) rs x has)
+  where
+    only : Contains (r ∷ []) x → r ≡ x
+    only (zero, few, is) = is
+    only (suc k, few, is) = absurd (omega (arith, few))
+
+in-none : (x : Request) → Contains [] x → ⊥
+in-none x (k, few, is) = omega (arith, few)
+
+module _ (c : Config) (ranged : IsInRange c) where
+  abbrev Only : List Request → Type 0
+  Only rs = All (λ r. takes_down r ≡ true) rs
+
+  abbrev end : List Request → Line → Line
+  end rs l = after_events c (map request rs) l
+
+  keeps : (rs : List Request) (l : Line) → Only rs → Keeps l (end rs l)
+  unfolding after_events
+  keeps [] l only = same l
+  keeps (r ∷ rs) l only =
+      after-both l (after c (request r) l) _ (each c l r (All-head (λ r. takes_down r ≡ true) r rs only))
+      (keeps rs (after c (request r) l) (All-tail (λ r. takes_down r ≡ true) r rs only))
+
+  sound-still : (rs : List Request) (l : Line) → IsSound c l → IsSound c (end rs l)
+  unfolding after_events
+  sound-still [] l s = s
+  sound-still (r ∷ rs) l s = sound-still rs (after c (request r) l) (after_sound c ranged (request r) l s)
+
+  quiet : (rs : List Request) (l : Line) → Only rs → Contains rs Down → IsQuiet (end rs l)
+  unfolding after_events
+  quiet [] l only has = absurd (in-none Down has)
+  quiet (r ∷ rs) l only has =
+      let then = All-tail (λ r. takes_down r ≡ true) r rs only in
+      ⊎_elim
+      (λ here. (keeps rs (after c (request r) l) then).quiet (subst (λ r. IsQuiet (after c (request r) l)) (sym here) (down-quiet c l)))
+      (λ behind. quiet rs (after c (request r) l) then behind)
+      (here-or-behind r Down rs has)
+
+  begins : (rs : List Request) (l : Line) → IsSound c l → Only rs → (service : Service) (tei place : ℕ) → place_in l tei ≡ Some place
+      → Contains rs (Deactivate service tei) → link_at (link_number place service) (end rs l) ≡ fresh
+  unfolding after_events
+  begins [] l s only service tei place on has = absurd (in-none (Deactivate service tei) has)
+  begins (r ∷ rs) l s only service tei place on has =
+      let then = All-tail (λ r. takes_down r ≡ true) r rs only in
+      let next = after c (request r) l in
+      let first = each c l r (All-head (λ r. takes_down r ≡ true) r rs only) in
+      ⊎_elim
+      (λ here.
+      (keeps rs next then).begun (link_number place service)
+      (subst (λ r. link_at (link_number place service) (after c (request r) l) ≡ fresh) (sym here) (deactivated-begins c l service tei place s on)))
+      (λ behind.
+      begins rs next (after_sound c ranged (request r) l s) then service tei place (ap (place_of tei) first.places ∙ on) behind)
+      (here-or-behind r (Deactivate service tei) rs has)
+
+-- So after all of them.
+silent : (t : Terms) → IsSilent t fresh
+silent t = record { waiting = refl; information = λ m. cc m.state; pending = refl }
+
+module _ (c : Config) (ranged : IsInRange c) (l : Line) (rs : List Request) (s : IsSound c l) (h : TakeDown l rs) where
+  abbrev then : Line
+  then = end c ranged rs l
+
+  kept : Keeps l then
+  kept = keeps c ranged rs l h.only
+
+  sound : IsSound c then
+  sound = sound-still c ranged rs l s
+
+  none-left : IsQuiet then
+  none-left = quiet c ranged rs l h.only h.line
+
+  link-begins : (number : ℕ) → number < link_count c → link_at number then ≡ fresh
+  link-begins number few = go (tei_at (place_at number) then) refl (sound.links number few)
+    where
+      go : (o : Option ℕ) → tei_at (place_at number) then ≡ o → IsSoundAt c number (link_at number then) o → link_at number then ≡ fresh
+      go None off is = is
+      go (Some tei) on is =
+          let at : tei_at (place_at number) l ≡ Some tei = ap (λ ps. get_or ps (place_at number) None) (sym kept.places) ∙ on in
+          subst (λ n. link_at n then ≡ fresh) (number-is number)
+          (begins c ranged rs l s h.only (service_at number) tei (place_at number)
+          (has-place l.management.places tei (place_at number) s.management.table at)
+          (h.links (service_at number) tei (is_on-at l.management.places (place_at number) tei at)))
+
+  nothing-waits : HasNothing c then
+  nothing-waits = record {
+    messages = none-left.messages;
+    units = none-left.units;
+    links = λ number few tei on. subst (IsSilent _) (sym (link-begins number few)) (silent _);
+  }
+
+  any-begins : (number : ℕ) → link_at number then ≡ fresh
+  any-begins number = ⊎_elim (link-begins number) (λ past. get_or_past then.links number fresh (omega (arith, past, sound.count))) (cases_lt number (link_count c))
+
+  needs-none : (k : LinkTimer) (service : Service) (o : Option ℕ) → option_map_or (link_needs k service then) o false ≡ false
+  needs-none k service None = refl
+  needs-none link_timer.T200 service (Some place) = ap (λ x. runs link_timer.T200 (needed x)) (any-begins (link_number place service))
+  needs-none link_timer.T203 service (Some place) = ap (λ x. runs link_timer.T203 (needed x)) (any-begins (link_number place service))
+
+  none-needed : (timer : Timer) → is_needed timer then ≡ false
+  none-needed (T200 service tei) = needs-none link_timer.T200 service (place_in then tei)
+  none-needed (T203 service tei) = needs-none link_timer.T203 service (place_in then tei)
+  none-needed T201 = ap is_some none-left.check
+
+  gives-none : answer c next then ≡ gave None
+  unfolding answer
+  gives-none = ap (λ o. gave (option_map next_of o)) (nothing-taken c then sound nothing-waits)
+
+  is-down : IsDown c l then
+  is-down = record { nothing = nothing-waits; none = gives-none; links = link-begins; timers = none-needed; teis = kept.places }
+
+pub lines-go-down : LinesGoDown
+lines-go-down = record { gives_up = gives-up; goes_down = λ c l rs ranged s h. is-down c ranged l rs s h }

@@ -1,5 +1,5 @@
 -- What comes of it that a line is down.
-use Rattle.laws_line.proofs.Vocabulary.{◌≡◌, [], None, ap, sym, ◌∙◌, subst, arith, All-nil, Management, Config, LineTold, nothing, Effect, at_no_link, told_of_management, of_change, of_aim, without_units, Line}
+use Rattle.laws_line.proofs.Vocabulary.{◌≡◌, [], None, ap, sym, ◌∙◌, subst, arith, All-nil, Management, Config, nothing, Effect, at_no_link, told_of_management, of_change, of_aim, without_units, Line}
 use Rattle.lapd_tei.specs.Events as teis
 use Rattle.lapd_tei.specs.Laws.{stop_of}
 use Rattle.lapd_tei.specs.Machine.{TeiTold}

@@ -1,6 +1,7 @@
 -- A line that is taken down is down.
-use Rattle.laws_line.proofs.Vocabulary.{◌≡◌, ℕ, zero, suc, ◌≤◌, ◌<◌, true, false, is_some, List, [], ◌∷◌, ◌++◌, length, get_or, set, Option, Some, None, refl, sym, ap, subst, ◌∙◌, ◌⊎◌, inl, inr, ⊎_elim, arith, true≢false, option_map_or, All-head, All-tail, Refusal, Service, Timer, T201, LinkTimer, Terms, is_on-at, Config, request, gave, Line, link_number, link_count, service_at, place_at, tei_at, place_in, link_at, of_aim, next_of, Request, Establish, Release, Assign, Remove, SetBusy, ClearBusy, Deactivate, Down, at_deactivated, IsInRange, IsSoundAt, after_sound}
-use Rattle.std.proofs.Common.{option_map, cases_lt}
+use Rattle.laws_line.proofs.Vocabulary.{◌≡◌, ℕ, zero, suc, ◌<◌, true, false, is_some, List, [], ◌∷◌, get_or, set, Option, Some, None, refl, sym, ap, subst, ◌∙◌, ◌⊎◌, inl, inr, ⊎_elim, arith, true≢false, option_map_or, All-head, All-tail, Refusal, Service, Timer, T201, LinkTimer, Terms, is_on-at, Config, request, gave, Line, link_number, link_count, service_at, place_at, tei_at, place_in, link_at, of_aim, next_of, Request, Establish, Release, Assign, Remove, SetBusy, ClearBusy, Deactivate, Down, at_deactivated, IsInRange, IsSoundAt, after_sound, next}
+use Rattle.std.proofs.Common.{option_map}
+use Rattle.std.proofs.lemmas.Bool.{cases_lt}
 use Rattle.std.proofs.lemmas.List.{get_or_past}
 use Rattle.std.specs.Prelude.{All, Contains, map}
 use Rattle.std.proofs.lemmas.List.Elements.{Contains-append_cases}

@@ -26,6 +26,7 @@ pub mod WorkedServed
 pub mod WorkedHeard
 pub mod WorkedOneEvent
 pub mod WorkedLinks
+pub mod WorkedDown
 pub mod WorkedMessages
 pub mod WorkedNoted
 pub mod Drains

@@ -11,7 +11,7 @@ pub fn nothing_is_lost()
 {}
 
 /// A call for the next frame takes what waits, as `takes_serve` of `laws_line::card` has it; and no other event changes
-/// what waits of unit data, but by granted requests, or whose turn it is.
+/// what waits of unit data, but by granted requests, that of unit data and that the line is down, or whose turn it is.
 pub fn takes_serve()
     ensures { TakesServe }
 {}

@@ -5,14 +5,15 @@
 //! never does (`Machine`). `specs/` has the words of these laws: what an event is to the contents of one link
 //! (`Share`), how layer 3 learns that a link keeps nothing (`Loss`), what a call for the next frame takes (`Served`),
 //! what comes of what is heard (`Heard`), which frames are told as lost (`Frames`), which events are those of a link
-//! (`Steady`, `Requests`), that one part has each and nothing else changes (`OneEvent`), which timers are needed, run
-//! and started (`Timers`), what notes tell (`Knowledge`), what TEI management does, row by row (`Messages`), and that
-//! the user's side has none (`Unmanaged`), which event is the cause (`Causes`) and the reason of a note (`Reasons`), all
-//! that an answer notes (`Noted`), whose turn it is (`Turns`), how short answers are (`Short`), the laws (`Laws`), and
-//! worked values of the laws and of the machine (`Worked*`). `Drains` and `Among` say what a line comes to with calls
-//! for the next frame, or with other events between them; their bounds are numbers of calls, and speak of no time. Each
-//! law is the contract of a call that does nothing; `laws`, `timers` and `notes` name what says the same of a card, in
-//! words: laws of [`card`], or fields of `Promises` (crate `laws_promises`).
+//! (`Steady`, `Requests`), that one part has each and nothing else changes (`OneEvent`), what comes of it that a line is
+//! down (`Deactivated`, `GoesDown`), which timers are needed, run and started (`Timers`), what notes tell (`Knowledge`),
+//! what TEI management does, row by row (`Messages`), and that the user's side has none (`Unmanaged`), which event is the
+//! cause (`Causes`) and the reason of a note (`Reasons`), all that an answer notes (`Noted`), whose turn it is (`Turns`),
+//! how short answers are (`Short`), the laws (`Laws`), and worked values of the laws and of the machine (`Worked*`).
+//! `Drains` and `Among` say what a line comes to with calls for the next frame, or with other events between them; their
+//! bounds are numbers of calls, and speak of no time. Each law is the contract of a call that does nothing; `laws`,
+//! `timers` and `notes` name what says the same of a card, in words: laws of [`card`], or fields of `Promises` (crate
+//! `laws_promises`).
 //!
 //! - `machine`, `laws`, `timers`, `notes`, `management`, `progress`, `turns`: the laws.
 //! - `card`: laws of a whole card.

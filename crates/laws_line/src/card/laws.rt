@@ -16,14 +16,16 @@ pub fn takes_serve()
 {}
 
 /// In every moment one part of one line has one event, and all else is as it was. A frame for a link of a TEI on the
-/// line, also one that the grammar does not have, or that is too long, the expiry of a timer of it, or a request of it that is granted, is this event of the link, and changes
-/// nothing else; the answer tells what the link tells. A message of TEI management, the expiry of T201, or a request of
-/// management that is granted, is this event of TEI management; the links of a TEI that comes or leaves are as ones
-/// that begin, the others stay, and noted is what TEI management notes, and what the links of a TEI that leaves tell as
-/// they end. Unit data whose request was granted waits, whole, behind what waits. A call for the next frame leaves its
-/// line, and answers, as the machine of the line does; so what [`takes_serve`] says of that machine's next call is said
-/// of each call of the run. Whatever else comes changes nothing, and nothing is told (clauses 2.2 to 2.7, 3.6.1, 5.2.2,
-/// 5.3, 5.8.5 and the profile).
+/// line, also one that the grammar does not have, or that is too long, the expiry of a timer of it, or a request of
+/// it that is granted, is this event of the link, and changes nothing else; the answer tells what the link tells. A
+/// message of TEI management, the expiry of T201, or a request of management that is granted, is this event of TEI
+/// management; the links of a TEI that comes or leaves are as ones that begin, the others stay, and noted is what
+/// TEI management notes, and what the links of a TEI that leaves tell as they end. Unit data whose request was
+/// granted waits, whole, behind what waits. Where the line is down, no unit data, no message of TEI management and
+/// no check are left, and all that is told is that T201 stops. A call for the next frame leaves its line, and
+/// answers, as the machine of the line does; so what [`takes_serve`] says of that machine's next call is said of
+/// each call of the run. Whatever else comes changes nothing, and nothing is told (clauses 2.2 to 2.7, 3.6.1, 5.2.2,
+/// 5.3, 5.8.5, annex B and the profile).
 pub fn one_event()
     ensures { OneEvent }
 {}

@@ -1,5 +1,5 @@
 -- What an event of a line is to the data of a link: what it asks for, and what it does not.
-use Rattle.laws_trace.proofs.Vocabulary.{◌≡◌, ℕ, ◌==◌, ◌&&◌, Bool, true, false, cond, List, [], ◌∷◌, Option, Some, None, refl, sym, ap, ◌∙◌, eq-eqb, true≢false, is_some, Service, same_service, not_not, Terms, Link, accepted, i_frames, Config, hears, request, next, Answer, Line, has_tei, place_in, aim_of, unless_refused, bad_tei, no_link, wrong_state, too_long, queue_full, pool_full, Assign, Remove, Deactivate, at_requested, is_granted, IsBy, passed, not-refused, service-same, is-off}
+use Rattle.laws_trace.proofs.Vocabulary.{◌≡◌, ℕ, ◌==◌, ◌&&◌, Bool, true, false, cond, List, [], ◌∷◌, Option, Some, None, refl, sym, ap, ◌∙◌, eq-eqb, true≢false, is_some, Service, same_service, not_not, Terms, Link, accepted, i_frames, Config, hears, request, next, Answer, Line, has_tei, place_in, aim_of, unless_refused, bad_tei, no_link, wrong_state, too_long, queue_full, pool_full, Assign, Remove, Deactivate, at_requested, is_granted, IsBy, passed, not-refused, service-same, is-off, Down}
 use Rattle.model_bits.specs.Stream as stream
 use Rattle.model_link.specs.Events as link
 use Rattle.model_link.specs.Requests as requests
@@ -88,3 +88,4 @@ module _ (c : Config) (l : Line) (service : Service) (tei : ℕ) where
   elsewhere (SetBusy its by) g away = refl
   elsewhere (ClearBusy its by) g away = refl
   elsewhere (Deactivate its by) g away = refl
+  elsewhere Down g away = refl

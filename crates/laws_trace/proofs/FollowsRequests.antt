@@ -1,5 +1,5 @@
 -- What is due of TEI management by a request, and by any event of a line, is what its answer shows.
-use Rattle.laws_trace.proofs.Vocabulary.{◌≡◌, ℕ, ◌==◌, ◌&&◌, Bool, true, false, cond, not, List, [], ◌∷◌, length, Option, Some, None, IfSome, is_some, refl, sym, ap, ◌∙◌, subst, true≢false, inl, arith, leb-true, leb-false, nat_le, nat_lt, list_any, Refusal, Management, free_place, on-range, Config, at_management, of_aim, hears, expiry, request, next, Line, place_in, has_tei, unless_refused, unless_refused_told, wrong_side, bad_tei, no_link, tei_taken, table_full, check_running, control_full, Assign, Remove, Deactivate, aim_of_request, has_management, is_granted, passed}
+use Rattle.laws_trace.proofs.Vocabulary.{◌≡◌, ℕ, ◌==◌, ◌&&◌, Bool, true, false, cond, not, List, [], ◌∷◌, length, Option, Some, None, IfSome, is_some, refl, sym, ap, ◌∙◌, subst, true≢false, inl, arith, leb-true, leb-false, nat_le, nat_lt, list_any, Refusal, Management, free_place, on-range, Config, at_management, of_aim, hears, expiry, request, next, Line, place_in, has_tei, unless_refused, unless_refused_told, wrong_side, bad_tei, no_link, tei_taken, table_full, check_running, control_full, Assign, Remove, Deactivate, aim_of_request, has_management, is_granted, passed, Down, at_no_link, filter, option_map, Stop, T201}
 use Rattle.std.proofs.lemmas.Bool.{ltb-true, ltb-false}
 use Rattle.lapd_tei.specs.Events as teis
 use Rattle.lapd_tei.specs.Words.{Course, begun}
@@ -7,14 +7,17 @@ use Rattle.model_link.specs.Events as link
 use Rattle.model_line.specs.Event.{Event, told}
 use Rattle.model_line.specs.Machine.{after, answer}
 use Rattle.model_line.specs.Refusal.{refusal}
-use Rattle.model_line.specs.Request.{Request, Establish, Release, Data, Check, SetBusy, ClearBusy}
+use Rattle.model_line.specs.Request.{Request, Establish, Release, Data, Check as Checking, SetBusy, ClearBusy}
 use Rattle.model_line.specs.Sound.{IsSound}
 use Rattle.laws_trace.specs.Managing.{Managed, nothing_due, is_grantable, by_granted, due}
-use Rattle.laws_trace.specs.TeisAreManaged.{IsGrantedSo}
-use Rattle.laws_trace.proofs.Follows.{Follows, Leads, InOrder, as_seen, here, assign-leads, remove-leads, begins-check, may-is, fewer-on, all-on}
+use Rattle.laws_trace.specs.TeisAreManaged.{IsGrantedSo, is_of_t201}
+use Rattle.laws_trace.proofs.Follows.{Follows, Leads, InOrder, seen_check, as_seen, here, assign-leads, remove-leads, begins-check, may-is, fewer-on, all-on}
 use Rattle.laws_trace.proofs.ManagingTables.{AreOn}
 use Rattle.laws_trace.proofs.ManagingNotes.{is_management}
 use Rattle.laws_trace.proofs.FollowsLine.{Shows, IsUnmanaged, asked-aims, deactivated-aims, managed-shows, unmanaged-shows, hears-shows, expiry-shows, next-shows}
+use Rattle.laws_line.proofs.Downs.{by-down}
+use Rattle.lapd_tei.specs.Laws.{stop_of}
+use Rattle.lapd_tei.specs.declared.check.Check.{Check}
 
 -- The rows that refuse a request of management.
 refused-3 : (a b d : Bool) (x y z : Refusal) → is_some (cond a (Some x) (cond b (Some y) (cond d (Some z) None))) ≡ not (not a && not b && not d)
@@ -149,28 +152,44 @@ module _ (c : Config) (l : Line) (s : IsSound c l) (on : List ℕ) (h : AreOn on
           let full = passed (control_full l) [] unknown.1 in
           granted-shows (Remove tei) (teis.remove tei) refl (two _ _ _ _ unknown.0 full.0) (remove-leads on m h order s.management tei)
 
-  check-shows : (tei : ℕ) → Answers (Check tei) (is_grantable c (Check tei) w) (refusal c false (Check tei) l)
+  check-shows : (tei : ℕ) → Answers (Checking tei) (is_grantable c (Checking tei) w) (refusal c false (Checking tei) l)
   unfolding teis.refusal
-  check-shows tei = by-grant (Check tei) same granted
+  check-shows tei = by-grant (Checking tei) same granted
     where
-      same : is_some (refusal c false (Check tei) l) ≡ not (is_grantable c (Check tei) w)
+      same : is_some (refusal c false (Checking tei) l) ≡ not (is_grantable c (Checking tei) w)
       same =
           refused-5 (has_management c.side) (nat_lt 126 tei) (has_tei tei l) (is_some m.check) (nat_le 4 (length m.waiting)) _ _ _ _ _ (on-low tei)
           ∙ ap (λ b. not (has_management c.side && b && not (nat_le 4 (length m.waiting)))) (sym (may-is on m h order s.management tei))
 
-      granted : refusal c false (Check tei) l ≡ None → Answers (Check tei) true None
+      granted : refusal c false (Checking tei) l ≡ None → Answers (Checking tei) true None
       granted none =
           let side = passed (wrong_side c) (bad_tei tei ∷ no_link tei l ∷ check_running l ∷ control_full l ∷ []) none in
           let bad = passed (bad_tei tei) (no_link tei l ∷ check_running l ∷ control_full l ∷ []) side.1 in
           let unknown = passed (no_link tei l) (check_running l ∷ control_full l ∷ []) bad.1 in
           let running = passed (check_running l) (control_full l ∷ []) unknown.1 in
           let full = passed (control_full l) [] running.1 in
-          granted-shows (Check tei) (teis.check tei) refl (three _ _ _ _ _ _ unknown.0 running.0 full.0) (begins-check on m h order s.management tei)
+          granted-shows (Checking tei) (teis.check tei) refl (three _ _ _ _ _ _ unknown.0 running.0 full.0) (begins-check on m h order s.management tei)
 
   link-shows : (r : Request) → IsUnmanaged c l (aim_of_request r l) → (o : Option Refusal) → refusal c false r l ≡ o
       → let x = of_aim c (unless_refused o (aim_of_request r l)) l in Shows c l (request r) (nothing_due w) (unless_refused_told o x) x.line.management
   link-shows r x (Some why) is = (refused-shows r why).0
   link-shows r x None is = unmanaged-shows c l s on h order (request r) (aim_of_request r l) (ap (λ o. is_management (unless_refused o (aim_of_request r l))) is ∙ x.none) x
+
+  -- That the line is down.
+  stopped : (o : Option Check) → filter is_of_t201 (stop_of o) ≡ cond (is_some (option_map seen_check o)) (Stop T201 ∷ []) []
+  stopped None = refl
+  stopped (Some check) = refl
+
+  down-shows : let y = of_aim c at_no_link l in Shows c l (request Down) (by_granted Down w) (told y.told) y.line.management × (is_granted (told y.told) ≡ true)
+  down-shows =
+      by-down c l (λ y. Shows c l (request Down) (by_granted Down w) (told y.told) y.line.management × (is_granted (told y.told) ≡ true)) (
+        record {
+          as_due = record { notes = refl; orders = stopped m.check; begins = refl };
+          lost = inl refl;
+          follows = record { is = refl; on = h; order = tt };
+        },
+        refl,
+      )
 
   abbrev Requested : Request → Type 0
   Requested r = Shows c l (request r) (due c (request r) w) (answer c (request r) l) (after c (request r) l).management × IsGrantedSo c w (request r) (answer c (request r) l)
@@ -188,7 +207,8 @@ module _ (c : Config) (l : Line) (s : IsSound c l) (on : List ℕ) (h : AreOn on
   request-shows (Deactivate service tei) = (link-shows (Deactivate service tei) (deactivated-aims c l service tei (place_in l tei)) (refusal c false (Deactivate service tei) l) refl, tt)
   request-shows (Assign tei) = assign-shows tei
   request-shows (Remove tei) = remove-shows tei
-  request-shows (Check tei) = check-shows tei
+  request-shows (Checking tei) = check-shows tei
+  request-shows Down = down-shows
 
   seen-shows : (e : Event) → Shows c l e (due c e w) (answer c e l) (after c e l).management × IsGrantedSo c w e (answer c e l)
   seen-shows (hears e) = (hears-shows c l s on h order e, tt)

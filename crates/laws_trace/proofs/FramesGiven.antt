@@ -1,5 +1,5 @@
 -- Which events of a line give a frame: of a link, only an offer.
-use Rattle.laws_trace.proofs.Vocabulary.{◌≡◌, ℕ, List, [], map, Option, Some, None, refl, option_to_list, Service, Timer, Terms, Link, LinkTimer, Config, Aim, at_none, at_link, at_management, at_units, at_timer, aim_of_expiry, Line, place_in, link_of, terms, aim_of_heard, Assign, Remove, Deactivate, at_requested, at_deactivated, aim_of_request, heard_aims}
+use Rattle.laws_trace.proofs.Vocabulary.{◌≡◌, ℕ, List, [], map, Option, Some, None, refl, option_to_list, Service, Timer, Terms, Link, LinkTimer, Config, Aim, at_none, at_link, at_management, at_units, at_timer, aim_of_expiry, Line, place_in, link_of, terms, aim_of_heard, Assign, Remove, Deactivate, at_requested, at_deactivated, aim_of_request, heard_aims, at_no_link, Down}
 use Rattle.model_bits.specs.Stream as stream
 use Rattle.lapd_frame.specs.declared.timers.Timer.TheVariants as timers
 use Rattle.model_link.specs.Events as link
@@ -23,6 +23,7 @@ module _ (c : Config) (l : Line) where
   Silent (at_none what) = what.orders ≡ []
   Silent (at_management me) = Unit {0}
   Silent (at_units unit) = Unit {0}
+  Silent at_no_link = Unit {0}
 
   pub heard-silent : (what : stream.Event) → Silent (aim_of_heard c l what)
   heard-silent what = heard_aims c l Silent (λ cause. refl) (λ its by place what at. refl) (λ info. tt) (λ parts service to. refl) what
@@ -55,3 +56,4 @@ module _ (c : Config) (l : Line) where
   request-silent (SetBusy its by) = asked-silent its by link.SetBusy (place_in l by)
   request-silent (ClearBusy its by) = asked-silent its by link.ClearBusy (place_in l by)
   request-silent (Deactivate its by) = deactivated-silent its by (place_in l by)
+  request-silent Down = tt

@@ -1,5 +1,5 @@
 -- What an event of a line leaves of the contents that a link keeps.
-use Rattle.laws_trace.proofs.Vocabulary.{◌≡◌, ℕ, ◌%◌, Bool, true, false, cond, not, List, [], ◌∷◌, ◌++◌, ◌&&◌, ◌||◌, drop, Some, None, refl, sym, ap, ◌∙◌, subst, ◌⊎◌, inl, inr, arith, append-nil, All, is_some, list_any, option_map_or, All-head, All-tail, none-some, Note, WrongState, Service, place_of-is, is_on-at, not_not, accepted, ends, is_release, tells_loss, empties, Terms, Link, is_multiple_frame, queue_of, state_number, notes-own, Config, at_link, Answer, hears, expiry, request, next, Line, has_tei, link_in, link_of, place_in, terms, aim_of, unless_refused, bad_tei, no_link, wrong_state, Assign, Remove, Deactivate, at_requested, at_deactivated, aim_of_request, IsInRange, terms_in_range, notes_of, is_loss_of, is_granted, IsBy, link-grants, passed, not-refused}
+use Rattle.laws_trace.proofs.Vocabulary.{◌≡◌, ℕ, ◌%◌, Bool, true, false, cond, not, List, [], ◌∷◌, ◌++◌, ◌&&◌, ◌||◌, drop, Some, None, refl, sym, ap, ◌∙◌, subst, ◌⊎◌, inl, inr, arith, append-nil, All, is_some, list_any, option_map_or, All-head, All-tail, none-some, Note, WrongState, Service, place_of-is, is_on-at, not_not, accepted, ends, is_release, tells_loss, empties, Terms, Link, is_multiple_frame, queue_of, state_number, notes-own, Config, at_link, Answer, hears, expiry, request, next, Line, has_tei, link_in, link_of, place_in, terms, aim_of, unless_refused, bad_tei, no_link, wrong_state, Assign, Remove, Deactivate, at_requested, at_deactivated, aim_of_request, IsInRange, terms_in_range, notes_of, is_loss_of, is_granted, IsBy, link-grants, passed, not-refused, Down}
 use Rattle.lapd_frame.specs.declared.notes.Note.TheVariants as notes
 use Rattle.model_link.specs.Events as link
 use Rattle.model_link.specs.Link.{fresh as fresh_link}
@@ -167,6 +167,7 @@ module _ (c : Config) (ranged : IsInRange c) (l : Line) (s : IsSound c l) (servi
     none-asked (Assign by) aims = refl
     none-asked (Remove by) aims = refl
     none-asked (Check by) aims = refl
+    none-asked Down aims = refl
     none-asked (SetBusy its by) aims = refl
     none-asked (ClearBusy its by) aims = refl
 

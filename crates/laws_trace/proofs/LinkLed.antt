@@ -1,5 +1,5 @@
 -- Which state a link moves to: one event of a line, by what is seen of it.
-use Rattle.laws_trace.proofs.Vocabulary.{◌≡◌, ℕ, ◌==◌, ◌&&◌, Bool, true, false, cond, List, [], ◌∷◌, ◌++◌, length, map, Option, Some, None, Result, Ok, Err, refl, sym, ap, ◌∙◌, eq-eqb, true≢false, ◌⊎◌, inl, inr, fold, is_some, nat_lt, option_map_or, Unserved, Address, ReadFault, BadExtension, Undefined, WrongSize, Short, ErrorCode, L, N, O, Long, Refusal, Service, Timer, Parts, reading, long_reading, sapi_of, service_of, same_service, place_of-is, is_on-at, LinkTimer, Config, Aim, Effect, at_link, hears, expiry, request, next, Answer, refused, gave, aim_of_expiry, at_timer, Line, has_tei, place_in, terms, aim_of, unless_refused, unless_refused_told, of_request, heard_side, addressed, aim_of_heard, aim_of_reading, aim_of_long, drop_for, message_of, Assign, Remove, Deactivate, aim_of_request, at_requested, at_deactivated, at_side, IsMalformed, IsTooLong, is_granted, IsBy, BringsMalformed, timer_of, IsDeactivated, addressed-is, sapi-is, service-same, both-true}
+use Rattle.laws_trace.proofs.Vocabulary.{◌≡◌, ℕ, ◌==◌, ◌&&◌, Bool, true, false, cond, List, [], ◌∷◌, ◌++◌, length, map, Option, Some, None, Result, Ok, Err, refl, sym, ap, ◌∙◌, eq-eqb, true≢false, ◌⊎◌, inl, inr, fold, is_some, nat_lt, option_map_or, Unserved, Address, ReadFault, BadExtension, Undefined, WrongSize, Short, ErrorCode, L, N, O, Long, Refusal, Service, Timer, Parts, reading, long_reading, sapi_of, service_of, same_service, place_of-is, is_on-at, LinkTimer, Config, Aim, Effect, at_link, hears, expiry, request, next, Answer, refused, gave, aim_of_expiry, at_timer, Line, has_tei, place_in, terms, aim_of, unless_refused, unless_refused_told, of_request, heard_side, addressed, aim_of_heard, aim_of_reading, aim_of_long, drop_for, message_of, Assign, Remove, Deactivate, aim_of_request, at_requested, at_deactivated, at_side, IsMalformed, IsTooLong, is_granted, IsBy, BringsMalformed, timer_of, IsDeactivated, addressed-is, sapi-is, service-same, both-true, Down}
 use Rattle.std.proofs.Common.{eqb-true}
 use Rattle.model_bits.specs.Stream as stream
 use Rattle.lapd_frame.specs.declared.overlong.Long.TheVariants as long
@@ -157,6 +157,7 @@ module _ (c : Config) (service : Service) (tei : ℕ) (k : Known) where
     none-asked x (Assign by) aims = refl
     none-asked x (Remove by) aims = refl
     none-asked x (Check by) aims = refl
+    none-asked x Down aims = refl
     none-asked x (SetBusy its by) aims = refl
     none-asked x (ClearBusy its by) aims = refl
     none-asked x (Deactivate its by) aims =

@@ -1,5 +1,5 @@
 -- Where no event is one of a link, and its TEI stays on the line, nothing is told of its establishment or its release.
-use Rattle.laws_trace.proofs.Vocabulary.{◌≡◌, ℕ, ◌==◌, ◌&&◌, Bool, true, false, cond, List, [], ◌∷◌, ◌++◌, Option, Some, None, refl, sym, ap, ◌∙◌, subst, true≢false, ◌⊎◌, inl, inr, All, filter, All-nil, All-cons, All-append, All-head, All-tail, All-weaker, Note, Refusal, Service, Call, Packet, Timer, T201, same_service, is_on-at, Management, IsAt, IsSoundTable, Change, Gained, Left, Terms, LinkTimer, Link, notes-own, Config, Aim, at_link, at_management, of_aim, of_change, told_of_management, hears, expiry, request, next, at_timer, aim_of_expiry, Line, has_tei, link_in, place_in, terms, aim_of, unless_refused, unless_refused_told, aim_of_heard, group_tei, Assign, Remove, Deactivate, at_requested, at_deactivated, aim_of_request, IsProper, heard_aims, request_proper, notes_of, is-off, has-no-place, ByChange, noted}
+use Rattle.laws_trace.proofs.Vocabulary.{◌≡◌, ℕ, ◌==◌, ◌&&◌, Bool, true, false, cond, List, [], ◌∷◌, ◌++◌, Option, Some, None, refl, sym, ap, ◌∙◌, subst, true≢false, ◌⊎◌, inl, inr, All, filter, All-nil, All-cons, All-append, All-head, All-tail, All-weaker, Note, Refusal, Service, Call, Packet, Timer, T201, same_service, is_on-at, Management, IsAt, IsSoundTable, Change, Gained, Left, Terms, LinkTimer, Link, notes-own, Config, Aim, at_link, at_management, of_aim, of_change, told_of_management, hears, expiry, request, next, at_timer, aim_of_expiry, Line, has_tei, link_in, place_in, terms, aim_of, unless_refused, unless_refused_told, aim_of_heard, group_tei, Assign, Remove, Deactivate, at_requested, at_deactivated, aim_of_request, IsProper, heard_aims, request_proper, notes_of, is-off, has-no-place, ByChange, noted, Down}
 use Rattle.std.proofs.Common.{eqb-true}
 use Rattle.model_bits.specs.Stream as stream
 use Rattle.lapd_frame.specs.declared.notes.Note.TheVariants as notes
@@ -22,6 +22,7 @@ use Rattle.laws_line.proofs.Readings as read
 use Rattle.laws_trace.specs.Trace.{is_own}
 use Rattle.laws_trace.specs.News.{is_news}
 use Rattle.laws_trace.proofs.OneLink.{is_at_link}
+use Rattle.laws_line.proofs.Downs.{by-down}
 
 module _ (service : Service) (tei : ℕ) where
   abbrev No : Note → Type 0
@@ -58,11 +59,13 @@ module _ (service : Service) (tei : ℕ) where
   tei-note (teis.assign asked) (Some (Gained by place)) ns is = subst (All No) (sym is.1) (All-nil No)
   tei-note (teis.remove asked) (Some (Gained by place)) ns is = absurd is
   tei-note (teis.check asked) (Some (Gained by place)) ns is = absurd is
+  tei-note teis.down (Some (Gained by place)) ns is = absurd is
   tei-note (teis.message octets) (Some (Left by place)) ns is = subst (All No) (sym is) (All-cons No (notes.Doubled by) [] refl (All-nil No))
   tei-note teis.expiry (Some (Left by place)) ns is = subst (All No) (sym is) (All-cons No (notes.Removed by) [] refl (All-nil No))
   tei-note (teis.assign asked) (Some (Left by place)) ns is = absurd is
   tei-note (teis.remove asked) (Some (Left by place)) ns is = subst (All No) (sym is.1) (All-nil No)
   tei-note (teis.check asked) (Some (Left by place)) ns is = absurd is
+  tei-note teis.down (Some (Left by place)) ns is = absurd is
 
   module _ (c : Config) (l : Line) (s : IsSound c l) where
     -- its TEI was not on the line, or stays on it
@@ -159,6 +162,7 @@ module _ (service : Service) (tei : ℕ) where
     request-silent (SetBusy its by) proper = asked-silent its by link.SetBusy (place_in l by)
     request-silent (ClearBusy its by) proper = asked-silent its by link.ClearBusy (place_in l by)
     request-silent (Deactivate its by) proper = deactivated-silent its by (place_in l by)
+    request-silent Down proper = λ aims there. by-down c l (λ f. All No f.told.notes) (All-nil No)
 
   -- Any event of a line.
   pub others-silent : (c : Config) (e : Event) (l : Line) → IsSound c l → is_at_link service tei (aim_of c e l) ≡ false → (has_tei tei l ≡ false) ⊎ (has_tei tei (after c e l) ≡ true) → All No (notes_of (answer c e l))

@@ -1,5 +1,5 @@
 -- What is seen of a link: SABME, and requests that are granted.
-use Rattle.laws_trace.proofs.Vocabulary.{◌≡◌, ℕ, ◌&&◌, Bool, true, false, cond, Option, Some, None, refl, sym, ap, ◌∙◌, true≢false, list_any, option_map_or, Service, Config, hears, expiry, request, next, Answer, Line, place_in, Assign, Remove, Deactivate, at_requested, aim_of_request, is_granted, IsBy, asks_establishment, Parts}
+use Rattle.laws_trace.proofs.Vocabulary.{◌≡◌, ℕ, ◌&&◌, Bool, true, false, cond, Option, Some, None, refl, sym, ap, ◌∙◌, true≢false, list_any, option_map_or, Service, Config, hears, expiry, request, next, Answer, Line, place_in, Assign, Remove, Deactivate, at_requested, aim_of_request, is_granted, IsBy, asks_establishment, Parts, Down}
 use Rattle.lapd_frame.specs.declared.controls.Control.{Control}
 use Rattle.model_link.specs.declared.timers.LinkTimer.TheVariants.{T200, T203}
 use Rattle.model_link.specs.Events as link
@@ -97,6 +97,7 @@ module _ (c : Config) (service : Service) (tei : ℕ) (which : Control → Bool)
     not-granted (SetBusy its by) a none = refl
     not-granted (ClearBusy its by) a none = refl
     not-granted (Deactivate its by) a none = refl
+    not-granted Down a none = refl
 
     not-own : (r : Request) (a : Answer) → is_at_link service tei (aim_of_request r l) ≡ false → releases service tei (request r) a ≡ false
     not-own (Establish its by) a aims = refl
@@ -110,6 +111,7 @@ module _ (c : Config) (service : Service) (tei : ℕ) (which : Control → Bool)
     not-own (SetBusy its by) a aims = refl
     not-own (ClearBusy its by) a aims = refl
     not-own (Deactivate its by) a aims = refl
+    not-own Down a aims = refl
 
     pub none-releases : (e : line_event.Event) → is_at_link service tei (lines.aim_of c e l) ≡ false → releases service tei e (lines.answer c e l) ≡ false
     none-releases (hears what) aims = refl

@@ -1,5 +1,5 @@
 -- Nothing is told as lost in vain: the law.
-use Rattle.laws_trace.proofs.Vocabulary.{◌≡◌, ◌≢◌, ℕ, zero, suc, ◌<◌, ◌==◌, ◌&&◌, ◌||◌, Bool, true, false, cond, List, length, get_or, is_some, Result, Ok, Err, Option, Some, None, refl, sym, ap, ◌∙◌, subst, arith, eq-eqb, true≢false, ◌⊎◌, inl, inr, option_map_or, get_or-set_same, Address, ReadFault, ErrorCode, L, N, O, Refusal, Parts, reading, long_reading, sapi_of, service_of, Service, Timer, place_of-is, LinkTimer, Link, Config, Aim, at_none, at_link, at_management, at_units, of_aim, hears, expiry, request, next, Answer, at_timer, aim_of_expiry, Line, link_in, link_of, place_in, terms, fresh_line, aim_of, unless_refused, unless_refused_told, aim_of_heard, heard_side, Assign, Remove, Deactivate, at_requested, at_deactivated, aim_of_request, IsInRange, sound_in, heard_aims, Card, line_at, at, fresh_is_sound, has_lines, by_room, line_sound, config-stays, lost_in, IsMalformed, IsTooLong, IsBy, BringsMalformed, sapi-is, service-same}
+use Rattle.laws_trace.proofs.Vocabulary.{◌≡◌, ◌≢◌, ℕ, zero, suc, ◌<◌, ◌==◌, ◌&&◌, ◌||◌, Bool, true, false, cond, List, length, get_or, is_some, Result, Ok, Err, Option, Some, None, refl, sym, ap, ◌∙◌, subst, arith, eq-eqb, true≢false, ◌⊎◌, inl, inr, option_map_or, get_or-set_same, Address, ReadFault, ErrorCode, L, N, O, Refusal, Parts, reading, long_reading, sapi_of, service_of, Service, Timer, place_of-is, LinkTimer, Link, Config, Aim, at_none, at_link, at_management, at_units, of_aim, hears, expiry, request, next, Answer, at_timer, aim_of_expiry, Line, link_in, link_of, place_in, terms, fresh_line, aim_of, unless_refused, unless_refused_told, aim_of_heard, heard_side, Assign, Remove, Deactivate, at_requested, at_deactivated, aim_of_request, IsInRange, sound_in, heard_aims, Card, line_at, at, fresh_is_sound, has_lines, by_room, line_sound, config-stays, lost_in, IsMalformed, IsTooLong, IsBy, BringsMalformed, sapi-is, service-same, Down, at_no_link}
 use Rattle.model_bits.specs.Stream as stream
 use Rattle.lapd_frame.specs.declared.timers.Timer.TheVariants as timers
 use Rattle.model_link.specs.declared.timers.LinkTimer.TheVariants as link_timer
@@ -26,6 +26,7 @@ use Rattle.laws_trace.proofs.OneLink.{Goes, is_at_link, event-goes}
 use Rattle.laws_trace.proofs.LossesOfParts.{link-full}
 use Rattle.laws_trace.proofs.ManagingNotes.{is_management}
 use Rattle.laws_trace.proofs.TeisAreManaged.{shows-behind}
+use Rattle.laws_line.proofs.Downs.{by-down}
 
 -- One event of a line.
 abbrev NoLoss : Aim → Type 0
@@ -64,6 +65,7 @@ module _ (c : Config) (l : Line) where
   request-none (SetBusy its by) = asked-none its by link.SetBusy (place_in l by)
   request-none (ClearBusy its by) = asked-none its by link.ClearBusy (place_in l by)
   request-none (Deactivate its by) = deactivated-none its by (place_in l by)
+  request-none Down = tt
 
 no-next : (c : Config) (e : Event) (a : Answer) (service : Service) (tei : ℕ) (le : link.Event) → (e ≡ next → ⊥) → IsBy c e a service tei le → IsNoOther le
 no-next c e a service tei (link.received (link.frame f)) other by = tt
@@ -171,6 +173,8 @@ module _ (c : Config) (ranged : IsInRange c) (l : Line) (s : IsSound c l) (e : E
   by-aim : (aim : Aim) → aim_of c e l ≡ aim → is_management aim ≡ false → NoLoss aim → lost_in a ≡ (of_aim c aim l).told.lost → 0 < lost_in a → HasFullLink c e then
   by-aim (at_none what) is unmanaged none lost_is some = let zero : lost_in a ≡ 0 = lost_is ∙ none in absurd (omega (arith, some, zero))
   by-aim (at_units unit) is unmanaged none lost_is some = let zero : lost_in a ≡ 0 = lost_is in absurd (omega (arith, some, zero))
+  by-aim at_no_link is unmanaged none lost_is some =
+      let zero : lost_in a ≡ 0 = lost_is ∙ by-down c l (λ f. f.told.lost ≡ 0) refl in absurd (omega (arith, some, zero))
   by-aim (at_link service tei place event) is unmanaged none lost_is some =
       by-link service tei (ap (is_at_link service tei) is ∙ ap (λ b. b && tei == tei) (service-same service) ∙ eq-eqb tei tei refl) some
   by-aim (at_management me) is unmanaged none lost_is some = absurd (true≢false unmanaged)

@@ -1,5 +1,5 @@
 -- The control frames of a link that are due by what the observer knows are those that are due by how the link stands.
-use Rattle.laws_trace.proofs.Vocabulary.{◌≡◌, ℕ, ◌+◌, ◌%◌, ◌==◌, ◌&&◌, ◌||◌, not, Bool, true, false, cond, length, List, [], ◌∷◌, ◌++◌, Option, Some, None, refl, sym, ap, ◌∙◌, true≢false, fold, nat_lt, Result, Ok, Err, option_map_or, seq, Information, ReceiveReady, ReceiveNotReady, Reject, Sabme, Disc, Ui, Ua, Dm, Frmr, ReadFault, Service, Parts, reading, ControlFrame, Config, hears, expiry, request, next, Answer, refused, gave, heard_side, Assign, Remove, Deactivate, as_response, is_granted}
+use Rattle.laws_trace.proofs.Vocabulary.{◌≡◌, ℕ, ◌+◌, ◌%◌, ◌==◌, ◌&&◌, ◌||◌, not, Bool, true, false, cond, length, List, [], ◌∷◌, ◌++◌, Option, Some, None, refl, sym, ap, ◌∙◌, true≢false, fold, nat_lt, Result, Ok, Err, option_map_or, seq, Information, ReceiveReady, ReceiveNotReady, Reject, Sabme, Disc, Ui, Ua, Dm, Frmr, ReadFault, Service, Parts, reading, ControlFrame, Config, hears, expiry, request, next, Answer, refused, gave, heard_side, Assign, Remove, Deactivate, as_response, is_granted, Down}
 use Rattle.model_bits.specs.Stream as stream
 use Rattle.lapd_frame.specs.declared.controls.Control.{Control}
 use Rattle.lapd_frame.specs.declared.controls.Control.TheVariants.{Xid}
@@ -177,6 +177,7 @@ module _ (service : Service) (tei : ℕ) where
   stays-down (Assign by) o down = down
   stays-down (Remove by) o down = down
   stays-down (Check by) o down = down
+  stays-down Down o down = down
 
   -- layer 3 is as busy as before, unless it says so
   abbrev pub busies : Request → Bool
@@ -195,6 +196,7 @@ module _ (service : Service) (tei : ℕ) where
   still-busy (Assign by) busy is = refl
   still-busy (Remove by) busy is = refl
   still-busy (Check by) busy is = refl
+  still-busy Down busy is = refl
 
   pub none-led : (c : Config) (r : Request) (w : Managed) → busies r ≡ true → (due c (request r) w).known ≡ w
   none-led c (SetBusy of by) w is = refl
@@ -207,6 +209,7 @@ module _ (service : Service) (tei : ℕ) where
   none-led c (Assign by) w is = absurd (true≢false (sym is))
   none-led c (Remove by) w is = absurd (true≢false (sym is))
   none-led c (Check by) w is = absurd (true≢false (sym is))
+  none-led c Down w is = absurd (true≢false (sym is))
 
   -- where it says so, the link stays up
   pub stays-up : (r : Request) (o : Observed) → busies r ≡ true → (by_request service tei r o).state ≡ o.state
@@ -228,6 +231,7 @@ module _ (service : Service) (tei : ℕ) where
   stays-up (Assign by) o is = absurd (true≢false (sym is))
   stays-up (Remove by) o is = absurd (true≢false (sym is))
   stays-up (Check by) o is = absurd (true≢false (sym is))
+  stays-up Down o is = absurd (true≢false (sym is))
 
   pub expires-is : (what : line_event.Event) → now_due.expires service tei what ≡ option_map_or one_more (expired_of service tei what) 0 == 1
   expires-is (hears e) = refl

@@ -1,5 +1,5 @@
 -- The control frames of a link that are due, and may go, in a moment, by what the observer knows.
-use Rattle.laws_trace.proofs.Vocabulary.{◌≡◌, inl, inr, ℕ, ◌<◌, ◌-◌, ◌==◌, ◌&&◌, ◌||◌, not, Bool, true, false, cond, length, take, List, [], ◌++◌, Option, Some, None, is_some, refl, sym, ap, ◌∙◌, subst, eq-eqb, true≢false, flat_map, nat_lt, list_any, option_map_or, none-some, Sabme, Disc, Service, Parts, State, state_number, Config, hears, expiry, request, next, Answer, refused, gave, Line, link_of, place_in, state_of, as_response, as_command, lost_in, is_granted, AllHaveTheirTimers, Card, line_at, at}
+use Rattle.laws_trace.proofs.Vocabulary.{◌≡◌, inl, inr, ℕ, ◌<◌, ◌-◌, ◌==◌, ◌&&◌, ◌||◌, not, Bool, true, false, cond, length, take, List, [], ◌++◌, Option, Some, None, is_some, refl, sym, ap, ◌∙◌, subst, eq-eqb, true≢false, flat_map, nat_lt, list_any, option_map_or, none-some, Sabme, Disc, Service, Parts, State, state_number, Config, hears, expiry, request, next, Answer, Line, link_of, place_in, state_of, as_response, as_command, lost_in, is_granted, AllHaveTheirTimers, Card, line_at, at}
 use Rattle.std.proofs.Common.{eqb-true}
 use Rattle.model_bits.specs.Stream as stream
 use Rattle.model_line.specs.Event as line_event

@@ -27,6 +27,7 @@ use Rattle.laws_trace.proofs.SmallMessagesWait.{messages-after}
 use Rattle.laws_trace.proofs.Units.{none-told, none-requested, given-frames}
 use Rattle.laws_trace.proofs.Spelled.{Anything}
 use Rattle.laws_trace.specs.Trace as traces
+use Rattle.laws_line.specs.Served.{units_behind, units_left}
 
 abbrev IsUnit : UnitData → Type 0
 IsUnit u = AreOctets u.contents
@@ -185,11 +186,30 @@ asked-exact (asked.Check tei) h = All-nil IsUnit
 asked-exact (asked.SetBusy service tei) h = All-nil IsUnit
 asked-exact (asked.ClearBusy service tei) h = All-nil IsUnit
 asked-exact (asked.Deactivate service tei) h = All-nil IsUnit
+asked-exact asked.Down h = All-nil IsUnit
 
 by-grant : (r : Request) (a : Answer) → All GivesOctets (traces.seen_granted r a ++ seen_told a) → All IsUnit (units_asked (request r) a)
 by-grant r (told t) h = asked-exact r (granted-seen r (told t) refl h)
 by-grant r (refused why) h = All-nil IsUnit
 by-grant r (gave given) h = All-nil IsUnit
+
+left-exact : (r : Request) (a : Answer) (us : List UnitData) → All IsUnit us → All IsUnit (units_left r a us)
+left-exact r (told t) us h = behind r
+  where
+    behind : (r : Request) → All IsUnit (units_behind r us)
+    behind (asked.Establish service tei) = h
+    behind (asked.Release service tei) = h
+    behind (asked.Data service tei contents) = h
+    behind (asked.Unit service tei contents) = h
+    behind (asked.Assign tei) = h
+    behind (asked.Remove tei) = h
+    behind (asked.Check tei) = h
+    behind (asked.SetBusy service tei) = h
+    behind (asked.ClearBusy service tei) = h
+    behind (asked.Deactivate service tei) = h
+    behind asked.Down = All-nil IsUnit
+left-exact r (refused why) us h = h
+left-exact r (gave given) us h = h
 
 next-units : (c : Config) (l : Line) → IsSound c l → All IsUnit l.units → All IsUnit (option_map_or line_of (taken c l) l).units
 next-units c l s h = go (taken c l) (taken-one c l s)
@@ -208,7 +228,7 @@ unfolding after
 units-after c (hears what) l s gives h = subst (All IsUnit) (sym (units-wait c (hears what) l)) h
 units-after c (expiry timer) l s gives h = subst (All IsUnit) (sym (units-wait c (expiry timer) l)) h
 units-after c (request r) l s gives h =
-    subst (All IsUnit) (sym (units-wait c (request r) l)) (All-append IsUnit l.units (units_asked (request r) (answer c (request r) l)) h (by-grant r (answer c (request r) l) gives))
+    subst (All IsUnit) (sym (units-wait c (request r) l)) (All-append IsUnit (units_left r (answer c (request r) l) l.units) (units_asked (request r) (answer c (request r) l)) (left-exact r (answer c (request r) l) l.units h) (by-grant r (answer c (request r) l) gives))
 units-after c next l s gives h = next-units c l s h
 
 -- Of a trace.

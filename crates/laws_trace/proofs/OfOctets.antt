@@ -2,6 +2,7 @@
 mod Seen
 mod AsOctets
 mod Emptied
+mod Spans
 pub mod UnitsAreHeard
 pub mod FramesGoOut
 pub mod WaitedIsHeard

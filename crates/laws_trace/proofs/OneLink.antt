@@ -1,6 +1,6 @@
 -- What an event of a line is to the link of a service with a TEI, at whatever place the TEI is: one event of this link,
 -- its deactivation, or none.
-use Rattle.laws_trace.proofs.Vocabulary.{◌≡◌, ℕ, ◌==◌, ◌&&◌, Bool, true, false, List, [], ◌∷◌, map, slice_get, Option, Some, None, IfSome, option_map, refl, sym, ap, ◌∙◌, subst, ◌⊎◌, inl, inr, ⊎_elim, All, option_to_list, option_or, option_map_or, All-nil, All-cons, none-some, Refusal, Service, Order, same_service, IsAt, Message, Terms, Link, Sent, Given, Config, hears, expiry, request, next, Answer, gave, Aim, at_none, at_link, at_management, at_units, of_aim, aim_of_expiry, orders_in, Line, UnitData, link_number, service_at, place_at, place_in, has_tei, link_at, link_in, link_of, terms, with_link, aim_of, unless_refused, unless_refused_told, aim_of_heard, Taken, taken, with_unit, unit_frame, with_given_frame, first_taken, round, next_of, line_of, aim_of_request, IsProper, heard_proper, expiry_proper, request_proper, round_below, lost_in, notes_of, contents_in, IsBy, IsDeactivated, IsOf, by-or-down, OfLink, of-links, services-equal, both-true, has-place, Ties, heard-ties, expiry-ties, request-ties, number-is}
+use Rattle.laws_trace.proofs.Vocabulary.{◌≡◌, ℕ, ◌==◌, ◌&&◌, Bool, true, false, List, [], ◌∷◌, map, slice_get, Option, Some, None, IfSome, option_map, refl, sym, ap, ◌∙◌, subst, ◌⊎◌, inl, inr, ⊎_elim, All, option_to_list, option_or, option_map_or, All-nil, All-cons, none-some, Refusal, Service, Order, same_service, IsAt, Message, Terms, Link, Sent, Given, Config, hears, expiry, request, next, Answer, gave, Aim, at_none, at_link, at_management, at_units, of_aim, aim_of_expiry, orders_in, Line, UnitData, link_number, service_at, place_at, place_in, has_tei, link_at, link_in, link_of, terms, with_link, aim_of, unless_refused, unless_refused_told, aim_of_heard, Taken, taken, with_unit, unit_frame, with_given_frame, first_taken, round, next_of, line_of, aim_of_request, IsProper, heard_proper, expiry_proper, request_proper, round_below, lost_in, notes_of, contents_in, IsBy, IsDeactivated, IsOf, by-or-down, OfLink, of-links, services-equal, both-true, has-place, Ties, heard-ties, expiry-ties, request-ties, number-is, at_no_link}
 use Rattle.std.proofs.Common.{eqb-true}
 use Rattle.lapd_tei.specs.Events as teis
 use Rattle.lapd_tei.specs.Messages.{frame_of as message_frame}
@@ -19,7 +19,8 @@ pub use Rattle.laws_trace.proofs.FramesGiven.{frames_given}
 use Rattle.laws_trace.proofs.FramesGiven.{Silent, heard-silent, expiry-silent, request-silent}
 use Rattle.laws_trace.proofs.ManagedLink.{alike, Remains, managed, starts-none}
 use Rattle.laws_trace.proofs.OfferTells.{offer-tells_nothing}
-use Rattle.laws_trace.proofs.OrdersOfLink.{StartNone, none-ordered, other-starts-none}
+use Rattle.laws_trace.proofs.OrdersOfLink.{StartNone, none-ordered, stop-starts-none, other-starts-none}
+use Rattle.laws_line.proofs.Downs.{given_up, by-down}
 
 -- Whether an event of the line is one at this link.
 abbrev pub is_at_link : Service → ℕ → Aim → Bool
@@ -185,6 +186,10 @@ module _ (c : Config) (l : Line) (s : IsSound c l) (service : Service) (tei : �
     aim-goes (at_units unit) is proper ties tells silent =
         stays e a none_begins (at_units unit) is refl (none-started e a none_begins (at_units unit) tells (none-ordered service tei)) (to-be (at_units unit))
         (inl (alike c l s service tei l (to-be (at_units unit)) refl refl))
+    aim-goes at_no_link is proper ties tells silent =
+        stays e a none_begins at_no_link is refl
+        (none-started e a none_begins at_no_link tells (by-down c l (λ f. StartNone service tei f.told.orders) (stop-starts-none service tei l.management.check))) (to-be at_no_link)
+        (inl (by-down c l (λ f. link_of service tei f.line ≡ link_of service tei l) (alike c l s service tei l (given_up l).line refl refl)))
     aim-goes (at_management me) is proper ties tells silent =
         stays e a none_begins (at_management me) is refl
         (none-started e a none_begins (at_management me) tells (starts-none c l s service tei me proper (teis.told me l.management).change)) (to-be (at_management me))

@@ -1,5 +1,5 @@
 -- Orders have reasons: one event of a line.
-use Rattle.laws_trace.proofs.Vocabulary.{◌≡◌, ℕ, ◌==◌, ◌&&◌, Bool, true, false, cond, not, is_some, List, [], ◌∷◌, ◌++◌, Option, Some, None, IfSome, refl, sym, ap, ◌∙◌, subst, arith, get_or, set, true≢false, inl, inr, All, nat_le, option_map, get_or-set_other, All-nil, All-cons, All-append, Refusal, Service, Call, Packet, Order, Start, Stop, Timer, Period, First, Second, Change, Gained, Left, Management, IdentityRemove, heard_in, free_place, free_tei, Terms, LinkTimer, Link, runs, timer_at, Config, told_of_management, of_change, of_aim, at_management, hears, expiry, request, next, gave, at_timer, runs_at, is_running, orders_in, Line, link_number, service_at, place_at, place_in, link_at, link_in, terms, unless_refused, unless_refused_told, aim_of_heard, Taken, taken, next_of, Unit, Assign, Remove, Deactivate, at_requested, at_deactivated, aim_of_request, IsProper, heard_aims, request_proper, IsOne, taken-one, has-place, number-is}
+use Rattle.laws_trace.proofs.Vocabulary.{◌≡◌, ℕ, ◌==◌, ◌&&◌, Bool, true, false, cond, not, is_some, List, [], ◌∷◌, ◌++◌, Option, Some, None, IfSome, refl, sym, ap, ◌∙◌, subst, arith, get_or, set, true≢false, inl, inr, All, nat_le, option_map, get_or-set_other, All-nil, All-cons, All-append, Refusal, Service, Call, Packet, Order, Start, Stop, Timer, Period, First, Second, Change, Gained, Left, Management, IdentityRemove, heard_in, free_place, free_tei, Terms, LinkTimer, Link, runs, timer_at, Config, told_of_management, of_change, of_aim, at_management, hears, expiry, request, next, gave, at_timer, runs_at, is_running, orders_in, Line, link_number, service_at, place_at, place_in, link_at, link_in, terms, unless_refused, unless_refused_told, aim_of_heard, Taken, taken, next_of, Unit, Assign, Remove, Deactivate, at_requested, at_deactivated, aim_of_request, IsProper, heard_aims, request_proper, IsOne, taken-one, has-place, number-is, Down}
 use Rattle.model_bits.specs.Stream as stream
 use Rattle.lapd_frame.specs.declared.timers.Timer.TheVariants as timers
 use Rattle.lapd_tei.specs.declared.check.Check.{Check}
@@ -21,6 +21,8 @@ use Rattle.model_line.specs.Sound.{IsSound}
 use Rattle.laws_trace.specs.OrdersHaveReasons.{HasReason}
 use Rattle.laws_trace.proofs.LossesOfParts.{served-by}
 use Rattle.laws_trace.proofs.OneLink.{given-orders}
+use Rattle.laws_line.proofs.Downs.{by-down}
+use Rattle.lapd_tei.specs.Laws.{stop_of}
 
 -- TEI management: what its rows order.
 module _ (m : Management) (P : Order → Type 0) (starts : P (Start timers.T201)) (stops : is_some m.check ≡ true → P (Stop timers.T201)) where
@@ -85,6 +87,10 @@ module _ (m : Management) (P : Order → Type 0) (starts : P (Start timers.T201)
       go true is = one-stop (its-check tei m.check is)
       go false is = none
 
+  stops-check : (o : Option Check) → m.check ≡ o → Due (rows.end_if_any o (words.withdraw (begun m)))
+  stops-check None is = none
+  stops-check (Some own) is = one-stop (ap is_some is)
+
   unless : (o : Option Refusal) (does : Step) → Due (does (begun m)) → Due (teis.unless_refused o does m)
   unless None does h = h
   unless (Some why) does h = none
@@ -96,6 +102,7 @@ module _ (m : Management) (P : Order → Type 0) (starts : P (Start timers.T201)
   rows-due (teis.assign tei) = unless (teis.refusal (teis.assign tei) m) (rows.put_on tei) (joins tei (free_place m.places))
   rows-due (teis.remove tei) = unless (teis.refusal (teis.remove tei) m) (rows.take_off tei) (takes-off tei)
   rows-due (teis.check tei) = unless (teis.refusal (teis.check tei) m) (words.begin_check tei) one-start
+  rows-due teis.down = stops-check m.check refl
 
 -- A line whose caller runs what the line runs.
 module _ (c : Config) (l : Line) (s : IsSound c l) (ran : Timer → Bool) (same : (timer : Timer) → ran timer ≡ is_running timer l) where
@@ -179,6 +186,11 @@ module _ (c : Config) (l : Line) (s : IsSound c l) (ran : Timer → Bool) (same 
   asked-due (SetBusy service tei) proper = asked service tei link.SetBusy (place_in l tei) refl
   asked-due (ClearBusy service tei) proper = asked service tei link.ClearBusy (place_in l tei) refl
   asked-due (Deactivate service tei) proper = deactivated service tei (place_in l tei) refl
+  asked-due Down proper = by-down c l (λ f. All R f.told.orders) (go l.management.check refl)
+    where
+      go : (o : Option Check) → l.management.check ≡ o → All R (stop_of o)
+      go None is = All-nil R
+      go (Some check) is = All-cons R (Stop timers.T201) [] (stops-due (ap is_some is)) (All-nil R)
 
   pub expired-due : (service : Service) (tei : ℕ) (k : LinkTimer) (o : Option ℕ) → place_in l tei ≡ o → All R (of_aim c (at_timer service tei k o) l).told.orders
   expired-due service tei k None off = All-nil R

@@ -4,6 +4,8 @@ use Rattle.lapd_frame.specs.declared.timers.Timer.TheVariants as timers
 use Rattle.model_link.specs.declared.timers.LinkTimer.TheVariants.{T200, T203}
 use Rattle.model_link.specs.Events as link
 use Rattle.model_link.specs.Machine as links
+use Rattle.lapd_tei.specs.Laws.{stop_of}
+use Rattle.lapd_tei.specs.declared.check.Check.{Check}
 
 -- None of the timers of a link is started.
 abbrev pub StartNone : Service → ℕ → List Order → Type 0
@@ -15,6 +17,12 @@ none-ordered service tei k = refl
 pub two-start-none : (service : Service) (tei : ℕ) (xs ys : List Order) → StartNone service tei xs → StartNone service tei ys → StartNone service tei (xs ++ ys)
 two-start-none service tei xs ys h i k =
     obeyed-append (timer_of service tei k) false xs ys ∙ ap (λ b. obeyed (timer_of service tei k) b ys) (h k) ∙ i k
+
+-- where the line is down,
+pub stop-starts-none : (service : Service) (tei : ℕ) (o : Option Check) → StartNone service tei (stop_of o)
+stop-starts-none service tei None k = refl
+stop-starts-none service tei (Some check) T200 = refl
+stop-starts-none service tei (Some check) T203 = refl
 
 -- by the orders of TEI management,
 pub management-starts-none : (service : Service) (tei : ℕ) (before : Bool) (orders : List Order) (after : Bool) → Follows before orders after → StartNone service tei orders

@@ -117,6 +117,11 @@ take-small tei c h = go (rows.is_checked tei c.now.check)
     go true = w
     go false = w
 
+-- none is left
+end-small : (o : Option Check) (c : Course) → AreSmall (rows.end_if_any o (words.withdraw c))
+end-small None c = All-nil IsSmall
+end-small (Some check) c = All-nil IsSmall
+
 -- An event of TEI management: a message is of octets.
 abbrev pub IsOfOctets : teis.Event → Type 0
 IsOfOctets (teis.message octets) = AreOctets octets
@@ -128,6 +133,7 @@ step-small teis.expiry c fits h = expire-small c.now.check c h
 step-small (teis.assign tei) c fits h = put-small tei (free_place c.now.places) c h
 step-small (teis.remove tei) c fits h = take-small tei c h
 step-small (teis.check tei) c fits h = sent (IdentityCheckRequest tei) c.now.waiting none h
+step-small teis.down c fits h = end-small c.now.check c
 
 pub after-small : (e : teis.Event) (m : Management) → IsOfOctets e → All IsSmall m.waiting → All IsSmall (teis.after e m).waiting
 unfolding teis.course

@@ -1,5 +1,5 @@
 -- The messages of TEI management that wait stay small: what it hears are octets.
-use Rattle.laws_trace.proofs.Vocabulary.{◌≡◌, ℕ, ◌<◌, ◌==◌, Bool, true, false, cond, List, [], ◌∷◌, ◌++◌, length, drop, Option, Some, None, IfSome, refl, sym, subst, inl, inr, Result, Ok, Err, All, option_map_or, All-drop, All-head, AreOctets, Tei, Unserved, Address, ReadFault, BadExtension, Undefined, WrongSize, Short, Long, Refusal, Service, Timer, Parts, reading, long_reading, service_of, reading-found, Change, Gained, Left, Config, Aim, at_none, at_link, at_management, at_units, told_of_management, of_change, of_aim, LineTold, hears, expiry, request, next, Answer, aim_of_expiry, at_timer, Line, place_in, unless_refused, management_sapi, group_tei, drop_for, at_place, to_service, addressed, message_of, aim_of_reading, unless_at_link, aim_of_long, aim_of_heard, heard_side, Taken, taken, line_of, aim_of_request, at_requested, at_deactivated, side_aims, IsOne, taken-one}
+use Rattle.laws_trace.proofs.Vocabulary.{◌≡◌, ℕ, ◌<◌, ◌==◌, Bool, true, false, cond, List, [], ◌∷◌, ◌++◌, length, drop, Option, Some, None, IfSome, refl, sym, subst, inl, inr, Result, Ok, Err, All, option_map_or, All-drop, All-head, AreOctets, Tei, Unserved, Address, ReadFault, BadExtension, Undefined, WrongSize, Short, Long, Refusal, Service, Timer, Parts, reading, long_reading, service_of, reading-found, Change, Gained, Left, Config, Aim, at_none, at_link, at_management, at_units, told_of_management, of_change, of_aim, LineTold, hears, expiry, request, next, Answer, aim_of_expiry, at_timer, Line, place_in, unless_refused, management_sapi, group_tei, drop_for, at_place, to_service, addressed, message_of, aim_of_reading, unless_at_link, aim_of_long, aim_of_heard, heard_side, Taken, taken, line_of, aim_of_request, at_requested, at_deactivated, side_aims, IsOne, taken-one, at_no_link, All-nil}
 use Rattle.model_bits.specs.Stream as stream
 use Rattle.lapd_frame.specs.declared.controls.Control.{Control}
 use Rattle.lapd_frame.specs.declared.controls.Control.TheVariants as control
@@ -19,6 +19,7 @@ use Rattle.laws_trace.proofs.SmallMessages.{IsSmall, IsOfOctets, after-small}
 use Rattle.laws_trace.specs.FramesAreRead.{HasOctets, GivesOctets}
 use Rattle.laws_trace.specs.Trace.{seen}
 use Rattle.laws_trace.specs.Trace as traces
+use Rattle.laws_line.proofs.Downs.{by-down}
 
 -- What TEI management hears are octets.
 abbrev IsOfOctetsAt : Aim → Type 0
@@ -26,6 +27,7 @@ IsOfOctetsAt (at_management e) = IsOfOctets e
 IsOfOctetsAt (at_none what) = Unit {0}
 IsOfOctetsAt (at_link service tei place e) = Unit {0}
 IsOfOctetsAt (at_units unit) = Unit {0}
+IsOfOctetsAt at_no_link = Unit {0}
 
 module _ (c : Config) (l : Line) where
   place-aims : (service : Service) (tei : ℕ) (what : link.Received) (o : Option ℕ) → IsOfOctetsAt (at_place service tei what o)
@@ -81,6 +83,7 @@ module _ (c : Config) (l : Line) where
   unless-aims (at_link service tei place event) h = tt
   unless-aims (at_management event) h = h
   unless-aims (at_units unit) h = tt
+  unless-aims at_no_link h = tt
 
   long-aims : (r : Result Long ReadFault) → IsOfOctetsAt (aim_of_long l r)
   long-aims (Ok (long.Information address)) = addressed-aims address link.overlong (drop_for Unserved) tt
@@ -127,6 +130,7 @@ asked-aims l (asked.Check tei) = tt
 asked-aims l (asked.SetBusy service tei) = at-asked service tei link.SetBusy (place_in l tei)
 asked-aims l (asked.ClearBusy service tei) = at-asked service tei link.ClearBusy (place_in l tei)
 asked-aims l (asked.Deactivate service tei) = at-down service tei (place_in l tei)
+asked-aims l asked.Down = tt
 
 request-aims : (l : Line) (r : Request) (o : Option Refusal) → IsOfOctetsAt (unless_refused o (aim_of_request r l))
 request-aims l r None = asked-aims l r
@@ -145,6 +149,7 @@ aim-small c (at_management e) l fits h =
     changed-small c (teis.told e l.management).change (told_of_management (teis.told e l.management)) (record l { management = teis.after e l.management })
     (after-small e l.management fits h)
 aim-small c (at_units unit) l fits h = h
+aim-small c at_no_link l fits h = by-down c l (λ f. All IsSmall f.line.management.waiting) (All-nil IsSmall)
 
 next-small : (c : Config) (l : Line) → IsSound c l → All IsSmall l.management.waiting → All IsSmall (option_map_or line_of (taken c l) l).management.waiting
 next-small c l s h = go (taken c l) (taken-one c l s)

@@ -40,6 +40,7 @@ refused-shows c (line_event.request (Deactivate service tei)) l w takes h = absu
 refused-shows c (line_event.request (Assign tei)) l w takes h = absurd (true≢false (sym takes))
 refused-shows c (line_event.request (Remove tei)) l w takes h = absurd (true≢false (sym takes))
 refused-shows c (line_event.request (Check tei)) l w takes h = absurd (true≢false (sym takes))
+refused-shows c (line_event.request request.Down) l w takes h = absurd (true≢false (sym takes))
 
 pub own-shows : (k : Card) (e : Event) (w : Managed) → card_sound.IsSound k → IsAtLine k e → Follows w (line_at e.line k).management
     → Both k.config (line_at e.line k) w e.what (answer e k) (line_at e.line (after e k))

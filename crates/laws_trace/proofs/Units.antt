@@ -1,5 +1,5 @@
 -- Unit data goes out in the order in which it was granted, over runs.
-use Rattle.laws_trace.proofs.Vocabulary.{◌≡◌, ℕ, ◌<◌, ◌≤◌, ◌==◌, ◌&&◌, Bool, true, false, cond, List, [], ◌∷◌, ◌++◌, drop, map, slice_get, Option, Some, None, option_map, refl, sym, ap, ◌∙◌, subst, inl, inr, append_assoc, append-nil, All, not, filter, flat_map-append, get_or-replicate, map-append, All-nil, All-head, filter-append, Ui, sapi_of, IsInOrder, Link, ControlFrame, Config, hears, expiry, request, next, NextFrame, Answer, refused, gave, Line, UnitData, link_count, link_at, service_at, terms, fresh_line, management_sapi, Taken, taken, unit_frame, next_of, IsInRange, IsUnitData, IsOfLink, IsOwed, IsIdle, contents_of, units_asked, unit_asked, event-follows, event-happens, served, units-wait}
+use Rattle.laws_trace.proofs.Vocabulary.{◌≡◌, ℕ, ◌<◌, ◌≤◌, ◌==◌, ◌&&◌, Bool, true, false, cond, List, [], ◌∷◌, ◌++◌, drop, map, slice_get, Option, Some, None, option_map, refl, sym, ap, ◌∙◌, subst, inl, inr, append_assoc, append-nil, All, not, filter, flat_map-append, get_or-replicate, map-append, All-nil, All-head, filter-append, Ui, sapi_of, IsInOrder, Link, ControlFrame, Config, hears, expiry, request, next, NextFrame, Answer, refused, gave, Line, UnitData, link_count, link_at, service_at, terms, fresh_line, management_sapi, Taken, taken, unit_frame, next_of, IsInRange, IsUnitData, IsOfLink, IsOwed, IsIdle, contents_of, units_asked, unit_asked, event-follows, event-happens, served, units-wait, fold}
 use Rattle.lapd_tei.specs.Messages.{information_of}
 use Rattle.model_link.specs.Link.{fresh}
 use Rattle.model_line.specs.Event.{Event, told}
@@ -9,7 +9,8 @@ use Rattle.model_line.specs.Request.{Request}
 use Rattle.model_line.specs.Sound.{IsSound}
 use Rattle.laws_trace.specs.Trace as traces
 use Rattle.laws_trace.specs.Trace.{frame_in, Seen, seen_told, seen_granted, seen, frames_begun}
-use Rattle.laws_trace.specs.Units.{is_ui, is_unit, units_begun, units_granted}
+use Rattle.laws_line.specs.Served.{units_behind, units_left}
+use Rattle.laws_trace.specs.Units.{is_ui, is_unit, units_begun, units_granted, is_down, one_more}
 use Rattle.laws_trace.proofs.NoUi.{IsPlain, all-left}
 use Rattle.laws_trace.proofs.Reading.{other-frame, unit-is}
 use Rattle.laws_trace.specs.Units as units
@@ -33,25 +34,43 @@ event-none c e l s h number few =
           (all-left t _ (link_at number l) _ (h number few)))
     ]
 
--- What a trace is to the unit data that waits before it and after it.
+-- What a trace is to the unit data that waits before it and after it: a UI that begins is the oldest, unit data that is granted
+-- waits behind, and where the line is down none waits.
 abbrev frames : Config → Line → List (List ℕ)
 frames c l = map (unit_frame c) l.units
 
+abbrev pub Begun : Bool → List (List ℕ) → List ℕ → List (List ℕ) → Type 0
+Begun true waiting octets left = waiting ≡ octets ∷ left
+Begun false waiting octets left = left ≡ waiting
+
+abbrev pub left_by : Config → Request → List (List ℕ) → List (List ℕ)
+left_by c r waiting = cond (is_down r) [] (waiting ++ units.unit_asked c r)
+
+abbrev pub Step : Config → List (List ℕ) → Seen → List (List ℕ) → Type 0
+Step c waiting (traces.heard e) left = left ≡ waiting
+Step c waiting (traces.begun octets) left = Begun (is_unit c.side octets) waiting octets left
+Step c waiting (traces.noted notes contents) left = left ≡ waiting
+Step c waiting (traces.granted r) left = left ≡ left_by c r waiting
+Step c waiting (traces.lost n) left = left ≡ waiting
+
+unfoldable pub Goes : Config → List (List ℕ) → List Seen → List (List ℕ) → Type 0
+Goes c waiting [] left = left ≡ waiting
+Goes c waiting (s ∷ t) left = (then : List (List ℕ)) × Step c waiting s then × Goes c then t left
+
 abbrev pub Passes : Config → Line → List Seen → Line → Type 0
-Passes c before t after = units_begun c t ++ frames c after ≡ frames c before ++ units_granted c t
+Passes c before t after = Goes c (frames c before) t (frames c after)
 
 pub rests : (c : Config) (l : Line) → Passes c l [] l
-rests c l = sym (append-nil (frames c l))
+unfolding Goes
+rests c l = refl
+
+behind : (c : Config) (k l m : List (List ℕ)) (t u : List Seen) → Goes c k t l → Goes c l u m → Goes c k (t ++ u) m
+unfolding Goes
+behind c k l m [] u h i = subst (λ l. Goes c l u m) h i
+behind c k l m (s ∷ t) u (then, step, h) i = (then, step, behind c then l m t u h i)
 
 pub joins : (c : Config) (k l m : Line) (t u : List Seen) → Passes c k t l → Passes c l u m → Passes c k (t ++ u) m
-joins c k l m t u h i =
-    ap (λ x. x ++ frames c m) (ap (filter (is_unit c.side)) (flat_map-append traces.frame_begun t u) ∙ filter-append (is_unit c.side) (frames_begun t) (frames_begun u))
-    ∙ append_assoc (units_begun c t) (units_begun c u) (frames c m)
-    ∙ ap (λ x. units_begun c t ++ x) i
-    ∙ sym (append_assoc (units_begun c t) (frames c l) (units_granted c u))
-    ∙ ap (λ x. x ++ units_granted c u) h
-    ∙ append_assoc (frames c k) (units_granted c t) (units_granted c u)
-    ∙ ap (λ x. frames c k ++ x) (sym (flat_map-append (units.unit_granted c) t u))
+joins c k l m t u h i = behind c (frames c k) (frames c l) (frames c m) t u h i
 
 -- Events but calls begin nothing, and what is granted waits.
 pub none-told : (a : Answer) → frames_begun (seen_told a) ≡ []
@@ -69,38 +88,38 @@ none-requested r (told t) = refl
 none-requested r (refused why) = refl
 none-requested r (gave given) = refl
 
-of-request : (c : Config) (r : Request) → map (unit_frame c) (unit_asked r) ≡ units.unit_asked c r
-of-request c (asked.Establish service tei) = refl
-of-request c (asked.Release service tei) = refl
-of-request c (asked.Data service tei contents) = refl
-of-request c (asked.Unit service tei contents) = refl
-of-request c (asked.Assign tei) = refl
-of-request c (asked.Remove tei) = refl
-of-request c (asked.Check tei) = refl
-of-request c (asked.SetBusy service tei) = refl
-of-request c (asked.ClearBusy service tei) = refl
-of-request c (asked.Deactivate service tei) = refl
+-- what a request that is granted leaves of them
+left-is : (c : Config) (r : Request) (us : List UnitData) → map (unit_frame c) (units_behind r us ++ unit_asked r) ≡ left_by c r (map (unit_frame c) us)
+left-is c (asked.Establish service tei) us = map-append (unit_frame c) us []
+left-is c (asked.Release service tei) us = map-append (unit_frame c) us []
+left-is c (asked.Data service tei contents) us = map-append (unit_frame c) us []
+left-is c (asked.Unit service tei contents) us = map-append (unit_frame c) us (record { service = service; tei = tei; contents = contents } ∷ [])
+left-is c (asked.Assign tei) us = map-append (unit_frame c) us []
+left-is c (asked.Remove tei) us = map-append (unit_frame c) us []
+left-is c (asked.Check tei) us = map-append (unit_frame c) us []
+left-is c (asked.SetBusy service tei) us = map-append (unit_frame c) us []
+left-is c (asked.ClearBusy service tei) us = map-append (unit_frame c) us []
+left-is c (asked.Deactivate service tei) us = map-append (unit_frame c) us []
+left-is c asked.Down us = refl
 
-asked-is : (c : Config) (r : Request) (a : Answer) → map (unit_frame c) (units_asked (request r) a) ≡ units_granted c (seen_granted r a ++ seen_told a)
-asked-is c r (told t) = of-request c r ∙ sym (append-nil (units.unit_asked c r))
-asked-is c r (refused why) = refl
-asked-is c r (gave given) = refl
+told-goes : (c : Config) (waiting left : List (List ℕ)) (a : Answer) → left ≡ waiting → Goes c waiting (seen_told a) left
+unfolding Goes
+told-goes c waiting left (told t) same = (waiting, refl, (waiting, refl, same))
+told-goes c waiting left (refused why) same = same
+told-goes c waiting left (gave given) same = same
 
--- the units after, where nothing begins
-waits : (c : Config) (before after : Line) (t : List Seen) → frames_begun t ≡ [] → frames c after ≡ frames c before ++ units_granted c t → Passes c before t after
-waits c before after t none h = ap (λ fs. filter (is_unit c.side) fs ++ frames c after) none ∙ h
+request-goes : (c : Config) (before after : Line) (r : Request) (a : Answer) → after.units ≡ units_left r a before.units ++ units_asked (request r) a
+    → Passes c before (seen_granted r a ++ seen_told a) after
+unfolding Goes
+request-goes c before after r (told t) is =
+    (frames c after, ap (map (unit_frame c)) is ∙ left-is c r before.units, (frames c after, refl, (frames c after, refl, refl)))
+request-goes c before after r (refused why) is = ap (map (unit_frame c)) (is ∙ append-nil before.units)
+request-goes c before after r (gave given) is = ap (map (unit_frame c)) (is ∙ append-nil before.units)
 
 -- A call begins the oldest unit data, or a frame that is none.
 pub given-frames : (o : Option NextFrame) → frames_begun (map traces.begun (frame_in (gave o))) ≡ frame_in (gave o)
 given-frames None = refl
 given-frames (Some f) = refl
-
-given-none : (c : Config) (o : Option NextFrame) → units_granted c (map traces.begun (frame_in (gave o))) ≡ []
-given-none c None = refl
-given-none c (Some f) = refl
-
-kept-of : (c : Config) (frame : List ℕ) (b : Bool) → is_unit c.side frame ≡ b → filter (is_unit c.side) (frame ∷ []) ≡ cond b (frame ∷ []) []
-kept-of c frame b is = ap (λ b. cond b (frame ∷ []) []) is
 
 -- the oldest goes
 first-goes : (c : Config) (us : List UnitData) (u : UnitData) → slice_get us 0 ≡ Some u → unit_frame c u ∷ map (unit_frame c) (drop 1 us) ≡ map (unit_frame c) us
@@ -125,45 +144,74 @@ of-link c l new frame h x =
     ap (is_unit c.side) x.spelled
     ∙ other-frame c.side (record { sapi = sapi_of (service_at x.number); command = x.command; tei = x.tei }) x.control (ap (λ b. b && not (sapi_of (service_at x.number) == management_sapi)) (plain-order c l new frame h x)) _
 
+begins : (c : Config) (waiting left : List (List ℕ)) (frame : List ℕ) (b : Bool) → is_unit c.side frame ≡ b → Begun b waiting frame left → Goes c waiting (traces.begun frame ∷ []) left
+unfolding Goes
+begins c waiting left frame b is h = (left, subst (λ b. Begun b waiting frame left) (sym is) h, refl)
+
 next-passes : (c : Config) (l new : Line) → IsSound c l → NoneWaits c l → (o : Option Taken)
     → elim o as (λ o. Type 0) [ None ↦ IsIdle c l new | Some t ↦ IsOwed c (contents_of l) l new t.frame ]
-    → filter (is_unit c.side) (frame_in (gave (option_map next_of o))) ++ frames c new ≡ frames c l
+    → Goes c (frames c l) (map traces.begun (frame_in (gave (option_map next_of o)))) (frames c new)
+unfolding Goes
 next-passes c l new s h None x = ap (λ (l : Line). map (unit_frame c) l.units) x.line
 next-passes c l new s h (Some t) (inl x) =
-    ap (λ fs. fs ++ frames c new) (kept-of c t.frame false (ap (is_unit c.side) x.spelled ∙ other-frame c.side (record { sapi = 63; command = true; tei = 127 }) (Ui false) refl (information_of x.message)))
-    ∙ ap (λ (l : Line). map (unit_frame c) l.units) x.line
+    begins c (frames c l) (frames c new) t.frame false
+    (ap (is_unit c.side) x.spelled ∙ other-frame c.side (record { sapi = 63; command = true; tei = 127 }) (Ui false) refl (information_of x.message))
+    (ap (λ (l : Line). map (unit_frame c) l.units) x.line)
 next-passes c l new s h (Some t) (inr (inl x)) =
-    ap (λ fs. fs ++ frames c new) (kept-of c t.frame true (ap (is_unit c.side) x.spelled ∙ unit-is c x.unit (first-of c l.units x.unit x.oldest s.units)))
-    ∙ ap (λ (l : Line). t.frame ∷ map (unit_frame c) l.units) x.line
+    begins c (frames c l) (frames c new) t.frame true
+    (ap (is_unit c.side) x.spelled ∙ unit-is c x.unit (first-of c l.units x.unit x.oldest s.units))
+    (sym (ap (λ (l : Line). t.frame ∷ map (unit_frame c) l.units) x.line
     ∙ ap (λ f. f ∷ map (unit_frame c) (drop 1 l.units)) x.spelled
-    ∙ first-goes c l.units x.unit x.oldest
+    ∙ first-goes c l.units x.unit x.oldest))
 next-passes c l new s h (Some t) (inr (inr x)) =
-    ap (λ fs. fs ++ frames c new) (kept-of c t.frame false (of-link c l new t.frame h x)) ∙ ap (λ (l : Line). map (unit_frame c) l.units) x.line
+    begins c (frames c l) (frames c new) t.frame false (of-link c l new t.frame h x) (ap (λ (l : Line). map (unit_frame c) l.units) x.line)
 
 next-passes-on : (c : Config) (l : Line) → IsSound c l → NoneWaits c l → Passes c l (seen next (answer c next l)) (after c next l)
 unfolding answer
-next-passes-on c l s h =
-    let o = option_map next_of (taken c l) in
-    let new = after c next l in
-    ap (λ fs. filter (is_unit c.side) fs ++ frames c new) (given-frames o)
-    ∙ next-passes c l new s h (taken c l) (served c l s)
-    ∙ sym (append-nil (frames c l)) ∙ ap (λ x. frames c l ++ x) (sym (given-none c o))
+next-passes-on c l s h = next-passes c l (after c next l) s h (taken c l) (served c l s)
 
 event-passes : (c : Config) (e : Event) (l : Line) → IsSound c l → NoneWaits c l → Passes c l (seen e (answer c e l)) (after c e l)
+unfolding Goes
 event-passes c (hears what) l s h =
-    let a = answer c (hears what) l in
-    waits c l (after c (hears what) l) (seen (hears what) a) (none-told a)
-    (ap (map (unit_frame c)) (units-wait c (hears what) l) ∙ sym (append-nil (frames c l)) ∙ ap (λ x. frames c l ++ x) (sym (none-asked c a)))
+    (frames c l, refl, told-goes c (frames c l) (frames c (after c (hears what) l)) (answer c (hears what) l) (ap (map (unit_frame c)) (units-wait c (hears what) l)))
 event-passes c (expiry timer) l s h =
-    let a = answer c (expiry timer) l in
-    waits c l (after c (expiry timer) l) (seen (expiry timer) a) (none-told a)
-    (ap (map (unit_frame c)) (units-wait c (expiry timer) l) ∙ sym (append-nil (frames c l)) ∙ ap (λ x. frames c l ++ x) (sym (none-asked c a)))
-event-passes c (request r) l s h =
-    let a = answer c (request r) l in
-    waits c l (after c (request r) l) (seen (request r) a) (none-requested r a)
-    (ap (map (unit_frame c)) (units-wait c (request r) l) ∙ map-append (unit_frame c) l.units (units_asked (request r) a) ∙ ap (λ x. frames c l ++ x) (asked-is c r a))
+    told-goes c (frames c l) (frames c (after c (expiry timer) l)) (answer c (expiry timer) l) (ap (map (unit_frame c)) (units-wait c (expiry timer) l))
+event-passes c (request r) l s h = request-goes c l (after c (request r) l) r (answer c (request r) l) (units-wait c (request r) l)
 event-passes c next l s h = next-passes-on c l s h
 
 pub steps : (c : Config) → IsInRange c → (e : Event) (l : Line) → IsSound c l → NoneWaits c l
     → Passes c l (seen e (answer c e l)) (after c e l) × NoneWaits c (after c e l)
 steps c ranged e l s h = (event-passes c e l s h, event-none c e l s h)
+
+-- So of what is seen since the line was down the units that begin, with those that wait then, are those granted.
+abbrev Sums : Config → List Seen → List (List ℕ) → Type 0
+Sums c t waiting = units_begun c t ++ waiting ≡ units_granted c t
+
+one-sums : (c : Config) (t : List Seen) (s : Seen) (left : List (List ℕ))
+    → units_begun c t ++ (units_begun c (s ∷ []) ++ left) ≡ units_granted c t ++ units_granted c (s ∷ []) → Sums c (t ++ s ∷ []) left
+one-sums c t s left h =
+    ap (λ x. x ++ left) (ap (filter (is_unit c.side)) (flat_map-append traces.frame_begun t (s ∷ [])) ∙ filter-append (is_unit c.side) (frames_begun t) (frames_begun (s ∷ [])))
+    ∙ append_assoc (units_begun c t) (units_begun c (s ∷ [])) left ∙ h ∙ sym (flat_map-append (units.unit_granted c) t (s ∷ []))
+
+step-sums : (c : Config) (t : List Seen) (s : Seen) (waiting left : List (List ℕ)) → Sums c t waiting → Step c waiting s left → Sums c (one_more t s) left
+step-sums c t (traces.heard e) waiting left h is = one-sums c t (traces.heard e) left (ap (λ x. units_begun c t ++ x) is ∙ h ∙ sym (append-nil (units_granted c t)))
+step-sums c t (traces.noted ns x) waiting left h is = one-sums c t (traces.noted ns x) left (ap (λ x. units_begun c t ++ x) is ∙ h ∙ sym (append-nil (units_granted c t)))
+step-sums c t (traces.lost n) waiting left h is = one-sums c t (traces.lost n) left (ap (λ x. units_begun c t ++ x) is ∙ h ∙ sym (append-nil (units_granted c t)))
+step-sums c t (traces.begun octets) waiting left h is = one-sums c t (traces.begun octets) left (ap (λ x. units_begun c t ++ x) (go (is_unit c.side octets) is) ∙ h ∙ sym (append-nil (units_granted c t)))
+  where
+    go : (b : Bool) → Begun b waiting octets left → cond b (octets ∷ []) [] ++ left ≡ waiting
+    go true is = sym is
+    go false is = is
+step-sums c t (traces.granted r) waiting left h is = go (is_down r) is
+  where
+    go : (b : Bool) → left ≡ cond b [] (waiting ++ units.unit_asked c r) → Sums c (cond b [] (t ++ traces.granted r ∷ [])) left
+    go true none = none
+    go false more =
+        one-sums c t (traces.granted r) left
+        (ap (λ x. units_begun c t ++ x) more ∙ sym (append_assoc (units_begun c t) waiting (units.unit_asked c r)) ∙ ap (λ x. x ++ units.unit_asked c r) h
+        ∙ ap (λ x. units_granted c t ++ x) (sym (append-nil (units.unit_asked c r))))
+
+pub sums : (c : Config) (t u : List Seen) (waiting left : List (List ℕ)) → Sums c t waiting → Goes c waiting u left → Sums c (fold one_more t u) left
+unfolding Goes
+sums c t [] waiting left h same = ap (λ x. units_begun c t ++ x) same ∙ h
+sums c t (s ∷ u) waiting left h (then, step, more) = sums c (one_more t s) u then left (step-sums c t s waiting then h step) more

@@ -157,7 +157,7 @@ pub use Rattle.model_line.proofs.Sides.{side_aims}
 pub use Rattle.model_line.proofs.TakenWalk.{round_below}
 pub use Rattle.model_line.specs.Config.{first_fault, is_within}
 pub use Rattle.model_line.specs.Counted.{given_shown, shown, told_in_answer}
-pub use Rattle.model_line.specs.Effect.{Aim, Effect, at_link, at_management, at_none, at_units, of_aim, of_change, told_of_management}
+pub use Rattle.model_line.specs.Effect.{Aim, Effect, at_link, at_management, at_no_link, at_none, at_units, of_aim, of_change, told_of_management}
 pub use Rattle.model_line.specs.Event.{Answer, LineTold, NextFrame, dropped, expiry, gave, hears, next, refused, request}
 pub use Rattle.model_line.specs.Expiry.{aim_of_expiry, at_timer, is_running, runs_at}
 pub use Rattle.model_line.specs.Heard.{addressed, aim_of_heard, aim_of_long, aim_of_reading, at_place, drop_for, group_tei, heard_side, management_sapi, message_of, to_service, unless_at_link}
@@ -165,7 +165,7 @@ pub use Rattle.model_line.specs.Laws.{orders_in}
 pub use Rattle.model_line.specs.Line.{Line, UnitData, fresh_line, has_tei, link_at, link_count, link_in, link_number, link_of, place_at, place_in, service_at, state_in, state_of, tei_at, terms, window, with_link}
 pub use Rattle.model_line.specs.Machine.{aim_of, of_heard, of_request, unless_refused, unless_refused_told}
 pub use Rattle.model_line.specs.Refusal.{bad_tei, check_running, control_full, no_link, pool_full, queue_full, table_full, tei_taken, too_long, wrong_side, wrong_state}
-pub use Rattle.model_line.specs.Request.{Assign, Deactivate, Remove, Unit}
+pub use Rattle.model_line.specs.Request.{Assign, Deactivate, Down, Remove, Unit}
 pub use Rattle.model_line.specs.Requested.{aim_of_request, at_deactivated, at_requested}
 pub use Rattle.model_line.specs.Room.{unless}
 pub use Rattle.model_line.specs.Sides.{IsToGroup, at_side, group_told, has_management, managed_at}

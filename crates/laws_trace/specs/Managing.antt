@@ -16,7 +16,7 @@ use Rattle.lapd_tei.specs.declared.messages.Message.TheVariants.{IdentityAssigne
 use Rattle.model_line.specs.declared.config.Config.{Config}
 use Rattle.model_line.specs.Event.{Event, hears, expiry, request, next}
 use Rattle.model_line.specs.Heard.{management_sapi, group_tei}
-use Rattle.model_line.specs.Request.{Request, Assign, Remove, Check}
+use Rattle.model_line.specs.Request.{Request, Assign, Remove, Check, Down}
 use Rattle.model_line.specs.Sides.{has_management}
 use Rattle.model_card.specs.Event as card
 use Rattle.laws_trace.specs.LinkFrames.{frame_of}
@@ -153,12 +153,18 @@ by_message c w (entity ∷ high ∷ low ∷ type ∷ last ∷ []) =
     if entity == 0x0F && last % 2 == 1 then by_type c type (256 * high + low) (last / 2) w else nothing_due w
 by_message c w other = nothing_due w
 
+-- Where the line is down no message is owed any more, and a check that runs ends without a result (annex B, persistent
+-- deactivation).
+abbrev pub given_up : Managed → Due
+given_up w = record (nothing_due (record w { check = None; owed = [] })) { orders = if is_some w.check then Stop T201 ∷ [] else [] }
+
 -- What management asks for, and whether it is granted (clauses 4.1.1.5, 5.3.3 and 5.3.4). The user's side neither removes
--- a TEI nor checks one (profile).
+-- a TEI nor checks one (profile). That the line is down is always granted.
 abbrev pub is_grantable : Config → Request → Managed → Bool
 is_grantable c (Assign tei) w = nat_le tei 126 && not (is_on tei w) && nat_lt (length w.on) c.terminals
 is_grantable c (Remove tei) w = has_management c.side && is_on tei w && not (is_full w)
 is_grantable c (Check tei) w = has_management c.side && may_check tei w && not (is_full w)
+is_grantable c Down w = true
 is_grantable c other w = false
 
 abbrev pub by_granted : Request → Managed → Due
@@ -166,6 +172,7 @@ by_granted (Assign tei) w = nothing_due (record w { on = tei ∷ w.on })
 by_granted (Remove tei) w =
     record (owes (IdentityRemove tei) (without tei w)) { orders = if is_checked tei w.check then Stop T201 ∷ [] else [] }
 by_granted (Check tei) w = first_check tei w
+by_granted Down w = given_up w
 by_granted other w = nothing_due w
 
 -- What is due by an event of the line. As the line is called for its next frame, the oldest message begins.

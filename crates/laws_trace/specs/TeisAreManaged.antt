@@ -14,7 +14,7 @@ use Rattle.model_line.specs.Event as line_event
 use Rattle.model_line.specs.Event.{request, Answer}
 use Rattle.model_line.specs.Heard.{management_sapi}
 use Rattle.model_line.specs.Laws.{notes_in, orders_in}
-use Rattle.model_line.specs.Request.{Assign, Remove, Check}
+use Rattle.model_line.specs.Request.{Assign, Remove, Check, Down}
 use Rattle.laws_line.specs.Share.{is_granted}
 use Rattle.model_card.specs.Card.{fresh}
 use Rattle.model_card.specs.Event.{Event, at}
@@ -52,6 +52,7 @@ abbrev pub IsGrantedSo : Config → Managed → line_event.Event → Answer → 
 IsGrantedSo c w (request (Assign tei)) a = is_granted a ≡ is_grantable c (Assign tei) w
 IsGrantedSo c w (request (Remove tei)) a = is_granted a ≡ is_grantable c (Remove tei) w
 IsGrantedSo c w (request (Check tei)) a = is_granted a ≡ is_grantable c (Check tei) w
+IsGrantedSo c w (request Down) a = is_granted a ≡ is_grantable c Down w
 IsGrantedSo c w other a = Unit {0}
 
 -- So it is of each event of the line, after whatever happened to the card.

@@ -1,5 +1,5 @@
 -- Unit data in a trace.
-use Rattle.std.specs.Prelude.{ℕ, ◌==◌, ◌&&◌, not, Bool, true, false, List, [], ◌∷◌, filter, flat_map, Result, Ok, Err}
+use Rattle.std.specs.Prelude.{ℕ, ◌==◌, ◌&&◌, not, Bool, true, false, List, [], ◌∷◌, ◌++◌, filter, flat_map, fold, if◌then◌else◌, Result, Ok, Err}
 use Rattle.lapd_frame.specs.declared.addresses.Side.{Side}
 use Rattle.lapd_frame.specs.declared.controls.Control.{Control}
 use Rattle.lapd_frame.specs.declared.controls.Control.TheVariants.{Ui}
@@ -10,7 +10,7 @@ use Rattle.model_line.specs.declared.config.Config.{Config}
 use Rattle.model_line.specs.Heard.{management_sapi}
 use Rattle.model_line.specs.Taken.{unit_frame}
 use Rattle.model_line.specs.Request as asked
-use Rattle.model_line.specs.Request.{Request}
+use Rattle.model_line.specs.Request.{Request, Down}
 use Rattle.laws_trace.specs.Trace.{Seen, granted, frames_begun}
 
 -- A frame of this side, as the grammar reads it, is a UI, and none of TEI management, which has SAPI 63 (Q.921 clauses
@@ -42,3 +42,16 @@ unit_granted c other = []
 
 abbrev pub units_granted : Config → List Seen → List (List ℕ)
 units_granted c t = flat_map (unit_granted c) t
+
+-- Where the line is down, what waits is given up (annex B, persistent deactivation). What is seen since it was down last, or from
+-- the start on.
+abbrev pub is_down : Request → Bool
+is_down Down = true
+is_down other = false
+
+abbrev pub one_more : List Seen → Seen → List Seen
+one_more before (granted r) = if is_down r then [] else before ++ granted r ∷ []
+one_more before other = before ++ other ∷ []
+
+abbrev pub since_down : List Seen → List Seen
+since_down t = fold one_more [] t

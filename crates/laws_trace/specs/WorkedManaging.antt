@@ -14,7 +14,7 @@ use Rattle.lapd_tei.specs.Messages.{frame_of}
 use Rattle.model_line.specs.declared.config.Config.{Config}
 use Rattle.model_line.specs.Event.{Answer, expiry, next, nothing, told, gave}
 use Rattle.model_line.specs.Machine as lines
-use Rattle.model_line.specs.Request.{Assign, Check}
+use Rattle.model_line.specs.Request.{Assign, Check, Down}
 use Rattle.model_card.specs.Card.{fresh}
 use Rattle.model_card.specs.Event.{Event, at}
 use Rattle.model_card.specs.Machine.{answer}
@@ -120,6 +120,22 @@ verified_again : (due_behind usual checked verifies).orders ≡ []
 unfolding reading header_of control_of unnumbered_of
 verified_again = refl
 
+-- Where the line is down no message is owed, the check ends, and T201 stops, if it ran; the TEI stays, and can be checked anew.
+none_owed : owed_after usual (checked ++ on_0 Down ∷ []) ≡ []
+none_owed = refl
+
+check_ends : (due_behind usual checked (on_0 Down)).orders ≡ Stop T201 ∷ []
+check_ends = refl
+
+none_ran : (due_behind usual [] (on_0 Down)).orders ≡ []
+none_ran = refl
+
+none_runs_out : due_behind usual (checked ++ on_0 Down ∷ []) expires ≡ nothing_due (managed_after usual 0 (on_0 (Assign 64) ∷ []))
+none_runs_out = refl
+
+checked_anew : (due_behind usual (checked ++ on_0 Down ∷ []) (on_0 (Check 64))).orders ≡ Start T201 ∷ []
+checked_anew = refl
+
 -- Four messages are owed; one more is lost.
 abbrev four : List Event
 four = asks ∷ asks ∷ asks ∷ asks ∷ []
@@ -163,3 +179,11 @@ not_owed h = cc h.begins
 
 passed_over : IsAsDue usual (due_behind usual checked (at 0 next)) (gave None) → ⊥
 passed_over h = cc h.begins
+
+-- Where the line is down, T201 is not stopped, or a message that waited begins behind it, the law is broken, too.
+runs_while_down : IsAsDue usual (due_behind usual checked (on_0 Down)) (tells [] []) → ⊥
+runs_while_down h = cc h.orders
+
+kept_for_later : IsAsDue usual (due_behind usual (checked ++ on_0 Down ∷ []) (at 0 next)) (gave (Some (record { octets = frame_of usual.side (IdentityCheckRequest 64); orders = [] }))) → ⊥
+unfolding reading header_of control_of unnumbered_of
+kept_for_later h = cc h.begins

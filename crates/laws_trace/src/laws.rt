@@ -36,9 +36,11 @@ pub fn the_other_side_is_heard()
 {}
 
 /// Unit data goes out. The UI frames that begin on a line, except those of TEI management, are the first of the unit
-/// data that was granted: in order, whole, each once, with its service and its TEI (`front`). And they are all of it,
-/// once the line was only called for its next frame, as often as the configuration says, 200 times with eight
-/// terminals, windows of 7, 4 unit data and 4 control frames (`all`; Q.921 clauses 3.6.5 and 5.2.2).
+/// data that was granted: in order, whole, each once, with its service and its TEI; and so they are, from each time
+/// that the line is down on, of what was granted behind it, since what waited then is given up (`front`). And they
+/// are all of it, once the line was only called for its next frame, as often as the configuration says, 200 times
+/// with eight terminals, windows of 7, 4 unit data and 4 control frames (`all`; Q.921 clauses 3.6.5 and 5.2.2, and
+/// annex B).
 pub fn units_go_out()
     ensures front { Always UnitsGoOut }
     ensures all { Always AllUnitsGoOut }
@@ -137,17 +139,18 @@ pub fn nothing_is_lost_in_vain()
 /// TEIs are managed as the procedures say. After whatever happened to a card, what the answer to an event of a line
 /// shows of TEI management is exactly what is due by that event, as whoever watches the line knows (`Managing` of
 /// specs/): the notes of TEIs, the orders of T201, and the frames with SAPI 63 that begin. A terminal that asks for a
-/// TEI by an Ri is owed the one that is held for this Ri; or the lowest from 64 on that is not on the line, while that
-/// has fewer than the configuration has terminals, which is told; or a denial; and where there is no room for the
-/// answer, nothing. A check of a TEI on the line begins by a granted request, and by a verify while none runs: its
-/// terminals are asked, and T201 is started; both once more as it expires. As it expires again the check is over, and a
-/// TEI of which no terminal answered is told as removed. Where a second one answers in one of the periods, it is told
-/// that two have it, T201 is stopped, and they are owed a removal, as they are by a granted request; and the TEI
-/// leaves. Messages begin as the line is called for its next frame, before all other frames, the oldest first, whole,
-/// each once; at most four are owed. And management is granted exactly to put a TEI of at most 126 on a line that does
-/// not have it and has room, and, on the network's side and while fewer than four messages are owed, to remove one that
-/// is on the line, and to check it while no check runs. The user's side serves no message (Q.921 clauses 4.1.1.5, 5.3.1
-/// to 5.3.5 and profile).
+/// TEI by an Ri is owed the one that is held for this Ri; or the lowest from 64 on that is not on the line, while
+/// that has fewer than the configuration has terminals, which is told; or a denial; and where there is no room for
+/// the answer, nothing. A check of a TEI on the line begins by a granted request, and by a verify while none runs:
+/// its terminals are asked, and T201 is started; both once more as it expires. As it expires again the check is over,
+/// and a TEI of which no terminal answered is told as removed. Where a second one answers in one of the periods, it
+/// is told that two have it, T201 is stopped, and they are owed a removal, as they are by a granted request; and the
+/// TEI leaves. Messages begin as the line is called for its next frame, before all other frames, the oldest first,
+/// whole, each once; at most four are owed. Where the line is down none is owed any more, a check that runs is over,
+/// and T201 is stopped. And management is granted exactly to put a TEI of at most 126 on a line that does not have it
+/// and has room, and, on the network's side and while fewer than four messages are owed, to remove one that is on the
+/// line, and to check it while no check runs. The user's side serves no message (Q.921 clauses 4.1.1.5, 5.3.1 to
+/// 5.3.5, annex B and profile).
 pub fn teis_are_managed()
     ensures { Always TeisAreManaged }
 {}

@@ -13,10 +13,11 @@ ghost use Rattle.laws_trace.specs.octets.UnitsAreHeard.{UnitsAreHeard, AllUnitsA
 
 /// Unit data is heard at the other end. The UI frames that a receiver hears in the octets that a line's pulls gave,
 /// except those of TEI management, are the first of the unit data that was granted there: in order, whole, each once,
-/// with its service and its TEI (`front`). And they are all of it, once the line was only pulled, as often as the
-/// configuration says, 64,346 times with eight terminals, N201 of 260, windows of 7, 4 unit data and 4 control frames
-/// (`all`). Of each number of the contents its eight low bits are heard, so an octet, 0 to 255, as it is (Q.921 clauses
-/// 2.2 to 2.7, 3.6.5 and 5.2.2).
+/// with its service and its TEI; and so they are, from each time that the line is down on, of what was granted behind
+/// it (`front`). And they are all of that, once the line was only pulled, as often as the configuration says, 64,346
+/// times with eight terminals, N201 of 260, windows of 7, 4 unit data and 4 control frames (`all`). Of each number of
+/// the contents its eight low bits are heard, so an octet, 0 to 255, as it is (Q.921 clauses 2.2 to 2.7, 3.6.5 and
+/// 5.2.2, and annex B).
 pub fn units_are_heard()
     ensures front { OfEachLine UnitsAreHeard }
     ensures all { OfEachLine AllUnitsAreHeard }

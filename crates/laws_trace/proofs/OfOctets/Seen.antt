@@ -1,5 +1,5 @@
 -- What an observer sees of the events of frames that events of octets mean, in the words of ports.
-use Rattle.laws_trace.proofs.Vocabulary.{◌≡◌, ℕ, ◌==◌, Bool, true, false, cond, List, [], ◌∷◌, ◌++◌, map, Option, None, Some, option_map, refl, sym, ap, ◌∙◌, append-nil, All, flat_map, option_to_list, flat_map-append, All-nil, All-cons, All-head, All-tail, All-append, AreOctets, PoolFull, Config, Card, OctetCard, port_at, answer_to, frame_moment, meant_in, frames_given, given_of, HearsOctets, Port, gained, given_in, is_due, answer_of, meant_all, asked_at, gives_at_next, neither, refines}
+use Rattle.laws_trace.proofs.Vocabulary.{◌≡◌, ℕ, ◌==◌, Bool, true, false, cond, List, [], ◌∷◌, ◌++◌, map, Option, None, Some, option_map, refl, sym, ap, ◌∙◌, append-nil, All, flat_map, option_to_list, flat_map-append, All-nil, All-cons, All-head, All-tail, All-append, AreOctets, PoolFull, Card, OctetCard, port_at, answer_to, frame_moment, meant_in, frames_given, given_of, HearsOctets, Port, gained, given_in, is_due, answer_of, meant_all, asked_at, gives_at_next, neither, refines}
 use Rattle.model_bits.specs.Stream as stream
 use Rattle.model_line.specs.Event as line
 use Rattle.model_line.specs.Machine as lines
@@ -13,7 +13,6 @@ use Rattle.laws_trace.specs.FramesAreRead as read
 use Rattle.laws_trace.specs.FramesAreRead.{contents_given, GivesOctets}
 use Rattle.laws_trace.specs.Trace as traces
 use Rattle.laws_trace.specs.Trace.{Seen, seen, seen_told, seen_granted, frame_in, seen_in, trace, frames_begun}
-use Rattle.laws_trace.specs.Units.{unit_asked, units_granted}
 use Rattle.laws_trace.proofs.Units.{none-told, none-requested}
 unfoldable use Rattle.model_card.specs.ports.Card.{after, answer, meant}
 use Rattle.model_card.specs.ports.Codec as codec
@@ -144,14 +143,6 @@ requests_are number m events =
     in_trace number (runs.moments m.card (meant_all m events))
     ∙ ap (flat_map (seen_at number)) (sym (refines m events).moments)
     ∙ by_octets number m events
-
-pub units_are : (c : Config) (t : List Seen) → units_granted c t ≡ flat_map (unit_asked c) (requests_seen t)
-units_are c [] = refl
-units_are c (traces.heard e ∷ t) = units_are c t
-units_are c (traces.begun octets ∷ t) = units_are c t
-units_are c (traces.noted notes contents ∷ t) = units_are c t
-units_are c (traces.granted r ∷ t) = ap (λ us. unit_asked c r ++ us) (units_are c t)
-units_are c (traces.lost n ∷ t) = units_are c t
 
 -- ---- what is heard, and the contents that are granted, are octets
 

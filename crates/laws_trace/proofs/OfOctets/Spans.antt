@@ -1,0 +1,106 @@
+-- Unit data between times at which a line is down: what begins are fronts of what is granted, one behind the other.
+use Rattle.laws_trace.proofs.Vocabulary.{◌≡◌, ℕ, Bool, true, false, cond, List, [], ◌∷◌, ◌++◌, map, refl, sym, ap, ◌∙◌, subst, append_assoc, append-nil, filter, filter-append, flat_map-append, map-append, fold, Config, as_octets}
+use Rattle.laws_trace.specs.Trace as traces
+use Rattle.laws_trace.specs.Trace.{Seen, IsFront, frames_begun}
+use Rattle.laws_trace.specs.Units.{is_unit, unit_asked, is_down, units_begun}
+use Rattle.laws_trace.specs.octets.Granted.{Asked, with_request}
+use Rattle.laws_trace.specs.octets.UnitsAreHeard.{AreFronts}
+use Rattle.laws_trace.proofs.OfOctets.Seen.{requests_seen}
+use Rattle.laws_trace.proofs.Units.{Begun, Step, Goes}
+
+-- one more of them
+pub one_front : (front : List (List ℕ)) (whole : List (List ℕ)) → IsFront front whole → AreFronts front (whole ∷ [])
+one_front front whole is = (front, [], sym (append-nil front), is, refl)
+
+pub more_fronts : (xs ys : List (List ℕ)) (wholes : List (List (List ℕ))) (whole : List (List ℕ)) → AreFronts xs wholes → IsFront ys whole → AreFronts (xs ++ ys) (wholes ++ whole ∷ [])
+more_fronts xs ys [] whole none is = subst (λ xs. AreFronts (xs ++ ys) (whole ∷ [])) (sym none) (one_front ys whole is)
+more_fronts xs ys (first ∷ wholes) whole (front, rest, split, its, others) is =
+    (front, rest ++ ys, ap (λ xs. xs ++ ys) split ∙ append_assoc front rest ys, its, more_fronts rest ys wholes whole others is)
+
+front-mapped : (front whole : List (List ℕ)) → IsFront front whole → IsFront (map as_octets front) (map as_octets whole)
+front-mapped front whole is = record { rest = map as_octets is.rest; whole_is = ap (map as_octets) is.whole_is ∙ map-append as_octets front is.rest }
+
+pub mapped : (xs : List (List ℕ)) (wholes : List (List (List ℕ))) → AreFronts xs wholes → AreFronts (map as_octets xs) (map (map as_octets) wholes)
+mapped xs [] none = ap (map as_octets) none
+mapped xs (whole ∷ wholes) (front, rest, split, its, others) =
+    (map as_octets front, map as_octets rest, ap (map as_octets) split ∙ map-append as_octets front rest, front-mapped front whole its, mapped rest wholes others)
+
+-- What has begun, before the line was down last and since, of what is asked for; and what waits.
+pub record Spans (begun : List (List ℕ)) (waiting : List (List ℕ)) (asked : Asked) : Type 0 where
+  pub before : List (List ℕ)
+  pub since : List (List ℕ)
+  pub begun_is : begun ≡ before ++ since
+  pub fronts : AreFronts before asked.earlier
+  pub waits : since ++ waiting ≡ asked.since
+
+module _ (c : Config) where
+  abbrev asked_by : Asked → List Seen → Asked
+  asked_by asked t = fold (with_request c) asked (requests_seen t)
+
+  same : (begun waiting left : List (List ℕ)) (asked : Asked) → left ≡ waiting → Spans begun waiting asked → Spans (begun ++ []) left asked
+  same begun waiting left asked is x = record {
+    before = x.before;
+    since = x.since;
+    begun_is = append-nil begun ∙ x.begun_is;
+    fronts = x.fronts;
+    waits = ap (λ ws. x.since ++ ws) is ∙ x.waits;
+  }
+
+  step : (begun waiting left : List (List ℕ)) (asked : Asked) (s : Seen) → Step c waiting s left → Spans begun waiting asked
+      → Spans (begun ++ units_begun c (s ∷ [])) left (asked_by asked (s ∷ []))
+  step begun waiting left asked (traces.heard e) is x = same begun waiting left asked is x
+  step begun waiting left asked (traces.noted notes contents) is x = same begun waiting left asked is x
+  step begun waiting left asked (traces.lost n) is x = same begun waiting left asked is x
+  step begun waiting left asked (traces.begun octets) is x = go (is_unit c.side octets) is
+    where
+      go : (b : Bool) → Begun b waiting octets left → Spans (begun ++ cond b (octets ∷ []) []) left asked
+      go false is = same begun waiting left asked is x
+      go true is = record {
+        before = x.before;
+        since = x.since ++ octets ∷ [];
+        begun_is = ap (λ xs. xs ++ octets ∷ []) x.begun_is ∙ append_assoc x.before x.since (octets ∷ []);
+        fronts = x.fronts;
+        waits = append_assoc x.since (octets ∷ []) left ∙ ap (λ ws. x.since ++ ws) (sym is) ∙ x.waits;
+      }
+  step begun waiting left asked (traces.granted r) is x = go (is_down r) is
+    where
+      go : (b : Bool) → left ≡ cond b [] (waiting ++ unit_asked c r)
+          → Spans (begun ++ []) left (record { earlier = cond b (asked.earlier ++ asked.since ∷ []) asked.earlier; since = cond b [] (asked.since ++ unit_asked c r) })
+      go false more = record {
+        before = x.before;
+        since = x.since;
+        begun_is = append-nil begun ∙ x.begun_is;
+        fronts = x.fronts;
+        waits = ap (λ ws. x.since ++ ws) more ∙ sym (append_assoc x.since waiting (unit_asked c r)) ∙ ap (λ ws. ws ++ unit_asked c r) x.waits;
+      }
+      go true none = record {
+        before = begun;
+        since = [];
+        begun_is = refl;
+        fronts = subst (λ xs. AreFronts xs (asked.earlier ++ asked.since ∷ [])) (sym x.begun_is)
+            (more_fronts x.before x.since asked.earlier asked.since x.fronts (record { rest = waiting; whole_is = sym x.waits }));
+        waits = none;
+      }
+
+  pub spans : (t : List Seen) (begun waiting left : List (List ℕ)) (asked : Asked) → Goes c waiting t left → Spans begun waiting asked
+      → Spans (begun ++ units_begun c t) left (asked_by asked t)
+  unfolding Goes
+  spans [] begun waiting left asked is x = same begun waiting left asked is x
+  spans (s ∷ t) begun waiting left asked (then, does, goes) x =
+      let first = step begun waiting then asked s does x in
+      let all = spans t (begun ++ units_begun c (s ∷ [])) then left (asked_by asked (s ∷ [])) goes first in
+      subst (λ xs. Spans xs left (asked_by asked (s ∷ t))) (whole s)
+      (subst (λ a. Spans ((begun ++ units_begun c (s ∷ [])) ++ units_begun c t) left a) (sym (rest s)) all)
+    where
+      whole : (s : Seen) → (begun ++ units_begun c (s ∷ [])) ++ units_begun c t ≡ begun ++ units_begun c (s ∷ t)
+      whole s =
+          append_assoc begun (units_begun c (s ∷ [])) (units_begun c t)
+          ∙ ap (λ xs. begun ++ xs)
+          (sym (ap (filter (is_unit c.side)) (flat_map-append traces.frame_begun (s ∷ []) t) ∙ filter-append (is_unit c.side) (frames_begun (s ∷ [])) (frames_begun t)))
+
+      rest : (s : Seen) → asked_by asked (s ∷ t) ≡ asked_by (asked_by asked (s ∷ [])) t
+      rest (traces.heard e) = refl
+      rest (traces.begun octets) = refl
+      rest (traces.noted notes contents) = refl
+      rest (traces.granted r) = refl
+      rest (traces.lost n) = refl

@@ -14,6 +14,7 @@ pub mod HeldSteps
 pub mod UnitSteps
 pub mod PullTakes
 pub mod PullTakesUnits
+pub mod GivingUp
 pub mod PullTakesLinks
 pub mod NextLooks
 pub mod Stood

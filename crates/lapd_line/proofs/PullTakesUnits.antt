@@ -78,7 +78,7 @@ without_unit e s t others m u st is free =
     })
     st.management o.addressed ((beside_units e s others m st).back t (unit_pairs (drop 1 e.units.waiting) (drop 1 m.units)) (o.released t free))
 
-none_for : (us : List QueuedUnit) (ds : List UnitData) → None ≡ slice_get us 0 → AreFor us ds → slice_get ds 0 ≡ None
+pub none_for : (us : List QueuedUnit) (ds : List UnitData) → None ≡ slice_get us 0 → AreFor us ds → slice_get ds 0 ≡ None
 none_for [] [] none h = refl
 none_for [] (d ∷ ds) none h = absurd h
 none_for (u ∷ us) ds none h = absurd (none-some u none)

@@ -31,7 +31,7 @@ neither true b = refl
 neither false b = refl
 
 -- as many wait as the machine has
-waiting : (e : LinkLayer) (s : Store) (others : List Owned) (m : Line) → Stands e s others m → length e.units.waiting ≡ length m.units
+pub waiting : (e : LinkLayer) (s : Store) (others : List Owned) (m : Line) → Stands e s others m → length e.units.waiting ≡ length m.units
 waiting e s others m st = sym (length-map e.units.waiting slot_of) ∙ as_many e.units.waiting m.units st.addressed ∙ length-map m.units contents_of
 
 -- No row before those for room holds: then these two are the answer.

@@ -13,8 +13,8 @@
 //! - `port`: the octets of a line; `line`: a line with its port.
 //! - `link_layer`: what the calls change: TEI management, links and units; `starts`, how they begin; `addressing`, what is
 //!   heard; `expiries`, timers; `tei_changes`, links that open and are cleared; `requests`, what is requested of a link, of TEI
-//!   management and as unit data; `pulls`, which frame is next; `held`, what they store; `rooms`, how much more contents they
-//!   take.
+//!   management and as unit data; `giving_up`, what waits and is of no link; `pulls`, which frame is next; `held`, what they
+//!   store; `rooms`, how much more contents they take.
 //! - `links`, `units`: the links of all places of the TEI table, and the unit data that waits; `marks`, which links have
 //!   something to give.
 //! - `reports`, `pulled`: the answers; `counting`: what they tell is counted; `fault`: why a line can't be started.
@@ -30,6 +30,7 @@ mod counting;
 mod expiries;
 mod fault;
 mod frame_line;
+mod giving_up;
 mod held;
 mod line;
 mod link_layer;

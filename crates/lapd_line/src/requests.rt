@@ -119,6 +119,10 @@ impl LinkLayer {
             Request::Deactivate(service, tei) => {
                 return self.deactivate(service, tei, report, shelf);
             }
+            Request::Down => {
+                self.give_up(report, shelf);
+                return Ok(());
+            }
         };
         self.ask(service, tei, request, report, shelf, slots)
     }

@@ -1,5 +1,5 @@
 -- Hand-written answers for `LinkLayer::request`.
-use Rattle.lapd_line.proofs.Vocabulary.{nat_le, refl, ap, used_slots, request_of, aim_of_request}
+use Rattle.lapd_line.proofs.Vocabulary.{nat_le, [], refl, ap, sym, subst, used_slots, refusal, request_of, aim_of_request, Serves}
 use Rattle.lapd_line.proofs.LayerRequests.{assign_rows, remove_rows, check_rows}
 use Rattle.lapd_line.proofs.RequestSteps.{refused_as, granted_as, aimed_as, Asks, asks_as, establish_asks, release_asks, data_asks, set_busy_asks, clear_busy_asks}
 use Rattle.lapd_line.proofs.link_layer.LinkLayer.request.Goals as goal
@@ -56,3 +56,11 @@ returns-in-Deactivate-clause-granted g c = granted_as _ _ _ (ap request_of c.in-
 
 pub returns-in-Deactivate-clause-served : goal.returns-in-Deactivate-clause-served
 returns-in-Deactivate-clause-served g c = aimed_as (request_of c.args.request) _ _ _ _ _ c.deactivate.result (ap (λ r. aim_of_request (request_of r)) c.in-Deactivate.is) c.deactivate.ensures.served
+
+pub returns-in-Down-clause-granted : goal.returns-in-Down-clause-granted
+returns-in-Down-clause-granted g c = λ others m st.
+    ap (λ r. refusal c.args.self.now.config (nat_le c.args.slots (used_slots (g.S.Shelf.store c.args.shelf.now))) (request_of r) m) c.in-Down.is
+
+pub returns-in-Down-clause-served : goal.returns-in-Down-clause-served
+returns-in-Down-clause-served g c =
+    subst (λ r. Serves (aim_of_request (request_of r)) [] c.args.self.now (g.S.Shelf.store c.args.shelf.now) c.give_up.new.self (g.S.Shelf.store c.give_up.new.shelf) c.give_up.new.report) (sym c.in-Down.is) c.give_up.ensures

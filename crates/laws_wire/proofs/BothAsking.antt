@@ -33,6 +33,7 @@ module _ (service : Service) (tei : ℕ) where
   asks-so P establish contents (asked_for.SetBusy s x) is = absurd is
   asks-so P establish contents (asked_for.ClearBusy s x) is = absurd is
   asks-so P establish contents (asked_for.Deactivate s x) is = absurd is
+  asks-so P establish contents asked_for.Down is = absurd is
 
   pub kind : (k : Doing) → IsCall service tei k → Kind k
   kind (at_near (requests r)) is = asks-so (λ r. Kind (at_near (requests r))) (near_calls refl) (λ s x octets same. talks same) r is
@@ -58,6 +59,7 @@ module _ (service : Service) (tei : ℕ) where
   data-calls_not (asked_for.SetBusy s x) is w = absurd is
   data-calls_not (asked_for.ClearBusy s x) is w = absurd is
   data-calls_not (asked_for.Deactivate s x) is w = absurd is
+  data-calls_not asked_for.Down is w = absurd is
 
   pub talk-calls_not : (k : Doing) → IsTalk service tei k → (w : Wire) → calls_back k w ≡ false
   talk-calls_not (at_near act) is w = refl

@@ -73,6 +73,7 @@ module _ (service : Service) (tei : ℕ) where
   for-asked P own busy ready (asked.Remove t) is = absurd is
   for-asked P own busy ready (asked.Check t) is = absurd is
   for-asked P own busy ready (asked.Deactivate s t) is = absurd is
+  for-asked P own busy ready asked.Down is = absurd is
 
   pub record LooseUp (c d : Config) (p q : ℕ) (past other : List LineTold) (w : Wire) : Type 0 where
     pub n : End

@@ -31,6 +31,7 @@ module _ (service : Service) (tei : ℕ) where
   for-data P own (asked.SetBusy s t) is = absurd is
   for-data P own (asked.ClearBusy s t) is = absurd is
   for-data P own (asked.Deactivate s t) is = absurd is
+  for-data P own asked.Down is = absurd is
 
   abbrev pub Aims : Timer → LinkTimer → Type 0
   Aims timer its = (l : Line) → aim_of_expiry timer l ≡ at_timer service tei its (place_in l tei)

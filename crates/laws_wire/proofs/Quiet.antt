@@ -99,6 +99,7 @@ module _ (service : Service) (tei : ℕ) where
     for-data P own (SetBusy s t) is = absurd is
     for-data P own (ClearBusy s t) is = absurd is
     for-data P own (Deactivate s t) is = absurd is
+    for-data P own asked.Down is = absurd is
 
     pub quiet-requests : ((octets : List ℕ) → refusal n.terms n.link false (link.Data octets) ≡ None → ⊥) → (r : Request) → IsTalkOf service tei (requests r) → Quiet (acting (requests r) w) 0
     quiet-requests never r is = for-data (λ r. Quiet (acting (requests r) w) 0) (quiet-asks never) r is

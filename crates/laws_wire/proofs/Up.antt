@@ -223,6 +223,7 @@ module _ (service : Service) (tei : ℕ) where
       acts-request (SetBusy s t) is = absurd is
       acts-request (ClearBusy s t) is = absurd is
       acts-request (Deactivate s t) is = absurd is
+      acts-request asked.Down is = absurd is
 
       pub acts : (act : Act) → IsTalkOf service tei act → Acted w (acting act w) n m (if is_turn_of act w then 1 else 0)
       acts (requests r) is = acts-request r is

@@ -89,6 +89,7 @@ asked-octets service tei (asked.Check t) is = absurd is
 asked-octets service tei (asked.SetBusy s t) is = absurd is
 asked-octets service tei (asked.ClearBusy s t) is = absurd is
 asked-octets service tei (asked.Deactivate s t) is = absurd is
+asked-octets service tei asked.Down is = absurd is
 
 asked-there : (service : Service) (tei : ℕ) (r : Request) → IsAsked service tei r → call.IsCallOf service tei (wire.requests r)
 asked-there service tei (asked.Data s t contents) is = (is.0, is.1)
@@ -101,6 +102,7 @@ asked-there service tei (asked.Check t) is = absurd is
 asked-there service tei (asked.SetBusy s t) is = absurd is
 asked-there service tei (asked.ClearBusy s t) is = absurd is
 asked-there service tei (asked.Deactivate s t) is = absurd is
+asked-there service tei asked.Down is = absurd is
 
 abbrev AreTalks : Service → ℕ → List wire.Act → Type 0
 AreTalks service tei acts = All (call.IsCallOf service tei) acts

@@ -31,6 +31,7 @@ none-far (asked.Check t) w f same = refl
 none-far (asked.SetBusy s t) w f same = refl
 none-far (asked.ClearBusy s t) w f same = refl
 none-far (asked.Deactivate s t) w f same = refl
+none-far asked.Down w f same = refl
 
 one-near : (o : Option wire.Act) (f : Wire) → call.both_call (option_to_list (option_map wire.at_near o)) f ≡ false
 unfolding frames_both

@@ -16,6 +16,7 @@
 
 ghost use Rattle.laws_order.specs.circuit.Beats.{AllIsToldInBeats};
 ghost use Rattle.laws_order.specs.circuit.Damaged.{DeliveredThoughDamaged};
+ghost use Rattle.laws_order.specs.circuit.Mixed.{DeliveredBetweenKinds};
 ghost use Rattle.laws_order.specs.circuit.Resting.{CallsComeToRest};
 ghost use Rattle.laws_order.specs.circuit.Through.{CallsComeThroughInOctets};
 
@@ -55,6 +56,14 @@ pub fn all_is_told_in_beats()
 /// and of those that the other's layer 3 was granted to send since: in order, each once, and nothing else.
 pub fn delivered_though_damaged()
     ensures { DeliveredThoughDamaged }
+{}
+
+/// What is delivered is in order, too, where a card of frames faces a card for octets. The controller of the first takes the frames that
+/// the other's pulls begin, and gives what the card gives; what happens at the card of frames is as in [`crate::delivered_in_order`], at
+/// the card for octets as in [`delivered_though_damaged`]: a frame of the link that is heard whole was given there, behind all that
+/// were heard before it, and no more is assumed of the octets that come. So it is of two cards of either kind.
+pub fn delivered_between_kinds()
+    ensures { DeliveredBetweenKinds }
 {}
 
 /// A call comes to rest. Where all has gone in a call, as [`a_call_comes_through_in_octets`] has it, whether one end

@@ -17,6 +17,6 @@ mod laws;
 
 pub use circuit::{
     a_call_comes_through_in_octets, a_call_comes_to_rest, all_is_told_in_beats,
-    delivered_though_damaged,
+    delivered_between_kinds, delivered_though_damaged,
 };
 pub use laws::{delivered_in_order, releases_are_told, releases_end};

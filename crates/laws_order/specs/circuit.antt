@@ -8,3 +8,4 @@ pub mod Damaged
 pub mod Mixed
 pub mod Resting
 pub mod WorkedDamaged
+pub mod WorkedMixed

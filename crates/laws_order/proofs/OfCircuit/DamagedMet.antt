@@ -6,15 +6,21 @@ use Rattle.model_line.specs.Event as line
 use Rattle.model_line.specs.Machine as lines
 use Rattle.model_card.specs.ports.Card as ports
 use Rattle.model_card.specs.ports.Port as port
+use Rattle.laws_order.specs.Happenings as order
 use Rattle.laws_order.specs.Happenings.{of_link_at}
 use Rattle.laws_order.specs.Order.{data_noted, data_granted, link_here, said_by, AreOfStep, HasReceivedOf, FaceInStep, kept_by}
 use Rattle.laws_order.specs.circuit.Circuit.{Circuit, doing_all}
 use Rattle.laws_order.specs.circuit.Damaged.{Socket, Noisy, Deed, happens, completes, elsewhere, loses, meaning, IsOther, IsFirst, IsPossibleAt, Happening, by_near, by_far, happening, as_station, as_wire, seen_near, seen_far}
 unfoldable use Rattle.laws_order.specs.circuit.Damaged.{ArePossible}
+use Rattle.laws_order.specs.circuit.Mixed as mixed
+use Rattle.laws_order.specs.circuit.Mixed.{Mixed}
+unfoldable use Rattle.laws_order.specs.circuit.Mixed.{ArePossible as mixed_possible}
+use Rattle.laws_order.specs.circuit.WorkedMixed as worked
 use Rattle.laws_order.specs.circuit.WorkedCall as call
 use Rattle.laws_order.specs.circuit.WorkedCall.{establishes}
 use Rattle.laws_order.specs.circuit.WorkedDamaged.{begins, goes_again, far_stays}
 use Rattle.laws_order.proofs.OfCircuit.Damaged.{delivered-though-damaged}
+use Rattle.laws_order.proofs.OfCircuit.Mixed.{delivered-between-kinds}
 use Rattle.laws_order.proofs.OfCircuit.PremisesMet.{can, by-mutes}
 use Rattle.laws_order.proofs.OfCircuit.Ran as ran
 use Rattle.laws_order.proofs.OfCircuit.Ran.{Ran}
@@ -112,7 +118,7 @@ computed : are_possible goes_again begins ≡ true
 unfolding lines.after lines.answer lines.takes_slot reading header_of control_of unnumbered_of supervisory_of teis.course teis.refusal seq distance_of named low_bits ports.after ports.answer ports.meant doing_all are_possible
 computed = refl
 
--- ---- the two ends are at rest
+-- ---- the two ends are in step
 
 abbrev established : Circuit
 established = doing_all establishes call.begins
@@ -141,8 +147,8 @@ looks = record { near_up = refl; far_up = refl; near_said = tt; far_said = tt; n
 received : (s u : Station) → (link_here Call 0 s).a ≡ 0 → (link_here Call 0 u).r ≡ 0 → HasReceivedOf Call 0 s u
 received s u a r = record { acknowledged = omega (arith, a, r); kept = omega (arith, r); window = omega (arith, r) }
 
-rests : FaceInStep Call 0 (as_wire begins)
-rests =
+pub in-step : FaceInStep Call 0 (as_wire begins)
+in-step =
     let near : established.near.card.card.config ≡ user = ran.config user can.near established.near near-ran in
     let far : established.far.card.card.config ≡ network = ran.config network can.far established.far far-ran in
     record {
@@ -165,4 +171,37 @@ rests =
 
 -- so the law says what the worked values show
 pub in-order : IsFront (data_noted Call 0 (seen_far goes_again begins)) (kept_by Call 0 (as_station begins.near) (as_station begins.far) ++ data_granted Call 0 (seen_near goes_again begins))
-in-order = (delivered-though-damaged Call 0 begins goes_again rests (all-so goes_again begins computed)).1 far_stays
+in-order = (delivered-though-damaged Call 0 begins goes_again in-step (all-so goes_again begins computed)).1 far_stays
+
+-- ---- and so of a card of frames and one of octets
+
+abbrev is_act : order.Deed → Bool
+is_act (order.acts act) = true
+is_act other = false
+
+unfoldable are_mixed : List mixed.Happening → Mixed → Bool
+are_mixed [] w = true
+are_mixed (mixed.by_frames deed ∷ hs) w = is_act deed && are_mixed hs (mixed.happening (mixed.by_frames deed) w)
+are_mixed (mixed.by_octets deed ∷ hs) w = is_possible_at deed w.far w.near.way && are_mixed hs (mixed.happening (mixed.by_octets deed) w)
+
+act-so : (deed : order.Deed) (s : Station) → is_act deed ≡ true → order.IsPossibleAt Call 0 s deed
+act-so (order.acts act) s e = tt
+act-so (order.disturbed what) s e = absurd (cc e)
+act-so (order.elsewhere other) s e = absurd (cc e)
+
+mixed-so : (hs : List mixed.Happening) (w : Mixed) → are_mixed hs w ≡ true → mixed.ArePossible Call 0 hs w
+unfolding mixed_possible are_mixed
+mixed-so [] w e = tt
+mixed-so (mixed.by_frames deed ∷ hs) w e =
+    let both = and_parts (is_act deed) (are_mixed hs (mixed.happening (mixed.by_frames deed) w)) e in (act-so deed w.near both.0, mixed-so hs (mixed.happening (mixed.by_frames deed) w) both.1)
+mixed-so (mixed.by_octets deed ∷ hs) w e =
+    let both = and_parts (is_possible_at deed w.far w.near.way) (are_mixed hs (mixed.happening (mixed.by_octets deed) w)) e in
+    (at-so deed w.far w.near.way both.0, mixed-so hs (mixed.happening (mixed.by_octets deed) w) both.1)
+
+mixed-computed : are_mixed worked.goes_again worked.begins ≡ true
+unfolding lines.after lines.answer lines.takes_slot reading header_of control_of unnumbered_of supervisory_of teis.course teis.refusal seq distance_of named low_bits ports.after ports.answer ports.meant doing_all are_mixed
+mixed-computed = refl
+
+pub mixed-in-order : IsFront (data_noted Call 0 (mixed.seen_far worked.goes_again worked.begins))
+    (kept_by Call 0 worked.begins.near (as_station worked.begins.far) ++ data_granted Call 0 (mixed.seen_near worked.goes_again worked.begins))
+mixed-in-order = (delivered-between-kinds Call 0 worked.begins worked.goes_again in-step (mixed-so worked.goes_again worked.begins mixed-computed)).1 worked.far_stays

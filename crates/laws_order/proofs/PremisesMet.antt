@@ -223,9 +223,13 @@ early-looks = record {
   near_up = refl;
   far_up = refl;
   near_said = tt;
-  far_said =
-      ((record { number = 0; meant = refl; unacknowledged = leb-true 0 0 refl; window = leb-true 1 7 refl; same = refl }, refl), (
-        (record { number = 1; meant = refl; unacknowledged = leb-true 0 1 refl; window = leb-true 2 7 refl; same = refl }, refl), tt));
+  far_said = (
+    (record { number = 0; meant = refl; unacknowledged = leb-true 0 0 refl; window = leb-true 1 7 refl; same = refl }, refl),
+    (
+      (record { number = 1; meant = refl; unacknowledged = leb-true 0 1 refl; window = leb-true 2 7 refl; same = refl }, refl),
+      tt,
+    ),
+  );
   near_side = refl;
   far_side = refl;
   there = record { acknowledged = leb-true 0 0 refl; kept = leb-true 0 0 refl; window = leb-true 0 7 refl };

@@ -1,8 +1,6 @@
 /* gateway.c: the data link layer of a gateway. See gateway.h. */
 #include "gateway.h"
 
-#include <stdbool.h>
-
 enum { FIRST_AUTOMATIC_TEI = 64 };
 
 uint32_t gateway_start(gateway *own, const lapd_config *config) {
@@ -98,11 +96,14 @@ uint32_t gateway_waiting(gateway *own, uint32_t from, uint32_t *line) {
     return lapd_next_waiting(&own->card, from, line);
 }
 
-uint32_t gateway_take(gateway *own, uint64_t now, uint32_t line, uint8_t *frame, size_t room, size_t *length) {
+uint32_t gateway_take(gateway *own, uint64_t now, uint32_t line, uint8_t *frame, size_t room, size_t *length,
+                      bool *more) {
     lapd_report report;
     if (!is_moment(now))
         return LAPD_WRONG_TIME;
     uint32_t status = lapd_next_frame(&own->card, line, frame, room, length, &report);
+    if (status == LAPD_OK)
+        *more = report.more != 0;
     return finish(own, now, line, status, &report);
 }
 

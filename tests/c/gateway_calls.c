@@ -72,21 +72,24 @@ static void on_report(gateway *gate, uint32_t line, const lapd_report *report) {
     drops += report->cause != 0;
 }
 
+/* Line 0 is the first that waits, and gives this frame; `more` is told of it exactly where it waits again. */
 static bool takes(uint64_t now, const uint8_t *frame, size_t length) {
     uint8_t out[LAPD_MOST_FRAME];
     size_t octets;
     uint32_t line = 9;
+    bool more;
     return gateway_waiting(&own, 0, &line) == LAPD_OK && line == 0
-           && gateway_take(&own, now, 0, out, sizeof out, &octets) == LAPD_OK && octets == length
-           && memcmp(out, frame, length) == 0;
+           && gateway_take(&own, now, 0, out, sizeof out, &octets, &more) == LAPD_OK && octets == length
+           && memcmp(out, frame, length) == 0 && more == (gateway_waiting(&own, 0, &line) == LAPD_OK);
 }
 
 static bool takes_none(uint64_t now) {
     uint8_t out[LAPD_MOST_FRAME];
     size_t octets;
     uint32_t line = 9;
+    bool more = true;
     return gateway_waiting(&own, 0, &line) == LAPD_NO_FRAME && line == 9
-           && gateway_take(&own, now, 0, out, sizeof out, &octets) == LAPD_NO_FRAME;
+           && gateway_take(&own, now, 0, out, sizeof out, &octets, &more) == LAPD_NO_FRAME && more;
 }
 
 static bool is_next(uint64_t wanted) {
@@ -124,19 +127,20 @@ static void starts(void) {
 static void wrong_calls(uint64_t now) {
     uint8_t out[LAPD_MOST_FRAME];
     size_t length;
+    bool more;
     unsigned before = reports;
     WANT(gateway_frame(&own, now, config.lines, sabme, sizeof sabme) == LAPD_WRONG_LINE);
     WANT(gateway_frame_failed(&own, now, 0, LAPD_TEI) == LAPD_WRONG_CAUSE);
     WANT(gateway_ask(&own, now, 0, 0, LAPD_CALL, 64, NULL, 0) == LAPD_WRONG_REQUEST);
     WANT(gateway_ask(&own, now, 0, LAPD_DATA, LAPD_CALL, 66, contents, sizeof contents) == LAPD_REFUSED_NO_LINK);
     WANT(gateway_down(&own, now, config.lines) == LAPD_WRONG_LINE);
-    WANT(gateway_take(&own, now, 0, out, sizeof out - 1, &length) == LAPD_WRONG_LENGTH);
+    WANT(gateway_take(&own, now, 0, out, sizeof out - 1, &length, &more) == LAPD_WRONG_LENGTH);
     now = LAPD_LATEST + 1;
     WANT(gateway_frame(&own, now, 0, sabme, sizeof sabme) == LAPD_WRONG_TIME);
     WANT(gateway_frame_failed(&own, now, 0, LAPD_FCS) == LAPD_WRONG_TIME);
     WANT(gateway_ask(&own, now, 0, LAPD_REMOVE, LAPD_CALL, 64, NULL, 0) == LAPD_WRONG_TIME);
     WANT(gateway_down(&own, now, 0) == LAPD_WRONG_TIME);
-    WANT(gateway_take(&own, now, 0, out, sizeof out, &length) == LAPD_WRONG_TIME);
+    WANT(gateway_take(&own, now, 0, out, sizeof out, &length, &more) == LAPD_WRONG_TIME);
     WANT(gateway_advance(&own, UINT64_MAX) == LAPD_WRONG_TIME);
     WANT(reports == before);
 }

@@ -1,9 +1,10 @@
 /*
  * gateway_day.c: a day of simulated time of examples/c/gateway.c, with 64 basic access lines by frames and a clock. At
  * each line libpri, the ISDN stack of a widespread PBX, is the terminal: it asks for a TEI, comes up, calls and hangs
- * up, and answers polls. A frame takes its time on the line, at 16 kbit/s, and the driver takes the next one then.
- * Frames get spoilt both ways, and lines go down. All that passes is counted here again (counting.c), and compared with
- * the card's counters each hour. For tests alone; libpri's time is this program's.
+ * up, refuses a call, and answers polls. A frame takes its time on the line, at 16 kbit/s, and the driver takes the next
+ * one then. Frames get spoilt both ways, and lines go down. All that passes is counted here again (counting.c), and
+ * compared with the card's counters each hour; so is what is told of further frames with what waits. For tests alone;
+ * libpri's time is this program's.
  *
  *     gateway_day HOURS SEED
  *
@@ -55,7 +56,7 @@ static gateway own = GATEWAY_NONE;
 static access_line lines[LINES];
 static counting counted[LINES];
 static struct {
-    uint64_t frames, spoilt, calls, answered, cleared, refused, downs;
+    uint64_t frames, followed, spoilt, calls, answered, cleared, refused, downs;
 } seen;
 static uint64_t now, seed;
 
@@ -151,6 +152,8 @@ static int terminal_reads(struct pri *pri, void *octets, int room) {
 static void on_event(access_line *at, const pri_event *event) {
     if (event == NULL)
         return;
+    if (event->e == PRI_EVENT_RING)
+        pri_hangup(at->pri, event->ring.call, PRI_CAUSE_INCOMPATIBLE_DESTINATION);
     if (event->e == PRI_EVENT_ANSWER) {
         seen.answered++;
         at->calls_at = now + 1 + below(TALKS);
@@ -191,12 +194,20 @@ static void receive(uint32_t line) {
     want_ok(gateway_frame(&own, now, line, arrived->octets, arrived->length), "a frame");
 }
 
+static bool is_waiting(uint32_t line) {
+    uint32_t first;
+    return gateway_waiting(&own, line, &first) == LAPD_OK && first == line;
+}
+
 /* Takes the next frame of a line, if one waits. */
 static bool take(uint32_t line, uint8_t frame[LAPD_MOST_FRAME], size_t *length) {
-    uint32_t status = gateway_take(&own, now, line, frame, LAPD_MOST_FRAME, length);
+    bool more;
+    uint32_t status = gateway_take(&own, now, line, frame, LAPD_MOST_FRAME, length, &more);
     if (status == LAPD_NO_FRAME)
         return false;
     want_ok(status, "the next frame");
+    want(more == is_waiting(line), "more is told of a line that does not wait, or not of one that does");
+    seen.followed += more;
     count_given(&counted[line], frame, *length);
     return true;
 }
@@ -228,10 +239,13 @@ static void lose_line(uint32_t line) {
         ; /* these are not to go later */
 }
 
-/* Layer 1 is there again. Management asks for the TEI, which a terminal that has tried too often has given up. */
+/* Layer 1 is there again. A call has waited for whoever has the line. Management asks for the TEI, which a terminal that
+ * has tried too often has given up; its message goes first. */
 static void regain_line(uint32_t line) {
+    static const uint8_t setup[] = {0x08, 1, 0x01, 0x05, 0x04, 3, 0x80, 0x90, 0xA3, 0x18, 1, 0x8A};
     lapd_link link;
     uint8_t place = 0;
+    want_ok(gateway_ask(&own, now, line, LAPD_UNIT, LAPD_CALL, LAPD_GROUP_TEI, setup, sizeof setup), "a call to all");
     if (lapd_next_link(&own.card, line, &place, &link) != LAPD_OK)
         return;
     uint32_t status = gateway_ask(&own, now, line, LAPD_CHECK, LAPD_CALL, link.tei, NULL, 0);
@@ -328,7 +342,7 @@ static bool was_a_day(uint64_t hours) {
         is_each = is_each && sum(places[i]) > 20 * hours;
     }
     return is_each && seen.answered > 200 * hours && seen.cleared > 200 * hours && seen.spoilt > 50 * hours
-           && seen.downs > 20 * hours && seen.refused < hours;
+           && seen.followed > 20 * hours && seen.downs > 20 * hours && seen.refused < hours;
 }
 
 /* A number of decimal digits, and nothing more. */
@@ -353,10 +367,10 @@ int main(int words, char **word) {
         for (uint32_t line = 0; line < LINES; line++)
             want(counts_the_same(&counted[line], &own.card, line, "gateway_day"), "a counter is another");
     }
-    printf("gateway_day: %llu frames, %llu spoilt, %llu calls, %llu answered, %llu cleared, %llu refused, %llu downs\n",
-           (unsigned long long)seen.frames, (unsigned long long)seen.spoilt, (unsigned long long)seen.calls,
-           (unsigned long long)seen.answered, (unsigned long long)seen.cleared, (unsigned long long)seen.refused,
-           (unsigned long long)seen.downs);
+    printf("gateway_day: %llu frames, %llu with more behind them, %llu spoilt, %llu calls, %llu answered, %llu cleared, "
+           "%llu refused, %llu downs\n", (unsigned long long)seen.frames, (unsigned long long)seen.followed,
+           (unsigned long long)seen.spoilt, (unsigned long long)seen.calls, (unsigned long long)seen.answered,
+           (unsigned long long)seen.cleared, (unsigned long long)seen.refused, (unsigned long long)seen.downs);
     bool good = was_a_day(hours);
     gateway_end(&own);
     return !good;

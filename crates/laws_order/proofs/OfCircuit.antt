@@ -15,5 +15,6 @@ pub mod Beats
 pub mod PremisesMet
 pub mod HeardWhole
 pub mod Damaged
+pub mod Mixed
 pub mod DamagedMet
 pub mod Resting

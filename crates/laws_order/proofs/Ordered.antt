@@ -1,9 +1,9 @@
 -- Whole runs of two cards whose links face each other.
-use Rattle.laws_order.proofs.Vocabulary.{◌≡◌, ℕ, zero, suc, ◌+◌, ◌<◌, ◌≤◌, ◌||◌, Bool, true, false, List, [], ◌∷◌, ◌++◌, take, drop, refl, sym, ap, ◌∙◌, subst, append-nil, append_assoc, true≢false, ◌⊎◌, inl, inr, All, list_any, All-nil, All-cons, All-head, All-tail, list_any-append, Service, other_side, Link, is_multiple_frame, Direction, frames_of, joined-turned, Carried, Rising, rising-low, Config, terms, Seen, IsFront, Station, Wire, requests, times_out, gives, takes, loses, turned, with_first_of, twice-other}
+use Rattle.laws_order.proofs.Vocabulary.{◌≡◌, ℕ, zero, suc, ◌+◌, ◌<◌, ◌≤◌, ◌||◌, Bool, true, false, List, [], ◌∷◌, ◌++◌, map, take, drop, refl, sym, ap, ◌∙◌, subst, append-nil, append_assoc, true≢false, ◌⊎◌, inl, inr, All, list_any, All-nil, All-cons, All-head, All-tail, list_any-append, arith, Control, Information, ReceiveReady, ReceiveNotReady, Reject, Service, Parts, other_side, ControlFrame, Terms, Link, is_multiple_frame, frame_of, Direction, frames_of, joined-turned, Carried, Means, Piece, Rising, rising-low, Config, terms, Seen, IsFront, Station, Wire, requests, times_out, gives, takes, loses, turned, with_first_of, twice-other}
 use Rattle.std.proofs.lemmas.List.Concat.{flat_map-append}
 use Rattle.model_link.proofs.Direction.{line_of}
 use Rattle.laws_order.specs.Happenings.{Deed, acts, disturbed, elsewhere, IsNotOf, IsPossibleAt, befalling, Happening, by_near, by_far, IsPossible, seen_by, seen_near, seen_far}
-use Rattle.laws_order.specs.Order.{noted_in, granted_in, data_noted, data_granted, ends_by, StaysEstablished, link_here, IsAtRest, HasReceivedOf, FaceAtRest, kept_by, DeliveredInOrder}
+use Rattle.laws_order.specs.Order.{noted_in, granted_in, data_noted, data_granted, ends_by, StaysEstablished, link_here, IsInStep, IsOfStep, AreOfStep, of_link_on, HasReceivedOf, FaceInStep, kept_by, DeliveredInOrder}
 use Rattle.laws_order.proofs.Leading.{near-led}
 use Rattle.laws_order.proofs.Lasting.{carried-brought, rising-speaks}
 use Rattle.laws_order.proofs.NearOver.{Lasts, near-goes}
@@ -58,10 +58,10 @@ module _ (service : Service) (tei : ℕ) where
     other = λ same. is.other (same ∙ at.line);
   }
 
-  abbrev IsOpen : Wire → Happening → Type 0
+  abbrev pub IsOpen : Wire → Happening → Type 0
   IsOpen w h = IsPossible service tei w h
 
-  still-possible : (w w' : Wire) → StaysAt w.near w'.near → StaysAt w.far w'.far → (h : Happening) → IsOpen w h → IsOpen w' h
+  pub still-possible : (w w' : Wire) → StaysAt w.near w'.near → StaysAt w.far w'.far → (h : Happening) → IsOpen w h → IsOpen w' h
   still-possible w w' near far (by_near deed) is = possible-at w.near w'.near near deed is
   still-possible w w' near far (by_far deed) is = possible-at w.far w'.far far deed is
 
@@ -234,31 +234,60 @@ module _ (service : Service) (tei : ℕ) where
           front-before dm t (seen_far hs w') (contents_at w.near) (contents_at w'.near) [] (seen_near hs w') (unmoved w.near w'.near x.other)
           (later-on x stay.1)
 
-  -- The beginning.
-  module _ (s : Station) (b : IsAtRest service tei s) where
-    well : IsWell s
-    well = record { sound = b.sound; within = b.within }
+  -- The beginning: what is in step is what two links that face each other have on the line.
+  piece-of : (t : Terms) (l : Link) → t.k ≤ 127 → (r : ℕ) → r ≤ l.a + t.k → (octets : List ℕ) (control : Control) → IsOfStep t l octets control
+      → Piece l.contents (l.a + t.k) r (l.a + t.k) octets control
+  piece-of t l small r high octets (Information ns nr p) h =
+      let x = h.0 in
+      let low : l.a ≤ x.number = x.unacknowledged in
+      let below : x.number < l.a + t.k = x.window in
+      record { number = x.number; is_seq = x.meant; near = omega (arith, small, high, low); below = below; same = x.same; next = omega (arith, below) }
+  piece-of t l small r high octets (ReceiveReady nr pf) h = tt
+  piece-of t l small r high octets (ReceiveNotReady nr pf) h = tt
+  piece-of t l small r high octets (Reject nr pf) h = tt
+  piece-of t l small r high octets other h = h
 
-    nothing-on : line_of (facing service tei s []) ≡ []
-    nothing-on = ap (λ way. way ++ frames_of (terms s.card.config service tei) (link_here service tei s).waiting) b.way ∙ ap (λ ws. frames_of (terms s.card.config service tei) ws) b.waiting
+  means-of : (t : Terms) (l : Link) (octets : List ℕ) (control : Control) → IsOfStep t l octets control → Means l.r control
+  means-of t l octets (Information ns nr p) h = h.1
+  means-of t l octets other h = h
+
+  carried-of : (t : Terms) (l : Link) → t.k ≤ 127 → (r : ℕ) → r ≤ l.a + t.k → (fs : List Parts) → AreOfStep t l fs → Carried l.contents (l.a + t.k) r fs
+  carried-of t l small r high [] h = high
+  carried-of t l small r high (f ∷ fs) h = (l.a + t.k, high, piece-of t l small r high f.info f.control h.0, carried-of t l small (l.a + t.k) (omega arith) fs h.1)
+
+  rising-of : (t : Terms) (l : Link) (a : ℕ) → a ≤ l.r → (fs : List Parts) → AreOfStep t l fs → Rising a l.r fs
+  rising-of t l a low [] h = low
+  rising-of t l a low (f ∷ fs) h = (l.r, low, means-of t l f.info f.control h.0, rising-of t l l.r (omega arith) fs h.1)
+
+  frames-mapped : (t : Terms) (ws : List ControlFrame) → frames_of t ws ≡ map (frame_of t) ws
+  frames-mapped t [] = refl
+  frames-mapped t (w ∷ ws) = ap (λ fs. frame_of t w ∷ fs) (frames-mapped t ws)
+
+  well : (s : Station) → IsInStep service tei s → IsWell s
+  well s b = record { sound = b.sound; within = b.within }
+
+  line-of : (s : Station) → IsInStep service tei s → AreOfStep (terms s.card.config service tei) (link_here service tei s) (line_of (facing service tei s []))
+  line-of s b =
+      subst (λ fs. AreOfStep (terms s.card.config service tei) (link_here service tei s) (of_link_on service tei s.card.config.side s.way ++ fs))
+      (sym (frames-mapped (terms s.card.config service tei) (link_here service tei s).waiting)) b.said
 
   -- what the second station has received of the contents of the first
   abbrev had : Station → Station → List (List ℕ)
   had s u = take (link_here service tei u).r (link_here service tei s).contents
 
-  begins-one : (s u : Station) (b : IsAtRest service tei s) (d : IsAtRest service tei u) (ds : List (List ℕ)) → HasReceivedOf service tei s u
+  begins-one : (s u : Station) (b : IsInStep service tei s) (d : IsInStep service tei u) (ds : List (List ℕ)) → HasReceivedOf service tei s u
       → Direction (facing service tei s ds) (facing service tei u (had s u))
   begins-one s u b d ds there =
-      let n = facing service tei s ds in
-      let m = facing service tei u (had s u) in
+      let n = link_here service tei s in
+      let m = link_here service tei u in
       record {
-        carried = subst (Carried n.link.contents (n.link.a + n.terms.k) m.link.r) (sym (nothing-on s b)) there.window;
-        rising = subst (Rising n.link.a m.link.r) (sym (nothing-on u d)) there.acknowledged;
+        carried = carried-of (terms s.card.config service tei) n (proper service tei s (well s b) b.up).ranges.k_high m.r there.window (line_of (facing service tei s ds)) (line-of s b);
+        rising = rising-of (terms u.card.config service tei) m n.a there.acknowledged (line_of (facing service tei u (had s u))) (line-of u d);
         delivered = refl;
         accepted = there.kept;
       }
 
-  pub begins-pair : (w : Wire) (h : FaceAtRest service tei w) → Pair service tei w (had w.far w.near) (had w.near w.far)
+  pub begins-pair : (w : Wire) (h : FaceInStep service tei w) → Pair service tei w (had w.far w.near) (had w.near w.far)
   begins-pair w h =
       let n = proper service tei w.near (well w.near h.near) h.near.up in
       let m = proper service tei w.far (well w.far h.far) h.far.up in
@@ -295,7 +324,7 @@ module _ (service : Service) (tei : ℕ) where
             (sym (append_assoc front kept gs) ∙ ap (λ cs. cs ++ gs) (sym whole) ∙ h.whole_is ∙ append_assoc front ds h.rest);
       }
 
-  told-far : (hs : List Happening) (w : Wire) → FaceAtRest service tei w → All (IsOpen w) hs → StaysEstablished service tei (seen_far hs w)
+  told-far : (hs : List Happening) (w : Wire) → FaceInStep service tei w → All (IsOpen w) hs → StaysEstablished service tei (seen_far hs w)
       → IsFront (data_noted service tei (seen_far hs w)) (kept_by service tei w.near w.far ++ data_granted service tei (seen_near hs w))
   told-far hs w h all far =
       since w.near w.far (data_noted service tei (seen_far hs w)) (data_granted service tei (seen_near hs w))
@@ -331,8 +360,8 @@ module _ (service : Service) (tei : ℕ) where
   possible-swapped w (h ∷ hs) all =
       All-cons (IsOpen (turned w)) (swapped h) (all_swapped hs) (one-swapped w h (All-head (IsOpen w) h hs all)) (possible-swapped w hs (All-tail (IsOpen w) h hs all))
 
-  rest-turned : (w : Wire) → FaceAtRest service tei w → FaceAtRest service tei (turned w)
-  rest-turned w h = record {
+  step-turned : (w : Wire) → FaceInStep service tei w → FaceInStep service tei (turned w)
+  step-turned w h = record {
     near = h.far;
     far = h.near;
     sides = sym (ap other_side h.sides ∙ twice-other w.near.card.config.side);
@@ -340,12 +369,12 @@ module _ (service : Service) (tei : ℕ) where
     back = h.there;
   }
 
-  told-near : (hs : List Happening) (w : Wire) → FaceAtRest service tei w → All (IsOpen w) hs → StaysEstablished service tei (seen_near hs w)
+  told-near : (hs : List Happening) (w : Wire) → FaceInStep service tei w → All (IsOpen w) hs → StaysEstablished service tei (seen_near hs w)
       → IsFront (data_noted service tei (seen_near hs w)) (kept_by service tei w.far w.near ++ data_granted service tei (seen_far hs w))
   told-near hs w h all near =
       subst (λ t. IsFront (data_noted service tei t) (kept_by service tei w.far w.near ++ data_granted service tei (seen_far hs w))) (sym (near-is hs w))
       (subst (λ t. IsFront (data_noted service tei (seen_far (all_swapped hs) (turned w))) (kept_by service tei w.far w.near ++ data_granted service tei t)) (sym (far-is hs w))
-      (told-far (all_swapped hs) (turned w) (rest-turned w h) (possible-swapped w hs all) (subst (StaysEstablished service tei) (near-is hs w) near)))
+      (told-far (all_swapped hs) (turned w) (step-turned w h) (possible-swapped w hs all) (subst (StaysEstablished service tei) (near-is hs w) near)))
 
 pub delivered-in-order : DeliveredInOrder
 delivered-in-order service tei w hs h all = (told-near service tei hs w h all, told-far service tei hs w h all)

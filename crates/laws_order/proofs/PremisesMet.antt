@@ -1,13 +1,13 @@
 -- The premises of the law are met by the worked run.
-use Rattle.laws_order.proofs.Vocabulary.{◌≡◌, ℕ, ◌<◌, true, IsTrue, List, [], ◌∷◌, ◌++◌, refl, sym, ap, ◌∙◌, arith, All, list_any, leb-true, All-nil, All-cons, User, Network, Service, Call, Packet, other_side, reading, header_of, control_of, unnumbered_of, supervisory_of, distance_of, named, seq, is_multiple_frame, Config, terms, Assign, came, hears, expiry, request, next, fresh_is_sound, IsFront, station, assigned, calling, Station, Wire, Act, requests, times_out, gives, takes, loses, turned, acting, Doing, at_near, at_far, doing, doing_all, with_first_of}
+use Rattle.laws_order.proofs.Vocabulary.{◌≡◌, ℕ, ◌<◌, true, false, IsTrue, List, [], ◌∷◌, ◌++◌, refl, sym, ap, ◌∙◌, subst, arith, All, list_any, leb-true, All-nil, All-cons, User, Network, Service, Call, Packet, other_side, reading, header_of, control_of, unnumbered_of, supervisory_of, distance_of, named, seq, ReceiveNotReady, Parts, Terms, Link, is_multiple_frame, Config, terms, Assign, came, hears, expiry, request, next, fresh_is_sound, IsFront, station, assigned, calling, Station, Wire, Act, requests, times_out, gives, takes, loses, turned, acting, Doing, at_near, at_far, doing, doing_all, with_first_of}
 use Rattle.lapd_tei.specs.Events as teis
 use Rattle.model_line.specs.Machine as lines
-use Rattle.model_line.specs.Request.{Establish}
+use Rattle.model_line.specs.Request.{Establish, SetBusy}
 use Rattle.model_card.specs.Event.{at}
 use Rattle.laws_order.specs.Happenings.{acts, disturbed, elsewhere, IsElsewhere, Happening, by_near, by_far, IsPossible, happening_all, seen_near, seen_far}
 use Rattle.laws_order.specs.InTheEnd.{t200s, IsToldAtLast, IsNotDeactivated}
-use Rattle.laws_order.specs.Order.{data_noted, data_granted, ends_by, link_here, of_link_on, HasReceivedOf, FaceAtRest, kept_by}
-use Rattle.laws_order.specs.Worked.{network, user, faces, calls_both, others_speak, both_send, is_busy, busy_run, call_far as far_stays, owes, sends_one, sends_more, more_far_stays}
+use Rattle.laws_order.specs.Order.{data_noted, data_granted, ends_by, link_here, said_by, AreOfStep, HasReceivedOf, FaceInStep, kept_by}
+use Rattle.laws_order.specs.Worked.{network, user, faces, calls_both, others_speak, both_send, is_busy, busy_run, call_far as far_stays, owes, sends_one, sends_more, more_far_stays, busy_waits, clears, cleared_stays, early, loses_first, early_stays}
 use Rattle.laws_order.specs.Release.{IsToldOfRelease, news}
 use Rattle.laws_order.specs.WorkedRelease.{releases, released, takes_two, far_lasts, awaits, both_release, both_begin_nothing}
 use Rattle.laws_order.specs.WorkedInTheEnd.{runs_on, gives_up, four_expire, gives_up_quietly, comes, comes_quietly, comes_there, comes_confirmed}
@@ -52,23 +52,21 @@ called = record {
 well : AreWell faces
 well = all-done calls_both (calling Call 0 user 0 network 0) called
 
--- What of a moment of rest computes.
+-- What of a moment in step computes.
 record Looks (service : Service) (w : Wire) : Type 0 where
   near_up : IsTrue (is_multiple_frame (link_here service 0 w.near).state)
   far_up : IsTrue (is_multiple_frame (link_here service 0 w.far).state)
-  near_waiting : (link_here service 0 w.near).waiting ≡ []
-  far_waiting : (link_here service 0 w.far).waiting ≡ []
-  near_way : of_link_on service 0 w.near.card.config.side w.near.way ≡ []
-  far_way : of_link_on service 0 w.far.card.config.side w.far.way ≡ []
+  near_said : AreOfStep (terms w.near.card.config service 0) (link_here service 0 w.near) (said_by service 0 w.near)
+  far_said : AreOfStep (terms w.far.card.config service 0) (link_here service 0 w.far) (said_by service 0 w.far)
   near_side : w.near.card.config.side ≡ User
   far_side : w.far.card.config.side ≡ Network
   there : HasReceivedOf service 0 w.near w.far
   back : HasReceivedOf service 0 w.far w.near
 
-rests : (service : Service) (w : Wire) → AreWell w → Looks service w → FaceAtRest service 0 w
-rests service w h x = record {
-  near = record { sound = h.near.sound; within = h.near.within; up = x.near_up; waiting = x.near_waiting; way = x.near_way };
-  far = record { sound = h.far.sound; within = h.far.within; up = x.far_up; waiting = x.far_waiting; way = x.far_way };
+in-step : (service : Service) (w : Wire) → AreWell w → Looks service w → FaceInStep service 0 w
+in-step service w h x = record {
+  near = record { sound = h.near.sound; within = h.near.within; up = x.near_up; said = x.near_said };
+  far = record { sound = h.far.sound; within = h.far.within; up = x.far_up; said = x.far_said };
   sides = x.far_side ∙ sym (ap other_side x.near_side);
   there = x.there;
   back = x.back;
@@ -79,36 +77,32 @@ unfolding lines.after lines.answer lines.takes_slot reading header_of control_of
 call-looks = record {
   near_up = refl;
   far_up = refl;
-  near_waiting = refl;
-  far_waiting = refl;
-  near_way = refl;
-  far_way = refl;
+  near_said = tt;
+  far_said = tt;
   near_side = refl;
   far_side = refl;
   there = record { acknowledged = leb-true 0 0 refl; kept = leb-true 0 0 refl; window = leb-true 0 7 refl };
   back = record { acknowledged = leb-true 0 0 refl; kept = leb-true 0 0 refl; window = leb-true 0 7 refl };
 }
 
-call-rests : FaceAtRest Call 0 faces
-call-rests = rests Call faces well call-looks
+call-in-step : FaceInStep Call 0 faces
+call-in-step = in-step Call faces well call-looks
 
 packet-looks : Looks Packet faces
 unfolding lines.after lines.answer lines.takes_slot reading header_of control_of unnumbered_of supervisory_of teis.course teis.refusal seq distance_of named doing_all
 packet-looks = record {
   near_up = refl;
   far_up = refl;
-  near_waiting = refl;
-  far_waiting = refl;
-  near_way = refl;
-  far_way = refl;
+  near_said = tt;
+  far_said = tt;
   near_side = refl;
   far_side = refl;
   there = record { acknowledged = leb-true 0 0 refl; kept = leb-true 0 0 refl; window = leb-true 0 3 refl };
   back = record { acknowledged = leb-true 0 0 refl; kept = leb-true 0 0 refl; window = leb-true 0 3 refl };
 }
 
-packet-rests : FaceAtRest Packet 0 faces
-packet-rests = rests Packet faces well packet-looks
+packet-in-step : FaceInStep Packet 0 faces
+packet-in-step = in-step Packet faces well packet-looks
 
 abbrev IsOpen : Wire → Happening → Type 0
 IsOpen w h = IsPossible Call 0 w h
@@ -141,7 +135,7 @@ possible = all-of faces busy_run (both faces others_speak (both_send ++ is_busy)
 
 -- so the law says what the worked values show
 call-in-order : IsFront (data_noted Call 0 (seen_far busy_run faces)) (kept_by Call 0 faces.near faces.far ++ data_granted Call 0 (seen_near busy_run faces))
-call-in-order = (delivered-in-order Call 0 faces busy_run call-rests possible).1 far_stays
+call-in-order = (delivered-in-order Call 0 faces busy_run call-in-step possible).1 far_stays
 
 -- Runs in which only frames, timers and requests come.
 abbrev OnlyActs : List Happening → Type 0
@@ -178,10 +172,8 @@ unfolding lines.after lines.answer lines.takes_slot reading header_of control_of
 owing-looks = record {
   near_up = refl;
   far_up = refl;
-  near_waiting = refl;
-  far_waiting = refl;
-  near_way = refl;
-  far_way = refl;
+  near_said = tt;
+  far_said = tt;
   near_side = refl;
   far_side = refl;
   there = record { acknowledged = leb-true 0 1 refl; kept = leb-true 1 1 refl; window = leb-true 1 7 refl };
@@ -189,12 +181,69 @@ owing-looks = record {
 }
 
 more-in-order : IsFront (data_noted Call 0 (seen_far sends_more owes)) (kept_by Call 0 owes.near owes.far ++ data_granted Call 0 (seen_near sends_more owes))
-more-in-order = (delivered-in-order Call 0 owes sends_more (rests Call owes sent-well owing-looks) (acts-possible owes sends_more tt)).1 more_far_stays
+more-in-order = (delivered-in-order Call 0 owes sends_more (in-step Call owes sent-well owing-looks) (acts-possible owes sends_more tt)).1 more_far_stays
+
+-- and where an RNR waits
+abbrev rnr : Parts
+rnr = record { address = record { sapi = 0; command = false; tei = 0 }; control = ReceiveNotReady (seq 0) false; info = [] }
+
+rnr-waits : said_by Call 0 busy_waits.far ≡ rnr ∷ []
+unfolding lines.after lines.answer lines.takes_slot reading header_of control_of unnumbered_of supervisory_of teis.course teis.refusal seq distance_of named doing_all happening_all
+rnr-waits = refl
+
+none-received : (link_here Call 0 busy_waits.far).r ≡ 0
+unfolding lines.after lines.answer lines.takes_slot reading header_of control_of unnumbered_of supervisory_of teis.course teis.refusal seq distance_of named doing_all happening_all
+none-received = refl
+
+rnr-in-step : (t : Terms) (l : Link) (fs : List Parts) → fs ≡ rnr ∷ [] → l.r ≡ 0 → AreOfStep t l fs
+rnr-in-step t l fs is r = subst (AreOfStep t l) (sym is) (ap seq (sym r), tt)
+
+busy-looks : Looks Call busy_waits
+unfolding lines.after lines.answer lines.takes_slot reading header_of control_of unnumbered_of supervisory_of teis.course teis.refusal seq distance_of named doing_all happening_all
+busy-looks = record {
+  near_up = refl;
+  far_up = refl;
+  near_said = tt;
+  far_said = rnr-in-step (terms busy_waits.far.card.config Call 0) (link_here Call 0 busy_waits.far) (said_by Call 0 busy_waits.far) rnr-waits none-received;
+  near_side = refl;
+  far_side = refl;
+  there = record { acknowledged = leb-true 0 0 refl; kept = leb-true 0 0 refl; window = leb-true 0 7 refl };
+  back = record { acknowledged = leb-true 0 0 refl; kept = leb-true 0 0 refl; window = leb-true 0 7 refl };
+}
+
+cleared-in-order : IsFront (data_noted Call 0 (seen_far clears busy_waits)) (kept_by Call 0 busy_waits.near busy_waits.far ++ data_granted Call 0 (seen_near clears busy_waits))
+cleared-in-order =
+    let well-then = all-happened (by_far (acts (requests (SetBusy Call 0))) ∷ []) tt faces well in
+    (delivered-in-order Call 0 busy_waits clears (in-step Call busy_waits well-then busy-looks) (acts-possible busy_waits clears tt)).1 cleared_stays
+
+-- and where I-frames are on their way behind UA
+early-looks : Looks Call early
+unfolding lines.after lines.answer lines.takes_slot reading header_of control_of unnumbered_of supervisory_of teis.course teis.refusal seq distance_of named doing_all
+early-looks = record {
+  near_up = refl;
+  far_up = refl;
+  near_said = tt;
+  far_said = (
+    (record { number = 0; meant = refl; unacknowledged = leb-true 0 0 refl; window = leb-true 1 7 refl; same = refl }, refl),
+    (
+      (record { number = 1; meant = refl; unacknowledged = leb-true 0 1 refl; window = leb-true 2 7 refl; same = refl }, refl),
+      tt,
+    ),
+  );
+  near_side = refl;
+  far_side = refl;
+  there = record { acknowledged = leb-true 0 0 refl; kept = leb-true 0 0 refl; window = leb-true 0 7 refl };
+  back = record { acknowledged = leb-true 0 0 refl; kept = leb-true 0 2 refl; window = leb-true 0 7 refl };
+}
+
+early-in-order : IsFront (data_noted Call 0 (seen_near loses_first early)) (kept_by Call 0 early.far early.near ++ data_granted Call 0 (seen_far loses_first early))
+early-in-order =
+    (delivered-in-order Call 0 early loses_first (in-step Call early (all-done _ (calling Call 0 user 0 network 0) called) early-looks) (acts-possible early loses_first tt)).0 early_stays
 
 -- and where the near end releases its link in the midst of data: of the far end up to its indication, and of both from there on
 cut-in-order : IsFront (data_noted Call 0 (seen_far (releases ++ takes_two) faces))
     (kept_by Call 0 faces.near faces.far ++ data_granted Call 0 (seen_near (releases ++ takes_two) faces))
-cut-in-order = (delivered-in-order Call 0 faces (releases ++ takes_two) call-rests (acts-possible faces (releases ++ takes_two) tt)).1 far_lasts
+cut-in-order = (delivered-in-order Call 0 faces (releases ++ takes_two) call-in-step (acts-possible faces (releases ++ takes_two) tt)).1 far_lasts
 
 release-told : IsToldOfRelease Call 0 (news Call 0 (seen_near both_release released))
 release-told =
@@ -222,5 +271,5 @@ all-active (x ∷ hs) h = All-cons (IsNotDeactivated Call 0) x hs h.0 (all-activ
 
 both-told : list_any (ends_by Call 0) (seen_far releases faces ++ seen_far comes released) ≡ true
 both-told =
-    both-are-told Call 0 faces releases comes call-rests (acts-possible faces releases tt) awaits (acts-possible released comes tt) comes_there
+    both-are-told Call 0 faces releases comes call-in-step (acts-possible faces releases tt) awaits (acts-possible released comes tt) comes_there
     (all-active comes (tt, (tt, (tt, (tt, (tt, (tt, (tt, tt)))))))) comes_quietly comes_confirmed

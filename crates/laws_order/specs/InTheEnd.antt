@@ -15,7 +15,7 @@ use Rattle.laws_wire.specs.Arriving.{runs_t200}
 use Rattle.laws_wire.specs.Facing.{line_of}
 use Rattle.laws_wire.specs.Wire.{requests, Wire}
 use Rattle.laws_order.specs.Happenings.{acts, Happening, by_near, by_far, IsPossible, happening, happening_all, events_here, seen_near, seen_far}
-use Rattle.laws_order.specs.Order.{ends_by, link_here, FaceAtRest}
+use Rattle.laws_order.specs.Order.{ends_by, link_here, FaceInStep}
 use Rattle.laws_order.specs.Release.{news, BeginsNothing, IsAtLine}
 
 -- How often T200 of the link expired at the near end.
@@ -58,7 +58,7 @@ IsNotDeactivated service tei other = Unit {0}
 -- waiting or on its way as the release was granted.
 abbrev pub BothAreTold : Type 0
 BothAreTold =
-    (service : Service) (tei : ℕ) (w : Wire) (before behind : List Happening) → FaceAtRest service tei w → All (IsPossible service tei w) before →
+    (service : Service) (tei : ℕ) (w : Wire) (before behind : List Happening) → FaceInStep service tei w → All (IsPossible service tei w) before →
     let v = happening_all before w in (link_here service tei v.near).state ≡ AwaitingRelease → All (IsPossible service tei v) behind →
     StaysThere tei behind v → All (IsNotDeactivated service tei) behind → BeginsNothing service tei (seen_near behind v) →
     news service tei (seen_near behind v) ≡ ReleaseConfirm service tei ∷ [] →

@@ -16,7 +16,7 @@ use Rattle.model_line.specs.Machine as lines
 use Rattle.model_line.specs.Request.{Data, Establish, Assign, SetBusy, ClearBusy}
 use Rattle.model_card.specs.Event.{at}
 use Rattle.laws_wire.specs.Call.{calling}
-use Rattle.laws_wire.specs.Wire.{Wire, requests, times_out, gives, takes, loses, Doing, at_near, doing_all}
+use Rattle.laws_wire.specs.Wire.{Wire, requests, times_out, gives, takes, loses, Doing, at_near, at_far, doing_all}
 use Rattle.laws_wire.specs.Worked.{establishes}
 use Rattle.laws_order.specs.Happenings.{acts, disturbed, elsewhere, Happening, by_near, by_far, happening_all, seen_near, seen_far}
 use Rattle.laws_order.specs.Order.{data_noted, StaysEstablished, link_here, kept_by}
@@ -111,3 +111,43 @@ more_near_stays = refl
 pub more_far_stays : StaysEstablished Call 0 (seen_far sends_more owes)
 unfolding lines.after lines.answer lines.takes_slot reading header_of control_of unnumbered_of supervisory_of teis.course teis.refusal seq distance_of named doing_all happening_all seen_near seen_far
 more_far_stays = refl
+
+-- Moments in step at which not all is at rest: an RNR of the far end waits.
+abbrev pub busy_waits : Wire
+busy_waits = happening_all (by_far (acts (requests (SetBusy Call 0))) ∷ []) faces
+
+abbrev pub clears : List Happening
+clears =
+    by_near (acts (requests (Data Call 0 (1 ∷ [])))) ∷ by_far (acts gives) ∷ by_near (acts takes) ∷ by_far (acts (requests (ClearBusy Call 0)))
+    ∷ by_far (acts gives) ∷ by_near (acts takes) ∷ by_near (acts gives) ∷ by_far (acts takes) ∷ []
+
+cleared_far : data_noted Call 0 (seen_far clears busy_waits) ≡ (1 ∷ []) ∷ []
+unfolding lines.after lines.answer lines.takes_slot reading header_of control_of unnumbered_of supervisory_of teis.course teis.refusal seq distance_of named doing_all happening_all seen_near seen_far
+cleared_far = refl
+
+pub cleared_stays : StaysEstablished Call 0 (seen_far clears busy_waits)
+unfolding lines.after lines.answer lines.takes_slot reading header_of control_of unnumbered_of supervisory_of teis.course teis.refusal seq distance_of named doing_all happening_all seen_near seen_far
+cleared_stays = refl
+
+-- And the near end has just taken UA, behind which the far end has sent two I-frames already; the first of them is lost.
+abbrev pub early : Wire
+early =
+    doing_all (at_near gives ∷ at_far takes ∷ at_far (requests (Data Call 0 (1 ∷ []))) ∷ at_far (requests (Data Call 0 (2 ∷ [])))
+    ∷ at_far gives ∷ at_far gives ∷ at_far gives ∷ at_near takes ∷ []) (calling Call 0 user 0 network 0)
+
+abbrev pub loses_first : List Happening
+loses_first =
+    by_far (acts loses) ∷ by_near (acts takes) ∷ by_near (acts gives) ∷ by_far (acts takes) ∷ by_far (acts gives) ∷ by_far (acts gives)
+    ∷ by_near (acts takes) ∷ by_near (acts takes) ∷ []
+
+both_kept : kept_by Call 0 early.far early.near ≡ (1 ∷ []) ∷ (2 ∷ []) ∷ []
+unfolding lines.after lines.answer lines.takes_slot reading header_of control_of unnumbered_of supervisory_of teis.course teis.refusal seq distance_of named doing_all happening_all seen_near seen_far
+both_kept = refl
+
+early_near : data_noted Call 0 (seen_near loses_first early) ≡ (1 ∷ []) ∷ (2 ∷ []) ∷ []
+unfolding lines.after lines.answer lines.takes_slot reading header_of control_of unnumbered_of supervisory_of teis.course teis.refusal seq distance_of named doing_all happening_all seen_near seen_far
+early_near = refl
+
+pub early_stays : StaysEstablished Call 0 (seen_near loses_first early)
+unfolding lines.after lines.answer lines.takes_slot reading header_of control_of unnumbered_of supervisory_of teis.course teis.refusal seq distance_of named doing_all happening_all seen_near seen_far
+early_stays = refl

@@ -66,6 +66,35 @@ both_last = refl
 five_left_out : IsFront {X = List ℕ} ((6 ∷ []) ∷ []) ((5 ∷ []) ∷ (6 ∷ []) ∷ []) → ⊥
 five_left_out x = cc x.whole_is
 
+-- A SABME that is on its way still, as where T200 expired before UA came, renews the establishment at the far end; and the near end, which
+-- is told error C alone, takes what the far end sends next for more of the old one, and misses its first.
+abbrev old_call : List ℕ
+old_call = 0x00 ∷ 0x01 ∷ 0x7F ∷ []
+
+abbrev with_call : Wire
+with_call = record faces { near = record faces.near { way = old_call ∷ [] } }
+
+abbrev renews : List Happening
+renews =
+    by_far (acts (requests (Data Call 0 (7 ∷ [])))) ∷ by_far (acts gives) ∷ by_near (acts takes) ∷ by_far (acts takes)
+    ∷ by_far (acts (requests (Data Call 0 (8 ∷ [])))) ∷ by_far (acts (requests (Data Call 0 (9 ∷ []))))
+    ∷ by_far (acts gives) ∷ by_far (acts gives) ∷ by_far (acts gives) ∷ by_near (acts takes) ∷ by_near (acts takes) ∷ by_near (acts takes) ∷ []
+
+told_nine : data_noted Call 0 (seen_near renews with_call) ≡ (7 ∷ []) ∷ (9 ∷ []) ∷ []
+unfolding lines.after lines.answer lines.takes_slot reading header_of control_of unnumbered_of supervisory_of teis.course teis.refusal seq distance_of named doing_all happening_all seen_near seen_far
+told_nine = refl
+
+granted_all : kept_by Call 0 with_call.far with_call.near ++ data_granted Call 0 (seen_far renews with_call) ≡ (7 ∷ []) ∷ (8 ∷ []) ∷ (9 ∷ []) ∷ []
+unfolding lines.after lines.answer lines.takes_slot reading header_of control_of unnumbered_of supervisory_of teis.course teis.refusal seq distance_of named doing_all happening_all seen_near seen_far
+granted_all = refl
+
+near_lasts : StaysEstablished Call 0 (seen_near renews with_call)
+unfolding lines.after lines.answer lines.takes_slot reading header_of control_of unnumbered_of supervisory_of teis.course teis.refusal seq distance_of named doing_all happening_all seen_near seen_far
+near_lasts = refl
+
+eight_left_out : IsFront {X = List ℕ} ((7 ∷ []) ∷ (9 ∷ []) ∷ []) ((7 ∷ []) ∷ (8 ∷ []) ∷ (9 ∷ []) ∷ []) → ⊥
+eight_left_out x = cc x.whole_is
+
 -- Twice the same, another order, and what was granted but left out.
 twice : IsFront {X = List ℕ} ((1 ∷ []) ∷ (1 ∷ []) ∷ []) ((1 ∷ []) ∷ (2 ∷ []) ∷ []) → ⊥
 twice x = cc x.whole_is

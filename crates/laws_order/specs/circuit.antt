@@ -5,5 +5,7 @@ pub mod Beats
 pub mod Worked
 pub mod WorkedCall
 pub mod Damaged
+pub mod Mixed
 pub mod Resting
 pub mod WorkedDamaged
+pub mod WorkedMixed

@@ -3,19 +3,21 @@
 //! contract of a function that does nothing.
 //!
 //! `specs/circuit` has the circuit and what can happen at its ends (`Circuit`), a call between two cards that have just begun
-//! (`Through`), how many octets it takes (`Beats`), and worked values that compute (`Worked`, `WorkedCall`). `Damaged` has
+//! (`Through`), how many octets it takes (`Beats`), and worked values that compute (`Worked`, `WorkedCall`, `WorkedMixed`). `Damaged` has
 //! two cards between which octets are changed, lost or added, and at which anything happens; `WorkedDamaged` a run that
 //! meets its premise, and one that breaks what it says without. Where all has gone in a call, `Damaged` holds from there on
-//! (`Resting`). What a card for octets does at an event is the machine of `model_card::ports`. That a run of octets is, at
+//! (`Resting`); `Mixed` has a card of frames that faces one for octets. What a card for octets does at an event is the machine of `model_card::ports`. That a run of octets is, at
 //! the cards inside, a run of frames as `laws_wire` or `laws_order` has them, is shown in `proofs/OfCircuit/Projected` and
 //! `Damaged`; that frames come in so many beats, in `Comes` there.
 //!
 //! # Open
 //!
-//! That all is told in the end where octets are damaged or timers expire; calls that begin elsewhere than from nothing.
+//! That all is told in the end where octets are damaged or timers expire; calls that begin elsewhere than from nothing, or between
+//! a card of frames and one for octets: of those the order alone is proved.
 
 ghost use Rattle.laws_order.specs.circuit.Beats.{AllIsToldInBeats};
 ghost use Rattle.laws_order.specs.circuit.Damaged.{DeliveredThoughDamaged};
+ghost use Rattle.laws_order.specs.circuit.Mixed.{DeliveredBetweenKinds};
 ghost use Rattle.laws_order.specs.circuit.Resting.{CallsComeToRest};
 ghost use Rattle.laws_order.specs.circuit.Through.{CallsComeThroughInOctets};
 
@@ -44,7 +46,7 @@ pub fn all_is_told_in_beats()
 {}
 
 /// What is delivered is in order, though octets are damaged. A line of a card for octets of one side faces a line of
-/// one of the other, and the links of a service and TEI are at rest there, as [`laws_order::delivered_in_order`] has
+/// one of the other, and the links of a service and TEI are in step there, as [`crate::delivered_in_order`] has
 /// them. Then anything happens at both: requests of any kind, expiries, pulls, octets of any value that come, and any
 /// events at the other lines. What comes need not be what the other's pulls gave: octets are changed, lost or added
 /// anywhere, and other terminals may be heard. Of all that comes one thing alone is assumed: a frame of the link that
@@ -57,8 +59,16 @@ pub fn delivered_though_damaged()
     ensures { DeliveredThoughDamaged }
 {}
 
+/// What is delivered is in order, too, where a card of frames faces a card for octets. The controller of the first takes the frames that
+/// the other's pulls begin, and gives what the card gives; what happens at the card of frames is as in [`crate::delivered_in_order`], at
+/// the card for octets as in [`delivered_though_damaged`]: a frame of the link that is heard whole was given there, behind all that
+/// were heard before it, and no more is assumed of the octets that come. So it is of two cards of either kind.
+pub fn delivered_between_kinds()
+    ensures { DeliveredBetweenKinds }
+{}
+
 /// A call comes to rest. Where all has gone in a call, as [`a_call_comes_through_in_octets`] has it, whether one end
-/// called or both, the two links are at rest. So what [`delivered_though_damaged`] says holds of all that happens from
+/// called or both, the two links are in step, and no frame of them is on its way or waits. So what [`delivered_though_damaged`] says holds of all that happens from
 /// there on.
 pub fn a_call_comes_to_rest()
     ensures { CallsComeToRest }

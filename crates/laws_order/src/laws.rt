@@ -5,10 +5,12 @@ ghost use Rattle.laws_order.specs.Order.{DeliveredInOrder};
 ghost use Rattle.laws_order.specs.Release.{ReleasedIsOver, ReleasesEnd};
 
 /// What is delivered is in order, whatever else happens. A line of a card of one side faces a line of a card of the
-/// other; their configurations may differ else. At both the link of the same service and TEI is in state 7 or 8; none of its
-/// frames is on its way, and no control frame of it waits to go, though contents may; unit data may do both. Each has received
-/// what the other takes for acknowledged, and it may be more, within the other's window: as an establishment leaves them, with
-/// V(S) and V(R) zero, or at any later moment of rest, however the cards came there. Then anything happens at both: requests of
+/// other; their configurations may differ else. At both the link of the same service and TEI is in state 7 or 8, and they are
+/// in step: each has received what the other takes for acknowledged, and it may be more, within the other's window; and what waits
+/// at an end or is on its way from it, but unit data, says the V(R) that the end has, and is a supervisory frame, or an I-frame of
+/// contents that are kept, of the number that N(S) means, and not acknowledged. So an establishment leaves them, with V(S) and V(R)
+/// zero, also where UA is taken as I-frames are on their way behind it, or where RNR waits; and so it is at any moment of rest. A
+/// SABME that is still on its way is not in step, and breaks what follows (`specs/WorkedBroken`). Then anything happens at both: requests of
 /// any kind, of any link and TEI, expiries of any timer, and any events at the other lines; on the wire frames that the two
 /// cards give, of all links, of TEI management and unit data, are given, taken or lost, and whatever else is heard that is no
 /// frame of the link: faults, more octets than a frame has, and frames of other terminals on the line, of TEI management and
@@ -40,7 +42,7 @@ pub fn releases_end()
 /// is granted the release, whatever waits and whatever is on its way. Then anything happens at both, as in [`delivered_in_order`], and
 /// frames are lost, too. Once T200 has expired there more than N200 times, if not before, this end was told that the release is
 /// confirmed, by itself or behind error H, unless something else began, as in [`releases_end`] (`here`; Q.921 clauses 5.5.3.2 and
-/// 5.5.3.3). And where it is told that alone, the other end was told before: the two links faced each other at rest before the
+/// 5.5.3.3). And where it is told that alone, the other end was told before: the two links faced each other in step before the
 /// release, as in [`delivered_in_order`], and the other's layer 3 was told since then that its establishment is over or renewed, or
 /// was granted a release itself (`there`). So it is while the TEI stays on the line of the end that releases, and its link is not
 /// deactivated: either confirms the release there, and the other end knows nothing of it. Where error H is told each DISC may have

@@ -8,8 +8,10 @@
 //!
 //! # Open
 //!
-//! That what was granted is told in the end; that the other end is told of a release behind error H; an establishment whose
-//! called end sends before the other has taken its UA.
+//! That what was granted is told in the end; that the other end is told of a release behind error H. From where a SABME of the
+//! establishment is still on its way as UA is taken: there `told_in_order` of `laws_wire` holds as long as neither end is told an
+//! error, and `delivered_in_order`, which speaks of each end by itself, does not (`specs/WorkedBroken`). So the former is no instance
+//! of the latter; it says besides that nothing else is told, and its proof by the phases of a call serves other laws there, too.
 #![tactic(auto)]
 
 mod circuit;
@@ -17,6 +19,6 @@ mod laws;
 
 pub use circuit::{
     a_call_comes_through_in_octets, a_call_comes_to_rest, all_is_told_in_beats,
-    delivered_though_damaged,
+    delivered_between_kinds, delivered_though_damaged,
 };
 pub use laws::{delivered_in_order, releases_are_told, releases_end};

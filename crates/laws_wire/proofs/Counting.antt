@@ -18,7 +18,8 @@ use Rattle.laws_wire.proofs.LossyPhases.{for-data}
 use Rattle.laws_wire.proofs.Standing.{IsCarried, Stands, gives-stands, expires-stands}
 use Rattle.laws_wire.proofs.Talking.{Face}
 use Rattle.laws_wire.proofs.TimelyPhases.{Goes}
-use Rattle.laws_wire.proofs.TimelyRun.{setting, step}
+use Rattle.laws_wire.proofs.LossyRun.{setting}
+use Rattle.laws_wire.proofs.TimelyRun.{starts, step}
 use Rattle.laws_wire.proofs.TimelyUp.{each-timer}
 
 -- ---- states
@@ -241,4 +242,4 @@ expiries-are-counted service c d line other tei ds can talk = λ counted.
     subst (λ (l : Link). l.repeats ≤ 0) (sym (link-is service tei c 0 w.near _ x.near_held.stands)) (omega arith) in
     let far = λ (awaits : awaits_answer (end_of service tei w.far).link.state ≡ true).
     subst (λ (l : Link). l.repeats ≤ 0) (sym (link-is service tei d 0 w.far _ x.far_held.stands)) (omega arith) in
-    all-timely service tei c d 0 0 x.face x.back x.near x.far ds talk (record { near = 0; far = 0 }) w x.begun near far counted
+    all-timely service tei c d 0 0 x.face x.back x.near x.far ds talk (record { near = 0; far = 0 }) w (starts service c d line other tei x) near far counted

@@ -22,7 +22,7 @@ use Rattle.laws_wire.proofs.Speaking.{said_by}
 use Rattle.laws_wire.proofs.Standing.{Stands, Granted, asks-granted}
 use Rattle.laws_wire.proofs.Talking.{Face}
 use Rattle.laws_wire.proofs.Tells.{Tells, as-end}
-use Rattle.laws_wire.proofs.TimelyRun.{setting}
+use Rattle.laws_wire.proofs.LossyRun.{setting}
 use Rattle.laws_wire.proofs.TimelyUp.{IsHushed, hushed}
 use Rattle.laws_wire.proofs.UaLostRun.{up-where, patient-goes}
 

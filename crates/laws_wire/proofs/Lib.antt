@@ -66,6 +66,7 @@ pub mod Rested
 pub mod RestedRun
 pub mod RestedRounds
 pub mod RestedTimely
+pub mod LeftToDo
 pub mod PremisesMet
 pub mod BothMet
 pub mod RecoveryMet

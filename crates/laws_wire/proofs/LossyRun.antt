@@ -1,7 +1,7 @@
 -- A whole call in which frames are lost and timers expire: what layer 3 of each was told, as long as no error was.
 use Rattle.laws_wire.proofs.Vocabulary.{◌≡◌, ℕ, List, [], ◌∷◌, ◌++◌, map, take, refl, sym, ap, ◌∙◌, inl, inr, append-nil, All, flat_map, All-nil, All-cons, All-head, All-tail, Service, other_side, fresh, IsInRange, End, Config, LineTold, terms, terms_in_range}
 use Rattle.laws_wire.specs.Wire.{Station, Wire, with_first_of, Act, requests, times_out, gives, takes, loses, Doing, at_near, at_far, acting, turned, doing, doing_all}
-use Rattle.laws_wire.specs.Call.{calling, confirmed, indicated, data_told, IsBeginningOf}
+use Rattle.laws_wire.specs.Call.{calling, CanCall, confirmed, indicated, data_told, IsBeginningOf}
 use Rattle.laws_wire.specs.Losing.{for_layer_3, heard_in, HasNoError, IsRoughTalk, CallsAreToldInOrder}
 use Rattle.laws_wire.proofs.Beginning.{calls, answers}
 use Rattle.laws_wire.proofs.Calling.{asked, sabme, end}
@@ -24,14 +24,14 @@ taken-more : (way : List (List ℕ)) (s : Station) → More s (with_first_of way
 taken-more [] s = record { more = []; told = sym (append-nil s.told) }
 taken-more (octets ∷ way) s = record { more = _; told = refl }
 
-near-more : (act : Act) (w : Wire) → More w.near (acting act w).near
+pub near-more : (act : Act) (w : Wire) → More w.near (acting act w).near
 near-more (requests r) w = record { more = _; told = refl }
 near-more (times_out timer) w = record { more = _; told = refl }
 near-more gives w = record { more = _; told = refl }
 near-more takes w = taken-more w.far.way w.near
 near-more loses w = record { more = []; told = sym (append-nil w.near.told) }
 
-far-more : (act : Act) (w : Wire) → More w.far (acting act w).far
+pub far-more : (act : Act) (w : Wire) → More w.far (acting act w).far
 far-more (requests r) w = record { more = []; told = sym (append-nil w.far.told) }
 far-more (times_out timer) w = record { more = []; told = sym (append-nil w.far.told) }
 far-more gives w = record { more = []; told = sym (append-nil w.far.told) }
@@ -98,40 +98,53 @@ from-nothing k service tei place s n h none = record {
   heard = ap (flat_map for_layer_3) (none-told k service tei place [] s n h none) ∙ sym (ap (map (data_told service tei)) none);
 }
 
-pub calls-are-told_in_order : CallsAreToldInOrder
-calls-are-told_in_order service c d line other tei ds can talk = λ fair-near fair-far. go fair-near fair-far (runs service tei c d 0 0 face back rt ru ds talk w (inl (inl begun)))
-  where
-    face : Face c d
-    face = record { side = sym can.sides; n201 = can.n201 }
+-- a call as it begins
+pub record Setting (service : Service) (c d : Config) (line other tei : ℕ) : Type 0 where
+  pub face : Face c d
+  pub back : Face d c
+  pub near : IsInRange (terms c service tei)
+  pub far : IsInRange (terms d service tei)
+  pub near_held : Held c service tei 0 [] (calling service tei c line d other).near (end (terms c service tei) asked [])
+  pub far_held : Held d service tei 0 [] (calling service tei c line d other).far (end (terms d service tei) fresh [])
 
-    back : Face d c
-    back = record { side = ap other_side can.sides ∙ twice-other c.side; n201 = sym can.n201 }
-
-    rt : IsInRange (terms c service tei)
-    rt = terms_in_range c can.near service tei can.terminal
-
-    ru : IsInRange (terms d service tei)
-    ru = terms_in_range d can.far service tei can.terminal
-
-    w : Wire
-    w = calling service tei c line d other
-
-    begun : IsRinging service tei c d 0 0 w
-    begun = record {
-      repeats = 0;
-      waiting = asked.waiting;
-      way = [];
-      near = from-nothing c service tei 0 w.near (end (terms c service tei) asked []) (calls service tei c can.near can.terminal line can.near_line) refl;
-      far = from-nothing d service tei 0 w.far (end (terms d service tei) fresh []) (answers service tei d can.far can.terminal other can.far_line) refl;
-      sabmes = All-cons (IsSabme (terms c service tei)) (sabme (terms c service tei)) [] refl (All-nil (IsSabme (terms c service tei)));
+pub setting : (service : Service) (c d : Config) (line other tei : ℕ) → CanCall c line d other tei → Setting service c d line other tei
+setting service c d line other tei can =
+    let w = calling service tei c line d other in
+    record {
+      face = record { side = sym can.sides; n201 = can.n201 };
+      back = record { side = ap other_side can.sides ∙ twice-other c.side; n201 = sym can.n201 };
+      near = terms_in_range c can.near service tei can.terminal;
+      far = terms_in_range d can.far service tei can.terminal;
+      near_held = from-nothing c service tei 0 w.near (end (terms c service tei) asked []) (calls service tei c can.near can.terminal line can.near_line) refl;
+      far_held = from-nothing d service tei 0 w.far (end (terms d service tei) fresh []) (answers service tei d can.far can.terminal other can.far_line) refl;
     }
 
-    last : Wire
-    last = doing_all ds w
+abbrev pub rings : (service : Service) (c d : Config) (line other tei : ℕ) → Setting service c d line other tei → IsRinging service tei c d 0 0 (calling service tei c line d other)
+rings service c d line other tei x = record {
+  repeats = 0;
+  waiting = asked.waiting;
+  way = [];
+  near = x.near_held;
+  far = x.far_held;
+  sabmes = All-cons (IsSabme (terms c service tei)) (sabme (terms c service tei)) [] refl (All-nil (IsSabme (terms c service tei)));
+}
 
-    go : HasNoError last.near → HasNoError last.far → Went service tei c d 0 0 last
-        → IsBeginningOf (confirmed service tei ∷ map (data_told service tei) last.far.granted) (heard_in last.near)
-        × IsBeginningOf (indicated service tei ∷ map (data_told service tei) last.near.granted) (heard_in last.far)
-    go fair-near fair-far (inl h) = let x = in-order service tei c d 0 0 face back rt ru last h in (x.near, x.far)
-    go fair-near fair-far (inr (inl h)) = absurd (not-erred last.near fair-near h)
-    go fair-near fair-far (inr (inr h)) = absurd (not-erred last.far fair-far h)
+-- As long as no error was told.
+pub no-error : (service : Service) (tei : ℕ) (c d : Config) (p q : ℕ) (w : Wire) → Went service tei c d p q w → HasNoError w.near → HasNoError w.far → Goes service tei c d p q w
+no-error service tei c d p q w (inl h) near far = h
+no-error service tei c d p q w (inr (inl h)) near far = absurd (not-erred w.near near h)
+no-error service tei c d p q w (inr (inr h)) near far = absurd (not-erred w.far far h)
+
+pub fair-goes : (service : Service) (c d : Config) (line other tei : ℕ) (ds : List Doing) → CanCall c line d other tei → All (IsRoughTalk service tei) ds
+    → let w = doing_all ds (calling service tei c line d other) in HasNoError w.near → HasNoError w.far → Goes service tei c d 0 0 w
+fair-goes service c d line other tei ds can talk =
+    let x = setting service c d line other tei can in
+    let w = calling service tei c line d other in
+    no-error service tei c d 0 0 (doing_all ds w) (runs service tei c d 0 0 x.face x.back x.near x.far ds talk w (inl (inl (rings service c d line other tei x))))
+
+pub calls-are-told_in_order : CallsAreToldInOrder
+calls-are-told_in_order service c d line other tei ds can talk = λ fair-near fair-far.
+    let x = setting service c d line other tei can in
+    let w = doing_all ds (calling service tei c line d other) in
+    let told = in-order service tei c d 0 0 x.face x.back x.near x.far w (fair-goes service c d line other tei ds can talk fair-near fair-far) in
+    (told.near, told.far)

@@ -1,8 +1,8 @@
 -- Rounds in which no error is told lead to where no turn is left.
-use Rattle.laws_wire.proofs.Vocabulary.{◌≡◌, ℕ, zero, suc, ◌+◌, ◌*◌, ◌<◌, ◌≤◌, Bool, true, false, cond, List, [], ◌∷◌, ◌++◌, length, Option, None, Some, option_map, refl, sym, ap, subst, ◌∙◌, arith, All, All-nil, All-cons, All-append, Service, next, NextFrame, gave, line_at, taken, next_of}
+use Rattle.laws_wire.proofs.Vocabulary.{◌≡◌, ℕ, zero, suc, ◌+◌, ◌*◌, ◌<◌, ◌≤◌, Bool, true, false, cond, List, [], ◌∷◌, ◌++◌, length, Option, None, Some, option_map, refl, sym, ap, subst, ◌∙◌, arith, All, All-nil, All-cons, All-append, Service, Config, next, NextFrame, gave, terms, line_at, taken, next_of}
 use Rattle.laws_wire.specs.Wire as wire
 use Rattle.laws_wire.specs.Wire.{Station, Wire, with_first_of, frames_by, is_any, Doing, at_near, at_far, acting, turned, doing, doing_all, IsStill, answered}
-use Rattle.laws_wire.specs.Call.{calling}
+use Rattle.laws_wire.specs.Call.{calling, CanCall}
 use Rattle.laws_wire.specs.Facing.{granted_of}
 use Rattle.laws_wire.specs.Losing.{IsRoughTalk}
 use Rattle.laws_wire.specs.Recovering.{round, rounds, HasNoErrors}
@@ -40,7 +40,7 @@ unfolding many doing_all rounds
 many-rounds zero w = refl
 many-rounds (suc n) w = many-rounds n (doing_all round w)
 
-none-expires : (n : ℕ) → expiries (many n) ≡ 0
+pub none-expires : (n : ℕ) → expiries (many n) ≡ 0
 unfolding many expiries
 none-expires zero = refl
 none-expires (suc n) = let rest : expiries (many n) ≡ 0 = none-expires n in omega (arith, rest)
@@ -84,7 +84,7 @@ w3 w = turned (acting wire.gives (turned (w2 w)))
 abbrev w4 : Wire → Wire
 w4 w = acting wire.takes (w3 w)
 
-none-more : (n : ℕ) (w : Wire) → granted_of (doing_all (many n) w) ≡ granted_of w
+pub none-more : (n : ℕ) (w : Wire) → granted_of (doing_all (many n) w) ≡ granted_of w
 unfolding many doing_all
 none-more zero w = refl
 none-more (suc n) w = none-more n (w4 w) ∙ near-takes (w3 w) ∙ far-gives (w2 w) ∙ far-takes (w1 w) ∙ near-gives w
@@ -152,7 +152,7 @@ pub record Rests (n : ℕ) (w : Wire) : Type 0 where
   pub before : after < n
   pub still : IsStill (rounds after w)
 
-finds : (n : ℕ) (w : Wire) → moves (many n) w < n → Rests n w
+pub finds : (n : ℕ) (w : Wire) → moves (many n) w < n → Rests n w
 unfolding many moves doing_all rounds
 finds zero w few = absurd (omega (arith, few))
 finds (suc n) w few = go (λ less. finds n (w4 w) less) (moves round w) refl
@@ -170,8 +170,11 @@ finds (suc n) w few = go (λ less. finds n (w4 w) less) (moves round w) refl
     go others zero e = record { after = 0; before = omega arith; still = still-if w e }
     go others (suc k) e = later (others (fewer (moves (many (suc n)) w) k (moves (many n) (w4 w)) (both ∙ ap (λ x. x + moves (many n) (w4 w)) e) few))
 
-pub rounds-come-to-rest : RoundsComeToRest
-rounds-come-to-rest service c d line other tei k ds can talk wide-near wide-far = λ fair. go fair
+-- There are so few moves in rounds in which no error is told.
+pub few-moves : (service : Service) (c d : Config) (line other tei k r : ℕ) (ds : List Doing) → CanCall c line d other tei → All (IsRoughTalk service tei) ds
+    → (terms c service tei).k ≤ k → (terms d service tei).k ≤ k → let w = doing_all ds (calling service tei c line d other) in HasNoErrors (rounds r w)
+    → moves (many r) w ≤ 2 * most_frames k (expiries ds) (granted_of w)
+few-moves service c d line other tei k r ds can talk wide-near wide-far = λ fair. go fair
   where
     begun : Wire
     begun = calling service tei c line d other
@@ -179,28 +182,30 @@ rounds-come-to-rest service c d line other tei k ds can talk wide-near wide-far 
     w : Wire
     w = doing_all ds begun
 
-    most : ℕ
-    most = 2 * most_frames k (expiries ds) (granted_of w)
+    led : doing_all (ds ++ many r) begun ≡ rounds r w
+    led = doing-append ds (many r) begun ∙ many-rounds r w
 
-    es : List Doing
-    es = many (most + 1)
+    expired : expiries (ds ++ many r) ≡ expiries ds
+    expired = expiries-append ds (many r) ∙ (let none : expiries (many r) ≡ 0 = none-expires r in omega (arith, none))
 
-    led : doing_all (ds ++ es) begun ≡ rounds (most + 1) w
-    led = doing-append ds es begun ∙ many-rounds (most + 1) w
+    granted : granted_of (doing_all (ds ++ many r) begun) ≡ granted_of w
+    granted = ap granted_of (doing-append ds (many r) begun) ∙ none-more r w
 
-    expired : expiries (ds ++ es) ≡ expiries ds
-    expired = expiries-append ds es ∙ (let none : expiries es ≡ 0 = none-expires (most + 1) in omega (arith, none))
-
-    granted : granted_of (doing_all (ds ++ es) begun) ≡ granted_of w
-    granted = ap granted_of (doing-append ds es begun) ∙ none-more (most + 1) w
-
-    few : (all first rest most' most : ℕ) → all ≡ first + rest → all ≤ most' → most' ≡ most → rest < most + 1
+    few : (all first rest most' most : ℕ) → all ≡ first + rest → all ≤ most' → most' ≡ most → rest ≤ most
     few all first rest most' most e less same = omega (arith, e, less, same)
 
-    go : HasNoErrors (rounds (most + 1) w) → (n : ℕ) × (n ≤ most) × IsStill (rounds n w)
+    go : HasNoErrors (rounds r w) → moves (many r) w ≤ 2 * most_frames k (expiries ds) (granted_of w)
     go fair =
-        let fair' : HasNoErrors (doing_all (ds ++ es) begun) = subst HasNoErrors (sym led) fair in
-        let total = moves-come-to-an-end service c d line other tei k (ds ++ es) can (All-append (IsRoughTalk service tei) ds es talk (all-rough service tei (most + 1))) wide-near wide-far fair'.0 fair'.1 in
-        let x = finds (most + 1) w (few (moves (ds ++ es) begun) (moves ds begun) (moves es w) (2 * most_frames k (expiries (ds ++ es)) (granted_of (doing_all (ds ++ es) begun))) most
-        (moves-append ds es begun) total (λ i. 2 * most_frames k (expired i) (granted i))) in
-        (x.after, (let less = x.before in omega (arith, less)), x.still)
+        let fair' : HasNoErrors (doing_all (ds ++ many r) begun) = subst HasNoErrors (sym led) fair in
+        few (moves (ds ++ many r) begun) (moves ds begun) (moves (many r) w) (2 * most_frames k (expiries (ds ++ many r)) (granted_of (doing_all (ds ++ many r) begun))) (2 * most_frames k (expiries ds) (granted_of w))
+        (moves-append ds (many r) begun)
+        (moves-come-to-an-end service c d line other tei k (ds ++ many r) can (All-append (IsRoughTalk service tei) ds (many r) talk (all-rough service tei r)) wide-near wide-far fair'.0 fair'.1)
+        (λ i. 2 * most_frames k (expired i) (granted i))
+
+pub rounds-come-to-rest : RoundsComeToRest
+rounds-come-to-rest service c d line other tei k ds can talk wide-near wide-far = λ fair.
+    let w = doing_all ds (calling service tei c line d other) in
+    let most = 2 * most_frames k (expiries ds) (granted_of w) in
+    let few = few-moves service c d line other tei k (most + 1) ds can talk wide-near wide-far fair in
+    let x = finds (most + 1) w (omega (arith, few)) in
+    (x.after, (let less = x.before in omega (arith, less)), x.still)

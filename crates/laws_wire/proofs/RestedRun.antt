@@ -8,17 +8,15 @@ use Rattle.laws_wire.specs.Facing.{granted_of}
 use Rattle.laws_wire.specs.Losing.{HasNoError, IsRoughTalk}
 use Rattle.laws_wire.specs.Resting.{is_move, moves, expiries_in, expiries, most_frames, MovesComeToAnEnd}
 use Rattle.laws_wire.proofs.Acting.{First, Before, which, UpAt, ranges, sound}
-use Rattle.laws_wire.proofs.Beginning.{calls, answers}
 use Rattle.laws_wire.proofs.Calling.{asked, sabme, ua, end, caller, takes-sabme}
 use Rattle.laws_wire.proofs.Fair.{HasError, Fine, frame-fair, sabme-error}
 use Rattle.laws_wire.proofs.Held.{Held, Erred, not-erred}
 use Rattle.laws_wire.proofs.Joint.{Joint, turned-joint, IsMeant, first-means, hears-on}
 use Rattle.laws_wire.proofs.LoadsHeard.{frame-hears}
-use Rattle.laws_wire.proofs.LossyPhases.{IsRinging, IsHalf, UaOrNone, Goes, HasErred, Went}
-use Rattle.laws_wire.proofs.LossyRun.{goes, errs, from-nothing}
+use Rattle.laws_wire.proofs.LossyPhases.{IsRinging, IsHalf, IsUp, UaOrNone, Goes, HasErred, Went}
+use Rattle.laws_wire.proofs.LossyRun.{goes, errs, setting, rings}
 use Rattle.laws_wire.proofs.Rested.{TakesWell, Then, then-acts}
 use Rattle.laws_wire.proofs.Ringing.{ringing, IsSabme, AreSabmes, ignores}
-use Rattle.laws_wire.proofs.Spelled.{twice-other}
 use Rattle.laws_wire.proofs.Standing.{Stands}
 use Rattle.laws_wire.proofs.Talking.{Face}
 use Rattle.laws_wire.proofs.Weighing.{same-link, same-way, weigh_of, weigh, Fell, fell-turned}
@@ -315,38 +313,36 @@ module _ (service : Service) (tei : ℕ) (c d : Config) (p q : ℕ) (face : Face
       go (inr (inl e)) = absurd (not-erred (doing_all ds w).near fair-near e)
       go (inr (inr e)) = absurd (not-erred (doing_all ds w).far fair-far e)
 
+  -- ---- from where both ends are up, as nothing more is accepted and no timer expires
+
+  none-more : (moved weight x more all a b a' b' : ℕ) → x ≡ 0 → all ≡ a + b + more → all ≡ a' + b' → a' ≡ a → b' ≡ b → moved ≤ weight + (v + 4) * x + (v + 6) * more → moved ≤ weight
+  none-more moved weight x more all a b a' b' none grown same e f less =
+      let no-more : more ≡ 0 = omega (arith, grown, same, e, f) in
+      let less' : moved ≤ weight + (v + 4) * 0 + (v + 6) * 0 = subst (λ x. moved ≤ weight + (v + 4) * x + (v + 6) * 0) none (subst (λ m. moved ≤ weight + (v + 4) * x + (v + 6) * m) no-more less) in
+      omega (arith, less')
+
+  pub from-up : (ds : List Doing) → All (IsRoughTalk service tei) ds → (w : Wire) (h : IsUp service tei c d p q w) → expiries ds ≡ 0 → granted_of (doing_all ds w) ≡ granted_of w
+      → HasNoError (doing_all ds w).near → HasNoError (doing_all ds w).far → moves ds w ≤ weigh v h.n h.m
+  unfolding seen
+  from-up ds all w h none same fair-near fair-far = go (runs ds all w (inr (inr h)))
+    where
+      go : Total (moves ds w) (expiries ds) h.n h.m (doing_all ds w) ⊎ Errs (doing_all ds w) → moves ds w ≤ weigh v h.n h.m
+      go (inl z) =
+          none-more (moves ds w) (weigh v h.n h.m) (expiries ds) z.more (granted_of (doing_all ds w)) (length h.n.link.contents) (length h.m.link.contents) (length w.near.granted) (length w.far.granted)
+          none z.granted same (ap length h.near.held.granted) (ap length h.far.held.granted) z.falls
+      go (inr (inl e)) = absurd (not-erred (doing_all ds w).near fair-near e)
+      go (inr (inr e)) = absurd (not-erred (doing_all ds w).far fair-far e)
+
 in-frames : (moved k x g : ℕ) → moved ≤ (2 * (2 * k) + 8) + (2 * k + 4) * x + (2 * k + 6) * g → moved ≤ 2 * most_frames k x g
 in-frames moved k x g less = omega (arith, less)
 
+pub twice : (x k : ℕ) → x ≤ k → 2 * x ≤ 2 * k
+twice x k le = omega (arith, le)
+
 pub moves-come-to-an-end : MovesComeToAnEnd
 moves-come-to-an-end service c d line other tei k ds can talk wide-near wide-far = λ fair-near fair-far.
+    let x = setting service c d line other tei can in
+    let w = calling service tei c line d other in
     in-frames (moves ds w) k (expiries ds) (granted_of (doing_all ds w))
-    (from-ringing service tei c d 0 0 face back rt ru (2 * k) (twice (terms c service tei).k wide-near) (twice (terms d service tei).k wide-far) ds talk w begun refl refl fair-near fair-far)
-  where
-    twice : (x : ℕ) → x ≤ k → 2 * x ≤ 2 * k
-    twice x le = omega (arith, le)
-
-    face : Face c d
-    face = record { side = sym can.sides; n201 = can.n201 }
-
-    back : Face d c
-    back = record { side = ap other_side can.sides ∙ twice-other c.side; n201 = sym can.n201 }
-
-    rt : IsInRange (terms c service tei)
-    rt = terms_in_range c can.near service tei can.terminal
-
-    ru : IsInRange (terms d service tei)
-    ru = terms_in_range d can.far service tei can.terminal
-
-    w : Wire
-    w = calling service tei c line d other
-
-    begun : IsRinging service tei c d 0 0 w
-    begun = record {
-      repeats = 0;
-      waiting = asked.waiting;
-      way = [];
-      near = from-nothing c service tei 0 w.near (end (terms c service tei) asked []) (calls service tei c can.near can.terminal line can.near_line) refl;
-      far = from-nothing d service tei 0 w.far (end (terms d service tei) fresh []) (answers service tei d can.far can.terminal other can.far_line) refl;
-      sabmes = All-cons (IsSabme (terms c service tei)) (sabme (terms c service tei)) [] refl (All-nil (IsSabme (terms c service tei)));
-    }
+    (from-ringing service tei c d 0 0 x.face x.back x.near x.far (2 * k) (twice (terms c service tei).k k wide-near) (twice (terms d service tei).k k wide-far) ds talk w
+    (rings service c d line other tei x) refl refl fair-near fair-far)

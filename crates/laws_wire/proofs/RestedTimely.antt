@@ -1,10 +1,10 @@
 -- Rounds after a call in which T200 is long enough tell no error, so they lead to where no turn is left.
-use Rattle.laws_wire.proofs.Vocabulary.{ℕ, zero, suc, ◌+◌, ◌*◌, List, [], ◌∷◌, ◌++◌, subst, ◌∙◌, All-append}
+use Rattle.laws_wire.proofs.Vocabulary.{ℕ, zero, suc, ◌+◌, ◌*◌, List, [], ◌∷◌, ◌++◌, subst, ◌∙◌, All, All-append, Service, Config}
 use Rattle.laws_wire.specs.Wire.{Wire, Doing, doing, doing_all}
-use Rattle.laws_wire.specs.Call.{calling}
+use Rattle.laws_wire.specs.Call.{calling, CanCall}
 use Rattle.laws_wire.specs.Facing.{granted_of}
 use Rattle.laws_wire.specs.Losing.{IsRoughTalk}
-use Rattle.laws_wire.specs.Recovering.{HasNoErrors}
+use Rattle.laws_wire.specs.Recovering.{rounds, HasNoErrors}
 use Rattle.laws_wire.specs.Timely.{StayTimely}
 use Rattle.laws_wire.specs.Resting.{expiries, most_frames, TimelyRoundsComeToRest}
 use Rattle.laws_wire.proofs.RestedRounds.{doing-append, many, many-rounds, all-rough, rounds-come-to-rest}
@@ -21,18 +21,15 @@ unfolding StayTimely
 timely-append [] n w h = many-timely n w
 timely-append (d ∷ ds) n w h = (h.0, timely-append ds n (doing d w) h.1)
 
+-- so no error is told in any rounds behind a timely call
+pub timely-fair : (service : Service) (c d : Config) (line other tei r : ℕ) (ds : List Doing) → CanCall c line d other tei → All (IsRoughTalk service tei) ds
+    → let begun = calling service tei c line d other in StayTimely ds begun → HasNoErrors (rounds r (doing_all ds begun))
+timely-fair service c d line other tei r ds can talk = λ timely.
+    let begun = calling service tei c line d other in
+    subst HasNoErrors (doing-append ds (many r) begun ∙ many-rounds r (doing_all ds begun))
+    (what-is-lost-arrives service c d line other tei (ds ++ many r) can (All-append (IsRoughTalk service tei) ds (many r) talk (all-rough service tei r)) (timely-append ds r begun timely)).no_error
+
 pub timely-rounds-come-to-rest : TimelyRoundsComeToRest
 timely-rounds-come-to-rest service c d line other tei k ds can talk wide-near wide-far timely =
-    rounds-come-to-rest service c d line other tei k ds can talk wide-near wide-far
-    (subst HasNoErrors (doing-append ds (many (most + 1)) begun ∙ many-rounds (most + 1) (doing_all ds begun)) fair)
-  where
-    begun : Wire
-    begun = calling service tei c line d other
-
-    most : ℕ
-    most = 2 * most_frames k (expiries ds) (granted_of (doing_all ds begun))
-
-    fair : HasNoErrors (doing_all (ds ++ many (most + 1)) begun)
-    fair =
-        (what-is-lost-arrives service c d line other tei (ds ++ many (most + 1)) can
-        (All-append (IsRoughTalk service tei) ds (many (most + 1)) talk (all-rough service tei (most + 1))) (timely-append ds (most + 1) begun timely)).no_error
+    let most = 2 * most_frames k (expiries ds) (granted_of (doing_all ds (calling service tei c line d other))) in
+    rounds-come-to-rest service c d line other tei k ds can talk wide-near wide-far (timely-fair service c d line other tei (most + 1) ds can talk timely)

@@ -23,7 +23,8 @@ use Rattle.laws_wire.proofs.Talking.{Face}
 use Rattle.laws_wire.proofs.TimelyAnswered.{waits-still, comes-still}
 use Rattle.laws_wire.proofs.TimelyPhases.{Goes}
 use Rattle.laws_wire.proofs.TimelyRinging.{not-still, called-still}
-use Rattle.laws_wire.proofs.TimelyRun.{setting, step, runs, what-is-lost-arrives}
+use Rattle.laws_wire.proofs.LossyRun.{setting}
+use Rattle.laws_wire.proofs.TimelyRun.{starts, step, runs, what-is-lost-arrives}
 use Rattle.laws_wire.proofs.TimelyUp.{each-timer, hushed, none-open, timed-8}
 
 abbrev pub IsStillOf : Act → Wire → Type 0
@@ -174,8 +175,8 @@ still-is-enough service c d line other tei ds can talk = λ still.
     let x = setting service c d line other tei can in
     let w = calling service tei c line d other in
     let last = doing_all ds w in
-    let timely = all service tei c d 0 0 x.face x.back x.near x.far ds talk w x.begun still in
-    let on = runs service tei c d 0 0 x.face x.back x.near x.far ds talk w timely x.begun in
+    let timely = all service tei c d 0 0 x.face x.back x.near x.far ds talk w (starts service c d line other tei x) still in
+    let on = runs service tei c d 0 0 x.face x.back x.near x.far ds talk w timely (starts service c d line other tei x) in
     let law = what-is-lost-arrives service c d line other tei ds can talk timely in
     record {
       no_error = law.no_error;

@@ -10,13 +10,11 @@ use Rattle.laws_wire.specs.Losing.{for_layer_3, heard_in, is_error, HasNoError, 
 use Rattle.laws_wire.specs.Timely.{is_poll, is_final, IsNoneOpen, IsTimelyOf, IsSpared, IsTimely, StayTimely}
 use Rattle.laws_wire.specs.Recovering.{both_expire, round, rounds, HasNoErrors, BothMayRepeat, HasMissing, HasArrived, with_t200_expired, WhatIsLostArrives}
 use Rattle.laws_wire.proofs.Awaited.{link-is, open-here}
-use Rattle.laws_wire.proofs.Beginning.{calls, answers}
 use Rattle.laws_wire.proofs.Calling.{asked, end, called}
 use Rattle.laws_wire.proofs.Held.{Held}
-use Rattle.laws_wire.proofs.LossyRun.{from-nothing}
+use Rattle.laws_wire.proofs.LossyRun.{Setting, setting}
 use Rattle.laws_wire.proofs.Ringing.{answered, its_sabme}
 use Rattle.laws_wire.proofs.Ringing.{ringing as ringing_as}
-use Rattle.laws_wire.proofs.Spelled.{twice-other}
 use Rattle.laws_wire.proofs.Talking.{Face}
 use Rattle.laws_wire.proofs.TimelyArrives.{arrived, up-goes_on, up-arrives}
 use Rattle.laws_wire.proofs.TimelyFirst.{near-ready, far-ready, there-taken, back-taken}
@@ -228,36 +226,14 @@ module _ (service : Service) (tei : ℕ) (c d : Config) (p q : ℕ) (face : Face
   goes-on w (inr (inr (inr (inr (inr h))))) still may = up-goes_on service tei c d p q face back w h.n h.m h.up still may
 
 -- a call as it begins
-pub record Setting (service : Service) (c d : Config) (line other tei : ℕ) : Type 0 where
-  pub face : Face c d
-  pub back : Face d c
-  pub near : IsInRange (terms c service tei)
-  pub far : IsInRange (terms d service tei)
-  pub near_held : Held c service tei 0 [] (calling service tei c line d other).near (end (terms c service tei) asked [])
-  pub far_held : Held d service tei 0 [] (calling service tei c line d other).far (end (terms d service tei) fresh [])
-  pub begun : Goes service tei c d 0 0 (calling service tei c line d other)
-
-pub setting : (service : Service) (c d : Config) (line other tei : ℕ) → CanCall c line d other tei → Setting service c d line other tei
-setting service c d line other tei can =
-    let w = calling service tei c line d other in
-    let near : Held c service tei 0 [] w.near (end (terms c service tei) asked []) = from-nothing c service tei 0 w.near (end (terms c service tei) asked []) (calls service tei c can.near can.terminal line can.near_line) refl in
-    let far : Held d service tei 0 [] w.far (end (terms d service tei) fresh []) = from-nothing d service tei 0 w.far (end (terms d service tei) fresh []) (answers service tei d can.far can.terminal other can.far_line) refl in
-    let begun : Rings service tei c d 0 0 (its_sabme ∷ []) [] w = record { repeats = 0; near = near; far = far } in
-    record {
-      face = record { side = sym can.sides; n201 = can.n201 };
-      back = record { side = ap other_side can.sides ∙ twice-other c.side; n201 = sym can.n201 };
-      near = terms_in_range c can.near service tei can.terminal;
-      far = terms_in_range d can.far service tei can.terminal;
-      near_held = near;
-      far_held = far;
-      begun = inr (inl begun);
-    }
+pub starts : (service : Service) (c d : Config) (line other tei : ℕ) → Setting service c d line other tei → Goes service tei c d 0 0 (calling service tei c line d other)
+starts service c d line other tei x = inr (inl (record { repeats = 0; near = x.near_held; far = x.far_held }))
 
 pub what-is-lost-arrives : WhatIsLostArrives
 what-is-lost-arrives service c d line other tei ds can talk = λ timely.
     let x = setting service c d line other tei can in
     let w = calling service tei c line d other in
-    let h = runs service tei c d 0 0 x.face x.back x.near x.far ds talk w timely x.begun in
+    let h = runs service tei c d 0 0 x.face x.back x.near x.far ds talk w timely (starts service c d line other tei x) in
     record {
       no_error = fair service tei c d 0 0 x.face x.back x.near x.far (doing_all ds w) h;
       arrives = arrives service tei c d 0 0 x.face x.back x.near x.far (doing_all ds w) h;

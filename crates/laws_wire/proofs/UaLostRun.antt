@@ -16,7 +16,7 @@ use Rattle.laws_wire.proofs.Ringing.{ringing, answered, its_sabme}
 use Rattle.laws_wire.proofs.Talking.{Face}
 use Rattle.laws_wire.proofs.TimelyPhases as phases
 use Rattle.laws_wire.proofs.TimelyRinging as first_ringing
-use Rattle.laws_wire.proofs.TimelyRun.{setting}
+use Rattle.laws_wire.proofs.LossyRun.{setting}
 use Rattle.laws_wire.proofs.TimelyUp.{BothUp}
 use Rattle.laws_wire.proofs.UaLost.{called-quiet, Rings, Ringing, near-rings, not-told, far-gives, far-loses, far-takes, UaWaits, UaGoes, answers-again, waits-near, waits-far, goes-near, goes-far}
 

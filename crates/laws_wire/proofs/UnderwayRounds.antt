@@ -1,16 +1,22 @@
 -- Rounds lead to where all has arrived whose T200 has expired.
-use Rattle.laws_wire.proofs.Vocabulary.{◌≡◌, ℕ, zero, suc, ◌*◌, ◌≤◌, Bool, true, false, ◌||◌, List, [], ◌∷◌, ◌++◌, refl, sym, subst, ◌∙◌, ◌⊎◌, inl, inr, true≢false, All, All-nil, All-cons, All-append, Service}
-use Rattle.laws_wire.specs.Wire.{Wire, gives, takes, Doing, at_near, at_far, doing, doing_all, IsStill}
-use Rattle.laws_wire.specs.Call.{calling}
+use Rattle.laws_wire.proofs.Vocabulary.{◌≡◌, ℕ, zero, suc, ◌+◌, ◌*◌, ◌<◌, ◌≤◌, Bool, true, false, ◌||◌, List, [], ◌∷◌, ◌++◌, refl, sym, ap, subst, ◌∙◌, ◌⊎◌, inl, inr, arith, nat_lt, ltb-true, ltb-false, true≢false, flat_map, All, All-nil, All-cons, All-append, Service, Config, LineTold, terms}
+use Rattle.std.proofs.lemmas.List.Concat.{flat_map-append}
+use Rattle.laws_wire.specs.Wire.{Station, Wire, gives, takes, Doing, at_near, at_far, acting, turned, doing, doing_all, IsStill}
+use Rattle.laws_wire.specs.Call.{calling, CanCall}
 use Rattle.laws_wire.specs.Facing.{granted_of}
-use Rattle.laws_wire.specs.Losing.{IsRoughTalk}
-use Rattle.laws_wire.specs.Recovering.{rounds}
-use Rattle.laws_wire.specs.Resting.{expiries, most_frames}
+use Rattle.laws_wire.specs.Losing.{for_layer_3, heard_in, HasNoError, IsRoughTalk}
+use Rattle.laws_wire.specs.Recovering.{rounds, HasNoErrors}
+use Rattle.laws_wire.specs.Resting.{moves, expiries, most_frames}
 use Rattle.laws_wire.specs.Timely.{StayTimely}
-use Rattle.laws_wire.specs.Arriving.{LosesNothing, near_asks, far_asks, ever, HasCome, ArrivesInRounds}
-use Rattle.laws_wire.proofs.RestedRounds.{doing-append, many, many-rounds, all-rough}
-use Rattle.laws_wire.proofs.RestedTimely.{timely-rounds-come-to-rest, many-timely}
+use Rattle.laws_wire.specs.Arriving.{LosesNothing, near_asks, far_asks, ever, HasCome, most_left, ArrivesInRounds}
+use Rattle.laws_wire.proofs.LeftToDo.{weighs-left}
+use Rattle.laws_wire.proofs.LossyPhases.{IsUp, Goes as Phases}
+use Rattle.laws_wire.proofs.LossyRun.{More, near-more, far-more, Setting, setting, fair-goes}
+use Rattle.laws_wire.proofs.RestedRounds.{doing-append, many, many-rounds, none-expires, none-more, all-rough, finds, few-moves}
+use Rattle.laws_wire.proofs.RestedRun.{from-up, twice}
+use Rattle.laws_wire.proofs.RestedTimely.{many-timely, timely-fair}
 use Rattle.laws_wire.proofs.UnderwayRun.{arrives-under-traffic}
+use Rattle.laws_wire.proofs.Weighing.{weigh}
 
 both-timely : (ds es : List Doing) (w : Wire) → StayTimely ds w → StayTimely es (doing_all ds w) → StayTimely (ds ++ es) w
 unfolding StayTimely doing_all
@@ -46,20 +52,111 @@ come-sooner service tei since es w last h = record { near = λ x. h.near (near x
     far (inl e) = inl (ever-append (far_asks service tei) since es w e)
     far (inr a) = inr a
 
+-- ---- what was told stays told
+
+none-first : (xs ys : List LineTold) → xs ++ ys ≡ [] → xs ≡ []
+none-first [] ys e = refl
+none-first (x ∷ xs) ys e = absurd (cc)
+
+none-before : (s s' : Station) → More s s' → heard_in s' ≡ [] → heard_in s ≡ []
+none-before s s' x e = none-first (heard_in s) (flat_map for_layer_3 x.more) (sym (flat_map-append for_layer_3 s.told x.more) ∙ sym (ap (flat_map for_layer_3) x.told) ∙ e)
+
+told-still : (ds : List Doing) (w : Wire) → (heard_in w.near ≡ [] → ⊥) → heard_in (doing_all ds w).near ≡ [] → ⊥
+unfolding doing_all
+told-still [] w h = h
+told-still (at_near act ∷ ds) w h = told-still ds (acting act w) (λ e. h (none-before w.near (acting act w).near (near-more act w) e))
+told-still (at_far act ∷ ds) w h = told-still ds (turned (acting act (turned w))) (λ e. h (none-before w.near (acting act (turned w)).far (far-more act (turned w)) e))
+
+-- ---- so many rounds are enough
+
+-- the lesser of two bounds
+least : (a b : ℕ) → (m : ℕ) × (m ≤ a) × (m ≤ b) × ((x : ℕ) → x ≤ a → x ≤ b → x < m + 1)
+least a b = go (nat_lt a b) refl
+  where
+    go : (o : Bool) → nat_lt a b ≡ o → (m : ℕ) × (m ≤ a) × (m ≤ b) × ((x : ℕ) → x ≤ a → x ≤ b → x < m + 1)
+    go true e = let less = ltb-true a b e in (a, omega arith, omega (arith, less), λ x h g. omega (arith, h))
+    go false e = let less = ltb-false a b e in (b, omega (arith, less), omega arith, λ x h g. omega (arith, g))
+
+module _ (service : Service) (c d : Config) (line other tei k : ℕ) (before since : List Doing) (can : CanCall c line d other tei) (wide : (terms c service tei).k ≤ k) (wide' : (terms d service tei).k ≤ k)
+    (talk : All (IsRoughTalk service tei) before) (talk' : All (IsRoughTalk service tei) since) where
+  begun : Wire
+  begun = calling service tei c line d other
+
+  abbrev w : Wire
+  w = doing_all before (calling service tei c line d other)
+
+  abbrev last : Wire
+  last = doing_all since w
+
+  whole : All (IsRoughTalk service tei) (before ++ since)
+  whole = All-append (IsRoughTalk service tei) before since talk talk'
+
+  same : doing_all (before ++ since) (calling service tei c line d other) ≡ last
+  same = doing-append before since (calling service tei c line d other)
+
+  module _ (timely : StayTimely before (calling service tei c line d other)) (timely' : StayTimely since w) where
+    fair : (r : ℕ) → HasNoErrors (rounds r last)
+    fair r =
+        subst (λ v. HasNoErrors (rounds r v)) same
+        (timely-fair service c d line other tei r (before ++ since) can whole (both-timely before since (calling service tei c line d other) timely timely'))
+
+    fair-now : HasNoErrors last
+    unfolding rounds
+    fair-now = fair 0
+
+    by-call : (r : ℕ) → moves (many r) last ≤ 2 * most_frames k (expiries (before ++ since)) (granted_of last)
+    by-call r =
+        subst (λ v. moves (many r) v ≤ 2 * most_frames k (expiries (before ++ since)) (granted_of v)) same
+        (few-moves service c d line other tei k r (before ++ since) can whole wide wide' (subst (λ v. HasNoErrors (rounds r v)) (sym same) (fair r)))
+
+    by-left : (heard_in last.near ≡ [] → ⊥) → (r : ℕ) → moves (many r) last ≤ most_left service tei k last
+    by-left told r =
+        go (subst (Phases service tei c d 0 0) same
+        (fair-goes service c d line other tei (before ++ since) can whole (subst (λ (v : Wire). HasNoError v.near) (sym same) fair-now.0) (subst (λ (v : Wire). HasNoError v.far) (sym same) fair-now.1)))
+      where
+        x : Setting service c d line other tei
+        x = setting service c d line other tei can
+
+        there : doing_all (many r) last ≡ rounds r last
+        there = many-rounds r last
+
+        up : (h : IsUp service tei c d 0 0 last) → moves (many r) last ≤ most_left service tei k last
+        up h =
+            leq (moves (many r) last) (weigh (2 * k) h.n h.m) (most_left service tei k last)
+            (from-up service tei c d 0 0 x.face x.back x.near x.far (2 * k) (twice (terms c service tei).k k wide) (twice (terms d service tei).k k wide') (many r) (all-rough service tei r) last h
+            (none-expires r) (none-more r last) (subst (λ (v : Wire). HasNoError v.near) (sym there) (fair r).0) (subst (λ (v : Wire). HasNoError v.far) (sym there) (fair r).1))
+            (weighs-left service tei c d 0 0 k last h (subst (λ t. t.k ≤ k) (sym h.near.held.stands.terms) wide) (subst (λ t. t.k ≤ k) (sym h.far.held.stands.terms) wide'))
+          where
+            leq : (a b m : ℕ) → a ≤ b → b ≤ m → a ≤ m
+            leq a b m p q = omega (arith, p, q)
+
+        go : Phases service tei c d 0 0 last → moves (many r) last ≤ most_left service tei k last
+        go (inl h) = absurd (told h.near.heard)
+        go (inr (inl h)) = absurd (told h.near.heard)
+        go (inr (inr h)) = up h
+
+    pub rests : (heard_in last.near ≡ [] → ⊥)
+        → (n : ℕ) × (n ≤ most_left service tei k last) × (n ≤ 2 * most_frames k (expiries (before ++ since)) (granted_of last)) × IsStill (rounds n last)
+    rests told =
+        let most = least (most_left service tei k last) (2 * most_frames k (expiries (before ++ since)) (granted_of last)) in
+        let m = most.0 in
+        let x = finds (m + 1) last (most.3 (moves (many (m + 1)) last) (by-left told (m + 1)) (by-call (m + 1))) in
+        let n = x.after in
+        let less : n < m + 1 = x.before in
+        let left : m ≤ most_left service tei k last = most.1 in
+        let call : m ≤ 2 * most_frames k (expiries (before ++ since)) (granted_of last) = most.2 in
+        (n, omega (arith, less, left), omega (arith, less, call), x.still)
+
 pub arrives-in-rounds : ArrivesInRounds
 arrives-in-rounds service c d line other tei k before since can three three' wide wide' talk talk' kept = λ timely timely' told.
     let begun = calling service tei c line d other in
     let w = doing_all before begun in
     let last = doing_all since w in
-    let same : doing_all (before ++ since) begun ≡ last = doing-append before since begun in
-    let whole = All-append (IsRoughTalk service tei) before since talk talk' in
-    let rests = timely-rounds-come-to-rest service c d line other tei k (before ++ since) can whole wide wide' (both-timely before since begun timely timely') in
-    let n = rests.0 in
+    let x = rests service c d line other tei k before since can wide wide' talk talk' timely timely' (told-still since w told) in
+    let n = x.0 in
     let es = many n in
-    let few = subst (λ v. n ≤ 2 * most_frames k (expiries (before ++ since)) (granted_of v)) same rests.1 in
-    let still : IsStill (rounds n last) = subst (λ v. IsStill (rounds n v)) same rests.2 in
     let there : doing_all (since ++ es) w ≡ rounds n last = doing-append since es w ∙ many-rounds n last in
     let come = arrives-under-traffic service c d line other tei before (since ++ es) can three three' talk
     (All-append (IsRoughTalk service tei) since es talk' (all-rough service tei n)) (All-append LosesNothing since es kept (many-kept n)) timely
-    (both-timely since es w timely' (many-timely n last)) told (subst IsStill (sym there) still) in
-    (n, few, still, come-sooner service tei since es w (rounds n last) (subst (HasCome service tei (since ++ es) w) there come))
+    (both-timely since es w timely' (many-timely n last)) told (subst IsStill (sym there) x.3) in
+    (n, x.1, x.2, x.3, come-sooner service tei since es w (rounds n last) (subst (HasCome service tei (since ++ es) w) there come))

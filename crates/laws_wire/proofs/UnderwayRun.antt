@@ -5,7 +5,8 @@ use Rattle.laws_wire.specs.Call.{calling, confirmed, indicated, all_told}
 use Rattle.laws_wire.specs.Losing.{heard_in}
 use Rattle.laws_wire.specs.Arriving.{runs_t200, near_asks, far_asks, ever, ArrivesUnderTraffic}
 use Rattle.laws_wire.proofs.TimelyPhases.{Goes}
-use Rattle.laws_wire.proofs.TimelyRun.{setting, runs}
+use Rattle.laws_wire.proofs.LossyRun.{setting}
+use Rattle.laws_wire.proofs.TimelyRun.{starts, runs}
 use Rattle.laws_wire.proofs.TimelyUp.{AreUp, BothUp, turned-up}
 use Rattle.laws_wire.proofs.Underway.{SureUp, sure-runs, has-come}
 
@@ -58,7 +59,7 @@ arrives-under-traffic service c d line other tei before since can wide_c wide_d 
     let x = setting service c d line other tei can in
     let w = doing_all before (calling service tei c line d other) in
     let last = doing_all since w in
-    let up = are-up service tei c d 0 0 w (runs service tei c d 0 0 x.face x.back x.near x.far before talk (calling service tei c line d other) timely x.begun) told in
+    let up = are-up service tei c d 0 0 w (runs service tei c d 0 0 x.face x.back x.near x.far before talk (calling service tei c line d other) timely (starts service c d line other tei x)) told in
     let h = sure-runs service tei c d 0 0 x.face x.back wide_c wide_d ⊥ ⊥ since w talk' kept timely' (begins service tei c d 0 0 w up) in
     let both = comes service tei c d 0 0 (ever (near_asks service tei) since w ≡ true) (ever (far_asks service tei) since w ≡ true) last h still in
     record { near = both.0; far = both.1 }

@@ -1,5 +1,5 @@
 -- What arrives under traffic: of an end whose T200 has expired since a frame was lost last, all that it was granted to send.
-use Rattle.std.specs.Prelude.{◌≡◌, ◌≢◌, ◌≤◌, ℕ, ◌*◌, Bool, true, false, ◌&&◌, ◌||◌, List, [], ◌∷◌, ◌++◌, All, ◌⊎◌}
+use Rattle.std.specs.Prelude.{◌≡◌, ◌≢◌, ◌≤◌, ℕ, ◌+◌, ◌-◌, ◌*◌, Bool, true, false, ◌&&◌, ◌||◌, List, [], ◌∷◌, ◌++◌, length, All, ◌⊎◌}
 use Rattle.lapd_frame.specs.declared.services.Service.{Service}
 use Rattle.lapd_frame.specs.declared.timers.Timer.TheVariants.{T200}
 use Rattle.model_link.specs.declared.timers.LinkTimer.TheVariants as link
@@ -57,7 +57,21 @@ ArrivesUnderTraffic =
     let begun = calling service tei c line d other in let w = doing_all before begun in let last = doing_all since w in
     StayTimely before begun → StayTimely since w → heard_in w.near ≢ [] → IsStill last → HasCome service tei since w last
 
--- And there is such a time within so many rounds in which nothing more is asked for, nothing is lost, and no timer expires.
+-- What is left to do there: control frames of the link that wait, and frames on their way; and what layer 3 of either is still to be
+-- told.
+abbrev pub frames_left : Service → ℕ → Station → ℕ
+frames_left service tei s = length (end_of service tei s).link.waiting + length s.way
+
+abbrev pub notes_left : Service → ℕ → Wire → ℕ
+notes_left service tei w =
+    (length (all_told service tei (confirmed service tei) w.far) - length (heard_in w.near))
+    + (length (all_told service tei (indicated service tei) w.near) - length (heard_in w.far))
+
+abbrev pub most_left : Service → ℕ → ℕ → Wire → ℕ
+most_left service tei k w = 2 * most_frames k (4 + frames_left service tei w.near + frames_left service tei w.far) (notes_left service tei w)
+
+-- And there is such a time within so many rounds in which nothing more is asked for, nothing is lost, and no timer expires: as many as
+-- the bound of `Resting` says of the whole call, and as many as what is left to do there says.
 abbrev pub ArrivesInRounds : Type 0
 ArrivesInRounds =
     (service : Service) (c d : Config) (line other tei k : ℕ) (before since : List Doing) → CanCall c line d other tei →
@@ -65,4 +79,5 @@ ArrivesInRounds =
     All (IsRoughTalk service tei) before → All (IsRoughTalk service tei) since → All LosesNothing since →
     let begun = calling service tei c line d other in let w = doing_all before begun in let last = doing_all since w in
     StayTimely before begun → StayTimely since w → heard_in w.near ≢ [] →
-    (n : ℕ) × (n ≤ 2 * most_frames k (expiries (before ++ since)) (granted_of last)) × IsStill (rounds n last) × HasCome service tei since w (rounds n last)
+    (n : ℕ) × (n ≤ most_left service tei k last) × (n ≤ 2 * most_frames k (expiries (before ++ since)) (granted_of last))
+    × IsStill (rounds n last) × HasCome service tei since w (rounds n last)

@@ -4,7 +4,7 @@ from typing import List, NamedTuple, Sequence, Tuple
 from ..svg import Drawing
 
 LEFT, RIGHT, BOX, HIGH, STEP = 36, 632, 310, 62, 92
-WIDTH, HEIGHT = 1112, 776
+WIDTH, HEIGHT = 1112, 868
 
 
 NOTHING = "nothing ends here"
@@ -23,8 +23,9 @@ COMES = [
     Call("Card::octet", "lapd_card", "hands the octet to the port of its line"),
     Call("Port::octet", "lapd_line", "asks what the octet ends, if anything"),
     Call("Deframer::step", "lapd_bits", "flags, stuffed bits, aborts, frame check", [NOTHING, "abort, ragged, short, fcs"]),
-    Call("FrameLine::heard", "lapd_line", "hears a frame: here a card of frames begins"),
-    Call("read", "lapd_frame", "reads the frame; the line finds its link", ["extension, sapi, tei"]),
+    Call("FrameCard::heard", "lapd_card", "hears a frame: here a card of frames begins"),
+    Call("FrameLine::heard", "lapd_line", "has the frame read, and finds whom it is for"),
+    Call("read", "lapd_frame", "reads address and control field", ["extension, sapi, tei"]),
 ]
 ENDS = [Call("Link::receive", "lapd_link", ""), Call("Teis::message", "lapd_tei", "")]
 OFFERS = [Call("Teis::offer", "lapd_tei", ""), Call("Link::offer", "lapd_link", "")]
@@ -129,10 +130,10 @@ def draw(_: str) -> str:
     """The picture."""
     it = Drawing(
         "The way of an octet in and out",
-        "An octet that comes goes by Card::octet, Port::octet and Deframer::step; what it ends goes by FrameLine::heard and "
-        "read to Link::receive or Teis::message, and comes back as a Report. One that goes is asked for by Card::pull; the "
-        "next frame comes by FrameLine::load_next from Teis::offer, unit data or Link::offer, and goes by write, "
-        "Framer::load and Framer::octet.",
+        "An octet that comes goes by Card::octet, Port::octet and Deframer::step; what it ends goes by FrameCard::heard, "
+        "FrameLine::heard and read to Link::receive or Teis::message, and comes back as a Report. One that goes is asked for "
+        "by Card::pull; the next frame comes by FrameLine::load_next from Teis::offer, unit data or Link::offer, and goes by "
+        "write, Framer::load and Framer::octet.",
     )
     it.text(LEFT, 36, "An octet comes", "blue", 16, bold=True)
     it.text(RIGHT, 36, "An octet goes", "green", 16, bold=True)

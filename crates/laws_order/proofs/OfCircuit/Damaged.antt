@@ -1,5 +1,5 @@
 -- What happens on a circuit on which octets are damaged is, at the cards of frames inside, what happens on a wire of frames.
-use Rattle.laws_order.proofs.Vocabulary.{◌≡◌, ℕ, ◌<◌, Bool, true, false, cond, List, [], ◌∷◌, ◌++◌, drop, Option, None, Some, option_map, option_to_list, refl, sym, ap, ◌∙◌, subst, append-nil, All, flat_map, option_map_or, All-nil, All-cons, All-head, Service, Config, LineTold, Card, OctetCard, port_at, answer_to, card_after, gained, is_due, Seen, IsFront, Station, Wire, frames_by}
+use Rattle.laws_order.proofs.Vocabulary.{◌≡◌, ℕ, Bool, true, false, cond, List, [], ◌∷◌, ◌++◌, drop, Option, None, Some, option_map, option_to_list, refl, sym, ap, ◌∙◌, subst, append-nil, All, flat_map, option_map_or, All-nil, All-cons, All-head, Service, LineTold, Card, OctetCard, port_at, answer_to, card_after, gained, is_due, Seen, IsFront, Station, Wire, frames_by}
 use Rattle.model_bits.specs.Stream as stream
 use Rattle.model_line.specs.Event as line
 use Rattle.model_card.specs.Event as frames
@@ -10,15 +10,15 @@ use Rattle.model_card.specs.ports.Port as port
 use Rattle.laws_wire.specs.Wire as wire
 use Rattle.laws_order.specs.Happenings as order
 unfoldable use Rattle.laws_order.specs.Happenings.{seen_near as frames_near, seen_far as frames_far}
-use Rattle.laws_order.specs.Order.{StaysEstablished, data_noted, data_granted, kept_by}
-use Rattle.laws_order.proofs.Ordered.{delivered-in-order}
-use Rattle.laws_order.specs.circuit.Damaged.{Socket, Noisy, Deed, happens, completes, elsewhere, loses, meaning, IsOther, IsFirst, IsPossibleAt, befalling, turned, Happening, by_near, by_far, seen_of, seen_by, as_station, as_wire, DeliveredThoughDamaged}
+use Rattle.laws_order.specs.Order.{FaceInStep, StaysEstablished, data_noted, data_granted, kept_by}
+use Rattle.laws_order.proofs.Ordered.{StaysAt, near-place, far-place, still-possible, delivered-in-order}
+use Rattle.laws_order.specs.circuit.Damaged.{Socket, Noisy, Deed, happens, completes, elsewhere, loses, meaning, IsOther, IsFirst, IsPossibleAt, with_deed, left_by, befalling, turned, Happening, by_near, by_far, seen_of, seen_by, as_wire, DeliveredThoughDamaged}
 unfoldable use Rattle.laws_order.specs.circuit.Damaged.{ArePossible, seen_near, seen_far}
 use Rattle.laws_order.proofs.OfCircuit.HeardWhole.{HasCome, gained-whole}
 
 -- ---- the ends as stations
 
-abbrev station : List (List ℕ) → List LineTold → Socket → Station
+abbrev pub station : List (List ℕ) → List LineTold → Socket → Station
 station granted told s = record { card = s.card.card; line = s.line; way = s.way; granted = granted; told = told }
 
 -- What an event means on the wire of frames, where it brings no frame on the other's way.
@@ -29,15 +29,15 @@ deed_meant (Some (line.expiry timer)) = Some (order.acts (wire.times_out timer))
 deed_meant (Some (line.request r)) = Some (order.acts (wire.requests r))
 deed_meant (Some line.next) = Some (order.acts wire.gives)
 
-abbrev if_done : Option order.Deed → Wire → Wire
+abbrev pub if_done : Option order.Deed → Wire → Wire
 if_done None x = x
 if_done (Some deed) x = order.befalling deed x
 
-abbrev if_seen : Option order.Deed → Wire → List Seen
+abbrev pub if_seen : Option order.Deed → Wire → List Seen
 if_seen None x = []
 if_seen (Some deed) x = order.seen_by deed x
 
-abbrev CanBe : Service → ℕ → Station → Option order.Deed → Type 0
+abbrev pub CanBe : Service → ℕ → Station → Option order.Deed → Type 0
 CanBe service tei s None = Unit {0}
 CanBe service tei s (Some deed) = order.IsPossibleAt service tei s deed
 
@@ -60,26 +60,23 @@ meaning-comes n201 (port.expiry timer) p = tt
 meaning-comes n201 (port.request r) p = tt
 meaning-comes n201 port.pull p = due-comes n201 (is_due p)
 
--- What one deed is on the wire of frames.
-record Done (service : Service) (tei : ℕ) (w w' : Noisy) (g h : List (List ℕ)) (t u : List LineTold) (seen : List Seen) : Type 0 where
-  deed : Option order.Deed
-  granted : List (List ℕ)
-  told : List LineTold
-  same : if_done deed (record { near = station g t w.near; far = station h u w.far }) ≡ record { near = station granted told w'.near; far = station h u w'.far }
-  shown : if_seen deed (record { near = station g t w.near; far = station h u w.far }) ≡ seen
-  can : CanBe service tei (station g t w.near) deed
+-- What one deed of an end is on the wire of frames, where this is the other end.
+pub record Done (service : Service) (tei : ℕ) (s s' : Socket) (y : Station) (way : List (List ℕ)) (g : List (List ℕ)) (t : List LineTold) (seen : List Seen) : Type 0 where
+  pub deed : Option order.Deed
+  pub granted : List (List ℕ)
+  pub told : List LineTold
+  pub same : if_done deed (record { near = station g t s; far = y }) ≡ record { near = station granted told s'; far = record y { way = way } }
+  pub shown : if_seen deed (record { near = station g t s; far = y }) ≡ seen
+  pub can : CanBe service tei (station g t s) deed
 
-module _ (service : Service) (tei : ℕ) (w : Noisy) (g h : List (List ℕ)) (t u : List LineTold) where
-  abbrev s : Socket
-  s = w.near
-
+module _ (service : Service) (tei : ℕ) (s : Socket) (y : Station) (g : List (List ℕ)) (t : List LineTold) where
   abbrev card : Card
   card = s.card.card
 
   abbrev x : Wire
-  x = record { near = station g t s; far = station h u w.far }
+  x = record { near = station g t s; far = y }
 
-  -- the near end where an event meant this
+  -- the end where an event meant this
   abbrev card_then : Option frames.Event → Card
   card_then o = option_map_or (card_after card) o card
 
@@ -89,11 +86,8 @@ module _ (service : Service) (tei : ℕ) (w : Noisy) (g h : List (List ℕ)) (t 
   abbrev near_then : List (List ℕ) → List LineTold → Option frames.Event → Station
   near_then granted told o = record { card = card_then o; line = s.line; way = way_then o; granted = granted; told = told }
 
-  abbrev far_with : List (List ℕ) → Station
-  far_with way = record { card = w.far.card.card; line = w.far.line; way = way; granted = h; told = u }
-
   abbrev with_near : Station → List (List ℕ) → Wire
-  with_near y way = record { near = y; far = far_with way }
+  with_near z way = record { near = z; far = record y { way = way } }
 
   abbrev then_granted : line.Event → List (List ℕ)
   then_granted e = (wire.happens e (station g t s)).granted
@@ -114,35 +108,35 @@ module _ (service : Service) (tei : ℕ) (w : Noisy) (g h : List (List ℕ)) (t 
     shown : if_seen deed x ≡ flat_map (seen_of s) (option_to_list o)
     can : CanBe service tei (station g t s) deed
 
-  led : (o : Option line.Event) → IsOther service tei card.config o → Led o (deed_meant o) w.far.way
+  led : (o : Option line.Event) → IsOther service tei card.config o → Led o (deed_meant o) y.way
   led None other = record {
     granted = g;
     told = t;
-    same = λ i. with_near (record { card = card; line = s.line; way = sym (append-nil s.way) i; granted = g; told = t }) w.far.way;
+    same = λ i. with_near (record { card = card; line = s.line; way = sym (append-nil s.way) i; granted = g; told = t }) y.way;
     shown = refl;
     can = tt;
   }
   led (Some (line.hears e)) other =
-      record { granted = then_granted (line.hears e); told = then_told (line.hears e); same = ap (λ y. with_near y w.far.way) (happened (line.hears e)); shown = refl; can = other }
+      record { granted = then_granted (line.hears e); told = then_told (line.hears e); same = ap (λ z. with_near z y.way) (happened (line.hears e)); shown = refl; can = other }
   led (Some (line.expiry timer)) other =
-      let e = line.expiry timer in record { granted = then_granted e; told = then_told e; same = ap (λ y. with_near y w.far.way) (happened e); shown = refl; can = tt }
+      let e = line.expiry timer in record { granted = then_granted e; told = then_told e; same = ap (λ z. with_near z y.way) (happened e); shown = refl; can = tt }
   led (Some (line.request r)) other =
-      let e = line.request r in record { granted = then_granted e; told = then_told e; same = ap (λ y. with_near y w.far.way) (happened e); shown = refl; can = tt }
+      let e = line.request r in record { granted = then_granted e; told = then_told e; same = ap (λ z. with_near z y.way) (happened e); shown = refl; can = tt }
   led (Some line.next) other =
-      record { granted = then_granted line.next; told = then_told line.next; same = ap (λ y. with_near y w.far.way) (happened line.next); shown = refl; can = tt }
+      record { granted = then_granted line.next; told = then_told line.next; same = ap (λ z. with_near z y.way) (happened line.next); shown = refl; can = tt }
 
   -- a frame of the other end has come
-  come : (o : Option line.Event) → Comes card.config.n201 o → IsFirst o w.far.way → Led o (Some (order.acts wire.takes)) (drop 1 w.far.way)
+  come : (o : Option line.Event) → Comes card.config.n201 o → IsFirst o y.way → Led o (Some (order.acts wire.takes)) (drop 1 y.way)
   come (Some (line.hears (stream.frame octets))) whole first =
       let e = line.hears (stream.frame octets) in
-      let way : w.far.way ≡ octets ∷ first.0 = first.1 in
+      let way : y.way ≡ octets ∷ first.0 = first.1 in
       record {
         granted = then_granted e;
         told = then_told e;
         same =
-            ap (λ fs. with_near (wire.with_first_of fs (station g t s)) (drop 1 w.far.way)) way
-            ∙ ap (λ e. with_near (wire.happens (line.hears e) (station g t s)) (drop 1 w.far.way)) whole
-            ∙ ap (λ y. with_near y (drop 1 w.far.way)) (happened e);
+            ap (λ fs. with_near (wire.with_first_of fs (station g t s)) (drop 1 y.way)) way
+            ∙ ap (λ e. with_near (wire.happens (line.hears e) (station g t s)) (drop 1 y.way)) whole
+            ∙ ap (λ z. with_near z (drop 1 y.way)) (happened e);
         shown =
             ap (λ fs. flat_map (order.shown_by (station g t s)) (order.first_heard card.config.n201 fs)) way
             ∙ ap (λ e. flat_map (order.shown_by (station g t s)) (line.hears e ∷ [])) whole;
@@ -155,156 +149,178 @@ module _ (service : Service) (tei : ℕ) (w : Noisy) (g h : List (List ℕ)) (t 
   come (Some (line.request r)) whole first = absurd first
   come (Some line.next) whole first = absurd first
 
-  by-event : (what : port.Event) → IsPossibleAt service tei (happens what) w → Done service tei w (befalling (happens what) w) g h t u (seen_by (happens what) s)
+  by-event : (what : port.Event) → IsPossibleAt service tei (happens what) s y.way → Done service tei s (with_deed (happens what) s) y y.way g t (seen_by (happens what) s)
   unfolding after meant
   by-event what other =
       let o = meaning what s in
       let one = led o other in
       record { deed = deed_meant o; granted = one.granted; told = one.told; same = one.same; shown = one.shown; can = one.can }
 
-  by-frame : (value : ℕ) → IsPossibleAt service tei (completes value) w → Done service tei w (befalling (completes value) w) g h t u (seen_by (completes value) s)
+  by-frame : (value : ℕ) → IsPossibleAt service tei (completes value) s y.way → Done service tei s (with_deed (completes value) s) y (drop 1 y.way) g t (seen_by (completes value) s)
   unfolding after meant
   by-frame value first =
       let one = come (meaning (port.octet value) s) (meaning-comes card.config.n201 (port.octet value) (port_at s.line s.card)) first in
       record { deed = Some (order.acts wire.takes); granted = one.granted; told = one.told; same = one.same; shown = one.shown; can = tt }
 
-  by-other : (e : Event) → IsPossibleAt service tei (elsewhere e) w → Done service tei w (befalling (elsewhere e) w) g h t u []
+  by-other : (e : Event) → IsPossibleAt service tei (elsewhere e) s y.way → Done service tei s (with_deed (elsewhere e) s) y y.way g t []
   unfolding after meant
   by-other e is = go (port.meant card.config.n201 e.what (port_at e.line s.card))
     where
       go : (o : Option line.Event) → let m = card_then (option_map (frames.at e.line) o) in
-          Done service tei w (record { near = record { card = record { card = m; ports = (after e s.card).ports }; line = s.line; way = s.way }; far = w.far }) g h t u []
+          Done service tei s (record { card = record { card = m; ports = (after e s.card).ports }; line = s.line; way = s.way }) y y.way g t []
       go None = record { deed = None; granted = g; told = t; same = refl; shown = refl; can = tt }
       go (Some f) =
           record { deed = Some (order.elsewhere (frames.at e.line f)); granted = g; told = t; same = refl; shown = refl; can = record { within = is.0; other = is.1 } }
 
-  one-done : (deed : Deed) → IsPossibleAt service tei deed w → Done service tei w (befalling deed w) g h t u (seen_by deed s)
+  pub one-done : (deed : Deed) → IsPossibleAt service tei deed s y.way → Done service tei s (with_deed deed s) y (left_by deed y.way) g t (seen_by deed s)
   one-done (happens what) is = by-event what is
   one-done (completes value) is = by-frame value is
   one-done (elsewhere e) is = by-other e is
   one-done loses is = record { deed = Some (order.acts wire.loses); granted = g; told = t; same = refl; shown = refl; can = tt }
 
--- ---- nothing moves an end to another line, or changes its configuration
+-- ---- a run of two ends, of which each step is one on the wire of frames, or none
 
-record Stays (s s' : Socket) : Type 0 where
-  config : s'.card.card.config ≡ s.card.card.config
-  line : s'.line ≡ s.line
+abbrev pub if_happens : Option order.Happening → Wire → Wire
+if_happens None v = v
+if_happens (Some h) v = order.happening h v
 
-stays-so : (s : Socket) → Stays s s
-stays-so s = record { config = refl; line = refl }
+abbrev pub if_near : Option order.Happening → Wire → List Seen
+if_near None v = []
+if_near (Some h) v = order.seen_at_near h v
 
-stays-on : (s s' s'' : Socket) → Stays s s' → Stays s' s'' → Stays s s''
-stays-on s s' s'' a b = record { config = b.config ∙ a.config; line = b.line ∙ a.line }
+abbrev pub if_far : Option order.Happening → Wire → List Seen
+if_far None v = []
+if_far (Some h) v = order.seen_at_far h v
 
-after-config : (e : Event) (m : OctetCard) → (after e m).card.config ≡ m.card.config
-unfolding after meant
-after-config e m = go (port.meant m.card.config.n201 e.what (port_at e.line m))
-  where
-    go : (o : Option line.Event) → (option_map_or (card_after m.card) (option_map (frames.at e.line) o) m.card).config ≡ m.card.config
-    go None = refl
-    go (Some f) = refl
+abbrev pub CanHappen : Service → ℕ → Wire → Option order.Happening → Type 0
+CanHappen service tei v None = Unit {0}
+CanHappen service tei v (Some h) = order.IsPossible service tei v h
 
-near-stays : (deed : Deed) (w : Noisy) → Stays w.near (befalling deed w).near
-near-stays (happens what) w = record { config = after-config _ w.near.card; line = refl }
-near-stays (completes value) w = record { config = after-config _ w.near.card; line = refl }
-near-stays (elsewhere e) w = record { config = after-config e w.near.card; line = refl }
-near-stays loses w = record { config = refl; line = refl }
+pub record One (service : Service) (tei : ℕ) (v v' : Wire) (near far : List Seen) : Type 0 where
+  pub step : Option order.Happening
+  pub same : if_happens step v ≡ v'
+  pub can : CanHappen service tei v step
+  pub near_is : if_near step v ≡ near
+  pub far_is : if_far step v ≡ far
 
-far-stays : (deed : Deed) (w : Noisy) → Stays w.far (befalling deed w).far
-far-stays (happens what) w = stays-so w.far
-far-stays (completes value) w = record { config = refl; line = refl }
-far-stays (elsewhere e) w = stays-so w.far
-far-stays loses w = stays-so w.far
+pub record Ran (service : Service) (tei : ℕ) (first v : Wire) (near far : List Seen) : Type 0 where
+  pub run : List order.Happening
+  pub can : All (order.IsPossible service tei first) run
+  pub near_is : order.seen_near run v ≡ near
+  pub far_is : order.seen_far run v ≡ far
 
--- so what is possible later is possible from the beginning
-can-first : (service : Service) (tei : ℕ) (s s' : Socket) (g g' : List (List ℕ)) (t t' : List LineTold) → Stays s s' → (o : Option order.Deed) → CanBe service tei (station g' t' s') o
-    → CanBe service tei (station g t s) o
-can-first service tei s s' g g' t t' at None can = tt
-can-first service tei s s' g g' t t' at (Some (order.acts act)) can = tt
-can-first service tei s s' g g' t t' at (Some (order.disturbed what)) can = subst (λ (c : Config). order.IsNotOf service tei c what) at.config can
-can-first service tei s s' g g' t t' at (Some (order.elsewhere e)) can =
-    record { within = subst (λ (c : Config). e.line < c.lines) at.config can.within; other = λ same. can.other (same ∙ sym at.line) }
+pub record Stay (first v : Wire) : Type 0 where
+  pub near : StaysAt first.near v.near
+  pub far : StaysAt first.far v.far
 
--- ---- a whole run
+pub stays : (v : Wire) → Stay v v
+stays v = record { near = record { config = refl; line = refl }; far = record { config = refl; line = refl } }
+
+then-at : (a b c : Station) → StaysAt a b → StaysAt b c → StaysAt a c
+then-at a b c x y = record { config = y.config ∙ x.config; line = y.line ∙ x.line }
+
+back-at : (a b : Station) → StaysAt a b → StaysAt b a
+back-at a b x = record { config = sym x.config; line = sym x.line }
+
+stays-on : (first v : Wire) → Stay first v → (h : order.Happening) → Stay first (order.happening h v)
+stays-on first v x (order.by_near deed) = record {
+  near = then-at first.near v.near (order.befalling deed v).near x.near (near-place deed v);
+  far = then-at first.far v.far (order.befalling deed v).far x.far (far-place deed v);
+}
+stays-on first v x (order.by_far deed) =
+    let u = wire.turned v in
+    record {
+      near = then-at first.near v.near (order.befalling deed u).far x.near (far-place deed u);
+      far = then-at first.far v.far (order.befalling deed u).near x.far (near-place deed u);
+    }
+
+module _ (service : Service) (tei : ℕ) (first : Wire) where
+  pub none-ran : (v : Wire) → Ran service tei first v [] []
+  unfolding frames_near frames_far
+  none-ran v = record { run = []; can = All-nil (order.IsPossible service tei first); near_is = refl; far_is = refl }
+
+  pub one-ran : (v v' : Wire) (near far near' far' : List Seen) → Stay first v → One service tei v v' near far → (Stay first v' → Ran service tei first v' near' far')
+      → Ran service tei first v (near ++ near') (far ++ far')
+  unfolding frames_near frames_far
+  one-ran v v' near far near' far' stay x others = go x.step x.same x.can x.near_is x.far_is
+    where
+      go : (o : Option order.Happening) → if_happens o v ≡ v' → CanHappen service tei v o → if_near o v ≡ near → if_far o v ≡ far → Ran service tei first v (near ++ near') (far ++ far')
+      go None same can near-is far-is =
+          let rest = others (subst (Stay first) same stay) in
+          record {
+            run = rest.run;
+            can = rest.can;
+            near_is = ap (order.seen_near rest.run) same ∙ rest.near_is ∙ ap (λ xs. xs ++ near') near-is;
+            far_is = ap (order.seen_far rest.run) same ∙ rest.far_is ∙ ap (λ xs. xs ++ far') far-is;
+          }
+      go (Some h) same can near-is far-is =
+          let rest = others (subst (Stay first) same (stays-on first v stay h)) in
+          record {
+            run = h ∷ rest.run;
+            can = All-cons (order.IsPossible service tei first) h rest.run
+                (still-possible service tei v first (back-at first.near v.near stay.near) (back-at first.far v.far stay.far) h can) rest.can;
+            near_is = ap (λ u. order.seen_at_near h v ++ order.seen_near rest.run u) same ∙ ap (λ xs. order.seen_at_near h v ++ xs) rest.near_is ∙ ap (λ xs. xs ++ near') near-is;
+            far_is = ap (λ u. order.seen_at_far h v ++ order.seen_far rest.run u) same ∙ ap (λ xs. order.seen_at_far h v ++ xs) rest.far_is ∙ ap (λ xs. xs ++ far') far-is;
+          }
+
+  -- an end for octets
+  module _ (s s' : Socket) (y : Station) (way : List (List ℕ)) (g : List (List ℕ)) (t : List LineTold) (seen : List Seen) (x : Done service tei s s' y way g t seen) where
+    abbrev pub near_end : Station
+    near_end = station g t s
+
+    abbrev pub then_end : Station
+    then_end = station x.granted x.told s'
+
+    pub near-one : One service tei (record { near = near_end; far = y }) (record { near = then_end; far = record y { way = way } }) seen []
+    near-one = go x.deed x.same x.shown x.can
+      where
+        go : (o : Option order.Deed) → if_done o (record { near = near_end; far = y }) ≡ record { near = then_end; far = record y { way = way } }
+            → if_seen o (record { near = near_end; far = y }) ≡ seen → CanBe service tei near_end o
+            → One service tei (record { near = near_end; far = y }) (record { near = then_end; far = record y { way = way } }) seen []
+        go None same shown can = record { step = None; same = same; can = tt; near_is = shown; far_is = refl }
+        go (Some deed) same shown can = record { step = Some (order.by_near deed); same = same; can = can; near_is = shown; far_is = refl }
+
+    pub far-one : One service tei (record { near = y; far = near_end }) (record { near = record y { way = way }; far = then_end }) [] seen
+    far-one = go x.deed x.same x.shown x.can
+      where
+        go : (o : Option order.Deed) → if_done o (record { near = near_end; far = y }) ≡ record { near = then_end; far = record y { way = way } }
+            → if_seen o (record { near = near_end; far = y }) ≡ seen → CanBe service tei near_end o
+            → One service tei (record { near = y; far = near_end }) (record { near = record y { way = way }; far = then_end }) [] seen
+        go None same shown can = record { step = None; same = ap wire.turned same; can = tt; near_is = refl; far_is = shown }
+        go (Some deed) same shown can = record { step = Some (order.by_far deed); same = ap wire.turned same; can = can; near_is = refl; far_is = shown }
+
+-- so what is told is in order
+pub delivered-as : (service : Service) (tei : ℕ) (w : Wire) (near far : List Seen) → FaceInStep service tei w → Ran service tei w w near far
+    → (StaysEstablished service tei near → IsFront (data_noted service tei near) (kept_by service tei w.far w.near ++ data_granted service tei far))
+    × (StaysEstablished service tei far → IsFront (data_noted service tei far) (kept_by service tei w.near w.far ++ data_granted service tei near))
+delivered-as service tei w near far step ran =
+    let both : (List Seen → List Seen → Type 0) =
+    λ near far. (StaysEstablished service tei near → IsFront (data_noted service tei near) (kept_by service tei w.far w.near ++ data_granted service tei far))
+    × (StaysEstablished service tei far → IsFront (data_noted service tei far) (kept_by service tei w.near w.far ++ data_granted service tei near)) in
+    subst (λ near. both near far) ran.near_is (subst (both (order.seen_near ran.run w)) ran.far_is (delivered-in-order service tei w ran.run step ran.can))
+
+-- ---- two ends for octets
 
 abbrev wire_of : List (List ℕ) → List (List ℕ) → List LineTold → List LineTold → Noisy → Wire
 wire_of g h t u w = record { near = station g t w.near; far = station h u w.far }
 
-record Ran (service : Service) (tei : ℕ) (first w : Noisy) (g h : List (List ℕ)) (t u : List LineTold) (hs : List Happening) : Type 0 where
-  run : List order.Happening
-  can : All (order.IsPossible service tei (as_wire first)) run
-  near : order.seen_near run (wire_of g h t u w) ≡ seen_near hs w
-  far : order.seen_far run (wire_of g h t u w) ≡ seen_far hs w
-
-abbrev IsPossible : Service → ℕ → Noisy → order.Happening → Type 0
-IsPossible service tei first h = order.IsPossible service tei (as_wire first) h
-
-begun-near : (service : Service) (tei : ℕ) (first w w' : Noisy) (g h g' : List (List ℕ)) (t u t' : List LineTold) (seen : List Seen) (hs : List Happening) → Stays first.near w.near
-    → (o : Option order.Deed) → if_done o (wire_of g h t u w) ≡ wire_of g' h t' u w' → if_seen o (wire_of g h t u w) ≡ seen → CanBe service tei (station g t w.near) o
-    → (rest : Ran service tei first w' g' h t' u hs)
-    → (run : List order.Happening) × All (IsPossible service tei first) run × (order.seen_near run (wire_of g h t u w) ≡ seen ++ seen_near hs w') × (order.seen_far run (wire_of g h t u w) ≡ seen_far hs w')
-unfolding frames_near frames_far
-begun-near service tei first w w' g h g' t u t' seen hs stays None same shown can rest = (
-  rest.run,
-  rest.can,
-  ap (order.seen_near rest.run) same ∙ rest.near ∙ ap (λ xs. xs ++ seen_near hs w') shown,
-  ap (order.seen_far rest.run) same ∙ rest.far,
-)
-begun-near service tei first w w' g h g' t u t' seen hs stays (Some deed) same shown can rest = (
-  order.by_near deed ∷ rest.run,
-  All-cons (IsPossible service tei first) (order.by_near deed) rest.run (can-first service tei first.near w.near [] g [] t stays (Some deed) can) rest.can,
-  ap (λ v. if_seen (Some deed) (wire_of g h t u w) ++ order.seen_near rest.run v) same ∙ ap (λ xs. if_seen (Some deed) (wire_of g h t u w) ++ xs) rest.near ∙ ap (λ xs. xs ++ seen_near hs w') shown,
-  ap (order.seen_far rest.run) same ∙ rest.far,
-)
-
-begun-far : (service : Service) (tei : ℕ) (first w w' : Noisy) (g h h' : List (List ℕ)) (t u u' : List LineTold) (seen : List Seen) (hs : List Happening) → Stays first.far w.far
-    → (o : Option order.Deed) → if_done o (wire_of h g u t (turned w)) ≡ wire_of h' g u' t (turned w') → if_seen o (wire_of h g u t (turned w)) ≡ seen → CanBe service tei (station h u w.far) o
-    → (rest : Ran service tei first w' g h' t u' hs)
-    → (run : List order.Happening) × All (IsPossible service tei first) run × (order.seen_near run (wire_of g h t u w) ≡ seen_near hs w') × (order.seen_far run (wire_of g h t u w) ≡ seen ++ seen_far hs w')
-unfolding frames_near frames_far
-begun-far service tei first w w' g h h' t u u' seen hs stays None same shown can rest =
-    let same' : wire_of g h t u w ≡ wire_of g h' t u' w' = ap wire.turned same in (
-      rest.run,
-      rest.can,
-      ap (order.seen_near rest.run) same' ∙ rest.near,
-      ap (order.seen_far rest.run) same' ∙ rest.far ∙ ap (λ xs. xs ++ seen_far hs w') shown,
-    )
-begun-far service tei first w w' g h h' t u u' seen hs stays (Some deed) same shown can rest =
-    let same' : wire.turned (order.befalling deed (wire_of h g u t (turned w))) ≡ wire_of g h' t u' w' = ap wire.turned same in
-    let seen' = if_seen (Some deed) (wire_of h g u t (turned w)) in (
-      order.by_far deed ∷ rest.run,
-      All-cons (IsPossible service tei first) (order.by_far deed) rest.run (can-first service tei first.far w.far [] h [] u stays (Some deed) can) rest.can,
-      ap (order.seen_near rest.run) same' ∙ rest.near,
-      ap (λ v. seen' ++ order.seen_far rest.run v) same' ∙ ap (λ xs. seen' ++ xs) rest.far ∙ ap (λ xs. xs ++ seen_far hs w') shown,
-    )
-
-all-ran : (service : Service) (tei : ℕ) (first : Noisy) (hs : List Happening) (w : Noisy) (g h : List (List ℕ)) (t u : List LineTold) → Stays first.near w.near → Stays first.far w.far → ArePossible service tei hs w → Ran service tei first w g h t u hs
-unfolding ArePossible seen_near seen_far frames_near frames_far
-all-ran service tei first [] w g h t u near far can = record { run = []; can = All-nil (IsPossible service tei first); near = refl; far = refl }
-all-ran service tei first (by_near deed ∷ hs) w g h t u near far can =
+all-ran : (service : Service) (tei : ℕ) (first : Wire) (hs : List Happening) (w : Noisy) (g h : List (List ℕ)) (t u : List LineTold) → Stay first (wire_of g h t u w) → ArePossible service tei hs w
+    → Ran service tei first (wire_of g h t u w) (seen_near hs w) (seen_far hs w)
+unfolding ArePossible seen_near seen_far
+all-ran service tei first [] w g h t u stay can = none-ran service tei first (wire_of g h t u w)
+all-ran service tei first (by_near deed ∷ hs) w g h t u stay can =
     let w' = befalling deed w in
-    let one = one-done service tei w g h t u deed can.0 in
-    let rest = all-ran service tei first hs w' one.granted h one.told u (stays-on first.near w.near w'.near near (near-stays deed w)) (stays-on first.far w.far w'.far far (far-stays deed w)) can.1 in
-    let x = begun-near service tei first w w' g h one.granted t u one.told (seen_by deed w.near) hs near one.deed one.same one.shown one.can rest in
-    record { run = x.0; can = x.1; near = x.2; far = x.3 }
-all-ran service tei first (by_far deed ∷ hs) w g h t u near far can =
-    let v = turned w in
-    let v' = befalling deed v in
-    let w' = turned v' in
-    let one = one-done service tei v h g u t deed can.0 in
-    let rest = all-ran service tei first hs w' g one.granted t one.told (stays-on first.near w.near w'.near near (far-stays deed v)) (stays-on first.far w.far w'.far far (near-stays deed v)) can.1 in
-    let x = begun-far service tei first w w' g h one.granted t u one.told (seen_by deed w.far) hs far one.deed one.same one.shown one.can rest in
-    record { run = x.0; can = x.1; near = x.2; far = x.3 }
-
-abbrev IsFrontOf : Service → ℕ → List Seen → List Seen → Socket → Socket → Type 0
-IsFrontOf service tei a b s r = IsFront (data_noted service tei a) (kept_by service tei (as_station s) (as_station r) ++ data_granted service tei b)
+    let y = station h u w.far in
+    let x = one-done service tei w.near y g t deed can.0 in
+    one-ran service tei first (wire_of g h t u w) (wire_of x.granted h x.told u w') (seen_by deed w.near) [] (seen_near hs w') (seen_far hs w') stay
+    (near-one service tei first w.near w'.near y (left_by deed w.far.way) g t (seen_by deed w.near) x) (λ stay'. all-ran service tei first hs w' x.granted h x.told u stay' can.1)
+all-ran service tei first (by_far deed ∷ hs) w g h t u stay can =
+    let w' = turned (befalling deed (turned w)) in
+    let y = station g t w.near in
+    let x = one-done service tei w.far y h u deed can.0 in
+    one-ran service tei first (wire_of g h t u w) (wire_of g x.granted t x.told w') [] (seen_by deed w.far) (seen_near hs w') (seen_far hs w') stay
+    (far-one service tei first w.far w'.far y (left_by deed w.near.way) h u (seen_by deed w.far) x) (λ stay'. all-ran service tei first hs w' g x.granted t x.told stay' can.1)
 
 pub delivered-though-damaged : DeliveredThoughDamaged
-delivered-though-damaged service tei w hs rest can =
-    let ran = all-ran service tei w hs w [] [] [] [] (stays-so w.near) (stays-so w.far) can in
-    let x = delivered-in-order service tei (as_wire w) ran.run rest ran.can in (
-      λ near. subst (λ a. IsFrontOf service tei a (seen_far hs w) w.far w.near) ran.near
-          (subst (λ b. IsFrontOf service tei (order.seen_near ran.run (as_wire w)) b w.far w.near) ran.far (x.0 (subst (StaysEstablished service tei) (sym ran.near) near))),
-      λ far. subst (λ a. IsFrontOf service tei a (seen_near hs w) w.near w.far) ran.far
-          (subst (λ b. IsFrontOf service tei (order.seen_far ran.run (as_wire w)) b w.near w.far) ran.near (x.1 (subst (StaysEstablished service tei) (sym ran.far) far))),
-    )
+delivered-though-damaged service tei w hs step can =
+    delivered-as service tei (as_wire w) (seen_near hs w) (seen_far hs w) step (all-ran service tei (as_wire w) hs w [] [] [] [] (stays (as_wire w)) can)

@@ -1,20 +1,26 @@
 -- The premises of the law on damaged octets are met by the worked run.
-use Rattle.laws_order.proofs.Vocabulary.{◌≡◌, ℕ, ◌<◌, ◌&&◌, ◌==◌, Bool, true, false, IsTrue, List, [], ◌∷◌, ◌++◌, Option, None, Some, eqb-true, refl, arith, sym, ap, ◌∙◌, subst, and_parts, Call, Parts, other_side, reading, header_of, control_of, unnumbered_of, supervisory_of, distance_of, named, seq, low_bits, is_multiple_frame, Config, heard_side, IsFront, user, network, Station}
+use Rattle.laws_order.proofs.Vocabulary.{◌≡◌, ℕ, ◌<◌, ◌&&◌, ◌==◌, Bool, true, false, IsTrue, List, [], ◌∷◌, ◌++◌, Option, None, Some, eqb-true, refl, arith, sym, ap, ◌∙◌, subst, and_parts, Call, Parts, other_side, reading, header_of, control_of, unnumbered_of, supervisory_of, distance_of, named, seq, low_bits, is_multiple_frame, Config, terms, heard_side, IsFront, user, network, Station}
 use Rattle.lapd_tei.specs.Events as teis
 use Rattle.model_bits.specs.Stream as stream
 use Rattle.model_line.specs.Event as line
 use Rattle.model_line.specs.Machine as lines
 use Rattle.model_card.specs.ports.Card as ports
 use Rattle.model_card.specs.ports.Port as port
+use Rattle.laws_order.specs.Happenings as order
 use Rattle.laws_order.specs.Happenings.{of_link_at}
-use Rattle.laws_order.specs.Order.{data_noted, data_granted, link_here, HasReceivedOf, FaceAtRest, kept_by}
+use Rattle.laws_order.specs.Order.{data_noted, data_granted, link_here, said_by, AreOfStep, HasReceivedOf, FaceInStep, kept_by}
 use Rattle.laws_order.specs.circuit.Circuit.{Circuit, doing_all}
-use Rattle.laws_order.specs.circuit.Damaged.{Noisy, Deed, happens, completes, elsewhere, loses, meaning, IsOther, IsFirst, IsPossibleAt, turned, Happening, by_near, by_far, happening, as_station, as_wire, seen_near, seen_far}
+use Rattle.laws_order.specs.circuit.Damaged.{Socket, Noisy, Deed, happens, completes, elsewhere, loses, meaning, IsOther, IsFirst, IsPossibleAt, Happening, by_near, by_far, happening, as_station, as_wire, seen_near, seen_far}
 unfoldable use Rattle.laws_order.specs.circuit.Damaged.{ArePossible}
+use Rattle.laws_order.specs.circuit.Mixed as mixed
+use Rattle.laws_order.specs.circuit.Mixed.{Mixed}
+unfoldable use Rattle.laws_order.specs.circuit.Mixed.{ArePossible as mixed_possible}
+use Rattle.laws_order.specs.circuit.WorkedMixed as worked
 use Rattle.laws_order.specs.circuit.WorkedCall as call
 use Rattle.laws_order.specs.circuit.WorkedCall.{establishes}
 use Rattle.laws_order.specs.circuit.WorkedDamaged.{begins, goes_again, far_stays}
 use Rattle.laws_order.proofs.OfCircuit.Damaged.{delivered-though-damaged}
+use Rattle.laws_order.proofs.OfCircuit.Mixed.{delivered-between-kinds}
 use Rattle.laws_order.proofs.OfCircuit.PremisesMet.{can, by-mutes}
 use Rattle.laws_order.proofs.OfCircuit.Ran as ran
 use Rattle.laws_order.proofs.OfCircuit.Ran.{Ran}
@@ -54,15 +60,15 @@ abbrev is_first : Option line.Event → List (List ℕ) → Bool
 is_first (Some (line.hears (stream.frame octets))) way = is_head octets way
 is_first other way = false
 
-abbrev is_possible_at : Deed → Noisy → Bool
-is_possible_at (happens what) w = is_other w.near.card.card.config (meaning what w.near)
-is_possible_at (completes value) w = is_first (meaning (port.octet value) w.near) w.far.way
-is_possible_at (elsewhere e) w = false
-is_possible_at loses w = true
+abbrev pub is_possible_at : Deed → Socket → List (List ℕ) → Bool
+is_possible_at (happens what) s way = is_other s.card.card.config (meaning what s)
+is_possible_at (completes value) s way = is_first (meaning (port.octet value) s) way
+is_possible_at (elsewhere e) s way = false
+is_possible_at loses s way = true
 
 abbrev is_possible : Happening → Noisy → Bool
-is_possible (by_near deed) w = is_possible_at deed w
-is_possible (by_far deed) w = is_possible_at deed (turned w)
+is_possible (by_near deed) w = is_possible_at deed w.near w.far.way
+is_possible (by_far deed) w = is_possible_at deed w.far w.near.way
 
 unfoldable are_possible : List Happening → Noisy → Bool
 are_possible [] w = true
@@ -94,25 +100,25 @@ first-so (Some (line.expiry timer)) way e = absurd (cc e)
 first-so (Some (line.request r)) way e = absurd (cc e)
 first-so (Some line.next) way e = absurd (cc e)
 
-at-so : (deed : Deed) (w : Noisy) → is_possible_at deed w ≡ true → IsPossibleAt Call 0 deed w
-at-so (happens what) w e = other-so w.near.card.card.config (meaning what w.near) e
-at-so (completes value) w e = first-so (meaning (port.octet value) w.near) w.far.way e
-at-so (elsewhere other) w e = absurd (cc e)
-at-so loses w e = tt
+pub at-so : (deed : Deed) (s : Socket) (way : List (List ℕ)) → is_possible_at deed s way ≡ true → IsPossibleAt Call 0 deed s way
+at-so (happens what) s way e = other-so s.card.card.config (meaning what s) e
+at-so (completes value) s way e = first-so (meaning (port.octet value) s) way e
+at-so (elsewhere other) s way e = absurd (cc e)
+at-so loses s way e = tt
 
 all-so : (hs : List Happening) (w : Noisy) → are_possible hs w ≡ true → ArePossible Call 0 hs w
 unfolding ArePossible are_possible
 all-so [] w e = tt
 all-so (by_near deed ∷ hs) w e =
-    let both = and_parts (is_possible_at deed w) (are_possible hs (happening (by_near deed) w)) e in (at-so deed w both.0, all-so hs (happening (by_near deed) w) both.1)
+    let both = and_parts (is_possible_at deed w.near w.far.way) (are_possible hs (happening (by_near deed) w)) e in (at-so deed w.near w.far.way both.0, all-so hs (happening (by_near deed) w) both.1)
 all-so (by_far deed ∷ hs) w e =
-    let both = and_parts (is_possible_at deed (turned w)) (are_possible hs (happening (by_far deed) w)) e in (at-so deed (turned w) both.0, all-so hs (happening (by_far deed) w) both.1)
+    let both = and_parts (is_possible_at deed w.far w.near.way) (are_possible hs (happening (by_far deed) w)) e in (at-so deed w.far w.near.way both.0, all-so hs (happening (by_far deed) w) both.1)
 
 computed : are_possible goes_again begins ≡ true
 unfolding lines.after lines.answer lines.takes_slot reading header_of control_of unnumbered_of supervisory_of teis.course teis.refusal seq distance_of named low_bits ports.after ports.answer ports.meant doing_all are_possible
 computed = refl
 
--- ---- the two ends are at rest
+-- ---- the two ends are in step
 
 abbrev established : Circuit
 established = doing_all establishes call.begins
@@ -127,8 +133,8 @@ far-ran = (through.done Call user network 0 0 0 establishes can (by-mutes establ
 record Looks : Type 0 where
   near_up : IsTrue (is_multiple_frame (link_here Call 0 (as_station begins.near)).state)
   far_up : IsTrue (is_multiple_frame (link_here Call 0 (as_station begins.far)).state)
-  near_waiting : (link_here Call 0 (as_station begins.near)).waiting ≡ []
-  far_waiting : (link_here Call 0 (as_station begins.far)).waiting ≡ []
+  near_said : AreOfStep (terms (as_station begins.near).card.config Call 0) (link_here Call 0 (as_station begins.near)) (said_by Call 0 (as_station begins.near))
+  far_said : AreOfStep (terms (as_station begins.far).card.config Call 0) (link_here Call 0 (as_station begins.far)) (said_by Call 0 (as_station begins.far))
   near_a : (link_here Call 0 (as_station begins.near)).a ≡ 0
   near_r : (link_here Call 0 (as_station begins.near)).r ≡ 0
   far_a : (link_here Call 0 (as_station begins.far)).a ≡ 0
@@ -136,13 +142,13 @@ record Looks : Type 0 where
 
 looks : Looks
 unfolding lines.after lines.answer lines.takes_slot reading header_of control_of unnumbered_of supervisory_of teis.course teis.refusal seq distance_of named low_bits ports.after ports.answer ports.meant doing_all
-looks = record { near_up = refl; far_up = refl; near_waiting = refl; far_waiting = refl; near_a = refl; near_r = refl; far_a = refl; far_r = refl }
+looks = record { near_up = refl; far_up = refl; near_said = tt; far_said = tt; near_a = refl; near_r = refl; far_a = refl; far_r = refl }
 
 received : (s u : Station) → (link_here Call 0 s).a ≡ 0 → (link_here Call 0 u).r ≡ 0 → HasReceivedOf Call 0 s u
 received s u a r = record { acknowledged = omega (arith, a, r); kept = omega (arith, r); window = omega (arith, r) }
 
-rests : FaceAtRest Call 0 (as_wire begins)
-rests =
+pub in-step : FaceInStep Call 0 (as_wire begins)
+in-step =
     let near : established.near.card.card.config ≡ user = ran.config user can.near established.near near-ran in
     let far : established.far.card.card.config ≡ network = ran.config network can.far established.far far-ran in
     record {
@@ -150,15 +156,13 @@ rests =
         sound = (ran.sound user can.near established.near near-ran).card;
         within = subst (λ (x : Config). established.near.line < x.lines) (sym near) near-ran.within;
         up = looks.near_up;
-        waiting = looks.near_waiting;
-        way = refl;
+        said = looks.near_said;
       };
       far = record {
         sound = (ran.sound network can.far established.far far-ran).card;
         within = subst (λ (x : Config). established.far.line < x.lines) (sym far) far-ran.within;
         up = looks.far_up;
-        waiting = looks.far_waiting;
-        way = refl;
+        said = looks.far_said;
       };
       sides = ap (λ (x : Config). x.side) far ∙ can.sides ∙ ap (λ (x : Config). other_side x.side) (sym near);
       there = received (as_station begins.near) (as_station begins.far) looks.near_a looks.far_r;
@@ -167,4 +171,37 @@ rests =
 
 -- so the law says what the worked values show
 pub in-order : IsFront (data_noted Call 0 (seen_far goes_again begins)) (kept_by Call 0 (as_station begins.near) (as_station begins.far) ++ data_granted Call 0 (seen_near goes_again begins))
-in-order = (delivered-though-damaged Call 0 begins goes_again rests (all-so goes_again begins computed)).1 far_stays
+in-order = (delivered-though-damaged Call 0 begins goes_again in-step (all-so goes_again begins computed)).1 far_stays
+
+-- ---- and so of a card of frames and one of octets
+
+abbrev is_act : order.Deed → Bool
+is_act (order.acts act) = true
+is_act other = false
+
+unfoldable are_mixed : List mixed.Happening → Mixed → Bool
+are_mixed [] w = true
+are_mixed (mixed.by_frames deed ∷ hs) w = is_act deed && are_mixed hs (mixed.happening (mixed.by_frames deed) w)
+are_mixed (mixed.by_octets deed ∷ hs) w = is_possible_at deed w.far w.near.way && are_mixed hs (mixed.happening (mixed.by_octets deed) w)
+
+act-so : (deed : order.Deed) (s : Station) → is_act deed ≡ true → order.IsPossibleAt Call 0 s deed
+act-so (order.acts act) s e = tt
+act-so (order.disturbed what) s e = absurd (cc e)
+act-so (order.elsewhere other) s e = absurd (cc e)
+
+mixed-so : (hs : List mixed.Happening) (w : Mixed) → are_mixed hs w ≡ true → mixed.ArePossible Call 0 hs w
+unfolding mixed_possible are_mixed
+mixed-so [] w e = tt
+mixed-so (mixed.by_frames deed ∷ hs) w e =
+    let both = and_parts (is_act deed) (are_mixed hs (mixed.happening (mixed.by_frames deed) w)) e in (act-so deed w.near both.0, mixed-so hs (mixed.happening (mixed.by_frames deed) w) both.1)
+mixed-so (mixed.by_octets deed ∷ hs) w e =
+    let both = and_parts (is_possible_at deed w.far w.near.way) (are_mixed hs (mixed.happening (mixed.by_octets deed) w)) e in
+    (at-so deed w.far w.near.way both.0, mixed-so hs (mixed.happening (mixed.by_octets deed) w) both.1)
+
+mixed-computed : are_mixed worked.goes_again worked.begins ≡ true
+unfolding lines.after lines.answer lines.takes_slot reading header_of control_of unnumbered_of supervisory_of teis.course teis.refusal seq distance_of named low_bits ports.after ports.answer ports.meant doing_all are_mixed
+mixed-computed = refl
+
+pub mixed-in-order : IsFront (data_noted Call 0 (mixed.seen_far worked.goes_again worked.begins))
+    (kept_by Call 0 worked.begins.near (as_station worked.begins.far) ++ data_granted Call 0 (mixed.seen_near worked.goes_again worked.begins))
+mixed-in-order = (delivered-between-kinds Call 0 worked.begins worked.goes_again in-step (mixed-so worked.goes_again worked.begins mixed-computed)).1 worked.far_stays

@@ -12,7 +12,7 @@ use Rattle.model_card.specs.ports.Port as port
 use Rattle.laws_trace.specs.Trace.{Seen, seen, IsFront}
 use Rattle.laws_wire.specs.Wire.{Station, Wire, frames_by}
 use Rattle.laws_order.specs.Happenings.{IsNotOf}
-use Rattle.laws_order.specs.Order.{FaceAtRest, StaysEstablished, data_noted, data_granted, kept_by}
+use Rattle.laws_order.specs.Order.{FaceInStep, StaysEstablished, data_noted, data_granted, kept_by}
 
 -- A card at one end, which is at one of its lines; and the frames that its pulls began, but those that were given up as lost or
 -- that came whole to the other end, the oldest first.
@@ -50,27 +50,32 @@ IsFirst other way = ⊥
 abbrev pub IsElsewhere : Event → Socket → Type 0
 IsElsewhere e s = (e.line < s.card.card.config.lines) × (e.line ≢ s.line)
 
-abbrev pub IsPossibleAt : Service → ℕ → Deed → Noisy → Type 0
-IsPossibleAt service tei (happens what) w = IsOther service tei w.near.card.card.config (meaning what w.near)
-IsPossibleAt service tei (completes value) w = IsFirst (meaning (port.octet value) w.near) w.far.way
-IsPossibleAt service tei (elsewhere e) w = IsElsewhere e w.near
-IsPossibleAt service tei loses w = Unit {0}
+-- of an end that faces one with this on its way
+abbrev pub IsPossibleAt : Service → ℕ → Deed → Socket → List (List ℕ) → Type 0
+IsPossibleAt service tei (happens what) s way = IsOther service tei s.card.card.config (meaning what s)
+IsPossibleAt service tei (completes value) s way = IsFirst (meaning (port.octet value) s) way
+IsPossibleAt service tei (elsewhere e) s way = IsElsewhere e s
+IsPossibleAt service tei loses s way = Unit {0}
 
--- What becomes of the two ends: a frame that a pull begins is on its way, and one that has come is not any more.
+-- What becomes of the end: a frame that a pull begins is on its way; and of what is on the other's way: what has come is not any more.
 abbrev pub with_event : port.Event → Socket → Socket
 with_event what s = record s {
   card = after (at s.line what) s.card;
   way = s.way ++ flat_map frames_by (option_to_list (said (at s.line what) s.card));
 }
 
-abbrev pub with_first_gone : Socket → Socket
-with_first_gone s = record s { way = drop 1 s.way }
+abbrev pub with_deed : Deed → Socket → Socket
+with_deed (happens what) s = with_event what s
+with_deed (completes value) s = with_event (port.octet value) s
+with_deed (elsewhere e) s = record s { card = after e s.card }
+with_deed loses s = record s { way = drop 1 s.way }
+
+abbrev pub left_by : Deed → List (List ℕ) → List (List ℕ)
+left_by (completes value) way = drop 1 way
+left_by other way = way
 
 abbrev pub befalling : Deed → Noisy → Noisy
-befalling (happens what) w = record w { near = with_event what w.near }
-befalling (completes value) w = record { near = with_event (port.octet value) w.near; far = with_first_gone w.far }
-befalling (elsewhere e) w = record w { near = record w.near { card = after e w.near.card } }
-befalling loses w = record w { near = with_first_gone w.near }
+befalling deed w = record { near = with_deed deed w.near; far = record w.far { way = left_by deed w.far.way } }
 
 abbrev pub turned : Noisy → Noisy
 turned w = record { near = w.far; far = w.near }
@@ -81,8 +86,8 @@ pub data Happening : Type 0 where
   by_far : Deed → Happening
 
 abbrev pub IsPossible : Service → ℕ → Happening → Noisy → Type 0
-IsPossible service tei (by_near deed) w = IsPossibleAt service tei deed w
-IsPossible service tei (by_far deed) w = IsPossibleAt service tei deed (turned w)
+IsPossible service tei (by_near deed) w = IsPossibleAt service tei deed w.near w.far.way
+IsPossible service tei (by_far deed) w = IsPossibleAt service tei deed w.far w.near.way
 
 abbrev pub happening : Happening → Noisy → Noisy
 happening (by_near deed) w = befalling deed w
@@ -132,7 +137,7 @@ as_wire w = record { near = as_station w.near; far = as_station w.far }
 -- whole, up to where its own establishment ends or is renewed.
 abbrev pub DeliveredThoughDamaged : Type 0
 DeliveredThoughDamaged =
-    (service : Service) (tei : ℕ) (w : Noisy) (hs : List Happening) → FaceAtRest service tei (as_wire w) → ArePossible service tei hs w →
+    (service : Service) (tei : ℕ) (w : Noisy) (hs : List Happening) → FaceInStep service tei (as_wire w) → ArePossible service tei hs w →
     let near = seen_near hs w in let far = seen_far hs w in let n = as_station w.near in let m = as_station w.far in
     (StaysEstablished service tei near → IsFront (data_noted service tei near) (kept_by service tei m n ++ data_granted service tei far))
     × (StaysEstablished service tei far → IsFront (data_noted service tei far) (kept_by service tei n m ++ data_granted service tei near))

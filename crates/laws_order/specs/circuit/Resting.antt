@@ -1,9 +1,10 @@
 -- Where all has gone in a call its two links are at rest, so that `Damaged` holds from there on.
-use Rattle.std.specs.Prelude.{ℕ, List, [], All}
+use Rattle.std.specs.Prelude.{◌≡◌, ℕ, List, [], All}
 use Rattle.lapd_frame.specs.declared.services.Service.{Service}
 use Rattle.model_line.specs.declared.config.Config.{Config}
 use Rattle.laws_wire.specs.Call.{CanCall}
-use Rattle.laws_order.specs.Order.{FaceAtRest}
+use Rattle.laws_wire.specs.Wire.{Wire}
+use Rattle.laws_order.specs.Order.{said_by, FaceInStep}
 use Rattle.laws_order.specs.circuit.Circuit.{Termination, Circuit, OctetDoing, doing_all}
 use Rattle.laws_order.specs.circuit.Damaged.{Socket, Noisy, as_wire}
 use Rattle.laws_order.specs.circuit.Through.{calling, IsTalk, HasAllGone}
@@ -14,6 +15,12 @@ as_socket s = record { card = s.card; line = s.line; way = [] }
 
 abbrev pub from_then_on : Circuit → Noisy
 from_then_on w = record { near = as_socket w.near; far = as_socket w.far }
+
+-- In step, and nothing of the link is on its way or waits.
+pub record FaceAtRest (service : Service) (tei : ℕ) (w : Wire) : Type 0 where
+  pub step : FaceInStep service tei w
+  pub near : said_by service tei w.near ≡ []
+  pub far : said_by service tei w.far ≡ []
 
 abbrev pub CallsComeToRest : Type 0
 CallsComeToRest =

@@ -1,0 +1,58 @@
+-- A card of frames faces a card of octets, or any two of them: what is told at each is in order.
+use Rattle.std.specs.Prelude.{ℕ, List, [], ◌∷◌, ◌++◌}
+use Rattle.lapd_frame.specs.declared.services.Service.{Service}
+use Rattle.laws_trace.specs.Trace.{Seen, IsFront}
+use Rattle.laws_wire.specs.Wire.{Station, Wire}
+use Rattle.laws_order.specs.Happenings as frames
+use Rattle.laws_order.specs.Order.{FaceInStep, StaysEstablished, data_noted, data_granted, kept_by}
+use Rattle.laws_order.specs.circuit.Damaged as octets
+use Rattle.laws_order.specs.circuit.Damaged.{Socket, as_station, with_deed, left_by}
+
+-- One end is a card of frames, whose controller takes what the other's pulls begin, and gives what the card gives: as an end of a wire.
+-- The other is a card of octets: as an end of a circuit on which octets are damaged.
+pub record Mixed : Type 0 where
+  pub near : Station
+  pub far : Socket
+
+abbrev pub as_wire : Mixed → Wire
+as_wire w = record { near = w.near; far = as_station w.far }
+
+pub data Happening : Type 0 where
+  by_frames : frames.Deed → Happening
+  by_octets : octets.Deed → Happening
+
+abbrev pub IsPossible : Service → ℕ → Happening → Mixed → Type 0
+IsPossible service tei (by_frames deed) w = frames.IsPossibleAt service tei w.near deed
+IsPossible service tei (by_octets deed) w = octets.IsPossibleAt service tei deed w.far w.near.way
+
+abbrev pub happening : Happening → Mixed → Mixed
+happening (by_frames deed) w = let v = frames.befalling deed (as_wire w) in record { near = v.near; far = record w.far { way = v.far.way } }
+happening (by_octets deed) w = record { near = record w.near { way = left_by deed w.near.way }; far = with_deed deed w.far }
+
+unfoldable pub ArePossible : Service → ℕ → List Happening → Mixed → Type 0
+ArePossible service tei [] w = Unit {0}
+ArePossible service tei (h ∷ hs) w = IsPossible service tei h w × ArePossible service tei hs (happening h w)
+
+-- What is seen at either end.
+abbrev pub seen_by_frames : Happening → Mixed → List Seen
+seen_by_frames (by_frames deed) w = frames.seen_by deed (as_wire w)
+seen_by_frames (by_octets deed) w = []
+
+abbrev pub seen_by_octets : Happening → Mixed → List Seen
+seen_by_octets (by_frames deed) w = []
+seen_by_octets (by_octets deed) w = octets.seen_by deed w.far
+
+unfoldable pub seen_near : List Happening → Mixed → List Seen
+seen_near [] w = []
+seen_near (h ∷ hs) w = seen_by_frames h w ++ seen_near hs (happening h w)
+
+unfoldable pub seen_far : List Happening → Mixed → List Seen
+seen_far [] w = []
+seen_far (h ∷ hs) w = seen_by_octets h w ++ seen_far hs (happening h w)
+
+abbrev pub DeliveredBetweenKinds : Type 0
+DeliveredBetweenKinds =
+    (service : Service) (tei : ℕ) (w : Mixed) (hs : List Happening) → FaceInStep service tei (as_wire w) → ArePossible service tei hs w →
+    let near = seen_near hs w in let far = seen_far hs w in let n = w.near in let m = as_station w.far in
+    (StaysEstablished service tei near → IsFront (data_noted service tei near) (kept_by service tei m n ++ data_granted service tei far))
+    × (StaysEstablished service tei far → IsFront (data_noted service tei far) (kept_by service tei n m ++ data_granted service tei near))

@@ -1,0 +1,48 @@
+-- Worked values: a card of frames of the user's side faces a card of octets of the network's, and sends two contents; a bit of the first
+-- is turned on its way. Each computes.
+use Rattle.std.specs.Prelude.{◌≡◌, ℕ, List, [], ◌∷◌, ◌++◌, map, replicate, refl}
+use Rattle.lapd_frame.specs.declared.services.Service.TheVariants.{Call}
+use Rattle.lapd_frame.specs.Reading.{reading, header_of, control_of, unnumbered_of, supervisory_of}
+use Rattle.lapd_seq.specs.Circle.{distance_of, named}
+use Rattle.lapd_seq.specs.Numbers.{seq}
+use Rattle.lapd_tei.specs.Events as teis
+use Rattle.model_bits.specs.Bits.{low_bits}
+use Rattle.model_line.specs.Machine as lines
+use Rattle.model_line.specs.Request.{Data}
+use Rattle.model_card.specs.ports.Card as ports
+use Rattle.model_card.specs.ports.Port.{octet, pull}
+use Rattle.laws_wire.specs.Wire.{Act, requests, gives, takes, loses}
+use Rattle.laws_order.specs.Happenings.{acts}
+use Rattle.laws_order.specs.Order.{data_noted, StaysEstablished}
+use Rattle.laws_order.specs.circuit.Circuit.{doing_all}
+use Rattle.laws_order.specs.circuit.Damaged.{happens, completes, as_station}
+use Rattle.laws_order.specs.circuit.Mixed.{Mixed, Happening, by_frames, by_octets, seen_near, seen_far}
+use Rattle.laws_order.specs.circuit.WorkedDamaged as damaged
+
+abbrev pub begins : Mixed
+begins = record { near = as_station damaged.begins.near; far = damaged.begins.far }
+
+abbrev near : Act → Happening
+near act = by_frames (acts act)
+
+abbrev far_hears : ℕ → Happening
+far_hears value = by_octets (happens (octet value))
+
+abbrev far_gets : ℕ → Happening
+far_gets value = by_octets (completes value)
+
+-- The second comes out of sequence: REJ goes, and both go again.
+abbrev pub goes_again : List Happening
+goes_again =
+    near (requests (Data Call 0 (0xAB ∷ []))) ∷ near (requests (Data Call 0 (0xCD ∷ []))) ∷ near gives ∷ near gives
+    ∷ map far_hears (0 ∷ 2 ∷ 0 ∷ 0 ∷ 70 ∷ 43 ∷ 144 ∷ 253 ∷ 0 ∷ 2 ∷ 4 ∷ 0 ∷ 154 ∷ 59 ∷ 247 ∷ 252 ∷ []) ++ (near loses ∷ far_gets 252
+    ∷ replicate 7 (by_octets (happens pull)) ++ (near takes ∷ near gives ∷ near gives
+    ∷ map far_hears (0 ∷ 2 ∷ 0 ∷ 0 ∷ 86 ∷ 43 ∷ 144 ∷ 253 ∷ []) ++ (far_gets 0 ∷ map far_hears (2 ∷ 4 ∷ 0 ∷ 154 ∷ 59 ∷ 247 ∷ 252 ∷ []) ++ (far_gets 252 ∷ []))))
+
+told_far : data_noted Call 0 (seen_far goes_again begins) ≡ (0xAB ∷ []) ∷ (0xCD ∷ []) ∷ []
+unfolding lines.after lines.answer lines.takes_slot reading header_of control_of unnumbered_of supervisory_of teis.course teis.refusal seq distance_of named low_bits ports.after ports.answer ports.meant doing_all seen_near seen_far
+told_far = refl
+
+pub far_stays : StaysEstablished Call 0 (seen_far goes_again begins)
+unfolding lines.after lines.answer lines.takes_slot reading header_of control_of unnumbered_of supervisory_of teis.course teis.refusal seq distance_of named low_bits ports.after ports.answer ports.meant doing_all seen_near seen_far
+far_stays = refl

@@ -1,0 +1,142 @@
+-- How many turns and losses there are at most where both ends are up, by what waits, what is on its way, and what is still to be told.
+use Rattle.laws_wire.proofs.Vocabulary.{◌≡◌, ℕ, suc, ◌+◌, ◌-◌, ◌*◌, ◌≤◌, Bool, true, false, ◌&&◌, IsTrue, List, [], ◌∷◌, ◌++◌, length, map, take, refl, sym, ap, subst, ◌∙◌, arith, true≢false, length-map, length-take-le, Service, Parts, spelling, Control, Information, ReceiveReady, ReceiveNotReady, Reject, Sabme, Disc, Ui, Ua, Dm, Frmr, Xid, State, TeiAssigned, AwaitingEstablishment, AwaitingRelease, Established, TimerRecovery, ControlFrame, Link, unsent, is_multiple_frame, End, Config, LineTold}
+use Rattle.model_link.proofs.Direction.{Direction}
+use Rattle.model_link.proofs.Lines.{carried-high}
+use Rattle.laws_wire.specs.Wire.{Station, Wire}
+use Rattle.laws_wire.specs.Call.{confirmed, indicated, data_told, all_told}
+use Rattle.laws_wire.specs.Losing.{heard_in}
+use Rattle.laws_wire.specs.Facing.{end_of}
+use Rattle.laws_wire.specs.Resting.{most_frames}
+use Rattle.laws_wire.specs.Arriving.{frames_left, notes_left, most_left}
+use Rattle.laws_wire.proofs.Acting.{UpAt, sound}
+use Rattle.laws_wire.proofs.Awaited.{link-is}
+use Rattle.laws_wire.proofs.Held.{Held}
+use Rattle.laws_wire.proofs.Joint.{Joint}
+use Rattle.laws_wire.proofs.Loads.{answer_to, brings, load_waiting, load_way, owes, may_reject, back, load}
+use Rattle.laws_wire.proofs.LossyPhases.{IsUp}
+use Rattle.laws_wire.proofs.Weighing.{undelivered, weigh}
+
+-- ---- a link
+
+answer-most : (b : Bool) → answer_to b ≤ 2
+answer-most true = omega arith
+answer-most false = omega arith
+
+brings-most : (v : ℕ) (command : Bool) (control : Control) → brings v command control ≤ v + 2
+brings-most v command (Information ns nr p) = let x = answer-most p in omega (arith, x)
+brings-most v command (ReceiveReady nr pf) = let x = answer-most (command && pf) in omega (arith, x)
+brings-most v command (ReceiveNotReady nr pf) = let x = answer-most (command && pf) in omega (arith, x)
+brings-most v command (Reject nr pf) = let x = answer-most (command && pf) in omega (arith, x)
+brings-most v command (Sabme p) = omega arith
+brings-most v command (Disc p) = omega arith
+brings-most v command (Ui p) = omega arith
+brings-most v command (Ua f) = omega arith
+brings-most v command (Dm f) = omega arith
+brings-most v command (Frmr f) = omega arith
+brings-most v command (Xid pf) = omega arith
+
+one-more : (d x : ℕ) → d * (x + 1) ≡ d * x + d
+one-more d x = omega arith
+
+grows : (v here rest n low : ℕ) → low ≤ 2 → here ≤ v + 2 → rest ≤ (v + 4) * n → low + here + rest ≤ (v + 4) * (n + 1)
+grows v here rest n low few first more = let e : (v + 4) * (n + 1) ≡ (v + 4) * n + (v + 4) = one-more (v + 4) n in omega (arith, few, first, more, e)
+
+as-suc : (v n x : ℕ) → x ≤ (v + 4) * (n + 1) → x ≤ (v + 4) * suc n
+as-suc v n x h = subst (λ m. x ≤ (v + 4) * m) (omega arith) h
+
+waiting-most : (v : ℕ) (fs : List ControlFrame) → load_waiting v fs ≤ (v + 4) * length fs
+waiting-most v [] = omega arith
+waiting-most v (f ∷ fs) =
+    as-suc v (length fs) (load_waiting v (f ∷ fs))
+    (grows v (brings v f.command f.control) (load_waiting v fs) (length fs) 2 (omega arith) (brings-most v f.command f.control) (waiting-most v fs))
+
+way-most : (v : ℕ) (fs : List Parts) → load_way v fs ≤ (v + 4) * length fs
+way-most v [] = omega arith
+way-most v (f ∷ fs) =
+    as-suc v (length fs) (load_way v (f ∷ fs))
+    (grows v (brings v f.address.command f.control) (load_way v fs) (length fs) 1 (omega arith) (brings-most v f.address.command f.control) (way-most v fs))
+
+owes-most : (b : Bool) → owes b ≤ 2
+owes-most true = omega arith
+owes-most false = omega arith
+
+reject-most : (v : ℕ) (b : Bool) → may_reject v b ≤ v + 2
+reject-most v true = omega arith
+reject-most v false = omega arith
+
+back-most : (v : ℕ) (here : State) → IsTrue (is_multiple_frame here) → back v here ≤ v
+back-most v Established up = omega arith
+back-most v TimerRecovery up = omega arith
+back-most v TeiAssigned up = absurd (true≢false (sym up))
+back-most v AwaitingEstablishment up = absurd (true≢false (sym up))
+back-most v AwaitingRelease up = absurd (true≢false (sym up))
+
+unsent-most : (len s a r window k : ℕ) → a ≤ s → r ≤ a + window → window ≤ k → len - s ≤ (len - r) + k
+unsent-most len s a r window k low high small = omega (arith, low, high, small)
+
+load-most : (v k : ℕ) (l : Link) (r window : ℕ) → IsTrue (is_multiple_frame l.state) → l.a ≤ l.s → r ≤ l.a + window → window ≤ k
+    → load v l ≤ (v + 4) * length l.waiting + 2 * ((length l.contents - r) + k) + (2 * v + 4)
+load-most v k l r window up low high small =
+    sum (load_waiting v l.waiting) ((v + 4) * length l.waiting) (unsent l) ((length l.contents - r) + k) (owes l.pending) (may_reject v l.rejecting) (back v l.state)
+    (waiting-most v l.waiting) (unsent-most (length l.contents) l.s l.a r window k low high small) (owes-most l.pending) (reject-most v l.rejecting) (back-most v l.state up)
+  where
+    sum : (w w' u u' o j b : ℕ) → w ≤ w' → u ≤ u' → o ≤ 2 → j ≤ v + 2 → b ≤ v → w + 2 * u + o + j + b ≤ w' + 2 * u' + (2 * v + 4)
+    sum w w' u u' o j b x y z p q = omega (arith, x, y, z, p, q)
+
+-- ---- two ends
+
+both : (k l f l' f' lw lf lw' lf' u u' : ℕ) → l ≤ (2 * k + 4) * lw + 2 * (u + k) + (2 * (2 * k) + 4) → f ≤ (2 * k + 4) * lf → l' ≤ (2 * k + 4) * lw' + 2 * (u' + k) + (2 * (2 * k) + 4)
+    → f' ≤ (2 * k + 4) * lf' → (l + f) + (l' + f') + ((2 * k + 4) * u + (2 * k + 4) * u') ≤ 2 * most_frames k (4 + (lw + lf) + (lw' + lf')) (u + u')
+both k l f l' f' lw lf lw' lf' u u' x y x' y' = omega (arith, x, y, x', y')
+
+module _ (service : Service) (tei : ℕ) (c d : Config) (p q k : ℕ) (w : Wire) (h : IsUp service tei c d p q w) (wide : h.n.terms.k ≤ k) (wide' : h.m.terms.k ≤ k) where
+  n : End
+  n = h.n
+
+  m : End
+  m = h.m
+
+  frames : ℕ
+  frames = 4 + (length h.n.link.waiting + length h.n.way) + (length h.m.link.waiting + length h.m.way)
+
+  weighs : weigh (2 * k) h.n h.m ≤ 2 * most_frames k (4 + (length h.n.link.waiting + length h.n.way) + (length h.m.link.waiting + length h.m.way)) (undelivered h.n.link h.m.link + undelivered h.m.link h.n.link)
+  weighs =
+      let s = sound service tei p (confirmed service tei ∷ []) c w.near h.n h.near.held in
+      let s' = sound service tei q (indicated service tei ∷ []) d w.far h.m h.far.held in
+      both k (load (2 * k) h.n.link) (load_way (2 * k) h.n.way) (load (2 * k) h.m.link) (load_way (2 * k) h.m.way) (length h.n.link.waiting) (length h.n.way) (length h.m.link.waiting) (length h.m.way)
+      (undelivered h.n.link h.m.link) (undelivered h.m.link h.n.link)
+      (load-most (2 * k) k h.n.link h.m.link.r h.n.terms.k h.near.up s.ordered (carried-high _ _ _ _ h.near.joint.there.carried) wide) (way-most (2 * k) h.n.way)
+      (load-most (2 * k) k h.m.link h.n.link.r h.m.terms.k h.far.up s'.ordered (carried-high _ _ _ _ h.near.joint.back.carried) wide') (way-most (2 * k) h.m.way)
+
+  -- as an observer counts it
+  frames-are : (e : Config) (place : ℕ) (past : List LineTold) (s : Station) (x : End) → Held e service tei place past s x → frames_left service tei s ≡ length x.link.waiting + length x.way
+  frames-are e place past s x held =
+      (λ i. length (link-is service tei e place s x held.stands i).waiting + length (held.stands.way i)) ∙ ap (λ o. length x.link.waiting + o) (length-map x.way (spelling e.side))
+
+  one-first : (a b r g t : ℕ) → a ≡ g → b ≡ t → t ≡ r → suc a - suc b ≡ g - r
+  one-first a b r g t e f g' = omega (arith, e, f, g')
+
+  told-left : (first : LineTold) (r : ℕ) (granted delivered : List (List ℕ)) (heard : List LineTold) → r ≤ length granted → delivered ≡ take r granted
+      → heard ≡ (first ∷ []) ++ map (data_told service tei) delivered → length (first ∷ map (data_told service tei) granted) - length heard ≡ length granted - r
+  told-left first r granted delivered heard low is here =
+      ap (λ ts. length (first ∷ map (data_told service tei) granted) - length ts) here
+      ∙ one-first (length (map (data_told service tei) granted)) (length (map (data_told service tei) delivered)) r (length granted) (length delivered)
+      (length-map granted (data_told service tei)) (length-map delivered (data_told service tei)) (ap length is ∙ length-take-le r granted low)
+
+  notes-are : notes_left service tei w ≡ undelivered h.n.link h.m.link + undelivered h.m.link h.n.link
+  notes-are =
+      add (length (all_told service tei (confirmed service tei) w.far) - length (heard_in w.near)) (length (all_told service tei (indicated service tei) w.near) - length (heard_in w.far))
+      (undelivered h.n.link h.m.link) (undelivered h.m.link h.n.link)
+      (ap (λ (g : List (List ℕ)). length (confirmed service tei ∷ map (data_told service tei) g) - length (heard_in w.near)) h.far.held.granted
+      ∙ told-left (confirmed service tei) h.n.link.r h.m.link.contents h.n.delivered (heard_in w.near) h.near.joint.back.accepted h.near.joint.back.delivered h.near.held.heard)
+      (ap (λ (g : List (List ℕ)). length (indicated service tei ∷ map (data_told service tei) g) - length (heard_in w.far)) h.near.held.granted
+      ∙ told-left (indicated service tei) h.m.link.r h.n.link.contents h.m.delivered (heard_in w.far) h.near.joint.there.accepted h.near.joint.there.delivered h.far.held.heard)
+    where
+      add : (a b u u' : ℕ) → a ≡ u' → b ≡ u → a + b ≡ u + u'
+      add a b u u' e f = omega (arith, e, f)
+
+  pub weighs-left : weigh (2 * k) h.n h.m ≤ most_left service tei k w
+  weighs-left =
+      subst (λ b. weigh (2 * k) h.n h.m ≤ b)
+      (λ i. 2 * most_frames k (4 + sym (frames-are c p (confirmed service tei ∷ []) w.near h.n h.near.held) i + sym (frames-are d q (indicated service tei ∷ []) w.far h.m h.far.held) i) (sym notes-are i))
+      weighs

@@ -11,4 +11,5 @@ pub mod Knowing
 pub mod Meanwhile
 pub mod Amid
 pub mod Wherever
+pub mod GoingDown
 pub mod Brief

@@ -12,6 +12,7 @@ pub mod WorkedTimers
 pub mod WorkedNotes
 pub mod Among
 pub mod PromisesOfTakes
+pub mod GoesDown
 pub mod Brief
 pub mod WorkedBroken
 pub mod WorkedClauses

@@ -1,6 +1,7 @@
 //! What a card does, over whole runs. Each law is the contract of a call that does nothing. Where its comment names a field of
 //! `Promises` (crate `laws_promises`), the comment of the field says it in words.
 
+ghost use Rattle.laws_line.specs.card.GoesDown.{LinesGoDown};
 ghost use Rattle.laws_line.specs.card.Laws.{TakesServe, OneEvent, OthersAreLeft, CausesTold};
 
 /// What is sent is what was accepted, for whom, and in which order. What a call for the next frame takes is the message
@@ -33,6 +34,14 @@ pub fn one_event()
 /// In every moment all lines stay as they are but that of the event, and of its links all but one: `others_stay`.
 pub fn others_stay()
     ensures { OthersAreLeft }
+{}
+
+/// A line goes down, whatever happens at the other lines meanwhile. Where all that happens at it is that it is down, and that
+/// each link of a TEI on it is deactivated, in any order, each once or more often, nothing waits on it then, and the next call
+/// for a frame gives none; each link is in state 4, as one that begins; no timer is needed; and the TEIs stay (Q.921 annex B,
+/// persistent deactivation).
+pub fn lines_go_down()
+    ensures { LinesGoDown }
 {}
 
 /// Of what is heard and is no frame why it is none is all that is answered, and of a frame of TEI management on the user's side

@@ -1,0 +1,69 @@
+-- A line of a card goes down.
+use Rattle.laws_line.proofs.Vocabulary.{◌≡◌, ℕ, ◌<◌, ◌==◌, ◌&&◌, Bool, true, false, cond, List, [], ◌∷◌, length, get_or, set, refl, sym, ap, ◌∙◌, subst, arith, eq-eqb, true≢false, get_or-set_same, All-head, All-tail, Config, request, Line, fresh_line, Request, Establish, Release, Assign, Remove, SetBusy, ClearBusy, Deactivate, Down, Card, line_at, is_full, at, IsAtLine, AreAtLines, after_all, after_is_sound, has_lines, line_sound}
+use Rattle.std.proofs.lemmas.Bool.{eqb-true}
+use Rattle.std.specs.Prelude.{All, map}
+use Rattle.model_line.specs.Machine as lines
+use Rattle.model_line.specs.Request.{Data, Unit, Check}
+use Rattle.laws_line.specs.Among.{after_events}
+use Rattle.laws_line.specs.GoesDown.{takes_down, IsDown}
+use Rattle.laws_line.proofs.GoingDown.{lines-go-down}
+use Rattle.model_card.specs.Event.{Event}
+use Rattle.model_card.specs.Machine.{after}
+use Rattle.model_card.specs.Sound.{IsSound}
+use Rattle.laws_line.specs.card.GoesDown.{happens_at, LinesGoDown}
+use Rattle.laws_line.proofs.OfCard.Meanwhile.{at-another}
+
+-- What takes a line down takes no slot, so it finds room.
+no-slot : (c : Config) (l : Line) (r : Request) → takes_down r ≡ true → lines.takes_slot c (request r) l ≡ false
+unfolding lines.takes_slot
+no-slot c l Down is = refl
+no-slot c l (Deactivate service tei) is = refl
+no-slot c l (Establish service tei) is = absurd (true≢false (sym is))
+no-slot c l (Release service tei) is = absurd (true≢false (sym is))
+no-slot c l (Data service tei contents) is = absurd (true≢false (sym is))
+no-slot c l (Unit service tei contents) is = absurd (true≢false (sym is))
+no-slot c l (Assign tei) is = absurd (true≢false (sym is))
+no-slot c l (Remove tei) is = absurd (true≢false (sym is))
+no-slot c l (Check tei) is = absurd (true≢false (sym is))
+no-slot c l (SetBusy service tei) is = absurd (true≢false (sym is))
+no-slot c l (ClearBusy service tei) is = absurd (true≢false (sym is))
+
+module _ (number : ℕ) where
+  at-request : (card : Card) (r : Request) → takes_down r ≡ true → number < length card.lines
+      → line_at number (after (at number (request r)) card) ≡ lines.after card.config (request r) (line_at number card)
+  at-request card r is few =
+      let new = lines.after card.config (request r) (line_at number card) in
+      ap (λ b. get_or (cond (b && is_full card) card.lines (set card.lines number new)) number (fresh_line card.config)) (no-slot card.config (line_at number card) r is)
+      ∙ get_or-set_same card.lines number new (fresh_line card.config) few
+
+  -- the line after all of them
+  pub line-after : (events : List Event) (card : Card) (rs : List Request) → IsSound card → number < card.config.lines → AreAtLines card events
+      → happens_at number events ≡ map request rs → All (λ r. takes_down r ≡ true) rs
+      → line_at number (after_all card events) ≡ after_events card.config (map request rs) (line_at number card)
+  unfolding after_all after_events
+  line-after [] card rs s few lines are only = ap (λ es. after_events card.config es (line_at number card)) are
+  line-after (e ∷ events) card rs s few lines are only =
+      go (e.line == number) refl rs are only
+      (λ rs are only. line-after events (after e card) rs (after_is_sound card e s (All-head (IsAtLine card) e events lines)) few (All-tail (IsAtLine card) e events lines) are only)
+    where
+      go : (b : Bool) → (e.line == number) ≡ b → (rs : List Request) → cond b (e.what ∷ happens_at number events) (happens_at number events) ≡ map request rs
+          → All (λ r. takes_down r ≡ true) rs
+          → ((rs : List Request) → happens_at number events ≡ map request rs → All (λ r. takes_down r ≡ true) rs
+          → line_at number (after_all (after e card) events) ≡ after_events card.config (map request rs) (line_at number (after e card)))
+          → line_at number (after_all (after e card) events) ≡ after_events card.config (map request rs) (line_at number card)
+      go false apart rs are only more =
+          more rs are only
+          ∙ ap (after_events card.config (map request rs)) (at-another card number e (λ same. true≢false (sym (eq-eqb e.line number (sym same)) ∙ apart)))
+      go true same [] are only more = absurd (cc are)
+      go true same (r ∷ rs) are only more =
+          let what : e.what ≡ request r = cc are in
+          let behind : happens_at number events ≡ map request rs = cc are in
+          let is : e ≡ at number (request r) = let line = eqb-true e.line number same in λ i. record { line = line i; what = what i } in
+          let first = All-head (λ r. takes_down r ≡ true) r rs only in
+          more rs behind (All-tail (λ r. takes_down r ≡ true) r rs only)
+          ∙ ap (after_events card.config (map request rs)) (ap (λ e. line_at number (after e card)) is ∙ at-request card r first (omega (arith, few, s.count)))
+
+pub lines-go-down-at : LinesGoDown
+lines-go-down-at card events number rs s all few are h =
+    subst (IsDown card.config (line_at number card)) (sym (line-after number events card rs s few all are h.only))
+    (lines-go-down.goes_down card.config (line_at number card) rs s.config (line_sound card number (has_lines card s) few) h)

@@ -1,5 +1,5 @@
 -- What a link tells as lost found no room; and what holds of the rows of TEI management for each message of a terminal.
-use Rattle.laws_trace.proofs.Vocabulary.{◌≡◌, ℕ, ◌+◌, ◌-◌, ◌*◌, ◌/◌, ◌%◌, ◌<◌, ◌≤◌, ◌==◌, ◌&&◌, Bool, true, false, cond, List, [], ◌∷◌, length, take, drop, refl, ap, ◌∙◌, subst, arith, length-append, length-take-le, nat_le, leb-true, leb-false, drop_all, Management, heard_of_type, heard_in, no_room, lost_after, as_heard, put, behind, waiting_left, event-follows, ControlFrame, Terms, Link}
+use Rattle.laws_trace.proofs.Vocabulary.{◌≡◌, ℕ, ◌+◌, ◌-◌, ◌*◌, ◌/◌, ◌%◌, ◌<◌, ◌≤◌, ◌==◌, ◌&&◌, Bool, true, false, cond, List, [], ◌∷◌, length, take, drop, refl, ap, ◌∙◌, subst, arith, length-append, length-take-le, nat_le, leb-true, leb-false, drop_all, Management, heard_of_type, heard_in, as_heard, put, behind, waiting_left, event-follows, ControlFrame, Terms, Link}
 use Rattle.lapd_tei.specs.Rows as rows
 use Rattle.lapd_tei.specs.Words as words
 use Rattle.lapd_tei.specs.Words.{Course, begun, with_message}

@@ -4,7 +4,6 @@ use Rattle.lapd_frame.specs.declared.controls.Control.{Control}
 use Rattle.model_link.specs.declared.timers.LinkTimer.TheVariants.{T200, T203}
 use Rattle.model_line.specs.Event as line_event
 use Rattle.model_line.specs.Request.{Request, Establish, Release}
-use Rattle.model_card.specs.Event.{Event}
 use Rattle.model_card.specs.Run.{Moment}
 use Rattle.laws_trace.specs.LinkFrames.{is_for, frame_of, malformed}
 use Rattle.laws_trace.proofs.TimersWatched.{Known, awaits}

@@ -1,5 +1,5 @@
 -- What is told of the room of a link: the law.
-use Rattle.laws_trace.proofs.Vocabulary.{◌≡◌, ℕ, ◌-◌, ◌≤◌, Bool, true, false, not, cond, length, Option, Some, None, Ok, refl, sym, ap, ◌∙◌, subst, arith, true≢false, nat_lt, le-ltb, Refusal, BadTei, NoLink, place_of-is, is_on-at, Room, queue_of, is_multiple_frame, room_of, Config, Effect, Line, link_of, place_in, terms, has_tei, unless_refused_told, unless, Card, line_at, is_full, free, answer_is, refuses_by, is-off}
+use Rattle.laws_trace.proofs.Vocabulary.{◌≡◌, ℕ, ◌≤◌, Bool, true, false, not, cond, length, Option, Some, None, Ok, refl, sym, ap, ◌∙◌, subst, arith, true≢false, nat_lt, le-ltb, Refusal, BadTei, NoLink, place_of-is, is_on-at, Room, queue_of, is_multiple_frame, room_of, Config, Effect, Line, link_of, place_in, terms, has_tei, unless_refused_told, unless, Card, line_at, is_full, free, answer_is, refuses_by, is-off}
 use Rattle.lapd_frame.specs.declared.refusals.Refusal.TheVariants.{WrongState}
 use Rattle.model_line.specs.Machine as lines
 use Rattle.model_line.specs.Request.{Data}
@@ -12,7 +12,7 @@ use Rattle.laws_trace.specs.Observer.{View, view_of}
 use Rattle.laws_trace.specs.Outgoing.{Outgoing, outgoing_of}
 use Rattle.laws_trace.specs.RoomsAreTold.{refusal_in, IsRoom, RoomsAreTold}
 use Rattle.laws_trace.specs.Trace.{Always, is_up}
-use Rattle.laws_trace.proofs.AllDataGoesOut.{line-at-end, link-at-end}
+use Rattle.laws_trace.proofs.LineAtEnd.{line-at-end, link-at-end}
 use Rattle.laws_trace.proofs.Outgoing.{view-is, kept-now}
 use Rattle.laws_trace.proofs.SeenAs.{seen-before, tei-seen, up-number}
 use Rattle.laws_trace.proofs.TimersAreTimely.{config-now}

@@ -1,15 +1,19 @@
 -- The control frames of a link that wait and go: one event of a line.
-use Rattle.laws_trace.proofs.Vocabulary.{◌≡◌, ℕ, ◌+◌, ◌-◌, ◌==◌, ◌||◌, Bool, true, false, cond, List, [], ◌++◌, length, map, take, zero, suc, Option, Some, None, refl, sym, ap, ◌∙◌, subst, ◌⊎◌, inl, inr, append-nil, true≢false, flat_map, not, option_to_list, is_some, list_any, option_map_or, Service, place_of-is, takes_contents, as_heard, moves, as_response, event-follows, given-in-order, HasItsTimer, State, TeiAssigned, AwaitingEstablishment, AwaitingRelease, Established, TimerRecovery, ControlFrame, Terms, restarts, eligible, Link, is_multiple_frame, state_number, delivery, event-delivers, Config, next, Answer, Line, link_in, link_number, link_of, place_in, has_tei, state_of, terms, IsInRange, sound_in, terms_in_range, lost_in, notes_of, is_data_of, deactivates, IsBy, HaveTheirTimers}
+use Rattle.laws_trace.proofs.Vocabulary.{◌≡◌, ℕ, ◌+◌, ◌-◌, ◌≤◌, ◌==◌, ◌&&◌, ◌||◌, Bool, true, false, cond, List, [], ◌++◌, drop, length, map, take, zero, suc, Some, None, refl, sym, ap, ◌∙◌, subst, inl, inr, append-nil, true≢false, flat_map, not, option_to_list, is_some, list_any, option_map_or, le-ltb, BadTei, NoLink, Service, same_service, place_of-is, takes_contents, as_heard, moves, as_response, event-follows, HasItsTimer, State, TeiAssigned, AwaitingEstablishment, AwaitingRelease, Established, TimerRecovery, ControlFrame, Terms, restarts, eligible, Link, is_multiple_frame, state_number, delivery, event-delivers, Config, next, Answer, Assign, Remove, Deactivate, Down, at_deactivated, Line, link_in, link_number, link_of, place_in, has_tei, state_of, terms, aim_of, unless_refused, IsInRange, sound_in, terms_in_range, lost_in, notes_of, is_data_of, deactivates, is_deactivation, both-true, IsBy, HaveTheirTimers}
+use Rattle.std.proofs.Common.{eqb-true}
 use Rattle.model_link.specs.Events as link
 use Rattle.model_link.specs.Link.{fresh}
 use Rattle.model_link.specs.Machine as links
 use Rattle.model_link.specs.Sound as link_sound
+use Rattle.model_line.specs.Event as line_event
 use Rattle.model_line.specs.Event.{Event}
+use Rattle.model_line.specs.Refusal.{refusal}
+use Rattle.model_line.specs.Request.{Request, Establish, Release, Data, Check, SetBusy, ClearBusy}
 use Rattle.model_line.specs.Machine.{after, answer}
 use Rattle.model_line.specs.Taken.{frame_of}
 use Rattle.model_line.specs.Sound.{IsSound}
-use Rattle.laws_trace.proofs.ControlsWatched.{receipt, changed, command_of, acknowledged_at}
-use Rattle.laws_trace.specs.ControlFrames.{IsPart}
+use Rattle.laws_line.specs.Requests.{of_link}
+use Rattle.laws_trace.proofs.ControlsWatched.{receipt, changed, command_of}
 use Rattle.laws_trace.proofs.DeliveriesWatched.{Standing}
 use Rattle.laws_trace.proofs.States.{expired_of, one_more, differ}
 use Rattle.laws_trace.proofs.TimersWatched.{nothing_yet}
@@ -18,25 +22,17 @@ use Rattle.laws_trace.proofs.Addressed.{at-some-place}
 use Rattle.laws_trace.proofs.CommandsCaused.{IsNoOther}
 use Rattle.laws_trace.proofs.ControlsDue.{controls, answers_of, put_by}
 use Rattle.laws_trace.proofs.ControlsOfLink.{IsNumbered, puts, both-up}
-use Rattle.laws_trace.proofs.ControlsSeen.{begun_of, controls_begun, owed_of, answers_seen, IsOwed, begun-is, all-foreign, by-owed, offered, offer-serves, event-answers, none-answered}
+use Rattle.laws_trace.proofs.ControlsSeen.{begun_of, controls_begun, answers_seen, begun-is, all-foreign, offer-leaves, event-answers, none-answered}
+use Rattle.laws_trace.proofs.Deliveries.{heard-by}
 use Rattle.laws_trace.proofs.DeliveriesRun.{IsCount, data-noted}
 use Rattle.laws_trace.proofs.LinkLed.{none-ticks, one-ticks, own-is}
 use Rattle.laws_trace.proofs.LinksMove.{differs}
 use Rattle.laws_trace.proofs.MovesOfLink.{ticks}
-use Rattle.laws_trace.proofs.OneLink.{frames_given, HasOne, HasNone, Goes, event-goes, IsGivenUp}
-use Rattle.laws_trace.proofs.Parts.{of-itself, of-nothing, both, more, through}
+use Rattle.laws_trace.proofs.OneLink.{frames_given, is_at_link, HasOne, HasNone, Goes, event-goes, IsGivenUp}
 use Rattle.laws_trace.proofs.ReceiptsNumbered.{taken-is}
-use Rattle.laws_trace.proofs.Standing.{behind, stand-is, one-restarts, busy-is, rejected-is, event-stands, begun-stand}
+use Rattle.laws_trace.proofs.Standing.{behind, one-restarts, busy-is, rejected-is, event-stands}
 use Rattle.laws_trace.proofs.StandingOfLink.{calm, IsStanding, busy_behind, rejected_behind}
-use Rattle.laws_trace.proofs.TimersOfEvent.{state-on, off-fresh}
-use Rattle.laws_trace.proofs.Parts as parts
-
-up-is : (s : State) → is_multiple_frame s ≡ true → is_up (state_number s) ≡ true
-up-is TeiAssigned up = absurd (true≢false (sym up))
-up-is AwaitingEstablishment up = absurd (true≢false (sym up))
-up-is AwaitingRelease up = absurd (true≢false (sym up))
-up-is Established up = refl
-up-is TimerRecovery up = refl
+use Rattle.laws_trace.proofs.TimersOfEvent.{state-on}
 
 unmoved : (state : State) → moves state state ≡ false
 unmoved TeiAssigned = refl
@@ -68,13 +64,11 @@ module _ (service : Service) (tei : ℕ) where
   abbrev pub due_here : Config → Standing → Standing → Bool → Line → List Seen → ℕ → Line → List ControlFrame
   due_here c was now time l t lost new = let frames = put_here c was now time l t new in take (length frames - lost) frames
 
-  abbrev pub owed_here : Config → Standing → Line → List Seen → List ControlFrame
-  owed_here c now l t = option_map_or (λ state. flat_map (acknowledged_at c service tei now state) t) (state_of service tei l) []
-
-  -- What that is to those that wait before it and behind it.
-  pub record Passes (c : Config) (was now : Standing) (time up : Bool) (l : Line) (t : List Seen) (lost : ℕ) (new : Line) : Type 0 where
-    pub only : IsPart (controls_begun c service tei t ++ waits new) (waits l ++ (due_here c was now time l t lost new ++ owed_here c now l t))
-    pub all : up ≡ false → has_tei tei l ≡ true → has_tei tei new ≡ true → IsPart (waits l ++ due_here c was now time l t lost new) (controls_begun c service tei t ++ waits new)
+  -- What that leaves of those that wait, while the TEI stays on the line: none, where the link is deactivated.
+  abbrev pub Passes : Config → Standing → Standing → Bool → Bool → Line → List Seen → ℕ → Line → Type 0
+  Passes c was now time up l t lost new =
+      has_tei tei l ≡ true → has_tei tei new ≡ true
+      → waits new ≡ cond up [] (drop (length (controls_begun c service tei t)) (waits l) ++ due_here c was now time l t lost new)
 
   -- One event of a line.
   module _ (c : Config) (ranged : IsInRange c) (e : Event) (l : Line) (s : IsSound c l) (timed : HaveTheirTimers l) (m : ℕ) (busy rejected : Bool)
@@ -103,9 +97,6 @@ module _ (service : Service) (tei : ℕ) where
     abbrev Due : List ControlFrame
     Due = due_here c was now (time_at l e new) l shown (lost_in a) new
 
-    abbrev Owed : List ControlFrame
-    Owed = owed_here c now l shown
-
     abbrev begins : List ControlFrame
     begins = controls_begun c service tei shown
 
@@ -130,19 +121,8 @@ module _ (service : Service) (tei : ℕ) where
       none-begins : begins ≡ []
       none-begins = begun-is c service tei e l ∙ all-foreign c service tei (frame_in a) x.begins
 
-      none-only : IsPart (begins ++ waits new) (waits l ++ (Due ++ Owed))
-      none-only = subst (λ xs. IsPart (xs ++ waits new) (waits l ++ (Due ++ Owed))) (sym none-begins) (stays x.is)
-        where
-          stays : (link_of service tei new ≡ own) ⊎ (link_of service tei new ≡ fresh) → IsPart (waits new) (waits l ++ (Due ++ Owed))
-          stays (inl same) = subst (λ (k : Link). IsPart (controls k.waiting) (waits l ++ (Due ++ Owed))) (sym same) (more (waits l) (Due ++ Owed))
-          stays (inr gone) = subst (λ (k : Link). IsPart (controls k.waiting) (waits l ++ (Due ++ Owed))) (sym gone) (of-nothing (waits l ++ (Due ++ Owed)))
-
-      none-all : has_tei tei l ≡ true → has_tei tei new ≡ true → IsPart (waits l ++ Due) (begins ++ waits new)
-      none-all was-on is-on =
-          subst (λ xs. IsPart (waits l ++ xs) (begins ++ waits new)) (sym (none-put none))
-          (subst (λ xs. IsPart (waits l ++ []) (xs ++ waits new)) (sym none-begins)
-          (subst (λ (k : Link). IsPart (waits l ++ []) (controls k.waiting)) (sym same)
-          (subst (λ xs. IsPart xs (waits l)) (sym (append-nil (waits l))) (of-itself (waits l)))))
+      pub none-puts : has_tei tei l ≡ true → has_tei tei new ≡ true → Put ≡ []
+      none-puts was-on is-on = none
         where
           here : (place : ℕ) × (place_in l tei ≡ Some place)
           here = at-some-place l tei was-on
@@ -173,20 +153,84 @@ module _ (service : Service) (tei : ℕ) where
               (sym (both-up own.state (changed was now) (changed was now) (λ up. refl)) ∙ unchanged (is_multiple_frame own.state) refl) x.aims)
               ∙ ap (λ b. cond b (command_of now (state_of service tei new)) []) time
 
+      -- it is not deactivated
+      not-down : has_tei tei l ≡ true → deactivates service tei e ≡ false
+      not-down was-on = go e refl
+        where
+          here : (place : ℕ) × (place_in l tei ≡ Some place)
+          here = at-some-place l tei was-on
+
+          low : tei ≤ 126
+          low = s.management.table.range here.0 tei (place_of-is l.management.places tei here.0 here.1).1
+
+          go : (e' : Event) → e ≡ e' → deactivates service tei e' ≡ false
+          go (line_event.hears what) is = refl
+          go (line_event.expiry timer) is = refl
+          go next is = refl
+          go (line_event.request r) is = by-request r is
+            where
+              by-request : (r : Request) → e ≡ line_event.request r → is_deactivation service tei r ≡ false
+              by-request (Deactivate its by) is = other (same_service its service && by == tei) refl
+                where
+                  other : (b : Bool) → (same_service its service && by == tei) ≡ b → b ≡ false
+                  other false own = refl
+                  other true own =
+                      let same : by ≡ tei = eqb-true by tei (both-true (same_service its service) (by == tei) own).1 in
+                      let none : refusal c false (Deactivate its by) l ≡ None =
+                      ap (λ n. refusal c false (Deactivate its n) l) same ∙ ap (λ b. cond b (Some BadTei) (cond (not (has_tei tei l)) (Some NoLink) None)) (le-ltb 126 tei low)
+                      ∙ ap (λ b. cond (not b) (Some NoLink) None) was-on in
+                      let aimed : is_at_link service tei (aim_of c e l) ≡ true =
+                      ap (λ e. is_at_link service tei (aim_of c e l)) is ∙ ap (λ o. is_at_link service tei (unless_refused o (at_deactivated its by (place_in l by)))) none
+                      ∙ ap (λ o. is_at_link service tei (at_deactivated its by o)) (ap (place_in l) same ∙ here.1) ∙ own in
+                      absurd (true≢false (sym aimed ∙ x.aims))
+              by-request (Establish its by) is = refl
+              by-request (Release its by) is = refl
+              by-request (Data its by contents) is = refl
+              by-request (Request.Unit its by contents) is = refl
+              by-request (Assign by) is = refl
+              by-request (Remove by) is = refl
+              by-request (Check by) is = refl
+              by-request (SetBusy its by) is = refl
+              by-request (ClearBusy its by) is = refl
+              by-request Down is = refl
+
+      none-exact : has_tei tei l ≡ true → has_tei tei new ≡ true → waits new ≡ cond (deactivates service tei e) [] (drop (length begins) (waits l) ++ Due)
+      none-exact was-on is-on =
+          ap (λ (k : Link). controls k.waiting) (x.stays was-on is-on)
+          ∙ sym (ap (λ b. cond b [] (drop (length begins) (waits l) ++ Due)) (not-down was-on) ∙ ap (λ xs. drop (length xs) (waits l) ++ Due) none-begins
+          ∙ ap (λ xs. waits l ++ xs) (none-put (none-puts was-on is-on)) ∙ append-nil (waits l))
+
     -- An event of the link.
     module _ (x : HasOne c service tei e l new a) where
+      never-down : (asked : link.Request) → is_deactivation service tei (of_link service tei asked) ≡ false
+      never-down link.Establish = refl
+      never-down link.Release = refl
+      never-down (link.Data contents) = refl
+      never-down link.SetBusy = refl
+      never-down link.ClearBusy = refl
+
+      not-ended : (event : link.Event) → IsBy c e a service tei event → deactivates service tei e ≡ false
+      not-ended (link.received (link.frame f)) by = ap (deactivates service tei) by.by
+      not-ended (link.received link.undefined) by = ap (deactivates service tei) (heard-by c e a service tei link.undefined by).1
+      not-ended (link.received link.wrong_size) by = ap (deactivates service tei) (heard-by c e a service tei link.wrong_size by).1
+      not-ended (link.received link.overlong) by = ap (deactivates service tei) (heard-by c e a service tei link.overlong by).1
+      not-ended (link.expired timer) by = ap (deactivates service tei) by
+      not-ended (link.requested asked full) by = ap (deactivates service tei) by.0 ∙ never-down asked
+      not-ended link.offer by = ap (deactivates service tei) by
+      not-ended link.cleared by = absurd by
+
       abbrev t : Terms
       t = terms c service tei
 
       abbrev later : Link
       later = links.after (terms c service tei) x.event (link_of service tei l)
 
-      sound : link_sound.IsSound t own
+      pub sound : link_sound.IsSound t own
       sound =
           subst (link_sound.IsSound t) (sym (ap (λ o. option_map_or (link_in l service) o fresh) x.placed))
           (sound_in c ranged l s service tei x.place (place_of-is l.management.places tei x.place x.placed).1)
 
-      own-timed : HasItsTimer own
+      pub own-timed : HasItsTimer own
       own-timed = subst HasItsTimer (sym (ap (λ o. option_map_or (link_in l service) o fresh) x.placed)) (timed.links (link_number x.place service))
 
       abbrev delivers : Bool
@@ -207,7 +251,7 @@ module _ (service : Service) (tei : ℕ) where
                 | inr y ↦ absurd (true≢false (sym y.begins ∙ on))
               ]
 
-      numbered : IsNumbered t x.event own m busy rejected now.told.count now.busy now.rejected
+      pub numbered : IsNumbered t x.event own m busy rejected now.told.count now.busy now.rejected
       numbered = record {
         number_is = count;
         busy_is = stands.busy_is;
@@ -222,7 +266,7 @@ module _ (service : Service) (tei : ℕ) where
       }
 
       -- what is due is what the link puts
-      put-is : (there : ℕ) → place_in new tei ≡ Some there → Put ≡ put_by c.n201 was now x.event own.state later.state
+      pub put-is : (there : ℕ) → place_in new tei ≡ Some there → Put ≡ put_by c.n201 was now x.event own.state later.state
       put-is there on =
           ap (λ o. option_map_or (λ state. answers_seen c service tei was now state shown) o [] ++ cond (time_at l e new) (command_of now (state_of service tei new)) [])
           (state-on service tei l x.place x.placed)
@@ -232,11 +276,20 @@ module _ (service : Service) (tei : ℕ) where
           ∙ ap (λ o. answers_of c.n201 was now (state_number own.state) x.event ++ cond (moves own.state (link_of service tei new).state || ticks x.event == 1) (command_of now o) []) (state-on service tei new there on)
           ∙ ap (λ (k : Link). put_by c.n201 was now x.event own.state k.state) x.is
 
+      pub none-due : x.event ≡ link.offer → (there : ℕ) → place_in new tei ≡ Some there → Put ≡ []
+      none-due offer there on =
+          put-is there on ∙ ap (λ e. put_by c.n201 was now e own.state (links.after t e own).state) offer
+          ∙ ap (λ to. cond (moves own.state to || false) (command_of now (Some (state_number to))) []) (event-follows t link.offer own).leaves.state
+          ∙ ap (λ b. cond (b || false) (command_of now (Some (state_number own.state))) []) (unmoved own.state)
+
       begins-is : begins ≡ flat_map (begun_of c service tei) (frames_given c t x.event own)
       begins-is = begun-is c service tei e l ∙ ap (flat_map (begun_of c service tei)) x.begins
 
       quiet : IsNoOther x.event → frames_given c t x.event own ≡ [] → Here
-      quiet other none = record { only = only (place_in new tei) refl; all = λ up was-on is-on. let there = at-some-place new tei is-on in all there.0 there.1 }
+      quiet other none was-on is-on =
+          let there = at-some-place new tei is-on in
+          waits-is there.0 there.1
+          ∙ sym (ap (λ b. cond b [] (drop (length begins) (waits l) ++ Due)) (not-ended x.event x.by) ∙ ap (λ xs. drop (length xs) (waits l) ++ Due) none-begins)
         where
           none-begins : begins ≡ []
           none-begins = begins-is ∙ ap (flat_map (begun_of c service tei)) none
@@ -248,19 +301,13 @@ module _ (service : Service) (tei : ℕ) where
               ∙ ap (λ xs. waits l ++ take (length xs - (links.told t x.event own).lost) xs) (sym (put-is there on))
               ∙ ap (λ n. waits l ++ take (length Put - n) Put) (sym x.lost)
 
-          all : (there : ℕ) → place_in new tei ≡ Some there → IsPart (waits l ++ Due) (begins ++ waits new)
-          all there on = subst (λ xs. IsPart (waits l ++ Due) (xs ++ waits new)) (sym none-begins) (subst (IsPart (waits l ++ Due)) (sym (waits-is there on)) (of-itself (waits l ++ Due)))
-
-          only : (o : Option ℕ) → place_in new tei ≡ o → IsPart (begins ++ waits new) (waits l ++ (Due ++ Owed))
-          only (Some there) on =
-              subst (λ xs. IsPart (xs ++ waits new) (waits l ++ (Due ++ Owed))) (sym none-begins)
-              (subst (λ xs. IsPart xs (waits l ++ (Due ++ Owed))) (sym (waits-is there on)) (both (waits l) (waits l) Due (Due ++ Owed) (of-itself (waits l)) (more Due Owed)))
-          only None off =
-              subst (λ xs. IsPart (xs ++ waits new) (waits l ++ (Due ++ Owed))) (sym none-begins)
-              (subst (λ (k : Link). IsPart (controls k.waiting) (waits l ++ (Due ++ Owed))) (sym (off-fresh service tei new off)) (of-nothing (waits l ++ (Due ++ Owed))))
-
       given-here : x.event ≡ link.offer → e ≡ next → Here
-      given-here offer is = record { only = only; all = λ up was-on is-on. let there = at-some-place new tei is-on in all there.0 there.1 }
+      given-here offer is was-on is-on =
+          let there = at-some-place new tei is-on in
+          ap (λ (k : Link). controls k.waiting) later-is ∙ offer-leaves c service tei own range sound
+          ∙ sym (ap (λ b. cond b [] (drop (length begins) (waits l) ++ Due)) (not-ended x.event x.by)
+          ∙ ap (λ xs. drop (length begins) (waits l) ++ xs) (none-put (none-due offer there.0 there.1)) ∙ append-nil (drop (length begins) (waits l))
+          ∙ ap (λ xs. drop (length xs) (waits l)) begins-given)
         where
           given : List (List ℕ)
           given = map (frame_of c t) (option_to_list (links.given t own))
@@ -274,47 +321,8 @@ module _ (service : Service) (tei : ℕ) where
           later-is : link_of service tei new ≡ links.after t link.offer own
           later-is = x.is ∙ ap (λ e. links.after t e own) offer
 
-          now-is : now ≡ was
-          now-is =
-              subst (λ e. behind service tei c e l (answer c e l) m busy rejected ≡ was) (sym is)
-              (sym (stand-is service tei c next l m busy rejected) ∙ begun-stand service tei c (frame_in (answer c next l)) m busy rejected)
-
-          owed-seen : owed_here c was l shown ≡ flat_map (owed_of c service tei was (state_number own.state)) (frame_in a)
-          owed-seen =
-              subst (λ e. owed_here c was l (seen e (answer c e l)) ≡ flat_map (owed_of c service tei was (state_number own.state)) (frame_in (answer c e l))) (sym is)
-              (ap (λ o. option_map_or (λ state. flat_map (acknowledged_at c service tei was state) (seen next (answer c next l))) o []) (state-on service tei l x.place x.placed)
-              ∙ by-owed c service tei was (state_number own.state) (frame_in (answer c next l)))
-
-          owed-is : Owed ≡ flat_map (owed_of c service tei was (state_number own.state)) given
-          owed-is = ap (λ w. owed_here c w l shown) now-is ∙ owed-seen ∙ ap (flat_map (owed_of c service tei was (state_number own.state))) frames
-
-          its-own : own.pending ≡ true → IsOwed c service tei own was
-          its-own pends = let up = stands.pends_up pends in (count up, sym (stands.busy_is up) ∙ stands.pends_free pends, up-is own.state up)
-
-          only : IsPart (begins ++ waits new) (waits l ++ (Due ++ Owed))
-          only =
-              through (begins ++ waits new) (waits l ++ Owed) (waits l ++ (Due ++ Owed))
-              (subst (λ xs. IsPart (xs ++ waits new) (waits l ++ Owed)) (sym begins-given)
-              (subst (λ (k : Link). IsPart (flat_map (begun_of c service tei) given ++ controls k.waiting) (waits l ++ Owed)) (sym later-is)
-              (subst (λ xs. IsPart (flat_map (begun_of c service tei) given ++ controls (links.after t link.offer own).waiting) (waits l ++ xs)) (sym owed-is)
-              (offered c service tei t own was its-own (links.given t own) (given-in-order t own sound)))))
-              (both (waits l) (waits l) Owed (Due ++ Owed) (of-itself (waits l)) (parts.behind Due Owed))
-
-          none-due : (there : ℕ) → place_in new tei ≡ Some there → Put ≡ []
-          none-due there on =
-              put-is there on ∙ ap (λ e. put_by c.n201 was now e own.state (links.after t e own).state) offer
-              ∙ ap (λ to. cond (moves own.state to || false) (command_of now (Some (state_number to))) []) (event-follows t link.offer own).leaves.state
-              ∙ ap (λ b. cond (b || false) (command_of now (Some (state_number own.state))) []) (unmoved own.state)
-
           range : link_sound.IsInRange t
           range = terms_in_range c ranged service tei (s.management.table.range x.place tei (place_of-is l.management.places tei x.place x.placed).1)
-
-          all : (there : ℕ) → place_in new tei ≡ Some there → IsPart (waits l ++ Due) (begins ++ waits new)
-          all there on =
-              subst (λ xs. IsPart (waits l ++ xs) (begins ++ waits new)) (sym (none-put (none-due there on)))
-              (subst (λ xs. IsPart xs (begins ++ waits new)) (sym (append-nil (waits l)))
-              (subst (λ xs. IsPart (waits l) (xs ++ waits new)) (sym begins-given)
-              (subst (λ (k : Link). IsPart (waits l) (flat_map (begun_of c service tei) given ++ controls k.waiting)) (sym later-is) (offer-serves c service tei own range sound))))
 
       by-event : (event : link.Event) → x.event ≡ event → IsBy c e a service tei event → Here
       by-event (link.received what) is by = quiet (subst IsNoOther (sym is) tt) (ap (λ e. frames_given c t e own) is)
@@ -328,15 +336,10 @@ module _ (service : Service) (tei : ℕ) where
       ended-asked : deactivates service tei e ≡ true
       ended-asked = ap (deactivates service tei) x.by.0 ∙ own-is service tei
 
-      ended-only : IsPart (begins ++ waits new) (waits l ++ (Due ++ Owed))
-      ended-only =
-          subst (λ xs. IsPart (xs ++ waits new) (waits l ++ (Due ++ Owed))) (sym (begun-is c service tei e l ∙ ap (flat_map (begun_of c service tei)) x.begins))
-          (subst (λ (k : Link). IsPart (controls k.waiting) (waits l ++ (Due ++ Owed))) (sym x.is) (of-nothing (waits l ++ (Due ++ Owed))))
-
     pub event-passes : Here
     event-passes = go (event-goes c e l service tei s)
       where
         go : Goes c service tei e l new a → Here
-        go (inl x) = record { only = none-only x; all = λ up. none-all x }
+        go (inl x) = none-exact x
         go (inr (inl x)) = by-event x x.event refl x.by
-        go (inr (inr x)) = record { only = ended-only x; all = λ up. absurd (true≢false (sym (ended-asked x) ∙ up)) }
+        go (inr (inr x)) = λ was-on is-on. ap (λ (k : Link). controls k.waiting) x.is ∙ sym (ap (λ b. cond b [] (drop (length begins) (waits l) ++ Due)) (ended-asked x))

@@ -302,7 +302,7 @@ module _ (t : Terms) (l : Link) (m : ℕ) (busy rejected : Bool) (n : ℕ) (busy
   whenever e Established TimerRecovery is = refl
   whenever e TimerRecovery TimerRecovery is = while-there e TimerRecovery is
 
-  put-is : (e : Event) → IsNoOther e → HasItsTimer l → Seen e → let to = state_after t (as_heard t e) l in put (as_heard t e) l to ≡ put_by t.n201 was now e l.state to
+  pub put-is : (e : Event) → IsNoOther e → HasItsTimer l → Seen e → let to = state_after t (as_heard t e) l in put (as_heard t e) l to ≡ put_by t.n201 was now e l.state to
   put-is e other timed h =
       let heard = as_heard t e in
       let to = state_after t heard l in

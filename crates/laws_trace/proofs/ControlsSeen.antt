@@ -1,5 +1,5 @@
 -- What is seen of the control frames of a link, and which are due by it.
-use Rattle.laws_trace.proofs.Vocabulary.{◌≡◌, ℕ, ◌==◌, ◌&&◌, ◌||◌, Bool, true, false, cond, List, [], ◌∷◌, ◌++◌, map, drop, Option, Some, None, refl, sym, ap, ◌∙◌, subst, ◌⊎◌, inl, inr, eq-eqb, append-nil, true≢false, Result, Ok, Err, All, IfSome, flat_map, option_to_list, nat_lt, length, All-head, All-tail, ReceiveNotReady, ReceiveReady, Ui, ReadFault, Service, Parts, reading, sapi_of, reading-again, seq, IsInOrder, as_response, event-follows, ControlFrame, Terms, Link, address_at, state_number, IsGiven, Given, orders_for, given_is_frame, Config, Effect, hears, expiry, request, next, Answer, refused, gave, Line, place_in, terms, aim_of, of_request, unless_refused_told, heard_side, message_of, aim_of_reading, aim_of_heard, at_side, IsMalformed, IsTooLong, is_granted, IsBy, Brings, BringsMalformed, sapi-is, same-sapi, both-true, Refusal}
+use Rattle.laws_trace.proofs.Vocabulary.{◌≡◌, ℕ, zero, suc, ◌==◌, ◌&&◌, Bool, true, false, cond, List, [], ◌∷◌, ◌++◌, map, drop, Option, Some, None, refl, sym, ap, ◌∙◌, ◌⊎◌, inl, inr, eq-eqb, append-nil, true≢false, Result, Ok, Err, All, IfSome, flat_map, option_to_list, nat_lt, length, All-head, All-tail, Ui, ReadFault, Service, Parts, reading, sapi_of, reading-again, event-follows, ControlFrame, Terms, Link, address_at, IsGiven, Given, orders_for, given_is_frame, Config, Effect, hears, expiry, request, next, Answer, refused, gave, Line, place_in, terms, aim_of, of_request, unless_refused_told, heard_side, message_of, aim_of_reading, aim_of_heard, at_side, IsMalformed, IsTooLong, is_granted, IsBy, Brings, BringsMalformed, sapi-is, same-sapi, both-true, Refusal}
 use Rattle.std.proofs.Common.{eqb-true}
 use Rattle.std.specs.Option.{unwrap_or}
 use Rattle.model_bits.specs.Stream as stream
@@ -14,19 +14,17 @@ use Rattle.model_line.specs.Machine.{answer}
 use Rattle.model_line.specs.Taken.{frame_of}
 use Rattle.model_line.specs.Request.{Request}
 use Rattle.laws_line.specs.Requests as requests
-use Rattle.laws_trace.specs.ControlFrames.{of_link, control_in, controls_at, IsPart}
-use Rattle.laws_trace.proofs.ControlsWatched.{while_up, answer_to, changed, answers_at, acknowledged_by, acknowledged_at, answers_to_frame}
+use Rattle.laws_trace.specs.ControlFrames.{of_link, control_in, controls_at}
+use Rattle.laws_trace.proofs.ControlsWatched.{while_up, answer_to, changed, answers_at, answers_to_frame}
 use Rattle.laws_trace.proofs.DeliveriesWatched.{Standing}
 use Rattle.laws_trace.specs.Trace.{frame_in, is_up, Seen, heard, seen, seen_told, seen_granted}
 use Rattle.laws_trace.proofs.Addressed.{addressed-is}
 use Rattle.laws_trace.proofs.CommandsCaused.{same-itself}
 use Rattle.laws_trace.proofs.ControlsDue.{controls, answers_of}
 use Rattle.laws_trace.proofs.OneLink.{frames_given, IsForeign, is_at_link}
-use Rattle.laws_trace.proofs.Parts.{of-itself, of-nothing, both, more, through}
 use Rattle.laws_trace.proofs.ReadAgain.{read-again}
 use Rattle.laws_trace.proofs.Spelled.{whole-parts, given-spells}
 use Rattle.laws_trace.specs.Trace as traces
-use Rattle.laws_trace.proofs.Parts as parts
 use Rattle.model_line.specs.Refusal.{refusal}
 
 abbrev control_of : ControlFrame → List ControlFrame
@@ -35,14 +33,6 @@ control_of f = control_in f.command f.control
 either-none : (b : Bool) → cond {A = List ControlFrame} b [] [] ≡ []
 either-none true = refl
 either-none false = refl
-
-either-part : (b : Bool) (xs ys : List ControlFrame) → IsPart xs ys → IsPart (cond b xs []) (cond b ys [])
-either-part true xs ys h = h
-either-part false xs ys h = of-nothing []
-
-if-part : (b : Bool) (xs : List ControlFrame) → IsPart (cond b xs []) xs
-if-part true xs = of-itself xs
-if-part false xs = of-nothing xs
 
 module _ (c : Config) (service : Service) (tei : ℕ) where
   abbrev pub begun_of : List ℕ → List ControlFrame
@@ -100,99 +90,51 @@ module _ (c : Config) (service : Service) (tei : ℕ) where
   all-foreign (f ∷ frames) h =
       ap (λ xs. xs ++ flat_map begun_of frames) (foreign f (All-head (IsForeign c service tei) f frames h)) ∙ all-foreign frames (All-tail (IsForeign c service tei) f frames h)
 
-  -- An acknowledgement that goes by itself, in the state of this number.
-  abbrev pub owed_of : Standing → ℕ → List ℕ → List ControlFrame
-  owed_of w state octets = while_up state (of_link service tei (acknowledged_by w) (reading c.side octets))
-
-  pub by-owed : (w : Standing) (state : ℕ) (frames : List (List ℕ)) → flat_map (acknowledged_at c service tei w state) (map traces.begun frames) ≡ flat_map (owed_of w state) frames
-  by-owed w state [] = refl
-  by-owed w state (f ∷ frames) = ap (λ xs. owed_of w state f ++ xs) (by-owed w state frames)
-
-  -- What a link gives.
-  given-is : (t : Terms) (g : Given) → IsPart (begun_of (frame_of c t g)) (control_of g.frame)
-  given-is t g =
-      read-again c.side (λ r. IsPart (of_link service tei control_in r) (control_of g.frame)) (address_at t g.frame.command) g.frame.control
-      (λ info. if-part (sapi_of t.service == sapi_of service && t.tei == tei) (control_of g.frame)) (λ fault. of-nothing (control_of g.frame)) (unwrap_or g.contents [])
-
-  given-owed : (t : Terms) (g : Given) (w : Standing) (state : ℕ) → is_up state ≡ true → IsPart (control_of g.frame) (acknowledged_by w g.frame.command g.frame.control)
-      → IsPart (begun_of (frame_of c t g)) (owed_of w state (frame_of c t g))
-  given-owed t g w state up h =
-      subst (λ b. IsPart (begun_of (frame_of c t g)) (cond b (of_link service tei (acknowledged_by w) (reading c.side (frame_of c t g))) [])) (sym up)
-      (read-again c.side (λ r. IsPart (of_link service tei control_in r) (of_link service tei (acknowledged_by w) r)) (address_at t g.frame.command) g.frame.control
-      (λ info. either-part (sapi_of t.service == sapi_of service && t.tei == tei) (control_of g.frame) (acknowledged_by w g.frame.command g.frame.control) h)
-      (λ fault. of-nothing []) (unwrap_or g.contents []))
-
-  -- where an acknowledgement is owed, the link is up, and a watcher knows its number
-  abbrev pub IsOwed : Link → Standing → Type 0
-  IsOwed l w = (l.r ≡ w.told.count) × (w.busy ≡ false) × (is_up (state_number l.state) ≡ true)
-
-  abbrev Gives : Terms → Link → Standing → Given → Type 0
-  Gives t l w g = IsPart (begun_of (frame_of c t g) ++ controls (links.after t link.offer l).waiting) (controls l.waiting ++ owed_of w (state_number l.state) (frame_of c t g))
-
-  gives : (t : Terms) (l : Link) (w : Standing) (g : Given) → (l.pending ≡ true → IsOwed l w) → IsInOrder t l (links.after t link.offer l) g.frame → Gives t l w g
-  gives t l w g owed (inl oldest) =
-      let rest = controls (links.after t link.offer l).waiting in
-      let own = owed_of w (state_number l.state) (frame_of c t g) in
-      subst (λ xs. IsPart (begun_of (frame_of c t g) ++ rest) (xs ++ own)) (sym (ap controls oldest.waited))
-      (through (begun_of (frame_of c t g) ++ rest) (control_of g.frame ++ rest) ((control_of g.frame ++ rest) ++ own)
-      (both (begun_of (frame_of c t g)) (control_of g.frame) rest rest (given-is t g) (of-itself rest)) (more (control_of g.frame ++ rest) own))
-  gives t l w g owed (inr (inl information)) =
-      let all = controls l.waiting ++ owed_of w (state_number l.state) (frame_of c t g) in
-      subst (λ ws. IsPart (begun_of (frame_of c t g) ++ controls ws) all) (sym information.rest)
-      (subst (λ xs. IsPart xs all) (sym (append-nil (begun_of (frame_of c t g))))
-      (through (begun_of (frame_of c t g)) [] all (subst (IsPart (begun_of (frame_of c t g))) (ap control_of information.is) (given-is t g)) (of-nothing all)))
-  gives t l w g owed (inr (inr acknowledgement)) =
-      let own = owed_of w (state_number l.state) (frame_of c t g) in
-      let is = owed acknowledgement.was_owed in
-      subst (λ ws. IsPart (begun_of (frame_of c t g) ++ controls ws) (controls l.waiting ++ own)) (sym acknowledgement.rest)
-      (subst (λ xs. IsPart xs (controls l.waiting ++ own)) (sym (append-nil (begun_of (frame_of c t g))))
-      (through (begun_of (frame_of c t g)) own (controls l.waiting ++ own) (given-owed t g w (state_number l.state) is.2 (by-itself is)) (parts.behind (controls l.waiting) own)))
-    where
-      by-itself : IsOwed l w → IsPart (control_of g.frame) (acknowledged_by w g.frame.command g.frame.control)
-      by-itself is =
-          subst (λ (f : ControlFrame). IsPart (control_of f) (acknowledged_by w f.command f.control)) (sym acknowledgement.is)
-          (subst (λ b. IsPart (as_response (ReceiveReady (seq l.r) false)) (cond (b || false) [] (as_response (cond b (ReceiveNotReady (seq w.told.count) false) (ReceiveReady (seq w.told.count) false))))) (sym is.1)
-          (subst (λ n. IsPart (as_response (ReceiveReady (seq l.r) false)) (as_response (ReceiveReady (seq n) false))) is.0 (of-itself (as_response (ReceiveReady (seq l.r) false)))))
-
-  rest-part : (frames : List ControlFrame) → IsPart (controls (drop 1 frames)) (controls frames)
-  rest-part [] = of-itself []
-  rest-part (f ∷ frames) = parts.behind (control_of f) (controls frames)
-
-  pub offered : (t : Terms) (l : Link) (w : Standing) → (l.pending ≡ true → IsOwed l w) → (o : Option Given) → IfSome o (λ g. IsInOrder t l (links.after t link.offer l) g.frame)
-      → let frames = map (frame_of c t) (option_to_list o) in
-      IsPart (flat_map begun_of frames ++ controls (links.after t link.offer l).waiting) (controls l.waiting ++ flat_map (owed_of w (state_number l.state)) frames)
-  offered t l w owed None h =
-      subst (λ ws. IsPart (controls ws) (controls l.waiting ++ [])) (sym (event-follows t link.offer l).leaves.waiting)
-      (through (controls (drop 1 l.waiting)) (controls l.waiting) (controls l.waiting ++ []) (rest-part l.waiting) (more (controls l.waiting) []))
-  offered t l w owed (Some g) h =
-      let own = owed_of w (state_number l.state) (frame_of c t g) in
-      subst (λ xs. IsPart (xs ++ controls (links.after t link.offer l).waiting) (controls l.waiting ++ (own ++ []))) (sym (append-nil (begun_of (frame_of c t g))))
-      (subst (λ ys. IsPart (begun_of (frame_of c t g) ++ controls (links.after t link.offer l).waiting) (controls l.waiting ++ ys)) (sym (append-nil own)) (gives t l w g owed h))
-
   -- And what has waited goes.
   abbrev its : Terms
   its = terms c service tei
 
-  given-read : (g : Given) → IsGiven its g.frame g.contents → begun_of (frame_of c its g) ≡ control_of g.frame
+  pub given-read : (g : Given) → IsGiven its g.frame g.contents → begun_of (frame_of c its g) ≡ control_of g.frame
   given-read g h =
       ap (of_link service tei control_in) (reading-again c.side (whole-parts its g) (frame_of c its g) (given-spells c its g h))
       ∙ ap (λ b. cond b (control_of g.frame) []) (ap (λ b. b && tei == tei) (eq-eqb (sapi_of service) (sapi_of service) refl) ∙ eq-eqb tei tei refl)
 
-  serves : (l : Link) (ws : List ControlFrame) → let under = Offers.offer_among its ws (course_begun l) in
-      IfSome (links.given_of its l under under.sent) (λ g. IsGiven its g.frame g.contents)
-      → IsPart (controls ws) (flat_map begun_of (map (frame_of c its) (option_to_list (links.given_of its l under under.sent))) ++ controls under.link.waiting)
-  serves l [] h = of-nothing (flat_map begun_of (map (frame_of c its) (option_to_list (links.given_of its l (Offers.offer_among its [] (course_begun l)) (Offers.offer_among its [] (course_begun l)).sent)))
-      ++ controls (Offers.offer_among its [] (course_begun l)).link.waiting)
-  serves l (f ∷ fs) h =
-      let under = Offers.offer_among its (f ∷ fs) (course_begun l) in
-      let g : Given = record { frame = f; contents = None; orders = orders_for its l.running under.started under.link.running } in
-      let own : List ControlFrame = begun_of (frame_of c its g) in
-      both (control_of f) (own ++ []) (controls fs) (controls fs)
-      (subst (IsPart (control_of f)) (sym (append-nil own ∙ given-read g h)) (of-itself (control_of f))) (of-itself (controls fs))
+  -- So it is the first that begins, and the others wait on.
+  drop-none : (n : ℕ) → drop {A = ControlFrame} n [] ≡ []
+  drop-none zero = refl
+  drop-none (suc n) = refl
 
-  pub offer-serves : (l : Link) → link_sound.IsInRange its → link_sound.IsSound its l
-      → IsPart (controls l.waiting) (flat_map begun_of (frames_given c its link.offer l) ++ controls (links.after its link.offer l).waiting)
-  offer-serves l range sound = serves l l.waiting (given_is_frame its range l sound)
+  drop-front : (xs ys : List ControlFrame) → drop (length xs) (xs ++ ys) ≡ ys
+  drop-front [] ys = refl
+  drop-front (x ∷ xs) ys = drop-front xs ys
+
+  pub first-begins : (l : Link) → link_sound.IsInRange its → link_sound.IsSound its l → (f : ControlFrame) (fs : List ControlFrame) → l.waiting ≡ f ∷ fs
+      → flat_map begun_of (frames_given c its link.offer l) ≡ control_of f
+  first-begins l range sound f fs is = go l.waiting is (given_is_frame its range l sound)
+    where
+      go : (ws : List ControlFrame) → ws ≡ f ∷ fs → let under = Offers.offer_among its ws (course_begun l) in
+          IfSome (links.given_of its l under under.sent) (λ g. IsGiven its g.frame g.contents)
+          → flat_map begun_of (map (frame_of c its) (option_to_list (links.given_of its l under under.sent))) ≡ control_of f
+      go [] is h = cc is
+      go (x ∷ xs) is h =
+          let under = Offers.offer_among its (x ∷ xs) (course_begun l) in
+          let g : Given = record { frame = x; contents = None; orders = orders_for its l.running under.started under.link.running } in
+          let same : x ≡ f = cc is in
+          append-nil (begun_of (frame_of c its g)) ∙ given-read g h ∙ ap control_of same
+
+  pub offer-leaves : (l : Link) → link_sound.IsInRange its → link_sound.IsSound its l
+      → controls (links.after its link.offer l).waiting ≡ drop (length (flat_map begun_of (frames_given c its link.offer l))) (controls l.waiting)
+  offer-leaves l range sound = ap controls (event-follows its link.offer l).leaves.waiting ∙ go l.waiting refl
+    where
+      begins : List ControlFrame
+      begins = flat_map begun_of (frames_given c its link.offer l)
+
+      go : (ws : List ControlFrame) → l.waiting ≡ ws → controls (drop 1 l.waiting) ≡ drop (length begins) (controls l.waiting)
+      go [] is = ap (λ ws. controls (drop 1 ws)) is ∙ sym (ap (λ ws. drop (length begins) (controls ws)) is ∙ drop-none (length begins))
+      go (f ∷ fs) is =
+          ap (λ ws. controls (drop 1 ws)) is
+          ∙ sym (ap (λ ws. drop (length begins) (controls ws)) is ∙ ap (λ xs. drop (length xs) (control_of f ++ controls fs)) (first-begins l range sound f fs is)
+          ∙ drop-front (control_of f) (controls fs))
 
   -- What is seen, and what answers it.
   module _ (was now : Standing) (state : ℕ) where

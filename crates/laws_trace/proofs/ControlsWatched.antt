@@ -1,14 +1,12 @@
 -- The control frames of a link that go are those that are due.
-use Rattle.laws_trace.proofs.Vocabulary.{◌≡◌, ◌≤◌, ℕ, ◌-◌, ◌==◌, ◌&&◌, ◌||◌, not, Bool, true, false, List, [], ◌∷◌, ◌++◌, length, take, fold, flat_map, Option, Result, Ok, Err, nat_lt, if◌then◌else◌, option_map_or, seq, Information, ReceiveReady, ReceiveNotReady, Reject, Sabme, Disc, Ua, Dm, ReadFault, Service, Parts, reading, ControlFrame, Config, has_tei, heard_side, as_response, as_command, most_frames, lost_in, line_at, moments, AreTakesAt, takes_at}
+use Rattle.laws_trace.proofs.Vocabulary.{ℕ, ◌-◌, ◌==◌, ◌&&◌, ◌||◌, not, Bool, true, false, List, [], ◌++◌, length, take, flat_map, Option, Result, Ok, Err, nat_lt, if◌then◌else◌, option_map_or, seq, Information, ReceiveReady, ReceiveNotReady, Reject, Sabme, Disc, Ua, Dm, ReadFault, Service, Parts, reading, ControlFrame, Config, heard_side, as_response, as_command, lost_in}
 use Rattle.model_bits.specs.Stream as stream
 use Rattle.lapd_frame.specs.declared.controls.Control.{Control}
-use Rattle.model_card.specs.Card.{fresh}
-use Rattle.model_card.specs.Event.{Event}
-use Rattle.model_card.specs.Run.{Moment, after_all}
-use Rattle.laws_trace.proofs.DeliveriesWatched.{Standing, at_first, stand}
+use Rattle.model_card.specs.Run.{Moment}
+use Rattle.laws_trace.proofs.DeliveriesWatched.{Standing}
 use Rattle.laws_trace.proofs.States.{expired_of, one_more, is_state, state_before, state_after, differ}
-use Rattle.laws_trace.specs.Trace.{is_up, Seen, heard, begun, granted, seen_in, trace, trace_of}
-use Rattle.laws_trace.specs.ControlFrames.{of_link, controls_at, IsPart, StaysOn, IsNotDeactivated}
+use Rattle.laws_trace.specs.Trace.{is_up, Seen, heard, granted, seen_in}
+use Rattle.laws_trace.specs.ControlFrames.{of_link}
 
 -- A receipt is RNR while layer 3 is busy, and RR while it is not; its N(R) is the number of contents told of the link
 -- since its numbers began, modulo 128 (Q.921 clauses 3.5.2.6, 3.6.6, 3.6.8 and 5.6.6).
@@ -77,47 +75,3 @@ put_in c service tei number was now m =
 abbrev pub due_in : Config → Service → ℕ → ℕ → Standing → Standing → Moment → List ControlFrame
 due_in c service tei number was now m =
     let frames = put_in c service tei number was now m in take (length frames - lost_in m.answer) frames
-
--- An acknowledgement that goes by itself in states 7 and 8 is due as it begins: RR with F=0, while layer 3 is not busy
--- (clause 5.6.3.1).
-abbrev pub acknowledged_by : Standing → Bool → Control → List ControlFrame
-acknowledged_by now command (ReceiveReady nr pf) = if now.busy || (command || pf) then [] else as_response (receipt now false)
-acknowledged_by now command other = []
-
-abbrev pub acknowledged_at : Config → Service → ℕ → Standing → ℕ → Seen → List ControlFrame
-acknowledged_at c service tei now state (begun octets) = while_up state (of_link service tei (acknowledged_by now) (reading c.side octets))
-acknowledged_at c service tei now state other = []
-
-abbrev pub may_go_in : Config → Service → ℕ → ℕ → Standing → Standing → Moment → List ControlFrame
-may_go_in c service tei number was now m =
-    due_in c service tei number was now m
-    ++ option_map_or (λ state. flat_map (acknowledged_at c service tei now state) (seen_in number m)) (state_before service tei number m) []
-
--- Those of a run, by how the link stands before and behind each moment, to a watcher.
-unfoldable pub along : Config → Service → ℕ → ℕ → (Standing → Standing → Moment → List ControlFrame) → Standing → List Moment → List ControlFrame
-along c service tei number by w [] = []
-along c service tei number by w (m ∷ ms) =
-    let now = fold (stand c service tei) w (seen_in number m) in by w now m ++ along c service tei number by now ms
-
--- From whenever the TEI of a link is not on the line, the control frames of the link that begin are those that may go
--- since then, in their order, and none twice: so what waits where it leaves the line does not go (clause 5.3.4).
-abbrev pub OnlyDueGo : Config → List Event → ℕ → Type 0
-OnlyDueGo c events number =
-    (service : Service) (tei : ℕ) (before since : List Event) → events ≡ before ++ since →
-    let card = after_all (fresh c) before in
-    let w = fold (stand c service tei) at_first (trace_of c before number) in
-    has_tei tei (line_at number card) ≡ false →
-    IsPart (flat_map (controls_at c service tei) (trace number (moments card since)))
-    (along c service tei number (may_go_in c service tei number) w (moments card since))
-
--- While it stays, and the link is not deactivated, after whatever happened before, each that is due goes: it has begun
--- once the line was only called for its next frame, as often as the configuration says, in their order.
-abbrev pub AllDueGo : Config → List Event → ℕ → Type 0
-AllDueGo c events number =
-    (service : Service) (tei : ℕ) (before meanwhile calls : List Event) → events ≡ before ++ (meanwhile ++ calls) →
-    AreTakesAt number calls → most_frames c ≤ takes_at number calls →
-    let card = after_all (fresh c) before in
-    let w = fold (stand c service tei) at_first (trace_of c before number) in
-    StaysOn number tei card meanwhile → IsNotDeactivated number service tei meanwhile →
-    IsPart (along c service tei number (due_in c service tei number) w (moments card meanwhile))
-    (flat_map (controls_at c service tei) (trace number (moments card (meanwhile ++ calls))))

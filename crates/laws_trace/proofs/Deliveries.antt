@@ -28,21 +28,6 @@ frame_by c (expiry timer) = None
 frame_by c (request r) = None
 frame_by c next = None
 
--- A link is up where the number of its state says so.
-pub up-is : (service : Service) (tei : ℕ) (l : Line) → option_map_or is_up (state_of service tei l) false ≡ is_multiple_frame (link_of service tei l).state
-up-is service tei l = go (place_in l tei)
-  where
-    by-state : (state : State) → is_up (state_number state) ≡ is_multiple_frame state
-    by-state TeiAssigned = refl
-    by-state AwaitingEstablishment = refl
-    by-state AwaitingRelease = refl
-    by-state Established = refl
-    by-state TimerRecovery = refl
-
-    go : (o : Option ℕ) → option_map_or is_up (option_map (state_in l service) o) false ≡ is_multiple_frame (option_map_or (link_in l service) o fresh).state
-    go None = refl
-    go (Some place) = by-state (link_in l service place).state
-
 -- What is noted of contents is counted, and what a link notes is its own.
 any-counted : (p q : Note → Bool) → ((n : Note) → p n ≡ true → q n ≡ true) → (ns : List Note) → list_any p ns ≡ true → 1 ≤ count_by q ns
 any-counted p q h [] e = absurd (true≢false (sym e))

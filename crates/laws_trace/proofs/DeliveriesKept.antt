@@ -1,5 +1,5 @@
 -- How a link stands by what is heard and noted: over runs.
-use Rattle.laws_trace.proofs.Vocabulary.{◌≡◌, ℕ, ◌<◌, Bool, false, List, [], ◌∷◌, ◌++◌, None, refl, sym, ap, ◌∙◌, subst, fold, option_map_or, get_or-replicate, fold-append, Service, Link, Config, Line, link_in, link_of, fresh_line, IsInRange, nowhere, line_at, fresh_is_sound}
+use Rattle.laws_trace.proofs.Vocabulary.{◌≡◌, ℕ, ◌<◌, Bool, false, List, [], ◌++◌, None, refl, sym, ap, ◌∙◌, subst, option_map_or, get_or-replicate, fold-append, Service, Link, Config, Line, link_in, link_of, fresh_line, IsInRange, nowhere, line_at, fresh_is_sound}
 use Rattle.model_link.specs.Link.{fresh}
 use Rattle.model_line.specs.Event.{Event}
 use Rattle.model_line.specs.Machine.{after, answer}
@@ -9,7 +9,6 @@ use Rattle.model_card.specs.Event as card
 use Rattle.model_card.specs.Run.{after_all, AreAtLines}
 use Rattle.laws_trace.specs.Trace.{Seen, seen, trace_of}
 use Rattle.laws_trace.proofs.DeliveriesWatched.{Standing, at_first, stand}
-use Rattle.laws_trace.proofs.Counting.{watch}
 use Rattle.laws_trace.proofs.DeliveriesRun.{IsCount}
 use Rattle.laws_trace.proofs.Runs.{run-shows}
 use Rattle.laws_trace.proofs.Standing.{standing, stand-is, event-stands, event-counts, fresh-stands}
@@ -30,11 +29,6 @@ module _ (c : Config) (service : Service) (tei : ℕ) where
         subst (λ (w : Standing). IsCount new w.told.count) (sym is) (event-counts service tei c ranged l s e m count busy rejected stands),
         subst (λ (w : Standing). IsStanding new w.busy w.rejected) (sym is) (event-stands service tei c ranged l s e m count busy rejected stands).0,
       )
-
-  -- what is told is watched the same
-  pub told-same : (w : Standing) (t : List Seen) → (standing service tei c w t).told ≡ fold (watch c service tei) w.told t
-  told-same w [] = refl
-  told-same w (x ∷ t) = told-same (stand c service tei w x) t
 
 -- Over runs.
 abbrev Stands : Config → Line → Type 0

@@ -222,39 +222,3 @@ module _ (c : Config) (ranged : IsInRange c) (l : Line) (s : IsSound c l) (e : E
         record { data_is = one-data x; unit_is = one-unit x; once = told-once c e l ranged s },
         one-counts x,
       )
-
--- What is seen of an event, to whoever watches the link.
-module _ (c : Config) (service : Service) (tei : ℕ) where
-  abbrev Passes : Watched → List Seen → Link → Type 0
-  Passes w t k = ((fold (watch c service tei) w t).frame ≡ None) × IsCount k (fold (watch c service tei) w t).count
-
-  after-heard : (e : stream.Event) (n : ℕ) (k : Link) (t : LineTold) → IsCount k (counted service tei (record { frame = frame_of c e; count = n }) t.notes)
-      → Passes (record { frame = None; count = n }) (traces.heard e ∷ traces.noted t.notes t.contents ∷ traces.lost t.lost ∷ []) k
-  after-heard e n k t count = (refl, count)
-
-  after-told : (n : ℕ) (k : Link) (a : Answer) → let w : Watched = record { frame = None; count = n } in IsCount k (counted service tei w (notes_of a)) → Passes w (seen_told a) k
-  after-told n k (told t) count = (refl, count)
-  after-told n k (refused why) count = (refl, count)
-  after-told n k (gave given) count = (refl, count)
-
-  after-asked : (r : Request) (n : ℕ) (k : Link) (a : Answer) → let w : Watched = record { frame = None; count = n } in
-      IsCount k (counted service tei w (notes_of a)) → Passes w (traces.seen_granted r a ++ seen_told a) k
-  after-asked r n k (told t) count = (refl, count)
-  after-asked r n k (refused why) count = (refl, count)
-  after-asked r n k (gave given) count = (refl, count)
-
-  after-next : (o : Option NextFrame) (n : ℕ) (k : Link) → IsCount k n → Passes (record { frame = None; count = n }) (map traces.begun (frame_in (gave o))) k
-  after-next None n k count = (refl, count)
-  after-next (Some f) n k count = (refl, count)
-
-  pub event-passes : IsInRange c → (e : Event) (l : Line) → IsSound c l → (n : ℕ) → IsCount (link_of service tei l) n
-      → Passes (record { frame = None; count = n }) (seen e (answer c e l)) (link_of service tei (after c e l))
-  unfolding answer
-  event-passes ranged (hears what) l s n before =
-      after-heard what n (link_of service tei (after c (hears what) l)) (of_heard c what l).told (event-told c ranged l s (hears what) service tei n before).1
-  event-passes ranged (expiry timer) l s n before =
-      after-told n (link_of service tei (after c (expiry timer) l)) (answer c (expiry timer) l) (event-told c ranged l s (expiry timer) service tei n before).1
-  event-passes ranged (request r) l s n before =
-      after-asked r n (link_of service tei (after c (request r) l)) (answer c (request r) l) (event-told c ranged l s (request r) service tei n before).1
-  event-passes ranged next l s n before =
-      after-next (option_map next_of (taken c l)) n (link_of service tei (after c next l)) (event-told c ranged l s next service tei n before).1

@@ -16,7 +16,7 @@ use Rattle.laws_trace.specs.News.{brings, is_news, is_sabme}
 use Rattle.laws_trace.specs.Observer.{steps}
 use Rattle.laws_trace.specs.Outgoing.{data_asked, is_release_of}
 use Rattle.laws_trace.specs.Trace.{is_own, seen, is_up}
-use Rattle.laws_trace.proofs.AllDataGoesOut.{link-at-end}
+use Rattle.laws_trace.proofs.LineAtEnd.{link-at-end}
 use Rattle.laws_trace.proofs.DataAsked as asks
 use Rattle.laws_trace.proofs.DataAsked.{no-data, only-requested, only-offered, granted-data}
 use Rattle.laws_trace.proofs.DataOfLink.{none-accepted}
@@ -301,9 +301,9 @@ module _ (c : Config) (ranged : IsInRange c) (l : Line) (s : IsSound c l) (servi
       go (inr (inl x)) = one-left x
       go (inr (inr x)) = down-left x
 
-  -- A TEI that comes to the line has a link that keeps nothing.
-  pub comes-so : place_in l tei ≡ None → queue_of k' ≡ []
-  comes-so off = ap (λ (y : Link). queue_of y) (go (event-goes c e l service tei s))
+  -- A TEI that comes to the line has a link that begins.
+  pub comes-so : place_in l tei ≡ None → k' ≡ fresh_link
+  comes-so off = go (event-goes c e l service tei s)
     where
       go : Goes c service tei e l new a → k' ≡ fresh_link
       go (inr (inl x)) = absurd (none-some x.place (sym off ∙ x.placed))

@@ -1,5 +1,5 @@
 -- Which state a link moves to: the law.
-use Rattle.laws_trace.proofs.Vocabulary.{◌≡◌, ℕ, ◌+◌, ◌<◌, ◌≤◌, ◌==◌, not, Bool, true, false, cond, List, [], ◌∷◌, get_or, set, Option, Some, None, refl, sym, ap, ◌∙◌, subst, arith, eq-eqb, true≢false, ◌⊎◌, inl, inr, fold, IfSome, option_map_or, and_parts, get_or-set_same, get_or-replicate, All-head, All-tail, none-some, PoolFull, Service, State, TeiAssigned, AwaitingEstablishment, AwaitingRelease, Established, TimerRecovery, Terms, Link, state_number, Config, Answer, refused, Line, fresh_line, link_of, link_in, place_in, state_of, terms, IsInRange, Card, line_at, is_full, moments, fresh_is_sound, after_is_sound, has_lines, by_room, line_sound, AllHaveTheirTimers, timely-after, begins-timely-card, IsBy, HaveTheirTimers, nowhere, moves}
+use Rattle.laws_trace.proofs.Vocabulary.{◌≡◌, ℕ, ◌+◌, ◌<◌, ◌≤◌, ◌==◌, not, Bool, true, false, cond, List, [], get_or, set, Option, Some, None, refl, sym, ap, ◌∙◌, subst, arith, eq-eqb, true≢false, ◌⊎◌, inl, inr, IfSome, option_map_or, and_parts, get_or-set_same, get_or-replicate, none-some, PoolFull, Service, State, TeiAssigned, AwaitingEstablishment, AwaitingRelease, Established, TimerRecovery, Terms, Link, state_number, Config, Answer, refused, Line, fresh_line, link_of, link_in, place_in, state_of, terms, IsInRange, Card, line_at, is_full, has_lines, by_room, line_sound, AllHaveTheirTimers, IsBy, HaveTheirTimers, nowhere, moves}
 use Rattle.std.proofs.Common.{eqb-true}
 use Rattle.model_link.specs.Events as link
 use Rattle.model_link.specs.Link.{fresh as fresh_link}
@@ -10,11 +10,11 @@ use Rattle.model_line.specs.Sound.{IsSound}
 use Rattle.model_card.specs.Card.{fresh}
 use Rattle.model_card.specs.Event.{Event}
 use Rattle.model_card.specs.Machine.{after, answer}
-use Rattle.model_card.specs.Run.{Moment, after_all, IsAtLine, AreAtLines}
+use Rattle.model_card.specs.Run.{IsAtLine, AreAtLines}
 use Rattle.model_card.specs.Sound as card_sound
 use Rattle.laws_trace.proofs.MovesWatched.{by_expiry, repeated, led}
 use Rattle.laws_trace.proofs.States.{expired_of, one_more, differ}
-use Rattle.laws_trace.proofs.TimersWatched.{Known, nothing_yet, watch}
+use Rattle.laws_trace.proofs.TimersWatched.{Known}
 use Rattle.laws_trace.specs.Trace.{seen}
 use Rattle.laws_trace.proofs.LinkLed.{on-line, none-led, none-ticks, one-led, one-ticks, ended-leads}
 use Rattle.laws_trace.proofs.MovesOfLink.{Counts, event-leads, event-counted}
@@ -22,7 +22,6 @@ use Rattle.laws_trace.proofs.OneLink.{HasOne, HasNone, Goes, event-goes}
 use Rattle.laws_trace.proofs.CallRuns.{apart}
 use Rattle.laws_trace.proofs.Runs.{nothing-seen}
 use Rattle.laws_trace.proofs.TimerClaims.{told_state}
-use Rattle.laws_trace.proofs.TimersAreTimely.{moment-known, begins-true}
 use Rattle.laws_trace.proofs.TimersOfEvent.{IsTrueOf, state-on, off-fresh, off-state}
 use Rattle.laws_trace.proofs.TimersOfEvent as events
 
@@ -254,18 +253,6 @@ module _ (service : Service) (tei number : ℕ) where
       go false other =
           subst (IsCountOf service tei n) (sym (apart card e number (λ same. true≢false (sym (eq-eqb e.line number (sym same)) ∙ other)))) counts
 
-  pub run-counted : (card : Card) (events : List Event) → card_sound.IsSound card → AllHaveTheirTimers card → AreAtLines card events → (k : Known) (n : ℕ)
-      → IsTrueOf service tei k (line_at number card) → IsCountOf service tei n (line_at number card)
-      → IsCountOf service tei (fold (repeated service tei number) n (moments card events)) (line_at number (after_all card events))
-  unfolding moments after_all
-  run-counted card [] s timely all k n agrees counts = counts
-  run-counted card (e ∷ events) s timely all k n agrees counts =
-      let here = All-head (IsAtLine card) e events all in
-      let m : Moment = record { card = card; event = e; answer = answer e card } in
-      run-counted (after e card) events (after_is_sound card e s here) (timely-after card e s timely here) (All-tail (IsAtLine card) e events all)
-      (watch card.config service tei number k m) (repeated service tei number n m) (moment-known service tei number card s timely e here k agrees)
-      (moment-counted card s timely e here k n agrees counts)
-
 -- From a fresh card on.
 module _ (c : Config) (events : List Event) (number : ℕ) (ranged : IsInRange c) (all : AreAtLines (fresh c) events) (within : number < c.lines) (service : Service) (tei : ℕ) where
   start : line_at number (fresh c) ≡ fresh_line c
@@ -273,8 +260,3 @@ module _ (c : Config) (events : List Event) (number : ℕ) (ranged : IsInRange c
 
   off : link_of service tei (line_at number (fresh c)) ≡ fresh_link
   off = ap (link_of service tei) start ∙ ap (λ o. option_map_or (link_in (fresh_line c) service) o fresh_link) (nowhere c tei)
-
-  pub count-now : IsCountOf service tei (fold (repeated service tei number) 0 (moments (fresh c) events)) (line_at number (after_all (fresh c) events))
-  count-now =
-      run-counted service tei number (fresh c) events (fresh_is_sound c ranged) (begins-timely-card c) all nothing_yet 0
-      (begins-true c events number ranged all within service tei) (subst (λ (y : Link). Counts y.state 0 y.repeats) (sym off) tt)

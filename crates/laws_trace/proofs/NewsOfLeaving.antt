@@ -21,7 +21,7 @@ use Rattle.laws_trace.proofs.NewsWatched.{due}
 use Rattle.laws_trace.proofs.LinkLed.{own-is}
 use Rattle.laws_trace.proofs.ManagingTables.{on-coming, on-leaving}
 use Rattle.laws_trace.proofs.NewsOfOthers.{none-filtered, tei-note, other-link}
-use Rattle.laws_trace.proofs.StaysOn.{next-keeps}
+use Rattle.laws_trace.proofs.CallsKeep.{next-keeps}
 use Rattle.laws_line.proofs.Downs.{by-down}
 
 -- What the end of a TEI tells of its link is due as the link would come to state 4.

@@ -1,5 +1,5 @@
 -- The control frames of a link that are due by what the observer knows are those that are due by how the link stands.
-use Rattle.laws_trace.proofs.Vocabulary.{◌≡◌, ℕ, ◌+◌, ◌%◌, ◌==◌, ◌&&◌, ◌||◌, not, Bool, true, false, cond, length, List, [], ◌∷◌, ◌++◌, Option, Some, None, refl, sym, ap, ◌∙◌, true≢false, fold, nat_lt, Result, Ok, Err, option_map_or, seq, Information, ReceiveReady, ReceiveNotReady, Reject, Sabme, Disc, Ui, Ua, Dm, Frmr, ReadFault, Service, Parts, reading, ControlFrame, Config, hears, expiry, request, next, Answer, refused, gave, heard_side, Assign, Remove, Deactivate, as_response, is_granted, Down}
+use Rattle.laws_trace.proofs.Vocabulary.{◌≡◌, ℕ, ◌==◌, ◌&&◌, not, Bool, true, false, cond, length, List, [], ◌++◌, Some, None, refl, sym, ap, ◌∙◌, true≢false, nat_lt, Result, Ok, Err, option_map_or, seq, Information, ReceiveReady, ReceiveNotReady, Reject, Sabme, Disc, Ui, Ua, Dm, Frmr, ReadFault, Service, Parts, reading, ControlFrame, Config, hears, expiry, request, next, Answer, refused, gave, heard_side, Assign, Remove, Deactivate, as_response, is_granted, Down}
 use Rattle.model_bits.specs.Stream as stream
 use Rattle.lapd_frame.specs.declared.controls.Control.{Control}
 use Rattle.lapd_frame.specs.declared.controls.Control.TheVariants.{Xid}
@@ -10,9 +10,9 @@ use Rattle.model_line.specs.Event.{told}
 use Rattle.model_line.specs.Request.{Request, Establish, Release, Data, Check, SetBusy, ClearBusy}
 use Rattle.laws_trace.specs.ControlFrames as now_due
 use Rattle.laws_trace.specs.ControlFrames.{of_link}
-use Rattle.laws_trace.specs.LinkFrames.{parts_of, frame_of, its_frame, is_for, Sent, sent_in}
+use Rattle.laws_trace.specs.LinkFrames.{parts_of, frame_of, its_frame, is_for}
 use Rattle.laws_trace.specs.Managing.{Managed, due}
-use Rattle.laws_trace.specs.Observer.{Observed, in_state, by_request, sends, by_frame_begun}
+use Rattle.laws_trace.specs.Observer.{Observed, in_state, by_request}
 use Rattle.laws_trace.specs.Trace.{is_own, is_up, heard, seen_told, seen_granted}
 use Rattle.laws_trace.proofs.ControlsSeen.{answers_seen, asked-answers}
 use Rattle.laws_trace.proofs.ControlsWatched as old
@@ -39,21 +39,6 @@ module _ (q : Observed) (u : Standing) (same : Same q u.told.count u.busy u.reje
   polled-is : (p : Bool) → old.polled u p ≡ now_due.polled q p
   polled-is true = ap as_response (receipt-is true)
   polled-is false = refl
-
-  pub acknowledged-is : (command : Bool) (control : Control) → old.acknowledged_by u command control ≡ now_due.acknowledged_by q command control
-  acknowledged-is command (ReceiveReady nr pf) =
-      ap (λ b. cond (b || (command || pf)) [] (as_response (old.receipt u false))) (sym same.busy_is)
-      ∙ ap (λ r. cond (q.own_busy || (command || pf)) [] (as_response r)) (receipt-is false)
-  acknowledged-is command (Information ns nr p) = refl
-  acknowledged-is command (ReceiveNotReady nr pf) = refl
-  acknowledged-is command (Reject nr pf) = refl
-  acknowledged-is command (Sabme p) = refl
-  acknowledged-is command (Disc p) = refl
-  acknowledged-is command (Ui p) = refl
-  acknowledged-is command (Ua f) = refl
-  acknowledged-is command (Dm f) = refl
-  acknowledged-is command (Frmr f) = refl
-  acknowledged-is command (Xid pf) = refl
 
   -- layer 3 comes to be busy, or is so no more
   changed-is : (o : Observed) (w : Standing) → Same o w.told.count w.busy w.rejected
@@ -248,16 +233,3 @@ module _ (service : Service) (tei : ℕ) where
       go : (b : Bool) → false ≡ option_map_or one_more (cond b (Some T203) None) 0 == 1
       go true = refl
       go false = refl
-
-  -- An I-frame that goes moves no state.
-  pub sent-state : (c : Config) (o : Observed) (frames : List (List ℕ)) → (fold (by_frame_begun c service tei) o frames).state ≡ o.state
-  sent-state c o [] = refl
-  sent-state c o (f ∷ frames) = sent-state c (by_frame_begun c service tei o f) frames ∙ one (sent_in service tei (reading c.side f))
-    where
-      one : (x : Option Sent) → (option_map_or (sends o) x o).state ≡ o.state
-      one None = refl
-      one (Some sent) = go (is_up o.state)
-        where
-          go : (b : Bool) → (cond b (record o { next = (sent.ns + 1) % 128 }) o).state ≡ o.state
-          go true = refl
-          go false = refl

@@ -1,5 +1,5 @@
--- The control frames of a link that are due, and may go, in a moment, by what the observer knows.
-use Rattle.laws_trace.proofs.Vocabulary.{◌≡◌, inl, inr, ℕ, ◌<◌, ◌-◌, ◌==◌, ◌&&◌, ◌||◌, not, Bool, true, false, cond, length, take, List, [], ◌++◌, Option, Some, None, is_some, refl, sym, ap, ◌∙◌, subst, eq-eqb, true≢false, flat_map, nat_lt, list_any, option_map_or, none-some, Sabme, Disc, Service, Parts, State, state_number, Config, hears, expiry, request, next, Answer, Line, link_of, place_in, state_of, as_response, as_command, lost_in, is_granted, AllHaveTheirTimers, Card, line_at, at}
+-- The control frames of a link that are due in a moment, by what the observer knows.
+use Rattle.laws_trace.proofs.Vocabulary.{◌≡◌, inl, inr, ℕ, ◌<◌, ◌-◌, ◌==◌, ◌&&◌, ◌||◌, not, Bool, true, false, cond, length, take, List, [], ◌++◌, Option, Some, None, is_some, refl, sym, ap, ◌∙◌, subst, eq-eqb, true≢false, nat_lt, list_any, option_map_or, none-some, Sabme, Disc, Service, Parts, State, state_number, Config, hears, expiry, request, next, Answer, Line, link_of, place_in, state_of, as_response, as_command, lost_in, is_granted, AllHaveTheirTimers, Card, line_at, at}
 use Rattle.std.proofs.Common.{eqb-true}
 use Rattle.model_bits.specs.Stream as stream
 use Rattle.model_line.specs.Event as line_event
@@ -10,11 +10,10 @@ use Rattle.model_card.specs.Machine.{after, answer}
 use Rattle.model_card.specs.Run.{Moment, IsAtLine}
 use Rattle.model_card.specs.Sound as card_sound
 use Rattle.laws_trace.specs.ControlFrames as now_due
-use Rattle.laws_trace.specs.ControlFrames.{of_link, controls_at, IsPart, OnlyDueGo, AllDueGo}
 use Rattle.laws_trace.specs.LinkFrames.{frame_of, its_frame}
 use Rattle.laws_trace.specs.Managing.{Managed, is_on, led, due}
 use Rattle.laws_trace.specs.Observer.{Observed, View, in_state, by_event, by_heard, by_request, views}
-use Rattle.laws_trace.specs.Trace.{is_up, Seen, frame_in, frames_begun, seen, seen_told, seen_granted, seen_in}
+use Rattle.laws_trace.specs.Trace.{is_up, Seen, frame_in, seen, seen_told, seen_granted, seen_in}
 use Rattle.laws_trace.proofs.CallRuns.{apart}
 use Rattle.laws_trace.proofs.ControlsSeen.{answers_seen, heard-answers, told-none, begun-none}
 use Rattle.laws_trace.proofs.ControlsWatched as old
@@ -24,7 +23,7 @@ use Rattle.laws_trace.proofs.MovesWatched.{repeated}
 use Rattle.laws_trace.proofs.NewsWatched as news
 use Rattle.laws_trace.proofs.NewsWatched.{Owing, none_owed, owing}
 use Rattle.laws_trace.proofs.ObservedAnswers.{is_answered, card-answered}
-use Rattle.laws_trace.proofs.ObservedControls.{either-none, as-busy, receipt-is, by-heard, asked-answers-is, busies, still-busy, none-led, stays-up, expires-is, sent-state}
+use Rattle.laws_trace.proofs.ObservedControls.{either-none, as-busy, receipt-is, by-heard, asked-answers-is, busies, still-busy, none-led, stays-up, expires-is}
 use Rattle.laws_trace.proofs.ObservedCount.{Same, Agree}
 use Rattle.laws_trace.proofs.ObservedCounted.{Stands, agrees-then}
 use Rattle.laws_trace.proofs.ObservedFacts.{Facts, facts, state-is, differs-is}
@@ -34,7 +33,7 @@ use Rattle.laws_trace.proofs.StandingOfLink.{calm}
 use Rattle.laws_trace.proofs.States.{is_state, differ, expired_of, one_more}
 use Rattle.laws_trace.proofs.TimersOfEvent.{state-on, off-state}
 use Rattle.laws_trace.proofs.TimersWatched.{Known, watch}
-use Rattle.laws_trace.proofs.ObservedControlsSeen.{none-mapped, not-one, frame-leads, OldOwn, Own, own-seen, own-same, told-begins, asked-begins, granted-busy, asked-moves}
+use Rattle.laws_trace.proofs.ObservedControlsSeen.{none-mapped, not-one, frame-leads, granted-busy, asked-moves}
 
 module _ (service : Service) (tei number : ℕ) where
   module _ (card : Card) (s : card_sound.IsSound card) (timely : AllHaveTheirTimers card) (e : Event) (here : IsAtLine card e)
@@ -84,12 +83,6 @@ module _ (service : Service) (tei number : ℕ) where
         ++ cond (differ from to || (b && option_map_or one_more (expired_of service tei e.what) 0 == 1)) (old.command_of u to) [])
         ≡ cond (b && not (o.state == 1)) (now_due.put_in c service tei o q its) []
 
-    abbrev Owns : Bool → Type 0
-    Owns b =
-        let u = stands-by b in
-        option_map_or (λ state. flat_map (old.acknowledged_at c service tei u state) (shown-by b)) from []
-        ≡ cond (is_up o.state) (flat_map (Own c service tei q) (frames_begun (shown-by b))) []
-
     before : Facts from k asked w.outstanding m o
     before = facts service tei k asked w.outstanding m (line_at number card) v h
 
@@ -109,9 +102,6 @@ module _ (service : Service) (tei number : ℕ) where
         ap (λ xs. xs ++ cond (differ from to || false) (old.command_of was to) []) (none-mapped from [] refl)
         ∙ ap (λ (x : Line). cond (differ from (state_of service tei x) || false) (old.command_of was (state_of service tei x)) []) same
         ∙ ap (λ b. cond (b || false) (old.command_of was from) []) (differ-self from)
-
-    other-owns : Owns false
-    other-owns = none-mapped from [] refl ∙ sym (either-none (is_up o.state))
 
     -- Where the TEI is not on the line.
     module _ (off : from ≡ None) (first : o ≡ in_state 1) where
@@ -136,12 +126,6 @@ module _ (service : Service) (tei number : ℕ) where
           ap (λ st. option_map_or (λ state. answers_seen c service tei was u state (seen e.what a)) st [] ++ cond time (old.command_of u to) []) off
           ∙ ap (λ xs. cond time xs []) (none-commanded u) ∙ either-none time
           ∙ sym (ap (λ (o' : Observed). cond (not (o'.state == 1)) (now_due.put_in c service tei o q its) []) first)
-
-      off-owns : Owns true
-      off-owns =
-          let u = stands-by true in
-          ap (λ st. option_map_or (λ state. flat_map (old.acknowledged_at c service tei u state) (seen e.what a)) st []) off
-          ∙ sym (ap (λ (o' : Observed). cond (is_up o'.state) (flat_map (Own c service tei q) (frames_begun (seen e.what a))) []) first)
 
     -- Where it is.
     module _ (mine : (e.line == number) ≡ true) (x : State) (there : from ≡ Some (state_number x)) (state : o.state ≡ state_number x) where
@@ -266,40 +250,16 @@ module _ (service : Service) (tei number : ℕ) where
           ∙ ap (λ xs. now_due.answers c service tei o q e.what a ++ cond (not (o.state == q.state) || now_due.expires service tei e.what) xs []) command-so
           ∙ sym (ap (λ b. cond (not b) (now_due.put_in c service tei o q its) []) (ap (λ s. s == 1) state ∙ not-one x))
 
-      owned : (what : line_event.Event) → e.what ≡ what → is_up o.state ≡ true → flat_map (OldOwn c service tei u') (frames_begun (seen what a)) ≡ flat_map (Own c service tei q) (frames_begun (seen what a))
-      owned (hears e') is up = ap (flat_map (OldOwn c service tei u')) (told-begins c service tei a) ∙ sym (ap (flat_map (Own c service tei q)) (told-begins c service tei a))
-      owned (expiry timer) is up = ap (flat_map (OldOwn c service tei u')) (told-begins c service tei a) ∙ sym (ap (flat_map (Own c service tei q)) (told-begins c service tei a))
-      owned (request r) is up = ap (flat_map (OldOwn c service tei u')) (asked-begins c service tei r a) ∙ sym (ap (flat_map (Own c service tei q)) (asked-begins c service tei r a))
-      owned next is up =
-          let on = on-by (ap (λ z. (due c z v.teis).known.on) is) in
-          let up-then : is_up q.state ≡ true = ap (λ (p : Observed). is_up p.state) (q-is true on) ∙ ap (λ z. is_up (by_event c service tei z a o).state) is
-          ∙ ap is_up (sent-state service tei c o (frame_in a)) ∙ up in
-          own-same c service tei q u' (agrees-here up-then) (frames_begun (seen next a))
-
-      on-owns : Owns true
-      on-owns =
-          ap (λ st. option_map_or (λ state. flat_map (old.acknowledged_at c service tei u' state) (seen e.what a)) st []) from-is
-          ∙ own-seen c service tei u' o.state (is_up o.state) refl (seen e.what a) ∙ go (is_up o.state) refl
-        where
-          go : (b : Bool) → is_up o.state ≡ b → cond b (flat_map (OldOwn c service tei u') (frames_begun (seen e.what a))) [] ≡ cond b (flat_map (Own c service tei q) (frames_begun (seen e.what a))) []
-          go false down = refl
-          go true up = owned e.what refl up
-
-    both-by : (b : Bool) → (e.line == number) ≡ b → Puts b × Owns b
-    both-by false other = (other-puts (apart card e number (λ same. true≢false (sym (eq-eqb e.line number (sym same)) ∙ other))), other-owns)
-    both-by true mine = go before
+    pub puts-by : (b : Bool) → (e.line == number) ≡ b → Puts b
+    puts-by false other = other-puts (apart card e number (λ same. true≢false (sym (eq-eqb e.line number (sym same)) ∙ other)))
+    puts-by true mine = go before
       where
-        go : Facts from k asked w.outstanding m o → Puts true × Owns true
-        go (inl y) = (off-puts y.0 y.2, off-owns y.0 y.2)
-        go (inr y) = (on-puts mine y.0 y.1 y.2.state_is, on-owns mine y.0 y.1 y.2.state_is)
+        go : Facts from k asked w.outstanding m o → Puts true
+        go (inl y) = off-puts y.0 y.2
+        go (inr y) = on-puts mine y.0 y.1 y.2.state_is
 
     abbrev u-then : Standing
     u-then = standing service tei c (calm n busy rejected) (seen_in number its)
 
     pub due-same : old.due_in c service tei number was u-then its ≡ now_due.due_in c service tei number o q its
-    due-same = ap (λ xs. take (length xs - lost_in a) xs) (both-by (e.line == number) refl).0
-
-    pub may-same : old.may_go_in c service tei number was u-then its ≡ now_due.may_go_in c service tei number o q its
-    may-same =
-        ap (λ xs. xs ++ option_map_or (λ state. flat_map (old.acknowledged_at c service tei u-then state) (seen_in number its)) from []) due-same
-        ∙ ap (λ xs. now_due.due_in c service tei number o q its ++ xs) (both-by (e.line == number) refl).1
+    due-same = ap (λ xs. take (length xs - lost_in a) xs) (puts-by (e.line == number) refl)

@@ -1,20 +1,16 @@
 -- What is seen of the control frames of a link in a moment, by what the observer knows.
-use Rattle.laws_trace.proofs.Vocabulary.{◌≡◌, ℕ, ◌==◌, ◌&&◌, Bool, true, false, cond, List, [], ◌∷◌, ◌++◌, Option, Some, None, refl, sym, ap, ◌∙◌, true≢false, flat_map, Result, Ok, Err, option_map_or, none-some, ReadFault, Service, Call, Packet, Parts, reading, sapi_of, ControlFrame, State, TeiAssigned, AwaitingEstablishment, AwaitingRelease, Established, TimerRecovery, state_number, Config, hears, request, Answer, refused, gave, management_sapi, has_management, is_granted}
+use Rattle.laws_trace.proofs.Vocabulary.{◌≡◌, ℕ, ◌==◌, ◌&&◌, Bool, true, false, cond, List, [], Option, Some, None, refl, sym, ap, ◌∙◌, true≢false, option_map_or, none-some, Service, Call, Packet, Parts, sapi_of, ControlFrame, State, TeiAssigned, AwaitingEstablishment, AwaitingRelease, Established, TimerRecovery, state_number, Config, hears, request, Answer, refused, gave, management_sapi, has_management, is_granted}
 use Rattle.std.proofs.Common.{eqb-true}
 use Rattle.model_bits.specs.Stream as stream
 use Rattle.model_line.specs.Event.{told}
 use Rattle.model_line.specs.Request.{Request}
-use Rattle.laws_trace.specs.ControlFrames as now_due
-use Rattle.laws_trace.specs.ControlFrames.{of_link, controls_at, IsPart, OnlyDueGo, AllDueGo}
 use Rattle.laws_trace.specs.LinkFrames.{frame_of, its_frame, is_for}
 use Rattle.laws_trace.specs.Managing.{Managed, due, message_by, by_message, nothing_due}
 use Rattle.laws_trace.specs.Observer.{Observed, by_event, by_request}
-use Rattle.laws_trace.specs.Trace.{is_up, Seen, begun, frames_begun, seen, seen_told, seen_granted}
+use Rattle.laws_trace.specs.Trace.{is_up, seen}
 use Rattle.laws_trace.specs.Units.{is_ui}
-use Rattle.laws_trace.proofs.ControlsWatched as old
-use Rattle.laws_trace.proofs.DeliveriesWatched.{Standing, busy_asked}
-use Rattle.laws_trace.proofs.ObservedControls.{acknowledged-is, stays-down}
-use Rattle.laws_trace.proofs.ObservedCount.{Same}
+use Rattle.laws_trace.proofs.DeliveriesWatched.{busy_asked}
+use Rattle.laws_trace.proofs.ObservedControls.{stays-down}
 use Rattle.laws_trace.proofs.Standing.{standing}
 use Rattle.laws_trace.proofs.StandingOfLink.{calm}
 
@@ -58,41 +54,6 @@ module _ (c : Config) (service : Service) (tei : ℕ) where
 
   pub frame-leads : (e : stream.Event) (f : Parts) (w : Managed) → its_frame service tei (frame_of c e) ≡ Some f → (due c (hears e) w).known ≡ w
   frame-leads e f w is = ap (λ m. (option_map_or (by_message c w) m (nothing_due w)).known) (no-message (frame_of c e) f is)
-
-  -- Acknowledgements that go by themselves.
-  abbrev pub OldOwn : Standing → List ℕ → List ControlFrame
-  OldOwn u octets = of_link service tei (old.acknowledged_by u) (reading c.side octets)
-
-  abbrev pub Own : Observed → List ℕ → List ControlFrame
-  Own q octets = of_link service tei (now_due.acknowledged_by q) (reading c.side octets)
-
-  pub own-seen : (u : Standing) (s : ℕ) (b : Bool) → is_up s ≡ b → (t : List Seen) → flat_map (old.acknowledged_at c service tei u s) t ≡ cond b (flat_map (OldOwn u) (frames_begun t)) []
-  own-seen u s true up [] = refl
-  own-seen u s false up [] = refl
-  own-seen u s true up (begun f ∷ t) = ap (λ b. cond b (OldOwn u f) [] ++ flat_map (old.acknowledged_at c service tei u s) t) up ∙ ap (λ xs. OldOwn u f ++ xs) (own-seen u s true up t)
-  own-seen u s false up (begun f ∷ t) = ap (λ b. cond b (OldOwn u f) [] ++ flat_map (old.acknowledged_at c service tei u s) t) up ∙ own-seen u s false up t
-  own-seen u s b up (Seen.heard e ∷ t) = own-seen u s b up t
-  own-seen u s b up (Seen.noted ns contents ∷ t) = own-seen u s b up t
-  own-seen u s b up (Seen.granted r ∷ t) = own-seen u s b up t
-  own-seen u s b up (Seen.lost n ∷ t) = own-seen u s b up t
-
-  pub own-same : (q : Observed) (u : Standing) → Same q u.told.count u.busy u.rejected → (frames : List (List ℕ)) → flat_map (OldOwn u) frames ≡ flat_map (Own q) frames
-  own-same q u same [] = refl
-  own-same q u same (f ∷ frames) = ap (λ xs. xs ++ flat_map (OldOwn u) frames) (one (reading c.side f)) ∙ ap (λ xs. Own q f ++ xs) (own-same q u same frames)
-    where
-      one : (r : Result Parts ReadFault) → of_link service tei (old.acknowledged_by u) r ≡ of_link service tei (now_due.acknowledged_by q) r
-      one (Err fault) = refl
-      one (Ok frame) = ap (λ xs. cond (frame.address.sapi == sapi_of service && frame.address.tei == tei) xs []) (acknowledged-is q u same frame.address.command frame.control)
-
-  pub told-begins : (a : Answer) → frames_begun (seen_told a) ≡ []
-  told-begins (told t) = refl
-  told-begins (refused why) = refl
-  told-begins (gave given) = refl
-
-  pub asked-begins : (r : Request) (a : Answer) → frames_begun (seen_granted r a ++ seen_told a) ≡ []
-  asked-begins r (told t) = refl
-  asked-begins r (refused why) = refl
-  asked-begins r (gave given) = refl
 
   pub granted-busy : (r : Request) (a : Answer) (n : ℕ) (busy rejected : Bool) → is_granted a ≡ true → (standing service tei c (calm n busy rejected) (seen (request r) a)).busy ≡ busy_asked service tei busy r
   granted-busy r (told t) n busy rejected granted = refl

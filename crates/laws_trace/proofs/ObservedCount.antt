@@ -36,9 +36,6 @@ module _ (service : Service) (tei : ℕ) (c : Config) (ranged : IsInRange c) (l 
   abbrev a : Answer
   a = lines.answer c e l
 
-  abbrev own : Link
-  own = link_of service tei l
-
   abbrev its : State
   its = (link_of service tei l).state
 

@@ -1,21 +1,18 @@
 -- What the observer knows of a link gives the laws of it, by what follows its parts.
-use Rattle.laws_trace.proofs.Vocabulary.{◌≡◌, ℕ, ◌+◌, ◌-◌, ◌%◌, ◌<◌, ◌==◌, ◌&&◌, ◌||◌, inl, inr, not, Bool, false, cond, List, [], ◌∷◌, ◌++◌, length, map, Option, Some, None, is_some, refl, sym, ap, ◌∙◌, subst, eq-eqb, true≢false, fold, filter, nat_le, IfSome, All, if◌then◌else◌, list_any, Note, EstablishIndication, EstablishConfirm, ReleaseIndication, ReleaseConfirm, Error, Service, reading, State, TeiAssigned, AwaitingEstablishment, AwaitingRelease, Established, TimerRecovery, LinkTimer, state_number, Config, next, orders_in, Line, state_of, window, IsInRange, obeyed, notes_of, timer_of, left_by, runs_at_callers, line_at, at, moments}
-use Rattle.std.proofs.Common.{eqb-true}
+use Rattle.laws_trace.proofs.Vocabulary.{◌≡◌, ℕ, ◌<◌, ◌==◌, ◌&&◌, ◌||◌, inl, inr, not, Bool, false, cond, List, [], ◌∷◌, ◌++◌, map, Option, Some, None, is_some, refl, sym, ap, ◌∙◌, subst, fold, filter, nat_le, if◌then◌else◌, list_any, Note, EstablishIndication, EstablishConfirm, ReleaseIndication, ReleaseConfirm, Error, Service, State, TeiAssigned, AwaitingEstablishment, AwaitingRelease, Established, TimerRecovery, LinkTimer, state_number, Config, orders_in, Line, state_of, IsInRange, obeyed, notes_of, timer_of, left_by, runs_at_callers, line_at, at, moments}
 use Rattle.std.specs.Option.{unwrap_or}
 use Rattle.lapd_frame.specs.declared.notes.Note.TheVariants.{Xid}
 use Rattle.model_line.specs.Event as line_event
 use Rattle.model_card.specs.Card.{fresh}
 use Rattle.model_card.specs.Event.{Event}
-use Rattle.model_card.specs.Machine.{after, answer}
+use Rattle.model_card.specs.Machine.{after}
 use Rattle.model_card.specs.Run.{Moment, after_all, AreAtLines}
-use Rattle.laws_trace.specs.AllGoesAgain.{MayGo, AllGoesAgain}
-use Rattle.laws_trace.specs.LinkFrames.{Sent, sent_in}
 use Rattle.laws_trace.specs.LinksMove.{LinksMove}
 use Rattle.laws_trace.specs.Managing.{is_on}
 use Rattle.laws_trace.specs.News.{NewsIsTold}
-use Rattle.laws_trace.specs.Observer.{Observed, View, is_outstanding, awaits, steps, view_of, moment_of, view_behind}
+use Rattle.laws_trace.specs.Observer.{Observed, View, is_outstanding, awaits, view_of, moment_of, view_behind}
 use Rattle.laws_trace.specs.TimersAreTimely.{TimersRun, TimersAreStarted}
-use Rattle.laws_trace.specs.Trace.{Seen, seen, frame_in, Always}
+use Rattle.laws_trace.specs.Trace.{Seen, seen, Always}
 use Rattle.laws_trace.proofs.MovesWatched.{repeated}
 use Rattle.laws_trace.proofs.NewsWatched.{Owing, none_owed, owing}
 use Rattle.laws_trace.proofs.Observed.{IsObserved}
@@ -27,8 +24,6 @@ use Rattle.laws_trace.proofs.TimersWatched.{Known, nothing_yet, watch}
 use Rattle.laws_trace.proofs.States.{is_state, differ}
 use Rattle.laws_trace.specs.News as now_news
 use Rattle.laws_trace.specs.TimersAreTimely as timely
-use Rattle.laws_trace.proofs.AllGoesAgain as old_again
-use Rattle.laws_trace.proofs.Outgoing.{view-is, kept-now}
 use Rattle.laws_trace.proofs.News as old_news
 use Rattle.laws_trace.proofs.NewsWatched as news
 use Rattle.laws_trace.proofs.TimersAreTimely as old
@@ -36,9 +31,6 @@ use Rattle.laws_trace.proofs.TimersWatched as known
 
 -- The laws.
 module _ (c : Config) (events : List Event) (number : ℕ) (ranged : IsInRange c) (all : AreAtLines (fresh c) events) (within : number < c.lines) (service : Service) (tei : ℕ) where
-  abbrev ms : List Moment
-  ms = moments (fresh c) events
-
   abbrev its_line : Line
   its_line = line_at number (after_all (fresh c) events)
 
@@ -72,9 +64,6 @@ module _ (c : Config) (events : List Event) (number : ℕ) (ranged : IsInRange c
 
   pub numbers-now : known_of v.link ≡ k
   numbers-now = numbers-are (state_of service tei its_line) k was_asked w.outstanding n v.link known-now
-
-  pub state-now : (m : ℕ) → (1 == m) ≡ false → (v.link.state == m) ≡ is_state m (state_of service tei its_line)
-  state-now m other = state-is (state_of service tei its_line) k was_asked w.outstanding n v.link m other known-now
 
   -- behind an event
   module _ (what : line_event.Event) where
@@ -253,40 +242,3 @@ pub news-is-told-so : Always NewsIsTold
 news-is-told-so c events number ranged all within service tei before what behind is =
     news-so c events number ranged all within service tei before what behind is
     (known-now c before number ranged (front-at (fresh c) before (at number what) behind (subst (AreAtLines (fresh c)) is all)) within service tei)
-
--- Each I-frame that begins is the one that goes next.
-abbrev pub NextGoes : Config → List Event → ℕ → Type 0
-NextGoes c events number =
-    (service : Service) (tei : ℕ) (before behind : List Event) → events ≡ before ++ at number next ∷ behind →
-    let o = (view_of c service tei number before).link in
-    All (λ octets. IfSome (sent_in service tei (reading c.side octets)) (λ (sent : Sent). sent.ns ≡ o.next)) (frame_in (answer (at number next) (after_all (fresh c) before)))
-
-pub next-goes-so : Always NextGoes
-next-goes-so c events number ranged all within service tei before behind is =
-    let front = front-at (fresh c) before (at number next) behind (subst (AreAtLines (fresh c)) is all) in
-    let o = (view_of c service tei number before).link in
-    let k = fold (watch c service tei number) nothing_yet (moments (fresh c) before) in
-    let same : k.next ≡ o.next = ap (λ (z : Known). z.next) (sym (numbers-now c before number ranged front within service tei)) in
-    subst (λ m. All (λ octets. IfSome (sent_in service tei (reading c.side octets)) (λ (sent : Sent). sent.ns ≡ m)) (frame_in (answer (at number next) (after_all (fresh c) before)))) same
-    (old_again.next-goes c events number ranged all within service tei before behind is)
-
-pub all-goes-again-so : Always AllGoesAgain
-all-goes-again-so c events number ranged all within service tei before calls split only enough may =
-    let v = view_of c service tei number events in
-    let k = fold (watch c service tei number) nothing_yet (moments (fresh c) events) in
-    let st = state_of service tei (line_at number (after_all (fresh c) events)) in
-    let same : known_of v.link ≡ k = numbers-now c events number ranged all within service tei in
-    let view = view-is c number ranged within service tei events in
-    let may_go : MayGo c service v.link = subst (λ (v : View). MayGo c service v.link) view may in
-    let x = old_again.steps-are c events number ranged all within service tei before calls split only enough
-    (record {
-      up = told-7 st (state-now c events number ranged all within service tei 7 refl) may_go.up;
-      free = sym (ap (λ (z : Known). z.busy) same) ∙ may_go.free;
-      few = subst (λ (z : Known). (z.next + 128 - z.acknowledged) % 128 < window c service) same may_go.few;
-    }) in
-    ap (λ (v : View). steps v.link.acknowledged v.link.next) view ∙ ap (λ (z : Known). steps z.acknowledged z.next) same ∙ x.2
-    ∙ sym (ap length (kept-now c number ranged within service tei events all x.0 x.1))
-  where
-    told-7 : (st : Option ℕ) → ((view_of c service tei number events).link.state == 7) ≡ is_state 7 st → (view_of c service tei number events).link.state ≡ 7 → st ≡ Some 7
-    told-7 None is up = absurd (true≢false (sym (eq-eqb (view_of c service tei number events).link.state 7 up) ∙ is))
-    told-7 (Some s) is up = ap (λ s. Some s) (eqb-true s 7 (sym is ∙ eq-eqb (view_of c service tei number events).link.state 7 up))

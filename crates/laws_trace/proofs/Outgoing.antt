@@ -1,6 +1,7 @@
 -- What a link has to send is what an observer has: what it keeps.
 use Rattle.laws_trace.proofs.Vocabulary.{◌≡◌, ℕ, ◌%◌, ◌<◌, ◌==◌, ◌&&◌, Bool, true, false, cond, not, List, [], ◌∷◌, ◌++◌, drop, get_or, Option, Some, None, refl, sym, ap, ◌∙◌, subst, arith, eq-eqb, true≢false, append-nil, append_assoc, fold, and_parts, get_or-set_same, get_or-replicate, fold-append, none-some, Service, Link, queue_of, state_number, Config, Answer, Line, fresh_line, has_tei, link_of, place_in, IsInRange, is-off, nowhere, Card, line_at, is_full, at, moments, has_lines, by_room, line_sound, all-left}
 use Rattle.std.proofs.Common.{eqb-true}
+use Rattle.model_link.specs.Link.{fresh as fresh_link}
 use Rattle.model_line.specs.Event as line_event
 use Rattle.model_line.specs.Machine as lines
 use Rattle.model_card.specs.Card.{fresh}
@@ -56,12 +57,12 @@ module _ (card : Card) (number : ℕ) (what : line_event.Event) (s : card_sound.
       (sym (get_or-set_same card.lines number (lines.after card.config what l) (fresh_line card.config) (omega (arith, s.count, here))))
       (left-so card.config s.config l (line_sound card number (has_lines card s) here) service tei what))
 
-  pub comes : place_in l tei ≡ None → queue_of (link_of service tei (line_at number (after (at number what) card))) ≡ []
+  pub comes : place_in l tei ≡ None → link_of service tei (line_at number (after (at number what) card)) ≡ fresh_link
   comes off =
-      by_room (λ ls a. queue_of (link_of service tei (get_or ls number (fresh_line card.config))) ≡ []) (at number what) card
-      (λ full. ap queue_of (off-fresh service tei l off))
+      by_room (λ ls a. link_of service tei (get_or ls number (fresh_line card.config)) ≡ fresh_link) (at number what) card
+      (λ full. off-fresh service tei l off)
       (λ room.
-      subst (λ (m : Line). queue_of (link_of service tei m) ≡ [])
+      subst (λ (m : Line). link_of service tei m ≡ fresh_link)
       (sym (get_or-set_same card.lines number (lines.after card.config what l) (fresh_line card.config) (omega (arith, s.count, here))))
       (comes-so card.config s.config l (line_sound card number (has_lines card s) here) service tei what off))
 
@@ -96,13 +97,10 @@ pub same-view : (c : Config) (service : Service) (tei number : ℕ) (ms : List M
 same-view c service tei number [] o = refl
 same-view c service tei number (m ∷ ms) o = same-view c service tei number ms (watches c service tei number o m)
 
--- From the start of the card on.
+-- What an observer has of a link from the start of the card on, where one event of the line leads it on as the link.
 module _ (c : Config) (number : ℕ) (ranged : IsInRange c) (within : number < c.lines) (service : Service) (tei : ℕ) where
-  abbrev its : List Event → Line
+  abbrev pub its : List Event → Line
   its events = line_at number (after_all (fresh c) events)
-
-  abbrev Keeps : List Event → Type 0
-  Keeps events = (place : ℕ) → place_in (its events) tei ≡ Some place → (outgoing_of c service tei number events).kept ≡ queue_of (link_of service tei (its events))
 
   pub view-is : (events : List Event) → (outgoing_of c service tei number events).view ≡ view_of c service tei number events
   view-is events = same-view c service tei number (moments (fresh c) events) nothing_yet
@@ -120,112 +118,130 @@ module _ (c : Config) (number : ℕ) (ranged : IsInRange c) (within : number < c
   unfolding after_all
   line-then before e = ap (line_at number) (after-both (fresh c) before (e ∷ []))
 
-  -- In one moment.
-  module _ (before : List Event) (all : AreAtLines (fresh c) before) (kept : Keeps before) where
-    abbrev card : Card
-    card = after_all (fresh c) before
+  abbrev pub behind_of : List Event → line_event.Event → Line
+  behind_of before what = line_at number (after (at number what) (after_all (fresh c) before))
 
-    abbrev o : Outgoing
-    o = outgoing_of c service tei number before
+  module _ {X : Type 0} (none : X) (field : Outgoing → X) (by : View → View → Moment → X → X)
+      (field-is : (o : Outgoing) (m : Moment) → field (watches c service tei number o m)
+      ≡ cond (is_on tei (views c service tei number o.view m).teis && is_on tei o.view.teis)
+      (cond (m.event.line == number) (by o.view (views c service tei number o.view m) m (field o)) (field o)) none)
+      (of_line : Line → X)
+      (comes : (before : List Event) → AreAtLines (fresh c) before → (what : line_event.Event) → place_in (its before) tei ≡ None → of_line (behind_of before what) ≡ none)
+      (stays : (before : List Event) → AreAtLines (fresh c) before → (what : line_event.Event) (p q : ℕ) → place_in (its before) tei ≡ Some p → place_in (behind_of before what) tei ≡ Some q
+      → by (view_of c service tei number before) (view_behind c service tei number before what) (moment_of c before number what) (of_line (its before)) ≡ of_line (behind_of before what)) where
+    abbrev Has : List Event → Type 0
+    Has events = (place : ℕ) → place_in (its events) tei ≡ Some place → field (outgoing_of c service tei number events) ≡ of_line (its events)
 
-    same : card.config ≡ c
-    same = config-now c before number ranged all within service tei
+    -- In one moment.
+    module _ (before : List Event) (all : AreAtLines (fresh c) before) (has : Has before) where
+      abbrev card : Card
+      card = after_all (fresh c) before
 
-    on-before : is_on tei o.view.teis ≡ has_tei tei (its before)
-    on-before = ap (λ (v : View). is_on tei v.teis) (view-is before) ∙ tei-seen c before number ranged all within service tei
+      abbrev o : Outgoing
+      o = outgoing_of c service tei number before
 
-    -- of the line,
-    module _ (what : line_event.Event) where
-      abbrev m : Moment
-      m = moment_of c before number what
+      on-before : is_on tei o.view.teis ≡ has_tei tei (its before)
+      on-before = ap (λ (v : View). is_on tei v.teis) (view-is before) ∙ tei-seen c before number ranged all within service tei
 
-      abbrev later : Line
-      later = line_at number (after (at number what) (after_all (fresh c) before))
+      -- of the line,
+      module _ (what : line_event.Event) where
+        abbrev m : Moment
+        m = moment_of c before number what
 
-      abbrev now : View
-      now = (watches c service tei number o m).view
+        abbrev now : View
+        now = views c service tei number o.view m
 
-      view-then : now ≡ view_behind c service tei number before what
-      view-then = ap (λ v. views c service tei number v m) (view-is before)
+        view-then : now ≡ view_behind c service tei number before what
+        view-then = ap (λ v. views c service tei number v m) (view-is before)
 
-      on-then : is_on tei now.teis ≡ has_tei tei later
-      on-then = ap (λ (v : View). is_on tei v.teis) view-then ∙ (holds-behind c before number ranged all within service tei what).follows.on.same tei
+        on-then : is_on tei now.teis ≡ has_tei tei (behind_of before what)
+        on-then = ap (λ (v : View). is_on tei v.teis) view-then ∙ (holds-behind c before number ranged all within service tei what).follows.on.same tei
 
-      abbrev by_views : View → View → List (List ℕ) → List (List ℕ)
-      by_views was now xs = keeps c service tei was.link now.link what m.answer xs
+        own-has : (q : ℕ) → place_in (behind_of before what) tei ≡ Some q → field (watches c service tei number o m) ≡ of_line (behind_of before what)
+        own-has q there =
+            field-is o m ∙ ap (λ b. cond (b && is_on tei o.view.teis) (its-field (number == number)) none) (on-then ∙ on-line (behind_of before what) tei q there)
+            ∙ ap (λ b. cond b (its-field (number == number)) none) on-before ∙ go (place_in (its before) tei) refl
+          where
+            its-field : Bool → X
+            its-field b = cond b (by o.view now m (field o)) (field o)
 
-      kept-there : (p q : ℕ) → place_in (its before) tei ≡ Some p → place_in later tei ≡ Some q → by_views o.view now o.kept ≡ queue_of (link_of service tei later)
-      kept-there p q on there =
-          let own = link_of service tei (its before) in
-          let x = link_of service tei later in
-          let t = seen what m.answer in
-          let s = sound-now c before number ranged all within service tei in
-          let here : number < card.config.lines = subst (λ (d : Config). number < d.lines) (sym same) within in
-          let was = seen-before c before number ranged all within service tei p on in
-          let is = seen-behind c before number ranged all within service tei what q there in
-          ap (λ v. by_views v now o.kept) (view-is before)
-          ∙ ap (λ v. by_views (view_of c service tei number before) v o.kept) view-then
-          ∙ ap (by_views (view_of c service tei number before) (view_behind c service tei number before what)) (kept p on)
-          ∙ left-as (lost_in service tei t) (brings is_sabme c service tei what) own x (view_of c service tei number before).link (view_behind c service tei number before what).link was is (granted_in service tei t)
-          ∙ sym (subst (λ (d : Config). queue_of x ≡ left (lost_in service tei t) (brings is_sabme d service tei what) own x (granted_in service tei t)) same
-          (leaves card number what s here service tei p q on there))
+            go : (p : Option ℕ) → place_in (its before) tei ≡ p → cond (has_tei tei (its before)) (its-field (number == number)) none ≡ of_line (behind_of before what)
+            go None off = ap (λ b. cond b (its-field (number == number)) none) (is-off (its before).management.places tei off) ∙ sym (comes before all what off)
+            go (Some p) on =
+                ap (λ b. cond b (its-field (number == number)) none) (on-line (its before) tei p on) ∙ ap its-field (eq-eqb number number refl)
+                ∙ ap (λ v. by v now m (field o)) (view-is before) ∙ ap (λ v. by (view_of c service tei number before) v m (field o)) view-then
+                ∙ ap (by (view_of c service tei number before) (view_behind c service tei number before what) m) (has p on) ∙ stays before all what p q on there
 
-      own-kept : (q : ℕ) → place_in later tei ≡ Some q → (watches c service tei number o m).kept ≡ queue_of (link_of service tei later)
-      own-kept q there =
-          ap (λ b. cond (b && is_on tei o.view.teis) (its-kept (number == number)) []) (on-then ∙ on-line later tei q there)
-          ∙ ap (λ b. cond b (its-kept (number == number)) []) on-before ∙ go (place_in (its before) tei) refl
-        where
-          its-kept : Bool → List (List ℕ)
-          its-kept b = cond b (by_views o.view now o.kept) o.kept
+      -- and of another
+      other-has : (e : Event) → (e.line == number) ≡ false → (q : ℕ) → place_in (line_at number (after e card)) tei ≡ Some q
+          → field (watches c service tei number o (with_event before e)) ≡ of_line (line_at number (after e card))
+      other-has e away q there =
+          let m = with_event before e in
+          let now = views c service tei number o.view m in
+          let still_there : line_at number (after e card) ≡ its before = apart card e number (λ same. true≢false (sym (eq-eqb e.line number (sym same)) ∙ away)) in
+          let on : place_in (its before) tei ≡ Some q = ap (λ l. place_in l tei) (sym still_there) ∙ there in
+          let is : is_on tei o.view.teis ≡ true = on-before ∙ on-line (its before) tei q on in
+          let teis : now.teis ≡ o.view.teis = ap (λ b. cond b (due c e.what o.view.teis).known o.view.teis) away in
+          field-is o m ∙ ap (λ b. cond (is_on tei now.teis && is_on tei o.view.teis) (cond b (by o.view now m (field o)) (field o)) none) away
+          ∙ ap (λ b. cond (b && is_on tei o.view.teis) (field o) none) (ap (is_on tei) teis ∙ is) ∙ ap (λ b. cond b (field o) none) is
+          ∙ has q on ∙ ap of_line (sym still_there)
 
-          go : (p : Option ℕ) → place_in (its before) tei ≡ p → cond (has_tei tei (its before)) (its-kept (number == number)) [] ≡ queue_of (link_of service tei later)
-          go None off =
-              ap (λ b. cond b (its-kept (number == number)) []) (is-off (its before).management.places tei off)
-              ∙ sym (comes card number what (sound-now c before number ranged all within service tei) (subst (λ (d : Config). number < d.lines) (sym same) within) service tei off)
-          go (Some p) on =
-              ap (λ b. cond b (its-kept (number == number)) []) (on-line (its before) tei p on) ∙ ap its-kept (eq-eqb number number refl) ∙ kept-there p q on there
+      abbrev Step : ℕ → Event → Type 0
+      Step q e =
+          place_in (line_at number (after e card)) tei ≡ Some q → field (watches c service tei number o (with_event before e)) ≡ of_line (line_at number (after e card))
 
-    -- and of another
-    other-kept : (e : Event) → (e.line == number) ≡ false → (q : ℕ) → place_in (line_at number (after e card)) tei ≡ Some q
-        → (watches c service tei number o (with_event before e)).kept ≡ queue_of (link_of service tei (line_at number (after e card)))
-    other-kept e away q there =
-        let m = with_event before e in
-        let now = (watches c service tei number o m).view in
-        let still_there : line_at number (after e card) ≡ its before = apart card e number (λ same. true≢false (sym (eq-eqb e.line number (sym same)) ∙ away)) in
-        let on : place_in (its before) tei ≡ Some q = ap (λ l. place_in l tei) (sym still_there) ∙ there in
-        let is : is_on tei o.view.teis ≡ true = on-before ∙ on-line (its before) tei q on in
-        let teis : now.teis ≡ o.view.teis = ap (λ b. cond b (due c e.what o.view.teis).known o.view.teis) away in
-        ap (λ b. cond (is_on tei now.teis && is_on tei o.view.teis) (cond b (keeps c service tei o.view.link now.link e.what m.answer o.kept) o.kept) []) away
-        ∙ ap (λ b. cond (b && is_on tei o.view.teis) o.kept []) (ap (is_on tei) teis ∙ is) ∙ ap (λ b. cond b o.kept []) is
-        ∙ kept q on ∙ ap (λ l. queue_of (link_of service tei l)) (sym still_there)
+      by-line : (q : ℕ) (e : Event) (b : Bool) → (e.line == number) ≡ b → Step q e
+      by-line q e true is = subst (λ n. Step q (at n e.what)) (sym (eqb-true e.line number is)) (own-has e.what q)
+      by-line q e false away = other-has e away q
 
-    abbrev Step : ℕ → Event → Type 0
-    Step q e =
-        place_in (line_at number (after e card)) tei ≡ Some q
-        → (watches c service tei number o (with_event before e)).kept ≡ queue_of (link_of service tei (line_at number (after e card)))
+      has-then : (e : Event) → Has (before ++ e ∷ [])
+      has-then e q there =
+          let line : its (before ++ e ∷ []) ≡ line_at number (after e card) = line-then before e in
+          let on : place_in (line_at number (after e card)) tei ≡ Some q = ap (λ l. place_in l tei) (sym line) ∙ there in
+          ap field (then-is before e) ∙ by-line q e (e.line == number) refl on ∙ ap of_line (sym line)
 
-    by-line : (q : ℕ) (e : Event) (b : Bool) → (e.line == number) ≡ b → Step q e
-    by-line q e true is = subst (λ n. Step q (at n e.what)) (sym (eqb-true e.line number is)) (own-kept e.what q)
-    by-line q e false away = other-kept e away q
+    -- In a run.
+    run : (before rest : List Event) → AreAtLines (fresh c) (before ++ rest) → Has before → Has (before ++ rest)
+    run before [] all has = subst Has (sym (append-nil before)) has
+    run before (e ∷ rest) all has =
+        let joined : (before ++ e ∷ []) ++ rest ≡ before ++ e ∷ rest = append_assoc before (e ∷ []) rest in
+        subst Has joined
+        (run (before ++ e ∷ []) rest (subst (AreAtLines (fresh c)) (sym joined) all) (has-then before (all-left (IsAtLine (fresh c)) before (e ∷ rest) all) has e))
 
-    pub keeps-then : (e : Event) → Keeps (before ++ e ∷ [])
-    keeps-then e q there =
-        let line : its (before ++ e ∷ []) ≡ line_at number (after e card) = line-then before e in
-        let on : place_in (line_at number (after e card)) tei ≡ Some q = ap (λ l. place_in l tei) (sym line) ∙ there in
-        ap (λ (o : Outgoing). o.kept) (then-is before e) ∙ by-line q e (e.line == number) refl on ∙ ap (λ l. queue_of (link_of service tei l)) (sym line)
+    at-first : Has []
+    unfolding moments after_all
+    at-first place on =
+        absurd (none-some place (sym (ap (λ l. place_in l tei) (get_or-replicate c.lines number (fresh_line c) (fresh_line c) within) ∙ nowhere c tei) ∙ on))
 
-  -- In a run.
-  run : (before rest : List Event) → AreAtLines (fresh c) (before ++ rest) → Keeps before → Keeps (before ++ rest)
-  run before [] all kept = subst Keeps (sym (append-nil before)) kept
-  run before (e ∷ rest) all kept =
-      let joined : (before ++ e ∷ []) ++ rest ≡ before ++ e ∷ rest = append_assoc before (e ∷ []) rest in
-      subst Keeps joined
-      (run (before ++ e ∷ []) rest (subst (AreAtLines (fresh c)) (sym joined) all) (keeps-then before (all-left (IsAtLine (fresh c)) before (e ∷ rest) all) kept e))
+    pub has-now : (events : List Event) → AreAtLines (fresh c) events → Has events
+    has-now events all = run [] events all at-first
 
-  at-first : Keeps []
-  unfolding moments after_all
-  at-first place on =
-      absurd (none-some place (sym (ap (λ l. place_in l tei) (get_or-replicate c.lines number (fresh_line c) (fresh_line c) within) ∙ nowhere c tei) ∙ on))
+  -- What it keeps.
+  abbrev pub Card-at : List Event → Type 0
+  Card-at before = number < (after_all (fresh c) before).config.lines
 
-  pub kept-now : (events : List Event) → AreAtLines (fresh c) events → Keeps events
-  kept-now events all = run [] events all at-first
+  pub here-at : (before : List Event) → AreAtLines (fresh c) before → Card-at before
+  here-at before all = subst (λ (d : Config). number < d.lines) (sym (config-now c before number ranged all within service tei)) within
+
+  kept-stays : (before : List Event) → AreAtLines (fresh c) before → (what : line_event.Event) (p q : ℕ) → place_in (its before) tei ≡ Some p → place_in (behind_of before what) tei ≡ Some q
+      → keeps c service tei (view_of c service tei number before).link (view_behind c service tei number before what).link what (moment_of c before number what).answer (queue_of (link_of service tei (its before)))
+      ≡ queue_of (link_of service tei (behind_of before what))
+  kept-stays before all what p q on there =
+      let card = after_all (fresh c) before in
+      let own = link_of service tei (its before) in
+      let x = link_of service tei (behind_of before what) in
+      let t = seen what (answer (at number what) card) in
+      let was = seen-before c before number ranged all within service tei p on in
+      let is = seen-behind c before number ranged all within service tei what q there in
+      left-as (lost_in service tei t) (brings is_sabme c service tei what) own x (view_of c service tei number before).link (view_behind c service tei number before what).link was is (granted_in service tei t)
+      ∙ sym (subst (λ (d : Config). queue_of x ≡ left (lost_in service tei t) (brings is_sabme d service tei what) own x (granted_in service tei t)) (config-now c before number ranged all within service tei)
+      (leaves card number what (sound-now c before number ranged all within service tei) (here-at before all) service tei p q on there))
+
+  abbrev kept_by : View → View → Moment → List (List ℕ) → List (List ℕ)
+  kept_by was now m xs = keeps c service tei was.link now.link m.event.what m.answer xs
+
+  pub kept-now : (events : List Event) → AreAtLines (fresh c) events → (place : ℕ) → place_in (its events) tei ≡ Some place
+      → (outgoing_of c service tei number events).kept ≡ queue_of (link_of service tei (its events))
+  kept-now =
+      has-now [] (λ o. o.kept) kept_by (λ o m. refl) (λ l. queue_of (link_of service tei l))
+      (λ before all what off. ap queue_of (comes (after_all (fresh c) before) number what (sound-now c before number ranged all within service tei) (here-at before all) service tei off)) kept-stays

@@ -12,7 +12,7 @@ use Rattle.laws_trace.specs.Observer.{View, view_of}
 use Rattle.laws_trace.specs.Outgoing.{Outgoing, outgoing_of}
 use Rattle.laws_trace.specs.RoomsAreTold.{refusal_in, IsRoom, RoomsAreTold}
 use Rattle.laws_trace.specs.Trace.{Always, is_up}
-use Rattle.laws_trace.proofs.AllDataGoesOut.{line-at-end, link-at-end}
+use Rattle.laws_trace.proofs.LineAtEnd.{line-at-end, link-at-end}
 use Rattle.laws_trace.proofs.Outgoing.{view-is, kept-now}
 use Rattle.laws_trace.proofs.SeenAs.{seen-before, tei-seen, up-number}
 use Rattle.laws_trace.proofs.TimersAreTimely.{config-now}

@@ -26,10 +26,6 @@ sent m waiting small h = go (no_room waiting)
     go true = h
     go false = All-append IsSmall waiting (m ∷ []) h (All-cons IsSmall m [] small (All-nil IsSmall))
 
-either : (b : Bool) (u v : Course) → AreSmall u → AreSmall v → AreSmall (cond b u v)
-either true u v h k = h
-either false u v h k = k
-
 -- The rows.
 request-small : (ri : ℕ) (c : Course) → ri < 65536 → AreSmall c → AreSmall (rows.request ri c)
 request-small ri c small h = go (no_room c.now.waiting)

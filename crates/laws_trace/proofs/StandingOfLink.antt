@@ -61,7 +61,7 @@ module _ (t : Terms) (x flag : Bool) where
   off-frame f (Frmr p) l = λ is h. no is
   off-frame f (Xid p) l = λ is h. no is
 
-  off-where-begun : (e : Event) (l : Link) → Off e l
+  pub off-where-begun : (e : Event) (l : Link) → Off e l
   off-where-begun (received (frame f)) l is h = off-frame f f.control l is h
   off-where-begun (received undefined) l is h = no is
   off-where-begun (received wrong_size) l is h = no is

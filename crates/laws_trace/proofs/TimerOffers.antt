@@ -8,7 +8,6 @@ use Rattle.model_link.specs.Offers
 use Rattle.model_link.specs.Sound.{IsSound}
 use Rattle.model_link.specs.Steps.{Course, begun}
 use Rattle.model_link.specs.Words
-use Rattle.laws_trace.proofs.AgainWatched.{is_next}
 use Rattle.laws_trace.specs.LinkFrames.{Sent, sent_by}
 use Rattle.laws_trace.proofs.TimersWatched.{Known, nothing_yet, sends}
 use Rattle.laws_trace.proofs.States.{is_state}
@@ -24,7 +23,6 @@ pub record Offered (k : Known) (l : Link) (y : Timing) (o : Option Sent) : Type 
   pub state : y.state ≡ l.state
   pub agrees : Agrees y.state (sent_known y.state k o) y.a y.s y.busy
   pub quiet : (timer : LinkTimer) → runs timer l.running ≡ true → runs timer y.running ≡ true → runs timer y.started ≡ false
-  pub next : IfSome o (is_next k)
   pub kept : Kept y.state (timing (begun l)) y
 
 abbrev pub given_sent : Given → Option Sent
@@ -60,14 +58,6 @@ one-more TimerRecovery k a s busy sent up ns h = absurd (true≢false (sym up))
 one-more Established k a s busy sent up ns h =
     record { acknowledged = h.acknowledged; next = ap (λ n. (n + 1) % 128) ns ∙ (let e : (s % 128 + 1) % 128 ≡ (s + 1) % 128 = omega arith in e); busy_is = h.busy_is }
 
--- The number of what goes is the one that goes next.
-its-next : (here : State) (k : Known) (a s : ℕ) (busy : Bool) → is_established here ≡ true → Agrees here k a s busy → s % 128 ≡ k.next
-its-next TeiAssigned k a s busy up h = absurd (true≢false (sym up))
-its-next AwaitingEstablishment k a s busy up h = absurd (true≢false (sym up))
-its-next AwaitingRelease k a s busy up h = absurd (true≢false (sym up))
-its-next TimerRecovery k a s busy up h = absurd (true≢false (sym up))
-its-next Established k a s busy up h = sym h.next
-
 first-of : (a b c d : Bool) → (a && b && c && d) ≡ true → a ≡ true
 first-of true b c d e = refl
 first-of false b c d e = absurd (true≢false (sym e))
@@ -81,7 +71,7 @@ module _ (t : Terms) (k : Known) (l : Link) (s : IsSound t l) (agrees : Agrees l
   stays c same none =
       subst (λ y. Offered k l y (option_map_or given_sent (links.given_of t l c c.sent) None)) (sym same)
       (subst (Offered k l (timing (begun l))) (sym none)
-      (record { state = refl; agrees = same-known l.state k l.a l.s l.peer_busy agrees; quiet = λ timer was now. refl; next = tt; kept = same-kept l.state (timing (begun l)) }))
+      (record { state = refl; agrees = same-known l.state k l.a l.s l.peer_busy agrees; quiet = λ timer was now. refl; kept = same-kept l.state (timing (begun l)) }))
 
   by-waiting : (ws : List ControlFrame) → All (IsWaitingFrame t) ws → Claim (Offers.offer_among t ws (begun l))
   unfolding seq
@@ -105,8 +95,8 @@ module _ (t : Terms) (k : Known) (l : Link) (s : IsSound t l) (agrees : Agrees l
       newly T203 off was now = refl
 
       by-timer : is_established l.state ≡ true → (b : Bool) → runs T200 l.running ≡ b → Claim (cond b sent (Words.start T200 sent))
-      by-timer up true on = record { state = refl; agrees = went up; quiet = λ timer was now. refl; next = its-next l.state k l.a l.s l.peer_busy up agrees; kept = up-kept l.state up (timing (begun l)) (timing sent) }
-      by-timer up false off = record { state = refl; agrees = went up; quiet = λ timer was now. newly timer off was now; next = its-next l.state k l.a l.s l.peer_busy up agrees; kept = up-kept l.state up (timing (begun l)) (timing (Words.start T200 sent)) }
+      by-timer up true on = record { state = refl; agrees = went up; quiet = λ timer was now. refl; kept = up-kept l.state up (timing (begun l)) (timing sent) }
+      by-timer up false off = record { state = refl; agrees = went up; quiet = λ timer was now. newly timer off was now; kept = up-kept l.state up (timing (begun l)) (timing (Words.start T200 sent)) }
 
       by-send : (b : Bool) → Offers.may_send_information t l ≡ b
           → Claim (cond b (Offers.send_information (begun l)) (cond l.pending (Offers.send_acknowledgement (begun l)) (begun l)))

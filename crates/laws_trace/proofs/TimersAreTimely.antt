@@ -89,13 +89,6 @@ module _ (service : Service) (tei number : ℕ) where
             subst (λ x. IsTrueOf service tei (learned card.config service tei (state_of service tei (line_at number card)) (state_of service tei x) k []) x) (sym same)
             (subst (λ k. IsTrueOf service tei k (line_at number card)) (sym (none-learned card.config (line_at number card) k h)) h)
 
-    left-by : (what : line_event.Event) → lines.takes_slot card.config what l ≡ true → (timer : LinkTimer) (b : Bool) → left_by what (timer_of service tei timer) b ≡ b
-    unfolding lines.takes_slot
-    left-by (line_event.hears what) takes timer b = refl
-    left-by (line_event.expiry other) takes timer b = absurd (true≢false (sym takes))
-    left-by (line_event.request r) takes timer b = refl
-    left-by line_event.next takes timer b = refl
-
     -- a request that finds the pool full orders nothing
     pub own-started : (k : Known) → IsTrueOf service tei k l → (timer : LinkTimer) → let its = timer_of service tei timer in
         let was = left_by e.what its (is_needed its l) in

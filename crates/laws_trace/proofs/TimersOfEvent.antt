@@ -1,5 +1,5 @@
 -- What is known of a link stays true: each event of a line.
-use Rattle.laws_trace.proofs.Vocabulary.{◌≡◌, ℕ, ◌==◌, ◌&&◌, ◌||◌, Bool, true, false, cond, List, [], ◌∷◌, map, Option, Some, None, option_map, refl, sym, ap, ◌∙◌, subst, eq-eqb, true≢false, ◌⊎◌, inl, inr, All, IfSome, option_to_list, option_map_or, All-head, All-nil, All-cons, Service, Call, Packet, same_service, Parts, place_of-is, HasItsTimer, needed, State, Terms, LinkTimer, Link, is_same, Given, runs, is_timer, Config, hears, expiry, request, next, Answer, NextFrame, gave, Line, link_in, link_of, link_number, place_in, state_of, state_in, terms, taken, next_of, IsInRange, sound_in, terms_in_range, IsBy, timer_of, is_needed, left_by, HaveTheirTimers}
+use Rattle.laws_trace.proofs.Vocabulary.{◌≡◌, ℕ, ◌==◌, ◌&&◌, ◌||◌, Bool, true, false, cond, List, [], ◌∷◌, map, Option, Some, None, option_map, refl, sym, ap, ◌∙◌, subst, eq-eqb, true≢false, ◌⊎◌, inl, inr, All, IfSome, option_to_list, option_map_or, All-head, Service, Call, Packet, same_service, Parts, place_of-is, HasItsTimer, needed, State, Terms, LinkTimer, Link, is_same, Given, runs, is_timer, Config, hears, expiry, request, next, Answer, NextFrame, gave, Line, link_in, link_of, link_number, place_in, state_of, state_in, terms, taken, next_of, IsInRange, sound_in, terms_in_range, IsBy, timer_of, is_needed, left_by, HaveTheirTimers}
 use Rattle.model_bits.specs.Stream as stream
 use Rattle.model_link.specs.declared.timers.LinkTimer.TheVariants.{T200, T203}
 use Rattle.model_link.specs.Events as link
@@ -10,7 +10,6 @@ use Rattle.model_line.specs.Event.{Event}
 use Rattle.model_line.specs.Machine.{after, answer}
 use Rattle.model_line.specs.Taken.{frame_of}
 use Rattle.model_line.specs.Sound.{IsSound}
-use Rattle.laws_trace.proofs.AgainWatched.{is_next}
 use Rattle.laws_trace.specs.LinkFrames.{Sent, is_for}
 use Rattle.laws_trace.proofs.TimersWatched.{Known, nothing_yet, listens, sends, control_in, learned}
 use Rattle.laws_trace.proofs.States.{is_state}
@@ -330,27 +329,3 @@ module _ (c : Config) (ranged : IsInRange c) (l : Line) (s : IsSound c l) (timed
           ended : (o : Option ℕ) → place_in (after c e l) tei ≡ o → IsTrueOf service tei now_known (after c e l)
           ended None off = off-known off
           ended (Some there) on = fresh-known there on x.is
-
-  -- What goes is what goes next.
-  pub next-goes : IfSome (sent_at c service tei k e l) (is_next k)
-  next-goes = go (event-goes c e l service tei s)
-    where
-      nothing : (o : Option Sent) → o ≡ None → IfSome o (is_next k)
-      nothing o is = subst (λ o. IfSome o (is_next k)) (sym is) tt
-
-      go : Goes c service tei e l (after c e l) a → IfSome (sent_at c service tei k e l) (is_next k)
-      go (inl x) = nothing (sent_at c service tei k e l) (none-goes x e x.begins)
-      go (inr (inr x)) = nothing (sent_at c service tei k e l) (ap (λ e. sent_at c service tei k e l) x.by.0)
-      go (inr (inl x)) =
-          either x (λ o. nothing (sent_at c service tei k e l) o.sent)
-          (λ is offered. subst (λ o. IfSome o (is_next k)) (sym (sent-is x is offered)) (offers x).next)
-
--- So of the frame that a call begins.
-pub next-next : (c : Config) (ranged : IsInRange c) (l : Line) (s : IsSound c l) (timed : HaveTheirTimers l) (service : Service) (tei : ℕ) (k : Known) (agrees : IsTrueOf service tei k l)
-    → All (λ octets. IfSome (sent_of c service tei octets) (is_next k)) (frame_in (answer c next l))
-unfolding answer
-next-next c ranged l s timed service tei k agrees = go (option_map next_of (taken c l)) (next-goes c ranged l s timed service tei k agrees next)
-  where
-    go : (o : Option NextFrame) → IfSome (sent_with c service tei o) (is_next k) → All (λ octets. IfSome (sent_of c service tei octets) (is_next k)) (frame_in (gave o))
-    go None h = All-nil (λ octets. IfSome (sent_of c service tei octets) (is_next k))
-    go (Some f) h = All-cons (λ octets. IfSome (sent_of c service tei octets) (is_next k)) f.octets [] h (All-nil (λ octets. IfSome (sent_of c service tei octets) (is_next k)))

@@ -19,7 +19,7 @@ use Rattle.model_card.specs.Run.{after_all, AreAtLines}
 use Rattle.laws_trace.specs.LinkFrames.{is_for, parts_of}
 use Rattle.laws_trace.specs.Trace.{Always}
 use Rattle.laws_trace.specs.Units.{is_ui}
-use Rattle.laws_trace.proofs.AllDataGoesOut.{line-at-end}
+use Rattle.laws_trace.proofs.LineAtEnd.{line-at-end}
 use Rattle.laws_trace.proofs.Deliveries.{frame_by, brings-frame, brings-none}
 use Rattle.laws_trace.proofs.DeliveriesRun.{event-aims}
 use Rattle.laws_trace.proofs.OneLink.{HasOne, Goes, event-goes}

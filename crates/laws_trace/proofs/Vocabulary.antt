@@ -89,7 +89,7 @@ pub use Rattle.laws_line.specs.Drains.{control_text, frames_to_go, most_frames, 
 pub use Rattle.laws_line.specs.Frames.{lost_in}
 pub use Rattle.laws_line.specs.Heard.{IsMalformed, IsTooLong, contents_in, is_data_of, is_unit_of, notes_of, tells_contents}
 pub use Rattle.laws_line.specs.Loss.{is_loss_of}
-pub use Rattle.laws_line.specs.Requests.{deactivates}
+pub use Rattle.laws_line.specs.Requests.{deactivates, is_deactivation}
 pub use Rattle.laws_line.specs.Served.{HasNothing, IsIdle, IsMessage, IsOfLink, IsOwed, IsSilent, IsSilentAt, IsUnit, contents_of, in_turn, unit_asked, units_asked}
 pub use Rattle.laws_line.specs.Share.{is_granted}
 pub use Rattle.laws_line.specs.Steady.{Brings, BringsMalformed, IsBy, IsDeactivated, IsOf, timer_of}

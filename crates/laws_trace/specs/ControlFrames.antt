@@ -1,5 +1,5 @@
--- The control frames of a link that go are those that are due.
-use Rattle.std.specs.Prelude.{◌≡◌, ◌≤◌, ℕ, ◌-◌, ◌==◌, ◌&&◌, ◌||◌, not, Bool, true, false, List, [], ◌∷◌, ◌++◌, length, take, flat_map, All, Result, Ok, Err, nat_lt, if◌then◌else◌}
+-- Which control frames of a link are due.
+use Rattle.std.specs.Prelude.{ℕ, ◌-◌, ◌==◌, ◌&&◌, ◌||◌, not, Bool, true, false, List, [], ◌∷◌, ◌++◌, length, take, Result, Ok, Err, nat_lt, if◌then◌else◌}
 use Rattle.std.specs.Option.{option_map_or}
 use Rattle.lapd_seq.specs.Numbers.{seq}
 use Rattle.lapd_frame.specs.declared.controls.Control.{Control}
@@ -14,21 +14,13 @@ use Rattle.model_link.specs.declared.frames.ControlFrame.{ControlFrame}
 use Rattle.model_line.specs.declared.config.Config.{Config}
 use Rattle.model_line.specs.Event as line_event
 use Rattle.model_line.specs.Event.{hears, expiry, request, Answer}
-use Rattle.model_line.specs.Line.{has_tei}
 use Rattle.laws_link.specs.Waiting.{as_response, as_command}
-use Rattle.laws_line.specs.Drains.{most_frames}
 use Rattle.laws_line.specs.Frames.{lost_in}
-use Rattle.laws_line.specs.Requests.{deactivates}
 use Rattle.laws_line.specs.Share.{is_granted}
-use Rattle.model_card.specs.Card.{Card, fresh, line_at}
-use Rattle.model_card.specs.Event.{Event}
-use Rattle.model_card.specs.Machine.{after}
-use Rattle.model_card.specs.Run.{Moment, moments, after_all}
-use Rattle.laws_line.specs.card.Among.{AreTakesAt, takes_at}
+use Rattle.model_card.specs.Run.{Moment}
 use Rattle.laws_trace.specs.LinkFrames.{frame_of, its_frame}
-use Rattle.laws_trace.specs.Managing.{is_on}
-use Rattle.laws_trace.specs.Observer.{Observed, View, views, view_of}
-use Rattle.laws_trace.specs.Trace.{is_own, is_up, Seen, begun, frames_begun, seen_in, trace}
+use Rattle.laws_trace.specs.Observer.{Observed}
+use Rattle.laws_trace.specs.Trace.{is_own, is_up, Seen, begun}
 
 -- What a frame of the link of a service with a TEI shows.
 abbrev pub of_link : {X : Type 0} → Service → ℕ → (Bool → Control → List X) → Result Parts ReadFault → List X
@@ -108,60 +100,3 @@ abbrev pub due_in : Config → Service → ℕ → ℕ → Observed → Observed
 due_in c service tei number was now m =
     let frames = if m.event.line == number && not (was.state == 1) then put_in c service tei was now m else [] in
     take (length frames - lost_in m.answer) frames
-
--- An acknowledgement that goes by itself in states 7 and 8 is due as it begins: RR with F=0, while layer 3 is not busy
--- (clause 5.6.3.1).
-abbrev pub acknowledged_by : Observed → Bool → Control → List ControlFrame
-acknowledged_by now command (ReceiveReady nr pf) = if now.own_busy || (command || pf) then [] else as_response (receipt now false)
-acknowledged_by now command other = []
-
-abbrev pub may_go_in : Config → Service → ℕ → ℕ → Observed → Observed → Moment → List ControlFrame
-may_go_in c service tei number was now m =
-    due_in c service tei number was now m
-    ++ (if is_up was.state then flat_map (λ octets. of_link service tei (acknowledged_by now) (reading c.side octets)) (frames_begun (seen_in number m)) else [])
-
--- Those of a run, by how the link stands before and behind each moment, to an observer.
-unfoldable pub along : Config → Service → ℕ → ℕ → (Observed → Observed → Moment → List ControlFrame) → View → List Moment → List ControlFrame
-along c service tei number by v [] = []
-along c service tei number by v (m ∷ ms) =
-    let now = views c service tei number v m in by v.link now.link m ++ along c service tei number by now ms
-
--- One list is another from which some things may be left out.
-pub data IsPart {X : Type 0} : List X → List X → Type 0 where
-  none : IsPart [] []
-  left_out : (x : X) (some all : List X) → IsPart some all → IsPart some (x ∷ all)
-  taken : (x : X) (some all : List X) → IsPart some all → IsPart (x ∷ some) (x ∷ all)
-
--- From whenever the TEI of a link is not on the line, the control frames of the link that begin are those that may go
--- since then, in their order, and none twice: so what waits where it leaves the line does not go (clause 5.3.4).
-abbrev pub OnlyDueGo : Config → List Event → ℕ → Type 0
-OnlyDueGo c events number =
-    (service : Service) (tei : ℕ) (before since : List Event) → events ≡ before ++ since →
-    let card = after_all (fresh c) before in
-    let v = view_of c service tei number before in
-    is_on tei v.teis ≡ false →
-    IsPart (flat_map (controls_at c service tei) (trace number (moments card since)))
-    (along c service tei number (may_go_in c service tei number) v (moments card since))
-
--- A TEI stays on the line.
-unfoldable pub StaysOn : ℕ → ℕ → Card → List Event → Type 0
-StaysOn number tei card [] = has_tei tei (line_at number card) ≡ true
-StaysOn number tei card (e ∷ events) = (has_tei tei (line_at number card) ≡ true) × StaysOn number tei (after e card) events
-
--- None of these events deactivates the link of a service with a TEI.
-abbrev pub is_deactivated_at : ℕ → Service → ℕ → Event → Bool
-is_deactivated_at number service tei e = e.line == number && deactivates service tei e.what
-
-abbrev pub IsNotDeactivated : ℕ → Service → ℕ → List Event → Type 0
-IsNotDeactivated number service tei events = All (λ e. is_deactivated_at number service tei e ≡ false) events
-
--- While it stays, and the link is not deactivated, after whatever happened before, each that is due goes: it has begun
--- once the line was only called for its next frame, as often as the configuration says, in their order.
-abbrev pub AllDueGo : Config → List Event → ℕ → Type 0
-AllDueGo c events number =
-    (service : Service) (tei : ℕ) (before meanwhile calls : List Event) → events ≡ before ++ (meanwhile ++ calls) →
-    AreTakesAt number calls → most_frames c ≤ takes_at number calls →
-    let card = after_all (fresh c) before in
-    StaysOn number tei card meanwhile → IsNotDeactivated number service tei meanwhile →
-    IsPart (along c service tei number (due_in c service tei number) (view_of c service tei number before) (moments card meanwhile))
-    (flat_map (controls_at c service tei) (trace number (moments card (meanwhile ++ calls))))

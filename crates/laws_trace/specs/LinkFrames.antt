@@ -1,5 +1,6 @@
 -- The frames of a link, as an observer of its line reads them.
-use Rattle.std.specs.Prelude.{ℕ, ◌==◌, ◌&&◌, Bool, List, Option, Some, None, Result, Ok, Err, if◌then◌else◌}
+use Rattle.std.specs.Prelude.{ℕ, ◌==◌, ◌&&◌, not, Bool, false, List, Option, Some, None, Result, Ok, Err, if◌then◌else◌}
+use Rattle.std.specs.Option.{option_map_or}
 use Rattle.model_bits.specs.Stream as stream
 use Rattle.lapd_frame.specs.declared.addresses.Address.{Address}
 use Rattle.lapd_frame.specs.declared.controls.Control.{Control}
@@ -16,6 +17,7 @@ use Rattle.lapd_frame.specs.Reading.{reading, long_reading}
 use Rattle.lapd_frame.specs.Services.{sapi_of}
 use Rattle.model_line.specs.declared.config.Config.{Config}
 use Rattle.model_line.specs.Heard.{heard_side}
+use Rattle.laws_trace.specs.Units.{is_ui}
 
 -- A frame that is heard, as the grammar reads it; it is for the link of a service with a TEI by its address (Q.921
 -- clauses 3.2 and 3.3).
@@ -54,6 +56,10 @@ abbrev pub malformed : Config → Service → ℕ → stream.Event → Option Er
 malformed c service tei (stream.frame octets) = faulty service tei (reading (heard_side c) octets)
 malformed c service tei (stream.overlong head) = faulty_long service tei (long_reading (heard_side c) head)
 malformed c service tei (stream.dropped cause) = None
+
+-- A frame that begins is one of the link, and no unit data.
+abbrev pub is_frame_of : Config → Service → ℕ → List ℕ → Bool
+is_frame_of c service tei octets = option_map_or (λ (f : Parts). not (is_ui f.control)) (its_frame service tei (parts_of (reading c.side octets))) false
 
 -- An I-frame of the link that begins.
 pub record Sent : Type 0 where

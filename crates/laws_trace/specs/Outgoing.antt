@@ -1,7 +1,8 @@
 -- What a link has to send, to whoever watches its line.
-use Rattle.std.specs.Prelude.{ℕ, ◌==◌, ◌&&◌, not, Bool, false, List, [], ◌∷◌, ◌++◌, drop, flat_map, fold, if◌then◌else◌}
+use Rattle.std.specs.Prelude.{ℕ, ◌==◌, ◌&&◌, ◌||◌, not, Bool, true, false, List, [], ◌∷◌, ◌++◌, length, drop, flat_map, fold, if◌then◌else◌}
 use Rattle.std.specs.List.{list_any}
 use Rattle.lapd_frame.specs.declared.services.Service.{Service}
+use Rattle.model_link.specs.declared.frames.ControlFrame.{ControlFrame}
 use Rattle.model_line.specs.declared.config.Config.{Config}
 use Rattle.model_line.specs.Event as line_event
 use Rattle.model_line.specs.Event.{Answer}
@@ -10,16 +11,23 @@ use Rattle.model_line.specs.Request.{Request, Release, Deactivate}
 use Rattle.model_card.specs.Card.{fresh}
 use Rattle.model_card.specs.Event.{Event}
 use Rattle.model_card.specs.Run.{Moment, moments}
+use Rattle.laws_line.specs.Heard.{is_data_of, notes_of}
 use Rattle.laws_line.specs.Loss.{is_loss_of}
+use Rattle.laws_line.specs.Requests.{deactivates}
+use Rattle.laws_trace.specs.ControlFrames.{controls_at, put_in, due_in}
+use Rattle.laws_trace.specs.LinkFrames.{is_frame_of}
 use Rattle.laws_trace.specs.Managing.{is_on}
 use Rattle.laws_trace.specs.News.{brings, is_sabme}
 use Rattle.laws_trace.specs.Observer.{Observed, View, at_first, steps, views}
-use Rattle.laws_trace.specs.Trace.{is_own, is_up, Seen, seen, noted, granted}
+use Rattle.laws_trace.specs.Trace.{is_own, is_up, Seen, frame_in, seen, noted, granted}
 
--- What is known of the link; and the contents that it keeps from V(A) on, oldest first: those granted and not acknowledged.
+-- What is known of the link; the contents that it keeps from V(A) on, oldest first: those granted and not acknowledged; and
+-- the control frames that wait, oldest first: those that were due, and have not begun; and whether an acknowledgement is owed.
 pub record Outgoing : Type 0 where
   pub view : View
   pub kept : List (List ℕ)
+  pub waiting : List ControlFrame
+  pub owes : Bool
 
 -- Data that is granted for a link.
 abbrev pub data_asked : Service → ℕ → Request → List (List ℕ)
@@ -56,15 +64,40 @@ keeps c service tei was now what a kept =
     else if is_up was.state then drop (went_on (brings is_sabme c service tei what) was now) kept ++ flat_map (data_granted service tei) t
     else kept
 
+-- And the first control frame leaves as it begins, those that are due come behind, and none waits where the link is
+-- deactivated (annex B).
+abbrev pub waits : Config → Service → ℕ → ℕ → Observed → Observed → Moment → List ControlFrame → List ControlFrame
+waits c service tei number was now m waiting =
+    if deactivates service tei m.event.what then []
+    else drop (length (flat_map (controls_at c service tei) (seen m.event.what m.answer))) waiting ++ due_in c service tei number was now m
+
+abbrev pub is_empty : {X : Type 0} → List X → Bool
+is_empty [] = true
+is_empty (x ∷ xs) = false
+
+-- Data that is told is to be acknowledged, until a frame of the link is put, or one begins that did not wait: each has an N(R)
+-- in states 7 and 8; and nothing is owed where the link comes to these states, or leaves them (clauses 5.6.2 and 5.6.3).
+abbrev pub still_owes : Config → Service → ℕ → Observed → Observed → Moment → List ControlFrame → Bool → Bool
+still_owes c service tei was now m waiting owes =
+    is_up was.state && is_up now.state
+    && is_empty (put_in c service tei was now m) && not (is_empty waiting && list_any (is_frame_of c service tei) (frame_in m.answer))
+    && (owes || list_any (is_data_of service tei) (notes_of m.answer))
+
 -- While the TEI is on the line.
 abbrev pub watches : Config → Service → ℕ → ℕ → Outgoing → Moment → Outgoing
 watches c service tei number o m =
     let now = views c service tei number o.view m in
-    let kept = if m.event.line == number then keeps c service tei o.view.link now.link m.event.what m.answer o.kept else o.kept in
-    record { view = now; kept = if is_on tei now.teis && is_on tei o.view.teis then kept else [] }
+    let stays = is_on tei now.teis && is_on tei o.view.teis in
+    let its = m.event.line == number in
+    record {
+      view = now;
+      kept = if stays then (if its then keeps c service tei o.view.link now.link m.event.what m.answer o.kept else o.kept) else [];
+      waiting = if stays then (if its then waits c service tei number o.view.link now.link m o.waiting else o.waiting) else [];
+      owes = stays && (if its then still_owes c service tei o.view.link now.link m o.waiting o.owes else o.owes);
+    }
 
 abbrev pub nothing_yet : Outgoing
-nothing_yet = record { view = at_first; kept = [] }
+nothing_yet = record { view = at_first; kept = []; waiting = []; owes = false }
 
 -- After a list of events.
 abbrev pub outgoing_of : Config → Service → ℕ → ℕ → List Event → Outgoing

@@ -1,6 +1,5 @@
 -- Worked values: what an observer knows of a link, which timers run, and when they are started; and what breaks the laws.
 use Rattle.std.specs.Prelude.{◌≡◌, ℕ, ◌*◌, ◌&&◌, ◌||◌, not, Bool, true, false, List, [], ◌∷◌, ◌++◌, refl}
-use Rattle.std.proofs.Common.{arith}
 use Rattle.model_bits.specs.Stream as stream
 use Rattle.lapd_frame.specs.declared.services.Service.TheVariants.{Call}
 use Rattle.lapd_frame.specs.declared.timers.Timer.TheVariants as timers
@@ -21,7 +20,7 @@ use Rattle.model_card.specs.Machine.{answer}
 use Rattle.model_card.specs.Run.{moments, after_all}
 use Rattle.laws_line.specs.card.Timers.{runs_at_callers}
 use Rattle.laws_line.specs.card.Worked.{usual, on_0, up}
-use Rattle.laws_trace.specs.AllGoesAgain.{MayGo}
+use Rattle.laws_trace.specs.FramesAreDue.{may_go}
 use Rattle.laws_trace.specs.Observer.{Observed, in_state, awaits, by_heard, by_t200, by_expiry, view_of}
 use Rattle.laws_trace.specs.TimersAreTimely.{is_anew}
 use Rattle.laws_trace.specs.WorkedUnits.{calls, comes}
@@ -144,5 +143,5 @@ never_started : runs_at_callers 0 (timers.T200 Call 64) false [] ≡ awaits two_
 never_started e = cc e
 
 -- I-frames may go while two are outstanding.
-may_go : MayGo usual Call two_out
-may_go = record { up = refl; free = refl; few = omega arith }
+goes_on : may_go usual Call two_out ≡ true
+goes_on = refl

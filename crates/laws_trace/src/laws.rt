@@ -1,14 +1,11 @@
 //! The laws. Each is the contract of a call that does nothing.
 
 ghost use Rattle.laws_trace.specs.Trace.{Always};
-ghost use Rattle.laws_trace.specs.AllAreAcknowledged.{AllAreAcknowledged};
-ghost use Rattle.laws_trace.specs.AllGoesAgain.{AllGoesAgain};
-ghost use Rattle.laws_trace.specs.ControlFrames.{OnlyDueGo, AllDueGo};
 ghost use Rattle.laws_trace.specs.Configurations.{RangesAreServed};
 ghost use Rattle.laws_trace.specs.CountersCount.{CountersCount};
 ghost use Rattle.laws_trace.specs.OtherSide.{TheOtherSideIsHeard};
 ghost use Rattle.laws_trace.specs.FramesAreRead.{FramesAreRead, FramesAreOctets};
-ghost use Rattle.laws_trace.specs.DataGoesOut.{DataGoesOut};
+ghost use Rattle.laws_trace.specs.FramesAreDue.{GivenIsDue, DueIsGiven};
 ghost use Rattle.laws_trace.specs.Deliveries.{Deliveries};
 ghost use Rattle.laws_trace.specs.LinksMove.{LinksMove};
 ghost use Rattle.laws_trace.specs.LinksTakeTurns.{LinksTakeTurns};
@@ -84,54 +81,43 @@ pub fn what_is_told_was_heard()
     ensures { Always Deliveries }
 {}
 
-/// Data goes out. Each I-frame of a link that begins may go, by what was heard and what began before: the link is in state
-/// 7, so that no recovery runs, the terminal is not busy by the last RR, RNR or REJ, and fewer than k are outstanding. It
-/// has the number that goes next, V(S), so that they go again in order, from the number to which REJ or the end of a
-/// recovery set back, and none is passed over. Its contents are those that the link keeps at V(S), counted from V(A) on, as
-/// whoever watches it has them (`Outgoing` of specs/), and its N(R) is the number of contents told of the link since its
-/// numbers began, modulo 128. A link keeps data from when it is granted, in order, each once, until V(A) goes on by it, in
-/// states 7 and 8 by the N(R) that is heard; or until its TEI leaves, or layer 3 learns that all is lost: by a release or a
-/// deactivation that is granted, an indication of the establishment, or an indication or a confirm of the release, which
-/// are told as [`news_is_told`] has them. So contents stay where the numbers begin and none of these is told (`front`).
-/// And all of it has gone, once the line was only called for its next frame, as often as the configuration says, on a link
-/// for which one may go then (`again`; Q.921 clauses 3.5.2.1 to 3.5.2.6, 5.5.1.2, 5.5.3.2, 5.6.1, 5.6.4, 5.6.5, 5.6.7 and
-/// 5.7).
-pub fn data_goes_out()
-    ensures front { Always DataGoesOut }
-    ensures again { Always AllGoesAgain }
-{}
-
-/// Control frames that are due go, and no others: of a link, all frames except I-frames and UI. Due are, by the state
-/// of the link before: UA to SABME, and to DISC, with F = P, except DM to SABME in state 6, and to DISC in states 4 and
-/// 5; in states 7 and 8 REJ, with F = P, to the first I-frame of at most N201 octets, since data was told or the
-/// numbers began, of which nothing is told though layer 3 is not busy, RNR or RR with F=1 to each other such I-frame
-/// with P=1, and to RR, RNR and REJ that are commands with P=1, and RNR or RR with F=0 where layer 3 comes to be busy,
-/// or is so no more; and, with P=1, SABME, DISC or an enquiry where the link comes to state 5, 6 or 8, and again where
-/// T200 expires and leaves it there. A receipt, and an enquiry, is RNR while layer 3 is busy and RR while it is not; it
-/// and REJ have the number of contents told of the link since its numbers began, modulo 128, as it was when the frame
-/// was due. From whenever the TEI is not on the line, those that begin are among these, in their order, and none twice;
-/// except that RR with F=0, and the number told, goes by itself too in states 7 and 8, while layer 3 is not busy
-/// (`only`). And while the TEI stays on the line, and the link is not deactivated, they all go, except the last of a
-/// moment, as many as its answer counts as lost: each has begun once the line was only called for its next frame, as
-/// often as the configuration says, in their order (`all`; Q.921 clauses 3.5.1, 3.5.2.4 to 3.5.2.6, 5.5, 5.6, 5.7, 5.8.1
-/// and 5.10.3).
-pub fn control_frames_go()
-    ensures only { Always OnlyDueGo }
-    ensures all { Always AllDueGo }
-{}
-
-/// All that is told is acknowledged. Of a link in state 7 or 8, once the line was only called for its next frame, as
-/// often as the configuration says, the last N(R) that began, of an I-frame, RR, RNR or REJ, is the number of contents
-/// told of the link since its numbers began, modulo 128: if any was told, and no answer since the last was told, nor
-/// that one, has told a frame as lost (Q.921 clauses 3.5.2.6, 5.6.2 and 5.6.3).
-pub fn all_are_acknowledged()
-    ensures { Always AllAreAcknowledged }
+/// What is given of a link is due. A call for the next frame gives no frame of a link, UI apart, but what the link offers,
+/// as whoever watches it has this (`Outgoing` of specs/), whole (`due`): the control frame that has waited longest; where
+/// none waits, an I-frame, where one may go and contents are kept that have not gone, or are to go again; else, where an
+/// acknowledgement is owed, RR with F=0. And a call gives no frame only where no link of a TEI on the line offers any
+/// (`none`). As calls come to an end (`calls_come_to_an_end` of the promises), all goes that waits, is owed or may go.
+///
+/// An I-frame may go in state 7, so that no recovery runs, while the terminal is not busy by the last RR, RNR or REJ, and
+/// fewer than k are outstanding. It has P=0, as N(S) the number that goes next, V(S), so that they go again in order, from
+/// the number to which REJ or the end of a recovery set back, and none is passed over; and the contents that the link
+/// keeps at V(S), counted from V(A) on. A link keeps data from when it is granted, in order, each once, until V(A) goes on
+/// by it, in states 7 and 8 by the N(R) that is heard; or until its TEI leaves, or layer 3 learns that all is lost: by a
+/// release or a deactivation that is granted, an indication of the establishment, or an indication or a confirm of the
+/// release, which are told as [`news_is_told`] has them. So contents stay where the numbers begin and none of these is told.
+///
+/// Control frames wait from when they are due, except the last of a moment, as many as its answer counts as lost, until
+/// they begin, the link is deactivated, or its TEI leaves the line. Due are, by the state of the link before: UA to SABME,
+/// and to DISC, with F = P, except DM to SABME in state 6, and to DISC in states 4 and 5; in states 7 and 8 REJ, with F =
+/// P, to the first I-frame of at most N201 octets, since data was told or the numbers began, of which nothing is told
+/// though layer 3 is not busy, RNR or RR with F=1 to each other such I-frame with P=1, and to RR, RNR and REJ that are
+/// commands with P=1, and RNR or RR with F=0 where layer 3 comes to be busy, or is so no more; and, with P=1, SABME, DISC
+/// or an enquiry where the link comes to state 5, 6 or 8, and again where T200 expires and leaves it there. A receipt, and
+/// an enquiry, is RNR while layer 3 is busy and RR while it is not.
+///
+/// N(R) is the number of contents told of the link since its numbers began, modulo 128: of an I-frame, and of RR that goes by
+/// itself, as it begins, and else as the frame was due. An acknowledgement is owed for data that is told, until a frame of
+/// the link is due, or one begins that did not wait, or the link leaves states 7 and 8, or comes there. So all that is told
+/// is acknowledged, by the last N(R) that goes, unless a frame was told as lost (Q.921 clauses 3.5.1, 3.5.2.1 to 3.5.2.6,
+/// 5.3.4, 5.5, 5.6, 5.7, 5.8.1 and 5.10.3).
+pub fn what_is_given_is_due()
+    ensures due { Always GivenIsDue }
+    ensures none { Always DueIsGiven }
 {}
 
 /// Nothing is lost in vain. An answer tells as many frames as lost as messages of TEI management are, by
 /// [`teis_are_managed`]: one where four are owed and another is, and else none; or none of these is, and as many
 /// control frames wait on the line of the link for which the event is as the configuration says, so that there is no room
-/// for another. So an answer that is due, as [`control_frames_go`] has it, is not lost where its link has room (profile).
+/// for another. So an answer that is due, as [`what_is_given_is_due`] has it, is not lost where its link has room (profile).
 pub fn nothing_is_lost_in_vain()
     ensures { Always NoLossInVain }
 {}
@@ -203,7 +189,7 @@ pub fn news_is_told()
 {}
 
 /// Rooms are told as they are. Of each link whose TEI is on the line the places of its queue are those that `Card::room`
-/// tells as left and those of the contents that the link keeps, as [`data_goes_out`] has them: so contents take a place
+/// tells as left and those of the contents that the link keeps, as [`what_is_given_is_due`] has them: so contents take a place
 /// until they are acknowledged, or layer 3 learns that they are lost, and none is lost silently. Of a link in state 7 or 8
 /// V(A) is told, which is the N(R) that was heard of it last; and what is left, of the queue and of the pool, is what the
 /// next request for data would be refused for. In the other states that is refused for the state, so no data is granted

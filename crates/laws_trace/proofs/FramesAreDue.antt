@@ -1,0 +1,123 @@
+-- What is given of a link is due: the laws.
+use Rattle.laws_trace.proofs.Vocabulary.{◌≡◌, ℕ, ◌<◌, true, false, cond, All, List, [], ◌∷◌, ◌++◌, map, filter, Option, Some, None, IfSome, option_map, option_to_list, refl, sym, ap, ◌∙◌, subst, inl, inr, append-nil, Service, place_of-is, given-in-order, IsInOrder, All-head, ControlFrame, Terms, Link, Given, given_is_frame, Config, next, gave, Answer, Line, link_of, place_in, terms, Taken, taken, next_of, IsInRange, terms_in_range, HasNothing, line_at, at}
+use Rattle.model_link.specs.Events as link
+use Rattle.model_link.specs.Machine as links
+use Rattle.model_link.specs.Sound as link_sound
+use Rattle.model_line.specs.Machine as lines
+use Rattle.model_line.specs.Sound.{IsSound}
+use Rattle.model_line.specs.Taken.{frame_of}
+use Rattle.model_card.specs.Card.{fresh}
+use Rattle.model_card.specs.Event.{Event}
+use Rattle.model_card.specs.Machine.{answer}
+use Rattle.model_card.specs.Run.{after_all, AreAtLines}
+use Rattle.laws_line.proofs.Serving.{none-waits as nothing-waits}
+use Rattle.laws_trace.specs.FramesAreDue.{offers, GivenIsDue, DueIsGiven}
+use Rattle.laws_trace.specs.LinkFrames.{is_frame_of}
+use Rattle.laws_trace.specs.Managing.{is_on}
+use Rattle.laws_trace.specs.Observer.{View}
+use Rattle.laws_trace.specs.Outgoing.{Outgoing, outgoing_of}
+use Rattle.laws_trace.specs.Trace.{frame_in, IsFront, Always}
+use Rattle.laws_trace.specs.Units.{is_ui}
+use Rattle.laws_trace.proofs.Addressed.{at-some-place}
+use Rattle.laws_trace.proofs.LineAtEnd.{line-at-end, link-at-end, silent-there}
+use Rattle.laws_trace.proofs.DataAsked.{only-offered}
+use Rattle.laws_trace.proofs.FramesOfLink.{all-foreign, own-frame}
+use Rattle.laws_trace.proofs.NoUi.{IsPlain}
+use Rattle.laws_trace.proofs.OffersOfLink.{given-is-offered-so, nothing-offered}
+use Rattle.laws_trace.proofs.OneLink.{frames_given, Goes, event-goes}
+use Rattle.laws_trace.proofs.Outgoing.{view-is}
+use Rattle.laws_trace.proofs.Plain.{own-plain}
+use Rattle.laws_trace.proofs.SeenAs.{tei-seen}
+use Rattle.laws_trace.proofs.TimersAreTimely.{config-now}
+
+none-goes : (xs ys : List (List ℕ)) → xs ≡ [] → IsFront xs ys
+none-goes xs ys none = record { rest = ys; whole_is = ap (λ xs. xs ++ ys) (sym none) }
+
+all-goes : (xs ys : List (List ℕ)) → ys ≡ xs → IsFront xs ys
+all-goes xs ys same = record { rest = []; whole_is = same ∙ sym (append-nil xs) }
+
+none-taken : (o : Option Taken) → frame_in (gave (option_map next_of o)) ≡ [] → o ≡ None
+none-taken None is = refl
+none-taken (Some t) is = cc is
+
+some-of : {X : Type 0} (P : X → Type 0) (o : Option X) (x : X) → o ≡ Some x → IfSome o P → P x
+some-of P o x is h = subst (λ o. IfSome o P) is h
+
+module _ (c : Config) (events : List Event) (number : ℕ) (ranged : IsInRange c) (all : AreAtLines (fresh c) events) (within : number < c.lines) (service : Service) (tei : ℕ) where
+  abbrev line : Line
+  line = line_at number (after_all (fresh c) events)
+
+  abbrev t : Terms
+  t = terms c service tei
+
+  abbrev own : Link
+  own = link_of service tei line
+
+  abbrev o : Outgoing
+  o = outgoing_of c service tei number events
+
+  abbrev a : Answer
+  a = lines.answer c next line
+
+  abbrev Due : List (List ℕ) → Type 0
+  Due frames = IsFront (filter (is_frame_of c service tei) frames) (offers c service tei o)
+
+  sound : IsSound c line
+  sound = line-at-end c events number ranged all within
+
+  module _ (place : ℕ) (on : place_in line tei ≡ Some place) where
+    safe : link_sound.IsSound t own
+    safe = link-at-end c line ranged sound service tei place on
+
+    range : link_sound.IsInRange t
+    range = terms_in_range c ranged service tei (sound.management.table.range place tei (place_of-is line.management.places tei place on).1)
+
+    plain : (f : ControlFrame) → IsInOrder t own (links.after t link.offer own) f → is_ui f.control ≡ false
+    plain f (inl oldest) =
+        All-head IsPlain f (links.after t link.offer own).waiting (subst (All IsPlain) oldest.waited (own-plain c events number ranged all within service tei place on))
+    plain f (inr (inl information)) = ap (λ (f : ControlFrame). is_ui f.control) information.is
+    plain f (inr (inr acknowledgement)) = ap (λ (f : ControlFrame). is_ui f.control) acknowledgement.is
+
+    own-due : (g : Option Given) → links.given t own ≡ g → Due (map (frame_of c t) (option_to_list g))
+    own-due None none = none-goes [] (offers c service tei o) refl
+    own-due (Some g) some =
+        let its : is_frame_of c service tei (frame_of c t g) ≡ true =
+        own-frame c service tei g (some-of (λ g. link_sound.IsGiven t g.frame g.contents) (links.given t own) g some (given_is_frame t range own safe))
+        (plain g.frame (some-of (λ g. IsInOrder t own (links.after t link.offer own) g.frame) (links.given t own) g some (given-in-order t own safe))) in
+        all-goes (filter (is_frame_of c service tei) (frame_of c t g ∷ [])) (offers c service tei o)
+        (given-is-offered-so c events number ranged all within service tei place on g some ∙ sym (ap (λ b. cond b (frame_of c t g ∷ []) []) its))
+
+  line-due : Due (frame_in (lines.answer c next line))
+  line-due = go (event-goes c next line service tei sound)
+    where
+      go : Goes c service tei next line (lines.after c next line) a → Due (frame_in (lines.answer c next line))
+      go (inl x) = none-goes (filter (is_frame_of c service tei) (frame_in (lines.answer c next line))) (offers c service tei o) (all-foreign c service tei (frame_in (lines.answer c next line)) x.begins)
+      go (inr (inl x)) =
+          subst Due (sym (x.begins ∙ ap (λ e. frames_given c t e own) (only-offered c a service tei x.event x.by))) (own-due x.place x.placed (links.given t own) refl)
+      go (inr (inr x)) = absurd (cc x.by.0)
+
+  pub now-due : Due (frame_in (answer (at number next) (after_all (fresh c) events)))
+  unfolding lines.takes_slot
+  now-due = subst (λ (d : Config). Due (frame_in (lines.answer d next line))) (sym (config-now c events number ranged all within service tei)) line-due
+
+  placed : is_on tei o.view.teis ≡ true → (place : ℕ) × (place_in line tei ≡ Some place)
+  placed on =
+      at-some-place line tei
+      (sym (tei-seen c events number ranged all within service tei) ∙ sym (ap (λ (v : View). is_on tei v.teis) (view-is c number ranged within service tei events)) ∙ on)
+
+  nothing-there : frame_in (answer (at number next) (after_all (fresh c) events)) ≡ [] → HasNothing c line
+  unfolding lines.answer lines.takes_slot
+  nothing-there none =
+      nothing-waits c line sound
+      (none-taken (taken c line) (subst (λ (d : Config). frame_in (lines.answer d next line) ≡ []) (config-now c events number ranged all within service tei) none))
+
+  pub none-due : frame_in (answer (at number next) (after_all (fresh c) events)) ≡ [] → is_on tei o.view.teis ≡ true → offers c service tei o ≡ []
+  none-due none on =
+      let there = placed on in
+      nothing-offered c events number ranged all within service tei there.0 there.1 (silent-there c line sound (nothing-there none) service tei there.0 there.1)
+
+pub given-is-due : Always GivenIsDue
+given-is-due c events number ranged all within service tei = now-due c events number ranged all within service tei
+
+pub due-is-given : Always DueIsGiven
+due-is-given c events number ranged all within service tei none on = none-due c events number ranged all within service tei none on

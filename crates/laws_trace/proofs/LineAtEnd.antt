@@ -1,0 +1,36 @@
+-- The line and a link of it behind a list of events; and a link that has nothing to send, where nothing of its line does.
+use Rattle.laws_trace.proofs.Vocabulary.{◌≡◌, ℕ, ◌<◌, List, get_or, Option, Some, None, sym, ap, ◌∙◌, subst, arith, true≢false, option_map_or, Service, place_of-is, is_multiple_frame, Established, Config, Line, link_in, link_of, link_at, link_number, place_at, place_in, service_at, tei_at, terms, IsInRange, sound_in, place_at-number, service_at-number, number_within, HasNothing, IsSilent, line_at, fresh_is_sound, line-sound, config-stays}
+use Rattle.model_link.specs.Link.{fresh}
+use Rattle.model_link.specs.Sound as link_sound
+use Rattle.model_line.specs.Sound.{IsSound}
+use Rattle.model_card.specs.Card as cards
+use Rattle.model_card.specs.Event.{Event}
+use Rattle.model_card.specs.Run.{after_all, AreAtLines}
+use Rattle.model_card.proofs.CardSound.{always_sound}
+
+-- A link of a line that has nothing to send has nothing to send.
+pub silent-there : (c : Config) (l : Line) → IsSound c l → HasNothing c l → (service : Service) (tei place : ℕ) → place_in l tei ≡ Some place
+    → IsSilent (terms c service tei) (link_of service tei l)
+silent-there c l s h service tei place is =
+    let found = place_of-is l.management.places tei place is in
+    let within : place < c.terminals = omega (arith, s.places, found.0) in
+    let number = link_number place service in
+    let there : tei_at (place_at number) l ≡ Some tei = ap (λ p. get_or l.management.places p None) (place_at-number place service) ∙ found.1 in
+    let known : IsSilent (terms c (service_at number) tei) (link_at number l) = h.links number (number_within place c.terminals service within) tei there in
+    subst (IsSilent (terms c service tei)) (sym (ap (λ o. option_map_or (link_in l service) o fresh) is))
+    (subst (λ x. IsSilent (terms c x tei) (link_at number l)) (service_at-number place service) known)
+
+-- The line at the end, and a link of it.
+pub line-at-end : (c : Config) (events : List Event) (number : ℕ) → IsInRange c → AreAtLines (cards.fresh c) events → number < c.lines
+    → IsSound c (line_at number (after_all (cards.fresh c) events))
+line-at-end c events number ranged all within =
+    let end_sound = always_sound (cards.fresh c) events (fresh_is_sound c ranged) all in
+    let end_config : (after_all (cards.fresh c) events).config ≡ c = config-stays (cards.fresh c) events in
+    subst (λ d. IsSound d (line_at number (after_all (cards.fresh c) events))) end_config
+    (line-sound (after_all (cards.fresh c) events) number end_sound (subst (λ (d : Config). number < d.lines) (sym end_config) within))
+
+pub link-at-end : (c : Config) (l : Line) → IsInRange c → IsSound c l → (service : Service) (tei place : ℕ) → place_in l tei ≡ Some place
+    → link_sound.IsSound (terms c service tei) (link_of service tei l)
+link-at-end c l ranged s service tei place on =
+    subst (link_sound.IsSound (terms c service tei)) (sym (ap (λ o. option_map_or (link_in l service) o fresh) on))
+    (sound_in c ranged l s service tei place (place_of-is l.management.places tei place on).1)

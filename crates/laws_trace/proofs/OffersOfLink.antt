@@ -1,0 +1,263 @@
+-- What a link gives next is what an observer has it offer.
+use Rattle.laws_trace.proofs.Vocabulary.{◌≡◌, ℕ, zero, suc, ◌+◌, ◌%◌, ◌<◌, ◌≤◌, ◌==◌, ◌&&◌, not, nat_lt, Bool, true, false, cond, List, [], ◌∷◌, drop, length, slice_get, Option, Some, None, refl, sym, ap, ◌∙◌, subst, inl, inr, arith, true≢false, IfSome, and_parts, fold, Service, place_of-is, Information, ReceiveReady, ReceiveNotReady, Reject, Sabme, Disc, Ui, Ua, Dm, Frmr, Seq, seq, given-in-order, given-is-offered, IsInOrder, IsOffered, State, TeiAssigned, AwaitingEstablishment, AwaitingRelease, Established, TimerRecovery, ControlFrame, Terms, Link, is_multiple_frame, is_information, state_number, Given, Config, Line, link_of, place_in, terms, window, IsInRange, IsSilent, terms_in_range, line_at, moments}
+use Rattle.std.proofs.lemmas.Bool.{ltb-true, lt-ltb}
+use Rattle.lapd_frame.specs.declared.controls.Control.{Control}
+use Rattle.lapd_frame.specs.declared.controls.Control.TheVariants.{Xid}
+use Rattle.model_link.specs.Events as link
+use Rattle.model_link.specs.Machine as links
+use Rattle.model_link.specs.Sound as link_sound
+use Rattle.model_line.specs.Taken.{frame_of}
+use Rattle.model_line.specs.Sound.{IsSound}
+use Rattle.model_card.specs.Card.{fresh}
+use Rattle.model_card.specs.Event.{Event}
+use Rattle.model_card.specs.Run.{after_all, AreAtLines}
+use Rattle.lapd_seq.proofs.Callers.{is_seq}
+use Rattle.laws_link.specs.Offered.{number_sent, Carries}
+use Rattle.laws_link.specs.Sending.{MayGo}
+use Rattle.laws_trace.specs.FramesAreDue.{text, may_go, unsent, by_itself, sends, offers_behind, offers}
+use Rattle.laws_trace.specs.Observer.{View, steps, view_of}
+use Rattle.laws_trace.specs.Outgoing.{Outgoing, outgoing_of}
+use Rattle.laws_trace.specs.Trace.{is_up}
+use Rattle.laws_trace.proofs.LineAtEnd.{line-at-end, link-at-end}
+use Rattle.laws_trace.proofs.DeliveriesKept.{run-stands}
+use Rattle.laws_trace.proofs.ObservedAcknowledged.{agrees-now}
+use Rattle.laws_trace.proofs.ObservedLaws.{numbers-now}
+use Rattle.laws_trace.proofs.ObservedShape.{known_of}
+use Rattle.laws_trace.proofs.Outgoing.{view-is, kept-now}
+use Rattle.laws_trace.proofs.OwedNow.{owed-now}
+use Rattle.laws_trace.proofs.Plain.{all-wait}
+use Rattle.laws_trace.proofs.SeenAs.{known-up, seen-before, up-number}
+use Rattle.laws_trace.proofs.TimerClaims.{IsKnown}
+use Rattle.laws_trace.proofs.TimersAreTimely.{true-now}
+use Rattle.laws_trace.proofs.TimersWatched.{Known, nothing_yet, watch}
+use Rattle.laws_trace.proofs.WaitingNow.{waiting-now}
+
+-- Lists.
+drop-none : (n : ℕ) → drop {A = List ℕ} n [] ≡ []
+drop-none zero = refl
+drop-none (suc n) = refl
+
+drop-twice : (xs : List (List ℕ)) (a n m : ℕ) → a + m ≡ n → drop m (drop a xs) ≡ drop n xs
+drop-twice xs zero n m is = let same : m ≡ n = omega (arith, is) in ap (λ k. drop k xs) same
+drop-twice [] (suc a) n m is = drop-none m ∙ sym (drop-none n)
+drop-twice (x ∷ xs) (suc a) zero m is = absurd (omega (arith, is))
+drop-twice (x ∷ xs) (suc a) (suc n) m is = drop-twice xs a n m (omega (arith, is))
+
+at-front : (xs : List (List ℕ)) (n : ℕ) (x : List ℕ) → slice_get xs n ≡ Some x → (rest : List (List ℕ)) × (drop n xs ≡ x ∷ rest)
+at-front [] n x is = absurd (cc is)
+at-front (y ∷ xs) zero x is = (xs, ap (λ z. z ∷ xs) (some-same is))
+  where
+    some-same : {a b : List ℕ} → Some a ≡ Some b → a ≡ b
+    some-same e = cc e
+at-front (y ∷ xs) (suc n) x is = at-front xs n x is
+
+some-left : (xs : List (List ℕ)) (n : ℕ) (x : List ℕ) (rest : List (List ℕ)) → drop n xs ≡ x ∷ rest → n < length xs
+some-left [] n x rest is = absurd (no-first (sym (drop-none n) ∙ is))
+  where
+    no-first : [] ≡ x ∷ rest → ⊥
+    no-first e = cc e
+some-left (y ∷ xs) zero x rest is = omega arith
+some-left (y ∷ xs) (suc n) x rest is = let few = some-left xs n x rest is in omega (arith, few)
+
+-- What holds of what is there.
+some-of : {X : Type 0} (P : X → Type 0) (o : Option X) (x : X) → o ≡ Some x → IfSome o P → P x
+some-of P o x is h = subst (λ o. IfSome o P) is h
+
+none-numbered : (control : Control) → link_sound.is_information control ≡ false → number_sent control ≡ None
+none-numbered (Information ns nr p) e = absurd (true≢false e)
+none-numbered (ReceiveReady nr pf) e = refl
+none-numbered (ReceiveNotReady nr pf) e = refl
+none-numbered (Reject nr pf) e = refl
+none-numbered (Sabme p) e = refl
+none-numbered (Disc p) e = refl
+none-numbered (Ui p) e = refl
+none-numbered (Ua f) e = refl
+none-numbered (Dm f) e = refl
+none-numbered (Frmr f) e = refl
+none-numbered (Xid pf) e = refl
+
+bare-contents : (all : List (List ℕ)) (j : ℕ) (f : ControlFrame) (contents : Option (List ℕ)) → link_sound.is_information f.control ≡ false → IsOffered all j f contents → contents ≡ None
+bare-contents all j f contents bare offered =
+    subst (λ o. elim o as (λ o. Type 0) [ None ↦ contents ≡ None | Some ns ↦ Carries all j ns contents ]) (none-numbered f.control bare) offered
+
+seven : (s : State) → (state_number s == 7) ≡ true → s ≡ Established
+seven Established is = refl
+seven TeiAssigned is = absurd (true≢false (sym is))
+seven AwaitingEstablishment is = absurd (true≢false (sym is))
+seven AwaitingRelease is = absurd (true≢false (sym is))
+seven TimerRecovery is = absurd (true≢false (sym is))
+
+module _ (c : Config) (events : List Event) (number : ℕ) (ranged : IsInRange c) (all : AreAtLines (fresh c) events) (within : number < c.lines) (service : Service) (tei place : ℕ)
+    (on : place_in (line_at number (after_all (fresh c) events)) tei ≡ Some place) where
+  abbrev line : Line
+  line = line_at number (after_all (fresh c) events)
+
+  abbrev own : Link
+  own = link_of service tei line
+
+  abbrev t : Terms
+  t = terms c service tei
+
+  abbrev o : Outgoing
+  o = outgoing_of c service tei number events
+
+  abbrev v : View
+  v = view_of c service tei number events
+
+  line_sound : IsSound c line
+  line_sound = line-at-end c events number ranged all within
+
+  safe : link_sound.IsSound t own
+  safe = link-at-end c line ranged line_sound service tei place on
+
+  range : link_sound.IsInRange t
+  range = terms_in_range c ranged service tei (line_sound.management.table.range place tei (place_of-is line.management.places tei place on).1)
+
+  view : o.view ≡ v
+  view = view-is c number ranged within service tei events
+
+  waits-are : o.waiting ≡ own.waiting
+  waits-are = waiting-now c number ranged within service tei events all place on ∙ all-wait c events number ranged all within service tei place on
+
+  owes-are : o.owes ≡ own.pending
+  owes-are = owed-now c number ranged within service tei events all place on
+
+  state-is : o.view.link.state ≡ state_number own.state
+  state-is = ap (λ (v : View). v.link.state) view ∙ (seen-before c events number ranged all within service tei place on).state_is
+
+  -- In states 7 and 8 the numbers are the link's.
+  module _ (up : is_multiple_frame own.state ≡ true) where
+    abbrev k : Known
+    k = fold (watch c service tei number) nothing_yet (moments (fresh c) events)
+
+    known : IsKnown k own.a own.s own.peer_busy
+    known = known-up own.state k own.a own.s own.peer_busy up (true-now c events number ranged all within service tei)
+
+    numbers : known_of v.link ≡ k
+    numbers = numbers-now c events number ranged all within service tei
+
+    seen_up : is_up v.link.state ≡ true
+    seen_up = ap is_up (seen-before c events number ranged all within service tei place on).state_is ∙ up-number own.state ∙ up
+
+    count-is : o.view.link.count ≡ own.r
+    count-is =
+        ap (λ (v : View). v.link.count) view
+        ∙ ((agrees-now c events number ranged all within service tei) seen_up).count_is ∙ sym ((run-stands c events number ranged all within service tei).1 up)
+
+    acknowledged-is : o.view.link.acknowledged ≡ own.a % 128
+    acknowledged-is = ap (λ (v : View). v.link.acknowledged) view ∙ ap (λ (z : Known). z.acknowledged) numbers ∙ known.acknowledged
+
+    next-is : o.view.link.next ≡ own.s % 128
+    next-is = ap (λ (v : View). v.link.next) view ∙ ap (λ (z : Known). z.next) numbers ∙ known.next
+
+    busy-is : o.view.link.busy ≡ own.peer_busy
+    busy-is = ap (λ (v : View). v.link.busy) view ∙ ap (λ (z : Known). z.busy) numbers ∙ known.busy_is
+
+    steps-are : own.a + steps o.view.link.acknowledged o.view.link.next ≡ own.s
+    steps-are =
+        let a = acknowledged-is in
+        let n = next-is in
+        let low : own.a ≤ own.s = safe.ordered in
+        let high : own.s ≤ own.a + t.k = safe.within in
+        let small : t.k ≤ 127 = range.k_high in
+        omega (arith, a, n, low, high, small)
+
+    unsent-is : unsent o ≡ drop own.s own.contents
+    unsent-is =
+        ap (drop (steps o.view.link.acknowledged o.view.link.next)) (kept-now c number ranged within service tei events all place on)
+        ∙ drop-twice own.contents own.a own.s (steps o.view.link.acknowledged o.view.link.next) steps-are
+
+  -- An I-frame may go by what an observer knows exactly where one may.
+  abbrev Few : Bool
+  Few = nat_lt (steps o.view.link.acknowledged o.view.link.next) (window c service)
+
+  may-so : MayGo t own → may_go c service o.view.link ≡ true
+  may-so may =
+      let up : is_multiple_frame own.state ≡ true = ap is_multiple_frame may.state in
+      let whole = steps-are up in
+      let less : own.s < own.a + window c service = may.window in
+      ap (λ n. n == 7 && (not o.view.link.busy && Few)) (state-is ∙ ap state_number may.state)
+      ∙ ap (λ b. not b && Few) (busy-is up ∙ may.free)
+      ∙ lt-ltb (steps o.view.link.acknowledged o.view.link.next) (window c service) (omega (arith, whole, less))
+
+  goes-so : may_go c service o.view.link ≡ true → (contents : List ℕ) (rest : List (List ℕ)) → unsent o ≡ contents ∷ rest → MayGo t own
+  goes-so may contents rest left =
+      let parts = and_parts (o.view.link.state == 7) (not o.view.link.busy && Few) may in
+      let others = and_parts (not o.view.link.busy) Few parts.1 in
+      let here : own.state ≡ Established = seven own.state (ap (λ n. n == 7) (sym state-is) ∙ parts.0) in
+      let up : is_multiple_frame own.state ≡ true = ap is_multiple_frame here in
+      let whole = steps-are up in
+      let few : steps o.view.link.acknowledged o.view.link.next < window c service = ltb-true (steps o.view.link.acknowledged o.view.link.next) (window c service) others.1 in
+      record {
+        state = here;
+        free = not-so own.peer_busy (ap not (sym (busy-is up)) ∙ others.0);
+        window = omega (arith, whole, few);
+        unsent = some-left own.contents own.s contents rest (sym (unsent-is up) ∙ left);
+      }
+    where
+      not-so : (b : Bool) → not b ≡ true → b ≡ false
+      not-so true is = absurd (true≢false (sym is))
+      not-so false is = refl
+
+  -- where none may go, it is the acknowledgement,
+  none-sent : (MayGo t own → ⊥) → sends c service tei o (unsent o) ≡ by_itself c service tei o
+  none-sent may_not = go (unsent o) refl (may_go c service o.view.link) refl
+    where
+      go : (left : List (List ℕ)) → unsent o ≡ left → (b : Bool) → may_go c service o.view.link ≡ b → sends c service tei o left ≡ by_itself c service tei o
+      go [] none b may = refl
+      go (contents ∷ rest) some true may = absurd (may_not (goes-so may contents rest some))
+      go (contents ∷ rest) some false may = ap (λ b. cond b (text c service tei true (Information (seq o.view.link.next) (seq o.view.link.count) false) contents ∷ []) (by_itself c service tei o)) may
+
+  behind-none : own.waiting ≡ [] → offers c service tei o ≡ sends c service tei o (unsent o)
+  behind-none none = ap (offers_behind c service tei o) (waits-are ∙ none)
+
+  pub nothing-offered : IsSilent t own → offers c service tei o ≡ []
+  nothing-offered silent =
+      behind-none silent.waiting ∙ none-sent silent.information
+      ∙ ap (λ b. cond b (text c service tei false (ReceiveReady (seq o.view.link.count) false) [] ∷ []) []) (owes-are ∙ silent.pending)
+
+  -- What is given is offered.
+  abbrev Offers : Given → Type 0
+  Offers g = offers c service tei o ≡ frame_of c t g ∷ []
+
+  with-frame : (g : Given) (f : ControlFrame) (contents : Option (List ℕ)) → g.frame ≡ f → g.contents ≡ contents
+      → frame_of c t g ≡ frame_of c t (record { frame = f; contents = contents; orders = g.orders })
+  with-frame g f contents is has = ap (λ f. frame_of c t (record { frame = f; contents = g.contents; orders = g.orders })) is
+      ∙ ap (λ o. frame_of c t (record { frame = f; contents = o; orders = g.orders })) has
+
+  seq-again : (n : ℕ) → seq (n % 128) ≡ seq n
+  unfolding seq
+  seq-again n = is_seq (seq (n % 128)) n (omega arith)
+
+  in-order : (g : Given) → IsInOrder t own (links.after t link.offer own) g.frame → IsOffered own.contents own.s g.frame g.contents → Offers g
+  in-order g (inl oldest) offered =
+      ap (offers_behind c service tei o) (waits-are ∙ oldest.waited)
+      ∙ ap (λ f. f ∷ []) (sym (with-frame g g.frame None refl (bare-contents own.contents own.s g.frame g.contents oldest.bare offered)))
+  in-order g (inr (inl x)) offered =
+      let up : is_multiple_frame own.state ≡ true = ap is_multiple_frame x.may.state in
+      let carried : Carries own.contents own.s (seq own.s) g.contents = subst (λ f. IsOffered own.contents own.s f g.contents) x.is offered in
+      let front = at-front own.contents own.s carried.information carried.among in
+      behind-none x.none ∙ ap (sends c service tei o) (unsent-is up ∙ front.1)
+      ∙ ap (λ b. cond b (spelled (seq o.view.link.next) (seq o.view.link.count) carried.information ∷ []) (by_itself c service tei o)) (may-so x.may)
+      ∙ ap (λ n. spelled (seq n) (seq o.view.link.count) carried.information ∷ []) (next-is up)
+      ∙ ap (λ n. spelled n (seq o.view.link.count) carried.information ∷ []) (seq-again own.s)
+      ∙ ap (λ n. spelled (seq own.s) (seq n) carried.information ∷ []) (count-is up)
+      ∙ ap (λ f. f ∷ []) (sym (with-frame g (record { command = true; control = Information (seq own.s) (seq own.r) false }) (Some carried.information) x.is carried.is))
+    where
+      spelled : (ns nr : Seq) (info : List ℕ) → List ℕ
+      spelled ns nr info = text c service tei true (Information ns nr false) info
+  in-order g (inr (inr x)) offered =
+      let up : is_multiple_frame own.state ≡ true = pends-up-now x.was_owed in
+      let bare : g.contents ≡ None = bare-contents own.contents own.s g.frame g.contents (ap (λ (f : ControlFrame). link_sound.is_information f.control) x.is) offered in
+      behind-none x.none ∙ none-sent x.may_not
+      ∙ ap (λ b. cond b (text c service tei false (ReceiveReady (seq o.view.link.count) false) [] ∷ []) []) (owes-are ∙ x.was_owed)
+      ∙ ap (λ n. text c service tei false (ReceiveReady (seq n) false) [] ∷ []) (count-is up)
+      ∙ ap (λ f. f ∷ []) (sym (with-frame g (record { command = false; control = ReceiveReady (seq own.r) false }) None x.is bare))
+    where
+      pends-up-now : own.pending ≡ true → is_multiple_frame own.state ≡ true
+      pends-up-now = (run-stands c events number ranged all within service tei).2.pends_up
+
+  pub given-is-offered-so : (g : Given) → links.given t own ≡ Some g → Offers g
+  given-is-offered-so g some =
+      in-order g (some-of (λ g. IsInOrder t own (links.after t link.offer own) g.frame) (links.given t own) g some (given-in-order t own safe))
+      (some-of (λ g. IsOffered own.contents own.s g.frame g.contents) (links.given t own) g some (given-is-offered t own safe))

@@ -1,0 +1,234 @@
+-- Whether a link owes an acknowledgement behind one event of its line.
+use Rattle.laws_trace.proofs.Vocabulary.{◌≡◌, ℕ, ◌&&◌, ◌||◌, not, Bool, true, false, List, [], ◌∷◌, map, Option, Some, None, IfSome, is_some, list_any, option_to_list, refl, sym, ap, ◌∙◌, subst, inl, inr, Service, place_of-is, as_heard, state_after, put, owed_behind, event-follows, given-in-order, IsInOrder, ControlFrame, Terms, Link, is_multiple_frame, Given, given_is_frame, Config, next, Answer, Line, has_tei, link_of, place_in, terms, IsInRange, terms_in_range, notes_of, is_data_of, IsBy, HaveTheirTimers}
+use Rattle.model_link.specs.Events as link
+use Rattle.model_link.specs.Machine as links
+use Rattle.model_link.specs.Sound as link_sound
+use Rattle.model_line.specs.Event.{Event}
+use Rattle.model_line.specs.Machine.{after, answer}
+use Rattle.model_line.specs.Taken.{frame_of}
+use Rattle.model_line.specs.Sound.{IsSound}
+use Rattle.laws_link.proofs.OfTwo.Waiting.{nothing-given}
+use Rattle.laws_line.proofs.Silence.{silent}
+use Rattle.laws_trace.specs.LinkFrames.{is_frame_of}
+use Rattle.laws_trace.specs.Outgoing.{is_empty}
+use Rattle.laws_trace.specs.Trace.{frame_in, seen}
+use Rattle.laws_trace.specs.Units.{is_ui}
+use Rattle.laws_trace.proofs.Addressed.{at-some-place}
+use Rattle.laws_trace.proofs.CommandsCaused.{IsNoOther}
+use Rattle.laws_trace.proofs.ControlsAtLine.{time_at, put_here, none-puts, put-is, none-due, numbered, own-timed, sound}
+use Rattle.laws_trace.proofs.ControlsDue.{put_by}
+use Rattle.laws_trace.proofs.ControlsOfLink as of_link
+use Rattle.laws_trace.proofs.DeliveriesRun.{IsCount, data-noted, no-data}
+use Rattle.laws_trace.proofs.DeliveriesWatched.{Standing}
+use Rattle.laws_trace.proofs.FramesOfLink.{any-foreign, own-frame}
+use Rattle.laws_trace.proofs.OneLink.{frames_given, HasOne, HasNone, Goes, event-goes}
+use Rattle.laws_trace.proofs.OwedOfLink.{pends-then}
+use Rattle.laws_trace.proofs.Standing.{behind}
+use Rattle.laws_trace.proofs.StandingOfLink.{calm, IsStanding}
+
+-- What stays owed, by what an observer sees.
+abbrev pub Owed : Bool → Bool → List ControlFrame → Bool → Bool → Bool
+Owed was now puts begins owes = (was && now && is_empty puts && not begins) && owes
+
+pub stays-owed : (up owes : Bool) → (owes ≡ true → up ≡ true) → owes ≡ Owed up up [] false (owes || false)
+stays-owed true true h = refl
+stays-owed true false h = refl
+stays-owed false true h = sym (h refl)
+stays-owed false false h = refl
+
+never-down : (was : Bool) (puts : List ControlFrame) (begins owes : Bool) → false ≡ Owed was false puts begins owes
+never-down true puts begins owes = refl
+never-down false puts begins owes = refl
+
+and-none : (b : Bool) → (b && false) ≡ false
+and-none true = refl
+and-none false = refl
+
+never-owed : (was now : Bool) (puts : List ControlFrame) (begins : Bool) → false ≡ Owed was now puts begins false
+never-owed was now puts begins = sym (and-none (was && now && is_empty puts && not begins))
+
+never-begun : (was now : Bool) (puts : List ControlFrame) (owes : Bool) → false ≡ Owed was now puts true owes
+never-begun was now puts owes = sym (ap (λ b. b && owes) (and-none (was && now && is_empty puts)))
+
+if-told : (b : Bool) → (b ≡ true → ⊥) → b ≡ false
+if-told true h = absurd (h refl)
+if-told false h = refl
+
+none-noted : (c : Config) (l : Line) (service : Service) (tei : ℕ) → list_any (is_data_of service tei) (notes_of (answer c next l)) ≡ false
+unfolding answer
+none-noted c l service tei = refl
+
+some-of : {X : Type 0} (P : X → Type 0) (o : Option X) (x : X) → o ≡ Some x → IfSome o P → P x
+some-of P o x is h = subst (λ o. IfSome o P) is h
+
+module _ (service : Service) (tei : ℕ) (c : Config) (ranged : IsInRange c) (e : Event) (l : Line) (s : IsSound c l) (timed : HaveTheirTimers l) (m : ℕ) (busy rejected : Bool)
+    (count : IsCount (link_of service tei l) m) (stands : IsStanding (link_of service tei l) busy rejected) where
+  abbrev a : Answer
+  a = answer c e l
+
+  abbrev new : Line
+  new = after c e l
+
+  abbrev own : Link
+  own = link_of service tei l
+
+  abbrev was : Standing
+  was = calm m busy rejected
+
+  abbrev now : Standing
+  now = behind service tei c e l a m busy rejected
+
+  abbrev Put : List ControlFrame
+  Put = put_here service tei c was now (time_at service tei l e new) l (seen e a) new
+
+  abbrev begins : Bool
+  begins = list_any (is_frame_of c service tei) (frame_in a)
+
+  abbrev told : Bool
+  told = list_any (is_data_of service tei) (notes_of a)
+
+  abbrev up : Link → Bool
+  up k = is_multiple_frame k.state
+
+  abbrev Pends : Type 0
+  Pends =
+      has_tei tei l ≡ true → has_tei tei new ≡ true
+      → (link_of service tei new).pending ≡ Owed (up own) (up (link_of service tei new)) Put (is_empty own.waiting && begins) (own.pending || told)
+
+  -- No event of the link.
+  module _ (x : HasNone c service tei e l new a) where
+    none-pends : Pends
+    none-pends was-on is-on =
+        ap (λ (k : Link). k.pending) (x.stays was-on is-on) ∙ stays-owed (up own) own.pending stands.pends_up
+        ∙ ap (λ b. Owed (up own) (up own) [] b (own.pending || false)) (sym (and-none (is_empty own.waiting)))
+        ∙ ap (λ b. Owed (up own) (up own) [] (is_empty own.waiting && b) (own.pending || false)) (sym (any-foreign c service tei (frame_in a) x.begins))
+        ∙ ap (λ b. Owed (up own) (up own) [] (is_empty own.waiting && begins) (own.pending || b)) (sym (if-told told (no-data c ranged l s e service tei m count x)))
+        ∙ ap (λ puts. Owed (up own) (up own) puts (is_empty own.waiting && begins) (own.pending || told)) (sym (none-puts service tei c ranged e l s timed m busy rejected count stands x was-on is-on))
+        ∙ ap (λ (k : Link). Owed (up own) (up k) Put (is_empty own.waiting && begins) (own.pending || told)) (sym (x.stays was-on is-on))
+
+  -- An event of the link.
+  module _ (x : HasOne c service tei e l new a) where
+    abbrev t : Terms
+    t = terms c service tei
+
+    abbrev later : Link
+    later = links.after (terms c service tei) x.event (link_of service tei l)
+
+    abbrev Then : List ControlFrame → Bool → Bool → Type 0
+    Then puts begins told = later.pending ≡ Owed (up own) (up later) puts (is_empty own.waiting && begins) (own.pending || told)
+
+    so-pends : (puts : List ControlFrame) → Put ≡ puts → (some noted : Bool) → begins ≡ some → told ≡ noted → Then puts some noted
+        → (link_of service tei new).pending ≡ Owed (up own) (up (link_of service tei new)) Put (is_empty own.waiting && begins) (own.pending || told)
+    so-pends puts put-so some noted begun told-so h =
+        ap (λ (k : Link). k.pending) x.is ∙ h
+        ∙ ap (λ ps. Owed (up own) (up later) ps (is_empty own.waiting && some) (own.pending || noted)) (sym put-so)
+        ∙ ap (λ b. Owed (up own) (up later) Put (is_empty own.waiting && b) (own.pending || noted)) (sym begun)
+        ∙ ap (λ b. Owed (up own) (up later) Put (is_empty own.waiting && begins) (own.pending || b)) (sym told-so)
+        ∙ ap (λ (k : Link). Owed (up own) (up k) Put (is_empty own.waiting && begins) (own.pending || told)) (sym x.is)
+
+    quiet : IsNoOther x.event → frames_given c t x.event own ≡ [] → Pends
+    quiet other none was-on is-on =
+        let there = at-some-place new tei is-on in
+        so-pends (put heard own (state_after t heard own)) (put-so there.0 there.1) false (is_some (links.told t x.event own).delivered)
+        (ap (list_any (is_frame_of c service tei)) (x.begins ∙ none)) (data-noted c ranged l s e service tei m count x)
+        (pends-then t x.event own other stands.pends_up
+        ∙ ap (λ b. (b && (own.pending || is_some (links.told t x.event own).delivered))) (with-none (up own && up later && is_empty (put heard own (state_after t heard own))))
+        ∙ ap (λ b. Owed (up own) (up later) (put heard own (state_after t heard own)) b (own.pending || is_some (links.told t x.event own).delivered)) (sym (and-none (is_empty own.waiting))))
+      where
+        heard : link.Event
+        heard = as_heard (terms c service tei) x.event
+
+        with-none : (b : Bool) → b ≡ (b && not false)
+        with-none true = refl
+        with-none false = refl
+
+        put-so : (there : ℕ) → place_in new tei ≡ Some there → Put ≡ put heard own (state_after t heard own)
+        put-so there on =
+            put-is service tei c ranged e l s timed m busy rejected count stands x there on
+            ∙ sym (subst (λ to. put heard own (state_after t heard own) ≡ put_by t.n201 was now x.event own.state to) (sym (event-follows t x.event own).leaves.state)
+            (of_link.put-is t own m busy rejected now.told.count now.busy now.rejected x.event other (own-timed service tei c ranged e l s timed m busy rejected count stands x)
+            (numbered service tei c ranged e l s timed m busy rejected count stands x)))
+
+    offered : x.event ≡ link.offer → e ≡ next → Pends
+    offered offer is was-on is-on =
+        let there = at-some-place new tei is-on in
+        so-pends [] (none-put there.0 there.1) some-begins false refl no-told (left own.waiting refl)
+      where
+        some-begins : Bool
+        some-begins = list_any (is_frame_of c service tei) (frame_in (answer c e l))
+
+        later-is : later ≡ links.after t link.offer own
+        later-is = ap (λ e. links.after t e own) offer
+
+        no-told : told ≡ false
+        no-told = ap (λ e. list_any (is_data_of service tei) (notes_of (answer c e l))) is ∙ none-noted c l service tei
+
+        own-state : later.state ≡ own.state
+        own-state = ap (λ (k : Link). k.state) later-is ∙ (event-follows t link.offer own).leaves.state
+
+        none-put : (there : ℕ) → place_in new tei ≡ Some there → Put ≡ []
+        none-put there on = none-due service tei c ranged e l s timed m busy rejected count stands x offer there on
+
+        pends-is : later.pending ≡ owed_behind own.waiting own.pending
+        pends-is = ap (λ (k : Link). k.pending) later-is ∙ (event-follows t link.offer own).leaves.pending
+
+        frames-are : frame_in a ≡ map (frame_of c t) (option_to_list (links.given t own))
+        frames-are = x.begins ∙ ap (λ e. frames_given c t e own) offer
+
+        same-up : up later ≡ up own
+        same-up = ap is_multiple_frame own-state
+
+        range : link_sound.IsInRange t
+        range = terms_in_range c ranged service tei (s.management.table.range x.place tei (place_of-is l.management.places tei x.place x.placed).1)
+
+        safe : link_sound.IsSound t own
+        safe = sound service tei c ranged e l s timed m busy rejected count stands x
+
+        -- none waits
+        by-given : own.waiting ≡ [] → (o : Option Given) → links.given t own ≡ o → false ≡ Owed (up own) (up later) [] (some-begins) (own.pending || false)
+        by-given none None nothing =
+            let quiet_now : own.pending ≡ false = (silent t own safe (nothing-given t own nothing)).pending in
+            never-owed (up own) (up later) [] some-begins ∙ ap (λ b. Owed (up own) (up later) [] some-begins (b || false)) (sym quiet_now)
+        by-given none (Some g) some =
+            never-begun (up own) (up later) [] (own.pending || false) ∙ ap (λ b. Owed (up own) (up later) [] b (own.pending || false)) (sym begins-so)
+          where
+            plain : IsInOrder t own (links.after t link.offer own) g.frame → is_ui g.frame.control ≡ false
+            plain (inl oldest) = absurd (no-first (sym none ∙ oldest.waited))
+              where
+                no-first : [] ≡ g.frame ∷ (links.after t link.offer own).waiting → ⊥
+                no-first e = cc e
+            plain (inr (inl information)) = ap (λ (f : ControlFrame). is_ui f.control) information.is
+            plain (inr (inr acknowledgement)) = ap (λ (f : ControlFrame). is_ui f.control) acknowledgement.is
+
+            begins-so : some-begins ≡ true
+            begins-so =
+                ap (list_any (is_frame_of c service tei)) (frames-are ∙ ap (λ o. map (frame_of c t) (option_to_list o)) some)
+                ∙ ap (λ b. b || false)
+                (own-frame c service tei g (some-of (λ g. link_sound.IsGiven t g.frame g.contents) (links.given t own) g some (given_is_frame t range own safe))
+                (plain (some-of (λ g. IsInOrder t own (links.after t link.offer own) g.frame) (links.given t own) g some (given-in-order t own safe))))
+
+        left : (ws : List ControlFrame) → own.waiting ≡ ws → Then [] some-begins false
+        left [] none =
+            pends-is ∙ ap (λ ws. owed_behind ws own.pending) none ∙ by-given none (links.given t own) refl
+            ∙ ap (λ ws. Owed (up own) (up later) [] (is_empty ws && some-begins) (own.pending || false)) (sym none)
+        left (f ∷ fs) some =
+            pends-is ∙ ap (λ ws. owed_behind ws own.pending) some ∙ stays-owed (up own) own.pending stands.pends_up
+            ∙ ap (λ b. Owed (up own) b [] false (own.pending || false)) (sym same-up)
+            ∙ ap (λ ws. Owed (up own) (up later) [] (is_empty ws && some-begins) (own.pending || false)) (sym some)
+
+    by-event : (event : link.Event) → x.event ≡ event → IsBy c e a service tei event → Pends
+    by-event (link.received what) is by = quiet (subst IsNoOther (sym is) tt) (ap (λ e. frames_given c t e own) is)
+    by-event (link.expired timer) is by = quiet (subst IsNoOther (sym is) tt) (ap (λ e. frames_given c t e own) is)
+    by-event (link.requested asked full) is by = quiet (subst IsNoOther (sym is) tt) (ap (λ e. frames_given c t e own) is)
+    by-event link.offer is by = offered is by
+    by-event link.cleared is by = absurd by
+
+  pub event-pends : Pends
+  event-pends = go (event-goes c e l service tei s)
+    where
+      go : Goes c service tei e l new a → Pends
+      go (inl x) = none-pends x
+      go (inr (inl x)) = by-event x x.event refl x.by
+      go (inr (inr x)) = λ was-on is-on.
+          ap (λ (k : Link). k.pending) x.is ∙ never-down (up own) Put (is_empty own.waiting && begins) (own.pending || told)
+          ∙ ap (λ (k : Link). Owed (up own) (up k) Put (is_empty own.waiting && begins) (own.pending || told)) (sym x.is)

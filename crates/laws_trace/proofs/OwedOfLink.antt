@@ -1,0 +1,143 @@
+-- Whether a link owes an acknowledgement behind one of its events.
+use Rattle.laws_trace.proofs.Vocabulary.{◌≡◌, ◌&&◌, ◌||◌, Bool, true, false, cond, List, [], ◌∷◌, refl, sym, ap, ◌∙◌, true≢false, inl, inr, is_some, Information, ReceiveReady, ReceiveNotReady, Reject, Sabme, Disc, Ui, Ua, Dm, Frmr, Parts, flag_left, takes_contents, unless_put, owed_in, pending_left, as_heard, is_overlong, numbers_begin, state_after, put, event-follows, State, TeiAssigned, AwaitingEstablishment, AwaitingRelease, Established, TimerRecovery, ControlFrame, Terms, restarts, eligible, undefined, wrong_size, overlong, received, expired, requested, offer, cleared, Link, is_multiple_frame, delivery, event-delivers}
+use Rattle.lapd_frame.specs.declared.controls.Control.{Control}
+use Rattle.lapd_frame.specs.declared.controls.Control.TheVariants.{Xid}
+use Rattle.model_link.specs.Events.{Event, frame}
+use Rattle.model_link.specs.Machine as links
+use Rattle.laws_trace.specs.Outgoing.{is_empty}
+use Rattle.laws_trace.proofs.Begins.{in-state, up-before}
+use Rattle.laws_trace.proofs.CommandsCaused.{IsNoOther}
+use Rattle.laws_trace.proofs.ReceiptsNumbered.{PendsUp, pends-up, taken-is}
+use Rattle.laws_trace.proofs.StandingOfLink.{is_awaiting, off-where-begun, as-left}
+
+no : {A : Type 0} → false ≡ true → A
+no e = absurd (true≢false (sym e))
+
+-- Where the numbers begin in states 7 and 8, UA is put.
+module _ (t : Terms) where
+  abbrev Puts : Event → Link → Type 0
+  Puts e l = is_multiple_frame l.state ≡ true → numbers_begin e l.state (state_after t e l) ≡ true → is_empty (put e l (state_after t e l)) ≡ false
+
+  puts-ua : (f : Parts) (here : State) (l : Link) → Puts (received (frame (record f { control = Ua true }))) (record l { state = here })
+  puts-ua f TeiAssigned l up is = no up
+  puts-ua f AwaitingEstablishment l up is = no up
+  puts-ua f AwaitingRelease l up is = no up
+  puts-ua f Established l up is = no is
+  puts-ua f TimerRecovery l up is = no is
+
+  puts-frame : (f : Parts) (control : Control) (l : Link) → Puts (received (frame (record f { control = control }))) l
+  puts-frame f (Sabme p) l = λ up is. refl
+  puts-frame f (Ua true) l = in-state (Puts (received (frame (record f { control = Ua true })))) l (λ here. puts-ua f here l)
+  puts-frame f (Ua false) l = λ up is. no is
+  puts-frame f (Information ns nr p) l = λ up is. no is
+  puts-frame f (ReceiveReady nr p) l = λ up is. no is
+  puts-frame f (ReceiveNotReady nr p) l = λ up is. no is
+  puts-frame f (Reject nr p) l = λ up is. no is
+  puts-frame f (Disc p) l = λ up is. no is
+  puts-frame f (Ui p) l = λ up is. no is
+  puts-frame f (Dm p) l = λ up is. no is
+  puts-frame f (Frmr p) l = λ up is. no is
+  puts-frame f (Xid p) l = λ up is. no is
+
+  puts-begun : (e : Event) (l : Link) → IsNoOther e → Puts (as_heard t e) l
+  puts-begun (received (frame f)) l other = go (is_overlong t f.control f.info)
+    where
+      go : (long : Bool) → Puts (received (cond long overlong (frame f))) l
+      go true = λ up is. no is
+      go false = puts-frame f f.control l
+  puts-begun (received undefined) l other = λ up is. no is
+  puts-begun (received wrong_size) l other = λ up is. no is
+  puts-begun (received overlong) l other = λ up is. no is
+  puts-begun (expired timer) l other = λ up is. no is
+  puts-begun (requested r full) l other = λ up is. no is
+  puts-begun offer l other = absurd other
+  puts-begun cleared l other = absurd other
+
+awaiting-down : (s : State) → is_awaiting s ≡ true → is_multiple_frame s ≡ false
+awaiting-down AwaitingEstablishment is = refl
+awaiting-down TeiAssigned is = no is
+awaiting-down AwaitingRelease is = no is
+awaiting-down Established is = no is
+awaiting-down TimerRecovery is = no is
+
+unless-empty : (frames : List ControlFrame) (owed : Bool) → unless_put frames owed ≡ (is_empty frames && owed)
+unless-empty [] owed = refl
+unless-empty (f ∷ frames) owed = refl
+
+either-way : (a b : Bool) → (a || b) ≡ (b || a)
+either-way true true = refl
+either-way true false = refl
+either-way false true = refl
+either-way false false = refl
+
+module _ (t : Terms) (e : Event) (l : Link) (other : IsNoOther e) (owed : PendsUp l) where
+  abbrev next : Link
+  next = links.after t e l
+
+  abbrev heard : Event
+  heard = as_heard t e
+
+  abbrev to : State
+  to = state_after t heard l
+
+  abbrev delivers : Bool
+  delivers = is_some (links.told t e l).delivered
+
+  abbrev owes : Bool
+  owes = unless_put (put heard l to) (takes_contents heard l || l.pending)
+
+  state-is : next.state ≡ to
+  state-is = (event-follows t e l).leaves.state
+
+  begin-is : restarts t e l ≡ numbers_begin heard l.state to
+  begin-is = (event-follows t e l).numbers ∙ ap (numbers_begin heard l.state) state-is
+
+  left-so : (e : Event) (to : State) → IsNoOther e → let h = as_heard t e in pending_left h l to ≡ flag_left h l to (owed_in to (unless_put (put h l to) (takes_contents h l || l.pending))) l.pending
+  left-so (received (frame f)) to other = refl
+  left-so (received undefined) to other = refl
+  left-so (received wrong_size) to other = refl
+  left-so (received overlong) to other = refl
+  left-so (expired timer) to other = refl
+  left-so (requested r full) to other = refl
+  left-so offer to other = absurd other
+  left-so cleared to other = absurd other
+
+  left-is : next.pending ≡ flag_left heard l to (owed_in to owes) l.pending
+  left-is = (event-follows t e l).leaves.pending ∙ ap (pending_left heard l) state-is ∙ left-so e to other
+
+  -- it is false
+  none-down : (k : Link) → PendsUp k → is_multiple_frame k.state ≡ false → k.pending ≡ false
+  none-down k h down = go k.pending refl
+    where
+      go : (b : Bool) → k.pending ≡ b → b ≡ false
+      go false is = refl
+      go true is = absurd (true≢false (sym (h is) ∙ down))
+
+  none-begun : restarts t e l ≡ true → next.pending ≡ false
+  none-begun begins = left-is ∙ off-where-begun t (owed_in to owes) l.pending heard l (sym begin-is ∙ begins) (λ waits. none-down l owed (awaiting-down l.state waits))
+
+  takes : is_multiple_frame l.state ≡ true → restarts t e l ≡ false → takes_contents heard l ≡ delivers
+  takes up on = sym (delivered ∙ taken-is t l up e)
+    where
+      delivered : delivers ≡ is_some (delivery l.r (eligible t e l))
+      delivered =
+          elim (event-delivers t l e) [
+            | inl y ↦ ap is_some y.delivered
+            | inr y ↦ absurd (true≢false (sym y.begins ∙ on))
+          ]
+
+  pub pends-then : next.pending ≡ ((is_multiple_frame l.state && is_multiple_frame next.state && is_empty (put heard l to)) && (l.pending || delivers))
+  pends-then = go (is_multiple_frame l.state) refl (is_multiple_frame next.state) refl (restarts t e l) refl
+    where
+      go : (u : Bool) → is_multiple_frame l.state ≡ u → (v : Bool) → is_multiple_frame next.state ≡ v → (r : Bool) → restarts t e l ≡ r
+          → next.pending ≡ ((u && v && is_empty (put heard l to)) && (l.pending || delivers))
+      go true was false down r is = none-down next (pends-up t e l owed) down
+      go false was false down r is = none-down next (pends-up t e l owed) down
+      go false was true up true begins = none-begun begins
+      go true was true up true begins = none-begun begins ∙ sym (ap (λ b. b && (l.pending || delivers)) (puts-begun t e l other was (sym begin-is ∙ begins)))
+      go false was true up false on = absurd (true≢false (sym (up-before t e l up on) ∙ was))
+      go true was true up false on =
+          let stays : is_multiple_frame to ≡ true = ap is_multiple_frame (sym state-is) ∙ up in
+          left-is ∙ as-left t (owed_in to owes) l.pending heard l to was stays (sym begin-is ∙ on)
+          ∙ ap (λ b. b && owes) stays ∙ unless-empty (put heard l to) (takes_contents heard l || l.pending)
+          ∙ ap (λ b. is_empty (put heard l to) && (b || l.pending)) (takes was on) ∙ ap (λ b. is_empty (put heard l to) && b) (either-way delivers l.pending)

@@ -1,0 +1,63 @@
+-- What is given of a link is due.
+use Rattle.std.specs.Prelude.{◌≡◌, ◌==◌, ◌&&◌, ℕ, not, nat_lt, Bool, true, false, List, [], ◌∷◌, drop, filter, if◌then◌else◌}
+use Rattle.lapd_seq.specs.Numbers.{seq}
+use Rattle.lapd_frame.specs.declared.controls.Control.{Control}
+use Rattle.lapd_frame.specs.declared.controls.Control.TheVariants.{Information, ReceiveReady}
+use Rattle.lapd_frame.specs.declared.services.Service.{Service}
+use Rattle.lapd_frame.specs.Grammar.{spelling}
+use Rattle.lapd_frame.specs.Services.{sapi_of}
+use Rattle.model_link.specs.declared.frames.ControlFrame.{ControlFrame}
+use Rattle.model_line.specs.declared.config.Config.{Config}
+use Rattle.model_line.specs.Event.{next}
+use Rattle.model_line.specs.Line.{window}
+use Rattle.model_card.specs.Event.{Event}
+use Rattle.laws_trace.specs.LinkFrames.{is_frame_of}
+use Rattle.laws_trace.specs.Managing.{is_on}
+use Rattle.laws_trace.specs.Observer.{Observed, steps, moment_of}
+use Rattle.laws_trace.specs.Outgoing.{Outgoing, outgoing_of}
+use Rattle.laws_trace.specs.Trace.{frame_in, IsFront}
+
+-- A frame of the link, with its SAPI and TEI (Q.921 clause 3.3).
+abbrev pub text : Config → Service → ℕ → Bool → Control → List ℕ → List ℕ
+text c service tei command control info =
+    spelling c.side (record { address = record { sapi = sapi_of service; command = command; tei = tei }; control = control; info = info })
+
+-- I-frames may go in state 7, while the terminal is not busy, and fewer than k are outstanding (clauses 5.6.1 and 5.6.5).
+abbrev pub may_go : Config → Service → Observed → Bool
+may_go c service o = o.state == 7 && (not o.busy && nat_lt (steps o.acknowledged o.next) (window c service))
+
+-- The contents that have not gone, or are to go again: those kept from V(S) on.
+abbrev pub unsent : Outgoing → List (List ℕ)
+unsent o = drop (steps o.view.link.acknowledged o.view.link.next) o.kept
+
+-- What a link offers next: the control frame that has waited longest; else an I-frame, where one may go, with N(S) = V(S),
+-- which acknowledges all that was told; else, where it is owed, an acknowledgement by itself, RR (clauses 3.5.2.1 to 3.5.2.6,
+-- 5.6.1 and 5.6.3.1).
+abbrev pub by_itself : Config → Service → ℕ → Outgoing → List (List ℕ)
+by_itself c service tei o = if o.owes then text c service tei false (ReceiveReady (seq o.view.link.count) false) [] ∷ [] else []
+
+abbrev pub sends : Config → Service → ℕ → Outgoing → List (List ℕ) → List (List ℕ)
+sends c service tei o (contents ∷ rest) =
+    if may_go c service o.view.link then text c service tei true (Information (seq o.view.link.next) (seq o.view.link.count) false) contents ∷ []
+    else by_itself c service tei o
+sends c service tei o [] = by_itself c service tei o
+
+abbrev pub offers_behind : Config → Service → ℕ → Outgoing → List ControlFrame → List (List ℕ)
+offers_behind c service tei o (f ∷ fs) = text c service tei f.command f.control [] ∷ []
+offers_behind c service tei o [] = sends c service tei o (unsent o)
+
+abbrev pub offers : Config → Service → ℕ → Outgoing → List (List ℕ)
+offers c service tei o = offers_behind c service tei o o.waiting
+
+-- A call for the next frame, after whatever happened before, gives no frame of a link but what it offers;
+abbrev pub GivenIsDue : Config → List Event → ℕ → Type 0
+GivenIsDue c events number =
+    (service : Service) (tei : ℕ) →
+    IsFront (filter (is_frame_of c service tei) (frame_in (moment_of c events number next).answer)) (offers c service tei (outgoing_of c service tei number events))
+
+-- and it gives none only where no link of a TEI on the line offers any.
+abbrev pub DueIsGiven : Config → List Event → ℕ → Type 0
+DueIsGiven c events number =
+    (service : Service) (tei : ℕ) →
+    let o = outgoing_of c service tei number events in
+    frame_in (moment_of c events number next).answer ≡ [] → is_on tei o.view.teis ≡ true → offers c service tei o ≡ []

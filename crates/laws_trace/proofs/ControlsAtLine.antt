@@ -1,5 +1,5 @@
 -- The control frames of a link that wait and go: one event of a line.
-use Rattle.laws_trace.proofs.Vocabulary.{◌≡◌, ℕ, ◌+◌, ◌-◌, ◌≤◌, ◌==◌, ◌&&◌, ◌||◌, Bool, true, false, cond, List, [], ◌++◌, drop, length, map, take, zero, suc, Some, None, refl, sym, ap, ◌∙◌, subst, inl, inr, append-nil, true≢false, flat_map, not, option_to_list, is_some, list_any, option_map_or, le-ltb, BadTei, NoLink, Service, same_service, place_of-is, takes_contents, as_heard, moves, as_response, event-follows, HasItsTimer, State, TeiAssigned, AwaitingEstablishment, AwaitingRelease, Established, TimerRecovery, ControlFrame, Terms, restarts, eligible, Link, is_multiple_frame, state_number, delivery, event-delivers, Config, next, Answer, Assign, Remove, Deactivate, at_deactivated, Line, link_in, link_number, link_of, place_in, has_tei, state_of, terms, aim_of, unless_refused, IsInRange, sound_in, terms_in_range, lost_in, notes_of, is_data_of, deactivates, is_deactivation, both-true, IsBy, HaveTheirTimers, Down}
+use Rattle.laws_trace.proofs.Vocabulary.{◌≡◌, ℕ, ◌+◌, ◌-◌, ◌≤◌, ◌==◌, ◌&&◌, ◌||◌, Bool, true, false, cond, List, [], ◌++◌, drop, length, map, take, zero, suc, Some, None, refl, sym, ap, ◌∙◌, subst, inl, inr, append-nil, true≢false, flat_map, not, option_to_list, is_some, list_any, option_map_or, le-ltb, BadTei, NoLink, Service, same_service, place_of-is, takes_contents, as_heard, moves, as_response, event-follows, HasItsTimer, State, TeiAssigned, AwaitingEstablishment, AwaitingRelease, Established, TimerRecovery, ControlFrame, Terms, restarts, eligible, Link, is_multiple_frame, state_number, delivery, event-delivers, Config, next, Answer, Assign, Remove, Deactivate, Down, at_deactivated, Line, link_in, link_number, link_of, place_in, has_tei, state_of, terms, aim_of, unless_refused, IsInRange, sound_in, terms_in_range, lost_in, notes_of, is_data_of, deactivates, is_deactivation, both-true, IsBy, HaveTheirTimers}
 use Rattle.std.proofs.Common.{eqb-true}
 use Rattle.model_link.specs.Events as link
 use Rattle.model_link.specs.Link.{fresh}

@@ -370,13 +370,15 @@ enum {
     LAPD_CHECK = 7,     /* ask which terminals have the TEI (clause 5.3.3.2) */
     LAPD_BUSY = 8,      /* take no I-frames on the link for now (clause 5.6.6) */
     LAPD_READY = 9,     /* take I-frames again */
-    LAPD_DEACTIVATE = 10 /* the line is down: give the link up (annex B, persistent deactivation) */
+    LAPD_DEACTIVATE = 10, /* the line is down: give the link up (annex B, persistent deactivation) */
+    LAPD_DOWN = 11        /* the line is down: give up what waits on it and is of no link (annex B) */
 };
 
 /* Asks for something at a line; the contents are copied. LAPD_REFUSED_BAD_TEI to LAPD_REFUSED_CONTROL_FULL, or
  * LAPD_REFUSED_WRONG_SIDE, where it is refused. The service is LAPD_CALL or LAPD_PACKET in each, though assign, remove
- * and check are about both; the length is 0 except for LAPD_DATA and LAPD_UNIT. The contents lie outside of *report;
- * where they are those of the report itself, ask by lapd_data or lapd_unit. */
+ * and check are about both, and LAPD_DOWN about the line, which reads no TEI either; the length is 0 except for LAPD_DATA
+ * and LAPD_UNIT. The contents lie outside of *report; where they are those of the report itself, ask by lapd_data or
+ * lapd_unit. */
 LAPD_STATUS lapd_request(lapd_card *card, uint32_t line, uint8_t request, uint8_t service, uint8_t tei,
                          const uint8_t *contents, size_t length, lapd_report *report);
 
@@ -670,16 +672,18 @@ LAPD_INLINE_STATUS lapd_ready(lapd_card *card, uint32_t line, uint8_t service, u
 
 /* The line is down, as where layer 1 lost its synchronization: gives the link up, in each state, with all contents and
  * control frames that wait on it. It is in state 4 then, its timer stops, and its release is told as its state has it. The
- * TEI stays, unless a check of it that runs takes it off the line; unit data and messages of the line go on waiting.
- * LAPD_REFUSED_BAD_TEI and LAPD_REFUSED_NO_LINK alone refuse it. */
+ * TEI stays, unless a check of it that runs takes it off the line; unit data and messages of the line go on waiting, which
+ * lapd_line_down gives up, too. LAPD_REFUSED_BAD_TEI and LAPD_REFUSED_NO_LINK alone refuse it. */
 LAPD_INLINE_STATUS lapd_deactivate(lapd_card *card, uint32_t line, uint8_t service, uint8_t tei, lapd_report *report) {
     return lapd_request_with(card, line, LAPD_DEACTIVATE, service, tei, LAPD_NULL, 0, report);
 }
 
 /*
  * The same of a whole line, a link a call, since a report has no room for the releases of all: gives up the next link from a
- * place on, which is 0 for the first, and afterwards as the call leaves it. LAPD_NO_MORE_LINKS: all are given up, after two
- * calls for each TEI of the line, at most.
+ * place on, which is 0 for the first, and afterwards as the call leaves it. Behind the last link one call (LAPD_DOWN) gives
+ * up what waits on the line and is of none: unit data, and messages of TEI management; a check that runs ends without a
+ * result, and its timer stops, which is that report's order. LAPD_NO_MORE_LINKS: the line is down, after two calls for each
+ * of its TEIs, and one more. The TEIs stay. Begin again at 0 where the line goes down the next time.
  *
  *     uint8_t place = 0;
  *     while (lapd_line_down(&card, line, &place, &report) == LAPD_OK)
@@ -688,7 +692,12 @@ LAPD_INLINE_STATUS lapd_deactivate(lapd_card *card, uint32_t line, uint8_t servi
 LAPD_INLINE_STATUS lapd_line_down(lapd_card *card, uint32_t line, uint8_t *place, lapd_report *report) {
     lapd_link link;
     uint32_t status = lapd_next_link(card, line, place, &link);
-    return status == LAPD_OK ? lapd_deactivate(card, line, link.service, link.tei, report) : status;
+    if (status == LAPD_OK)
+        return lapd_deactivate(card, line, link.service, link.tei, report);
+    if (status != LAPD_NO_MORE_LINKS || *place == 0xFF)
+        return status;
+    *place = 0xFF; /* behind all links: the line itself comes last, once */
+    return lapd_request_with(card, line, LAPD_DOWN, LAPD_CALL, 0, LAPD_NULL, 0, report);
 }
 
 /* A status in words: a refusal by its name in docs/FORMAT.md. */

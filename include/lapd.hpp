@@ -283,7 +283,8 @@ public:
     status deactivate(uint32_t line, service by, uint8_t tei, report &to) {
         return of(lapd_deactivate(&card_, line, number(by), tei, to.raw()));
     }
-    /// The line is down: gives up its next link from this place on, which begins as 0; status::no_more_links behind the last.
+    /// The line is down: gives up its next link from this place on, which begins as 0, and behind the last what waits and is of
+    /// none; then status::no_more_links.
     status line_down(uint32_t line, uint8_t &place, report &to) { return of(lapd_line_down(&card_, line, &place, to.raw())); }
 
     status state_of(uint32_t line, service by, uint8_t tei, state &to) {

@@ -144,6 +144,7 @@ class Request(enum.IntEnum):
     BUSY = 8
     READY = 9
     DEACTIVATE = 10
+    DOWN = 11
 
 
 class State(enum.IntEnum):
@@ -510,7 +511,7 @@ class AnyCard(_Owner):
         return self._ask(line, Request.DEACTIVATE, service, tei)
 
     def line_down(self, line: int) -> List[Report]:
-        """The line is down: gives up each of its links, and answers what those that were not down led to."""
+        """The line is down: gives up each of its links, and what waits and is of none; answers what that told and ordered."""
         place, reports, told = ctypes.c_uint8(), [], ctypes.byref(self._told)
         while _unless(Status.NO_MORE_LINKS, "lapd_line_down", self._at, line, ctypes.byref(place), told):
             reports.append(_report(self._told))

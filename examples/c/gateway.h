@@ -63,8 +63,8 @@ LAPD_STATUS gateway_frame_failed(gateway *own, uint64_t now, uint32_t line, uint
 LAPD_STATUS gateway_ask(gateway *own, uint64_t now, uint32_t line, uint8_t request, uint8_t service, uint8_t tei,
                         const uint8_t *contents, size_t length);
 
-/* Layer 1 of a line is lost: each of its links is given up, with what waits on it, and on_report hears of each that was
- * not down. TEIs stay, and so does what waits for all terminals: take it and throw it away if it is not to go later. */
+/* Layer 1 of a line is lost: each of its links is given up, with all that waits on the line, and on_report hears of each
+ * that was not down. A check that runs ends. TEIs stay. */
 LAPD_STATUS gateway_down(gateway *own, uint64_t now, uint32_t line);
 
 /* Each timer that is due expires, once, and what it starts runs from now on, however late the call is. Hand over first

@@ -40,7 +40,7 @@ void asks(lapd::any_card &card) {
     size_t calls = 0, told = 0;
     for (place = 0; card.line_down(1, place, report) == status::ok; calls++)
         told += report.notes().size();
-    wants(calls == 2 && told == 1 && card.line_down(1, place, report) == status::no_more_links, "a line that goes down");
+    wants(calls == 3 && told == 1 && card.line_down(1, place, report) == status::no_more_links, "a line that goes down");
     uint32_t lines = 0;
     wants(card.lines(lines) == status::ok && lines == 2, "lines");
     wants(card.end() == status::ok && card.end() == status::no_card && card.lines(lines) == status::no_card, "an end");

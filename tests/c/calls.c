@@ -222,11 +222,17 @@ static void counts(void) {
 }
 
 static lapd_clock timers;
-static unsigned released;
+static unsigned released, ended;
 
 static uint64_t now(void) { return 0; }
 
+/* Each link that was up tells its release; the line itself, if a check ran, that its timer stops. */
 static void layer_3(const lapd_report *told) {
+    if (told->note_count == 0) {
+        wants(told->order_count == 1 && told->orders[0].order == LAPD_STOP && told->orders[0].timer.timer == LAPD_T201, "a line that is down orders something else");
+        ended++;
+        return;
+    }
     wants(told->note_count == 1 && told->notes[0].note == LAPD_RELEASE_INDICATION, "a link that is given up tells something else");
     released++;
 }
@@ -250,6 +256,25 @@ static unsigned count_up(uint32_t line) {
     return count;
 }
 
+/* What waits on the line and is of no link is given up, too: no frame goes behind it, and a check that ran has ended. */
+static void nothing_waits(void) {
+    uint64_t moment = 0;
+    uint8_t octet = 8;
+    unsigned begun = 0;
+    wants(lapd_unit(&card, 0, LAPD_CALL, LAPD_GROUP_TEI, &octet, 1, &report) == LAPD_OK, "no unit data");
+    wants(lapd_check(&card, 0, 64, &report) == LAPD_OK, "no check");
+    lapd_clock_apply_report(&timers, 0, &report, now());
+    wants(lapd_clock_next(&timers, &moment) == LAPD_OK && moment == 1000, "no T201");
+    goes_down(0);
+    wants(ended == 1 && lapd_clock_next(&timers, &moment) == LAPD_NO_TIMER, "a check runs on a line that is down");
+    for (unsigned i = 0; i < 400; i++, begun += report.begun)
+        wants(lapd_pull(&card, 0, &octet, &report) == LAPD_OK, "no octet");
+    wants(begun == 0, "a frame waits on a line that is down");
+    wants(lapd_check(&card, 0, 64, &report) == LAPD_OK, "no check after that");
+    goes_down(0);
+    wants(ended == 2, "the second check does not end");
+}
+
 /* A line that goes down: each link that was up tells its release, and none is up behind it. */
 static void line_down(unsigned links) {
     unsigned up = count_up(0);
@@ -258,12 +283,15 @@ static void line_down(unsigned links) {
     goes_down(0);
     wants(released == up && count_up(0) == 0, "a link is up on a line that is down");
     goes_down(0);
-    wants(released == up, "a link is given up twice");
+    wants(released == up && ended == 0, "a link is given up twice");
+    nothing_waits();
+    wants(released == up, "a link is up by what waits");
     uint8_t place = 0;
     unsigned calls = 0;
     while (lapd_line_down(&card, 0, &place, &report) == LAPD_OK)
         calls++;
-    wants(calls == links, "another number of calls than of links");
+    wants(calls == links + 1, "another number of calls than of links, and one for the line");
+    wants(place == 0xFF, "the line goes down twice");
     wants(lapd_line_down(&card, 0, &place, &report) == LAPD_NO_MORE_LINKS, "a link behind the last");
     wants(lapd_line_down(&card, LINES, &place, &report) == LAPD_WRONG_LINE, "no line goes down");
     lapd_clock_free(&timers);

@@ -168,11 +168,13 @@ static void time_passes(void) {
     WANT(notes[LAPD_RELEASE_INDICATION] == 0 && notes[LAPD_ERROR_INDICATION] == 0);
 }
 
-/* The line goes down, twice: its links are released once. */
+/* The line goes down, twice: its links are released once, and what waits on it is given up with its check. */
 static void goes_down(void) {
     uint64_t moment;
     WANT(gateway_frame_failed(&own, 42700, 0, LAPD_FCS) == LAPD_OK && drops == 1);
-    WANT(gateway_down(&own, 42700, 0) == LAPD_OK && are_in(4));
+    WANT(gateway_ask(&own, 42700, 0, LAPD_UNIT, LAPD_CALL, LAPD_GROUP_TEI, contents, sizeof contents) == LAPD_OK);
+    WANT(gateway_ask(&own, 42700, 0, LAPD_CHECK, LAPD_CALL, 64, NULL, 0) == LAPD_OK);
+    WANT(gateway_down(&own, 42700, 0) == LAPD_OK && are_in(4) && takes_none(42700));
     WANT(notes[LAPD_RELEASE_INDICATION] == 2 && gateway_next(&own, &moment) == LAPD_NO_TIMER);
     WANT(gateway_down(&own, 42800, 0) == LAPD_OK && notes[LAPD_RELEASE_INDICATION] == 2);
     WANT(gateway_ask(&own, 42800, 0, LAPD_DATA, LAPD_CALL, 64, contents, sizeof contents) == LAPD_REFUSED_WRONG_STATE);

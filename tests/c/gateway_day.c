@@ -235,8 +235,7 @@ static void lose_line(uint32_t line) {
     want_ok(gateway_down(&own, now, line), "a line goes down");
     for (lapd_link link; lapd_next_link(&own.card, line, &place, &link) == LAPD_OK;)
         want(link.state == 4, "a link is up on a line that is down");
-    while (take(line, frame, &length))
-        ; /* these are not to go later */
+    want(!take(line, frame, &length), "a frame waits on a line that is down");
 }
 
 /* Layer 1 is there again. A call has waited for whoever has the line. Management asks for the TEI, which a terminal that

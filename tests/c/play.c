@@ -270,6 +270,17 @@ static void ask(station *b, uint32_t line, const command *c) {
     tell(b, line, &report);
 }
 
+/* The whole line goes down, a link a call. */
+static void bring_down(station *b, uint32_t line) {
+    static lapd_report report;
+    uint8_t place = 0;
+    uint32_t status;
+    while ((status = lapd_line_down(&b->card, line, &place, &report)) == LAPD_OK)
+        tell(b, line, &report);
+    if (status != LAPD_NO_MORE_LINKS)
+        want_ok(status, "line down");
+}
+
 static void show_stored(station *b) {
     uint32_t stored, limit;
     want_ok(lapd_stored(&b->card, &stored), "stored");
@@ -310,6 +321,8 @@ static fault obey_at(station *b, uint32_t line, const command *c) {
         pull(b, line, c->numbers[1]);
     else if (c->verb == REQUEST)
         ask(b, line, c);
+    else if (c->verb == DOWN)
+        bring_down(b, line);
     else if (c->verb == COUNTERS)
         show_counters(b, line, 0, LAPD_HEARD_REQUEST);
     else if (c->verb == MESSAGES)

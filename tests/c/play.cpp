@@ -56,6 +56,7 @@ private:
     bool is_waiting(uint32_t line);
     void ask(uint32_t line, const command &of);
     status asked(uint32_t line, const command &of);
+    void bring_down(uint32_t line);
     void show_stored();
     void show_counters(uint32_t line, unsigned from, unsigned to);
     bool is_of_other_card(const command &of) const;
@@ -244,6 +245,15 @@ void station::ask(uint32_t line, const command &of) {
     tell(line);
 }
 
+void station::bring_down(uint32_t line) {
+    uint8_t place = 0;
+    status is = any()->line_down(line, place, report_);
+    for (; is == status::ok; is = any()->line_down(line, place, report_))
+        tell(line);
+    if (is != status::no_more_links)
+        want_ok(is, "line down");
+}
+
 void station::show_stored() {
     uint32_t stored, limit;
     want_ok(any()->stored(stored), "stored");
@@ -280,6 +290,8 @@ fault station::obey_at(uint32_t line, const command &of) {
         pull(line, of.numbers[1]);
     else if (of.verb == REQUEST)
         ask(line, of);
+    else if (of.verb == DOWN)
+        bring_down(line);
     else if (of.verb == COUNTERS)
         show_counters(line, 0, LAPD_HEARD_REQUEST);
     else if (of.verb == MESSAGES)

@@ -21,7 +21,7 @@ CAUSES = {b"abort": lapd.Cause.ABORT, b"ragged": lapd.Cause.RAGGED, b"short": la
 NUMBERS: Dict[bytes, Tuple[int, int, int]] = {
     b"rx": (1, 0, MOST_NUMBER), b"in": (1, 0, MOST_NUMBER), b"pull": (2, 1, MOST_PULLS), b"next": (1, 0, MOST_NUMBER),
     b"wait": (1, 0, MOST_WAIT), b"stored": (0, 0, 0), b"counters": (1, 0, MOST_NUMBER),
-    b"messages": (1, 0, MOST_NUMBER),
+    b"messages": (1, 0, MOST_NUMBER), b"down": (1, 0, MOST_NUMBER),
     **{it: (2, 0, MOST_TEI) for it in (b"assign", b"remove", b"check", b"establish", b"release", b"busy", b"ready",
                                        b"deactivate", b"data", b"unit", b"establish16", b"release16", b"busy16", b"ready16",
                                        b"deactivate16", b"data16", b"unit16")}}
@@ -204,6 +204,9 @@ class Station:
             yield from self.pulled(at, line.numbers[1])
         elif line.word == "next":
             yield from self.next_frame(at)
+        elif line.word == "down":
+            for report in self.card.line_down(at):
+                yield from self.told(at, report)
         elif line.word == "counters":
             yield from self.counted(at, range(MESSAGES))
         elif line.word == "messages":

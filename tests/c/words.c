@@ -32,6 +32,7 @@ static const meaning meanings[] = {
     {"stored", STORED, 0, 0, 0, false, 0, ANY},
     {"counters", COUNTERS, 0, 0, 1, false, 0, ANY},
     {"messages", MESSAGES, 0, 0, 1, false, 0, ANY},
+    {"down", DOWN, 0, 0, 1, false, 0, ANY},
     {"assign", REQUEST, LAPD_ASSIGN, LAPD_CALL, 2, false, 0, MOST_TEI},
     {"remove", REQUEST, LAPD_REMOVE, LAPD_CALL, 2, false, 0, MOST_TEI},
     {"check", REQUEST, LAPD_CHECK, LAPD_CALL, 2, false, 0, MOST_TEI},

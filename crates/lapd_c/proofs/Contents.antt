@@ -1,5 +1,5 @@
 -- Contents that an answer delivers have at most N201 octets.
-use Rattle.lapd_c.proofs.Vocabulary.{◌≡◌, ℕ, ◌≤◌, Answer, Card, OctetCard, told, gave, option_map, Bool, true, false, cond, List, length, Option, nat_lt, refl, sym, ap, subst, arith, None, leb-true, ltb-false, and_parts, option_or, option_map_or, Control, Ui, Refusal, Service, Timer, T200, T203, T201, State, TeiAssigned, AwaitingEstablishment, AwaitingRelease, Established, TimerRecovery, Terms, LinkTimer, Arrived, is_eligible, eligible_of, information_in, Link, Course, Step, begun, by_bit, leave_unserved, deliver_unit, delivered-at_once, no_more, another, how_many, Telling, HasTold, frames_in_4, frames_in_5, frames_in_6, frames_in_7, frames_in_8, expired_tells, malformed_tells, granted_tells, Change, Gained, Left, Config, hears, expiry, request, next, refused, nothing, told_of_management, of_link, of_change, of_management, of_aim, at_timer, aim_of_expiry, Line, link_in, terms, place_in, unless_refused, unless_refused_told, aim_of_heard, refusal, Request, Establish, Release, Data, Unit, Assign, Remove, Check, SetBusy, ClearBusy, Deactivate, at_requested, at_deactivated, aim_of_request, heard_aims, PoolFull, line_at, wants_room, contents_of, contents_in, ContentsFit}
+use Rattle.lapd_c.proofs.Vocabulary.{◌≡◌, ℕ, ◌≤◌, Answer, Card, OctetCard, told, gave, option_map, Bool, true, false, cond, List, [], length, Option, nat_lt, refl, sym, ap, subst, arith, None, leb-true, ltb-false, and_parts, option_or, option_map_or, Control, Ui, Refusal, Service, Timer, T200, T203, T201, State, TeiAssigned, AwaitingEstablishment, AwaitingRelease, Established, TimerRecovery, Terms, LinkTimer, Arrived, is_eligible, eligible_of, information_in, Link, Course, Step, begun, by_bit, leave_unserved, deliver_unit, delivered-at_once, no_more, another, how_many, Telling, HasTold, frames_in_4, frames_in_5, frames_in_6, frames_in_7, frames_in_8, expired_tells, malformed_tells, granted_tells, Change, Gained, Left, Config, hears, expiry, request, next, refused, nothing, told_of_management, of_link, of_change, of_management, of_aim, at_timer, aim_of_expiry, Line, link_in, terms, place_in, unless_refused, unless_refused_told, aim_of_heard, refusal, Request, Establish, Release, Data, Unit, Assign, Remove, Check, SetBusy, ClearBusy, Deactivate, Down, at_requested, at_deactivated, aim_of_request, heard_aims, PoolFull, line_at, wants_room, contents_of, contents_in, ContentsFit}
 use Rattle.model_link.proofs.Leads.{Leads}
 use Rattle.std.proofs.Common.{Some}
 use Rattle.model_bits.specs.Stream as stream
@@ -154,6 +154,7 @@ module _ (c : Config) where
   request-small l (SetBusy service n) = asked-small l service n link.SetBusy (place_in l n)
   request-small l (ClearBusy service n) = asked-small l service n link.ClearBusy (place_in l n)
   request-small l (Deactivate service n) = deactivated-small l service n (place_in l n)
+  request-small l Down = management-small teis.down (record l { units = [] })
 
   unrefused-small : (r : Request) (l : Line) (o : Option Refusal) → IsSmall c.n201 (contents_in (unless_refused_told o (of_aim c (unless_refused o (aim_of_request r l)) l)))
   unrefused-small r l None = request-small l r

@@ -67,7 +67,7 @@ pub use Rattle.model_line.specs.Line.{Line, link_in, place_in, terms}
 pub use Rattle.model_line.specs.Machine.{unless_refused, unless_refused_told}
 pub use Rattle.model_line.specs.Heard.{aim_of_heard}
 pub use Rattle.model_line.specs.Refusal.{refusal}
-pub use Rattle.model_line.specs.Request.{Assign, Check, ClearBusy, Data, Deactivate, Establish, Release, Remove, Request, SetBusy, Unit, request_of}
+pub use Rattle.model_line.specs.Request.{Assign, Check, ClearBusy, Data, Deactivate, Down, Establish, Release, Remove, Request, SetBusy, Unit, request_of}
 pub use Rattle.model_line.specs.Requested.{aim_of_request, at_deactivated, at_requested}
 pub use Rattle.model_line.specs.Sound.{IsInRange}
 pub use Rattle.model_line.specs.declared.config.Config.{Config}

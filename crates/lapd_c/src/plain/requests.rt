@@ -15,7 +15,7 @@ use model_line::Request;
 pub fn request_in(request: u8, service: u8, tei: u8, contents: &[u8]) -> Result<Request<'_>, u32>
     ensures { read_of result ≡ request_in request service tei contents.now }
 {
-    if request == 0 || request > 10 {
+    if request == 0 || request > 11 {
         return Err(WRONG_REQUEST);
     }
     let service = service_in(service)?;
@@ -35,6 +35,7 @@ pub fn request_in(request: u8, service: u8, tei: u8, contents: &[u8]) -> Result<
         7 => Request::Check(tei),
         8 => Request::SetBusy(service, tei),
         9 => Request::ClearBusy(service, tei),
-        _ => Request::Deactivate(service, tei),
+        10 => Request::Deactivate(service, tei),
+        _ => Request::Down,
     })
 }

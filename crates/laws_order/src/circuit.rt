@@ -18,7 +18,7 @@
 ghost use Rattle.laws_order.specs.circuit.Beats.{AllIsToldInBeats};
 ghost use Rattle.laws_order.specs.circuit.Damaged.{DeliveredThoughDamaged};
 ghost use Rattle.laws_order.specs.circuit.Mixed.{DeliveredBetweenKinds};
-ghost use Rattle.laws_order.specs.circuit.MixedCall.{CallsAreOfFrames};
+ghost use Rattle.laws_order.specs.circuit.MixedCall.{CallsAreOfFrames, CallsComeThroughBetweenKinds};
 ghost use Rattle.laws_order.specs.circuit.Resting.{CallsComeToRest};
 ghost use Rattle.laws_order.specs.circuit.Through.{CallsComeThroughInOctets};
 
@@ -68,14 +68,16 @@ pub fn delivered_between_kinds()
     ensures { DeliveredBetweenKinds }
 {}
 
-/// A call between a card of frames and one for octets is a call between two cards of frames. The line between them and the first's
-/// controller are without fault: an octet that ends anything at the card for octets ends the first frame that the other gave, whole, and
-/// what its pulls begin is taken in order. Whatever is asked for in a call, as [`a_call_comes_through_in_octets`] has it, in whatever order
-/// octets are pulled and come, and frames are given and taken, from any state of the two: there is a run of two cards of frames in
-/// the same call that leads to the same, so to the same that is granted, told and on its way. So what `laws_wire` says of a call between
-/// cards of frames, as that it comes through, holds of this one.
+/// A call between a card of frames and one for octets is a call between two cards of frames (`frames`), and comes through (`through`).
+/// The line between them and the first's controller are without fault: an octet that ends anything at the card for octets ends the first
+/// frame that the other gave, whole, and what its pulls begin is taken in order. Whatever is asked for in a call, as
+/// [`a_call_comes_through_in_octets`] has it, in whatever order octets are pulled and come, and frames are given and taken: from any
+/// state of the two there is a run of two cards of frames in the same call that leads to the same, so to the same that is granted, told
+/// and on its way. And where the two have just begun, and layer 3 of either asks for the establishment first, the call comes through
+/// as `a_call_comes_through` of `laws_wire` says.
 pub fn calls_are_of_frames()
-    ensures { CallsAreOfFrames }
+    ensures frames { CallsAreOfFrames }
+    ensures through { CallsComeThroughBetweenKinds }
 {}
 
 /// A call comes to rest. Where all has gone in a call, as [`a_call_comes_through_in_octets`] has it, whether one end

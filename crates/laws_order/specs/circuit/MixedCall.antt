@@ -2,15 +2,18 @@
 use Rattle.std.specs.Prelude.{◌≡◌, ℕ, List, [], ◌∷◌, ◌++◌, drop, flat_map, All, Option, None, Some, option_to_list}
 use Rattle.lapd_frame.specs.declared.services.Service.{Service}
 use Rattle.model_line.specs.Event as line
-use Rattle.model_line.specs.Request.{Request}
+use Rattle.model_line.specs.declared.config.Config.{Config}
+use Rattle.model_line.specs.Request.{Request, Establish}
 use Rattle.model_card.specs.ports.Card.{said}
 use Rattle.model_card.specs.ports.Event.{at}
 use Rattle.model_card.specs.ports.Port as port
-use Rattle.laws_wire.specs.Call.{IsCallOf, IsCall}
+use Rattle.laws_wire.specs.Call as call
+use Rattle.laws_wire.specs.Call.{IsCallOf, IsCall, CanCall, calling, both_call, ComesThrough}
 use Rattle.laws_wire.specs.Wire as frames
 use Rattle.laws_wire.specs.Wire.{Station, Wire, frames_by}
 use Rattle.laws_order.specs.circuit.Circuit.{Termination, port_of, happens}
 use Rattle.laws_order.specs.circuit.Damaged.{IsFirst}
+use Rattle.laws_order.specs.circuit.Through.{assigned}
 
 -- One end is a card of frames, with the frames that it gave and that have not come yet; the other one for octets; and back on their way
 -- are the frames that its pulls began and that the first has not taken yet.
@@ -67,3 +70,26 @@ abbrev pub CallsAreOfFrames : Type 0
 CallsAreOfFrames =
     (service : Service) (tei : ℕ) (w : Pair) (ds : List Doing) → AreTalk service tei ds w →
     (es : List frames.Doing) × All (IsCall service tei) es × (frames.doing_all es (as_wire w) ≡ as_wire (doing_all ds w))
+
+-- Two cards that have just begun, with the TEI assigned: layer 3 of either asks for the establishment.
+abbrev pub begun_by_frames : Service → ℕ → Config → ℕ → Config → ℕ → Pair
+begun_by_frames service tei c number d other =
+    record { near = frames.happens (line.request (Establish service tei)) (call.assigned c number tei); far = assigned d other tei; back = [] }
+
+abbrev pub begun_by_octets : Service → ℕ → Config → ℕ → Config → ℕ → Pair
+begun_by_octets service tei c number d other =
+    record { near = call.assigned c number tei; far = happens (port.request (Establish service tei)) (assigned d other tei); back = [] }
+
+-- The call comes through: it is one of two cards of frames, from where such a call begins, and so is what layer 3 of each is told.
+abbrev pub IsThrough : Service → ℕ → Wire → Wire → Type 0
+IsThrough service tei begun last =
+    (es : List frames.Doing) × All (IsCall service tei) es × (frames.doing_all es begun ≡ last)
+    × ComesThrough service tei (frames.turns es begun) (both_call es begun) last
+
+abbrev pub CallsComeThroughBetweenKinds : Type 0
+CallsComeThroughBetweenKinds =
+    (service : Service) (c d : Config) (number other tei : ℕ) (ds : List Doing) → CanCall c number d other tei →
+    (let w = begun_by_frames service tei c number d other in
+    AreTalk service tei ds w → IsThrough service tei (calling service tei c number d other) (as_wire (doing_all ds w)))
+    × (let w = begun_by_octets service tei c number d other in
+    AreTalk service tei ds w → IsThrough service tei (calling service tei d other c number) (frames.turned (as_wire (doing_all ds w))))

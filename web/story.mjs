@@ -73,7 +73,7 @@ function ofAnswer(step, said) {
 function ofRequest(step) {
   const [word, , tei, contents] = step.line.words();
   const info = contents === undefined ? "" : contents.toUpperCase() || "-";
-  return rowOf(step.line.number, step.at, DOWN, `${word} ${Number(tei)}`, { info });
+  return rowOf(step.line.number, step.at, DOWN, tei === undefined ? word : `${word} ${Number(tei)}`, { info });
 }
 
 /** What ended in the octets of a step. Frames are cut where the card says that it dropped more than the drops. */

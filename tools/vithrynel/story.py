@@ -79,8 +79,9 @@ def of_answer(at: int, said: str) -> Optional[Row]:
 
 
 def of_request(at: int, line: Line) -> Row:
-    word, _, tei, *contents = line.words()
-    return Row(at, DOWN, f"{word} {int(tei)}", contents[0].upper() or "-" if contents else "")
+    word, _, *rest = line.words()
+    tei, contents = [int(it) for it in rest[:1]], rest[1:]
+    return Row(at, DOWN, " ".join([word, *map(str, tei)]), contents[0].upper() or "-" if contents else "")
 
 
 def of_traffic(step: Step) -> Iterator[Row]:

@@ -7,7 +7,7 @@ use Rattle.lapd_script.specs.declared.command.CardKind.{CardKind}
 use Rattle.model_line.specs.declared.faults.Fault.{Fault}
 use Rattle.model_line.specs.declared.config.Config.{Config}
 use Rattle.lapd_script.specs.declared.command.Command.{Command}
-use Rattle.lapd_script.specs.declared.command.Command.TheVariants.{Skip, Card, Rx, In, Failed, Next, Pull, Wait, Timers, Stored, Counters, Ask}
+use Rattle.lapd_script.specs.declared.command.Command.TheVariants.{Skip, Card, Rx, In, Failed, Next, Down, Pull, Wait, Timers, Stored, Counters, Ask}
 
 pub data Meaning : Type 0 where
   -- nothing: the line is skipped
@@ -22,6 +22,8 @@ pub data Meaning : Type 0 where
   failed : ℕ → Fault → Meaning
   -- the line takes the next frame
   next : ℕ → Meaning
+  -- the line is down: its links are given up, and all that waits on it
+  down : ℕ → Meaning
   -- the line takes so many octets
   pull : ℕ → ℕ → Meaning
   -- so many milliseconds pass
@@ -43,6 +45,7 @@ meant buffer (Rx line count) = rx line (take count buffer)
 meant buffer (In line count) = into line (take count buffer)
 meant buffer (Failed line fault) = failed line fault
 meant buffer (Next line) = next line
+meant buffer (Down line) = down line
 meant buffer (Pull line count) = pull line count
 meant buffer (Wait milliseconds) = wait milliseconds
 meant buffer (Timers t200 t203 t201) = timers t200 t203 t201
@@ -63,6 +66,7 @@ IsCounted room (Rx line count) = count ≤ room
 IsCounted room (In line count) = count ≤ room
 IsCounted room (Failed line fault) = Unit {0}
 IsCounted room (Next line) = Unit {0}
+IsCounted room (Down line) = Unit {0}
 IsCounted room (Pull line count) = count ≤ 4096
 IsCounted room (Wait milliseconds) = milliseconds ≤ 3600000
 IsCounted room (Timers t200 t203 t201) = Unit {0}

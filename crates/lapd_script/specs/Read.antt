@@ -5,13 +5,13 @@ use Rattle.lapd_script.specs.declared.kind.FaultKind.{FaultKind}
 use Rattle.lapd_script.specs.declared.kind.FaultKind.TheVariants.{UnknownWord, BadNumberOfWords}
 use Rattle.model_line.specs.declared.config.Config.{Config}
 use Rattle.lapd_script.specs.declared.word.Word.{Word}
-use Rattle.lapd_script.specs.declared.word.Word.TheVariants.{Card, Rx, In, Failed, Next, Pull, Wait, Timers, Stored, Counters, Ask}
+use Rattle.lapd_script.specs.declared.word.Word.TheVariants.{Card, Rx, In, Failed, Next, Down, Pull, Wait, Timers, Stored, Counters, Ask}
 use Rattle.lapd_script.specs.Words.{words_of, no_words, one_word, two_words, three_words}
 use Rattle.lapd_script.specs.Number.{number}
 use Rattle.lapd_script.specs.Octets.{octets}
 use Rattle.lapd_script.specs.Cause.{cause}
 use Rattle.lapd_script.specs.Word.{word_named, carries_octets}
-use Rattle.lapd_script.specs.Meaning.{Meaning, skip, card, rx, into, failed, next, pull, wait, timers, stored, counters, ask}
+use Rattle.lapd_script.specs.Meaning.{Meaning, skip, card, rx, into, failed, next, down, pull, wait, timers, stored, counters, ask}
 
 -- the second step, where the first one found no fault
 infixl 10 ◌>>=◌
@@ -106,6 +106,10 @@ read_as Next words = do
   word ← one_word words
   line ← line_number word
   Ok (next line)
+read_as Down words = do
+  word ← one_word words
+  line ← line_number word
+  Ok (down line)
 read_as Pull words = do
   word ← two_words words
   line ← line_number word.0

@@ -6,7 +6,7 @@ use Rattle.lapd_script.specs.declared.command.Asked.TheVariants.{Assign, Remove,
 use Rattle.lapd_script.specs.declared.command.CardKind.TheVariants.{Octets, Frames}
 use Rattle.lapd_transcript.specs.declared.counters.CounterGroup.TheVariants.{Line, Messages}
 use Rattle.lapd_script.specs.declared.word.Word.{Word}
-use Rattle.lapd_script.specs.declared.word.Word.TheVariants.{Card, Rx, In, Failed, Next, Pull, Wait, Timers, Stored, Counters, Ask}
+use Rattle.lapd_script.specs.declared.word.Word.TheVariants.{Card, Rx, In, Failed, Next, Down, Pull, Wait, Timers, Stored, Counters, Ask}
 
 -- what is asked for, of a line and a TEI; for packet links (SAPI 16) with 16 after the word
 abbrev pub asked_named : List ℕ → Option Asked
@@ -38,6 +38,7 @@ word_named name =
     else if bytes_eq name (codes "in") then Some In
     else if bytes_eq name (codes "failed") then Some Failed
     else if bytes_eq name (codes "next") then Some Next
+    else if bytes_eq name (codes "down") then Some Down
     else if bytes_eq name (codes "pull") then Some Pull
     else if bytes_eq name (codes "wait") then Some Wait
     else if bytes_eq name (codes "timers") then Some Timers

@@ -10,7 +10,7 @@ use Rattle.lapd_script.specs.declared.command.Asked as asked
 use Rattle.lapd_script.specs.declared.command.CardKind.TheVariants.{Octets, Frames}
 use Rattle.model_line.specs.declared.faults.Fault.TheVariants.{Ragged}
 use Rattle.lapd_transcript.specs.declared.counters.CounterGroup.TheVariants as group
-use Rattle.lapd_script.specs.Meaning.{skip, card, rx, into, failed, next, pull, wait, timers, stored, counters, ask}
+use Rattle.lapd_script.specs.Meaning.{skip, card, rx, into, failed, next, down, pull, wait, timers, stored, counters, ask}
 use Rattle.lapd_script.specs.Read.{read}
 use Rattle.lapd_script.specs.Job.{job, run, frame, limits}
 use Rattle.lapd_script.specs.Bound.{bound}
@@ -103,6 +103,12 @@ ready = refl
 
 deactivate : read (codes "deactivate16 0 64") ≡ Ok (ask 0 64 (asked.TheVariants.Deactivate Packet) [])
 deactivate = refl
+
+line_down : read (codes "down 63") ≡ Ok (down 63)
+line_down = refl
+
+line_down_has_no_tei : read (codes "down 0 64") ≡ Err BadNumberOfWords
+line_down_has_no_tei = refl
 
 -- the first fault that holds
 no_such_word : read (codes "foo bar") ≡ Err UnknownWord

@@ -72,6 +72,11 @@ pub enum Command {
         /// The card's line.
         line: u16,
     },
+    /// `down LINE`: the line is down, so its links are given up, and all that waits on it.
+    Down {
+        /// The card's line.
+        line: u16,
+    },
     /// `pull LINE N`: the line takes 1 to 4,096 octets.
     Pull {
         /// The card's line.

@@ -77,6 +77,10 @@ fn read_as(word: Word, words: &[&[u8]], room: &mut [u8]) -> Result<Command, Faul
             let line = short(one(words)?)?;
             Ok(Command::Next { line })
         }
+        Word::Down => {
+            let line = short(one(words)?)?;
+            Ok(Command::Down { line })
+        }
         Word::Pull => pull(words),
         Word::Wait => {
             let milliseconds = number(0, 3_600_000, one(words)?)?;

@@ -15,6 +15,7 @@ pub(crate) enum Word {
     In,
     Failed,
     Next,
+    Down,
     Pull,
     Wait,
     Timers,
@@ -40,6 +41,8 @@ impl Word {
             Some(Word::Failed)
         } else if name == b"next".as_slice() {
             Some(Word::Next)
+        } else if name == b"down".as_slice() {
+            Some(Word::Down)
         } else if name == b"pull".as_slice() {
             Some(Word::Pull)
         } else if name == b"wait".as_slice() {

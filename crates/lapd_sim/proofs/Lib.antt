@@ -1,6 +1,7 @@
 -- Lemmas: a script that is read, played and printed, on octets and on whole frames.
 pub mod Vocabulary
 pub mod OneByOne
+pub mod GivingUp
 pub mod Terminals
 pub mod Scenes
 pub mod Eachs

@@ -28,25 +28,34 @@ tells_onto (Ok u) a b c P events s before told = (
 tells_onto (Err e) a b c P events s before told =
     subst (λ text. IsStuck a c text) (sym (text_onto events s.setup s.text)) (puts_then (Err e) a b c s.text (with_events events (scene s.setup)).text before told)
 
+-- events, and then more of them
+pub tells_after : (r : Result Unit WriteFailed) (a b c : Output) (P : Setup → Type 0) (events more : List Event) (m : Setup) → IsPut a b (with_events events (scene m)).text
+    → Tells r b c P (with_events more (scene (with_events events (scene m)).setup)) → Tells r a c P (with_events (events ++ more) (scene m))
+tells_after r a b c P events more m before told =
+    subst (λ s. Tells r a c P s) (sym (fold-append with_event (scene m) events more)) (tells_onto r a b c P more (with_events events (scene m)) before told)
+
+-- where a write failed, those that were to follow change nothing
+pub broken_after : (a b : Output) (events more : List Event) (m : Setup) → IsStuck a b (with_events events (scene m)).text → IsStuck a b (with_events (events ++ more) (scene m)).text
+broken_after a b events more m broken =
+    let s = with_events events (scene m) in
+    let whole : (with_events (events ++ more) (scene m)).text ≡ s.text ++ (with_events more (scene s.setup)).text =
+    ap (λ (t : Scene). t.text) (fold-append with_event (scene m) events more) ∙ text_onto more s.setup s.text in
+    subst (λ text. IsStuck a b text) (sym whole) (stuck_more a b s.text (with_events more (scene s.setup)).text broken)
+
 -- ---- octets that come from a line
 
-pub after_rx-append : (line : ℕ) (octets more : List ℕ) (s : Scene) → after_rx line (octets ++ more) s ≡ after_rx line more (after_rx line octets s)
-after_rx-append line octets more s =
-    let event : ℕ → Event = λ value. at line (octet value) in
-    ap (λ events. with_events events s) (map-append event octets more) ∙ fold-append with_event s (map event octets) (map event more)
+octets_at-append : (line : ℕ) (octets more : List ℕ) → octets_at line (octets ++ more) ≡ octets_at line octets ++ octets_at line more
+octets_at-append line octets more = map-append (λ value. at line (octet value)) octets more
 
 -- some octets, and then more
 pub tells_then : (r : Result Unit WriteFailed) (a b c : Output) (P : Setup → Type 0) (line : ℕ) (octets more : List ℕ) (m : Setup) → IsPut a b (after_rx line octets (scene m)).text → Tells r b c P (after_rx line more (scene (after_rx line octets (scene m)).setup)) → Tells r a c P (after_rx line (octets ++ more) (scene m))
 tells_then r a b c P line octets more m before told =
-    subst (λ s. Tells r a c P s) (sym (after_rx-append line octets more (scene m))) (tells_onto r a b c P (octets_at line more) (after_rx line octets (scene m)) before told)
+    subst (λ events. Tells r a c P (with_events events (scene m))) (sym (octets_at-append line octets more)) (tells_after r a b c P (octets_at line octets) (octets_at line more) m before told)
 
 -- where a write failed, octets that were to follow change nothing
 pub broken_then : (a b : Output) (line : ℕ) (octets more : List ℕ) (m : Setup) → IsStuck a b (after_rx line octets (scene m)).text → IsStuck a b (after_rx line (octets ++ more) (scene m)).text
 broken_then a b line octets more m broken =
-    let s = after_rx line octets (scene m) in
-    let whole : (after_rx line (octets ++ more) (scene m)).text ≡ s.text ++ (after_rx line more (scene s.setup)).text =
-    ap (λ (t : Scene). t.text) (after_rx-append line octets more (scene m)) ∙ text_onto (octets_at line more) s.setup s.text in
-    subst (λ text. IsStuck a b text) (sym whole) (stuck_more a b s.text (after_rx line more (scene s.setup)).text broken)
+    subst (λ events. IsStuck a b (with_events events (scene m)).text) (sym (octets_at-append line octets more)) (broken_after a b (octets_at line octets) (octets_at line more) m broken)
 
 pub tells_none : (a : Output) (P : Setup → Type 0) (m : Setup) → P m → Tells {E = WriteFailed} (Ok tt) a a P (scene m)
 tells_none a P m holds = (puts_nothing a, holds)

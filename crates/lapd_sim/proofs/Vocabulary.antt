@@ -64,4 +64,4 @@ pub use Rattle.lapd_sim.specs.machine.Board.{Event, Reply, What, after, at, card
 unfoldable pub use Rattle.lapd_sim.specs.machine.Board.{reply}
 pub use Rattle.lapd_sim.specs.machine.Script.{Fault, Played, after_bench, after_meaning, after_piece, after_reading, after_scene, counted, faulty, first_fault, is_too_long, not_begun, one_more, played, transcript, unless_faulty}
 pub use Rattle.lapd_sim.specs.machine.Setup.{Setup, happened, ordered, taken_at, terminal_at, with_terminal}
-pub use Rattle.lapd_sim.specs.machine.Steps.{Pulls, Scene, after_coming, after_counters, after_next, after_pull, after_rx, after_timers, after_wait, reply_text, at_expiry, at_line, can_come, expired, expiries, for_frames, for_octets, last_moment, octet_in, octets_at, one_pull, pulls, until, with_card, with_event, with_events, without_card}
+pub use Rattle.lapd_sim.specs.machine.Steps.{Pulls, Scene, after_coming, after_counters, after_next, after_pull, after_rx, after_timers, after_wait, reply_text, at_expiry, at_line, can_come, expired, expiries, for_frames, for_octets, last_moment, octet_in, octets_at, one_pull, pulls, until, with_card, with_event, with_events, without_card, after_down, deactivations, downs, is_on_line, teis_on}

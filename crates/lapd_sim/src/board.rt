@@ -4,12 +4,12 @@ ghost use Rattle.std.specs.Prelude.{◌≡◌, ◌<◌, get_or, IfOk};
 ghost use Rattle.model_line.specs.Request.{request_of};
 ghost use Rattle.lapd_sim.specs.machine.Board as machine;
 ghost use Rattle.lapd_sim.specs.machine.Board.{at, told, expiry, reply};
-ghost use Rattle.lapd_sim.specs.machine.Steps.{held};
+ghost use Rattle.lapd_sim.specs.machine.Steps.{held, is_on_line};
 ghost use Rattle.lapd_count.specs.Counters.{none_counted};
 ghost use Rattle.lapd_line.specs.Reports.{report_told};
 
 use lapd_card::{Card, CardFault, Config, Counters, FrameCard, Report, Request};
-use lapd_frame::{Refusal, Timer};
+use lapd_frame::{Refusal, Service, Timer};
 use lapd_script::{CardKind, FaultKind, LineFault};
 use lapd_store::RawShelf;
 use std::alloc::Global;
@@ -96,6 +96,17 @@ impl Board {
             Board::Octets(card) => card.request(line, request),
             Board::Frames(card) => card.request(line, request),
         }
+    }
+
+    /// Whether a TEI is on a line.
+    pub(crate) fn has_tei(&self, line: usize, tei: u8) -> bool
+        ensures { (b : machine.Board) → OnBoard self.now b → result ≡ is_on_line line b tei }
+    {
+        let state = match self {
+            Board::Octets(card) => card.state(line, Service::Call, tei),
+            Board::Frames(card) => card.state(line, Service::Call, tei),
+        };
+        state.is_some()
     }
 
     /// What was counted of a line.

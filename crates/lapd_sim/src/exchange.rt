@@ -14,7 +14,7 @@ ghost use Rattle.lapd_sim.specs.Past.{HasPast};
 ghost use Rattle.lapd_sim.specs.machine.Board as event;
 ghost use Rattle.lapd_sim.specs.machine.Board.{at, told, pull, hears, next, expiry, reply, reply_of_frames, orders_in};
 ghost use Rattle.lapd_sim.specs.machine.Setup as machine;
-ghost use Rattle.lapd_sim.specs.machine.Steps.{reply_text, with_event, octet_in, at_expiry, until, in_time, with_timers, after_stored, after_counters};
+ghost use Rattle.lapd_sim.specs.machine.Steps.{reply_text, with_event, octet_in, at_expiry, until, in_time, with_timers, after_stored, after_counters, is_on_line};
 ghost use Rattle.lapd_transcript.specs.Streams.{Output, Puts, output};
 
 use crate::board::{Board, Plan};
@@ -211,6 +211,13 @@ impl Exchange {
             Ok(report) => carry_out(&mut self.clock, line, &report, self.moment, target, page),
             Err(refusal) => put_refused(target, page, line as u16, refusal),
         }
+    }
+
+    /// Whether a TEI is on a line.
+    pub(crate) fn has_tei(&self, line: usize, tei: u8) -> bool
+        ensures { (m : machine.Setup) → Holds self.now m → result ≡ is_on_line line m.board tei }
+    {
+        self.board.has_tei(line, tei)
     }
 
     /// Timers that are started from now on run so long; each has to run a millisecond to an hour.

@@ -3,7 +3,7 @@
 //!
 //! - `exchange`: the card that a script is played on, and its clock; `board`: the card, for octets or for frames.
 //! - `setup`: the card with the terminals and listeners of its lines; `parts`, what it begins with; `traffic`, what
-//!   comes from a line and what a line takes.
+//!   comes from a line and what a line takes; `downs`, a line that goes down.
 //! - `player`: plays a script; `memory`, one that lies in memory.
 //! - `program`: the program's words and exit status.
 //! - `machine`: what a script means, and what holds of whole scripts.
@@ -19,6 +19,7 @@
 #![tactic(auto)]
 
 mod board;
+mod downs;
 mod exchange;
 mod machine;
 mod memory;

@@ -207,6 +207,7 @@ fn with_card<T: Target>(
         Command::In { line, octets } => setup.come(line, &room[..octets], target, page),
         Command::Failed { line, fault } => setup.fail(line, fault, target, page),
         Command::Next { line } => setup.take(line, room, target, page),
+        Command::Down { line } => setup.bring_down(line, room, target, page),
         Command::Pull { line, count } => setup.pull(line, count as usize, room, target, page),
         Command::Wait { milliseconds } => setup.wait(milliseconds, target, page),
         Command::Timers { t200, t203, t201 } => setup.set_timers(t200, t203, t201),

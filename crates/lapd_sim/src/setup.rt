@@ -9,6 +9,7 @@ ghost use Rattle.lapd_sim.specs.machine.Steps.{with_card};
 ghost use Rattle.lapd_transcript.specs.Streams.{Output, output};
 
 use crate::board::Plan;
+use crate::downs::{bring_down, teis_on};
 use crate::exchange::Exchange;
 use crate::parts::{listeners, request_for, terminals};
 use crate::traffic::{pull, receive, send, tell_next, written};
@@ -153,6 +154,25 @@ impl Setup {
         let line = self.line(line)?;
         let next = self.exchange.next(line, room);
         written(tell_next(line, next, room, target, page))
+    }
+
+    /// A line is down: its links are given up, and all that waits on it. The TEIs that are on it are put into the beginning of
+    /// `room` meanwhile.
+    pub(crate) fn bring_down<T: Target>(
+        &mut self,
+        line: u16,
+        room: &mut [u8],
+        target: &mut T,
+        page: &mut Page,
+    ) -> Result<(), LineFault>
+        requires { 127 ≤ length room.old }
+        ensures { (m : machine.Setup) → Stands self.old m
+            → Obeys result (output (T.taken target.old) page.old.items) (output (T.taken target.new) page.new.items) (Stands self.new) (with_card (meaning.down line) (scene m)) }
+    {
+        let line = self.line(line)?;
+        let count = teis_on(&self.exchange, line, room);
+        let teis = &room[..count];
+        written(bring_down(&mut self.exchange, line, teis, target, page))
     }
 
     fn send<T: Target>(

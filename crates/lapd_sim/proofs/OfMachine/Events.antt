@@ -1,5 +1,5 @@
 -- A script is a run of the card: each line's events lead the card as the line does.
-use Rattle.lapd_sim.proofs.OfMachine.Vocabulary.{◌≡◌, ℕ, zero, suc, ◌+◌, ◌<◌, Bool, true, false, cond, List, [], ◌∷◌, ◌++◌, replicate, Option, Some, None, Result, Ok, Err, refl, sym, ap, ◌∙◌, subst, not, nat_lt, nat_le, arith, ◌≤◌, fold, All, ltb-true, nat_tests, All-nil, All-cons, All-append, recursion_from_All, none-some, Timer, LengthFault, Lengths, AreInRange, standard, is_length, first_out_of_range, Config, Field, pull, expiry, request, hears, next, IsInRange, Event, at, Board, fresh, after_all, IsAtLine, AreAtLines, CardKind, Octets, Frames, FaultKind, TooLong, BadNumber, BadCard, BadLine, BadFrame, TimeOver, read, pieces_of, line_in, Setup, begun, terminal_at, octets_sent, after_sending, with_terminal, Scene, with_event, with_events, octets_at, Pulls, one_pull, pulls, is_heard_as, expired, expiries, after_rx, after_in, after_pull, after_counters, after_coming, can_come, for_octets, for_frames, after_wait, after_timers, with_timers, with_card, without_card, last_moment, request_for, Fault, Played, not_begun, played, faulty, is_too_long, after_scene, after_bench, after_reading, unless_faulty, one_more, expiry_events, events_until, coming_events, meant_events, read_events, unless_fault, line_events, events_from, board_meant, first_board, ScriptsAreRuns}
+use Rattle.lapd_sim.proofs.OfMachine.Vocabulary.{◌≡◌, ℕ, zero, suc, ◌+◌, ◌<◌, Bool, true, false, cond, List, [], ◌∷◌, ◌++◌, replicate, Option, Some, None, Result, Ok, Err, refl, sym, ap, ◌∙◌, subst, not, nat_lt, nat_le, arith, ◌≤◌, fold, All, ltb-true, nat_tests, All-nil, All-cons, All-append, recursion_from_All, none-some, Timer, LengthFault, Lengths, AreInRange, standard, is_length, first_out_of_range, Config, Field, pull, expiry, request, hears, next, IsInRange, Event, at, Board, fresh, after_all, IsAtLine, AreAtLines, CardKind, Octets, Frames, FaultKind, TooLong, BadNumber, BadCard, BadLine, BadFrame, TimeOver, read, pieces_of, line_in, Setup, begun, terminal_at, octets_sent, after_sending, with_terminal, Scene, with_event, with_events, octets_at, Pulls, one_pull, pulls, is_heard_as, expired, expiries, after_rx, after_in, after_pull, after_counters, after_coming, can_come, for_octets, for_frames, after_wait, after_timers, with_timers, with_card, without_card, last_moment, request_for, Fault, Played, not_begun, played, faulty, is_too_long, after_scene, after_bench, after_reading, unless_faulty, one_more, expiry_events, events_until, coming_events, meant_events, read_events, unless_fault, line_events, events_from, board_meant, first_board, ScriptsAreRuns, after_down, downs, teis_on}
 use Rattle.lapd_clock.specs.declared.fault.LengthFault.TheVariants as fault
 use Rattle.lapd_clock.specs.Timers as clocks
 use Rattle.model_bits.specs.Stream.{dropped}
@@ -8,7 +8,7 @@ use Rattle.model_line.specs.Config as configs
 use Rattle.lapd_script.specs.Meaning as line
 use Rattle.lapd_sim.proofs.OfMachine.Expiries.{drained}
 use Rattle.lapd_sim.proofs.OfMachine.Runs.{after_all-append, config_stays, one_event, no_event, event_before}
-use Rattle.lapd_sim.proofs.OfMachine.Kept.{IsKept, events_kept, pulls_kept, octets_within, pulls_within, wait_ticks, none_later}
+use Rattle.lapd_sim.proofs.OfMachine.Kept.{IsKept, events_kept, pulls_kept, octets_within, downs_within, pulls_within, wait_ticks, none_later}
 
 -- Events, pulls and expiries.
 events_lead : (events : List Event) (s : Scene) → (with_events events s).setup.board ≡ after_all s.setup.board events
@@ -51,10 +51,11 @@ if_good : (good : Bool) (b : Setup) (events : List Event) (r : Result Scene Faul
 if_good true b events r kind h = h refl
 if_good false b events r kind h = tt
 
+events_led : (events : List Event) (s : Scene) → AreAtLines s.setup.board events → Led s.setup events (with_events events s).setup
+events_led events s at_lines = record { board = events_lead events s; kept = λ k. (events_kept events s at_lines k, at_lines) }
+
 octets_led : (number : ℕ) (octets : List ℕ) (s : Scene) → number < s.setup.board.config.lines → Led s.setup (octets_at number octets) (after_rx number octets s).setup
-octets_led number octets s within =
-    let at_lines = octets_within s.setup.board number octets within in
-    record { board = events_lead (octets_at number octets) s; kept = λ k. (events_kept (octets_at number octets) s at_lines k, at_lines) }
+octets_led number octets s within = events_led (octets_at number octets) s (octets_within s.setup.board number octets within)
 
 in_led : (number : ℕ) (octets : List ℕ) (s : Scene) → number < s.setup.board.config.lines
     → Led s.setup (octets_at number (octets_sent octets (terminal_at number s.setup))) (after_in number octets s).setup
@@ -160,6 +161,10 @@ meaning_leads (line.next number) s =
     let e : Event = at number next in
     frames_only s.setup.board.kind s.setup (e ∷ []) _
     (if_good (nat_lt number s.setup.board.config.lines) s.setup (e ∷ []) (Ok (with_event s e)) BadLine (λ good. event_led e s (ltb-true _ _ good)))
+meaning_leads (line.down number) s =
+    let events = downs number (teis_on number s.setup.board) in
+    if_good (nat_lt number s.setup.board.config.lines) s.setup events (Ok (after_down number s)) BadLine
+    (λ good. events_led events s (downs_within s.setup.board number (teis_on number s.setup.board) (ltb-true _ _ good)))
 meaning_leads (line.pull number count) s =
     octets_only s.setup.board.kind s.setup (replicate count (at number pull)) _
     (if_good (nat_lt number s.setup.board.config.lines) s.setup (replicate count (at number pull)) (Ok (after_pull number count s)) BadLine

@@ -1,5 +1,7 @@
 -- What each line of a script keeps: the timers that run are in order, of lines of the card, and later than the moment.
-use Rattle.lapd_sim.proofs.OfMachine.Vocabulary.{◌≡◌, ℕ, zero, suc, ◌+◌, ◌<◌, Bool, true, false, cond, nat_le, List, [], ◌∷◌, replicate, Option, Some, None, refl, sym, ◌∙◌, subst, arith, fold, All, AllByRecursion, leb-false, none-some, All-nil, All-cons, All-head, All-tail, All-map, All-replicate, put_in_order, IsInOrder, Lengths, AreInRange, Order, Start, Stop, duration, Expiry, Timers, is_before, without, finds_place, with_order, first_due, after_first_due, due_at, all_later, All-put_in_order, All-filter, IsInOrder-put_in_order, IsInOrder-filter, before_order, octet, pull, expiry, orders_in, Board, Event, at, reply, IsAtLine, AreAtLines, Setup, ordered, happened, Scene, with_event, with_events, octets_at, Pulls, one_pull, pulls, at_expiry, expired, expiries, expiry_events}
+use Rattle.lapd_sim.proofs.OfMachine.Vocabulary.{◌≡◌, ℕ, zero, suc, ◌+◌, ◌<◌, Bool, true, false, cond, nat_le, List, [], ◌∷◌, replicate, Option, Some, None, refl, sym, ◌∙◌, subst, arith, fold, All, AllByRecursion, leb-false, none-some, All-nil, All-cons, All-head, All-tail, All-map, All-replicate, put_in_order, IsInOrder, Lengths, AreInRange, Order, Start, Stop, duration, Expiry, Timers, is_before, without, finds_place, with_order, first_due, after_first_due, due_at, all_later, All-put_in_order, All-filter, IsInOrder-put_in_order, IsInOrder-filter, before_order, octet, pull, expiry, request, orders_in, Board, Event, at, reply, IsAtLine, AreAtLines, Setup, ordered, happened, Scene, with_event, with_events, octets_at, downs, Pulls, one_pull, pulls, at_expiry, expired, expiries, expiry_events}
+use Rattle.lapd_frame.specs.declared.services.Service.TheVariants.{Call, Packet}
+use Rattle.model_line.specs.Request.{Deactivate, Down}
 use Rattle.lapd_clock.specs.Timer.{Timer}
 use Rattle.lapd_sim.proofs.OfMachine.Expiries.{runs_long, order_lengths, happens_in_range}
 
@@ -85,6 +87,13 @@ pulls_kept (suc count) number p within k = pulls_kept count number (one_pull num
 -- the events of a line are at it
 pub octets_within : (card : Board) (number : ℕ) (octets : List ℕ) → number < card.config.lines → AreAtLines card (octets_at number octets)
 octets_within card number octets within = All-map (IsAtLine card) (λ value. at number (octet value)) octets (λ i d below. within)
+
+pub downs_within : (card : Board) (number : ℕ) (teis : List ℕ) → number < card.config.lines → AreAtLines card (downs number teis)
+downs_within card number [] within = All-cons (IsAtLine card) (at number (request Down)) [] within (All-nil (IsAtLine card))
+downs_within card number (tei ∷ teis) within =
+    let call : Event = at number (request (Deactivate Call tei)) in
+    let packet : Event = at number (request (Deactivate Packet tei)) in
+    All-cons (IsAtLine card) call (packet ∷ downs number teis) within (All-cons (IsAtLine card) packet (downs number teis) within (downs_within card number teis within))
 
 pub pulls_within : (card : Board) (number count : ℕ) → number < card.config.lines → AreAtLines card (replicate count (at number pull))
 pulls_within card number count within = All-replicate (IsAtLine card) count (at number pull) within

@@ -1,5 +1,5 @@
 -- The text of a script is what the answers to its events say.
-use Rattle.lapd_sim.proofs.OfMachine.Vocabulary.{◌≡◌, ℕ, zero, suc, ◌+◌, Bool, true, false, cond, List, [], ◌∷◌, ◌++◌, replicate, get_or, Option, Some, None, Result, Ok, Err, refl, sym, ap, ◌∙◌, subst, nat_lt, nat_le, append_assoc, append-nil, fold, none-some, Timer, LengthFault, Lengths, first_out_of_range, pull, expiry, Event, at, Board, fresh, after, reply, moments, after_all, hears, next, is_heard_as, CardKind, Octets, Frames, FaultKind, TooLong, BadNumber, BadLine, BadFrame, TimeOver, read, pieces_of, line_in, Setup, begun, terminal_at, octets_sent, Scene, reply_text, octet_in, pulled_text, with_event, with_events, octets_at, Pulls, one_pull, pulls, expired, expiries, after_rx, after_pull, after_next, after_counters, after_coming, can_come, for_octets, for_frames, after_wait, after_timers, with_timers, with_card, without_card, last_moment, Fault, Played, not_begun, faulty, is_too_long, after_scene, after_bench, after_reading, one_more, expiry_events, coming_events, read_events, unless_fault, line_events, events_from, first_board, replies_text, octet_given, meant_moments, read_moments, read_text, line_moments, moments_from, text_from, TranscriptsAreReplies}
+use Rattle.lapd_sim.proofs.OfMachine.Vocabulary.{◌≡◌, ℕ, zero, suc, ◌+◌, Bool, true, false, cond, List, [], ◌∷◌, ◌++◌, replicate, get_or, Option, Some, None, Result, Ok, Err, refl, sym, ap, ◌∙◌, subst, nat_lt, nat_le, append_assoc, append-nil, fold, none-some, Timer, LengthFault, Lengths, first_out_of_range, pull, expiry, Event, at, Board, fresh, after, reply, moments, after_all, hears, next, is_heard_as, CardKind, Octets, Frames, FaultKind, TooLong, BadNumber, BadLine, BadFrame, TimeOver, read, pieces_of, line_in, Setup, begun, terminal_at, octets_sent, Scene, reply_text, octet_in, pulled_text, with_event, with_events, octets_at, Pulls, one_pull, pulls, expired, expiries, after_rx, after_pull, after_next, after_counters, after_coming, can_come, for_octets, for_frames, after_wait, after_timers, with_timers, with_card, without_card, last_moment, Fault, Played, not_begun, faulty, is_too_long, after_scene, after_bench, after_reading, one_more, expiry_events, coming_events, read_events, unless_fault, line_events, events_from, first_board, replies_text, octet_given, meant_moments, read_moments, read_text, line_moments, moments_from, text_from, TranscriptsAreReplies, after_down, downs, teis_on}
 use Rattle.std.specs.Prelude.{map}
 use Rattle.model_bits.specs.Stream.{dropped}
 use Rattle.model_line.specs.Came.{cause_of}
@@ -110,6 +110,8 @@ meaning_says (line.failed number fault) b =
 meaning_says (line.next number) b =
     frames_only b.board.kind _ _
     (if_good (nat_lt number b.board.config.lines) _ (Ok (after_next number (scene_of b))) BadLine (events_say (at number next ∷ []) (scene_of b)))
+meaning_says (line.down number) b =
+    if_good (nat_lt number b.board.config.lines) _ (Ok (after_down number (scene_of b))) BadLine (events_say (downs number (teis_on number b.board)) (scene_of b))
 meaning_says (line.pull number count) b =
     let start : Pulls = record { setup = b; octets = [] } in
     let text = said (line.pull number count) b (meant_moments (line.pull number count) b) in

@@ -19,7 +19,7 @@ use Rattle.lapd_script.specs.Read.{read}
 use Rattle.lapd_script.specs.Pieces.{pieces_of, line_in}
 use Rattle.lapd_sim.specs.machine.Setup.{Setup, terminal_at}
 use Rattle.lapd_transcript.specs.Terminal.{octets_sent}
-use Rattle.lapd_sim.specs.machine.Steps.{Scene, octets_at, expired, is_heard_as, request_for}
+use Rattle.lapd_sim.specs.machine.Steps.{Scene, octets_at, expired, is_heard_as, request_for, teis_on, downs}
 use Rattle.lapd_sim.specs.machine.Script.{Fault, Played, not_begun, one_more, played}
 
 -- `wait`: the expiries that fall due up to its end, one after the other.
@@ -43,6 +43,7 @@ meant_events (line.rx number octets) s = octets_at number octets
 meant_events (line.into number octets) s = coming_events s.setup.board.kind number octets s
 meant_events (line.failed number fault) s = at number (hears (dropped (cause_of fault))) ∷ []
 meant_events (line.next number) s = at number next ∷ []
+meant_events (line.down number) s = downs number (teis_on number s.setup.board)
 meant_events (line.pull number count) s = replicate count (at number pull)
 meant_events (line.wait milliseconds) s = events_until (s.setup.now + milliseconds) s
 meant_events (line.timers t200 t203 t201) s = []
@@ -81,6 +82,7 @@ board_meant (Ok (line.rx number octets)) = None
 board_meant (Ok (line.into number octets)) = None
 board_meant (Ok (line.failed number fault)) = None
 board_meant (Ok (line.next number)) = None
+board_meant (Ok (line.down number)) = None
 board_meant (Ok (line.pull number count)) = None
 board_meant (Ok (line.wait milliseconds)) = None
 board_meant (Ok (line.timers t200 t203 t201)) = None

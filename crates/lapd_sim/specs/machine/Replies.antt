@@ -33,6 +33,7 @@ said (line.rx number octets) b ms = replies_text ms
 said (line.into number octets) b ms = replies_text ms
 said (line.failed number fault) b ms = replies_text ms
 said (line.next number) b ms = replies_text ms
+said (line.down number) b ms = replies_text ms
 said (line.pull number count) b ms = pulled_text number (taken_at number b) (map octet_given ms)
 said (line.wait milliseconds) b ms = replies_text ms
 said (line.timers t200 t203 t201) b ms = []

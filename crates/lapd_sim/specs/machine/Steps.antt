@@ -1,5 +1,8 @@
 -- What each line of a script makes of the setup, and what it says in the transcript.
-use Rattle.std.specs.Prelude.{ℕ, zero, suc, ◌+◌, ◌-◌, ◌^◌, nat_lt, nat_le, Bool, true, ◌&&◌, if◌then◌else◌, List, [], ◌∷◌, ◌++◌, length, map, fold, Option, None, Some, Result, Ok, Err}
+use Rattle.std.specs.Prelude.{ℕ, zero, suc, ◌+◌, ◌-◌, ◌^◌, nat_lt, nat_le, Bool, true, ◌&&◌, if◌then◌else◌, List, [], ◌∷◌, ◌++◌, length, map, fold, flat_map, Option, None, Some, Result, Ok, Err}
+use Rattle.std.specs.List.{filter, range_with_len}
+use Rattle.std.specs.Option.{is_some}
+use Rattle.lapd_frame.specs.declared.services.Service.TheVariants.{Call, Packet}
 use Rattle.lapd_frame.specs.declared.timers.Timer.{Timer}
 use Rattle.lapd_clock.specs.Timer.{Lengths, first_out_of_range}
 use Rattle.lapd_clock.specs.Timers as clocks
@@ -9,6 +12,7 @@ use Rattle.model_bits.specs.Stream.{dropped}
 use Rattle.model_line.specs.Came.{came, cause_of}
 use Rattle.model_line.specs.declared.faults.Fault.{Fault}
 use Rattle.model_line.specs.Request as asking
+use Rattle.model_card.specs.Card as lines
 use Rattle.model_card.specs.Stored as cards
 use Rattle.model_card.specs.ports.Card.{OctetCard}
 use Rattle.model_card.specs.ports.Stored.{stored, limit}
@@ -144,6 +148,23 @@ request_for (asked.Unit service) tei octets = asking.Unit service tei octets
 abbrev pub after_request : ℕ → ℕ → Asked → List ℕ → Scene → Scene
 after_request line tei what octets s = with_event s (at line (request (request_for what tei octets)))
 
+-- `down`: the line is down. Each link of the TEIs that are on it is given up, by TEI, that of call control first; and then
+-- what waits and is of no link.
+abbrev pub is_on_line : ℕ → Board → ℕ → Bool
+is_on_line line b tei = is_some (lines.state line Call tei b.card.card)
+
+unfoldable pub teis_on : ℕ → Board → List ℕ
+teis_on line b = filter (is_on_line line b) (range_with_len 0 127)
+
+abbrev pub deactivations : ℕ → ℕ → List Event
+deactivations line tei = at line (request (asking.Deactivate Call tei)) ∷ at line (request (asking.Deactivate Packet tei)) ∷ []
+
+abbrev pub downs : ℕ → List ℕ → List Event
+downs line teis = flat_map (deactivations line) teis ++ at line (request asking.Down) ∷ []
+
+abbrev pub after_down : ℕ → Scene → Scene
+after_down line s = with_events (downs line (teis_on line s.setup.board)) s
+
 -- `stored`: what the card holds, and its bound. A card for frames keeps nothing of those that came and went.
 abbrev pub held_in : CardKind → OctetCard → ℕ
 held_in Octets card = stored card
@@ -200,6 +221,7 @@ with_card (line.rx number octets) s = for_octets s.setup.board.kind (at_line num
 with_card (line.into number octets) s = if nat_lt number s.setup.board.config.lines then in_at_line number octets s else Err BadLine
 with_card (line.failed number fault) s = for_frames s.setup.board.kind (at_line number s (after_failed number fault s))
 with_card (line.next number) s = for_frames s.setup.board.kind (at_line number s (after_next number s))
+with_card (line.down number) s = at_line number s (after_down number s)
 with_card (line.pull number count) s = for_octets s.setup.board.kind (at_line number s (after_pull number count s))
 with_card (line.wait milliseconds) s = in_time milliseconds s
 with_card (line.timers t200 t203 t201) s = with_timers (record { t200 = t200; t203 = t203; t201 = t201 }) s
@@ -218,6 +240,7 @@ without_card (line.rx number octets) = Err NoCard
 without_card (line.into number octets) = Err NoCard
 without_card (line.failed number fault) = Err NoCard
 without_card (line.next number) = Err NoCard
+without_card (line.down number) = Err NoCard
 without_card (line.pull number count) = Err NoCard
 without_card (line.wait milliseconds) = Err NoCard
 without_card (line.timers t200 t203 t201) = Err NoCard

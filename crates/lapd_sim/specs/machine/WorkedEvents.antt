@@ -4,15 +4,16 @@ use Rattle.std.specs.Fmt.{digits}
 use Rattle.hex.specs.Hex.{decode_pairs, encode_with}
 use Rattle.model_bits.specs.Bits.{low_bits}
 use Rattle.lapd_frame.specs.Reading.{reading, header_of, control_of, unnumbered_of}
-use Rattle.lapd_frame.specs.declared.services.Service.TheVariants.{Call}
+use Rattle.lapd_frame.specs.declared.services.Service.TheVariants.{Call, Packet}
 use Rattle.lapd_frame.specs.declared.timers.Timer.TheVariants.{T200}
 use Rattle.lapd_clock.specs.Timers.{with_order, finds_place}
 use Rattle.lapd_tei.specs.Events as teis
 use Rattle.model_line.specs.Machine as lines
 use Rattle.model_card.specs.ports.Card as cards
 use Rattle.lapd_sim.specs.machine.Board as boards
-use Rattle.model_line.specs.Request.{Assign, Establish}
+use Rattle.model_line.specs.Request.{Assign, Establish, Deactivate, Down}
 use Rattle.lapd_sim.specs.machine.Board.{octet, pull, expiry, request, at}
+use Rattle.lapd_sim.specs.machine.Steps.{teis_on}
 use Rattle.lapd_sim.specs.machine.Events.{script_events}
 
 abbrev a_card : List ℕ
@@ -34,3 +35,9 @@ unanswered : script_events (a_card ++ codes "establish 0 64\nwait 4000\n")
     ≡ at 0 (request (Assign 64)) ∷ at 0 (request (Establish Call 64)) ∷ replicate 4 (at 0 (expiry (T200 Call 64)))
 unfolding boards.reply cards.after cards.answer cards.meant lines.after lines.answer lines.takes_slot reading header_of control_of unnumbered_of teis.course teis.refusal low_bits with_order finds_place decode_pairs encode_with digits
 unanswered = refl
+
+-- a line that goes down: each link of its TEIs, and then what is of none
+line_down : script_events (a_card ++ codes "down 0\n")
+    ≡ at 0 (request (Assign 64)) ∷ at 0 (request (Deactivate Call 64)) ∷ at 0 (request (Deactivate Packet 64)) ∷ at 0 (request Down) ∷ []
+unfolding boards.reply teis_on cards.after cards.answer cards.meant lines.after lines.answer lines.takes_slot reading header_of control_of unnumbered_of teis.course teis.refusal low_bits with_order finds_place decode_pairs encode_with digits
+line_down = refl

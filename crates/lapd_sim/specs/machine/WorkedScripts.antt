@@ -10,6 +10,7 @@ use Rattle.model_line.specs.Machine as lines
 use Rattle.model_card.specs.ports.Card as cards
 use Rattle.lapd_sim.specs.machine.Board as boards
 use Rattle.lapd_script.specs.declared.kind.FaultKind.TheVariants.{UnknownWord}
+use Rattle.lapd_sim.specs.machine.Steps.{teis_on}
 use Rattle.lapd_sim.specs.machine.Script.{transcript, first_fault}
 
 abbrev a_card : List ℕ
@@ -34,6 +35,11 @@ supervised = refl
 sent : transcript (a_card ++ codes "in 0 00817F\n") ≡ codes "0 establish-indication 64\n"
 unfolding boards.reply cards.after cards.answer cards.meant lines.after lines.answer lines.takes_slot reading header_of control_of unnumbered_of teis.course teis.refusal low_bits with_order finds_place decode_pairs encode_with digits
 sent = refl
+
+-- the line goes down: the link tells its release, and neither its UA nor unit data goes
+line_down : transcript (a_card ++ codes "in 0 00817F\nunit 0 127 41\ndown 0\npull 0 4\n") ≡ codes "0 establish-indication 64\n0 release-indication 64\n0 tx 7E7E7E7E\n"
+unfolding boards.reply teis_on cards.after cards.answer cards.meant lines.after lines.answer lines.takes_slot reading header_of control_of unnumbered_of teis.course teis.refusal low_bits with_order finds_place decode_pairs encode_with digits
+line_down = refl
 
 -- a line with an unknown word, after an empty one
 unknown : first_fault (codes "card 1 8 7 8 4 4 64 260 3\n\nestablish 0 64\nfoo") ≡ Some (record { line = 4; kind = UnknownWord })

@@ -1,5 +1,5 @@
 -- Where T200 expires only as no turn is left it is long enough: the law with this premise follows.
-use Rattle.laws_wire.proofs.Vocabulary.{◌≡◌, ◌≢◌, ℕ, ◌+◌, ◌<◌, Bool, true, false, cond, IsTrue, List, [], ◌∷◌, refl, sym, ap, ◌∙◌, inl, inr, true≢false, All, nat_lt, list_any, ltb-true, All-head, All-tail, Service, State, TeiAssigned, AwaitingEstablishment, AwaitingRelease, Established, TimerRecovery, Terms, Link, fresh, is_multiple_frame, course, is_running, begun, ◌then◌, IsInRange, End, Config, LineTold, expiry, terms, awaits_answer, IsTimed}
+use Rattle.laws_wire.proofs.Vocabulary.{◌≡◌, ℕ, ◌<◌, Bool, true, false, cond, IsTrue, List, [], ◌∷◌, refl, sym, ap, ◌∙◌, inl, inr, true≢false, All, nat_lt, list_any, ltb-true, All-head, All-tail, Service, State, TeiAssigned, AwaitingEstablishment, AwaitingRelease, Established, TimerRecovery, Terms, Link, fresh, is_multiple_frame, course, is_running, begun, ◌then◌, IsInRange, End, Config, LineTold, expiry, terms, awaits_answer, IsTimed}
 use Rattle.lapd_frame.specs.declared.notes.ErrorCode.TheVariants as code
 use Rattle.lapd_frame.specs.declared.timers.Timer.TheVariants.{T200}
 use Rattle.model_link.specs.declared.timers.LinkTimer.TheVariants as timer
@@ -8,9 +8,9 @@ use Rattle.model_link.specs.Machine
 use Rattle.model_link.specs.MultipleFrame
 use Rattle.model_link.specs.Told.{runs as timer_runs}
 use Rattle.model_link.specs.Words
-use Rattle.laws_wire.specs.Wire.{Station, Wire, happens, Act, requests, times_out, gives, takes, loses, Doing, at_near, at_far, acting, turned, doing, doing_all, IsStill}
+use Rattle.laws_wire.specs.Wire.{Station, Wire, happens, Act, requests, times_out, gives, takes, loses, Doing, at_near, at_far, turned, doing, doing_all, IsStill}
 use Rattle.laws_wire.specs.Call.{calling}
-use Rattle.laws_wire.specs.Losing.{heard_in, is_error, HasNoError, IsRoughTalkOf, IsRoughTalk}
+use Rattle.laws_wire.specs.Losing.{is_error, HasNoError, IsRoughTalkOf, IsRoughTalk}
 use Rattle.laws_wire.specs.Facing.{end_of}
 use Rattle.laws_wire.specs.Timely.{IsNoneOpen, MayRepeat, IsTimelyOf, IsSpared, IsTimely, StayTimely}
 use Rattle.laws_wire.specs.StillTimely.{IsStillOf, IsSparedStill, IsStillDoing, StayStill, WhatIsLostArrivesFromRest}

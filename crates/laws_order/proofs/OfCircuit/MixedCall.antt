@@ -2,7 +2,7 @@
 use Rattle.laws_order.proofs.Vocabulary.{◌≡◌, ℕ, Bool, true, false, cond, List, [], ◌∷◌, ◌++◌, drop, flat_map, Option, None, Some, option_map, option_to_list, refl, sym, ap, ◌∙◌, subst, append-nil, All, All-nil, All-cons, All-head, All-tail, All-append, Service, other_side, Config, answer_to, is_due, Station, Wire, CanCall, calling, calls-come-through, twice-other, doing-append}
 use Rattle.model_bits.specs.Stream as stream
 use Rattle.model_line.specs.Event as line
-use Rattle.model_line.specs.Request.{Request, Establish, Assign}
+use Rattle.model_line.specs.Request.{Establish, Assign}
 use Rattle.model_card.specs.Event as frame_events
 unfoldable use Rattle.model_card.specs.ports.Card.{meant}
 use Rattle.model_card.specs.ports.Port as port
@@ -11,7 +11,6 @@ use Rattle.laws_wire.specs.Call.{IsCallOf, IsCall}
 use Rattle.laws_wire.specs.Wire as frames
 unfoldable use Rattle.laws_wire.specs.Wire.{doing_all as frames_done}
 use Rattle.laws_order.specs.circuit.Circuit.{Termination, port_of, happens}
-use Rattle.laws_order.specs.circuit.Damaged.{IsFirst}
 use Rattle.laws_order.specs.circuit.Through as octets
 use Rattle.laws_order.specs.circuit.MixedCall.{Pair, as_wire, begun_by_frames, begun_by_octets, IsThrough, CallsComeThroughBetweenKinds, Doing, by_frames, asks, pulls, hears, brings, IsWhole, left_by, doing, IsTalk, CallsAreOfFrames}
 unfoldable use Rattle.laws_order.specs.circuit.MixedCall.{doing_all, AreTalk}

@@ -180,19 +180,17 @@ releases-are-told service tei w hs at is runs-on all quiet many = go (releases-e
     go (inr told) = told
 
 pub both-are-told : BothAreTold
-both-are-told service tei w before behind rest possible is possible' there active quiet told =
-    go (list_any (ends_by service tei) (seen_far before w ++ seen_far behind v)) refl
+both-are-told service tei w before behind rest possible lasts is possible' there active quiet told = go (list_any (ends_by service tei) (seen_far behind v)) refl
   where
     v : Wire
     v = happening_all before w
 
-    go : (b : Bool) → list_any (ends_by service tei) (seen_far before w ++ seen_far behind v) ≡ b → b ≡ true
+    go : (b : Bool) → list_any (ends_by service tei) (seen_far behind v) ≡ b → b ≡ true
     go true e = refl
     go false e =
-        let stay = both-stay service tei (seen_far before w) (seen_far behind v) e in
-        let reached = reaches service tei before w possible stay.0 (inl (_, _, begins-pair service tei w rest)) in
+        let reached = reaches service tei before w possible lasts (inl (_, _, begins-pair service tei w rest)) in
         let over = over-six service tei v is reached in
-        absurd (never service tei behind v (well over) is over possible' there active stay.1 told)
+        absurd (never service tei behind v (well over) is over possible' there active e told)
       where
         well : Over service tei v → IsWell v.near
         well (contents, a, k, small, dm, h) = h.near

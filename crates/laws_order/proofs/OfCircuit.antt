@@ -16,5 +16,6 @@ pub mod PremisesMet
 pub mod HeardWhole
 pub mod Damaged
 pub mod Mixed
+pub mod MixedCall
 pub mod DamagedMet
 pub mod Resting

@@ -6,7 +6,7 @@ use Rattle.model_line.specs.Request.{Establish, SetBusy}
 use Rattle.model_card.specs.Event.{at}
 use Rattle.laws_order.specs.Happenings.{acts, disturbed, elsewhere, IsElsewhere, Happening, by_near, by_far, IsPossible, happening_all, seen_near, seen_far}
 use Rattle.laws_order.specs.InTheEnd.{t200s, IsToldAtLast, IsNotDeactivated}
-use Rattle.laws_order.specs.Order.{data_noted, data_granted, ends_by, link_here, said_by, AreOfStep, HasReceivedOf, FaceInStep, kept_by}
+use Rattle.laws_order.specs.Order.{data_noted, data_granted, ends_by, link_here, said_by, AreOfStep, HasReceivedOf, FaceInStep, kept_by, StaysEstablished}
 use Rattle.laws_order.specs.Worked.{network, user, faces, calls_both, others_speak, both_send, is_busy, busy_run, call_far as far_stays, owes, sends_one, sends_more, more_far_stays, busy_waits, clears, cleared_stays, early, loses_first, early_stays}
 use Rattle.laws_order.specs.Release.{IsToldOfRelease, news}
 use Rattle.laws_order.specs.WorkedRelease.{releases, released, takes_two, far_lasts, awaits, both_release, both_begin_nothing}
@@ -269,7 +269,11 @@ all-active : (hs : List Happening) → AreActive hs → All (IsNotDeactivated Ca
 all-active [] h = All-nil (IsNotDeactivated Call 0)
 all-active (x ∷ hs) h = All-cons (IsNotDeactivated Call 0) x hs h.0 (all-active hs h.1)
 
-both-told : list_any (ends_by Call 0) (seen_far releases faces ++ seen_far comes released) ≡ true
+first-lasts : StaysEstablished Call 0 (seen_far releases faces)
+unfolding lines.after lines.answer lines.takes_slot reading header_of control_of unnumbered_of supervisory_of teis.course teis.refusal seq distance_of named doing_all happening_all seen_far
+first-lasts = refl
+
+both-told : list_any (ends_by Call 0) (seen_far comes released) ≡ true
 both-told =
-    both-are-told Call 0 faces releases comes call-in-step (acts-possible faces releases tt) awaits (acts-possible released comes tt) comes_there
+    both-are-told Call 0 faces releases comes call-in-step (acts-possible faces releases tt) first-lasts awaits (acts-possible released comes tt) comes_there
     (all-active comes (tt, (tt, (tt, (tt, (tt, (tt, (tt, tt)))))))) comes_quietly comes_confirmed

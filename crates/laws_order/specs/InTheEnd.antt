@@ -15,7 +15,7 @@ use Rattle.laws_wire.specs.Arriving.{runs_t200}
 use Rattle.laws_wire.specs.Facing.{line_of}
 use Rattle.laws_wire.specs.Wire.{requests, Wire}
 use Rattle.laws_order.specs.Happenings.{acts, Happening, by_near, by_far, IsPossible, happening, happening_all, events_here, seen_near, seen_far}
-use Rattle.laws_order.specs.Order.{ends_by, link_here, FaceInStep}
+use Rattle.laws_order.specs.Order.{ends_by, StaysEstablished, link_here, FaceInStep}
 use Rattle.laws_order.specs.Release.{news, BeginsNothing, IsAtLine}
 
 -- How often T200 of the link expired at the near end.
@@ -53,13 +53,14 @@ abbrev pub IsNotDeactivated : Service → ℕ → Happening → Type 0
 IsNotDeactivated service tei (by_near (acts (requests r))) = deactivates service tei (request r) ≡ false
 IsNotDeactivated service tei other = Unit {0}
 
--- And where it is told the confirm, and no error H, the other end was told before, by a note that its establishment is over or renewed,
--- unless its layer 3 was granted a release itself: whatever happened at both since they faced each other at rest, and whatever was
--- waiting or on its way as the release was granted.
+-- And where it is told the confirm, and no error H, the other end, whose establishment lasted until then, was told behind the release
+-- by a note that it is over or renewed, unless its layer 3 was granted a release itself: whatever happened at both since they faced each
+-- other in step, and whatever was waiting or on its way as the release was granted.
 abbrev pub BothAreTold : Type 0
 BothAreTold =
     (service : Service) (tei : ℕ) (w : Wire) (before behind : List Happening) → FaceInStep service tei w → All (IsPossible service tei w) before →
-    let v = happening_all before w in (link_here service tei v.near).state ≡ AwaitingRelease → All (IsPossible service tei v) behind →
+    let v = happening_all before w in StaysEstablished service tei (seen_far before w) →
+    (link_here service tei v.near).state ≡ AwaitingRelease → All (IsPossible service tei v) behind →
     StaysThere tei behind v → All (IsNotDeactivated service tei) behind → BeginsNothing service tei (seen_near behind v) →
     news service tei (seen_near behind v) ≡ ReleaseConfirm service tei ∷ [] →
-    list_any (ends_by service tei) (seen_far before w ++ seen_far behind v) ≡ true
+    list_any (ends_by service tei) (seen_far behind v) ≡ true

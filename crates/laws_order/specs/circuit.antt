@@ -6,6 +6,7 @@ pub mod Worked
 pub mod WorkedCall
 pub mod Damaged
 pub mod Mixed
+pub mod MixedCall
 pub mod Resting
 pub mod WorkedDamaged
 pub mod WorkedMixed

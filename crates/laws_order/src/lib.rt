@@ -19,6 +19,6 @@ mod laws;
 
 pub use circuit::{
     a_call_comes_through_in_octets, a_call_comes_to_rest, all_is_told_in_beats,
-    delivered_between_kinds, delivered_though_damaged,
+    calls_are_of_frames, delivered_between_kinds, delivered_though_damaged,
 };
 pub use laws::{delivered_in_order, releases_are_told, releases_end};

@@ -205,8 +205,9 @@ pub fn units_are_spelled()
 {}
 
 /// Counters count what is seen. What the moments at a line show under a name, but those of what is dropped, is as much as its
-/// trace has of it: of frames heard and begun their kinds, their octets and the polls among them, of notes each, and the frames
-/// that were lost. So by `counters` and `counters_add_up` of `Card::drive` the counters of a line are numbers of these (profile).
+/// trace has of it: of frames heard and begun their kinds, their octets, the polls among them and the messages of TEI
+/// management in them, of notes each, and the frames that were lost. So by `counters` and `counters_add_up` of `Card::drive`
+/// the counters of a line are numbers of these (profile).
 pub fn counters_count()
     ensures { Always CountersCount }
 {}

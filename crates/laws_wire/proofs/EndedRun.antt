@@ -1,5 +1,5 @@
 -- A call that ends where both ends rest: from its release on.
-use Rattle.laws_wire.proofs.Vocabulary.{◌≡◌, ℕ, suc, ◌≤◌, Bool, true, false, not, cond, List, [], ◌∷◌, ◌++◌, Option, None, Some, refl, sym, ap, subst, ◌∙◌, ◌⊎◌, inl, inr, append-nil, true≢false, All, nat_lt, flat_map, replicate, option_map_or, le-ltb, lt-ltb, Refusal, BadTei, NoLink, WrongState, Service, is_on-at, place_of-is, Established, Terms, Link, fresh, course, serves, IsInRange, runs, End, with_link, Config, LineTold, request, Line, link_in, link_of, terms, line_at, wants_room, HasNothingToSend, nothing-given}
+use Rattle.laws_wire.proofs.Vocabulary.{◌≡◌, ℕ, ◌≤◌, Bool, true, false, not, cond, List, [], ◌∷◌, ◌++◌, None, Some, refl, sym, ap, subst, ◌∙◌, ◌⊎◌, inl, inr, append-nil, true≢false, All, nat_lt, flat_map, replicate, option_map_or, le-ltb, lt-ltb, Refusal, BadTei, NoLink, WrongState, Service, is_on-at, place_of-is, Established, Terms, Link, fresh, course, serves, IsInRange, runs, End, with_link, Config, LineTold, request, Line, link_in, link_of, terms, line_at, wants_room, HasNothingToSend, nothing-given}
 use Rattle.std.proofs.lemmas.List.Concat.{flat_map-append}
 use Rattle.model_link.specs.declared.timers.LinkTimer.TheVariants.{T200}
 use Rattle.model_link.specs.Events as link

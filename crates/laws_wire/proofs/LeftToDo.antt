@@ -1,17 +1,14 @@
 -- How many turns and losses there are at most where both ends are up, by what waits, what is on its way, and what is still to be told.
-use Rattle.laws_wire.proofs.Vocabulary.{◌≡◌, ℕ, suc, ◌+◌, ◌-◌, ◌*◌, ◌≤◌, Bool, true, false, ◌&&◌, IsTrue, List, [], ◌∷◌, ◌++◌, length, map, take, refl, sym, ap, subst, ◌∙◌, arith, true≢false, length-map, length-take-le, Service, Parts, spelling, Control, Information, ReceiveReady, ReceiveNotReady, Reject, Sabme, Disc, Ui, Ua, Dm, Frmr, Xid, State, TeiAssigned, AwaitingEstablishment, AwaitingRelease, Established, TimerRecovery, ControlFrame, Link, unsent, is_multiple_frame, End, Config, LineTold}
-use Rattle.model_link.proofs.Direction.{Direction}
+use Rattle.laws_wire.proofs.Vocabulary.{◌≡◌, ℕ, suc, ◌+◌, ◌-◌, ◌*◌, ◌≤◌, Bool, true, false, ◌&&◌, IsTrue, List, [], ◌∷◌, ◌++◌, length, map, take, sym, ap, subst, ◌∙◌, arith, true≢false, length-map, length-take-le, Service, Parts, spelling, Control, Information, ReceiveReady, ReceiveNotReady, Reject, Sabme, Disc, Ui, Ua, Dm, Frmr, Xid, State, TeiAssigned, AwaitingEstablishment, AwaitingRelease, Established, TimerRecovery, ControlFrame, Link, unsent, is_multiple_frame, End, Config, LineTold}
 use Rattle.model_link.proofs.Lines.{carried-high}
 use Rattle.laws_wire.specs.Wire.{Station, Wire}
 use Rattle.laws_wire.specs.Call.{confirmed, indicated, data_told, all_told}
 use Rattle.laws_wire.specs.Losing.{heard_in}
-use Rattle.laws_wire.specs.Facing.{end_of}
 use Rattle.laws_wire.specs.Resting.{most_frames}
 use Rattle.laws_wire.specs.Arriving.{frames_left, notes_left, most_left}
-use Rattle.laws_wire.proofs.Acting.{UpAt, sound}
+use Rattle.laws_wire.proofs.Acting.{sound}
 use Rattle.laws_wire.proofs.Awaited.{link-is}
 use Rattle.laws_wire.proofs.Held.{Held}
-use Rattle.laws_wire.proofs.Joint.{Joint}
 use Rattle.laws_wire.proofs.Loads.{answer_to, brings, load_waiting, load_way, owes, may_reject, back, load}
 use Rattle.laws_wire.proofs.LossyPhases.{IsUp}
 use Rattle.laws_wire.proofs.Weighing.{undelivered, weigh}

@@ -4,7 +4,7 @@ use Rattle.model_link.specs.Events as link
 use Rattle.model_link.specs.Requests.{refusal}
 use Rattle.model_line.specs.Request.{Data}
 use Rattle.laws_wire.specs.Wire.{Station, Wire, happens, with_first_of, with_first_lost, Act, requests, times_out, gives, takes, loses, acting, turned, comes}
-use Rattle.laws_wire.specs.Call.{confirmed, indicated}
+use Rattle.laws_wire.specs.Call.{indicated}
 use Rattle.laws_wire.specs.Losing.{IsRoughTalkOf}
 use Rattle.laws_wire.proofs.Answered.{takes-granted}
 use Rattle.laws_wire.proofs.Calling.{sabme, ua, end, caller, answering, takes-sabme, told-of-sabme}

@@ -1,18 +1,20 @@
 -- The premises of the law on what is lost are met: by the worked call in which SABME is lost, and then an I-frame of each end.
-use Rattle.laws_wire.proofs.Vocabulary.{◌≡◌, ◌≢◌, ℕ, ◌+◌, ◌<◌, ◌≤◌, List, [], ◌∷◌, length, map, refl, sym, ap, subst, ◌∙◌, true≢false, arith, All, Call, reading, header_of, control_of, unnumbered_of, supervisory_of, distance_of, named, seq, Established, End, LineTold, awaits_answer}
+use Rattle.laws_wire.proofs.Vocabulary.{◌≡◌, ◌≢◌, ℕ, ◌+◌, ◌<◌, ◌≤◌, false, List, [], ◌∷◌, length, map, refl, sym, ap, subst, ◌∙◌, true≢false, arith, All, All-nil, All-cons, list_any, Call, reading, header_of, control_of, unnumbered_of, supervisory_of, distance_of, named, seq, Established, End, LineTold, awaits_answer}
 use Rattle.lapd_frame.specs.declared.timers.Timer.TheVariants.{T200}
 use Rattle.lapd_tei.specs.Events as teis
 use Rattle.model_line.specs.Machine as lines
 use Rattle.model_line.specs.Request.{Data}
-use Rattle.laws_wire.specs.Wire.{Wire, requests, times_out, gives, loses, at_near, at_far, doing_all, turns, IsStill}
+use Rattle.laws_wire.specs.Wire.{Wire, requests, times_out, gives, loses, at_near, at_far, acting, doing_all, turns, IsStill}
 use Rattle.laws_wire.specs.Call.{confirmed, indicated, data_told}
-use Rattle.laws_wire.specs.Losing.{heard_in, IsRoughTalk}
+use Rattle.laws_wire.specs.Losing.{heard_in, is_error, IsRoughTalk}
 use Rattle.laws_wire.specs.Facing.{end_of}
 use Rattle.laws_wire.specs.Timely.{is_poll, is_final, IsNoneOpen, MayRepeat, StayTimely}
-use Rattle.laws_wire.specs.Recovering.{HasNoErrors, BothMayRepeat, HasMissing, HasArrived}
+use Rattle.laws_wire.specs.Recovering.{with_t200_expired, HasNoErrors, BothMayRepeat, HasMissing, HasArrived}
+use Rattle.laws_wire.specs.StillTimely.{StayStill}
 use Rattle.laws_wire.specs.Worked.{user, network, begins}
 use Rattle.laws_wire.specs.WorkedRecovering.{loses_three, lost, recovered}
 use Rattle.laws_wire.proofs.PremisesMet.{can, all-rough}
+use Rattle.laws_wire.proofs.StillIsTimely.{still-is-enough}
 use Rattle.laws_wire.proofs.TimelyRun.{what-is-lost-arrives}
 use Rattle.laws_wire.proofs.TimelyUp.{none-of}
 
@@ -117,3 +119,40 @@ no-error = (what-is-lost-arrives Call user network 0 0 0 loses_three can rough t
 
 pub arrives : HasArrived Call 0 lost recovered
 arrives = (what-is-lost-arrives Call user network 0 0 0 loses_three can rough timely).arrives 1 still missing may
+
+-- T200 expires only as no turn is left, and no error is told as it does
+silent-still : IsStill silent
+unfolding lines.after lines.answer lines.takes_slot reading header_of control_of unnumbered_of supervisory_of teis.course teis.refusal seq distance_of named doing_all turns
+silent-still = record { near = refl; far = refl; near_way = refl; far_way = refl }
+
+expires-untold : ((acting (times_out (T200 Call 0)) silent).near.told ≡ []) × ((acting (times_out (T200 Call 0)) silent).far.told ≡ [])
+unfolding lines.after lines.answer lines.takes_slot reading header_of control_of unnumbered_of supervisory_of teis.course teis.refusal seq distance_of named doing_all turns
+expires-untold = (refl, refl)
+
+expired-told : ((with_t200_expired Call 0 lost).near.told ≡ confirmed Call 0 ∷ []) × ((with_t200_expired Call 0 lost).far.told ≡ indicated Call 0 ∷ [])
+unfolding lines.after lines.answer lines.takes_slot reading header_of control_of unnumbered_of supervisory_of teis.course teis.refusal seq distance_of named doing_all turns
+expired-told = (refl, refl)
+
+abbrev IsFair : LineTold → Type 0
+IsFair t = list_any is_error t.notes ≡ false
+
+one-told : (t : LineTold) (ts : List LineTold) → IsFair t → ts ≡ t ∷ [] → All IsFair ts
+one-told t ts fair e = subst (All IsFair) (sym e) (All-cons IsFair t [] fair (All-nil IsFair))
+
+stays-still : StayStill loses_three begins
+unfolding doing_all StayStill
+stays-still = (
+  tt,
+  (
+    tt,
+    (
+      (silent-still, (subst (All IsFair) (sym expires-untold.0) (All-nil IsFair), subst (All IsFair) (sym expires-untold.1) (All-nil IsFair))),
+      (tt, ((tt, tt), ((tt, tt), (tt, (tt, (tt, (tt, ((tt, tt), ((tt, tt), ((tt, heard-it (heard_in lost.near) (confirmed Call 0) lost-near), tt)))))))))),
+    ),
+  ),
+)
+
+arrives-from-rest : HasArrived Call 0 lost recovered
+arrives-from-rest =
+    (still-is-enough Call user network 0 0 0 loses_three can rough stays-still).arrives 1 still missing
+    (one-told (confirmed Call 0) _ refl expired-told.0, one-told (indicated Call 0) _ refl expired-told.1)

@@ -1,5 +1,5 @@
 -- A whole call in which frames are lost and timers expire: its moves are at most what there was to do, and what was asked for since.
-use Rattle.laws_wire.proofs.Vocabulary.{◌≡◌, ℕ, ◌+◌, ◌*◌, ◌≤◌, true, cond, List, [], ◌∷◌, ◌++◌, length, refl, sym, ap, subst, ◌∙◌, ◌⊎◌, inl, inr, arith, All, All-nil, All-cons, All-head, All-tail, Service, Parts, other_side, ControlFrame, Terms, Link, fresh, course, IsInRange, End, frames_of, Config, LineTold, terms, terms_in_range}
+use Rattle.laws_wire.proofs.Vocabulary.{◌≡◌, ℕ, ◌+◌, ◌*◌, ◌≤◌, true, cond, List, [], ◌∷◌, ◌++◌, length, refl, sym, ap, subst, ◌∙◌, ◌⊎◌, inl, inr, arith, All, All-head, All-tail, Service, Parts, ControlFrame, Terms, Link, fresh, course, IsInRange, End, frames_of, Config, LineTold, terms}
 use Rattle.model_link.specs.Events as link
 use Rattle.model_link.specs.Machine.{after}
 use Rattle.laws_wire.specs.Wire.{Station, Wire, Doing, at_near, at_far, acting, turned, doing, doing_all}

@@ -1,5 +1,5 @@
 -- Where T200 expires only as no turn is left it is long enough: the law with this premise follows.
-use Rattle.laws_wire.proofs.Vocabulary.{◌≡◌, ◌≢◌, ℕ, ◌+◌, ◌<◌, Bool, true, false, cond, IsTrue, List, [], ◌∷◌, refl, sym, ap, ◌∙◌, inl, inr, true≢false, All, nat_lt, list_any, ltb-true, All-head, All-tail, Service, State, TeiAssigned, AwaitingEstablishment, AwaitingRelease, Established, TimerRecovery, Terms, Link, fresh, is_multiple_frame, course, is_running, begun, ◌then◌, IsInRange, End, Config, LineTold, expiry, terms, awaits_answer, IsTimed}
+use Rattle.laws_wire.proofs.Vocabulary.{◌≡◌, ℕ, ◌<◌, Bool, true, false, cond, IsTrue, List, [], ◌∷◌, refl, sym, ap, ◌∙◌, inl, inr, true≢false, All, nat_lt, list_any, ltb-true, All-head, All-tail, Service, State, TeiAssigned, AwaitingEstablishment, AwaitingRelease, Established, TimerRecovery, Terms, Link, fresh, is_multiple_frame, course, is_running, begun, ◌then◌, IsInRange, End, Config, LineTold, expiry, terms, awaits_answer, IsTimed}
 use Rattle.lapd_frame.specs.declared.notes.ErrorCode.TheVariants as code
 use Rattle.lapd_frame.specs.declared.timers.Timer.TheVariants.{T200}
 use Rattle.model_link.specs.declared.timers.LinkTimer.TheVariants as timer
@@ -8,12 +8,12 @@ use Rattle.model_link.specs.Machine
 use Rattle.model_link.specs.MultipleFrame
 use Rattle.model_link.specs.Told.{runs as timer_runs}
 use Rattle.model_link.specs.Words
-use Rattle.laws_wire.specs.Wire.{Station, Wire, happens, Act, requests, times_out, gives, takes, loses, Doing, at_near, at_far, acting, turned, doing, doing_all, IsStill}
-use Rattle.laws_wire.specs.Call.{calling, CanCall}
-use Rattle.laws_wire.specs.Losing.{heard_in, is_error, HasNoError, IsRoughTalkOf, IsRoughTalk}
+use Rattle.laws_wire.specs.Wire.{Station, Wire, happens, Act, requests, times_out, gives, takes, loses, Doing, at_near, at_far, turned, doing, doing_all, IsStill}
+use Rattle.laws_wire.specs.Call.{calling}
+use Rattle.laws_wire.specs.Losing.{is_error, HasNoError, IsRoughTalkOf, IsRoughTalk}
 use Rattle.laws_wire.specs.Facing.{end_of}
 use Rattle.laws_wire.specs.Timely.{IsNoneOpen, MayRepeat, IsTimelyOf, IsSpared, IsTimely, StayTimely}
-use Rattle.laws_wire.specs.Recovering.{rounds, with_t200_expired, HasNoErrors, HasMissing, HasArrived}
+use Rattle.laws_wire.specs.StillTimely.{IsStillOf, IsSparedStill, IsStillDoing, StayStill, WhatIsLostArrivesFromRest}
 use Rattle.laws_wire.proofs.Awaited.{open-here, may-here}
 use Rattle.laws_wire.proofs.Calling.{end}
 use Rattle.laws_wire.proofs.Fair.{HasError}
@@ -26,30 +26,6 @@ use Rattle.laws_wire.proofs.TimelyRinging.{not-still, called-still}
 use Rattle.laws_wire.proofs.LossyRun.{setting}
 use Rattle.laws_wire.proofs.TimelyRun.{starts, step, runs, what-is-lost-arrives}
 use Rattle.laws_wire.proofs.TimelyUp.{each-timer, hushed, none-open, timed-8}
-
-abbrev pub IsStillOf : Act → Wire → Type 0
-IsStillOf (times_out (T200 service tei)) w = IsStill w × HasNoErrors (acting (times_out (T200 service tei)) w)
-IsStillOf other w = Unit {0}
-
--- no timer of the called end expires before its UA was taken
-abbrev pub IsSparedStill : Act → Wire → Type 0
-IsSparedStill loses w = heard_in w.near ≢ []
-IsSparedStill (times_out timer) w = heard_in w.near ≢ []
-IsSparedStill other w = Unit {0}
-
-abbrev pub IsStillDoing : Doing → Wire → Type 0
-IsStillDoing (at_near act) w = IsStillOf act w
-IsStillDoing (at_far act) w = IsStillOf act (turned w) × IsSparedStill act w
-
-unfoldable pub StayStill : List Doing → Wire → Type 0
-StayStill [] w = Unit {0}
-StayStill (d ∷ ds) w = IsStillDoing d w × StayStill ds (doing d w)
-
--- where T200 then expires at both ends with no error, all arrives
-pub record RecoversStill (service : Service) (tei : ℕ) (w : Wire) : Type 0 where
-  pub no_error : HasNoErrors w
-  pub arrives : (u : ℕ) → IsStill w → HasMissing service tei u w → HasNoErrors (with_t200_expired service tei w) →
-      HasArrived service tei w (rounds (u + 3) (with_t200_expired service tei w))
 
 -- where N200 is reached in state 8 an error is told
 ran-out : (t : Terms) (l : Link) → l.state ≡ TimerRecovery → is_running timer.T200 l ≡ true → nat_lt l.repeats t.n200 ≡ false
@@ -169,8 +145,7 @@ module _ (service : Service) (tei : ℕ) (c d : Config) (p q : ℕ) (face : Face
       let now = one k is w h x.0 in
       (now, all ds (All-tail (IsRoughTalk service tei) k ds rough) (doing k w) (step service tei c d p q face back rt ru k is w now h) x.1)
 
-pub still-is-enough : (service : Service) (c d : Config) (line other tei : ℕ) (ds : List Doing) → CanCall c line d other tei → All (IsRoughTalk service tei) ds
-    → let w = calling service tei c line d other in StayStill ds w → RecoversStill service tei (doing_all ds w)
+pub still-is-enough : WhatIsLostArrivesFromRest
 still-is-enough service c d line other tei ds can talk = λ still.
     let x = setting service c d line other tei can in
     let w = calling service tei c line d other in

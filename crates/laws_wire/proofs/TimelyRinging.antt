@@ -7,7 +7,7 @@ use Rattle.model_link.specs.Events as link
 use Rattle.model_link.specs.Steps.{Course}
 use Rattle.model_line.specs.Request.{Data}
 use Rattle.laws_wire.specs.Wire.{Wire, happens, with_first_of, Act, requests, times_out, gives, takes, loses, acting, turned, IsStill, comes}
-use Rattle.laws_wire.specs.Call.{confirmed, indicated}
+use Rattle.laws_wire.specs.Call.{indicated}
 use Rattle.laws_wire.specs.Losing.{IsRoughTalkOf}
 use Rattle.laws_wire.specs.Timely.{is_poll, MayRepeat, IsTimelyOf}
 use Rattle.laws_wire.specs.Facing.{end_of}

@@ -1,17 +1,16 @@
 -- A whole call in which timers are timely: both ends stay up, and what was lost arrives.
-use Rattle.laws_wire.proofs.Vocabulary.{◌≡◌, ℕ, suc, ◌+◌, ◌<◌, Bool, true, false, cond, not, ◌&&◌, ◌||◌, ◌==◌, List, [], ◌∷◌, ◌++◌, length, map, is_some, refl, sym, ap, subst, ◌∙◌, inl, inr, eqb-true, arith, All, flat_map, list_any, and_parts, or_parts, All-nil, All-cons, All-head, All-tail, list_any-append, Note, Service, Timer, Parts, other_side, ControlFrame, fresh, IsInRange, Ends, Config, LineTold, terms, terms_in_range, all-arrived}
+use Rattle.laws_wire.proofs.Vocabulary.{◌≡◌, ℕ, suc, ◌+◌, ◌<◌, Bool, true, false, cond, not, ◌&&◌, ◌||◌, ◌==◌, List, [], ◌∷◌, ◌++◌, length, map, is_some, refl, sym, ap, subst, ◌∙◌, inl, inr, eqb-true, arith, All, flat_map, list_any, and_parts, or_parts, All-nil, All-cons, All-head, All-tail, list_any-append, Note, Service, Timer, Parts, ControlFrame, fresh, IsInRange, Ends, Config, LineTold, terms, all-arrived}
 use Rattle.lapd_frame.specs.declared.timers.Timer.TheVariants as timers
 use Rattle.model_link.specs.declared.timers.LinkTimer.TheVariants.{T200}
 use Rattle.model_line.specs.Event.{nothing}
 use Rattle.laws_link.specs.two.Rounds as two_links
 use Rattle.laws_wire.specs.Wire.{Station, Wire, Act, gives, takes, times_out, Doing, at_near, at_far, acting, turned, doing, doing_all, IsStill}
-use Rattle.laws_wire.specs.Call.{calling, CanCall, confirmed, indicated, data_told}
+use Rattle.laws_wire.specs.Call.{calling, confirmed, indicated, data_told}
 use Rattle.laws_wire.specs.Losing.{for_layer_3, heard_in, is_error, HasNoError, IsRoughTalkOf, IsRoughTalk}
 use Rattle.laws_wire.specs.Timely.{is_poll, is_final, IsNoneOpen, IsTimelyOf, IsSpared, IsTimely, StayTimely}
 use Rattle.laws_wire.specs.Recovering.{both_expire, round, rounds, HasNoErrors, BothMayRepeat, HasMissing, HasArrived, with_t200_expired, WhatIsLostArrives}
 use Rattle.laws_wire.proofs.Awaited.{link-is, open-here}
-use Rattle.laws_wire.proofs.Calling.{asked, end, called}
-use Rattle.laws_wire.proofs.Held.{Held}
+use Rattle.laws_wire.proofs.Calling.{end, called}
 use Rattle.laws_wire.proofs.LossyRun.{Setting, setting}
 use Rattle.laws_wire.proofs.Ringing.{answered, its_sabme}
 use Rattle.laws_wire.proofs.Ringing.{ringing as ringing_as}

@@ -1,5 +1,5 @@
 -- The phases of a call in which UA may be lost: one end rings, and the other is down, or up as its UA left it, or is about to send UA again.
-use Rattle.laws_wire.proofs.Vocabulary.{◌≡◌, ℕ, zero, suc, ◌+◌, ◌<◌, Bool, true, false, cond, ◌&&◌, List, [], ◌∷◌, ◌++◌, map, None, refl, sym, ap, subst, ◌∙◌, ◌⊎◌, inl, inr, append-nil, arith, nat_lt, replicate, flat_map, option_to_list, lt-ltb, F, Service, Parts, spelling, ControlFrame, Terms, fresh, course, given, IsInRange, begun, End, with_link, Config, LineTold, expiry, terms, Request, nothing-to_send}
+use Rattle.laws_wire.proofs.Vocabulary.{◌≡◌, ℕ, zero, suc, ◌+◌, ◌<◌, Bool, true, false, cond, ◌&&◌, List, [], ◌∷◌, ◌++◌, map, None, refl, sym, ap, subst, ◌∙◌, ◌⊎◌, inl, inr, append-nil, arith, nat_lt, replicate, flat_map, option_to_list, lt-ltb, F, Service, Parts, spelling, ControlFrame, Terms, fresh, course, given, IsInRange, begun, End, with_link, Config, LineTold, expiry, terms, nothing-to_send}
 use Rattle.std.proofs.lemmas.List.Concat.{flat_map-append}
 use Rattle.lapd_frame.specs.declared.notes.Note.TheVariants as notes
 use Rattle.lapd_frame.specs.declared.timers.Timer.TheVariants as timers

@@ -1,5 +1,5 @@
 -- A whole call in which UA may be lost: what is told, and that all has come where no turn is left and T200 runs at neither end.
-use Rattle.laws_wire.proofs.Vocabulary.{◌≡◌, ℕ, zero, suc, ◌+◌, ◌==◌, Bool, true, false, cond, ◌&&◌, List, [], ◌∷◌, ◌++◌, length, map, take, drop, Some, refl, sym, ap, subst, ◌∙◌, ◌⊎◌, inl, inr, append-nil, append_assoc, true≢false, eqb-true, arith, All, replicate, map-append, take-append-drop, All-head, All-tail, Service, Parts, spelling, Link, fresh, IsInRange, runs, End, Config, LineTold, terms}
+use Rattle.laws_wire.proofs.Vocabulary.{◌≡◌, ℕ, suc, ◌+◌, ◌==◌, Bool, true, false, cond, ◌&&◌, List, [], ◌∷◌, ◌++◌, length, map, take, drop, refl, sym, ap, subst, ◌∙◌, ◌⊎◌, inl, inr, append-nil, append_assoc, true≢false, eqb-true, arith, All, replicate, map-append, take-append-drop, All-head, All-tail, Service, Parts, spelling, Link, fresh, IsInRange, runs, End, Config, LineTold, terms}
 use Rattle.model_link.specs.declared.timers.LinkTimer.TheVariants.{T200}
 use Rattle.laws_wire.specs.Wire.{Wire, Act, requests, times_out, gives, takes, loses, acting, turned, Doing, at_near, at_far, doing, doing_all, is_any, IsStill}
 use Rattle.laws_wire.specs.Call.{CanCall, calling, confirmed, indicated, data_told, all_told, IsBeginningOf}

@@ -4,6 +4,7 @@ pub mod Call
 pub mod Losing
 pub mod Timely
 pub mod Recovering
+pub mod StillTimely
 pub mod Counted
 pub mod Facing
 pub mod Resting

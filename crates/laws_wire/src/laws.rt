@@ -5,6 +5,7 @@ ghost use Rattle.laws_wire.specs.Counted.{ExpiriesAreCounted};
 ghost use Rattle.laws_wire.specs.Facing.{CallsFace, CardsDeliver};
 ghost use Rattle.laws_wire.specs.Losing.{CallsAreToldInOrder};
 ghost use Rattle.laws_wire.specs.Recovering.{WhatIsLostArrives};
+ghost use Rattle.laws_wire.specs.StillTimely.{WhatIsLostArrivesFromRest};
 
 /// A call comes through. Two cards have just begun, one of each side, with configurations in range and the same N201,
 /// and a line of one faces a line of the other; each has the same TEI assigned, 0 to 126, and layer 3 of one asks for
@@ -60,10 +61,17 @@ pub fn told_in_order()
 /// and nothing else, and no turn is left. So it is where SABME was lost, too. That T200 expires there at both ends is
 /// timely (`goes_on`), so the run can go on behind it, with further losses, and the same holds again wherever it then
 /// leads (`specs/WorkedRecovering`). That UA is not lost is needed for that no error is told, and that T200 does not
-/// expire while SABME is on its way (`specs/WorkedRecovering`), or an enquiry (`specs/WorkedLosing`). Where T200
-/// expires only as no turn is left on the wire it is long enough (`proofs/StillIsTimely`).
+/// expire while SABME is on its way (`specs/WorkedRecovering`), or an enquiry (`specs/WorkedLosing`). That it is
+/// long enough can be seen where it expires only as no turn is left ([`what_is_lost_arrives_from_rest`]).
 pub fn what_is_lost_arrives()
     ensures { WhatIsLostArrives }
+{}
+
+/// What is lost arrives, where T200 expires only as no turn is left on the wire, so that it is long enough, and no error is told as it
+/// expires: no more is asked for than what is seen at the two ends. UA is not lost, and before the end that calls was told that the link
+/// is established no timer of the other expires. Else all is as in [`what_is_lost_arrives`], and so is what is told.
+pub fn what_is_lost_arrives_from_rest()
+    ensures { WhatIsLostArrivesFromRest }
 {}
 
 /// N200 counts expiries of T200. At each end let be counted how often T200 expired since its link was last in state 7, or

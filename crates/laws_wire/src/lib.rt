@@ -3,7 +3,7 @@
 //!
 //! `specs/` has the wire and what can happen at its ends (`Wire`), a call between two cards that have just begun, in
 //! the words of the events and answers of a card alone (`Call`), the same where frames are lost and timers expire
-//! (`Losing`), a T200 that is long enough (`Timely`), what it recovers (`Recovering`), also under traffic
+//! (`Losing`), a T200 that is long enough (`Timely`), what it recovers (`Recovering`; `StillTimely`, where it expires as no turn is left), also under traffic
 //! (`Arriving`), and where UA is lost or an end is busy (`Answering`), the end of such a call (`Ending`), how often
 //! T200 may expire (`Counted`), how many turns there are at most (`Resting`), two cards that face each other by links
 //! in state 7 (`Facing`), and worked values that compute (`Worked`, `WorkedLosing`, `WorkedRecovering`,
@@ -28,5 +28,6 @@ pub use answering::{a_call_ends, a_call_with_losses_comes_through};
 pub use arriving::it_arrives_under_traffic;
 pub use laws::{
     a_call_comes_through, cards_deliver, expiries_are_counted, told_in_order, what_is_lost_arrives,
+    what_is_lost_arrives_from_rest,
 };
 pub use resting::{rounds_come_to_rest, turns_come_to_an_end};

@@ -1,5 +1,5 @@
 -- What happens on a circuit on which octets are damaged is, at the cards of frames inside, what happens on a wire of frames.
-use Rattle.laws_order.proofs.Vocabulary.{◌≡◌, ℕ, Bool, true, false, cond, List, [], ◌∷◌, ◌++◌, drop, Option, None, Some, option_map, option_to_list, refl, sym, ap, ◌∙◌, subst, append-nil, All, flat_map, option_map_or, All-nil, All-cons, All-head, Service, LineTold, Card, OctetCard, port_at, answer_to, card_after, gained, is_due, Seen, IsFront, Station, Wire, frames_by}
+use Rattle.laws_order.proofs.Vocabulary.{◌≡◌, ℕ, Bool, true, false, cond, List, [], ◌∷◌, ◌++◌, drop, Option, None, Some, option_map, option_to_list, refl, sym, ap, ◌∙◌, subst, append-nil, All, flat_map, option_map_or, All-nil, All-cons, All-head, Service, LineTold, Card, port_at, answer_to, card_after, gained, is_due, Seen, IsFront, Station, Wire, frames_by}
 use Rattle.model_bits.specs.Stream as stream
 use Rattle.model_line.specs.Event as line
 use Rattle.model_card.specs.Event as frames
@@ -42,7 +42,7 @@ CanBe service tei s None = Unit {0}
 CanBe service tei s (Some deed) = order.IsPossibleAt service tei s deed
 
 -- What is heard whole is heard as itself where it comes as a frame.
-abbrev Comes : ℕ → Option line.Event → Type 0
+abbrev pub Comes : ℕ → Option line.Event → Type 0
 Comes n201 (Some (line.hears e)) = HasCome n201 e
 Comes n201 other = Unit {0}
 
@@ -54,7 +54,7 @@ due-comes : (n201 : ℕ) (due : Bool) → Comes n201 (cond due (Some line.next) 
 due-comes n201 true = tt
 due-comes n201 false = tt
 
-meaning-comes : (n201 : ℕ) (what : port.Event) (p : port.Port) → Comes n201 (port.meant n201 what p)
+pub meaning-comes : (n201 : ℕ) (what : port.Event) (p : port.Port) → Comes n201 (port.meant n201 what p)
 meaning-comes n201 (port.octet value) p = heard-comes n201 (gained n201 p.received value) (gained-whole n201 p.received value)
 meaning-comes n201 (port.expiry timer) p = tt
 meaning-comes n201 (port.request r) p = tt

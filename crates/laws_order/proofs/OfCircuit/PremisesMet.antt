@@ -7,6 +7,12 @@ use Rattle.model_line.specs.Request.{Data}
 use Rattle.model_card.specs.Event as frames
 use Rattle.model_card.specs.Machine as machine
 use Rattle.model_card.specs.ports.Card as ports
+use Rattle.laws_wire.specs.Call.{IsCall, calling}
+use Rattle.laws_wire.specs.Wire as wire
+use Rattle.laws_order.specs.circuit.MixedCall as mixed
+use Rattle.laws_order.specs.circuit.MixedCall.{IsThrough}
+use Rattle.laws_order.specs.circuit.WorkedMixed.{call_begins, talks, are_talk}
+use Rattle.laws_order.proofs.OfCircuit.MixedCall.{calls-are-of-frames, calls-come-through-between-kinds}
 use Rattle.laws_order.specs.circuit.Circuit.{Circuit, OctetAct, asks, pulls, hears, OctetDoing, at_near, at_far, doing_all, port_of}
 use Rattle.laws_order.specs.circuit.Through.{IsTalkOf, IsTalk, both_call, HasAllGone, IsToldAll}
 use Rattle.laws_order.specs.circuit.WorkedCall.{begins, establishes, goes_on, sends}
@@ -106,3 +112,10 @@ talk =
 -- so each was told all
 pub told : IsToldAll Call 0 (both_call sends begins) after_it
 told = (calls-come-through-in-octets Call user network 0 0 0 sends can talk).all gone
+
+-- and so by the call between a card of frames and one for octets
+mixed-call : (es : List wire.Doing) × All (IsCall Call 0) es × (wire.doing_all es (mixed.as_wire call_begins) ≡ mixed.as_wire (mixed.doing_all talks call_begins))
+mixed-call = calls-are-of-frames Call 0 call_begins talks are_talk
+
+mixed-through : IsThrough Call 0 (calling Call 0 user 0 network 0) (mixed.as_wire (mixed.doing_all talks call_begins))
+mixed-through = (calls-come-through-between-kinds Call user network 0 0 0 talks can).0 are_talk

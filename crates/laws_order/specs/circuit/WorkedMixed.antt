@@ -8,15 +8,21 @@ use Rattle.lapd_seq.specs.Numbers.{seq}
 use Rattle.lapd_tei.specs.Events as teis
 use Rattle.model_bits.specs.Bits.{low_bits}
 use Rattle.model_line.specs.Machine as lines
-use Rattle.model_line.specs.Request.{Data}
+use Rattle.model_line.specs.Event as line
+use Rattle.model_line.specs.Request.{Data, Establish}
 use Rattle.model_card.specs.ports.Card as ports
 use Rattle.model_card.specs.ports.Port.{octet, pull}
+use Rattle.laws_wire.specs.Call as wire_call
+use Rattle.laws_wire.specs.Wire as wire
 use Rattle.laws_wire.specs.Wire.{Act, requests, gives, takes, loses}
+use Rattle.laws_wire.specs.Worked.{user, network}
 use Rattle.laws_order.specs.Happenings.{acts}
 use Rattle.laws_order.specs.Order.{data_noted, StaysEstablished}
 use Rattle.laws_order.specs.circuit.Circuit.{doing_all}
 use Rattle.laws_order.specs.circuit.Damaged.{happens, completes, as_station}
 use Rattle.laws_order.specs.circuit.Mixed.{Mixed, Happening, by_frames, by_octets, seen_near, seen_far}
+use Rattle.laws_order.specs.circuit.MixedCall as call
+use Rattle.laws_order.specs.circuit.Through.{assigned}
 use Rattle.laws_order.specs.circuit.WorkedDamaged as damaged
 
 abbrev pub begins : Mixed
@@ -46,3 +52,24 @@ told_far = refl
 pub far_stays : StaysEstablished Call 0 (seen_far goes_again begins)
 unfolding lines.after lines.answer lines.takes_slot reading header_of control_of unnumbered_of supervisory_of teis.course teis.refusal seq distance_of named low_bits ports.after ports.answer ports.meant doing_all seen_near seen_far
 far_stays = refl
+
+-- A call: the card of frames asks for it, SABME comes octet by octet, and data goes back behind UA.
+abbrev pub call_begins : call.Pair
+call_begins = record { near = wire.happens (line.request (Establish Call 0)) (wire_call.assigned user 0 0); far = assigned network 0 0; back = [] }
+
+abbrev pub talks : List call.Doing
+talks =
+    call.by_frames gives ∷ map call.hears (126 ∷ 0 ∷ 1 ∷ 223 ∷ 200 ∷ 168 ∷ 252 ∷ 252 ∷ []) ++ (call.asks (Data Call 0 (7 ∷ []))
+    ∷ replicate 16 call.pulls ++ (call.by_frames takes ∷ call.by_frames takes ∷ []))
+
+told_far_first : (call.doing_all talks call_begins).far.told ≡ wire_call.indicated Call 0 ∷ []
+unfolding lines.after lines.answer lines.takes_slot reading header_of control_of unnumbered_of supervisory_of teis.course teis.refusal seq distance_of named low_bits ports.after ports.answer ports.meant call.doing_all
+told_far_first = refl
+
+told_near : (call.doing_all talks call_begins).near.told ≡ wire_call.confirmed Call 0 ∷ wire_call.data_told Call 0 (7 ∷ []) ∷ []
+unfolding lines.after lines.answer lines.takes_slot reading header_of control_of unnumbered_of supervisory_of teis.course teis.refusal seq distance_of named low_bits ports.after ports.answer ports.meant call.doing_all
+told_near = refl
+
+pub are_talk : call.AreTalk Call 0 talks call_begins
+unfolding lines.after lines.answer lines.takes_slot reading header_of control_of unnumbered_of supervisory_of teis.course teis.refusal seq distance_of named low_bits ports.after ports.answer ports.meant call.doing_all call.AreTalk
+are_talk = (tt, (tt, (tt, (tt, (tt, (tt, (tt, (tt, (([], refl), ((refl, refl), (tt, (tt, (tt, (tt, (tt, (tt, (tt, (tt, (tt, (tt, (tt, (tt, (tt, (tt, (tt, (tt, (tt, (tt, tt))))))))))))))))))))))))))))

@@ -1,0 +1,192 @@
+-- What is done between a card of frames and one for octets is, at the card of frames inside, done on a wire of frames.
+use Rattle.laws_order.proofs.Vocabulary.{◌≡◌, ℕ, Bool, true, false, cond, List, [], ◌∷◌, ◌++◌, drop, flat_map, Option, None, Some, option_map, option_to_list, refl, sym, ap, ◌∙◌, subst, append-nil, All, All-nil, All-cons, All-head, All-tail, All-append, Service, other_side, Config, answer_to, is_due, Station, Wire, CanCall, calling, calls-come-through, twice-other, doing-append}
+use Rattle.model_bits.specs.Stream as stream
+use Rattle.model_line.specs.Event as line
+use Rattle.model_line.specs.Request.{Establish, Assign}
+use Rattle.model_card.specs.Event as frame_events
+unfoldable use Rattle.model_card.specs.ports.Card.{meant}
+use Rattle.model_card.specs.ports.Port as port
+use Rattle.laws_wire.specs.Call as call
+use Rattle.laws_wire.specs.Call.{IsCallOf, IsCall}
+use Rattle.laws_wire.specs.Wire as frames
+unfoldable use Rattle.laws_wire.specs.Wire.{doing_all as frames_done}
+use Rattle.laws_order.specs.circuit.Circuit.{Termination, port_of, happens}
+use Rattle.laws_order.specs.circuit.Through as octets
+use Rattle.laws_order.specs.circuit.MixedCall.{Pair, as_wire, begun_by_frames, begun_by_octets, IsThrough, CallsComeThroughBetweenKinds, Doing, by_frames, asks, pulls, hears, brings, IsWhole, left_by, doing, IsTalk, CallsAreOfFrames}
+unfoldable use Rattle.laws_order.specs.circuit.MixedCall.{doing_all, AreTalk}
+use Rattle.laws_order.proofs.OfCircuit.AsFrames.{as_station, if_meant, asked-as, pulled-as, heard-as}
+use Rattle.laws_order.proofs.OfCircuit.Damaged.{Comes, meaning-comes}
+
+module _ (service : Service) (tei : ℕ) where
+  -- what is done on the wire, which leads there
+  record Led (v v' : Wire) : Type 0 where
+    es : List frames.Doing
+    talk : All (IsCall service tei) es
+    led : frames.doing_all es v ≡ v'
+
+  none-led : (v v' : Wire) → v ≡ v' → Led v v'
+  unfolding frames_done
+  none-led v v' same = record { es = []; talk = All-nil (IsCall service tei); led = same }
+
+  one-led : (v v' : Wire) (e : frames.Doing) → IsCall service tei e → frames.doing e v ≡ v' → Led v v'
+  unfolding frames_done
+  one-led v v' e is same = record { es = e ∷ []; talk = All-cons (IsCall service tei) e [] is (All-nil (IsCall service tei)); led = same }
+
+  -- ---- at the card of frames
+
+  frames-led : (act : frames.Act) (w : Pair) → frames.acting act (as_wire w) ≡ as_wire (doing (by_frames act) w)
+  frames-led (frames.requests r) w = refl
+  frames-led (frames.times_out timer) w = refl
+  frames-led frames.gives w = refl
+  frames-led frames.takes w = refl
+  frames-led frames.loses w = refl
+
+  -- ---- at the card for octets
+
+  abbrev ends : Station → Station → Wire
+  ends x y = record { near = x; far = y }
+
+  pulled-led : (w : Pair) → Led (as_wire w) (as_wire (doing pulls w))
+  unfolding meant
+  pulled-led w = go (is_due (port_of w.far)) refl
+    where
+      s : Termination
+      s = w.far
+
+      back : (due : Bool) → let o : Option line.Event = cond due (Some line.next) None in
+          w.back ++ flat_map frames.frames_by (option_to_list (option_map (answer_to w.far.card.card) (option_map (frame_events.at w.far.line) o))) ≡ (if_meant o (as_station w.back w.far)).way
+      back true = ap (λ fs. w.back ++ fs) (append-nil _)
+      back false = append-nil w.back
+
+      there : (due : Bool) → is_due (port_of w.far) ≡ due → as_wire (doing pulls w) ≡ ends w.near (if_meant (cond due (Some line.next) None) (as_station w.back w.far))
+      there due e =
+          ap (λ b. ends w.near (as_station b (happens port.pull w.far))) (back (is_due (port_of w.far)))
+          ∙ ap (λ x. ends w.near x) (pulled-as w.far w.back)
+          ∙ ap (λ d. ends w.near (if_meant (cond d (Some line.next) None) (as_station w.back w.far))) e
+
+      go : (due : Bool) → is_due (port_of w.far) ≡ due → Led (as_wire w) (as_wire (doing pulls w))
+      go true e = one-led (as_wire w) (as_wire (doing pulls w)) (frames.at_far frames.gives) tt (sym (there true e))
+      go false e = none-led (as_wire w) (as_wire (doing pulls w)) (sym (there false e))
+
+  abbrev heard_with : Pair → Option line.Event → Wire
+  heard_with w o = ends (record w.near { way = left_by o w.near.way }) (if_meant o (as_station w.back w.far))
+
+  heard-led : (value : ℕ) (w : Pair) → IsWhole (brings value w.far) w.near.way → Led (as_wire w) (as_wire (doing (hears value) w))
+  heard-led value w whole = go (brings value w.far) refl whole (meaning-comes w.far.card.card.config.n201 (port.octet value) (port_of w.far))
+    where
+      there : (o : Option line.Event) → brings value w.far ≡ o → as_wire (doing (hears value) w) ≡ heard_with w o
+      there o e = ap (λ x. ends (record w.near { way = left_by (brings value w.far) w.near.way }) x) (heard-as value w.far w.back) ∙ ap (heard_with w) e
+
+      go : (o : Option line.Event) → brings value w.far ≡ o → IsWhole o w.near.way → Comes w.far.card.card.config.n201 (brings value w.far) → Led (as_wire w) (as_wire (doing (hears value) w))
+      go None e whole comes = none-led (as_wire w) (as_wire (doing (hears value) w)) (sym (there None e))
+      go (Some (line.hears (stream.frame octets))) e whole comes =
+          let f = line.hears (stream.frame octets) in
+          let n = w.far.card.card.config.n201 in
+          let same = subst (Comes n) e comes in
+          let x = as_station w.back w.far in
+          one-led (as_wire w) (as_wire (doing (hears value) w)) (frames.at_far frames.takes) tt
+          (ap (λ fs. ends (record w.near { way = drop 1 w.near.way }) (frames.with_first_of fs x)) whole.1
+          ∙ ap (λ h. ends (record w.near { way = drop 1 w.near.way }) (frames.happens (line.hears h) x)) same ∙ sym (there (Some f) e))
+      go (Some (line.hears (stream.overlong octets))) e whole comes = absurd whole
+      go (Some (line.hears (stream.dropped cause))) e whole comes = absurd whole
+      go (Some (line.expiry timer)) e whole comes = absurd whole
+      go (Some (line.request r)) e whole comes = absurd whole
+      go (Some line.next) e whole comes = absurd whole
+
+  -- ---- one thing, and all
+
+  step : (d : Doing) (w : Pair) → IsTalk service tei d w → Led (as_wire w) (as_wire (doing d w))
+  step (by_frames act) w is = one-led (as_wire w) (as_wire (doing (by_frames act) w)) (frames.at_near act) is (frames-led act w)
+  step (asks r) w is = one-led (as_wire w) (as_wire (doing (asks r) w)) (frames.at_far (frames.requests r)) is (ap (λ x. ends w.near x) (sym (asked-as r w.far w.back)))
+  step pulls w is = pulled-led w
+  step (hears value) w is = heard-led value w is
+
+  all-led : (ds : List Doing) (w : Pair) → AreTalk service tei ds w → Led (as_wire w) (as_wire (doing_all ds w))
+  unfolding doing_all AreTalk
+  all-led [] w is = none-led (as_wire w) (as_wire w) refl
+  all-led (d ∷ ds) w is =
+      let one = step d w is.0 in
+      let rest = all-led ds (doing d w) is.1 in
+      record {
+        es = one.es ++ rest.es;
+        talk = All-append (IsCall service tei) one.es rest.es one.talk rest.talk;
+        led = doing-append one.es rest.es (as_wire w) ∙ ap (frames.doing_all rest.es) one.led ∙ rest.led;
+      }
+
+pub calls-are-of-frames : CallsAreOfFrames
+calls-are-of-frames service tei w ds talk = let x = all-led service tei ds w talk in (x.es, x.talk, x.led)
+
+-- ---- a call
+
+assigned-as : (d : Config) (other tei : ℕ) → as_station [] (octets.assigned d other tei) ≡ call.assigned d other tei
+assigned-as d other tei = asked-as (Assign tei) (octets.termination d other) []
+
+abbrev ends_of : Station → Station → Wire
+ends_of x y = record { near = x; far = y }
+
+-- which ends are which
+abbrev swapped : frames.Doing → frames.Doing
+swapped (frames.at_near act) = frames.at_far act
+swapped (frames.at_far act) = frames.at_near act
+
+abbrev all_swapped : List frames.Doing → List frames.Doing
+all_swapped [] = []
+all_swapped (e ∷ es) = swapped e ∷ all_swapped es
+
+one-turned : (e : frames.Doing) (v : Wire) → frames.doing (swapped e) (frames.turned v) ≡ frames.turned (frames.doing e v)
+one-turned (frames.at_near act) v = refl
+one-turned (frames.at_far act) v = refl
+
+all-turned : (es : List frames.Doing) (v : Wire) → frames.doing_all (all_swapped es) (frames.turned v) ≡ frames.turned (frames.doing_all es v)
+unfolding frames_done
+all-turned [] v = refl
+all-turned (e ∷ es) v = ap (frames.doing_all (all_swapped es)) (one-turned e v) ∙ all-turned es (frames.doing e v)
+
+one-talk : (service : Service) (tei : ℕ) (e : frames.Doing) → IsCall service tei e → IsCall service tei (swapped e)
+one-talk service tei (frames.at_near act) is = is
+one-talk service tei (frames.at_far act) is = is
+
+all-talk : (service : Service) (tei : ℕ) (es : List frames.Doing) → All (IsCall service tei) es → All (IsCall service tei) (all_swapped es)
+all-talk service tei [] all = All-nil (IsCall service tei)
+all-talk service tei (e ∷ es) all =
+    All-cons (IsCall service tei) (swapped e) (all_swapped es) (one-talk service tei e (All-head (IsCall service tei) e es all)) (all-talk service tei es (All-tail (IsCall service tei) e es all))
+
+other-call : (c d : Config) (line other tei : ℕ) → CanCall c line d other tei → CanCall d other c line tei
+other-call c d line other tei can = record {
+  near = can.far;
+  far = can.near;
+  sides = sym (ap other_side can.sides ∙ twice-other c.side);
+  n201 = sym can.n201;
+  near_line = can.far_line;
+  far_line = can.near_line;
+  terminal = can.terminal;
+}
+
+through : (service : Service) (c d : Config) (line other tei : ℕ) → CanCall c line d other tei → (es : List frames.Doing) → All (IsCall service tei) es → (last : Wire)
+    → frames.doing_all es (calling service tei c line d other) ≡ last → IsThrough service tei (calling service tei c line d other) last
+through service c d line other tei can es talk last led =
+    let begun = calling service tei c line d other in (
+      es,
+      talk,
+      led,
+      subst (call.ComesThrough service tei (frames.turns es begun) (call.both_call es begun)) led (calls-come-through service c d line other tei es can talk),
+    )
+
+pub calls-come-through-between-kinds : CallsComeThroughBetweenKinds
+calls-come-through-between-kinds service c d number other tei ds can = (by-frames, by-octets)
+  where
+    by-frames : let w = begun_by_frames service tei c number d other in AreTalk service tei ds w → IsThrough service tei (calling service tei c number d other) (as_wire (doing_all ds w))
+    by-frames talk =
+        let w = begun_by_frames service tei c number d other in
+        let x = calls-are-of-frames service tei w ds talk in
+        let begins : as_wire w ≡ calling service tei c number d other = ap (λ (s : Station). ends_of w.near s) (assigned-as d other tei) in
+        through service c d number other tei can x.0 x.1 (as_wire (doing_all ds w)) (ap (frames.doing_all x.0) (sym begins) ∙ x.2)
+
+    by-octets : let w = begun_by_octets service tei c number d other in AreTalk service tei ds w → IsThrough service tei (calling service tei d other c number) (frames.turned (as_wire (doing_all ds w)))
+    by-octets talk =
+        let w = begun_by_octets service tei c number d other in
+        let x = calls-are-of-frames service tei w ds talk in
+        let begins : frames.turned (as_wire w) ≡ calling service tei d other c number =
+        ap (λ (s : Station). ends_of s w.near) (asked-as (Establish service tei) (octets.assigned d other tei) [] ∙ ap (frames.happens (line.request (Establish service tei))) (assigned-as d other tei)) in
+        through service d c other number tei (other-call c d number other tei can) (all_swapped x.0) (all-talk service tei x.0 x.1) (frames.turned (as_wire (doing_all ds w)))
+        (ap (frames.doing_all (all_swapped x.0)) (sym begins) ∙ all-turned x.0 (as_wire w) ∙ ap frames.turned x.2)

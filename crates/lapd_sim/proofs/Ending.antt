@@ -1,70 +1,72 @@
 -- When the page goes out: before more is read, and at the end of a script.
-use Rattle.lapd_sim.proofs.Vocabulary.{◌≡◌, ℕ, ◌++◌, List, [], Bool, true, false, Option, Result, Ok, Err, refl, sym, subst, arith, true≢false, IfOk, IfErr, IsTrue, Taken, IsWritten, IsBroken, Writes, Output, output, IsPut, one_failure_more, WriteFailed, appends_nothing, writes_then, broken_more, puts_nothing, puts_written, puts_unwritten, transcript, PlayFault, Read, Write, Script, OutOfMemory, ScriptLines, reads_failed, writes_failed, writes_failed_by, PutsSome, PutsNone, Reaches, is_cut, Plays, PlaysOn, Advances}
+use Rattle.lapd_sim.proofs.Vocabulary.{◌≡◌, ℕ, ◌++◌, List, [], Bool, true, false, Option, Result, Ok, Err, refl, sym, subst, arith, true≢false, IfOk, IfErr, IsTrue, Taken, IsWritten, IsBroken, Writes, Output, IsPut, IsSent, IsStuck, one_failure_more, WriteFailed, appends_nothing, writes_then, broken_more, puts_nothing, puts_written, puts_unwritten, transcript, PlayFault, Read, Write, Script, OutOfMemory, ScriptLines, reads_failed, writes_failed, writes_failed_by, PutsSome, PutsNone, Reaches, is_cut, Plays, PlaysOn, Advances}
 use Rattle.std.specs.Prelude.{◌<◌}
 
 -- ---- the end
 
--- an empty page is out already
-pub is_out : (a b : Taken) (page text : List ℕ) → page ≡ [] → IsPut (output a []) (output b page) text → IsWritten a b text
-is_out a b page text none put =
-    puts_written (Ok tt) a b (output b page) text put (subst (λ p. IsWritten b b p) (sym none) (record { whole = appends_nothing b.contents; steady = refl }))
+-- What was put since a page was empty has been written where the page goes out.
+goes : (r : Result Unit WriteFailed) (a b : Output) (c : Taken) (text : List ℕ) → a.page ≡ [] → IsPut a b text → Writes r b.taken c b.page → Writes r a.taken c text
+goes r a b c text none put sent = subst (λ page. Writes r a.taken c (page ++ text)) none (puts_written r a b c text put sent)
 
--- after a failed read
-read_failures : (a b : Taken) (page : List ℕ) → PutsSome {A = Unit} (Err Read) (output a []) (output b page) → b.failures ≡ a.failures
-read_failures a b page h = (is_out a b page h.1.0 h.0 h.1.1).steady
+gone : (a b : Output) (text : List ℕ) → a.page ≡ [] → b.page ≡ [] → IsPut a b text → IsWritten a.taken b.taken text
+gone a b text none out put = goes (Ok tt) a b b.taken text none put (subst (λ page. IsWritten b.taken b.taken page) (sym out) (record { whole = appends_nothing b.taken.contents; steady = refl }))
 
-read_ends : (a b : Taken) (page text : List ℕ) (remaining : Option (List ℕ)) → PutsSome {A = Unit} (Err Read) (output a []) (output b page)
-    → PlaysOn (Err Read) text remaining (output a []) (output b page) → Plays (Err Read) text remaining a b
-read_ends a b page text remaining h p = record {
+stuck : (a b : Output) (text : List ℕ) → a.page ≡ [] → IsStuck a b text → IsBroken a.taken b.taken text
+stuck a b text none h = subst (λ page. IsBroken a.taken b.taken (page ++ text)) none (puts_unwritten a b text h)
+
+-- after a failed read or write it does not
+pub cut_failures : (r : Result Unit PlayFault) (a b : Output) → a.page ≡ [] → is_cut r ≡ true → PutsSome r a b → b.taken.failures ≡ writes_failed_by r a.taken.failures
+cut_failures (Err Read) a b none cut h = (gone a b h.1.0 none h.0 h.1.1).steady
+cut_failures (Err Write) a b none cut h = (stuck a b h.0 none h.1).failed
+cut_failures _ a b none cut h = absurd (true≢false (sym cut))
+
+pub cut_ends : (r : Result Unit PlayFault) (a b : Output) (text : List ℕ) (remaining : Option (List ℕ)) → a.page ≡ [] → is_cut r ≡ true → PutsSome r a b
+    → PlaysOn r text remaining a b → Plays r text remaining a.taken b.taken
+cut_ends (Err Read) a b text remaining none cut h p = record {
   read = p.read;
   unread = p.unread;
   is = p.is;
   tells = p.tells;
-  answered = record { sound = p.answered.sound; written = is_out a b page _ h.0 p.answered.written };
+  answered = record { sound = p.answered.sound; written = gone a b _ none h.0 p.answered.written };
 }
+cut_ends (Err Write) a b text remaining none cut h p = stuck a b (transcript text) none p
+cut_ends _ a b text remaining none cut h p = absurd (true≢false (sym cut))
 
--- after a failed write
-write_failures : (a b : Taken) (page : List ℕ) → PutsSome {A = Unit} (Err Write) (output a []) (output b page) → b.failures ≡ one_failure_more a.failures
-write_failures a b page h = (puts_unwritten a (output b page) h.0 h.1).failed
+-- after any other end it does,
+pub sent_failures : (r : Result Unit PlayFault) (a b : Output) (c : Taken) → a.page ≡ [] → is_cut r ≡ false → IsWritten b.taken c b.page
+    → PutsSome r a b → c.failures ≡ writes_failed_by r a.taken.failures
+sent_failures (Err Read) a b c none open_is sent h = absurd (true≢false open_is)
+sent_failures (Err Write) a b c none open_is sent h = absurd (true≢false open_is)
+sent_failures _ a b c none open_is sent h = (goes (Ok tt) a b c h.0 none h.1 sent).steady
 
-pub cut_failures : (r : Result Unit PlayFault) (a b : Taken) (page : List ℕ) → is_cut r ≡ true → PutsSome r (output a []) (output b page) → b.failures ≡ writes_failed_by r a.failures
-cut_failures (Err Read) a b page cut h = read_failures a b page h
-cut_failures (Err Write) a b page cut h = write_failures a b page h
-cut_failures _ a b page cut h = absurd (true≢false (sym cut))
-
-pub cut_ends : (r : Result Unit PlayFault) (a b : Taken) (page text : List ℕ) (remaining : Option (List ℕ)) → is_cut r ≡ true → PutsSome r (output a []) (output b page)
-    → PlaysOn r text remaining (output a []) (output b page) → Plays r text remaining a b
-cut_ends (Err Read) a b page text remaining cut h p = read_ends a b page text remaining h p
-cut_ends (Err Write) a b page text remaining cut h p = puts_unwritten a (output b page) (transcript text) p
-cut_ends _ a b page text remaining cut h p = absurd (true≢false (sym cut))
-
--- after any other end the page goes out,
-pub sent_failures : (r : Result Unit PlayFault) (a b c : Taken) (page : List ℕ) → is_cut r ≡ false → IsWritten b c page
-    → PutsSome r (output a []) (output b page) → c.failures ≡ writes_failed_by r a.failures
-sent_failures (Err Read) a b c page open_is sent h = absurd (true≢false open_is)
-sent_failures (Err Write) a b c page open_is sent h = absurd (true≢false open_is)
-sent_failures _ a b c page open_is sent h = (puts_written (Ok tt) a c (output b page) h.0 h.1 sent).steady
-
-pub sent_ends : (r : Result Unit PlayFault) (a b c : Taken) (page text : List ℕ) (remaining : Option (List ℕ)) → is_cut r ≡ false → IsWritten b c page
-    → PlaysOn r text remaining (output a []) (output b page) → Plays r text remaining a c
-sent_ends (Ok u) a b c page text remaining open_is sent h = (h.0, puts_written (Ok tt) a c (output b page) _ h.1 sent, h.2)
-sent_ends (Err (Script number kind)) a b c page text remaining open_is sent h = (h.0, puts_written (Ok tt) a c (output b page) _ h.1 sent)
-sent_ends (Err OutOfMemory) a b c page text remaining open_is sent h = (puts_written (Ok tt) a c (output b page) _ h.0 sent, h.1)
-sent_ends _ a b c page text remaining open_is sent h = absurd (true≢false open_is)
+pub sent_ends : (r : Result Unit PlayFault) (a b : Output) (c : Taken) (text : List ℕ) (remaining : Option (List ℕ)) → a.page ≡ [] → is_cut r ≡ false → IsWritten b.taken c b.page
+    → PlaysOn r text remaining a b → Plays r text remaining a.taken c
+sent_ends (Ok u) a b c text remaining none open_is sent h = (h.0, goes (Ok tt) a b c _ none h.1 sent, h.2)
+sent_ends (Err (Script number kind)) a b c text remaining none open_is sent h = (h.0, goes (Ok tt) a b c _ none h.1 sent)
+sent_ends (Err OutOfMemory) a b c text remaining none open_is sent h = (goes (Ok tt) a b c _ none h.0 sent, h.1)
+sent_ends _ a b c text remaining none open_is sent h = absurd (true≢false open_is)
 
 -- or a write of it fails
-pub unsent_failures : (r : Result Unit PlayFault) (e : WriteFailed) (a b c : Taken) (page : List ℕ) → is_cut r ≡ false → IsBroken b c page
-    → PutsSome r (output a []) (output b page) → c.failures ≡ one_failure_more a.failures
-unsent_failures (Err Read) e a b c page open_is sent h = absurd (true≢false open_is)
-unsent_failures (Err Write) e a b c page open_is sent h = absurd (true≢false open_is)
-unsent_failures _ e a b c page open_is sent h = (puts_written (Err e) a c (output b page) h.0 h.1 sent).failed
+pub unsent_failures : (r : Result Unit PlayFault) (e : WriteFailed) (a b : Output) (c : Taken) → a.page ≡ [] → is_cut r ≡ false → IsBroken b.taken c b.page
+    → PutsSome r a b → c.failures ≡ one_failure_more a.taken.failures
+unsent_failures (Err Read) e a b c none open_is sent h = absurd (true≢false open_is)
+unsent_failures (Err Write) e a b c none open_is sent h = absurd (true≢false open_is)
+unsent_failures _ e a b c none open_is sent h = (goes (Err e) a b c h.0 none h.1 sent).failed
 
-pub unsent_ends : (r : Result Unit PlayFault) (e : WriteFailed) (a b c : Taken) (page text : List ℕ) (remaining : Option (List ℕ)) → is_cut r ≡ false → IsBroken b c page
-    → PlaysOn r text remaining (output a []) (output b page) → IsBroken a c (transcript text)
-unsent_ends (Ok u) e a b c page text remaining open_is sent h = puts_written (Err e) a c (output b page) _ h.1 sent
-unsent_ends (Err (Script number kind)) e a b c page text remaining open_is sent h = puts_written (Err e) a c (output b page) _ h.1 sent
-unsent_ends (Err OutOfMemory) e a b c page text remaining open_is sent h = broken_more a c [] (transcript text) (puts_written (Err e) a c (output b page) _ h.0 sent)
-unsent_ends _ e a b c page text remaining open_is sent h = absurd (true≢false open_is)
+pub unsent_ends : (r : Result Unit PlayFault) (e : WriteFailed) (a b : Output) (c : Taken) (text : List ℕ) (remaining : Option (List ℕ)) → a.page ≡ [] → is_cut r ≡ false → IsBroken b.taken c b.page
+    → PlaysOn r text remaining a b → IsBroken a.taken c (transcript text)
+unsent_ends (Ok u) e a b c text remaining none open_is sent h = goes (Err e) a b c _ none h.1 sent
+unsent_ends (Err (Script number kind)) e a b c text remaining none open_is sent h = goes (Err e) a b c _ none h.1 sent
+unsent_ends (Err OutOfMemory) e a b c text remaining none open_is sent h = broken_more a.taken c [] (transcript text) (goes (Err e) a b c _ none h.0 sent)
+unsent_ends _ e a b c text remaining none open_is sent h = absurd (true≢false open_is)
+
+-- Whatever was put, it was put on its way to the same target.
+pub same_target : (r : Result Unit PlayFault) (a b : Output) → PutsSome r a b → b.name ≡ a.name
+same_target (Ok u) a b h = h.1.same
+same_target (Err Read) a b h = h.1.1.same
+same_target (Err Write) a b h = h.1.same
+same_target (Err (Script number kind)) a b h = h.1.same
+same_target (Err OutOfMemory) a b h = h.1.same
 
 -- ---- before more is read
 
@@ -83,16 +85,20 @@ ready_reaches Write old new remaining text h = tt
 ready_reaches _ old new remaining text h = h
 
 -- the page is out, and more was read
-goes_out : (a b : Taken) (page next : List ℕ) → next ≡ [] → IsWritten a b page → IsPut (output a page) (output b next) []
-goes_out a b page next none sent = record {
-  follows = λ later end more w. writes_then later a b end page more sent (subst (λ n. Writes later b end (n ++ more)) none w);
+goes_out : (a b : Output) → IsSent {A = Unit {0}} {E = WriteFailed} (Ok tt) a b → IsPut a b []
+goes_out a b sent = record {
+  same = sent.same;
+  follows = λ later end more w. writes_then later a.taken b.taken end a.page more sent.written (subst (λ page. Writes later b.taken end (page ++ more)) sent.cleared w);
 }
 
-pub read_puts : (r : Result Bool PlayFault) (a b : Taken) (page next : List ℕ) → next ≡ [] → IsWritten a b page
-    → IfErr r (λ fault. (count : ℕ) → writes_failed fault count ≡ count) → PutsNone r (output a page) (output b next)
-read_puts (Err Read) a b page next none sent steady = (none, goes_out a b page next none sent)
-read_puts (Err Write) a b page next none sent steady = absurd (grows (steady 0))
-read_puts _ a b page next none sent steady = goes_out a b page next none sent
+pub read_puts : (r : Result Bool PlayFault) (a b : Output) → IsSent {A = Unit {0}} {E = WriteFailed} (Ok tt) a b → IfErr r (λ fault. (count : ℕ) → writes_failed fault count ≡ count) → PutsNone r a b
+read_puts (Err Read) a b sent steady = (sent.cleared, goes_out a b sent)
+read_puts (Err Write) a b sent steady = absurd (grows (steady 0))
+read_puts _ a b sent steady = goes_out a b sent
+
+-- or it is not, and nothing was read
+pub send_stuck : (e : WriteFailed) (a b : Output) → IsSent {A = Unit {0}} (Err e) a b → IsStuck a b []
+send_stuck e a b sent = record { same = sent.same; broken = λ more. broken_more a.taken b.taken a.page more sent.written }
 
 pub read_grows : (r : Result Bool PlayFault) (old mid new : ScriptLines) → mid ≡ old → IfOk r (λ more. IsTrue more → mid.octets < new.octets) → IfOk r (λ more. IsTrue more → old.octets < new.octets)
 read_grows r old mid new same h = subst (λ (lines : ScriptLines). IfOk r (λ more. IsTrue more → lines.octets < new.octets)) same h

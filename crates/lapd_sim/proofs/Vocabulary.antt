@@ -44,10 +44,11 @@ pub use Rattle.lapd_sim.specs.declared.board.Board.TheVariants.{Frames, Octets}
 pub use Rattle.lapd_sim.specs.declared.board.Plan.{Plan}
 pub use Rattle.lapd_sim.specs.declared.exchange.Exchange.{Exchange}
 pub use Rattle.lapd_store.specs.Store.{Store}
-pub use Rattle.lapd_transcript.proofs.Known.{appends_nothing, broken_more, puts_nothing, puts_stuck, puts_then, puts_unwritten, puts_written, stuck_more, writes_then}
+pub use Rattle.lapd_transcript.proofs.Known.{appends_nothing, broken_more, puts_nothing, puts_then, puts_unwritten, puts_written, stuck_more, writes_then}
 pub use Rattle.lapd_transcript.specs.Counted.{counters_text}
 pub use Rattle.lapd_transcript.specs.Listened.{Hears, pulled_text}
-pub use Rattle.lapd_transcript.specs.Streams.{IsBroken, IsPut, IsStuck, IsWritten, Output, Puts, Taken, Writes, one_failure_more, output}
+pub use Rattle.lapd_transcript.specs.Pages.{on}
+pub use Rattle.lapd_transcript.specs.Streams.{IsBroken, IsPut, IsSent, IsStuck, IsWritten, Output, Puts, Taken, Writes, one_failure_more}
 pub use Rattle.lapd_transcript.specs.Terminal.{Sends, after_sending, octets_sent, sending, with_frame}
 pub use Rattle.lapd_transcript.specs.declared.streams.WriteFailed.{WriteFailed}
 pub use Rattle.model_bits.specs.Bits.{octets_of}

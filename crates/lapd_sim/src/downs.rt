@@ -1,7 +1,7 @@
 //! A line that goes down.
 
 ghost use Rattle.std.specs.Prelude.{◌≡◌, ◌<◌, ◌≤◌, length, take};
-ghost use Rattle.lapd_transcript.specs.Streams.{output};
+ghost use Rattle.lapd_transcript.specs.Pages.{on};
 ghost use Rattle.lapd_sim.specs.machine.Setup as machine;
 ghost use Rattle.lapd_sim.specs.machine.Steps.{deactivations, downs, teis_on, with_events};
 ghost use Rattle.lapd_sim.specs.Obeyed.{scene, Tells};
@@ -10,7 +10,7 @@ ghost use Rattle.lapd_sim.specs.Stands.{Holds};
 use crate::exchange::Exchange;
 use lapd_card::Request;
 use lapd_frame::Service;
-use lapd_transcript::{Page, Target, WriteFailed};
+use lapd_transcript::{Page, Put, Target, WriteFailed};
 
 /// How many TEIs of terminals there are (Q.921 clause 3.3.4).
 const TEIS: u8 = 127;
@@ -37,20 +37,19 @@ pub(crate) fn bring_down<T: Target>(
     exchange: &mut Exchange,
     line: usize,
     teis: &[u8],
-    target: &mut T,
-    page: &mut Page,
-) -> Result<(), WriteFailed>
+    page: &mut Page<T>,
+) -> Put
     requires line { line < exchange.old.plan.config.lines }
     ensures plan { exchange.new.plan ≡ exchange.old.plan }
     ensures told { (m : machine.Setup) → Holds exchange.old m
-        → Tells result (output (T.taken target.old) page.old.items) (output (T.taken target.new) page.new.items) (Holds exchange.new) (with_events (downs line teis.now) (scene m)) }
+        → Tells result (on T.taken page.old) (on T.taken page.new) (Holds exchange.new) (with_events (downs line teis.now) (scene m)) }
 {
     for tei in teis {
-        if let Err(WriteFailed) = give_up(exchange, line, *tei, target, page) {
+        if let Err(WriteFailed) = give_up(exchange, line, *tei, page) {
             return Err(WriteFailed);
         }
     }
-    exchange.ask(line, Request::Down, target, page)
+    exchange.ask(line, Request::Down, page)
 }
 
 /// Both links of a TEI are given up.
@@ -58,18 +57,17 @@ fn give_up<T: Target>(
     exchange: &mut Exchange,
     line: usize,
     tei: u8,
-    target: &mut T,
-    page: &mut Page,
-) -> Result<(), WriteFailed>
+    page: &mut Page<T>,
+) -> Put
     requires line { line < exchange.old.plan.config.lines }
     ensures plan { exchange.new.plan ≡ exchange.old.plan }
     ensures told { (m : machine.Setup) → Holds exchange.old m
-        → Tells result (output (T.taken target.old) page.old.items) (output (T.taken target.new) page.new.items) (Holds exchange.new) (with_events (deactivations line tei) (scene m)) }
+        → Tells result (on T.taken page.old) (on T.taken page.new) (Holds exchange.new) (with_events (deactivations line tei) (scene m)) }
 {
     let call = Request::Deactivate(Service::Call, tei);
-    if let Err(WriteFailed) = exchange.ask(line, call, target, page) {
+    if let Err(WriteFailed) = exchange.ask(line, call, page) {
         return Err(WriteFailed);
     }
     let packet = Request::Deactivate(Service::Packet, tei);
-    exchange.ask(line, packet, target, page)
+    exchange.ask(line, packet, page)
 }

@@ -15,7 +15,8 @@ ghost use Rattle.lapd_sim.specs.machine.Board as event;
 ghost use Rattle.lapd_sim.specs.machine.Board.{at, told, pull, hears, next, expiry, reply, reply_of_frames, orders_in};
 ghost use Rattle.lapd_sim.specs.machine.Setup as machine;
 ghost use Rattle.lapd_sim.specs.machine.Steps.{reply_text, with_event, octet_in, at_expiry, until, in_time, with_timers, after_stored, after_counters, is_on_line};
-ghost use Rattle.lapd_transcript.specs.Streams.{Output, Puts, output};
+ghost use Rattle.lapd_transcript.specs.Pages.{on};
+ghost use Rattle.lapd_transcript.specs.Streams.{Output, Puts};
 
 use crate::board::{Board, Plan};
 use crate::traffic::written;
@@ -23,13 +24,14 @@ use lapd_card::{Fault, NextFrame, Report, Request, limit};
 use lapd_clock::{Clock, Lengths};
 use lapd_frame::{Order, Timer};
 use lapd_script::{CardKind, FaultKind, LineFault};
-use lapd_transcript::{
-    CounterGroup, Page, Target, WriteFailed, put_counters, put_refused, put_report, put_stored,
-};
+use lapd_transcript::{CounterGroup, Page, Put, Target, WriteFailed};
 use std::alloc::Global;
 
 /// The last moment of the clock, in milliseconds.
 const LAST_MOMENT: u64 = (1 << 63) - 1;
+
+/// A line of a script was obeyed, or why it was not.
+pub(crate) type Obeyed = Result<(), LineFault>;
 
 /// A card, the clock of its lines, and the moment on it in milliseconds.
 #[derive(Drop)]
@@ -83,26 +85,18 @@ impl Exchange {
     }
 
     /// An octet comes from a line of a card for octets.
-    pub(crate) fn octet<T: Target>(
-        &mut self,
-        line: usize,
-        octet: u8,
-        target: &mut T,
-        page: &mut Page,
-    ) -> Result<(), WriteFailed>
+    pub(crate) fn octet<T: Target>(&mut self, line: usize, octet: u8, page: &mut Page<T>) -> Put
         requires kind { self.old.plan.kind ≡ Octets }
         requires line { line < self.old.plan.config.lines }
         ensures plan { self.new.plan ≡ self.old.plan }
         ensures told { (m : machine.Setup) → Holds self.old m
-            → Tells result (output (T.taken target.old) page.old.items) (output (T.taken target.new) page.new.items) (Holds self.new) (with_event (scene m) (at line (event.octet octet))) }
+            → Tells result (on T.taken page.old) (on T.taken page.new) (Holds self.new) (with_event (scene m) (at line (event.octet octet))) }
     {
-        match &mut self.board {
-            Board::Octets(card) => {
-                let report = card.octet(line, octet);
-                carry_out(&mut self.clock, line, &report, self.moment, target, page)
-            }
-            Board::Frames(_) => unreachable!(),
-        }
+        let Board::Octets(card) = &mut self.board else {
+            unreachable!();
+        };
+        let report = card.octet(line, octet);
+        carry_out(&mut self.clock, line, &report, self.moment, page)
     }
 
     /// A line of a card for octets takes one.
@@ -113,60 +107,42 @@ impl Exchange {
         ensures pulled { (m : machine.Setup) → Holds self.old m → result ≡ octet_in (reply (at line pull) m.board) }
         ensures after { (m : machine.Setup) → Holds self.old m → Holds self.new (machine.happened m (at line pull)) }
     {
-        match &mut self.board {
-            Board::Octets(card) => {
-                let pulled = card.pull(line);
-                order(&mut self.clock, line, pulled.orders(), self.moment);
-                pulled.octet
-            }
-            Board::Frames(_) => unreachable!(),
-        }
+        let Board::Octets(card) = &mut self.board else {
+            unreachable!();
+        };
+        let pulled = card.pull(line);
+        order(&mut self.clock, line, pulled.orders(), self.moment);
+        pulled.octet
     }
 
     /// A frame comes from a line of a card for frames.
-    pub(crate) fn frame<T: Target>(
-        &mut self,
-        line: usize,
-        octets: &[u8],
-        target: &mut T,
-        page: &mut Page,
-    ) -> Result<(), WriteFailed>
+    pub(crate) fn frame<T: Target>(&mut self, line: usize, octets: &[u8], page: &mut Page<T>) -> Put
         requires kind { self.old.plan.kind ≡ Frames }
         requires line { line < self.old.plan.config.lines }
         ensures plan { self.new.plan ≡ self.old.plan }
         ensures told { (m : machine.Setup) → Holds self.old m
-            → Tells result (output (T.taken target.old) page.old.items) (output (T.taken target.new) page.new.items) (Holds self.new) (with_event (scene m) (at line (hears (came self.old.plan.config.n201 octets.now)))) }
+            → Tells result (on T.taken page.old) (on T.taken page.new) (Holds self.new) (with_event (scene m) (at line (hears (came self.old.plan.config.n201 octets.now)))) }
     {
-        match &mut self.board {
-            Board::Frames(card) => {
-                let report = card.frame(line, octets);
-                carry_out(&mut self.clock, line, &report, self.moment, target, page)
-            }
-            Board::Octets(_) => unreachable!(),
-        }
+        let Board::Frames(card) = &mut self.board else {
+            unreachable!();
+        };
+        let report = card.frame(line, octets);
+        carry_out(&mut self.clock, line, &report, self.moment, page)
     }
 
     /// The controller of a line of a card for frames tells a fault in place of one.
-    pub(crate) fn failed<T: Target>(
-        &mut self,
-        line: usize,
-        fault: Fault,
-        target: &mut T,
-        page: &mut Page,
-    ) -> Result<(), WriteFailed>
+    pub(crate) fn failed<T: Target>(&mut self, line: usize, fault: Fault, page: &mut Page<T>) -> Put
         requires kind { self.old.plan.kind ≡ Frames }
         requires line { line < self.old.plan.config.lines }
         ensures plan { self.new.plan ≡ self.old.plan }
         ensures told { (m : machine.Setup) → Holds self.old m
-            → Tells result (output (T.taken target.old) page.old.items) (output (T.taken target.new) page.new.items) (Holds self.new) (with_event (scene m) (at line (hears (dropped (cause_of fault))))) }
+            → Tells result (on T.taken page.old) (on T.taken page.new) (Holds self.new) (with_event (scene m) (at line (hears (dropped (cause_of fault))))) }
     {
-        match &mut self.board {
-            Board::Frames(card) => {
-                let report = card.failed(line, fault);
-                carry_out(&mut self.clock, line, &report, self.moment, target, page)
-            }
-            Board::Octets(_) => unreachable!(),
-        }
+        let Board::Frames(card) = &mut self.board else {
+            unreachable!();
+        };
+        let report = card.failed(line, fault);
+        carry_out(&mut self.clock, line, &report, self.moment, page)
     }
 
     /// A line of a card for frames takes the next one, which is put into the beginning of `room`: there is room for each
@@ -198,18 +174,17 @@ impl Exchange {
         &mut self,
         line: usize,
         request: Request<'_>,
-        target: &mut T,
-        page: &mut Page,
-    ) -> Result<(), WriteFailed>
+        page: &mut Page<T>,
+    ) -> Put
         requires { line < self.old.plan.config.lines }
         ensures plan { self.new.plan ≡ self.old.plan }
         ensures told { (m : machine.Setup) → Holds self.old m
-            → Tells result (output (T.taken target.old) page.old.items) (output (T.taken target.new) page.new.items) (Holds self.new)
+            → Tells result (on T.taken page.old) (on T.taken page.new) (Holds self.new)
             (with_event (scene m) (at line (event.request (request_of request.entry)))) }
     {
         match self.board.request(line, request) {
-            Ok(report) => carry_out(&mut self.clock, line, &report, self.moment, target, page),
-            Err(refusal) => put_refused(target, page, line as u16, refusal),
+            Ok(report) => carry_out(&mut self.clock, line, &report, self.moment, page),
+            Err(refusal) => page.put_refused(line as u16, refusal),
         }
     }
 
@@ -221,7 +196,7 @@ impl Exchange {
     }
 
     /// Timers that are started from now on run so long; each has to run a millisecond to an hour.
-    pub(crate) fn set_timers(&mut self, t200: u32, t203: u32, t201: u32) -> Result<(), LineFault>
+    pub(crate) fn set_timers(&mut self, t200: u32, t203: u32, t201: u32) -> Obeyed
         ensures plan { self.new.plan ≡ self.old.plan }
         ensures told { (m : machine.Setup) (before : Output) → Holds self.old m
             → Obeys result before before (Holds self.new) (with_timers (record { t200 = t200; t203 = t203; t201 = t201 }) (scene m)) }
@@ -234,37 +209,27 @@ impl Exchange {
     }
 
     /// So many milliseconds pass: what falls due is applied, each at its moment.
-    pub(crate) fn wait<T: Target>(
-        &mut self,
-        milliseconds: u32,
-        target: &mut T,
-        page: &mut Page,
-    ) -> Result<(), LineFault>
+    pub(crate) fn wait<T: Target>(&mut self, milliseconds: u32, page: &mut Page<T>) -> Obeyed
         ensures plan { self.new.plan ≡ self.old.plan }
         ensures told { (m : machine.Setup) → Holds self.old m
-            → Obeys result (output (T.taken target.old) page.old.items) (output (T.taken target.new) page.new.items) (Holds self.new) (in_time milliseconds (scene m)) }
+            → Obeys result (on T.taken page.old) (on T.taken page.new) (Holds self.new) (in_time milliseconds (scene m)) }
     {
         let end = self.moment + u64::from(milliseconds);
         if end > LAST_MOMENT {
             return Err(LineFault::Faulty(FaultKind::TimeOver));
         }
-        written(self.until(end, target, page))
+        written(self.until(end, page))
     }
 
     /// All that falls due until a moment is applied, each at its moment.
-    fn until<T: Target>(
-        &mut self,
-        end: u64,
-        target: &mut T,
-        page: &mut Page,
-    ) -> Result<(), WriteFailed>
+    fn until<T: Target>(&mut self, end: u64, page: &mut Page<T>) -> Put
         requires { end < 2 ^ 63 }
         ensures plan { self.new.plan ≡ self.old.plan }
         ensures told { (m : machine.Setup) → Holds self.old m
-            → Tells result (output (T.taken target.old) page.old.items) (output (T.taken target.new) page.new.items) (Holds self.new) (until end (scene m)) }
+            → Tells result (on T.taken page.old) (on T.taken page.new) (Holds self.new) (until end (scene m)) }
     {
         while let Some((line, timer)) = self.due(end) {
-            if let Err(WriteFailed) = self.expire(line, timer, target, page) {
+            if let Err(WriteFailed) = self.expire(line, timer, page) {
                 return Err(WriteFailed);
             }
         }
@@ -289,32 +254,22 @@ impl Exchange {
         self.clock.due(moment)
     }
 
-    fn expire<T: Target>(
-        &mut self,
-        line: usize,
-        timer: Timer,
-        target: &mut T,
-        page: &mut Page,
-    ) -> Result<(), WriteFailed>
+    fn expire<T: Target>(&mut self, line: usize, timer: Timer, page: &mut Page<T>) -> Put
         requires { line < self.old.plan.config.lines }
         ensures plan { self.new.plan ≡ self.old.plan }
         ensures told { (m : machine.Setup) → Holds self.old m
-            → Tells result (output (T.taken target.old) page.old.items) (output (T.taken target.new) page.new.items) (Holds self.new) (with_event (scene m) (at line (expiry timer))) }
+            → Tells result (on T.taken page.old) (on T.taken page.new) (Holds self.new) (with_event (scene m) (at line (expiry timer))) }
     {
         let report = self.board.expire(line, timer);
-        carry_out(&mut self.clock, line, &report, self.moment, target, page)
+        carry_out(&mut self.clock, line, &report, self.moment, page)
     }
 
     /// Shows how many octets the card holds, and the bound of it.
-    pub(crate) fn show_stored<T: Target>(
-        &self,
-        target: &mut T,
-        page: &mut Page,
-    ) -> Result<(), WriteFailed>
+    pub(crate) fn show_stored<T: Target>(&self, page: &mut Page<T>) -> Put
         ensures { (m : machine.Setup) → Holds self.now m
-            → Tells result (output (T.taken target.old) page.old.items) (output (T.taken target.new) page.new.items) (Holds self.now) (after_stored (scene m)) }
+            → Tells result (on T.taken page.old) (on T.taken page.new) (Holds self.now) (after_stored (scene m)) }
     {
-        put_stored(target, page, self.board.stored(), limit(&self.plan.config))
+        page.put_stored(self.board.stored(), limit(&self.plan.config))
     }
 
     /// Shows what was counted of a line.
@@ -322,14 +277,13 @@ impl Exchange {
         &self,
         line: usize,
         group: CounterGroup,
-        target: &mut T,
-        page: &mut Page,
-    ) -> Result<(), WriteFailed>
+        page: &mut Page<T>,
+    ) -> Put
         requires { line < self.now.plan.config.lines }
         ensures { (m : machine.Setup) → Holds self.now m
-            → Tells result (output (T.taken target.old) page.old.items) (output (T.taken target.new) page.new.items) (Holds self.now) (after_counters group line (scene m)) }
+            → Tells result (on T.taken page.old) (on T.taken page.new) (Holds self.now) (after_counters group line (scene m)) }
     {
-        put_counters(target, page, line as u16, group, self.board.counters(line))
+        page.put_counters(line as u16, group, self.board.counters(line))
     }
 }
 
@@ -339,21 +293,18 @@ fn carry_out<T: Target>(
     line: usize,
     report: &Report<'_>,
     now: u64,
-    target: &mut T,
-    page: &mut Page,
-) -> Result<(), WriteFailed>
+    page: &mut Page<T>,
+) -> Put
     requires line { line < clock.old.lines }
     requires number { line < 2 ^ 16 }
     requires now { now < 2 ^ 63 }
     ensures lines { clock.new.lines ≡ clock.old.lines }
     ensures lengths { clock.new.lengths ≡ clock.old.lengths }
     ensures ordered { clock.new ≡ fold (machine.ordered line now) clock.old (orders_in (told (report_told report.now))) }
-    ensures written { Puts result (output (T.taken target.old) page.old.items) (output (T.taken target.new) page.new.items) (reply_text line (told (report_told report.now))) }
+    ensures written { Puts result (on T.taken page.old) (on T.taken page.new) (reply_text line (told (report_told report.now))) }
 {
     order(clock, line, report.orders(), now);
-    put_report(
-        target,
-        page,
+    page.put_report(
         line as u16,
         report.notes(),
         report.delivered,

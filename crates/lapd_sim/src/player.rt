@@ -9,13 +9,15 @@ ghost use Rattle.lapd_sim.specs.Obeyed.{Does, Obeys, StartsBy, said, scene};
 ghost use Rattle.lapd_sim.specs.Pages.{PutsNone, PutsSome, Reaches, is_cut};
 ghost use Rattle.lapd_sim.specs.Plays.{Plays, PlaysOn};
 ghost use Rattle.lapd_script.specs.ScriptLines.{AreLeft};
-ghost use Rattle.lapd_transcript.specs.Streams.{Taken, output};
+ghost use Rattle.lapd_transcript.specs.Pages.{on};
+ghost use Rattle.lapd_transcript.specs.Streams.{Output};
 ghost use Rattle.lapd_sim.specs.Stands.{Has, Stands};
 
 use crate::board::Plan;
+use crate::exchange::Obeyed;
 use crate::setup::Setup;
 use lapd_script::{Command, FaultKind, LineFault, PlayFault, ScriptLines, read_line};
-use lapd_transcript::{Page, Source, Target, WriteFailed, send};
+use lapd_transcript::{Page, Source, Target, WriteFailed};
 use std::alloc::{AllocError, Global};
 
 /// As many octets as one line of a script can have pulled: more than it can bring.
@@ -27,6 +29,7 @@ const ROOM: usize = 4096;
 ///
 /// All memory is taken at the start and at the card line: where it is refused nothing has been read, or the line that
 /// starts the card is the one that is answered.
+#[tactic(auto, using(crate::proofs::Ending::same_target))]
 pub fn play<S: Source, T: Target>(
     alloc: Global,
     source: &mut S,
@@ -40,30 +43,26 @@ pub fn play<S: Source, T: Target>(
 {
     let mut lines = ScriptLines::start(alloc)?;
     let mut player = Player::start(alloc)?;
-    let mut page = Page::new();
-    let played = player.play(&mut lines, source, target, &mut page);
-    end(target, &mut page, played)
+    let mut page = Page::new(target);
+    let played = player.play(&mut lines, source, &mut page);
+    end(&mut page, played)
 }
 
 /// What stands on the page goes out at the end of a script, whatever its end. Before a read it has gone out already, and
 /// after a failed write nothing more does.
-fn end<T: Target>(
-    target: &mut T,
-    page: &mut Page,
-    played: Result<(), PlayFault>,
-) -> Result<(), PlayFault>
+fn end<T: Target>(page: &mut Page<T>, played: Result<(), PlayFault>) -> Result<(), PlayFault>
+    ensures same { (on T.taken page.new).name ≡ (on T.taken page.old).name }
     ensures reads { (count : ℕ) → reads_failed_by result count ≡ reads_failed_by played count }
-    ensures writes { (before : Taken) → PutsSome played (output before []) (output (T.taken target.old) page.old.items)
-        → (T.taken target.new).failures ≡ writes_failed_by result before.failures }
-    ensures played { (before : Taken) (text : List ℕ) (remaining : Option (List ℕ))
-        → PutsSome played (output before []) (output (T.taken target.old) page.old.items)
-        → PlaysOn played text remaining (output before []) (output (T.taken target.old) page.old.items)
-        → Plays result text remaining before (T.taken target.new) }
+    ensures writes { (before : Output) → before.page ≡ [] → PutsSome played before (on T.taken page.old)
+        → (on T.taken page.new).taken.failures ≡ writes_failed_by result before.taken.failures }
+    ensures played { (before : Output) (text : List ℕ) (remaining : Option (List ℕ)) → before.page ≡ []
+        → PutsSome played before (on T.taken page.old) → PlaysOn played text remaining before (on T.taken page.old)
+        → Plays result text remaining before.taken (on T.taken page.new).taken }
 {
     if is_cut(played) {
         return played;
     }
-    match send(target, page) {
+    match page.send() {
         Ok(()) => played,
         Err(WriteFailed) => Err(PlayFault::Write),
     }
@@ -80,11 +79,10 @@ fn is_cut(played: Result<(), PlayFault>) -> bool
 fn advance<S: Source, T: Target>(
     lines: &mut ScriptLines,
     source: &mut S,
-    target: &mut T,
-    page: &mut Page,
+    page: &mut Page<T>,
 ) -> Result<bool, PlayFault>
     ensures reads { S.failures source.new ≡ reads_failed_by result (S.failures source.old) }
-    ensures put { PutsNone result (output (T.taken target.old) page.old.items) (output (T.taken target.new) page.new.items) }
+    ensures put { PutsNone result (on T.taken page.old) (on T.taken page.new) }
     ensures goes_on { IfOk result (λ more. IsTrue more → lines.old.octets < lines.new.octets) }
     ensures read { (text : List ℕ) → AreLeft lines.old (S.remaining source.old) text
         → Reaches result lines.old lines.new (S.remaining source.new) text }
@@ -94,7 +92,7 @@ fn advance<S: Source, T: Target>(
         Ok(false) => {}
         Err(fault) => return Err(fault),
     }
-    match send(target, page) {
+    match page.send() {
         Ok(()) => lines.advance(source),
         Err(WriteFailed) => Err(PlayFault::Write),
     }
@@ -126,40 +124,34 @@ impl Player {
         &mut self,
         lines: &mut ScriptLines,
         source: &mut S,
-        target: &mut T,
-        page: &mut Page,
+        page: &mut Page<T>,
     ) -> Result<(), PlayFault>
         requires none { self.old.setup ≡ None }
         requires number { lines.old.number ≡ 0 }
         requires octets { lines.old.octets ≡ 0 }
         ensures reads { S.failures source.new ≡ reads_failed_by result (S.failures source.old) }
-        ensures put { PutsSome result (output (T.taken target.old) page.old.items) (output (T.taken target.new) page.new.items) }
+        ensures put { PutsSome result (on T.taken page.old) (on T.taken page.new) }
         ensures played { (text : List ℕ) → AreLeft lines.old (S.remaining source.old) text
             → PlaysOn result text (S.remaining source.new)
-            (output (T.taken target.old) page.old.items) (output (T.taken target.new) page.new.items) }
+            (on T.taken page.old) (on T.taken page.new) }
     {
         loop {
-            match advance(lines, source, target, page) {
+            match advance(lines, source, page) {
                 Ok(true) => {}
                 Ok(false) => return Ok(()),
                 Err(fault) => return Err(fault),
             }
-            if let Err(fault) = self.obey(lines.line(), target, page) {
+            if let Err(fault) = self.obey(lines.line(), page) {
                 return Err(fault.at(lines.number()));
             }
         }
     }
 
     /// Obeys one line.
-    fn obey<T: Target>(
-        &mut self,
-        line: &[u8],
-        target: &mut T,
-        page: &mut Page,
-    ) -> Result<(), LineFault>
+    fn obey<T: Target>(&mut self, line: &[u8], page: &mut Page<T>) -> Obeyed
         requires { length line.now ≤ 4096 }
         ensures { (m : Option machine.Setup) → Has self.old.setup m
-            → Does result (output (T.taken target.old) page.old.items) (output (T.taken target.new) page.new.items)
+            → Does result (on T.taken page.old) (on T.taken page.new)
             m (Has self.new.setup) (said line.now m) }
     {
         let command = match read_line(line, self.octets.as_mut_slice()) {
@@ -167,7 +159,7 @@ impl Player {
             Err(kind) => return Err(LineFault::Faulty(kind)),
         };
         match &mut self.setup {
-            Some(setup) => with_card(setup, command, self.octets.as_mut_slice(), target, page),
+            Some(setup) => with_card(setup, command, self.octets.as_mut_slice(), page),
             None => {
                 self.setup = without_card(self.alloc, command)?;
                 Ok(())
@@ -192,32 +184,31 @@ fn with_card<T: Target>(
     setup: &mut Setup,
     command: Command,
     room: &mut [u8],
-    target: &mut T,
-    page: &mut Page,
-) -> Result<(), LineFault>
+    page: &mut Page<T>,
+) -> Obeyed
     requires counted { IsCounted (length room.old) command }
     requires room { 4096 ≤ length room.old }
     ensures { (m : machine.Setup) → Stands setup.old m
-        → Obeys result (output (T.taken target.old) page.old.items) (output (T.taken target.new) page.new.items) (Stands setup.new) (with_card (meant room.old command) (scene m)) }
+        → Obeys result (on T.taken page.old) (on T.taken page.new) (Stands setup.new) (with_card (meant room.old command) (scene m)) }
 {
     match command {
         Command::Skip => Ok(()),
         Command::Card(_, _) => Err(LineFault::Faulty(FaultKind::SecondCard)),
-        Command::Rx { line, octets } => setup.receive(line, &room[..octets], target, page),
-        Command::In { line, octets } => setup.come(line, &room[..octets], target, page),
-        Command::Failed { line, fault } => setup.fail(line, fault, target, page),
-        Command::Next { line } => setup.take(line, room, target, page),
-        Command::Down { line } => setup.bring_down(line, room, target, page),
-        Command::Pull { line, count } => setup.pull(line, count as usize, room, target, page),
-        Command::Wait { milliseconds } => setup.wait(milliseconds, target, page),
+        Command::Rx { line, octets } => setup.receive(line, &room[..octets], page),
+        Command::In { line, octets } => setup.come(line, &room[..octets], page),
+        Command::Failed { line, fault } => setup.fail(line, fault, page),
+        Command::Next { line } => setup.take(line, room, page),
+        Command::Down { line } => setup.bring_down(line, room, page),
+        Command::Pull { line, count } => setup.pull(line, count as usize, room, page),
+        Command::Wait { milliseconds } => setup.wait(milliseconds, page),
         Command::Timers { t200, t203, t201 } => setup.set_timers(t200, t203, t201),
-        Command::Stored => setup.show_stored(target, page),
-        Command::Counters { line, group } => setup.show_counters(line, group, target, page),
+        Command::Stored => setup.show_stored(page),
+        Command::Counters { line, group } => setup.show_counters(line, group, page),
         Command::Ask {
             line,
             tei,
             what,
             octets,
-        } => setup.ask(line, tei, what, &room[..octets], target, page),
+        } => setup.ask(line, tei, what, &room[..octets], page),
     }
 }

@@ -6,19 +6,18 @@ ghost use Rattle.lapd_script.specs.declared.command.CardKind.TheVariants.{Octets
 ghost use Rattle.lapd_script.specs.declared.kind.FaultKind.TheVariants.{BadLine, WrongCard};
 ghost use Rattle.lapd_sim.specs.machine.Setup as machine;
 ghost use Rattle.lapd_sim.specs.machine.Steps.{with_card};
-ghost use Rattle.lapd_transcript.specs.Streams.{Output, output};
+ghost use Rattle.lapd_transcript.specs.Pages.{on};
+ghost use Rattle.lapd_transcript.specs.Streams.{Output};
 
 use crate::board::Plan;
 use crate::downs::{bring_down, teis_on};
-use crate::exchange::Exchange;
+use crate::exchange::{Exchange, Obeyed};
 use crate::parts::{listeners, request_for, terminals};
 use crate::traffic::{pull, receive, send, tell_next, written};
 use lapd_bits::Deframer;
 use lapd_card::Fault;
 use lapd_script::{Asked, CardKind, FaultKind, LineFault};
-use lapd_transcript::{
-    CounterGroup, LONGEST_FRAME, Page, SHORTEST_FRAME, Target, Terminal, WriteFailed, tell,
-};
+use lapd_transcript::{CounterGroup, LONGEST_FRAME, Page, SHORTEST_FRAME, Target, Terminal};
 use std::alloc::Global;
 
 /// The card with its clock, and for each line the terminal that sends, and what listens to the octets that are pulled.
@@ -78,64 +77,45 @@ impl Setup {
         &mut self,
         line: u16,
         octets: &[u8],
-        target: &mut T,
-        page: &mut Page,
-    ) -> Result<(), LineFault>
+        page: &mut Page<T>,
+    ) -> Obeyed
         ensures { (m : machine.Setup) → Stands self.old m
-            → Obeys result (output (T.taken target.old) page.old.items) (output (T.taken target.new) page.new.items) (Stands self.new) (with_card (meaning.rx line octets.now) (scene m)) }
+            → Obeys result (on T.taken page.old) (on T.taken page.new) (Stands self.new) (with_card (meaning.rx line octets.now) (scene m)) }
     {
         self.for_kind(CardKind::Octets)?;
         let line = self.line(line)?;
-        written(receive(&mut self.exchange, line, octets, target, page))
+        written(receive(&mut self.exchange, line, octets, page))
     }
 
     /// A frame comes from a line. At a card for octets the terminal of the line sends it, up to and with the last bit of its
     /// closing flag.
-    pub(crate) fn come<T: Target>(
-        &mut self,
-        line: u16,
-        frame: &[u8],
-        target: &mut T,
-        page: &mut Page,
-    ) -> Result<(), LineFault>
+    pub(crate) fn come<T: Target>(&mut self, line: u16, frame: &[u8], page: &mut Page<T>) -> Obeyed
         ensures { (m : machine.Setup) → Stands self.old m
-            → Obeys result (output (T.taken target.old) page.old.items) (output (T.taken target.new) page.new.items) (Stands self.new) (with_card (meaning.into line frame.now) (scene m)) }
+            → Obeys result (on T.taken page.old) (on T.taken page.new) (Stands self.new) (with_card (meaning.into line frame.now) (scene m)) }
     {
         match self.exchange.kind() {
-            CardKind::Octets => self.send(line, frame, target, page),
-            CardKind::Frames => self.frame(line, frame, target, page),
+            CardKind::Octets => self.send(line, frame, page),
+            CardKind::Frames => self.frame(line, frame, page),
         }
     }
 
-    fn frame<T: Target>(
-        &mut self,
-        line: u16,
-        frame: &[u8],
-        target: &mut T,
-        page: &mut Page,
-    ) -> Result<(), LineFault>
+    fn frame<T: Target>(&mut self, line: u16, frame: &[u8], page: &mut Page<T>) -> Obeyed
         requires { self.old.exchange.plan.kind ≡ Frames }
         ensures { (m : machine.Setup) → Stands self.old m
-            → Obeys result (output (T.taken target.old) page.old.items) (output (T.taken target.new) page.new.items) (Stands self.new) (with_card (meaning.into line frame.now) (scene m)) }
+            → Obeys result (on T.taken page.old) (on T.taken page.new) (Stands self.new) (with_card (meaning.into line frame.now) (scene m)) }
     {
         let line = self.line(line)?;
-        written(self.exchange.frame(line, frame, target, page))
+        written(self.exchange.frame(line, frame, page))
     }
 
     /// The controller of a line tells a fault in place of a frame.
-    pub(crate) fn fail<T: Target>(
-        &mut self,
-        line: u16,
-        fault: Fault,
-        target: &mut T,
-        page: &mut Page,
-    ) -> Result<(), LineFault>
+    pub(crate) fn fail<T: Target>(&mut self, line: u16, fault: Fault, page: &mut Page<T>) -> Obeyed
         ensures { (m : machine.Setup) → Stands self.old m
-            → Obeys result (output (T.taken target.old) page.old.items) (output (T.taken target.new) page.new.items) (Stands self.new) (with_card (meaning.failed line fault) (scene m)) }
+            → Obeys result (on T.taken page.old) (on T.taken page.new) (Stands self.new) (with_card (meaning.failed line fault) (scene m)) }
     {
         self.for_kind(CardKind::Frames)?;
         let line = self.line(line)?;
-        written(self.exchange.failed(line, fault, target, page))
+        written(self.exchange.failed(line, fault, page))
     }
 
     /// A line takes the next frame, which is put into the beginning of `room`.
@@ -143,17 +123,16 @@ impl Setup {
         &mut self,
         line: u16,
         room: &mut [u8],
-        target: &mut T,
-        page: &mut Page,
-    ) -> Result<(), LineFault>
+        page: &mut Page<T>,
+    ) -> Obeyed
         requires { 264 ≤ length room.old }
         ensures { (m : machine.Setup) → Stands self.old m
-            → Obeys result (output (T.taken target.old) page.old.items) (output (T.taken target.new) page.new.items) (Stands self.new) (with_card (meaning.next line) (scene m)) }
+            → Obeys result (on T.taken page.old) (on T.taken page.new) (Stands self.new) (with_card (meaning.next line) (scene m)) }
     {
         self.for_kind(CardKind::Frames)?;
         let line = self.line(line)?;
         let next = self.exchange.next(line, room);
-        written(tell_next(line, next, room, target, page))
+        written(tell_next(line, next, room, page))
     }
 
     /// A line is down: its links are given up, and all that waits on it. The TEIs that are on it are put into the beginning of
@@ -162,36 +141,29 @@ impl Setup {
         &mut self,
         line: u16,
         room: &mut [u8],
-        target: &mut T,
-        page: &mut Page,
-    ) -> Result<(), LineFault>
+        page: &mut Page<T>,
+    ) -> Obeyed
         requires { 127 ≤ length room.old }
         ensures { (m : machine.Setup) → Stands self.old m
-            → Obeys result (output (T.taken target.old) page.old.items) (output (T.taken target.new) page.new.items) (Stands self.new) (with_card (meaning.down line) (scene m)) }
+            → Obeys result (on T.taken page.old) (on T.taken page.new) (Stands self.new) (with_card (meaning.down line) (scene m)) }
     {
         let line = self.line(line)?;
         let count = teis_on(&self.exchange, line, room);
         let teis = &room[..count];
-        written(bring_down(&mut self.exchange, line, teis, target, page))
+        written(bring_down(&mut self.exchange, line, teis, page))
     }
 
-    fn send<T: Target>(
-        &mut self,
-        line: u16,
-        frame: &[u8],
-        target: &mut T,
-        page: &mut Page,
-    ) -> Result<(), LineFault>
+    fn send<T: Target>(&mut self, line: u16, frame: &[u8], page: &mut Page<T>) -> Obeyed
         requires { self.old.exchange.plan.kind ≡ Octets }
         ensures { (m : machine.Setup) → Stands self.old m
-            → Obeys result (output (T.taken target.old) page.old.items) (output (T.taken target.new) page.new.items) (Stands self.new) (with_card (meaning.into line frame.now) (scene m)) }
+            → Obeys result (on T.taken page.old) (on T.taken page.new) (Stands self.new) (with_card (meaning.into line frame.now) (scene m)) }
     {
         let line = self.line(line)?;
         if frame.len() < SHORTEST_FRAME || frame.len() > LONGEST_FRAME {
             return Err(LineFault::Faulty(FaultKind::BadFrame));
         }
         let terminal = &mut self.terminals[line];
-        written(send(terminal, frame, &mut self.exchange, line, target, page))
+        written(send(terminal, frame, &mut self.exchange, line, page))
     }
 
     /// A line takes so many octets, which are put into the beginning of `room`.
@@ -200,18 +172,17 @@ impl Setup {
         line: u16,
         count: usize,
         room: &mut [u8],
-        target: &mut T,
-        page: &mut Page,
-    ) -> Result<(), LineFault>
+        page: &mut Page<T>,
+    ) -> Obeyed
         requires { count ≤ length room.old }
         ensures { (m : machine.Setup) → Stands self.old m
-            → Obeys result (output (T.taken target.old) page.old.items) (output (T.taken target.new) page.new.items) (Stands self.new) (with_card (meaning.pull line count) (scene m)) }
+            → Obeys result (on T.taken page.old) (on T.taken page.new) (Stands self.new) (with_card (meaning.pull line count) (scene m)) }
     {
         self.for_kind(CardKind::Octets)?;
         let line = self.line(line)?;
         let octets = &mut room[..count];
         pull(&mut self.exchange, line, octets);
-        written(tell(&mut self.listeners[line], line, octets, target, page))
+        written(page.tell(&mut self.listeners[line], line as u16, octets))
     }
 
     /// Layer 3 asks for something, with the octets that it carries.
@@ -221,32 +192,26 @@ impl Setup {
         tei: u8,
         what: Asked,
         octets: &[u8],
-        target: &mut T,
-        page: &mut Page,
-    ) -> Result<(), LineFault>
+        page: &mut Page<T>,
+    ) -> Obeyed
         ensures { (m : machine.Setup) → Stands self.old m
-            → Obeys result (output (T.taken target.old) page.old.items) (output (T.taken target.new) page.new.items) (Stands self.new) (with_card (meaning.ask line tei what octets.now) (scene m)) }
+            → Obeys result (on T.taken page.old) (on T.taken page.new) (Stands self.new) (with_card (meaning.ask line tei what octets.now) (scene m)) }
     {
         let line = self.line(line)?;
         let request = request_for(what, tei, octets);
-        written(self.exchange.ask(line, request, target, page))
+        written(self.exchange.ask(line, request, page))
     }
 
     /// So many milliseconds pass.
-    pub(crate) fn wait<T: Target>(
-        &mut self,
-        milliseconds: u32,
-        target: &mut T,
-        page: &mut Page,
-    ) -> Result<(), LineFault>
+    pub(crate) fn wait<T: Target>(&mut self, milliseconds: u32, page: &mut Page<T>) -> Obeyed
         ensures { (m : machine.Setup) → Stands self.old m
-            → Obeys result (output (T.taken target.old) page.old.items) (output (T.taken target.new) page.new.items) (Stands self.new) (with_card (meaning.wait milliseconds) (scene m)) }
+            → Obeys result (on T.taken page.old) (on T.taken page.new) (Stands self.new) (with_card (meaning.wait milliseconds) (scene m)) }
     {
-        self.exchange.wait(milliseconds, target, page)
+        self.exchange.wait(milliseconds, page)
     }
 
     /// Timers run so long that are started from now on.
-    pub(crate) fn set_timers(&mut self, t200: u32, t203: u32, t201: u32) -> Result<(), LineFault>
+    pub(crate) fn set_timers(&mut self, t200: u32, t203: u32, t201: u32) -> Obeyed
         ensures { (m : machine.Setup) (before : Output) → Stands self.old m
             → Obeys result before before (Stands self.new) (with_card (meaning.timers t200 t203 t201) (scene m)) }
     {
@@ -254,15 +219,11 @@ impl Setup {
     }
 
     /// Shows what the card holds.
-    pub(crate) fn show_stored<T: Target>(
-        &mut self,
-        target: &mut T,
-        page: &mut Page,
-    ) -> Result<(), LineFault>
+    pub(crate) fn show_stored<T: Target>(&mut self, page: &mut Page<T>) -> Obeyed
         ensures { (m : machine.Setup) → Stands self.old m
-            → Obeys result (output (T.taken target.old) page.old.items) (output (T.taken target.new) page.new.items) (Stands self.new) (with_card meaning.stored (scene m)) }
+            → Obeys result (on T.taken page.old) (on T.taken page.new) (Stands self.new) (with_card meaning.stored (scene m)) }
     {
-        written(self.exchange.show_stored(target, page))
+        written(self.exchange.show_stored(page))
     }
 
     /// Shows what was counted of a line.
@@ -270,13 +231,12 @@ impl Setup {
         &mut self,
         line: u16,
         group: CounterGroup,
-        target: &mut T,
-        page: &mut Page,
-    ) -> Result<(), LineFault>
+        page: &mut Page<T>,
+    ) -> Obeyed
         ensures { (m : machine.Setup) → Stands self.old m
-            → Obeys result (output (T.taken target.old) page.old.items) (output (T.taken target.new) page.new.items) (Stands self.new) (with_card (meaning.counters line group) (scene m)) }
+            → Obeys result (on T.taken page.old) (on T.taken page.new) (Stands self.new) (with_card (meaning.counters line group) (scene m)) }
     {
         let line = self.line(line)?;
-        written(self.exchange.show_counters(line, group, target, page))
+        written(self.exchange.show_counters(line, group, page))
     }
 }

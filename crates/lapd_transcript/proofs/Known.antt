@@ -1,5 +1,5 @@
 -- Writes one after the other.
-use Rattle.lapd_transcript.proofs.Vocabulary.{◌≡◌, ℕ, ◌+◌, List, [], ◌∷◌, ◌++◌, length, take, drop, Some, None, Ok, Err, Result, Option, refl, sym, ap, ◌∙◌, subst, append_assoc, arith, Bor, suc, zero, get_or, ◌<◌, ◌≤◌, ◌-◌, take_all, length-drop, length-append, false, IsOk, OnOk, OnErr, is_ok, false≢true, flat_map, take-append-add, take-append_seam, append-nil, take-append-drop, take_more, flat_map-append, Appends, Keeps, WriteFailed, Taken, IsWritten, IsBroken, Writes, Output, output, IsPut, IsStuck, Puts, one_failure_more}
+use Rattle.lapd_transcript.proofs.Vocabulary.{◌≡◌, ℕ, ◌+◌, List, [], ◌∷◌, ◌++◌, length, take, drop, Some, None, Ok, Err, Result, Option, refl, sym, ap, ◌∙◌, subst, append_assoc, arith, Bor, suc, zero, get_or, ◌<◌, ◌≤◌, ◌-◌, take_all, length-drop, length-append, false, IsOk, OnOk, OnErr, is_ok, false≢true, flat_map, take-append-add, take-append_seam, append-nil, take-append-drop, take_more, flat_map-append, Appends, Keeps, WriteFailed, Taken, IsWritten, IsBroken, Writes, Output, IsPut, IsStuck, Puts, one_failure_more}
 
 appends_then : (a b c : Option (List ℕ)) (x y : List ℕ) → Appends a b x → Appends b c y → Appends a c (x ++ y)
 appends_then None b c x y h k = tt
@@ -37,33 +37,39 @@ flat_map-take_more f xs i d h =
 
 -- One text after another.
 pub puts_then : (r : Result Unit WriteFailed) (a b c : Output) (x y : List ℕ) → IsPut a b x → Puts r b c y → Puts r a c (x ++ y)
-puts_then (Ok v) a b c x y h k = record { follows = λ later end more w. subst (λ text. Writes later a.taken end (a.page ++ text)) (sym (append_assoc x y more)) (h.follows later end (y ++ more) (k.follows later end more w)) }
-puts_then (Err e) a b c x y h k = record { broken = λ more. subst (λ text. IsBroken a.taken c.taken (a.page ++ text)) (sym (append_assoc x y more)) (h.follows (Err e) c.taken (y ++ more) (k.broken more)) }
+puts_then (Ok v) a b c x y h k = record {
+  same = k.same ∙ h.same;
+  follows = λ later end more w. subst (λ text. Writes later a.taken end (a.page ++ text)) (sym (append_assoc x y more)) (h.follows later end (y ++ more) (k.follows later end more w));
+}
+puts_then (Err e) a b c x y h k = record {
+  same = k.same ∙ h.same;
+  broken = λ more. subst (λ text. IsBroken a.taken c.taken (a.page ++ text)) (sym (append_assoc x y more)) (h.follows (Err e) c.taken (y ++ more) (k.broken more));
+}
 
 pub stuck_more : (a c : Output) (x y : List ℕ) → IsStuck a c x → IsStuck a c (x ++ y)
-stuck_more a c x y h = record { broken = λ more. subst (λ text. IsBroken a.taken c.taken (a.page ++ text)) (sym (append_assoc x y more)) (h.broken (y ++ more)) }
+stuck_more a c x y h = record { same = h.same; broken = λ more. subst (λ text. IsBroken a.taken c.taken (a.page ++ text)) (sym (append_assoc x y more)) (h.broken (y ++ more)) }
 
 pub puts_nothing : (a : Output) → IsPut a a []
-puts_nothing a = record { follows = λ later end more w. w }
+puts_nothing a = record { same = refl; follows = λ later end more w. w }
 
 -- A page that goes to the target at the end.
-pub puts_written : (r : Result Unit WriteFailed) (a c : Taken) (b : Output) (x : List ℕ) → IsPut (output a []) b x → Writes r b.taken c b.page → Writes r a c x
-puts_written r a c b x h w = subst (λ text. Writes r a c text) (append-nil x) (h.follows r c [] (subst (λ text. Writes r b.taken c text) (sym (append-nil b.page)) w))
+pub puts_written : (r : Result Unit WriteFailed) (a b : Output) (c : Taken) (x : List ℕ) → IsPut a b x → Writes r b.taken c b.page → Writes r a.taken c (a.page ++ x)
+puts_written r a b c x h w = subst (λ text. Writes r a.taken c (a.page ++ text)) (append-nil x) (h.follows r c [] (subst (λ text. Writes r b.taken c text) (sym (append-nil b.page)) w))
 
-pub puts_unwritten : (a : Taken) (b : Output) (x : List ℕ) → IsStuck (output a []) b x → IsBroken a b.taken x
-puts_unwritten a b x h = subst (λ text. IsBroken a b.taken text) (append-nil x) (h.broken [])
+pub puts_unwritten : (a b : Output) (x : List ℕ) → IsStuck a b x → IsBroken a.taken b.taken (a.page ++ x)
+puts_unwritten a b x h = subst (λ text. IsBroken a.taken b.taken (a.page ++ text)) (append-nil x) (h.broken [])
 
--- One piece: the page goes out before it.
-pub puts_out : (r : Result Unit WriteFailed) (a b c : Taken) (page piece : List ℕ) → IsWritten a b page → Writes r b c piece → Puts r (output a page) (output c []) piece
-puts_out (Ok u) a b c page piece h k = record { follows = λ later end more w. writes_then later a b end page (piece ++ more) h (writes_then later b c end piece more k w) }
-puts_out (Err e) a b c page piece h k = record { broken = λ more. writes_then (Err e) a b c page (piece ++ more) h (broken_more b c piece more k) }
+-- One piece: the page goes out before it, and it goes out itself or stands on the page after it.
+module _ (a b : Taken) (page piece : List ℕ) (name : ℕ) where
+  pub puts_out : (r : Result Unit WriteFailed) (c : Taken) → IsWritten a b page → Writes r b c piece → Puts r (record { taken = a; page = page; name = name }) (record { taken = c; page = []; name = name }) piece
+  puts_out (Ok u) c h k = record { same = refl; follows = λ later end more w. writes_then later a b end page (piece ++ more) h (writes_then later b c end piece more k w) }
+  puts_out (Err e) c h k = record { same = refl; broken = λ more. writes_then (Err e) a b c page (piece ++ more) h (broken_more b c piece more k) }
 
--- ... and the piece stands on the page after it
-pub puts_behind : (a b : Taken) (page piece : List ℕ) → IsWritten a b page → IsPut (output a page) (output b piece) piece
-puts_behind a b page piece h = record { follows = λ later end more w. writes_then later a b end page (piece ++ more) h w }
+  pub puts_behind : IsWritten a b page → IsPut (record { taken = a; page = page; name = name }) (record { taken = b; page = piece; name = name }) piece
+  puts_behind h = record { same = refl; follows = λ later end more w. writes_then later a b end page (piece ++ more) h w }
 
-pub puts_stuck : (a b : Taken) (page last piece : List ℕ) → IsBroken a b page → IsStuck (output a page) (output b last) piece
-puts_stuck a b page last piece h = record { broken = λ more. broken_more a b page (piece ++ more) h }
+  pub puts_stuck : (last : List ℕ) → IsBroken a b page → IsStuck (record { taken = a; page = page; name = name }) (record { taken = b; page = last; name = name }) piece
+  puts_stuck last h = record { same = refl; broken = λ more. broken_more a b page (piece ++ more) h }
 
 -- A loop over pieces.
 pub puts_stop : {X : Type 0} (f : X → List ℕ) (xs : List X) (i : ℕ) (d : X) (a b c : Output) → i < length xs

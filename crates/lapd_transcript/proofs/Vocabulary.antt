@@ -23,8 +23,9 @@ pub use Rattle.lapd_transcript.specs.CounterNames.{row, row_text, value_text, wi
 pub use Rattle.lapd_transcript.specs.Counted.{counter_text, group_name, is_zero, names_of, own_name}
 pub use Rattle.lapd_transcript.specs.Listened.{Hears, found, frame_in}
 pub use Rattle.lapd_transcript.specs.OnLine.{HasPut, on_line}
+pub use Rattle.lapd_transcript.specs.Pages.{on}
 pub use Rattle.lapd_transcript.specs.Shown.{fields, number_text, shown_text}
-pub use Rattle.lapd_transcript.specs.Streams.{IsBroken, IsPut, IsStuck, IsWritten, Output, Puts, Taken, Writes, joined, one_failure_more, output}
+pub use Rattle.lapd_transcript.specs.Streams.{IsBroken, IsPut, IsStuck, IsWritten, Output, Puts, Taken, Writes, joined, one_failure_more}
 pub use Rattle.lapd_transcript.specs.Terminal.{Sends, sending, with_frame}
 pub use Rattle.lapd_transcript.specs.Text.{dropped_text, frame_text, lost_text, note_text, nothing_text, octets_text, sent_text}
 pub use Rattle.lapd_transcript.specs.declared.streams.WriteFailed.{WriteFailed}

@@ -1,5 +1,5 @@
 -- What a write to a target leaves.
-use Rattle.std.specs.Prelude.{◌≡◌, ℕ, ◌+◌, ◌-◌, ◌^◌, ◌<◌, ◌++◌, Bool, true, min, List, take, length, flat_map, Option, Result, Ok, Err}
+use Rattle.std.specs.Prelude.{◌≡◌, ℕ, ◌+◌, ◌-◌, ◌^◌, ◌<◌, ◌++◌, Bool, true, min, List, take, length, flat_map, [], OnOk, Option, Result, Ok, Err}
 use Rattle.std.specs.Borrow.{Bor}
 use Rattle.lapd_transcript.specs.declared.streams.WriteFailed.{WriteFailed}
 use Rattle.std.specs.Io.KnownBytes.{Appends}
@@ -30,26 +30,33 @@ abbrev pub Writes : {A E : Type 0} → Result A E → Taken → Taken → List �
 Writes (Ok _) old new text = IsWritten old new text
 Writes (Err _) old new text = IsBroken old new text
 
--- What a target has taken, and what stands on a page on its way to it.
+-- What a target has taken, what stands on a page on its way to it, and which target it is, by the name that proofs give
+-- the reference to it.
 pub record Output : Type 0 where
   pub taken : Taken
   pub page : List ℕ
-
-abbrev pub output : Taken → List ℕ → Output
-output taken page = record { taken = taken; page = page }
+  pub name : ℕ
 
 -- After a text was put, whatever is written next follows it, and what stood on the page before it;
 pub record IsPut (old new : Output) (text : List ℕ) : Type 0 where
+  pub same : new.name ≡ old.name
   pub follows : (later : Result Unit WriteFailed) (end : Taken) (more : List ℕ) → Writes later new.taken end (new.page ++ more)
       → Writes later old.taken end (old.page ++ (text ++ more))
 
 -- where a write failed, a beginning has been appended of the page, the text, and whatever was to follow.
 pub record IsStuck (old new : Output) (text : List ℕ) : Type 0 where
+  pub same : new.name ≡ old.name
   pub broken : (more : List ℕ) → IsBroken old.taken new.taken (old.page ++ (text ++ more))
 
 abbrev pub Puts : {A E : Type 0} → Result A E → Output → Output → List ℕ → Type 0
 Puts (Ok _) old new text = IsPut old new text
 Puts (Err _) old new text = IsStuck old new text
+
+-- what stands on the page has been written, and it is empty where no write failed
+pub record IsSent {A E : Type 0} (r : Result A E) (old new : Output) : Type 0 where
+  pub same : new.name ≡ old.name
+  pub written : Writes r old.taken new.taken old.page
+  pub cleared : OnOk r (new.page ≡ [])
 
 -- pieces of text, joined
 abbrev pub joined : List (Bor (List ℕ)) → List ℕ

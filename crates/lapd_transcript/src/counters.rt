@@ -2,13 +2,13 @@
 
 ghost use Rattle.std.specs.Prelude.{◌≡◌, flat_map, map};
 ghost use Rattle.std.specs.List.{list_all};
-ghost use Rattle.lapd_transcript.specs.Streams.{Puts, output};
+ghost use Rattle.lapd_transcript.specs.Streams.{Puts};
+ghost use Rattle.lapd_transcript.specs.Pages.{on};
 ghost use Rattle.lapd_transcript.specs.Counted.{is_zero, names_of, counters_text};
 ghost use Rattle.lapd_transcript.specs.CounterNames.{row, row_text, value_text, with_name};
 
-use crate::lines::put_nothing;
-use crate::output::{Page, decimal, put_all};
-use crate::streams::{Target, WriteFailed};
+use crate::output::{Page, decimal};
+use crate::streams::{Put, Target, WriteFailed};
 use lapd_count::Counter::Messages;
 use lapd_count::Message::{
     IdentityAssigned, IdentityCheckRequest, IdentityCheckResponse, IdentityDenied, IdentityRemove,
@@ -124,26 +124,58 @@ static MESSAGES: [(Counter, &[u8]); 14] = [
     (Messages(Begun, IdentityVerify), b"begun-verify"),
 ];
 
-/// What was counted of a line: each counter of a group that is not 0, in the order of their places; or that none of them
-/// counted anything.
-///
-/// # Errors
-///
-/// [`WriteFailed`] where a write failed: a beginning has been written then of the page and of this.
-pub fn put_counters<T: Target>(
-    target: &mut T,
-    page: &mut Page,
-    line: u16,
-    group: CounterGroup,
-    counters: &Counters,
-) -> Result<(), WriteFailed>
-    ensures { Puts result (output (T.taken target.old) page.old.items) (output (T.taken target.new) page.new.items) (counters_text line group counters.now) }
-{
-    let names = names_of(group);
-    if are_zero(counters, names) {
-        return put_nothing(target, page, line);
+impl<T: Target> Page<'_, T> {
+    /// What was counted of a line: each counter of a group that is not 0, in the order of their places; or that none of them
+    /// counted anything.
+    ///
+    /// # Errors
+    ///
+    /// [`WriteFailed`] where a write failed: a beginning has been written then of the page and of this.
+    pub fn put_counters(&mut self, line: u16, group: CounterGroup, counters: &Counters) -> Put
+        ensures { Puts result (on T.taken self.old) (on T.taken self.new) (counters_text line group counters.now) }
+    {
+        let names = names_of(group);
+        if are_zero(counters, names) {
+            return self.put_nothing(line);
+        }
+        self.put_each(line, counters, names)
     }
-    put_each(target, page, line, counters, names)
+
+    fn put_each(
+        &mut self,
+        line: u16,
+        counters: &Counters,
+        names: &[(Counter, &'static [u8])],
+    ) -> Put
+        ensures { Puts result (on T.taken self.old) (on T.taken self.new) (flat_map (λ name. row_text line counters.now (row name)) names.now) }
+    {
+        for (counter, name) in names {
+            if let Err(WriteFailed) = self.put_counter(line, counters.value(*counter), name) {
+                return Err(WriteFailed);
+            }
+        }
+        Ok(())
+    }
+
+    /// A counter that is not 0.
+    fn put_counter(&mut self, line: u16, value: u64, name: &'static [u8]) -> Put
+        ensures { Puts result (on T.taken self.old) (on T.taken self.new) (value_text line name.now value) }
+    {
+        if value == 0 {
+            return Ok(());
+        }
+        let line = decimal(u64::from(line));
+        let digits = decimal(value);
+        let pieces = [
+            line.as_slice(),
+            b" counter ",
+            name,
+            b" ",
+            digits.as_slice(),
+            b"\n",
+        ];
+        self.put_all(&pieces)
+    }
 }
 
 fn names_of(group: CounterGroup) -> &'static [(Counter, &'static [u8])]
@@ -159,47 +191,4 @@ fn are_zero(counters: &Counters, names: &[(Counter, &'static [u8])]) -> bool
     ensures { result ≡ list_all (λ name. is_zero counters.now (row name).0) names.now }
 {
     names.iter().all(|name| counters.value(name.0) == 0)
-}
-
-fn put_each<T: Target>(
-    target: &mut T,
-    page: &mut Page,
-    line: u16,
-    counters: &Counters,
-    names: &[(Counter, &'static [u8])],
-) -> Result<(), WriteFailed>
-    ensures { Puts result (output (T.taken target.old) page.old.items) (output (T.taken target.new) page.new.items) (flat_map (λ name. row_text line counters.now (row name)) names.now) }
-{
-    for (counter, name) in names {
-        if let Err(WriteFailed) = put_counter(target, page, line, counters.value(*counter), name) {
-            return Err(WriteFailed);
-        }
-    }
-    Ok(())
-}
-
-/// A counter that is not 0.
-fn put_counter<T: Target>(
-    target: &mut T,
-    page: &mut Page,
-    line: u16,
-    value: u64,
-    name: &'static [u8],
-) -> Result<(), WriteFailed>
-    ensures { Puts result (output (T.taken target.old) page.old.items) (output (T.taken target.new) page.new.items) (value_text line name.now value) }
-{
-    if value == 0 {
-        return Ok(());
-    }
-    let line = decimal(u64::from(line));
-    let digits = decimal(value);
-    let pieces = [
-        line.as_slice(),
-        b" counter ",
-        name,
-        b" ",
-        digits.as_slice(),
-        b"\n",
-    ];
-    put_all(target, page, &pieces)
 }

@@ -3,7 +3,7 @@
 //!
 //! - `streams`: where a script is read from and a transcript is written to, [`Source`] and [`Target`].
 //! - `read_from`, `write_to`: any reader of std as a source, any writer of std as a target.
-//! - `output`: puts pieces of text onto a page, [`Page`], which goes to a target once it is full and by [`send`].
+//! - `output`: puts pieces of text onto a page, [`Page`], which goes to its target once it is full and by [`Page::send`].
 //! - `lines`: puts the lines of a transcript onto a page, and writes what tells of a faulty line of a script.
 //! - `notes`: what an event brought; `counters`: what was counted of a line.
 //! - `shown`: what a frame says, octets of a line, and the bound of a card.
@@ -34,15 +34,12 @@ mod streams;
 mod terminal;
 mod write_to;
 
-pub use counters::{CounterGroup, put_counters};
-pub use lines::{
-    put_frame, put_nothing, put_refused, put_report, put_sent, put_stored, write_faulty,
-};
-pub use listener::tell;
+pub use counters::CounterGroup;
+pub use lines::write_faulty;
 pub use one_frame::on_line;
-pub use output::{Page, send};
+pub use output::Page;
 pub use read_from::ReadFrom;
 pub use shown::{write_bound, write_line_octets, write_shown};
-pub use streams::{ReadFailed, Source, Target, WriteFailed};
+pub use streams::{Put, ReadFailed, Source, Target, WriteFailed};
 pub use terminal::{LONGEST_FRAME, LONGEST_INFORMATION, SHORTEST_FRAME, Terminal};
 pub use write_to::WriteTo;

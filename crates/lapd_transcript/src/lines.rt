@@ -1,110 +1,110 @@
 //! Puts the lines of a transcript onto a page, and writes what tells of a faulty line.
 
 ghost use Rattle.std.specs.Prelude.{◌++◌, option_copied};
-ghost use Rattle.lapd_transcript.specs.Streams.{Writes, Puts, output};
+ghost use Rattle.lapd_transcript.specs.Streams.{Puts, Writes};
+ghost use Rattle.lapd_transcript.specs.Pages.{on};
 ghost use Rattle.lapd_transcript.specs.Text.{line_text, octets_text, report_text, refused_text, sent_text, frame_text, nothing_text, faulty_text, stored_text};
 
 use crate::names::refusal_name;
-use crate::notes::put_brought;
-use crate::output::{Page, decimal, finish, put_all, put_octets_line};
-use crate::streams::{Target, WriteFailed};
+use crate::output::{Page, decimal};
+use crate::streams::{Put, Target};
 use lapd_frame::{Note, Refusal};
 use model_bits::Cause;
 
-/// What an event on a line brought: its notes, then why it dropped a frame, then how many frames it lost. `contents`
-/// are those that were delivered, which a note of data tells.
-///
-/// # Errors
-///
-/// [`WriteFailed`] where a write failed: a beginning has been written then of the page and of this.
-pub fn put_report<T: Target>(
-    target: &mut T,
-    page: &mut Page,
-    line: u16,
-    notes: &[Note],
-    contents: Option<&[u8]>,
-    cause: Option<Cause>,
-    lost: u8,
-) -> Result<(), WriteFailed>
-    ensures { Puts result (output (T.taken target.old) page.old.items) (output (T.taken target.new) page.new.items) (report_text line notes.now (option_copied contents.entry) cause lost) }
-{
-    let contents = contents.unwrap_or(&[]);
-    put_brought(target, page, line, notes, contents, cause, lost)
-}
+impl<T: Target> Page<'_, T> {
+    /// What an event on a line brought: its notes, then why it dropped a frame, then how many frames it lost. `contents`
+    /// are those that were delivered, which a note of data tells.
+    ///
+    /// # Errors
+    ///
+    /// [`WriteFailed`] where a write failed: a beginning has been written then of the page and of this.
+    pub fn put_report(
+        &mut self,
+        line: u16,
+        notes: &[Note],
+        contents: Option<&[u8]>,
+        cause: Option<Cause>,
+        lost: u8,
+    ) -> Put
+        ensures { Puts result (on T.taken self.old) (on T.taken self.new) (report_text line notes.now (option_copied contents.entry) cause lost) }
+    {
+        let contents = contents.unwrap_or(&[]);
+        self.put_brought(line, notes, contents, cause, lost)
+    }
 
-/// Why a request on a line was refused.
-///
-/// # Errors
-///
-/// [`WriteFailed`] where a write failed: a beginning has been written then of the page and of this.
-pub fn put_refused<T: Target>(
-    target: &mut T,
-    page: &mut Page,
-    line: u16,
-    refusal: Refusal,
-) -> Result<(), WriteFailed>
-    ensures { Puts result (output (T.taken target.old) page.old.items) (output (T.taken target.new) page.new.items) (refused_text line refusal) }
-{
-    let line = decimal(u64::from(line));
-    let pieces = [line.as_slice(), b" refused ", refusal_name(refusal), b"\n"];
-    put_all(target, page, &pieces)
-}
+    /// Why a request on a line was refused.
+    ///
+    /// # Errors
+    ///
+    /// [`WriteFailed`] where a write failed: a beginning has been written then of the page and of this.
+    pub fn put_refused(&mut self, line: u16, refusal: Refusal) -> Put
+        ensures { Puts result (on T.taken self.old) (on T.taken self.new) (refused_text line refusal) }
+    {
+        let line = decimal(u64::from(line));
+        let pieces = [line.as_slice(), b" refused ", refusal_name(refusal), b"\n"];
+        self.put_all(&pieces)
+    }
 
-/// The octets that a line took in one pull.
-///
-/// # Errors
-///
-/// [`WriteFailed`] where a write failed: a beginning has been written then of the page and of this.
-pub fn put_sent<T: Target>(
-    target: &mut T,
-    page: &mut Page,
-    line: u16,
-    octets: &[u8],
-) -> Result<(), WriteFailed>
-    ensures { Puts result (output (T.taken target.old) page.old.items) (output (T.taken target.new) page.new.items) (sent_text line octets.now) }
-{
-    put_named_octets(target, page, line, b"tx ", octets)
-}
+    /// The octets that a line took in one pull.
+    ///
+    /// # Errors
+    ///
+    /// [`WriteFailed`] where a write failed: a beginning has been written then of the page and of this.
+    pub fn put_sent(&mut self, line: u16, octets: &[u8]) -> Put
+        ensures { Puts result (on T.taken self.old) (on T.taken self.new) (sent_text line octets.now) }
+    {
+        self.put_named_octets(line, b"tx ", octets)
+    }
 
-/// A frame, without its frame check, that was found complete in what a line took, or that it called for.
-///
-/// # Errors
-///
-/// [`WriteFailed`] where a write failed: a beginning has been written then of the page and of this.
-pub fn put_frame<T: Target>(
-    target: &mut T,
-    page: &mut Page,
-    line: u16,
-    octets: &[u8],
-) -> Result<(), WriteFailed>
-    ensures { Puts result (output (T.taken target.old) page.old.items) (output (T.taken target.new) page.new.items) (frame_text line octets.now) }
-{
-    put_named_octets(target, page, line, b"frame ", octets)
-}
+    /// A frame, without its frame check, that was found complete in what a line took, or that it called for.
+    ///
+    /// # Errors
+    ///
+    /// [`WriteFailed`] where a write failed: a beginning has been written then of the page and of this.
+    pub fn put_frame(&mut self, line: u16, octets: &[u8]) -> Put
+        ensures { Puts result (on T.taken self.old) (on T.taken self.new) (frame_text line octets.now) }
+    {
+        self.put_named_octets(line, b"frame ", octets)
+    }
 
-/// No frame, where a line called for the next one and none waits.
-///
-/// # Errors
-///
-/// [`WriteFailed`] where a write failed: a beginning has been written then of the page and of this.
-pub fn put_nothing<T: Target>(target: &mut T, page: &mut Page, line: u16) -> Result<(), WriteFailed>
-    ensures { Puts result (output (T.taken target.old) page.old.items) (output (T.taken target.new) page.new.items) (nothing_text line) }
-{
-    let line = decimal(u64::from(line));
-    put_all(target, page, &[line.as_slice(), b" nothing\n"])
-}
+    /// No frame, where a line called for the next one and none waits.
+    ///
+    /// # Errors
+    ///
+    /// [`WriteFailed`] where a write failed: a beginning has been written then of the page and of this.
+    pub fn put_nothing(&mut self, line: u16) -> Put
+        ensures { Puts result (on T.taken self.old) (on T.taken self.new) (nothing_text line) }
+    {
+        let line = decimal(u64::from(line));
+        self.put_all(&[line.as_slice(), b" nothing\n"])
+    }
 
-fn put_named_octets<T: Target>(
-    target: &mut T,
-    page: &mut Page,
-    line: u16,
-    name: &'static [u8],
-    octets: &[u8],
-) -> Result<(), WriteFailed>
-    ensures { Puts result (output (T.taken target.old) page.old.items) (output (T.taken target.new) page.new.items) (line_text line (name.now ++ octets_text octets.now)) }
-{
-    let line = decimal(u64::from(line));
-    put_octets_line(target, page, &[line.as_slice(), b" ", name], octets)
+    fn put_named_octets(&mut self, line: u16, name: &'static [u8], octets: &[u8]) -> Put
+        ensures { Puts result (on T.taken self.old) (on T.taken self.new) (line_text line (name.now ++ octets_text octets.now)) }
+    {
+        let line = decimal(u64::from(line));
+        self.put_octets_line(&[line.as_slice(), b" ", name], octets)
+    }
+
+    /// What the card holds, in octets, and the bound of it.
+    ///
+    /// # Errors
+    ///
+    /// [`WriteFailed`] where a write failed: a beginning has been written then of the page and of this.
+    pub fn put_stored(&mut self, stored: u32, limit: u32) -> Put
+        ensures { Puts result (on T.taken self.old) (on T.taken self.new) (stored_text stored limit) }
+    {
+        let stored = decimal(u64::from(stored));
+        let limit = decimal(u64::from(limit));
+        let pieces = [
+            b"stored ".as_slice(),
+            stored.as_slice(),
+            b" limit ",
+            limit.as_slice(),
+            b"\n",
+        ];
+        self.put_all(&pieces)
+    }
 }
 
 /// A faulty line of a script, by its number, and what is wrong with it, in words.
@@ -112,37 +112,12 @@ fn put_named_octets<T: Target>(
 /// # Errors
 ///
 /// [`WriteFailed`] where a write failed: a beginning has been written then.
-pub fn write_faulty<T: Target>(target: &mut T, line: u64, words: &[u8]) -> Result<(), WriteFailed>
+pub fn write_faulty<T: Target>(target: &mut T, line: u64, words: &[u8]) -> Put
     ensures { Writes result (T.taken target.old) (T.taken target.new) (faulty_text line words.now) }
 {
-    let mut page = Page::new();
+    let mut page = Page::new(target);
     let line = decimal(line);
     let pieces = [b"line ".as_slice(), line.as_slice(), b": ", words, b"\n"];
-    let put = put_all(target, &mut page, &pieces);
-    finish(target, &page, put)
-}
-
-/// What the card holds, in octets, and the bound of it.
-///
-/// # Errors
-///
-/// [`WriteFailed`] where a write failed: a beginning has been written then of the page and of this.
-pub fn put_stored<T: Target>(
-    target: &mut T,
-    page: &mut Page,
-    stored: u32,
-    limit: u32,
-) -> Result<(), WriteFailed>
-    ensures { Puts result (output (T.taken target.old) page.old.items) (output (T.taken target.new) page.new.items) (stored_text stored limit) }
-{
-    let stored = decimal(u64::from(stored));
-    let limit = decimal(u64::from(limit));
-    let pieces = [
-        b"stored ".as_slice(),
-        stored.as_slice(),
-        b" limit ",
-        limit.as_slice(),
-        b"\n",
-    ];
-    put_all(target, page, &pieces)
+    let put = page.put_all(&pieces);
+    page.finish(put)
 }

@@ -6,8 +6,8 @@ ghost use Rattle.lapd_transcript.specs.Shown.{fields, number_text, on_line_text,
 ghost use Rattle.lapd_transcript.specs.Streams.{Writes, joined};
 ghost use Rattle.lapd_transcript.specs.Text.{octets_text};
 
-use crate::output::{Digits, Page, decimal, finish, put_all, put_octets_line};
-use crate::streams::{Target, WriteFailed};
+use crate::output::{Digits, Page, decimal};
+use crate::streams::{Put, Target};
 use arrayvec::ArrayVec;
 use lapd_frame::{Control, Frame};
 use lapd_seq::Seq;
@@ -17,7 +17,7 @@ use lapd_seq::Seq;
 /// # Errors
 ///
 /// [`WriteFailed`] where a write failed: a beginning has been written then.
-pub fn write_shown<T: Target>(target: &mut T, frame: &Frame<'_>) -> Result<(), WriteFailed>
+pub fn write_shown<T: Target>(target: &mut T, frame: &Frame<'_>) -> Put
     ensures { Writes result (T.taken target.old) (T.taken target.new) (shown_text (parts_of frame.now)) }
 {
     let sapi = decimal(u64::from(frame.address.sapi));
@@ -48,21 +48,19 @@ pub fn write_shown<T: Target>(target: &mut T, frame: &Frame<'_>) -> Result<(), W
 /// # Errors
 ///
 /// [`WriteFailed`] where a write failed: a beginning has been written then.
-pub fn write_line_octets<T: Target>(target: &mut T, octets: &[u8]) -> Result<(), WriteFailed>
+pub fn write_line_octets<T: Target>(target: &mut T, octets: &[u8]) -> Put
     ensures { Writes result (T.taken target.old) (T.taken target.new) (on_line_text octets.now) }
 {
-    let mut page = Page::new();
-    let put = put_octets_line(target, &mut page, &[b"line ".as_slice()], octets);
-    finish(target, &page, put)
+    write_pieces(target, &[b"line ".as_slice()], octets)
 }
 
 /// Pieces of text and octets, in one line.
-fn write_pieces<T: Target>(target: &mut T, head: &[&[u8]], octets: &[u8]) -> Result<(), WriteFailed>
+fn write_pieces<T: Target>(target: &mut T, head: &[&[u8]], octets: &[u8]) -> Put
     ensures { Writes result (T.taken target.old) (T.taken target.new) (joined head.now ++ octets_text octets.now ++ codes "\n") }
 {
-    let mut page = Page::new();
-    let put = put_octets_line(target, &mut page, head, octets);
-    finish(target, &page, put)
+    let mut page = Page::new(target);
+    let put = page.put_octets_line(head, octets);
+    page.finish(put)
 }
 
 /// How many octets a card holds at most.
@@ -70,13 +68,13 @@ fn write_pieces<T: Target>(target: &mut T, head: &[&[u8]], octets: &[u8]) -> Res
 /// # Errors
 ///
 /// [`WriteFailed`] where a write failed: a beginning has been written then.
-pub fn write_bound<T: Target>(target: &mut T, bound: u32) -> Result<(), WriteFailed>
+pub fn write_bound<T: Target>(target: &mut T, bound: u32) -> Put
     ensures { Writes result (T.taken target.old) (T.taken target.new) (decimal bound ++ codes "\n") }
 {
-    let mut page = Page::new();
+    let mut page = Page::new(target);
     let bound = decimal(u64::from(bound));
-    let put = put_all(target, &mut page, &[bound.as_slice(), b"\n"]);
-    finish(target, &page, put)
+    let put = page.put_all(&[bound.as_slice(), b"\n"]);
+    page.finish(put)
 }
 
 fn one_of(test: bool, yes: &'static [u8], no: &'static [u8]) -> &'static [u8]

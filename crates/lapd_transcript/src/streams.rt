@@ -12,6 +12,9 @@ pub struct ReadFailed;
 #[derive(Clone, Copy, PartialEq, Eq, Debug)]
 pub struct WriteFailed;
 
+/// A text was written, or put on its way: all of it, or a write failed.
+pub type Put = Result<(), WriteFailed>;
+
 /// Where octets are read from. It counts the reads that failed.
 pub trait Source {
     /// How many reads have failed: a number of 64 bits that stays at its greatest value.
@@ -35,6 +38,6 @@ pub trait Target {
     ghost taken: { Self → Taken };
 
     /// Writes all of `octets`. After a failure a beginning of them may have been written.
-    fn write(&mut self, octets: &[u8]) -> Result<(), WriteFailed>
+    fn write(&mut self, octets: &[u8]) -> Put
         ensures { Writes result (taken self.old) (taken self.new) octets.now };
 }

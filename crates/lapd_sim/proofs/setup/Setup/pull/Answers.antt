@@ -1,5 +1,5 @@
 -- Hand-written answers for `Setup::pull`.
-use Rattle.lapd_sim.proofs.Vocabulary.{◌≡◌, ◌<◌, ◌++◌, [], length, take, get_or, sym, ◌∙◌, subst, arith, length-take, Puts, output, taken_at, after_pull, pulls, pulled_text, Stands, Holds, Each, Hears, Sends}
+use Rattle.lapd_sim.proofs.Vocabulary.{◌≡◌, ◌<◌, ◌++◌, [], length, take, get_or, sym, ◌∙◌, subst, arith, length-take, Puts, on, taken_at, after_pull, pulls, pulled_text, Stands, Holds, Each, Hears, Sends}
 use Rattle.lapd_sim.proofs.Eachs.{each_at, each_set}
 use Rattle.lapd_sim.proofs.Scenes.{pulls_keep, there_octets, obeyed, within, when_ok}
 use Rattle.lapd_sim.proofs.setup.Setup.pull.Goals as goal
@@ -18,7 +18,7 @@ returns g c = λ m h.
     let past = subst (λ taken. Hears c.index_mut.result.now (get_or taken line [])) (sym keep.1) hears in
     obeyed c.tell.result _ c.written.ensures _ _ (Stands _) _ _
     (there_octets c.in_ok-line.ensures.0 (λ n. after_pull n c.args.count) m (h.exchange.kind ∙ c.in_ok-for_kind.ensures) (within c.args.self.now.exchange m line h.exchange c.in_ok-line.ensures.1))
-    (subst (λ xs. Puts c.tell.result (output (g.T.Target.taken c.args.target.now) c.args.page.now.items) (output (g.T.Target.taken c.tell.new.target) c.tell.new.page.items) (pulled_text line (taken_at line p.setup) xs)) octets (c.tell.ensures.told (taken_at line p.setup) past))
+    (subst (λ xs. Puts c.tell.result (on g.T.Target.taken c.args.page.now) (on g.T.Target.taken c.tell.new.self) (pulled_text line (taken_at line p.setup) xs)) octets (c.tell.ensures.told (taken_at line p.setup) past))
     (when_ok c.tell.result c.tell.ensures.after (λ after. record {
       exchange = record { kind = holds.kind; config = holds.config; board = holds.board; counters = holds.counters; clock = holds.clock; now = holds.now };
       terminals = subst (λ ts. Each Sends c.args.self.now.terminals.items ts) (sym keep.0) h.terminals;

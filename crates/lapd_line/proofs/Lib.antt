@@ -15,6 +15,7 @@ pub mod UnitSteps
 pub mod PullTakes
 pub mod PullTakesUnits
 pub mod PullTakesLinks
+pub mod PullTakesRound
 pub mod NextLooks
 pub mod Stood
 pub mod MessageSteps

@@ -28,9 +28,10 @@
  * pointer what owns memory, and nothing is proved of two questions at once.
  *
  * Everything else is tested: each function says by its status what was wrong, and then nothing has changed, neither
- * the card or clock nor what is behind the other pointers (except LAPD_NO_PLACE of lapd_clock_apply_report). Where
- * several things are wrong, the first is told: that there is no card or clock, that the card is of the other kind, the
- * line, the other arguments in their order; a refusal of a request is told last.
+ * the card or clock nor what is behind the other pointers (except LAPD_NO_PLACE of lapd_clock_apply_report, and that a
+ * link waits for room after LAPD_REFUSED_QUEUE_FULL of lapd_data). Where several things are wrong, the first is told:
+ * that there is no card or clock, that the card is of the other kind, the line, the other arguments in their order; a
+ * refusal of a request is told last.
  */
 #ifndef LAPD_H
 #define LAPD_H
@@ -256,6 +257,12 @@ enum {
  * What an event led to: notes, then why something was dropped, then orders. Each call that succeeds tells all of one
  * event: the numbers of notes and orders, cause, lost, begun, delivered, length and more are always those of this event;
  * behind the numbers, and behind length, the arrays may hold what earlier events told.
+ *
+ * A link on which contents were refused as LAPD_REFUSED_QUEUE_FULL waits for room, and is told once when its queue has
+ * some (`reopened`): by the first call of its line that writes a report and at whose end it has, whatever made the room:
+ * contents were acknowledged, or given up as the link was released, established anew or taken down. Where more than
+ * one that waits has room, a report tells one, the lowest TEI first, and call control before packet; the next reports of
+ * the line tell the others, if they still have. A link whose TEI leaves the line waits no longer, and is not told.
  */
 typedef struct lapd_report {
     uint8_t note_count;  /* 0 to 4 */
@@ -269,6 +276,9 @@ typedef struct lapd_report {
     lapd_order orders[LAPD_MOST_ORDERS];
     uint8_t contents[LAPD_MOST_OCTETS];
     uint8_t more;        /* of the next frame: 1 where another waits on its line, so that the next call gives one; else 0 */
+    uint8_t reopened;    /* 1 where a link that waited for room has some again; else 0, and the next two tell nothing */
+    uint8_t reopened_service; /* of that link: LAPD_CALL or LAPD_PACKET */
+    uint8_t reopened_tei;     /* of that link: 0 to 126 */
 } lapd_report;
 
 /* ---- A card ----------------------------------------------------------------------------------------------------- */
@@ -305,9 +315,10 @@ LAPD_STATUS lapd_pull(lapd_card *card, uint32_t line, uint8_t *octet, lapd_repor
  * Takes and gives octets in turn: step 2i takes in[i], step 2i+1 gives out[i]. Goes on from step *steps, up to and with
  * the first step that has something to tell (a note, an order, a cause, a frame lost, contents, a frame begun), or to
  * the end; *steps is then the next step, and the report is that of this step, or tells nothing where no step had
- * anything to tell. LAPD_WRONG_LENGTH: the two lengths differ, or *steps is beyond twice the length. For a step that
- * has nothing to tell no report is written. `in` and `out` are two buffers: what is proved of the octets that are taken
- * holds while none of them is written over. With one buffer call lapd_octet and lapd_pull in turn.
+ * anything to tell. For room of a link it does not stop: the report has it as it is at the end of the call.
+ * LAPD_WRONG_LENGTH: the two lengths differ, or *steps is beyond twice the length. For a step that has nothing to tell no
+ * report is written. `in` and `out` are two buffers: what is proved of the octets that are taken holds while none of them
+ * is written over. With one buffer call lapd_octet and lapd_pull in turn.
  *
  *     for (size_t steps = 0; steps < 2 * n && lapd_exchange(&card, line, in, n, out, n, &steps, &report) == LAPD_OK;)
  *         ... what the report tells ...
@@ -564,7 +575,7 @@ LAPD_STATUS lapd_clock_next(lapd_clock *clock, uint64_t *moment);
 /* Whether a report has anything to tell. */
 LAPD_INLINE bool lapd_tells(const lapd_report *report) {
     return report->note_count != 0 || report->order_count != 0 || report->cause != 0 || report->lost != 0
-           || report->begun != 0 || report->delivered != 0;
+           || report->begun != 0 || report->delivered != 0 || report->reopened != 0;
 }
 
 /* A block of memory in a heap: rounded up to 16 octets, and 16 octets for what the heap notes of it. */
@@ -579,8 +590,8 @@ LAPD_INLINE uint64_t lapd_card_octets_frames(const lapd_config *config) {
     uint64_t link = lapd_block_octets(8u * config->control) + lapd_block_octets(8u * config->queue);
     uint64_t line = lapd_block_octets(128 * links) + links * link + lapd_block_octets(16u * config->unit_queue)
                     + lapd_block_octets(64);
-    return lapd_block_octets(256) + lapd_block_octets(944 * lines) + lines * line + lapd_block_octets(2 * slots)
-           + lapd_block_octets(slots * config->n201);
+    return lapd_block_octets(288) + lapd_block_octets(944 * lines) + lines * line + lapd_block_octets(2 * slots)
+           + lapd_block_octets(slots * config->n201) + lapd_block_octets(32 * lines);
 }
 
 /* The same of a card for octets, which has room besides for a frame that comes and one that goes on each line. */

@@ -224,6 +224,10 @@ public:
     octets contents() const { return {raw_.contents, raw_.length}; }
     /// Of the next frame: whether another waits on its line.
     bool more() const { return raw_.more != 0; }
+    /// Whether a link that was refused contents for its full queue has room again; and which.
+    bool reopened() const { return raw_.reopened != 0; }
+    service reopened_service() const { return static_cast<service>(raw_.reopened_service); }
+    uint8_t reopened_tei() const { return raw_.reopened_tei; }
     bool tells() const { return lapd_tells(&raw_); }
     lapd_report *raw() { return &raw_; }
     const lapd_report *raw() const { return &raw_; }

@@ -185,7 +185,8 @@ class _Order(ctypes.Structure):
 class _Report(ctypes.Structure):
     _fields_ = [*((name, ctypes.c_uint8) for name in ("note_count", "order_count", "cause", "lost", "begun", "delivered")),
                 ("length", ctypes.c_uint16), ("notes", _Note * MOST_NOTES), ("orders", _Order * MOST_ORDERS),
-                ("contents", ctypes.c_uint8 * MOST_OCTETS), ("more", ctypes.c_uint8)]
+                ("contents", ctypes.c_uint8 * MOST_OCTETS),
+                *((name, ctypes.c_uint8) for name in ("more", "reopened", "reopened_service", "reopened_tei"))]
 
 
 class _Handle(ctypes.Structure):
@@ -372,6 +373,7 @@ class Report(NamedTuple):
     begun: bool = False
     contents: Optional[bytes] = None  # of a data or a unit indication
     more: bool = False  # of the next frame: whether another waits on its line
+    reopened: Optional[Tuple[Service, int]] = None  # a link, with its TEI, that was refused contents and has room again
 
     def __bool__(self) -> bool:
         return self != Report()
@@ -419,7 +421,8 @@ def _report(of: _Report) -> Report:
     return Report(tuple(_note(it) for it in of.notes[: of.note_count]),
                   tuple(Order(OrderKind(it.order), _timer(it.timer)) for it in of.orders[: of.order_count]),
                   Cause(of.cause) if of.cause else None, of.lost, bool(of.begun),
-                  bytes(of.contents[: of.length]) if of.delivered else None, bool(of.more))
+                  bytes(of.contents[: of.length]) if of.delivered else None, bool(of.more),
+                  (Service(of.reopened_service), of.reopened_tei) if of.reopened else None)
 
 
 def _octets(of: bytes) -> bytes:

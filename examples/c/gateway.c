@@ -24,7 +24,8 @@ static bool is_moment(uint64_t now) {
 }
 
 static bool has_news(const lapd_report *report) {
-    return report->note_count != 0 || report->cause != 0 || report->lost != 0 || report->delivered != 0;
+    return report->note_count != 0 || report->cause != 0 || report->lost != 0 || report->delivered != 0
+           || report->reopened != 0;
 }
 
 /* After a call of the card's: orders before on_report, whose requests have orders of their own. */

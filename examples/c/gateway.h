@@ -37,7 +37,7 @@ typedef struct gateway gateway;
 
 /* A gateway, which begins as GATEWAY_NONE; its callback is set before the start. */
 struct gateway {
-    /* What an event at a line led to, where it led to notes, contents, a drop or a loss. Its orders are carried out. */
+    /* What an event at a line led to, where it led to notes, contents, a drop, a loss or room. Its orders are carried out. */
     void (*on_report)(gateway *own, uint32_t line, const lapd_report *report);
     lapd_card card;
     lapd_clock timers;

@@ -37,9 +37,14 @@ void asks(lapd::any_card &card) {
     wants(card.room_of(1, service::call, 64, room) == status::ok && room.pool == 63 && room.queue == 7 && room.va == 0, "a room");
     wants(card.room_of(1, service::call, 65, room) == status::refused_no_link && room.pool == 63, "no room");
     lapd::report report;
+    while (card.data(1, service::call, 64, {}, report) == status::ok)
+        wants(!report.reopened(), "room before contents are refused");
     size_t calls = 0, told = 0;
-    for (place = 0; card.line_down(1, place, report) == status::ok; calls++)
+    for (place = 0; card.line_down(1, place, report) == status::ok; calls++) {
         told += report.notes().size();
+        wants(report.reopened() == (calls == 0), "room, or none");
+        wants(calls != 0 || (report.reopened_service() == service::call && report.reopened_tei() == 64), "another link has room");
+    }
     wants(calls == 3 && told == 1 && card.line_down(1, place, report) == status::no_more_links, "a line that goes down");
     uint32_t lines = 0;
     wants(card.lines(lines) == status::ok && lines == 2, "lines");

@@ -146,12 +146,12 @@ pub unwritten : (given : Option NextFrame) (out out' : List ℕ) → given ≡ N
 unwritten given out out' none rest = subst (λ (n : Option NextFrame). drop (written n) out' ≡ drop (written n) out) none rest
 
 -- what is written is given, where it fits, and shown with whether another waits
-pub given_shown : (i : ℕ) (m : Card) (new : frames.Held Store) (out out' : List ℕ) (count status : ℕ) (r : PlainReport) (next : NextFrame) (more : Bool)
-    → next_at i m ≡ Some (next_in out' next) → status ≡ ok → FrameCardStands new (machine.after (goes i) m) → more ≡ has_next i (machine.after (goes i) m)
+pub given_shown : (i : ℕ) (m : Card) (new : AnyCard) (out out' : List ℕ) (count status : ℕ) (r : PlainReport) (next : NextFrame) (more : Bool)
+    → next_at i m ≡ Some (next_in out' next) → status ≡ ok → AnyStands new (alone (machine.after (goes i) m)) → more ≡ has_next i (machine.after (goes i) m)
     → count ≡ next.length → next.length ≤ length out' → drop next.length out' ≡ drop next.length out → ShowsPull r true more (listed next.orders)
-    → IfSome (next_at i m) (λ n. (status ≡ ok) × FrameCardStands new (machine.after (goes i) m) × IsGiven n out out' count × ShowsPull r true (has_next i (machine.after (goes i) m)) n.orders)
+    → IfSome (next_at i m) (λ n. (status ≡ ok) × AnyStands new (alone (machine.after (goes i) m)) × IsGiven n out out' count × ShowsPull r true (has_next i (machine.after (goes i) m)) n.orders)
 given_shown i m new out out' count status r next more is fine stands waits same fits rest shows =
-    subst (λ o. IfSome o (λ n. (status ≡ ok) × FrameCardStands new (machine.after (goes i) m) × IsGiven n out out' count × ShowsPull r true (has_next i (machine.after (goes i) m)) n.orders)) (sym is)
+    subst (λ o. IfSome o (λ n. (status ≡ ok) × AnyStands new (alone (machine.after (goes i) m)) × IsGiven n out out' count × ShowsPull r true (has_next i (machine.after (goes i) m)) n.orders)) (sym is)
     (fine, stands, given, subst (λ b. ShowsPull r true b (listed next.orders)) waits shows)
   where
     whole : length (take next.length out') ≡ next.length

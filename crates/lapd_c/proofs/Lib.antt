@@ -1,4 +1,4 @@
--- Lemmas: where cards and clocks lie; what is served at them; two cards that exchange frames.
+-- Lemmas: where cards and clocks lie; what is served at them; two cards that exchange frames; which links wait for room.
 pub mod Vocabulary
 pub mod Machine
 pub mod Places
@@ -9,3 +9,4 @@ pub mod Kinded
 pub mod Served
 pub mod Exchanging
 pub mod Linking
+pub mod Reopening

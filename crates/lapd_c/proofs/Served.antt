@@ -1,9 +1,10 @@
 -- What a report shows is what the machine answers.
-use Rattle.lapd_c.proofs.Vocabulary.{◌≡◌, ◌≤◌, length, Option, IfSome, Result, Ok, IfOk, sym, ap, ◌∙◌, subst, arith, counters_in, Report, report_told, LineTold, told, IsInRange, ranges_of, Card, Event, answer, OctetCard, PlainReport, Shows, contents_of, ShowsAnswer, ShowsReply, contents_in, Store, AnyCard, Octets, Frames, HeldCard, Machine, with_ports, alone, AnyStands, CardStands, FrameCardStands}
+use Rattle.lapd_c.proofs.Vocabulary.{◌≡◌, ◌≤◌, length, Option, IfSome, Result, Ok, IfOk, sym, ap, ◌∙◌, subst, arith, counters_in, Report, report_told, LineTold, told, IsInRange, ranges_of, Card, Event, answer, OctetCard, PlainReport, Shows, contents_of, ShowsAnswer, ShowsReply, contents_in, Store, KeptCard, Octets, Frames, HeldCard, Machine, with_ports, alone, AnyStands, CardStands, FrameCardStands}
 use Rattle.lapd_card.specs.Card as octets
 use Rattle.lapd_card.specs.FrameCard as frames
 use Rattle.lapd_c.specs.Cards.{StandsIn}
 use Rattle.lapd_c.specs.Counted.{counters_held}
+use Rattle.lapd_c.specs.Kinds.{counters_of}
 use Rattle.std.proofs.Common.{Some}
 use Rattle.model_card.specs.ports.Card as octet_card
 use Rattle.model_card.specs.ports.Event as octet_event
@@ -11,18 +12,18 @@ use Rattle.model_card.specs.ports.Port as port
 use Rattle.lapd_c.proofs.Contents.{contents_fit, contents_told, replies_fit}
 
 -- the card that C holds, where it lies; of either kind, for octets, for frames
-pub there : {held : HeldCard} {card : AnyCard} → held ≡ Some card → (m : Machine) → StandsIn held m → AnyStands card m
+pub there : {held : HeldCard} {kept : KeptCard} → held ≡ Some kept → (m : Machine) → StandsIn held m → AnyStands kept.card m
 there is m s = subst (λ h. StandsIn h m) is s
 
-pub octets_there : {held : HeldCard} {card : AnyCard} {c : octets.Held Store} → held ≡ Some card → card ≡ Octets c → (m : OctetCard) → StandsIn held (with_ports m) → CardStands c m
+pub octets_there : {held : HeldCard} {kept : KeptCard} {c : octets.Held Store} → held ≡ Some kept → kept.card ≡ Octets c → (m : OctetCard) → StandsIn held (with_ports m) → CardStands c m
 octets_there is kind m s = subst (λ card. AnyStands card (with_ports m)) kind (there is (with_ports m) s)
 
-pub frames_there : {held : HeldCard} {card : AnyCard} {c : frames.Held Store} → held ≡ Some card → card ≡ Frames c → (m : Card) → StandsIn held (alone m) → FrameCardStands c m
+pub frames_there : {held : HeldCard} {kept : KeptCard} {c : frames.Held Store} → held ≡ Some kept → kept.card ≡ Frames c → (m : Card) → StandsIn held (alone m) → FrameCardStands c m
 frames_there is kind m s = subst (λ card. AnyStands card (alone m)) kind (there is (alone m) s)
 
 -- the counters of its lines
-pub frames_counted : {held : HeldCard} {card : AnyCard} {c : frames.Held Store} → held ≡ Some card → card ≡ Frames c → counters_in c.lines ≡ counters_held held
-frames_counted is kind = sym (ap counters_held (is ∙ ap Some kind))
+pub frames_counted : {held : HeldCard} {kept : KeptCard} {c : frames.Held Store} → held ≡ Some kept → kept.card ≡ Frames c → counters_in c.lines ≡ counters_held held
+frames_counted is kind = sym (ap counters_held is ∙ ap counters_of kind)
 
 -- a result that is known
 pub if_ok : {X E : Type 0} (P : X → Type 0) (o : Result X E) (x : X) → o ≡ Ok x → P x → IfOk o P

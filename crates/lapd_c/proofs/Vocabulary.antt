@@ -26,6 +26,7 @@ pub use Rattle.lapd_c.specs.Kinds.{AnyLeads, AnyStands, CardStands, FrameCardSta
 pub use Rattle.lapd_c.specs.Laws.{ContentsFit, contents_in}
 pub use Rattle.lapd_c.specs.Links.{AreFree, state_at}
 pub use Rattle.lapd_c.specs.Orders.{after_orders, all_placed, first_fault_in}
+pub use Rattle.lapd_c.specs.declared.kept.KeptCard.{KeptCard}
 pub use Rattle.lapd_c.specs.declared.kinds.AnyCard.{AnyCard}
 pub use Rattle.lapd_c.specs.declared.kinds.AnyCard.TheVariants.{Frames, Octets}
 pub use Rattle.lapd_card.proofs.OctetsTaken.{meanings-count, octets-more}

@@ -6,8 +6,8 @@ use denote.RattleType.{RattleType}
 use denote.RawPtr.{Ptr}
 use Rattle.std.specs.contracts.impls.GlobalAllocator.TheImpl.{ghosts}
 use Rattle.std_alloc.specs.Box.Ownership.{box_owns}
-use Rattle.lapd_c.specs.declared.kinds.AnyCard.{AnyCard}
-use Rattle.lapd_c.specs.contracts.kinds.AnyCard as card
+use Rattle.lapd_c.specs.declared.kept.KeptCard.{KeptCard}
+use Rattle.lapd_c.specs.contracts.kept.KeptCard as card
 use Rattle.lapd_c.specs.ClockSlots.{heap}
 
 abbrev pub card_row : RattleType
@@ -15,7 +15,7 @@ card_row = card.the_row
 
 -- A card of either kind, or none.
 abbrev pub HeldCard : Type 0
-HeldCard = Option AnyCard
+HeldCard = Option KeptCard
 
 abbrev pub held_card_code : Coded HeldCard
 held_card_code = coded_option card_row.coded

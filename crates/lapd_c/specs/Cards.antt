@@ -1,17 +1,34 @@
 -- A card as C holds it.
-use Rattle.std.specs.Prelude.{◌≡◌, is_some, Option, None, Some, option_map}
+use Rattle.std.specs.Prelude.{◌≡◌, List, [], is_some, Option, None, Some, option_map}
 use Rattle.model_card.specs.Card.{Card}
 use Rattle.model_card.specs.ports.Card.{OctetCard}
 use Rattle.lapd_c.specs.declared.card.CardHandle.{CardHandle}
+use Rattle.lapd_c.specs.declared.kept.KeptCard.{KeptCard}
+use Rattle.lapd_c.specs.declared.kinds.AnyCard.{AnyCard}
+use Rattle.lapd_c.specs.declared.link_marks.LinkMarks.{LinkMarks}
 use Rattle.lapd_c.specs.CardSlots.{HeldCard}
 use Rattle.lapd_c.specs.Kinds.{Kind, kind_of, Machine, with_ports, alone, AnyStands}
 
--- The card that is there, or none; and its kind.
+-- The card that is there, with the marks of its links that wait for room, or none; that card alone; and its kind.
 abbrev pub card_of : CardHandle → HeldCard
 card_of h = h.slot.card
 
+abbrev pub without_marks : KeptCard → AnyCard
+without_marks kept = kept.card
+
+abbrev pub served_card : CardHandle → Option AnyCard
+served_card h = option_map without_marks (card_of h)
+
 abbrev pub kind_in : CardHandle → Option Kind
-kind_in h = option_map kind_of (card_of h)
+kind_in h = option_map kind_of (served_card h)
+
+-- The marks, line by line; of no card, none.
+abbrev pub marks_held : HeldCard → List LinkMarks
+marks_held None = []
+marks_held (Some kept) = kept.refused
+
+abbrev pub marks_at : CardHandle → List LinkMarks
+marks_at h = marks_held (card_of h)
 
 -- It says of itself whether one is there.
 abbrev pub IsHandle : CardHandle → Type 0
@@ -20,7 +37,7 @@ IsHandle h = h.started ≡ is_some (card_of h)
 -- What C holds stands for a machine, where a card is there and does: for one of either kind, one of octets, one of frames.
 abbrev pub StandsIn : HeldCard → Machine → Type 0
 StandsIn None m = ⊥
-StandsIn (Some c) m = AnyStands c m
+StandsIn (Some kept) m = AnyStands kept.card m
 
 abbrev pub Stands : CardHandle → Machine → Type 0
 Stands h m = StandsIn (card_of h) m

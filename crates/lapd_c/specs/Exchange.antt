@@ -8,6 +8,7 @@ use Rattle.model_card.specs.ports.Run.{run}
 use Rattle.lapd_store.specs.Store.{Store}
 use Rattle.lapd_card.specs.Card.{Held}
 use Rattle.lapd_c.specs.declared.plain.reports.PlainReport.{PlainReport}
+use Rattle.lapd_c.specs.declared.kinds.AnyCard.{AnyCard}
 use Rattle.lapd_c.specs.declared.kinds.AnyCard.TheVariants.{Octets, Frames}
 use Rattle.lapd_c.specs.Answers.{ShowsReply, octet_of}
 use Rattle.lapd_c.specs.CardSlots.{HeldCard}
@@ -76,7 +77,10 @@ pub record Exchanged (line : ℕ) (taken : List ℕ) (from : ℕ) (m : OctetCard
   pub octets : given' ≡ given_after line taken from n m given
   pub ended : IsThrough line taken from n m to r ⊎ IsTold line taken from n m to r
 
+abbrev pub ExchangedBy : ℕ → List ℕ → ℕ → OctetCard → AnyCard → List ℕ → List ℕ → ℕ → PlainReport → Type 0
+ExchangedBy line taken from m (Octets card) given given' to r = Exchanged line taken from m card given given' to r
+ExchangedBy line taken from m (Frames card) given given' to r = ⊥
+
 abbrev pub ExchangedIn : ℕ → List ℕ → ℕ → OctetCard → HeldCard → List ℕ → List ℕ → ℕ → PlainReport → Type 0
 ExchangedIn line taken from m None given given' to r = ⊥
-ExchangedIn line taken from m (Some (Octets card)) given given' to r = Exchanged line taken from m card given given' to r
-ExchangedIn line taken from m (Some (Frames card)) given given' to r = ⊥
+ExchangedIn line taken from m (Some kept) given given' to r = ExchangedBy line taken from m kept.card given given' to r

@@ -15,6 +15,10 @@ pub mod Counters
 pub mod ClockSlots
 pub mod Clocks
 pub mod ClockLends
+pub mod LinkMarks
+pub mod RefusedLines
+pub mod Reopened
+pub mod WorkedReopened
 pub mod CardSlots
 pub mod Kinds
 pub mod Cards

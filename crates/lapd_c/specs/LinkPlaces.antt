@@ -1,5 +1,5 @@
 -- The links of a line in order: by TEI, and call control's before packet's.
-use Rattle.std.specs.Prelude.{◌≡◌, ℕ, refl, ◌/◌, ◌%◌, ◌==◌, if◌then◌else◌}
+use Rattle.std.specs.Prelude.{◌≡◌, ℕ, refl, ◌+◌, ◌*◌, ◌/◌, ◌%◌, ◌==◌, if◌then◌else◌}
 use Rattle.lapd_frame.specs.declared.services.Service.{Service}
 use Rattle.lapd_frame.specs.declared.services.Service.TheVariants.{Call, Packet}
 use Rattle.lapd_frame.specs.Services.{sapi_of}
@@ -12,8 +12,14 @@ service_at place = if place % 2 == 0 then Call else Packet
 abbrev pub tei_at : ℕ → ℕ
 tei_at place = place / 2
 
+abbrev pub place_of : ℕ → ℕ → ℕ
+place_of sapi tei = if sapi == 0 then 2 * tei else 2 * tei + 1
+
 abbrev pub plain_link : ℕ → ℕ → PlainLink
 plain_link place state = record { service = sapi_of (service_at place); tei = tei_at place; state = state }
 
 worked_packet_link : plain_link 129 7 ≡ record { service = 16; tei = 64; state = 7 }
 worked_packet_link = refl
+
+worked_place : place_of 16 64 ≡ 129
+worked_place = refl

@@ -26,10 +26,10 @@ pub extern "C" fn lapd_begun(handle: &mut CardHandle, line: u32, head: &mut Plai
     ensures told { (m : machine.OctetCard) → OctetsStand handle.old m → line < m.card.config.lines
         → (result ≡ status.ok) × (head.new ≡ plain_head (head_begun_at line m)) }
 {
-    let Some(card) = handle.card() else {
+    let Some(kept) = handle.card() else {
         return NO_CARD;
     };
-    let AnyCard::Octets(card) = card else {
+    let AnyCard::Octets(card) = &kept.card else {
         return WRONG_CARD;
     };
     let line = line as usize;

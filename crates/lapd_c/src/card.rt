@@ -2,7 +2,7 @@
 
 ghost use Rattle.std.specs.Borrow.{sem};
 ghost use Rattle.std.specs.Option.{option_copied_mut};
-ghost use Rattle.std.specs.Prelude.{◌≡◌, ◌⊎◌, Some, None, Ok, Err, IfOk, IfSome, IfNone, option_map, replicate};
+ghost use Rattle.std.specs.Prelude.{◌≡◌, ◌⊎◌, ◌<◌, Some, None, Ok, Err, IfOk, IfErr, IfSome, IfNone, option_map, replicate};
 ghost use Rattle.model_card.specs.Card as frames;
 ghost use Rattle.model_line.specs.Config.{first_fault};
 ghost use Rattle.model_card.specs.ports.Card as octets;
@@ -11,9 +11,11 @@ ghost use Rattle.lapd_c.specs.Statuses as status;
 ghost use Rattle.lapd_count.specs.Counters.{none_counted};
 ghost use Rattle.lapd_c.specs.Counted.{counters_at};
 ghost use Rattle.lapd_c.specs.Kinds.{AnyStands, with_ports, alone, counters_of};
-ghost use Rattle.lapd_c.specs.Cards.{card_of, IsHandle, OctetsStand, FramesStand};
+ghost use Rattle.lapd_c.specs.Cards.{card_of, marks_at, IsHandle, OctetsStand, FramesStand};
+ghost use Rattle.lapd_c.specs.LinkMarks.{AreUnmarked};
 
 use crate::card_slot::CardSlot;
+use crate::kept::KeptCard;
 use crate::kinds::AnyCard;
 use crate::plain::{NO_CARD, NO_MEMORY, OK, PlainConfig, SECOND_START};
 use lapd_card::{Card, FrameCard};
@@ -33,9 +35,9 @@ impl CardHandle {
     ghost use Rattle.lapd_c.specs.CardLends.{LendsCardIf};
 
     /// Takes the card out.
-    pub(crate) fn take(&mut self, alloc: Global) -> Option<Box<AnyCard>>
+    pub(crate) fn take(&mut self, alloc: Global) -> Option<Box<KeptCard>>
         requires { IsHandle self.old }
-        ensures card { card_of self.old ≡ option_map (λ card. card.value) result }
+        ensures card { card_of self.old ≡ option_map (λ kept. kept.value) result }
         ensures none { IfNone result (self.new ≡ self.old) }
         ensures empty { card_of self.new ≡ None }
         ensures handle { IsHandle self.new }
@@ -49,7 +51,7 @@ impl CardHandle {
     }
 
     /// The card, where it lies.
-    pub(crate) fn card(&mut self) -> Option<&mut AnyCard>
+    pub(crate) fn card(&mut self) -> Option<&mut KeptCard>
         requires { IsHandle self.old }
         ensures* lends { sem 𝓛 (LendsCardIf self.entry result) }
         ensures card { card_of self.old ≡ option_copied_mut result }
@@ -62,13 +64,13 @@ impl CardHandle {
     }
 
     /// Puts a card in, where none is.
-    pub(crate) fn put(&mut self, card: Box<AnyCard>)
+    pub(crate) fn put(&mut self, kept: Box<KeptCard>)
         requires { card_of self.old ≡ None }
-        ensures card { card_of self.new ≡ Some card.value }
+        ensures card { card_of self.new ≡ Some kept.value }
         ensures handle { IsHandle self.new }
     {
         self.started = true;
-        let empty = replace(&mut self.slot, CardSlot::of(card));
+        let empty = replace(&mut self.slot, CardSlot::of(kept));
         empty.gone();
     }
 }
@@ -81,6 +83,7 @@ fn startable(handle: &CardHandle, config: &PlainConfig) -> Result<Config, u32>
     ensures can { card_of handle.now ≡ None → config_fault config.now ≡ None → result ≡ Ok (config_in config.now) }
     ensures empty { IfOk result (λ c. card_of handle.now ≡ None) }
     ensures in_range { IfOk result (λ c. first_fault c ≡ None) }
+    ensures wrong { IfErr result (λ wrong. 10 < wrong) }
 {
     if handle.started {
         return Err(SECOND_START);
@@ -107,28 +110,30 @@ pub extern "C" fn lapd_card_start(
         → (result ≡ status.ok) ⊎ (result ≡ status.no_memory) }
     ensures fresh { result ≡ status.ok → OctetsStand handle.new (octets.fresh (config_in config.now)) }
     ensures counters { result ≡ status.ok → counters_at handle.new ≡ replicate (config_in config.now).lines none_counted }
+    ensures marks { result ≡ status.ok → AreUnmarked (config_in config.now).lines (marks_at handle.new) }
     ensures no_memory { result ≡ status.no_memory → handle.new ≡ handle.old }
 {
     let config = match startable(handle, config) {
         Ok(config) => config,
         Err(wrong) => return wrong,
     };
-    let Some(card) = octets_started(alloc, config) else {
+    let Some(kept) = octets_started(alloc, config) else {
         return NO_MEMORY;
     };
-    handle.put(card);
+    handle.put(kept);
     OK
 }
 
 // A card for octets of a configuration that is in range, if there is memory for it.
-fn octets_started(alloc: Global, config: Config) -> Option<Box<AnyCard>>
+fn octets_started(alloc: Global, config: Config) -> Option<Box<KeptCard>>
     requires { first_fault config ≡ None }
-    ensures fresh { IfSome result (λ card. AnyStands card.value (with_ports (octets.fresh config))) }
-    ensures counters { IfSome result (λ card. counters_of card.value ≡ replicate config.lines none_counted) }
+    ensures fresh { IfSome result (λ kept. AnyStands kept.value.card (with_ports (octets.fresh config))) }
+    ensures counters { IfSome result (λ kept. counters_of kept.value.card ≡ replicate config.lines none_counted) }
+    ensures marks { IfSome result (λ kept. AreUnmarked config.lines kept.value.refused) }
 {
     let shelf = RawShelf::start(alloc, u32::from(config.slots), config.n201).ok()?;
     let card = Card::start(alloc, config, shelf).ok()?;
-    Box::new(alloc, AnyCard::Octets(card)).ok()
+    KeptCard::begin(alloc, AnyCard::Octets(card), config)
 }
 
 /// Starts a card for frames, on which no TEI is on any line.
@@ -147,28 +152,30 @@ pub extern "C" fn lapd_card_start_frames(
         → (result ≡ status.ok) ⊎ (result ≡ status.no_memory) }
     ensures fresh { result ≡ status.ok → FramesStand handle.new (frames.fresh (config_in config.now)) }
     ensures counters { result ≡ status.ok → counters_at handle.new ≡ replicate (config_in config.now).lines none_counted }
+    ensures marks { result ≡ status.ok → AreUnmarked (config_in config.now).lines (marks_at handle.new) }
     ensures no_memory { result ≡ status.no_memory → handle.new ≡ handle.old }
 {
     let config = match startable(handle, config) {
         Ok(config) => config,
         Err(wrong) => return wrong,
     };
-    let Some(card) = frames_started(alloc, config) else {
+    let Some(kept) = frames_started(alloc, config) else {
         return NO_MEMORY;
     };
-    handle.put(card);
+    handle.put(kept);
     OK
 }
 
 // A card for frames of a configuration that is in range, if there is memory for it.
-fn frames_started(alloc: Global, config: Config) -> Option<Box<AnyCard>>
+fn frames_started(alloc: Global, config: Config) -> Option<Box<KeptCard>>
     requires { first_fault config ≡ None }
-    ensures fresh { IfSome result (λ card. AnyStands card.value (alone (frames.fresh config))) }
-    ensures counters { IfSome result (λ card. counters_of card.value ≡ replicate config.lines none_counted) }
+    ensures fresh { IfSome result (λ kept. AnyStands kept.value.card (alone (frames.fresh config))) }
+    ensures counters { IfSome result (λ kept. counters_of kept.value.card ≡ replicate config.lines none_counted) }
+    ensures marks { IfSome result (λ kept. AreUnmarked config.lines kept.value.refused) }
 {
     let shelf = RawShelf::start(alloc, u32::from(config.slots), config.n201).ok()?;
     let card = FrameCard::start(alloc, config, shelf).ok()?;
-    Box::new(alloc, AnyCard::Frames(card)).ok()
+    KeptCard::begin(alloc, AnyCard::Frames(card), config)
 }
 
 /// Ends a card, and gives back its memory.
@@ -180,8 +187,8 @@ pub extern "C" fn lapd_card_free(alloc: Global, handle: &mut CardHandle) -> u32
     ensures freed { IfSome (card_of handle.old) (λ _. (result ≡ status.ok) × (card_of handle.new ≡ None)) }
 {
     match handle.take(alloc) {
-        Some(card) => {
-            drop(card);
+        Some(kept) => {
+            drop(kept);
             OK
         }
         None => NO_CARD,

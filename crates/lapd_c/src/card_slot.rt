@@ -4,7 +4,7 @@ ghost use Rattle.std.specs.Borrow.{sem};
 ghost use Rattle.std.specs.Prelude.{◌≡◌, None, Some, IsSome};
 ghost use Rattle.lapd_c.specs.CardSlots.{card_owns, HeldCard, held_card_code};
 
-use crate::kinds::AnyCard;
+use crate::kept::KeptCard;
 use crate::loose::Loose;
 use std::alloc::Global;
 use std::marker::Model;
@@ -32,14 +32,14 @@ impl CardSlot {
     }
 
     /// The place of this card.
-    pub(crate) fn of(card: Box<AnyCard>) -> CardSlot
+    pub(crate) fn of(card: Box<KeptCard>) -> CardSlot
         ensures { result.card ≡ Some card.value }
     {
         CardSlot::at(Loose::of(card))
     }
 
     /// The card that lies there.
-    pub(crate) fn into_box(self, alloc: Global) -> Box<AnyCard>
+    pub(crate) fn into_box(self, alloc: Global) -> Box<KeptCard>
         requires { IsSome self.card }
         ensures { self.card ≡ Some result.value }
     {
@@ -47,12 +47,12 @@ impl CardSlot {
     }
 
     /// The card that lies there, where it lies.
-    pub(crate) fn card_mut(&mut self) -> &mut AnyCard
+    pub(crate) fn card_mut(&mut self) -> &mut KeptCard
         requires { IsSome self.old.card }
         ensures* lends { sem 𝓛 (LendsCard self.entry result) }
         ensures card { self.old.card ≡ Some result.now }
     {
-        unsafe { &mut *(self.at as *mut AnyCard) }
+        unsafe { &mut *(self.at as *mut KeptCard) }
     }
 
     /// Lets the place go, where no card lies.
@@ -62,20 +62,20 @@ impl CardSlot {
         let CardSlot { at: _ } = self;
     }
 
-    fn at(card: Loose<AnyCard, Global>) -> CardSlot
+    fn at(card: Loose<KeptCard, Global>) -> CardSlot
         ensures { result.card ≡ Some card.value }
     {
         let Loose { at, alloc: _ } = card;
         CardSlot { at: at as *mut u8 }
     }
 
-    fn into_loose(self, alloc: Global) -> Loose<AnyCard, Global>
+    fn into_loose(self, alloc: Global) -> Loose<KeptCard, Global>
         requires { IsSome self.card }
         ensures { self.card ≡ Some result.value }
     {
         let CardSlot { at } = self;
         Loose {
-            at: at as *mut AnyCard,
+            at: at as *mut KeptCard,
             alloc,
         }
     }

@@ -6,16 +6,20 @@ ghost use Rattle.model_card.specs.Event.{at};
 ghost use Rattle.model_line.specs.Event as line_event;
 ghost use Rattle.model_line.specs.Refusal.{refusal};
 ghost use Rattle.lapd_c.specs.Answers.{ShowsAnswer};
+ghost use Rattle.lapd_c.specs.Reopened.{TellsReopened, WaitsFor, refused_place};
 ghost use Rattle.lapd_c.specs.Statuses as status;
 ghost use Rattle.lapd_c.specs.Statuses.{refusal_status};
 ghost use Rattle.lapd_c.specs.Requests.{request_in};
 ghost use Rattle.lapd_c.specs.Timers.{timer_in};
-ghost use Rattle.lapd_c.specs.Cards.{card_of, kind_in, IsHandle, Stands};
+ghost use Rattle.lapd_c.specs.Cards.{card_of, kind_in, marks_at, served_card, IsHandle, Stands};
 ghost use Rattle.lapd_c.specs.Counted.{Counts, counters_at};
 ghost use Rattle.lapd_c.specs.Kinds.{Machine, card_in, after, answer};
 
 use crate::card::CardHandle;
-use crate::plain::{NO_CARD, OK, PlainReport, PlainTimer, WRONG_LINE, refusal_status, request_in};
+use crate::plain::{
+    DATA, NO_CARD, OK, PlainReport, PlainTimer, REFUSED_QUEUE_FULL, WRONG_LINE, refusal_status,
+    request_in,
+};
 
 /// A timer of a line expired. One that does not run has no effect, and nothing is told.
 #[unsafe(no_mangle)]
@@ -40,18 +44,21 @@ pub extern "C" fn lapd_expire(
         × ShowsAnswer report.new (answer (at line (line_event.expiry expired)) m)) }
     ensures counted { (m : Machine) → Stands handle.old m → line < (card_in m).config.lines
         → IfOk (timer_in timer.now) (λ expired. Counts (at line (line_event.expiry expired)) (card_in m) (counters_at handle.old) (counters_at handle.new)) }
+    ensures reopened { (m : Machine) → Stands handle.new m → line < (card_in m).config.lines → result ≡ status.ok
+        → TellsReopened line (card_in m) (marks_at handle.old) (marks_at handle.new) report.new }
 {
-    let Some(card) = handle.card() else {
+    let Some(kept) = handle.card() else {
         return NO_CARD;
     };
     let line = line as usize;
-    if line >= card.lines() {
+    if line >= kept.card.lines() {
         return WRONG_LINE;
     }
     match timer.timer() {
         Ok(timer) => {
-            let told = card.expire(line, timer);
+            let told = kept.card.expire(line, timer);
             report.show(&told);
+            kept.tell_reopened(line, report);
             OK
         }
         Err(wrong) => wrong,
@@ -72,7 +79,9 @@ pub extern "C" fn lapd_request(
     requires { IsHandle handle.old }
     ensures handle { IsHandle handle.new }
     ensures kind { kind_in handle.new ≡ kind_in handle.old }
-    ensures unchanged { result ≢ status.ok → (card_of handle.new ≡ card_of handle.old) × (report.new ≡ report.old) }
+    ensures unchanged { result ≢ status.ok → (served_card handle.new ≡ served_card handle.old) × (report.new ≡ report.old) }
+    ensures waits { result ≢ status.ok
+        → WaitsFor (refused_place result request service tei) line (marks_at handle.old) (marks_at handle.new) }
     ensures no_card { card_of handle.old ≡ None → (result ≡ status.no_card) × (handle.new ≡ handle.old) }
     ensures wrong_line { (m : Machine) → Stands handle.old m → (card_in m).config.lines ≤ line
         → result ≡ status.wrong_line }
@@ -90,23 +99,40 @@ pub extern "C" fn lapd_request(
         → IfOk (request_in request service tei contents.now) (λ asked.
         refusal (card_in m).config (machine.is_full (card_in m)) asked (machine.line_at line (card_in m)) ≡ None
         → Counts (at line (line_event.request asked)) (card_in m) (counters_at handle.old) (counters_at handle.new)) }
+    ensures reopened { (m : Machine) → Stands handle.new m → line < (card_in m).config.lines → result ≡ status.ok
+        → TellsReopened line (card_in m) (marks_at handle.old) (marks_at handle.new) report.new }
 {
-    let Some(card) = handle.card() else {
+    let Some(kept) = handle.card() else {
         return NO_CARD;
     };
     let line = line as usize;
-    if line >= card.lines() {
+    if line >= kept.card.lines() {
         return WRONG_LINE;
     }
     let asked = match request_in(request, service, tei, contents) {
         Ok(asked) => asked,
         Err(wrong) => return wrong,
     };
-    match card.request(line, asked) {
+    match kept.card.request(line, asked) {
         Ok(told) => {
             report.show(&told);
+            kept.tell_reopened(line, report);
             OK
         }
-        Err(why) => refusal_status(why),
+        Err(why) => {
+            let status = refusal_status(why);
+            kept.wait(line, refused_place(status, request, service, tei));
+            status
+        }
     }
+}
+
+// The place of the link whose queue had no room for what was to be sent.
+fn refused_place(status: u32, request: u8, service: u8, tei: u8) -> Option<u8>
+    ensures { result ≡ refused_place status request service tei }
+{
+    if status == REFUSED_QUEUE_FULL && request == DATA && tei < 127 {
+        return Some(if service == 0 { 2 * tei } else { 2 * tei + 1 });
+    }
+    None
 }

@@ -12,8 +12,9 @@ ghost use Rattle.lapd_card.specs.Stands.{Leads};
 ghost use Rattle.lapd_line.specs.Reports.{report_told};
 ghost use Rattle.lapd_c.specs.Answers.{ShowsReply, octet_of};
 ghost use Rattle.lapd_c.specs.Reports.{Shows, contents_of};
+ghost use Rattle.lapd_c.specs.Reopened.{TellsReopened};
 ghost use Rattle.lapd_c.specs.Statuses as status;
-ghost use Rattle.lapd_c.specs.Cards.{card_of, kind_in, IsHandle, OctetsStand};
+ghost use Rattle.lapd_c.specs.Cards.{card_of, kind_in, marks_at, IsHandle, OctetsStand};
 ghost use Rattle.lapd_c.specs.Kinds.{CardStands, for_frames, shelf_of};
 ghost use Rattle.lapd_c.specs.Counted.{counters_at};
 ghost use Rattle.lapd_c.specs.Exchange.{is_quiet, is_exchange, step_event, steps_made, with_step, Exchanged, ExchangedIn};
@@ -54,11 +55,13 @@ pub extern "C" fn lapd_exchange(
     ensures counted { (m : machine.OctetCard) → OctetsStand handle.old m → line < m.card.config.lines
         → is_exchange taken.now given.old steps.old ≡ true
         → counters_at handle.new ≡ all_counted (counters_at handle.old) (moments m.card (meant_all m (steps_made line taken.now steps.old (steps.new - steps.old)))) }
+    ensures reopened { (m : machine.OctetCard) → OctetsStand handle.new m → line < m.card.config.lines → result ≡ status.ok
+        → TellsReopened line m.card (marks_at handle.old) (marks_at handle.new) report.new }
 {
-    let Some(card) = handle.card() else {
+    let Some(kept) = handle.card() else {
         return NO_CARD;
     };
-    let AnyCard::Octets(card) = card else {
+    let AnyCard::Octets(card) = &mut kept.card else {
         return WRONG_CARD;
     };
     let line = line as usize;
@@ -69,6 +72,7 @@ pub extern "C" fn lapd_exchange(
         return WRONG_LENGTH;
     }
     exchange(card, line, taken, given, steps, report);
+    kept.tell_reopened(line, report);
     OK
 }
 

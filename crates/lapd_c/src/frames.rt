@@ -6,9 +6,10 @@ ghost use Rattle.model_card.specs.Machine.{after, answer};
 ghost use Rattle.lapd_card.specs.Waiting.{has_next};
 ghost use Rattle.lapd_c.specs.Answers.{ShowsAnswer};
 ghost use Rattle.lapd_c.specs.Faults.{fault_in};
+ghost use Rattle.lapd_c.specs.Reopened.{TellsReopened};
 ghost use Rattle.lapd_c.specs.Reports.{ShowsPull};
 ghost use Rattle.lapd_c.specs.Statuses as status;
-ghost use Rattle.lapd_c.specs.Cards.{card_of, kind_in, IsHandle, FramesStand};
+ghost use Rattle.lapd_c.specs.Cards.{card_of, kind_in, marks_at, IsHandle, FramesStand};
 ghost use Rattle.lapd_c.specs.Counted.{Counts, counters_at};
 ghost use Rattle.lapd_c.specs.Kinds.{for_octets};
 ghost use Rattle.lapd_c.specs.Frames.{comes, fails, goes, next_at, IsGiven};
@@ -40,11 +41,13 @@ pub extern "C" fn lapd_frame(
         × ShowsAnswer report.new (answer (comes line octets.now m) m) }
     ensures counted { (m : machine.Card) → FramesStand handle.old m → line < m.config.lines
         → Counts (comes line octets.now m) m (counters_at handle.old) (counters_at handle.new) }
+    ensures reopened { (m : machine.Card) → FramesStand handle.new m → line < m.config.lines → result ≡ status.ok
+        → TellsReopened line m (marks_at handle.old) (marks_at handle.new) report.new }
 {
-    let Some(card) = handle.card() else {
+    let Some(kept) = handle.card() else {
         return NO_CARD;
     };
-    let AnyCard::Frames(card) = card else {
+    let AnyCard::Frames(card) = &mut kept.card else {
         return WRONG_CARD;
     };
     let line = line as usize;
@@ -54,6 +57,7 @@ pub extern "C" fn lapd_frame(
     let mut bare = BareReport::nothing();
     card.hear(line, octets, &mut bare);
     report.show_bare(&bare, card.contents(line, octets, &bare));
+    kept.tell_reopened(line, report);
     OK
 }
 
@@ -81,11 +85,13 @@ pub extern "C" fn lapd_frame_failed(
         × ShowsAnswer report.new (answer (fails line fault) m)) }
     ensures counted { (m : machine.Card) → FramesStand handle.old m → line < m.config.lines
         → IfOk (fault_in cause) (λ fault. Counts (fails line fault) m (counters_at handle.old) (counters_at handle.new)) }
+    ensures reopened { (m : machine.Card) → FramesStand handle.new m → line < m.config.lines → result ≡ status.ok
+        → TellsReopened line m (marks_at handle.old) (marks_at handle.new) report.new }
 {
-    let Some(card) = handle.card() else {
+    let Some(kept) = handle.card() else {
         return NO_CARD;
     };
-    let AnyCard::Frames(card) = card else {
+    let AnyCard::Frames(card) = &mut kept.card else {
         return WRONG_CARD;
     };
     let line = line as usize;
@@ -96,6 +102,7 @@ pub extern "C" fn lapd_frame_failed(
         Ok(fault) => {
             let told = card.failed(line, fault);
             report.show(&told);
+            kept.tell_reopened(line, report);
             OK
         }
         Err(wrong) => wrong,
@@ -133,11 +140,14 @@ pub extern "C" fn lapd_next_frame(
         × IsGiven next out.old out.new count.new × ShowsPull report.new true (has_next line (after (goes line) m)) next.orders) }
     ensures counted { (m : machine.Card) → FramesStand handle.old m → line < m.config.lines
         → m.config.n201 + 4 ≤ length out.old → Counts (goes line) m (counters_at handle.old) (counters_at handle.new) }
+    ensures reopened { (m : machine.Card) → FramesStand handle.new m → line < m.config.lines → result ≡ status.ok
+        → TellsReopened line m (marks_at handle.old) (marks_at handle.new) report.new }
+    ensures unmarked { result ≢ status.ok → marks_at handle.new ≡ marks_at handle.old }
 {
-    let Some(card) = handle.card() else {
+    let Some(kept) = handle.card() else {
         return NO_CARD;
     };
-    let AnyCard::Frames(card) = card else {
+    let AnyCard::Frames(card) = &mut kept.card else {
         return WRONG_CARD;
     };
     let line = line as usize;
@@ -148,6 +158,7 @@ pub extern "C" fn lapd_next_frame(
         Ok(Some(next)) => {
             *count = next.length;
             report.show_next(card.has_next(line), next.order_list());
+            kept.tell_reopened(line, report);
             OK
         }
         Ok(None) => NO_FRAME,

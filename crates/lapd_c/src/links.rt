@@ -32,14 +32,14 @@ pub extern "C" fn lapd_next_link(
     ensures none { (m : Machine) → Stands handle.old m → line < (card_in m).config.lines → result ≡ status.no_more_links
         → NoneFrom line (card_in m) place.old }
 {
-    let Some(card) = handle.card() else {
+    let Some(kept) = handle.card() else {
         return NO_CARD;
     };
     let line = line as usize;
-    if line >= card.lines() {
+    if line >= kept.card.lines() {
         return WRONG_LINE;
     }
-    match first_link(card, line, *place) {
+    match first_link(&kept.card, line, *place) {
         Some((found, state)) => {
             *place = found + 1;
             *link = PlainLink::of(found, state);

@@ -6,8 +6,9 @@ ghost use Rattle.model_card.specs.ports.Card.{after, answer};
 ghost use Rattle.model_card.specs.ports.Event.{at};
 ghost use Rattle.model_card.specs.ports.Port as port;
 ghost use Rattle.lapd_c.specs.Answers.{ShowsReply, octet_of};
+ghost use Rattle.lapd_c.specs.Reopened.{TellsReopened};
 ghost use Rattle.lapd_c.specs.Statuses as status;
-ghost use Rattle.lapd_c.specs.Cards.{card_of, kind_in, IsHandle, OctetsStand};
+ghost use Rattle.lapd_c.specs.Cards.{card_of, kind_in, marks_at, IsHandle, OctetsStand};
 ghost use Rattle.lapd_c.specs.Counted.{CountsMeaning, counters_at};
 ghost use Rattle.lapd_c.specs.Kinds.{for_frames};
 
@@ -35,11 +36,13 @@ pub extern "C" fn lapd_octet(
         × ShowsReply report.new (answer (at line (port.octet octet)) m) }
     ensures counted { (m : machine.OctetCard) → OctetsStand handle.old m → line < m.card.config.lines
         → CountsMeaning (at line (port.octet octet)) m (counters_at handle.old) (counters_at handle.new) }
+    ensures reopened { (m : machine.OctetCard) → OctetsStand handle.new m → line < m.card.config.lines → result ≡ status.ok
+        → TellsReopened line m.card (marks_at handle.old) (marks_at handle.new) report.new }
 {
-    let Some(card) = handle.card() else {
+    let Some(kept) = handle.card() else {
         return NO_CARD;
     };
-    let AnyCard::Octets(card) = card else {
+    let AnyCard::Octets(card) = &mut kept.card else {
         return WRONG_CARD;
     };
     let line = line as usize;
@@ -49,11 +52,13 @@ pub extern "C" fn lapd_octet(
     match card.hear(line, octet) {
         None => {
             report.show_nothing();
+            kept.tell_reopened(line, report);
             OK
         }
         Some(bare) => {
             let told = card.lend(line, &bare);
             report.show(&told);
+            kept.tell_reopened(line, report);
             OK
         }
     }
@@ -81,11 +86,13 @@ pub extern "C" fn lapd_pull(
         × ShowsReply report.new (answer (at line port.pull) m) }
     ensures counted { (m : machine.OctetCard) → OctetsStand handle.old m → line < m.card.config.lines
         → CountsMeaning (at line port.pull) m (counters_at handle.old) (counters_at handle.new) }
+    ensures reopened { (m : machine.OctetCard) → OctetsStand handle.new m → line < m.card.config.lines → result ≡ status.ok
+        → TellsReopened line m.card (marks_at handle.old) (marks_at handle.new) report.new }
 {
-    let Some(card) = handle.card() else {
+    let Some(kept) = handle.card() else {
         return NO_CARD;
     };
-    let AnyCard::Octets(card) = card else {
+    let AnyCard::Octets(card) = &mut kept.card else {
         return WRONG_CARD;
     };
     let line = line as usize;
@@ -95,5 +102,6 @@ pub extern "C" fn lapd_pull(
     let pulled = card.pull(line);
     *octet = pulled.octet;
     report.show_pull(pulled.begun, pulled.orders());
+    kept.tell_reopened(line, report);
     OK
 }

@@ -37,16 +37,16 @@ pub extern "C" fn lapd_state(
         → IfOk (link_in service tei) (λ link. (result ≡ status.ok)
         × (state.new ≡ unwrap_or (machine.state line link.0 link.1 (card_in m)) 0)) }
 {
-    let Some(card) = handle.card() else {
+    let Some(kept) = handle.card() else {
         return NO_CARD;
     };
     let line = line as usize;
-    if line >= card.lines() {
+    if line >= kept.card.lines() {
         return WRONG_LINE;
     }
     match link_in(service, tei) {
         Ok((service, tei)) => {
-            *state = card.state(line, service, tei).unwrap_or(0);
+            *state = kept.card.state(line, service, tei).unwrap_or(0);
             OK
         }
         Err(wrong) => wrong,
@@ -63,10 +63,10 @@ pub extern "C" fn lapd_stored(handle: &mut CardHandle, octets: &mut u32) -> u32
     ensures untold { result ≢ status.ok → octets.new ≡ octets.old }
     ensures told { (m : Machine) → Stands handle.old m → (result ≡ status.ok) × (octets.new ≡ stored m) }
 {
-    let Some(card) = handle.card() else {
+    let Some(kept) = handle.card() else {
         return NO_CARD;
     };
-    *octets = card.stored();
+    *octets = kept.card.stored();
     OK
 }
 
@@ -80,10 +80,10 @@ pub extern "C" fn lapd_limit(handle: &mut CardHandle, octets: &mut u32) -> u32
     ensures untold { result ≢ status.ok → octets.new ≡ octets.old }
     ensures told { (m : Machine) → Stands handle.old m → (result ≡ status.ok) × (octets.new ≡ limit (card_in m).config) }
 {
-    let Some(card) = handle.card() else {
+    let Some(kept) = handle.card() else {
         return NO_CARD;
     };
-    *octets = card.limit();
+    *octets = kept.card.limit();
     OK
 }
 
@@ -97,9 +97,9 @@ pub extern "C" fn lapd_lines(handle: &mut CardHandle, lines: &mut u32) -> u32
     ensures untold { result ≢ status.ok → lines.new ≡ lines.old }
     ensures told { (m : Machine) → Stands handle.old m → (result ≡ status.ok) × (lines.new ≡ (card_in m).config.lines) }
 {
-    let Some(card) = handle.card() else {
+    let Some(kept) = handle.card() else {
         return NO_CARD;
     };
-    *lines = card.lines().min(MOST_LINES) as u32;
+    *lines = kept.card.lines().min(MOST_LINES) as u32;
     OK
 }

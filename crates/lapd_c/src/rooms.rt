@@ -37,18 +37,18 @@ pub extern "C" fn lapd_room(
         → IfOk (link_in service tei) (λ link. IfOk (machine_room line link.0 link.1 (card_in m)) (λ is.
         (result ≡ status.ok) × (room.new ≡ plain_room is))) }
 {
-    let Some(card) = handle.card() else {
+    let Some(kept) = handle.card() else {
         return NO_CARD;
     };
     let line = line as usize;
-    if line >= card.lines() {
+    if line >= kept.card.lines() {
         return WRONG_LINE;
     }
     let (service, tei) = match link_in(service, tei) {
         Ok(link) => link,
         Err(wrong) => return wrong,
     };
-    match card.room(line, service, tei) {
+    match kept.card.room(line, service, tei) {
         Ok(is) => {
             *room = PlainRoom::of(is);
             OK

@@ -24,10 +24,10 @@ pub extern "C" fn lapd_next_waiting(handle: &mut CardHandle, from: u32, line: &m
     ensures told { (m : machine.Card) → FramesStand handle.old m
         → IfSome (next_waiting from m) (λ next. (result ≡ status.ok) × (line.new ≡ next)) }
 {
-    let Some(card) = handle.card() else {
+    let Some(kept) = handle.card() else {
         return NO_CARD;
     };
-    let AnyCard::Frames(card) = card else {
+    let AnyCard::Frames(card) = &kept.card else {
         return WRONG_CARD;
     };
     match card.next_waiting(from as usize) {

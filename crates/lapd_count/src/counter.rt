@@ -63,6 +63,7 @@ pub enum Counter {
 impl Counter {
     /// Its place among the counters: those of frames heard and of frames begun by their kinds, then the others in the order
     /// above, the messages heard before those begun. `include/lapd.h` has them by name.
+    #[inline(always)]
     pub fn place(self) -> usize
         ensures value { result ≡ place self }
         ensures bound { result < 76 }

@@ -1,4 +1,5 @@
 -- Control fields: what `control_of` finds has that field, and the field of a row is found again.
+use Rattle.lapd_frame.specs.Allowed.{allowed}
 use Rattle.lapd_frame.proofs.Vocabulary.{◌≡◌, ◌≢◌, ℕ, ◌*◌, ◌/◌, ◌%◌, ◌<◌, inl, inr, Bool, true, false, cond, ◌==◌, refl, ap, sym, ◌∙◌, subst, List, [], ◌∷◌, ◌++◌, slice_index, Option, Some, None, arith, eq-eqb, ne_eqb, eqb_tells, Seq, seq, is_seq, Control, Information, ReceiveReady, ReceiveNotReady, Reject, Sabme, Disc, Ui, Ua, Dm, Frmr, Xid, row, second_octet, supervisory_of, unnumbered_of, control_of}
 
 -- what holds of each outcome of a chain of tests holds of the outcome
@@ -113,3 +114,13 @@ control-again (Ua p) rest = grind arith
 control-again (Dm p) rest = grind arith
 control-again (Frmr p) rest = grind arith
 control-again (Xid p) rest = grind arith
+
+-- a supervisory frame can be a command or a response
+allowed-too : (command b : Bool) (x y : Option Control) → allowed command x ≡ x → allowed command y ≡ y → allowed command (cond b x y) ≡ cond b x y
+allowed-too command true x y first second = first
+allowed-too command false x y first second = second
+
+pub supervisory_allowed : (command : Bool) (octet : ℕ) (nr : Seq) (pf : Bool) → allowed command (supervisory_of octet nr pf) ≡ supervisory_of octet nr pf
+unfolding supervisory_of
+supervisory_allowed command octet nr pf =
+    allowed-too command (octet == 0x01) _ _ refl (allowed-too command (octet == 0x05) _ _ refl (allowed-too command (octet == 0x09) _ _ refl refl))

@@ -1,4 +1,5 @@
 -- The definitions that the contracts of this crate cite.
+pub mod Allowed
 pub mod Faults
 pub mod Grammar
 pub mod Overlong

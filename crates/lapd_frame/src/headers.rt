@@ -1,6 +1,7 @@
 //! The octets before a frame's information.
 
 ghost use Rattle.std.specs.Prelude.{◌≡◌, slice_index};
+ghost use Rattle.lapd_frame.specs.Allowed.{allowed};
 ghost use Rattle.lapd_frame.specs.Faults.{is_short};
 ghost use Rattle.lapd_frame.specs.Reading.{supervisory_of, unnumbered_of, control_of, header_of};
 
@@ -33,31 +34,29 @@ pub(crate) fn header(side: Side, octets: &[u8; 4]) -> Result<(Address, Control),
         return Err(ReadFault::BadExtension);
     }
     let address = Address::of(side, first, second);
-    let Some(control) = control_of(third, fourth) else {
-        return Err(ReadFault::Undefined(address));
-    };
-    if !control.allows(address.command) {
-        return Err(ReadFault::Undefined(address));
+    match control_of(third, fourth, address.command) {
+        Some(control) => Ok((address, control)),
+        None => Err(ReadFault::Undefined(address)),
     }
-    Ok((address, control))
 }
 
-// The control field, if these octets are one.
-#[tactic(auto, unfolding(crate::specs::Reading::control_of))]
+// The control field, if these octets are one that a command, or a response, can have. A supervisory frame can be either.
+#[tactic(auto, using(crate::proofs::ControlField::supervisory_allowed), unfolding(crate::specs::Reading::control_of))]
 #[inline(always)]
-fn control_of(third: u8, fourth: u8) -> Option<Control>
-    ensures { result ≡ control_of third fourth }
+fn control_of(third: u8, fourth: u8, command: bool) -> Option<Control>
+    ensures { result ≡ allowed command (control_of third fourth) }
 {
     let nr = Seq::new(fourth / 2);
     let pf = fourth % 2 == 1;
     if third % 2 == 0 {
         let ns = Seq::new(third / 2);
-        return Some(Control::Information { ns, nr, pf });
+        return command.then_some(Control::Information { ns, nr, pf });
     }
     if third % 4 == 1 {
         return supervisory(third, nr, pf);
     }
-    unnumbered(third)
+    let control = unnumbered(third)?;
+    control.allows(command).then_some(control)
 }
 
 // The supervisory frame of an octet, by its function bits (Q.921 clause 3.4.2).

@@ -16,6 +16,7 @@ pub mod PullTakes
 pub mod PullTakesUnits
 pub mod GivingUp
 pub mod PullTakesLinks
+pub mod PullTakesRound
 pub mod NextLooks
 pub mod Stood
 pub mod MessageSteps

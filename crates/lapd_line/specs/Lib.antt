@@ -8,6 +8,7 @@ pub mod Reports
 pub mod Units
 pub mod Links
 pub mod Marks
+pub mod Rounds
 pub mod Awake
 pub mod Starts
 pub mod LinkLayer

@@ -1,17 +1,17 @@
 //! What a call for the next frame takes: a message of TEI management, unit data, or a frame of a link.
 
-ghost use Rattle.std.specs.Prelude.{◌≡◌, ◌-◌, ◌<◌, ◌≤◌, true, List, [], length, IfSome, IsSome};
-ghost use Rattle.std.specs.List.{range_with_len};
+ghost use Rattle.std.specs.Prelude.{◌≡◌, ◌<◌, ◌≤◌, true, List, [], length, IfSome, IsSome};
 ghost use Rattle.std.specs.Option.{unwrap_or};
 ghost use Rattle.lapd_frame.specs.Grammar.{IsFrame, spelling};
 ghost use Rattle.lapd_store.specs.Store.{Store, IsUsed};
 ghost use Rattle.lapd_link.specs.Outcome.{contents_in};
 ghost use Rattle.model_line.specs.Line.{link_count};
-ghost use Rattle.model_line.specs.Taken.{message_taken, unit_taken, link_taken, first_taken, taken};
+ghost use Rattle.model_line.specs.Taken.{message_taken, unit_taken, link_taken, first_taken, round, taken};
 ghost use Rattle.model_line.specs.Line as machine;
 ghost use Rattle.lapd_store.specs.Ownership.{Owned};
 ghost use Rattle.lapd_line.specs.Waiting.{has_next};
 ghost use Rattle.lapd_line.specs.Marks.{IsMark};
+ghost use Rattle.lapd_line.specs.Rounds.{IsFirstAround};
 ghost use Rattle.lapd_line.specs.Loading.{IsFree, Loads, room_in, reference_in};
 ghost use Rattle.lapd_line.specs.Pulls.{Takes, orders_taken};
 
@@ -73,11 +73,7 @@ impl LinkLayer {
         if let Some(orders) = self.take_unit(out, shelf) {
             return Some(orders);
         }
-        let (turn, count) = (self.turn, self.links.len());
-        if let Some(orders) = self.take_first(turn, count, out, shelf) {
-            return Some(orders);
-        }
-        self.take_first(0, turn, out, shelf)
+        self.take_first(out, shelf)
     }
 
     /// Whether a frame waits: a message of TEI management, unit data, or what a link has to give.
@@ -99,20 +95,31 @@ impl LinkLayer {
     #[inline(always)]
     fn take_first<O: Outlet, S: Shelf>(
         &mut self,
-        from: usize,
-        to: usize,
         out: &mut O,
         shelf: &S,
     ) -> Option<ShortList<Order>>
         requires stands { Standing self.old (S.store shelf.now) }
         requires free { IsFree (O.loading out.old) }
         requires room { self.old.config.n201 ≤ room_in (O.loading out.old) }
-        requires order { from ≤ to }
-        requires within { to ≤ link_count self.old.config }
-        ensures { Takes (λ c m. first_taken c m (range_with_len from (to - from))) self.old (S.store shelf.now) (O.loading out.old) self.new (S.store shelf.now) (O.loading out.new) (orders_taken result) }
+        ensures { Takes (λ c m. first_taken c m (round c m)) self.old (S.store shelf.now) (O.loading out.old) self.new (S.store shelf.now) (O.loading out.new) (orders_taken result) }
     {
-        let number = self.awake.first(from, to)?;
+        let number = self.first_awake()?;
         self.take_link(number, out, shelf)
+    }
+
+    /// The first of the links that is awake, going round from the turn.
+    #[inline(always)]
+    fn first_awake(&self) -> Option<usize>
+        requires { (store : Store) × Standing self.now store }
+        ensures within { IfSome result (λ number. number < link_count self.now.config) }
+        ensures awake { IfSome result (λ number. IsMark self.now.awake number true) }
+        ensures first { IsFirstAround self.now.awake self.now.turn (length self.now.links) result }
+    {
+        let (turn, count) = (self.turn, self.links.len());
+        match self.awake.first(turn, count) {
+            Some(number) => Some(number),
+            None => self.awake.first(0, turn),
+        }
     }
 
     /// What a link that is awake has to give.

@@ -9,13 +9,15 @@ ghost use Rattle.model_link.specs.Link.{frame_of};
 ghost use Rattle.model_link.specs.Events as event;
 ghost use Rattle.model_link.specs.Machine.{after, given};
 ghost use Rattle.model_link.specs.Rises.{RisesByEvent, sent, may_send};
+ghost use Rattle.model_link.specs.Told.{orders_for};
+ghost use Rattle.lapd_frame.specs.ShortLists.{listed};
 
 use crate::link::Link;
 use crate::orders::orders;
 use lapd_frame::{Order, ShortList};
 use lapd_link_steps::BareReport;
 use lapd_store::Slot;
-use model_link::ControlFrame;
+use model_link::{ControlFrame, LinkTimer};
 
 /// A frame that a link gives to be sent.
 #[derive(Clone, Copy)]
@@ -66,7 +68,7 @@ impl Link {
             Some(given) => Some(Offer {
                 frame: given.frame,
                 contents: self.slot_at(given.place),
-                orders: orders(&self.terms, before, report.started, self.entity.running()),
+                orders: self.orders_with(given.place, before, report.started),
             }),
         }
     }
@@ -78,6 +80,23 @@ impl Link {
             result ≡ is_some (given (terms_of self.now) m) }
     {
         self.entity.has_frame(&self.terms, self.queue.len())
+    }
+
+    // The orders that go with a frame. One whose contents are at no place of the queue has nothing to do with timers.
+    #[inline(always)]
+    fn orders_with(
+        &self,
+        place: Option<usize>,
+        before: Option<LinkTimer>,
+        started: Option<LinkTimer>,
+    ) -> ShortList<Order>
+        requires quiet { place ≡ None → (self.now.entity.running ≡ before) × (started ≡ None) }
+        ensures { listed result ≡ orders_for (terms_of self.now) before started self.now.entity.running }
+    {
+        match place {
+            None => ShortList::none(),
+            Some(_) => orders(&self.terms, before, started, self.entity.running()),
+        }
     }
 
     // The slot at a place of the queue.

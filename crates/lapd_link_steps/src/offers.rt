@@ -1,6 +1,6 @@
 //! The next frame that is sent.
 
-ghost use Rattle.std.specs.Prelude.{◌≡◌, [], ℕ, ◌<◌, ◌≤◌, List, length, Some, IsTrue, is_some};
+ghost use Rattle.std.specs.Prelude.{◌≡◌, [], ℕ, ◌<◌, ◌≤◌, true, List, length, None, Some, IfSome, IsTrue, is_some};
 ghost use Rattle.lapd_seq.specs.Windows.{outstanding_of};
 ghost use Rattle.model_link.specs.declared.terms.Terms.{Terms};
 ghost use Rattle.model_link.specs.Link.{Link, queue_of};
@@ -34,7 +34,9 @@ impl Entity {
     #[inline(always)]
     pub fn offer(&mut self, terms: &Terms, told: &mut BareReport, queued: usize) -> Option<Given>
         requires { terms.now.k ≤ 127 }
-        ensures { Gives terms.now (offers.offer_step terms.now) queued self.old told.old self.new told.new result }
+        ensures gives { Gives terms.now (offers.offer_step terms.now) queued self.old told.old self.new told.new result }
+        // An I-frame alone has to do with timers.
+        ensures quiet { IfSome result (λ given. given.place ≡ None → (self.new.running ≡ self.old.running) × (told.new.started ≡ told.old.started)) }
     {
         match self.waiting.pop_front() {
             Some(frame) => Some(Given { frame, place: None }),
@@ -62,7 +64,8 @@ impl Entity {
         queued: usize,
     ) -> Option<Given>
         requires { terms.now.k ≤ 127 }
-        ensures { Gives terms.now (offers.offer_among terms.now []) queued self.old told.old self.new told.new result }
+        ensures gives { Gives terms.now (offers.offer_among terms.now []) queued self.old told.old self.new told.new result }
+        ensures quiet { IfSome result (λ given. given.place ≡ None → (self.new.running ≡ self.old.running) × (told.new.started ≡ told.old.started)) }
     {
         if self.may_send_information(terms, queued) {
             return Some(self.send_information(told));
@@ -99,7 +102,8 @@ impl Entity {
     #[inline(always)]
     fn send_information(&mut self, told: &mut BareReport) -> Given
         requires { outstanding_of self.old.window < 127 }
-        ensures { (terms : Terms) (queued : ℕ) → Gives terms offers.send_information queued self.old told.old self.new told.new (Some result) }
+        ensures gives { (terms : Terms) (queued : ℕ) → Gives terms offers.send_information queued self.old told.old self.new told.new (Some result) }
+        ensures numbered { is_some result.place ≡ true }
     {
         let given = self.next_information();
         self.count_sent();
@@ -109,7 +113,8 @@ impl Entity {
     }
 
     fn next_information(&self) -> Given
-        ensures { (terms : Terms) (messages : List (List ℕ)) (t : BareReport) (p : Past) → t.released ≡ 0 → Fits terms messages self.now t p →
+        ensures numbered { is_some result.place ≡ true }
+        ensures given { (terms : Terms) (messages : List (List ℕ)) (t : BareReport) (p : Past) → t.released ≡ 0 → Fits terms messages self.now t p →
             given_of messages (Some result) ≡ Some (record { frame = offers.next_information (link_of self.now p); contents = offers.first_unsent (link_of self.now p) }) }
     {
         let frame = ControlFrame {

@@ -53,12 +53,7 @@ pub(crate) fn bring_down<T: Target>(
 }
 
 /// Both links of a TEI are given up.
-fn give_up<T: Target>(
-    exchange: &mut Exchange,
-    line: usize,
-    tei: u8,
-    page: &mut Page<T>,
-) -> Put
+fn give_up<T: Target>(exchange: &mut Exchange, line: usize, tei: u8, page: &mut Page<T>) -> Put
     requires line { line < exchange.old.plan.config.lines }
     ensures plan { exchange.new.plan ≡ exchange.old.plan }
     ensures told { (m : machine.Setup) → Holds exchange.old m

@@ -1,6 +1,6 @@
 //! The configuration of a card.
 
-ghost use Rattle.std.specs.Prelude.{◌≡◌, None, IfNone};
+ghost use Rattle.std.specs.Prelude.{◌≡◌, ◌<◌, None, IfSome, IfNone};
 ghost use Rattle.model_line.specs.Config.{first_fault};
 ghost use Rattle.lapd_c.specs.Config.{config_in, side_in, config_fault};
 
@@ -71,6 +71,7 @@ impl PlainConfig {
     pub fn fault(&self) -> Option<u32>
         ensures status { result ≡ config_fault self.now }
         ensures in_range { IfNone result (first_fault (config_in self.now) ≡ None) }
+        ensures wrong { IfSome result (λ wrong. 10 < wrong) }
     {
         if let Some(field) = self.config().fault() {
             return Some(field_status(field));

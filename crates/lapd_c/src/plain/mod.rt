@@ -31,10 +31,11 @@ pub(crate) use faults::fault_in;
 pub(crate) use heads::PlainHead;
 pub(crate) use links::{LINK_PLACES, PlainLink, service_at};
 pub(crate) use reports::PlainReport;
-pub(crate) use requests::request_in;
+pub(crate) use requests::{DATA, request_in};
 pub(crate) use rooms::PlainRoom;
 pub(crate) use statuses::{
-    NO_CARD, NO_CLOCK, NO_FRAME, NO_MEMORY, NO_MORE_LINKS, NO_PLACE, NO_TIMER, OK, SECOND_START,
-    WRONG_CARD, WRONG_LENGTH, WRONG_LINE, WRONG_ORDER, WRONG_TIME, refusal_status,
+    NO_CARD, NO_CLOCK, NO_FRAME, NO_MEMORY, NO_MORE_LINKS, NO_PLACE, NO_TIMER, OK,
+    REFUSED_QUEUE_FULL, SECOND_START, WRONG_CARD, WRONG_LENGTH, WRONG_LINE, WRONG_ORDER,
+    WRONG_TIME, refusal_status,
 };
 pub(crate) use timers::{PlainDue, PlainOrder, PlainTimer, link_in};

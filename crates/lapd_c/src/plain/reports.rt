@@ -7,8 +7,10 @@ ghost use Rattle.lapd_line.specs.Reports.{report_told, told_in};
 ghost use Rattle.model_line.specs.Event.{nothing};
 ghost use Rattle.lapd_c.specs.Notes.{plain_note};
 ghost use Rattle.lapd_c.specs.Timers.{plain_order};
+ghost use Rattle.lapd_c.specs.Reopened.{ShowsReopened, with_reopened};
 ghost use Rattle.lapd_c.specs.Reports.{Shows, ShowsPull, SameButContents, contents_in, contents_of, mark_of, orders_of};
 
+use crate::plain::links::service_at;
 use crate::plain::notes::{PlainNote, cause_number};
 use crate::plain::timers::PlainOrder;
 use lapd_card::{BareReport, Report};
@@ -43,6 +45,12 @@ pub struct PlainReport {
     pub contents: [u8; 260],
     /// Of the next frame: 1 where another frame waits on its line; else 0.
     pub more: u8,
+    /// 1 where a link that was refused contents has room again; else 0.
+    pub reopened: u8,
+    /// Where one has, its service: 0 or 16.
+    pub reopened_service: u8,
+    /// And its TEI, 0 to 126.
+    pub reopened_tei: u8,
 }
 
 impl PlainReport {
@@ -124,6 +132,22 @@ impl PlainReport {
         self.delivered = 0;
         self.length = 0;
         self.more = 0;
+    }
+
+    /// Shows which link of its line has room again, by its place, or that none has that waited for it.
+    #[inline(always)]
+    pub fn show_reopened(&mut self, place: Option<u8>)
+        ensures shown { ShowsReopened self.new place }
+        ensures rest { self.new ≡ with_reopened self.new self.old }
+    {
+        match place {
+            None => self.reopened = 0,
+            Some(place) => {
+                self.reopened = 1;
+                self.reopened_service = service_at(place).sapi();
+                self.reopened_tei = place / 2;
+            }
+        }
     }
 
     /// The orders that it shows.

@@ -1,10 +1,13 @@
 //! What is asked of a line.
 
-ghost use Rattle.std.specs.Prelude.{◌≡◌};
+ghost use Rattle.std.specs.Prelude.{◌≡◌, ◌<◌, IfErr};
 ghost use Rattle.lapd_c.specs.Requests.{request_in, read_of};
 
 use crate::plain::statuses::{WRONG_LENGTH, WRONG_REQUEST, service_in};
 use model_line::Request;
+
+/// The number of the request to send contents on a link.
+pub const DATA: u8 = 3;
 
 /// The request of a number, with the service by its SAPI.
 ///
@@ -13,14 +16,15 @@ use model_line::Request;
 /// `WRONG_REQUEST` where the number is that of no request; else `WRONG_SERVICE`; else `WRONG_LENGTH` where there are
 /// contents and the request has none.
 pub fn request_in(request: u8, service: u8, tei: u8, contents: &[u8]) -> Result<Request<'_>, u32>
-    ensures { read_of result ≡ request_in request service tei contents.now }
+    ensures read { read_of result ≡ request_in request service tei contents.now }
+    ensures wrong { IfErr result (λ wrong. 10 < wrong) }
 {
     if request == 0 || request > 11 {
         return Err(WRONG_REQUEST);
     }
     let service = service_in(service)?;
     match request {
-        3 => return Ok(Request::Data(service, tei, contents)),
+        DATA => return Ok(Request::Data(service, tei, contents)),
         4 => return Ok(Request::Unit(service, tei, contents)),
         _ => {}
     }

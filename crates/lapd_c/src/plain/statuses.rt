@@ -1,6 +1,6 @@
 //! What a call answers, as a number.
 
-ghost use Rattle.std.specs.Prelude.{◌≡◌};
+ghost use Rattle.std.specs.Prelude.{◌≡◌, ◌<◌, IfErr};
 ghost use Rattle.lapd_c.specs.Statuses.{refusal_status, field_status};
 ghost use Rattle.lapd_c.specs.Services.{service_in};
 
@@ -9,6 +9,8 @@ use model_line::Field;
 
 /// The call did what it says.
 pub const OK: u32 = 0;
+/// A request was refused because the queue was full.
+pub const REFUSED_QUEUE_FULL: u32 = 5;
 /// No card is there: it was not started, or was freed.
 pub const NO_CARD: u32 = 11;
 /// No clock is there.
@@ -55,7 +57,7 @@ pub fn refusal_status(why: Refusal) -> u32
         Refusal::NoLink => 2,
         Refusal::WrongState => 3,
         Refusal::TooLong => 4,
-        Refusal::QueueFull => 5,
+        Refusal::QueueFull => REFUSED_QUEUE_FULL,
         Refusal::PoolFull => 6,
         Refusal::TeiTaken => 7,
         Refusal::TableFull => 8,
@@ -67,7 +69,8 @@ pub fn refusal_status(why: Refusal) -> u32
 
 /// The status of a start whose configuration has this field out of range, as the first: 33 to 42.
 pub fn field_status(field: Field) -> u32
-    ensures { result ≡ field_status field }
+    ensures status { result ≡ field_status field }
+    ensures wrong { 10 < result }
 {
     match field {
         Field::Lines => 33,
@@ -90,7 +93,8 @@ pub fn field_status(field: Field) -> u32
 /// [`WRONG_SERVICE`] where it is neither 0 nor 16.
 #[inline(always)]
 pub fn service_in(service: u8) -> Result<Service, u32>
-    ensures { result ≡ service_in service }
+    ensures service { result ≡ service_in service }
+    ensures wrong { IfErr result (λ wrong. 10 < wrong) }
 {
     match Service::with_sapi(service) {
         Some(service) => Ok(service),

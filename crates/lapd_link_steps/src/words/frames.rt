@@ -13,6 +13,7 @@ use model_link::{ControlFrame, LinkTimer, State, Terms};
 
 impl Entity {
     // Puts a frame into the ring. Where the ring is full, it is lost.
+    #[inline(always)]
     pub(crate) fn send(&mut self, terms: &Terms, told: &mut BareReport, frame: ControlFrame)
         requires { HasRoom 0 1 told.old }
         ensures tells { Tells 0 1 told.old told.new }
@@ -40,6 +41,7 @@ impl Entity {
         );
     }
 
+    #[inline(always)]
     pub(crate) fn response(&mut self, terms: &Terms, told: &mut BareReport, control: Control)
         requires { HasRoom 0 1 told.old }
         ensures tells { Tells 0 1 told.old told.new }
@@ -56,6 +58,7 @@ impl Entity {
     }
 
     // RR, or RNR where own busy is on.
+    #[inline(always)]
     fn ready_to_receive(&self, pf: bool) -> Control
         ensures { (p : Past) → self.now.vr ≡ seq p.r → result ≡ word.ready_to_receive pf (link_of self.now p) }
     {
@@ -79,6 +82,7 @@ impl Entity {
     }
 
     // Answers a command with P.
+    #[inline(always)]
     pub(crate) fn answer(&mut self, terms: &Terms, told: &mut BareReport)
         requires { HasRoom 0 1 told.old }
         ensures tells { Tells 0 1 told.old told.new }

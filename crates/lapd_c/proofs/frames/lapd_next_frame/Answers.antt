@@ -1,10 +1,11 @@
 -- Hand-written answers for `lapd_next_frame`.
-use Rattle.lapd_c.proofs.Vocabulary.{◌≡◌, drop, refl, ap, sym, subst, ◌∙◌, option_map, next_in, written, goes}
+use Rattle.lapd_c.proofs.Vocabulary.{◌≡◌, drop, refl, ap, subst, ◌∙◌, option_map, next_in, written, alone, goes}
 use Rattle.std.proofs.Common.{◌≤◌, length, true}
 use Rattle.model_card.specs.Machine.{after}
 use Rattle.lapd_frame.specs.ShortLists.{listed}
 use Rattle.lapd_c.specs.Reports.{ShowsPull}
 use Rattle.lapd_c.proofs.Kinded.{next_is, none_goes, none_counted, given_shown, none_said}
+use Rattle.lapd_c.proofs.Reopening.{still_pulled, still_stands, tells_after}
 use Rattle.lapd_c.proofs.Served.{frames_there, frames_counted}
 use Rattle.lapd_c.proofs.frames.lapd_next_frame.Goals as goal
 
@@ -25,9 +26,13 @@ returns-in-Ok-None-clause-given c = λ m s within room. let t = frames_there c.i
 pub returns-in-Ok-Some-clause-given : goal.returns-in-Ok-Some-clause-given
 returns-in-Ok-Some-clause-given c = λ m s within room. let t = frames_there c.in-Some.ensures.card c.in-Frames.is m s in
     let stands = c.in-Ok-Some.ensures.after.stands m t in
-    given_shown c.args.line m c.next_frame.new.self c.args.out.now c.next_frame.new.out c.in-Ok-Some.next.length 0 c.show_next.new.self c.in-Ok-Some.next c.has_next.result
+    given_shown c.args.line m c.tell_reopened.new.self.card c.args.out.now c.next_frame.new.out c.in-Ok-Some.next.length 0 c.tell_reopened.new.report c.in-Ok-Some.next c.has_next.result
     (next_is c.args.line m c.next_frame.new.out c.in-Ok-Some.field-0 (c.in-Ok-Some.ensures.gave m t) ∙ ap (option_map (next_in c.next_frame.new.out)) c.in-Ok-Some.field-0-is)
-    refl stands (c.has_next.ensures (after (goes c.args.line) m) stands) refl
+    refl (still_stands (alone (after (goes c.args.line) m)) c.tell_reopened.ensures.card stands) (c.has_next.ensures (after (goes c.args.line) m) stands) refl
     (subst (λ g. written g ≤ length c.next_frame.new.out) c.in-Ok-Some.field-0-is c.in-Ok-Some.ensures.fits)
     (subst (λ g. drop (written g) c.next_frame.new.out ≡ drop (written g) c.args.out.now) c.in-Ok-Some.field-0-is c.in-Ok-Some.ensures.rest)
-    (subst (λ os. ShowsPull c.show_next.new.self true c.has_next.result (listed os)) c.order_list.ensures c.show_next.ensures)
+    (still_pulled c.tell_reopened.new.report c.show_next.new.self true c.has_next.result (listed c.in-Ok-Some.next.orders) c.tell_reopened.ensures.rest
+    (subst (λ os. ShowsPull c.show_next.new.self true c.has_next.result (listed os)) c.order_list.ensures c.show_next.ensures))
+
+pub returns-in-Ok-Some-clause-reopened : goal.returns-in-Ok-Some-clause-reopened
+returns-in-Ok-Some-clause-reopened c = λ m s w ok. tells_after (alone m) c.in-Some.ensures.card c.tell_reopened.ensures.card c.tell_reopened.ensures.tells s w

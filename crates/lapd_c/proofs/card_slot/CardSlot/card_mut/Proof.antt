@@ -1,7 +1,7 @@
 -- The card is lent where it lies, and its place follows it.
-use Rattle.lapd_c.proofs.Vocabulary.{◌≡◌, ℕ, List, [], ◌∷◌, IsSome, refl, sym, after, ghosts, Some, AnyCard, card_row, heap}
+use Rattle.lapd_c.proofs.Vocabulary.{◌≡◌, ℕ, List, [], ◌∷◌, IsSome, refl, sym, after, ghosts, Some, KeptCard, card_row, heap}
 use Rattle.lapd_c.proofs.Machine.{ !, Stays, Val, alloc_all, at_ret, await, bare, block_ptr, enter, env, ent, exec, blocks, fact, first, fjoin, flft, fld, fpack, free_all, fsep, fsplit, fsplit3, ftrue, get, heard, join, keep, later, lone, look_at, move, no, nothing, of_opd, pass_all, pick, plain, qed, raw, returns, rewrite, sem, sets, some, split, split3, stay_dropped, stop, sub, suffices, tables, use1, vptr, walk_of, whole, ‵, ◌$◌, ◌∵◌, ◌⊛◌}
-use base.Fml.{GName, Fml, Lft, Share}
+use base.Fml.{GName, Fml}
 use base.Fraction.{full_share}
 use base.Logic.{sep}
 use seplogic.Ra.Ura.{Ura}
@@ -13,7 +13,7 @@ use types.Run.{addr, load}
 use types.ByLocal.{sets_last, through}
 use denote.Follow.{follows, lends_Part}
 use denote.Memory.{cell_at, mem, part_at, part_of}
-use denote.Ref.{MutBor, MutRef, mut_Tells, mut_vals}
+use denote.Ref.{MutRef, mut_Tells, mut_vals}
 use denote.Signature.{mut_ref_to}
 use denote.Steps.{opens}
 use denote.Triple.Walked.{Goes-spent_ref, ends_at, says}
@@ -34,7 +34,7 @@ module _ (h : slot.the_row.Denot) (b o b' o' : ℕ) where
   abbrev Rest : Fml
   Rest = fsep (ghosts.dealloc_token heap (bare (lone card_row.mir)) (block_ptr b' o')) (cell_at full_share slot.the_row.mir (word (vptr b' o') ∷ []) b o)
 
-  back : {M : Type 1} {𝓤 : Ura M} (𝓛 : Logic 𝓤) → h.at ≡ block_ptr b' o' → (w : AnyCard)
+  back : {M : Type 1} {𝓤 : Ura M} (𝓛 : Logic 𝓤) → h.at ≡ block_ptr b' o' → (w : KeptCard)
       → ent 𝓤 (sep 𝓤 (sem 𝓛 ((mem card_row).own_at w b' o')) (sem 𝓛 Rest)) (sem 𝓛 ((mem slot.the_row).own_at (with_card h w) b o))
   unfolding part_of
   back 𝓛 there w =

@@ -1,0 +1,139 @@
+//! A card as C holds it: with the links that were refused contents because their queues were full, each of which is told once
+//! when it has room again.
+
+ghost use Rattle.std.specs.Prelude.{◌≡◌, ◌<◌, None, IfSome};
+ghost use Rattle.model_line.specs.Config.{first_fault};
+ghost use Rattle.lapd_c.specs.Kinds.{Machine, card_in, line_count, AnyStands};
+ghost use Rattle.lapd_c.specs.LinkMarks.{AreMarked, AreUnmarked, MarksBecome, marks_of};
+ghost use Rattle.lapd_c.specs.Reopened.{IsFirstOpen, TellsReopened, WaitsFor, is_open, is_there, waits_on, waits_there, with_reopened};
+
+use crate::kinds::AnyCard;
+use crate::link_marks::LinkMarks;
+use crate::plain::{PlainReport, service_at};
+use crate::refused::Refused;
+use model_line::Config;
+use std::alloc::Global;
+
+/// A card, with the marks of its links that wait for room.
+#[derive(Debug, Drop)]
+pub(crate) struct KeptCard {
+    pub(crate) card: AnyCard,
+    pub(crate) refused: Refused,
+}
+
+impl KeptCard {
+    /// A card as it begins, of which no link waits; none where there is no memory for it.
+    pub(crate) fn begin(alloc: Global, card: AnyCard, config: Config) -> Option<Box<KeptCard>>
+        requires { first_fault config ≡ None }
+        ensures card { IfSome result (λ kept. kept.value.card ≡ card) }
+        ensures marks { IfSome result (λ kept. AreUnmarked config.lines kept.value.refused) }
+    {
+        let refused = Refused::start(alloc, usize::from(config.lines)).ok()?;
+        Box::new(alloc, KeptCard { card, refused }).ok()
+    }
+
+    /// The link at a place of a line waits for room, if there is one.
+    pub(crate) fn wait(&mut self, line: usize, place: Option<u8>)
+        ensures card { self.new.card ≡ self.old.card }
+        ensures marked { WaitsFor place line self.old.refused self.new.refused }
+    {
+        let Some(place) = place else {
+            return;
+        };
+        if let Some(mut links) = self.refused.of(line) {
+            links.set(place, true);
+            self.refused.put(line, links);
+        }
+    }
+
+    /// Tells in the report of a call of a line which link has room again, if one that waits has.
+    #[inline(always)]
+    pub(crate) fn tell_reopened(&mut self, line: usize, report: &mut PlainReport)
+        ensures card { self.new.card ≡ self.old.card }
+        ensures rest { report.new ≡ with_reopened report.new report.old }
+        ensures tells { (m : Machine) → AnyStands self.old.card m → line < (card_in m).config.lines
+            → TellsReopened line (card_in m) self.old.refused self.new.refused report.new }
+    {
+        if self.refused.any() {
+            self.tell_first(line, report);
+        } else {
+            report.show_reopened(None);
+        }
+    }
+
+    // It stands apart, since mostly no link waits.
+    #[inline(never)]
+    fn tell_first(&mut self, line: usize, report: &mut PlainReport)
+        ensures card { self.new.card ≡ self.old.card }
+        ensures rest { report.new ≡ with_reopened report.new report.old }
+        ensures tells { (m : Machine) → AnyStands self.old.card m → line < (card_in m).config.lines
+            → TellsReopened line (card_in m) self.old.refused self.new.refused report.new }
+    {
+        let told = self.take_first(line);
+        report.show_reopened(told);
+    }
+
+    fn take_first(&mut self, line: usize) -> Option<u8>
+        ensures card { self.new.card ≡ self.old.card }
+        ensures first { (m : Machine) → AnyStands self.old.card m → line < (card_in m).config.lines
+            → IsFirstOpen result line (card_in m) (marks_of self.old.refused line) }
+        ensures marks { (m : Machine) → AnyStands self.old.card m → line < (card_in m).config.lines
+            → MarksBecome line (waits_on result line (card_in m) (marks_of self.old.refused line)) self.old.refused self.new.refused }
+    {
+        if line >= self.card.lines() {
+            return None;
+        }
+        let mut links = self.refused.of(line)?;
+        let told = first_open(&self.card, line, &links);
+        drop_gone(&self.card, line, &mut links);
+        if let Some(place) = told {
+            links.set(place, false);
+        }
+        self.refused.put(line, links);
+        told
+    }
+}
+
+// The first link of a line that waits and has room.
+fn first_open(card: &AnyCard, line: usize, links: &LinkMarks) -> Option<u8>
+    requires { line < line_count card.now }
+    ensures { (m : Machine) → AnyStands card.now m → IsFirstOpen result line (card_in m) links.now }
+{
+    let mut from = 0;
+    while let Some(place) = links.next(from) {
+        if has_room(card, line, place) {
+            return Some(place);
+        }
+        from = place + 1;
+    }
+    None
+}
+
+fn has_room(card: &AnyCard, line: usize, place: u8) -> bool
+    requires { line < line_count card.now }
+    ensures { (m : Machine) → AnyStands card.now m → result ≡ is_open line (card_in m) place }
+{
+    match card.room(line, service_at(place), place / 2) {
+        Ok(room) => room.queue > 0,
+        Err(_) => false,
+    }
+}
+
+// Takes the marks of links away whose TEI is no longer on the line.
+fn drop_gone(card: &AnyCard, line: usize, links: &mut LinkMarks)
+    requires { line < line_count card.now }
+    ensures { (m : Machine) → AnyStands card.now m → AreMarked links.new (waits_there line (card_in m) links.old) }
+{
+    let mut from = 0;
+    while let Some(place) = links.next(from) {
+        links.set(place, is_there(card, line, place));
+        from = place + 1;
+    }
+}
+
+fn is_there(card: &AnyCard, line: usize, place: u8) -> bool
+    requires { line < line_count card.now }
+    ensures { (m : Machine) → AnyStands card.now m → result ≡ is_there line (card_in m) place }
+{
+    card.room(line, service_at(place), place / 2).is_ok()
+}

@@ -8,6 +8,7 @@ use Rattle.laws_trace.specs.Trace.{trace_of, Always}
 use Rattle.laws_trace.specs.Units.{units_begun, units_granted}
 use Rattle.laws_trace.specs.UnitsGoOut.{UnitsGoOut, AllUnitsGoOut}
 use Rattle.laws_trace.proofs.Runs.{run-shows}
+use Rattle.laws_trace.proofs.LineAtEnd.{nothing-there}
 use Rattle.laws_trace.proofs.WaitedBegins.{drained}
 use Rattle.laws_trace.proofs.Units.{NoneWaits, fresh-none, Passes, rests, joins, steps}
 
@@ -27,14 +28,17 @@ module _ (c : Config) (events : List Event) (number : ℕ) (ranged : line.IsInRa
   pub front : UnitsGoOut c events number
   front = record { rest = map (unit_frame c) end.units; whole_is = sym passes }
 
-  nothing-left : (before calls : List Event) → events ≡ before ++ calls → AreTakesAt number calls → most_frames c ≤ takes_at number calls → end.units ≡ []
-  nothing-left before calls split only enough = (drained c events number ranged all within before calls split only enough).units
+  all-begun : end.units ≡ [] → units_begun c (trace_of c events number) ≡ units_granted c (trace_of c events number)
+  all-begun none =
+      sym (append-nil (units_begun c (trace_of c events number))) ∙ ap (λ us. units_begun c (trace_of c events number) ++ map (unit_frame c) us) (sym none) ∙ passes
 
+  -- Where a call gives none; and where the line was only called for its next frame, as often as the configuration says.
   pub whole : AllUnitsGoOut c events number
-  whole before calls split only enough =
-      sym (append-nil (units_begun c (trace_of c events number)))
-      ∙ ap (λ us. units_begun c (trace_of c events number) ++ map (unit_frame c) us) (sym (nothing-left before calls split only enough))
-      ∙ passes
+  whole none = all-begun (nothing-there c events number ranged all within none).units
+
+  pub in-the-end : (before calls : List Event) → events ≡ before ++ calls → AreTakesAt number calls → most_frames c ≤ takes_at number calls
+      → units_begun c (trace_of c events number) ≡ units_granted c (trace_of c events number)
+  in-the-end before calls split only enough = all-begun (drained c events number ranged all within before calls split only enough).units
 
 pub units-go-out : Always UnitsGoOut
 units-go-out c events number ranged all within = front c events number ranged all within

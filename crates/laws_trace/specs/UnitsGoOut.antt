@@ -1,10 +1,10 @@
 -- Unit data goes out.
-use Rattle.std.specs.Prelude.{◌≡◌, ◌≤◌, ℕ, List, ◌++◌}
+use Rattle.std.specs.Prelude.{◌≡◌, ℕ, List, []}
 use Rattle.model_line.specs.declared.config.Config.{Config}
-use Rattle.laws_line.specs.Drains.{most_frames}
-use Rattle.laws_line.specs.card.Among.{AreTakesAt, takes_at}
+use Rattle.model_line.specs.Event.{next}
 use Rattle.model_card.specs.Event.{Event}
-use Rattle.laws_trace.specs.Trace.{trace_of, IsFront}
+use Rattle.laws_trace.specs.Observer.{moment_of}
+use Rattle.laws_trace.specs.Trace.{frame_in, trace_of, IsFront}
 use Rattle.laws_trace.specs.Units.{units_begun, units_granted}
 
 -- The UI frames that begin on a line, except those of TEI management, are the first of the unit data that is granted: in
@@ -12,8 +12,7 @@ use Rattle.laws_trace.specs.Units.{units_begun, units_granted}
 abbrev pub UnitsGoOut : Config → List Event → ℕ → Type 0
 UnitsGoOut c events number = IsFront (units_begun c (trace_of c events number)) (units_granted c (trace_of c events number))
 
--- And they are all of it, once the line was only called for its next frame, as often as the configuration says.
+-- And where a call for the next frame gives none, they are all of it.
 abbrev pub AllUnitsGoOut : Config → List Event → ℕ → Type 0
 AllUnitsGoOut c events number =
-    (before calls : List Event) → events ≡ before ++ calls → AreTakesAt number calls → most_frames c ≤ takes_at number calls →
-    units_begun c (trace_of c events number) ≡ units_granted c (trace_of c events number)
+    frame_in (moment_of c events number next).answer ≡ [] → units_begun c (trace_of c events number) ≡ units_granted c (trace_of c events number)

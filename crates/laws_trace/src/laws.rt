@@ -33,9 +33,9 @@ pub fn the_other_side_is_heard()
 {}
 
 /// Unit data goes out. The UI frames that begin on a line, except those of TEI management, are the first of the unit
-/// data that was granted: in order, whole, each once, with its service and its TEI (`front`). And they are all of it,
-/// once the line was only called for its next frame, as often as the configuration says, 200 times with eight
-/// terminals, windows of 7, 4 unit data and 4 control frames (`all`; Q.921 clauses 3.6.5 and 5.2.2).
+/// data that was granted: in order, whole, each once, with its service and its TEI (`front`). And a call for the next
+/// frame gives none only where they are all of it (`all`); so, as calls come to an end (`calls_come_to_an_end` of the
+/// promises), all of it goes (Q.921 clauses 3.6.5 and 5.2.2).
 pub fn units_go_out()
     ensures front { Always UnitsGoOut }
     ensures all { Always AllUnitsGoOut }

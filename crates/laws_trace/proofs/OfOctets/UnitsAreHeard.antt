@@ -2,7 +2,7 @@
 use Rattle.laws_trace.proofs.Vocabulary.{◌≡◌, ℕ, ◌<◌, List, [], ◌∷◌, ◌++◌, map, refl, sym, ap, ◌∙◌, append_assoc, arith, filter, flat_map, flat_map-append, map-append, filter-append, Config, IsInRange, most_frames, takes_at, as_octets, octets_given, frames_to_hear, OfEachLine, given_frames_are_heard}
 use Rattle.model_bits.specs.Stream as stream
 use Rattle.laws_trace.specs.Units.{is_unit, unit_asked, units_begun, units_granted}
-use Rattle.laws_trace.proofs.UnitsGoOut.{units-go-out, all-units-go-out}
+use Rattle.laws_trace.proofs.UnitsGoOut.{units-go-out, in-the-end}
 use Rattle.model_card.specs.ports.Card.{fresh}
 use Rattle.model_card.specs.ports.Event.{Event}
 use Rattle.model_card.specs.ports.Run.{AreAtLines}
@@ -53,7 +53,7 @@ module _ (c : Config) (events : List Event) (number : ℕ) (ranged : IsInRange c
 
   pub whole : AllUnitsAreHeard c events number
   whole h =
-      let gone = all-units-go-out c (meaning c events number ranged all within) number ranged (lines c events number ranged all within) within in
+      let gone = in-the-end c (meaning c events number ranged all within) number ranged (lines c events number ranged all within) within in
       let most : most_frames c < takes_at number (emptied.calls c events number ranged all within h) = emptied.many c events number ranged all within h in
       ap (λ es. filter (is_unit c.side) (flat_map whole_frame es)) (sym (all-frames-go-out c events number ranged all within h))
       ∙ ap (filter (is_unit c.side)) (heard_again (map as_octets given))

@@ -1,5 +1,5 @@
 -- What is given of a link is due: the laws.
-use Rattle.laws_trace.proofs.Vocabulary.{◌≡◌, ℕ, ◌<◌, true, false, cond, All, List, [], ◌∷◌, ◌++◌, map, filter, Option, Some, None, IfSome, option_map, option_to_list, refl, sym, ap, ◌∙◌, subst, inl, inr, append-nil, Service, place_of-is, given-in-order, IsInOrder, All-head, ControlFrame, Terms, Link, Given, given_is_frame, Config, next, gave, Answer, Line, link_of, place_in, terms, Taken, taken, next_of, IsInRange, terms_in_range, HasNothing, line_at, at}
+use Rattle.laws_trace.proofs.Vocabulary.{◌≡◌, ℕ, ◌<◌, true, false, cond, All, List, [], ◌∷◌, ◌++◌, map, filter, Option, Some, None, IfSome, option_to_list, refl, sym, ap, ◌∙◌, subst, inl, inr, append-nil, Service, place_of-is, given-in-order, IsInOrder, All-head, ControlFrame, Terms, Link, Given, given_is_frame, Config, next, Answer, Line, link_of, place_in, terms, IsInRange, terms_in_range, line_at, at}
 use Rattle.model_link.specs.Events as link
 use Rattle.model_link.specs.Machine as links
 use Rattle.model_link.specs.Sound as link_sound

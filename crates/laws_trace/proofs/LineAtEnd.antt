@@ -1,5 +1,5 @@
 -- The line and a link of it behind a list of events; and a link that has nothing to send, where nothing of its line does.
-use Rattle.laws_trace.proofs.Vocabulary.{◌≡◌, ℕ, ◌<◌, List, get_or, Option, Some, None, sym, ap, ◌∙◌, subst, arith, true≢false, option_map_or, Service, place_of-is, is_multiple_frame, Established, Config, Line, link_in, link_of, link_at, link_number, place_at, place_in, service_at, tei_at, terms, IsInRange, sound_in, place_at-number, service_at-number, number_within, HasNothing, IsSilent, line_at, fresh_is_sound, line-sound, config-stays, [], refl, gave, next, next_of, Taken, taken, at, option_map}
+use Rattle.laws_trace.proofs.Vocabulary.{◌≡◌, ℕ, ◌<◌, List, get_or, Option, Some, None, sym, ap, ◌∙◌, subst, arith, option_map_or, Service, place_of-is, Config, Line, link_in, link_of, link_at, link_number, place_at, place_in, service_at, tei_at, terms, IsInRange, sound_in, place_at-number, service_at-number, number_within, HasNothing, IsSilent, line_at, fresh_is_sound, line-sound, config-stays, [], refl, gave, next, next_of, Taken, taken, at, option_map}
 use Rattle.model_link.specs.Link.{fresh}
 use Rattle.model_link.specs.Sound as link_sound
 use Rattle.model_line.specs.Sound.{IsSound}

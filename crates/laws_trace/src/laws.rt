@@ -112,10 +112,10 @@ pub fn what_is_given_is_due()
     ensures none { Always DueIsGiven }
 {}
 
-/// Nothing is lost in vain. An answer tells as many frames as lost as messages of TEI management are, by
-/// [`teis_are_managed`]: one where four are owed and another is, and else none; or none of these is, and as many
-/// control frames wait on the line of the link for which the event is as the configuration says, so that there is no room
-/// for another. So an answer that is due, as [`what_is_given_is_due`] has it, is not lost where its link has room (profile).
+/// Nothing is lost in vain. Of the control frames of a link that become due by an event, as [`what_is_given_is_due`] has
+/// them, while its TEI stays on the line, an answer tells as many as lost as find no place beside those of the link that
+/// wait, which are at most as many as the configuration says; and where none of any link becomes due, as many as messages
+/// of TEI management are, by [`teis_are_managed`]: one where four are owed and another is, and else none (profile).
 pub fn nothing_is_lost_in_vain()
     ensures { Always NoLossInVain }
 {}

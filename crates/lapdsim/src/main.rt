@@ -1,6 +1,7 @@
 //! `lapdsim run` plays the script on its standard input, and writes the transcript to its standard output.
 //! `lapdsim frame` shows one frame, and `lapdsim limits` how many octets a card stores at most; `docs/FORMAT.md` has
-//! the words and what they answer. `lapdsim --help` and `lapdsim --version` say what the program is.
+//! the words and what they answer. `lapdsim --help` and `lapdsim --version` say what the program is. `tests` tries the
+//! simulator over sources and targets that give and take in pieces, or fail.
 //!
 //! # Only tested
 //!
@@ -13,6 +14,8 @@ ghost use Rattle.std.specs.Prelude.{◌≡◌};
 ghost use Rattle.lapd_sim.specs.Plays.{Shows};
 
 mod help;
+#[cfg(test)]
+mod tests;
 
 use crate::help::help;
 use lapd_sim::{PlayFault, ReadFrom, Target, WriteTo, refuse, serve};

@@ -7,9 +7,8 @@ pub use Rattle.std.proofs.lemmas.List.Sums.{sum_by-cons}
 pub use Rattle.std.specs.Option.{option_map_or}
 pub use Rattle.std.specs.Prelude.{All, count_by, option_map, slice_index, ◌%◌}
 pub use Rattle.lapd_frame.specs.declared.timers.Order.{Order}
-pub use Rattle.laws_line.proofs.OfCard.Brief.{causes-are-told, gives-what-waits, others-stay}
+pub use Rattle.laws_line.proofs.OfCard.Brief.{causes-are-told, others-stay}
 pub use Rattle.laws_line.proofs.OfCard.Wherever.{come-to-an-end, waiting-taken}
-pub use Rattle.laws_line.specs.card.Brief.{GivesWhatWaits}
 pub use Rattle.laws_line.specs.card.PromisesOfTakes.{CallsComeToAnEnd, WaitingIsTaken, Wherever}
 pub use Rattle.model_bits.specs.declared.heard.Cause.TheVariants.{Short}
 pub use Rattle.model_card.proofs.Amortised.{frames_amortised, rejects_are_long}

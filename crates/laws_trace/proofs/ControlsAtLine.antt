@@ -17,7 +17,7 @@ use Rattle.laws_trace.proofs.ControlsWatched.{receipt, changed, command_of}
 use Rattle.laws_trace.proofs.DeliveriesWatched.{Standing}
 use Rattle.laws_trace.proofs.States.{expired_of, one_more, differ}
 use Rattle.laws_trace.proofs.TimersWatched.{nothing_yet}
-use Rattle.laws_trace.specs.Trace.{frame_in, is_up, Seen, seen}
+use Rattle.laws_trace.specs.Trace.{frame_in, Seen, seen}
 use Rattle.laws_trace.proofs.Addressed.{at-some-place}
 use Rattle.laws_trace.proofs.CommandsCaused.{IsNoOther}
 use Rattle.laws_trace.proofs.ControlsDue.{controls, answers_of, put_by}

@@ -1,5 +1,5 @@
 -- What is given of a link is due: the laws.
-use Rattle.laws_trace.proofs.Vocabulary.{◌≡◌, ℕ, ◌<◌, true, false, cond, All, List, [], ◌∷◌, ◌++◌, map, filter, Option, Some, None, IfSome, option_map, option_to_list, refl, sym, ap, ◌∙◌, subst, inl, inr, append-nil, Service, place_of-is, given-in-order, IsInOrder, All-head, ControlFrame, Terms, Link, Given, given_is_frame, Config, next, gave, Answer, Line, link_of, place_in, terms, Taken, taken, next_of, IsInRange, terms_in_range, HasNothing, line_at, at}
+use Rattle.laws_trace.proofs.Vocabulary.{◌≡◌, ℕ, ◌<◌, true, false, cond, All, List, [], ◌∷◌, ◌++◌, map, filter, Option, Some, None, IfSome, option_to_list, refl, sym, ap, ◌∙◌, subst, inl, inr, append-nil, Service, place_of-is, given-in-order, IsInOrder, All-head, ControlFrame, Terms, Link, Given, given_is_frame, Config, next, Answer, Line, link_of, place_in, terms, IsInRange, terms_in_range, line_at, at}
 use Rattle.model_link.specs.Events as link
 use Rattle.model_link.specs.Machine as links
 use Rattle.model_link.specs.Sound as link_sound
@@ -10,7 +10,6 @@ use Rattle.model_card.specs.Card.{fresh}
 use Rattle.model_card.specs.Event.{Event}
 use Rattle.model_card.specs.Machine.{answer}
 use Rattle.model_card.specs.Run.{after_all, AreAtLines}
-use Rattle.laws_line.proofs.Serving.{none-waits as nothing-waits}
 use Rattle.laws_trace.specs.FramesAreDue.{offers, GivenIsDue, DueIsGiven}
 use Rattle.laws_trace.specs.LinkFrames.{is_frame_of}
 use Rattle.laws_trace.specs.Managing.{is_on}
@@ -19,7 +18,7 @@ use Rattle.laws_trace.specs.Outgoing.{Outgoing, outgoing_of}
 use Rattle.laws_trace.specs.Trace.{frame_in, IsFront, Always}
 use Rattle.laws_trace.specs.Units.{is_ui}
 use Rattle.laws_trace.proofs.Addressed.{at-some-place}
-use Rattle.laws_trace.proofs.LineAtEnd.{line-at-end, link-at-end, silent-there}
+use Rattle.laws_trace.proofs.LineAtEnd.{line-at-end, link-at-end, nothing-there, silent-there}
 use Rattle.laws_trace.proofs.DataAsked.{only-offered}
 use Rattle.laws_trace.proofs.FramesOfLink.{all-foreign, own-frame}
 use Rattle.laws_trace.proofs.NoUi.{IsPlain}
@@ -35,10 +34,6 @@ none-goes xs ys none = record { rest = ys; whole_is = ap (λ xs. xs ++ ys) (sym 
 
 all-goes : (xs ys : List (List ℕ)) → ys ≡ xs → IsFront xs ys
 all-goes xs ys same = record { rest = []; whole_is = same ∙ sym (append-nil xs) }
-
-none-taken : (o : Option Taken) → frame_in (gave (option_map next_of o)) ≡ [] → o ≡ None
-none-taken None is = refl
-none-taken (Some t) is = cc is
 
 some-of : {X : Type 0} (P : X → Type 0) (o : Option X) (x : X) → o ≡ Some x → IfSome o P → P x
 some-of P o x is h = subst (λ o. IfSome o P) is h
@@ -105,16 +100,10 @@ module _ (c : Config) (events : List Event) (number : ℕ) (ranged : IsInRange c
       at-some-place line tei
       (sym (tei-seen c events number ranged all within service tei) ∙ sym (ap (λ (v : View). is_on tei v.teis) (view-is c number ranged within service tei events)) ∙ on)
 
-  nothing-there : frame_in (answer (at number next) (after_all (fresh c) events)) ≡ [] → HasNothing c line
-  unfolding lines.answer lines.takes_slot
-  nothing-there none =
-      nothing-waits c line sound
-      (none-taken (taken c line) (subst (λ (d : Config). frame_in (lines.answer d next line) ≡ []) (config-now c events number ranged all within service tei) none))
-
   pub none-due : frame_in (answer (at number next) (after_all (fresh c) events)) ≡ [] → is_on tei o.view.teis ≡ true → offers c service tei o ≡ []
   none-due none on =
       let there = placed on in
-      nothing-offered c events number ranged all within service tei there.0 there.1 (silent-there c line sound (nothing-there none) service tei there.0 there.1)
+      nothing-offered c events number ranged all within service tei there.0 there.1 (silent-there c line sound (nothing-there c events number ranged all within none) service tei there.0 there.1)
 
 pub given-is-due : Always GivenIsDue
 given-is-due c events number ranged all within service tei = now-due c events number ranged all within service tei

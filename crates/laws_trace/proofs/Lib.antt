@@ -98,6 +98,7 @@ pub mod News
 pub mod OtherSide
 pub mod OwedOfLink
 pub mod OwedAtLine
+pub mod LossesAtLine
 pub mod FramesOfLink
 pub mod LossesOfParts
 pub mod NoLossInVain

@@ -1,11 +1,9 @@
 -- Nothing is told as lost in vain: the law.
-use Rattle.laws_trace.proofs.Vocabulary.{◌≡◌, ◌≢◌, ℕ, zero, suc, ◌<◌, ◌==◌, ◌&&◌, ◌||◌, Bool, true, false, cond, List, length, get_or, is_some, Result, Ok, Err, Option, Some, None, refl, sym, ap, ◌∙◌, subst, arith, eq-eqb, true≢false, ◌⊎◌, inl, inr, option_map_or, get_or-set_same, Address, ReadFault, ErrorCode, L, N, O, Refusal, Parts, reading, long_reading, sapi_of, service_of, Service, Timer, place_of-is, LinkTimer, Link, Config, Aim, at_none, at_link, at_management, at_units, of_aim, hears, expiry, request, next, Answer, at_timer, aim_of_expiry, Line, link_in, link_of, place_in, terms, fresh_line, aim_of, unless_refused, unless_refused_told, aim_of_heard, heard_side, Assign, Remove, Deactivate, at_requested, at_deactivated, aim_of_request, IsInRange, sound_in, heard_aims, Card, line_at, at, fresh_is_sound, has_lines, by_room, line_sound, config-stays, lost_in, IsMalformed, IsTooLong, IsBy, BringsMalformed, sapi-is, service-same, Down, at_no_link}
+use Rattle.laws_trace.proofs.Vocabulary.{◌≡◌, ℕ, zero, suc, ◌+◌, ◌-◌, ◌<◌, ◌≤◌, ◌==◌, ◌&&◌, ◌||◌, not, Bool, true, false, cond, List, [], ◌++◌, length, get_or, Option, Some, None, refl, sym, ap, ◌∙◌, subst, ◌⊎◌, inl, inr, arith, eq-eqb, true≢false, fold, and_parts, option_map_or, get_or-set_same, PoolFull, Refusal, Service, Call, Timer, place_of-is, is_on-at, service-same, LinkTimer, ControlFrame, Config, Aim, at_none, at_link, at_management, at_units, of_aim, at_timer, aim_of_expiry, aim_of_heard, hears, expiry, request, next, Answer, refused, Line, fresh_line, has_tei, link_of, place_in, aim_of, unless_refused, unless_refused_told, Assign, Remove, Deactivate, at_requested, at_deactivated, aim_of_request, heard_aims, IsInRange, lost_in, deactivates, is_granted, IsBy, HaveTheirTimers, AllHaveTheirTimers, Card, line_at, is_full, at, fresh_is_sound, has_lines, by_room, line_sound, config-stays, Down, at_no_link}
 use Rattle.model_bits.specs.Stream as stream
 use Rattle.lapd_frame.specs.declared.timers.Timer.TheVariants as timers
 use Rattle.model_link.specs.declared.timers.LinkTimer.TheVariants as link_timer
 use Rattle.model_link.specs.Events as link
-use Rattle.model_link.specs.Link.{fresh}
-use Rattle.model_link.specs.Sound as link_sound
 use Rattle.model_line.specs.Event.{Event}
 use Rattle.model_line.specs.Machine as lines
 use Rattle.model_line.specs.Refusal.{refusal}
@@ -14,19 +12,39 @@ use Rattle.model_line.specs.Sound.{IsSound}
 use Rattle.model_card.specs.Card as cards
 use Rattle.model_card.specs.Event as card_event
 use Rattle.model_card.specs.Machine.{after, answer}
-use Rattle.model_card.specs.Run.{after_all, AreAtLines}
+use Rattle.model_card.specs.Run.{Moment, after_all, AreAtLines}
 use Rattle.model_card.specs.Sound as card_sound
 use Rattle.model_card.proofs.CardSound.{always_sound}
-use Rattle.laws_trace.specs.Managing.{due, managed_after}
-use Rattle.laws_trace.specs.NoLossInVain.{is_event_of, HasFullLink, NoLossInVain}
-use Rattle.laws_trace.specs.LinkFrames.{is_for, parts_of, its_frame, fault_of, faulty, faulty_long}
-use Rattle.laws_trace.specs.Trace.{is_own, Always}
+use Rattle.laws_trace.specs.ControlFrames as now_due
+use Rattle.laws_trace.specs.ControlFrames.{put_in}
+use Rattle.laws_trace.specs.Managing.{is_on, due, managed_after}
+use Rattle.laws_trace.specs.NoLossInVain.{puts_by, NoLossInVain}
+use Rattle.laws_trace.specs.Observer.{Observed, View, in_state, by_event, view_of, view_behind, moment_of}
+use Rattle.laws_trace.specs.Outgoing.{is_empty, outgoing_of}
+use Rattle.laws_trace.specs.Trace.{is_own, seen, trace_of, Always}
+use Rattle.laws_trace.proofs.Addressed.{at-some-place}
 use Rattle.laws_trace.proofs.CommandsCaused.{IsNoOther}
-use Rattle.laws_trace.proofs.OneLink.{Goes, is_at_link, event-goes}
-use Rattle.laws_trace.proofs.LossesOfParts.{link-full}
+use Rattle.laws_trace.proofs.DeliveriesKept.{run-stands}
+use Rattle.laws_trace.proofs.DeliveriesRun.{IsCount}
+use Rattle.laws_trace.proofs.DeliveriesWatched.{Standing, at_first as watched_first, stand}
+use Rattle.laws_trace.proofs.LineAtEnd.{line-at-end, link-at-end}
+use Rattle.laws_trace.proofs.LinksMove.{none-expires}
+use Rattle.laws_trace.proofs.LossesAtLine.{one-loses, event-loses}
 use Rattle.laws_trace.proofs.ManagingNotes.{is_management}
+use Rattle.laws_trace.proofs.NewsOfLeaving.{one-stays}
+use Rattle.laws_trace.proofs.ObservedRun.{holds-behind}
+use Rattle.laws_trace.proofs.OneLink.{Goes, is_at_link, event-goes}
+use Rattle.laws_trace.proofs.OwedNow.{Put, no-put, puts-so}
+use Rattle.laws_trace.proofs.Plain.{all-wait}
+use Rattle.laws_trace.proofs.Runs.{nothing-seen}
+use Rattle.laws_trace.proofs.SeenAs.{tei-seen}
+use Rattle.laws_trace.proofs.Standing.{standing, stand-is}
+use Rattle.laws_trace.proofs.StandingOfLink.{calm, IsStanding}
+use Rattle.laws_trace.proofs.States.{one_more}
 use Rattle.laws_trace.proofs.TeisAreManaged.{shows-behind}
 use Rattle.laws_line.proofs.Downs.{by-down}
+use Rattle.laws_trace.proofs.TimersAreTimely.{timely-now}
+use Rattle.laws_trace.proofs.WaitingNow.{waiting-now}
 
 -- One event of a line.
 abbrev NoLoss : Aim → Type 0
@@ -77,72 +95,19 @@ no-next c e a service tei (link.requested r full) other by = tt
 no-next c e a service tei link.offer other by = absurd (other by)
 no-next c e a service tei link.cleared other by = absurd by
 
--- The event of a line that is one of a link is for this link.
-module _ (c : Config) (e : Event) (a : Answer) (service : Service) (tei : ℕ) where
-  own : is_own service tei service tei ≡ true
-  own = ap (λ b. b && tei == tei) (service-same service) ∙ eq-eqb tei tei refl
+-- A link that stays on the line loses so many by an event.
+abbrev Puts : Service → ℕ → ℕ → Bool → Bool → Config → Line → Event → Answer → Line → List ControlFrame
+Puts service tei n busy rejected c l e a x = Put service tei n busy rejected c (standing service tei c (calm n busy rejected) (seen e a)) l e (seen e a) x
 
-  for-it : (address : Address) → service_of address.sapi ≡ Some service → address.tei ≡ tei → is_for service tei address ≡ true
-  for-it address sapi is =
-      ap (λ b. b && address.tei == tei) (eq-eqb address.sapi (sapi_of service) (sapi-is address.sapi service sapi)) ∙ eq-eqb address.tei tei is
+record LosesSome (c : Config) (l : Line) (e : Event) (a : Answer) (x : Line) : Type 0 where
+  service : Service
+  tei : ℕ
+  was_on : has_tei tei l ≡ true
+  is_on : has_tei tei x ≡ true
+  exact : (n : ℕ) (busy rejected : Bool) → IsCount (link_of service tei l) n → IsStanding (link_of service tei l) busy rejected
+      → lost_in a ≡ length (link_of service tei l).waiting + length (Puts service tei n busy rejected c l e a x) - c.control
 
-  some-of : (r : Result Parts ReadFault) → faulty service tei r ≢ None → (is_some (its_frame service tei (parts_of r)) || is_some (faulty service tei r)) ≡ true
-  some-of (Ok f) some = absurd (some refl)
-  some-of (Err fault) some = go (fault_of service tei fault) some
-    where
-      go : (o : Option ErrorCode) → o ≢ None → is_some o ≡ true
-      go None some = absurd (some refl)
-      go (Some letter) some = refl
-
-  some-long : (o : Option ErrorCode) → o ≢ None → is_some o ≡ true
-  some-long None some = absurd (some refl)
-  some-long (Some letter) some = refl
-
-  letter : (b : Bool) (code : ErrorCode) → b ≡ true → cond b (Some code) None ≢ None
-  letter b code is none = cc (sym (ap (λ b. cond b (Some code) None) is) ∙ none)
-
-  malformed-of : (address : Address) (octets : List ℕ) (what : link.Received) → is_for service tei address ≡ true
-      → ((e ≡ hears (stream.frame octets)) × IsMalformed c address octets what) ⊎ ((e ≡ hears (stream.overlong octets)) × IsTooLong c address octets what)
-      → is_event_of c service tei e ≡ true
-  malformed-of address octets what for (inl y) =
-      ap (is_event_of c service tei) y.0 ∙ some-of (reading (heard_side c) octets) (go what y.1)
-    where
-      go : (what : link.Received) → IsMalformed c address octets what → faulty service tei (reading (heard_side c) octets) ≢ None
-      go link.undefined is none = letter (is_for service tei address) L for (sym (ap (faulty service tei) is) ∙ none)
-      go link.wrong_size is none = letter (is_for service tei address) N for (sym (ap (faulty service tei) is) ∙ none)
-      go link.overlong is none = absurd is
-      go (link.frame f) is none = absurd is
-  malformed-of address octets what for (inr y) =
-      ap (is_event_of c service tei) y.0 ∙ some-long (faulty_long service tei (long_reading (heard_side c) octets)) (go what y.1)
-    where
-      go : (what : link.Received) → IsTooLong c address octets what → faulty_long service tei (long_reading (heard_side c) octets) ≢ None
-      go link.undefined is none = letter (is_for service tei address) L for (sym (ap (faulty_long service tei) is) ∙ none)
-      go link.wrong_size is none = letter (is_for service tei address) N for (sym (ap (faulty_long service tei) is) ∙ none)
-      go link.overlong is none = letter (is_for service tei address) O for (sym (ap (faulty_long service tei) is) ∙ none)
-      go (link.frame f) is none = absurd is
-
-  brings-malformed : (what : link.Received) → BringsMalformed c e service tei what → is_event_of c service tei e ≡ true
-  brings-malformed what y = malformed-of y.address y.octets what (for-it y.address y.sapi y.tei_is) y.by
-
-  event-of : (le : link.Event) → IsBy c e a service tei le → (e ≡ next → ⊥) → is_event_of c service tei e ≡ true
-  event-of (link.received (link.frame f)) y other =
-      ap (is_event_of c service tei) y.by
-      ∙ ap (λ r. is_some (its_frame service tei (parts_of r)) || is_some (faulty service tei r)) y.read
-      ∙ ap (λ b. is_some (cond b (Some f) None) || false) (for-it f.address y.sapi y.tei_is)
-  event-of (link.received link.undefined) y other = brings-malformed link.undefined y
-  event-of (link.received link.wrong_size) y other = brings-malformed link.wrong_size y
-  event-of (link.received link.overlong) y other = brings-malformed link.overlong y
-  event-of (link.expired link_timer.T200) y other = ap (is_event_of c service tei) y ∙ own
-  event-of (link.expired link_timer.T203) y other = ap (is_event_of c service tei) y ∙ own
-  event-of (link.requested link.Establish full) y other = ap (is_event_of c service tei) y.0 ∙ own
-  event-of (link.requested link.Release full) y other = ap (is_event_of c service tei) y.0 ∙ own
-  event-of (link.requested (link.Data contents) full) y other = ap (is_event_of c service tei) y.0 ∙ own
-  event-of (link.requested link.SetBusy full) y other = ap (is_event_of c service tei) y.0 ∙ own
-  event-of (link.requested link.ClearBusy full) y other = ap (is_event_of c service tei) y.0 ∙ own
-  event-of link.offer y other = absurd (other y)
-  event-of link.cleared y other = absurd y
-
-module _ (c : Config) (ranged : IsInRange c) (l : Line) (s : IsSound c l) (e : Event) (other : e ≡ next → ⊥) where
+module _ (c : Config) (ranged : IsInRange c) (l : Line) (s : IsSound c l) (timed : HaveTheirTimers l) (e : Event) (other : e ≡ next → ⊥) where
   abbrev a : Answer
   a = lines.answer c e l
 
@@ -150,27 +115,27 @@ module _ (c : Config) (ranged : IsInRange c) (l : Line) (s : IsSound c l) (e : E
   then = lines.after c e l
 
   -- an event of a link
-  by-link : (service : Service) (tei : ℕ) → is_at_link service tei (aim_of c e l) ≡ true → 0 < lost_in a → HasFullLink c e then
+  by-link : (service : Service) (tei : ℕ) → is_at_link service tei (aim_of c e l) ≡ true → 0 < lost_in a → LosesSome c l e a then
   by-link service tei at some = go (event-goes c e l service tei s)
     where
-      go : Goes c service tei e l then a → HasFullLink c e then
+      go : Goes c service tei e l then a → LosesSome c l e a then
       go (inl x) = absurd (true≢false (sym at ∙ x.aims))
       go (inr (inr x)) = let none : lost_in a ≡ 0 = x.lost in absurd (omega (arith, some, none))
       go (inr (inl x)) =
-          let t = terms c service tei in
-          let own = link_of service tei l in
-          let sound : link_sound.IsSound t own =
-          subst (link_sound.IsSound t) (sym (ap (λ o. option_map_or (link_in l service) o fresh) x.placed))
-          (sound_in c ranged l s service tei x.place (place_of-is l.management.places tei x.place x.placed).1) in
+          let on = is_on-at l.management.places x.place tei (place_of-is l.management.places tei x.place x.placed).1 in
+          let stays = one-stays service tei c e l s on x.place x.event x.aimed in
           record {
             service = service;
             tei = tei;
-            its = event-of c e a service tei x.event x.by other;
-            as_many = ap (λ (k : Link). length k.waiting) x.is
-                ∙ link-full t x.event own sound (no-next c e a service tei x.event other x.by) (subst (λ n. 0 < n) x.lost some);
+            was_on = on;
+            is_on = stays;
+            exact = λ n busy rejected count stands.
+                subst (λ w. lost_in a ≡ length (link_of service tei l).waiting + length (Put service tei n busy rejected c w l e (seen e a) then) - c.control)
+                (sym (stand-is service tei c e l n busy rejected))
+                (one-loses service tei c ranged e l s timed n busy rejected count stands x (no-next c e a service tei x.event other x.by) stays);
           }
 
-  by-aim : (aim : Aim) → aim_of c e l ≡ aim → is_management aim ≡ false → NoLoss aim → lost_in a ≡ (of_aim c aim l).told.lost → 0 < lost_in a → HasFullLink c e then
+  by-aim : (aim : Aim) → aim_of c e l ≡ aim → is_management aim ≡ false → NoLoss aim → lost_in a ≡ (of_aim c aim l).told.lost → 0 < lost_in a → LosesSome c l e a then
   by-aim (at_none what) is unmanaged none lost_is some = let zero : lost_in a ≡ 0 = lost_is ∙ none in absurd (omega (arith, some, zero))
   by-aim (at_units unit) is unmanaged none lost_is some = let zero : lost_in a ≡ 0 = lost_is in absurd (omega (arith, some, zero))
   by-aim at_no_link is unmanaged none lost_is some =
@@ -182,63 +147,233 @@ module _ (c : Config) (ranged : IsInRange c) (l : Line) (s : IsSound c l) (e : E
 none-less : 0 < 0 → ⊥
 none-less some = omega (arith, some)
 
-event-full : (c : Config) → IsInRange c → (l : Line) → IsSound c l → (e : Event) → is_management (aim_of c e l) ≡ false → 0 < lost_in (lines.answer c e l) → HasFullLink c e (lines.after c e l)
+event-loses-some : (c : Config) → IsInRange c → (l : Line) → IsSound c l → HaveTheirTimers l → (e : Event) → is_management (aim_of c e l) ≡ false → 0 < lost_in (lines.answer c e l)
+    → LosesSome c l e (lines.answer c e l) (lines.after c e l)
 unfolding lines.after lines.answer
-event-full c ranged l s (hears what) unmanaged some = by-aim c ranged l s (hears what) (λ e. cc e) (aim_of_heard c l what) refl unmanaged (heard-none c l what) refl some
-event-full c ranged l s (expiry timer) unmanaged some = by-aim c ranged l s (expiry timer) (λ e. cc e) (aim_of_expiry timer l) refl unmanaged (expiry-none c l timer) refl some
-event-full c ranged l s (request r) unmanaged some = go (refusal c false r l) refl unmanaged some
+event-loses-some c ranged l s timed (hears what) unmanaged some = by-aim c ranged l s timed (hears what) (λ e. cc e) (aim_of_heard c l what) refl unmanaged (heard-none c l what) refl some
+event-loses-some c ranged l s timed (expiry timer) unmanaged some = by-aim c ranged l s timed (expiry timer) (λ e. cc e) (aim_of_expiry timer l) refl unmanaged (expiry-none c l timer) refl some
+event-loses-some c ranged l s timed (request r) unmanaged some = go (refusal c false r l) refl unmanaged some
   where
     go : (o : Option Refusal) → refusal c false r l ≡ o → is_management (unless_refused o (aim_of_request r l)) ≡ false
-        → 0 < lost_in (unless_refused_told o (of_aim c (unless_refused o (aim_of_request r l)) l)) → HasFullLink c (request r) (of_aim c (unless_refused o (aim_of_request r l)) l).line
+        → 0 < lost_in (unless_refused_told o (of_aim c (unless_refused o (aim_of_request r l)) l))
+        → LosesSome c l (request r) (unless_refused_told o (of_aim c (unless_refused o (aim_of_request r l)) l)) (of_aim c (unless_refused o (aim_of_request r l)) l).line
     go (Some why) is unmanaged some = absurd (none-less some)
     go None is unmanaged some =
-        subst (λ (o : Option Refusal). HasFullLink c (request r) (of_aim c (unless_refused o (aim_of_request r l)) l).line) is
-        (by-aim c ranged l s (request r) (λ e. cc e) (aim_of_request r l) (ap (λ o. unless_refused o (aim_of_request r l)) is) unmanaged (request-none c l r)
+        subst (λ (o : Option Refusal). LosesSome c l (request r) (unless_refused_told o (of_aim c (unless_refused o (aim_of_request r l)) l)) (of_aim c (unless_refused o (aim_of_request r l)) l).line) is
+        (by-aim c ranged l s timed (request r) (λ e. cc e) (aim_of_request r l) (ap (λ o. unless_refused o (aim_of_request r l)) is) unmanaged (request-none c l r)
         (ap (λ o. lost_in (unless_refused_told o (of_aim c (unless_refused o (aim_of_request r l)) l))) is)
         (subst (λ (o : Option Refusal). 0 < lost_in (unless_refused_told o (of_aim c (unless_refused o (aim_of_request r l)) l))) (sym is) some))
-event-full c ranged l s next unmanaged some = absurd (none-less some)
-
--- So many are lost as messages are, or a link is full.
-abbrev Lost : Config → Event → ℕ → Answer → Line → Type 0
-Lost c e messages a new = (lost_in a ≡ messages) ⊎ ((messages ≡ 0) × HasFullLink c e new)
+event-loses-some c ranged l s timed next unmanaged some = absurd (none-less some)
 
 none-or-some : (n : ℕ) → (n ≡ 0) ⊎ (0 < n)
 none-or-some zero = inl refl
 none-or-some (suc n) = inr (omega arith)
 
-line-lost : (c : Config) → IsInRange c → (l : Line) → IsSound c l → (e : Event) (messages : ℕ) → messages ≡ 0 → is_management (aim_of c e l) ≡ false
-    → Lost c e messages (lines.answer c e l) (lines.after c e l)
-line-lost c ranged l s e messages none unmanaged = go (none-or-some (lost_in (lines.answer c e l)))
-  where
-    go : (lost_in (lines.answer c e l) ≡ 0) ⊎ (0 < lost_in (lines.answer c e l)) → Lost c e messages (lines.answer c e l) (lines.after c e l)
-    go (inl same) = inl (same ∙ sym none)
-    go (inr some) = inr (none, event-full c ranged l s e unmanaged some)
-
-card-lost : (k : Card) (number : ℕ) (e : Event) (messages : ℕ) → card_sound.IsSound k → number < k.config.lines → messages ≡ 0 → is_management (aim_of k.config e (line_at number k)) ≡ false
-    → Lost k.config e messages (answer (at number e) k) (line_at number (after (at number e) k))
-card-lost k number e messages s here none unmanaged =
+card-loses : (k : Card) (number : ℕ) (e : Event) → card_sound.IsSound k → AllHaveTheirTimers k → number < k.config.lines → is_management (aim_of k.config e (line_at number k)) ≡ false
+    → let a = answer (at number e) k in 0 < lost_in a → LosesSome k.config (line_at number k) e a (line_at number (after (at number e) k))
+card-loses k number e s timely here unmanaged =
     let c = k.config in
     let l = line_at number k in
-    by_room (λ ls a. Lost c e messages a (get_or ls number (fresh_line c))) (at number e) k (λ full. inl (sym none))
+    by_room (λ ls a. 0 < lost_in a → LosesSome c l e a (get_or ls number (fresh_line c))) (at number e) k (λ full some. absurd (none-less some))
     (λ room.
-    subst (λ (x : Line). Lost c e messages (lines.answer c e l) x) (sym (get_or-set_same k.lines number (lines.after c e l) (fresh_line c) (omega (arith, s.count, here))))
-    (line-lost c s.config l (line_sound k number (has_lines k s) here) e messages none unmanaged))
+    subst (λ (x : Line). 0 < lost_in (lines.answer c e l) → LosesSome c l e (lines.answer c e l) x) (sym (get_or-set_same k.lines number (lines.after c e l) (fresh_line c) (omega (arith, s.count, here))))
+    (event-loses-some c s.config l (line_sound k number (has_lines k s) here) (timely.lines number here) e unmanaged))
+
+-- So does each link of which frames are put, unless it is deactivated, which puts none.
+own-loses : (service : Service) (tei n : ℕ) (busy rejected : Bool) (k : Card) (number : ℕ) (e : Event) → card_sound.IsSound k → AllHaveTheirTimers k → number < k.config.lines
+    → let l = line_at number k in let a = answer (at number e) k in let x = line_at number (after (at number e) k) in
+    IsCount (link_of service tei l) n → IsStanding (link_of service tei l) busy rejected → has_tei tei l ≡ true → has_tei tei x ≡ true → deactivates service tei e ≡ false
+    → is_empty (Puts service tei n busy rejected k.config l e a x) ≡ false
+    → lost_in a ≡ length (link_of service tei l).waiting + length (Puts service tei n busy rejected k.config l e a x) - k.config.control
+own-loses service tei n busy rejected k number e s timely here count stands was-on is-on stays =
+    let c = k.config in
+    let l = line_at number k in
+    by_room (λ ls a. let x = get_or ls number (fresh_line c) in has_tei tei x ≡ true → Exact c l a x) (at number e) k
+    (λ full _ some.
+    let takes = (and_parts (lines.takes_slot c e l) (is_full k) full).0 in
+    let none : Puts service tei n busy rejected c l e (refused PoolFull) l ≡ [] =
+    ap (λ t. Put service tei n busy rejected c (standing service tei c (calm n busy rejected) t) l e t l) (nothing-seen c e l takes)
+    ∙ no-put service tei n busy rejected c l e (ap (λ o. option_map_or one_more o 0) (none-expires c service tei e l takes)) in
+    absurd (true≢false (sym (ap is_empty none) ∙ some)))
+    (λ room.
+    subst (λ (x : Line). has_tei tei x ≡ true → Exact c l (lines.answer c e l) x) (sym (get_or-set_same k.lines number (lines.after c e l) (fresh_line c) (omega (arith, s.count, here))))
+    (λ on.
+    subst (λ w. let puts = Put service tei n busy rejected c w l e (seen e (lines.answer c e l)) (lines.after c e l) in
+    is_empty puts ≡ false → lost_in (lines.answer c e l) ≡ length (link_of service tei l).waiting + length puts - c.control) (sym (stand-is service tei c e l n busy rejected))
+    (event-loses service tei c s.config e l (line_sound k number (has_lines k s) here) (timely.lines number here) n busy rejected count stands was-on on stays)))
+    is-on
+  where
+    Exact : Config → Line → Answer → Line → Type 0
+    Exact c l a x =
+        is_empty (Puts service tei n busy rejected c l e a x) ≡ false → lost_in a ≡ length (link_of service tei l).waiting + length (Puts service tei n busy rejected c l e a x) - c.control
+
+down-none : (c : Config) (service : Service) (tei : ℕ) (o : Observed) (what : Event) (a : Answer) (m : Moment) → m.event.what ≡ what → m.answer ≡ a → deactivates service tei what ≡ true
+    → put_in c service tei o (by_event c service tei what a o) m ≡ []
+down-none c service tei o (request (Deactivate its by)) a m is answers down =
+    ap (λ what. now_due.answers c service tei o q what m.answer ++ cond (not (o.state == q.state) || now_due.expires service tei what) (now_due.command_of q) []) is
+    ∙ ap (λ a. cond (is_granted a) (now_due.changed o q) [] ++ cond (not (o.state == q.state) || false) (now_due.command_of q) []) answers
+    ∙ go (is_granted a)
+  where
+    q : Observed
+    q = by_event c service tei (request (Deactivate its by)) a o
+
+    itself : (n : ℕ) → (not (n == n) || false) ≡ false
+    itself n = ap (λ b. not b || false) (eq-eqb n n refl)
+
+    either : (b : Bool) → cond {A = List ControlFrame} b [] [] ≡ []
+    either true = refl
+    either false = refl
+
+    go : (g : Bool) → let q = cond g (cond (is_own service tei its by) (in_state 4) o) o in
+        cond g (now_due.changed o q) [] ++ cond (not (o.state == q.state) || false) (now_due.command_of q) [] ≡ []
+    go true = ap (λ b. let q = cond b (in_state 4) o in now_due.changed o q ++ cond (not (o.state == q.state) || false) (now_due.command_of q) []) down ∙ either (not (o.state == 4) || false)
+    go false = ap (λ b. cond b (now_due.command_of o) []) (itself o.state)
+down-none c service tei o (hears e) a m is answers down = absurd (true≢false (sym down))
+down-none c service tei o (expiry timer) a m is answers down = absurd (true≢false (sym down))
+down-none c service tei o next a m is answers down = absurd (true≢false (sym down))
+down-none c service tei o (request (Establish its by)) a m is answers down = absurd (true≢false (sym down))
+down-none c service tei o (request (Release its by)) a m is answers down = absurd (true≢false (sym down))
+down-none c service tei o (request (Data its by contents)) a m is answers down = absurd (true≢false (sym down))
+down-none c service tei o (request (Request.Unit its by contents)) a m is answers down = absurd (true≢false (sym down))
+down-none c service tei o (request (Assign by)) a m is answers down = absurd (true≢false (sym down))
+down-none c service tei o (request (Remove by)) a m is answers down = absurd (true≢false (sym down))
+down-none c service tei o (request (Checking by)) a m is answers down = absurd (true≢false (sym down))
+down-none c service tei o (request (SetBusy its by)) a m is answers down = absurd (true≢false (sym down))
+down-none c service tei o (request (ClearBusy its by)) a m is answers down = absurd (true≢false (sym down))
+down-none c service tei o (request Down) a m is answers down = absurd (true≢false (sym down))
 
 module _ (c : Config) (events : List card_event.Event) (number : ℕ) (ranged : IsInRange c) (all : AreAtLines (cards.fresh c) events) (within : number < c.lines) (what : Event) where
   abbrev k : Card
   k = after_all (cards.fresh c) events
 
+  abbrev l : Line
+  l = line_at number k
+
+  abbrev x : Line
+  x = line_at number (after (at number what) k)
+
+  abbrev its-answer : Answer
+  its-answer = answer (at number what) k
+
   abbrev messages : ℕ
   messages = (due c what (managed_after c number events)).lost
 
-  now-lost : (lost_in (answer (at number what) k) ≡ messages) ⊎ ((messages ≡ 0) × (is_management (aim_of c what (line_at number k)) ≡ false))
-      → Lost c what messages (answer (at number what) k) (line_at number (after (at number what) k))
-  now-lost (inl same) = inl same
-  now-lost (inr x) =
-      let kept = config-stays (cards.fresh c) events in
-      subst (λ (d : Config). Lost d what messages (answer (at number what) k) (line_at number (after (at number what) k))) kept
-      (card-lost k number what messages (always_sound (cards.fresh c) events (fresh_is_sound c ranged) all) (subst (λ (d : Config). number < d.lines) (sym kept) within) x.0
-      (subst (λ (d : Config). is_management (aim_of d what (line_at number k)) ≡ false) (sym kept) x.1))
+  kept : k.config ≡ c
+  kept = config-stays (cards.fresh c) events
+
+  sound : card_sound.IsSound k
+  sound = always_sound (cards.fresh c) events (fresh_is_sound c ranged) all
+
+  here : number < k.config.lines
+  here = subst (λ (d : Config). number < d.lines) (sym kept) within
+
+  module _ (service : Service) (tei : ℕ) where
+    abbrev v : View
+    v = view_of c service tei number events
+
+    abbrev u : View
+    u = view_behind c service tei number events what
+
+    abbrev w : Standing
+    w = fold (stand c service tei) watched_first (trace_of c events number)
+
+    abbrev Stays : Bool
+    Stays = is_on tei u.teis && is_on tei v.teis
+
+    timely : AllHaveTheirTimers k
+    timely = timely-now c events number ranged all within service tei
+
+    was-on : is_on tei v.teis ≡ has_tei tei l
+    was-on = tei-seen c events number ranged all within service tei
+
+    then-on : is_on tei u.teis ≡ has_tei tei x
+    then-on = (holds-behind c events number ranged all within service tei what).follows.on.same tei
+
+    abbrev Its : Config → List ControlFrame
+    Its d = Puts service tei w.told.count w.busy w.rejected d l what its-answer x
+
+    module _ (on : has_tei tei l ≡ true) (on-then : has_tei tei x ≡ true) where
+      stays-on : Stays ≡ true
+      stays-on = ap (λ b. b && is_on tei v.teis) (then-on ∙ on-then) ∙ was-on ∙ on
+
+      its-puts : Its c ≡ puts_by c number events what service tei
+      its-puts =
+          let p = at-some-place l tei on in
+          let q = at-some-place x tei on-then in
+          puts-so c number ranged within service tei events all what p.0 q.0 p.1 q.1
+          ∙ sym (ap (λ b. cond b (put_in c service tei v.link u.link (moment_of c events number what)) []) stays-on)
+
+      waits-are : (outgoing_of c service tei number events).waiting ≡ (link_of service tei l).waiting
+      waits-are =
+          let p = at-some-place l tei on in
+          waiting-now c number ranged within service tei events all p.0 p.1 ∙ all-wait c events number ranged all within service tei p.0 p.1
+
+      link-is : u.link ≡ by_event c service tei what its-answer v.link
+      link-is =
+          ap (λ b. cond (not b) (in_state 1) (cond (is_on tei v.teis) (cond (number == number) (by_event c service tei what its-answer v.link) v.link) (in_state 4))) (then-on ∙ on-then)
+          ∙ ap (λ b. cond b (cond (number == number) (by_event c service tei what its-answer v.link) v.link) (in_state 4)) (was-on ∙ on)
+          ∙ ap (λ b. cond b (by_event c service tei what its-answer v.link) v.link) (eq-eqb number number refl)
+
+      loses : is_empty (puts_by c number events what service tei) ≡ false
+          → lost_in its-answer ≡ length (outgoing_of c service tei number events).waiting + length (puts_by c number events what service tei) - c.control
+      loses some = go (deactivates service tei what) refl
+        where
+          go : (b : Bool) → deactivates service tei what ≡ b
+              → lost_in its-answer ≡ length (outgoing_of c service tei number events).waiting + length (puts_by c number events what service tei) - c.control
+          go true down =
+              let none : puts_by c number events what service tei ≡ [] =
+              ap (λ b. cond b (put_in c service tei v.link u.link (moment_of c events number what)) []) stays-on
+              ∙ ap (λ (q : Observed). put_in c service tei v.link q (moment_of c events number what)) link-is
+              ∙ down-none c service tei v.link what its-answer (moment_of c events number what) refl refl down in
+              absurd (true≢false (sym (ap is_empty none) ∙ some))
+          go false stays =
+              let s = run-stands c events number ranged all within service tei in
+              let exact = subst (λ (d : Config). is_empty (Its d) ≡ false → lost_in its-answer ≡ length (link_of service tei l).waiting + length (Its d) - d.control) kept
+              (own-loses service tei w.told.count w.busy w.rejected k number what sound timely here s.1 s.2 on on-then stays) in
+              exact (ap is_empty its-puts ∙ some)
+              ∙ ap (λ fs. length (link_of service tei l).waiting + length fs - c.control) its-puts
+              ∙ ap (λ ws. length ws + length (puts_by c number events what service tei) - c.control) (sym waits-are)
+
+    of-link : is_empty (puts_by c number events what service tei) ≡ false
+        → lost_in its-answer ≡ length (outgoing_of c service tei number events).waiting + length (puts_by c number events what service tei) - c.control
+    of-link some = go Stays refl some
+      where
+        go : (b : Bool) → Stays ≡ b → is_empty (cond b (put_in c service tei v.link u.link (moment_of c events number what)) []) ≡ false
+            → lost_in its-answer ≡ length (outgoing_of c service tei number events).waiting + length (puts_by c number events what service tei) - c.control
+        go false off some = absurd (true≢false some)
+        go true on some =
+            let parts = and_parts (is_on tei u.teis) (is_on tei v.teis) on in
+            loses (sym was-on ∙ parts.1) (sym then-on ∙ parts.0)
+            (ap (λ b. is_empty (cond b (put_in c service tei v.link u.link (moment_of c events number what)) [])) on ∙ some)
+
+  of-messages : ((service : Service) (tei : ℕ) → puts_by c number events what service tei ≡ []) → lost_in its-answer ≡ messages
+  of-messages none = go (shows-behind c events number ranged all within what).0.lost
+    where
+      some-lost : is_management (aim_of k.config what l) ≡ false → 0 < lost_in its-answer → ⊥
+      some-lost unmanaged some =
+          let y = card-loses k number what sound (timely Call 0) here unmanaged some in
+          let service = y.service in
+          let tei = y.tei in
+          let s = run-stands c events number ranged all within service tei in
+          let w = fold (stand c service tei) watched_first (trace_of c events number) in
+          let own = link_of service tei l in
+          let exact : lost_in its-answer ≡ length own.waiting + length (Its service tei c) - c.control =
+          subst (λ (d : Config). lost_in its-answer ≡ length own.waiting + length (Its service tei d) - d.control) kept (y.exact w.told.count w.busy w.rejected s.1 s.2) in
+          let puts : length (Its service tei c) ≡ 0 = ap length (its-puts service tei y.was_on y.is_on ∙ none service tei) in
+          let p = at-some-place l tei y.was_on in
+          let few : length own.waiting ≤ c.control = (link-at-end c l ranged (line-at-end c events number ranged all within) service tei p.0 p.1).ring in
+          omega (arith, exact, puts, few, some)
+
+      go : (lost_in its-answer ≡ messages) ⊎ ((messages ≡ 0) × (is_management (aim_of c what l) ≡ false)) → lost_in its-answer ≡ messages
+      go (inl same) = same
+      go (inr y) = by-lost (none-or-some (lost_in its-answer))
+        where
+          by-lost : (lost_in its-answer ≡ 0) ⊎ (0 < lost_in its-answer) → lost_in its-answer ≡ messages
+          by-lost (inl nothing) = nothing ∙ sym y.0
+          by-lost (inr some) = absurd (some-lost (subst (λ (d : Config). is_management (aim_of d what l) ≡ false) (sym kept) y.1) some)
 
 pub no-loss-in-vain : Always NoLossInVain
-no-loss-in-vain c events number ranged all within what = now-lost c events number ranged all within what (shows-behind c events number ranged all within what).0.lost
+no-loss-in-vain c events number ranged all within what = record {
+  of_link = of-link c events number ranged all within what;
+  of_messages = of-messages c events number ranged all within what;
+}

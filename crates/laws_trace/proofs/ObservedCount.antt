@@ -1,5 +1,5 @@
 -- What an observer knows of this side of a link is how the link stands by what is heard and noted: over runs.
-use Rattle.laws_trace.proofs.Vocabulary.{◌≡◌, ℕ, ◌+◌, ◌&&◌, ◌||◌, not, Bool, true, false, cond, Some, refl, sym, ap, ◌∙◌, subst, true≢false, list_any, Service, State, TeiAssigned, AwaitingEstablishment, AwaitingRelease, Established, TimerRecovery, Link, is_multiple_frame, state_number, Config, hears, expiry, request, next, Answer, Line, link_of, place_in, IsInRange, notes_of, is_data_of}
+use Rattle.laws_trace.proofs.Vocabulary.{◌≡◌, ℕ, ◌+◌, ◌&&◌, ◌||◌, not, Bool, true, false, cond, Some, refl, sym, ap, ◌∙◌, subst, true≢false, list_any, Service, State, TeiAssigned, AwaitingEstablishment, AwaitingRelease, Established, TimerRecovery, is_multiple_frame, state_number, Config, hears, expiry, request, next, Answer, Line, link_of, place_in, IsInRange, notes_of, is_data_of}
 use Rattle.model_line.specs.Event.{Event}
 use Rattle.model_line.specs.Machine as lines
 use Rattle.model_line.specs.Sound.{IsSound}

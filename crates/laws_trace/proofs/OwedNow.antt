@@ -57,13 +57,19 @@ module _ (service : Service) (tei n : ℕ) (busy rejected : Bool) where
   abbrev time_of : Line → line_event.Event → Line → Bool
   time_of l what x = differ (state_of service tei l) (state_of service tei x) || (true && option_map_or one_more (expired_of service tei what) 0 == 1)
 
-  abbrev Put : Config → Standing → Line → line_event.Event → List Seen → Line → List ControlFrame
+  abbrev pub Put : Config → Standing → Line → line_event.Event → List Seen → Line → List ControlFrame
   Put c now l what t x = put_here service tei c was now (time_of l what x) l t x
 
   abbrev Pends : Config → Standing → Line → line_event.Event → List Seen → Answer → Line → Type 0
   Pends c now l what t a x =
       has_tei tei l ≡ true → has_tei tei x ≡ true → let own = link_of service tei l in
       (link_of service tei x).pending ≡ Owed (up l) (up x) (Put c now l what t x) (is_empty own.waiting && list_any (is_frame_of c service tei) (frame_in a)) (own.pending || list_any (is_data_of service tei) (notes_of a))
+
+  pub no-put : (c : Config) (l : Line) (what : line_event.Event) → option_map_or one_more (expired_of service tei what) 0 ≡ 0 → Put c was l what [] l ≡ []
+  no-put c l what no-time =
+      ap (λ xs. xs ++ cond (time_of l what l) (command_of was (state_of service tei l)) []) (none-mapped (state_of service tei l) [] refl)
+      ∙ ap (λ k. cond (differ (state_of service tei l) (state_of service tei l) || k == 1) (command_of was (state_of service tei l)) []) no-time
+      ∙ ap (λ b. cond (b || false) (command_of was (state_of service tei l)) []) (differ-self (state_of service tei l))
 
   idle : (c : Config) (l : Line) (what : line_event.Event) (why : Answer) → frame_in why ≡ [] → notes_of why ≡ [] → IsStanding (link_of service tei l) busy rejected
       → option_map_or one_more (expired_of service tei what) 0 ≡ 0 → Pends c was l what [] why l
@@ -73,13 +79,7 @@ module _ (service : Service) (tei n : ℕ) (busy rejected : Bool) where
       ∙ ap (λ b. Owed (up l) (up l) [] b (own.pending || false)) (sym (and-none (is_empty own.waiting)))
       ∙ ap (λ fs. Owed (up l) (up l) [] (is_empty own.waiting && list_any (is_frame_of c service tei) fs) (own.pending || false)) (sym none)
       ∙ ap (λ ns. Owed (up l) (up l) [] (is_empty own.waiting && list_any (is_frame_of c service tei) (frame_in why)) (own.pending || list_any (is_data_of service tei) ns)) (sym silent)
-      ∙ ap (λ puts. Owed (up l) (up l) puts (is_empty own.waiting && list_any (is_frame_of c service tei) (frame_in why)) (own.pending || list_any (is_data_of service tei) (notes_of why))) (sym no-put)
-    where
-      no-put : Put c was l what [] l ≡ []
-      no-put =
-          ap (λ xs. xs ++ cond (time_of l what l) (command_of was (state_of service tei l)) []) (none-mapped (state_of service tei l) [] refl)
-          ∙ ap (λ k. cond (differ (state_of service tei l) (state_of service tei l) || k == 1) (command_of was (state_of service tei l)) []) no-time
-          ∙ ap (λ b. cond (b || false) (command_of was (state_of service tei l)) []) (differ-self (state_of service tei l))
+      ∙ ap (λ puts. Owed (up l) (up l) puts (is_empty own.waiting && list_any (is_frame_of c service tei) (frame_in why)) (own.pending || list_any (is_data_of service tei) (notes_of why))) (sym (no-put c l what no-time))
 
   pub own-pends : (m : Card) (e : card.Event) → card_sound.IsSound m → AllHaveTheirTimers m → IsAtLine m e → let l = line_at e.line m in
       IsCount (link_of service tei l) n → IsStanding (link_of service tei l) busy rejected → let a = cards.answer e m in
@@ -151,16 +151,16 @@ module _ (c : Config) (number : ℕ) (ranged : IsInRange c) (within : number < c
     stands : (w.told.frame ≡ None) × IsCount (link_of service tei l) w.told.count × IsStanding (link_of service tei l) w.busy w.rejected
     stands = run-stands c before number ranged all within service tei
 
-    was-state : o.state ≡ state_number (link_of service tei l).state
+    pub was-state : o.state ≡ state_number (link_of service tei l).state
     was-state = (seen-before c before number ranged all within service tei p on).state_is
 
-    now-state : then.link.state ≡ state_number (link_of service tei x).state
+    pub now-state : then.link.state ≡ state_number (link_of service tei x).state
     now-state = (seen-behind c before number ranged all within service tei what q there).state_is
 
     abbrev Puts : Config → List ControlFrame
     Puts d = Put service tei w.told.count w.busy w.rejected d (standing service tei d (calm w.told.count w.busy w.rejected) (seen what its-moment.answer)) l what (seen what its-moment.answer) x
 
-    puts-so : Puts c ≡ put_in c service tei o then.link its-moment
+    pub puts-so : Puts c ≡ put_in c service tei o then.link its-moment
     puts-so =
         let ms = moments (fresh c) before in
         subst (λ (d : Config). Puts d ≡ put_in d service tei o (views d service tei number v its-moment).link its-moment) same-config

@@ -8,6 +8,7 @@ use Rattle.laws_trace.specs.Trace.{Seen, trace_of, Always}
 use Rattle.laws_trace.specs.Units.{units_begun, units_granted, since_down}
 use Rattle.laws_trace.specs.UnitsGoOut.{UnitsGoOut, AllUnitsGoOut}
 use Rattle.laws_trace.proofs.Runs.{run-shows}
+use Rattle.laws_trace.proofs.LineAtEnd.{nothing-there}
 use Rattle.laws_trace.proofs.WaitedBegins.{drained}
 use Rattle.laws_trace.proofs.Units.{NoneWaits, fresh-none, Goes, Passes, rests, joins, steps, sums}
 
@@ -41,9 +42,9 @@ module _ (c : Config) (events : List Event) (number : ℕ) (ranged : line.IsInRa
   nothing-left before calls split only enough = (drained c events number ranged all within before calls split only enough).units
 
   pub whole : AllUnitsGoOut c events number
-  whole before calls split only enough =
+  whole none =
       sym (append-nil (units_begun c since))
-      ∙ ap (λ us. units_begun c since ++ map (unit_frame c) us) (sym (nothing-left before calls split only enough))
+      ∙ ap (λ us. units_begun c since ++ map (unit_frame c) us) (sym (nothing-there c events number ranged all within none).units)
       ∙ passes
 
 pub units-go-out : Always UnitsGoOut

@@ -34,10 +34,9 @@ pub fn the_other_side_is_heard()
 
 /// Unit data goes out. The UI frames that begin on a line, except those of TEI management, are the first of the unit
 /// data that was granted: in order, whole, each once, with its service and its TEI; and so they are, from each time
-/// that the line is down on, of what was granted behind it, since what waited then is given up (`front`). And they
-/// are all of it, once the line was only called for its next frame, as often as the configuration says, 200 times
-/// with eight terminals, windows of 7, 4 unit data and 4 control frames (`all`; Q.921 clauses 3.6.5 and 5.2.2, and
-/// annex B).
+/// that the line is down on, of what was granted behind it, since what waited then is given up (`front`). And a call for
+/// the next frame gives none only where they are all of it (`all`); so, as calls come to an end (`calls_come_to_an_end`
+/// of the promises), all of it goes (Q.921 clauses 3.6.5 and 5.2.2, and annex B).
 pub fn units_go_out()
     ensures front { Always UnitsGoOut }
     ensures all { Always AllUnitsGoOut }
@@ -114,10 +113,10 @@ pub fn what_is_given_is_due()
     ensures none { Always DueIsGiven }
 {}
 
-/// Nothing is lost in vain. An answer tells as many frames as lost as messages of TEI management are, by
-/// [`teis_are_managed`]: one where four are owed and another is, and else none; or none of these is, and as many
-/// control frames wait on the line of the link for which the event is as the configuration says, so that there is no room
-/// for another. So an answer that is due, as [`what_is_given_is_due`] has it, is not lost where its link has room (profile).
+/// Nothing is lost in vain. Of the control frames of a link that become due by an event, as [`what_is_given_is_due`] has
+/// them, while its TEI stays on the line, an answer tells as many as lost as find no place beside those of the link that
+/// wait, which are at most as many as the configuration says; and where none of any link becomes due, as many as messages
+/// of TEI management are, by [`teis_are_managed`]: one where four are owed and another is, and else none (profile).
 pub fn nothing_is_lost_in_vain()
     ensures { Always NoLossInVain }
 {}

@@ -11,7 +11,7 @@
 //! # Open
 //!
 //! When unit data and control frames go, where other events come between the calls; turns, where the place of the first
-//! link changes; which part of a line is full where a frame is lost.
+//! link changes.
 #![tactic(auto)]
 
 mod laws;

@@ -1,6 +1,7 @@
 //! Tests of the product by its public contracts. They stand in a crate of their own, so that what they test isn't proved
-//! again for them. What a transcript shows is in `tests/scripts`; what a link does `tool_tables` prints. The one call here,
-//! `keep_replies`, shows by its contract what a caller of `drive` can conclude.
+//! again for them; those of the simulator stand in `lapdsim`. What a transcript shows is in `tests/scripts`; what a link
+//! does `tool_tables` prints. The one call here, `keep_replies`, shows by its contract what a caller of `drive` can
+//! conclude.
 //!
 //! Of the lower crates:
 //!
@@ -22,14 +23,6 @@
 //! - `frames`: a card of frames, with a list of events and a room that is too small.
 //! - `example`: a line that is served, as in the README.
 //! - `memory`: starts and long runs, of which `tests/memory` counts the allocations.
-//!
-//! Of the simulator, over sources and targets that give and take in pieces, or fail:
-//!
-//! - `fakes`: a source that gives its octets in pieces, and a target that keeps what it is given. Both can fail.
-//! - `worked`: worked scripts, with how far each line's answer goes.
-//! - `pieces`: lines in pieces, and long lines.
-//! - `failures`: each read and each write failing in turn.
-//! - `streams`: readers and writers of std.
 #![tactic(auto)]
 
 #[cfg(test)]
@@ -39,10 +32,6 @@ mod clock;
 #[cfg(test)]
 mod example;
 #[cfg(test)]
-mod failures;
-#[cfg(test)]
-mod fakes;
-#[cfg(test)]
 mod frame;
 #[cfg(test)]
 mod frames;
@@ -51,8 +40,6 @@ mod kept;
 mod memory;
 #[cfg(test)]
 mod own_shelf;
-#[cfg(test)]
-mod pieces;
 mod place;
 #[cfg(test)]
 mod seq;
@@ -64,13 +51,9 @@ mod starts;
 #[cfg(test)]
 mod store;
 #[cfg(test)]
-mod streams;
-#[cfg(test)]
 mod tei;
 #[cfg(test)]
 mod texts;
-#[cfg(test)]
-mod worked;
 
 pub use kept::keep_replies;
 pub use shelf::ArrayShelf;

@@ -11,34 +11,10 @@ use Rattle.laws_line.proofs.Serving.{served}
 use Rattle.model_card.specs.Event.{Event}
 use Rattle.model_card.specs.Machine.{after, answer}
 use Rattle.model_card.specs.Sound.{IsSound}
-use Rattle.laws_line.specs.card.Brief.{IsIdleAt, GivesWhatWaits, LinksStay, LeavesOthers, OthersStay, TellsCause, CausesAreTold}
+use Rattle.laws_line.specs.card.Brief.{LinksStay, LeavesOthers, OthersStay, TellsCause, CausesAreTold}
 use Rattle.laws_line.proofs.OfCard.Hearing.{heard-group, tells-cause}
 use Rattle.laws_line.proofs.OfCard.OneEvent.{one-in}
 use Rattle.laws_line.proofs.OfCard.Serving.{after-config}
-
--- A call that gives none takes none.
-none-given : (o : Option Taken) → gave (option_map next_of o) ≡ gave None → o ≡ None
-none-given None e = refl
-none-given (Some t) e = cc e
-
-idle-at : (card : Card) (number : ℕ) → IsSound card → number < card.config.lines → answer (at number next) card ≡ gave None → IsIdleAt card number
-unfolding lines.answer lines.after lines.takes_slot
-idle-at card number s within none =
-    let c = card.config in
-    let l = line_at number card in
-    let is : taken c l ≡ None = none-given (taken c l) none in
-    let idle : IsIdle c l (lines.after c next l) =
-    subst (λ o. elim o as (λ o. Type 0) [ None ↦ IsIdle c l (lines.after c next l) | Some t ↦ IsOwed c (contents_of l) l (lines.after c next l) t.frame ]) is
-    (served c l (line_sound card number (has_lines card s) within)) in
-    record {
-      nothing = idle.nothing;
-      same = ap (λ ls. record card { lines = ls }) (ap (λ o. set card.lines number (option_map_or line_of o l)) is ∙ set-get_or card.lines number (fresh_line c));
-    }
-
-pub gives-what-waits : (card : Card) (events : List Event) → IsSound card → AreAtLines card events → GivesWhatWaits card events
-gives-what-waits card events s all number within none =
-    let end = after_all card events in
-    idle-at end number (always_sound card events s all) (subst (λ (c : Config). number < c.lines) (sym (after-config card events)) within) none
 
 -- Of the links of a line a call for the next frame changes one, or none.
 Changed : Line → Line → ℕ → Type 0

@@ -1,30 +1,18 @@
 -- What is promised of a list of events, from a card on, beside what the laws of the trace of a line say of it.
-use Rattle.std.specs.Prelude.{◌≡◌, ◌≢◌, ◌<◌, ℕ, List, None, All, Ok}
+use Rattle.std.specs.Prelude.{◌≡◌, ◌≢◌, ◌<◌, ℕ, List, All, Ok}
 use Rattle.lapd_frame.specs.declared.addresses.Side.TheVariants.{User}
 use Rattle.lapd_frame.specs.Grammar.{Parts}
 use Rattle.lapd_frame.specs.Reading.{reading}
 use Rattle.model_bits.specs.Stream as stream
 use Rattle.model_bits.specs.declared.heard.Cause.{Cause}
 use Rattle.model_bits.specs.declared.heard.Cause.TheVariants.{Unserved}
-use Rattle.model_line.specs.Event.{hears, next, told, gave, dropped}
+use Rattle.model_line.specs.Event.{hears, told, dropped}
 use Rattle.model_line.specs.Heard.{heard_side}
 use Rattle.model_line.specs.Line.{Line, link_count, place_at, tei_at, link_at}
-use Rattle.laws_line.specs.Served.{HasNothing}
 use Rattle.model_card.specs.Card.{Card, line_at}
-use Rattle.model_card.specs.Event.{Event, at}
-use Rattle.model_card.specs.Machine.{after, answer}
-use Rattle.model_card.specs.Run.{Moment, moments, after_all}
-
--- A call for the next frame of a line gives none only where no message of TEI management waits there, no unit data and no control
--- frame, no I-frame may go, and no acknowledgement is owed; and then nothing changes.
-pub record IsIdleAt (card : Card) (number : ℕ) : Type 0 where
-  pub nothing : HasNothing card.config (line_at number card)
-  pub same : after (at number next) card ≡ card
-
-abbrev pub GivesWhatWaits : Card → List Event → Type 0
-GivesWhatWaits m events =
-    let card = after_all m events in
-    (number : ℕ) → number < m.config.lines → answer (at number next) card ≡ gave None → IsIdleAt card number
+use Rattle.model_card.specs.Event.{Event}
+use Rattle.model_card.specs.Machine.{after}
+use Rattle.model_card.specs.Run.{Moment, moments}
 
 -- Of the links of a line all but one stay as they are, but those of a TEI that comes or leaves;
 pub record LinksStay (count : ℕ) (before after : Line) : Type 0 where

@@ -44,13 +44,6 @@ not_started e = cc e
 not_noted : up_by_notes 0 Call 64 false [] ≡ true → ⊥
 not_noted e = cc e
 
--- `gives_what_waits`: a call that gives none where unit data waits.
-abbrev with_unit : Line
-with_unit = record (fresh_line usual) { units = record { service = Call; tei = 127; contents = 0xAB ∷ [] } ∷ [] }
-
-passed_over : HasNothing usual with_unit → ⊥
-passed_over x = cc x.units
-
 -- `waiting_is_taken`: no call takes what waits.
 no_call : (front back : List Event) → [] ≡ front ++ at 0 next ∷ back → ⊥
 no_call [] back e = cc e
@@ -60,6 +53,9 @@ never_taken : IsTakenAmong (fresh usual) 0 [] (0x00 ∷ 0x81 ∷ 0x73 ∷ []) �
 never_taken x = no_call x.front x.back x.split
 
 -- `calls_come_to_an_end`: a line on which unit data waits still, after as many calls as are enough.
+abbrev with_unit : Line
+with_unit = record (fresh_line usual) { units = record { service = Call; tei = 127; contents = 0xAB ∷ [] } ∷ [] }
+
 abbrev with_line : Line → Card
 with_line l = record (fresh usual) { lines = l ∷ [] }
 

@@ -10,3 +10,4 @@ pub mod Served
 pub mod Exchanging
 pub mod Linking
 pub mod Reopening
+pub mod Ordering

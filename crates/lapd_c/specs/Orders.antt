@@ -36,20 +36,29 @@ abbrev pub after_orders : Timers → ℕ → List PlainOrder → ℕ → Timers
 after_orders c line [] now = c
 after_orders c line (p ∷ ps) now = after_orders (after_order c line (order_in p) now) line ps now
 
--- What is answered to a report for a line at a moment. Where anything is wrong, no order is carried out.
-abbrev pub wrong_in : Timers → ℕ → PlainReport → ℕ → ℕ
-wrong_in c line r now =
-    if not (nat_lt line c.lines) then wrong_line
-    else if nat_lt 4 r.order_count then wrong_order
-    else if not (first_fault_in (orders_of r) == ok) then first_fault_in (orders_of r)
+-- What is wrong with orders at a moment: with the first that is none, else with the moment.
+abbrev pub wrong_among : List PlainOrder → ℕ → ℕ
+wrong_among orders now =
+    if not (first_fault_in orders == ok) then first_fault_in orders
     else if nat_lt latest now then wrong_time
     else ok
 
+-- What is answered to orders for a line that the clock has. Where anything is wrong, no order is carried out.
+abbrev pub orders_status : Timers → ℕ → List PlainOrder → ℕ → ℕ
+orders_status c line orders now =
+    if not (wrong_among orders now == ok) then wrong_among orders now
+    else if all_placed c line orders now then ok else no_place
+
+abbrev pub after_all : Timers → ℕ → List PlainOrder → ℕ → Timers
+after_all c line orders now = if wrong_among orders now == ok then after_orders c line orders now else c
+
+-- To a report for a line.
 abbrev pub report_status : Timers → ℕ → PlainReport → ℕ → ℕ
 report_status c line r now =
-    if not (wrong_in c line r now == ok) then wrong_in c line r now
-    else if all_placed c line (orders_of r) now then ok else no_place
+    if not (nat_lt line c.lines) then wrong_line
+    else if nat_lt 4 r.order_count then wrong_order
+    else orders_status c line (orders_of r) now
 
 abbrev pub after_report : Timers → ℕ → PlainReport → ℕ → Timers
 after_report c line r now =
-    if wrong_in c line r now == ok then after_orders c line (orders_of r) now else c
+    if nat_lt line c.lines && not (nat_lt 4 r.order_count) then after_all c line (orders_of r) now else c

@@ -2,13 +2,13 @@
 
 ghost use Rattle.std.specs.Borrow.{sem};
 ghost use Rattle.std.specs.Option.{option_copied_mut};
-ghost use Rattle.std.specs.Prelude.{◌≡◌, ◌≤◌, ◌⊎◌, Some, None, IfSome, IfNone, option_map};
+ghost use Rattle.std.specs.Prelude.{◌≡◌, ◌≤◌, ◌<◌, ◌⊎◌, Some, None, IfSome, IfNone, option_map};
 ghost use Rattle.lapd_clock.specs.Timers.{due_at, after_due, next_moment, idle, with_lengths};
 ghost use Rattle.lapd_clock.specs.Timer.{first_out_of_range};
 ghost use Rattle.lapd_c.specs.Config.{config_fault};
 ghost use Rattle.lapd_c.specs.Statuses as status;
 ghost use Rattle.lapd_c.specs.Timers.{order_in};
-ghost use Rattle.lapd_c.specs.Clocks.{clock_of, IsHandle, plain_due, apply_status, after_apply, lengths_given};
+ghost use Rattle.lapd_c.specs.Clocks.{clock_of, IsHandle, plain_due, order_status, after_order, apply_status, after_apply, lengths_given};
 
 use crate::clock_slot::ClockSlot;
 use crate::plain::{
@@ -179,6 +179,17 @@ pub extern "C" fn lapd_clock_apply(
     if line >= clock.lines() {
         return WRONG_LINE;
     }
+    carry_out_one(clock, line, order, now)
+}
+
+/// Carries out one order for a timer of a line that the clock has, at a moment.
+#[inline(always)]
+pub(crate) fn carry_out_one(clock: &mut Clock, line: usize, order: &PlainOrder, now: u64) -> u32
+    requires line { line < clock.old.lines }
+    ensures status { result ≡ order_status clock.old line (order_in order.now) now }
+    ensures after { clock.new ≡ after_order clock.old line (order_in order.now) now }
+    ensures lines { clock.new.lines ≡ clock.old.lines }
+{
     let order = match order.order() {
         Ok(order) => order,
         Err(wrong) => return wrong,

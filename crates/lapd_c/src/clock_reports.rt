@@ -1,12 +1,12 @@
 //! The orders of a report, carried out on a clock.
 
-ghost use Rattle.std.specs.Prelude.{◌≡◌, ◌≤◌, ◌<◌, ◌^◌, Some, None, IfSome, option_map};
+ghost use Rattle.std.specs.Prelude.{◌≡◌, ◌≤◌, ◌<◌, ◌^◌, [], Some, None, IfSome, option_map};
 ghost use Rattle.lapd_c.specs.Statuses as status;
 ghost use Rattle.lapd_c.specs.Timers.{order_in};
 ghost use Rattle.lapd_c.specs.Clocks.{clock_of, IsHandle};
-ghost use Rattle.lapd_c.specs.Orders.{fault_in, first_fault_in, is_placed, after_order, all_placed, after_orders, wrong_in, report_status, after_report};
+ghost use Rattle.lapd_c.specs.Orders.{fault_in, first_fault_in, is_placed, after_order, all_placed, after_orders, wrong_among, orders_status, after_all, report_status, after_report};
 
-use crate::clock::{ClockHandle, LATEST};
+use crate::clock::{ClockHandle, LATEST, carry_out_one};
 use crate::plain::{
     NO_CLOCK, NO_PLACE, OK, PlainOrder, PlainReport, WRONG_LINE, WRONG_ORDER, WRONG_TIME,
 };
@@ -29,31 +29,62 @@ pub extern "C" fn lapd_clock_apply_report(
     let Some(clock) = handle.clock() else {
         return NO_CLOCK;
     };
-    let wrong = wrong_in(clock, line, report, now);
+    let line = line as usize;
+    if line >= clock.lines() {
+        return WRONG_LINE;
+    }
+    if report.order_count > 4 {
+        return WRONG_ORDER;
+    }
+    carry_out(clock, line, report.orders_told(), now)
+}
+
+// Carries out orders, of which there is mostly one or none: then it is read once.
+#[inline(always)]
+fn carry_out(clock: &mut Clock, line: usize, orders: &[PlainOrder], now: u64) -> u32
+    requires line { line < clock.old.lines }
+    ensures status { result ≡ orders_status clock.old line orders.now now }
+    ensures after { clock.new ≡ after_all clock.old line orders.now now }
+    ensures lines { clock.new.lines ≡ clock.old.lines }
+{
+    match orders {
+        [] => wrong_moment(now),
+        [order] => carry_out_one(clock, line, order, now),
+        _ => carry_out_several(clock, line, orders, now),
+    }
+}
+
+// What is wrong with a moment.
+fn wrong_moment(now: u64) -> u32
+    ensures { result ≡ wrong_among [] now }
+{
+    if now > LATEST { WRONG_TIME } else { OK }
+}
+
+// The same where there are more: all are tested before the first is carried out.
+#[inline(never)]
+fn carry_out_several(clock: &mut Clock, line: usize, orders: &[PlainOrder], now: u64) -> u32
+    requires line { line < clock.old.lines }
+    ensures status { result ≡ orders_status clock.old line orders.now now }
+    ensures after { clock.new ≡ after_all clock.old line orders.now now }
+    ensures lines { clock.new.lines ≡ clock.old.lines }
+{
+    let wrong = wrong_among(orders, now);
     if wrong != OK {
         return wrong;
     }
-    let orders = report.orders_told();
-    if carry_out(clock, line as usize, orders, now) {
+    if carry_out_all(clock, line, orders, now) {
         OK
     } else {
         NO_PLACE
     }
 }
 
-fn wrong_in(clock: &Clock, line: u32, report: &PlainReport, now: u64) -> u32
-    ensures status { result ≡ wrong_in clock.now line report.now now }
-    ensures line { result ≡ status.ok → line < clock.now.lines }
+fn wrong_among(orders: &[PlainOrder], now: u64) -> u32
+    ensures status { result ≡ wrong_among orders.now now }
     ensures now { result ≡ status.ok → now ≤ 2 ^ 63 }
-    ensures count { result ≡ status.ok → report.now.order_count ≤ 4 }
 {
-    if line as usize >= clock.lines() {
-        return WRONG_LINE;
-    }
-    if report.order_count > 4 {
-        return WRONG_ORDER;
-    }
-    let wrong = first_fault_in(report.orders_told());
+    let wrong = first_fault_in(orders);
     if wrong != OK {
         return wrong;
     }
@@ -75,7 +106,6 @@ fn first_fault_in(orders: &[PlainOrder]) -> u32
     OK
 }
 
-#[inline(always)]
 fn fault_in(order: &PlainOrder) -> u32
     ensures { result ≡ fault_in (order_in order.now) }
 {
@@ -85,7 +115,7 @@ fn fault_in(order: &PlainOrder) -> u32
     }
 }
 
-fn carry_out(clock: &mut Clock, line: usize, orders: &[PlainOrder], now: u64) -> bool
+fn carry_out_all(clock: &mut Clock, line: usize, orders: &[PlainOrder], now: u64) -> bool
     requires line { line < clock.old.lines }
     requires now { now ≤ 2 ^ 63 }
     ensures placed { result ≡ all_placed clock.old line orders.now now }
@@ -94,13 +124,14 @@ fn carry_out(clock: &mut Clock, line: usize, orders: &[PlainOrder], now: u64) ->
 {
     let mut all = true;
     for i in 0..orders.len() {
-        let placed = carry_out_one(clock, line, &orders[i], now);
+        let placed = is_placed(clock, line, &orders[i], now);
         all = all && placed;
     }
     all
 }
 
-fn carry_out_one(clock: &mut Clock, line: usize, order: &PlainOrder, now: u64) -> bool
+// Carries out an order, and answers whether it found its place.
+fn is_placed(clock: &mut Clock, line: usize, order: &PlainOrder, now: u64) -> bool
     requires line { line < clock.old.lines }
     requires now { now ≤ 2 ^ 63 }
     ensures placed { result ≡ is_placed clock.old line (order_in order.now) }

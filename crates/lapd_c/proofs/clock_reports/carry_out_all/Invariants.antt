@@ -1,6 +1,6 @@
 -- What is left to carry out.
 use Rattle.lapd_c.proofs.Vocabulary.{◌≡◌, ◌&&◌, drop, all_placed, after_orders}
-use Rattle.lapd_c.proofs.clock_reports.carry_out.Given as goal
+use Rattle.lapd_c.proofs.clock_reports.carry_out_all.Given as goal
 
 abbrev pub invariant-loop-i : goal.invariant-loop-i
 invariant-loop-i l = record {

@@ -44,7 +44,6 @@ pub mod Turns
 pub mod CallRuns
 pub mod LinksTakeTurns
 pub mod TurnsMeanwhile
-pub mod MessagesComeFirst
 pub mod ReadAgain
 pub mod Deliveries
 pub mod DeliveriesRun

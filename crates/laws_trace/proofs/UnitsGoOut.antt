@@ -1,20 +1,50 @@
 -- Unit data goes out: the laws.
-use Rattle.laws_trace.proofs.Vocabulary.{◌≡◌, ℕ, ◌<◌, ◌≤◌, List, [], ◌++◌, map, sym, ap, ◌∙◌, subst, append-nil, get_or-replicate, Config, Line, fresh_line, unit_frame, most_frames, line_at, fresh_is_sound, AreTakesAt, takes_at, refl}
+use Rattle.laws_trace.proofs.Vocabulary.{◌≡◌, ℕ, ◌<◌, ◌≤◌, List, [], ◌++◌, map, sym, ap, ◌∙◌, subst, append-nil, get_or-replicate, Config, Line, fresh_line, unit_frame, most_frames, line_at, fresh_is_sound, AreTakesAt, takes_at, refl, arith, true, false, not, ◌||◌, true≢false, Option, Some, None, option_map, list_any, inl, inr, Service, Call, Packet, sapi_of, next, next_of, gave, Taken, taken, IsIdle, IsOwed, contents_of, served, at, config-stays}
 use Rattle.model_line.specs.Sound as line
 use Rattle.model_card.specs.Card.{fresh}
 use Rattle.model_card.specs.Event.{Event}
 use Rattle.model_card.specs.Run.{after_all, AreAtLines}
-use Rattle.laws_trace.specs.Trace.{Seen, trace_of, Always}
+use Rattle.laws_trace.specs.Trace.{Seen, frame_in, trace_of, Always}
 use Rattle.laws_trace.specs.Units.{units_begun, units_granted, since_down}
 use Rattle.laws_trace.specs.UnitsGoOut.{UnitsGoOut, AllUnitsGoOut}
 use Rattle.laws_trace.proofs.Runs.{run-shows}
-use Rattle.laws_trace.proofs.LineAtEnd.{nothing-there}
+use Rattle.laws_trace.proofs.LineAtEnd.{line-at-end}
+use Rattle.laws_trace.proofs.Turns.{ui-frame}
+use Rattle.laws_trace.specs.LinksTakeTurns.{is_of_a_link}
+use Rattle.lapd_tei.specs.Messages.{information_of}
+use Rattle.model_line.specs.Machine as lines
+use Rattle.model_card.specs.Machine as machine
 use Rattle.laws_trace.proofs.WaitedBegins.{drained}
-use Rattle.laws_trace.proofs.Units.{NoneWaits, fresh-none, Goes, Passes, rests, joins, steps, sums}
+use Rattle.laws_trace.proofs.Units.{NoneWaits, first-of, fresh-none, Goes, Passes, rests, joins, steps, sums}
 
 -- What waits at the end.
 abbrev pub left-waiting : Config → List Event → ℕ → List (List ℕ)
 left-waiting c events number = map (unit_frame c) (line_at number (after_all (fresh c) events)).units
+
+small-sapi : (service : Service) → sapi_of service < 64
+small-sapi Call = omega arith
+small-sapi Packet = omega arith
+
+-- A call that gives no UI finds no unit data that waits.
+units-gone : (c : Config) (l : Line) → line.IsSound c l → list_any (λ octets. not (is_of_a_link c.side octets)) (frame_in (lines.answer c next l)) ≡ false → l.units ≡ []
+unfolding lines.answer
+units-gone c l s = go (taken c l) (served c l s)
+  where
+    ui : (frame : List ℕ) → is_of_a_link c.side frame ≡ false → (not (is_of_a_link c.side frame) || false) ≡ false → l.units ≡ []
+    ui frame is none = absurd (true≢false (sym (ap (λ b. not b || false) is) ∙ none))
+
+    go : (o : Option Taken) → elim o as (λ o. Type 0) [ None ↦ IsIdle c l (lines.after c next l) | Some t ↦ IsOwed c (contents_of l) l (lines.after c next l) t.frame ]
+        → list_any (λ octets. not (is_of_a_link c.side octets)) (frame_in (gave (option_map next_of o))) ≡ false → l.units ≡ []
+    go None x none = x.nothing.units
+    go (Some t) (inl x) none =
+        ui t.frame
+        (ap (is_of_a_link c.side) x.spelled ∙ ui-frame c.side (record { sapi = 63; command = true; tei = 127 }) (information_of x.message) (omega arith) (omega arith) refl) none
+    go (Some t) (inr (inl x)) none =
+        let small = first-of c l.units x.unit x.oldest s.units in
+        ui t.frame
+        (ap (is_of_a_link c.side) x.spelled
+        ∙ ui-frame c.side (record { sapi = sapi_of x.unit.service; command = true; tei = x.unit.tei }) x.unit.contents (small-sapi x.unit.service) (omega (arith, small)) refl) none
+    go (Some t) (inr (inr x)) none = x.its_turn.no_unit
 
 module _ (c : Config) (events : List Event) (number : ℕ) (ranged : line.IsInRange c) (all : AreAtLines (fresh c) events) (within : number < c.lines) where
   start : line_at number (fresh c) ≡ fresh_line c
@@ -41,10 +71,16 @@ module _ (c : Config) (events : List Event) (number : ℕ) (ranged : line.IsInRa
   pub nothing-left : (before calls : List Event) → events ≡ before ++ calls → AreTakesAt number calls → most_frames c ≤ takes_at number calls → end.units ≡ []
   nothing-left before calls split only enough = (drained c events number ranged all within before calls split only enough).units
 
+  none-left : list_any (λ octets. not (is_of_a_link c.side octets)) (frame_in (machine.answer (at number next) (after_all (fresh c) events))) ≡ false → end.units ≡ []
+  unfolding lines.takes_slot
+  none-left none =
+      units-gone c end (line-at-end c events number ranged all within)
+      (subst (λ (d : Config). list_any (λ octets. not (is_of_a_link c.side octets)) (frame_in (lines.answer d next end)) ≡ false) (config-stays (fresh c) events) none)
+
   pub whole : AllUnitsGoOut c events number
   whole none =
       sym (append-nil (units_begun c since))
-      ∙ ap (λ us. units_begun c since ++ map (unit_frame c) us) (sym (nothing-there c events number ranged all within none).units)
+      ∙ ap (λ us. units_begun c since ++ map (unit_frame c) us) (sym (none-left none))
       ∙ passes
 
 pub units-go-out : Always UnitsGoOut

@@ -9,7 +9,6 @@ pub mod UnitsGoOut
 pub mod FramesAreRead
 pub mod LinksTakeTurns
 pub mod TurnsMeanwhile
-pub mod MessagesComeFirst
 pub mod ControlFrames
 pub mod WaitedBegins
 pub mod Managing

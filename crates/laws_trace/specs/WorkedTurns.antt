@@ -1,25 +1,23 @@
--- Worked values: links that take turns, messages and unit data before them, and frames that break these laws.
-use Rattle.std.specs.Prelude.{◌≡◌, ◌≢◌, ◌≤◌, ℕ, List, [], ◌∷◌, ◌++◌, map, refl}
+-- Worked values: links that take turns, and frames that break these laws.
+use Rattle.std.specs.Prelude.{◌≡◌, ◌≢◌, List, [], ◌∷◌, ◌++◌, refl}
 use Rattle.std.proofs.Common.{ap, arith}
 use Rattle.model_bits.specs.Stream as stream
 use Rattle.model_bits.specs.declared.heard.Cause.TheVariants.{Fcs}
 use Rattle.lapd_frame.specs.declared.services.Service.TheVariants.{Call, Packet}
 use Rattle.lapd_frame.specs.declared.timers.Timer.TheVariants.{T200}
 use Rattle.lapd_frame.specs.Reading.{reading, header_of, control_of, unnumbered_of}
-use Rattle.lapd_frame.specs.declared.addresses.Side.TheVariants.{Network}
 use Rattle.lapd_tei.specs.Events as teis
 use Rattle.model_line.specs.Event.{hears, expiry}
 use Rattle.model_line.specs.Machine as lines
-use Rattle.model_line.specs.Request.{Assign, Check, Establish}
+use Rattle.model_line.specs.Request.{Assign, Establish}
 use Rattle.model_card.specs.Card.{fresh}
 use Rattle.model_card.specs.Event.{Event, at}
 use Rattle.model_card.specs.Run.{moments, after_all}
 use Rattle.laws_line.specs.card.Worked.{usual, on_0}
 use Rattle.laws_trace.specs.LinksTakeTurns.{LinkName, links_begun, TakeTurns}
-use Rattle.laws_trace.specs.MessagesComeFirst.{rank, AreByRank}
-use Rattle.laws_trace.specs.Trace.{trace, frames_begun, IsAmong}
+use Rattle.laws_trace.specs.Trace.{trace, IsAmong}
 use Rattle.laws_trace.specs.TurnsMeanwhile.{name_of, HasToSend}
-use Rattle.laws_trace.specs.WorkedUnits.{unit, calls, spelled}
+use Rattle.laws_trace.specs.WorkedUnits.{calls}
 
 -- Both links of TEI 64 send SABME, and that of call control sends it again.
 abbrev both_up : List Event
@@ -61,17 +59,3 @@ its_name = refl
 
 passed_over : IsAmong packet [] → ⊥
 passed_over among = none_among among.front among.back among.split
-
--- A check of TEI management, unit data, and SABME, in this order, whatever was asked for first.
-in_their_order : map (rank Network) (frames_begun (trace 0 (moments (after_all (fresh usual) (on_0 (Assign 64) ∷ on_0 (Establish Call 64) ∷ on_0 (unit 1) ∷ on_0 (Check 64) ∷ [])) (calls 3))))
-    ≡ 0 ∷ 1 ∷ 2 ∷ []
-unfolding moments after_all lines.after lines.answer lines.takes_slot teis.course teis.refusal reading header_of control_of unnumbered_of
-in_their_order = refl
-
--- Where SABME goes before unit data, the law is broken.
-abbrev sabme : List ℕ
-sabme = 0x02 ∷ 0x81 ∷ 0x7F ∷ []
-
-out_of_order : AreByRank Network (sabme ∷ spelled 1 ∷ []) → ⊥
-unfolding reading header_of control_of unnumbered_of
-out_of_order law = let high : 2 ≤ 1 = law sabme (spelled 1) [] [] [] refl in omega (arith, high)

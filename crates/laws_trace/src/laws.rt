@@ -9,7 +9,6 @@ ghost use Rattle.laws_trace.specs.FramesAreDue.{GivenIsDue, DueIsGiven};
 ghost use Rattle.laws_trace.specs.Deliveries.{Deliveries};
 ghost use Rattle.laws_trace.specs.LinksMove.{LinksMove};
 ghost use Rattle.laws_trace.specs.LinksTakeTurns.{LinksTakeTurns};
-ghost use Rattle.laws_trace.specs.MessagesComeFirst.{MessagesComeFirst};
 ghost use Rattle.laws_trace.specs.News.{NewsIsTold};
 ghost use Rattle.laws_trace.specs.NoLossInVain.{NoLossInVain};
 ghost use Rattle.laws_trace.specs.RoomsAreTold.{RoomsAreTold};
@@ -35,8 +34,9 @@ pub fn the_other_side_is_heard()
 /// Unit data goes out. The UI frames that begin on a line, except those of TEI management, are the first of the unit
 /// data that was granted: in order, whole, each once, with its service and its TEI; and so they are, from each time
 /// that the line is down on, of what was granted behind it, since what waited then is given up (`front`). And a call for
-/// the next frame gives none only where they are all of it (`all`); so, as calls come to an end (`calls_come_to_an_end`
-/// of the promises), all of it goes (Q.921 clauses 3.6.5 and 5.2.2, and annex B).
+/// the next frame gives none, or a frame of a link, only where they are all of it: so unit data goes before frames of
+/// links, and, as calls come to an end (`calls_come_to_an_end` of the promises), all of it goes (`all`; Q.921 clauses
+/// 3.6.5 and 5.2.2, annex B, and profile).
 pub fn units_go_out()
     ensures front { Always UnitsGoOut }
     ensures all { Always AllUnitsGoOut }
@@ -61,12 +61,6 @@ pub fn links_take_turns()
 /// called for its next frame (profile).
 pub fn links_take_turns_meanwhile()
     ensures { Always LinksTakeTurnsMeanwhile }
-{}
-
-/// Messages of TEI management come first. While a line is only called for its next frame, after whatever happened to
-/// it, no unit data begins before one of these, and no frame of a link before either (profile).
-pub fn messages_come_first()
-    ensures { Always MessagesComeFirst }
 {}
 
 /// What layer 3 is told was heard. At each event of a line data of a link is told exactly where an I-frame for it comes,

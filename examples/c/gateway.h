@@ -78,7 +78,7 @@ LAPD_STATUS gateway_next(gateway *own, uint64_t *moment);
  * same for many lines as for one. LAPD_NO_FRAME: none waits from there on. */
 LAPD_STATUS gateway_waiting(gateway *own, uint32_t from, uint32_t *line);
 
-/* Takes the next frame of a line to send, without a check; *more says whether another waits behind it. It counts as sent
+/* Takes the next frame of a line to send, without a check; *more says whether another waited behind it. It counts as sent
  * from now on, and T200 of an I-frame runs: take one when the controller has room for it. LAPD_NO_FRAME: none waits.
  * LAPD_WRONG_LENGTH: `room` is less than n201 and four; LAPD_MOST_FRAME is always enough. */
 LAPD_STATUS gateway_take(gateway *own, uint64_t now, uint32_t line, uint8_t *frame, size_t room, size_t *length,

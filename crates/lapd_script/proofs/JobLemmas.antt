@@ -1,6 +1,9 @@
 -- The program's words, where they stand in references.
-use Rattle.lapd_script.proofs.Vocabulary.{◌≡◌, ℕ, ◌<◌, ◌≤◌, Bool, true, false, cond, ◌&&◌, List, [], ◌∷◌, length, Some, None, Option, refl, ap, ◌∙◌, Bor, bytes_eq, codes, arith, texts, Job, job, frame, job_or_none, limits_of}
-use Rattle.lapd_script.proofs.ReadLemmas.{at}
+use Rattle.lapd_script.proofs.Vocabulary.{◌≡◌, ℕ, ◌<◌, ◌≤◌, Bool, true, false, cond, ◌&&◌, List, [], ◌∷◌, length, get_or, Some, None, Option, refl, ap, ◌∙◌, Bor, bytes_eq, codes, arith, texts, Job, job, frame, job_or_none, limits_of, seen}
+use Rattle.lapd_script.specs.declared.jobs.Job as rust
+use Rattle.lapd_script.specs.declared.jobs.Job.TheVariants.{Frame}
+use Rattle.std.specs.Bool.{then_some}
+use Rattle.lapd_script.proofs.ReadLemmas.{at, nowhere}
 
 otherwise : {A : Type 0} (t : Bool) (x y : A) → false ≡ t → y ≡ cond t x y
 otherwise t x y e = ap (λ test. cond test x y) e
@@ -8,28 +11,19 @@ otherwise t x y e = ap (λ test. cond test x y) e
 chosen : {A : Type 0} (t : Bool) (x y : A) → true ≡ t → x ≡ cond t x y
 chosen t x y e = ap (λ test. cond test x y) e
 
-neither : (t u : Bool) → false ≡ u → false ≡ (t && u)
-neither true u e = e
-neither false u e = refl
+-- one test and another
+pub and_first : (test first second known : Bool) → known ≡ first → test ≡ (known && second) → test ≡ (first && second)
+and_first test first second known e h = h ∙ ap (λ t. t && second) e
 
-not_first : (t u : Bool) → false ≡ t → false ≡ (t && u)
-not_first t u e = ap (λ test. test && u) e
+seen_if : (test : Bool) (found : rust.Job) → seen (then_some test found) ≡ cond test (seen (Some found)) None
+seen_if true found = refl
+seen_if false found = refl
 
-pub no_frame : (words : List (Bor (List ℕ))) → 2 ≤ length words → length words < 3 → false ≡ bytes_eq (at words 0) (codes "frame") → None ≡ job (texts words)
-no_frame (a ∷ b ∷ []) low high e = otherwise (bytes_eq a.now (codes "frame")) (Some (frame b.now false)) None e
-no_frame (a ∷ b ∷ c ∷ more) low high e = absurd (omega (arith, high))
-no_frame _ low high e = absurd (omega (arith, low))
-
-pub no_network : (words : List (Bor (List ℕ))) → 3 ≤ length words → length words < 4 → false ≡ (bytes_eq (at words 0) (codes "frame") && bytes_eq (at words 2) (codes "--network")) → None ≡ job (texts words)
-no_network (a ∷ b ∷ c ∷ []) low high e = otherwise (bytes_eq a.now (codes "frame") && bytes_eq c.now (codes "--network")) (Some (frame b.now true)) None e
-no_network (a ∷ b ∷ c ∷ d ∷ more) low high e = absurd (omega (arith, high))
-no_network _ low high e = absurd (omega (arith, low))
-
-pub other_name : (words : List (Bor (List ℕ))) → false ≡ bytes_eq (at words 0) (codes "frame") → false ≡ (bytes_eq (at words 0) (codes "frame") && bytes_eq (at words 2) (codes "--network"))
-other_name words e = not_first (bytes_eq (at words 0) (codes "frame")) (bytes_eq (at words 2) (codes "--network")) e
-
-pub other_flag : (words : List (Bor (List ℕ))) → false ≡ bytes_eq (at words 2) (codes "--network") → false ≡ (bytes_eq (at words 0) (codes "frame") && bytes_eq (at words 2) (codes "--network"))
-other_flag words e = neither (bytes_eq (at words 0) (codes "frame")) (bytes_eq (at words 2) (codes "--network")) e
+pub with_network : (words : List (Bor (List ℕ))) (result : Option rust.Job) (test : Bool) → 3 ≤ length words → length words < 4
+    → result ≡ then_some test (Frame (get_or words 1 nowhere) true) → test ≡ (bytes_eq (at words 0) (codes "frame") && bytes_eq (at words 2) (codes "--network")) → seen result ≡ job (texts words)
+with_network (a ∷ b ∷ c ∷ []) result test low high r t = ap seen r ∙ seen_if test (Frame b true) ∙ ap (λ t. cond t (Some (frame b.now true)) None) t
+with_network (a ∷ b ∷ c ∷ d ∷ more) result test low high r t = absurd (omega (arith, high))
+with_network _ result test low high r t = absurd (omega (arith, low))
 
 abbrev limits_at : List (Bor (List ℕ)) → Option Job
 limits_at words = job_or_none (limits_of (at words 1) (at words 2) (at words 3) (at words 4) (at words 5))

@@ -30,7 +30,7 @@ pub use Rattle.lapd_frame.specs.Grammar.{Parts, Spells, parts_of}
 pub use Rattle.lapd_frame.specs.declared.addresses.Side.{Side}
 pub use Rattle.lapd_frame.specs.declared.addresses.Side.TheVariants.{Network}
 pub use Rattle.lapd_script.specs.FaultLines.{play_line}
-pub use Rattle.lapd_script.specs.Job.{Job, frame, job, job_or_none, limits_of}
+pub use Rattle.lapd_script.specs.Job.{Job, frame, job, job_or_none, limits_of, seen}
 pub use Rattle.lapd_script.specs.Number.{number, within}
 pub use Rattle.lapd_script.specs.Octets.{octets, or_bad}
 pub use Rattle.lapd_script.specs.Pieces.{line_in, pieces_of, with_octet}

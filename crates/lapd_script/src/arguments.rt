@@ -12,27 +12,15 @@ pub fn job<'a>(words: &[&'a str]) -> Option<Job<'a>>
     ensures { seen result ≡ job (texts words.now) }
 {
     match words {
-        [name] => { if *name == "run" { Some(Job::Run) } else { None } }
-        [name, hex] => {
-            if *name == "frame" {
-                Some(Job::Frame {
-                    hex: *hex,
-                    network: false,
-                })
-            } else {
-                None
-            }
-        }
-        [name, hex, flag] => {
-            if *name == "frame" && *flag == "--network" {
-                Some(Job::Frame {
-                    hex: *hex,
-                    network: true,
-                })
-            } else {
-                None
-            }
-        }
+        [name] => (*name == "run").then_some(Job::Run),
+        [name, hex] => (*name == "frame").then_some(Job::Frame {
+            hex: *hex,
+            network: false,
+        }),
+        [name, hex, flag] => (*name == "frame" && *flag == "--network").then_some(Job::Frame {
+            hex: *hex,
+            network: true,
+        }),
         [name, lines, terminals, control, slots, n201] => {
             if *name == "limits" {
                 limits(lines, terminals, control, slots, n201)

@@ -1,5 +1,9 @@
 -- Writes one after the other.
-use Rattle.lapd_transcript.proofs.Vocabulary.{◌≡◌, ℕ, ◌+◌, List, [], ◌∷◌, ◌++◌, length, take, drop, Some, None, Ok, Err, Result, Option, refl, sym, ap, ◌∙◌, subst, append_assoc, arith, Bor, suc, zero, get_or, ◌<◌, ◌≤◌, ◌-◌, take_all, length-drop, length-append, false, IsOk, OnOk, OnErr, is_ok, false≢true, flat_map, take-append-add, take-append_seam, append-nil, take-append-drop, take_more, flat_map-append, Appends, Keeps, WriteFailed, Taken, IsWritten, IsBroken, Writes, Output, IsPut, IsStuck, Puts, one_failure_more}
+use Rattle.lapd_transcript.proofs.Vocabulary.{◌≡◌, ℕ, ◌+◌, List, [], ◌∷◌, ◌++◌, length, take, drop, Some, None, Ok, Err, Result, Option, refl, sym, ap, ◌∙◌, subst, append_assoc, arith, Bor, suc, zero, get_or, ◌<◌, ◌≤◌, ◌-◌, take_all, length-drop, length-append, false, IsOk, IsErr, OnOk, OnErr, is_ok, false≢true, flat_map, take-append-add, take-append_seam, append-nil, take-append-drop, take_more, flat_map-append, Appends, Keeps, WriteFailed, Taken, IsWritten, IsBroken, Writes, Output, IsPut, IsStuck, Puts, one_failure_more}
+use Rattle.std.specs.Prelude.{unwrap_or, option_copied}
+use Rattle.model_bits.specs.declared.heard.Cause.{Cause}
+use Rattle.lapd_frame.specs.declared.notes.Note.{Note}
+use Rattle.lapd_transcript.specs.Text.{note_text, dropped_text, lost_text, report_text}
 
 appends_then : (a b c : Option (List ℕ)) (x y : List ℕ) → Appends a b x → Appends b c y → Appends a c (x ++ y)
 appends_then None b c x y h k = tt
@@ -48,6 +52,11 @@ puts_then (Err e) a b c x y h k = record {
 
 pub stuck_more : (a c : Output) (x y : List ℕ) → IsStuck a c x → IsStuck a c (x ++ y)
 stuck_more a c x y h = record { same = h.same; broken = λ more. subst (λ text. IsBroken a.taken c.taken (a.page ++ text)) (sym (append_assoc x y more)) (h.broken (y ++ more)) }
+
+-- where a `?` leaves
+pub leaves : (r : Result Unit WriteFailed) (a c : Output) (x : List ℕ) → IsErr r → IsStuck a c x → Puts r a c x
+leaves (Ok u) a c x e h = absurd (false≢true e)
+leaves (Err why) a c x e h = h
 
 pub puts_nothing : (a : Output) → IsPut a a []
 puts_nothing a = record { same = refl; follows = λ later end more w. w }
@@ -129,3 +138,13 @@ on_err (Err e) p = p
 
 abbrev pub nowhere : Bor (List ℕ)
 nowhere = record { ref_ptr = (0, 0); now = [] }
+
+-- What an event brought is said of contents that were delivered, or of none.
+lent_is : (contents : Option (Bor (List ℕ))) (lent none : Bor (List ℕ)) → lent ≡ unwrap_or contents none → none.now ≡ [] → lent.now ≡ unwrap_or (option_copied contents) []
+lent_is None lent none e h = ap (λ l. l.now) e ∙ h
+lent_is (Some some) lent none e h = ap (λ l. l.now) e
+
+pub reported : (r : Result Unit WriteFailed) (a c : Output) (line lost : ℕ) (notes : List Note) (cause : Option Cause) (contents : Option (Bor (List ℕ))) (lent none : Bor (List ℕ)) → lent ≡ unwrap_or contents none → none.now ≡ []
+    → Puts r a c (flat_map (note_text line lent.now) notes ++ dropped_text line cause ++ lost_text line lost) → Puts r a c (report_text line notes (option_copied contents) cause lost)
+reported r a c line lost notes cause contents lent none e h told =
+    subst (λ text. Puts r a c (flat_map (note_text line text) notes ++ dropped_text line cause ++ lost_text line lost)) (lent_is contents lent none e h) told

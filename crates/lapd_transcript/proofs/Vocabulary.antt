@@ -9,7 +9,7 @@ pub use Rattle.std.proofs.lemmas.List.Elements.{All-append, All-head, All-tail, 
 pub use Rattle.std.specs.Char.{to_ascii_uppercase}
 pub use Rattle.std.specs.Io.KnownBytes.{Appends, Keeps}
 pub use Rattle.std.specs.List.{flat_map, list_all}
-pub use Rattle.std.specs.Prelude.{IsOk, OnErr, OnOk, is_ok, slice_index}
+pub use Rattle.std.specs.Prelude.{IsErr, IsOk, OnErr, OnOk, is_ok, slice_index}
 pub use Rattle.hex.specs.Hex.{encode_lower, encode_upper, lower_digits, upper_digits}
 unfoldable pub use Rattle.hex.specs.Hex.{encode_with}
 pub use Rattle.lapd_bits.specs.Deframer.{latest_of}

@@ -150,9 +150,7 @@ impl<T: Target> Page<'_, T> {
         ensures { Puts result (on T.taken self.old) (on T.taken self.new) (flat_map (λ name. row_text line counters.now (row name)) names.now) }
     {
         for (counter, name) in names {
-            if let Err(WriteFailed) = self.put_counter(line, counters.value(*counter), name) {
-                return Err(WriteFailed);
-            }
+            self.put_counter(line, counters.value(*counter), name)?;
         }
         Ok(())
     }

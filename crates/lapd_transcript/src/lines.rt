@@ -1,37 +1,16 @@
 //! Puts the lines of a transcript onto a page, and writes what tells of a faulty line.
 
-ghost use Rattle.std.specs.Prelude.{◌++◌, option_copied};
+ghost use Rattle.std.specs.Prelude.{◌++◌};
 ghost use Rattle.lapd_transcript.specs.Streams.{Puts, Writes};
 ghost use Rattle.lapd_transcript.specs.Pages.{on};
-ghost use Rattle.lapd_transcript.specs.Text.{line_text, octets_text, report_text, refused_text, sent_text, frame_text, nothing_text, faulty_text, stored_text};
+ghost use Rattle.lapd_transcript.specs.Text.{line_text, octets_text, refused_text, sent_text, frame_text, nothing_text, faulty_text, stored_text};
 
 use crate::names::refusal_name;
 use crate::output::{Page, decimal};
 use crate::streams::{Put, Target};
-use lapd_frame::{Note, Refusal};
-use model_bits::Cause;
+use lapd_frame::Refusal;
 
 impl<T: Target> Page<'_, T> {
-    /// What an event on a line brought: its notes, then why it dropped a frame, then how many frames it lost. `contents`
-    /// are those that were delivered, which a note of data tells.
-    ///
-    /// # Errors
-    ///
-    /// [`WriteFailed`] where a write failed: a beginning has been written then of the page and of this.
-    pub fn put_report(
-        &mut self,
-        line: u16,
-        notes: &[Note],
-        contents: Option<&[u8]>,
-        cause: Option<Cause>,
-        lost: u8,
-    ) -> Put
-        ensures { Puts result (on T.taken self.old) (on T.taken self.new) (report_text line notes.now (option_copied contents.entry) cause lost) }
-    {
-        let contents = contents.unwrap_or(&[]);
-        self.put_brought(line, notes, contents, cause, lost)
-    }
-
     /// Why a request on a line was refused.
     ///
     /// # Errors

@@ -22,9 +22,7 @@ impl<T: Target> Page<'_, T> {
             → Puts result (on T.taken self.old) (on T.taken self.new) (pulled_text line past octets.now) }
         ensures after { OnOk result ((past : List ℕ) → Hears listener.old past → Hears listener.new (past ++ octets.now)) }
     {
-        if let Err(WriteFailed) = self.put_sent(line, octets) {
-            return Err(WriteFailed);
-        }
+        self.put_sent(line, octets)?;
         self.show_frames(listener, line, octets)
     }
 
@@ -37,9 +35,7 @@ impl<T: Target> Page<'_, T> {
         for octet in octets {
             listener.step(*octet);
             if let Heard::Frame(frame) = listener.latest() {
-                if let Err(WriteFailed) = self.put_frame(line, frame) {
-                    return Err(WriteFailed);
-                }
+                self.put_frame(line, frame)?;
             }
         }
         Ok(())

@@ -1,10 +1,10 @@
 //! Puts what an event brought onto a page.
 
-ghost use Rattle.std.specs.Prelude.{◌++◌, [], ◌∷◌, codes, flat_map};
+ghost use Rattle.std.specs.Prelude.{◌++◌, [], ◌∷◌, codes, flat_map, option_copied};
 ghost use Rattle.lapd_frame.specs.Services.{letter_of};
 ghost use Rattle.lapd_transcript.specs.Streams.{Puts};
 ghost use Rattle.lapd_transcript.specs.Pages.{on};
-ghost use Rattle.lapd_transcript.specs.Text.{octets_text, line_text, link_words, tei_words, note_text, dropped_text, lost_text};
+ghost use Rattle.lapd_transcript.specs.Text.{octets_text, line_text, link_words, tei_words, note_text, report_text, dropped_text, lost_text};
 
 use crate::names::{cause_name, suffix};
 use crate::output::{Page, decimal};
@@ -13,23 +13,25 @@ use lapd_frame::{ErrorCode, Note, Service};
 use model_bits::Cause;
 
 impl<T: Target> Page<'_, T> {
-    /// The notes of an event, then why it dropped a frame, then how many frames it lost.
-    pub(crate) fn put_brought(
+    /// What an event on a line brought: its notes, then why it dropped a frame, then how many frames it lost. `contents`
+    /// are those that were delivered, which a note of data tells.
+    ///
+    /// # Errors
+    ///
+    /// [`WriteFailed`] where a write failed: a beginning has been written then of the page and of this.
+    pub fn put_report(
         &mut self,
         line: u16,
         notes: &[Note],
-        contents: &[u8],
+        contents: Option<&[u8]>,
         cause: Option<Cause>,
         lost: u8,
     ) -> Put
-        ensures { Puts result (on T.taken self.old) (on T.taken self.new) (flat_map (note_text line contents.now) notes.now ++ dropped_text line cause ++ lost_text line lost) }
+        ensures { Puts result (on T.taken self.old) (on T.taken self.new) (report_text line notes.now (option_copied contents.entry) cause lost) }
     {
-        if let Err(WriteFailed) = self.put_notes(line, notes, contents) {
-            return Err(WriteFailed);
-        }
-        if let Err(WriteFailed) = self.put_dropped(line, cause) {
-            return Err(WriteFailed);
-        }
+        let contents = contents.unwrap_or(&[]);
+        self.put_notes(line, notes, contents)?;
+        self.put_dropped(line, cause)?;
         self.put_lost(line, lost)
     }
 
@@ -37,9 +39,7 @@ impl<T: Target> Page<'_, T> {
         ensures { Puts result (on T.taken self.old) (on T.taken self.new) (flat_map (note_text line contents.now) notes.now) }
     {
         for note in notes {
-            if let Err(WriteFailed) = self.put_note(line, *note, contents) {
-                return Err(WriteFailed);
-            }
+            self.put_note(line, *note, contents)?;
         }
         Ok(())
     }

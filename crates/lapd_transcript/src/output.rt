@@ -57,9 +57,7 @@ impl<'a, T: Target> Page<'a, T> {
         if self.text.try_extend_from_slice(piece).is_ok() {
             return Ok(());
         }
-        if let Err(WriteFailed) = self.target.write(self.text.as_slice()) {
-            return Err(WriteFailed);
-        }
+        self.target.write(self.text.as_slice())?;
         self.text.clear();
         if self.text.try_extend_from_slice(piece).is_ok() {
             return Ok(());
@@ -72,9 +70,7 @@ impl<'a, T: Target> Page<'a, T> {
         ensures { Puts result (on T.taken self.old) (on T.taken self.new) (joined pieces.now) }
     {
         for piece in pieces {
-            if let Err(WriteFailed) = self.put(piece) {
-                return Err(WriteFailed);
-            }
+            self.put(piece)?;
         }
         Ok(())
     }
@@ -93,12 +89,8 @@ impl<'a, T: Target> Page<'a, T> {
     pub(crate) fn put_octets_line(&mut self, head: &[&[u8]], octets: &[u8]) -> Put
         ensures { Puts result (on T.taken self.old) (on T.taken self.new) (joined head.now ++ octets_text octets.now ++ codes "\n") }
     {
-        if let Err(WriteFailed) = self.put_all(head) {
-            return Err(WriteFailed);
-        }
-        if let Err(WriteFailed) = self.put_octets(octets) {
-            return Err(WriteFailed);
-        }
+        self.put_all(head)?;
+        self.put_octets(octets)?;
         self.put(b"\n")
     }
 
@@ -106,9 +98,7 @@ impl<'a, T: Target> Page<'a, T> {
         ensures { Puts result (on T.taken self.old) (on T.taken self.new) (encode_upper octets.now) }
     {
         for octet in octets {
-            if let Err(WriteFailed) = self.put(&digits_of(*octet)) {
-                return Err(WriteFailed);
-            }
+            self.put(&digits_of(*octet))?;
         }
         Ok(())
     }
@@ -124,9 +114,7 @@ impl<'a, T: Target> Page<'a, T> {
         if self.text.is_empty() {
             return Ok(());
         }
-        if let Err(WriteFailed) = self.target.write(self.text.as_slice()) {
-            return Err(WriteFailed);
-        }
+        self.target.write(self.text.as_slice())?;
         self.text.clear();
         Ok(())
     }

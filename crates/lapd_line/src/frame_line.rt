@@ -18,7 +18,7 @@ ghost use Rattle.model_line.specs.Sound.{IsInRange};
 ghost use Rattle.model_link.specs.Told.{starts};
 
 use crate::came::{came, cause_of, octets_of};
-use crate::counting::count_told;
+use crate::counting::{count_told, tells_nothing};
 use crate::fault::StartFault;
 use crate::link_layer::LinkLayer;
 use crate::reports::{Report, lent, tell_drop};
@@ -92,6 +92,9 @@ impl FrameLine {
     fn count(&mut self, report: &BareReport)
         ensures { self.new ≡ with_counted self.old (bare_shown report.now) }
     {
+        if tells_nothing(report) {
+            return;
+        }
         count_told(
             &mut self.counters,
             &report.notes,

@@ -316,10 +316,10 @@ LAPD_STATUS lapd_pull(lapd_card *card, uint32_t line, uint8_t *octet, lapd_repor
  * the first step that has something to tell (a note, an order, a cause, a frame lost, contents, a frame begun), or to
  * the end; *steps is then the next step, and the report is that of this step, or tells nothing where no step had
  * anything to tell. For room of a link it does not stop: the report has it as it is at the end of the call (lapd.c, for
- * other processors, stops after 256 octets where a link has room again then).
- * LAPD_WRONG_LENGTH: the two lengths differ, or *steps is beyond twice the length. For a step that has nothing to tell no
- * report is written. `in` and `out` are two buffers: what is proved of the octets that are taken holds while none of them
- * is written over. With one buffer call lapd_octet and lapd_pull in turn.
+ * other processors, stops after 256 octets where a link has room again then). LAPD_WRONG_LENGTH: the two lengths differ,
+ * or *steps is beyond twice the length. For a step that has nothing to tell no report is written. `in` and `out` are two
+ * buffers: what is proved of the octets that are taken holds while none of them is written over. With one buffer call
+ * lapd_octet and lapd_pull in turn.
  *
  *     for (size_t steps = 0; steps < 2 * n && lapd_exchange(&card, line, in, n, out, n, &steps, &report) == LAPD_OK;)
  *         ... what the report tells ...

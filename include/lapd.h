@@ -695,7 +695,8 @@ LAPD_INLINE_STATUS lapd_deactivate(lapd_card *card, uint32_t line, uint8_t servi
  * place on, which is 0 for the first, and afterwards as the call leaves it. Behind the last link one call (LAPD_DOWN) gives
  * up what waits on the line and is of none: unit data, and messages of TEI management; a check that runs ends without a
  * result, and its timer stops, which is that report's order. LAPD_NO_MORE_LINKS: the line is down, after two calls for each
- * of its TEIs, and one more. The TEIs stay. Begin again at 0 where the line goes down the next time.
+ * of its TEIs, and one more, if nothing else was asked or heard there meanwhile. The TEIs stay. Begin again at 0 where the
+ * line goes down the next time.
  *
  *     uint8_t place = 0;
  *     while (lapd_line_down(&card, line, &place, &report) == LAPD_OK)

@@ -36,9 +36,9 @@ pub fn deactivations_give_up()
 
 /// Where a line is down, its unit data that waits is given up, and of TEI management the messages that wait and the check
 /// that runs; all else of the line stays, its links, too, and that T201 stops, if it ran, is all that is told. Where each
-/// link of a TEI on it is deactivated besides, before or behind that, in any order, nothing waits on the line, and the next
-/// call for a frame gives none; each link is in state 4, as one that begins; no timer is needed; and the TEIs stay (Q.921
-/// annex B, persistent deactivation).
+/// link of a TEI on it is deactivated besides, before or behind that, in any order, and nothing else happens at the line,
+/// nothing waits on it, and the next call for a frame gives none; each link is in state 4, as one that begins; no timer is
+/// needed; and the TEIs stay (Q.921 annex B, persistent deactivation).
 pub fn lines_go_down()
     ensures { LinesGoDown }
 {}

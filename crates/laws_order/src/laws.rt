@@ -43,10 +43,11 @@ pub fn releases_end()
 /// frames are lost, too. Once T200 has expired there more than N200 times, if not before, this end was told that the release is
 /// confirmed, by itself or behind error H, unless something else began, as in [`releases_end`] (`here`; Q.921 clauses 5.5.3.2 and
 /// 5.5.3.3). And where it is told that alone, the other end was told: the two links faced each other in step before the
-/// release, as in [`delivered_in_order`], and the other's establishment lasted until then; then its layer 3 was told behind the release
-/// that this is over or renewed, or was granted a release itself (`there`). So it is while the TEI stays on the line of the end that releases, and its link is not
-/// deactivated: either confirms the release there, and the other end knows nothing of it. Where error H is told each DISC may have
-/// been lost, and then the other end is told nothing (`specs/WorkedEnding` of `laws_wire`).
+/// release, as in [`delivered_in_order`], and the other's establishment lasted until then; then its layer 3 was told behind
+/// the release that this is over or renewed, by a note that ends it in [`delivered_in_order`], so maybe by error B alone, or
+/// was granted a release itself (`there`). So it is while the TEI stays on the line of the end that releases, and its link
+/// is not deactivated: either confirms the release there, and the other end knows nothing of it. Where error H is told each
+/// DISC may have been lost, and then the other end is told nothing (`specs/WorkedEnding` of `laws_wire`).
 pub fn releases_are_told()
     ensures here { ReleasesAreTold }
     ensures there { BothAreTold }

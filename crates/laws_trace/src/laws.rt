@@ -100,8 +100,8 @@ pub fn what_is_told_was_heard()
 /// N(R) is the number of contents told of the link since its numbers began, modulo 128: of an I-frame, and of RR that goes by
 /// itself, as it begins, and else as the frame was due. An acknowledgement is owed for data that is told, until a frame of
 /// the link is due, or one begins that did not wait, or the link leaves states 7 and 8, or comes there. So all that is told
-/// is acknowledged, by the last N(R) that goes, unless a frame was told as lost (Q.921 clauses 3.5.1, 3.5.2.1 to 3.5.2.6,
-/// 5.3.4, 5.5, 5.6, 5.7, 5.8.1 and 5.10.3).
+/// is acknowledged, by the last N(R) that goes, unless a frame was told as lost, or the link left states 7 and 8, or its
+/// numbers began anew, before that went (Q.921 clauses 3.5.1, 3.5.2.1 to 3.5.2.6, 5.3.4, 5.5, 5.6, 5.7, 5.8.1 and 5.10.3).
 pub fn what_is_given_is_due()
     ensures due { Always GivenIsDue }
     ensures none { Always DueIsGiven }

@@ -10,8 +10,7 @@
 //!
 //! # Open
 //!
-//! When unit data and control frames go, where other events come between the calls; turns, where the place of the first
-//! link changes.
+//! When unit data goes, where other events come between the calls; turns, where the place of the first link changes.
 #![tactic(auto)]
 
 mod laws;

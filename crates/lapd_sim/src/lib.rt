@@ -10,8 +10,8 @@
 //!
 //! # Only tested
 //!
-//! That the answer to each line is written before more is read than that line needs; that `play_octets`, and
-//! `show_frame` and `on_line` of `lapd_script`, succeed where there is memory.
+//! That the answer to each line is written before more is read than that line needs; that `play_octets`,
+//! `show_frame` of `lapd_script` and `on_line` of `lapd_transcript` succeed where there is memory.
 //!
 //! # Open
 //!

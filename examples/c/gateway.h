@@ -64,7 +64,8 @@ LAPD_STATUS gateway_ask(gateway *own, uint64_t now, uint32_t line, uint8_t reque
                         const uint8_t *contents, size_t length);
 
 /* Layer 1 of a line is lost: each of its links is given up, with all that waits on the line, and on_report hears of each
- * that was not down. A check that runs ends. TEIs stay. */
+ * that was not down. A check that runs ends. TEIs stay. Ask for nothing there until layer 1 is back, nor in on_report
+ * meanwhile: what is asked for then may wait, and its timer runs. */
 LAPD_STATUS gateway_down(gateway *own, uint64_t now, uint32_t line);
 
 /* Each timer that is due expires, once, and what it starts runs from now on, however late the call is. Hand over first

@@ -1,5 +1,5 @@
 -- What is told is what was heard: over runs.
-use Rattle.laws_trace.proofs.Vocabulary.{◌≡◌, ℕ, ◌+◌, ◌%◌, ◌&&◌, ◌||◌, Bool, true, false, cond, List, Option, Some, None, refl, sym, ap, ◌∙◌, subst, eq-eqb, ◌==◌, Result, Ok, Err, true≢false, ◌⊎◌, inl, inr, is_some, Note, list_any, option_or, option_map_or, none-some, ReadFault, reading, sapi_of, same_service, Service, Parts, Terms, restarts, Link, is_multiple_frame, event-delivers, delivered-at_once, notes-own, event-tells, unit_heard, event-unit, within-is, place_of-is, Config, hears, expiry, request, next, Answer, Line, place_in, link_in, link_of, terms, aim_of, aim_of_heard, aim_of_reading, message_of, heard_side, group_tei, IsInRange, sound_in, at_side, notes_of, contents_in, is_data_of, is_unit_of, own-all, addressed-is, sapi-is, same-sapi, service-same, both-true, told-once}
+use Rattle.laws_trace.proofs.Vocabulary.{length, nat_le, le-leb, within, ◌≡◌, ℕ, ◌+◌, ◌%◌, ◌&&◌, ◌||◌, Bool, true, false, cond, List, Option, Some, None, refl, sym, ap, ◌∙◌, subst, eq-eqb, ◌==◌, Result, Ok, Err, true≢false, ◌⊎◌, inl, inr, is_some, Note, list_any, option_or, option_map_or, none-some, ReadFault, reading, sapi_of, same_service, Service, Parts, Terms, restarts, Link, is_multiple_frame, event-delivers, delivered-at_once, notes-own, event-tells, unit_heard, event-unit, within-is, place_of-is, Config, hears, expiry, request, next, Answer, Line, place_in, link_in, link_of, terms, aim_of, aim_of_heard, aim_of_reading, message_of, heard_side, group_tei, IsInRange, sound_in, at_side, notes_of, contents_in, is_data_of, is_unit_of, own-all, addressed-is, sapi-is, same-sapi, service-same, both-true, told-once}
 use Rattle.std.proofs.Common.{eqb-true}
 use Rattle.lapd_frame.specs.declared.notes.Note.TheVariants as notes
 use Rattle.model_bits.specs.Stream as stream
@@ -18,6 +18,18 @@ use Rattle.laws_trace.proofs.Begins.{unless, up-before}
 use Rattle.laws_trace.proofs.Deliveries.{frame_by, data-tells, unit-tells, data-own, unit-own, none-noted, one-begins, data-of, unit-of, group-notes}
 use Rattle.laws_trace.proofs.OneLink.{HasOne, HasNone, Goes, is_at_link, event-goes, IsGivenUp}
 use Rattle.laws_trace.proofs.ClearedTells.{ends-alone}
+
+-- Contents of at most N201 octets.
+abbrev pub IsSmall : ℕ → Option (List ℕ) → Type 0
+IsSmall n contents = option_map_or (λ (octets : List ℕ). nat_le (length octets) n) contents false ≡ true
+
+within-small : (n : ℕ) (o : Option (List ℕ)) (contents : List ℕ) → within n o ≡ Some contents → IsSmall n (Some contents)
+within-small n None contents e = absurd (none-some contents e)
+within-small n (Some octets) contents e = go (nat_le (length octets) n) refl e
+  where
+    go : (b : Bool) → nat_le (length octets) n ≡ b → cond b (Some octets) None ≡ Some contents → IsSmall n (Some contents)
+    go true is e = let same : octets ≡ contents = cc e in subst (λ x. nat_le (length x) n ≡ true) same is
+    go false is e = absurd (none-some contents e)
 
 -- V(R) is what was counted, while the link is up.
 abbrev pub IsCount : Link → ℕ → Type 0
@@ -96,21 +108,27 @@ module _ (c : Config) (ranged : IsInRange c) (l : Line) (s : IsSound c l) (e : E
             let told : contents_in a ≡ Some contents = x.contents ∙ ap (λ o. option_or o (links.told t x.event k).unit) is in
             subst Data (sym told) (data-of c e a service tei x.event x.by k n before contents y.0 y.1 y.2 y.3)
 
-    one-unit : list_any (is_unit_of service tei) (notes_of a) ≡ true → UnitData (contents_in a)
-    one-unit some = go (links.told t x.event k).unit refl
+    unit-by : (P : Option (List ℕ) → Type 0) → ((contents : List ℕ) → within t.n201 (unit_heard x.event) ≡ Some contents → P (Some contents))
+        → list_any (is_unit_of service tei) (notes_of a) ≡ true → P (contents_in a)
+    unit-by P each some = go (links.told t x.event k).unit refl
       where
         alone : (contents : List ℕ) → (links.told t x.event k).unit ≡ Some contents
             → ((links.told t x.event k).delivered ≡ None) ⊎ ((links.told t x.event k).unit ≡ None) → (links.told t x.event k).delivered ≡ None
         alone contents is (inl none) = none
         alone contents is (inr none) = absurd (none-some contents (sym none ∙ is))
 
-        go : (o : Option (List ℕ)) → (links.told t x.event k).unit ≡ o → UnitData (contents_in a)
+        go : (o : Option (List ℕ)) → (links.told t x.event k).unit ≡ o → P (contents_in a)
         go None is = absurd (true≢false (sym some ∙ unit-noted ∙ ap is_some is))
         go (Some contents) is =
             let none = alone contents is (event-tells t x.event k).2 in
             let told : contents_in a ≡ Some contents = x.contents ∙ ap (λ o. option_or o (links.told t x.event k).unit) none ∙ is in
-            let heard = within-is t.n201 (unit_heard x.event) contents (sym (event-unit t k own-sound x.event) ∙ is) in
-            subst UnitData (sym told) (unit-of c e a service tei x.event x.by n contents heard)
+            subst P (sym told) (each contents (sym (event-unit t k own-sound x.event) ∙ is))
+
+    one-unit : list_any (is_unit_of service tei) (notes_of a) ≡ true → UnitData (contents_in a)
+    one-unit = unit-by UnitData (λ contents some. unit-of c e a service tei x.event x.by n contents (within-is t.n201 (unit_heard x.event) contents some))
+
+    one-small : list_any (is_unit_of service tei) (notes_of a) ≡ true → IsSmall c.n201 (contents_in a)
+    one-small = unit-by (IsSmall c.n201) (within-small t.n201 (unit_heard x.event))
 
     one-counts : IsCount (link_of service tei (after c e l)) (counted service tei w (notes_of a))
     one-counts up = go (restarts t x.event k) refl
@@ -172,6 +190,12 @@ module _ (c : Config) (ranged : IsInRange c) (l : Line) (s : IsSound c l) (e : E
         only true is = refl
         only false is = is
 
+    group-small : list_any (is_unit_of service tei) (notes_of a) ≡ true → IsSmall c.n201 (contents_in a)
+    group-small some =
+        let y = none-noted c ranged l s e service tei (is_unit_of service tei) (unit-tells service tei) (unit-own service tei) x.aims some in
+        let h = y.2 in
+        subst (IsSmall c.n201) (sym (y.1 ∙ ap (λ octets. Some octets) (sym h.contents_are))) (le-leb (length h.parts.info) c.n201 h.whose.size)
+
     none-counts : IsCount (link_of service tei (after c e l)) (counted service tei w (notes_of a))
     none-counts up = go x.is
       where
@@ -197,6 +221,15 @@ module _ (c : Config) (ranged : IsInRange c) (l : Line) (s : IsSound c l) (e : E
   pub ended-notes : (q : Note → Bool) → ((s : Service) (n : ℕ) → q (notes.ReleaseIndication s n) ≡ false) → ((s : Service) (n : ℕ) → q (notes.ReleaseConfirm s n) ≡ false)
       → IsGivenUp c service tei e l (after c e l) a → list_any q (notes_of a) ≡ false
   ended-notes q indication confirm x = ap (list_any q) x.notes ∙ ends-alone q indication confirm (terms c service tei) (link_of service tei l)
+
+  -- Unit data that is told has at most N201 octets.
+  pub event-small : list_any (is_unit_of service tei) (notes_of a) ≡ true → IsSmall c.n201 (contents_in a)
+  event-small some = go (event-goes c e l service tei s)
+    where
+      go : Goes c service tei e l (after c e l) a → IsSmall c.n201 (contents_in a)
+      go (inl x) = group-small x some
+      go (inr (inr x)) = absurd (true≢false (sym some ∙ ended-notes (is_unit_of service tei) (λ s n. refl) (λ s n. refl) x))
+      go (inr (inl x)) = one-small x some
 
   -- So of every event.
   pub event-told : IsHeard service tei w (notes_of a) (contents_in a) × IsCount (link_of service tei (after c e l)) (counted service tei w (notes_of a))

@@ -1,19 +1,20 @@
 -- What layer 3 is told of what is heard, by what the observer knows of the link.
-use Rattle.laws_trace.proofs.Vocabulary.{◌≡◌, ℕ, ◌<◌, ◌||◌, Bool, true, false, cond, Option, Some, None, option_map, refl, sym, ap, ◌∙◌, subst, true≢false, inl, inr, fold, count_by, length, option_to_list, list_any, option_map_or, and_parts, none-some, PoolFull, Service, Parts, State, TeiAssigned, AwaitingEstablishment, AwaitingRelease, Established, TimerRecovery, is_multiple_frame, state_number, Config, hears, expiry, request, next, Answer, refused, Line, link_of, place_in, state_of, IsInRange, notes_of, contents_in, is_data_of, is_unit_of, tells_contents, line_at, is_full, at, has_lines, by_room, line_sound}
+use Rattle.laws_trace.proofs.Vocabulary.{List, nat_le, ◌&&◌, ◌≡◌, ℕ, ◌<◌, ◌||◌, Bool, true, false, cond, Option, Some, None, option_map, refl, sym, ap, ◌∙◌, subst, true≢false, inl, inr, fold, count_by, length, option_to_list, list_any, option_map_or, and_parts, none-some, PoolFull, Service, Parts, State, TeiAssigned, AwaitingEstablishment, AwaitingRelease, Established, TimerRecovery, is_multiple_frame, state_number, Config, hears, expiry, request, next, Answer, refused, Line, link_of, place_in, state_of, IsInRange, notes_of, contents_in, is_data_of, is_unit_of, tells_contents, line_at, is_full, at, has_lines, by_room, line_sound}
 use Rattle.model_line.specs.Event as line_event
 use Rattle.model_line.specs.Machine as lines
 use Rattle.model_line.specs.Sound.{IsSound}
 use Rattle.model_card.specs.Card.{fresh}
 use Rattle.model_card.specs.Machine.{answer}
 use Rattle.model_card.specs.Run.{after_all, AreAtLines}
-use Rattle.laws_trace.specs.Deliveries.{brought, Deliveries}
+use Rattle.laws_trace.specs.Deliveries.{brought, is_unit_for, is_unit_taken, Deliveries}
 use Rattle.laws_trace.specs.LinkFrames.{its_frame, is_for}
 use Rattle.laws_trace.specs.Observer.{Observed, in_state, view_of}
 use Rattle.laws_trace.specs.Trace.{is_up, trace_of, Always}
 use Rattle.laws_trace.specs.Units.{is_ui}
 use Rattle.laws_trace.proofs.Deliveries.{frame_by}
 use Rattle.laws_trace.proofs.DeliveriesKept.{run-stands}
-use Rattle.laws_trace.proofs.DeliveriesRun.{IsCount, no-data, event-told}
+use Rattle.laws_trace.specs.Managing.{Managed}
+use Rattle.laws_trace.proofs.DeliveriesRun.{IsCount, IsSmall, no-data, event-small, event-told}
 use Rattle.laws_trace.proofs.DeliveriesWatched.{at_first, stand, IsHeard}
 use Rattle.laws_trace.proofs.ObservedAcknowledged.{agrees-now}
 use Rattle.laws_trace.proofs.ObservedCount.{Same}
@@ -42,6 +43,7 @@ record Told (c : Config) (service : Service) (tei : ℕ) (o : Observed) (frame :
   contents_are : (list_any (is_data_of service tei) (notes_of a) || list_any (is_unit_of service tei) (notes_of a)) ≡ true
       → contents_in a ≡ option_map (λ (f : Parts). f.info) frame
   once : count_by tells_contents (notes_of a) ≡ length (option_to_list (contents_in a))
+  small : list_any (is_unit_of service tei) (notes_of a) ≡ true → IsSmall c.n201 (contents_in a)
 
 -- One event of a line.
 module _ (service : Service) (tei : ℕ) (c : Config) (ranged : IsInRange c) (l : Line) (s : IsSound c l) (e : line_event.Event) (n : ℕ) (count : IsCount (link_of service tei l) n)
@@ -72,6 +74,7 @@ module _ (service : Service) (tei : ℕ) (c : Config) (ranged : IsInRange c) (l 
     unit_is = λ some. let x = heard.unit_is some in ap (λ f. option_map_or (λ (f : Parts). is_ui f.control) f false) (brought-is e x.frame x.heard x.whose) ∙ x.control;
     contents_are = told-by (list_any (is_data_of service tei) (notes_of a)) refl (list_any (is_unit_of service tei) (notes_of a)) refl;
     once = heard.once;
+    small = event-small c ranged l s e service tei n count;
   }
 
   none-taken : (f : Option Parts) → taken_by c service tei (in_state 1) f ≡ false
@@ -115,8 +118,18 @@ unfolding lines.takes_slot
 none-told c service tei o (hears what) l takes = absurd (true≢false (sym takes))
 none-told c service tei o (expiry timer) l takes = absurd (true≢false (sym takes))
 none-told c service tei o (request r) l takes =
-    record { data_is = refl; unit_is = λ some. absurd (true≢false (sym some)); contents_are = λ some. absurd (true≢false (sym some)); once = refl }
+    record { data_is = refl; unit_is = λ some. absurd (true≢false (sym some)); contents_are = λ some. absurd (true≢false (sym some)); once = refl; small = λ some. absurd (true≢false (sym some)) }
 none-told c service tei o next l takes = absurd (true≢false (sym takes))
+
+-- A UI of which unit data is told, with its contents, is taken.
+taken-so : (c : Config) (tei : ℕ) (w : Managed) (frame : Option Parts) (contents : Option (List ℕ)) → option_map_or (is_unit_for c tei w) frame false ≡ true
+    → contents ≡ option_map (λ (f : Parts). f.info) frame → IsSmall c.n201 contents → option_map_or (is_unit_taken c tei w) frame false ≡ true
+taken-so c tei w None contents comes is small = comes
+taken-so c tei w (Some f) contents comes is small = ap (λ b. b && nat_le (length f.info) c.n201) comes ∙ subst (IsSmall c.n201) is small
+
+or-right : (b u : Bool) → u ≡ true → (b || u) ≡ true
+or-right true u is = refl
+or-right false u is = is
 
 pub deliveries-so : Always Deliveries
 deliveries-so c events number ranged all within service tei before what behind is =
@@ -136,7 +149,10 @@ deliveries-so c events number ranged all within service tei before what behind i
     (agrees-now c before number ranged first within service tei) _ _ _ _ (known-now c before number ranged first within service tei))) in
     record {
       data_is = told.data_is;
-      unit_is = unit-is c before number ranged first within service tei what (brought c service tei what) told.unit_is;
+      unit_is = λ some.
+          taken-so c tei (view_of c service tei number before).teis (brought c service tei what) _
+          (unit-is c before number ranged first within service tei what (brought c service tei what) told.unit_is some)
+          (told.contents_are (or-right _ _ some)) (told.small some);
       units_are = units-are c events number ranged all within service tei before what behind is;
       contents_are = told.contents_are;
       once = told.once;

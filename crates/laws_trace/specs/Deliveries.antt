@@ -40,13 +40,16 @@ brought c service tei other = None
 abbrev pub is_unit_for : Config → ℕ → Managed → Parts → Bool
 is_unit_for c tei w f = is_ui f.control && (is_on tei w || (not (has_management c.side) && tei == 127))
 
--- Data is told exactly where an I-frame is taken; unit data where such a UI comes, and of each that has at most N201 octets.
--- The contents are the information of the frame, and are noted as one or the other, once.
+-- It is taken where it has at most N201 octets (clause 5.9.3).
+abbrev pub is_unit_taken : Config → ℕ → Managed → Parts → Bool
+is_unit_taken c tei w f = is_unit_for c tei w f && nat_le (length f.info) c.n201
+
+-- Data is told exactly where an I-frame is taken, and unit data exactly where a UI is. The contents are the information of
+-- the frame, and are noted as one or the other, once.
 pub record IsTold (c : Config) (service : Service) (tei : ℕ) (was : View) (frame : Option Parts) (a : Answer) : Type 0 where
   pub data_is : list_any (is_data_of service tei) (notes_of a) ≡ option_map_or (is_taken c was.link) frame false
-  pub unit_is : list_any (is_unit_of service tei) (notes_of a) ≡ true → option_map_or (is_unit_for c tei was.teis) frame false ≡ true
-  pub units_are : option_map_or (λ (f : Parts). is_unit_for c tei was.teis f && nat_le (length f.info) c.n201) frame false ≡ true
-      → list_any (is_unit_of service tei) (notes_of a) ≡ true
+  pub unit_is : list_any (is_unit_of service tei) (notes_of a) ≡ true → option_map_or (is_unit_taken c tei was.teis) frame false ≡ true
+  pub units_are : option_map_or (is_unit_taken c tei was.teis) frame false ≡ true → list_any (is_unit_of service tei) (notes_of a) ≡ true
   pub contents_are : (list_any (is_data_of service tei) (notes_of a) || list_any (is_unit_of service tei) (notes_of a)) ≡ true
       → contents_in a ≡ option_map (λ (f : Parts). f.info) frame
   pub once : count_by tells_contents (notes_of a) ≡ length (option_to_list (contents_in a))

@@ -65,7 +65,8 @@ is_outstanding o = if o.state == 5 then o.outstanding else not (o.next == o.ackn
 abbrev pub awaits : Observed → Bool
 awaits o = o.state == 5 || o.state == 6 || o.state == 8 || (o.state == 7 && (o.busy || not (o.next == o.acknowledged)))
 
--- A link is established anew (clause 5.7.2). What was told, and whether layer 3 is busy, holds until the numbers begin.
+-- A link is established anew (clause 5.7.2). What was told, whether layer 3 is busy, and whether an I-frame was rejected
+-- hold until the numbers begin.
 abbrev pub anew : Observed → Observed
 anew o = record o { state = 5; acknowledged = 0; next = 0; busy = false; asked = false; outstanding = not (o.next == o.acknowledged); expiries = 0 }
 

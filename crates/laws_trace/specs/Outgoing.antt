@@ -75,8 +75,9 @@ abbrev pub is_empty : {X : Type 0} → List X → Bool
 is_empty [] = true
 is_empty (x ∷ xs) = false
 
--- Data that is told is to be acknowledged, until a frame of the link is put, or one begins that did not wait: each has an N(R)
--- in states 7 and 8; and nothing is owed where the link comes to these states, or leaves them (clauses 5.6.2 and 5.6.3).
+-- Data that is told is to be acknowledged, until a frame of the link is put, or one begins that did not wait: each that
+-- does not begin the numbers anew has an N(R) there; and nothing is owed where the link comes to states 7 and 8, or leaves
+-- them (clauses 5.6.2 and 5.6.3).
 abbrev pub still_owes : Config → Service → ℕ → Observed → Observed → Moment → List ControlFrame → Bool → Bool
 still_owes c service tei was now m waiting owes =
     is_up was.state && is_up now.state

@@ -66,10 +66,10 @@ pub fn links_take_turns_meanwhile()
 /// What layer 3 is told was heard. At each event of a line data of a link is told exactly where an I-frame for it comes,
 /// which it takes: in states 7 and 8, while layer 3 is not busy, of at most N201 octets, with an N(S) that counts the
 /// contents told of the link since its numbers began, modulo 128, as whoever watches the link has all this (`Observer` of
-/// specs/). Unit data is told where a UI comes to a TEI that was on the line, whatever the state of its link, or, on the
-/// user's side, to the group, TEI 127; and of each that has at most N201 octets. The contents that are told are the
-/// information of that frame, and are noted as one or the other, once (Q.921 clauses 3.3.4, 3.5.2.4 to 3.5.2.6, 5.2.2, 5.2.3,
-/// 5.5.1.2, 5.6.2, 5.6.6 and 5.7).
+/// specs/). Unit data is told exactly where a UI of at most N201 octets comes to a TEI that was on the line, whatever the
+/// state of its link, or, on the user's side, to the group, TEI 127. The contents that are told are the information of that
+/// frame, and are noted as one or the other, once (Q.921 clauses 3.3.4, 3.5.2.4 to 3.5.2.6, 5.2.2, 5.2.3, 5.5.1.2, 5.6.2,
+/// 5.6.6, 5.7 and 5.9.3).
 pub fn what_is_told_was_heard()
     ensures { Always Deliveries }
 {}
@@ -118,18 +118,18 @@ pub fn nothing_is_lost_in_vain()
 /// TEIs are managed as the procedures say. After whatever happened to a card, what the answer to an event of a line
 /// shows of TEI management is exactly what is due by that event, as whoever watches the line knows (`Managing` of
 /// specs/): the notes of TEIs, the orders of T201, and the frames with SAPI 63 that begin. A terminal that asks for a
-/// TEI by an Ri is owed the one that is held for this Ri; or the lowest from 64 on that is not on the line, while
-/// that has fewer than the configuration has terminals, which is told; or a denial; and where there is no room for
-/// the answer, nothing. A check of a TEI on the line begins by a granted request, and by a verify while none runs:
-/// its terminals are asked, and T201 is started; both once more as it expires. As it expires again the check is over,
-/// and a TEI of which no terminal answered is told as removed. Where a second one answers in one of the periods, it
-/// is told that two have it, T201 is stopped, and they are owed a removal, as they are by a granted request; and the
-/// TEI leaves. Messages begin as the line is called for its next frame, before all other frames, the oldest first,
-/// whole, each once; at most four are owed. Where the line is down none is owed any more, a check that runs is over,
-/// and T201 is stopped. And management is granted exactly to put a TEI of at most 126 on a line that does not have it
-/// and has room, and, on the network's side and while fewer than four messages are owed, to remove one that is on the
-/// line, and to check it while no check runs. The user's side serves no message (Q.921 clauses 4.1.1.5, 5.3.1 to
-/// 5.3.5, annex B and profile).
+/// TEI by an Ri is owed the one that is held for this Ri; or the lowest from 64 on that is not on the line, while that
+/// has fewer than the configuration has terminals, which is told; or a denial; and where there is no room for the
+/// answer, nothing. A check of a TEI on the line begins by a granted request, and by a verify while none runs: its
+/// terminals are asked, where fewer than four messages are owed, and T201 is started; both once more as it expires. As
+/// it expires again the check is over, and a TEI of which no terminal answered is told as removed. Where a second one
+/// answers in one of the periods, it is told that two have it, and they are owed a removal, as they are by a granted
+/// request; and the TEI leaves. As a check is over, T201 is stopped. Messages begin as the line is called for its next
+/// frame, before all other frames, the oldest first, whole, each once; at most four are owed. Where the line is down
+/// none is owed any more, a check that runs is over, and T201 is stopped. And management is granted exactly to put a
+/// TEI of at most 126 on a line that does not have it and has room, and, on the network's side and while fewer than
+/// four messages are owed, to remove one that is on the line, and to check it while no check runs. The user's side
+/// serves no message (Q.921 clauses 4.1.1.5, 5.3.1 to 5.3.5, annex B and profile).
 pub fn teis_are_managed()
     ensures { Always TeisAreManaged }
 {}
@@ -166,27 +166,29 @@ pub fn links_move()
     ensures { Always LinksMove }
 {}
 
-/// News of links is told, and errors. In the answer to an event the notes of a link, but for data and unit data, are exactly
-/// what is due, errors first; and there is none where its TEI was not on the line. A link whose TEI leaves ends. News is: an
-/// establish indication where the link comes from state 4 to state 7; from state 5 a confirm, where layer 3 asked for that
-/// establishment, and if this side began it, or the terminal establishes a link anew by SABME, an indication exactly where
-/// an I-frame is outstanding, as [`timers_are_timely`] has it, in state 5 as it was where the link came there; a release
-/// confirm where it comes from state 6 to its end or to state 4, or is released in state 4; a release indication where it
-/// comes there from another state; and XID that is heard of it. So no confirm is told that layer 3 did not ask for, none
-/// twice, and no end of a link goes untold. Errors are, by letter, in states 7 and 8: A, a response with F=1 in state 7; B
-/// and E, DM with F=1 and F=0; F, SABME; J, an invalid N(R); K, FRMR; L, N and O, what is malformed, of wrong size or too
-/// long; and C and D, UA with F=1 that no command asked for, and any with F=0; and G, H and I, where T200 gives up states 5,
-/// 6 and 8 (Q.921 clauses 4.1.1.1, 4.1.1.2, 4.1.1.7, 5.5.1, 5.5.3, 5.6.7, 5.7, 5.8 and appendix II).
+/// News of links is told, and errors. In the answer to an event the notes of a link, but for data and unit data, are
+/// exactly what is due, errors first; and there is none where its TEI was not on the line. A link whose TEI leaves
+/// ends. News is: an establish indication where the link comes from state 4 to state 7; from state 5 a confirm, where
+/// layer 3 asked for that establishment, and if this side began it, or the terminal establishes a link anew by SABME,
+/// an indication exactly where an I-frame is outstanding, as [`timers_are_timely`] has it, in state 5 as it was where
+/// the link came there; a release confirm where it comes from state 6 to its end or to state 4, or is released in state
+/// 4; a release indication where it comes there from another state; and XID that is heard of it. So no confirm is told
+/// that layer 3 did not ask for, none twice, and no end of a link goes untold. Errors are, by letter, in states 7 and
+/// 8: A, a response with F=1 in state 7; B and E, DM with F=1 and F=0; F, SABME; J, an invalid N(R); K, FRMR; L, N and
+/// O, what is malformed, of wrong size or too long; in any state C and D, UA with F=1 that no command asked for, and
+/// any with F=0; and G, H and I, where T200 gives up states 5, 6 and 8 (Q.921 clauses 4.1.1.1, 4.1.1.2, 4.1.1.7, 5.5.1,
+/// 5.5.3, 5.6.7, 5.7, 5.8 and appendix II).
 pub fn news_is_told()
     ensures { Always NewsIsTold }
 {}
 
-/// Rooms are told as they are. Of each link whose TEI is on the line the places of its queue are those that `Card::room`
-/// tells as left and those of the contents that the link keeps, as [`what_is_given_is_due`] has them: so contents take a place
-/// until they are acknowledged, or layer 3 learns that they are lost, and none is lost silently. Of a link in state 7 or 8
-/// V(A) is told, which is the N(R) that was heard of it last; and what is left, of the queue and of the pool, is what the
-/// next request for data would be refused for. In the other states that is refused for the state, so no data is granted
-/// there that nothing keeps (Q.921 clauses 3.5.2.3, 5.5.1.1, 5.5.1.2, 5.5.3.1, 5.5.3.2 and 5.7, and profile).
+/// Rooms are told as they are. Of each link whose TEI is on the line the places of its queue are those that
+/// `Card::room` tells as left and those of the contents that the link keeps, as [`what_is_given_is_due`] has them: so
+/// contents take a place until they are acknowledged, or layer 3 learns that they are lost, and none is lost silently.
+/// Of a link in state 7 or 8 V(A) is told, which is the N(R) that was heard of it last, 0 where none was since its
+/// numbers began; and what is left, of the queue and of the pool, is what the next request for data would be refused
+/// for. In the other states that is refused for the state, so no data is granted there that nothing keeps (Q.921
+/// clauses 3.5.2.3, 5.5.1.1, 5.5.1.2, 5.5.3.1, 5.5.3.2 and 5.7, and profile).
 pub fn rooms_are_told()
     ensures { Always RoomsAreTold }
 {}

@@ -10,7 +10,7 @@
 //!
 //! # Open
 //!
-//! When unit data goes, where other events come between the calls; turns, where the place of the first link changes.
+//! Turns, where the place of the first link changes.
 #![tactic(auto)]
 
 mod laws;

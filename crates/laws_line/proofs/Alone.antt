@@ -1,17 +1,8 @@
 -- An event of a link of a line is one of this link alone.
-use Rattle.laws_line.proofs.Vocabulary.{◌≡◌, ◌≢◌, ℕ, true, false, Some, None, refl, sym, ap, ◌∙◌, subst, ⊎_elim, Service, Parts, LinkTimer, Config, hears, request, next, told, at_link, told_of_link, of_aim, at_timer, aim_of_expiry, Line, place_in, link_in, terms, unless_refused_told, of_request, Request, Deactivate, at_requested, at_deactivated, aim_of_request}
+use Rattle.laws_line.proofs.Vocabulary.{◌≡◌, ◌≢◌, ℕ, true, false, Some, None, refl, sym, ap, ◌∙◌, subst, ⊎_elim, Service, Parts, LinkTimer, Config, hears, request, next, told, at_link, told_of_link, of_aim, at_timer, aim_of_expiry, Line, place_in, link_in, terms, unless_refused_told, of_request, Request, Deactivate, at_requested, at_deactivated, aim_of_request, LinkT200 as T200, LinkT203 as T203, Event, expiry, after, answer, unless_refused, refusal, IsTo, IsOneHeard, IsAlone, requests_of_link as of_link, is_granted, Brings, BringsMalformed, timer_of, IsOf}
 use Rattle.model_bits.specs.Stream as stream
-use Rattle.model_link.specs.declared.timers.LinkTimer.TheVariants.{T200, T203}
 use Rattle.model_link.specs.Events as link
 use Rattle.model_link.specs.Machine as links
-use Rattle.model_line.specs.Event.{Event, expiry}
-use Rattle.model_line.specs.Machine.{after, answer, unless_refused}
-use Rattle.model_line.specs.Refusal.{refusal}
-use Rattle.laws_line.specs.Heard.{IsTo, IsOneEvent as IsOneHeard}
-use Rattle.laws_line.specs.OneEvent.{IsAlone}
-use Rattle.laws_line.specs.Requests.{of_link}
-use Rattle.laws_line.specs.Share.{is_granted}
-use Rattle.laws_line.specs.Steady.{Brings, BringsMalformed, timer_of, IsOf}
 use Rattle.laws_line.proofs.Granting.{not-refused}
 use Rattle.laws_line.proofs.Hearing.{sapi-is, read-event, malformed-event, overlong-event}
 

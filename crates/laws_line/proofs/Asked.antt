@@ -1,16 +1,9 @@
 -- An event accepts for a link what its request asks and its answer grants.
-use Rattle.laws_line.proofs.Vocabulary.{◌≡◌, ℕ, Bool, true, false, cond, ◌==◌, List, [], ◌∷◌, length, Option, Some, None, is_some, refl, sym, ap, ◌∙◌, nat_lt, option_map_or, Refusal, TooLong, QueueFull, PoolFull, WrongState, Service, Timer, T201, Link, LinkTimer, accepted, contents_of, share, not_not, Config, hears, request, next, Aim, at_link, at_timer, aim_of_expiry, Line, link_number, place_in, link_in, link_of, terms, unless_refused_told, of_request, aim_of_heard, Row, first_that_holds, bad_tei, no_link, wrong_state, too_long, queue_full, pool_full, Request, Establish, Release, Assign, Remove, SetBusy, ClearBusy, Deactivate, at_requested, at_deactivated, aim_of_request, heard_aims, Down}
+use Rattle.laws_line.proofs.Vocabulary.{◌≡◌, ℕ, Bool, true, false, cond, ◌==◌, List, [], ◌∷◌, length, Option, Some, None, is_some, refl, sym, ap, ◌∙◌, nat_lt, option_map_or, Refusal, TooLong, QueueFull, PoolFull, WrongState, Service, Timer, T201, Link, LinkTimer, accepted, contents_of, share, not_not, Config, hears, request, next, Aim, at_link, at_timer, aim_of_expiry, Line, link_number, place_in, link_in, link_of, terms, unless_refused_told, of_request, aim_of_heard, Row, first_that_holds, bad_tei, no_link, wrong_state, too_long, queue_full, pool_full, Request, Establish, Release, Assign, Remove, SetBusy, ClearBusy, Deactivate, at_requested, at_deactivated, aim_of_request, heard_aims, Down, T200, T203, fresh, Event, expiry, answer, unless_refused, refusal, Data, Unit, Check, no_share, ending, share_aimed, share_of, is_link, is_granted, asked_for, asked_by}
 use Rattle.model_bits.specs.Stream as stream
-use Rattle.lapd_frame.specs.declared.timers.Timer.TheVariants.{T200, T203}
 use Rattle.model_link.specs.Events as link
-use Rattle.model_link.specs.Link.{fresh}
 use Rattle.model_link.specs.Requests as requests
 use Rattle.model_link.specs.declared.timers.LinkTimer.TheVariants as link_timer
-use Rattle.model_line.specs.Event.{Event, expiry}
-use Rattle.model_line.specs.Machine.{answer, unless_refused}
-use Rattle.model_line.specs.Refusal.{refusal}
-use Rattle.model_line.specs.Request.{Data, Unit, Check}
-use Rattle.laws_line.specs.Share.{no_share, ending, share_aimed, share_of, is_link, is_granted, asked_for, asked_by}
 
 -- a row that does not hold is passed over
 pub passed : (row : Row) (rows : List Row) → first_that_holds (row ∷ rows) ≡ None → (row.holds ≡ false) × (first_that_holds rows ≡ None)

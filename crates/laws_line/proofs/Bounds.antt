@@ -1,8 +1,6 @@
 -- What a configuration gives: the most frames that are to go.
-use Rattle.laws_line.proofs.Vocabulary.{ℕ, ◌+◌, ◌-◌, ◌≤◌, ◌<◌, max, min, Bool, true, false, cond, not, ◌&&◌, length, Option, Some, None, sym, subst, arith, unwrap_or, Service, Call, Packet, Terms, Link, outstanding, unsent, is_established, Config, Line, link_count, service_at, place_at, tei_at, window, terms, link_at, IsSoundAt, sum_bounded}
+use Rattle.laws_line.proofs.Vocabulary.{ℕ, ◌+◌, ◌-◌, ◌≤◌, ◌<◌, max, min, Bool, true, false, cond, not, ◌&&◌, length, Option, Some, None, sym, subst, arith, unwrap_or, Service, Call, Packet, Terms, Link, outstanding, unsent, is_established, Config, Line, link_count, service_at, place_at, tei_at, window, terms, link_at, IsSoundAt, sum_bounded, IsSound, link_to_go, to_go_at_link, frames_to_go, most_frames}
 use Rattle.model_link.specs.Sound as link_sound
-use Rattle.model_line.specs.Sound.{IsSound}
-use Rattle.laws_line.specs.Drains.{link_to_go, to_go_at_link, frames_to_go, most_frames}
 
 -- of a link
 window-most : (c : Config) (service : Service) → window c service ≤ max c.k c.k16

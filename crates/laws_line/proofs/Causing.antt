@@ -1,23 +1,11 @@
 -- Why a message of TEI management comes to wait: each event of a line.
-use Rattle.laws_line.proofs.Vocabulary.{◌≡◌, ◌⊎◌, inl, inr, ℕ, ◌<◌, ◌==◌, true, false, cond, List, [], ◌∷◌, length, Option, Some, None, refl, sym, ap, ◌∙◌, subst, arith, option_map_or, Tei, Address, Refusal, Service, T201, Parts, service_of, LinkTimer, Management, heard_in, Change, Gained, Left, Config, hears, request, next, Answer, Aim, at_management, told_of_management, of_change, of_aim, at_timer, Line, place_in, has_tei, unless_refused_told, management_sapi, drop_for, to_service, addressed, message_of, aim_of_reading, aim_of_heard, Taken, taken, line_of, wrong_side, bad_tei, no_link, tei_taken, table_full, check_running, control_full, at_side, managed_at, Request, Establish, Release, Assign, Remove, SetBusy, ClearBusy, Deactivate, at_requested, at_deactivated, aim_of_request, IsInRange, next_walk, ranges_of, not_not, Down}
+use Rattle.laws_line.proofs.Vocabulary.{◌≡◌, ◌⊎◌, inl, inr, ℕ, ◌<◌, ◌==◌, true, false, cond, List, [], ◌∷◌, length, Option, Some, None, refl, sym, ap, ◌∙◌, subst, arith, option_map_or, Tei, Address, Refusal, Service, T201, Parts, service_of, LinkTimer, Management, heard_in, Change, Gained, Left, Config, hears, request, next, Answer, Aim, at_management, told_of_management, of_change, of_aim, at_timer, Line, place_in, has_tei, unless_refused_told, management_sapi, drop_for, to_service, addressed, message_of, aim_of_reading, aim_of_heard, Taken, taken, line_of, wrong_side, bad_tei, no_link, tei_taken, table_full, check_running, control_full, at_side, managed_at, Request, Establish, Release, Assign, Remove, SetBusy, ClearBusy, Deactivate, at_requested, at_deactivated, aim_of_request, IsInRange, next_walk, ranges_of, not_not, Down, T200, T203, Event, expiry, after, answer, unless_refused, group_tei, refusal, Data, Unit, Check, IsSound, Hears, HasCause, IsTaken, HaveCauses, lost_in, Said, Says, Serves, Expires, Grants, is_granted, BringsMessage}
 use Rattle.model_bits.specs.Stream as stream
-use Rattle.lapd_frame.specs.declared.timers.Timer.TheVariants.{T200, T203}
 use Rattle.model_link.specs.Events as link
 use Rattle.model_link.specs.declared.timers.LinkTimer.TheVariants as link_timer
 use Rattle.lapd_tei.specs.Events as teis
 use Rattle.lapd_tei.specs.Rows as rows
 use Rattle.lapd_tei.specs.Words as words
-use Rattle.model_line.specs.Event.{Event, expiry}
-use Rattle.model_line.specs.Machine.{after, answer, unless_refused}
-use Rattle.model_line.specs.Heard.{group_tei}
-use Rattle.model_line.specs.Refusal.{refusal}
-use Rattle.model_line.specs.Request.{Data, Unit, Check}
-use Rattle.model_line.specs.Sound.{IsSound}
-use Rattle.laws_line.specs.Causes.{Hears, HasCause, IsTaken, HaveCauses}
-use Rattle.laws_line.specs.Frames.{lost_in}
-use Rattle.laws_line.specs.Messages.{Said, Says, Serves, Expires, Grants}
-use Rattle.laws_line.specs.Share.{is_granted}
-use Rattle.laws_line.specs.Steady.{BringsMessage}
 use Rattle.laws_line.proofs.Asked.{passed}
 use Rattle.laws_line.proofs.Granting.{not-refused}
 use Rattle.laws_line.proofs.GroupAims.{IsUi, hears-said, heard-aims-at}

@@ -1,11 +1,6 @@
 -- What comes of it that a line is down.
-use Rattle.laws_line.proofs.Vocabulary.{◌≡◌, [], None, ap, sym, ◌∙◌, subst, arith, All-nil, Management, Config, nothing, Effect, at_no_link, told_of_management, of_change, of_aim, without_units, Line}
+use Rattle.laws_line.proofs.Vocabulary.{◌≡◌, [], None, ap, sym, ◌∙◌, subst, arith, All-nil, Management, Config, nothing, Effect, at_no_link, told_of_management, of_change, of_aim, without_units, Line, stop_of, TeiTold, down_gives_up, IsSound, IsUnitData, with_units}
 use Rattle.lapd_tei.specs.Events as teis
-use Rattle.lapd_tei.specs.Laws.{stop_of}
-use Rattle.lapd_tei.specs.Machine.{TeiTold}
-use Rattle.lapd_tei.proofs.GivenUp.{down_gives_up}
-use Rattle.model_line.specs.Sound.{IsSound, IsUnitData}
-use Rattle.model_line.proofs.SoundParts.{with_units}
 
 -- The effect: no unit data, no message and no check are left, and T201 stops.
 abbrev pub given_up : Line → Effect

@@ -1,9 +1,6 @@
 -- No frame is to go exactly where nothing waits that may go.
-use Rattle.laws_line.proofs.Vocabulary.{◌≡◌, ℕ, zero, suc, ◌+◌, ◌-◌, ◌≤◌, ◌<◌, ◌↔◌, min, Bool, true, false, cond, not, ◌&&◌, List, [], ◌∷◌, length, Option, Some, None, refl, sym, ap, subst, ⊎_elim, arith, nat_lt, sum_by, range_with_len, ltb-true, ltb-false, cases_eq, sum_by-cons, Terms, Link, outstanding, is_established, HasNothingToSend, Config, Line, link_count, service_at, place_at, tei_at, terms, link_at, IsSoundAt}
-use Rattle.model_line.specs.Sound.{IsSound}
-use Rattle.laws_line.specs.Served.{HasNothing}
+use Rattle.laws_line.proofs.Vocabulary.{◌≡◌, ℕ, zero, suc, ◌+◌, ◌-◌, ◌≤◌, ◌<◌, ◌↔◌, min, Bool, true, false, cond, not, ◌&&◌, List, [], ◌∷◌, length, Option, Some, None, refl, sym, ap, subst, ⊎_elim, arith, nat_lt, sum_by, range_with_len, ltb-true, ltb-false, cases_eq, sum_by-cons, Terms, Link, outstanding, is_established, HasNothingToSend, Config, Line, link_count, service_at, place_at, tei_at, terms, link_at, IsSoundAt, IsSound, HasNothing, link_to_go, to_go_at_link, frames_to_go}
 use Rattle.laws_line.proofs.Silence.{silent, sends-none}
-use Rattle.laws_line.specs.Drains.{link_to_go, to_go_at_link, frames_to_go}
 
 -- Of a link.
 none-may : (b x y : Bool) (k o n s : ℕ) → nat_lt o k ≡ x → nat_lt s n ≡ y → cond b (min (k - o) (n - s)) 0 ≡ 0 → (b && x && y) ≡ false

@@ -1,13 +1,7 @@
 -- A link that is deactivated is given up.
-use Rattle.laws_line.proofs.Vocabulary.{◌≡◌, ℕ, false, not, cond, Option, Some, None, refl, ap, ◌∙◌, le-ltb, BadTei, NoLink, Service, State, TeiAssigned, AwaitingEstablishment, AwaitingRelease, Established, TimerRecovery, Terms, LinkTimer, Link, ◌then◌, begin_anew, is_on-at, place_of-is, told_cleared, Config, told, nothing, told_of_link, of_aim, Line, place_in, link_in, has_tei, terms, unless_refused_told, Deactivate, at_deactivated}
-use Rattle.model_link.specs.declared.timers.LinkTimer.TheVariants.{T200, T203}
+use Rattle.laws_line.proofs.Vocabulary.{◌≡◌, ℕ, false, not, cond, Option, Some, None, refl, ap, ◌∙◌, le-ltb, BadTei, NoLink, Service, State, TeiAssigned, AwaitingEstablishment, AwaitingRelease, Established, TimerRecovery, Terms, LinkTimer, Link, ◌then◌, begin_anew, is_on-at, place_of-is, told_cleared, Config, told, nothing, told_of_link, of_aim, Line, place_in, link_in, has_tei, terms, unless_refused_told, Deactivate, at_deactivated, LinkT200 as T200, LinkT203 as T203, begun, after, answer, unless_refused, refusal, IsSound, stopped, DeactivationsGiveUp}
 use Rattle.model_link.specs.Events as link
 use Rattle.model_link.specs.Machine as links
-use Rattle.model_link.specs.Steps.{begun}
-use Rattle.model_line.specs.Machine.{after, answer, unless_refused}
-use Rattle.model_line.specs.Refusal.{refusal}
-use Rattle.model_line.specs.Sound.{IsSound}
-use Rattle.laws_line.specs.Deactivated.{stopped, DeactivationsGiveUp}
 
 -- What a link tells that is cleared.
 all-told : (t : Terms) (x : Link) → told_of_link (links.told t link.cleared x) ≡ record nothing { notes = told_cleared x.state t; orders = stopped t x.running }

@@ -1,24 +1,6 @@
 -- A line that is taken down is down.
-use Rattle.laws_line.proofs.Vocabulary.{◌≡◌, ℕ, zero, suc, ◌<◌, true, false, is_some, List, [], ◌∷◌, get_or, set, Option, Some, None, refl, sym, ap, subst, ◌∙◌, ◌⊎◌, inl, inr, ⊎_elim, arith, true≢false, option_map_or, All-head, All-tail, Refusal, Service, Timer, T201, LinkTimer, Terms, is_on-at, Config, request, gave, Line, link_number, link_count, service_at, place_at, tei_at, place_in, link_at, of_aim, next_of, Request, Establish, Release, Assign, Remove, SetBusy, ClearBusy, Deactivate, Down, at_deactivated, IsInRange, IsSoundAt, after_sound, next}
-use Rattle.std.proofs.Common.{option_map}
-use Rattle.std.proofs.lemmas.Bool.{cases_lt}
-use Rattle.std.proofs.lemmas.List.{get_or_past}
-use Rattle.std.specs.Prelude.{All, Contains, map}
-use Rattle.std.proofs.lemmas.List.Elements.{Contains-append_cases}
-use Rattle.lapd_frame.specs.declared.timers.Timer.TheVariants.{T200, T203}
-use Rattle.lapd_tei.specs.Table.{place_of}
-use Rattle.model_link.specs.Link.{fresh}
-use Rattle.model_link.specs.Told.{runs}
-use Rattle.laws_link.specs.two.Needed.{needed}
+use Rattle.laws_line.proofs.Vocabulary.{◌≡◌, ℕ, zero, suc, ◌<◌, true, false, is_some, List, [], ◌∷◌, get_or, set, Option, Some, None, refl, sym, ap, subst, ◌∙◌, ◌⊎◌, inl, inr, ⊎_elim, arith, true≢false, option_map_or, All-head, All-tail, Refusal, Service, Timer, T201, LinkTimer, Terms, is_on-at, Config, request, gave, Line, link_number, link_count, service_at, place_at, tei_at, place_in, link_at, of_aim, next_of, Request, Establish, Release, Assign, Remove, SetBusy, ClearBusy, Deactivate, Down, at_deactivated, IsInRange, IsSoundAt, after_sound, next, option_map, cases_lt, get_or_past, All, Contains, map, Contains-append_cases, T200, T203, place_of, fresh, runs, needed, after, answer, unless_refused, refusal, Data, Unit, Check, IsSound, after_events, takes_down, TakeDown, IsDown, LinesGoDown, HasNothing, IsSilent, link_needs, is_needed}
 use Rattle.model_link.specs.declared.timers.LinkTimer.TheVariants as link_timer
-use Rattle.model_line.specs.Machine.{after, answer, unless_refused}
-use Rattle.model_line.specs.Refusal.{refusal}
-use Rattle.model_line.specs.Request.{Data, Unit, Check}
-use Rattle.model_line.specs.Sound.{IsSound}
-use Rattle.laws_line.specs.Among.{after_events}
-use Rattle.laws_line.specs.GoesDown.{takes_down, TakeDown, IsDown, LinesGoDown}
-use Rattle.laws_line.specs.Served.{HasNothing, IsSilent}
-use Rattle.laws_line.specs.Timers.{link_needs, is_needed}
 use Rattle.laws_line.proofs.Draining.{nothing-taken}
 use Rattle.laws_line.proofs.GivingUp.{deactivations_give_up}
 use Rattle.laws_line.proofs.Parts.{gives-up}

@@ -1,8 +1,5 @@
 -- A request that is granted is not refused.
-use Rattle.laws_line.proofs.Vocabulary.{◌≡◌, true, false, Option, Some, None, refl, sym, true≢false, Refusal, Config, request, Line, unless_refused_told, of_request, Request}
-use Rattle.model_line.specs.Machine.{answer}
-use Rattle.model_line.specs.Refusal.{refusal}
-use Rattle.laws_line.specs.Share.{is_granted}
+use Rattle.laws_line.proofs.Vocabulary.{◌≡◌, true, false, Option, Some, None, refl, sym, true≢false, Refusal, Config, request, Line, unless_refused_told, of_request, Request, answer, refusal, is_granted}
 
 pub not-refused : (c : Config) (r : Request) (l : Line) → is_granted (answer c (request r) l) ≡ true → refusal c false r l ≡ None
 unfolding answer

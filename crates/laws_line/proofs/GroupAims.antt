@@ -1,14 +1,10 @@
 -- What is heard is to TEI management: nothing, or what a UI to the group brings.
-use Rattle.laws_line.proofs.Vocabulary.{◌≡◌, ℕ, ◌==◌, Bool, true, false, cond, List, Option, Some, None, Result, Ok, Err, refl, ap, Cause, Tei, Unserved, Address, Network, Control, ReadFault, BadExtension, Undefined, WrongSize, Short, Long, Service, Parts, reading, long_reading, service_of, Config, hears, Aim, at_none, at_link, at_management, at_units, Line, place_in, management_sapi, drop_for, to_service, addressed, message_of, aim_of_reading, unless_at_link, aim_of_long, heard_side, aim_of_heard, group_told, IsToGroup, WhereServed, everywhere, side_where, at_no_link}
-use Rattle.std.proofs.Common.{eqb-true}
+use Rattle.laws_line.proofs.Vocabulary.{◌≡◌, ℕ, ◌==◌, Bool, true, false, cond, List, Option, Some, None, Result, Ok, Err, refl, ap, Cause, Tei, Unserved, Address, Network, Control, ReadFault, BadExtension, Undefined, WrongSize, Short, Long, Service, Parts, reading, long_reading, service_of, Config, hears, Aim, at_none, at_link, at_management, at_units, Line, place_in, management_sapi, drop_for, to_service, addressed, message_of, aim_of_reading, unless_at_link, aim_of_long, heard_side, aim_of_heard, group_told, IsToGroup, WhereServed, everywhere, side_where, at_no_link, eqb-true, group_tei, at_place, Hears, Said, Says}
 use Rattle.model_bits.specs.Stream as stream
 use Rattle.lapd_frame.specs.declared.controls.Control.TheVariants as control
 use Rattle.lapd_frame.specs.declared.overlong.Long.TheVariants as long
 use Rattle.model_link.specs.Events as link
 use Rattle.lapd_tei.specs.Events as teis
-use Rattle.model_line.specs.Heard.{group_tei, at_place}
-use Rattle.laws_line.specs.Causes.{Hears}
-use Rattle.laws_line.specs.Messages.{Said, Says}
 
 -- A UI to the group with SAPI 63 is heard.
 pub record IsUi (c : Config) (e : stream.Event) (parts : Parts) : Type 0 where

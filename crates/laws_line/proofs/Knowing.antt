@@ -1,24 +1,12 @@
 -- By notes layer 3 knows which links are up: each event.
-use Rattle.laws_line.proofs.Vocabulary.{◌≡◌, ℕ, ◌==◌, ◌&&◌, Bool, true, false, cond, List, [], ◌∷◌, ◌++◌, set, get_or, Option, Some, None, refl, ap, sym, ◌∙◌, subst, arith, eq-eqb, true≢false, inl, inr, next_walk, fold, option_map_or, get_or-set_other, fold-append, none-some, Note, Refusal, Service, Call, Packet, same_service, T201, is_up, Link, offer_among, may_send_information, is_awaiting_acknowledgement, with_one_sent, ControlFrame, Terms, LinkTimer, layer_3_knows, notes-own, Moves, Management, IsAt, IsSoundTable, is_on, place_of, Change, Gained, Left, at-off, place_of-is, Config, hears, request, next, at_link, at_management, at_units, told_of_management, of_change, of_aim, at_timer, Line, link_number, service_at, place_at, place_in, link_at, link_in, terms, with_link, fresh_line, unless_refused_told, aim_of_heard, Taken, taken, line_of, with_unit, with_given_frame, Request, Establish, Release, Assign, Remove, SetBusy, ClearBusy, Deactivate, at_requested, at_deactivated, aim_of_request, IsProper, heard_aims, request_proper, Down}
-use Rattle.std.proofs.Common.{eqb-true}
+use Rattle.laws_line.proofs.Vocabulary.{◌≡◌, ℕ, ◌==◌, ◌&&◌, Bool, true, false, cond, List, [], ◌∷◌, ◌++◌, set, get_or, Option, Some, None, refl, ap, sym, ◌∙◌, subst, arith, eq-eqb, true≢false, inl, inr, next_walk, fold, option_map_or, get_or-set_other, fold-append, none-some, Note, Refusal, Service, Call, Packet, same_service, T201, is_up, Link, offer_among, may_send_information, is_awaiting_acknowledgement, with_one_sent, ControlFrame, Terms, LinkTimer, layer_3_knows, notes-own, Moves, Management, IsAt, IsSoundTable, is_on, place_of, Change, Gained, Left, at-off, place_of-is, Config, hears, request, next, at_link, at_management, at_units, told_of_management, of_change, of_aim, at_timer, Line, link_number, service_at, place_at, place_in, link_at, link_in, terms, with_link, fresh_line, unless_refused_told, aim_of_heard, Taken, taken, line_of, with_unit, with_given_frame, Request, Establish, Release, Assign, Remove, SetBusy, ClearBusy, Deactivate, at_requested, at_deactivated, aim_of_request, IsProper, heard_aims, request_proper, Down, eqb-true, T200, T203, fresh, LinkCourse as Course, begun, Event, expiry, notes_of, after, answer, unless_refused, with_message, refusal, Data, Unit, Check, IsSound, up_by_note, taken_for_up, link_is_up, is_up_of}
 use Rattle.model_bits.specs.Stream as stream
-use Rattle.lapd_frame.specs.declared.timers.Timer.TheVariants.{T200, T203}
 use Rattle.model_link.specs.Events as link
-use Rattle.model_link.specs.Link.{fresh}
 use Rattle.model_link.specs.Machine as links
-use Rattle.model_link.specs.Steps.{Course, begun}
 use Rattle.model_link.specs.declared.timers.LinkTimer.TheVariants as link_timer
 use Rattle.lapd_tei.specs.Events as teis
 use Rattle.lapd_tei.specs.Laws as tei_laws
 use Rattle.lapd_tei.proofs.LawLemmas as tei_lemmas
-use Rattle.model_line.specs.Event.{Event, expiry}
-use Rattle.laws_line.specs.Heard.{notes_of}
-use Rattle.model_line.specs.Machine.{after, answer, unless_refused}
-use Rattle.model_line.specs.Taken.{with_message}
-use Rattle.model_line.specs.Refusal.{refusal}
-use Rattle.model_line.specs.Request.{Data, Unit, Check}
-use Rattle.model_line.specs.Sound.{IsSound}
-use Rattle.laws_line.specs.Knowledge.{up_by_note, taken_for_up, link_is_up, is_up_of}
 use Rattle.laws_line.proofs.Following.{some-same, and-false}
 use Rattle.laws_line.proofs.LinkMoves.{IsOne, taken-one}
 use Rattle.laws_line.proofs.Noting.{own-notes, other-notes}

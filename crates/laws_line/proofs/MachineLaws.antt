@@ -1,6 +1,5 @@
 -- What a line never does: it stays sound, it sends no more than was paid for, and what is dropped changes nothing.
-use Rattle.laws_line.proofs.Vocabulary.{heard_leaves, drop_costs_nothing, event_rejects, event_rises, after_sound, fresh_sound, next_falls}
-use Rattle.laws_line.specs.Machine.{DropsChangeNothing, LinesRise, LinesStaySound}
+use Rattle.laws_line.proofs.Vocabulary.{heard_leaves, drop_costs_nothing, event_rejects, event_rises, after_sound, fresh_sound, next_falls, DropsChangeNothing, LinesRise, LinesStaySound}
 
 pub lines_stay_sound : LinesStaySound
 lines_stay_sound = record { begins = fresh_sound; each = λ c e l ranged s. after_sound c ranged e l s }

@@ -1,21 +1,12 @@
 -- All that an answer notes: each event of a line.
-use Rattle.laws_line.proofs.Vocabulary.{◌≡◌, ℕ, false, List, [], ◌++◌, get_or, set, Option, Some, None, refl, sym, ap, ◌∙◌, subst, arith, inl, inr, next_walk, option_map_or, get_or-set_same, get_or-set_other, Note, Refusal, Service, Call, Packet, Timer, T201, Terms, LinkTimer, Link, as_heard, told_by, told_cleared, event-follows, Change, Gained, Left, at-within, Config, hears, request, next, Answer, told, Aim, at_link, at_management, told_of_management, of_change, of_aim, at_timer, aim_of_expiry, Line, link_number, place_in, link_in, terms, unless_refused_told, aim_of_heard, Taken, taken, line_of, Request, Establish, Release, Assign, Remove, SetBusy, ClearBusy, Deactivate, at_requested, at_deactivated, aim_of_request, IsProper, number_within, heard_proper, expiry_proper, request_proper, Down}
+use Rattle.laws_line.proofs.Vocabulary.{◌≡◌, ℕ, false, List, [], ◌++◌, get_or, set, Option, Some, None, refl, sym, ap, ◌∙◌, subst, arith, inl, inr, next_walk, option_map_or, get_or-set_same, get_or-set_other, Note, Refusal, Service, Call, Packet, Timer, T201, Terms, LinkTimer, Link, as_heard, told_by, told_cleared, event-follows, Change, Gained, Left, at-within, Config, hears, request, next, Answer, told, Aim, at_link, at_management, told_of_management, of_change, of_aim, at_timer, aim_of_expiry, Line, link_number, place_in, link_in, terms, unless_refused_told, aim_of_heard, Taken, taken, line_of, Request, Establish, Release, Assign, Remove, SetBusy, ClearBusy, Deactivate, at_requested, at_deactivated, aim_of_request, IsProper, number_within, heard_proper, expiry_proper, request_proper, Down, T200, T203, fresh, Event, expiry, after, answer, unless_refused, refusal, Data, Unit, Check, IsSound, notes_of, noted_coming, noted_leaving, noted_ending, NotesItsOwn}
 use Rattle.model_bits.specs.Stream as stream
-use Rattle.lapd_frame.specs.declared.timers.Timer.TheVariants.{T200, T203}
 use Rattle.model_link.specs.declared.timers.LinkTimer.TheVariants as link_timer
 use Rattle.model_link.specs.Events as link
-use Rattle.model_link.specs.Link.{fresh}
 use Rattle.model_link.specs.Machine as links
 use Rattle.lapd_tei.specs.Events as teis
 use Rattle.lapd_tei.specs.Laws as tei_laws
 use Rattle.lapd_tei.proofs.LawLemmas as tei_lemmas
-use Rattle.model_line.specs.Event.{Event, expiry}
-use Rattle.model_line.specs.Machine.{after, answer, unless_refused}
-use Rattle.model_line.specs.Refusal.{refusal}
-use Rattle.model_line.specs.Request.{Data, Unit, Check}
-use Rattle.model_line.specs.Sound.{IsSound}
-use Rattle.laws_line.specs.Heard.{notes_of}
-use Rattle.laws_line.specs.Noted.{noted_coming, noted_leaving, noted_ending, NotesItsOwn}
 use Rattle.laws_line.proofs.GroupAims.{heard-aims-at}
 use Rattle.laws_line.proofs.LinkMoves.{IsOne, taken-one}
 use Rattle.laws_line.proofs.TeiNotes.{GainedBy, LeftBy, ByChange, noted}

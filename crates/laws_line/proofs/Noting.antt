@@ -1,8 +1,5 @@
 -- What notes say: those of a link of this link alone, and those of TEI management of TEIs alone.
-use Rattle.laws_line.proofs.Vocabulary.{◌≡◌, ℕ, ◌==◌, ◌&&◌, Bool, true, false, cond, List, [], ◌∷◌, refl, ap, ◌∙◌, fold, All-head, All-tail, Note, EstablishIndication, EstablishConfirm, ReleaseIndication, ReleaseConfirm, Error, Assigned, Removed, Doubled, Service, same_service, seen, known, IsOwn, Terms}
-use Rattle.std.specs.Prelude.{All}
-use Rattle.lapd_frame.specs.declared.notes.Note.TheVariants.{Data, Unit, Xid}
-use Rattle.laws_line.specs.Knowledge.{up_by_note, on_by_note}
+use Rattle.laws_line.proofs.Vocabulary.{◌≡◌, ℕ, ◌==◌, ◌&&◌, Bool, true, false, cond, List, [], ◌∷◌, refl, ap, ◌∙◌, fold, All-head, All-tail, Note, EstablishIndication, EstablishConfirm, ReleaseIndication, ReleaseConfirm, Error, Assigned, Removed, Doubled, Service, same_service, seen, known, IsOwn, Terms, All, FrameData as Data, FrameUnit as Unit, Xid, up_by_note, on_by_note}
 use Rattle.laws_line.proofs.Told.{its-own}
 
 -- notes of a link, for the link itself,

@@ -1,17 +1,10 @@
 -- A control frame that waits is taken in its turn: after the messages, the unit data, and at most one frame of each other
 -- link for each of its own that goes before it.
-use Rattle.laws_line.proofs.Vocabulary.{◌≡◌, ◌≢◌, ℕ, zero, suc, ◌+◌, ◌*◌, ◌<◌, ◌≤◌, List, [], ◌∷◌, ◌++◌, length, drop, slice_get, Option, Some, None, refl, sym, ap, subst, ◌∙◌, ◌⊎◌, inl, inr, ⊎_elim, arith, option_map_or, option_or, cases_eq, get_or-set_same, get_or-set_other, ControlFrame, Link, Given, GoesWhole, Message, Config, next, Line, UnitData, link_count, place_at, tei_at, terms_at, link_at, Taken, with_unit, with_given_frame, link_taken, first_taken, round, taken, line_of, IsInRange, after_sound}
-use Rattle.std.proofs.Common.{option_map}
+use Rattle.laws_line.proofs.Vocabulary.{◌≡◌, ◌≢◌, ℕ, zero, suc, ◌+◌, ◌*◌, ◌<◌, ◌≤◌, List, [], ◌∷◌, ◌++◌, length, drop, slice_get, Option, Some, None, refl, sym, ap, subst, ◌∙◌, ◌⊎◌, inl, inr, ⊎_elim, arith, option_map_or, option_or, cases_eq, get_or-set_same, get_or-set_other, ControlFrame, Link, Given, GoesWhole, Message, Config, next, Line, UnitData, link_count, place_at, tei_at, terms_at, link_at, Taken, with_unit, with_given_frame, link_taken, first_taken, round, taken, line_of, IsInRange, after_sound, option_map, fresh, after, with_message, IsSound, IsInTurn, way_round, frames_before, IsEnough, control_text, IsTakenWithin}
 use Rattle.model_link.specs.Events as link
-use Rattle.model_link.specs.Link.{fresh}
 use Rattle.model_link.specs.Machine as links
 use Rattle.lapd_tei.specs.Messages as messages
-use Rattle.model_line.specs.Machine.{after}
-use Rattle.model_line.specs.Taken.{with_message}
-use Rattle.model_line.specs.Sound.{IsSound}
-use Rattle.laws_line.specs.Turns.{IsInTurn}
 use Rattle.laws_line.proofs.InTurn.{links_take_turns}
-use Rattle.laws_line.specs.Drains.{way_round, frames_before, IsEnough, control_text, IsTakenWithin}
 use Rattle.laws_line.proofs.Serving.{none-waits}
 use Rattle.laws_line.proofs.InRounds.{served-last, comes-first}
 use Rattle.laws_line.proofs.Leaving.{first-goes, others-wait, now, later, not-empty, same-place, given-whole, text-is, next-moves, waits-and-goes}

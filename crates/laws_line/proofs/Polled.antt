@@ -1,14 +1,9 @@
 -- A poll's answer is taken by one of so many calls for the next frame.
-use Rattle.laws_line.proofs.Vocabulary.{◌≡◌, ℕ, ◌+◌, ◌<◌, ◌≤◌, false, List, [], ◌∷◌, ◌++◌, length, get_or, Option, Some, None, sym, ap, subst, ◌∙◌, arith, get_or-set_same, Control, Service, Parts, ControlFrame, Link, IsPollWhileUp, Answered, AnsweredBy, asked_of, SaysReceived, poll-answered, unnumbered-answered, place_of-is, Config, hears, Line, link_number, link_count, place_at, tei_at, link_at, link_in, terms, IsInRange, after_sound, place_at-number, number_within}
+use Rattle.laws_line.proofs.Vocabulary.{◌≡◌, ℕ, ◌+◌, ◌<◌, ◌≤◌, false, List, [], ◌∷◌, ◌++◌, length, get_or, Option, Some, None, sym, ap, subst, ◌∙◌, arith, get_or-set_same, Control, Service, Parts, ControlFrame, Link, IsPollWhileUp, Answered, AnsweredBy, asked_of, SaysReceived, poll-answered, unnumbered-answered, place_of-is, Config, hears, Line, link_number, link_count, place_at, tei_at, link_at, link_in, terms, IsInRange, after_sound, place_at-number, number_within, fresh, after, IsSound, IsFor, IsEnough, control_text, IsTakenWithin, IsAnsweredWithin}
 use Rattle.model_bits.specs.Stream as stream
 use Rattle.model_link.specs.Events as link
-use Rattle.model_link.specs.Link.{fresh}
 use Rattle.model_link.specs.Machine as links
-use Rattle.model_line.specs.Machine.{after}
-use Rattle.model_line.specs.Sound.{IsSound}
-use Rattle.laws_line.specs.Heard.{IsFor}
 use Rattle.laws_line.proofs.Hearing.{one-event}
-use Rattle.laws_line.specs.Drains.{IsEnough, control_text, IsTakenWithin, IsAnsweredWithin}
 use Rattle.laws_line.proofs.Ordered.{enough-goes}
 
 module _ (c : Config) (ranged : IsInRange c) (l : Line) (s : IsSound c l) (service : Service) (tei place : ℕ) (parts : Parts) (octets : List ℕ)

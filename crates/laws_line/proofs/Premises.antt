@@ -1,14 +1,7 @@
 -- Lines that meet what the laws of what waits ask, and what those give.
-use Rattle.laws_line.proofs.Vocabulary.{true, ◌+◌, ◌≤◌, [], ◌∷◌, length, refl, inl, arith, ReceiveReady, Ua, Call, Spells, seq, response, IsPollWhileUp, hears, request, fresh_line, terms, heard_side, Assign, after_sound, fresh_sound}
+use Rattle.laws_line.proofs.Vocabulary.{true, ◌+◌, ◌≤◌, [], ◌∷◌, length, refl, inl, arith, ReceiveReady, Ua, Call, Spells, seq, response, IsPollWhileUp, hears, request, fresh_line, terms, heard_side, Assign, after_sound, fresh_sound, after, IsSound, IsFor, HasNothing, after_takes, IsEnough, control_text, IsTakenWithin, IsAnsweredWithin, IsIdling, most_frames_before, small, sabme_octets, poll_octets, poll, before_poll, call_link, on_line, line_is_up as is_up, is_valid, one_waits, asked, two_to_go, both_wait, still_on_line, sabme, before_sabme}
 use Rattle.model_bits.specs.Stream as stream
-use Rattle.model_line.specs.Machine.{after}
-use Rattle.model_line.specs.Sound.{IsSound}
-use Rattle.laws_line.specs.Heard.{IsFor}
-use Rattle.laws_line.specs.Served.{HasNothing}
-use Rattle.laws_line.specs.Drains.{after_takes, IsEnough, control_text, IsTakenWithin, IsAnsweredWithin, IsIdling, most_frames_before}
-use Rattle.laws_line.specs.WorkedPolled.{small, sabme_octets, poll_octets, poll, before_poll, call_link, on_line, is_up, is_valid, one_waits, asked, two_to_go, both_wait, still_on_line}
 use Rattle.laws_line.specs.WorkedSabme as worked
-use Rattle.laws_line.specs.WorkedSabme.{sabme, before_sabme}
 use Rattle.laws_line.proofs.Draining.{drains, sound-after_takes, idles}
 use Rattle.laws_line.proofs.Polled.{poll-goes, unnumbered-goes}
 use Rattle.laws_line.proofs.Soon.{goes-soon}

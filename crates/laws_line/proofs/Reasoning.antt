@@ -1,24 +1,11 @@
 -- Why notes say that a TEI came or left: each row of TEI management, and each event of a line.
-use Rattle.laws_line.proofs.Vocabulary.{◌≡◌, ℕ, ◌+◌, ◌*◌, ◌/◌, ◌%◌, ◌==◌, ◌&&◌, nat_le, Bool, true, false, cond, List, [], ◌∷◌, ◌++◌, Option, Some, None, refl, sym, subst, and_parts, All-nil, All-cons, All-append, All-weaker, Note, Assigned, Removed, Doubled, Refusal, Service, Call, Packet, T201, Terms, LinkTimer, IsOwn, Link, notes-own, Period, First, Second, Change, Gained, Left, IdentityRemove, Management, heard_in, heard_of_type, free_place, free_tei, no_room, lose_one, unserved, check_is, begin_check, end_check, send, leave, Config, hears, request, next, LineTold, at_management, told_of_management, of_link, of_change, of_aim, at_timer, Line, place_in, link_in, terms, unless_refused_told, Request, Establish, Release, Assign, Remove, SetBusy, ClearBusy, Deactivate, at_requested, at_deactivated, aim_of_request, Down}
-use Rattle.std.proofs.Common.{eqb-true}
-use Rattle.std.specs.List.{All}
+use Rattle.laws_line.proofs.Vocabulary.{◌≡◌, ℕ, ◌+◌, ◌*◌, ◌/◌, ◌%◌, ◌==◌, ◌&&◌, nat_le, Bool, true, false, cond, List, [], ◌∷◌, ◌++◌, Option, Some, None, refl, sym, subst, and_parts, All-nil, All-cons, All-append, All-weaker, Note, Assigned, Removed, Doubled, Refusal, Service, Call, Packet, T201, Terms, LinkTimer, IsOwn, Link, notes-own, Period, First, Second, Change, Gained, Left, IdentityRemove, Management, heard_in, heard_of_type, free_place, free_tei, no_room, lose_one, unserved, check_is, begin_check, end_check, send, leave, Config, hears, request, next, LineTold, at_management, told_of_management, of_link, of_change, of_aim, at_timer, Line, place_in, link_in, terms, unless_refused_told, Request, Establish, Release, Assign, Remove, SetBusy, ClearBusy, Deactivate, at_requested, at_deactivated, aim_of_request, Down, eqb-true, All, T200, T203, TeiCheck as Check, Course, tei_begun as begun, Event, expiry, answer, unless_refused, group_tei, refusal, Data, Unit, Check as Checking, notes_of, asks, responds, Says, HasReason, HaveReasons}
 use Rattle.lapd_frame.specs.declared.notes.Note.TheVariants as notes
-use Rattle.lapd_frame.specs.declared.timers.Timer.TheVariants.{T200, T203}
 use Rattle.model_link.specs.declared.timers.LinkTimer.TheVariants as link_timer
 use Rattle.model_link.specs.Events as link
 use Rattle.model_link.specs.Machine as links
-use Rattle.lapd_tei.specs.declared.check.Check.{Check}
 use Rattle.lapd_tei.specs.Events as teis
 use Rattle.lapd_tei.specs.Rows as rows
-use Rattle.lapd_tei.specs.Words.{Course, begun}
-use Rattle.model_line.specs.Event.{Event, expiry}
-use Rattle.model_line.specs.Machine.{answer, unless_refused}
-use Rattle.model_line.specs.Heard.{group_tei}
-use Rattle.model_line.specs.Refusal.{refusal}
-use Rattle.model_line.specs.Request.{Data, Unit, Check as Checking}
-use Rattle.laws_line.specs.Heard.{notes_of}
-use Rattle.laws_line.specs.Messages.{asks, responds, Says}
-use Rattle.laws_line.specs.Reasons.{HasReason, HaveReasons}
 use Rattle.laws_line.proofs.GroupAims.{hears-said, heard-aims-at}
 use Rattle.laws_line.proofs.Messaging.{spelled}
 use Rattle.laws_line.proofs.Downs.{by-down}

@@ -1,25 +1,11 @@
 -- What is taken.
-use Rattle.laws_line.proofs.Vocabulary.{◌≡◌, ℕ, ◌+◌, ◌<◌, false, cond, List, [], ◌∷◌, ◌++◌, drop, take, slice_get, get_or, set, Option, Some, None, refl, sym, ap, ◌∙◌, subst, arith, zero-add, append-nil, inl, inr, IfSome, range_with_len, option_or, option_map_or, unwrap_or, get_or-set_same, take-append-drop, All-head, All-tail, All-nil, All-cons, All-get_or, All-append, get_or-range_with_len, length-range_with_len, none-some, Refusal, Service, Timer, T201, LinkTimer, Change, Gained, Left, Terms, Link, is_information, Given, IsInOrder, IsOffered, given-in-order, given-is-offered, carried-is, offer-counts, nothing-given, Message, Config, hears, request, next, Aim, at_none, at_link, at_management, at_units, told_of_management, of_change, of_aim, at_timer, aim_of_expiry, aim_of_heard, Request, Establish, Release, Assign, Remove, SetBusy, ClearBusy, Deactivate, at_requested, at_deactivated, aim_of_request, heard_aims, Line, UnitData, link_count, service_at, place_at, place_in, tei_at, terms, terms_at, link_at, with_link, unless_refused_told, Taken, with_unit, with_given_frame, link_taken, first_taken, round, taken, line_of, IsSoundAt, round_below, Down, at_no_link}
-use Rattle.std.proofs.Common.{option_map}
-use Rattle.std.specs.Prelude.{All}
+use Rattle.laws_line.proofs.Vocabulary.{◌≡◌, ℕ, ◌+◌, ◌<◌, false, cond, List, [], ◌∷◌, ◌++◌, drop, take, slice_get, get_or, set, Option, Some, None, refl, sym, ap, ◌∙◌, subst, arith, zero-add, append-nil, inl, inr, IfSome, range_with_len, option_or, option_map_or, unwrap_or, get_or-set_same, take-append-drop, All-head, All-tail, All-nil, All-cons, All-get_or, All-append, get_or-range_with_len, length-range_with_len, none-some, Refusal, Service, Timer, T201, LinkTimer, Change, Gained, Left, Terms, Link, is_information, Given, IsInOrder, IsOffered, given-in-order, given-is-offered, carried-is, offer-counts, nothing-given, Message, Config, hears, request, next, Aim, at_none, at_link, at_management, at_units, told_of_management, of_change, of_aim, at_timer, aim_of_expiry, aim_of_heard, Request, Establish, Release, Assign, Remove, SetBusy, ClearBusy, Deactivate, at_requested, at_deactivated, aim_of_request, heard_aims, Line, UnitData, link_count, service_at, place_at, place_in, tei_at, terms, terms_at, link_at, with_link, unless_refused_told, Taken, with_unit, with_given_frame, link_taken, first_taken, round, taken, line_of, IsSoundAt, round_below, Down, at_no_link, option_map, All, T200, T203, fresh, link_one as one, frame_of, Event, expiry, refusal, Data, Check, is_granted, after, answer, unless_refused, with_message, IsSound, IsSilent, IsSilentAt, IsItsTurn, IsOfLink, IsOwed, HasNothing, IsIdle, line_contents_of as contents_of, IsServed, unit_asked, units_behind, units_left, UnitsWait, TurnStays}
 use Rattle.model_bits.specs.Stream as stream
-use Rattle.lapd_frame.specs.declared.timers.Timer.TheVariants.{T200, T203}
 use Rattle.model_link.specs.declared.timers.LinkTimer.TheVariants as link_timer
 use Rattle.lapd_tei.specs.Events as teis
 use Rattle.model_link.specs.Events as link
-use Rattle.model_link.specs.Link.{fresh}
 use Rattle.model_link.specs.Machine as links
 use Rattle.model_link.specs.Sound as link_sound
-use Rattle.laws_link.specs.Offered.{one}
-use Rattle.lapd_tei.specs.Messages.{frame_of}
-use Rattle.model_line.specs.Event.{Event, expiry}
-use Rattle.model_line.specs.Refusal.{refusal}
-use Rattle.model_line.specs.Request.{Data, Check}
-use Rattle.laws_line.specs.Share.{is_granted}
-use Rattle.model_line.specs.Machine.{after, answer, unless_refused}
-use Rattle.model_line.specs.Taken.{with_message}
-use Rattle.model_line.specs.Sound.{IsSound}
-use Rattle.laws_line.specs.Served.{IsSilent, IsSilentAt, IsItsTurn, IsOfLink, IsOwed, HasNothing, IsIdle, contents_of, IsServed, unit_asked, units_behind, units_left, UnitsWait, TurnStays}
 use Rattle.laws_line.proofs.Silence.{silent}
 use Rattle.laws_line.proofs.Downs.{by-down}
 

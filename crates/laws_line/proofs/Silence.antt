@@ -1,7 +1,5 @@
 -- A link has nothing to send exactly where the machine gives nothing.
-use Rattle.laws_line.proofs.Vocabulary.{Terms, Link, none-goes, goes-not, HasNothingToSend}
-use Rattle.model_link.specs.Sound.{IsSound}
-use Rattle.laws_line.specs.Served.{IsSilent}
+use Rattle.laws_line.proofs.Vocabulary.{Terms, Link, none-goes, goes-not, HasNothingToSend, LinkIsSound as IsSound, IsSilent}
 
 module _ (t : Terms) (l : Link) (s : IsSound t l) where
   pub silent : HasNothingToSend t l → IsSilent t l

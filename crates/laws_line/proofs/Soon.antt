@@ -1,7 +1,5 @@
 -- What a configuration lets go before a control frame that waits.
-use Rattle.laws_line.proofs.Vocabulary.{◌≡◌, ℕ, ◌+◌, ◌-◌, ◌*◌, ◌≤◌, ◌<◌, Bool, true, false, cond, List, ◌∷◌, ◌++◌, length, Option, Some, None, refl, ap, inr, arith, length-append, nat_le, mul-le-mul_right, leb-false, ControlFrame, Config, Line, link_count, place_at, tei_at, link_at, IsInRange, IsSoundAt}
-use Rattle.model_line.specs.Sound.{IsSound}
-use Rattle.laws_line.specs.Drains.{way_round, frames_before, IsEnough, control_text, IsTakenWithin, most_frames_before}
+use Rattle.laws_line.proofs.Vocabulary.{◌≡◌, ℕ, ◌+◌, ◌-◌, ◌*◌, ◌≤◌, ◌<◌, Bool, true, false, cond, List, ◌∷◌, ◌++◌, length, Option, Some, None, refl, ap, inr, arith, length-append, nat_le, mul-le-mul_right, leb-false, ControlFrame, Config, Line, link_count, place_at, tei_at, link_at, IsInRange, IsSoundAt, IsSound, way_round, frames_before, IsEnough, control_text, IsTakenWithin, most_frames_before}
 use Rattle.laws_line.proofs.Ordered.{enough-goes}
 
 -- at most each other link comes before in the round

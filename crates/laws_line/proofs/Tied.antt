@@ -1,17 +1,10 @@
 -- How what an event aims at is tied to the event.
-use Rattle.laws_line.proofs.Vocabulary.{◌≡◌, ℕ, Bool, true, false, ◌==◌, cond, List, Option, Some, None, Result, Ok, Err, refl, inl, inr, Address, Control, ReadFault, BadExtension, Undefined, WrongSize, Short, Long, Service, Timer, T201, Tei, Unserved, Parts, reading, long_reading, service_of, LinkTimer, Config, hears, request, Answer, Aim, at_none, at_link, at_management, at_units, at_timer, aim_of_expiry, Line, place_in, drop_for, management_sapi, to_service, addressed, message_of, aim_of_reading, unless_at_link, aim_of_long, heard_side, aim_of_heard, side_aims, Request, Establish, Release, Assign, Remove, SetBusy, ClearBusy, Deactivate, at_requested, at_deactivated, aim_of_request, Down, at_no_link}
+use Rattle.laws_line.proofs.Vocabulary.{◌≡◌, ℕ, Bool, true, false, ◌==◌, cond, List, Option, Some, None, Result, Ok, Err, refl, inl, inr, Address, Control, ReadFault, BadExtension, Undefined, WrongSize, Short, Long, Service, Timer, T201, Tei, Unserved, Parts, reading, long_reading, service_of, LinkTimer, Config, hears, request, Answer, Aim, at_none, at_link, at_management, at_units, at_timer, aim_of_expiry, Line, place_in, drop_for, management_sapi, to_service, addressed, message_of, aim_of_reading, unless_at_link, aim_of_long, heard_side, aim_of_heard, side_aims, Request, Establish, Release, Assign, Remove, SetBusy, ClearBusy, Deactivate, at_requested, at_deactivated, aim_of_request, Down, at_no_link, T200, T203, Event, expiry, group_tei, at_place, Data, Check, is_granted, IsTooLong, BringsMalformed, IsBy, IsOf}
 use Rattle.model_bits.specs.Stream as stream
 use Rattle.lapd_frame.specs.declared.controls.Control.TheVariants as control
 use Rattle.lapd_frame.specs.declared.overlong.Long.TheVariants as long
-use Rattle.lapd_frame.specs.declared.timers.Timer.TheVariants.{T200, T203}
 use Rattle.model_link.specs.Events as link
 use Rattle.model_link.specs.declared.timers.LinkTimer.TheVariants as link_timer
-use Rattle.model_line.specs.Event.{Event, expiry}
-use Rattle.model_line.specs.Heard.{group_tei, at_place}
-use Rattle.model_line.specs.Request.{Data, Check}
-use Rattle.laws_line.specs.Share.{is_granted}
-use Rattle.laws_line.specs.Heard.{IsTooLong}
-use Rattle.laws_line.specs.Steady.{BringsMalformed, IsBy, IsOf}
 
 abbrev pub Ties : Config → Event → Answer → Aim → Type 0
 Ties c e answer (at_link service tei place event) = IsOf c e answer service tei event

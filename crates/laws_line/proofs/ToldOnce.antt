@@ -1,21 +1,13 @@
 -- Contents that an answer hands on are noted once.
-use Rattle.laws_line.proofs.Vocabulary.{◌≡◌, ℕ, ◌+◌, false, cond, List, [], ◌∷◌, ◌++◌, length, Option, Some, None, option_to_list, refl, ap, ◌∙◌, ◌⊎◌, inl, inr, arith, count_by, option_or, sum_by-cons, sum_by-append, Note, Refusal, Service, Call, Packet, Timer, T201, State, TeiAssigned, AwaitingEstablishment, AwaitingRelease, Established, TimerRecovery, Terms, LinkTimer, Link, is_data, is_unit, event-tells, Change, Gained, Left, place_of-is, Config, request, hears, next, Aim, at_link, at_management, told_of_management, of_link, of_change, of_aim, at_timer, aim_of_expiry, Line, place_in, link_in, terms, unless_refused_told, aim_of_heard, Request, Establish, Release, Assign, Remove, SetBusy, ClearBusy, Deactivate, at_requested, at_deactivated, aim_of_request, IsInRange, sound_in, heard_aims, Down}
+use Rattle.laws_line.proofs.Vocabulary.{◌≡◌, ℕ, ◌+◌, false, cond, List, [], ◌∷◌, ◌++◌, length, Option, Some, None, option_to_list, refl, ap, ◌∙◌, ◌⊎◌, inl, inr, arith, count_by, option_or, sum_by-cons, sum_by-append, Note, Refusal, Service, Call, Packet, Timer, T201, State, TeiAssigned, AwaitingEstablishment, AwaitingRelease, Established, TimerRecovery, Terms, LinkTimer, Link, is_data, is_unit, event-tells, Change, Gained, Left, place_of-is, Config, request, hears, next, Aim, at_link, at_management, told_of_management, of_link, of_change, of_aim, at_timer, aim_of_expiry, Line, place_in, link_in, terms, unless_refused_told, aim_of_heard, Request, Establish, Release, Assign, Remove, SetBusy, ClearBusy, Deactivate, at_requested, at_deactivated, aim_of_request, IsInRange, sound_in, heard_aims, Down, T200, T203, begun, Event, expiry, answer, unless_refused, refusal, Data, Unit, Check, IsSound, tells_contents, IsNotedOnce}
 use Rattle.model_bits.specs.Stream as stream
 use Rattle.lapd_frame.specs.declared.notes.Note.TheVariants as notes
-use Rattle.lapd_frame.specs.declared.timers.Timer.TheVariants.{T200, T203}
 use Rattle.model_link.specs.declared.timers.LinkTimer.TheVariants as link_timer
 use Rattle.model_link.specs.Events as link
 use Rattle.model_link.specs.Machine as links
 use Rattle.model_link.specs.Sound as link_sound
-use Rattle.model_link.specs.Steps.{begun}
 use Rattle.laws_link.proofs.Once as link_once
 use Rattle.lapd_tei.specs.Events as teis
-use Rattle.model_line.specs.Event.{Event, expiry}
-use Rattle.model_line.specs.Machine.{answer, unless_refused}
-use Rattle.model_line.specs.Refusal.{refusal}
-use Rattle.model_line.specs.Request.{Data, Unit, Check}
-use Rattle.model_line.specs.Sound.{IsSound}
-use Rattle.laws_line.specs.Heard.{tells_contents, IsNotedOnce}
 use Rattle.laws_line.proofs.TeiNotes.{ByChange, noted}
 use Rattle.laws_line.proofs.Downs.{by-down}
 

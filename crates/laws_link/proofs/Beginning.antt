@@ -1,11 +1,10 @@
 -- What is told where the numbers begin anew.
-use Rattle.laws_link.proofs.Vocabulary.{◌≡◌, ℕ, Bool, true, false, cond, List, refl, ◌⊎◌, inl, inr, sym, true≢false, list_any, Control, Information, ReceiveReady, ReceiveNotReady, Reject, Sabme, Disc, Ui, Ua, Dm, Frmr, Xid, State, TeiAssigned, AwaitingEstablishment, AwaitingRelease, Established, TimerRecovery, Terms, Link, has_outstanding, restarts, MayEstablish, Establishes, Course, begun, ◌then◌}
+use Rattle.laws_link.proofs.Vocabulary.{◌≡◌, ℕ, Bool, true, false, cond, List, refl, ◌⊎◌, inl, inr, sym, true≢false, list_any, Control, Information, ReceiveReady, ReceiveNotReady, Reject, Sabme, Disc, Ui, Ua, Dm, Frmr, Xid, State, TeiAssigned, AwaitingEstablishment, AwaitingRelease, Established, TimerRecovery, Terms, Link, has_outstanding, restarts, MayEstablish, Establishes, Course, begun, ◌then◌, tells_beginning, IsSeen}
 use Rattle.lapd_frame.specs.declared.notes.ErrorCode.TheVariants as code
 use Rattle.model_link.specs.Events
 use Rattle.model_link.specs.Words
 use Rattle.model_link.specs.Machine
 use Rattle.laws_link.proofs.Restarts.{establishes}
-use Rattle.laws_link.specs.Beginning.{tells_beginning, IsSeen}
 
 abbrev Tells : Course → Type 0
 Tells c = list_any tells_beginning c.notes ≡ true

@@ -1,14 +1,10 @@
 -- What an event leaves of a link, row by row of the tables.
-use Rattle.laws_link.proofs.Vocabulary.{◌≡◌, ℕ, ◌+◌, Bool, true, false, cond, not, ◌||◌, List, [], ◌∷◌, ◌++◌, length, drop, Option, None, Some, is_some, refl, nat_lt, Control, Note, Parts, State, AwaitingEstablishment, LinkTimer, ControlFrame, Terms, Link, Course, begun, Step, ◌then◌}
+use Rattle.laws_link.proofs.Vocabulary.{◌≡◌, ℕ, ◌+◌, Bool, true, false, cond, not, ◌||◌, List, [], ◌∷◌, ◌++◌, length, drop, Option, None, Some, is_some, refl, nat_lt, Control, Note, Parts, State, AwaitingEstablishment, LinkTimer, ControlFrame, Terms, Link, Course, begun, Step, ◌then◌, as_heard, state_after, numbers_begin, answers, commands, peer_busy_left, own_busy_left, flag_left, rejecting_heard, takes_contents, unless_put, owed_in, owed_behind, asked_left, repeats_left, told_with}
 use Rattle.lapd_frame.specs.declared.notes.Note.TheVariants as said
 use Rattle.lapd_frame.specs.declared.notes.ErrorCode.TheVariants as code
 use Rattle.model_link.specs.Events
 use Rattle.model_link.specs.Words
 use Rattle.model_link.specs.Machine
-use Rattle.laws_link.specs.States.{as_heard, state_after, numbers_begin}
-use Rattle.laws_link.specs.Waiting.{answers, commands}
-use Rattle.laws_link.specs.Flags.{peer_busy_left, own_busy_left, flag_left, rejecting_heard, takes_contents, unless_put, owed_in, owed_behind, asked_left, repeats_left}
-use Rattle.laws_link.specs.Telling.{told_with}
 
 -- What a course leaves: fields of its link, how many frames were lost, and whether the numbers begin.
 pub record Left : Type 0 where

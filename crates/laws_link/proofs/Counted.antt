@@ -1,6 +1,5 @@
 -- What a link keeps, and the contents that were accepted since its numbers began.
-use Rattle.laws_link.proofs.Vocabulary.{◌≡◌, ℕ, List, [], ◌∷◌, refl, ap, ◌∙◌, Terms, Link, fresh, Event, after, after_all, IsInRange, IsSound, sound-after, sound-fresh}
-use Rattle.laws_link.specs.History.{Share, share, History, nothing_yet, with_share, with_all, IsKept, IsCounted}
+use Rattle.laws_link.proofs.Vocabulary.{◌≡◌, ℕ, List, [], ◌∷◌, refl, ap, ◌∙◌, Terms, Link, fresh, Event, after, after_all, IsInRange, IsSound, sound-after, sound-fresh, Share, share, History, nothing_yet, with_share, with_all, IsKept, IsCounted}
 use Rattle.laws_link.proofs.Keeping.{Comes, event-done}
 
 pub kept-after : (t : Terms) (e : Event) (l : Link) → IsSound t l → IsKept (share t e l) l (after t e l)

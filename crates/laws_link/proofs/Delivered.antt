@@ -1,7 +1,6 @@
 -- What is delivered is the information of the I-frame that was heard.
-use Rattle.laws_link.proofs.Vocabulary.{◌≡◌, ℕ, ◌<◌, ◌≤◌, Bool, true, false, cond, not, List, Some, None, ap, ◌∙◌, arith, nat_lt, nat_le, ltb-true, ltb-false, leb-true, leb-false, false_from_ne_true, true_from_ne_false, Control, Information, ReceiveReady, ReceiveNotReady, Reject, Sabme, Disc, Ui, Ua, Dm, Frmr, Xid, Terms, Link, Arrived, information_of, information_in, is_eligible, eligible_of, told, delivered-at_once}
+use Rattle.laws_link.proofs.Vocabulary.{◌≡◌, ℕ, ◌<◌, ◌≤◌, Bool, true, false, cond, not, List, Some, None, ap, ◌∙◌, arith, nat_lt, nat_le, ltb-true, ltb-false, leb-true, leb-false, false_from_ne_true, true_from_ne_false, Control, Information, ReceiveReady, ReceiveNotReady, Reject, Sabme, Disc, Ui, Ua, Dm, Frmr, Xid, Terms, Link, Arrived, information_of, information_in, is_eligible, eligible_of, told, delivered-at_once, in_i_frame, contents_heard}
 use Rattle.model_link.specs.Events
-use Rattle.laws_link.specs.Heard.{in_i_frame, contents_heard}
 
 module _ (t : Terms) (l : Link) where
   from-eligible : (b : Bool) (i j : Arrived) → cond b (Some i) None ≡ Some j → Some i.contents ≡ Some j.contents

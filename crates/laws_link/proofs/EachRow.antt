@@ -1,12 +1,11 @@
 -- What any event leaves of a link.
-use Rattle.laws_link.proofs.Vocabulary.{◌≡◌, ℕ, Bool, true, false, cond, List, [], ◌∷◌, Option, None, Some, refl, nat_lt, Control, Sabme, Disc, Refusal, Parts, State, TeiAssigned, AwaitingEstablishment, AwaitingRelease, Established, TimerRecovery, LinkTimer, T200, T203, ControlFrame, Terms, Link, Course, begun, ◌then◌, changed}
+use Rattle.laws_link.proofs.Vocabulary.{◌≡◌, ℕ, Bool, true, false, cond, List, [], ◌∷◌, Option, None, Some, refl, nat_lt, Control, Sabme, Disc, Refusal, Parts, State, TeiAssigned, AwaitingEstablishment, AwaitingRelease, Established, TimerRecovery, LinkTimer, T200, T203, ControlFrame, Terms, Link, Course, begun, ◌then◌, changed, by_expiry}
 use Rattle.lapd_frame.specs.declared.notes.ErrorCode.TheVariants as code
 use Rattle.model_link.specs.Events
 use Rattle.model_link.specs.Words
 use Rattle.model_link.specs.MultipleFrame
 use Rattle.model_link.specs.Requests
 use Rattle.model_link.specs.Offers
-use Rattle.laws_link.specs.States.{by_expiry}
 use Rattle.laws_link.proofs.Columns.{left, due, at, at-busy, at-running, at-waiting, hears, Row}
 use Rattle.laws_link.proofs.RowsDown.{in-4, in-5, in-6}
 use Rattle.laws_link.proofs.RowsUp.{in-7}

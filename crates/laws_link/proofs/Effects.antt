@@ -1,10 +1,9 @@
 -- What comes of a request that is granted.
-use Rattle.laws_link.proofs.Vocabulary.{◌≡◌, ℕ, ◌+◌, ◌≤◌, Bool, true, false, cond, List, [], ◌∷◌, ◌++◌, length, take, drop, length-take-le, Option, None, Some, refl, ap, sym, ◌∙◌, subst, true≢false, arith, ◌⊎◌, inl, inr, ⊎_elim, nat_lt, cases_lt, lt-ltb, le-ltb, drop_all, drop-append-le, Refusal, WrongState, State, TeiAssigned, AwaitingEstablishment, AwaitingRelease, Established, TimerRecovery, ControlFrame, Terms, Link, IsSound, Course, begun, ◌then◌}
+use Rattle.laws_link.proofs.Vocabulary.{◌≡◌, ℕ, ◌+◌, ◌≤◌, Bool, true, false, cond, List, [], ◌∷◌, ◌++◌, length, take, drop, length-take-le, Option, None, Some, refl, ap, sym, ◌∙◌, subst, true≢false, arith, ◌⊎◌, inl, inr, ⊎_elim, nat_lt, cases_lt, lt-ltb, le-ltb, drop_all, drop-append-le, Refusal, WrongState, State, TeiAssigned, AwaitingEstablishment, AwaitingRelease, Established, TimerRecovery, ControlFrame, Terms, Link, IsSound, Course, begun, ◌then◌, IsReleasedIn, TakesEffect}
 use Rattle.model_link.specs.Events
 use Rattle.model_link.specs.Machine
 use Rattle.model_link.specs.Words
 use Rattle.model_link.specs.Requests
-use Rattle.laws_link.specs.Effects.{IsReleasedIn, TakesEffect}
 
 -- A frame that is put behind those that wait.
 pub put : (t : Terms) (f : ControlFrame) (ws : List ControlFrame)

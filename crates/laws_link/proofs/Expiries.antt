@@ -1,10 +1,9 @@
 -- What comes of the expiry of a timer that runs.
-use Rattle.laws_link.proofs.Vocabulary.{◌≡◌, ◌+◌, ◌<◌, ◌≤◌, true, cond, [], ◌∷◌, refl, sym, subst, nat_lt, lt-ltb, le-ltb, Sabme, Disc, State, TeiAssigned, AwaitingEstablishment, AwaitingRelease, Established, TimerRecovery, LinkTimer, T200, T203, Terms, Link, Course, begun, runs}
+use Rattle.laws_link.proofs.Vocabulary.{◌≡◌, ◌+◌, ◌<◌, ◌≤◌, true, cond, [], ◌∷◌, refl, sym, subst, nat_lt, lt-ltb, le-ltb, Sabme, Disc, State, TeiAssigned, AwaitingEstablishment, AwaitingRelease, Established, TimerRecovery, LinkTimer, T200, T203, Terms, Link, Course, begun, runs, IsSent, enquiry, IsGivenUp, ExpiresIn, Expires}
 use Rattle.lapd_frame.specs.declared.notes.Note.TheVariants as notes
 use Rattle.lapd_frame.specs.declared.notes.ErrorCode.TheVariants as code
 use Rattle.model_link.specs.Events
 use Rattle.model_link.specs.Machine
-use Rattle.laws_link.specs.Expiries.{IsSent, enquiry, IsGivenUp, ExpiresIn, Expires}
 use Rattle.laws_link.proofs.Effects.{put}
 
 module _ (t : Terms) (l : Link) where

@@ -1,11 +1,6 @@
 -- What follows an event, from what it leaves.
-use Rattle.laws_link.proofs.Vocabulary.{◌≡◌, ℕ, Bool, List, refl, ap, sym, ◌∙◌, subst, Note, State, ControlFrame, Terms, restarts, Link, after, told}
+use Rattle.laws_link.proofs.Vocabulary.{◌≡◌, ℕ, Bool, List, refl, ap, sym, ◌∙◌, subst, Note, State, ControlFrame, Terms, restarts, Link, after, told, Follows, as_heard, state_after, numbers_begin, put, waiting_left, lost_by, peer_busy_left, own_busy_left, rejecting_left, takes_contents, pending_left, asked_left, repeats_left, told_by}
 use Rattle.model_link.specs.Events
-use Rattle.laws_link.specs.Following.{Follows}
-use Rattle.laws_link.specs.States.{as_heard, state_after, numbers_begin}
-use Rattle.laws_link.specs.Waiting.{put, waiting_left, lost_by}
-use Rattle.laws_link.specs.Flags.{peer_busy_left, own_busy_left, rejecting_left, takes_contents, pending_left, asked_left, repeats_left}
-use Rattle.laws_link.specs.Telling.{told_by}
 use Rattle.laws_link.proofs.Columns.{Left, queued_by, owed_by}
 use Rattle.laws_link.proofs.Placing.{placed}
 use Rattle.laws_link.proofs.EachRow.{each-row}

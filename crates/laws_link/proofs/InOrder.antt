@@ -1,9 +1,8 @@
 -- A link gives what waits in its order.
-use Rattle.laws_link.proofs.Vocabulary.{◌≡◌, Bool, true, false, cond, List, [], ◌∷◌, Option, Some, None, refl, subst, inl, inr, All, IfSome, All-head, ControlFrame, T200, Terms, Link, course, after, given, given_of, IsSound, IsWaitingFrame, Course, Sent, begun, ◌then◌, changed}
+use Rattle.laws_link.proofs.Vocabulary.{◌≡◌, Bool, true, false, cond, List, [], ◌∷◌, Option, Some, None, refl, subst, inl, inr, All, IfSome, All-head, ControlFrame, T200, Terms, Link, course, after, given, given_of, IsSound, IsWaitingFrame, Course, Sent, begun, ◌then◌, changed, IsInOrder}
 use Rattle.model_link.specs.Events as link
 use Rattle.model_link.specs.Offers
 use Rattle.model_link.specs.Words
-use Rattle.laws_link.specs.InOrder.{IsInOrder}
 use Rattle.laws_link.proofs.Alone.{may-go}
 use Rattle.laws_link.proofs.MayGo.{none-goes}
 

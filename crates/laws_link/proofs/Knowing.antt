@@ -1,11 +1,10 @@
 -- What layer 3 is told is what becomes of the link: every row keeps that.
-use Rattle.laws_link.proofs.Vocabulary.{◌≡◌, ℕ, Bool, true, false, IsTrue, List, [], ◌∷◌, Option, Some, None, refl, sym, subst, ◌∙◌, ap, cond, not, ◌++◌, fold, true≢false, Seq, named, Note, ErrorCode, State, TeiAssigned, AwaitingEstablishment, AwaitingRelease, Established, TimerRecovery, LinkTimer, T203, ControlFrame, Terms, Link, is_asked, has_outstanding, Course, Step, ◌then◌, nothing, depending_on, changed, Leads, then_leads, keeping_then, nothing_leads, depending_leads, bit_leads, tested_leads, Passed, from_more, to_less}
+use Rattle.laws_link.proofs.Vocabulary.{◌≡◌, ℕ, Bool, true, false, IsTrue, List, [], ◌∷◌, Option, Some, None, refl, sym, subst, ◌∙◌, ap, cond, not, ◌++◌, fold, true≢false, Seq, named, Note, ErrorCode, State, TeiAssigned, AwaitingEstablishment, AwaitingRelease, Established, TimerRecovery, LinkTimer, T203, ControlFrame, Terms, Link, is_asked, has_outstanding, Course, Step, ◌then◌, nothing, depending_on, changed, Leads, then_leads, keeping_then, nothing_leads, depending_leads, bit_leads, tested_leads, Passed, from_more, to_less, seen, known, is_up_in}
 use Rattle.lapd_frame.specs.declared.notes.ErrorCode.TheVariants as code
 use Rattle.model_link.specs.Words
 use Rattle.model_link.specs.MultipleFrame
 use Rattle.model_link.specs.Offers
 use Rattle.lapd_frame.specs.declared.notes.Note.TheVariants as notes
-use Rattle.laws_link.specs.Known.{seen, known, is_up_in}
 
 -- the same as `is_up_in`, of what it speaks of
 abbrev pub up_by : State → Bool → Bool

@@ -1,5 +1,5 @@
 -- What layer 3 is told is what becomes of the link: the rows by state, and every event.
-use Rattle.laws_link.proofs.Vocabulary.{◌≡◌, ℕ, Bool, true, false, List, [], ◌∷◌, Option, Some, None, refl, sym, subst, ◌∙◌, cond, ◌&&◌, Seq, Control, Information, ReceiveReady, ReceiveNotReady, Reject, Sabme, Disc, Ui, Ua, Dm, Frmr, Xid, ErrorCode, Refusal, WrongState, State, TeiAssigned, AwaitingEstablishment, AwaitingRelease, Established, TimerRecovery, LinkTimer, T200, T203, ControlFrame, Terms, Link, has_outstanding, is_own_busy, is_rejecting, is_peer_busy, Course, begun, Step, ◌then◌, nothing, by_bit, frame_in_4, establish_in_4, frame_in_5, frame_in_6, Leads, then_leads, keeping_then, nothing_leads, depending_leads, bit_leads}
+use Rattle.laws_link.proofs.Vocabulary.{◌≡◌, ℕ, Bool, true, false, List, [], ◌∷◌, Option, Some, None, refl, sym, subst, ◌∙◌, cond, ◌&&◌, Seq, Control, Information, ReceiveReady, ReceiveNotReady, Reject, Sabme, Disc, Ui, Ua, Dm, Frmr, Xid, ErrorCode, Refusal, WrongState, State, TeiAssigned, AwaitingEstablishment, AwaitingRelease, Established, TimerRecovery, LinkTimer, T200, T203, ControlFrame, Terms, Link, has_outstanding, is_own_busy, is_rejecting, is_peer_busy, Course, begun, Step, ◌then◌, nothing, by_bit, frame_in_4, establish_in_4, frame_in_5, frame_in_6, Leads, then_leads, keeping_then, nothing_leads, depending_leads, bit_leads, known, is_up_in, is_up}
 use Rattle.lapd_frame.specs.declared.notes.ErrorCode.TheVariants as code
 use Rattle.model_link.specs.Events
 use Rattle.model_link.specs.Words
@@ -9,7 +9,6 @@ use Rattle.model_link.specs.TimerRecovery
 use Rattle.model_link.specs.Requests
 use Rattle.model_link.specs.Offers
 use Rattle.model_link.specs.Machine
-use Rattle.laws_link.specs.Known.{known, is_up_in, is_up}
 use Rattle.laws_link.proofs.Knowing.{up_by, is-up-by, At, Ends, at_ends, acknowledge_knows, transfer_knows, own_busy_knows, report_knows, send_knows, flags_knows, zero_knows, discard_knows, repeats_knows, indication_7, indication_8, indicates_release, enters_7_from_7, enters_6_from_7, enters_6_from_8, answer_knows, count_knows, rejecting_knows, deliver_knows, pending_knows, reject_knows, peer_busy_knows, note_knows, send_again_knows, start_knows, enters_7_from_8, confirms_in_4, established_up, zero_enters, ends, failed_7, failed_8, number_7, number_8}
 
 module _ (up : Bool) (t : Terms) where

@@ -1,10 +1,9 @@
 -- What obeying orders comes to.
-use Rattle.laws_link.proofs.Vocabulary.{◌≡◌, ℕ, Bool, true, false, List, [], ◌∷◌, Option, Some, None, refl, sym, ◌∙◌, ap, ◌==◌, eq-eqb, cond, not, ◌&&◌, ◌++◌, ◌⊎◌, inl, inr, true≢false, State, TeiAssigned, AwaitingEstablishment, AwaitingRelease, Established, TimerRecovery, LinkTimer, T200, T203, Terms, Link, may_repeat, Course, begun, t200_in_5, t200_in_6, Leads, depending_leads, same_service, Service, Call, Packet, Order, Timer, runs, timer_at, orders_for}
+use Rattle.laws_link.proofs.Vocabulary.{◌≡◌, ℕ, Bool, true, false, List, [], ◌∷◌, Option, Some, None, refl, sym, ◌∙◌, ap, ◌==◌, eq-eqb, cond, not, ◌&&◌, ◌++◌, ◌⊎◌, inl, inr, true≢false, State, TeiAssigned, AwaitingEstablishment, AwaitingRelease, Established, TimerRecovery, LinkTimer, T200, T203, Terms, Link, may_repeat, Course, begun, t200_in_5, t200_in_6, Leads, depending_leads, same_service, Service, Call, Packet, Order, Timer, runs, timer_at, orders_for, is_same, obeyed, IsTimed, IsTimedIn, StaysInStep, ComesInStep}
 use Rattle.model_link.specs.Events
 use Rattle.model_link.specs.TimerRecovery
 use Rattle.model_link.specs.Machine
 use Rattle.lapd_frame.specs.declared.timers.Order.TheVariants as orders
-use Rattle.laws_link.specs.Timed.{is_same, obeyed, IsTimed, IsTimedIn, StaysInStep, ComesInStep}
 use Rattle.laws_link.proofs.InStep.{comes-step}
 
 -- What obeying an event's orders comes to: orders for one timer, before or after those for the other.

@@ -1,9 +1,8 @@
 -- What an offer gives.
-use Rattle.laws_link.proofs.Vocabulary.{◌≡◌, ℕ, ◌+◌, ◌<◌, Bool, true, false, cond, ◌&&◌, not, List, [], ◌∷◌, length, slice_get, Option, Some, None, refl, sym, ap, ◌∙◌, true≢false, add-zero, All, IfSome, nat_lt, option_map_or, ltb-true, and_parts, slice_get-get_or, get_or, All-head, seq, Control, Information, ReceiveReady, ReceiveNotReady, Reject, Sabme, Disc, Ui, Ua, Dm, Frmr, Xid, ControlFrame, T200, Terms, Link, course, after, given, given_of, IsSound, IsWaitingFrame, is_information, Course, Sent, begun, ◌then◌, changed}
+use Rattle.laws_link.proofs.Vocabulary.{◌≡◌, ℕ, ◌+◌, ◌<◌, Bool, true, false, cond, ◌&&◌, not, List, [], ◌∷◌, length, slice_get, Option, Some, None, refl, sym, ap, ◌∙◌, true≢false, add-zero, All, IfSome, nat_lt, option_map_or, ltb-true, and_parts, slice_get-get_or, get_or, All-head, seq, Control, Information, ReceiveReady, ReceiveNotReady, Reject, Sabme, Disc, Ui, Ua, Dm, Frmr, Xid, ControlFrame, T200, Terms, Link, course, after, given, given_of, IsSound, IsWaitingFrame, is_information, Course, Sent, begun, ◌then◌, changed, IsOffered, one, is_i_frame}
 use Rattle.model_link.specs.Events as link
 use Rattle.model_link.specs.Offers
 use Rattle.model_link.specs.Words
-use Rattle.laws_link.specs.Offered.{IsOffered, one, is_i_frame}
 
 -- a frame without contents that is no I-frame
 alone : (all : List (List ℕ)) (j : ℕ) (command : Bool) (control : Control) → is_information control ≡ false → IsOffered all j (record { command = command; control = control }) None

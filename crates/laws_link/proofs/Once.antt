@@ -1,5 +1,5 @@
 -- What is due is delivered, and is noted once.
-use Rattle.laws_link.proofs.Vocabulary.{◌≡◌, ℕ, ◌≤◌, Bool, true, false, cond, ◌||◌, List, [], ◌∷◌, length, Option, Some, None, is_some, option_to_list, refl, sym, ap, ◌∙◌, subst, inl, inr, arith, count_by, nat_lt, nat_le, list_any, or_parts, sum_by-cons, sum_by_push, none-some, Seq, named, Control, Information, ReceiveReady, ReceiveNotReady, Reject, Sabme, Disc, Ui, Ua, Dm, Frmr, Xid, Note, State, TeiAssigned, AwaitingEstablishment, AwaitingRelease, Established, TimerRecovery, Terms, Arrived, information_of, eligible_of, eligible, MayEstablish, restarts, Link, is_peer_busy, is_rejecting, is_data, is_unit, IsSound, Course, begun, Step, ◌then◌, delivery, event-delivers, event-tells}
+use Rattle.laws_link.proofs.Vocabulary.{◌≡◌, ℕ, ◌≤◌, Bool, true, false, cond, ◌||◌, List, [], ◌∷◌, length, Option, Some, None, is_some, option_to_list, refl, sym, ap, ◌∙◌, subst, inl, inr, arith, count_by, nat_lt, nat_le, list_any, or_parts, sum_by-cons, sum_by_push, none-some, Seq, named, Control, Information, ReceiveReady, ReceiveNotReady, Reject, Sabme, Disc, Ui, Ua, Dm, Frmr, Xid, Note, State, TeiAssigned, AwaitingEstablishment, AwaitingRelease, Established, TimerRecovery, Terms, Arrived, information_of, eligible_of, eligible, MayEstablish, restarts, Link, is_peer_busy, is_rejecting, is_data, is_unit, IsSound, Course, begun, Step, ◌then◌, delivery, event-delivers, event-tells, in_i_frame, in_ui_frame, contents_heard, unit_heard, within, in_sequence, data_due, IsNotedOnce}
 use Rattle.lapd_frame.specs.declared.notes.Note.TheVariants as notes
 use Rattle.lapd_frame.specs.declared.notes.ErrorCode.TheVariants as code
 use Rattle.model_link.specs.Established
@@ -8,7 +8,6 @@ use Rattle.model_link.specs.Machine
 use Rattle.model_link.specs.MultipleFrame
 use Rattle.model_link.specs.Words
 use Rattle.laws_link.proofs.Restarts.{establishes}
-use Rattle.laws_link.specs.Heard.{in_i_frame, in_ui_frame, contents_heard, unit_heard, within, in_sequence, data_due, IsNotedOnce}
 use Rattle.laws_link.proofs.Delivered.{delivered-was-heard}
 use Rattle.laws_link.proofs.Keeping.{event-unit}
 

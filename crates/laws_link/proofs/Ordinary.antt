@@ -1,11 +1,9 @@
 -- Most words of the tables leave V(S) and own busy, and tell no loss; an error that is told may end own busy.
-use Rattle.laws_link.proofs.Vocabulary.{◌≡◌, ℕ, Bool, true, false, ◌||◌, List, [], ◌∷◌, ◌++◌, Option, None, Some, refl, ap, sym, ◌∙◌, ◌⊎◌, inl, inr, ⊎_elim, list_any, list_any-append, Seq, named, Note, ErrorCode, State, LinkTimer, ControlFrame, Terms, Link, Course, begun, Step, ◌then◌, Leads, keeping_then, nothing_leads, depending_leads, bit_leads}
+use Rattle.laws_link.proofs.Vocabulary.{◌≡◌, ℕ, Bool, true, false, ◌||◌, List, [], ◌∷◌, ◌++◌, Option, None, Some, refl, ap, sym, ◌∙◌, ◌⊎◌, inl, inr, ⊎_elim, list_any, list_any-append, Seq, named, Note, ErrorCode, State, LinkTimer, ControlFrame, Terms, Link, Course, begun, Step, ◌then◌, Leads, keeping_then, nothing_leads, depending_leads, bit_leads, is_loss, tells_loss, is_anew, tells_anew}
 use Rattle.lapd_frame.specs.declared.notes.Note.TheVariants as notes
 use Rattle.lapd_frame.specs.declared.notes.ErrorCode.TheVariants as code
 use Rattle.model_link.specs.MultipleFrame
 use Rattle.model_link.specs.Words
-use Rattle.laws_link.specs.Accepted.{is_loss, tells_loss}
-use Rattle.laws_link.specs.Steady.{is_anew, tells_anew}
 use Rattle.laws_link.proofs.Queueing.{no_loss-note}
 
 abbrev pub Busy : Link → Course → Type 0

@@ -1,12 +1,11 @@
 -- Each delivery is acknowledged.
-use Rattle.laws_link.proofs.Vocabulary.{◌≡◌, ℕ, ◌+◌, ◌≤◌, Bool, true, false, cond, List, [], ◌∷◌, ◌++◌, length, Option, Some, None, refl, ◌⊎◌, inl, inr, sym, ◌∙◌, arith, nat_lt, Seq, seq, named, Control, Information, ReceiveReady, ReceiveNotReady, Reject, Sabme, Disc, Ui, Ua, Dm, Frmr, Xid, State, TeiAssigned, AwaitingEstablishment, AwaitingRelease, Established, TimerRecovery, LinkTimer, ControlFrame, Terms, Link, Arrived, information_of, eligible_of, Course, begun, Step, ◌then◌, by_bit, Leads, keeping_then, nothing_leads, depending_leads, delivered-at_once}
+use Rattle.laws_link.proofs.Vocabulary.{◌≡◌, ℕ, ◌+◌, ◌≤◌, Bool, true, false, cond, List, [], ◌∷◌, ◌++◌, length, Option, Some, None, refl, ◌⊎◌, inl, inr, sym, ◌∙◌, arith, nat_lt, Seq, seq, named, Control, Information, ReceiveReady, ReceiveNotReady, Reject, Sabme, Disc, Ui, Ua, Dm, Frmr, Xid, State, TeiAssigned, AwaitingEstablishment, AwaitingRelease, Established, TimerRecovery, LinkTimer, ControlFrame, Terms, Link, Arrived, information_of, eligible_of, Course, begun, Step, ◌then◌, by_bit, Leads, keeping_then, nothing_leads, depending_leads, delivered-at_once, receipt, HasReceipt, Owes, IsBegunAgain}
 use Rattle.lapd_frame.specs.declared.notes.ErrorCode.TheVariants as code
 use Rattle.model_link.specs.Events
 use Rattle.model_link.specs.Words
 use Rattle.model_link.specs.MultipleFrame
 use Rattle.model_link.specs.Established
 use Rattle.model_link.specs.Machine
-use Rattle.laws_link.specs.Owing.{receipt, HasReceipt, Owes, IsBegunAgain}
 
 -- Nothing is delivered, or its acknowledgement is owed.
 abbrev Half : List ControlFrame → Course → Type 0

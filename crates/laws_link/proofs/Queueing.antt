@@ -1,8 +1,7 @@
 -- The contents of a link, its numbers, and what its notes tell of them: most words of the tables leave them.
-use Rattle.laws_link.proofs.Vocabulary.{◌≡◌, ℕ, Bool, true, false, ◌||◌, List, [], ◌∷◌, ◌++◌, Option, refl, subst, sym, ◌∙◌, list_any-append, Note, ErrorCode, State, LinkTimer, ControlFrame, Terms, Course, Leads, keeping_then, nothing_leads, depending_leads, bit_leads}
+use Rattle.laws_link.proofs.Vocabulary.{◌≡◌, ℕ, Bool, true, false, ◌||◌, List, [], ◌∷◌, ◌++◌, Option, refl, subst, sym, ◌∙◌, list_any-append, Note, ErrorCode, State, LinkTimer, ControlFrame, Terms, Course, Leads, keeping_then, nothing_leads, depending_leads, bit_leads, is_loss, tells_loss}
 use Rattle.lapd_frame.specs.declared.notes.Note.TheVariants as notes
 use Rattle.model_link.specs.Words
-use Rattle.laws_link.specs.Accepted.{is_loss, tells_loss}
 
 -- A claim on the contents, on V(A) and V(S), on whether the notes tell a loss, on whether the numbers began anew, and on
 -- what unit data is told.

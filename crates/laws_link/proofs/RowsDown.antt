@@ -1,9 +1,8 @@
 -- What frames leave of a link in states 4, 5 and 6.
-use Rattle.laws_link.proofs.Vocabulary.{◌≡◌, Bool, true, false, cond, length, refl, ◌==◌, not, [], ◌∷◌, List, ℕ, nat_lt, Control, Information, ReceiveReady, ReceiveNotReady, Reject, Sabme, Disc, Ui, Ua, Dm, Frmr, Xid, Parts, TeiAssigned, AwaitingEstablishment, AwaitingRelease, Established, T203, Terms, Link, begun, ◌then◌}
+use Rattle.laws_link.proofs.Vocabulary.{◌≡◌, Bool, true, false, cond, length, refl, ◌==◌, not, [], ◌∷◌, List, ℕ, nat_lt, Control, Information, ReceiveReady, ReceiveNotReady, Reject, Sabme, Disc, Ui, Ua, Dm, Frmr, Xid, Parts, TeiAssigned, AwaitingEstablishment, AwaitingRelease, Established, T203, Terms, Link, begun, ◌then◌, state_after}
 use Rattle.lapd_frame.specs.declared.notes.Note.TheVariants as said
 use Rattle.model_link.specs.Events
 use Rattle.model_link.specs.Words
-use Rattle.laws_link.specs.States.{state_after}
 use Rattle.laws_link.proofs.Columns.{left, due, at, hears, Row, unit-left}
 
 module _ (t : Terms) where

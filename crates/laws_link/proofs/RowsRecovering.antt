@@ -1,13 +1,11 @@
 -- What frames leave of a link in state 8.
-use Rattle.laws_link.proofs.Vocabulary.{◌≡◌, ℕ, Bool, true, false, cond, not, List, length, is_some, refl, ◌==◌, [], ◌∷◌, nat_lt, Seq, named, Control, Information, ReceiveReady, ReceiveNotReady, Reject, Sabme, Disc, Ui, Ua, Dm, Frmr, Xid, Parts, AwaitingEstablishment, Established, TimerRecovery, T200, T203, Terms, Link, Course, begun, ◌then◌}
+use Rattle.laws_link.proofs.Vocabulary.{◌≡◌, ℕ, Bool, true, false, cond, not, List, length, is_some, refl, ◌==◌, [], ◌∷◌, nat_lt, Seq, named, Control, Information, ReceiveReady, ReceiveNotReady, Reject, Sabme, Disc, Ui, Ua, Dm, Frmr, Xid, Parts, AwaitingEstablishment, Established, TimerRecovery, T200, T203, Terms, Link, Course, begun, ◌then◌, state_after, is_next, is_taken, to_information}
 use Rattle.lapd_frame.specs.declared.notes.ErrorCode.TheVariants as code
 use Rattle.lapd_frame.specs.declared.notes.Note.TheVariants as said
 use Rattle.model_link.specs.Events
 use Rattle.model_link.specs.Words
 use Rattle.model_link.specs.MultipleFrame
 use Rattle.model_link.specs.TimerRecovery as eight
-use Rattle.laws_link.specs.States.{state_after}
-use Rattle.laws_link.specs.Waiting.{is_next, is_taken, to_information}
 use Rattle.laws_link.proofs.Columns.{left, due, due_by, at, at-busy, hears, Row, unit-left, by-named}
 
 module _ (t : Terms) where

@@ -1,9 +1,8 @@
 -- An offer leaves the timers that run.
-use Rattle.laws_link.proofs.Vocabulary.{◌≡◌, Bool, true, false, cond, List, [], ◌∷◌, Option, Some, None, refl, inl, inr, IfSome, Start, Stop, ControlFrame, LinkTimer, T200, T203, Terms, Link, course, after, given, given_of, Course, Sent, begun, ◌then◌, changed, runs, timer_at, orders_for}
+use Rattle.laws_link.proofs.Vocabulary.{◌≡◌, Bool, true, false, cond, List, [], ◌∷◌, Option, Some, None, refl, inl, inr, IfSome, Start, Stop, ControlFrame, LinkTimer, T200, T203, Terms, Link, course, after, given, given_of, Course, Sent, begun, ◌then◌, changed, runs, timer_at, orders_for, LeavesTimers}
 use Rattle.model_link.specs.Events as link
 use Rattle.model_link.specs.Offers
 use Rattle.model_link.specs.Words
-use Rattle.laws_link.specs.Starting.{LeavesTimers}
 
 -- no order where no timer was started, and the same runs
 none-ordered : (t : Terms) (running : Option LinkTimer) → orders_for t running None running ≡ []

@@ -1,6 +1,5 @@
 -- A link that awaits something has its timer: every row keeps that.
-use Rattle.laws_link.proofs.Vocabulary.{◌≡◌, ℕ, ◌≤◌, Bool, true, List, Option, Some, None, ◌⊎◌, inl, inr, refl, arith, Seq, named, Note, ErrorCode, State, TeiAssigned, AwaitingEstablishment, AwaitingRelease, Established, TimerRecovery, LinkTimer, T200, T203, ControlFrame, Terms, Course, Step, ◌then◌, changed, named-within, Leads, keeping_then, nothing_leads, depending_leads, bit_leads, tested_leads, Passed, from_more, to_less}
-use Rattle.std.proofs.Common.{eqb-true}
+use Rattle.laws_link.proofs.Vocabulary.{◌≡◌, ℕ, ◌≤◌, Bool, true, List, Option, Some, None, ◌⊎◌, inl, inr, refl, arith, Seq, named, Note, ErrorCode, State, TeiAssigned, AwaitingEstablishment, AwaitingRelease, Established, TimerRecovery, LinkTimer, T200, T203, ControlFrame, Terms, Course, Step, ◌then◌, changed, named-within, Leads, keeping_then, nothing_leads, depending_leads, bit_leads, tested_leads, Passed, from_more, to_less, eqb-true}
 use Rattle.lapd_frame.specs.declared.notes.ErrorCode.TheVariants as code
 use Rattle.model_link.specs.Words
 use Rattle.model_link.specs.MultipleFrame

@@ -1,5 +1,5 @@
 -- The words of std and of the crates below with which the proofs of this crate speak, from where they are defined.
-pub use Rattle.std.proofs.Common.{Bool, IsTrue, List, None, Option, Some, [], add-zero, ap, append-nil, append_assoc, arith, cond, drop, drop-drop, eq-eqb, false, fold, inl, inr, is_some, length, length-append, length-take-le, nat_lt, not, option_to_list, refl, slice_get, subst, suc, sym, take, true, true≢false, zero, ℕ, ⊎_elim, ◌%◌, ◌&&◌, ◌*◌, ◌++◌, ◌+◌, ◌-◌, ◌<◌, ◌==◌, ◌||◌, ◌∙◌, ◌∷◌, ◌≡◌, ◌≢◌, ◌≤◌, ◌⊎◌}
+pub use Rattle.std.proofs.Common.{Bool, IsTrue, List, None, Option, Some, [], add-zero, ap, append-nil, append_assoc, arith, cond, drop, drop-drop, eq-eqb, eqb-true, false, fold, inl, inr, is_some, length, length-append, length-take-le, nat_lt, not, option_to_list, refl, slice_get, subst, suc, sym, take, true, true≢false, zero, ℕ, ⊎_elim, ◌%◌, ◌&&◌, ◌*◌, ◌++◌, ◌+◌, ◌-◌, ◌<◌, ◌==◌, ◌||◌, ◌∙◌, ◌∷◌, ◌≡◌, ◌≢◌, ◌≤◌, ◌⊎◌}
 pub use Rattle.std.proofs.Math.Seq.{take-length}
 pub use Rattle.std.proofs.lemmas.Bool.{and_parts, and_right, cases_lt, eqb-false, false_from_ne_true, le-leb, le-ltb, leb-false, leb-true, lt-ltb, ltb-false, ltb-true, or_parts, true_from_ne_false}
 pub use Rattle.std.proofs.lemmas.List.{drop-append-le, drop_all, take_all}
@@ -64,3 +64,50 @@ pub use Rattle.model_link.specs.declared.states.State.TheVariants.{AwaitingEstab
 pub use Rattle.model_link.specs.declared.terms.Terms.{Terms}
 pub use Rattle.model_link.specs.declared.timers.LinkTimer.{LinkTimer}
 pub use Rattle.model_link.specs.declared.timers.LinkTimer.TheVariants.{T200, T203}
+pub use Rattle.laws_link.specs.Accepted.{acknowledged_by, beyond, contents_of, empties, is_loss, is_release, number_of, tells_loss}
+pub use Rattle.laws_link.specs.Beginning.{IsSeen, tells_beginning}
+pub use Rattle.laws_link.specs.Effects.{IsReleasedIn, TakesEffect}
+pub use Rattle.laws_link.specs.Expiries.{Expires, ExpiresIn, IsGivenUp, IsSent, enquiry}
+pub use Rattle.laws_link.specs.Flags.{asked_left, flag_left, owed_behind, owed_in, own_busy_left, peer_busy_left, pending_left, rejecting_heard, rejecting_left, repeats_left, takes_contents, unless_put}
+pub use Rattle.laws_link.specs.Following.{Follows}
+pub use Rattle.laws_link.specs.Heard.{IsNotedOnce, contents_heard, data_due, in_i_frame, in_sequence, in_ui_frame, unit_due, unit_heard, within}
+pub use Rattle.laws_link.specs.History.{History, IsCounted, IsKept, Share, left_by, nothing_yet, share, with_share}
+unfoldable pub use Rattle.laws_link.specs.History.{with_all}
+pub use Rattle.laws_link.specs.InOrder.{IsInOrder}
+pub use Rattle.laws_link.specs.Known.{is_up, is_up_in, known, seen}
+pub use Rattle.laws_link.specs.Offered.{IsOffered, i_frames, is_i_frame, one}
+pub use Rattle.laws_link.specs.Owing.{HasReceipt, IsBegunAgain, Owes, receipt}
+pub use Rattle.laws_link.specs.Samples.{sabme, up, usual}
+pub use Rattle.laws_link.specs.Sending.{GoesBackTo, MayGo, asked_from, reported}
+unfoldable pub use Rattle.laws_link.specs.Sending.{i_frames_offered, offered}
+pub use Rattle.laws_link.specs.Starting.{LeavesTimers}
+pub use Rattle.laws_link.specs.States.{as_heard, by_expiry, numbers_begin, state_after}
+pub use Rattle.laws_link.specs.Steady.{AsksFrom, BeginsBusy, EndsBusy, MayEndBy, MayLose, MovesBusy, MovesSent, is_anew, tells_anew}
+pub use Rattle.laws_link.specs.Telling.{told_by, told_with}
+pub use Rattle.laws_link.specs.Timed.{ComesInStep, IsTimed, IsTimedIn, StaysInStep, is_same, obeyed}
+pub use Rattle.laws_link.specs.Waiting.{answers, commands, is_next, is_taken, lost_by, put, to_information, waiting_left}
+pub use Rattle.laws_link.specs.two.Ahead.{IsAhead, IsMild, IsMildAct, IsMildRequest}
+unfoldable pub use Rattle.laws_link.specs.two.Ahead.{StayAhead}
+pub use Rattle.laws_link.specs.two.AnyOrder.{IsStill, IsTurn, IsTurnOf, load, load_of, weight, weight_at}
+unfoldable pub use Rattle.laws_link.specs.two.AnyOrder.{AreTurns}
+pub use Rattle.laws_link.specs.two.BusyOver.{BothHaveArrived, HasDroppedNothing, with_near_told, with_near_untold}
+pub use Rattle.laws_link.specs.two.CutOff.{HasMissing, IsCutOff, IsCutOffWith, IsSilent, IsSilentWith, with_t200_expired}
+pub use Rattle.laws_link.specs.two.Gaps.{IsFirstGap, i_frame}
+pub use Rattle.laws_link.specs.two.Heeds.{Heeds, HeedsIn}
+pub use Rattle.laws_link.specs.two.Holding.{begun as link_begun, by_act, by_frame}
+unfoldable pub use Rattle.laws_link.specs.two.Holding.{far_history, near_history}
+pub use Rattle.laws_link.specs.two.Needed.{HasItsTimer, IsCalmIn, needed_in}
+pub use Rattle.laws_link.specs.two.OwnBusy.{GetsThrough, IsBusyItself, IsDropped, IsOpenItself, with_far_busy, with_near_busy}
+pub use Rattle.laws_link.specs.two.Polls.{Answered, AnsweredBy, IsPollWith, IsValidAt, SaysReceived, asked_of, finals, is_final_response, is_poll, polls}
+pub use Rattle.laws_link.specs.two.Rounds.{HasArrived, HasUnsent, IsReady, IsTaken}
+unfoldable pub use Rattle.laws_link.specs.two.Rounds.{rounds}
+pub use Rattle.laws_link.specs.two.Timely.{IsHushed, IsNoneOpen, IsTimelyAct, IsTimelyDoing, is_answer, is_enquiry}
+unfoldable pub use Rattle.laws_link.specs.two.Timely.{StayTimely}
+pub use Rattle.laws_link.specs.two.Waits.{GoesWhole, HasNothingToSend, turns}
+unfoldable pub use Rattle.laws_link.specs.two.Waits.{after_offers}
+pub use Rattle.laws_link.specs.two.WorkedAnyOrder.{settled, settling}
+pub use Rattle.laws_link.specs.two.WorkedBusyOver.{kept}
+pub use Rattle.laws_link.specs.two.WorkedEnds.{both, mended}
+pub use Rattle.laws_link.specs.two.WorkedOwnBusy.{busy_cut_off, busy_losing, far_dropped, near_dropped}
+pub use Rattle.laws_link.specs.two.WorkedRounds.{asked, cut_off, losing}
+pub use Rattle.laws_link.specs.two.WorkedTimely.{answered_at_last}

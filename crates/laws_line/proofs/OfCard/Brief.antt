@@ -1,17 +1,9 @@
 -- What laws of whole runs say in brief.
-use Rattle.laws_line.proofs.Vocabulary.{⊎_elim, ◌≡◌, ◌≢◌, ◌<◌, ℕ, List, set, Option, Some, None, refl, sym, ap, ◌∙◌, subst, inl, inr, set-get_or, get_or-set_other, option_map_or, Config, next, gave, Line, fresh_line, link_number, link_count, link_at, Taken, taken, next_of, line_of, Card, line_at, at, after_all, IsAtLine, AreAtLines, always_sound, moment_of, each_moment, has_lines, line_sound}
-use Rattle.std.proofs.Common.{option_map}
-use Rattle.model_link.specs.Link.{fresh as fresh_link}
+use Rattle.laws_line.proofs.Vocabulary.{⊎_elim, ◌≡◌, ◌≢◌, ◌<◌, ℕ, List, set, Option, Some, None, refl, sym, ap, ◌∙◌, subst, inl, inr, set-get_or, get_or-set_other, option_map_or, Config, next, gave, Line, fresh_line, link_number, link_count, link_at, Taken, taken, next_of, line_of, Card, line_at, at, after_all, IsAtLine, AreAtLines, always_sound, moment_of, each_moment, has_lines, line_sound, option_map, fresh as fresh_link, IsOneEvent, IsOfPart, line_of_link as of_link, line_of_management as of_management, of_units, of_group, of_down, of_next, IsIdle, IsOwed, line_contents_of as contents_of, CardEvent as Event, card_after as after, card_answer as answer, CardIsSound as IsSound, LinksStay, LeavesOthers, OthersStay, TellsCause, CausesAreTold}
 use Rattle.model_line.specs.Event as line_event
 use Rattle.model_line.specs.Machine as lines
 use Rattle.model_line.specs.Sound as line
-use Rattle.laws_line.specs.OneEvent.{IsOneEvent, IsOfPart, of_link, of_management, of_units, of_group, of_down, of_next}
-use Rattle.laws_line.specs.Served.{IsIdle, IsOwed, contents_of}
 use Rattle.laws_line.proofs.Serving.{served}
-use Rattle.model_card.specs.Event.{Event}
-use Rattle.model_card.specs.Machine.{after, answer}
-use Rattle.model_card.specs.Sound.{IsSound}
-use Rattle.laws_line.specs.card.Brief.{LinksStay, LeavesOthers, OthersStay, TellsCause, CausesAreTold}
 use Rattle.laws_line.proofs.OfCard.Hearing.{heard-group, tells-cause}
 use Rattle.laws_line.proofs.OfCard.OneEvent.{one-in}
 use Rattle.laws_line.proofs.OfCard.Serving.{after-config}

@@ -1,16 +1,7 @@
 -- A line of a card goes down.
-use Rattle.laws_line.proofs.Vocabulary.{◌≡◌, ℕ, ◌<◌, ◌==◌, ◌&&◌, Bool, true, false, cond, List, [], ◌∷◌, length, get_or, set, refl, sym, ap, ◌∙◌, subst, arith, eq-eqb, true≢false, get_or-set_same, All-head, All-tail, Config, request, Line, fresh_line, Request, Establish, Release, Assign, Remove, SetBusy, ClearBusy, Deactivate, Down, Card, line_at, is_full, at, IsAtLine, AreAtLines, after_all, after_is_sound, has_lines, line_sound}
-use Rattle.std.proofs.lemmas.Bool.{eqb-true}
-use Rattle.std.specs.Prelude.{All, map}
+use Rattle.laws_line.proofs.Vocabulary.{◌≡◌, ℕ, ◌<◌, ◌==◌, ◌&&◌, Bool, true, false, cond, List, [], ◌∷◌, length, get_or, set, refl, sym, ap, ◌∙◌, subst, arith, eq-eqb, true≢false, get_or-set_same, All-head, All-tail, Config, request, Line, fresh_line, Request, Establish, Release, Assign, Remove, SetBusy, ClearBusy, Deactivate, Down, Card, line_at, is_full, at, IsAtLine, AreAtLines, after_all, after_is_sound, has_lines, line_sound, eqb-true, All, map, Data, Unit, Check, after_events, takes_down, IsDown, CardEvent as Event, card_after as after, CardIsSound as IsSound, happens_at, LineLinesGoDown as LinesGoDown}
 use Rattle.model_line.specs.Machine as lines
-use Rattle.model_line.specs.Request.{Data, Unit, Check}
-use Rattle.laws_line.specs.Among.{after_events}
-use Rattle.laws_line.specs.GoesDown.{takes_down, IsDown}
 use Rattle.laws_line.proofs.GoingDown.{lines-go-down}
-use Rattle.model_card.specs.Event.{Event}
-use Rattle.model_card.specs.Machine.{after}
-use Rattle.model_card.specs.Sound.{IsSound}
-use Rattle.laws_line.specs.card.GoesDown.{happens_at, LinesGoDown}
 use Rattle.laws_line.proofs.OfCard.Meanwhile.{at-another}
 
 -- What takes a line down takes no slot, so it finds room.

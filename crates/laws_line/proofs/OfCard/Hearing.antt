@@ -1,17 +1,10 @@
 -- What is heard, in a moment of a run.
-use Rattle.laws_line.proofs.Vocabulary.{◌≡◌, ℕ, false, List, Ok, get_or, refl, sym, ap, ◌∙◌, subst, arith, true≢false, and_parts, get_or-set_same, Cause, Unserved, Service, Parts, reading, Config, heard_side, group_told, IsToGroup, Answer, hears, Line, fresh_line, Card, line_at, is_full, IsAtLine, moment_of, has_lines, by_room, line_sound}
+use Rattle.laws_line.proofs.Vocabulary.{◌≡◌, ℕ, false, List, Ok, get_or, refl, sym, ap, ◌∙◌, subst, arith, true≢false, and_parts, get_or-set_same, Cause, Unserved, Service, Parts, reading, Config, heard_side, group_told, IsToGroup, Answer, hears, Line, fresh_line, Card, line_at, is_full, IsAtLine, moment_of, has_lines, by_room, line_sound, dropped, HearsFrame, OnlyTells, IsToManagement, CardEvent as Event, card_after as after, card_answer as answer, CardIsSound as IsSound, TellsCause}
 use Rattle.model_bits.specs.Stream as stream
-use Rattle.model_line.specs.Event.{dropped}
 use Rattle.model_line.specs.Machine as lines
 use Rattle.model_line.specs.Sound as line
-use Rattle.laws_line.specs.Steady.{HearsFrame}
-use Rattle.laws_line.specs.Heard.{OnlyTells, IsToManagement}
 use Rattle.laws_line.proofs.Hearing.{dropped-stretch}
 use Rattle.laws_line.proofs.Grouping.{group-read, managed-read}
-use Rattle.model_card.specs.Event.{Event}
-use Rattle.model_card.specs.Machine.{after, answer}
-use Rattle.model_card.specs.Sound.{IsSound}
-use Rattle.laws_line.specs.card.Brief.{TellsCause}
 
 -- What is heard makes this of its line, and is answered so.
 record HeardServed (c : Config) (before after : Line) (a : Answer) (e : stream.Event) : Type 0 where

@@ -1,13 +1,8 @@
 -- What layer 3 knows by notes: over runs of a card.
-use Rattle.laws_line.proofs.Vocabulary.{◌≡◌, List, refl, sym, ap, subst, get_or-replicate, Config, Link, fresh_line, link_count, link_at, Card, AreAtLines}
-use Rattle.model_link.specs.Link.{fresh as fresh_link}
-use Rattle.laws_line.specs.Knowledge.{is_up_of, taken_for_up}
+use Rattle.laws_line.proofs.Vocabulary.{◌≡◌, List, refl, sym, ap, subst, get_or-replicate, Config, Link, fresh_line, link_count, link_at, Card, AreAtLines, fresh as fresh_link, is_up_of, taken_for_up, CardEvent as Event, CardIsSound as IsSound, NotesTell, IsNew, BeginsAnew}
 use Rattle.laws_line.proofs.Knowing.{known-up, begins-down}
 use Rattle.laws_line.proofs.KnowingTeis.{begins-off}
 use Rattle.laws_line.proofs.TimersFollow.{begins-with-none}
-use Rattle.model_card.specs.Event.{Event}
-use Rattle.model_card.specs.Sound.{IsSound}
-use Rattle.laws_line.specs.card.Promises.{NotesTell, IsNew, BeginsAnew}
 use Rattle.laws_line.proofs.OfCard.Watching.{run-seen}
 
 pub up-known : (card : Card) (events : List Event) → IsSound card → AreAtLines card events → NotesTell card events

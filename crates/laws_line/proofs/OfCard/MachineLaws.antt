@@ -1,6 +1,5 @@
 -- Which cards are reached.
-use Rattle.laws_line.proofs.Vocabulary.{reached-after, reached-fresh, reached-sound}
-use Rattle.laws_line.specs.card.Machine.{CardsAreReached}
+use Rattle.laws_line.proofs.Vocabulary.{reached-after, reached-fresh, reached-sound, CardsAreReached}
 
 pub cards_are_reached : CardsAreReached
 cards_are_reached = record { begins = reached-fresh; goes_on = reached-after; sound = reached-sound }

@@ -1,18 +1,11 @@
 -- In a moment of a run one part of one line has one event, and all else is as it was.
-use Rattle.laws_line.proofs.Vocabulary.{⊎_elim, ◌≡◌, ◌≢◌, ℕ, true, List, get_or, refl, sym, ap, ◌∙◌, subst, arith, inr, true≢false, and_parts, get_or-set_same, get_or-set_other, PoolFull, Service, Config, refused, Line, fresh_line, Card, line_at, is_full, IsAtLine, AreAtLines, moment_of, each_moment, has_lines, by_room, line_sound, Down}
+use Rattle.laws_line.proofs.Vocabulary.{⊎_elim, ◌≡◌, ◌≢◌, ℕ, true, List, get_or, refl, sym, ap, ◌∙◌, subst, arith, inr, true≢false, and_parts, get_or-set_same, get_or-set_other, PoolFull, Service, Config, refused, Line, fresh_line, Card, line_at, is_full, IsAtLine, AreAtLines, moment_of, each_moment, has_lines, by_room, line_sound, Down, IsOneEvent, IsOf, IsOfManagement, CardEvent as Event, card_after as after, card_answer as answer, CardIsSound as IsSound, IsOneEventIn, HasOneEvent}
 use Rattle.lapd_tei.specs.Events as teis
 use Rattle.model_bits.specs.Stream as stream
 use Rattle.model_link.specs.Events as link
 use Rattle.model_line.specs.Event as line_event
 use Rattle.model_line.specs.Machine as lines
-use Rattle.laws_line.specs.OneEvent.{IsOneEvent}
-use Rattle.laws_line.specs.Steady.{IsOf, IsOfManagement}
 use Rattle.laws_line.proofs.Parts.{one-event}
-use Rattle.model_card.specs.Event.{Event}
-use Rattle.model_card.specs.Machine.{after, answer}
-use Rattle.model_card.specs.Sound.{IsSound}
-use Rattle.laws_line.specs.card.OneEvent.{IsOneEventIn}
-use Rattle.laws_line.specs.card.Promises.{HasOneEvent}
 
 -- A request that finds the pool full changes nothing, and is an event of no part; and nothing else takes a slot.
 module _ (c : Config) (l : Line) (e : line_event.Event) (takes : lines.takes_slot c e l ≡ true) where

@@ -1,13 +1,7 @@
 -- What is taken after a list of events.
-use Rattle.laws_line.proofs.Vocabulary.{◌≡◌, ℕ, ◌<◌, cond, slice_get, List, [], ◌∷◌, Option, Some, None, refl, sym, subst, inl, inr, is_information, Config, next, Line, link_at, link_count, Taken, taken, Card, line_at, after_all, AreAtLines, always_sound, has_lines, line_sound}
+use Rattle.laws_line.proofs.Vocabulary.{◌≡◌, ℕ, ◌<◌, cond, slice_get, List, [], ◌∷◌, Option, Some, None, refl, sym, subst, inl, inr, is_information, Config, next, Line, link_at, link_count, Taken, taken, Card, line_at, after_all, AreAtLines, always_sound, has_lines, line_sound, IsOfLink, IsOwed, IsIdle, line_contents_of as contents_of, IsServed, CardEvent as Event, card_after as after, CardIsSound as IsSound, accepted_at, IsServedIn}
 use Rattle.model_line.specs.Machine as lines
-use Rattle.laws_line.specs.Served.{IsOfLink, IsOwed, IsIdle, contents_of, IsServed}
 use Rattle.laws_line.proofs.Serving.{served}
-use Rattle.model_card.specs.Event.{Event}
-use Rattle.model_card.specs.Machine.{after}
-use Rattle.model_card.specs.Sound.{IsSound}
-use Rattle.laws_line.specs.card.Contents.{accepted_at}
-use Rattle.laws_line.specs.card.Promises.{IsServedIn}
 use Rattle.laws_line.proofs.OfCard.Keeping.{run-counted}
 
 -- the same of other lists of contents that are the same

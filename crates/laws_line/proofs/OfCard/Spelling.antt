@@ -1,6 +1,5 @@
 -- What the grammar spells: the head of a frame is octets, and a frame is not too short.
-use Rattle.laws_line.proofs.Vocabulary.{◌≡◌, ℕ, ◌+◌, ◌*◌, ◌%◌, ◌<◌, ◌≤◌, ◌⊎◌, inl, inr, Bool, true, false, cond, List, [], ◌∷◌, ◌++◌, length, slice_index, refl, arith, All-nil, All-cons, All-append, Address, Side, User, Network, Control, Information, ReceiveReady, ReceiveNotReady, Reject, Sabme, Disc, Ui, Ua, Dm, Frmr, AreOctets, cr_bit, second_octet, one_of, row, head_of, spelling, Seq}
-use Rattle.lapd_frame.specs.declared.controls.Control.TheVariants.{Xid}
+use Rattle.laws_line.proofs.Vocabulary.{◌≡◌, ℕ, ◌+◌, ◌*◌, ◌%◌, ◌<◌, ◌≤◌, ◌⊎◌, inl, inr, Bool, true, false, cond, List, [], ◌∷◌, ◌++◌, length, slice_index, refl, arith, All-nil, All-cons, All-append, Address, Side, User, Network, Control, Information, ReceiveReady, ReceiveNotReady, Reject, Sabme, Disc, Ui, Ua, Dm, Frmr, AreOctets, cr_bit, second_octet, one_of, row, head_of, spelling, Seq, FrameXid as Xid}
 
 one : (x : ℕ) → x < 256 → AreOctets (x ∷ [])
 one x small = All-cons (λ octet. octet < 256) x [] small (All-nil (λ octet. octet < 256))

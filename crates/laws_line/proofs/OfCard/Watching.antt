@@ -1,12 +1,8 @@
 -- What is watched at a line from moment to moment, and keeps in step with the line, does so over whole runs.
-use Rattle.laws_line.proofs.Vocabulary.{◌≡◌, ◌≢◌, ℕ, ◌==◌, Bool, true, false, cond, List, [], ◌∷◌, get_or, refl, sym, ap, ◌∙◌, subst, arith, eq-eqb, true≢false, fold, and_parts, get_or-set_same, get_or-set_other, All-head, All-tail, PoolFull, Config, Answer, refused, Line, fresh_line, Request, Card, line_at, is_full, Moment, moments, after_all, IsAtLine, AreAtLines, after_is_sound, has_lines, by_room, line_sound}
-use Rattle.std.proofs.Common.{eqb-true}
+use Rattle.laws_line.proofs.Vocabulary.{◌≡◌, ◌≢◌, ℕ, ◌==◌, Bool, true, false, cond, List, [], ◌∷◌, get_or, refl, sym, ap, ◌∙◌, subst, arith, eq-eqb, true≢false, fold, and_parts, get_or-set_same, get_or-set_other, All-head, All-tail, PoolFull, Config, Answer, refused, Line, fresh_line, Request, Card, line_at, is_full, Moment, moments, after_all, IsAtLine, AreAtLines, after_is_sound, has_lines, by_room, line_sound, eqb-true, CardEvent as Event, card_after as after, card_answer as answer, CardIsSound as IsSound}
 use Rattle.model_line.specs.Event as line_event
 use Rattle.model_line.specs.Machine as lines
 use Rattle.model_line.specs.Sound as line
-use Rattle.model_card.specs.Event.{Event}
-use Rattle.model_card.specs.Machine.{after, answer}
-use Rattle.model_card.specs.Sound.{IsSound}
 
 module _ {X : Type 0} (seen : Line → X) (watch : X → line_event.Event → Answer → X)
     (steps : (c : Config) (e : line_event.Event) (l : Line) → line.IsSound c l → watch (seen l) e (lines.answer c e l) ≡ seen (lines.after c e l))

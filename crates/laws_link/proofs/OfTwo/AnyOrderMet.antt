@@ -1,13 +1,8 @@
 -- The premises of the law on turns in any order are met: by the worked run in which both ways are busy at once, and after which
 -- no turn is left.
-use Rattle.laws_link.proofs.Vocabulary.{◌≡◌, ℕ, Bool, true, false, ◌&&◌, List, [], ◌∷◌, length, refl, sym, ap, ◌∙◌, true≢false, arith, ◌||◌, nat_le, and_parts, leb-true, seq, distance_of, named, supervisory_of, unnumbered_of, control_of, header_of, reading, Event, Data, requested, after_all, End, Ends, Act, asks, expires, sends, receives, loses, Doing, at_near, at_far, doing, doing_all, sound-all}
+use Rattle.laws_link.proofs.Vocabulary.{◌≡◌, ℕ, Bool, true, false, ◌&&◌, List, [], ◌∷◌, length, refl, sym, ap, ◌∙◌, true≢false, arith, ◌||◌, nat_le, and_parts, leb-true, seq, distance_of, named, supervisory_of, unnumbered_of, control_of, header_of, reading, Event, Data, requested, after_all, End, Ends, Act, asks, expires, sends, receives, loses, Doing, at_near, at_far, doing, doing_all, sound-all, usual, up, IsReady, IsTaken, asked, IsTurnOf, IsTurn, AreTurns, IsStill, settling, settled}
 use Rattle.model_link.specs.Offers
-use Rattle.laws_link.specs.Samples.{usual, up}
 use Rattle.laws_link.proofs.OfTwo.Premises.{begins}
-use Rattle.laws_link.specs.two.Rounds.{IsReady, IsTaken}
-use Rattle.laws_link.specs.two.WorkedRounds.{asked}
-use Rattle.laws_link.specs.two.AnyOrder.{IsTurnOf, IsTurn, AreTurns, IsStill}
-use Rattle.laws_link.specs.two.WorkedAnyOrder.{settling, settled}
 
 -- a test of turns
 unfoldable pub is_turn_of : Act → End → End → Bool

@@ -1,9 +1,6 @@
 -- Runs of turns in any order, and where they end.
-use Rattle.laws_link.proofs.Vocabulary.{◌≡◌, ℕ, suc, ◌+◌, ◌≤◌, false, List, [], ◌∷◌, length, take, refl, sym, ap, subst, ◌∙◌, arith, nat_lt, take-length, End, Ends, Act, asks, expires, sends, receives, loses, Doing, at_near, at_far, acting, turned, doing, doing_all}
+use Rattle.laws_link.proofs.Vocabulary.{◌≡◌, ℕ, suc, ◌+◌, ◌≤◌, false, List, [], ◌∷◌, length, take, refl, sym, ap, subst, ◌∙◌, arith, nat_lt, take-length, End, Ends, Act, asks, expires, sends, receives, loses, Doing, at_near, at_far, acting, turned, doing, doing_all, HasNothingToSend, IsReady, IsTaken, HasArrived, IsTurnOf, IsTurn, AreTurns, IsStill, weight_at, weight}
 use Rattle.model_link.specs.Offers
-use Rattle.laws_link.specs.two.Waits.{HasNothingToSend}
-use Rattle.laws_link.specs.two.Rounds.{IsReady, IsTaken, HasArrived}
-use Rattle.laws_link.specs.two.AnyOrder.{IsTurnOf, IsTurn, AreTurns, IsStill, weight_at, weight}
 use Rattle.laws_link.proofs.OfTwo.Plain.{plain}
 use Rattle.laws_link.proofs.OfTwo.Halves.{all-acknowledged}
 use Rattle.laws_link.proofs.OfTwo.Arriving.{nothing-unsent}

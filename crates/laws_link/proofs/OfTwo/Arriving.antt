@@ -1,7 +1,6 @@
 -- Half a round after another, until all contents have arrived.
-use Rattle.laws_link.proofs.Vocabulary.{◌≡◌, ℕ, zero, suc, ◌+◌, ◌-◌, ◌≤◌, Bool, true, false, ◌&&◌, List, length, take, refl, sym, ap, subst, ◌∙◌, ◌⊎◌, inl, inr, true≢false, arith, nat_lt, lt-ltb, le-ltb, ltb-false, and_right, take-length, End, Ends}
+use Rattle.laws_link.proofs.Vocabulary.{◌≡◌, ℕ, zero, suc, ◌+◌, ◌-◌, ◌≤◌, Bool, true, false, ◌&&◌, List, length, take, refl, sym, ap, subst, ◌∙◌, ◌⊎◌, inl, inr, true≢false, arith, nat_lt, lt-ltb, le-ltb, ltb-false, and_right, take-length, End, Ends, IsReady, IsTaken, HasUnsent, HasArrived, rounds}
 use Rattle.model_link.specs.Offers
-use Rattle.laws_link.specs.two.Rounds.{IsReady, IsTaken, HasUnsent, HasArrived, rounds}
 use Rattle.laws_link.proofs.OfTwo.Plain.{plain}
 use Rattle.laws_link.proofs.OfTwo.Halves.{One, Nothing, giver_of, taker_of, moves, ready-giver, ready-taker, takes, taken}
 

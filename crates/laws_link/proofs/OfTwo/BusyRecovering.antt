@@ -1,10 +1,9 @@
 -- After the loss of all frames, an end that is busy itself and the other, of which each asks or has nothing outstanding:
 -- after a round or two both are in state 7, and what was sent is taken.
-use Rattle.laws_link.proofs.Vocabulary.{◌≡◌, ℕ, suc, ◌+◌, ◌-◌, ◌<◌, ◌≤◌, Bool, true, false, cond, ◌==◌, List, [], ◌∷◌, ◌++◌, length, take, Option, Some, refl, sym, ap, subst, ◌∙◌, eq-eqb, arith, nat_lt, slice_get, unwrap_or, le-ltb, ltb-true, and_parts, seq, named, LinkTimer, T200, T203, IsSound, End, Ends, with_first_of, with_first_lost}
+use Rattle.laws_link.proofs.Vocabulary.{◌≡◌, ℕ, suc, ◌+◌, ◌-◌, ◌<◌, ◌≤◌, Bool, true, false, cond, ◌==◌, List, [], ◌∷◌, ◌++◌, length, take, Option, Some, refl, sym, ap, subst, ◌∙◌, eq-eqb, arith, nat_lt, slice_get, unwrap_or, le-ltb, ltb-true, and_parts, seq, named, LinkTimer, T200, T203, IsSound, End, Ends, with_first_of, with_first_lost, HasUnsent}
 use Rattle.model_link.specs.Offers
 use Rattle.laws_link.proofs.OfTwo.Plain.{plain, plain_with, plain_end, plain_end_with, with_information_with, gives-information, gives-acknowledgement, gives-nothing}
 use Rattle.laws_link.proofs.OfTwo.Halves.{named-number, fits-at, take-one}
-use Rattle.laws_link.specs.two.Rounds.{HasUnsent}
 use Rattle.laws_link.proofs.OfTwo.Arriving.{near_moves, far_moves}
 use Rattle.laws_link.proofs.OfTwo.Shapes.{enquiry, reply, enquiry_with, reply_with, in_8, in_8_with, in_7, in_7_with, with_one_more, asked-8, answered-8, acknowledged-8, informed-8, asked-7}
 use Rattle.laws_link.proofs.OfTwo.Recovering.{Sounds, sounds-near, sounds-far, Between, room-0, room-1, names-a, names-r}

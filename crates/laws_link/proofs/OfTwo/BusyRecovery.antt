@@ -1,8 +1,5 @@
 -- After the loss of all frames, what an end that is busy itself gives arrives, from the expiry of T200 on.
-use Rattle.laws_link.proofs.Vocabulary.{◌≡◌, ℕ, suc, ◌+◌, ◌≤◌, Bool, true, false, [], ◌∷◌, length, Some, refl, sym, ap, subst, ◌∙◌, ◌⊎◌, inl, inr, arith, T200, T203, expired, End, Ends, sound-after}
-use Rattle.laws_link.specs.two.Rounds.{rounds}
-use Rattle.laws_link.specs.two.CutOff.{IsCutOff, IsCutOffWith, HasMissing, with_t200_expired}
-use Rattle.laws_link.specs.two.OwnBusy.{GetsThrough}
+use Rattle.laws_link.proofs.Vocabulary.{◌≡◌, ℕ, suc, ◌+◌, ◌≤◌, Bool, true, false, [], ◌∷◌, length, Some, refl, sym, ap, subst, ◌∙◌, ◌⊎◌, inl, inr, arith, T200, T203, expired, End, Ends, sound-after, rounds, IsCutOff, IsCutOffWith, HasMissing, with_t200_expired, GetsThrough}
 use Rattle.laws_link.proofs.OfTwo.Plain.{plain_end, plain_end_with}
 use Rattle.laws_link.proofs.OfTwo.Halves.{giver_of, taker_of}
 use Rattle.laws_link.proofs.OfTwo.Arriving.{near_moves, far_moves, no-more}

@@ -1,14 +1,6 @@
 -- Ends that meet what the end of own busy asks, and what it gives them.
-use Rattle.laws_link.proofs.Vocabulary.{true, false, [], ◌∷◌, length, refl, arith, leb-true, seq, distance_of, named, supervisory_of, unnumbered_of, control_of, header_of, reading, ReceiveNotReady, frame_of, response, Data, SetBusy, frame, received, requested, offer, after_all, doing_all, sound-all, ends-agree}
-use Rattle.laws_link.specs.Samples.{usual, up}
+use Rattle.laws_link.proofs.Vocabulary.{true, false, [], ◌∷◌, length, refl, arith, leb-true, seq, distance_of, named, supervisory_of, unnumbered_of, control_of, header_of, reading, ReceiveNotReady, frame_of, response, Data, SetBusy, frame, received, requested, offer, after_all, doing_all, sound-all, ends-agree, usual, up, both, rounds, IsTaken, HasUnsent, HasMissing, with_t200_expired, IsBusyItself, IsOpenItself, with_near_told, HasDroppedNothing, BothHaveArrived, busy_losing, busy_cut_off, kept}
 use Rattle.laws_link.proofs.OfTwo.Premises.{begins}
-use Rattle.laws_link.specs.two.WorkedEnds.{both}
-use Rattle.laws_link.specs.two.Rounds.{rounds, IsTaken, HasUnsent}
-use Rattle.laws_link.specs.two.CutOff.{HasMissing, with_t200_expired}
-use Rattle.laws_link.specs.two.OwnBusy.{IsBusyItself, IsOpenItself}
-use Rattle.laws_link.specs.two.BusyOver.{with_near_told, HasDroppedNothing, BothHaveArrived}
-use Rattle.laws_link.specs.two.WorkedOwnBusy.{busy_losing, busy_cut_off}
-use Rattle.laws_link.specs.two.WorkedBusyOver.{kept}
 use Rattle.laws_link.proofs.OfTwo.Reached.{whole-first, cut-off, cut-off-far}
 use Rattle.laws_link.proofs.OfTwo.PremisesMet.{timed}
 use Rattle.laws_link.proofs.OfTwo.BusyMet.{busy-losing-up, near-silent, far-silent, near-missing}

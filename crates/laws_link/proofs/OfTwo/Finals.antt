@@ -1,8 +1,7 @@
 -- How many responses with F=1 wait: each word but the answers leaves their number.
-use Rattle.laws_link.proofs.Vocabulary.{◌≡◌, ℕ, ◌+◌, ◌≤◌, Bool, true, false, cond, List, [], ◌∷◌, ◌++◌, Option, None, Some, refl, subst, arith, sum_by_push, Seq, seq, named, Control, ReceiveReady, ReceiveNotReady, Reject, Ua, Dm, Note, State, LinkTimer, ControlFrame, Terms, Link, Course, Step, ◌then◌, nothing, by_bit, Leads, then_leads, keeping_then, nothing_leads, depending_leads, bit_leads, to_less}
+use Rattle.laws_link.proofs.Vocabulary.{◌≡◌, ℕ, ◌+◌, ◌≤◌, Bool, true, false, cond, List, [], ◌∷◌, ◌++◌, Option, None, Some, refl, subst, arith, sum_by_push, Seq, seq, named, Control, ReceiveReady, ReceiveNotReady, Reject, Ua, Dm, Note, State, LinkTimer, ControlFrame, Terms, Link, Course, Step, ◌then◌, nothing, by_bit, Leads, then_leads, keeping_then, nothing_leads, depending_leads, bit_leads, to_less, finals, is_final_response}
 use Rattle.lapd_frame.specs.declared.notes.ErrorCode.TheVariants as code
 use Rattle.model_link.specs.Words
-use Rattle.laws_link.specs.two.Polls.{finals, is_final_response}
 
 -- At most n of them wait.
 pub record Few (n : ℕ) (c : Course) : Type 0 where

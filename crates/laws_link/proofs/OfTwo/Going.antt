@@ -1,12 +1,11 @@
 -- What requests, expiries and offers do to a link that stays in states 7 and 8, and to what is on its line.
-use Rattle.laws_link.proofs.Vocabulary.{◌≡◌, ◌+◌, ◌-◌, Bool, true, false, cond, not, ◌&&◌, IsTrue, List, [], ◌∷◌, ◌++◌, Option, None, Some, refl, sym, ap, subst, ◌∙◌, append_assoc, append-nil, ◌⊎◌, inl, inr, true≢false, nat_lt, length, slice_get, unwrap_or, and_parts, seq, ReceiveReady, ReceiveNotReady, Refusal, WrongState, Parts, State, TeiAssigned, AwaitingEstablishment, AwaitingRelease, Established, TimerRecovery, LinkTimer, T200, T203, ControlFrame, Terms, Link, is_multiple_frame, frame_of, may_repeat, Request, Establish, Release, Data, SetBusy, ClearBusy, expired, requested, offer, Course, begun, frame_given, frames_of}
+use Rattle.laws_link.proofs.Vocabulary.{◌≡◌, ◌+◌, ◌-◌, Bool, true, false, cond, not, ◌&&◌, IsTrue, List, [], ◌∷◌, ◌++◌, Option, None, Some, refl, sym, ap, subst, ◌∙◌, append_assoc, append-nil, ◌⊎◌, inl, inr, true≢false, nat_lt, length, slice_get, unwrap_or, and_parts, seq, ReceiveReady, ReceiveNotReady, Refusal, WrongState, Parts, State, TeiAssigned, AwaitingEstablishment, AwaitingRelease, Established, TimerRecovery, LinkTimer, T200, T203, ControlFrame, Terms, Link, is_multiple_frame, frame_of, may_repeat, Request, Establish, Release, Data, SetBusy, ClearBusy, expired, requested, offer, Course, begun, frame_given, frames_of, IsMildRequest}
 use Rattle.lapd_frame.specs.declared.notes.ErrorCode.TheVariants as code
 use Rattle.model_link.specs.Words
 use Rattle.model_link.specs.MultipleFrame
 use Rattle.model_link.specs.Requests
 use Rattle.model_link.specs.Offers
 use Rattle.model_link.specs.Machine
-use Rattle.laws_link.specs.two.Ahead.{IsMildRequest}
 use Rattle.laws_link.proofs.OfTwo.Staying.{refused}
 use Rattle.laws_link.proofs.OfTwo.Trains.{Kind, numbered, enquiry, report, kind_of, kinds_of, kinds-append}
 use Rattle.laws_link.proofs.OfTwo.Effects.{Grown, grows, Kept, Went, unchanged}

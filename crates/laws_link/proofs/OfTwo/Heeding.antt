@@ -1,11 +1,10 @@
 -- Where T200 runs while the terminal is taken for busy: each word, and each row.
-use Rattle.laws_link.proofs.Vocabulary.{◌≡◌, ℕ, Bool, true, false, cond, IsTrue, List, Option, None, Some, refl, sym, subst, true≢false, Seq, named, Control, Information, ReceiveReady, ReceiveNotReady, Reject, Sabme, Disc, Ui, Ua, Dm, Frmr, Xid, Note, State, TeiAssigned, AwaitingEstablishment, AwaitingRelease, Established, TimerRecovery, LinkTimer, T200, T203, ControlFrame, Terms, Course, Step, ◌then◌, frame_in_4, establish_in_4, frame_in_5, t200_in_5, frame_in_6, t200_in_6, Leads, then_leads, keeping_then, nothing_leads, depending_leads, bit_leads, to_less}
+use Rattle.laws_link.proofs.Vocabulary.{◌≡◌, ℕ, Bool, true, false, cond, IsTrue, List, Option, None, Some, refl, sym, subst, true≢false, Seq, named, Control, Information, ReceiveReady, ReceiveNotReady, Reject, Sabme, Disc, Ui, Ua, Dm, Frmr, Xid, Note, State, TeiAssigned, AwaitingEstablishment, AwaitingRelease, Established, TimerRecovery, LinkTimer, T200, T203, ControlFrame, Terms, Course, Step, ◌then◌, frame_in_4, establish_in_4, frame_in_5, t200_in_5, frame_in_6, t200_in_6, Leads, then_leads, keeping_then, nothing_leads, depending_leads, bit_leads, to_less, HeedsIn}
 use Rattle.lapd_frame.specs.declared.notes.ErrorCode.TheVariants as code
 use Rattle.model_link.specs.Words
 use Rattle.model_link.specs.MultipleFrame
 use Rattle.model_link.specs.Established
 use Rattle.model_link.specs.TimerRecovery
-use Rattle.laws_link.specs.two.Heeds.{HeedsIn}
 
 -- A claim on the state, on whether the terminal is taken for busy, and on the timer that runs.
 abbrev pub Claim : Type 1

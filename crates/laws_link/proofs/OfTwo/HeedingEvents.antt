@@ -1,9 +1,8 @@
 -- T200 runs while the terminal is taken for busy: every event.
-use Rattle.laws_link.proofs.Vocabulary.{◌≡◌, ℕ, Bool, true, false, cond, ◌&&◌, not, List, [], ◌∷◌, Option, None, Some, refl, sym, subst, true≢false, Control, ErrorCode, Refusal, State, TeiAssigned, AwaitingEstablishment, AwaitingRelease, Established, TimerRecovery, LinkTimer, T200, T203, ControlFrame, Terms, Link, fresh, frame, undefined, wrong_size, overlong, Request, Establish, Release, Data, SetBusy, ClearBusy, Event, received, expired, requested, offer, cleared, Course, begun}
+use Rattle.laws_link.proofs.Vocabulary.{◌≡◌, ℕ, Bool, true, false, cond, ◌&&◌, not, List, [], ◌∷◌, Option, None, Some, refl, sym, subst, true≢false, Control, ErrorCode, Refusal, State, TeiAssigned, AwaitingEstablishment, AwaitingRelease, Established, TimerRecovery, LinkTimer, T200, T203, ControlFrame, Terms, Link, fresh, frame, undefined, wrong_size, overlong, Request, Establish, Release, Data, SetBusy, ClearBusy, Event, received, expired, requested, offer, cleared, Course, begun, HeedsIn, Heeds}
 use Rattle.model_link.specs.Requests
 use Rattle.model_link.specs.Offers
 use Rattle.model_link.specs.Machine
-use Rattle.laws_link.specs.two.Heeds.{HeedsIn, Heeds}
 use Rattle.laws_link.proofs.OfTwo.Heeding
 
 abbrev Ends : Course → Type 0

@@ -1,7 +1,5 @@
 -- The contents of two links that face each other are those of their histories.
-use Rattle.laws_link.proofs.Vocabulary.{ℕ, List, [], ◌∷◌, Parts, frame, Event, received, requested, expired, offer, after, IsInRange, IsSound, End, Ends, Act, asks, expires, sends, receives, loses, Doing, at_near, at_far, turned, acting, with_first_of, doing, doing_all, sound-after}
-use Rattle.laws_link.specs.History.{History, share, with_share, IsCounted}
-use Rattle.laws_link.specs.two.Holding.{by_frame, by_act, near_history, far_history}
+use Rattle.laws_link.proofs.Vocabulary.{ℕ, List, [], ◌∷◌, Parts, frame, Event, received, requested, expired, offer, after, IsInRange, IsSound, End, Ends, Act, asks, expires, sends, receives, loses, Doing, at_near, at_far, turned, acting, with_first_of, doing, doing_all, sound-after, History, share, with_share, IsCounted, by_frame, by_act, near_history, far_history}
 use Rattle.laws_link.proofs.Counted.{counted-after}
 
 -- an end whose terms are in range, whose link is sound, and whose contents are those of a history

@@ -1,8 +1,6 @@
 -- The premises on two ends are met: two links that the terminal established, through the loss of a frame and its
 -- recovery.
-use Rattle.laws_link.proofs.Vocabulary.{◌≡◌, Bool, true, ◌&&◌, List, [], ◌∷◌, refl, arith, and_parts, seq, distance_of, named, supervisory_of, unnumbered_of, control_of, header_of, reading, fresh, is_multiple_frame, offer, after_all, IsInRange, Ends, Doing, doing, Begins, StayUp, sound-fresh, sound-all}
-use Rattle.laws_link.specs.Samples.{usual, sabme}
-use Rattle.laws_link.specs.two.WorkedEnds.{both, mended}
+use Rattle.laws_link.proofs.Vocabulary.{◌≡◌, Bool, true, ◌&&◌, List, [], ◌∷◌, refl, arith, and_parts, seq, distance_of, named, supervisory_of, unnumbered_of, control_of, header_of, reading, fresh, is_multiple_frame, offer, after_all, IsInRange, Ends, Doing, doing, Begins, StayUp, sound-fresh, sound-all, usual, sabme, both, mended}
 
 in-range : IsInRange usual
 in-range =

@@ -1,13 +1,7 @@
 -- The premises are met: by two links that begin, by the worked run in which every frame is lost, and by one in which a
 -- frame is lost and REJ makes it good.
-use Rattle.laws_link.proofs.Vocabulary.{◌≡◌, Bool, true, false, ◌&&◌, List, [], ◌∷◌, length, refl, inr, arith, nat_lt, nat_le, and_parts, ltb-true, leb-true, seq, distance_of, named, supervisory_of, unnumbered_of, control_of, header_of, reading, Request, Establish, Release, Data, SetBusy, ClearBusy, after_all, End, Ends, Act, asks, expires, sends, receives, loses, Doing, at_near, at_far, doing, doing_all, StayUp}
-use Rattle.laws_link.specs.Timed.{IsTimed}
-use Rattle.laws_link.specs.two.WorkedEnds.{both, mended}
+use Rattle.laws_link.proofs.Vocabulary.{◌≡◌, Bool, true, false, ◌&&◌, List, [], ◌∷◌, length, refl, inr, arith, nat_lt, nat_le, and_parts, ltb-true, leb-true, seq, distance_of, named, supervisory_of, unnumbered_of, control_of, header_of, reading, Request, Establish, Release, Data, SetBusy, ClearBusy, after_all, End, Ends, Act, asks, expires, sends, receives, loses, Doing, at_near, at_far, doing, doing_all, StayUp, IsTimed, both, mended, IsMildRequest, IsMildAct, IsMild, StayAhead, IsReady, IsTaken, HasUnsent, IsSilent, HasMissing, losing, cut_off}
 use Rattle.laws_link.proofs.OfTwo.Premises.{begins}
-use Rattle.laws_link.specs.two.Ahead.{IsMildRequest, IsMildAct, IsMild, StayAhead}
-use Rattle.laws_link.specs.two.Rounds.{IsReady, IsTaken, HasUnsent}
-use Rattle.laws_link.specs.two.CutOff.{IsSilent, HasMissing}
-use Rattle.laws_link.specs.two.WorkedRounds.{losing, cut_off}
 use Rattle.laws_link.proofs.OfTwo.Together.{all-stay_up}
 
 -- a test of what goes on ahead

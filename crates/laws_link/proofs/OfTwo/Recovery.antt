@@ -1,7 +1,5 @@
 -- Losses are recovered, from the expiry of T200 on.
-use Rattle.laws_link.proofs.Vocabulary.{◌≡◌, ℕ, suc, ◌+◌, ◌≤◌, Bool, false, List, [], ◌∷◌, refl, sym, subst, ◌∙◌, ◌⊎◌, inl, inr, arith, T200, expired, End, Ends, sound-after}
-use Rattle.laws_link.specs.two.Rounds.{rounds}
-use Rattle.laws_link.specs.two.CutOff.{IsCutOff, IsCutOffWith, HasMissing, with_t200_expired}
+use Rattle.laws_link.proofs.Vocabulary.{◌≡◌, ℕ, suc, ◌+◌, ◌≤◌, Bool, false, List, [], ◌∷◌, refl, sym, subst, ◌∙◌, ◌⊎◌, inl, inr, arith, T200, expired, End, Ends, sound-after, rounds, IsCutOff, IsCutOffWith, HasMissing, with_t200_expired}
 use Rattle.laws_link.proofs.OfTwo.Arriving.{Arrived, near_moves, far_moves, all-arrived}
 use Rattle.laws_link.proofs.OfTwo.Shapes.{enquiry, in_8, in_7}
 use Rattle.laws_link.proofs.OfTwo.Expiring.{Asking, Resting, with_count, expires-one}

@@ -1,5 +1,5 @@
 -- What keeps a link in states 7 and 8: each word, each row of a frame whose N(R) is valid, and each mild event.
-use Rattle.laws_link.proofs.Vocabulary.{◌≡◌, ℕ, ◌<◌, ◌≤◌, Bool, true, false, cond, IsTrue, List, [], ◌∷◌, length, Option, None, Some, refl, sym, ap, subst, ◌∙◌, true≢false, lt-ltb, le-ltb, Seq, seq, named, Control, Information, ReceiveReady, ReceiveNotReady, Reject, Sabme, Disc, Ui, Ua, Dm, Frmr, Xid, Note, Refusal, WrongState, State, TeiAssigned, AwaitingEstablishment, AwaitingRelease, Established, TimerRecovery, LinkTimer, T200, T203, ControlFrame, Terms, Link, is_multiple_frame, Request, Establish, Release, Data, SetBusy, ClearBusy, expired, requested, offer, Course, begun, Step, ◌then◌, Leads, then_leads, keeping_then, nothing_leads, depending_leads, bit_leads, Means}
+use Rattle.laws_link.proofs.Vocabulary.{◌≡◌, ℕ, ◌<◌, ◌≤◌, Bool, true, false, cond, IsTrue, List, [], ◌∷◌, length, Option, None, Some, refl, sym, ap, subst, ◌∙◌, true≢false, lt-ltb, le-ltb, Seq, seq, named, Control, Information, ReceiveReady, ReceiveNotReady, Reject, Sabme, Disc, Ui, Ua, Dm, Frmr, Xid, Note, Refusal, WrongState, State, TeiAssigned, AwaitingEstablishment, AwaitingRelease, Established, TimerRecovery, LinkTimer, T200, T203, ControlFrame, Terms, Link, is_multiple_frame, Request, Establish, Release, Data, SetBusy, ClearBusy, expired, requested, offer, Course, begun, Step, ◌then◌, Leads, then_leads, keeping_then, nothing_leads, depending_leads, bit_leads, Means, IsMildRequest}
 use Rattle.lapd_frame.specs.declared.notes.ErrorCode.TheVariants as code
 use Rattle.model_link.specs.Words
 use Rattle.model_link.specs.MultipleFrame
@@ -8,7 +8,6 @@ use Rattle.model_link.specs.TimerRecovery
 use Rattle.model_link.specs.Requests
 use Rattle.model_link.specs.Offers
 use Rattle.model_link.specs.Machine
-use Rattle.laws_link.specs.two.Ahead.{IsMildRequest}
 
 abbrev IsUpIn : Course → Type 0
 IsUpIn c = IsTrue (is_multiple_frame c.link.state)

@@ -1,10 +1,6 @@
 -- The premises of the law on a timely T200 are met: by the worked run in which it expires twice, and by the one in which
 -- all frames are lost.
-use Rattle.laws_link.proofs.Vocabulary.{◌≡◌, Bool, true, false, not, ◌&&◌, List, [], ◌∷◌, refl, sym, true≢false, All, nat_lt, and_parts, ltb-true, All-nil, All-cons, seq, distance_of, named, Control, Parts, supervisory_of, unnumbered_of, control_of, header_of, reading, ControlFrame, after_all, End, Ends, Act, asks, expires, sends, receives, loses, Doing, at_near, at_far, doing}
-use Rattle.laws_link.specs.two.WorkedEnds.{both}
-use Rattle.laws_link.specs.two.Timely.{is_enquiry, is_answer, IsNoneOpen, IsTimelyAct, IsTimelyDoing, StayTimely, IsHushed}
-use Rattle.laws_link.specs.two.WorkedTimely.{answered_at_last}
-use Rattle.laws_link.specs.two.WorkedRounds.{losing, cut_off}
+use Rattle.laws_link.proofs.Vocabulary.{◌≡◌, Bool, true, false, not, ◌&&◌, List, [], ◌∷◌, refl, sym, true≢false, All, nat_lt, and_parts, ltb-true, All-nil, All-cons, seq, distance_of, named, Control, Parts, supervisory_of, unnumbered_of, control_of, header_of, reading, ControlFrame, after_all, End, Ends, Act, asks, expires, sends, receives, loses, Doing, at_near, at_far, doing, both, is_enquiry, is_answer, IsNoneOpen, IsTimelyAct, IsTimelyDoing, StayTimely, IsHushed, answered_at_last, losing, cut_off}
 use Rattle.laws_link.proofs.OfTwo.PremisesMet.{mild_request, by-request, near-silent}
 
 -- a test of what goes on timely

@@ -1,7 +1,6 @@
 -- What an offer gives, and what is left behind it.
-use Rattle.laws_link.proofs.Vocabulary.{◌≡◌, ℕ, zero, suc, ◌+◌, ◌-◌, ◌<◌, ◌≤◌, Bool, true, false, cond, not, ◌&&◌, List, [], ◌∷◌, ◌++◌, length, Option, None, Some, refl, sym, ap, subst, ◌∙◌, ◌⊎◌, inl, inr, arith, nat_lt, ltb-true, and_parts, ControlFrame, Terms, Link, Sent, Course, begun, offer, after, given, given_of}
+use Rattle.laws_link.proofs.Vocabulary.{◌≡◌, ℕ, zero, suc, ◌+◌, ◌-◌, ◌<◌, ◌≤◌, Bool, true, false, cond, not, ◌&&◌, List, [], ◌∷◌, ◌++◌, length, Option, None, Some, refl, sym, ap, subst, ◌∙◌, ◌⊎◌, inl, inr, arith, nat_lt, ltb-true, and_parts, ControlFrame, Terms, Link, Sent, Course, begun, offer, after, given, given_of, HasNothingToSend, after_offers, GoesWhole, turns}
 use Rattle.model_link.specs.Offers
-use Rattle.laws_link.specs.two.Waits.{HasNothingToSend, after_offers, GoesWhole, turns}
 
 -- nothing is given where nothing was sent
 none-sent : (t : Terms) (l : Link) (c : Course) (o : Option Sent) → given_of t l c o ≡ None → o ≡ None

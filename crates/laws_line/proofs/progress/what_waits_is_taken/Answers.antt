@@ -1,6 +1,5 @@
 -- Hand-written answers for `what_waits_is_taken`.
-use Rattle.laws_line.proofs.Vocabulary.{◌+◌, ◌<◌, arith}
-use Rattle.laws_line.specs.Drains.{most_frames_before}
+use Rattle.laws_line.proofs.Vocabulary.{◌+◌, ◌<◌, arith, most_frames_before}
 use Rattle.laws_line.proofs.Ordered.{enough-goes}
 use Rattle.laws_line.proofs.Polled.{poll-goes, unnumbered-goes}
 use Rattle.laws_line.proofs.Soon.{few-before, goes-soon}

@@ -1,6 +1,5 @@
 -- Hand-written answers for `ends_hold_what_was_accepted`.
-use Rattle.laws_link.proofs.Vocabulary.{refl}
-use Rattle.laws_link.specs.two.Holding.{begun}
+use Rattle.laws_link.proofs.Vocabulary.{refl, link_begun as begun}
 use Rattle.laws_link.proofs.OfTwo.Holding.{near-all, far-all}
 use Rattle.laws_link.proofs.two.held.ends_hold_what_was_accepted.Goals as goal
 

@@ -111,14 +111,8 @@ module _ (c : Config) (l : Line) where
       let running = passed (check_running l) (control_full l ∷ []) unknown.1 in
       let full = passed (control_full l) [] running.1 in
       by-step (Check tei) (teis.check tei) none refl (by-three _ _ _ _ _ _ unknown.0 running.0 full.0) (begins-asked tei l.management full.0)
-  grants (Establish service tei) none = tt
-  grants (Release service tei) none = tt
-  grants (Data service tei contents) none = tt
-  grants (Unit service tei contents) none = tt
-  grants (SetBusy service tei) none = tt
-  grants (ClearBusy service tei) none = tt
-  grants (Deactivate service tei) none = tt
   grants Down none = down-granted
+  grants other none = tt
 
   granted : (e : Event) (r : Request) → e ≡ request r → is_granted (answer c e l) ≡ true → Granted r (after c e l).management (lost_in (answer c e l))
   granted e r is = subst (λ x. is_granted (answer c x l) ≡ true → Granted r (after c x l).management (lost_in (answer c x l))) (sym is) (λ g. grants r (not-refused c r l g))

@@ -1,5 +1,5 @@
 -- A line that is taken down is down.
-use Rattle.laws_line.proofs.Vocabulary.{◌≡◌, ℕ, zero, suc, ◌<◌, true, false, is_some, List, [], ◌∷◌, get_or, set, Option, Some, None, refl, sym, ap, subst, ◌∙◌, ◌⊎◌, inl, inr, ⊎_elim, arith, true≢false, option_map_or, All-head, All-tail, Refusal, Service, Timer, T201, LinkTimer, Terms, is_on-at, Config, request, gave, Line, link_number, link_count, service_at, place_at, tei_at, place_in, link_at, of_aim, next_of, Request, Establish, Release, Assign, Remove, SetBusy, ClearBusy, Deactivate, Down, at_deactivated, IsInRange, IsSoundAt, after_sound, next, option_map, cases_lt, get_or_past, All, Contains, map, Contains-append_cases, T200, T203, place_of, fresh, runs, needed, after, answer, unless_refused, refusal, Data, Unit, Check, IsSound, after_events, takes_down, TakeDown, IsDown, LinesGoDown, HasNothing, IsSilent, link_needs, is_needed}
+use Rattle.laws_line.proofs.Vocabulary.{◌≡◌, ℕ, zero, suc, ◌<◌, true, false, is_some, List, [], ◌∷◌, get_or, set, Option, Some, None, refl, sym, ap, subst, ◌∙◌, ◌⊎◌, inl, inr, ⊎_elim, arith, true≢false, option_map_or, All-head, All-tail, Refusal, Service, Timer, T201, LinkTimer, Terms, is_on-at, Config, request, gave, Line, link_number, link_count, service_at, place_at, tei_at, place_in, link_at, of_aim, next_of, Request, Deactivate, Down, at_deactivated, IsInRange, IsSoundAt, after_sound, next, option_map, cases_lt, get_or_past, All, Contains, map, Contains-append_cases, T200, T203, place_of, fresh, runs, needed, after, answer, unless_refused, refusal, IsSound, after_events, takes_down, TakeDown, IsDown, LinesGoDown, HasNothing, IsSilent, link_needs, is_needed}
 use Rattle.model_link.specs.declared.timers.LinkTimer.TheVariants as link_timer
 use Rattle.laws_line.proofs.Draining.{nothing-taken}
 use Rattle.laws_line.proofs.GivingUp.{deactivations_give_up}
@@ -74,15 +74,7 @@ module _ (c : Config) (l : Line) where
   each : (r : Request) → takes_down r ≡ true → Keeps l (after c (request r) l)
   each Down is = down-keeps
   each (Deactivate service tei) is = deactivated-keeps service tei
-  each (Establish service tei) is = absurd (true≢false (sym is))
-  each (Release service tei) is = absurd (true≢false (sym is))
-  each (Data service tei contents) is = absurd (true≢false (sym is))
-  each (Unit service tei contents) is = absurd (true≢false (sym is))
-  each (Assign tei) is = absurd (true≢false (sym is))
-  each (Remove tei) is = absurd (true≢false (sym is))
-  each (Check tei) is = absurd (true≢false (sym is))
-  each (SetBusy service tei) is = absurd (true≢false (sym is))
-  each (ClearBusy service tei) is = absurd (true≢false (sym is))
+  each other is = absurd (true≢false (sym is))
 
 -- Which of a list is a request: the first, or one of the others.
 here-or-behind : (r x : Request) (rs : List Request) → Contains (r ∷ rs) x → (r ≡ x) ⊎ Contains rs x

@@ -1,5 +1,5 @@
 -- What is heard is to TEI management: nothing, or what a UI to the group brings.
-use Rattle.laws_line.proofs.Vocabulary.{◌≡◌, ℕ, ◌==◌, Bool, true, false, cond, List, Option, Some, None, Result, Ok, Err, refl, ap, Cause, Tei, Unserved, Address, Network, Control, ReadFault, BadExtension, Undefined, WrongSize, Short, Long, Service, Parts, reading, long_reading, service_of, Config, hears, Aim, at_none, at_link, at_management, at_units, Line, place_in, management_sapi, drop_for, to_service, addressed, message_of, aim_of_reading, unless_at_link, aim_of_long, heard_side, aim_of_heard, group_told, IsToGroup, WhereServed, everywhere, side_where, at_no_link, eqb-true, group_tei, at_place, Hears, Said, Says}
+use Rattle.laws_line.proofs.Vocabulary.{◌≡◌, ℕ, ◌==◌, Bool, true, false, cond, List, Option, Some, None, Result, Ok, Err, refl, ap, Cause, Tei, Unserved, Address, Network, Control, ReadFault, BadExtension, Undefined, WrongSize, Short, Long, Service, Parts, reading, long_reading, service_of, Config, hears, Aim, at_none, at_link, at_management, Line, place_in, management_sapi, drop_for, to_service, addressed, message_of, aim_of_reading, unless_at_link, aim_of_long, heard_side, aim_of_heard, group_told, IsToGroup, WhereServed, everywhere, side_where, at_no_link, eqb-true, group_tei, at_place, Hears, Said, Says}
 use Rattle.model_bits.specs.Stream as stream
 use Rattle.lapd_frame.specs.declared.controls.Control.TheVariants as control
 use Rattle.lapd_frame.specs.declared.overlong.Long.TheVariants as long
@@ -62,11 +62,9 @@ module _ (c : Config) (l : Line) (e : stream.Event) (P : Aim → Type 0) (none :
       go false group = to-links address.tei what (service_of address.sapi)
 
   unless : (aim : Aim) → P aim → P (unless_at_link aim)
-  unless (at_none what) h = h
   unless (at_link service tei place event) h = none _
-  unless (at_management event) h = h
-  unless (at_units unit) h = h
   unless at_no_link h = h
+  unless other h = h
 
   too-long : (r : Result Long ReadFault) → P (aim_of_long l r)
   too-long (Ok (long.Information address)) = dropped-too address link.overlong
@@ -79,16 +77,7 @@ module _ (c : Config) (l : Line) (e : stream.Event) (P : Aim → Type 0) (none :
   module _ (octets : List ℕ) (by : e ≡ stream.frame octets) (parts : Parts) (read : reading (heard_side c) octets ≡ Ok parts) (sapi : parts.address.sapi ≡ 63) (group : parts.address.tei ≡ 127) where
     by-control : (k : Control) → parts.control ≡ k → WhereServed c P (message_of k parts.info)
     by-control (control.Ui poll) is = λ network. to_management parts (record { network = network; octets = octets; by = by; read = read; sapi = sapi; group = group; poll = poll; control = is })
-    by-control (control.Information ns nr p) is = none _
-    by-control (control.ReceiveReady nr pf) is = none _
-    by-control (control.ReceiveNotReady nr pf) is = none _
-    by-control (control.Reject nr pf) is = none _
-    by-control (control.Sabme p) is = none _
-    by-control (control.Disc p) is = none _
-    by-control (control.Ua f) is = none _
-    by-control (control.Dm f) is = none _
-    by-control (control.Frmr f) is = none _
-    by-control (control.Xid pf) is = none _
+    by-control other is = none _
 
   by-reading : (octets : List ℕ) → e ≡ stream.frame octets → (r : Result Parts ReadFault) → reading (heard_side c) octets ≡ r → P (aim_of_reading c l r)
   by-reading octets by (Ok parts) read =

@@ -61,16 +61,7 @@ module _ (c : Config) (parts : Parts) (to : IsToManagement c parts) where
 
   by-control : (k : Control) → at_side c parts (message_of k parts.info) ≡ drop_for Unserved
   by-control (control.Ui p) = ap (λ side. Rattle.model_line.specs.Sides.managed_at side (teis.message parts.info)) to.side
-  by-control (control.Information ns nr p) = no-unit
-  by-control (control.ReceiveReady nr pf) = no-unit
-  by-control (control.ReceiveNotReady nr pf) = no-unit
-  by-control (control.Reject nr pf) = no-unit
-  by-control (control.Sabme p) = no-unit
-  by-control (control.Disc p) = no-unit
-  by-control (control.Ua f) = no-unit
-  by-control (control.Dm f) = no-unit
-  by-control (control.Frmr f) = no-unit
-  by-control (control.Xid pf) = no-unit
+  by-control other = no-unit
 
 pub managed-read : (c : Config) (l : Line) (parts : Parts) (octets : List ℕ) → reading (heard_side c) octets ≡ Ok parts
     → IsToManagement c parts → OnlyTells (dropped Unserved) l (after c (hears (stream.frame octets)) l) (answer c (hears (stream.frame octets)) l)

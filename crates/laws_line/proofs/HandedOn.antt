@@ -34,17 +34,9 @@ due-is c l service tei place parts octets ranged s f =
 
 -- Notes of data, and of unit data, are the link's own.
 own-data : (t : Terms) (n : Note) → IsOwn t n → (is_data_of t.service t.tei n ≡ is_data n) × (is_unit_of t.service t.tei n ≡ is_unit n)
-own-data t (notes.EstablishIndication s n) own = (refl, refl)
-own-data t (notes.EstablishConfirm s n) own = (refl, refl)
-own-data t (notes.ReleaseIndication s n) own = (refl, refl)
-own-data t (notes.ReleaseConfirm s n) own = (refl, refl)
 own-data t (notes.Data s n) own = (its-own t s n own, refl)
 own-data t (notes.Unit s n) own = (refl, its-own t s n own)
-own-data t (notes.Error s n k) own = (refl, refl)
-own-data t (notes.Assigned n) own = (refl, refl)
-own-data t (notes.Removed n) own = (refl, refl)
-own-data t (notes.Doubled n) own = (refl, refl)
-own-data t (notes.Xid s n) own = (refl, refl)
+own-data t other own = (refl, refl)
 
 pub own-all : (t : Terms) (ns : List Note) → All (IsOwn t) ns
     → (list_any (is_data_of t.service t.tei) ns ≡ list_any is_data ns) × (list_any (is_unit_of t.service t.tei) ns ≡ list_any is_unit ns)
@@ -141,11 +133,9 @@ module _ (c : Config) (ranged : IsInRange c) (l : Line) (s : IsSound c l) where
       go false group = sent-to address.tei what no-contents no-unit (service_of address.sapi)
 
   unless-silent : (aim : Aim) → Silent aim → Silent (unless_at_link aim)
-  unless-silent (at_none what) x = x
   unless-silent (at_link service tei place event) x = drops Unserved
-  unless-silent (at_management event) x = x
-  unless-silent (at_units unit) x = x
   unless-silent at_no_link x = x
+  unless-silent other x = x
 
   too-long : (r : Result Long ReadFault) → Silent (aim_of_long l r)
   too-long (Ok (long.Information address)) = not-read address link.overlong (drop_for Unserved) (drops Unserved) refl refl
@@ -157,17 +147,8 @@ module _ (c : Config) (ranged : IsInRange c) (l : Line) (s : IsSound c l) where
   too-long (Err Short) = drops Unserved
 
   message-silent : (k : Control) (info : List ℕ) → Silent (message_of k info)
-  message-silent (control.Information ns nr p) info = drops Unserved
-  message-silent (control.ReceiveReady nr pf) info = drops Unserved
-  message-silent (control.ReceiveNotReady nr pf) info = drops Unserved
-  message-silent (control.Reject nr pf) info = drops Unserved
-  message-silent (control.Sabme p) info = drops Unserved
-  message-silent (control.Disc p) info = drops Unserved
   message-silent (control.Ui p) info = managed (teis.message info)
-  message-silent (control.Ua f) info = drops Unserved
-  message-silent (control.Dm f) info = drops Unserved
-  message-silent (control.Frmr f) info = drops Unserved
-  message-silent (control.Xid pf) info = drops Unserved
+  message-silent other info = drops Unserved
 
   -- no contents by what is not heard
   timer-silent : (service : Service) (tei : ℕ) (timer : LinkTimer) (o : Option ℕ) → place_in l tei ≡ o → Silent (at_timer service tei timer o)

@@ -34,11 +34,8 @@ Happens c number e before after answer =
 -- An event of a link is by what comes, or it is deactivated.
 pub by-or-down : (c : Config) (e : Event) (a : Answer) (service : Service) (tei : ℕ) (le : link.Event)
     → IsOf c e a service tei le → IsBy c e a service tei le ⊎ ((le ≡ link.cleared) × IsDeactivated e a service tei)
-by-or-down c e a service tei (link.received what) by = inl by
-by-or-down c e a service tei (link.expired timer) by = inl by
-by-or-down c e a service tei (link.requested asked full) by = inl by
-by-or-down c e a service tei link.offer by = inl by
 by-or-down c e a service tei link.cleared by = inr (refl, by)
+by-or-down c e a service tei other by = inl by
 
 module _ (c : Config) (l : Line) (s : IsSound c l) (number : ℕ) (few : number < link_count c) (e : Event) (a : Answer) where
   abbrev Goes : Line → Type 0

@@ -27,28 +27,20 @@ on-placed tei places = go (place_of tei places) refl
 
 -- What an event of TEI management itself says of a TEI, with its notes.
 abbrev asked-on : ℕ → Bool → teis.Event → Bool
-asked-on tei on (teis.message octets) = on
-asked-on tei on teis.expiry = on
 asked-on tei on (teis.assign asked) = cond (asked == tei) true on
 asked-on tei on (teis.remove asked) = cond (asked == tei) false on
-asked-on tei on (teis.check asked) = on
-asked-on tei on teis.down = on
+asked-on tei on other = on
 
 comes-on : (tei by : ℕ) (e : teis.Event) (ns : List Note) → GainedBy e by ns → (on : Bool) → fold (on_by_note tei) (asked-on tei on e) ns ≡ cond (by == tei) true on
 comes-on tei by (teis.message octets) ns is on = ap (λ xs. fold (on_by_note tei) on xs) is
-comes-on tei by teis.expiry ns is on = absurd is
 comes-on tei by (teis.assign asked) ns is on = ap (λ xs. fold (on_by_note tei) (cond (asked == tei) true on) xs) is.1 ∙ ap (λ n. cond (n == tei) true on) is.0
-comes-on tei by (teis.remove asked) ns is on = absurd is
-comes-on tei by (teis.check asked) ns is on = absurd is
-comes-on tei by teis.down ns is on = absurd is
+comes-on tei by other ns is on = absurd is
 
 leaves-on : (tei by : ℕ) (e : teis.Event) (ns : List Note) → LeftBy e by ns → (on : Bool) → fold (on_by_note tei) (asked-on tei on e) ns ≡ cond (by == tei) false on
 leaves-on tei by (teis.message octets) ns is on = ap (λ xs. fold (on_by_note tei) on xs) is
 leaves-on tei by teis.expiry ns is on = ap (λ xs. fold (on_by_note tei) on xs) is
-leaves-on tei by (teis.assign asked) ns is on = absurd is
 leaves-on tei by (teis.remove asked) ns is on = ap (λ xs. fold (on_by_note tei) (cond (asked == tei) false on) xs) is.1 ∙ ap (λ n. cond (n == tei) false on) is.0
-leaves-on tei by (teis.check asked) ns is on = absurd is
-leaves-on tei by teis.down ns is on = absurd is
+leaves-on tei by other ns is on = absurd is
 
 -- An assignment and a removal that are granted change the table.
 not-refused : (b : Bool) (why : Refusal) (o : Option Refusal) → cond b (Some why) o ≡ None → (b ≡ false) × (o ≡ None)

@@ -234,10 +234,6 @@ module _ (m : Management) where
 
   pub told-or-not : (info : List ℕ) → Told info (served_as info)
   told-or-not [] = inl refl
-  told-or-not (entity ∷ []) = inl refl
-  told-or-not (entity ∷ high ∷ []) = inl refl
-  told-or-not (entity ∷ high ∷ low ∷ []) = inl refl
-  told-or-not (entity ∷ high ∷ low ∷ type ∷ []) = inl refl
   told-or-not (entity ∷ high ∷ low ∷ type ∷ last ∷ []) = go (entity == 0x0F && last % 2 == 1) refl
     where
       go : (b : Bool) → (entity == 0x0F && last % 2 == 1) ≡ b
@@ -247,7 +243,7 @@ module _ (m : Management) where
           by-type entity high low type last (eqb-true entity 0x0F both.0) (eqb-true (last % 2) 1 both.1)
           (type == 1 && last / 2 == 127) (type == 5) (type == 7) refl refl refl
       go false e = inl refl
-  told-or-not (entity ∷ high ∷ low ∷ type ∷ last ∷ sixth ∷ more) = inl refl
+  told-or-not other = inl refl
 
 -- T201 expires.
 over : (check : Check) (m : Management) → is_on check.tei m.places ≡ true → (b : Bool)

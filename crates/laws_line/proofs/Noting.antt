@@ -1,5 +1,5 @@
 -- What notes say: those of a link of this link alone, and those of TEI management of TEIs alone.
-use Rattle.laws_line.proofs.Vocabulary.{◌≡◌, ℕ, ◌==◌, ◌&&◌, Bool, true, false, cond, List, [], ◌∷◌, refl, ap, ◌∙◌, fold, All-head, All-tail, Note, EstablishIndication, EstablishConfirm, ReleaseIndication, ReleaseConfirm, Error, Assigned, Removed, Doubled, Service, same_service, seen, known, IsOwn, Terms, All, FrameData as Data, FrameUnit as Unit, Xid, up_by_note, on_by_note}
+use Rattle.laws_line.proofs.Vocabulary.{◌≡◌, ℕ, ◌==◌, ◌&&◌, Bool, true, false, cond, List, [], ◌∷◌, refl, ap, ◌∙◌, fold, All-head, All-tail, Note, EstablishIndication, EstablishConfirm, ReleaseIndication, ReleaseConfirm, Assigned, Removed, Doubled, Service, same_service, seen, known, IsOwn, Terms, All, up_by_note, on_by_note}
 use Rattle.laws_line.proofs.Told.{its-own}
 
 -- notes of a link, for the link itself,
@@ -8,13 +8,7 @@ own-note t up (EstablishIndication s n) own = ap (λ b. cond b true up) (its-own
 own-note t up (EstablishConfirm s n) own = ap (λ b. cond b true up) (its-own t s n own)
 own-note t up (ReleaseIndication s n) own = ap (λ b. cond b false up) (its-own t s n own)
 own-note t up (ReleaseConfirm s n) own = ap (λ b. cond b false up) (its-own t s n own)
-own-note t up (Data s n) own = refl
-own-note t up (Unit s n) own = refl
-own-note t up (Error s n k) own = refl
-own-note t up (Assigned n) own = refl
-own-note t up (Removed n) own = refl
-own-note t up (Doubled n) own = refl
-own-note t up (Xid s n) own = refl
+own-note t up other own = refl
 
 pub own-notes : (t : Terms) (up : Bool) (ns : List Note) → All (IsOwn t) ns → fold (up_by_note t.service t.tei) up ns ≡ known up ns
 own-notes t up [] all = refl
@@ -32,13 +26,7 @@ module _ (t : Terms) (service : Service) (tei : ℕ) (other : (same_service t.se
   other-note up (EstablishConfirm s n) own = ap (λ b. cond b true up) (not-its s n own)
   other-note up (ReleaseIndication s n) own = ap (λ b. cond b false up) (not-its s n own)
   other-note up (ReleaseConfirm s n) own = ap (λ b. cond b false up) (not-its s n own)
-  other-note up (Data s n) own = refl
-  other-note up (Unit s n) own = refl
-  other-note up (Error s n k) own = refl
-  other-note up (Assigned n) own = refl
-  other-note up (Removed n) own = refl
-  other-note up (Doubled n) own = refl
-  other-note up (Xid s n) own = refl
+  other-note up other own = refl
 
   pub other-notes : (up : Bool) (ns : List Note) → All (IsOwn t) ns → fold (up_by_note service tei) up ns ≡ up
   other-notes up [] all = refl
@@ -47,17 +35,10 @@ module _ (t : Terms) (service : Service) (tei : ℕ) (other : (same_service t.se
 
 -- they say nothing of TEIs
 link-note : (t : Terms) (tei : ℕ) (on : Bool) (n : Note) → IsOwn t n → on_by_note tei on n ≡ on
-link-note t tei on (EstablishIndication s n) own = refl
-link-note t tei on (EstablishConfirm s n) own = refl
-link-note t tei on (ReleaseIndication s n) own = refl
-link-note t tei on (ReleaseConfirm s n) own = refl
-link-note t tei on (Data s n) own = refl
-link-note t tei on (Unit s n) own = refl
-link-note t tei on (Error s n k) own = refl
 link-note t tei on (Assigned n) own = absurd own
 link-note t tei on (Removed n) own = absurd own
 link-note t tei on (Doubled n) own = absurd own
-link-note t tei on (Xid s n) own = refl
+link-note t tei on other own = refl
 
 pub link-notes : (t : Terms) (tei : ℕ) (on : Bool) (ns : List Note) → All (IsOwn t) ns → fold (on_by_note tei) on ns ≡ on
 link-notes t tei on [] all = refl

@@ -1,5 +1,5 @@
 -- What obeying the orders of a link, or of TEI management, comes to for each timer of a line.
-use Rattle.laws_line.proofs.Vocabulary.{◌≡◌, ℕ, ◌==◌, ◌&&◌, Bool, true, false, cond, List, [], ◌∷◌, ◌++◌, refl, ap, sym, ◌∙◌, subst, eq-eqb, true≢false, fold-append, Service, Call, Packet, Order, Start, Stop, Timer, T201, same_service, LinkTimer, Terms, Link, is_same, obey, obeyed, IsTimed, ComesInStep, runs, timer_at, stays-in-step, comes-in-step, leaves-others, Follows, T200, T203}
+use Rattle.laws_line.proofs.Vocabulary.{◌≡◌, ℕ, ◌==◌, ◌&&◌, Bool, true, false, cond, List, [], ◌∷◌, ◌++◌, refl, ap, sym, ◌∙◌, subst, eq-eqb, true≢false, fold-append, Service, Call, Packet, Order, Start, Stop, Timer, T201, same_service, LinkTimer, Terms, Link, is_same, obey, obeyed, IsTimed, ComesInStep, runs, timer_at, stays-in-step, comes-in-step, leaves-others, Follows}
 use Rattle.model_link.specs.declared.timers.LinkTimer.TheVariants as link_timer
 use Rattle.model_link.specs.Events as link
 use Rattle.model_link.specs.Machine as links
@@ -27,24 +27,14 @@ pub t201-obeyed : (before : Bool) (orders : List Order) (after : Bool) → Follo
 t201-obeyed before [] after h = sym h
 t201-obeyed before (Start T201 ∷ []) after h = sym h
 t201-obeyed before (Stop T201 ∷ []) after h = sym h
-t201-obeyed before (Start (T200 s n) ∷ os) after h = absurd h
-t201-obeyed before (Start (T203 s n) ∷ os) after h = absurd h
-t201-obeyed before (Stop (T200 s n) ∷ os) after h = absurd h
-t201-obeyed before (Stop (T203 s n) ∷ os) after h = absurd h
-t201-obeyed before (Start T201 ∷ o ∷ os) after h = absurd h
-t201-obeyed before (Stop T201 ∷ o ∷ os) after h = absurd h
+t201-obeyed before other after h = absurd h
 
 pub t201-leaves : (timer : Timer) → is_same T201 timer ≡ false → (running before : Bool) (orders : List Order) (after : Bool) → Follows before orders after
     → obeyed timer running orders ≡ running
 t201-leaves timer other running before [] after h = refl
 t201-leaves timer other running before (Start T201 ∷ []) after h = ap (λ b. cond b true running) other
 t201-leaves timer other running before (Stop T201 ∷ []) after h = ap (λ b. cond b false running) other
-t201-leaves timer other running before (Start (T200 s n) ∷ os) after h = absurd h
-t201-leaves timer other running before (Start (T203 s n) ∷ os) after h = absurd h
-t201-leaves timer other running before (Stop (T200 s n) ∷ os) after h = absurd h
-t201-leaves timer other running before (Stop (T203 s n) ∷ os) after h = absurd h
-t201-leaves timer other running before (Start T201 ∷ o ∷ os) after h = absurd h
-t201-leaves timer other running before (Stop T201 ∷ o ∷ os) after h = absurd h
+t201-leaves timer other running before another after h = absurd h
 
 -- What a caller does with a link's timers, which it left as `left` says, by the orders of an event: each of the link's
 -- runs where the link runs it, and each other is as it was.

@@ -86,10 +86,6 @@ module _ (P : Note → Type 0) (m : Management) where
 
     message-noted : (octets : List ℕ) → info ≡ octets → Each (rows.serve (heard_in octets) (begun m))
     message-noted [] is = All-nil P
-    message-noted (entity ∷ []) is = All-nil P
-    message-noted (entity ∷ high ∷ []) is = All-nil P
-    message-noted (entity ∷ high ∷ low ∷ []) is = All-nil P
-    message-noted (entity ∷ high ∷ low ∷ type ∷ []) is = All-nil P
     message-noted (entity ∷ high ∷ low ∷ type ∷ last ∷ []) is = go (entity == 0x0F && last % 2 == 1) refl
       where
         go : (b : Bool) → (entity == 0x0F && last % 2 == 1) ≡ b → Each (rows.serve (cond b (heard_of_type type (256 * high + low) (last / 2)) None) (begun m))
@@ -98,7 +94,7 @@ module _ (P : Note → Type 0) (m : Management) where
             by-type entity high low type last is (eqb-true entity 0x0F both.0) (eqb-true (last % 2) 1 both.1)
             (type == 1 && last / 2 == 127) (type == 5) (type == 7) refl refl refl
         go false e = All-nil P
-    message-noted (entity ∷ high ∷ low ∷ type ∷ last ∷ sixth ∷ more) is = All-nil P
+    message-noted other is = All-nil P
 
   put-noted : (tei : ℕ) (o : Option ℕ) → Each (rows.join_at tei o (begun m))
   put-noted tei None = All-nil P
@@ -121,17 +117,10 @@ module _ (c : Config) (l : Line) (e : Event) where
   P = HasReason c e
 
   own : (t : Terms) (n : Note) → IsOwn t n → P n
-  own t (notes.EstablishIndication s n) h = tt
-  own t (notes.EstablishConfirm s n) h = tt
-  own t (notes.ReleaseIndication s n) h = tt
-  own t (notes.ReleaseConfirm s n) h = tt
-  own t (notes.Data s n) h = tt
-  own t (notes.Unit s n) h = tt
-  own t (notes.Error s n k) h = tt
   own t (notes.Assigned n) h = absurd h
   own t (notes.Removed n) h = absurd h
   own t (notes.Doubled n) h = absurd h
-  own t (notes.Xid s n) h = tt
+  own t other h = tt
 
   link-noted : (t : Terms) (what : link.Event) (x : Link) → All P (links.told t what x).notes
   link-noted t what x = All-weaker (IsOwn t) P (λ n h. own t n h) (links.told t what x).notes (notes-own t what x)

@@ -1,5 +1,5 @@
 -- What is taken.
-use Rattle.laws_line.proofs.Vocabulary.{◌≡◌, ℕ, ◌+◌, ◌<◌, false, cond, List, [], ◌∷◌, ◌++◌, drop, take, slice_get, get_or, set, Option, Some, None, refl, sym, ap, ◌∙◌, subst, arith, zero-add, append-nil, inl, inr, IfSome, range_with_len, option_or, option_map_or, unwrap_or, get_or-set_same, take-append-drop, All-head, All-tail, All-nil, All-cons, All-get_or, All-append, get_or-range_with_len, length-range_with_len, none-some, Refusal, Service, Timer, T201, LinkTimer, Change, Gained, Left, Terms, Link, is_information, Given, IsInOrder, IsOffered, given-in-order, given-is-offered, carried-is, offer-counts, nothing-given, Message, Config, hears, request, next, Aim, at_none, at_link, at_management, at_units, told_of_management, of_change, of_aim, at_timer, aim_of_expiry, aim_of_heard, Request, Establish, Release, Assign, Remove, SetBusy, ClearBusy, Deactivate, at_requested, at_deactivated, aim_of_request, heard_aims, Line, UnitData, link_count, service_at, place_at, place_in, tei_at, terms, terms_at, link_at, with_link, unless_refused_told, Taken, with_unit, with_given_frame, link_taken, first_taken, round, taken, line_of, IsSoundAt, round_below, Down, at_no_link, option_map, All, T200, T203, fresh, link_one as one, frame_of, Event, expiry, refusal, Data, Check, is_granted, after, answer, unless_refused, with_message, IsSound, IsSilent, IsSilentAt, IsItsTurn, IsOfLink, IsOwed, HasNothing, IsIdle, line_contents_of as contents_of, IsServed, unit_asked, units_behind, units_left, UnitsWait, TurnStays}
+use Rattle.laws_line.proofs.Vocabulary.{◌≡◌, ℕ, ◌+◌, ◌<◌, false, cond, List, [], ◌∷◌, ◌++◌, drop, take, slice_get, get_or, set, Option, Some, None, refl, sym, ap, ◌∙◌, subst, arith, zero-add, append-nil, inl, inr, IfSome, range_with_len, option_or, option_map_or, unwrap_or, get_or-set_same, take-append-drop, All-head, All-tail, All-nil, All-cons, All-get_or, All-append, get_or-range_with_len, length-range_with_len, none-some, Refusal, Service, Timer, T201, LinkTimer, Change, Gained, Left, Terms, Link, is_information, Given, IsInOrder, IsOffered, given-in-order, given-is-offered, carried-is, offer-counts, nothing-given, Message, Config, hears, request, next, Aim, at_none, at_link, at_management, at_units, told_of_management, of_change, of_aim, at_timer, aim_of_expiry, aim_of_heard, Request, Establish, Release, SetBusy, ClearBusy, Deactivate, at_requested, at_deactivated, aim_of_request, heard_aims, Line, UnitData, link_count, service_at, place_at, place_in, tei_at, terms, terms_at, link_at, with_link, unless_refused_told, Taken, with_unit, with_given_frame, link_taken, first_taken, round, taken, line_of, IsSoundAt, round_below, at_no_link, option_map, All, T200, T203, fresh, link_one as one, frame_of, Event, expiry, refusal, Data, is_granted, after, answer, unless_refused, with_message, IsSound, IsSilent, IsSilentAt, IsItsTurn, IsOfLink, IsOwed, HasNothing, IsIdle, line_contents_of as contents_of, IsServed, unit_asked, units_behind, units_left, UnitsWait, TurnStays}
 use Rattle.model_bits.specs.Stream as stream
 use Rattle.model_link.specs.declared.timers.LinkTimer.TheVariants as link_timer
 use Rattle.lapd_tei.specs.Events as teis
@@ -169,18 +169,13 @@ module _ (c : Config) (l : Line) (s : IsSound c l) where
 -- Unit data that waits.
 module _ (c : Config) where
   abbrev unit_of : Aim → List UnitData
-  unit_of (at_none t) = []
-  unit_of (at_link service tei place e) = []
-  unit_of (at_management e) = []
   unit_of (at_units unit) = unit ∷ []
   unit_of at_no_link = []
+  unit_of other = []
 
   abbrev left_by : Aim → List UnitData → List UnitData
-  left_by (at_none t) units = units
-  left_by (at_link service tei place e) units = units
-  left_by (at_management e) units = units
-  left_by (at_units unit) units = units
   left_by at_no_link units = []
+  left_by other units = units
 
   abbrev units_by : Aim → List UnitData → List UnitData
   units_by aim units = left_by aim units ++ unit_of aim
@@ -223,14 +218,10 @@ module _ (c : Config) where
   by-request l (Establish service tei) = by-asked service tei link.Establish (place_in l tei) l.units
   by-request l (Release service tei) = by-asked service tei link.Release (place_in l tei) l.units
   by-request l (Data service tei contents) = by-asked service tei (link.Data contents) (place_in l tei) l.units
-  by-request l (Request.Unit service tei contents) = refl
-  by-request l (Assign tei) = refl
-  by-request l (Remove tei) = refl
-  by-request l (Check tei) = refl
   by-request l (SetBusy service tei) = by-asked service tei link.SetBusy (place_in l tei) l.units
   by-request l (ClearBusy service tei) = by-asked service tei link.ClearBusy (place_in l tei) l.units
   by-request l (Deactivate service tei) = by-deactivated service tei (place_in l tei) l.units
-  by-request l Down = refl
+  by-request l other = refl
 
 pub units-wait : (c : Config) (e : Event) (l : Line) → UnitsWait e l (after c e l) (answer c e l)
 unfolding after answer
@@ -247,16 +238,14 @@ units-wait c next l = tt
 
 -- Whose turn it is stays.
 aim-turn : (c : Config) (m : Line) (aim : Aim) → (of_aim c aim m).line.turn ≡ m.turn
-aim-turn c m (at_none t) = refl
-aim-turn c m (at_link service tei place what) = refl
 aim-turn c m (at_management what) = by-change (teis.told what m.management).change
   where
     by-change : (o : Option Change) → (of_change c o (told_of_management (teis.told what m.management)) (record m { management = teis.after what m.management })).line.turn ≡ m.turn
     by-change None = refl
     by-change (Some (Gained tei place)) = refl
     by-change (Some (Left tei place)) = refl
-aim-turn c m (at_units unit) = refl
 aim-turn c m at_no_link = by-down c m (λ f. f.line.turn ≡ m.turn) refl
+aim-turn c m other = refl
 
 pub turn-stays : (c : Config) (e : Event) (l : Line) → TurnStays e l (after c e l)
 unfolding after

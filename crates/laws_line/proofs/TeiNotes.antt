@@ -83,12 +83,8 @@ module _ (octets : List ℕ) (m : Management) (s : IsSound m) where
 
   serves : (heard : List ℕ) → Noted (message octets) (serve (heard_in heard) (begun m))
   serves [] = refl
-  serves (entity ∷ []) = refl
-  serves (entity ∷ high ∷ []) = refl
-  serves (entity ∷ high ∷ low ∷ []) = refl
-  serves (entity ∷ high ∷ low ∷ type ∷ []) = refl
   serves (entity ∷ high ∷ low ∷ type ∷ last ∷ []) = by-frame type (256 * high + low) (last / 2) (entity == 0x0F && last % 2 == 1)
-  serves (entity ∷ high ∷ low ∷ type ∷ last ∷ sixth ∷ more) = refl
+  serves other = refl
 
 removes : (tei : ℕ) (m : Management) → is_on tei m.places ≡ true → Noted expiry (removed tei (begun m))
 removes tei m on = go (place_of tei m.places) refl

@@ -1,13 +1,11 @@
 -- A TEI that is told to a terminal is on the line when its message comes to wait: each row.
-use Rattle.laws_line.proofs.Vocabulary.{◌≡◌, ◌⊎◌, inl, inr, ℕ, ◌==◌, Bool, true, false, List, [], ◌∷◌, ◌++◌, length, drop, get_or, Option, Some, None, refl, sym, ap, ◌∙◌, arith, true≢false, length-append, append_cancel_left, get_or-set_same, Management, Period, First, Second, Message, IdentityAssigned, IdentityDenied, IdentityCheckRequest, IdentityRemove, action_of, is_on, is_on-at, Config, Answer, Line, Request, Establish, Release, Assign, Remove, SetBusy, ClearBusy, Deactivate, IsInRange, Down, length-drop, TeiCheck as Check, Event, after, answer, Data, Unit, Check as Checking, IsSound, HasCause, IsTaken, HaveCauses, AreThere, Said, asks, verifies, responds, IsSent, IsUnmoved, IsToldAgain, IsAssigned, IsDenied, Verifies, may_begin, is_answered, RespondsTo, Responds, Serves, ExpiresIn, Expires, Grants, is_of_management}
+use Rattle.laws_line.proofs.Vocabulary.{◌≡◌, ◌⊎◌, inl, inr, ℕ, ◌==◌, Bool, true, false, List, [], ◌∷◌, ◌++◌, length, drop, get_or, Option, Some, None, refl, sym, ap, ◌∙◌, arith, true≢false, length-append, append_cancel_left, get_or-set_same, Management, Period, First, Second, Message, IdentityAssigned, IdentityCheckRequest, IdentityRemove, action_of, is_on, is_on-at, Config, Answer, Line, Request, Assign, Remove, IsInRange, Down, length-drop, TeiCheck as Check, Event, after, answer, Check as Checking, IsSound, HasCause, IsTaken, HaveCauses, AreThere, Said, asks, verifies, responds, IsSent, IsUnmoved, IsToldAgain, IsAssigned, IsDenied, Verifies, may_begin, is_answered, RespondsTo, Responds, Serves, ExpiresIn, Expires, Grants, is_of_management}
 use Rattle.laws_line.proofs.Causing.{have-causes}
 
 -- whether a message tells a TEI to a terminal
 abbrev tells : Message → Bool
 tells (IdentityAssigned ri tei) = true
-tells (IdentityDenied ri) = false
-tells (IdentityCheckRequest tei) = false
-tells (IdentityRemove tei) = false
+tells other = false
 
 abbrev first : Message → List Message → Message
 first other [] = other
@@ -82,16 +80,10 @@ module _ (before after : Management) (ri tei : ℕ) (more : after.waiting ≡ be
   by-request (Assign own) lost its h = must-move h.silent.same
   by-request (Remove own) lost its h = other (IdentityRemove own) refl h.0.behind
   by-request (Checking own) lost its h = other (IdentityCheckRequest own) refl h.0.behind
-  by-request (Establish service own) lost its h = true≢false (sym its)
-  by-request (Release service own) lost its h = true≢false (sym its)
-  by-request (Data service own contents) lost its h = true≢false (sym its)
-  by-request (Unit service own contents) lost its h = true≢false (sym its)
-  by-request (SetBusy service own) lost its h = true≢false (sym its)
-  by-request (ClearBusy service own) lost its h = true≢false (sym its)
-  by-request (Deactivate service own) lost its h = true≢false (sym its)
   by-request Down lost its h =
       let none : 0 ≡ length (before.waiting ++ IdentityAssigned ri tei ∷ []) = ap (λ x. length x) (sym h.none ∙ more) in
       omega (arith, none, length-append before.waiting (IdentityAssigned ri tei ∷ []))
+  by-request other lost its h = true≢false (sym its)
 
 -- So of each event of a line.
 pub told-there : (c : Config) (e : Event) (before after : Line) (a : Answer) → HaveCauses c e before after a → AreThere before after

@@ -1,5 +1,5 @@
 -- How what an event aims at is tied to the event.
-use Rattle.laws_line.proofs.Vocabulary.{◌≡◌, ℕ, Bool, true, false, ◌==◌, cond, List, Option, Some, None, Result, Ok, Err, refl, inl, inr, Address, Control, ReadFault, BadExtension, Undefined, WrongSize, Short, Long, Service, Timer, T201, Tei, Unserved, Parts, reading, long_reading, service_of, LinkTimer, Config, hears, request, Answer, Aim, at_none, at_link, at_management, at_units, at_timer, aim_of_expiry, Line, place_in, drop_for, management_sapi, to_service, addressed, message_of, aim_of_reading, unless_at_link, aim_of_long, heard_side, aim_of_heard, side_aims, Request, Establish, Release, Assign, Remove, SetBusy, ClearBusy, Deactivate, at_requested, at_deactivated, aim_of_request, Down, at_no_link, T200, T203, Event, expiry, group_tei, at_place, Data, Check, is_granted, IsTooLong, BringsMalformed, IsBy, IsOf}
+use Rattle.laws_line.proofs.Vocabulary.{◌≡◌, ℕ, Bool, true, false, ◌==◌, cond, List, Option, Some, None, Result, Ok, Err, refl, inl, inr, Address, Control, ReadFault, BadExtension, Undefined, WrongSize, Short, Long, Service, Timer, T201, Tei, Unserved, Parts, reading, long_reading, service_of, LinkTimer, Config, hears, request, Answer, Aim, at_link, at_timer, aim_of_expiry, Line, place_in, drop_for, management_sapi, to_service, addressed, message_of, aim_of_reading, unless_at_link, aim_of_long, heard_side, aim_of_heard, side_aims, Request, Establish, Release, SetBusy, ClearBusy, Deactivate, at_requested, at_deactivated, aim_of_request, at_no_link, T200, T203, Event, expiry, group_tei, at_place, Data, is_granted, IsTooLong, BringsMalformed, IsBy, IsOf}
 use Rattle.model_bits.specs.Stream as stream
 use Rattle.lapd_frame.specs.declared.controls.Control.TheVariants as control
 use Rattle.lapd_frame.specs.declared.overlong.Long.TheVariants as long
@@ -8,10 +8,8 @@ use Rattle.model_link.specs.declared.timers.LinkTimer.TheVariants as link_timer
 
 abbrev pub Ties : Config → Event → Answer → Aim → Type 0
 Ties c e answer (at_link service tei place event) = IsOf c e answer service tei event
-Ties c e answer (at_none what) = Unit {0}
-Ties c e answer (at_management event) = Unit {0}
-Ties c e answer (at_units unit) = Unit {0}
 Ties c e answer at_no_link = Unit {0}
+Ties c e answer other = Unit {0}
 
 module _ (c : Config) (l : Line) (e : Event) (answer : Answer) where
   abbrev Tied : Aim → Type 0
@@ -36,23 +34,11 @@ module _ (c : Config) (l : Line) (e : Event) (answer : Answer) where
 
   message-ties : (k : Control) (info : List ℕ) → Tied (message_of k info)
   message-ties (control.Ui p) info = tt
-  message-ties (control.Information ns nr p) info = tt
-  message-ties (control.ReceiveReady nr pf) info = tt
-  message-ties (control.ReceiveNotReady nr pf) info = tt
-  message-ties (control.Reject nr pf) info = tt
-  message-ties (control.Sabme p) info = tt
-  message-ties (control.Disc p) info = tt
-  message-ties (control.Ua f) info = tt
-  message-ties (control.Dm f) info = tt
-  message-ties (control.Frmr f) info = tt
-  message-ties (control.Xid pf) info = tt
+  message-ties other info = tt
 
   unless-ties : (aim : Aim) → Tied (unless_at_link aim)
-  unless-ties (at_none what) = tt
-  unless-ties (at_link service tei place event) = tt
-  unless-ties (at_management event) = tt
-  unless-ties (at_units unit) = tt
   unless-ties at_no_link = tt
+  unless-ties other = tt
 
 -- What is heard.
 module _ (c : Config) (l : Line) (answer : Answer) where
@@ -118,11 +104,7 @@ module _ (c : Config) (l : Line) (answer : Answer) (granted : is_granted answer 
   request-ties (Establish service tei) = asked-ties service tei link.Establish (place_in l tei)
   request-ties (Release service tei) = asked-ties service tei link.Release (place_in l tei)
   request-ties (Data service tei contents) = asked-ties service tei (link.Data contents) (place_in l tei)
-  request-ties (Request.Unit service tei contents) = tt
-  request-ties (Assign tei) = tt
-  request-ties (Remove tei) = tt
-  request-ties (Check tei) = tt
   request-ties (SetBusy service tei) = asked-ties service tei link.SetBusy (place_in l tei)
   request-ties (ClearBusy service tei) = asked-ties service tei link.ClearBusy (place_in l tei)
   request-ties (Deactivate service tei) = deactivated-ties service tei (place_in l tei)
-  request-ties Down = tt
+  request-ties other = tt

@@ -22,16 +22,9 @@ its-own t s n own =
 
 own-loss : (t : Terms) (n : Note) → IsOwn t n → is_loss_of t.service t.tei n ≡ is_loss n
 own-loss t (notes.EstablishIndication s n) own = its-own t s n own
-own-loss t (notes.EstablishConfirm s n) own = refl
 own-loss t (notes.ReleaseIndication s n) own = its-own t s n own
 own-loss t (notes.ReleaseConfirm s n) own = its-own t s n own
-own-loss t (notes.Data s n) own = refl
-own-loss t (notes.Unit s n) own = refl
-own-loss t (notes.Error s n k) own = refl
-own-loss t (notes.Assigned n) own = refl
-own-loss t (notes.Removed n) own = refl
-own-loss t (notes.Doubled n) own = refl
-own-loss t (notes.Xid s n) own = refl
+own-loss t other own = refl
 
 own-losses : (t : Terms) (ns : List Note) → All (IsOwn t) ns → list_any (is_loss_of t.service t.tei) ns ≡ tells_loss ns
 own-losses t [] all = refl

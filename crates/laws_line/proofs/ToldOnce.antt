@@ -14,16 +14,7 @@ use Rattle.laws_line.proofs.Downs.{by-down}
 -- Notes of contents are those of data and those of unit data.
 one-note : (n : Note) → cond {A = ℕ} (tells_contents n) 1 0 ≡ cond {A = ℕ} (is_data n) 1 0 + cond {A = ℕ} (is_unit n) 1 0
 one-note (notes.EstablishIndication s n) = refl
-one-note (notes.EstablishConfirm s n) = refl
-one-note (notes.ReleaseIndication s n) = refl
-one-note (notes.ReleaseConfirm s n) = refl
-one-note (notes.Data s n) = refl
-one-note (notes.Unit s n) = refl
-one-note (notes.Error s n k) = refl
-one-note (notes.Assigned n) = refl
-one-note (notes.Removed n) = refl
-one-note (notes.Doubled n) = refl
-one-note (notes.Xid s n) = refl
+one-note other = refl
 
 both : (ns : List Note) → count_by tells_contents ns ≡ count_by is_data ns + count_by is_unit ns
 both [] = refl

@@ -1,16 +1,13 @@
 -- An I-frame is offered only where it may go; and with offers alone contents go one after the other.
-use Rattle.laws_link.proofs.Vocabulary.{◌≡◌, ℕ, zero, suc, ◌+◌, ◌-◌, ◌<◌, Bool, true, false, cond, IsTrue, ◌&&◌, not, List, [], ◌∷◌, length, Option, Some, None, refl, sym, ap, ◌∙◌, subst, true≢false, arith, All, IfSome, nat_lt, ltb-true, and_parts, All-head, State, TeiAssigned, AwaitingEstablishment, AwaitingRelease, Established, TimerRecovery, ControlFrame, T200, Terms, Link, outstanding, course, after, given, given_of, IsInRange, IsSound, IsWaitingFrame, is_information, Course, Sent, begun, ◌then◌, changed, sound-after, IsOffered, is_i_frame, i_frames, MayGo, offered, i_frames_offered}
+use Rattle.laws_link.proofs.Vocabulary.{◌≡◌, ℕ, zero, suc, ◌+◌, ◌-◌, ◌<◌, Bool, true, false, cond, IsTrue, ◌&&◌, not, List, [], ◌∷◌, length, Option, Some, None, refl, sym, ap, ◌∙◌, subst, true≢false, arith, All, IfSome, nat_lt, ltb-true, and_parts, All-head, State, Established, ControlFrame, T200, Terms, Link, outstanding, course, after, given, given_of, IsInRange, IsSound, IsWaitingFrame, is_information, Course, Sent, begun, ◌then◌, changed, sound-after, IsOffered, is_i_frame, i_frames, MayGo, offered, i_frames_offered}
 use Rattle.model_link.specs.Events as link
 use Rattle.model_link.specs.Offers
 use Rattle.model_link.specs.Words
 use Rattle.laws_link.proofs.Offering.{given-is-offered, offer-leaves, offer-counts}
 
 in-state-7 : (state : State) → Offers.is_established state ≡ true → state ≡ Established
-in-state-7 TeiAssigned e = absurd (true≢false (sym e))
-in-state-7 AwaitingEstablishment e = absurd (true≢false (sym e))
-in-state-7 AwaitingRelease e = absurd (true≢false (sym e))
 in-state-7 Established e = refl
-in-state-7 TimerRecovery e = absurd (true≢false (sym e))
+in-state-7 other e = absurd (true≢false (sym e))
 
 off : (b : Bool) → not b ≡ true → b ≡ false
 off true e = absurd (true≢false (sym e))

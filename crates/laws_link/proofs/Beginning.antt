@@ -1,5 +1,5 @@
 -- What is told where the numbers begin anew.
-use Rattle.laws_link.proofs.Vocabulary.{◌≡◌, ℕ, Bool, true, false, cond, List, refl, ◌⊎◌, inl, inr, sym, true≢false, list_any, Control, Information, ReceiveReady, ReceiveNotReady, Reject, Sabme, Disc, Ui, Ua, Dm, Frmr, Xid, State, TeiAssigned, AwaitingEstablishment, AwaitingRelease, Established, TimerRecovery, Terms, Link, has_outstanding, restarts, MayEstablish, Establishes, Course, begun, ◌then◌, tells_beginning, IsSeen}
+use Rattle.laws_link.proofs.Vocabulary.{◌≡◌, ℕ, Bool, true, false, cond, List, refl, ◌⊎◌, inl, inr, sym, true≢false, list_any, Control, Sabme, Ua, State, TeiAssigned, AwaitingEstablishment, AwaitingRelease, Established, TimerRecovery, Terms, Link, has_outstanding, restarts, MayEstablish, Establishes, Course, begun, ◌then◌, tells_beginning, IsSeen}
 use Rattle.lapd_frame.specs.declared.notes.ErrorCode.TheVariants as code
 use Rattle.model_link.specs.Events
 use Rattle.model_link.specs.Words
@@ -37,36 +37,19 @@ module _ (t : Terms) (l : Link) where
 
   by-ua : (here : State) → l.state ≡ here → (b : Bool) (octets : List ℕ) → (Machine.frame_in here t b octets (Ua true) (begun l)).zeroed ≡ true
       → Seen (Machine.frame_in here t b octets (Ua true) (begun l))
-  by-ua TeiAssigned is b octets e = absurd (true≢false (sym e))
   by-ua AwaitingEstablishment is b octets e = asked-for is l.asked refl (Words.establish_confirm t (begun l)) _ refl
-  by-ua AwaitingRelease is b octets e = absurd (true≢false (sym e))
-  by-ua Established is b octets e = absurd (true≢false (sym e))
-  by-ua TimerRecovery is b octets e = absurd (true≢false (sym e))
+  by-ua other is b octets e = absurd (true≢false (sym e))
 
   frames : (b : Bool) (octets : List ℕ) (control : Control) → MayEstablish control → (Machine.frame_step t b octets control (begun l)).zeroed ≡ true
       → Seen (Machine.frame_step t b octets control (begun l))
   frames b octets (Sabme p) by e = inl (by-sabme l.state b p octets e)
   frames b octets (Ua true) by e = by-ua l.state refl b octets e
-  frames b octets (Ua false) by e = absurd by
-  frames b octets (Information ns nr p) by e = absurd by
-  frames b octets (ReceiveReady nr pf) by e = absurd by
-  frames b octets (ReceiveNotReady nr pf) by e = absurd by
-  frames b octets (Reject nr pf) by e = absurd by
-  frames b octets (Disc p) by e = absurd by
-  frames b octets (Ui p) by e = absurd by
-  frames b octets (Dm f) by e = absurd by
-  frames b octets (Frmr f) by e = absurd by
-  frames b octets (Xid pf) by e = absurd by
+  frames b octets other by e = absurd by
 
   by-event : (e : Events.Event) → Establishes e (Machine.after t e l) → restarts t e l ≡ true → IsSeen e l (Machine.told t e l).notes
   by-event (Events.received (Events.frame f)) h is = inr (frames f.address.command f.info f.control h.by is)
-  by-event (Events.received Events.undefined) h is = absurd h
-  by-event (Events.received Events.wrong_size) h is = absurd h
-  by-event (Events.received Events.overlong) h is = absurd h
-  by-event (Events.expired timer) h is = absurd h
-  by-event (Events.requested request full) h is = absurd h
-  by-event Events.offer h is = absurd h
   by-event Events.cleared h is = inl refl
+  by-event other h is = absurd h
 
   pub beginning-seen : (e : Events.Event) → restarts t e l ≡ true → IsSeen e l (Machine.told t e l).notes
   beginning-seen e is = by-event e (establishes t l e is) is

@@ -1,5 +1,5 @@
 -- What is delivered is the information of the I-frame that was heard.
-use Rattle.laws_link.proofs.Vocabulary.{◌≡◌, ℕ, ◌<◌, ◌≤◌, Bool, true, false, cond, not, List, Some, None, ap, ◌∙◌, arith, nat_lt, nat_le, ltb-true, ltb-false, leb-true, leb-false, false_from_ne_true, true_from_ne_false, Control, Information, ReceiveReady, ReceiveNotReady, Reject, Sabme, Disc, Ui, Ua, Dm, Frmr, Xid, Terms, Link, Arrived, information_of, information_in, is_eligible, eligible_of, told, delivered-at_once, in_i_frame, contents_heard}
+use Rattle.laws_link.proofs.Vocabulary.{◌≡◌, ℕ, ◌<◌, ◌≤◌, Bool, true, false, cond, not, List, Some, None, ap, ◌∙◌, arith, nat_lt, nat_le, ltb-true, ltb-false, leb-true, leb-false, false_from_ne_true, true_from_ne_false, Control, Information, Terms, Link, Arrived, information_of, information_in, is_eligible, eligible_of, told, delivered-at_once, in_i_frame, contents_heard}
 use Rattle.model_link.specs.Events
 
 module _ (t : Terms) (l : Link) where
@@ -9,26 +9,11 @@ module _ (t : Terms) (l : Link) where
 
   in-frame : (control : Control) (octets : List ℕ) (i : Arrived) → eligible_of t l (information_of control octets) ≡ Some i → in_i_frame control octets ≡ Some i.contents
   in-frame (Information ns nr p) octets i e = from-eligible (is_eligible t l (record { ns = ns; contents = octets })) (record { ns = ns; contents = octets }) i e
-  in-frame (ReceiveReady nr pf) octets i e = absurd (cc)
-  in-frame (ReceiveNotReady nr pf) octets i e = absurd (cc)
-  in-frame (Reject nr pf) octets i e = absurd (cc)
-  in-frame (Sabme p) octets i e = absurd (cc)
-  in-frame (Disc p) octets i e = absurd (cc)
-  in-frame (Ui p) octets i e = absurd (cc)
-  in-frame (Ua f) octets i e = absurd (cc)
-  in-frame (Dm f) octets i e = absurd (cc)
-  in-frame (Frmr f) octets i e = absurd (cc)
-  in-frame (Xid pf) octets i e = absurd (cc)
+  in-frame other octets i e = absurd (cc)
 
   heard : (e : Events.Event) (i : Arrived) → eligible_of t l (information_in e) ≡ Some i → contents_heard e ≡ Some i.contents
   heard (Events.received (Events.frame f)) i e = in-frame f.control f.info i e
-  heard (Events.received Events.undefined) i e = absurd (cc)
-  heard (Events.received Events.wrong_size) i e = absurd (cc)
-  heard (Events.received Events.overlong) i e = absurd (cc)
-  heard (Events.expired timer) i e = absurd (cc)
-  heard (Events.requested request full) i e = absurd (cc)
-  heard Events.offer i e = absurd (cc)
-  heard Events.cleared i e = absurd (cc)
+  heard other i e = absurd (cc)
 
   pub delivered-was-heard : (e : Events.Event) (contents : List ℕ) → (told t e l).delivered ≡ Some contents → contents_heard e ≡ Some contents
   delivered-was-heard e contents d =

@@ -23,10 +23,7 @@ module _ (t : Terms) where
   malformed : (here : State) (l : Link)
       → Row t (Events.received Events.undefined) (at here l) × Row t (Events.received Events.wrong_size) (at here l) × Row t (Events.received Events.overlong) (at here l)
   malformed TeiAssigned l = (refl, refl, refl)
-  malformed AwaitingEstablishment l = (refl, refl, refl)
-  malformed AwaitingRelease l = (refl, refl, refl)
-  malformed Established l = (refl, refl, refl)
-  malformed TimerRecovery l = (refl, refl, refl)
+  malformed other l = (refl, refl, refl)
 
   -- Expiries.
   by-t200 : (here : State) (l : Link) (o : Option LinkTimer) → Row t (Events.expired T200) (at-running here o l)
@@ -154,10 +151,7 @@ module _ (t : Terms) where
   -- The end of the TEI.
   by-clearing : (here : State) (l : Link) → Row t Events.cleared (at here l)
   by-clearing TeiAssigned l = refl
-  by-clearing AwaitingEstablishment l = refl
-  by-clearing AwaitingRelease l = refl
-  by-clearing Established l = refl
-  by-clearing TimerRecovery l = refl
+  by-clearing other l = refl
 
   pub each-row : (e : Events.Event) (l : Link) → Row t e l
   each-row (Events.received (Events.frame f)) l = by-a-frame l.state l f f.address.command f.control

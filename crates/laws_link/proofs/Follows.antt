@@ -14,10 +14,7 @@ waiting-is t Events.cleared l to = refl
 
 pending-is : (e : Events.Event) (l : Link) (to : State) → owed_by e l to (put e l to) (takes_contents e l) ≡ pending_left e l to
 pending-is (Events.received r) l to = refl
-pending-is (Events.expired timer) l to = refl
-pending-is (Events.requested request full) l to = refl
-pending-is Events.offer l to = refl
-pending-is Events.cleared l to = refl
+pending-is other l to = refl
 
 module _ (t : Terms) (e : Events.Event) (l : Link) where
   abbrev heard : Events.Event

@@ -1,5 +1,5 @@
 -- From where a link sends again.
-use Rattle.laws_link.proofs.Vocabulary.{◌≡◌, ℕ, Bool, true, false, List, Option, Some, None, refl, sym, ap, ◌∙◌, subst, Seq, named, Control, Information, ReceiveReady, ReceiveNotReady, Reject, Sabme, Disc, Ui, Ua, Dm, Frmr, Xid, Note, State, TeiAssigned, AwaitingEstablishment, AwaitingRelease, Established, TimerRecovery, LinkTimer, T200, T203, Terms, Link, Course, begun, Step, ◌then◌, Leads, keeping_then, nothing_leads, depending_leads, bit_leads, asked_from, reported, GoesBackTo}
+use Rattle.laws_link.proofs.Vocabulary.{◌≡◌, ℕ, Bool, true, false, List, Option, Some, None, refl, sym, ap, ◌∙◌, subst, Seq, named, Control, ReceiveReady, ReceiveNotReady, Reject, Note, State, Established, TimerRecovery, LinkTimer, T200, T203, Terms, Link, Course, begun, Step, ◌then◌, Leads, keeping_then, nothing_leads, depending_leads, bit_leads, asked_from, reported, GoesBackTo}
 use Rattle.lapd_frame.specs.declared.notes.ErrorCode.TheVariants as code
 use Rattle.model_link.specs.Words
 use Rattle.model_link.specs.MultipleFrame
@@ -62,32 +62,13 @@ module _ (t : Terms) (l : Link) (nr : Seq) (n : ℕ) (valid : named l.a l.s nr �
   frames-7 : l.state ≡ Established → (command : Bool) (octets : List ℕ) (control : Control) → asked_from Established command control ≡ Some nr
       → Back (Machine.frame_in Established t command octets control (begun l))
   frames-7 e command octets (Reject m pf) is = same-number m (λ x. Back (Established.frame_in_7 t command octets (Reject x pf) (begun l))) is (in-7 e command octets pf)
-  frames-7 e command octets (Information ns m p) is = absurd (cc)
-  frames-7 e command octets (ReceiveReady m pf) is = absurd (cc)
-  frames-7 e command octets (ReceiveNotReady m pf) is = absurd (cc)
-  frames-7 e command octets (Sabme p) is = absurd (cc)
-  frames-7 e command octets (Disc p) is = absurd (cc)
-  frames-7 e command octets (Ui p) is = absurd (cc)
-  frames-7 e command octets (Ua f) is = absurd (cc)
-  frames-7 e command octets (Dm f) is = absurd (cc)
-  frames-7 e command octets (Frmr f) is = absurd (cc)
-  frames-7 e command octets (Xid pf) is = absurd (cc)
+  frames-7 e command octets other is = absurd (cc)
 
   responses-8 : (octets : List ℕ) (control : Control) → reported control ≡ Some nr → Back (TimerRecovery.frame_in_8 t false octets control (begun l))
   responses-8 octets (ReceiveReady m true) is = same-number m (λ x. Back (TimerRecovery.frame_in_8 t false octets (ReceiveReady x true) (begun l))) is (in-8 false T203)
   responses-8 octets (ReceiveNotReady m true) is = same-number m (λ x. Back (TimerRecovery.frame_in_8 t false octets (ReceiveNotReady x true) (begun l))) is (in-8 true T200)
   responses-8 octets (Reject m true) is = same-number m (λ x. Back (TimerRecovery.frame_in_8 t false octets (Reject x true) (begun l))) is (in-8 false T203)
-  responses-8 octets (ReceiveReady m false) is = absurd (cc)
-  responses-8 octets (ReceiveNotReady m false) is = absurd (cc)
-  responses-8 octets (Reject m false) is = absurd (cc)
-  responses-8 octets (Information ns m p) is = absurd (cc)
-  responses-8 octets (Sabme p) is = absurd (cc)
-  responses-8 octets (Disc p) is = absurd (cc)
-  responses-8 octets (Ui p) is = absurd (cc)
-  responses-8 octets (Ua f) is = absurd (cc)
-  responses-8 octets (Dm f) is = absurd (cc)
-  responses-8 octets (Frmr f) is = absurd (cc)
-  responses-8 octets (Xid pf) is = absurd (cc)
+  responses-8 octets other is = absurd (cc)
 
   frames-8 : (command : Bool) (octets : List ℕ) (control : Control) → asked_from TimerRecovery command control ≡ Some nr
       → Back (Machine.frame_in TimerRecovery t command octets control (begun l))
@@ -96,11 +77,9 @@ module _ (t : Terms) (l : Link) (nr : Seq) (n : ℕ) (valid : named l.a l.s nr �
 
   frames : (here : State) → l.state ≡ here → (command : Bool) (octets : List ℕ) (control : Control) → asked_from here command control ≡ Some nr
       → Back (Machine.frame_in here t command octets control (begun l))
-  frames TeiAssigned e command octets control is = absurd (cc)
-  frames AwaitingEstablishment e command octets control is = absurd (cc)
-  frames AwaitingRelease e command octets control is = absurd (cc)
   frames Established e command octets control is = frames-7 e command octets control is
   frames TimerRecovery e command octets control is = frames-8 command octets control is
+  frames other e command octets control is = absurd (cc)
 
   pub goes-back : (command : Bool) (octets : List ℕ) (control : Control) → asked_from l.state command control ≡ Some nr
       → Back (Machine.frame_step t command octets control (begun l))

@@ -154,11 +154,9 @@ module _ (t : Terms) (l : Link) (h : IsSound t l) where
 
   malformed : (here : State) (e : ErrorCode) → Moved 0 (Machine.malformed_in here t e (begun l))
   unfolding Moved
-  malformed TeiAssigned e = unmoved-by Words.leave_unserved (search words)
-  malformed AwaitingEstablishment e = unmoved-by Words.leave_unserved (search words)
-  malformed AwaitingRelease e = unmoved-by Words.leave_unserved (search words)
   malformed Established e = failed_moves t l h.ordered h.accepted e
   malformed TimerRecovery e = failed_moves t l h.ordered h.accepted e
+  malformed other e = unmoved-by Words.leave_unserved (search words)
 
   -- Timers.
   unmoved : Moved 0 (begun l)
@@ -249,10 +247,7 @@ module _ (t : Terms) (l : Link) (h : IsSound t l) where
   clears : (here : State) → let c = Words.begin_anew (Machine.told_of_clearing here t (begun l)) in
       Led (record { restarts = true; empties = true; accepted = []; acknowledged = 0 }) 0 c
   clears TeiAssigned = record { comes = restarted true l.contents l.a; follows = inr (refl, refl) }
-  clears AwaitingEstablishment = record { comes = restarted true l.contents l.a; follows = inr (refl, refl) }
-  clears AwaitingRelease = record { comes = restarted true l.contents l.a; follows = inr (refl, refl) }
-  clears Established = record { comes = restarted true l.contents l.a; follows = inr (refl, refl) }
-  clears TimerRecovery = record { comes = restarted true l.contents l.a; follows = inr (refl, refl) }
+  clears other = record { comes = restarted true l.contents l.a; follows = inr (refl, refl) }
 
   -- A UI, in every state.
   unit-led : (octets : List ℕ) → let c = Words.unit_data t octets (begun l) in Led (row c.zeroed (tells_loss c.notes) 0) 0 c
@@ -263,10 +258,7 @@ module _ (t : Terms) (l : Link) (h : IsSound t l) where
   by-unit : (here : State) (b : Bool) (octets : List ℕ) (p : Bool) → let c = Machine.frame_in here t b octets (Ui p) (begun l) in
       Led (row c.zeroed (tells_loss c.notes) 0) 0 c
   by-unit TeiAssigned b octets p = unit-led octets
-  by-unit AwaitingEstablishment b octets p = unit-led octets
-  by-unit AwaitingRelease b octets p = unit-led octets
-  by-unit Established b octets p = unit-led octets
-  by-unit TimerRecovery b octets p = unit-led octets
+  by-unit other b octets p = unit-led octets
 
   -- A frame.
   by-frame : (b : Bool) (octets : List ℕ) (control : Control) → (d : Bool) → is_ui control ≡ d
@@ -300,10 +292,7 @@ module _ (t : Terms) (l : Link) (h : IsSound t l) where
   ui-in : (here : State) (b : Bool) (octets : List ℕ) (p : Bool)
       → (Machine.frame_in here t b octets (Ui p) (begun l)).unit ≡ within t.n201 (in_ui_frame (Ui p) octets)
   ui-in TeiAssigned b octets p = by-length octets (nat_lt t.n201 (length octets)) refl
-  ui-in AwaitingEstablishment b octets p = by-length octets (nat_lt t.n201 (length octets)) refl
-  ui-in AwaitingRelease b octets p = by-length octets (nat_lt t.n201 (length octets)) refl
-  ui-in Established b octets p = by-length octets (nat_lt t.n201 (length octets)) refl
-  ui-in TimerRecovery b octets p = by-length octets (nat_lt t.n201 (length octets)) refl
+  ui-in other b octets p = by-length octets (nat_lt t.n201 (length octets)) refl
 
   unit-in : (b : Bool) (octets : List ℕ) (control : Control) → (d : Bool) → is_ui control ≡ d
       → (Machine.frame_step t b octets control (begun l)).unit ≡ within t.n201 (in_ui_frame control octets)
@@ -357,10 +346,7 @@ module _ (t : Terms) (l : Link) (h : IsSound t l) where
 
   unit-cleared : (here : State) → (Machine.told_of_clearing here t (begun l)).unit ≡ None
   unit-cleared TeiAssigned = refl
-  unit-cleared AwaitingEstablishment = refl
-  unit-cleared AwaitingRelease = refl
-  unit-cleared Established = refl
-  unit-cleared TimerRecovery = refl
+  unit-cleared other = refl
 
   pub event-unit : (e : Events.Event) → (Machine.course t e l).unit ≡ unit_due t e
   event-unit (Events.received (Events.frame f)) = unit-in f.address.command f.info f.control (is_ui f.control) refl

@@ -10,16 +10,11 @@ use Rattle.lapd_frame.specs.declared.notes.Note.TheVariants as notes
 abbrev pub up_by : State → Bool → Bool
 up_by TeiAssigned asked = false
 up_by AwaitingEstablishment asked = not asked
-up_by AwaitingRelease asked = true
-up_by Established asked = true
-up_by TimerRecovery asked = true
+up_by other asked = true
 
 pub is-up-by : (here : State) (l : Link) → is_up_in here l ≡ up_by here l.asked
 is-up-by TeiAssigned l = refl
-is-up-by AwaitingEstablishment l = refl
-is-up-by AwaitingRelease l = refl
-is-up-by Established l = refl
-is-up-by TimerRecovery l = refl
+is-up-by other l = refl
 
 -- in this state, and known to layer 3 as what it is
 pub record In (here state : State) (asked up : Bool) : Type 0 where
@@ -45,26 +40,14 @@ is_plain (notes.EstablishIndication service tei) = false
 is_plain (notes.EstablishConfirm service tei) = false
 is_plain (notes.ReleaseIndication service tei) = false
 is_plain (notes.ReleaseConfirm service tei) = false
-is_plain (notes.Data service tei) = true
-is_plain (notes.Unit service tei) = true
-is_plain (notes.Error service tei code) = true
-is_plain (notes.Assigned tei) = true
-is_plain (notes.Removed tei) = true
-is_plain (notes.Doubled tei) = true
-is_plain (notes.Xid service tei) = true
+is_plain other = true
 
 pub plain-seen : (n : Note) → is_plain n ≡ true → (up : Bool) → seen up n ≡ up
 plain-seen (notes.EstablishIndication service tei) e up = absurd (true≢false (sym e))
 plain-seen (notes.EstablishConfirm service tei) e up = absurd (true≢false (sym e))
 plain-seen (notes.ReleaseIndication service tei) e up = absurd (true≢false (sym e))
 plain-seen (notes.ReleaseConfirm service tei) e up = absurd (true≢false (sym e))
-plain-seen (notes.Data service tei) e up = refl
-plain-seen (notes.Unit service tei) e up = refl
-plain-seen (notes.Error service tei code) e up = refl
-plain-seen (notes.Assigned tei) e up = refl
-plain-seen (notes.Removed tei) e up = refl
-plain-seen (notes.Doubled tei) e up = refl
-plain-seen (notes.Xid service tei) e up = refl
+plain-seen other e up = refl
 
 module _ (up : Bool) where
   abbrev pub At : State → Course → Type 0

@@ -1,5 +1,5 @@
 -- What layer 3 is told is what becomes of the link: the rows by state, and every event.
-use Rattle.laws_link.proofs.Vocabulary.{◌≡◌, ℕ, Bool, true, false, List, [], ◌∷◌, Option, Some, None, refl, sym, subst, ◌∙◌, cond, ◌&&◌, Seq, Control, Information, ReceiveReady, ReceiveNotReady, Reject, Sabme, Disc, Ui, Ua, Dm, Frmr, Xid, ErrorCode, Refusal, WrongState, State, TeiAssigned, AwaitingEstablishment, AwaitingRelease, Established, TimerRecovery, LinkTimer, T200, T203, ControlFrame, Terms, Link, has_outstanding, is_own_busy, is_rejecting, is_peer_busy, Course, begun, Step, ◌then◌, nothing, by_bit, frame_in_4, establish_in_4, frame_in_5, frame_in_6, Leads, then_leads, keeping_then, nothing_leads, depending_leads, bit_leads, known, is_up_in, is_up}
+use Rattle.laws_link.proofs.Vocabulary.{◌≡◌, ℕ, Bool, true, false, List, [], ◌∷◌, Option, Some, None, refl, sym, subst, ◌∙◌, cond, ◌&&◌, Seq, Control, Information, ReceiveReady, ReceiveNotReady, Reject, Sabme, Disc, Ua, Dm, Frmr, ErrorCode, Refusal, WrongState, State, TeiAssigned, AwaitingEstablishment, AwaitingRelease, Established, TimerRecovery, LinkTimer, T200, T203, ControlFrame, Terms, Link, has_outstanding, is_own_busy, is_rejecting, is_peer_busy, Course, begun, Step, ◌then◌, nothing, by_bit, frame_in_4, establish_in_4, frame_in_5, frame_in_6, Leads, then_leads, keeping_then, nothing_leads, depending_leads, bit_leads, known, is_up_in, is_up}
 use Rattle.lapd_frame.specs.declared.notes.ErrorCode.TheVariants as code
 use Rattle.model_link.specs.Events
 use Rattle.model_link.specs.Words
@@ -121,12 +121,9 @@ module _ (up : Bool) (t : Terms) where
       (λ final m. at_ends up (keeping_then (acknowledge_knows up Established m) (keeping_then (send_again_knows up Established m) (start_knows up Established T203))))
   frames_in_7 b octets (Sabme p) = sabme_7 p
   frames_in_7 b octets (Disc p) = disc_7 p
-  frames_in_7 b octets (Ua f) = search ends depth 12 fits 4000
-  frames_in_7 b octets (Dm true) = search ends depth 12 fits 4000
   frames_in_7 b octets (Dm false) = failed_7 up t code.E
   frames_in_7 b octets (Frmr f) = failed_7 up t code.K
-  frames_in_7 b octets (Ui p) = search ends depth 12 fits 4000
-  frames_in_7 b octets (Xid pf) = search ends depth 12 fits 4000
+  frames_in_7 b octets other = search ends depth 12 fits 4000
 
   frames_in_8 : (b : Bool) (octets : List ℕ) (control : Control) → Leads (At up TimerRecovery) (TimerRecovery.frame_in_8 t b octets control) (Ends up)
   frames_in_8 b octets (Information ns nr p) =
@@ -136,12 +133,10 @@ module _ (up : Bool) (t : Terms) where
   frames_in_8 b octets (Reject nr pf) = supervisory_8 false b pf nr T203
   frames_in_8 b octets (Sabme p) = sabme_8 p
   frames_in_8 b octets (Disc p) = disc_8 p
-  frames_in_8 b octets (Ua f) = search ends depth 12 fits 4000
   frames_in_8 b octets (Dm true) = failed_8 up t code.B
   frames_in_8 b octets (Dm false) = failed_8 up t code.E
   frames_in_8 b octets (Frmr f) = failed_8 up t code.K
-  frames_in_8 b octets (Ui p) = search ends depth 12 fits 4000
-  frames_in_8 b octets (Xid pf) = search ends depth 12 fits 4000
+  frames_in_8 b octets other = search ends depth 12 fits 4000
 
   expired_knows : (here : State) (timer : LinkTimer) → Leads (At up here) (Machine.expired_in here timer t) (Ends up)
   expired_knows TeiAssigned timer = search ends depth 12 fits 4000
@@ -154,11 +149,9 @@ module _ (up : Bool) (t : Terms) where
   expired_knows TimerRecovery T203 = search ends depth 12 fits 4000
 
   malformed_knows : (here : State) (e : ErrorCode) → Leads (At up here) (Machine.malformed_in here t e) (Ends up)
-  malformed_knows TeiAssigned e = search ends depth 12 fits 4000
-  malformed_knows AwaitingEstablishment e = search ends depth 12 fits 4000
-  malformed_knows AwaitingRelease e = search ends depth 12 fits 4000
   malformed_knows Established e = failed_7 up t e
   malformed_knows TimerRecovery e = failed_8 up t e
+  malformed_knows other e = search ends depth 12 fits 4000
 
   release_knows : (here : State) → Leads (At up here) (Requests.release_in here t) (Ends up)
   release_knows TeiAssigned = at_ends up (confirms_in_4 up t)
@@ -190,18 +183,12 @@ module _ (up : Bool) (t : Terms) where
 -- the TEI leaves the line
 cleared-knows : (t : Terms) (here : State) (l : Link) → known (is_up_in here l) (Machine.told_of_clearing here t (begun l)).notes ≡ false
 cleared-knows t TeiAssigned l = refl
-cleared-knows t AwaitingEstablishment l = refl
-cleared-knows t AwaitingRelease l = refl
-cleared-knows t Established l = refl
-cleared-knows t TimerRecovery l = refl
+cleared-knows t other l = refl
 
 -- an establishment is granted in state 4 alone
 granted-in-4 : (here : State) → cond (Requests.is_down here) None (Some WrongState) ≡ None → here ≡ TeiAssigned
 granted-in-4 TeiAssigned e = refl
-granted-in-4 AwaitingEstablishment e = cc
-granted-in-4 AwaitingRelease e = cc
-granted-in-4 Established e = cc
-granted-in-4 TimerRecovery e = cc
+granted-in-4 other e = cc
 
 module _ (t : Terms) (l : Link) where
   here : At (is_up l) l.state (begun l)

@@ -1,6 +1,6 @@
 -- What a row makes of the contents of a link, of V(A) and of V(S): they stay, some are acknowledged, all go, or the
 -- numbers begin anew.
-use Rattle.laws_link.proofs.Vocabulary.{◌≡◌, ℕ, ◌+◌, ◌-◌, ◌≤◌, Bool, true, false, cond, List, [], length, take, drop, Option, Some, None, refl, ◌⊎◌, inl, arith, option_map_or, Seq, named, Terms, Course, Step, ◌then◌, Leads, keeping_then, to_less, named-within, beyond}
+use Rattle.laws_link.proofs.Vocabulary.{◌≡◌, ℕ, ◌+◌, ◌-◌, ◌≤◌, Bool, true, false, cond, List, [], length, take, drop, Option, Some, None, refl, ◌⊎◌, inl, arith, option_map_or, Seq, named, Terms, Course, Step, ◌then◌, Leads, keeping_then, named-within, beyond}
 use Rattle.lapd_frame.specs.declared.notes.ErrorCode.TheVariants as code
 use Rattle.model_link.specs.Words
 use Rattle.laws_link.proofs.Queueing.{Claim, On, error_keeps, re_establish_keeps}

@@ -1,5 +1,5 @@
 -- What an offer gives.
-use Rattle.laws_link.proofs.Vocabulary.{◌≡◌, ℕ, ◌+◌, ◌<◌, Bool, true, false, cond, ◌&&◌, not, List, [], ◌∷◌, length, slice_get, Option, Some, None, refl, sym, ap, ◌∙◌, true≢false, add-zero, All, IfSome, nat_lt, option_map_or, ltb-true, and_parts, slice_get-get_or, get_or, All-head, seq, Control, Information, ReceiveReady, ReceiveNotReady, Reject, Sabme, Disc, Ui, Ua, Dm, Frmr, Xid, ControlFrame, T200, Terms, Link, course, after, given, given_of, IsSound, IsWaitingFrame, is_information, Course, Sent, begun, ◌then◌, changed, IsOffered, one, is_i_frame}
+use Rattle.laws_link.proofs.Vocabulary.{◌≡◌, ℕ, ◌+◌, ◌<◌, Bool, true, false, cond, ◌&&◌, not, List, [], ◌∷◌, length, slice_get, Option, Some, None, refl, sym, ap, ◌∙◌, true≢false, add-zero, All, IfSome, nat_lt, option_map_or, ltb-true, and_parts, slice_get-get_or, get_or, All-head, seq, Control, Information, ReceiveReady, ControlFrame, T200, Terms, Link, course, after, given, given_of, IsSound, IsWaitingFrame, is_information, Course, Sent, begun, ◌then◌, changed, IsOffered, one, is_i_frame}
 use Rattle.model_link.specs.Events as link
 use Rattle.model_link.specs.Offers
 use Rattle.model_link.specs.Words
@@ -7,16 +7,7 @@ use Rattle.model_link.specs.Words
 -- a frame without contents that is no I-frame
 alone : (all : List (List ℕ)) (j : ℕ) (command : Bool) (control : Control) → is_information control ≡ false → IsOffered all j (record { command = command; control = control }) None
 alone all j b (Information ns nr p) e = absurd (true≢false e)
-alone all j b (ReceiveReady nr pf) e = refl
-alone all j b (ReceiveNotReady nr pf) e = refl
-alone all j b (Reject nr pf) e = refl
-alone all j b (Sabme p) e = refl
-alone all j b (Disc p) e = refl
-alone all j b (Ui p) e = refl
-alone all j b (Ua f) e = refl
-alone all j b (Dm f) e = refl
-alone all j b (Frmr f) e = refl
-alone all j b (Xid pf) e = refl
+alone all j b other e = refl
 
 module _ (t : Terms) (l : Link) (h : IsSound t l) where
   abbrev Offers-it : Course → Type 0
@@ -61,16 +52,7 @@ module _ (t : Terms) (l : Link) (h : IsSound t l) where
 pub carried-is : (all : List (List ℕ)) (j : ℕ) (command : Bool) (control : Control) (contents : Option (List ℕ))
     → IsOffered all j (record { command = command; control = control }) contents → contents ≡ cond (is_information control) (slice_get all j) None
 carried-is all j b (Information ns nr p) contents x = x.is ∙ sym x.among
-carried-is all j b (ReceiveReady nr pf) contents x = x
-carried-is all j b (ReceiveNotReady nr pf) contents x = x
-carried-is all j b (Reject nr pf) contents x = x
-carried-is all j b (Sabme p) contents x = x
-carried-is all j b (Disc p) contents x = x
-carried-is all j b (Ui p) contents x = x
-carried-is all j b (Ua f) contents x = x
-carried-is all j b (Dm f) contents x = x
-carried-is all j b (Frmr f) contents x = x
-carried-is all j b (Xid pf) contents x = x
+carried-is all j b other contents x = x
 
 -- An offer leaves the contents and V(A);
 pub record Left (l : Link) (c : Course) : Type 0 where

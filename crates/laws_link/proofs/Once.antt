@@ -1,5 +1,5 @@
 -- What is due is delivered, and is noted once.
-use Rattle.laws_link.proofs.Vocabulary.{◌≡◌, ℕ, ◌≤◌, Bool, true, false, cond, ◌||◌, List, [], ◌∷◌, length, Option, Some, None, is_some, option_to_list, refl, sym, ap, ◌∙◌, subst, inl, inr, arith, count_by, nat_lt, nat_le, list_any, or_parts, sum_by-cons, sum_by_push, none-some, Seq, named, Control, Information, ReceiveReady, ReceiveNotReady, Reject, Sabme, Disc, Ui, Ua, Dm, Frmr, Xid, Note, State, TeiAssigned, AwaitingEstablishment, AwaitingRelease, Established, TimerRecovery, Terms, Arrived, information_of, eligible_of, eligible, MayEstablish, restarts, Link, is_peer_busy, is_rejecting, is_data, is_unit, IsSound, Course, begun, Step, ◌then◌, delivery, event-delivers, event-tells, in_i_frame, in_ui_frame, contents_heard, unit_heard, within, in_sequence, data_due, IsNotedOnce}
+use Rattle.laws_link.proofs.Vocabulary.{◌≡◌, ℕ, ◌≤◌, Bool, true, false, cond, ◌||◌, List, [], ◌∷◌, length, Option, Some, None, is_some, option_to_list, refl, sym, ap, ◌∙◌, subst, inl, inr, arith, count_by, nat_lt, nat_le, list_any, or_parts, sum_by-cons, sum_by_push, none-some, Seq, named, Control, Information, Ui, Note, State, TeiAssigned, Established, TimerRecovery, Terms, Arrived, information_of, eligible_of, eligible, MayEstablish, restarts, Link, is_peer_busy, is_rejecting, is_data, is_unit, IsSound, Course, begun, Step, ◌then◌, delivery, event-delivers, event-tells, in_i_frame, in_ui_frame, contents_heard, unit_heard, within, in_sequence, data_due, IsNotedOnce}
 use Rattle.lapd_frame.specs.declared.notes.Note.TheVariants as notes
 use Rattle.lapd_frame.specs.declared.notes.ErrorCode.TheVariants as code
 use Rattle.model_link.specs.Established
@@ -18,28 +18,13 @@ delivery-is r (Some i) = refl
 
 module _ (t : Terms) (l : Link) where
   establishing : (control : Control) (octets : List ℕ) → MayEstablish control → information_of control octets ≡ None
-  establishing (Sabme p) octets may = refl
-  establishing (Ua f) octets may = refl
   establishing (Information ns nr p) octets may = absurd may
-  establishing (ReceiveReady nr pf) octets may = refl
-  establishing (ReceiveNotReady nr pf) octets may = refl
-  establishing (Reject nr pf) octets may = refl
-  establishing (Disc p) octets may = refl
-  establishing (Ui p) octets may = refl
-  establishing (Dm f) octets may = refl
-  establishing (Frmr f) octets may = refl
-  establishing (Xid pf) octets may = refl
+  establishing other octets may = refl
 
   none-due : (e : Events.Event) → restarts t e l ≡ true → data_due t e l ≡ None
   none-due (Events.received (Events.frame f)) begins =
       ap (λ o. in_sequence l.r (eligible_of t l o)) (establishing f.control f.info (establishes t l (Events.received (Events.frame f)) begins).by)
-  none-due (Events.received Events.undefined) begins = refl
-  none-due (Events.received Events.wrong_size) begins = refl
-  none-due (Events.received Events.overlong) begins = refl
-  none-due (Events.expired timer) begins = refl
-  none-due (Events.requested request full) begins = refl
-  none-due Events.offer begins = refl
-  none-due Events.cleared begins = refl
+  none-due other begins = refl
 
   pub data-is : (e : Events.Event) → (Machine.told t e l).delivered ≡ data_due t e l
   data-is e =
@@ -113,11 +98,9 @@ module _ (t : Terms) (l : Link) where
       (choose (λ d. d.notes ≡ c.notes) (Established.is_all_sent n c.link) _ _ refl (choose (λ d. d.notes ≡ c.notes) (Established.is_beyond_acknowledged n c.link) _ _ refl refl))
 
   i-frame : (here : State) (b : Bool) (octets : List ℕ) (ns nr : Seq) (p : Bool) → AtMostOne (Machine.frame_in here t b octets (Information ns nr p) (begun l))
-  i-frame TeiAssigned b octets ns nr p = omega arith
-  i-frame AwaitingEstablishment b octets ns nr p = omega arith
-  i-frame AwaitingRelease b octets ns nr p = omega arith
   i-frame Established b octets ns nr p = information ns nr p octets Established.acknowledged_by_information_in_7 keeps-in-7
   i-frame TimerRecovery b octets ns nr p = information ns nr p octets Words.acknowledge (λ n c. refl)
+  i-frame other b octets ns nr p = omega arith
 
   data-frame : (b : Bool) (octets : List ℕ) (control : Control) (contents : List ℕ) → in_i_frame control octets ≡ Some contents → AtMostOne (Machine.frame_step t b octets control (begun l))
   data-frame b octets (Information ns nr p) contents h = i-frame l.state b octets ns nr p
@@ -125,23 +108,14 @@ module _ (t : Terms) (l : Link) where
 
   data-few : (e : Events.Event) (contents : List ℕ) → contents_heard e ≡ Some contents → AtMostOne (Machine.course t e l)
   data-few (Events.received (Events.frame f)) contents h = data-frame f.address.command f.info f.control contents h
-  data-few (Events.received Events.undefined) contents h = absurd (none-some contents h)
-  data-few (Events.received Events.wrong_size) contents h = absurd (none-some contents h)
-  data-few (Events.received Events.overlong) contents h = absurd (none-some contents h)
-  data-few (Events.expired timer) contents h = absurd (none-some contents h)
-  data-few (Events.requested request full) contents h = absurd (none-some contents h)
-  data-few Events.offer contents h = absurd (none-some contents h)
-  data-few Events.cleared contents h = absurd (none-some contents h)
+  data-few other contents h = absurd (none-some contents h)
 
   abbrev OneUnit : Course → Type 0
   OneUnit c = count_by is_unit c.notes ≤ 1
 
   ui-frame : (here : State) (b : Bool) (octets : List ℕ) (p : Bool) → OneUnit (Machine.frame_in here t b octets (Ui p) (begun l))
   ui-frame TeiAssigned b octets p = choose OneUnit (nat_lt t.n201 (length octets)) _ _ (omega arith) (omega arith)
-  ui-frame AwaitingEstablishment b octets p = choose OneUnit (nat_lt t.n201 (length octets)) _ _ (omega arith) (omega arith)
-  ui-frame AwaitingRelease b octets p = choose OneUnit (nat_lt t.n201 (length octets)) _ _ (omega arith) (omega arith)
-  ui-frame Established b octets p = choose OneUnit (nat_lt t.n201 (length octets)) _ _ (omega arith) (omega arith)
-  ui-frame TimerRecovery b octets p = choose OneUnit (nat_lt t.n201 (length octets)) _ _ (omega arith) (omega arith)
+  ui-frame other b octets p = choose OneUnit (nat_lt t.n201 (length octets)) _ _ (omega arith) (omega arith)
 
   unit-frame : (b : Bool) (octets : List ℕ) (control : Control) (contents : List ℕ) → in_ui_frame control octets ≡ Some contents → OneUnit (Machine.frame_step t b octets control (begun l))
   unit-frame b octets (Ui p) contents h = ui-frame l.state b octets p
@@ -149,13 +123,7 @@ module _ (t : Terms) (l : Link) where
 
   unit-few : (e : Events.Event) (contents : List ℕ) → unit_heard e ≡ Some contents → OneUnit (Machine.course t e l)
   unit-few (Events.received (Events.frame f)) contents h = unit-frame f.address.command f.info f.control contents h
-  unit-few (Events.received Events.undefined) contents h = absurd (none-some contents h)
-  unit-few (Events.received Events.wrong_size) contents h = absurd (none-some contents h)
-  unit-few (Events.received Events.overlong) contents h = absurd (none-some contents h)
-  unit-few (Events.expired timer) contents h = absurd (none-some contents h)
-  unit-few (Events.requested request full) contents h = absurd (none-some contents h)
-  unit-few Events.offer contents h = absurd (none-some contents h)
-  unit-few Events.cleared contents h = absurd (none-some contents h)
+  unit-few other contents h = absurd (none-some contents h)
 
   pub noted-once : IsSound t l → (e : Events.Event) → IsNotedOnce (Machine.told t e l)
   noted-once s e = record {

@@ -1,5 +1,5 @@
 -- Each delivery is acknowledged.
-use Rattle.laws_link.proofs.Vocabulary.{◌≡◌, ℕ, ◌+◌, ◌≤◌, Bool, true, false, cond, List, [], ◌∷◌, ◌++◌, length, Option, Some, None, refl, ◌⊎◌, inl, inr, sym, ◌∙◌, arith, nat_lt, Seq, seq, named, Control, Information, ReceiveReady, ReceiveNotReady, Reject, Sabme, Disc, Ui, Ua, Dm, Frmr, Xid, State, TeiAssigned, AwaitingEstablishment, AwaitingRelease, Established, TimerRecovery, LinkTimer, ControlFrame, Terms, Link, Arrived, information_of, eligible_of, Course, begun, Step, ◌then◌, by_bit, Leads, keeping_then, nothing_leads, depending_leads, delivered-at_once, receipt, HasReceipt, Owes, IsBegunAgain}
+use Rattle.laws_link.proofs.Vocabulary.{◌≡◌, ℕ, ◌+◌, ◌≤◌, Bool, true, false, cond, List, [], ◌∷◌, ◌++◌, length, Option, Some, None, refl, ◌⊎◌, inl, inr, sym, ◌∙◌, arith, nat_lt, Seq, seq, named, Control, Information, ReceiveReady, ReceiveNotReady, State, Established, TimerRecovery, LinkTimer, ControlFrame, Terms, Link, Arrived, information_of, eligible_of, Course, begun, Step, ◌then◌, by_bit, Leads, keeping_then, nothing_leads, depending_leads, delivered-at_once, receipt, HasReceipt, Owes, IsBegunAgain}
 use Rattle.lapd_frame.specs.declared.notes.ErrorCode.TheVariants as code
 use Rattle.model_link.specs.Events
 use Rattle.model_link.specs.Words
@@ -65,36 +65,19 @@ module _ (t : Terms) (l : Link) where
 
   i-frame : (here : State) (command : Bool) (ns nr : Seq) (p : Bool) (octets : List ℕ)
       → Final t l.waiting (Machine.frame_in here t command octets (Information ns nr p) (begun l))
-  i-frame TeiAssigned command ns nr p octets = inl (inl refl)
-  i-frame AwaitingEstablishment command ns nr p octets = inl (inl refl)
-  i-frame AwaitingRelease command ns nr p octets = inl (inl refl)
   i-frame Established command ns nr p octets = information ns nr p octets Established.acknowledged_by_information_in_7 (in_7_owes l.waiting) (nat_lt t.n201 (length octets))
   i-frame TimerRecovery command ns nr p octets = information ns nr p octets Words.acknowledge (acknowledge_owes l.waiting) (nat_lt t.n201 (length octets))
+  i-frame other command ns nr p octets = inl (inl refl)
 
   -- only an I-frame is eligible
   frames : (command : Bool) (octets : List ℕ) (control : Control) (i : Arrived) → eligible_of t l (information_of control octets) ≡ Some i
       → Final t l.waiting (Machine.frame_step t command octets control (begun l))
   frames command octets (Information ns nr p) i e = i-frame l.state command ns nr p octets
-  frames command octets (ReceiveReady nr pf) i e = absurd (cc)
-  frames command octets (ReceiveNotReady nr pf) i e = absurd (cc)
-  frames command octets (Reject nr pf) i e = absurd (cc)
-  frames command octets (Sabme p) i e = absurd (cc)
-  frames command octets (Disc p) i e = absurd (cc)
-  frames command octets (Ui p) i e = absurd (cc)
-  frames command octets (Ua f) i e = absurd (cc)
-  frames command octets (Dm f) i e = absurd (cc)
-  frames command octets (Frmr f) i e = absurd (cc)
-  frames command octets (Xid pf) i e = absurd (cc)
+  frames command octets other i e = absurd (cc)
 
   event-final : (e : Events.Event) (i : Arrived) → Rattle.model_link.specs.Deliveries.eligible t e l ≡ Some i → Final t l.waiting (Machine.course t e l)
   event-final (Events.received (Events.frame f)) i e = frames f.address.command f.info f.control i e
-  event-final (Events.received Events.undefined) i e = absurd (cc)
-  event-final (Events.received Events.wrong_size) i e = absurd (cc)
-  event-final (Events.received Events.overlong) i e = absurd (cc)
-  event-final (Events.expired timer) i e = absurd (cc)
-  event-final (Events.requested request full) i e = absurd (cc)
-  event-final Events.offer i e = absurd (cc)
-  event-final Events.cleared i e = absurd (cc)
+  event-final other i e = absurd (cc)
 
   delivering : (c : Course) (octets : List ℕ) → c.delivered ≡ Some octets → Final t l.waiting c → Owes l.waiting c.link c.lost ⊎ IsBegunAgain t c.link c.notes
   delivering c octets d (inr x) = inr x

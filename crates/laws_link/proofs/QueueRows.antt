@@ -13,16 +13,7 @@ use Rattle.laws_link.proofs.Moves.{Moves, Stays, stays, number_moves}
 -- whether a frame is a UI
 abbrev pub is_ui : Control → Bool
 is_ui (Ui p) = true
-is_ui (Information ns nr p) = false
-is_ui (ReceiveReady nr pf) = false
-is_ui (ReceiveNotReady nr pf) = false
-is_ui (Reject nr pf) = false
-is_ui (Sabme p) = false
-is_ui (Disc p) = false
-is_ui (Ua f) = false
-is_ui (Dm f) = false
-is_ui (Frmr f) = false
-is_ui (Xid pf) = false
+is_ui other = false
 
 -- how many contents an N(R) acknowledges, if it is there, where the link is in state 7 or 8
 abbrev pub count : ℕ → ℕ → Option Seq → ℕ

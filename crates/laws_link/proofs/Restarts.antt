@@ -66,11 +66,9 @@ module _ (t : Terms) (l : Link) where
 
   by-sabme : (here : State) (b p : Bool) (octets : List ℕ) → (Machine.frame_in here t b octets (Sabme p) (begun l)).zeroed ≡ true
       → IsEstablished (Sabme p) (Machine.frame_in here t b octets (Sabme p) (begun l)).link
-  by-sabme TeiAssigned b p octets e = record { by = tt; state = refl; a = refl; s = refl; r = refl }
   by-sabme AwaitingEstablishment b p octets e = absurd (true≢false (sym e))
   by-sabme AwaitingRelease b p octets e = absurd (true≢false (sym e))
-  by-sabme Established b p octets e = record { by = tt; state = refl; a = refl; s = refl; r = refl }
-  by-sabme TimerRecovery b p octets e = record { by = tt; state = refl; a = refl; s = refl; r = refl }
+  by-sabme other b p octets e = record { by = tt; state = refl; a = refl; s = refl; r = refl }
 
   by-ua : (here : State) (b f : Bool) (octets : List ℕ) → (Machine.frame_in here t b octets (Ua f) (begun l)).zeroed ≡ true
       → IsEstablished (Ua f) (Machine.frame_in here t b octets (Ua f) (begun l)).link

@@ -1,5 +1,5 @@
 -- What frames leave of a link in states 4, 5 and 6.
-use Rattle.laws_link.proofs.Vocabulary.{◌≡◌, Bool, true, false, cond, length, refl, ◌==◌, not, [], ◌∷◌, List, ℕ, nat_lt, Control, Information, ReceiveReady, ReceiveNotReady, Reject, Sabme, Disc, Ui, Ua, Dm, Frmr, Xid, Parts, TeiAssigned, AwaitingEstablishment, AwaitingRelease, Established, T203, Terms, Link, begun, ◌then◌, state_after}
+use Rattle.laws_link.proofs.Vocabulary.{◌≡◌, Bool, true, false, cond, length, refl, ◌==◌, not, [], ◌∷◌, nat_lt, Control, Information, Ui, Ua, Dm, Parts, TeiAssigned, AwaitingEstablishment, AwaitingRelease, Established, T203, Terms, Link, begun, ◌then◌, state_after}
 use Rattle.lapd_frame.specs.declared.notes.Note.TheVariants as said
 use Rattle.model_link.specs.Events
 use Rattle.model_link.specs.Words
@@ -8,28 +8,18 @@ use Rattle.laws_link.proofs.Columns.{left, due, at, hears, Row, unit-left}
 module _ (t : Terms) where
   -- State 4.
   pub in-4 : (l : Link) (f : Parts) (b : Bool) (control : Control) → Row t (hears f b control) (at TeiAssigned l)
-  in-4 l f b (Sabme p) = refl
-  in-4 l f b (Disc p) = refl
   in-4 l f b (Ua true) = refl
-  in-4 l f b (Ua false) = refl
   in-4 l f b (Ui p) = unit-left t f.info (at TeiAssigned l)
-  in-4 l f b (Xid pf) = refl
   in-4 l f b (Information ns nr p) = go (nat_lt t.n201 (length f.info))
     where
       go : (over : Bool) → let e = Events.received (cond over Events.overlong (Events.frame (record f { address = record f.address { command = b }; control = Information ns nr p }))) in
           left (Words.leave_unserved (begun (at TeiAssigned l))) ≡ due t e (at TeiAssigned l) (state_after t e (at TeiAssigned l))
       go true = refl
       go false = refl
-  in-4 l f b (ReceiveReady nr pf) = refl
-  in-4 l f b (ReceiveNotReady nr pf) = refl
-  in-4 l f b (Reject nr pf) = refl
-  in-4 l f b (Dm p) = refl
-  in-4 l f b (Frmr p) = refl
+  in-4 l f b other = refl
 
   -- State 5.
   pub in-5 : (l : Link) (f : Parts) (b : Bool) (control : Control) → Row t (hears f b control) (at AwaitingEstablishment l)
-  in-5 l f b (Sabme p) = refl
-  in-5 l f b (Disc p) = refl
   in-5 l f b (Ua true) = go l.asked (l.s == l.a)
     where
       go : (asked same : Bool) → let c = begun (at AwaitingEstablishment l) in
@@ -41,39 +31,25 @@ module _ (t : Terms) where
       go true same = refl
       go false true = refl
       go false false = refl
-  in-5 l f b (Ua false) = refl
   in-5 l f b (Ui p) = unit-left t f.info (at AwaitingEstablishment l)
-  in-5 l f b (Xid pf) = refl
   in-5 l f b (Information ns nr p) = go (nat_lt t.n201 (length f.info))
     where
       go : (over : Bool) → let e = Events.received (cond over Events.overlong (Events.frame (record f { address = record f.address { command = b }; control = Information ns nr p }))) in
           left (Words.leave_unserved (begun (at AwaitingEstablishment l))) ≡ due t e (at AwaitingEstablishment l) (state_after t e (at AwaitingEstablishment l))
       go true = refl
       go false = refl
-  in-5 l f b (ReceiveReady nr pf) = refl
-  in-5 l f b (ReceiveNotReady nr pf) = refl
-  in-5 l f b (Reject nr pf) = refl
   in-5 l f b (Dm true) = refl
-  in-5 l f b (Dm false) = refl
-  in-5 l f b (Frmr p) = refl
+  in-5 l f b other = refl
 
   -- State 6.
   pub in-6 : (l : Link) (f : Parts) (b : Bool) (control : Control) → Row t (hears f b control) (at AwaitingRelease l)
-  in-6 l f b (Sabme p) = refl
-  in-6 l f b (Disc p) = refl
   in-6 l f b (Ua true) = refl
-  in-6 l f b (Ua false) = refl
   in-6 l f b (Ui p) = unit-left t f.info (at AwaitingRelease l)
-  in-6 l f b (Xid pf) = refl
   in-6 l f b (Information ns nr p) = go (nat_lt t.n201 (length f.info))
     where
       go : (over : Bool) → let e = Events.received (cond over Events.overlong (Events.frame (record f { address = record f.address { command = b }; control = Information ns nr p }))) in
           left (Words.leave_unserved (begun (at AwaitingRelease l))) ≡ due t e (at AwaitingRelease l) (state_after t e (at AwaitingRelease l))
       go true = refl
       go false = refl
-  in-6 l f b (ReceiveReady nr pf) = refl
-  in-6 l f b (ReceiveNotReady nr pf) = refl
-  in-6 l f b (Reject nr pf) = refl
   in-6 l f b (Dm true) = refl
-  in-6 l f b (Dm false) = refl
-  in-6 l f b (Frmr p) = refl
+  in-6 l f b other = refl

@@ -1,5 +1,5 @@
 -- What frames leave of a link in state 8.
-use Rattle.laws_link.proofs.Vocabulary.{◌≡◌, ℕ, Bool, true, false, cond, not, List, length, is_some, refl, ◌==◌, [], ◌∷◌, nat_lt, Seq, named, Control, Information, ReceiveReady, ReceiveNotReady, Reject, Sabme, Disc, Ui, Ua, Dm, Frmr, Xid, Parts, AwaitingEstablishment, Established, TimerRecovery, T200, T203, Terms, Link, Course, begun, ◌then◌, state_after, is_next, is_taken, to_information}
+use Rattle.laws_link.proofs.Vocabulary.{◌≡◌, ℕ, Bool, true, false, cond, not, List, length, is_some, refl, ◌==◌, [], ◌∷◌, nat_lt, Seq, named, Control, Information, ReceiveReady, ReceiveNotReady, Reject, Sabme, Ui, Ua, Dm, Parts, AwaitingEstablishment, Established, TimerRecovery, T200, T203, Terms, Link, Course, begun, ◌then◌, state_after, is_next, is_taken, to_information}
 use Rattle.lapd_frame.specs.declared.notes.ErrorCode.TheVariants as code
 use Rattle.lapd_frame.specs.declared.notes.Note.TheVariants as said
 use Rattle.model_link.specs.Events
@@ -105,11 +105,8 @@ module _ (t : Terms) where
           ≡ record (due t (hears f b (Sabme p)) (at TimerRecovery l) Established) { notes = said.Error t.service t.tei code.F ∷ cond same [] (said.EstablishIndication t.service t.tei ∷ []) }
       go true = refl
       go false = refl
-  in-8 l f b (Disc p) = refl
   in-8 l f b (Ua true) = refl
-  in-8 l f b (Ua false) = refl
   in-8 l f b (Ui p) = unit-left t f.info (at TimerRecovery l)
-  in-8 l f b (Xid pf) = refl
   in-8 l f b (Information ns nr p) = go (nat_lt t.n201 (length f.info))
     where
       go : (over : Bool) → let e = Events.received (cond over Events.overlong (Events.frame (record f { address = record f.address { command = b }; control = Information ns nr p }))) in
@@ -121,5 +118,4 @@ module _ (t : Terms) where
   in-8 l f b (ReceiveNotReady nr pf) = not-ready-8 l f b pf nr
   in-8 l f b (Reject nr pf) = reject-8 l f b pf nr
   in-8 l f b (Dm true) = refl
-  in-8 l f b (Dm false) = refl
-  in-8 l f b (Frmr p) = refl
+  in-8 l f b other = refl

@@ -1,5 +1,5 @@
 -- What frames leave of a link in state 7.
-use Rattle.laws_link.proofs.Vocabulary.{◌≡◌, ℕ, Bool, true, false, cond, not, List, length, is_some, refl, ◌==◌, [], ◌∷◌, nat_lt, Seq, named, Control, Information, ReceiveReady, ReceiveNotReady, Reject, Sabme, Disc, Ui, Ua, Dm, Frmr, Xid, Parts, AwaitingEstablishment, Established, T203, Terms, Link, Course, begun, ◌then◌, state_after, is_next, is_taken, to_information}
+use Rattle.laws_link.proofs.Vocabulary.{◌≡◌, ℕ, Bool, true, false, cond, not, List, length, is_some, refl, ◌==◌, [], ◌∷◌, nat_lt, Seq, named, Control, Information, ReceiveReady, ReceiveNotReady, Reject, Sabme, Ui, Ua, Dm, Parts, AwaitingEstablishment, Established, T203, Terms, Link, Course, begun, ◌then◌, state_after, is_next, is_taken, to_information}
 use Rattle.lapd_frame.specs.declared.notes.ErrorCode.TheVariants as code
 use Rattle.lapd_frame.specs.declared.notes.Note.TheVariants as said
 use Rattle.model_link.specs.Events
@@ -113,11 +113,8 @@ module _ (t : Terms) where
           ≡ record (due t (hears f b (Sabme p)) (at Established l) Established) { notes = said.Error t.service t.tei code.F ∷ cond same [] (said.EstablishIndication t.service t.tei ∷ []) }
       go true = refl
       go false = refl
-  in-7 l f b (Disc p) = refl
   in-7 l f b (Ua true) = refl
-  in-7 l f b (Ua false) = refl
   in-7 l f b (Ui p) = unit-left t f.info (at Established l)
-  in-7 l f b (Xid pf) = refl
   in-7 l f b (Information ns nr p) = go (nat_lt t.n201 (length f.info))
     where
       go : (over : Bool) → let e = Events.received (cond over Events.overlong (Events.frame (record f { address = record f.address { command = b }; control = Information ns nr p }))) in
@@ -129,5 +126,4 @@ module _ (t : Terms) where
   in-7 l f b (ReceiveNotReady nr pf) = not-ready-7 l f b pf nr
   in-7 l f b (Reject nr pf) = reject-7 l f b pf nr
   in-7 l f b (Dm true) = refl
-  in-7 l f b (Dm false) = refl
-  in-7 l f b (Frmr p) = refl
+  in-7 l f b other = refl

@@ -1,5 +1,5 @@
 -- What each event changes of V(S) and of own busy, and which events tell a loss.
-use Rattle.laws_link.proofs.Vocabulary.{◌≡◌, ℕ, ◌+◌, Bool, true, false, not, cond, ◌&&◌, ◌||◌, List, [], ◌∷◌, Option, None, Some, is_some, refl, ap, sym, ◌∙◌, subst, true≢false, ◌⊎◌, inl, inr, ⊎_elim, nat_lt, list_any, Seq, named, Control, Information, ReceiveReady, ReceiveNotReady, Reject, Sabme, Disc, Ui, Ua, Dm, Frmr, Xid, ErrorCode, Refusal, WrongState, Parts, State, TeiAssigned, AwaitingEstablishment, AwaitingRelease, Established, TimerRecovery, LinkTimer, T200, T203, ControlFrame, Terms, Link, has_outstanding, Course, begun, Step, ◌then◌, changed, restarts, Leads, is_release, tells_loss, empties, asked_from, reported, AsksFrom, MovesSent, is_anew, tells_anew, BeginsBusy, EndsBusy, MovesBusy, MayEndBy, MayLose}
+use Rattle.laws_link.proofs.Vocabulary.{◌≡◌, ℕ, ◌+◌, Bool, true, false, cond, ◌||◌, List, [], ◌∷◌, Option, None, Some, is_some, refl, ap, sym, ◌∙◌, subst, true≢false, ◌⊎◌, inl, inr, ⊎_elim, nat_lt, Seq, named, Control, Information, ReceiveReady, ReceiveNotReady, Reject, Sabme, Disc, Ui, Ua, Dm, Frmr, Xid, ErrorCode, Refusal, Parts, State, TeiAssigned, AwaitingEstablishment, AwaitingRelease, Established, TimerRecovery, LinkTimer, T200, T203, ControlFrame, Terms, Link, has_outstanding, Course, begun, Step, ◌then◌, changed, Leads, is_release, tells_loss, empties, asked_from, AsksFrom, MovesSent, is_anew, MovesBusy, MayEndBy, MayLose}
 use Rattle.lapd_frame.specs.declared.notes.ErrorCode.TheVariants as code
 use Rattle.model_link.specs.Events
 use Rattle.model_link.specs.Words
@@ -186,11 +186,8 @@ module _ (Asks : ℕ → Type 0) (t : Terms) (l : Link) where
       either Asks _ t l (nat_lt l.repeats t.n200) _ _ (still Asks _ t l (Words.enquire t then Words.repeated then Words.start T200) again) (fails Asks _ t l code.I refl)
 
   pub t203 : (here : State) → Row Asks ⊥ l (Machine.expired_in here T203 t (begun l))
-  t203 TeiAssigned = ordinary Asks ⊥ t l (begun l) (begins l)
-  t203 AwaitingEstablishment = ordinary Asks ⊥ t l (begun l) (begins l)
-  t203 AwaitingRelease = ordinary Asks ⊥ t l (begun l) (begins l)
   t203 Established = still Asks ⊥ t l (seven.timer_in_7 t) (search words)
-  t203 TimerRecovery = ordinary Asks ⊥ t l (begun l) (begins l)
+  t203 other = ordinary Asks ⊥ t l (begun l) (begins l)
 
 -- Any event.
 pub record Steady (t : Terms) (e : Events.Event) (l : Link) : Type 0 where
@@ -262,11 +259,9 @@ module _ (t : Terms) (l : Link) where
   one-of request full false u v x y = y
 
   released : (full : Bool) (here : State) → Asked Events.Release full false (Requests.release_in here t (begun l))
-  released full TeiAssigned = record { sent = inl refl; busy = inl refl; loss = λ some. tt }
-  released full AwaitingEstablishment = record { sent = inl refl; busy = inl refl; loss = λ some. tt }
-  released full AwaitingRelease = record { sent = inl refl; busy = inl refl; loss = λ some. tt }
   released full Established = record { sent = inr (refl, refl); busy = inl refl; loss = λ some. tt }
   released full TimerRecovery = record { sent = inr (refl, refl); busy = inl refl; loss = λ some. tt }
+  released full other = record { sent = inl refl; busy = inl refl; loss = λ some. tt }
 
   granted : (request : Events.Request) (full : Bool) → Asked request full false (Requests.granted t request (begun l))
   granted Events.Establish full = record { sent = inl refl; busy = inr (inr (refl, inl tt)); loss = λ some. absurd (true≢false (sym some)) }

@@ -1,5 +1,5 @@
 -- A link that awaits something has its timer: the rows by state, and every event.
-use Rattle.laws_link.proofs.Vocabulary.{◌≡◌, ℕ, ◌+◌, Bool, true, false, cond, ◌&&◌, List, [], ◌∷◌, Option, Some, None, inl, inr, refl, sym, subst, true≢false, Control, Information, ReceiveReady, ReceiveNotReady, Reject, Sabme, Disc, Ui, Ua, Dm, Frmr, Xid, ErrorCode, Refusal, State, TeiAssigned, AwaitingEstablishment, AwaitingRelease, Established, TimerRecovery, LinkTimer, T200, T203, ControlFrame, Terms, Link, fresh, runs, Course, begun, changed, frame_in_4, establish_in_4, frame_in_5, frame_in_6, Leads, IsTimed, IsTimedIn}
+use Rattle.laws_link.proofs.Vocabulary.{◌≡◌, ℕ, ◌+◌, Bool, true, false, cond, ◌&&◌, List, [], ◌∷◌, Option, Some, None, inl, inr, refl, sym, subst, true≢false, Control, Information, ReceiveReady, ReceiveNotReady, Reject, Sabme, Disc, Ua, Dm, Frmr, ErrorCode, Refusal, State, TeiAssigned, AwaitingEstablishment, AwaitingRelease, Established, TimerRecovery, LinkTimer, T200, T203, ControlFrame, Terms, Link, fresh, runs, Course, begun, changed, frame_in_4, establish_in_4, frame_in_5, frame_in_6, Leads, IsTimed, IsTimedIn}
 use Rattle.lapd_frame.specs.declared.notes.ErrorCode.TheVariants as code
 use Rattle.model_link.specs.Events
 use Rattle.model_link.specs.Words
@@ -46,12 +46,9 @@ module _ (t : Terms) where
   frames_in_7 b octets (Reject nr pf) = supervisory_7 t b false pf nr _ send_again_7
   frames_in_7 b octets (Sabme p) = sabme_timed Established p
   frames_in_7 b octets (Disc p) = disc_timed Established p
-  frames_in_7 b octets (Ua f) = search ends depth 12 fits 4000
-  frames_in_7 b octets (Dm true) = search ends depth 12 fits 4000
   frames_in_7 b octets (Dm false) = failed_timed t code.E
   frames_in_7 b octets (Frmr f) = failed_timed t code.K
-  frames_in_7 b octets (Ui p) = search ends depth 12 fits 4000
-  frames_in_7 b octets (Xid pf) = search ends depth 12 fits 4000
+  frames_in_7 b octets other = search ends depth 12 fits 4000
 
   frames_in_8 : (b : Bool) (octets : List ℕ) (control : Control) → Leads (At TimerRecovery) (TimerRecovery.frame_in_8 t b octets control) Ends
   frames_in_8 b octets (Information ns nr p) = information_timed TimerRecovery t ns nr p octets _ (λ m. to_named (acknowledge_8 m))
@@ -60,12 +57,10 @@ module _ (t : Terms) where
   frames_in_8 b octets (Reject nr pf) = supervisory_8 t b false pf nr T203
   frames_in_8 b octets (Sabme p) = sabme_timed TimerRecovery p
   frames_in_8 b octets (Disc p) = disc_timed TimerRecovery p
-  frames_in_8 b octets (Ua f) = search ends depth 12 fits 4000
   frames_in_8 b octets (Dm true) = failed_timed t code.B
   frames_in_8 b octets (Dm false) = failed_timed t code.E
   frames_in_8 b octets (Frmr f) = failed_timed t code.K
-  frames_in_8 b octets (Ui p) = search ends depth 12 fits 4000
-  frames_in_8 b octets (Xid pf) = search ends depth 12 fits 4000
+  frames_in_8 b octets other = search ends depth 12 fits 4000
 
   expired_timed : (here : State) (timer : LinkTimer) → Leads (At here) (Machine.expired_in here timer t) Ends
   expired_timed TeiAssigned timer = search ends depth 12 fits 4000
@@ -78,18 +73,13 @@ module _ (t : Terms) where
   expired_timed TimerRecovery T203 = search ends depth 12 fits 4000
 
   malformed_timed : (here : State) (e : ErrorCode) → Leads (At here) (Machine.malformed_in here t e) Ends
-  malformed_timed TeiAssigned e = search ends depth 12 fits 4000
-  malformed_timed AwaitingEstablishment e = search ends depth 12 fits 4000
-  malformed_timed AwaitingRelease e = search ends depth 12 fits 4000
   malformed_timed Established e = failed_timed t e
   malformed_timed TimerRecovery e = failed_timed t e
+  malformed_timed other e = search ends depth 12 fits 4000
 
   release_timed : (here : State) → Leads (At here) (Requests.release_in here t) Ends
   release_timed TeiAssigned = search ends depth 12 fits 4000
-  release_timed AwaitingEstablishment = search ends depth 12 fits 4000
-  release_timed AwaitingRelease = search ends depth 12 fits 4000
-  release_timed Established = search ends depth 12 fits 4000
-  release_timed TimerRecovery = search ends depth 12 fits 4000
+  release_timed other = search ends depth 12 fits 4000
 
   establish_timed : {here : State} → Leads (At here) (establish_in_4 t) Ends
   establish_timed {here} = search ends depth 12 fits 4000
@@ -110,17 +100,11 @@ module _ (t : Terms) where
 -- as the law says it, and back
 of-law : (here : State) (l : Link) → IsTimedIn here l → TimedBy here l.running l.a l.s
 of-law TeiAssigned l h = h
-of-law AwaitingEstablishment l h = h
-of-law AwaitingRelease l h = h
-of-law Established l h = h
-of-law TimerRecovery l h = h
+of-law other l h = h
 
 to-law : (here : State) (l : Link) → TimedBy here l.running l.a l.s → IsTimedIn here l
 to-law TeiAssigned l h = h
-to-law AwaitingEstablishment l h = h
-to-law AwaitingRelease l h = h
-to-law Established l h = h
-to-law TimerRecovery l h = h
+to-law other l h = h
 
 module _ (t : Terms) (l : Link) (timed : IsTimed l) where
   here : At l.state (begun l)
@@ -163,11 +147,8 @@ goes l at h true e = record { timer = rw at (goes_on l.running l.a l.s true e h)
 goes l at h false e = record { timer = rw at (goes_on l.running l.a l.s false e h) }
 
 established : (here : State) (x y z : Bool) → (Offers.is_established here && x && y && z) ≡ true → here ≡ Established
-established TeiAssigned x y z e = absurd (true≢false (sym e))
-established AwaitingEstablishment x y z e = absurd (true≢false (sym e))
-established AwaitingRelease x y z e = absurd (true≢false (sym e))
 established Established x y z e = refl
-established TimerRecovery x y z e = absurd (true≢false (sym e))
+established other x y z e = absurd (true≢false (sym e))
 
 either : (b : Bool) (u v : Course) → (b ≡ true → Ends u) → (b ≡ false → Ends v) → Ends (cond b u v)
 either true u v x y = x refl

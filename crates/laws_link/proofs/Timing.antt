@@ -10,10 +10,8 @@ use Rattle.model_link.specs.Offers
 -- the same as `IsTimedIn`, of what it speaks of
 abbrev pub TimedBy : State → Option LinkTimer → ℕ → ℕ → Type 0
 TimedBy TeiAssigned running a s = running ≡ None
-TimedBy AwaitingEstablishment running a s = running ≡ Some T200
-TimedBy AwaitingRelease running a s = running ≡ Some T200
 TimedBy Established running a s = (running ≡ Some T200) ⊎ ((running ≡ Some T203) × (s ≤ a))
-TimedBy TimerRecovery running a s = running ≡ Some T200
+TimedBy other running a s = running ≡ Some T200
 
 -- in this state, and timed
 pub record In (here state : State) (running : Option LinkTimer) (a s : ℕ) : Type 0 where

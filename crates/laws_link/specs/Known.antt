@@ -1,5 +1,5 @@
 -- What layer 3 knows of a link by its notes.
-use Rattle.std.specs.Prelude.{◌≡◌, Bool, true, false, not, List, fold}
+use Rattle.std.specs.Prelude.{Bool, true, false, not, List, fold}
 use Rattle.lapd_frame.specs.declared.notes.Note.{Note}
 use Rattle.lapd_frame.specs.declared.notes.Note.TheVariants.{EstablishIndication, EstablishConfirm, ReleaseIndication, ReleaseConfirm}
 use Rattle.model_link.specs.declared.states.State.{State}

@@ -12,7 +12,7 @@ use Rattle.lapd_frame.specs.declared.notes.ErrorCode.TheVariants as code
 use Rattle.model_link.specs.declared.terms.Terms.{Terms}
 use Rattle.model_link.specs.declared.timers.LinkTimer.TheVariants.{T200}
 use Rattle.model_link.specs.Link.{Link}
-use Rattle.model_link.specs.Events.{frame, Request, Establish, Release, SetBusy, ClearBusy, Event, received, expired, requested, offer, cleared}
+use Rattle.model_link.specs.Events.{frame, Establish, Release, SetBusy, ClearBusy, Event, received, expired, requested, offer, cleared}
 use Rattle.model_link.specs.Deliveries.{restarts}
 use Rattle.laws_link.specs.Accepted.{empties}
 use Rattle.laws_link.specs.Sending.{asked_from}

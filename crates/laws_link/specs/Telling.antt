@@ -10,7 +10,7 @@ use Rattle.model_link.specs.declared.states.State.{State}
 use Rattle.model_link.specs.declared.states.State.TheVariants.{TeiAssigned, AwaitingEstablishment, AwaitingRelease, Established, TimerRecovery}
 use Rattle.model_link.specs.declared.terms.Terms.{Terms}
 use Rattle.model_link.specs.Link.{Link, state_number}
-use Rattle.model_link.specs.Events.{Received, frame, undefined, wrong_size, overlong, Request, Establish, Release, Data, SetBusy, ClearBusy, Event, received, expired, requested, offer, cleared}
+use Rattle.model_link.specs.Events.{Received, frame, undefined, wrong_size, overlong, Request, Release, Event, received, expired, requested, offer, cleared}
 use Rattle.laws_link.specs.Flags.{takes_contents}
 
 abbrev pub error : Terms → ErrorCode → List Note

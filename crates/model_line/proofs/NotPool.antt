@@ -1,5 +1,5 @@
 -- A line by itself never finds the pool full: the pool is the card's.
-use Rattle.model_line.proofs.Vocabulary.{◌≡◌, ℕ, Bool, true, false, ◌&&◌, List, [], ◌∷◌, Option, Some, None, refl, list_any, ◌||◌, cond, Refusal, Config, Event, hears, expiry, request, next, is_pool, is_pool_full, Line, answer, unless_refused_told, of_request, Effect, Row, first_that_holds, refusal, Request, Data, Unit}
+use Rattle.model_line.proofs.Vocabulary.{◌≡◌, ℕ, Bool, true, false, ◌&&◌, List, [], ◌∷◌, Option, Some, None, refl, list_any, ◌||◌, cond, Refusal, Config, Event, request, is_pool, is_pool_full, Line, answer, unless_refused_told, of_request, Effect, Row, first_that_holds, refusal, Request, Data, Unit}
 use Rattle.model_line.specs.Refusal.{rows}
 
 -- The refusal is for another reason.
@@ -32,7 +32,5 @@ not_pool (Some why) outcome h = h
 
 pub line_not_pool : (c : Config) (e : Event) (l : Line) → is_pool_full (answer c e l) ≡ false
 unfolding answer
-line_not_pool c (hears e) l = refl
-line_not_pool c (expiry timer) l = refl
 line_not_pool c (request r) l = not_pool (refusal c false r l) (of_request c r l) (others (rows c false r l) (refused_otherwise c r l))
-line_not_pool c next l = refl
+line_not_pool c other l = refl

@@ -15,11 +15,9 @@ WhereServed c P (at_units unit) = P (at_units unit)
 WhereServed c P at_no_link = P at_no_link
 
 pub everywhere : (c : Config) (P : Aim → Type 0) (aim : Aim) → P aim → WhereServed c P aim
-everywhere c P (at_none told) p = p
-everywhere c P (at_link service tei place event) p = p
 everywhere c P (at_management event) p = λ network. p
-everywhere c P (at_units unit) p = p
 everywhere c P at_no_link p = p
+everywhere c P other p = p
 
 -- So it holds of what a frame is on the side of the card, if it holds of what is not served and of the group's unit data.
 module _ (c : Config) (parts : Parts) (P : Aim → Type 0) (unserved : P (at_none (dropped Unserved)))

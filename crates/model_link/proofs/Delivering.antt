@@ -1,6 +1,6 @@
 -- Every event delivers the contents of the next eligible I-frame, if it brings it, and counts them; or the numbers
 -- begin anew.
-use Rattle.model_link.proofs.Vocabulary.{◌≡◌, ℕ, ◌+◌, ◌%◌, ◌<◌, ◌≤◌, Bool, true, false, cond, not, ◌&&◌, ◌==◌, List, length, Option, Some, None, is_some, refl, sym, ap, subst, inl, arith, nat_lt, nat_le, ltb-true, ltb-false, leb-true, leb-false, false_from_ne_true, true_from_ne_false, Seq, seq, Control, Information, Ua, State, TeiAssigned, AwaitingEstablishment, AwaitingRelease, Established, TimerRecovery, Terms, Link, is_multiple_frame, Arrived, information_of, eligible_of, eligible, Course, begun, Step}
+use Rattle.model_link.proofs.Vocabulary.{◌≡◌, ℕ, ◌+◌, ◌%◌, ◌<◌, ◌≤◌, Bool, true, false, cond, not, ◌&&◌, ◌==◌, List, length, Option, Some, None, is_some, refl, sym, ap, subst, inl, arith, nat_lt, nat_le, ltb-true, ltb-false, leb-true, leb-false, false_from_ne_true, true_from_ne_false, Seq, seq, Control, Information, Ua, State, Established, TimerRecovery, Terms, Link, is_multiple_frame, Arrived, information_of, eligible_of, eligible, Course, begun, Step}
 use Rattle.model_link.specs.Events
 use Rattle.model_link.specs.Words
 use Rattle.model_link.specs.MultipleFrame
@@ -93,12 +93,10 @@ module _ (t : Terms) (l : Link) where
   information-in : (here : State) → l.state ≡ here → (b : Bool) (octets : List ℕ) (ns nr : Seq) (p : Bool)
       → In (information_of (Information ns nr p) octets) (Machine.frame_in here t b octets (Information ns nr p) (begun l))
   unfolding In
-  information-in TeiAssigned e b octets ns nr p = unserved (information_of (Information ns nr p) octets) (ap is_multiple_frame e)
-  information-in AwaitingEstablishment e b octets ns nr p = unserved (information_of (Information ns nr p) octets) (ap is_multiple_frame e)
-  information-in AwaitingRelease e b octets ns nr p = unserved (information_of (Information ns nr p) octets) (ap is_multiple_frame e)
   information-in Established e b octets ns nr p =
       numbered-frame ns nr p octets Established.acknowledged_by_information_in_7 (λ Q m. search (depending_leads)) (ap is_multiple_frame e)
   information-in TimerRecovery e b octets ns nr p = numbered-frame ns nr p octets Words.acknowledge (λ Q m. record { leads = λ c h. h }) (ap is_multiple_frame e)
+  information-in other e b octets ns nr p = unserved (information_of (Information ns nr p) octets) (ap is_multiple_frame e)
 
   frames : (here : State) → l.state ≡ here → (b : Bool) (octets : List ℕ) (control : Control) → In (information_of control octets) (Machine.frame_in here t b octets control (begun l))
   unfolding In

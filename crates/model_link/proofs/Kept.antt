@@ -85,10 +85,4 @@ any_control other = tt
 
 pub any_event : (e : Events.Event) → FitsEvent (Unit {0}) (Unit {0}) (Unit {0}) e
 any_event (Events.received (Events.frame f)) = any_control f.control
-any_event (Events.received Events.undefined) = tt
-any_event (Events.received Events.wrong_size) = tt
-any_event (Events.received Events.overlong) = tt
-any_event (Events.expired timer) = tt
-any_event (Events.requested request full) = tt
-any_event Events.offer = tt
-any_event Events.cleared = tt
+any_event other = tt

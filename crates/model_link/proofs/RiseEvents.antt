@@ -1,5 +1,5 @@
 -- No event raises what is sent and still owed by more than its price.
-use Rattle.model_link.proofs.Vocabulary.{◌≡◌, ℕ, ◌+◌, ◌-◌, ◌*◌, ◌<◌, ◌≤◌, Bool, true, false, cond, not, ◌&&◌, List, [], ◌∷◌, length, Option, Some, None, is_some, refl, ap, ◌∙◌, arith, nat_lt, ltb-true, and_parts, and_from, Seq, named, Control, ErrorCode, Refusal, State, TeiAssigned, AwaitingEstablishment, AwaitingRelease, Established, TimerRecovery, LinkTimer, ControlFrame, Terms, Link, is_multiple_frame, may_send, sent, reject_number, is_valid_reject, price, sent_in_all, price_of_all, IsInRange, IsSound, Course, begun}
+use Rattle.model_link.proofs.Vocabulary.{◌≡◌, ℕ, ◌+◌, ◌-◌, ◌*◌, ◌<◌, ◌≤◌, Bool, true, false, cond, not, ◌&&◌, List, [], ◌∷◌, length, Option, Some, None, is_some, refl, ap, ◌∙◌, arith, nat_lt, ltb-true, and_parts, and_from, Seq, named, Control, ErrorCode, Refusal, State, TeiAssigned, LinkTimer, ControlFrame, Terms, Link, is_multiple_frame, may_send, sent, reject_number, is_valid_reject, price, sent_in_all, price_of_all, IsInRange, IsSound, Course, begun}
 use Rattle.lapd_frame.specs.declared.notes.ErrorCode.TheVariants as code
 use Rattle.model_link.specs.Events
 use Rattle.model_link.specs.Words
@@ -64,10 +64,7 @@ module _ (t : Terms) (r : IsInRange t) (l : Link) (h : IsSound t l) where
   -- the TEI leaves the line
   cleared-costs : (here : State) → owed t (Words.begin_anew (Machine.told_of_clearing here t (begun l))) ≤ may_send t l
   cleared-costs TeiAssigned = omega arith
-  cleared-costs AwaitingEstablishment = omega arith
-  cleared-costs AwaitingRelease = omega arith
-  cleared-costs Established = omega arith
-  cleared-costs TimerRecovery = omega arith
+  cleared-costs other = omega arith
 
   -- Offers: the frame that goes was owed, and at most one more owed with it.
   Pays : Course → Type 0

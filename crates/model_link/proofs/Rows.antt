@@ -21,18 +21,14 @@ served false o w e = absurd (cc)
 
 down-rests : (state : State) → Requests.is_down state ≡ true → is_at_rest state ≡ true
 down-rests TeiAssigned e = refl
-down-rests AwaitingEstablishment e = e
 down-rests AwaitingRelease e = refl
-down-rests Established e = e
-down-rests TimerRecovery e = e
+down-rests other e = e
 
 module _ {t : Terms} {Units Anew Taken Window Queued Offered : Type 0} {In : State → State → Type 0} {S : Course → Type 0} {P : Purse → Purse → Course → Type 0} {E : Course → Type 0} (k : Careful t Units Anew Taken Window Queued Offered In S P E) where
   pub malformed_by : {X : Claim} (here : State) (e : ErrorCode) → Leads (At X S) (Machine.malformed_in here t e) E
-  malformed_by TeiAssigned e = unserved k
-  malformed_by AwaitingEstablishment e = unserved k
-  malformed_by AwaitingRelease e = unserved k
   malformed_by Established e = begun_by k (failed k e)
   malformed_by TimerRecovery e = begun_by k (failed k e)
+  malformed_by other e = unserved k
 
   pub expired_by : (here : State) (timer : LinkTimer) → Leads (At (paid In Window here) (P one two)) (Machine.expired_in here timer t) E
   expired_by TeiAssigned timer = stays k
@@ -101,10 +97,8 @@ module _ {t : Terms} {Units Anew Taken Window Queued Offered : Type 0} {In : Sta
 
   told_of_clearing : (here : State) → Leads (At anything (P two two)) (Machine.told_of_clearing here t) (At anything (P two one))
   told_of_clearing TeiAssigned = untold k
-  told_of_clearing AwaitingEstablishment = release_indication k
   told_of_clearing AwaitingRelease = release_confirm k
-  told_of_clearing Established = release_indication k
-  told_of_clearing TimerRecovery = release_indication k
+  told_of_clearing other = release_indication k
 
   cleared_by : Anew → (here : State) → Leads (At anything S) (Machine.told_of_clearing here t then Words.begin_anew) E
   cleared_by may here = begun_by k (told_of_clearing here ▹ record { leads = λ c h. k.begin_anew may two one c h.holds })

@@ -1,5 +1,5 @@
 -- Every event leads from a sound link to a sound link.
-use Rattle.model_link.proofs.Vocabulary.{◌≡◌, ℕ, ◌+◌, ◌-◌, ◌≤◌, List, [], ◌∷◌, length, drop, refl, arith, length-drop, State, TeiAssigned, AwaitingEstablishment, AwaitingRelease, Established, TimerRecovery, Terms, Link, fresh, queue_of, IsInRange, IsSettledIn, IsSound, Course, begun}
+use Rattle.model_link.proofs.Vocabulary.{◌≡◌, ℕ, ◌+◌, ◌-◌, ◌≤◌, List, [], ◌∷◌, length, drop, refl, arith, length-drop, State, Established, TimerRecovery, Terms, Link, fresh, queue_of, IsInRange, IsSettledIn, IsSound, Course, begun}
 use Rattle.model_link.specs.Events
 use Rattle.model_link.specs.Machine
 use Rattle.model_link.proofs.Kept.{any_event}
@@ -8,18 +8,14 @@ use Rattle.model_link.proofs.Rows.{event_by}
 use Rattle.model_link.proofs.SoundRows.{settled, Stands, stand, begins}
 
 settled-in : (here : State) (l : Link) → IsSettledIn here l → settled l.a (length l.contents) here l.asked
-settled-in TeiAssigned l h = h
-settled-in AwaitingEstablishment l h = h
-settled-in AwaitingRelease l h = h
 settled-in Established l h = tt
 settled-in TimerRecovery l h = tt
+settled-in other l h = h
 
 in-settled : (here : State) (l : Link) → settled l.a (length l.contents) here l.asked → IsSettledIn here l
-in-settled TeiAssigned l h = h
-in-settled AwaitingEstablishment l h = h
-in-settled AwaitingRelease l h = h
 in-settled Established l h = tt
 in-settled TimerRecovery l h = tt
+in-settled other l h = h
 
 -- A sound link stands, with any number of contents that its queue has; and the other way round.
 pub sound-stands : (t : Terms) (q : ℕ) (l : Link) → length (queue_of l) ≤ q → IsSound t l → Stands t q (begun l)

@@ -40,19 +40,15 @@ settles-none a n Established asked h = tt
 settles-none a n TimerRecovery asked h = tt
 
 settles-multiple : (a n : ℕ) (state : State) (asked : Bool) → IsTrue (is_multiple_frame state) → settled a n state asked
-settles-multiple a n TeiAssigned asked h = absurd (true≢false (sym h))
-settles-multiple a n AwaitingEstablishment asked h = absurd (true≢false (sym h))
-settles-multiple a n AwaitingRelease asked h = absurd (true≢false (sym h))
 settles-multiple a n Established asked h = tt
 settles-multiple a n TimerRecovery asked h = tt
+settles-multiple a n other asked h = absurd (true≢false (sym h))
 
 -- in a state in which nothing is queued
 at-rest : (a n : ℕ) (here : State) (asked : Bool) → is_at_rest here ≡ true → settled a n here asked → n ≡ a
 at-rest a n TeiAssigned asked e h = h
-at-rest a n AwaitingEstablishment asked e h = absurd (true≢false (sym e))
 at-rest a n AwaitingRelease asked e h = h
-at-rest a n Established asked e h = absurd (true≢false (sym e))
-at-rest a n TimerRecovery asked e h = absurd (true≢false (sym e))
+at-rest a n other asked e h = absurd (true≢false (sym e))
 
 abbrev pub is_in : State → State → Type 0
 is_in state here = state ≡ here

@@ -61,10 +61,7 @@ module _ (t : Terms) where
 
   pub cleared_tells : (here : State) → Leads (Telling 1 (another no_more)) (Machine.told_of_clearing here t) (Telling 1 no_more)
   cleared_tells TeiAssigned = search (untold)
-  cleared_tells AwaitingEstablishment = search (note-told)
-  cleared_tells AwaitingRelease = search (note-told)
-  cleared_tells Established = search (note-told)
-  cleared_tells TimerRecovery = search (note-told)
+  cleared_tells other = search (note-told)
 
   -- Each event.
   begins : (p : Purse) (total : ℕ) → how_many p ≤ total → (l : Link) → Telling total p (begun l)
@@ -85,10 +82,7 @@ module _ (t : Terms) where
 
   unit-tells : (here : State) (b : Bool) (octets : List ℕ) (p : Bool) (l : Link) → TellsOf (Machine.frame_in here t b octets (Ui p) (begun l))
   unit-tells TeiAssigned b octets p l = units _ octets l
-  unit-tells AwaitingEstablishment b octets p l = units _ octets l
-  unit-tells AwaitingRelease b octets p l = units _ octets l
-  unit-tells Established b octets p l = units _ octets l
-  unit-tells TimerRecovery b octets p l = units _ octets l
+  unit-tells other b octets p l = units _ octets l
 
   tells : (e : Events.Event) → FitsEvent ⊥ (Unit {0}) (Unit {0}) e → (l : Link) → TellsOf (Machine.course t e l)
   unfolding TellsOf how_many

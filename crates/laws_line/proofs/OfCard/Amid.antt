@@ -1,6 +1,6 @@
 -- A control frame that waits at a line of a card is taken by one of so many calls also where other events of that line are
 -- between them.
-use Rattle.laws_line.proofs.Vocabulary.{◌≡◌, ℕ, ◌+◌, ◌-◌, ◌<◌, ◌≤◌, ◌==◌, ◌&&◌, Bool, true, false, cond, List, [], ◌∷◌, ◌++◌, length, get_or, set, Some, refl, sym, ap, subst, ◌∙◌, ◌⊎◌, inl, inr, arith, eqb-false, and_parts, get_or-set_same, All-head, All-tail, ControlFrame, hears, request, next, Line, fresh_line, link_count, service_at, place_at, tei_at, link_at, Taken, taken, Card, line_at, at, wants_room, IsAtLine, AreAtLines, after_all, after_is_sound, eqb-true, expiry, is_take, go_first, frames_before, control_text, deactivates, CardEvent as Event, card_after as after, CardIsSound as IsSound, IsTakenAmong, come_first_at, takes_of, is_deactivated_at, StaysAt, IsNotDeactivated}
+use Rattle.laws_line.proofs.Vocabulary.{◌≡◌, ℕ, ◌+◌, ◌-◌, ◌<◌, ◌≤◌, ◌==◌, ◌&&◌, Bool, true, false, cond, List, [], ◌∷◌, ◌++◌, length, get_or, set, Some, refl, sym, ap, subst, ◌∙◌, ◌⊎◌, inl, inr, arith, eqb-false, and_parts, get_or-set_same, All-head, All-tail, ControlFrame, next, Line, fresh_line, link_count, service_at, place_at, tei_at, link_at, Taken, taken, Card, line_at, at, wants_room, IsAtLine, AreAtLines, after_all, after_is_sound, eqb-true, is_take, go_first, frames_before, control_text, deactivates, CardEvent as Event, card_after as after, CardIsSound as IsSound, IsTakenAmong, come_first_at, takes_of, is_deactivated_at, StaysAt, IsNotDeactivated}
 use Rattle.model_line.specs.Event as line_event
 use Rattle.model_line.specs.Machine as lines
 use Rattle.laws_line.proofs.Among.{no-farther-off, other-waits}
@@ -8,10 +8,8 @@ use Rattle.laws_line.proofs.Ordered.{next-goes}
 use Rattle.laws_line.proofs.OfCard.Meanwhile.{at-another, at-next, few-lines, line-sound}
 
 is-the-next : (w : line_event.Event) → is_take w ≡ true → w ≡ next
-is-the-next (hears e) is = absurd (cc)
-is-the-next (expiry timer) is = absurd (cc)
-is-the-next (request r) is = absurd (cc)
 is-the-next next is = refl
+is-the-next other is = absurd (cc)
 
 module _ (number link tei : ℕ) (f : ControlFrame) where
   -- an event at the line finds room, or changes nothing

@@ -1,5 +1,5 @@
 -- A line of a card goes down.
-use Rattle.laws_line.proofs.Vocabulary.{◌≡◌, ℕ, ◌<◌, ◌==◌, ◌&&◌, Bool, true, false, cond, List, [], ◌∷◌, length, get_or, set, refl, sym, ap, ◌∙◌, subst, arith, eq-eqb, true≢false, get_or-set_same, All-head, All-tail, Config, request, Line, fresh_line, Request, Establish, Release, Assign, Remove, SetBusy, ClearBusy, Deactivate, Down, Card, line_at, is_full, at, IsAtLine, AreAtLines, after_all, after_is_sound, has_lines, line_sound, eqb-true, All, map, Data, Unit, Check, after_events, takes_down, IsDown, CardEvent as Event, card_after as after, CardIsSound as IsSound, happens_at, LineLinesGoDown as LinesGoDown}
+use Rattle.laws_line.proofs.Vocabulary.{◌≡◌, ℕ, ◌<◌, ◌==◌, ◌&&◌, Bool, true, false, cond, List, [], ◌∷◌, length, get_or, set, refl, sym, ap, ◌∙◌, subst, arith, eq-eqb, true≢false, get_or-set_same, All-head, All-tail, Config, request, Line, fresh_line, Request, Deactivate, Down, Card, line_at, is_full, at, IsAtLine, AreAtLines, after_all, after_is_sound, has_lines, line_sound, eqb-true, All, map, after_events, takes_down, IsDown, CardEvent as Event, card_after as after, CardIsSound as IsSound, happens_at, LineLinesGoDown as LinesGoDown}
 use Rattle.model_line.specs.Machine as lines
 use Rattle.laws_line.proofs.GoingDown.{lines-go-down}
 use Rattle.laws_line.proofs.OfCard.Meanwhile.{at-another}
@@ -9,15 +9,7 @@ no-slot : (c : Config) (l : Line) (r : Request) → takes_down r ≡ true → li
 unfolding lines.takes_slot
 no-slot c l Down is = refl
 no-slot c l (Deactivate service tei) is = refl
-no-slot c l (Establish service tei) is = absurd (true≢false (sym is))
-no-slot c l (Release service tei) is = absurd (true≢false (sym is))
-no-slot c l (Data service tei contents) is = absurd (true≢false (sym is))
-no-slot c l (Unit service tei contents) is = absurd (true≢false (sym is))
-no-slot c l (Assign tei) is = absurd (true≢false (sym is))
-no-slot c l (Remove tei) is = absurd (true≢false (sym is))
-no-slot c l (Check tei) is = absurd (true≢false (sym is))
-no-slot c l (SetBusy service tei) is = absurd (true≢false (sym is))
-no-slot c l (ClearBusy service tei) is = absurd (true≢false (sym is))
+no-slot c l other is = absurd (true≢false (sym is))
 
 module _ (number : ℕ) where
   at-request : (card : Card) (r : Request) → takes_down r ≡ true → number < length card.lines

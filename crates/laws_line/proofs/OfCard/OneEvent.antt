@@ -27,21 +27,17 @@ module _ (c : Config) (l : Line) (e : line_event.Event) (takes : lines.takes_slo
 
   no-link : (service : Service) (tei : ℕ) (event : link.Event) → IsOf c e (refused PoolFull) service tei event → ⊥
   no-link service tei (link.received (link.frame parts)) by = no-heard (stream.frame by.octets) by.by
-  no-link service tei (link.received link.undefined) by = ⊎_elim (λ x. no-heard _ x.0) (λ x. no-heard _ x.0) by.by
-  no-link service tei (link.received link.wrong_size) by = ⊎_elim (λ x. no-heard _ x.0) (λ x. no-heard _ x.0) by.by
-  no-link service tei (link.received link.overlong) by = ⊎_elim (λ x. no-heard _ x.0) (λ x. no-heard _ x.0) by.by
   no-link service tei (link.expired timer) by = no-expiry _ by
   no-link service tei (link.requested asked full) by = true≢false (sym by.1)
   no-link service tei link.offer by = no-take by
   no-link service tei link.cleared by = true≢false (sym by.1)
+  no-link service tei other by = ⊎_elim (λ x. no-heard _ x.0) (λ x. no-heard _ x.0) by.by
 
   no-management : (event : teis.Event) → IsOfManagement c e (refused PoolFull) event → ⊥
   no-management (teis.message info) by = no-heard (stream.frame by.heard.octets) by.heard.by
   no-management teis.expiry by = no-expiry _ by
-  no-management (teis.assign tei) by = true≢false (sym by.1)
-  no-management (teis.remove tei) by = true≢false (sym by.1)
-  no-management (teis.check tei) by = true≢false (sym by.1)
   no-management teis.down by = by
+  no-management other by = true≢false (sym by.1)
 
   pub no-event : IsOneEvent c e l l (refused PoolFull)
   no-event = record {

@@ -17,10 +17,8 @@ module _ (card : Card) (e : Event) (s : IsSound card) (timely : AllHaveTheirTime
 
   left-by : (what : line_event.Event) → lines.takes_slot card.config what (line_at e.line card) ≡ true → (timer : Timer) (b : Bool) → left_by what timer b ≡ b
   unfolding lines.takes_slot
-  left-by (line_event.hears x) takes timer b = refl
   left-by (line_event.expiry other) takes timer b = absurd (true≢false (sym takes))
-  left-by (line_event.request r) takes timer b = refl
-  left-by line_event.next takes timer b = refl
+  left-by other takes timer b = refl
 
   -- at the event's line
   own-line : (timer : Timer) → runs_then timer (is_needed timer (line_at e.line card)) e.what (answer e card) ≡ is_needed timer (line_at e.line (after e card))

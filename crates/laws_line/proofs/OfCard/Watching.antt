@@ -13,10 +13,8 @@ module _ {X : Type 0} (seen : Line → X) (watch : X → line_event.Event → An
   module _ (card : Card) (e : Event) (s : IsSound card) (here : IsAtLine card e) where
     full-rests : (what : line_event.Event) → lines.takes_slot card.config what (line_at e.line card) ≡ true → (x : X) → watch x what (refused PoolFull) ≡ x
     unfolding lines.takes_slot
-    full-rests (line_event.hears heard) takes x = absurd (true≢false (sym takes))
-    full-rests (line_event.expiry timer) takes x = absurd (true≢false (sym takes))
     full-rests (line_event.request r) takes x = rests x r
-    full-rests line_event.next takes x = absurd (true≢false (sym takes))
+    full-rests other takes x = absurd (true≢false (sym takes))
 
     own-line : watch (seen (line_at e.line card)) e.what (answer e card) ≡ seen (line_at e.line (after e card))
     own-line =

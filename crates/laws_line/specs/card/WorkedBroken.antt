@@ -10,7 +10,6 @@ use Rattle.model_line.specs.Event.{told, gave, hears, next, nothing}
 use Rattle.model_line.specs.Laws.{cause_in}
 use Rattle.model_line.specs.Machine as lines
 use Rattle.model_line.specs.Line.{Line, fresh_line, place_at, tei_at, link_at}
-use Rattle.laws_line.specs.Served.{HasNothing}
 use Rattle.model_card.specs.Card.{Card, fresh}
 use Rattle.model_card.specs.Event.{Event, at}
 use Rattle.model_card.specs.Machine.{answer}

@@ -173,11 +173,9 @@ module _ (t : Terms) (l : Link) (room : length l.waiting + 1 ≤ t.control) wher
 
   frames-in : (here : State) → IsTrue (is_multiple_frame here) → (command : Bool) (octets : List ℕ) (control : Control)
       → IsPollWith t l command octets control → Answered l.waiting (Machine.frame_in here t command octets control (begun l)).link
-  frames-in TeiAssigned up command octets control h = absurd (true≢false (sym up))
-  frames-in AwaitingEstablishment up command octets control h = absurd (true≢false (sym up))
-  frames-in AwaitingRelease up command octets control h = absurd (true≢false (sym up))
   frames-in Established up command octets control h = in-7 command octets control h
   frames-in TimerRecovery up command octets control h = in-8 command octets control h
+  frames-in other up command octets control h = absurd (true≢false (sym up))
 
   frame-answered : IsTrue (is_multiple_frame l.state) → (command : Bool) (octets : List ℕ) (control : Control) → IsPollWith t l command octets control
       → Answered l.waiting (Machine.frame_step t command octets control (begun l)).link
@@ -185,13 +183,7 @@ module _ (t : Terms) (l : Link) (room : length l.waiting + 1 ≤ t.control) wher
   frame-answered up command octets (ReceiveReady nr p) h = frames-in l.state up command octets (ReceiveReady nr p) h
   frame-answered up command octets (ReceiveNotReady nr p) h = frames-in l.state up command octets (ReceiveNotReady nr p) h
   frame-answered up command octets (Reject nr p) h = frames-in l.state up command octets (Reject nr p) h
-  frame-answered up command octets (Sabme p) h = absurd h
-  frame-answered up command octets (Disc p) h = absurd h
-  frame-answered up command octets (Ui p) h = absurd h
-  frame-answered up command octets (Ua f) h = absurd h
-  frame-answered up command octets (Dm f) h = absurd h
-  frame-answered up command octets (Frmr f) h = absurd h
-  frame-answered up command octets (Xid pf) h = absurd h
+  frame-answered up command octets other h = absurd h
 
   pub poll-answered : (f : Parts) → IsTrue (is_multiple_frame l.state) → IsPollWith t l f.address.command f.info f.control
       → Answered l.waiting (Machine.after t (received (frame f)) l)
@@ -207,30 +199,17 @@ module _ (t : Terms) (l : Link) (room : length l.waiting + 1 ≤ t.control) wher
 
   sabme-in : (here : State) (command : Bool) (octets : List ℕ) (p : Bool)
       → AnsweredBy (asked_of here (Sabme p)) l.waiting (Machine.frame_in here t command octets (Sabme p) (begun l)).link
-  sabme-in TeiAssigned command octets p = put _
-  sabme-in AwaitingEstablishment command octets p = put _
-  sabme-in AwaitingRelease command octets p = put _
   sabme-in Established command octets p = sabme-7-8 p
   sabme-in TimerRecovery command octets p = sabme-7-8 p
+  sabme-in other command octets p = put _
 
   disc-in : (here : State) (command : Bool) (octets : List ℕ) (p : Bool)
       → AnsweredBy (asked_of here (Disc p)) l.waiting (Machine.frame_in here t command octets (Disc p) (begun l)).link
   disc-in TeiAssigned command octets p = put _
-  disc-in AwaitingEstablishment command octets p = put _
-  disc-in AwaitingRelease command octets p = put _
-  disc-in Established command octets p = put _
-  disc-in TimerRecovery command octets p = put _
+  disc-in other command octets p = put _
 
   pub unnumbered-answered : (command : Bool) (octets : List ℕ) (control : Control)
       → AnsweredBy (asked_of l.state control) l.waiting (Machine.frame_step t command octets control (begun l)).link
-  unnumbered-answered command octets (Information ns nr p) = tt
-  unnumbered-answered command octets (ReceiveReady nr pf) = tt
-  unnumbered-answered command octets (ReceiveNotReady nr pf) = tt
-  unnumbered-answered command octets (Reject nr pf) = tt
   unnumbered-answered command octets (Sabme p) = sabme-in l.state command octets p
   unnumbered-answered command octets (Disc p) = disc-in l.state command octets p
-  unnumbered-answered command octets (Ui p) = tt
-  unnumbered-answered command octets (Ua f) = tt
-  unnumbered-answered command octets (Dm f) = tt
-  unnumbered-answered command octets (Frmr f) = tt
-  unnumbered-answered command octets (Xid pf) = tt
+  unnumbered-answered command octets other = tt

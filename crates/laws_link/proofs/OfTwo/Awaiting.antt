@@ -110,47 +110,21 @@ module _ (t : Terms) where
 
   in-4 : (octets : List ℕ) (control : Control) → Leads Awaiting (frame_in_4 t octets control) Awaiting
   in-4 octets (Sabme p) = record { leads = λ c h. record { holds = t203-runs _ _ _ _ } }
-  in-4 octets (Disc p) = record { leads = λ c h. record { holds = h.holds } }
   in-4 octets (Ua true) = record { leads = λ c h. record { holds = h.holds } }
-  in-4 octets (Ua false) = record { leads = λ c h. record { holds = h.holds } }
   in-4 octets (Ui p) = unit-ends octets
-  in-4 octets (Information ns nr p) = record { leads = λ c h. record { holds = h.holds } }
-  in-4 octets (ReceiveReady nr pf) = record { leads = λ c h. record { holds = h.holds } }
-  in-4 octets (ReceiveNotReady nr pf) = record { leads = λ c h. record { holds = h.holds } }
-  in-4 octets (Reject nr pf) = record { leads = λ c h. record { holds = h.holds } }
-  in-4 octets (Dm f) = record { leads = λ c h. record { holds = h.holds } }
-  in-4 octets (Frmr f) = record { leads = λ c h. record { holds = h.holds } }
-  in-4 octets (Xid pf) = record { leads = λ c h. record { holds = h.holds } }
+  in-4 octets other = record { leads = λ c h. record { holds = h.holds } }
 
   in-5 : (octets : List ℕ) (control : Control) → Leads Awaiting (frame_in_5 t octets control) Awaiting
-  in-5 octets (Sabme p) = record { leads = λ c h. record { holds = h.holds } }
-  in-5 octets (Disc p) = record { leads = λ c h. record { holds = h.holds } }
   in-5 octets (Ua true) = record { leads = λ c h. record { holds = t203-runs _ _ _ _ } }
-  in-5 octets (Ua false) = record { leads = λ c h. record { holds = h.holds } }
   in-5 octets (Ui p) = unit-ends octets
-  in-5 octets (Information ns nr p) = record { leads = λ c h. record { holds = h.holds } }
-  in-5 octets (ReceiveReady nr pf) = record { leads = λ c h. record { holds = h.holds } }
-  in-5 octets (ReceiveNotReady nr pf) = record { leads = λ c h. record { holds = h.holds } }
-  in-5 octets (Reject nr pf) = record { leads = λ c h. record { holds = h.holds } }
   in-5 octets (Dm true) = record { leads = λ c h. record { holds = elsewhere TeiAssigned refl _ _ _ _ } }
-  in-5 octets (Dm false) = record { leads = λ c h. record { holds = h.holds } }
-  in-5 octets (Frmr f) = record { leads = λ c h. record { holds = h.holds } }
-  in-5 octets (Xid pf) = record { leads = λ c h. record { holds = h.holds } }
+  in-5 octets other = record { leads = λ c h. record { holds = h.holds } }
 
   in-6 : (octets : List ℕ) (control : Control) → Leads Awaiting (frame_in_6 t octets control) Awaiting
-  in-6 octets (Sabme p) = record { leads = λ c h. record { holds = h.holds } }
-  in-6 octets (Disc p) = record { leads = λ c h. record { holds = h.holds } }
   in-6 octets (Ua true) = record { leads = λ c h. record { holds = elsewhere TeiAssigned refl _ _ _ _ } }
-  in-6 octets (Ua false) = record { leads = λ c h. record { holds = h.holds } }
   in-6 octets (Ui p) = unit-ends octets
-  in-6 octets (Information ns nr p) = record { leads = λ c h. record { holds = h.holds } }
-  in-6 octets (ReceiveReady nr pf) = record { leads = λ c h. record { holds = h.holds } }
-  in-6 octets (ReceiveNotReady nr pf) = record { leads = λ c h. record { holds = h.holds } }
-  in-6 octets (Reject nr pf) = record { leads = λ c h. record { holds = h.holds } }
   in-6 octets (Dm true) = record { leads = λ c h. record { holds = elsewhere TeiAssigned refl _ _ _ _ } }
-  in-6 octets (Dm false) = record { leads = λ c h. record { holds = h.holds } }
-  in-6 octets (Frmr f) = record { leads = λ c h. record { holds = h.holds } }
-  in-6 octets (Xid pf) = record { leads = λ c h. record { holds = h.holds } }
+  in-6 octets other = record { leads = λ c h. record { holds = h.holds } }
 
   in-7 : (b : Bool) (octets : List ℕ) (control : Control) → Leads Awaiting (Established.frame_in_7 t b octets control) Awaiting
   in-7 b octets (Information ns nr p) =
@@ -233,11 +207,9 @@ module _ (t : Terms) (l : Link) (h : Awaits l.state l.running l.peer_busy l.a l.
   frames TimerRecovery e b octets control = (in-8 t b octets control).leads (begun l) e
 
   malformed : (here : State) (e : ErrorCode) → Awaiting (Machine.malformed_in here t e (begun l))
-  malformed TeiAssigned e = record { holds = h }
-  malformed AwaitingEstablishment e = record { holds = h }
-  malformed AwaitingRelease e = record { holds = h }
   malformed Established e = (failed-ends t {P = Any} e).leads (begun l) tt
   malformed TimerRecovery e = (failed-ends t {P = Any} e).leads (begun l) tt
+  malformed other e = record { holds = h }
 
   branch : (b : Bool) (u v : Course) → Awaiting u → Awaiting v → Awaiting (cond b u v)
   branch true u v x y = x

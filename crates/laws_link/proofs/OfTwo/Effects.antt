@@ -1,5 +1,5 @@
 -- What an event does to a link that stays in states 7 and 8: its numbers, its state, and the kind of frame that waits anew.
-use Rattle.laws_link.proofs.Vocabulary.{◌≡◌, ℕ, ◌+◌, Bool, true, false, cond, IsTrue, List, [], ◌∷◌, ◌++◌, Option, None, Some, refl, sym, subst, ◌∙◌, ◌⊎◌, inl, inr, true≢false, nat_lt, length, eqb-false, Seq, seq, named, seq-value, is_seq, Control, ReceiveReady, ReceiveNotReady, Reject, State, TeiAssigned, AwaitingEstablishment, AwaitingRelease, Established, TimerRecovery, LinkTimer, ControlFrame, Terms, Link, is_multiple_frame, Course, begun, Step, ◌then◌, eqb-true}
+use Rattle.laws_link.proofs.Vocabulary.{◌≡◌, ℕ, ◌+◌, Bool, true, false, cond, IsTrue, List, [], ◌∷◌, ◌++◌, Option, None, Some, refl, sym, subst, ◌∙◌, ◌⊎◌, inl, inr, true≢false, nat_lt, length, eqb-false, Seq, seq, named, seq-value, is_seq, Control, ReceiveReady, ReceiveNotReady, Reject, State, Established, TimerRecovery, LinkTimer, ControlFrame, Terms, Link, is_multiple_frame, Course, begun, Step, ◌then◌, eqb-true}
 use Rattle.lapd_frame.specs.declared.notes.ErrorCode.TheVariants as code
 use Rattle.model_link.specs.Words
 use Rattle.model_link.specs.MultipleFrame
@@ -9,11 +9,8 @@ use Rattle.laws_link.proofs.OfTwo.Trains.{Kind, numbered, enquiry, answer, repor
 
 -- Whether a state is timer recovery.
 abbrev pub is_recovering : State → Bool
-is_recovering TeiAssigned = false
-is_recovering AwaitingEstablishment = false
-is_recovering AwaitingRelease = false
-is_recovering Established = false
 is_recovering TimerRecovery = true
+is_recovering other = false
 
 -- One frame more waits, of this kind; or none, since there was no room.
 abbrev pub Grown : List ControlFrame → List ControlFrame → Kind → Type 0

@@ -70,11 +70,9 @@ module _ (n : End) (ranges : IsInRange n.terms) (busy : n.link.own_busy ≡ true
       ∙ ap (quiet state.TimerRecovery (acknowledgement_frame n.terms n.link ∷ [])) (append-nil n.delivered)
 
   by-state : (here : State) → n.link.state ≡ here → IsTrue (is_multiple_frame here) → Gives (over n)
-  by-state state.TeiAssigned e up = absurd (true≢false (sym up))
-  by-state state.AwaitingEstablishment e up = absurd (true≢false (sym up))
-  by-state state.AwaitingRelease e up = absurd (true≢false (sym up))
   by-state state.Established e up = subst Gives (sym (in-7 e)) (gives-quiet state.Established e)
   by-state state.TimerRecovery e up = subst Gives (sym (in-8 e)) (gives-quiet state.TimerRecovery e)
+  by-state other e up = absurd (true≢false (sym up))
 
   pub gives : IsTrue (is_multiple_frame n.link.state) → Gives (over n)
   gives up = by-state n.link.state refl up
@@ -120,8 +118,6 @@ module _ (m : End) (free : m.link.own_busy ≡ false) (waiting : m.link.waiting 
       subst Hears (sym (ap hears (is-8 e r) ∙ acknowledged-8 false m [] m.link.peer_busy m.link.a m.link.pending m.delivered t l x names)) (left-8 e)
 
   pub heard : (here : State) → m.link.state ≡ here → IsTrue (is_multiple_frame here) → (here ≡ state.TimerRecovery → m.link.running ≡ Some T200) → Hears (hears m)
-  heard state.TeiAssigned e up ran = absurd (true≢false (sym up))
-  heard state.AwaitingEstablishment e up ran = absurd (true≢false (sym up))
-  heard state.AwaitingRelease e up ran = absurd (true≢false (sym up))
   heard state.Established e up ran = hears-7 e
   heard state.TimerRecovery e up ran = hears-8 e (ran refl)
+  heard other e up ran = absurd (true≢false (sym up))

@@ -1,5 +1,5 @@
 -- No event but a poll makes a response with F=1 wait, and a poll makes at most one.
-use Rattle.laws_link.proofs.Vocabulary.{◌≡◌, ℕ, ◌+◌, ◌≤◌, Bool, true, false, cond, ◌&&◌, List, [], ◌∷◌, Option, None, Some, arith, sum_by-cons, Seq, Control, Information, ReceiveReady, ReceiveNotReady, Reject, Sabme, Disc, Ui, Ua, Dm, Frmr, Xid, ErrorCode, Refusal, State, TeiAssigned, AwaitingEstablishment, AwaitingRelease, Established, TimerRecovery, LinkTimer, T200, T203, ControlFrame, Terms, Link, frame, undefined, wrong_size, overlong, Request, Establish, Release, Data, SetBusy, ClearBusy, Event, received, expired, requested, offer, cleared, Course, Step, begun, frame_in_4, establish_in_4, frame_in_5, frame_in_6, Leads, then_leads, nothing_leads, bit_leads, finals, is_poll, polls, is_final_response}
+use Rattle.laws_link.proofs.Vocabulary.{◌≡◌, ℕ, ◌+◌, ◌≤◌, Bool, true, false, cond, ◌&&◌, List, [], ◌∷◌, Option, None, Some, arith, sum_by-cons, Seq, Control, Information, ReceiveReady, ReceiveNotReady, Reject, Sabme, Disc, Ui, Ua, Dm, Frmr, Xid, ErrorCode, Refusal, State, TeiAssigned, AwaitingEstablishment, AwaitingRelease, Established, TimerRecovery, LinkTimer, T200, T203, ControlFrame, Terms, Link, frame, Request, Establish, Release, Data, SetBusy, ClearBusy, Event, received, expired, requested, offer, cleared, Course, Step, begun, frame_in_4, establish_in_4, frame_in_5, frame_in_6, Leads, then_leads, nothing_leads, bit_leads, finals, is_poll, polls, is_final_response}
 use Rattle.model_link.specs.Words
 use Rattle.model_link.specs.MultipleFrame
 use Rattle.model_link.specs.Established
@@ -19,10 +19,7 @@ module _ (t : Terms) (n : ℕ) where
   in-4 b octets (ReceiveReady nr p) = weaker n (b && p) (search rows)
   in-4 b octets (ReceiveNotReady nr p) = weaker n (b && p) (search rows)
   in-4 b octets (Reject nr p) = weaker n (b && p) (search rows)
-  in-4 b octets (Ui p) = weaker n false (search rows)
-  in-4 b octets (Dm f) = weaker n false (search rows)
-  in-4 b octets (Frmr f) = weaker n false (search rows)
-  in-4 b octets (Xid pf) = weaker n false (search rows)
+  in-4 b octets other = weaker n false (search rows)
 
   in-5 : (b : Bool) (octets : List ℕ) (control : Control) → Leads (Few n) (frame_in_5 t octets control) (Few (n + cond {A = ℕ} (is_poll b control) 1 0))
   in-5 b octets (Sabme p) = ua_few t n p
@@ -33,11 +30,9 @@ module _ (t : Terms) (n : ℕ) where
   in-5 b octets (ReceiveReady nr p) = weaker n (b && p) (search rows)
   in-5 b octets (ReceiveNotReady nr p) = weaker n (b && p) (search rows)
   in-5 b octets (Reject nr p) = weaker n (b && p) (search rows)
-  in-5 b octets (Ui p) = weaker n false (search rows)
   in-5 b octets (Dm true) = weaker n false (search rows depth 12 fits 4000)
   in-5 b octets (Dm false) = weaker n false (search rows)
-  in-5 b octets (Frmr f) = weaker n false (search rows)
-  in-5 b octets (Xid pf) = weaker n false (search rows)
+  in-5 b octets other = weaker n false (search rows)
 
   in-6 : (b : Bool) (octets : List ℕ) (control : Control) → Leads (Few n) (frame_in_6 t octets control) (Few (n + cond {A = ℕ} (is_poll b control) 1 0))
   in-6 b octets (Sabme p) = dm_few t n p
@@ -48,11 +43,9 @@ module _ (t : Terms) (n : ℕ) where
   in-6 b octets (ReceiveReady nr p) = weaker n (b && p) (search rows)
   in-6 b octets (ReceiveNotReady nr p) = weaker n (b && p) (search rows)
   in-6 b octets (Reject nr p) = weaker n (b && p) (search rows)
-  in-6 b octets (Ui p) = weaker n false (search rows)
   in-6 b octets (Dm true) = weaker n false (search rows depth 12 fits 4000)
   in-6 b octets (Dm false) = weaker n false (search rows)
-  in-6 b octets (Frmr f) = weaker n false (search rows)
-  in-6 b octets (Xid pf) = weaker n false (search rows)
+  in-6 b octets other = weaker n false (search rows)
 
   -- states 7 and 8
   contents : (ns : Seq) (p : Bool) (octets : List ℕ) → Leads (Few n) (MultipleFrame.contents_in_7_8 t ns p octets) (Few (n + cond {A = ℕ} p 1 0))
@@ -65,31 +58,23 @@ module _ (t : Terms) (n : ℕ) where
 
   in-7 : (b : Bool) (octets : List ℕ) (control : Control) → Leads (Few n) (Established.frame_in_7 t b octets control) (Few (n + cond {A = ℕ} (is_poll b control) 1 0))
   in-7 b octets (Information ns nr p) = information ns nr p octets Established.acknowledged_by_information_in_7 (λ m i. search rows depth 12 fits 4000)
-  in-7 b octets (ReceiveReady nr p) = search answers depth 14 fits 6000
-  in-7 b octets (ReceiveNotReady nr p) = search answers depth 14 fits 6000
-  in-7 b octets (Reject nr p) = search answers depth 14 fits 6000
-  in-7 b octets (Sabme p) = search answers depth 14 fits 6000
-  in-7 b octets (Disc p) = search answers depth 14 fits 6000
   in-7 b octets (Ua f) = weaker n false (search rows depth 12 fits 4000)
   in-7 b octets (Dm true) = weaker n false (search rows depth 12 fits 4000)
   in-7 b octets (Dm false) = weaker n false (search rows depth 12 fits 4000)
   in-7 b octets (Frmr f) = weaker n false (search rows depth 12 fits 4000)
   in-7 b octets (Ui p) = weaker n false (search rows)
   in-7 b octets (Xid pf) = weaker n false (search rows)
+  in-7 b octets other = search answers depth 14 fits 6000
 
   in-8 : (b : Bool) (octets : List ℕ) (control : Control) → Leads (Few n) (TimerRecovery.frame_in_8 t b octets control) (Few (n + cond {A = ℕ} (is_poll b control) 1 0))
   in-8 b octets (Information ns nr p) = information ns nr p octets Words.acknowledge (λ m i. acknowledge_few m i)
-  in-8 b octets (ReceiveReady nr p) = search answers depth 14 fits 6000
-  in-8 b octets (ReceiveNotReady nr p) = search answers depth 14 fits 6000
-  in-8 b octets (Reject nr p) = search answers depth 14 fits 6000
-  in-8 b octets (Sabme p) = search answers depth 14 fits 6000
-  in-8 b octets (Disc p) = search answers depth 14 fits 6000
   in-8 b octets (Ua f) = weaker n false (search rows depth 12 fits 4000)
   in-8 b octets (Dm true) = weaker n false (search rows depth 12 fits 4000)
   in-8 b octets (Dm false) = weaker n false (search rows depth 12 fits 4000)
   in-8 b octets (Frmr f) = weaker n false (search rows depth 12 fits 4000)
   in-8 b octets (Ui p) = weaker n false (search rows)
   in-8 b octets (Xid pf) = weaker n false (search rows)
+  in-8 b octets other = search answers depth 14 fits 6000
 
   frames-in : (here : State) (b : Bool) (octets : List ℕ) (control : Control)
       → Leads (Few n) (Machine.frame_in here t b octets control) (Few (n + cond {A = ℕ} (is_poll b control) 1 0))
@@ -103,11 +88,9 @@ module _ (t : Terms) (n : ℕ) where
   frames b octets control = record { leads = λ c h. (frames-in c.link.state b octets control).leads c h }
 
   malformed : (e : ErrorCode) (here : State) → Leads (Few n) (Machine.malformed_in here t e) (Few n)
-  malformed e TeiAssigned = search rows
-  malformed e AwaitingEstablishment = search rows
-  malformed e AwaitingRelease = search rows
   malformed e Established = failed_few t n _
   malformed e TimerRecovery = failed_few t n _
+  malformed e other = search rows
 
   expiries : (here : State) (timer : LinkTimer) → Leads (Few n) (Machine.expired_in here timer t) (Few n)
   expiries TeiAssigned timer = nothing_leads
@@ -120,11 +103,9 @@ module _ (t : Terms) (n : ℕ) where
   expiries TimerRecovery T203 = nothing_leads
 
   releases : (here : State) → Leads (Few n) (Requests.release_in here t) (Few n)
-  releases TeiAssigned = search rows
-  releases AwaitingEstablishment = search rows
-  releases AwaitingRelease = search rows
   releases Established = search rows depth 12 fits 4000
   releases TimerRecovery = search rows depth 12 fits 4000
+  releases other = search rows
 
   establishes : Leads (Few n) (establish_in_4 t) (Few n)
   establishes = search rows depth 12 fits 4000
@@ -162,9 +143,6 @@ none-left n c h = omega (arith, h.few)
 
 pub event-finals : (t : Terms) (l : Link) (e : Event) → finals (Machine.after t e l).waiting ≤ finals l.waiting + polls e
 event-finals t l (received (frame f)) = ((frames t (finals l.waiting) f.address.command f.info f.control).leads (begun l) (record { few = omega arith })).few
-event-finals t l (received undefined) = none-left _ _ ((malformed t (finals l.waiting) _ l.state).leads (begun l) (record { few = omega arith }))
-event-finals t l (received wrong_size) = none-left _ _ ((malformed t (finals l.waiting) _ l.state).leads (begun l) (record { few = omega arith }))
-event-finals t l (received overlong) = none-left _ _ ((malformed t (finals l.waiting) _ l.state).leads (begun l) (record { few = omega arith }))
 event-finals t l (expired timer) =
     none-left _ _ (chosen t (finals l.waiting) (Machine.is_running timer l) _ _ ((expiries t (finals l.waiting) l.state timer).leads (begun l) (record { few = omega arith })) (record { few = omega arith }))
 event-finals t l (requested request full) = none-left _ _ (asked t (finals l.waiting) request (begun l) (Requests.refusal t l full request) (record { few = omega arith }))
@@ -173,3 +151,4 @@ event-finals t l cleared = none-left _ (Machine.course t cleared l) (cleared-few
   where
     cleared-few : (here : State) → Few (finals l.waiting) (Words.begin_anew (Machine.told_of_clearing here t (begun l)))
     cleared-few here = record { few = omega arith }
+event-finals t l other = none-left _ _ ((malformed t (finals l.waiting) _ l.state).leads (begun l) (record { few = omega arith }))

@@ -1,5 +1,5 @@
 -- The first I-frame out of sequence is answered by REJ, and a delivery ends the wait for what REJ asked for.
-use Rattle.laws_link.proofs.Vocabulary.{◌≡◌, ℕ, ◌+◌, ◌≤◌, Bool, true, false, cond, IsTrue, List, [], ◌∷◌, ◌++◌, length, Option, None, Some, refl, sym, ap, subst, ◌∙◌, ◌⊎◌, inl, inr, true≢false, arith, nat_lt, lt-ltb, le-ltb, none-some, Seq, seq, named, Address, Control, Information, ReceiveReady, ReceiveNotReady, Reject, Sabme, Disc, Ui, Ua, Dm, Frmr, Xid, State, TeiAssigned, AwaitingEstablishment, AwaitingRelease, Established, TimerRecovery, LinkTimer, ControlFrame, Terms, Link, is_multiple_frame, Arrived, information_of, eligible, eligible_of, Course, begun, Step, ◌then◌, by_bit, Leads, keeping_then, nothing_leads, depending_leads, delivered-at_once, IsValidAt, i_frame, IsFirstGap}
+use Rattle.laws_link.proofs.Vocabulary.{◌≡◌, ℕ, ◌+◌, ◌≤◌, Bool, true, false, cond, IsTrue, List, [], ◌∷◌, ◌++◌, length, Option, None, Some, refl, sym, ap, subst, ◌∙◌, ◌⊎◌, inl, inr, true≢false, arith, nat_lt, lt-ltb, le-ltb, none-some, Seq, seq, named, Address, Control, Information, Reject, State, Established, TimerRecovery, LinkTimer, ControlFrame, Terms, Link, is_multiple_frame, Arrived, information_of, eligible, eligible_of, Course, begun, Step, ◌then◌, by_bit, Leads, keeping_then, nothing_leads, depending_leads, delivered-at_once, IsValidAt, i_frame, IsFirstGap}
 use Rattle.lapd_frame.specs.declared.notes.ErrorCode.TheVariants as code
 use Rattle.model_link.specs.Events
 use Rattle.model_link.specs.Words
@@ -47,11 +47,9 @@ module _ (t : Terms) (l : Link) (room : length l.waiting + 1 ≤ t.control) wher
 
   in-state : (here : State) → IsTrue (is_multiple_frame here) → (command : Bool) (ns nr : Seq) (p : Bool) (octets : List ℕ) → IsFirstGap t l ns nr octets
       → (Machine.frame_in here t command octets (Information ns nr p) (begun l)).link.waiting ≡ rejection p
-  in-state TeiAssigned up command ns nr p octets h = absurd (true≢false (sym up))
-  in-state AwaitingEstablishment up command ns nr p octets h = absurd (true≢false (sym up))
-  in-state AwaitingRelease up command ns nr p octets h = absurd (true≢false (sym up))
   in-state Established up command ns nr p octets h = information ns nr p octets Established.acknowledged_by_information_in_7 information_7_waits h
   in-state TimerRecovery up command ns nr p octets h = information ns nr p octets Words.acknowledge acknowledge_waits h
+  in-state other up command ns nr p octets h = absurd (true≢false (sym up))
 
   pub gap-rejected : (address : Address) (ns nr : Seq) (p : Bool) (octets : List ℕ) → IsFirstGap t l ns nr octets
       → (Machine.after t (Events.received (Events.frame (i_frame address ns nr p octets))) l).waiting ≡ l.waiting ++ Words.response (Reject (seq l.r) p) ∷ []
@@ -97,36 +95,19 @@ module _ (t : Terms) (l : Link) where
 
   by-state : (here : State) (command : Bool) (ns nr : Seq) (p : Bool) (octets : List ℕ)
       → Ended (Machine.frame_in here t command octets (Information ns nr p) (begun l))
-  by-state TeiAssigned command ns nr p octets = inl refl
-  by-state AwaitingEstablishment command ns nr p octets = inl refl
-  by-state AwaitingRelease command ns nr p octets = inl refl
   by-state Established command ns nr p octets = row ns nr p octets Established.acknowledged_by_information_in_7 in_7_ends (nat_lt t.n201 (length octets))
   by-state TimerRecovery command ns nr p octets = row ns nr p octets Words.acknowledge acknowledge_ends (nat_lt t.n201 (length octets))
+  by-state other command ns nr p octets = inl refl
 
   -- only an I-frame is eligible
   by-frame : (command : Bool) (octets : List ℕ) (control : Control) (i : Arrived) → eligible_of t l (information_of control octets) ≡ Some i
       → Ended (Machine.frame_step t command octets control (begun l))
   by-frame command octets (Information ns nr p) i e = by-state l.state command ns nr p octets
-  by-frame command octets (ReceiveReady nr pf) i e = absurd (none-some i e)
-  by-frame command octets (ReceiveNotReady nr pf) i e = absurd (none-some i e)
-  by-frame command octets (Reject nr pf) i e = absurd (none-some i e)
-  by-frame command octets (Sabme p) i e = absurd (none-some i e)
-  by-frame command octets (Disc p) i e = absurd (none-some i e)
-  by-frame command octets (Ui p) i e = absurd (none-some i e)
-  by-frame command octets (Ua f) i e = absurd (none-some i e)
-  by-frame command octets (Dm f) i e = absurd (none-some i e)
-  by-frame command octets (Frmr f) i e = absurd (none-some i e)
-  by-frame command octets (Xid pf) i e = absurd (none-some i e)
+  by-frame command octets other i e = absurd (none-some i e)
 
   by-event : (e : Events.Event) (i : Arrived) → eligible t e l ≡ Some i → Ended (Machine.course t e l)
   by-event (Events.received (Events.frame f)) i e = by-frame f.address.command f.info f.control i e
-  by-event (Events.received Events.undefined) i e = absurd (none-some i e)
-  by-event (Events.received Events.wrong_size) i e = absurd (none-some i e)
-  by-event (Events.received Events.overlong) i e = absurd (none-some i e)
-  by-event (Events.expired timer) i e = absurd (none-some i e)
-  by-event (Events.requested request full) i e = absurd (none-some i e)
-  by-event Events.offer i e = absurd (none-some i e)
-  by-event Events.cleared i e = absurd (none-some i e)
+  by-event other i e = absurd (none-some i e)
 
   after-delivery : (c : Course) (octets : List ℕ) → c.delivered ≡ Some octets → Ended c → c.link.rejecting ≡ false
   after-delivery c octets d (inl none) = absurd (none-some octets (sym none ∙ d))

@@ -39,11 +39,8 @@ pub record Offered (t : Terms) (l : Link) (c : Course) : Type 0 where
   pub gives : Gives t l c
 
 is-established : (here : State) → Offers.is_established here ≡ true → here ≡ Established
-is-established TeiAssigned e = absurd (true≢false (sym e))
-is-established AwaitingEstablishment e = absurd (true≢false (sym e))
-is-established AwaitingRelease e = absurd (true≢false (sym e))
 is-established Established e = refl
-is-established TimerRecovery e = absurd (true≢false (sym e))
+is-established other e = absurd (true≢false (sym e))
 
 module _ (t : Terms) (l : Link) where
   nothing-new : Went report l l

@@ -1,5 +1,5 @@
 -- What each frame does to a link that stays in states 7 and 8.
-use Rattle.laws_link.proofs.Vocabulary.{◌≡◌, ℕ, Bool, true, false, IsTrue, List, refl, sym, true≢false, Control, Information, ReceiveReady, ReceiveNotReady, Reject, Sabme, Disc, Ui, Ua, Dm, Frmr, Xid, State, TeiAssigned, AwaitingEstablishment, AwaitingRelease, Established, TimerRecovery, T200, T203, Terms, Link, is_multiple_frame, Course, begun}
+use Rattle.laws_link.proofs.Vocabulary.{◌≡◌, ℕ, Bool, true, false, IsTrue, List, refl, sym, true≢false, Control, Information, ReceiveReady, ReceiveNotReady, Reject, Sabme, Disc, Ui, Ua, Dm, Frmr, Xid, State, Established, TimerRecovery, T200, T203, Terms, Link, is_multiple_frame, Course, begun}
 use Rattle.model_link.specs.Words
 use Rattle.model_link.specs.Established
 use Rattle.model_link.specs.TimerRecovery
@@ -68,11 +68,9 @@ module _ (t : Terms) (l : Link) where
 
   heard-in : (here : State) → l.state ≡ here → IsTrue (is_multiple_frame here) → (b : Bool) (octets : List ℕ) (control : Control)
       → IsUpIn (Machine.frame_in here t b octets control (begun l)) → Heard (kind_of b control) (is_recovering here) l (Machine.frame_in here t b octets control (begun l)).link
-  heard-in TeiAssigned e before b octets control up = absurd (true≢false (sym before))
-  heard-in AwaitingEstablishment e before b octets control up = absurd (true≢false (sym before))
-  heard-in AwaitingRelease e before b octets control up = absurd (true≢false (sym before))
   heard-in Established e before b octets control up = heard-7 e b octets control up
   heard-in TimerRecovery e before b octets control up = heard-8 b octets control up
+  heard-in other e before b octets control up = absurd (true≢false (sym before))
 
   pub heard : IsTrue (is_multiple_frame l.state) → (b : Bool) (octets : List ℕ) (control : Control)
       → IsUpIn (Machine.frame_step t b octets control (begun l)) → Heard (kind_of b control) (is_recovering l.state) l (Machine.frame_step t b octets control (begun l)).link

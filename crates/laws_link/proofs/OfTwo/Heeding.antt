@@ -197,17 +197,8 @@ pub ruleset rows = (words, flags_then, enter_7_calm, enter_7_awake, enter_5_calm
 module _ (t : Terms) where
   pub in_4 : (octets : List ℕ) (control : Control) → Leads (On (at_state TeiAssigned)) (frame_in_4 t octets control) (On heeding)
   in_4 octets (Sabme p) = search (rows, start_then) depth 14 fits 6000
-  in_4 octets (Disc p) = search (words, as_4) depth 12 fits 4000
   in_4 octets (Ua true) = search (words, as_4) depth 12 fits 4000
-  in_4 octets (Ua false) = search (words, as_4) depth 12 fits 4000
-  in_4 octets (Information ns nr p) = search (words, as_4) depth 12 fits 4000
-  in_4 octets (ReceiveReady nr pf) = search (words, as_4) depth 12 fits 4000
-  in_4 octets (ReceiveNotReady nr pf) = search (words, as_4) depth 12 fits 4000
-  in_4 octets (Reject nr pf) = search (words, as_4) depth 12 fits 4000
-  in_4 octets (Ui p) = search (words, as_4) depth 12 fits 4000
-  in_4 octets (Dm f) = search (words, as_4) depth 12 fits 4000
-  in_4 octets (Frmr f) = search (words, as_4) depth 12 fits 4000
-  in_4 octets (Xid pf) = search (words, as_4) depth 12 fits 4000
+  in_4 octets other = search (words, as_4) depth 12 fits 4000
 
   pub establishes : Leads (On (at_state TeiAssigned)) (establish_in_4 t) (On heeding)
   establishes = record { leads = λ c h. record { holds = refl } }
@@ -221,22 +212,12 @@ weaken-5 c h = record { holds = h.holds.1 }
 
 module _ (t : Terms) where
   pub in_5 : (octets : List ℕ) (control : Control) → Leads (On (calm_at AwaitingEstablishment)) (frame_in_5 t octets control) (On heeding)
-  in_5 octets (Sabme p) = search (words, as_5) depth 12 fits 4000
-  in_5 octets (Disc p) = search (words, as_5) depth 12 fits 4000
   in_5 octets (Ua true) = record { leads = λ c h. (established).leads c (weaken-5 c h) }
     where
       established : Leads (On calm) (frame_in_5 t octets (Ua true)) (On heeding)
       established = search (rows, start_then) depth 14 fits 6000
-  in_5 octets (Ua false) = search (words, as_5) depth 12 fits 4000
-  in_5 octets (Information ns nr p) = search (words, as_5) depth 12 fits 4000
-  in_5 octets (ReceiveReady nr pf) = search (words, as_5) depth 12 fits 4000
-  in_5 octets (ReceiveNotReady nr pf) = search (words, as_5) depth 12 fits 4000
-  in_5 octets (Reject nr pf) = search (words, as_5) depth 12 fits 4000
-  in_5 octets (Ui p) = search (words, as_5) depth 12 fits 4000
   in_5 octets (Dm true) = search rows depth 14 fits 6000
-  in_5 octets (Dm false) = search (words, as_5) depth 12 fits 4000
-  in_5 octets (Frmr f) = search (words, as_5) depth 12 fits 4000
-  in_5 octets (Xid pf) = search (words, as_5) depth 12 fits 4000
+  in_5 octets other = search (words, as_5) depth 12 fits 4000
 
   start_last_5 : (timer : LinkTimer) → Leads (On (calm_at AwaitingEstablishment)) (Words.start timer) (On heeding)
   start_last_5 timer = record { leads = λ c h. record { holds = down_heeds AwaitingEstablishment c.link.state c.link.peer_busy (Some timer) h.holds.0 h.holds.1 } }
@@ -247,19 +228,9 @@ module _ (t : Terms) where
 -- State 6.
 module _ (t : Terms) where
   pub in_6 : (octets : List ℕ) (control : Control) → Leads (On (at_state AwaitingRelease)) (frame_in_6 t octets control) (On heeding)
-  in_6 octets (Sabme p) = search (words, as_6) depth 12 fits 4000
-  in_6 octets (Disc p) = search (words, as_6) depth 12 fits 4000
   in_6 octets (Ua true) = search rows depth 14 fits 6000
-  in_6 octets (Ua false) = search (words, as_6) depth 12 fits 4000
-  in_6 octets (Information ns nr p) = search (words, as_6) depth 12 fits 4000
-  in_6 octets (ReceiveReady nr pf) = search (words, as_6) depth 12 fits 4000
-  in_6 octets (ReceiveNotReady nr pf) = search (words, as_6) depth 12 fits 4000
-  in_6 octets (Reject nr pf) = search (words, as_6) depth 12 fits 4000
-  in_6 octets (Ui p) = search (words, as_6) depth 12 fits 4000
   in_6 octets (Dm true) = search rows depth 14 fits 6000
-  in_6 octets (Dm false) = search (words, as_6) depth 12 fits 4000
-  in_6 octets (Frmr f) = search (words, as_6) depth 12 fits 4000
-  in_6 octets (Xid pf) = search (words, as_6) depth 12 fits 4000
+  in_6 octets other = search (words, as_6) depth 12 fits 4000
 
   start_last_6 : (timer : LinkTimer) → Leads (On (at_state AwaitingRelease)) (Words.start timer) (On heeding)
   start_last_6 timer = record { leads = λ c h. record { holds = down_heeds AwaitingRelease c.link.state c.link.peer_busy (Some timer) h.holds tt } }
@@ -302,10 +273,6 @@ ruleset rows_7 = (rows, calm_7_then, busy_7_then, in_7_calm, rnr_7, rej_7, infor
 
 module _ (t : Terms) where
   pub in_7 : (b : Bool) (octets : List ℕ) (control : Control) → Leads (On heeding_in_7) (Established.frame_in_7 t b octets control) (On heeding)
-  in_7 b octets (Information ns nr p) = search rows_7 depth 14 fits 6000
-  in_7 b octets (ReceiveReady nr pf) = search rows_7 depth 14 fits 6000
-  in_7 b octets (ReceiveNotReady nr pf) = search rows_7 depth 14 fits 6000
-  in_7 b octets (Reject nr pf) = search rows_7 depth 14 fits 6000
   in_7 b octets (Sabme p) = search (rows, start_then) depth 14 fits 6000
   in_7 b octets (Disc p) = search rows depth 14 fits 6000
   in_7 b octets (Ua f) = search (words, as_7) depth 14 fits 6000
@@ -314,6 +281,7 @@ module _ (t : Terms) where
   in_7 b octets (Frmr f) = re_establish_heeds t _
   in_7 b octets (Ui p) = search (words, as_7) depth 14 fits 6000
   in_7 b octets (Xid pf) = search (words, as_7) depth 14 fits 6000
+  in_7 b octets other = search rows_7 depth 14 fits 6000
 
   pub timer_7 : Leads (On heeding_in_7) (Established.timer_in_7 t) (On heeding)
   timer_7 = search (rows, t200_then) depth 14 fits 6000
@@ -344,10 +312,6 @@ ruleset rows_8 = (rows, calm_8_then, busy_8_then, acknowledged_8, rnr_8, acknowl
 
 module _ (t : Terms) where
   pub in_8 : (b : Bool) (octets : List ℕ) (control : Control) → Leads (On (awake_at TimerRecovery)) (TimerRecovery.frame_in_8 t b octets control) (On heeding)
-  in_8 b octets (Information ns nr p) = search rows_8 depth 14 fits 6000
-  in_8 b octets (ReceiveReady nr pf) = search rows_8 depth 14 fits 6000
-  in_8 b octets (ReceiveNotReady nr pf) = search rows_8 depth 14 fits 6000
-  in_8 b octets (Reject nr pf) = search rows_8 depth 14 fits 6000
   in_8 b octets (Sabme p) = search (rows, start_then) depth 14 fits 6000
   in_8 b octets (Disc p) = search rows depth 14 fits 6000
   in_8 b octets (Ua f) = search (words, as_8) depth 14 fits 6000
@@ -356,6 +320,7 @@ module _ (t : Terms) where
   in_8 b octets (Frmr f) = re_establish_heeds t _
   in_8 b octets (Ui p) = search (words, as_8) depth 14 fits 6000
   in_8 b octets (Xid pf) = search (words, as_8) depth 14 fits 6000
+  in_8 b octets other = search rows_8 depth 14 fits 6000
 
   start_last_8 : Leads (On (awake_at TimerRecovery)) (Words.start T200) (On heeding)
   start_last_8 = record { leads = λ c h. record { holds = down_heeds TimerRecovery c.link.state c.link.peer_busy (Some T200) h.holds.0 refl } }

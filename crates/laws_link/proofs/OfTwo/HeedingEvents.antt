@@ -1,5 +1,5 @@
 -- T200 runs while the terminal is taken for busy: every event.
-use Rattle.laws_link.proofs.Vocabulary.{◌≡◌, ℕ, Bool, true, false, cond, ◌&&◌, not, List, [], ◌∷◌, Option, None, Some, refl, sym, subst, true≢false, Control, ErrorCode, Refusal, State, TeiAssigned, AwaitingEstablishment, AwaitingRelease, Established, TimerRecovery, LinkTimer, T200, T203, ControlFrame, Terms, Link, fresh, frame, undefined, wrong_size, overlong, Request, Establish, Release, Data, SetBusy, ClearBusy, Event, received, expired, requested, offer, cleared, Course, begun, HeedsIn, Heeds}
+use Rattle.laws_link.proofs.Vocabulary.{◌≡◌, ℕ, Bool, true, false, cond, ◌&&◌, not, List, [], ◌∷◌, Option, None, Some, refl, sym, subst, true≢false, Control, ErrorCode, Refusal, State, TeiAssigned, AwaitingEstablishment, AwaitingRelease, Established, TimerRecovery, LinkTimer, T200, T203, ControlFrame, Terms, Link, fresh, frame, Request, Establish, Release, Data, SetBusy, ClearBusy, Event, received, expired, requested, offer, cleared, Course, begun, HeedsIn, Heeds}
 use Rattle.model_link.specs.Requests
 use Rattle.model_link.specs.Offers
 use Rattle.model_link.specs.Machine
@@ -45,11 +45,9 @@ module _ (t : Terms) (l : Link) where
   frames h b octets control = frames-in l.state refl h.heeds b octets control
 
   malformed : (e : ErrorCode) (here : State) → l.state ≡ here → HeedsIn here l.peer_busy l.running → Ends (Machine.malformed_in here t e (begun l))
-  malformed e TeiAssigned s h = record { holds = subst (λ x. HeedsIn x l.peer_busy l.running) (sym s) h }
-  malformed e AwaitingEstablishment s h = record { holds = subst (λ x. HeedsIn x l.peer_busy l.running) (sym s) h }
-  malformed e AwaitingRelease s h = record { holds = subst (λ x. HeedsIn x l.peer_busy l.running) (sym s) h }
   malformed e Established s h = record { holds = refl }
   malformed e TimerRecovery s h = record { holds = refl }
+  malformed e other s h = record { holds = subst (λ x. HeedsIn x l.peer_busy l.running) (sym s) h }
 
   expiries : (here : State) → l.state ≡ here → HeedsIn here l.peer_busy l.running → (timer : LinkTimer) → Ends (Machine.expired_in here timer t (begun l))
   expiries TeiAssigned e h timer = idle TeiAssigned e h
@@ -102,13 +100,11 @@ module _ (t : Terms) (l : Link) where
 
 pub heeds-after : (t : Terms) (e : Event) (l : Link) → Heeds l → Heeds (Machine.after t e l)
 heeds-after t (received (frame f)) l h = record { heeds = (frames t l h f.address.command f.info f.control).holds }
-heeds-after t (received undefined) l h = record { heeds = (malformed t l _ l.state refl h.heeds).holds }
-heeds-after t (received wrong_size) l h = record { heeds = (malformed t l _ l.state refl h.heeds).holds }
-heeds-after t (received overlong) l h = record { heeds = (malformed t l _ l.state refl h.heeds).holds }
 heeds-after t (expired timer) l h = record { heeds = (branch t l (Machine.is_running timer l) _ _ (expiries t l l.state refl h.heeds timer) (record { holds = h.heeds })).holds }
 heeds-after t (requested request full) l h = record { heeds = (asked t l h request (Requests.refusal t l full request)).holds }
 heeds-after t offer l h = record { heeds = (offers t l h l.waiting).holds }
 heeds-after t cleared l h = record { heeds = tt }
+heeds-after t other l h = record { heeds = (malformed t l _ l.state refl h.heeds).holds }
 
 pub heeds-fresh : Heeds fresh
 heeds-fresh = record { heeds = tt }

@@ -40,12 +40,10 @@ back-longer s r b q ln lm lm' k none none' says says' (inr e) h = flow-at refl r
 
 -- no frame that the direction knows is an alien
 abbrev pub NoAlien : Kind → Type 0
-NoAlien (numbered ns) = Unit {0}
 NoAlien enquiry = Unit {0}
-NoAlien (answer nr) = Unit {0}
 NoAlien report = Unit {0}
-NoAlien (rejection nr) = Unit {0}
 NoAlien alien = ⊥
+NoAlien other = Unit {0}
 
 no-alien-in : (q : Bool) (s r : ℕ) (ln : List Kind) → Order q r s (alien ∷ ln) → ⊥
 no-alien-in true s r ln (inl (top, up, here, rest)) = here
@@ -56,12 +54,10 @@ no-alien : (s r : ℕ) (b q : Bool) (ln lm : List Kind) → Flow s r b q (alien 
 no-alien s r b q ln lm h = no-alien-in q s r ln h.order
 
 pub is-no-alien : (s r : ℕ) (b q : Bool) (x : Kind) (ln lm : List Kind) → Flow s r b q (x ∷ ln) lm → NoAlien x
-is-no-alien s r b q (numbered ns) ln lm h = tt
 is-no-alien s r b q enquiry ln lm h = tt
-is-no-alien s r b q (answer nr) ln lm h = tt
 is-no-alien s r b q report ln lm h = tt
-is-no-alien s r b q (rejection nr) ln lm h = tt
 is-no-alien s r b q alien ln lm h = no-alien s r b q ln lm h
+is-no-alien s r b q other ln lm h = tt
 
 one-number : (x y : ℕ) → Some x ≡ Some y → x ≡ y
 one-number x y e = cc

@@ -7,24 +7,16 @@ use Rattle.laws_link.proofs.OfTwo.HeedingEvents.{heeds-after}
 -- What is needed, by what it speaks of.
 abbrev need : State → Bool → ℕ → ℕ → Option LinkTimer
 need TeiAssigned busy a s = None
-need AwaitingEstablishment busy a s = Some T200
-need AwaitingRelease busy a s = Some T200
 need Established busy a s = cond (not (s == a) || busy) (Some T200) (Some T203)
-need TimerRecovery busy a s = Some T200
+need other busy a s = Some T200
 
 abbrev calm : State → Bool → Type 0
-calm TeiAssigned busy = Unit {0}
 calm AwaitingEstablishment busy = busy ≡ false
-calm AwaitingRelease busy = Unit {0}
-calm Established busy = Unit {0}
-calm TimerRecovery busy = Unit {0}
+calm other busy = Unit {0}
 
 needs : (here : State) (l : Link) → needed_in here l ≡ need here l.peer_busy l.a l.s
 needs TeiAssigned l = refl
-needs AwaitingEstablishment l = refl
-needs AwaitingRelease l = refl
-needs Established l = refl
-needs TimerRecovery l = refl
+needs other l = refl
 
 t203-is-not : Some T203 ≡ Some T200 → ⊥
 t203-is-not e = true≢false (sym (ap (runs T200) e))
@@ -49,11 +41,8 @@ timed-7 running busy a s e = go (not (s == a) || busy) refl e
     go false is e = inr (e, not-outstanding a s (neither (not (s == a)) busy is).0)
 
 to-timed : (here : State) (l : Link) → l.running ≡ need here l.peer_busy l.a l.s → IsTimedIn here l
-to-timed TeiAssigned l e = e
-to-timed AwaitingEstablishment l e = e
-to-timed AwaitingRelease l e = e
 to-timed Established l e = timed-7 l.running l.peer_busy l.a l.s e
-to-timed TimerRecovery l e = e
+to-timed other l e = e
 
 or-true : (x : Bool) → (x || true) ≡ true
 or-true true = refl
@@ -103,25 +92,16 @@ from-7 running busy a s (inr timer) heeds awaits ordered =
 
 from-timed : (here : State) (l : Link) → IsTimedIn here l → HeedsIn here l.peer_busy l.running → (here ≡ Established → l.running ≡ Some T200 → (l.peer_busy ≡ true) ⊎ (l.a ≢ l.s)) → l.a ≤ l.s
     → l.running ≡ needed_in here l
-from-timed TeiAssigned l timed heeds awaits ordered = timed
-from-timed AwaitingEstablishment l timed heeds awaits ordered = timed
-from-timed AwaitingRelease l timed heeds awaits ordered = timed
 from-timed Established l timed heeds awaits ordered = from-7 l.running l.peer_busy l.a l.s timed heeds (awaits refl) ordered
-from-timed TimerRecovery l timed heeds awaits ordered = timed
+from-timed other l timed heeds awaits ordered = timed
 
 to-calm : (here : State) (l : Link) → IsCalmIn here l → calm here l.peer_busy
-to-calm TeiAssigned l h = tt
 to-calm AwaitingEstablishment l h = h
-to-calm AwaitingRelease l h = tt
-to-calm Established l h = tt
-to-calm TimerRecovery l h = tt
+to-calm other l h = tt
 
 from-heeds : (here : State) (l : Link) → HeedsIn here l.peer_busy l.running → IsCalmIn here l
-from-heeds TeiAssigned l h = tt
 from-heeds AwaitingEstablishment l h = h
-from-heeds AwaitingRelease l h = tt
-from-heeds Established l h = tt
-from-heeds TimerRecovery l h = tt
+from-heeds other l h = tt
 
 pub is-timed : (l : Link) → HasItsTimer l → IsTimed l
 is-timed l h = record { timer = to-timed l.state l (h.running ∙ needs l.state l) }

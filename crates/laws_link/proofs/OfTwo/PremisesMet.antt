@@ -1,16 +1,13 @@
 -- The premises are met: by two links that begin, by the worked run in which every frame is lost, and by one in which a
 -- frame is lost and REJ makes it good.
-use Rattle.laws_link.proofs.Vocabulary.{◌≡◌, Bool, true, false, ◌&&◌, List, [], ◌∷◌, length, refl, inr, arith, nat_lt, nat_le, and_parts, ltb-true, leb-true, seq, distance_of, named, supervisory_of, unnumbered_of, control_of, header_of, reading, Request, Establish, Release, Data, SetBusy, ClearBusy, after_all, End, Ends, Act, asks, expires, sends, receives, loses, Doing, at_near, at_far, doing, doing_all, StayUp, IsTimed, both, mended, IsMildRequest, IsMildAct, IsMild, StayAhead, IsReady, IsTaken, HasUnsent, IsSilent, HasMissing, losing, cut_off}
+use Rattle.laws_link.proofs.Vocabulary.{◌≡◌, Bool, true, false, ◌&&◌, List, [], ◌∷◌, length, refl, inr, arith, nat_lt, nat_le, and_parts, ltb-true, leb-true, seq, distance_of, named, supervisory_of, unnumbered_of, control_of, header_of, reading, Request, Release, after_all, End, Ends, Act, asks, expires, sends, receives, loses, Doing, at_near, at_far, doing, doing_all, StayUp, IsTimed, both, mended, IsMildRequest, IsMildAct, IsMild, StayAhead, IsReady, IsTaken, HasUnsent, IsSilent, HasMissing, losing, cut_off}
 use Rattle.laws_link.proofs.OfTwo.Premises.{begins}
 use Rattle.laws_link.proofs.OfTwo.Together.{all-stay_up}
 
 -- a test of what goes on ahead
 unfoldable pub mild_request : Request → Bool
-mild_request Establish = true
 mild_request Release = false
-mild_request (Data octets) = true
-mild_request SetBusy = true
-mild_request ClearBusy = true
+mild_request other = true
 
 unfoldable pub mild_act : Act → End → Bool
 mild_act (asks request full) n = mild_request request
@@ -29,11 +26,8 @@ stay_ahead (d ∷ ds) e = nat_le e.far.link.r e.near.link.s && nat_le e.near.lin
 
 pub by-request : (request : Request) → mild_request request ≡ true → IsMildRequest request
 unfolding mild_request
-by-request Establish e = tt
 by-request Release e = absurd (cc)
-by-request (Data octets) e = tt
-by-request SetBusy e = tt
-by-request ClearBusy e = tt
+by-request other e = tt
 
 by-act : (act : Act) (n : End) → mild_act act n ≡ true → IsMildAct act n
 unfolding mild_act

@@ -80,16 +80,7 @@ in_8_stays timer final n = search effects depth 12 fits 4000
 -- what fits, where it is an I-frame
 abbrev pub Fits : Terms → Control → List ℕ → Type 0
 Fits t (Information ns nr b) octets = length octets ≤ t.n201
-Fits t (ReceiveReady nr pf) octets = Unit {0}
-Fits t (ReceiveNotReady nr pf) octets = Unit {0}
-Fits t (Reject nr pf) octets = Unit {0}
-Fits t (Sabme b) octets = Unit {0}
-Fits t (Disc b) octets = Unit {0}
-Fits t (Ui b) octets = Unit {0}
-Fits t (Ua f) octets = Unit {0}
-Fits t (Dm f) octets = Unit {0}
-Fits t (Frmr f) octets = Unit {0}
-Fits t (Xid pf) octets = Unit {0}
+Fits t other octets = Unit {0}
 
 module _ (t : Terms) (l : Link) (up : IsTrue (is_multiple_frame l.state)) (p : ℕ) (valid : named l.a l.s (seq p) ≡ Some p) where
   first : Holds l.a l.s (begun l)
@@ -138,13 +129,7 @@ module _ (t : Terms) (l : Link) (up : IsTrue (is_multiple_frame l.state)) (p : �
   in-7 b octets (Reject nr pf) e size =
       subst (λ n. IsUpIn (MultipleFrame.supervisory t (Established.particulars_in_7 t) false b pf n (Established.particulars_in_7 t).by_rej (begun l))) (sym e)
       (supervisory-7 false b pf (Established.particulars_in_7 t).by_rej (λ final n. rej_7_stays n))
-  in-7 b octets (Sabme x) e size = absurd e
-  in-7 b octets (Disc x) e size = absurd e
-  in-7 b octets (Ui x) e size = absurd e
-  in-7 b octets (Ua x) e size = absurd e
-  in-7 b octets (Dm x) e size = absurd e
-  in-7 b octets (Frmr x) e size = absurd e
-  in-7 b octets (Xid x) e size = absurd e
+  in-7 b octets other e size = absurd e
 
   in-8 : (b : Bool) (octets : List ℕ) (control : Control) → Means p control → Fits t control octets → IsUpIn (TimerRecovery.frame_in_8 t b octets control (begun l))
   in-8 b octets (Information ns nr x) e size =
@@ -159,21 +144,13 @@ module _ (t : Terms) (l : Link) (up : IsTrue (is_multiple_frame l.state)) (p : �
   in-8 b octets (Reject nr pf) e size =
       subst (λ n. IsUpIn (MultipleFrame.supervisory t (TimerRecovery.particulars_in_8 t) false b pf n (TimerRecovery.particulars_in_8 t).by_rej (begun l))) (sym e)
       (supervisory-8 false b pf (TimerRecovery.particulars_in_8 t).by_rej (in_8_stays T203))
-  in-8 b octets (Sabme x) e size = absurd e
-  in-8 b octets (Disc x) e size = absurd e
-  in-8 b octets (Ui x) e size = absurd e
-  in-8 b octets (Ua x) e size = absurd e
-  in-8 b octets (Dm x) e size = absurd e
-  in-8 b octets (Frmr x) e size = absurd e
-  in-8 b octets (Xid x) e size = absurd e
+  in-8 b octets other e size = absurd e
 
   frames-in : (here : State) → IsTrue (is_multiple_frame here) → (b : Bool) (octets : List ℕ) (control : Control) → Means p control → Fits t control octets
       → IsUpIn (Machine.frame_in here t b octets control (begun l))
-  frames-in TeiAssigned h b octets control e size = absurd (true≢false (sym h))
-  frames-in AwaitingEstablishment h b octets control e size = absurd (true≢false (sym h))
-  frames-in AwaitingRelease h b octets control e size = absurd (true≢false (sym h))
   frames-in Established h b octets control e size = in-7 b octets control e size
   frames-in TimerRecovery h b octets control e size = in-8 b octets control e size
+  frames-in other h b octets control e size = absurd (true≢false (sym h))
 
   pub frame-stays : (b : Bool) (octets : List ℕ) (control : Control) → Means p control → Fits t control octets → IsUpIn (Machine.frame_step t b octets control (begun l))
   frame-stays b octets control e size = frames-in l.state up b octets control e size
@@ -186,11 +163,9 @@ module _ (t : Terms) (l : Link) (up : IsTrue (is_multiple_frame l.state)) where
 
   -- an establishment is refused in states 7 and 8
   pub refused : (here : State) → l.state ≡ here → IsTrue (is_multiple_frame here) → (full : Bool) → Requests.refusal t l full Establish ≡ Some WrongState
-  refused TeiAssigned e h full = absurd (true≢false (sym h))
-  refused AwaitingEstablishment e h full = absurd (true≢false (sym h))
-  refused AwaitingRelease e h full = absurd (true≢false (sym h))
   refused Established e h full = ap (λ s. cond (Requests.serves s Establish) None (Some WrongState)) e
   refused TimerRecovery e h full = ap (λ s. cond (Requests.serves s Establish) None (Some WrongState)) e
+  refused other e h full = absurd (true≢false (sym h))
 
   either : (b : Bool) (u v : Course) → IsUpIn u → IsUpIn v → IsUpIn (cond b u v)
   either true u v x y = x

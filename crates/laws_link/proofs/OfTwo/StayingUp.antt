@@ -1,5 +1,5 @@
 -- Two links stay up where T200 is timely: what holds in both directions is kept by each act.
-use Rattle.laws_link.proofs.Vocabulary.{◌≡◌, ℕ, ◌+◌, ◌≤◌, Bool, true, false, IsTrue, List, [], ◌∷◌, ◌++◌, refl, sym, ap, subst, ◌∙◌, inl, inr, true≢false, arith, All, drop, All-head, All-tail, seq, Control, Information, ReceiveReady, ReceiveNotReady, Reject, Sabme, Disc, Ui, Ua, Dm, Frmr, Xid, Parts, State, TeiAssigned, AwaitingEstablishment, AwaitingRelease, Established, TimerRecovery, LinkTimer, ControlFrame, Terms, Link, is_multiple_frame, Request, frame, received, expired, requested, offer, Course, End, Act, asks, expires, sends, receives, loses, with_link, with_sent, with_first_of, frame_given, acting, IsUp, rising-low, frames_of, line_of, Joined, IsMildRequest, is_enquiry, is_answer, IsNoneOpen, IsTimelyAct}
+use Rattle.laws_link.proofs.Vocabulary.{◌≡◌, ℕ, ◌+◌, ◌≤◌, Bool, true, false, IsTrue, List, [], ◌∷◌, ◌++◌, refl, sym, ap, subst, ◌∙◌, inl, inr, true≢false, arith, All, drop, All-head, All-tail, seq, Control, Information, ReceiveReady, ReceiveNotReady, Reject, Sabme, Disc, Ui, Ua, Dm, Frmr, Xid, Parts, State, Established, TimerRecovery, LinkTimer, ControlFrame, Terms, Link, is_multiple_frame, Request, frame, received, expired, requested, offer, Course, End, Act, asks, expires, sends, receives, loses, with_link, with_sent, with_first_of, frame_given, acting, IsUp, rising-low, frames_of, line_of, Joined, IsMildRequest, is_enquiry, is_answer, IsNoneOpen, IsTimelyAct}
 use Rattle.model_link.specs.Machine
 use Rattle.laws_link.proofs.OfTwo.Trains.{Kind, numbered, enquiry, report, kind_of, kinds_of, tally, one_enquiry, one_answer}
 use Rattle.laws_link.proofs.OfTwo.Flow.{most, Flow, there-calm, there-enquiry, there-unasked, there-information, there-tail, back-other, back-tail}
@@ -92,9 +92,6 @@ module _ (n m : End) (h : Joined n m) (f : Flows n m) (g : Flows m n) where
   -- expiries
   none-open : (here : State) → n.link.state ≡ here → (n.link.state ≡ TimerRecovery → IsNoneOpen n m) → IsTrue (is_multiple_frame here)
       → (tally one_enquiry own ≡ 0) × (tally one_answer other ≡ 0)
-  none-open TeiAssigned e x up = absurd (true≢false (sym up))
-  none-open AwaitingEstablishment e x up = absurd (true≢false (sym up))
-  none-open AwaitingRelease e x up = absurd (true≢false (sym up))
   none-open Established e x up =
       let asked : tally one_enquiry own + tally one_answer other ≤ 0 = subst (λ s. tally one_enquiry own + tally one_answer other ≤ most (is_recovering s)) e f.asked in
       (omega arith, omega arith)
@@ -103,6 +100,7 @@ module _ (n m : End) (h : Joined n m) (f : Flows n m) (g : Flows m n) where
         none-there is_enquiry one_enquiry not-enquiry n.terms n.way n.link.waiting o.enquiries.way o.enquiries.waiting,
         none-there is_answer one_answer not-answer m.terms m.way m.link.waiting o.answers.way o.answers.waiting,
       )
+  none-open state e x up = absurd (true≢false (sym up))
 
   asked-flows : (l' : Link) → Asked n.link l' → Longer own (line n.terms n.way l'.waiting) enquiry → (tally one_enquiry own ≡ 0) × (tally one_answer other ≡ 0)
       → Flow l'.s m.link.r (is_recovering l'.state) m.link.rejecting (line n.terms n.way l'.waiting) other

@@ -1,5 +1,5 @@
 -- Two links stay up while neither's V(S) is below the other's V(R).
-use Rattle.laws_link.proofs.Vocabulary.{◌≡◌, ℕ, zero, suc, ◌+◌, ◌≤◌, IsTrue, List, [], ◌∷◌, ◌++◌, length, Some, refl, sym, ap, subst, ◌∙◌, arith, All, slice_get, All-head, All-tail, seq, named, Control, Information, ReceiveReady, ReceiveNotReady, Reject, Sabme, Disc, Ui, Ua, Dm, Frmr, Xid, Parts, Terms, is_multiple_frame, frame, received, End, Ends, Act, asks, expires, sends, receives, loses, Doing, at_near, at_far, with_link, with_first_of, acting, turned, doing, Begins, IsUp, StayUp, Piece, Carried, Rising, rising-low, frames_of, Joined, joined-turned, joined-first, done-at, IsAhead, IsMild, IsMildAct, StayAhead}
+use Rattle.laws_link.proofs.Vocabulary.{◌≡◌, ℕ, zero, suc, ◌+◌, ◌≤◌, IsTrue, List, [], ◌∷◌, ◌++◌, length, Some, refl, sym, ap, subst, ◌∙◌, arith, All, slice_get, All-head, All-tail, seq, named, Control, Information, Parts, Terms, is_multiple_frame, frame, received, End, Ends, Act, asks, expires, sends, receives, loses, Doing, at_near, at_far, with_link, with_first_of, acting, turned, doing, Begins, IsUp, StayUp, Piece, Carried, Rising, rising-low, frames_of, Joined, joined-turned, joined-first, done-at, IsAhead, IsMild, IsMildAct, StayAhead}
 use Rattle.laws_link.proofs.OfTwo.Halves.{named-number}
 use Rattle.laws_link.proofs.OfTwo.Staying.{Fits, frame-stays, request-stays, timer-stays, offer-stays}
 
@@ -12,16 +12,7 @@ at-place n (y ∷ ys) (suc i) x h e = at-place n ys i x (All-tail (λ octets. le
 fits-of : (t : Terms) (contents : List (List ℕ)) (high r top : ℕ) (octets : List ℕ) (control : Control) → All (λ octets. length octets ≤ t.n201) contents
     → Piece contents high r top octets control → Fits t control octets
 fits-of t contents high r top octets (Information ns nr p) sizes h = at-place t.n201 contents h.number octets sizes h.same
-fits-of t contents high r top octets (ReceiveReady nr pf) sizes h = tt
-fits-of t contents high r top octets (ReceiveNotReady nr pf) sizes h = tt
-fits-of t contents high r top octets (Reject nr pf) sizes h = tt
-fits-of t contents high r top octets (Sabme p) sizes h = tt
-fits-of t contents high r top octets (Disc p) sizes h = tt
-fits-of t contents high r top octets (Ui p) sizes h = tt
-fits-of t contents high r top octets (Ua f) sizes h = tt
-fits-of t contents high r top octets (Dm f) sizes h = tt
-fits-of t contents high r top octets (Frmr f) sizes h = tt
-fits-of t contents high r top octets (Xid pf) sizes h = tt
+fits-of t contents high r top octets other sizes h = tt
 
 module _ (n m : End) (h : Joined n m) (same : n.terms.n201 ≡ m.terms.n201) (ahead : m.link.r ≤ n.link.s) where
   hears : (f : Parts) (fs : List Parts) → m.way ≡ f ∷ fs → IsTrue (is_multiple_frame (with_link (received (frame f)) n).link.state)

@@ -1,5 +1,5 @@
 -- What goes between two links that stay up, frame by frame: the kinds of frames, and how the numbers of I-frames rise.
-use Rattle.laws_link.proofs.Vocabulary.{◌≡◌, ℕ, ◌+◌, ◌%◌, ◌<◌, ◌≤◌, Bool, true, false, List, [], ◌∷◌, ◌++◌, refl, sym, ap, ◌∙◌, ◌⊎◌, inl, inr, arith, Seq, seq, seq-value, Control, Information, ReceiveReady, ReceiveNotReady, Reject, Sabme, Disc, Ui, Ua, Dm, Frmr, Xid, Parts}
+use Rattle.laws_link.proofs.Vocabulary.{◌≡◌, ℕ, ◌+◌, ◌%◌, ◌<◌, ◌≤◌, Bool, true, false, List, [], ◌∷◌, ◌++◌, refl, sym, ap, ◌∙◌, ◌⊎◌, inl, inr, arith, Seq, seq, seq-value, Control, Information, ReceiveReady, ReceiveNotReady, Reject, Parts}
 
 pub data Kind : Type 0 where
   -- an I-frame with P=0
@@ -33,13 +33,7 @@ kind_of command (Information ns nr p) = kind_of_information p ns
 kind_of command (ReceiveReady nr pf) = kind_of_ready command pf nr
 kind_of command (ReceiveNotReady nr pf) = kind_of_ready command pf nr
 kind_of command (Reject nr pf) = kind_of_reject command pf nr
-kind_of command (Sabme p) = alien
-kind_of command (Disc p) = alien
-kind_of command (Ui p) = alien
-kind_of command (Ua f) = alien
-kind_of command (Dm f) = alien
-kind_of command (Frmr f) = alien
-kind_of command (Xid pf) = alien
+kind_of command other = alien
 
 abbrev pub kinds_of : List Parts → List Kind
 kinds_of [] = []
@@ -55,12 +49,10 @@ tally one [] = 0
 tally one (x ∷ xs) = one x + tally one xs
 
 abbrev pub one_enquiry : Kind → ℕ
-one_enquiry (numbered ns) = 0
 one_enquiry enquiry = 1
-one_enquiry (answer nr) = 0
 one_enquiry report = 0
-one_enquiry (rejection nr) = 0
 one_enquiry alien = 0
+one_enquiry other = 0
 
 abbrev pub one_answer : Kind → ℕ
 one_answer (numbered ns) = 0

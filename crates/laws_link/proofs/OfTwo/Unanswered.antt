@@ -1,5 +1,5 @@
 -- An answer that finds no room is told as lost.
-use Rattle.laws_link.proofs.Vocabulary.{◌≡◌, ℕ, ◌+◌, ◌≤◌, Bool, true, false, cond, IsTrue, List, length, Option, None, Some, is_some, sym, subst, true≢false, arith, nat_lt, le-ltb, Seq, named, Control, Information, ReceiveReady, ReceiveNotReady, Reject, Sabme, Disc, Ui, Ua, Dm, Frmr, Xid, Note, Parts, State, TeiAssigned, AwaitingEstablishment, AwaitingRelease, Established, TimerRecovery, LinkTimer, T200, T203, Terms, Link, is_multiple_frame, frame, received, Course, begun, Step, ◌then◌, Leads, keeping_then, nothing_leads, depending_leads, bit_leads, IsPollWith, asked_of}
+use Rattle.laws_link.proofs.Vocabulary.{◌≡◌, ℕ, ◌+◌, ◌≤◌, Bool, true, false, cond, IsTrue, List, length, Option, None, Some, is_some, sym, subst, true≢false, arith, nat_lt, le-ltb, Seq, named, Control, Information, ReceiveReady, ReceiveNotReady, Reject, Sabme, Disc, Ui, Ua, Dm, Frmr, Xid, Note, Parts, State, TeiAssigned, Established, TimerRecovery, LinkTimer, T200, T203, Terms, Link, is_multiple_frame, frame, received, Course, begun, Step, ◌then◌, Leads, keeping_then, nothing_leads, depending_leads, bit_leads, IsPollWith, asked_of}
 use Rattle.lapd_frame.specs.declared.notes.ErrorCode.TheVariants as code
 use Rattle.model_link.specs.Words
 use Rattle.model_link.specs.MultipleFrame
@@ -126,11 +126,9 @@ module _ (t : Terms) (l : Link) (full : t.control ≤ length l.waiting) where
 
   frames-in : (here : State) → IsTrue (is_multiple_frame here) → (command : Bool) (octets : List ℕ) (control : Control)
       → IsPollWith t l command octets control → Lost (Machine.frame_in here t command octets control (begun l))
-  frames-in TeiAssigned up command octets control h = absurd (true≢false (sym up))
-  frames-in AwaitingEstablishment up command octets control h = absurd (true≢false (sym up))
-  frames-in AwaitingRelease up command octets control h = absurd (true≢false (sym up))
   frames-in Established up command octets control h = in-7 command octets control h
   frames-in TimerRecovery up command octets control h = in-8 command octets control h
+  frames-in other up command octets control h = absurd (true≢false (sym up))
 
   pub poll-lost : (f : Parts) → IsTrue (is_multiple_frame l.state) → IsPollWith t l f.address.command f.info f.control
       → 1 ≤ (Machine.told t (received (frame f)) l).lost
@@ -138,29 +136,16 @@ module _ (t : Terms) (l : Link) (full : t.control ≤ length l.waiting) where
 
   -- SABME and DISC
   sabme-in : (here : State) (command : Bool) (octets : List ℕ) (p : Bool) → Lost (Machine.frame_in here t command octets (Sabme p) (begun l))
-  sabme-in TeiAssigned command octets p = put
-  sabme-in AwaitingEstablishment command octets p = put
-  sabme-in AwaitingRelease command octets p = put
   sabme-in Established command octets p = branch _ _ _ put put
   sabme-in TimerRecovery command octets p = branch _ _ _ put put
+  sabme-in other command octets p = put
 
   disc-in : (here : State) (command : Bool) (octets : List ℕ) (p : Bool) → Lost (Machine.frame_in here t command octets (Disc p) (begun l))
   disc-in TeiAssigned command octets p = put
-  disc-in AwaitingEstablishment command octets p = put
-  disc-in AwaitingRelease command octets p = put
-  disc-in Established command octets p = put
-  disc-in TimerRecovery command octets p = put
+  disc-in other command octets p = put
 
   pub unnumbered-lost : (command : Bool) (octets : List ℕ) (control : Control) → is_some (asked_of l.state control) ≡ true
       → Lost (Machine.frame_step t command octets control (begun l))
   unnumbered-lost command octets (Sabme p) e = sabme-in l.state command octets p
   unnumbered-lost command octets (Disc p) e = disc-in l.state command octets p
-  unnumbered-lost command octets (Information ns nr p) e = absurd (true≢false (sym e))
-  unnumbered-lost command octets (ReceiveReady nr pf) e = absurd (true≢false (sym e))
-  unnumbered-lost command octets (ReceiveNotReady nr pf) e = absurd (true≢false (sym e))
-  unnumbered-lost command octets (Reject nr pf) e = absurd (true≢false (sym e))
-  unnumbered-lost command octets (Ui p) e = absurd (true≢false (sym e))
-  unnumbered-lost command octets (Ua f) e = absurd (true≢false (sym e))
-  unnumbered-lost command octets (Dm f) e = absurd (true≢false (sym e))
-  unnumbered-lost command octets (Frmr f) e = absurd (true≢false (sym e))
-  unnumbered-lost command octets (Xid pf) e = absurd (true≢false (sym e))
+  unnumbered-lost command octets other e = absurd (true≢false (sym e))

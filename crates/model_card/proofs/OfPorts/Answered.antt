@@ -1,12 +1,12 @@
 -- What is asked of the card of frames, and of what the answers are made.
-use Rattle.model_card.proofs.OfPorts.Vocabulary.{◌≡◌, ℕ, Bool, true, false, List, [], ◌∷◌, ◌++◌, flat_map, Option, None, Some, option_map, option_to_list, refl, ap, sym, ◌∙◌, subst, cond, map, flat_map-append, All, PoolFull, Card, Event, Moment, OctetCard, Port, port_at, meant, answer, after, answer_of, answer_to, gained, is_due, next_octet, with_item, meant_all, moments}
+use Rattle.model_card.proofs.OfPorts.Vocabulary.{◌≡◌, ℕ, Bool, true, false, List, [], ◌∷◌, ◌++◌, flat_map, Option, None, Some, option_map, option_to_list, refl, ap, ◌∙◌, subst, cond, map, flat_map-append, All, PoolFull, Card, Event, OctetCard, Port, port_at, meant, answer, after, answer_of, answer_to, gained, is_due, next_octet, with_item, meant_all, moments}
 use Rattle.model_bits.specs.Stream as stream
 use Rattle.model_line.specs.Event as line
 use Rattle.model_line.specs.Machine as lines
 unfoldable use Rattle.model_line.specs.Machine.{answer as line_answer, takes_slot}
 use Rattle.model_card.specs.Event as frames
 use Rattle.model_card.specs.Machine as machine
-use Rattle.model_card.specs.ports.Codec.{asked_of, asked_in, asked_with, asked_among, Says, SaysSo, IsAnswered}
+use Rattle.model_card.specs.ports.Codec.{asked_of, asked_with, asked_among, Says, SaysSo, IsAnswered}
 use Rattle.model_card.specs.ports.Port as port
 use Rattle.model_card.proofs.OfPorts.Drops.{every_moment}
 

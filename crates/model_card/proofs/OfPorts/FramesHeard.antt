@@ -103,23 +103,17 @@ more_bits Short = bits (0x00 ∷ 0x7E ∷ 0xFF ∷ [])
 bits-fault : (fault : Fault) → bits (fault_octets fault) ≡ flag ++ more_bits fault
 unfolding low_bits
 bits-fault Fcs = refl
-bits-fault Abort = refl
-bits-fault Ragged = refl
-bits-fault Short = refl
+bits-fault other = refl
 
 hears_fault : (room : ℕ) (past : List Bool) (fault : Fault) → hears room (after_flag past) (more_bits fault) ≡ dropped (cause_of fault) ∷ []
 unfolding low_bits
 hears_fault room past Fcs = refl
-hears_fault room past Abort = refl
-hears_fault room past Ragged = refl
-hears_fault room past Short = refl
+hears_fault room past other = refl
 
 idle_after_fault : (past : List Bool) (fault : Fault) → IdleAt (reverse_aux (more_bits fault) (after_flag past))
 unfolding low_bits
 idle_after_fault past Fcs = record { ones = refl; no_gap = refl }
-idle_after_fault past Abort = record { ones = refl; no_gap = refl }
-idle_after_fault past Ragged = record { ones = refl; no_gap = refl }
-idle_after_fault past Short = record { ones = refl; no_gap = refl }
+idle_after_fault past other = record { ones = refl; no_gap = refl }
 
 fault_heard : (n201 : ℕ) (before : List ℕ) (fault : Fault) → IsIdle before → AreHeardAs n201 before (fault_octets fault) (dropped (cause_of fault))
 fault_heard n201 before fault idle =

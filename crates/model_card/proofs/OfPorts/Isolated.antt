@@ -34,10 +34,8 @@ answer_full (line.refused why) = refl
 answer_full (line.gave next) = refl
 
 none_full : (e : port.Event) (p : Port) → is_pool_full (port.answer e None p) ≡ false
-none_full (octet value) p = refl
-none_full (port.expiry timer) p = refl
-none_full (port.request r) p = refl
 none_full pull p = refl
+none_full other p = refl
 
 -- What an event means: nothing; or something that finds the pool full where the answer says so, and then leaves the port.
 by_meaning : (n201 : ℕ) (e : port.Event) (p : Port) (ask : line.Event → line.Answer) → IsNeverFull ask → (P : Option line.Event → Type 0) → P None

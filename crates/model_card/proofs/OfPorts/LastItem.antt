@@ -1,5 +1,5 @@
 -- All items of a port but the last have been given, to the last bit; and each frame among them is long enough for one.
-use Rattle.model_card.proofs.OfPorts.Vocabulary.{◌≡◌, ℕ, ◌+◌, ◌≤◌, ◌<◌, ◌⊎◌, inl, inr, Bool, true, false, List, [], ◌∷◌, ◌++◌, length, Option, None, Some, IfSome, option_map, refl, sym, subst, cond, arith, length-append, ltb-true, length-drop, length-bits, All, All-nil, All-push, bits, Item, idle, frame, line_text, Config, Card, Port, given_in, is_due, item_of, left_of, meant, next_octet, octet, port_at, pull, with_item, with_octet}
+use Rattle.model_card.proofs.OfPorts.Vocabulary.{◌≡◌, ℕ, ◌+◌, ◌≤◌, ◌<◌, ◌⊎◌, inl, inr, Bool, true, false, List, [], ◌∷◌, ◌++◌, length, Option, None, Some, IfSome, option_map, refl, sym, subst, cond, arith, length-append, ltb-true, length-drop, length-bits, All, All-nil, All-push, bits, Item, idle, frame, line_text, Config, Card, Port, given_in, is_due, item_of, left_of, meant, next_octet, port_at, pull, with_item, with_octet}
 use Rattle.model_card.specs.Card.{line_at}
 use Rattle.model_card.specs.Sound as cards
 use Rattle.model_card.proofs.Steps.{has_lines, line_sound}
@@ -40,9 +40,6 @@ ended p value due =
 
 cut_after : (n201 : ℕ) (e : port.Event) (p : Port) (ask : line.Event → line.Answer) → IsCut p.items p.given
     → let q = port.after e (option_map ask (port.meant n201 e p)) p in IsCut q.items q.given
-cut_after n201 (octet value) p ask h = h
-cut_after n201 (port.expiry timer) p ask h = h
-cut_after n201 (port.request r) p ask h = h
 cut_after n201 pull p ask h = go (is_due p) refl
   where
     go : (due : Bool) → is_due p ≡ due → let q = with_octet (with_item (option_map ask (cond due (Some line.next) None)) p) in IsCut q.items q.given
@@ -54,6 +51,7 @@ cut_after n201 pull p ask h = go (is_due p) refl
           items_are = refl;
           before = ended p (next_octet (with_item (Some (ask line.next)) p)) e;
         })
+cut_after n201 other p ask h = h
 
 -- ---- frames long enough
 
@@ -67,14 +65,12 @@ item_long (Some next) h = h
 
 long_after : (n201 : ℕ) (e : port.Event) (p : Port) (ask : line.Event → line.Answer) → IfSome (given_in (ask line.next)) (λ next. IsNotShort next.octets) → All IsLongItem p.items
     → All IsLongItem (port.after e (option_map ask (port.meant n201 e p)) p).items
-long_after n201 (octet value) p ask long h = h
-long_after n201 (port.expiry timer) p ask long h = h
-long_after n201 (port.request r) p ask long h = h
 long_after n201 pull p ask long h = go (is_due p)
   where
     go : (due : Bool) → All IsLongItem (with_octet (with_item (option_map ask (cond due (Some line.next) None)) p)).items
     go false = h
     go true = All-push IsLongItem p.items (item_of (given_in (ask line.next))) h (item_long (given_in (ask line.next)) long)
+long_after n201 other p ask long h = h
 
 taken_long : (o : Option Taken) → IfSome o (λ t. IsNotShort t.frame) → IfSome (option_map next_of o) (λ next. IsNotShort next.octets)
 taken_long None h = tt

@@ -153,12 +153,10 @@ Spent n201 before after pulls takes = length (left_of after) + 8 * pulls ≤ len
 
 port_spends : (n201 : ℕ) (e : port.Event) (p : Port) (ask : line.Event → line.Answer) → GivesShort n201 ask → IsTextOf p
     → let o = port.meant n201 e p in Spent n201 p (port.after e (option_map ask o) p) (cond (is_pull e) 1 0) (take_count o)
-port_spends n201 (octet value) p ask short h = omega arith
-port_spends n201 (port.expiry timer) p ask short h = omega arith
-port_spends n201 (port.request r) p ask short h = omega arith
 port_spends n201 pull p ask short h =
     let o = port.meant n201 pull p in
     subst (λ takes. Spent n201 p (port.after pull (option_map ask o) p) 1 takes) (call_counts (is_due p)) (pull_is n201 p ask short h).fewer
+port_spends n201 other p ask short h = omega arith
 
 -- at a card
 own_spends : (m : OctetCard) (e : Event) → IsSound m → IsAtLine m e
@@ -279,10 +277,8 @@ few_by n201 before after o h few =
 
 few_after : (n201 : ℕ) (e : port.Event) (p : Port) (ask : line.Event → line.Answer) → GivesShort n201 ask → IsTextOf p → LeavesFew n201 p
     → LeavesFew n201 (port.after e (option_map ask (port.meant n201 e p)) p)
-few_after n201 (octet value) p ask short h few = few
-few_after n201 (port.expiry timer) p ask short h few = few
-few_after n201 (port.request r) p ask short h few = few
 few_after n201 pull p ask short h few = few_by n201 p _ (port.meant n201 pull p) (pull_is n201 p ask short h) few
+few_after n201 other p ask short h few = few
 
 few_stay : (c : Config) → IsKept c (LeavesFew c.n201)
 unfolding meant

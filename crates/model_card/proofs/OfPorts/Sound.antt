@@ -1,5 +1,5 @@
 -- A card of octets is sound as it begins, and each event keeps it so.
-use Rattle.model_card.proofs.OfPorts.Vocabulary.{◌≡◌, ℕ, ◌+◌, ◌≤◌, ◌<◌, Bool, true, false, List, [], ◌∷◌, length, Option, None, Some, IfSome, option_map, option_map_or, refl, ap, sym, ◌∙◌, subst, cond, arith, length-replicate, All, All-get_or, All-head, All-nil, All-push, All-replicate, All-set, All-tail, Item, item_octets, IsInRange, Config, Card, CardsStaySound, Event, IsSound, IsSoundPort, IsAtLine, AreAtLines, OctetCard, Port, after, after_all, card_after, fresh, fresh_port, given_in, is_due, item_of, meant, octet, port_at, pull, said, with_item, with_octet}
+use Rattle.model_card.proofs.OfPorts.Vocabulary.{◌≡◌, ℕ, ◌+◌, ◌≤◌, ◌<◌, Bool, true, false, List, [], ◌∷◌, length, Option, None, Some, IfSome, option_map, option_map_or, refl, ap, sym, ◌∙◌, subst, cond, arith, length-replicate, All, All-get_or, All-head, All-nil, All-push, All-replicate, All-set, All-tail, Item, item_octets, IsInRange, Config, Card, CardsStaySound, Event, IsSound, IsSoundPort, IsAtLine, AreAtLines, OctetCard, Port, after, after_all, card_after, fresh, fresh_port, given_in, is_due, item_of, meant, port_at, pull, said, with_item, with_octet}
 use Rattle.model_card.specs.Card.{line_at}
 use Rattle.model_card.specs.Event as frames
 use Rattle.model_card.specs.Sound as cards
@@ -31,14 +31,12 @@ item_short n201 (Some next) h = h
 
 sizes_after : (n201 : ℕ) (e : port.Event) (p : Port) (ask : line.Event → line.Answer) → GivesShort n201 ask → All (IsShort n201) p.items
     → All (IsShort n201) (port.after e (option_map ask (port.meant n201 e p)) p).items
-sizes_after n201 (octet value) p ask short sizes = sizes
-sizes_after n201 (port.expiry timer) p ask short sizes = sizes
-sizes_after n201 (port.request r) p ask short sizes = sizes
 sizes_after n201 pull p ask short sizes = go (is_due p)
   where
     go : (due : Bool) → All (IsShort n201) (with_octet (with_item (option_map ask (cond due (Some line.next) None)) p)).items
     go false = sizes
     go true = All-push (IsShort n201) p.items (item_of (given_in (ask line.next))) sizes (item_short n201 (given_in (ask line.next)) short)
+sizes_after n201 other p ask short sizes = sizes
 
 -- ---- what the lines of a sound card give
 

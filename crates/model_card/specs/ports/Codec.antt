@@ -1,7 +1,7 @@
 -- The law of the codec: a run of octets is, at the card of frames inside, the run of the frame events that it means, moment
 -- by moment, and its answers are made of those of the card of frames. What is heard is exactly what stands in the octets received, and what is given is exactly what stands in the
 -- octets put on the line.
-use Rattle.std.specs.Prelude.{◌≡◌, ℕ, ◌==◌, ◌<◌, Bool, true, false, List, [], ◌∷◌, ◌++◌, map, flat_map, All, Option, Some, None, option_map, option_to_list, if◌then◌else◌}
+use Rattle.std.specs.Prelude.{◌≡◌, ℕ, ◌==◌, ◌<◌, true, false, List, [], ◌∷◌, ◌++◌, map, flat_map, All, Option, Some, None, option_map, option_to_list, if◌then◌else◌}
 use Rattle.model_bits.specs.Bits.{bits}
 use Rattle.model_bits.specs.Sent.{Item, idle, frame, line_text}
 use Rattle.model_bits.specs.Stream as stream

@@ -1,7 +1,8 @@
 //! TEI management of one line, the network's side (Q.921 clause 5.3): which TEIs are on the line, which of them a
 //! terminal is assigned, and whether two terminals have the same one.
 //!
-//! - `teis`: [`Teis`], all of it; each call is one event, and answers a [`TeiOutcome`].
+//! - `teis`: [`Teis`], all of it; each call is one event, and answers a [`TeiOutcome`]. `teis/checks`: how a check begins,
+//!   goes on and ends.
 //! - `outcome`: what an event led to.
 //! - `table`: the TEIs of a line, each at a place.
 //! - `remembered`: the latest assignments, for requests that come again.

@@ -3,14 +3,16 @@
 ghost use Rattle.std.specs.Prelude.{◌≡◌, ◌≤◌, ◌<◌, true, Some, None, length, option_map, slice_get, is_some, false, IfOk, IfErr, IfSome, OnOk, OnErr};
 ghost use Rattle.lapd_frame.specs.declared.addresses.Side.{Side as Spelt};
 ghost use Rattle.lapd_tei.specs.Messages.{type_of};
-ghost use Rattle.lapd_tei.specs.Machine.{empty, place, held, First, Second};
+ghost use Rattle.lapd_tei.specs.Machine.{empty, place, held};
 ghost use Rattle.lapd_tei.specs.Table.{is_on};
-ghost use Rattle.lapd_tei.specs.Words.{begun, begin_check, leave, left};
-ghost use Rattle.lapd_tei.specs.Rows.{request, verify, respond, doubled, expire, expire_period, take_off, is_checked};
+ghost use Rattle.lapd_tei.specs.Words.{begun, leave, left};
+ghost use Rattle.lapd_tei.specs.Rows.{request, take_off, is_checked};
 ghost use Rattle.lapd_tei.specs.Events.{message, expiry, assign, remove, check, down, refusal, after, told, offered, after_offer};
 ghost use Rattle.lapd_tei.specs.Outcome.{told_of, led_to, IsShort};
 
-use crate::check::{Check, Period};
+mod checks;
+
+use crate::check::Check;
 use crate::fault::StartFault;
 use crate::heard::Heard;
 use crate::messages::Message;
@@ -255,123 +257,6 @@ impl Teis {
             notes: ShortList::one(Note::Assigned(tei)),
             change: Some(Change::Gained { tei, place }),
             ..TeiOutcome::nothing()
-        }
-    }
-
-    // A terminal asks for a check of its TEI.
-    fn verify(&mut self, tei: u8) -> TeiOutcome
-        ensures led { led_to self.new result ≡ verify tei (begun self.old) }
-        ensures short { IsShort result }
-    {
-        if !self.table.is_on(tei) || self.check.is_some() {
-            return TeiOutcome::unserved();
-        }
-        self.begin_check(tei)
-    }
-
-    // A check of a TEI on the line begins.
-    fn begin_check(&mut self, tei: u8) -> TeiOutcome
-        requires { is_on tei self.old.places ≡ true }
-        ensures led { led_to self.new result ≡ begin_check tei (begun self.old) }
-        ensures short { IsShort result }
-    {
-        let lost = self.queue.send(Message::IdentityCheckRequest { tei });
-        self.check = Some(Check::begun(tei));
-        TeiOutcome {
-            orders: ShortList::one(Order::Start(Timer::T201)),
-            lost,
-            ..TeiOutcome::nothing()
-        }
-    }
-
-    // A terminal answers a check.
-    fn respond(&mut self, tei: u8) -> TeiOutcome
-        ensures led { led_to self.new result ≡ respond tei self.old.check (begun self.old) }
-        ensures short { IsShort result }
-    {
-        let Some(check) = self.check else {
-            return TeiOutcome::unserved();
-        };
-        if check.tei != tei {
-            return TeiOutcome::unserved();
-        }
-        let counted = check.counted();
-        if counted.responses() >= 2 {
-            return self.doubled(tei);
-        }
-        self.check = Some(counted);
-        TeiOutcome::nothing()
-    }
-
-    // Two terminals have the TEI under check.
-    fn doubled(&mut self, tei: u8) -> TeiOutcome
-        requires { is_on tei self.old.places ≡ true }
-        ensures led { led_to self.new result ≡ doubled tei (begun self.old) }
-        ensures short { IsShort result }
-    {
-        let lost = self.queue.send(Message::IdentityRemove { tei });
-        self.check = None;
-        let place = self.leave(tei);
-        TeiOutcome {
-            notes: ShortList::one(Note::Doubled(tei)),
-            change: left(tei, place),
-            orders: ShortList::one(Order::Stop(Timer::T201)),
-            lost,
-            unserved: false,
-        }
-    }
-
-    // T201 has expired in a check.
-    fn expire(&mut self, check: Check) -> TeiOutcome
-        requires { self.old.check ≡ Some check }
-        ensures led { led_to self.new result ≡ expire (begun self.old) }
-        ensures short { IsShort result }
-    {
-        match check.period {
-            Period::First => self.ask_again(check),
-            Period::Second => self.end_check(check),
-        }
-    }
-
-    // A check's first period is over.
-    fn ask_again(&mut self, check: Check) -> TeiOutcome
-        requires { self.old.check ≡ Some check }
-        ensures led { led_to self.new result ≡ expire_period check First (begun self.old) }
-        ensures short { IsShort result }
-    {
-        let lost = self
-            .queue
-            .send(Message::IdentityCheckRequest { tei: check.tei });
-        self.check = Some(Check {
-            period: Period::Second,
-            ..check
-        });
-        TeiOutcome {
-            orders: ShortList::one(Order::Start(Timer::T201)),
-            lost,
-            ..TeiOutcome::nothing()
-        }
-    }
-
-    // A check's second period is over.
-    fn end_check(&mut self, check: Check) -> TeiOutcome
-        requires { self.old.check ≡ Some check }
-        ensures led { led_to self.new result ≡ expire_period check Second (begun self.old) }
-        ensures short { IsShort result }
-    {
-        self.check = None;
-        let stopped = TeiOutcome {
-            orders: ShortList::one(Order::Stop(Timer::T201)),
-            ..TeiOutcome::nothing()
-        };
-        if !check.is_unanswered() {
-            return stopped;
-        }
-        let place = self.leave(check.tei);
-        TeiOutcome {
-            notes: ShortList::one(Note::Removed(check.tei)),
-            change: left(check.tei, place),
-            ..stopped
         }
     }
 

@@ -1,9 +1,9 @@
 -- Writes one after the other.
 use Rattle.lapd_transcript.proofs.Vocabulary.{◌≡◌, ℕ, ◌+◌, List, [], ◌∷◌, ◌++◌, length, take, drop, Some, None, Ok, Err, Result, Option, refl, sym, ap, ◌∙◌, subst, append_assoc, arith, Bor, suc, zero, get_or, ◌<◌, ◌≤◌, ◌-◌, take_all, length-drop, length-append, false, IsOk, IsErr, OnOk, OnErr, is_ok, false≢true, flat_map, take-append-add, take-append_seam, append-nil, take-append-drop, take_more, flat_map-append, Appends, Keeps, WriteFailed, Taken, IsWritten, IsBroken, Writes, Output, IsPut, IsStuck, Puts, one_failure_more}
-use Rattle.std.specs.Prelude.{unwrap_or, option_copied}
+use Rattle.std.specs.Prelude.{codes, decimal, unwrap_or, option_copied}
 use Rattle.model_bits.specs.declared.heard.Cause.{Cause}
 use Rattle.lapd_frame.specs.declared.notes.Note.{Note}
-use Rattle.lapd_transcript.specs.Text.{note_text, dropped_text, lost_text, report_text}
+use Rattle.lapd_transcript.specs.Text.{line_text, note_text, dropped_text, lost_text, report_text}
 
 appends_then : (a b c : Option (List ℕ)) (x y : List ℕ) → Appends a b x → Appends b c y → Appends a c (x ++ y)
 appends_then None b c x y h k = tt
@@ -148,3 +148,9 @@ pub reported : (r : Result Unit WriteFailed) (a c : Output) (line lost : ℕ) (n
     → Puts r a c (flat_map (note_text line lent.now) notes ++ dropped_text line cause ++ lost_text line lost) → Puts r a c (report_text line notes (option_copied contents) cause lost)
 reported r a c line lost notes cause contents lent none e h told =
     subst (λ text. Puts r a c (flat_map (note_text line text) notes ++ dropped_text line cause ++ lost_text line lost)) (lent_is contents lent none e h) told
+
+-- The number of a line, a space, the words and a line feed are the line.
+pub lined : (r : Result Unit WriteFailed) (a c : Output) (line : ℕ) (digits words : List ℕ) → digits ≡ decimal line
+    → Puts r a c (digits ++ (codes " " ++ []) ++ words ++ codes "\n") → Puts r a c (line_text line words)
+lined r a c line digits words e h =
+    subst (λ text. Puts r a c (text ++ words ++ codes "\n")) (ap (λ space. digits ++ space) (append-nil (codes " ")) ∙ ap (λ number. number ++ codes " ") e) h

@@ -8,11 +8,11 @@ ghost use Rattle.lapd_transcript.specs.Counted.{is_zero, names_of, counters_text
 ghost use Rattle.lapd_transcript.specs.CounterNames.{row, row_text, value_text, with_name};
 
 use crate::output::{Page, decimal};
-use crate::streams::{Put, Target, WriteFailed};
+use crate::streams::{Put, Target};
 use lapd_count::Counter::Messages;
 use lapd_count::Message::{
-    IdentityAssigned, IdentityCheckRequest, IdentityCheckResponse, IdentityDenied, IdentityRemove,
-    IdentityRequest, IdentityVerify,
+    IdentityAssigned, IdentityCheckRequest as CheckRequest, IdentityCheckResponse as CheckResponse,
+    IdentityDenied, IdentityRemove, IdentityRequest, IdentityVerify,
 };
 use lapd_count::Way::{Begun, Heard};
 use lapd_count::{Counter, Counters, Kind};
@@ -99,27 +99,15 @@ static MESSAGES: [(Counter, &[u8]); 14] = [
     (Messages(Heard, IdentityRequest), b"heard-request"),
     (Messages(Heard, IdentityAssigned), b"heard-assigned"),
     (Messages(Heard, IdentityDenied), b"heard-denied"),
-    (
-        Messages(Heard, IdentityCheckRequest),
-        b"heard-check-request",
-    ),
-    (
-        Messages(Heard, IdentityCheckResponse),
-        b"heard-check-response",
-    ),
+    (Messages(Heard, CheckRequest), b"heard-check-request"),
+    (Messages(Heard, CheckResponse), b"heard-check-response"),
     (Messages(Heard, IdentityRemove), b"heard-remove"),
     (Messages(Heard, IdentityVerify), b"heard-verify"),
     (Messages(Begun, IdentityRequest), b"begun-request"),
     (Messages(Begun, IdentityAssigned), b"begun-assigned"),
     (Messages(Begun, IdentityDenied), b"begun-denied"),
-    (
-        Messages(Begun, IdentityCheckRequest),
-        b"begun-check-request",
-    ),
-    (
-        Messages(Begun, IdentityCheckResponse),
-        b"begun-check-response",
-    ),
+    (Messages(Begun, CheckRequest), b"begun-check-request"),
+    (Messages(Begun, CheckResponse), b"begun-check-response"),
     (Messages(Begun, IdentityRemove), b"begun-remove"),
     (Messages(Begun, IdentityVerify), b"begun-verify"),
 ];
@@ -127,10 +115,6 @@ static MESSAGES: [(Counter, &[u8]); 14] = [
 impl<T: Target> Page<'_, T> {
     /// What was counted of a line: each counter of a group that is not 0, in the order of their places; or that none of them
     /// counted anything.
-    ///
-    /// # Errors
-    ///
-    /// [`WriteFailed`] where a write failed: a beginning has been written then of the page and of this.
     pub fn put_counters(&mut self, line: u16, group: CounterGroup, counters: &Counters) -> Put
         ensures { Puts result (on T.taken self.old) (on T.taken self.new) (counters_text line group counters.now) }
     {
@@ -162,17 +146,11 @@ impl<T: Target> Page<'_, T> {
         if value == 0 {
             return Ok(());
         }
-        let line = decimal(u64::from(line));
         let digits = decimal(value);
-        let pieces = [
-            line.as_slice(),
-            b" counter ",
-            name,
-            b" ",
-            digits.as_slice(),
-            b"\n",
-        ];
-        self.put_all(&pieces)
+        self.put_line(
+            line,
+            &[b"counter ".as_slice(), name, b" ", digits.as_slice()],
+        )
     }
 }
 

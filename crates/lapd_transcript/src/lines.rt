@@ -12,23 +12,13 @@ use lapd_frame::Refusal;
 
 impl<T: Target> Page<'_, T> {
     /// Why a request on a line was refused.
-    ///
-    /// # Errors
-    ///
-    /// [`WriteFailed`] where a write failed: a beginning has been written then of the page and of this.
     pub fn put_refused(&mut self, line: u16, refusal: Refusal) -> Put
         ensures { Puts result (on T.taken self.old) (on T.taken self.new) (refused_text line refusal) }
     {
-        let line = decimal(u64::from(line));
-        let pieces = [line.as_slice(), b" refused ", refusal_name(refusal), b"\n"];
-        self.put_all(&pieces)
+        self.put_line(line, &[b"refused ".as_slice(), refusal_name(refusal)])
     }
 
     /// The octets that a line took in one pull.
-    ///
-    /// # Errors
-    ///
-    /// [`WriteFailed`] where a write failed: a beginning has been written then of the page and of this.
     pub fn put_sent(&mut self, line: u16, octets: &[u8]) -> Put
         ensures { Puts result (on T.taken self.old) (on T.taken self.new) (sent_text line octets.now) }
     {
@@ -36,10 +26,6 @@ impl<T: Target> Page<'_, T> {
     }
 
     /// A frame, without its frame check, that was found complete in what a line took, or that it called for.
-    ///
-    /// # Errors
-    ///
-    /// [`WriteFailed`] where a write failed: a beginning has been written then of the page and of this.
     pub fn put_frame(&mut self, line: u16, octets: &[u8]) -> Put
         ensures { Puts result (on T.taken self.old) (on T.taken self.new) (frame_text line octets.now) }
     {
@@ -47,15 +33,10 @@ impl<T: Target> Page<'_, T> {
     }
 
     /// No frame, where a line called for the next one and none waits.
-    ///
-    /// # Errors
-    ///
-    /// [`WriteFailed`] where a write failed: a beginning has been written then of the page and of this.
     pub fn put_nothing(&mut self, line: u16) -> Put
         ensures { Puts result (on T.taken self.old) (on T.taken self.new) (nothing_text line) }
     {
-        let line = decimal(u64::from(line));
-        self.put_all(&[line.as_slice(), b" nothing\n"])
+        self.put_line(line, &[b"nothing".as_slice()])
     }
 
     fn put_named_octets(&mut self, line: u16, name: &'static [u8], octets: &[u8]) -> Put
@@ -66,10 +47,6 @@ impl<T: Target> Page<'_, T> {
     }
 
     /// What the card holds, in octets, and the bound of it.
-    ///
-    /// # Errors
-    ///
-    /// [`WriteFailed`] where a write failed: a beginning has been written then of the page and of this.
     pub fn put_stored(&mut self, stored: u32, limit: u32) -> Put
         ensures { Puts result (on T.taken self.old) (on T.taken self.new) (stored_text stored limit) }
     {
@@ -87,10 +64,6 @@ impl<T: Target> Page<'_, T> {
 }
 
 /// A faulty line of a script, by its number, and what is wrong with it, in words.
-///
-/// # Errors
-///
-/// [`WriteFailed`] where a write failed: a beginning has been written then.
 pub fn write_faulty<T: Target>(target: &mut T, line: u64, words: &[u8]) -> Put
     ensures { Writes result (T.taken target.old) (T.taken target.new) (faulty_text line words.now) }
 {

@@ -7,16 +7,12 @@ ghost use Rattle.lapd_transcript.specs.Streams.{Puts};
 ghost use Rattle.lapd_transcript.specs.Text.{frame_text};
 
 use crate::output::Page;
-use crate::streams::{Put, Target, WriteFailed};
+use crate::streams::{Put, Target};
 use lapd_bits::Deframer;
 use model_bits::Heard;
 
 impl<T: Target> Page<'_, T> {
     /// Tells the octets that a line took, and the frames that are complete in them.
-    ///
-    /// # Errors
-    ///
-    /// `WriteFailed` where a write of the target failed.
     pub fn tell(&mut self, listener: &mut Deframer, line: u16, octets: &[u8]) -> Put
         ensures told { (past : List ℕ) → Hears listener.old past
             → Puts result (on T.taken self.old) (on T.taken self.new) (pulled_text line past octets.now) }

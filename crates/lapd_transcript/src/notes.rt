@@ -8,17 +8,13 @@ ghost use Rattle.lapd_transcript.specs.Text.{octets_text, line_text, link_words,
 
 use crate::names::{cause_name, suffix};
 use crate::output::{Page, decimal};
-use crate::streams::{Put, Target, WriteFailed};
+use crate::streams::{Put, Target};
 use lapd_frame::{ErrorCode, Note, Service};
 use model_bits::Cause;
 
 impl<T: Target> Page<'_, T> {
     /// What an event on a line brought: its notes, then why it dropped a frame, then how many frames it lost. `contents`
     /// are those that were delivered, which a note of data tells.
-    ///
-    /// # Errors
-    ///
-    /// [`WriteFailed`] where a write failed: a beginning has been written then of the page and of this.
     pub fn put_report(
         &mut self,
         line: u16,
@@ -50,8 +46,7 @@ impl<T: Target> Page<'_, T> {
         let Some(cause) = cause else {
             return Ok(());
         };
-        let line = decimal(u64::from(line));
-        self.put_all(&[line.as_slice(), b" dropped ", cause_name(cause), b"\n"])
+        self.put_line(line, &[b"dropped ".as_slice(), cause_name(cause)])
     }
 
     fn put_lost(&mut self, line: u16, lost: u8) -> Put
@@ -60,9 +55,8 @@ impl<T: Target> Page<'_, T> {
         if lost == 0 {
             return Ok(());
         }
-        let line = decimal(u64::from(line));
         let lost = decimal(u64::from(lost));
-        self.put_all(&[line.as_slice(), b" lost ", lost.as_slice(), b"\n"])
+        self.put_line(line, &[b"lost ".as_slice(), lost.as_slice()])
     }
 
     fn put_note(&mut self, line: u16, note: Note, contents: &[u8]) -> Put
@@ -95,36 +89,21 @@ impl<T: Target> Page<'_, T> {
     fn put_of_link(&mut self, line: u16, name: &'static [u8], service: Service, tei: u8) -> Put
         ensures { Puts result (on T.taken self.old) (on T.taken self.new) (line_text line (link_words name.now service tei)) }
     {
-        let line = decimal(u64::from(line));
         let tei = decimal(u64::from(tei));
-        self.put_all(&[
-            line.as_slice(),
-            b" ",
-            name,
-            suffix(service),
-            b" ",
-            tei.as_slice(),
-            b"\n",
-        ])
+        self.put_line(line, &[name, suffix(service), b" ", tei.as_slice()])
     }
 
     /// A note of an error.
     fn put_error(&mut self, line: u16, service: Service, tei: u8, code: ErrorCode) -> Put
         ensures { Puts result (on T.taken self.old) (on T.taken self.new) (line_text line (link_words (codes "error") service tei ++ codes " " ++ letter_of code ∷ [])) }
     {
-        let line = decimal(u64::from(line));
         let tei = decimal(u64::from(tei));
-        let letter = [code.letter() as u8];
-        self.put_all(&[
-            line.as_slice(),
-            b" error",
-            suffix(service),
-            b" ",
-            tei.as_slice(),
-            b" ",
-            &letter,
-            b"\n",
-        ])
+        let letter = [b' ', code.letter() as u8];
+        let error = b"error".as_slice();
+        self.put_line(
+            line,
+            &[error, suffix(service), b" ", tei.as_slice(), &letter],
+        )
     }
 
     /// A note about a link, and the contents that were delivered.
@@ -156,8 +135,7 @@ impl<T: Target> Page<'_, T> {
     fn put_of_tei(&mut self, line: u16, name: &[u8], tei: u8) -> Put
         ensures { Puts result (on T.taken self.old) (on T.taken self.new) (line_text line (tei_words name.now tei)) }
     {
-        let line = decimal(u64::from(line));
         let tei = decimal(u64::from(tei));
-        self.put_all(&[line.as_slice(), b" ", name, b" ", tei.as_slice(), b"\n"])
+        self.put_line(line, &[name, b" ", tei.as_slice()])
     }
 }

@@ -4,7 +4,7 @@ ghost use Rattle.std.specs.Prelude.{◌≡◌, [], ◌∷◌, ◌++◌, List, �
 ghost use Rattle.hex.specs.Hex.{encode_upper};
 ghost use Rattle.lapd_transcript.specs.Pages.{on};
 ghost use Rattle.lapd_transcript.specs.Streams.{IsSent, Output, Puts, Writes, joined};
-ghost use Rattle.lapd_transcript.specs.Text.{octets_text};
+ghost use Rattle.lapd_transcript.specs.Text.{line_text, octets_text};
 
 use crate::streams::{Put, Target, WriteFailed};
 use arrayvec::ArrayVec;
@@ -75,6 +75,16 @@ impl<'a, T: Target> Page<'a, T> {
         Ok(())
     }
 
+    /// Puts a line: the number of the card's line that it is about, and the words after it.
+    pub(crate) fn put_line(&mut self, line: u16, words: &[&[u8]]) -> Put
+        ensures { Puts result (on T.taken self.old) (on T.taken self.new) (line_text line (joined words.now)) }
+    {
+        let line = decimal(u64::from(line));
+        self.put_all(&[line.as_slice(), b" "])?;
+        self.put_all(words)?;
+        self.put(b"\n")
+    }
+
     /// Puts octets as upper-case digits, and no octets as `-`.
     fn put_octets(&mut self, octets: &[u8]) -> Put
         ensures { Puts result (on T.taken self.old) (on T.taken self.new) (octets_text octets.now) }
@@ -104,10 +114,6 @@ impl<'a, T: Target> Page<'a, T> {
     }
 
     /// Sends what stands on the page to the target. An empty page asks nothing of it.
-    ///
-    /// # Errors
-    ///
-    /// [`WriteFailed`] where the write failed: a beginning has been written then.
     pub fn send(&mut self) -> Put
         ensures { IsSent result (on T.taken self.old) (on T.taken self.new) }
     {

@@ -13,10 +13,6 @@ use lapd_frame::{Control, Frame};
 use lapd_seq::Seq;
 
 /// What a frame says: whom it is about, its kind, its numbers and its information, in one line.
-///
-/// # Errors
-///
-/// [`WriteFailed`] where a write failed: a beginning has been written then.
 pub fn write_shown<T: Target>(target: &mut T, frame: &Frame<'_>) -> Put
     ensures { Writes result (T.taken target.old) (T.taken target.new) (shown_text (parts_of frame.now)) }
 {
@@ -44,10 +40,6 @@ pub fn write_shown<T: Target>(target: &mut T, frame: &Frame<'_>) -> Put
 }
 
 /// Octets that are put on a line.
-///
-/// # Errors
-///
-/// [`WriteFailed`] where a write failed: a beginning has been written then.
 pub fn write_line_octets<T: Target>(target: &mut T, octets: &[u8]) -> Put
     ensures { Writes result (T.taken target.old) (T.taken target.new) (on_line_text octets.now) }
 {
@@ -64,10 +56,6 @@ fn write_pieces<T: Target>(target: &mut T, head: &[&[u8]], octets: &[u8]) -> Put
 }
 
 /// How many octets a card holds at most.
-///
-/// # Errors
-///
-/// [`WriteFailed`] where a write failed: a beginning has been written then.
 pub fn write_bound<T: Target>(target: &mut T, bound: u32) -> Put
     ensures { Writes result (T.taken target.old) (T.taken target.new) (decimal bound ++ codes "\n") }
 {

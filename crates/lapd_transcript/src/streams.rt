@@ -12,7 +12,8 @@ pub struct ReadFailed;
 #[derive(Clone, Copy, PartialEq, Eq, Debug)]
 pub struct WriteFailed;
 
-/// A text was written, or put on its way: all of it, or a write failed.
+/// A text was written, or put onto a page: all of it; or a write failed, and a beginning has been written of what stood on
+/// the page and of the text.
 pub type Put = Result<(), WriteFailed>;
 
 /// Where octets are read from. It counts the reads that failed.

@@ -68,8 +68,7 @@ pub use Rattle.laws_trace.proofs.TimersOfEvent.{off-fresh}
 pub use Rattle.laws_trace.proofs.TimersWatched.{nothing_yet}
 pub use Rattle.laws_trace.specs.FramesAreRead.{GivesOctets, HasOctets, contents_given}
 pub use Rattle.laws_trace.specs.LinkFrames.{is_for}
-pub use Rattle.laws_trace.specs.Outgoing.{data_asked}
-pub use Rattle.laws_trace.specs.Trace.{IsFront, Seen, frame_in, frames_begun, is_own, seen, seen_told, trace, trace_of}
+pub use Rattle.laws_trace.specs.Trace.{IsFront, Seen, data_asked, frame_in, frames_begun, is_own, seen, seen_told, trace, trace_of}
 pub use Rattle.laws_trace.specs.Units.{is_ui}
 pub use Rattle.laws_wire.proofs.Answered.{asks-way, gives-taken, takes-way}
 pub use Rattle.laws_wire.proofs.Delivering.{calls-face}

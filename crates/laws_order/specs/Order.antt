@@ -17,8 +17,7 @@ use Rattle.model_line.specs.Request.{Request, Release}
 use Rattle.model_card.specs.Sound as card_sound
 use Rattle.laws_line.specs.Heard.{is_data_of}
 use Rattle.laws_link.specs.Steady.{is_anew}
-use Rattle.laws_trace.specs.Outgoing.{data_asked}
-use Rattle.laws_trace.specs.Trace.{is_own, Seen, noted, granted, IsFront}
+use Rattle.laws_trace.specs.Trace.{is_own, data_asked, Seen, noted, granted, IsFront}
 use Rattle.laws_wire.specs.Facing.{line_of}
 use Rattle.laws_wire.specs.Wire.{Station, Wire}
 use Rattle.laws_order.specs.Happenings.{Happening, IsPossible, of_link_at, seen_near, seen_far}

@@ -3,8 +3,7 @@ use Rattle.laws_trace.proofs.Vocabulary.{◌≡◌, ℕ, ◌==◌, ◌&&◌, ◌
 use Rattle.lapd_frame.specs.declared.controls.Control.{Control}
 use Rattle.lapd_frame.specs.declared.controls.Control.TheVariants.{Xid}
 use Rattle.model_link.specs.Events.{Event, frame}
-use Rattle.laws_trace.specs.ControlFrames.{control_in}
-use Rattle.laws_trace.proofs.ControlsWatched.{receipt, polled, to_information, while_up, answer_to, changed, command_of}
+use Rattle.laws_trace.proofs.ControlsWatched.{control_in, receipt, polled, to_information, while_up, answer_to, changed, command_of}
 use Rattle.laws_trace.proofs.DeliveriesWatched.{Standing}
 use Rattle.laws_trace.proofs.MovesOfLink.{ticks}
 

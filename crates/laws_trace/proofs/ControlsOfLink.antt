@@ -8,8 +8,7 @@ use Rattle.model_link.specs.Events.{Event, frame, Request, Establish, Release, D
 use Rattle.model_link.specs.Machine as links
 use Rattle.laws_link.specs.Waiting as waiting
 use Rattle.laws_link.specs.Waiting.{room}
-use Rattle.laws_trace.specs.ControlFrames.{control_in}
-use Rattle.laws_trace.proofs.ControlsWatched.{receipt, polled, to_information, while_up, answer_to, changed, command_of}
+use Rattle.laws_trace.proofs.ControlsWatched.{control_in, receipt, polled, to_information, while_up, answer_to, changed, command_of}
 use Rattle.laws_trace.proofs.DeliveriesWatched.{Standing}
 use Rattle.laws_trace.proofs.CommandsCaused.{enquires, IsNoOther, none-heard, none-asked}
 use Rattle.laws_trace.proofs.ControlsDue.{controls, answers_of, put_by, IsControl, all-put, all-controls}

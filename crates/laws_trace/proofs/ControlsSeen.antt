@@ -14,8 +14,7 @@ use Rattle.model_line.specs.Machine.{answer}
 use Rattle.model_line.specs.Taken.{frame_of}
 use Rattle.model_line.specs.Request.{Request}
 use Rattle.laws_line.specs.Requests as requests
-use Rattle.laws_trace.specs.ControlFrames.{of_link, control_in, controls_at}
-use Rattle.laws_trace.proofs.ControlsWatched.{while_up, answer_to, changed, answers_at, answers_to_frame}
+use Rattle.laws_trace.proofs.ControlsWatched.{of_link, control_in, controls_at, while_up, answer_to, changed, answers_at, answers_to_frame}
 use Rattle.laws_trace.proofs.DeliveriesWatched.{Standing}
 use Rattle.laws_trace.specs.Trace.{frame_in, is_up, Seen, heard, seen, seen_told, seen_granted}
 use Rattle.laws_trace.proofs.Addressed.{addressed-is}

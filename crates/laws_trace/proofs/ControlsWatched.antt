@@ -1,12 +1,27 @@
 -- The control frames of a link that go are those that are due.
-use Rattle.laws_trace.proofs.Vocabulary.{ℕ, ◌-◌, ◌==◌, ◌&&◌, ◌||◌, not, Bool, true, false, List, [], ◌++◌, length, take, flat_map, Option, Result, Ok, Err, nat_lt, if◌then◌else◌, option_map_or, seq, Information, ReceiveReady, ReceiveNotReady, Reject, Sabme, Disc, Ua, Dm, ReadFault, Service, Parts, reading, ControlFrame, Config, heard_side, as_response, as_command, lost_in}
+use Rattle.laws_trace.proofs.Vocabulary.{ℕ, ◌-◌, ◌==◌, ◌&&◌, ◌||◌, not, Bool, true, false, List, [], ◌∷◌, ◌++◌, length, take, flat_map, Option, Result, Ok, Err, nat_lt, if◌then◌else◌, option_map_or, seq, Information, ReceiveReady, ReceiveNotReady, Reject, Sabme, Disc, Ui, Ua, Dm, ReadFault, Service, Parts, reading, sapi_of, ControlFrame, Config, heard_side, as_response, as_command, lost_in}
 use Rattle.model_bits.specs.Stream as stream
 use Rattle.lapd_frame.specs.declared.controls.Control.{Control}
 use Rattle.model_card.specs.Run.{Moment}
 use Rattle.laws_trace.proofs.DeliveriesWatched.{Standing}
 use Rattle.laws_trace.proofs.States.{expired_of, one_more, is_state, state_before, state_after, differ}
-use Rattle.laws_trace.specs.Trace.{is_up, Seen, heard, granted, seen_in}
-use Rattle.laws_trace.specs.ControlFrames.{of_link}
+use Rattle.laws_trace.specs.Trace.{is_up, Seen, heard, begun, granted, seen_in}
+
+-- What a frame of the link of a service with a TEI shows.
+abbrev pub of_link : {X : Type 0} → Service → ℕ → (Bool → Control → List X) → Result Parts ReadFault → List X
+of_link service tei by (Ok frame) =
+    if frame.address.sapi == sapi_of service && frame.address.tei == tei then by frame.address.command frame.control else []
+of_link service tei by (Err fault) = []
+
+-- Each frame of a link that begins is a control frame, except I-frames and UI.
+abbrev pub control_in : Bool → Control → List ControlFrame
+control_in command (Information ns nr p) = []
+control_in command (Ui p) = []
+control_in command other = record { command = command; control = other } ∷ []
+
+abbrev pub controls_at : Config → Service → ℕ → Seen → List ControlFrame
+controls_at c service tei (begun octets) = of_link service tei control_in (reading c.side octets)
+controls_at c service tei other = []
 
 -- A receipt is RNR while layer 3 is busy, and RR while it is not; its N(R) is the number of contents told of the link
 -- since its numbers began, modulo 128 (Q.921 clauses 3.5.2.6, 3.6.6, 3.6.8 and 5.6.6).

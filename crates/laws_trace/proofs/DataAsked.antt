@@ -8,7 +8,7 @@ use Rattle.model_line.specs.Machine.{answer}
 use Rattle.model_line.specs.Refusal.{refusal}
 use Rattle.model_line.specs.Request.{Request, Establish, Release, Data, Check, SetBusy, ClearBusy}
 use Rattle.laws_line.specs.Requests.{of_link}
-use Rattle.laws_trace.specs.Outgoing.{data_asked}
+use Rattle.laws_trace.specs.Trace.{data_asked}
 use Rattle.laws_trace.proofs.OneLink.{is_at_link}
 use Rattle.laws_trace.proofs.Deliveries.{heard-by}
 

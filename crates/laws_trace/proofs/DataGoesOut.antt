@@ -8,7 +8,7 @@ use Rattle.model_link.specs.Machine as links
 use Rattle.model_link.specs.Sound as link_sound
 use Rattle.model_line.specs.Taken.{frame_of}
 use Rattle.laws_trace.specs.Trace as traces
-use Rattle.laws_trace.specs.LinkFrames.{Sent, sent_by, sent_in}
+use Rattle.laws_trace.proofs.TimersWatched.{Sent, sent_by, sent_in}
 use Rattle.laws_trace.proofs.OneLink.{IsForeign}
 use Rattle.laws_trace.proofs.ReadAgain.{read-again}
 

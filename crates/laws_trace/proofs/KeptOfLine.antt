@@ -14,8 +14,7 @@ use Rattle.model_line.specs.Sound.{IsSound}
 use Rattle.laws_line.specs.Requests.{of_link}
 use Rattle.laws_trace.specs.News.{brings, is_news, is_sabme}
 use Rattle.laws_trace.specs.Observer.{steps}
-use Rattle.laws_trace.specs.Outgoing.{data_asked, is_release_of}
-use Rattle.laws_trace.specs.Trace.{is_own, seen, is_up}
+use Rattle.laws_trace.specs.Trace.{is_own, data_asked, seen, is_up}
 use Rattle.laws_trace.proofs.LineAtEnd.{link-at-end}
 use Rattle.laws_trace.proofs.DataAsked as asks
 use Rattle.laws_trace.proofs.DataAsked.{no-data, only-requested, only-offered, granted-data}
@@ -29,7 +28,7 @@ use Rattle.laws_trace.proofs.ObservedFacts.{brings-is}
 use Rattle.laws_trace.proofs.OfferTells.{offer-tells_nothing}
 use Rattle.laws_trace.proofs.OneLink.{is_at_link, HasOne, HasNone, IsGivenUp, Goes, event-goes}
 use Rattle.laws_trace.proofs.SeenAs.{up-number}
-use Rattle.laws_trace.proofs.PlacesSeen.{granted_in, lost_in, told-grants, begun-grants, asked-grants, heard-loses, expiry-loses, begun-loses, asked-loses, own-release}
+use Rattle.laws_trace.proofs.PlacesSeen.{is_release_of, granted_in, lost_in, told-grants, begun-grants, asked-grants, heard-loses, expiry-loses, begun-loses, asked-loses, own-release}
 use Rattle.laws_trace.proofs.TimersOfEvent.{off-fresh}
 use Rattle.laws_trace.proofs.TimersWatched as known
 

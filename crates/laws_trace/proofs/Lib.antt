@@ -109,6 +109,7 @@ pub mod KeptOfLink
 pub mod PlacesSeen
 pub mod KeptOfLine
 pub mod Outgoing
+pub mod ControlsBegin
 pub mod WaitingNow
 pub mod Plain
 pub mod OwedNow

@@ -1,5 +1,5 @@
 -- Nothing is told as lost in vain: the law.
-use Rattle.laws_trace.proofs.Vocabulary.{◌≡◌, ℕ, zero, suc, ◌+◌, ◌-◌, ◌<◌, ◌≤◌, ◌==◌, ◌&&◌, ◌||◌, not, Bool, true, false, cond, List, [], ◌++◌, length, get_or, Option, Some, None, refl, sym, ap, ◌∙◌, subst, ◌⊎◌, inl, inr, arith, eq-eqb, true≢false, fold, and_parts, option_map_or, get_or-set_same, PoolFull, Refusal, Service, Call, Timer, place_of-is, is_on-at, service-same, LinkTimer, ControlFrame, Config, Aim, at_none, at_link, at_management, at_units, of_aim, at_timer, aim_of_expiry, aim_of_heard, hears, expiry, request, next, Answer, refused, Line, fresh_line, has_tei, link_of, place_in, aim_of, unless_refused, unless_refused_told, Assign, Remove, Deactivate, at_requested, at_deactivated, aim_of_request, heard_aims, IsInRange, lost_in, deactivates, is_granted, IsBy, HaveTheirTimers, AllHaveTheirTimers, Card, line_at, is_full, at, fresh_is_sound, has_lines, by_room, line_sound, config-stays, Down, at_no_link}
+use Rattle.laws_trace.proofs.Vocabulary.{◌≡◌, ℕ, zero, suc, ◌+◌, ◌-◌, ◌<◌, ◌≤◌, ◌==◌, ◌&&◌, ◌||◌, not, Bool, true, false, cond, List, [], ◌++◌, length, get_or, Option, Some, None, refl, sym, ap, ◌∙◌, subst, ◌⊎◌, inl, inr, arith, eq-eqb, true≢false, fold, nat_lt, le-ltb, and_parts, option_map_or, get_or-set_same, PoolFull, Refusal, Service, Call, Timer, place_of-is, is_on-at, service-same, LinkTimer, ControlFrame, Config, Aim, at_none, at_link, at_management, at_units, of_aim, at_timer, aim_of_expiry, aim_of_heard, hears, expiry, request, next, Answer, refused, Line, fresh_line, has_tei, link_of, place_in, aim_of, unless_refused, unless_refused_told, Assign, Remove, Deactivate, at_requested, at_deactivated, aim_of_request, heard_aims, IsInRange, lost_in, deactivates, is_granted, IsBy, HaveTheirTimers, AllHaveTheirTimers, Card, line_at, is_full, at, fresh_is_sound, has_lines, by_room, line_sound, config-stays, Down, at_no_link}
 use Rattle.model_bits.specs.Stream as stream
 use Rattle.lapd_frame.specs.declared.timers.Timer.TheVariants as timers
 use Rattle.model_link.specs.declared.timers.LinkTimer.TheVariants as link_timer
@@ -19,7 +19,8 @@ use Rattle.laws_trace.specs.ControlFrames as now_due
 use Rattle.laws_trace.specs.ControlFrames.{put_in}
 use Rattle.laws_trace.specs.Managing.{is_on, due, managed_after}
 use Rattle.laws_trace.specs.NoLossInVain.{puts_by, NoLossInVain}
-use Rattle.laws_trace.specs.Observer.{Observed, View, in_state, by_event, view_of, view_behind, moment_of}
+use Rattle.laws_trace.proofs.ObservedControls.{unchanged}
+use Rattle.laws_trace.specs.Observer.{Observed, View, in_state, by_event, enters, view_of, view_behind, moment_of}
 use Rattle.laws_trace.specs.Outgoing.{is_empty, outgoing_of}
 use Rattle.laws_trace.specs.Trace.{is_own, seen, trace_of, Always}
 use Rattle.laws_trace.proofs.Addressed.{at-some-place}
@@ -207,40 +208,37 @@ own-loses service tei n busy rejected k number e s timely here count stands was-
     Exact c l a x =
         is_empty (Puts service tei n busy rejected c l e a x) ≡ false → lost_in a ≡ length (link_of service tei l).waiting + length (Puts service tei n busy rejected c l e a x) - c.control
 
-down-none : (c : Config) (service : Service) (tei : ℕ) (o : Observed) (what : Event) (a : Answer) (m : Moment) → m.event.what ≡ what → m.answer ≡ a → deactivates service tei what ≡ true
+down-none : (c : Config) (service : Service) (tei : ℕ) (o : Observed) (what : Event) (a : Answer) (m : Moment) → m.event.what ≡ what → deactivates service tei what ≡ true
     → put_in c service tei o (by_event c service tei what a o) m ≡ []
-down-none c service tei o (request (Deactivate its by)) a m is answers down =
-    ap (λ what. now_due.answers c service tei o q what m.answer ++ cond (not (o.state == q.state) || now_due.expires service tei what) (now_due.command_of q) []) is
-    ∙ ap (λ a. cond (is_granted a) (now_due.changed o q) [] ++ cond (not (o.state == q.state) || false) (now_due.command_of q) []) answers
-    ∙ go (is_granted a)
+down-none c service tei o (request (Deactivate its by)) a m is down =
+    ap (λ what. now_due.answers c service tei o q what ++ cond (enters o q) (now_due.command_of q) []) is ∙ go (is_granted a)
   where
     q : Observed
     q = by_event c service tei (request (Deactivate its by)) a o
 
-    itself : (n : ℕ) → (not (n == n) || false) ≡ false
-    itself n = ap (λ b. not b || false) (eq-eqb n n refl)
+    stays : enters o o ≡ false
+    stays = ap (λ b. not b || nat_lt o.expiries o.expiries) (eq-eqb o.state o.state refl) ∙ le-ltb o.expiries o.expiries (omega arith)
 
     either : (b : Bool) → cond {A = List ControlFrame} b [] [] ≡ []
     either true = refl
     either false = refl
 
-    go : (g : Bool) → let q = cond g (cond (is_own service tei its by) (in_state 4) o) o in
-        cond g (now_due.changed o q) [] ++ cond (not (o.state == q.state) || false) (now_due.command_of q) [] ≡ []
-    go true = ap (λ b. let q = cond b (in_state 4) o in now_due.changed o q ++ cond (not (o.state == q.state) || false) (now_due.command_of q) []) down ∙ either (not (o.state == 4) || false)
-    go false = ap (λ b. cond b (now_due.command_of o) []) (itself o.state)
-down-none c service tei o (hears e) a m is answers down = absurd (true≢false (sym down))
-down-none c service tei o (expiry timer) a m is answers down = absurd (true≢false (sym down))
-down-none c service tei o next a m is answers down = absurd (true≢false (sym down))
-down-none c service tei o (request (Establish its by)) a m is answers down = absurd (true≢false (sym down))
-down-none c service tei o (request (Release its by)) a m is answers down = absurd (true≢false (sym down))
-down-none c service tei o (request (Data its by contents)) a m is answers down = absurd (true≢false (sym down))
-down-none c service tei o (request (Request.Unit its by contents)) a m is answers down = absurd (true≢false (sym down))
-down-none c service tei o (request (Assign by)) a m is answers down = absurd (true≢false (sym down))
-down-none c service tei o (request (Remove by)) a m is answers down = absurd (true≢false (sym down))
-down-none c service tei o (request (Checking by)) a m is answers down = absurd (true≢false (sym down))
-down-none c service tei o (request (SetBusy its by)) a m is answers down = absurd (true≢false (sym down))
-down-none c service tei o (request (ClearBusy its by)) a m is answers down = absurd (true≢false (sym down))
-down-none c service tei o (request Down) a m is answers down = absurd (true≢false (sym down))
+    go : (g : Bool) → let q = cond g (cond (is_own service tei its by) (in_state 4) o) o in now_due.changed o q ++ cond (enters o q) (now_due.command_of q) [] ≡ []
+    go true = ap (λ b. let q = cond b (in_state 4) o in now_due.changed o q ++ cond (enters o q) (now_due.command_of q) []) down ∙ either (enters o (in_state 4))
+    go false = ap (λ xs. xs ++ cond (enters o o) (now_due.command_of o) []) (unchanged o o (λ up. refl)) ∙ ap (λ b. cond b (now_due.command_of o) []) stays
+down-none c service tei o (hears e) a m is down = absurd (true≢false (sym down))
+down-none c service tei o (expiry timer) a m is down = absurd (true≢false (sym down))
+down-none c service tei o next a m is down = absurd (true≢false (sym down))
+down-none c service tei o (request (Establish its by)) a m is down = absurd (true≢false (sym down))
+down-none c service tei o (request (Release its by)) a m is down = absurd (true≢false (sym down))
+down-none c service tei o (request (Data its by contents)) a m is down = absurd (true≢false (sym down))
+down-none c service tei o (request (Request.Unit its by contents)) a m is down = absurd (true≢false (sym down))
+down-none c service tei o (request (Assign by)) a m is down = absurd (true≢false (sym down))
+down-none c service tei o (request (Remove by)) a m is down = absurd (true≢false (sym down))
+down-none c service tei o (request (Checking by)) a m is down = absurd (true≢false (sym down))
+down-none c service tei o (request (SetBusy its by)) a m is down = absurd (true≢false (sym down))
+down-none c service tei o (request (ClearBusy its by)) a m is down = absurd (true≢false (sym down))
+down-none c service tei o (request Down) a m is down = absurd (true≢false (sym down))
 
 module _ (c : Config) (events : List card_event.Event) (number : ℕ) (ranged : IsInRange c) (all : AreAtLines (cards.fresh c) events) (within : number < c.lines) (what : Event) where
   abbrev k : Card
@@ -324,7 +322,7 @@ module _ (c : Config) (events : List card_event.Event) (number : ℕ) (ranged : 
               let none : puts_by c number events what service tei ≡ [] =
               ap (λ b. cond b (put_in c service tei v.link u.link (moment_of c events number what)) []) stays-on
               ∙ ap (λ (q : Observed). put_in c service tei v.link q (moment_of c events number what)) link-is
-              ∙ down-none c service tei v.link what its-answer (moment_of c events number what) refl refl down in
+              ∙ down-none c service tei v.link what its-answer (moment_of c events number what) refl down in
               absurd (true≢false (sym (ap is_empty none) ∙ some))
           go false stays =
               let s = run-stands c events number ranged all within service tei in

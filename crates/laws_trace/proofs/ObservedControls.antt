@@ -1,25 +1,22 @@
 -- The control frames of a link that are due by what the observer knows are those that are due by how the link stands.
-use Rattle.laws_trace.proofs.Vocabulary.{◌≡◌, ℕ, ◌==◌, ◌&&◌, not, Bool, true, false, cond, length, List, [], ◌++◌, Some, None, refl, sym, ap, ◌∙◌, true≢false, nat_lt, Result, Ok, Err, option_map_or, seq, Information, ReceiveReady, ReceiveNotReady, Reject, Sabme, Disc, Ui, Ua, Dm, Frmr, ReadFault, Service, Parts, reading, ControlFrame, Config, hears, expiry, request, next, Answer, refused, gave, heard_side, Assign, Remove, Deactivate, as_response, is_granted, Down}
+use Rattle.laws_trace.proofs.Vocabulary.{◌≡◌, ℕ, ◌+◌, ◌%◌, ◌==◌, ◌&&◌, not, Bool, true, false, cond, length, List, [], ◌++◌, Option, Some, None, is_some, refl, sym, ap, ◌∙◌, subst, true≢false, nat_lt, Result, Ok, Err, option_map_or, seq, Information, ReceiveReady, ReceiveNotReady, Reject, Sabme, Disc, Ui, Ua, Dm, Frmr, ReadFault, Service, Timer, Parts, reading, ControlFrame, Config, hears, expiry, request, next, Answer, refused, gave, heard_side, Assign, Remove, Deactivate, as_response, is_granted, Down}
 use Rattle.model_bits.specs.Stream as stream
 use Rattle.lapd_frame.specs.declared.controls.Control.{Control}
 use Rattle.lapd_frame.specs.declared.controls.Control.TheVariants.{Xid}
 use Rattle.lapd_frame.specs.declared.timers.Timer.TheVariants as timers
-use Rattle.model_link.specs.declared.timers.LinkTimer.TheVariants.{T200, T203}
 use Rattle.model_line.specs.Event as line_event
 use Rattle.model_line.specs.Event.{told}
 use Rattle.model_line.specs.Request.{Request, Establish, Release, Data, Check, SetBusy, ClearBusy}
 use Rattle.laws_trace.specs.ControlFrames as now_due
-use Rattle.laws_trace.specs.ControlFrames.{of_link}
-use Rattle.laws_trace.specs.LinkFrames.{parts_of, frame_of, its_frame, is_for}
+use Rattle.laws_trace.specs.LinkFrames.{brought, parts_of, frame_of, its_frame, is_for, malformed}
 use Rattle.laws_trace.specs.Managing.{Managed, due}
-use Rattle.laws_trace.specs.Observer.{Observed, in_state, by_request}
+use Rattle.laws_trace.specs.Observer.{Observed, in_state, awaits, anew, enquires, by_frame, by_t200, by_expiry, by_request, by_event, sends}
 use Rattle.laws_trace.specs.Trace.{is_own, is_up, heard, seen_told, seen_granted}
 use Rattle.laws_trace.proofs.ControlsSeen.{answers_seen, asked-answers}
 use Rattle.laws_trace.proofs.ControlsWatched as old
 use Rattle.laws_trace.proofs.DeliveriesWatched.{Standing, busy_asked}
 use Rattle.laws_trace.proofs.ObservedAnswers.{is_answered}
 use Rattle.laws_trace.proofs.ObservedCount.{Same}
-use Rattle.laws_trace.proofs.States.{expired_of, one_more}
 
 pub either-none : (b : Bool) → cond {A = List ControlFrame} b [] [] ≡ []
 either-none true = refl
@@ -218,18 +215,66 @@ module _ (service : Service) (tei : ℕ) where
   stays-up (Check by) o is = absurd (true≢false (sym is))
   stays-up Down o is = absurd (true≢false (sym is))
 
-  pub expires-is : (what : line_event.Event) → now_due.expires service tei what ≡ option_map_or one_more (expired_of service tei what) 0 == 1
-  expires-is (hears e) = refl
-  expires-is (request r) = refl
-  expires-is next = refl
-  expires-is (expiry timers.T201) = refl
-  expires-is (expiry (timers.T200 of by)) = go (is_own service tei of by)
+-- Where no frame comes, and nothing is granted, layer 3 is as busy as before.
+abbrev pub AsBusy : Observed → Observed → Type 0
+AsBusy o q = is_up q.state ≡ true → q.own_busy ≡ o.own_busy
+
+either-so : (o : Observed) (b : Bool) (p q : Observed) → AsBusy o p → AsBusy o q → AsBusy o (cond b p q)
+either-so o true p q h i = h
+either-so o false p q h i = i
+
+down-so : (o : Observed) (n : ℕ) → is_up n ≡ false → AsBusy o (in_state n)
+down-so o n down up = absurd (true≢false (sym up ∙ down))
+
+pub unchanged : (o q : Observed) → AsBusy o q → now_due.changed o q ≡ []
+unchanged o q same = go (is_up q.state) refl
+  where
+    go : (b : Bool) → is_up q.state ≡ b → cond (b && cond o.own_busy (not q.own_busy) q.own_busy) (as_response (now_due.receipt q false)) [] ≡ []
+    go false down = refl
+    go true up =
+        ap (λ busy. cond (cond o.own_busy (not busy) busy) (as_response (now_due.receipt q false)) []) (same up)
+        ∙ as-busy o.own_busy (as_response (now_due.receipt q false))
+
+module _ (c : Config) (service : Service) (tei : ℕ) (o : Observed) where
+  ran-out : (timer : Timer) → AsBusy o (by_expiry c service tei timer o)
+  ran-out timers.T201 = λ up. refl
+  ran-out (timers.T203 of by) = either-so o (is_own service tei of by && (o.state == 7 && not (awaits o))) (enquires o) o (λ up. refl) (λ up. refl)
+  ran-out (timers.T200 of by) =
+      either-so o (is_own service tei of by) (by_t200 c.n200 o) o
+      (either-so o (o.state == 7) (cond (awaits o) (enquires o) o) (cond (not (awaits o)) o last) (either-so o (awaits o) (enquires o) o (λ up. refl) (λ up. refl))
+      (either-so o (not (awaits o)) o last (λ up. refl)
+      (either-so o (nat_lt o.expiries c.n200) (record o { expiries = o.expiries + 1 }) (cond (o.state == 8) (anew o) (in_state 4)) (λ up. refl)
+      (either-so o (o.state == 8) (anew o) (in_state 4) (λ up. refl) (down-so o 4 refl)))))
+      (λ up. refl)
     where
-      go : (b : Bool) → b ≡ option_map_or one_more (cond b (Some T200) None) 0 == 1
-      go true = refl
-      go false = refl
-  expires-is (expiry (timers.T203 of by)) = go (is_own service tei of by)
+      last : Observed
+      last = cond (nat_lt o.expiries c.n200) (record o { expiries = o.expiries + 1 }) (cond (o.state == 8) (anew o) (in_state 4))
+
+  sent-so : (f : Option Parts) → AsBusy o (option_map_or (λ (f : Parts). sends o f.control) f o)
+  sent-so None = λ up. refl
+  sent-so (Some f) = by-control f.control
     where
-      go : (b : Bool) → false ≡ option_map_or one_more (cond b (Some T203) None) 0 == 1
-      go true = refl
-      go false = refl
+      by-control : (control : Control) → AsBusy o (sends o control)
+      by-control (Information ns nr p) = either-so o (is_up o.state) (record o { next = (ns.value + 1) % 128 }) o (λ up. refl) (λ up. refl)
+      by-control (ReceiveReady nr p) = λ up. refl
+      by-control (ReceiveNotReady nr p) = λ up. refl
+      by-control (Reject nr p) = λ up. refl
+      by-control (Sabme p) = λ up. refl
+      by-control (Disc p) = λ up. refl
+      by-control (Ui p) = λ up. refl
+      by-control (Ua p) = λ up. refl
+      by-control (Dm p) = λ up. refl
+      by-control (Frmr p) = λ up. refl
+      by-control (Xid p) = λ up. refl
+
+  pub as-busy-before : (what : line_event.Event) (a : Answer) → brought c service tei what ≡ None → ((r : Request) → what ≡ request r → is_granted a ≡ false)
+      → AsBusy o (by_event c service tei what a o)
+  as-busy-before (hears e) a none idle =
+      subst (λ f. AsBusy o (cond (is_up o.state && is_some (malformed c service tei e)) (anew o) (option_map_or (by_frame c o) f o))) (sym none)
+      (either-so o (is_up o.state && is_some (malformed c service tei e)) (anew o) o (λ up. refl) (λ up. refl))
+  as-busy-before (expiry timer) a none idle = ran-out timer
+  as-busy-before (request r) a none idle = subst (λ b. AsBusy o (cond b (by_request service tei r o) o)) (sym (idle r refl)) (λ up. refl)
+  as-busy-before next (told t) none idle = λ up. refl
+  as-busy-before next (refused why) none idle = λ up. refl
+  as-busy-before next (gave None) none idle = λ up. refl
+  as-busy-before next (gave (Some f)) none idle = sent-so (its_frame service tei (parts_of (reading c.side f.octets)))

@@ -1,6 +1,8 @@
 -- The control frames of a link that are due in a moment, by what the observer knows.
-use Rattle.laws_trace.proofs.Vocabulary.{◌≡◌, inl, inr, ℕ, ◌<◌, ◌-◌, ◌==◌, ◌&&◌, ◌||◌, not, Bool, true, false, cond, length, take, List, [], ◌++◌, Option, Some, None, is_some, refl, sym, ap, ◌∙◌, subst, eq-eqb, true≢false, nat_lt, list_any, option_map_or, none-some, Sabme, Disc, Service, Parts, State, state_number, Config, hears, expiry, request, next, Answer, Line, link_of, place_in, state_of, as_response, as_command, lost_in, is_granted, AllHaveTheirTimers, Card, line_at, at}
+use Rattle.laws_trace.proofs.Vocabulary.{◌≡◌, inl, inr, ℕ, ◌<◌, ◌+◌, ◌-◌, ◌==◌, ◌&&◌, ◌||◌, not, Bool, true, false, cond, length, take, List, [], ◌++◌, Option, Some, None, is_some, refl, sym, ap, ◌∙◌, subst, eq-eqb, arith, le-ltb, true≢false, nat_lt, list_any, option_map_or, none-some, Sabme, Disc, Service, Parts, State, TeiAssigned, AwaitingEstablishment, AwaitingRelease, Established, TimerRecovery, LinkTimer, state_number, Config, hears, expiry, request, next, Answer, Line, link_of, place_in, state_of, ControlFrame, as_response, as_command, lost_in, is_granted, AllHaveTheirTimers, Card, line_at, at}
 use Rattle.std.proofs.Common.{eqb-true}
+use Rattle.std.proofs.lemmas.Bool.{lt-ltb}
+use Rattle.model_link.specs.declared.timers.LinkTimer.TheVariants.{T200, T203}
 use Rattle.model_bits.specs.Stream as stream
 use Rattle.model_line.specs.Event as line_event
 use Rattle.model_line.specs.Event.{told}
@@ -10,9 +12,9 @@ use Rattle.model_card.specs.Machine.{after, answer}
 use Rattle.model_card.specs.Run.{Moment, IsAtLine}
 use Rattle.model_card.specs.Sound as card_sound
 use Rattle.laws_trace.specs.ControlFrames as now_due
-use Rattle.laws_trace.specs.LinkFrames.{frame_of, its_frame}
+use Rattle.laws_trace.specs.LinkFrames.{brought, frame_of, its_frame}
 use Rattle.laws_trace.specs.Managing.{Managed, is_on, led, due}
-use Rattle.laws_trace.specs.Observer.{Observed, View, in_state, by_event, by_heard, by_request, views}
+use Rattle.laws_trace.specs.Observer.{Observed, View, in_state, by_event, by_heard, by_request, enters, views}
 use Rattle.laws_trace.specs.Trace.{is_up, Seen, frame_in, seen, seen_told, seen_granted, seen_in}
 use Rattle.laws_trace.proofs.CallRuns.{apart}
 use Rattle.laws_trace.proofs.ControlsSeen.{answers_seen, heard-answers, told-none, begun-none}
@@ -23,10 +25,11 @@ use Rattle.laws_trace.proofs.MovesWatched.{repeated}
 use Rattle.laws_trace.proofs.NewsWatched as news
 use Rattle.laws_trace.proofs.NewsWatched.{Owing, none_owed, owing}
 use Rattle.laws_trace.proofs.ObservedAnswers.{is_answered, card-answered}
-use Rattle.laws_trace.proofs.ObservedControls.{either-none, as-busy, receipt-is, by-heard, asked-answers-is, busies, still-busy, none-led, stays-up, expires-is}
-use Rattle.laws_trace.proofs.ObservedCount.{Same, Agree}
+use Rattle.laws_trace.proofs.ObservedControls.{either-none, as-busy, receipt-is, by-heard, asked-answers-is, busies, still-busy, none-led, stays-up, AsBusy, unchanged, as-busy-before}
+use Rattle.laws_trace.proofs.ObservedCount.{Same, Agree, when-holds}
 use Rattle.laws_trace.proofs.ObservedCounted.{Stands, agrees-then}
 use Rattle.laws_trace.proofs.ObservedFacts.{Facts, facts, state-is, differs-is}
+use Rattle.laws_trace.proofs.Observed.{IsObserved}
 use Rattle.laws_trace.proofs.ObservedRun.{Holds, on-is, holds-then}
 use Rattle.laws_trace.proofs.Standing.{standing}
 use Rattle.laws_trace.proofs.StandingOfLink.{calm}
@@ -128,7 +131,10 @@ module _ (service : Service) (tei number : ℕ) where
           ∙ sym (ap (λ (o' : Observed). cond (not (o'.state == 1)) (now_due.put_in c service tei o q its) []) first)
 
     -- Where it is.
-    module _ (mine : (e.line == number) ≡ true) (x : State) (there : from ≡ Some (state_number x)) (state : o.state ≡ state_number x) where
+    module _ (mine : (e.line == number) ≡ true) (x : State) (there : from ≡ Some (state_number x)) (own : IsObserved (state_number x) k asked w.outstanding m o) where
+      abbrev state : o.state ≡ state_number x
+      state = own.state_is
+
       abbrev u' : Standing
       u' = stands-by true
 
@@ -206,11 +212,30 @@ module _ (service : Service) (tei number : ℕ) where
                   ∙ ap (λ b. is_up (cond b (by_request service tei r o) o).state) granted ∙ ap is_up (stays-up service tei r o is) in
                   absurd (true≢false (sym (stays ∙ up) ∙ none))
 
-      answers-so : (what : line_event.Event) → e.what ≡ what → answers_seen c service tei was u' o.state (seen what a) ≡ now_due.answers c service tei o q what a
-      answers-so (hears e') is = heard-answers c service tei was u' o.state (hears e') a e' refl ∙ by-heard c service tei o q was u' agree e' (heard-there e' is)
-      answers-so (expiry timer) is = told-none c service tei was u' o.state a
-      answers-so (request r) is = asked-there r is
-      answers-so next is = begun-none c service tei was u' o.state (frame_in a)
+      -- where no frame comes, and nothing is granted
+      nothing-changes : (what : line_event.Event) → e.what ≡ what → brought c service tei what ≡ None → ((r : Request) → what ≡ request r → is_granted a ≡ false) → now_due.changed o q ≡ []
+      nothing-changes what is none idle = go on-then refl
+        where
+          go : (is : Bool) → on-then ≡ is → now_due.changed o q ≡ []
+          go false off = ap (now_due.changed o) (q-is false off)
+          go true on = unchanged o q (subst (AsBusy o) (sym (q-is true on ∙ ap (λ z. by_event c service tei z a o) is)) (as-busy-before c service tei o what a none idle))
+
+      by-default : (f : Option Parts) → (f ≡ None → now_due.changed o q ≡ [])
+          → option_map_or (λ (f : Parts). now_due.answer_to c o q f f.control) f [] ≡ option_map_or (λ (f : Parts). now_due.answer_to c o q f f.control) f (now_due.changed o q)
+      by-default None none = sym (none refl)
+      by-default (Some f) none = refl
+
+      asked-so : (r : Request) → e.what ≡ request r → (b : Bool) → is_granted a ≡ b → cond b (now_due.changed o q) [] ≡ now_due.changed o q
+      asked-so r is true granted = refl
+      asked-so r is false refused = sym (nothing-changes (request r) is refl (λ r' same. refused))
+
+      answers-so : (what : line_event.Event) → e.what ≡ what → answers_seen c service tei was u' o.state (seen what a) ≡ now_due.answers c service tei o q what
+      answers-so (hears e') is =
+          heard-answers c service tei was u' o.state (hears e') a e' refl ∙ by-heard c service tei o q was u' agree e' (heard-there e' is)
+          ∙ by-default (its_frame service tei (frame_of c e')) (λ none. nothing-changes (hears e') is none (λ r same. cc same))
+      answers-so (expiry timer) is = told-none c service tei was u' o.state a ∙ sym (nothing-changes (expiry timer) is refl (λ r same. cc same))
+      answers-so (request r) is = asked-there r is ∙ asked-so r is (is_granted a) refl
+      answers-so next is = begun-none c service tei was u' o.state (frame_in a) ∙ sym (nothing-changes next is refl (λ r same. cc same))
 
       -- a command
       abbrev l' : Known
@@ -225,10 +250,64 @@ module _ (service : Service) (tei number : ℕ) where
       abbrev m' : ℕ
       m' = repeated service tei number m its
 
-      time-so : (differ from to || (option_map_or one_more (expired_of service tei e.what) 0 == 1)) ≡ (not (o.state == q.state) || now_due.expires service tei e.what)
+      -- T200 expires where its expiries become more
+      abbrev again : ℕ
+      again = option_map_or one_more (expired_of service tei e.what) 0
+
+      more-is : (n : ℕ) (timer : Option LinkTimer) → nat_lt n (n + option_map_or one_more timer 0) ≡ (option_map_or one_more timer 0 == 1)
+      more-is n None = le-ltb n (n + 0) (omega arith)
+      more-is n (Some T200) = lt-ltb n (n + 1) (omega arith)
+      more-is n (Some T203) = le-ltb n (n + 0) (omega arith)
+
+      abbrev C : List ControlFrame
+      C = now_due.command_of q
+
+      abbrev Commands : Type 0
+      Commands = cond (not (o.state == q.state) || (again == 1)) C [] ≡ cond (enters o q) C []
+
+      abbrev differs : (o.state == q.state) ≡ true → differ from to ≡ false
+      differs same = sym (differs-is from to k l' asked asks' w.outstanding owes' m m' o q before behind) ∙ ap not same
+
+      count-is : (o.state == q.state) ≡ true → m' ≡ m + again
+      count-is same = ap (λ b. cond (not b) m (cond (differ from to) 0 (m + again))) mine ∙ ap (λ b. cond b 0 (m + again)) (differs same)
+
+      silent : C ≡ [] → Commands
+      silent none =
+          ap (λ xs. cond (not (o.state == q.state) || (again == 1)) xs []) none ∙ either-none (not (o.state == q.state) || (again == 1))
+          ∙ sym (ap (λ xs. cond (enters o q) xs []) none ∙ either-none (enters o q))
+
+      counted : (s : ℕ) → q.state ≡ s → (s == 5 || (s == 6 || s == 8)) ≡ true → q.expiries ≡ m' → Commands
+      counted s is awaiting then = go (o.state == q.state) refl
+        where
+          earlier : (o.state == q.state) ≡ true → o.expiries ≡ m
+          earlier same =
+              when-holds (state_number x == 5 || (state_number x == 6 || state_number x == 8)) (o.expiries ≡ m)
+              (ap (λ s. s == 5 || (s == 6 || s == 8)) (sym own.state_is ∙ eqb-true o.state q.state same ∙ is) ∙ awaiting) own.counts
+
+          go : (b : Bool) → (o.state == q.state) ≡ b → Commands
+          go false other =
+              ap (λ b. cond (not b || (again == 1)) C []) other ∙ sym (ap (λ b. cond (not b || nat_lt o.expiries q.expiries) C []) other)
+          go true same =
+              ap (λ b. cond (not (o.state == q.state) || b) C [])
+              (sym (ap (λ n. nat_lt n q.expiries) (earlier same) ∙ ap (nat_lt m) (then ∙ count-is same) ∙ more-is m (expired_of service tei e.what)))
+
+      abbrev command_at : ℕ → List ControlFrame
+      command_at s = cond (s == 5) (as_command (Sabme true)) (cond (s == 6) (as_command (Disc true)) (cond (s == 8) (as_command (now_due.receipt q true)) []))
+
+      by-state : (y : State) → IsObserved (state_number y) l' asks' owes' m' q → Commands
+      by-state TeiAssigned i = silent (ap command_at i.state_is)
+      by-state Established i = silent (ap command_at i.state_is)
+      by-state AwaitingEstablishment i = counted 5 i.state_is refl i.counts
+      by-state AwaitingRelease i = counted 6 i.state_is refl i.counts
+      by-state TimerRecovery i = counted 8 i.state_is refl i.counts
+
+      commands-so : Facts to l' asks' owes' m' q → Commands
+      commands-so (inl y) = silent (ap command_at (ap (λ (p : Observed). p.state) y.2))
+      commands-so (inr y) = by-state y.0 y.2
+
+      time-so : cond (differ from to || (again == 1)) C [] ≡ cond (enters o q) C []
       time-so =
-          ap (λ b. b || (option_map_or one_more (expired_of service tei e.what) 0 == 1)) (sym (differs-is from to k l' asked asks' w.outstanding owes' m m' o q before behind))
-          ∙ ap (λ b. not (o.state == q.state) || b) (sym (expires-is service tei e.what))
+          ap (λ b. cond (b || (again == 1)) C []) (sym (differs-is from to k l' asked asks' w.outstanding owes' m m' o q before behind)) ∙ commands-so behind
 
       command-so : old.command_of u' to ≡ now_due.command_of q
       command-so =
@@ -243,11 +322,11 @@ module _ (service : Service) (tei number : ℕ) where
 
       on-puts : Puts true
       on-puts =
-          let commands = cond (differ from to || (option_map_or one_more (expired_of service tei e.what) 0 == 1)) (old.command_of u' to) [] in
+          let commands = cond (differ from to || (again == 1)) (old.command_of u' to) [] in
           ap (λ st. option_map_or (λ state. answers_seen c service tei was u' state (seen e.what a)) st [] ++ commands) from-is
           ∙ ap (λ xs. xs ++ commands) (answers-so e.what refl)
-          ∙ ap (λ b. now_due.answers c service tei o q e.what a ++ cond b (old.command_of u' to) []) time-so
-          ∙ ap (λ xs. now_due.answers c service tei o q e.what a ++ cond (not (o.state == q.state) || now_due.expires service tei e.what) xs []) command-so
+          ∙ ap (λ xs. now_due.answers c service tei o q e.what ++ cond (differ from to || (again == 1)) xs []) command-so
+          ∙ ap (λ xs. now_due.answers c service tei o q e.what ++ xs) time-so
           ∙ sym (ap (λ b. cond (not b) (now_due.put_in c service tei o q its) []) (ap (λ s. s == 1) state ∙ not-one x))
 
     pub puts-by : (b : Bool) → (e.line == number) ≡ b → Puts b
@@ -256,10 +335,13 @@ module _ (service : Service) (tei number : ℕ) where
       where
         go : Facts from k asked w.outstanding m o → Puts true
         go (inl y) = off-puts y.0 y.2
-        go (inr y) = on-puts mine y.0 y.1 y.2.state_is
+        go (inr y) = on-puts mine y.0 y.1 y.2
 
     abbrev u-then : Standing
     u-then = standing service tei c (calm n busy rejected) (seen_in number its)
 
-    pub due-same : old.due_in c service tei number was u-then its ≡ now_due.due_in c service tei number o q its
+    abbrev puts : List ControlFrame
+    puts = cond (e.line == number && not (o.state == 1)) (now_due.put_in c service tei o q its) []
+
+    pub due-same : old.due_in c service tei number was u-then its ≡ take (length puts - lost_in a) puts
     due-same = ap (λ xs. take (length xs - lost_in a) xs) (puts-by (e.line == number) refl)

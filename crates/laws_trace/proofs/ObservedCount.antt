@@ -4,7 +4,7 @@ use Rattle.model_line.specs.Event.{Event}
 use Rattle.model_line.specs.Machine as lines
 use Rattle.model_line.specs.Sound.{IsSound}
 use Rattle.laws_trace.proofs.Counting.{begins}
-use Rattle.laws_trace.specs.Deliveries.{brought}
+use Rattle.laws_trace.specs.LinkFrames.{brought}
 use Rattle.laws_trace.specs.Observer.{Observed, by_event}
 use Rattle.laws_trace.specs.Trace.{is_up}
 use Rattle.laws_trace.proofs.Deliveries.{frame_by}

@@ -6,8 +6,8 @@ use Rattle.model_line.specs.Sound.{IsSound}
 use Rattle.model_card.specs.Card.{fresh}
 use Rattle.model_card.specs.Machine.{answer}
 use Rattle.model_card.specs.Run.{after_all, AreAtLines}
-use Rattle.laws_trace.specs.Deliveries.{brought, is_unit_for, is_unit_taken, Deliveries}
-use Rattle.laws_trace.specs.LinkFrames.{its_frame, is_for}
+use Rattle.laws_trace.specs.Deliveries.{is_unit_for, is_unit_taken, Deliveries}
+use Rattle.laws_trace.specs.LinkFrames.{brought, its_frame, is_for}
 use Rattle.laws_trace.specs.Observer.{Observed, in_state, view_of}
 use Rattle.laws_trace.specs.Trace.{is_up, trace_of, Always}
 use Rattle.laws_trace.specs.Units.{is_ui}

@@ -1,12 +1,13 @@
 -- How an event moves what an observer knows of a link: the state, the numbers, what layer 3 asked and how often T200 expired.
-use Rattle.laws_trace.proofs.Vocabulary.{◌≡◌, ℕ, ◌+◌, ◌==◌, ◌&&◌, ◌||◌, not, Bool, true, false, cond, length, Option, Some, None, refl, sym, subst, is_some, nat_lt, option_map_or, Information, ReceiveReady, ReceiveNotReady, Reject, Sabme, Disc, Ui, Ua, Dm, Frmr, Service, Timer, Parts, reading, Seq, State, TeiAssigned, AwaitingEstablishment, AwaitingRelease, Established, TimerRecovery, LinkTimer, state_number, Config, hears, expiry, request, next, Answer, LineTold, refused, gave, Assign, Remove, Deactivate, Down}
+use Rattle.laws_trace.proofs.Vocabulary.{◌≡◌, ℕ, ◌+◌, ◌==◌, ◌&&◌, ◌||◌, not, Bool, true, false, cond, List, length, Option, Some, None, Result, Ok, Err, ReadFault, refl, sym, subst, is_some, nat_lt, option_map_or, Information, ReceiveReady, ReceiveNotReady, Reject, Sabme, Disc, Ui, Ua, Dm, Frmr, Service, Timer, Parts, reading, Seq, State, TeiAssigned, AwaitingEstablishment, AwaitingRelease, Established, TimerRecovery, LinkTimer, state_number, Config, hears, expiry, request, next, Answer, LineTold, refused, gave, Assign, Remove, Deactivate, Down}
 use Rattle.lapd_frame.specs.declared.controls.Control.{Control}
 use Rattle.lapd_frame.specs.declared.controls.Control.TheVariants.{Xid}
 use Rattle.lapd_frame.specs.declared.timers.Timer.TheVariants as timers
 use Rattle.model_link.specs.declared.timers.LinkTimer.TheVariants.{T200, T203}
 use Rattle.model_line.specs.Event.{Event, told}
 use Rattle.model_line.specs.Request.{Request, Establish, Release, Data, Check, SetBusy, ClearBusy}
-use Rattle.laws_trace.specs.LinkFrames.{frame_of, its_frame, is_for, malformed, Sent, sent_in}
+use Rattle.laws_trace.specs.LinkFrames.{parts_of, frame_of, its_frame, is_for, malformed}
+use Rattle.laws_trace.proofs.TimersWatched.{Sent, sent_by, sent_in}
 use Rattle.laws_trace.specs.Observer.{Observed, in_state, awaits, anew, while_up, while_down, by_frame, by_t200, by_expiry, enquires, sends, by_event, takes}
 use Rattle.laws_trace.proofs.States as states
 use Rattle.laws_trace.specs.Trace.{is_own, is_up, seen}
@@ -339,14 +340,40 @@ module _ (c : Config) (service : Service) (tei : ℕ) where
   asked-moves x k shape o Down t = stays x k shape false o
 
   -- What is sent.
-  sent-moves : (x : State) (k : Known) → Shape x k → (o : Observed) (sent : Option Sent) → let s = state_number x in let p = at_state s k o in
-      Moved s s (cond (s == 7 || s == 8) (option_map_or (known.sends k) sent k) nothing_yet) false none_more p (option_map_or (sends p) sent p)
-  sent-moves x k shape o None = stays x k shape false o
-  sent-moves TeiAssigned k shape o (Some sent) = stays TeiAssigned k shape false o
-  sent-moves AwaitingEstablishment k shape o (Some sent) = stays AwaitingEstablishment k shape false o
-  sent-moves AwaitingRelease k shape o (Some sent) = stays AwaitingRelease k shape false o
-  sent-moves Established k shape o (Some sent) = record { state_is = refl; known_is = refl; asks = tt; owes = tt; counts = tt }
-  sent-moves TimerRecovery k shape o (Some sent) = record { state_is = refl; known_is = refl; asks = tt; owes = tt; counts = refl }
+  abbrev Sends : State → Known → Observed → Option Sent → Observed → Type 0
+  Sends x k p sent q = let s = state_number x in Moved s s (cond (s == 7 || s == 8) (option_map_or (known.sends k) sent k) nothing_yet) false none_more p q
+
+  information-moves : (x : State) (k : Known) → Shape x k → (o : Observed) (ns nr : Seq) (pf : Bool) → let p = at_state (state_number x) k o in
+      Sends x k p (Some (record { ns = ns.value })) (sends p (Information ns nr pf))
+  information-moves TeiAssigned k shape o ns nr pf = stays TeiAssigned k shape false o
+  information-moves AwaitingEstablishment k shape o ns nr pf = stays AwaitingEstablishment k shape false o
+  information-moves AwaitingRelease k shape o ns nr pf = stays AwaitingRelease k shape false o
+  information-moves Established k shape o ns nr pf = record { state_is = refl; known_is = refl; asks = tt; owes = tt; counts = tt }
+  information-moves TimerRecovery k shape o ns nr pf = record { state_is = refl; known_is = refl; asks = tt; owes = tt; counts = refl }
+
+  control-moves : (x : State) (k : Known) → Shape x k → (o : Observed) (control : Control) (info : List ℕ) → let p = at_state (state_number x) k o in
+      Sends x k p (sent_by control info) (sends p control)
+  control-moves x k shape o (Information ns nr pf) info = information-moves x k shape o ns nr pf
+  control-moves x k shape o (ReceiveReady nr pf) info = stays x k shape false o
+  control-moves x k shape o (ReceiveNotReady nr pf) info = stays x k shape false o
+  control-moves x k shape o (Reject nr pf) info = stays x k shape false o
+  control-moves x k shape o (Sabme pf) info = stays x k shape false o
+  control-moves x k shape o (Disc pf) info = stays x k shape false o
+  control-moves x k shape o (Ui pf) info = stays x k shape false o
+  control-moves x k shape o (Ua pf) info = stays x k shape false o
+  control-moves x k shape o (Dm pf) info = stays x k shape false o
+  control-moves x k shape o (Frmr pf) info = stays x k shape false o
+  control-moves x k shape o (Xid pf) info = stays x k shape false o
+
+  sent-moves : (x : State) (k : Known) → Shape x k → (o : Observed) (r : Result Parts ReadFault) → let p = at_state (state_number x) k o in
+      Sends x k p (sent_in service tei r) (option_map_or (λ (f : Parts). sends p f.control) (its_frame service tei (parts_of r)) p)
+  sent-moves x k shape o (Err fault) = stays x k shape false o
+  sent-moves x k shape o (Ok f) = go (is_for service tei f.address)
+    where
+      go : (b : Bool) → let p = at_state (state_number x) k o in
+          Sends x k p (cond b (sent_by f.control f.info) None) (option_map_or (λ (f : Parts). sends p f.control) (cond b (Some f) None) p)
+      go true = control-moves x k shape o f.control f.info
+      go false = stays x k shape false o
 
   pub event-moves : (x : State) (k : Known) → Shape x k → (o : Observed) (what : Event) (a : Answer) → EventMoves x k o what a
   event-moves x k shape o (hears e) (told t) = heard-moves x k shape o (is_some (malformed c service tei e)) (frame_of c e)
@@ -361,4 +388,4 @@ module _ (c : Config) (service : Service) (tei : ℕ) where
   event-moves x k shape o next (told t) = stays x k shape false o
   event-moves x k shape o next (refused why) = stays x k shape false o
   event-moves x k shape o next (gave None) = stays x k shape false o
-  event-moves x k shape o next (gave (Some frame)) = sent-moves x k shape o (sent_in service tei (reading c.side frame.octets))
+  event-moves x k shape o next (gave (Some frame)) = sent-moves x k shape o (reading c.side frame.octets)

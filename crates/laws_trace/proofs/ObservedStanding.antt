@@ -6,8 +6,8 @@ use Rattle.lapd_frame.specs.declared.controls.Control.TheVariants.{Xid}
 use Rattle.lapd_frame.specs.declared.timers.Timer.TheVariants as timers
 use Rattle.model_line.specs.Event.{Event, told}
 use Rattle.model_line.specs.Request.{Request, Establish, Release, Data, Check, SetBusy, ClearBusy}
-use Rattle.laws_trace.specs.Deliveries.{brings_next, is_taken, brought}
-use Rattle.laws_trace.specs.LinkFrames.{frame_of, its_frame, malformed, Sent, sent_in}
+use Rattle.laws_trace.specs.Deliveries.{brings_next, is_taken}
+use Rattle.laws_trace.specs.LinkFrames.{brought, parts_of, frame_of, its_frame, malformed}
 use Rattle.laws_trace.specs.Observer.{Observed, in_state, awaits, anew, takes, is_next, is_invalid, while_up, while_down, by_frame, by_t200, by_expiry, enquires, sends, by_event}
 use Rattle.laws_trace.specs.Trace.{is_own, is_up}
 use Rattle.laws_trace.proofs.ObservedShape.{When}
@@ -288,13 +288,26 @@ module _ (c : Config) (service : Service) (tei : ℕ) where
   asked-stands x o (Check by) t = rests x o
   asked-stands x o Down t = rests x o
 
-  sent-stands : (x : State) (o : Observed) (sent : Option Sent) → let p = in_number (state_number x) o in Quiet x o (option_map_or (sends p) sent p)
+  control-stands : (x : State) (o : Observed) (control : Control) → Quiet x o (sends (in_number (state_number x) o) control)
+  control-stands TeiAssigned o (Information ns nr pf) = tt
+  control-stands AwaitingEstablishment o (Information ns nr pf) = tt
+  control-stands AwaitingRelease o (Information ns nr pf) = tt
+  control-stands Established o (Information ns nr pf) = record { before = refl; count_is = refl; busy_is = refl; rejected_is = refl }
+  control-stands TimerRecovery o (Information ns nr pf) = record { before = refl; count_is = refl; busy_is = refl; rejected_is = refl }
+  control-stands x o (ReceiveReady nr pf) = rests x o
+  control-stands x o (ReceiveNotReady nr pf) = rests x o
+  control-stands x o (Reject nr pf) = rests x o
+  control-stands x o (Sabme pf) = rests x o
+  control-stands x o (Disc pf) = rests x o
+  control-stands x o (Ui pf) = rests x o
+  control-stands x o (Ua pf) = rests x o
+  control-stands x o (Dm pf) = rests x o
+  control-stands x o (Frmr pf) = rests x o
+  control-stands x o (Xid pf) = rests x o
+
+  sent-stands : (x : State) (o : Observed) (f : Option Parts) → let p = in_number (state_number x) o in Quiet x o (option_map_or (λ (f : Parts). sends p f.control) f p)
   sent-stands x o None = rests x o
-  sent-stands TeiAssigned o (Some sent) = tt
-  sent-stands AwaitingEstablishment o (Some sent) = tt
-  sent-stands AwaitingRelease o (Some sent) = tt
-  sent-stands Established o (Some sent) = record { before = refl; count_is = refl; busy_is = refl; rejected_is = refl }
-  sent-stands TimerRecovery o (Some sent) = record { before = refl; count_is = refl; busy_is = refl; rejected_is = refl }
+  sent-stands x o (Some f) = control-stands x o f.control
 
   pub event-stands-so : (x : State) (o : Observed) (what : Event) (a : Answer) → EventStands x o what a
   event-stands-so x o (hears e) a = heard-stands x o (is_some (malformed c service tei e)) (its_frame service tei (frame_of c e))
@@ -305,4 +318,4 @@ module _ (c : Config) (service : Service) (tei : ℕ) where
   event-stands-so x o next (told t) = rests x o
   event-stands-so x o next (refused why) = rests x o
   event-stands-so x o next (gave None) = rests x o
-  event-stands-so x o next (gave (Some frame)) = sent-stands x o (sent_in service tei (reading c.side frame.octets))
+  event-stands-so x o next (gave (Some frame)) = sent-stands x o (its_frame service tei (parts_of (reading c.side frame.octets)))

@@ -11,8 +11,8 @@ use Rattle.model_line.specs.Machine as lines
 use Rattle.model_line.specs.Sound.{IsSound}
 use Rattle.laws_trace.proofs.Counting as counting
 use Rattle.laws_trace.proofs.Counting.{begins}
-use Rattle.laws_trace.specs.Deliveries.{brings_next, brought}
-use Rattle.laws_trace.specs.LinkFrames.{frame_of, its_frame, is_for}
+use Rattle.laws_trace.specs.Deliveries.{brings_next}
+use Rattle.laws_trace.specs.LinkFrames.{brought, frame_of, its_frame, is_for}
 use Rattle.laws_trace.specs.Observer.{Observed}
 use Rattle.laws_trace.specs.Trace.{is_up}
 use Rattle.laws_trace.proofs.Begins.{in-state, unless}

@@ -1,5 +1,5 @@
 -- What a link has to send is what an observer has: what it keeps.
-use Rattle.laws_trace.proofs.Vocabulary.{◌≡◌, ℕ, ◌%◌, ◌<◌, ◌==◌, ◌&&◌, Bool, true, false, cond, not, List, [], ◌∷◌, ◌++◌, drop, get_or, Option, Some, None, refl, sym, ap, ◌∙◌, subst, arith, eq-eqb, true≢false, append-nil, append_assoc, fold, and_parts, get_or-set_same, get_or-replicate, fold-append, none-some, Service, Link, queue_of, state_number, Config, Answer, Line, fresh_line, has_tei, link_of, place_in, IsInRange, is-off, nowhere, Card, line_at, is_full, at, moments, has_lines, by_room, line_sound, all-left}
+use Rattle.laws_trace.proofs.Vocabulary.{◌≡◌, ℕ, ◌%◌, ◌<◌, ◌==◌, ◌&&◌, Bool, true, false, cond, not, List, [], ◌∷◌, ◌++◌, drop, get_or, Option, Some, None, refl, sym, ap, ◌∙◌, subst, arith, eq-eqb, true≢false, append-nil, append_assoc, fold, and_parts, get_or-set_same, get_or-replicate, fold-append, none-some, Service, Link, queue_of, state_number, Config, Answer, Line, fresh_line, has_tei, link_of, place_in, IsInRange, is-off, nowhere, Card, line_at, is_full, at, moments, has_lines, by_room, line_sound, all-left, notes_of}
 use Rattle.std.proofs.Common.{eqb-true}
 use Rattle.model_link.specs.Link.{fresh as fresh_link}
 use Rattle.model_line.specs.Event as line_event
@@ -12,14 +12,14 @@ use Rattle.model_card.specs.Sound as card_sound
 use Rattle.laws_trace.specs.Managing.{is_on, due}
 use Rattle.laws_trace.specs.News.{brings, is_sabme}
 use Rattle.laws_trace.specs.Observer.{Observed, View, steps, views, view_of, moment_of, view_behind}
-use Rattle.laws_trace.specs.Outgoing.{Outgoing, went_on, keeps, watches, nothing_yet, outgoing_of}
+use Rattle.laws_trace.specs.Outgoing.{Outgoing, data_granted, went_on, keeps, watches, nothing_yet, outgoing_of}
 use Rattle.laws_trace.specs.Trace.{is_up, seen}
 use Rattle.laws_trace.proofs.CallRuns.{apart}
 use Rattle.laws_trace.proofs.KeptOfLine.{left, still, left-so, comes-so}
 use Rattle.laws_trace.proofs.KeptOfLink.{went_by}
 use Rattle.laws_trace.proofs.LinkLed.{on-line}
 use Rattle.laws_trace.proofs.ObservedRun.{holds-behind}
-use Rattle.laws_trace.proofs.PlacesSeen.{granted_in, lost_in}
+use Rattle.laws_trace.proofs.PlacesSeen.{granted_in, lost_in, granted-so, lost-so}
 use Rattle.laws_trace.proofs.Runs.{nothing-seen}
 use Rattle.laws_trace.proofs.SeenAs.{up-number, IsSeenAs, seen-before, seen-behind, tei-seen}
 use Rattle.laws_trace.proofs.TimersAreTimely.{config-now, sound-now}
@@ -90,6 +90,14 @@ module _ (lost anew : Bool) (k x : Link) (o p : Observed) (was : IsSeenAs k o) (
       go : (u : Bool) → is_up (state_number k.state) ≡ u → cond u (drop (went_on anew o p) (queue_of k) ++ more) (queue_of k) ≡ cond u (drop (went_by anew k x) (queue_of k) ++ more) (queue_of k)
       go false down = refl
       go true up = ap (λ n. drop n (queue_of k) ++ more) (went up)
+
+-- A call for the next frame tells nothing.
+next-quiet : (card : Card) (number : ℕ) (what : line_event.Event) → what ≡ line_event.next → notes_of (answer (at number what) card) ≡ []
+unfolding lines.answer lines.takes_slot
+next-quiet card number line_event.next is = refl
+next-quiet card number (line_event.hears e) is = cc is
+next-quiet card number (line_event.expiry timer) is = cc is
+next-quiet card number (line_event.request r) is = cc is
 
 -- What is known of the link is what the observer of it knows.
 pub same-view : (c : Config) (service : Service) (tei number : ℕ) (ms : List Moment) (o : Outgoing)
@@ -230,10 +238,16 @@ module _ (c : Config) (number : ℕ) (ranged : IsInRange c) (within : number < c
       let card = after_all (fresh c) before in
       let own = link_of service tei (its before) in
       let x = link_of service tei (behind_of before what) in
-      let t = seen what (answer (at number what) card) in
+      let a = answer (at number what) card in
+      let t = seen what a in
+      let before_o = (view_of c service tei number before).link in
+      let behind_o = (view_behind c service tei number before what).link in
+      let went = went_on (brings is_sabme c service tei what) before_o behind_o in
       let was = seen-before c before number ranged all within service tei p on in
       let is = seen-behind c before number ranged all within service tei what q there in
-      left-as (lost_in service tei t) (brings is_sabme c service tei what) own x (view_of c service tei number before).link (view_behind c service tei number before what).link was is (granted_in service tei t)
+      ap (λ b. cond b [] (cond (is_up before_o.state) (drop went (queue_of own) ++ data_granted service tei what a) (queue_of own))) (sym (lost-so service tei what a (next-quiet card number what)))
+      ∙ ap (λ more. cond (lost_in service tei t) [] (cond (is_up before_o.state) (drop went (queue_of own) ++ more) (queue_of own))) (sym (granted-so service tei what a))
+      ∙ left-as (lost_in service tei t) (brings is_sabme c service tei what) own x (view_of c service tei number before).link (view_behind c service tei number before what).link was is (granted_in service tei t)
       ∙ sym (subst (λ (d : Config). queue_of x ≡ left (lost_in service tei t) (brings is_sabme d service tei what) own x (granted_in service tei t)) (config-now c before number ranged all within service tei)
       (leaves card number what (sound-now c before number ranged all within service tei) (here-at before all) service tei p q on there))
 

@@ -185,7 +185,7 @@ module _ (c : Config) (number : ℕ) (ranged : IsInRange c) (within : number < c
         ∙ sym (pends (on-line l tei p on) (on-line x tei q there))
 
   abbrev pending_by : View → View → Moment → Pending → Pending
-  pending_by was now m y = (outgoing.waits c service tei number was.link now.link m y.0, still_owes c service tei was.link now.link m y.0 y.1)
+  pending_by was now m y = (outgoing.waits c service tei was.link now.link m y.0, still_owes c service tei was.link now.link m y.0 y.1)
 
   pub owed-now : (events : List Event) → AreAtLines (fresh c) events → (place : ℕ) → place_in (line_of events) tei ≡ Some place
       → (outgoing_of c service tei number events).owes ≡ (link_of service tei (line_of events)).pending
@@ -193,7 +193,7 @@ module _ (c : Config) (number : ℕ) (ranged : IsInRange c) (within : number < c
       ap (λ (y : Pending). y.1)
       (has-now c number ranged within service tei ([], false) (λ (o : Outgoing). (o.waiting, o.owes)) pending_by
       (λ o m. let now = views c service tei number o.view m in
-      either-pair (is_on tei now.teis && is_on tei o.view.teis) (m.event.line == number) (outgoing.waits c service tei number o.view.link now.link m o.waiting) o.waiting
+      either-pair (is_on tei now.teis && is_on tei o.view.teis) (m.event.line == number) (outgoing.waits c service tei o.view.link now.link m o.waiting) o.waiting
       (still_owes c service tei o.view.link now.link m o.waiting o.owes) o.owes)
       pending_of
       (λ before all what off.

@@ -1,14 +1,30 @@
 -- What an event shows of the places of a link: data that is granted, and that layer 3 learns of a loss.
-use Rattle.laws_trace.proofs.Vocabulary.{◌≡◌, ℕ, Bool, true, false, cond, List, [], ◌++◌, ◌||◌, map, Some, None, refl, ap, append-nil, flat_map, list_any, Service, Timer, is_release, Answer, hears, expiry, request, next, refused, gave, notes_of, is_loss_of, is_granted}
+use Rattle.laws_trace.proofs.Vocabulary.{◌≡◌, ℕ, Bool, true, false, cond, List, [], ◌++◌, ◌∷◌, ◌&&◌, ◌||◌, map, Some, None, refl, sym, ap, ◌∙◌, append-nil, flat_map, list_any, Service, Timer, is_release, Answer, hears, expiry, request, next, refused, gave, Assign, Remove, Deactivate, Down, deactivates, notes_of, is_loss_of, is_granted}
 use Rattle.model_bits.specs.Stream as stream
 use Rattle.model_link.specs.Events as link
-use Rattle.model_line.specs.Event.{told}
-use Rattle.model_line.specs.Request.{Request}
+use Rattle.model_line.specs.Event.{Event, LineTold, told}
+use Rattle.model_line.specs.Request.{Request, Establish, Release, Data, Check, SetBusy, ClearBusy}
 use Rattle.laws_line.specs.Requests.{of_link}
-use Rattle.laws_trace.specs.Outgoing.{data_asked, data_granted, is_release_of, shows_loss}
+use Rattle.laws_trace.specs.News.{releases}
+use Rattle.laws_trace.specs.Outgoing as outgoing
 use Rattle.laws_trace.specs.Trace as traces
-use Rattle.laws_trace.specs.Trace.{seen, seen_told, seen_granted, frame_in}
+use Rattle.laws_trace.specs.Trace.{Seen, data_asked, granted, noted, is_own, seen, seen_told, seen_granted, frame_in}
 use Rattle.laws_trace.proofs.LinkLed.{own-is}
+
+-- Data that is granted, as it is seen; and that layer 3 learns of a loss.
+abbrev pub data_granted : Service → ℕ → Seen → List (List ℕ)
+data_granted service tei (granted r) = data_asked service tei r
+data_granted service tei other = []
+
+abbrev pub is_release_of : Service → ℕ → Request → Bool
+is_release_of service tei (Release of by) = is_own service tei of by
+is_release_of service tei (Deactivate of by) = is_own service tei of by
+is_release_of service tei other = false
+
+abbrev pub shows_loss : Service → ℕ → Seen → Bool
+shows_loss service tei (granted r) = is_release_of service tei r
+shows_loss service tei (noted ns contents) = list_any (is_loss_of service tei) ns
+shows_loss service tei other = false
 
 module _ (service : Service) (tei : ℕ) where
   abbrev pub granted_in : List traces.Seen → List (List ℕ)
@@ -65,3 +81,96 @@ module _ (service : Service) (tei : ℕ) where
   own-release (link.Data contents) = refl
   own-release link.SetBusy = refl
   own-release link.ClearBusy = refl
+
+  -- So it is by the event and its answer.
+  granted-is : (r : Request) (t : LineTold) → data_asked service tei r ≡ outgoing.data_granted service tei (request r) (told t)
+  granted-is (Data of by contents) t = refl
+  granted-is (Establish of by) t = refl
+  granted-is (Release of by) t = refl
+  granted-is (Request.Unit of by contents) t = refl
+  granted-is (Assign by) t = refl
+  granted-is (Remove by) t = refl
+  granted-is (Check by) t = refl
+  granted-is (SetBusy of by) t = refl
+  granted-is (ClearBusy of by) t = refl
+  granted-is (Deactivate of by) t = refl
+  granted-is Down t = refl
+
+  none-granted : (r : Request) (a : Answer) → is_granted a ≡ false → outgoing.data_granted service tei (request r) a ≡ []
+  none-granted (Data of by contents) a none = ap (λ b. cond (b && is_own service tei of by) (contents ∷ []) []) none
+  none-granted (Establish of by) a none = refl
+  none-granted (Release of by) a none = refl
+  none-granted (Request.Unit of by contents) a none = refl
+  none-granted (Assign by) a none = refl
+  none-granted (Remove by) a none = refl
+  none-granted (Check by) a none = refl
+  none-granted (SetBusy of by) a none = refl
+  none-granted (ClearBusy of by) a none = refl
+  none-granted (Deactivate of by) a none = refl
+  none-granted Down a none = refl
+
+  pub granted-so : (what : Event) (a : Answer) → granted_in (seen what a) ≡ outgoing.data_granted service tei what a
+  granted-so (hears e) a = told-grants a
+  granted-so (expiry timer) a = told-grants a
+  granted-so next a = begun-grants a
+  granted-so (request r) (told t) = asked-grants r (told t) ∙ granted-is r t
+  granted-so (request r) (refused why) = asked-grants r (refused why) ∙ sym (none-granted r (refused why) refl)
+  granted-so (request r) (gave frame) = asked-grants r (gave frame) ∙ sym (none-granted r (gave frame) refl)
+
+  or-none : (b : Bool) → (b || false) ≡ b
+  or-none true = refl
+  or-none false = refl
+
+  and-all : (b : Bool) → (b && true) ≡ b
+  and-all true = refl
+  and-all false = refl
+
+  and-none : (b : Bool) → (b && false) ≡ false
+  and-none true = refl
+  and-none false = refl
+
+  released-is : (r : Request) (t : LineTold) → is_release_of service tei r ≡ (releases service tei (request r) (told t) || (deactivates service tei (request r) && true))
+  released-is (Release of by) t = sym (or-none (is_own service tei of by))
+  released-is (Deactivate of by) t = sym (and-all (is_own service tei of by))
+  released-is (Data of by contents) t = refl
+  released-is (Establish of by) t = refl
+  released-is (Request.Unit of by contents) t = refl
+  released-is (Assign by) t = refl
+  released-is (Remove by) t = refl
+  released-is (Check by) t = refl
+  released-is (SetBusy of by) t = refl
+  released-is (ClearBusy of by) t = refl
+  released-is Down t = refl
+
+  none-released : (r : Request) (a : Answer) → is_granted a ≡ false → releases service tei (request r) a ≡ false
+  none-released (Release of by) a none = ap (λ b. b && is_own service tei of by) none
+  none-released (Deactivate of by) a none = refl
+  none-released (Data of by contents) a none = refl
+  none-released (Establish of by) a none = refl
+  none-released (Request.Unit of by contents) a none = refl
+  none-released (Assign by) a none = refl
+  none-released (Remove by) a none = refl
+  none-released (Check by) a none = refl
+  none-released (SetBusy of by) a none = refl
+  none-released (ClearBusy of by) a none = refl
+  none-released Down a none = refl
+
+  group : (a b d : Bool) → ((a || b) || d) ≡ (a || b || d)
+  group true b d = refl
+  group false b d = refl
+
+  untold : (r : Request) (a : Answer) → is_granted a ≡ false → list_any (is_loss_of service tei) (notes_of a) ≡ false → outgoing.loses service tei (request r) a ≡ false
+  untold r a none quiet =
+      ap (λ b. b || (deactivates service tei (request r) && is_granted a) || list_any (is_loss_of service tei) (notes_of a)) (none-released r a none)
+      ∙ ap (λ b. (deactivates service tei (request r) && b) || list_any (is_loss_of service tei) (notes_of a)) none
+      ∙ ap (λ b. b || list_any (is_loss_of service tei) (notes_of a)) (and-none (deactivates service tei (request r))) ∙ quiet
+
+  pub lost-so : (what : Event) (a : Answer) → (what ≡ next → notes_of a ≡ []) → lost_in (seen what a) ≡ outgoing.loses service tei what a
+  lost-so (hears e) a quiet = heard-loses e a
+  lost-so (expiry timer) a quiet = expiry-loses timer a
+  lost-so next a quiet = begun-loses a ∙ sym (ap (list_any (is_loss_of service tei)) (quiet refl))
+  lost-so (request r) (told t) quiet =
+      asked-loses r (told t) ∙ ap (λ b. b || list_any (is_loss_of service tei) t.notes) (released-is r t)
+      ∙ group (releases service tei (request r) (told t)) (deactivates service tei (request r) && true) (list_any (is_loss_of service tei) t.notes)
+  lost-so (request r) (refused why) quiet = sym (untold r (refused why) refl refl)
+  lost-so (request r) (gave frame) quiet = sym (untold r (gave frame) refl refl)

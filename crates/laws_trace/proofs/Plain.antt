@@ -7,7 +7,7 @@ use Rattle.model_link.specs.Sound as link_sound
 use Rattle.model_card.specs.Card.{fresh}
 use Rattle.model_card.specs.Event.{Event}
 use Rattle.model_card.specs.Run.{after_all, AreAtLines}
-use Rattle.laws_trace.specs.ControlFrames.{control_in}
+use Rattle.laws_trace.proofs.ControlsWatched.{control_in}
 use Rattle.laws_trace.specs.Units.{is_ui}
 use Rattle.laws_trace.proofs.LineAtEnd.{link-at-end, line-at-end}
 use Rattle.laws_trace.proofs.ControlsAtLine.{waits}

@@ -8,7 +8,7 @@ use Rattle.model_link.specs.Offers
 use Rattle.model_link.specs.Sound.{IsSound}
 use Rattle.model_link.specs.Steps.{Course, begun}
 use Rattle.model_link.specs.Words
-use Rattle.laws_trace.specs.LinkFrames.{Sent, sent_by}
+use Rattle.laws_trace.proofs.TimersWatched.{Sent, sent_by}
 use Rattle.laws_trace.proofs.TimersWatched.{Known, nothing_yet, sends}
 use Rattle.laws_trace.proofs.States.{is_state}
 use Rattle.laws_trace.proofs.DataGoesOut.{none-sent}
@@ -87,8 +87,8 @@ module _ (t : Terms) (k : Known) (l : Link) (s : IsSound t l) (agrees : Agrees l
       by-pending false = stays (begun l) refl refl
 
       went : is_established l.state ≡ true
-          → Agrees l.state (sent_known l.state k (Some (record { ns = l.s % 128; nr = l.r % 128; contents = unwrap_or (Offers.first_unsent l) [] }))) l.a (l.s + 1) l.peer_busy
-      went up = one-more l.state k l.a l.s l.peer_busy (record { ns = l.s % 128; nr = l.r % 128; contents = unwrap_or (Offers.first_unsent l) [] }) up refl agrees
+          → Agrees l.state (sent_known l.state k (Some (record { ns = l.s % 128 }))) l.a (l.s + 1) l.peer_busy
+      went up = one-more l.state k l.a l.s l.peer_busy (record { ns = l.s % 128 }) up refl agrees
 
       newly : (timer : LinkTimer) → runs T200 l.running ≡ false → runs timer l.running ≡ true → runs timer (Some T200) ≡ true → runs timer (Some T200) ≡ false
       newly T200 off was now = absurd (true≢false (sym was ∙ off))

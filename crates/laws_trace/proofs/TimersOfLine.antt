@@ -4,7 +4,8 @@ use Rattle.lapd_frame.specs.declared.controls.Control.{Control}
 use Rattle.model_line.specs.Event.{Event, told}
 use Rattle.model_line.specs.Machine.{answer}
 use Rattle.model_line.specs.Request.{Request}
-use Rattle.laws_trace.specs.LinkFrames.{Sent, frame_of as frame_heard}
+use Rattle.laws_trace.specs.LinkFrames.{frame_of as frame_heard}
+use Rattle.laws_trace.proofs.TimersWatched.{Sent}
 use Rattle.laws_trace.proofs.TimersWatched.{Known, listens, sends, control_in, learns, brings}
 use Rattle.laws_trace.specs.Trace.{frame_in, seen, seen_told, seen_granted}
 use Rattle.laws_trace.proofs.DataGoesOut.{sent_with}

@@ -1,5 +1,5 @@
 -- A part of what an observer knows of a link, its numbers; and by it when timers run, and when they are started.
-use Rattle.laws_trace.proofs.Vocabulary.{◌≡◌, ℕ, ◌+◌, ◌%◌, ◌==◌, ◌&&◌, ◌||◌, not, Bool, true, false, List, ◌∷◌, ◌++◌, fold, Option, Some, None, if◌then◌else◌, list_any, option_map_or, Information, ReceiveReady, ReceiveNotReady, Reject, Sabme, Service, Parts, reading, LinkTimer, obeyed, Config, orders_in, state_of, timer_of, left_by, line_at, at, moments, runs_at_callers}
+use Rattle.laws_trace.proofs.Vocabulary.{◌≡◌, ℕ, ◌+◌, ◌%◌, ◌==◌, ◌&&◌, ◌||◌, not, Bool, true, false, List, ◌∷◌, ◌++◌, fold, Option, Some, None, Result, Ok, Err, if◌then◌else◌, list_any, option_map_or, ReadFault, Information, ReceiveReady, ReceiveNotReady, Reject, Sabme, Service, Parts, reading, LinkTimer, obeyed, Config, orders_in, state_of, timer_of, left_by, line_at, at, moments, runs_at_callers}
 use Rattle.lapd_frame.specs.declared.controls.Control.{Control}
 use Rattle.lapd_frame.specs.declared.timers.Timer.TheVariants as timers
 use Rattle.model_line.specs.Event as line_event
@@ -7,7 +7,7 @@ use Rattle.model_card.specs.Card.{fresh}
 use Rattle.model_card.specs.Event.{Event}
 use Rattle.model_card.specs.Machine.{after, answer}
 use Rattle.model_card.specs.Run.{Moment, after_all}
-use Rattle.laws_trace.specs.LinkFrames.{Sent, sent_in, is_for, frame_of}
+use Rattle.laws_trace.specs.LinkFrames.{is_for, frame_of}
 use Rattle.laws_trace.proofs.States.{is_state, state_before, state_after, differ}
 use Rattle.laws_trace.specs.Trace.{Seen, heard, begun, seen_in}
 use Rattle.laws_trace.specs.TimersAreTimely as timely
@@ -36,6 +36,18 @@ listens recovered in_7 k (ReceiveReady nr p) = number_heard nr.value recovered f
 listens recovered in_7 k (ReceiveNotReady nr p) = number_heard nr.value recovered true k
 listens recovered in_7 k (Reject nr p) = number_heard nr.value in_7 false k
 listens recovered in_7 k other = k
+
+-- An I-frame of the link that begins, by its N(S).
+pub record Sent : Type 0 where
+  pub ns : ℕ
+
+abbrev pub sent_by : Control → List ℕ → Option Sent
+sent_by (Information ns nr p) info = Some (record { ns = ns.value })
+sent_by other info = None
+
+abbrev pub sent_in : Service → ℕ → Result Parts ReadFault → Option Sent
+sent_in service tei (Ok frame) = if is_for service tei frame.address then sent_by frame.control frame.info else None
+sent_in service tei (Err fault) = None
 
 -- And by the I-frames that begin.
 abbrev pub sends : Known → Sent → Known

@@ -9,8 +9,8 @@ use Rattle.model_card.specs.Card.{fresh}
 use Rattle.model_card.specs.Event.{Event}
 use Rattle.model_card.specs.Machine.{answer}
 use Rattle.model_card.specs.Run.{after_all, AreAtLines}
-use Rattle.laws_trace.specs.Deliveries.{is_unit_for, brought}
-use Rattle.laws_trace.specs.LinkFrames.{frame_of, its_frame, is_for, parts_of}
+use Rattle.laws_trace.specs.Deliveries.{is_unit_for}
+use Rattle.laws_trace.specs.LinkFrames.{brought, frame_of, its_frame, is_for, parts_of}
 use Rattle.laws_trace.specs.Managing.{is_on}
 use Rattle.laws_trace.specs.Observer.{view_of}
 use Rattle.laws_trace.specs.Units.{is_ui}

@@ -1,42 +1,19 @@
 -- Which control frames of a link are due.
-use Rattle.std.specs.Prelude.{ℕ, ◌-◌, ◌==◌, ◌&&◌, ◌||◌, not, Bool, true, false, List, [], ◌∷◌, ◌++◌, length, take, Result, Ok, Err, nat_lt, if◌then◌else◌}
+use Rattle.std.specs.Prelude.{ℕ, ◌==◌, ◌&&◌, ◌||◌, not, Bool, true, false, List, [], ◌++◌, length, nat_lt, if◌then◌else◌}
 use Rattle.std.specs.Option.{option_map_or}
 use Rattle.lapd_seq.specs.Numbers.{seq}
 use Rattle.lapd_frame.specs.declared.controls.Control.{Control}
-use Rattle.lapd_frame.specs.declared.controls.Control.TheVariants.{Information, ReceiveReady, ReceiveNotReady, Reject, Sabme, Disc, Ui, Ua, Dm}
-use Rattle.lapd_frame.specs.declared.faults.ReadFault.{ReadFault}
+use Rattle.lapd_frame.specs.declared.controls.Control.TheVariants.{Information, ReceiveReady, ReceiveNotReady, Reject, Sabme, Disc, Ua, Dm}
 use Rattle.lapd_frame.specs.declared.services.Service.{Service}
-use Rattle.lapd_frame.specs.declared.timers.Timer.TheVariants.{T200}
 use Rattle.lapd_frame.specs.Grammar.{Parts}
-use Rattle.lapd_frame.specs.Reading.{reading}
-use Rattle.lapd_frame.specs.Services.{sapi_of}
 use Rattle.model_link.specs.declared.frames.ControlFrame.{ControlFrame}
 use Rattle.model_line.specs.declared.config.Config.{Config}
 use Rattle.model_line.specs.Event as line_event
-use Rattle.model_line.specs.Event.{hears, expiry, request, Answer}
 use Rattle.laws_link.specs.Waiting.{as_response, as_command}
-use Rattle.laws_line.specs.Frames.{lost_in}
-use Rattle.laws_line.specs.Share.{is_granted}
 use Rattle.model_card.specs.Run.{Moment}
-use Rattle.laws_trace.specs.LinkFrames.{frame_of, its_frame}
-use Rattle.laws_trace.specs.Observer.{Observed}
-use Rattle.laws_trace.specs.Trace.{is_own, is_up, Seen, begun}
-
--- What a frame of the link of a service with a TEI shows.
-abbrev pub of_link : {X : Type 0} → Service → ℕ → (Bool → Control → List X) → Result Parts ReadFault → List X
-of_link service tei by (Ok frame) =
-    if frame.address.sapi == sapi_of service && frame.address.tei == tei then by frame.address.command frame.control else []
-of_link service tei by (Err fault) = []
-
--- Each frame of a link that begins is a control frame, except I-frames and UI.
-abbrev pub control_in : Bool → Control → List ControlFrame
-control_in command (Information ns nr p) = []
-control_in command (Ui p) = []
-control_in command other = record { command = command; control = other } ∷ []
-
-abbrev pub controls_at : Config → Service → ℕ → Seen → List ControlFrame
-controls_at c service tei (begun octets) = of_link service tei control_in (reading c.side octets)
-controls_at c service tei other = []
+use Rattle.laws_trace.specs.LinkFrames.{brought}
+use Rattle.laws_trace.specs.Observer.{Observed, enters}
+use Rattle.laws_trace.specs.Trace.{is_up}
 
 -- A receipt is RNR while layer 3 is busy, and RR while it is not; its N(R) is the number of contents told of the link
 -- since its numbers began, modulo 128 (Q.921 clauses 3.5.2.6, 3.6.6, 3.6.8 and 5.6.6).
@@ -70,10 +47,8 @@ answer_to c was now f other = if is_up was.state then answer_up was now (nat_lt 
 abbrev pub changed : Observed → Observed → List ControlFrame
 changed was now = if is_up now.state && (if was.own_busy then not now.own_busy else now.own_busy) then as_response (receipt now false) else []
 
-abbrev pub answers : Config → Service → ℕ → Observed → Observed → line_event.Event → Answer → List ControlFrame
-answers c service tei was now (hears e) a = option_map_or (λ (f : Parts). answer_to c was now f f.control) (its_frame service tei (frame_of c e)) []
-answers c service tei was now (request r) a = if is_granted a then changed was now else []
-answers c service tei was now other a = []
+abbrev pub answers : Config → Service → ℕ → Observed → Observed → line_event.Event → List ControlFrame
+answers c service tei was now what = option_map_or (λ (f : Parts). answer_to c was now f f.control) (brought c service tei what) (changed was now)
 
 -- A state that awaits the answer to a command puts it, with P=1: SABME state 5, DISC state 6, and state 8 an enquiry
 -- (clauses 5.5.1.1, 5.5.3.2 and 5.6.7); where the link comes to the state, and again where T200 expires and leaves it
@@ -85,18 +60,6 @@ command_of now =
     else if now.state == 8 then as_command (receipt now true)
     else []
 
-abbrev pub expires : Service → ℕ → line_event.Event → Bool
-expires service tei (expiry (T200 of by)) = is_own service tei of by
-expires service tei other = false
-
--- So these are due in a moment while the TEI is on the line, an answer before a command, except the last of them that
--- the answer counts as lost.
+-- So these are put in a moment of the line while the TEI is on it, an answer before a command.
 abbrev pub put_in : Config → Service → ℕ → Observed → Observed → Moment → List ControlFrame
-put_in c service tei was now m =
-    answers c service tei was now m.event.what m.answer
-    ++ (if not (was.state == now.state) || expires service tei m.event.what then command_of now else [])
-
-abbrev pub due_in : Config → Service → ℕ → ℕ → Observed → Observed → Moment → List ControlFrame
-due_in c service tei number was now m =
-    let frames = if m.event.line == number && not (was.state == 1) then put_in c service tei was now m else [] in
-    take (length frames - lost_in m.answer) frames
+put_in c service tei was now m = answers c service tei was now m.event.what ++ (if enters was now then command_of now else [])

@@ -1,5 +1,5 @@
 -- What layer 3 is told of what is heard.
-use Rattle.std.specs.Prelude.{◌≡◌, ℕ, ◌==◌, ◌&&◌, ◌||◌, not, nat_le, nat_lt, Bool, true, false, List, ◌∷◌, ◌++◌, length, option_to_list, option_map, count_by, Option, None}
+use Rattle.std.specs.Prelude.{◌≡◌, ℕ, ◌==◌, ◌&&◌, ◌||◌, not, nat_le, nat_lt, Bool, true, false, List, ◌∷◌, ◌++◌, length, option_to_list, option_map, count_by, Option}
 use Rattle.std.specs.List.{list_any}
 use Rattle.std.specs.Option.{option_map_or}
 use Rattle.lapd_frame.specs.declared.controls.Control.{Control}
@@ -8,14 +8,14 @@ use Rattle.lapd_frame.specs.declared.services.Service.{Service}
 use Rattle.lapd_frame.specs.Grammar.{Parts}
 use Rattle.model_line.specs.declared.config.Config.{Config}
 use Rattle.model_line.specs.Event as line_event
-use Rattle.model_line.specs.Event.{hears, Answer}
+use Rattle.model_line.specs.Event.{Answer}
 use Rattle.model_line.specs.Sides.{has_management}
 use Rattle.laws_line.specs.Heard.{notes_of, contents_in, is_data_of, is_unit_of, tells_contents}
 use Rattle.model_card.specs.Card.{fresh}
 use Rattle.model_card.specs.Event.{Event, at}
 use Rattle.model_card.specs.Machine.{answer}
 use Rattle.model_card.specs.Run.{after_all}
-use Rattle.laws_trace.specs.LinkFrames.{frame_of, its_frame}
+use Rattle.laws_trace.specs.LinkFrames.{brought}
 use Rattle.laws_trace.specs.Managing.{Managed, is_on}
 use Rattle.laws_trace.specs.Observer.{Observed, View, is_next, view_of}
 use Rattle.laws_trace.specs.Trace.{is_up}
@@ -29,11 +29,6 @@ brings_next o other = false
 
 abbrev pub is_taken : Config → Observed → Parts → Bool
 is_taken c o f = is_up o.state && (not (nat_lt c.n201 (length f.info)) && brings_next o f.control)
-
--- The frame of a link that an event brings.
-abbrev pub brought : Config → Service → ℕ → line_event.Event → Option Parts
-brought c service tei (hears e) = its_frame service tei (frame_of c e)
-brought c service tei other = None
 
 -- A UI is for a TEI that is on the line, whatever the state of its link, or, on the user's side, for the group, which is TEI
 -- 127 (clauses 3.3.4, 5.2.2 and 5.2.3).

@@ -3,8 +3,6 @@ use Rattle.std.specs.Prelude.{ℕ, ◌==◌, ◌&&◌, not, Bool, false, List, O
 use Rattle.std.specs.Option.{option_map_or}
 use Rattle.model_bits.specs.Stream as stream
 use Rattle.lapd_frame.specs.declared.addresses.Address.{Address}
-use Rattle.lapd_frame.specs.declared.controls.Control.{Control}
-use Rattle.lapd_frame.specs.declared.controls.Control.TheVariants.{Information}
 use Rattle.lapd_frame.specs.declared.faults.ReadFault.{ReadFault}
 use Rattle.lapd_frame.specs.declared.faults.ReadFault.TheVariants.{Undefined, WrongSize}
 use Rattle.lapd_frame.specs.declared.notes.ErrorCode.{ErrorCode}
@@ -16,6 +14,8 @@ use Rattle.lapd_frame.specs.Grammar.{Parts}
 use Rattle.lapd_frame.specs.Reading.{reading, long_reading}
 use Rattle.lapd_frame.specs.Services.{sapi_of}
 use Rattle.model_line.specs.declared.config.Config.{Config}
+use Rattle.model_line.specs.Event as line_event
+use Rattle.model_line.specs.Event.{hears}
 use Rattle.model_line.specs.Heard.{heard_side}
 use Rattle.laws_trace.specs.Units.{is_ui}
 
@@ -35,6 +35,11 @@ frame_of c other = None
 abbrev pub its_frame : Service → ℕ → Option Parts → Option Parts
 its_frame service tei None = None
 its_frame service tei (Some f) = if is_for service tei f.address then Some f else None
+
+-- The one that an event brings.
+abbrev pub brought : Config → Service → ℕ → line_event.Event → Option Parts
+brought c service tei (hears e) = its_frame service tei (frame_of c e)
+brought c service tei other = None
 
 -- A malformed one, by the letter of its error: a frame that the grammar does not have, one of wrong size, and an I-frame that
 -- was too long to keep (clause 5.8.5 and appendix II).
@@ -60,17 +65,3 @@ malformed c service tei (stream.dropped cause) = None
 -- A frame that begins is one of the link, and no unit data.
 abbrev pub is_frame_of : Config → Service → ℕ → List ℕ → Bool
 is_frame_of c service tei octets = option_map_or (λ (f : Parts). not (is_ui f.control)) (its_frame service tei (parts_of (reading c.side octets))) false
-
--- An I-frame of the link that begins.
-pub record Sent : Type 0 where
-  pub ns : ℕ
-  pub nr : ℕ
-  pub contents : List ℕ
-
-abbrev pub sent_by : Control → List ℕ → Option Sent
-sent_by (Information ns nr p) info = Some (record { ns = ns.value; nr = nr.value; contents = info })
-sent_by other info = None
-
-abbrev pub sent_in : Service → ℕ → Result Parts ReadFault → Option Sent
-sent_in service tei (Ok frame) = if is_for service tei frame.address then sent_by frame.control frame.info else None
-sent_in service tei (Err fault) = None

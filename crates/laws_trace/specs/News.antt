@@ -17,7 +17,7 @@ use Rattle.model_line.specs.Request.{Release}
 use Rattle.laws_line.specs.Heard.{notes_of}
 use Rattle.laws_line.specs.Share.{is_granted}
 use Rattle.model_card.specs.Event.{Event, at}
-use Rattle.laws_trace.specs.LinkFrames.{frame_of, its_frame, malformed}
+use Rattle.laws_trace.specs.LinkFrames.{frame_of, its_frame, brought, malformed}
 use Rattle.laws_trace.specs.Observer.{Observed, is_outstanding, view_of, moment_of, view_behind}
 use Rattle.laws_trace.specs.Trace.{is_own, is_up}
 
@@ -33,8 +33,7 @@ is_news service tei other = false
 
 -- The terminal sends SABME, or XID; and layer 3 asks for the release.
 abbrev pub brings : (Control → Bool) → Config → Service → ℕ → line_event.Event → Bool
-brings is c service tei (hears e) = option_map_or (λ (f : Parts). is f.control) (its_frame service tei (frame_of c e)) false
-brings is c service tei other = false
+brings is c service tei what = option_map_or (λ (f : Parts). is f.control) (brought c service tei what) false
 
 abbrev pub is_sabme : Control → Bool
 is_sabme (Sabme p) = true

@@ -20,7 +20,7 @@ use Rattle.model_card.specs.Card.{fresh}
 use Rattle.model_card.specs.Event.{Event, at}
 use Rattle.model_card.specs.Machine.{answer}
 use Rattle.model_card.specs.Run.{Moment, moments, after_all}
-use Rattle.laws_trace.specs.LinkFrames.{frame_of, its_frame, malformed, Sent, sent_in}
+use Rattle.laws_trace.specs.LinkFrames.{frame_of, its_frame, parts_of, malformed}
 use Rattle.laws_trace.specs.Managing.{Managed, none_on, is_on, led}
 use Rattle.laws_trace.specs.Trace.{is_own, is_up, frame_in}
 
@@ -160,17 +160,22 @@ by_expiry c service tei (T203 of by) o = if is_own service tei of by && (o.state
 by_expiry c service tei other o = o
 
 -- What it sends: an I-frame, behind which the next number goes (clause 5.6.1).
-abbrev pub sends : Observed → Sent → Observed
-sends o sent = if is_up o.state then record o { next = (sent.ns + 1) % 128 } else o
+abbrev pub sends : Observed → Control → Observed
+sends o (Information ns nr p) = if is_up o.state then record o { next = (ns.value + 1) % 128 } else o
+sends o other = o
 
 abbrev pub by_frame_begun : Config → Service → ℕ → Observed → List ℕ → Observed
-by_frame_begun c service tei o octets = option_map_or (sends o) (sent_in service tei (reading c.side octets)) o
+by_frame_begun c service tei o octets = option_map_or (λ (f : Parts). sends o f.control) (its_frame service tei (parts_of (reading c.side octets))) o
 
 abbrev pub by_event : Config → Service → ℕ → line_event.Event → Answer → Observed → Observed
 by_event c service tei (hears e) a o = by_heard c service tei e o
 by_event c service tei (expiry timer) a o = by_expiry c service tei timer o
 by_event c service tei (request r) a o = if is_granted a then by_request service tei r o else o
 by_event c service tei line_event.next a o = fold (by_frame_begun c service tei) o (frame_in a)
+
+-- The link comes to another state, or T200 expires and leaves it in the one that it is in.
+abbrev pub enters : Observed → Observed → Bool
+enters was now = not (was.state == now.state) || nat_lt was.expiries now.expiries
 
 -- What is known of the TEIs of the line, and of a link. The link of a TEI that comes to the line is in state 4, and that
 -- of one that is not on it in state 1 (clauses 5.3 and 5.3.4).

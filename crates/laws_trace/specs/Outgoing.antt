@@ -1,25 +1,26 @@
 -- What a link has to send, to whoever watches its line.
-use Rattle.std.specs.Prelude.{ℕ, ◌==◌, ◌&&◌, ◌||◌, not, Bool, true, false, List, [], ◌∷◌, ◌++◌, length, drop, flat_map, fold, if◌then◌else◌}
+use Rattle.std.specs.Prelude.{ℕ, ◌==◌, ◌&&◌, ◌||◌, not, Bool, true, false, List, [], ◌∷◌, ◌++◌, ◌-◌, length, drop, take, filter, fold, if◌then◌else◌}
 use Rattle.std.specs.List.{list_any}
 use Rattle.lapd_frame.specs.declared.services.Service.{Service}
 use Rattle.model_link.specs.declared.frames.ControlFrame.{ControlFrame}
 use Rattle.model_line.specs.declared.config.Config.{Config}
 use Rattle.model_line.specs.Event as line_event
-use Rattle.model_line.specs.Event.{Answer}
-use Rattle.model_line.specs.Request as asked
-use Rattle.model_line.specs.Request.{Request, Release, Deactivate}
+use Rattle.model_line.specs.Event.{request, Answer}
+use Rattle.model_line.specs.Request.{Data}
 use Rattle.model_card.specs.Card.{fresh}
 use Rattle.model_card.specs.Event.{Event}
 use Rattle.model_card.specs.Run.{Moment, moments}
 use Rattle.laws_line.specs.Heard.{is_data_of, notes_of}
+use Rattle.laws_line.specs.Frames.{lost_in}
 use Rattle.laws_line.specs.Loss.{is_loss_of}
 use Rattle.laws_line.specs.Requests.{deactivates}
-use Rattle.laws_trace.specs.ControlFrames.{controls_at, put_in, due_in}
+use Rattle.laws_line.specs.Share.{is_granted}
+use Rattle.laws_trace.specs.ControlFrames.{put_in}
 use Rattle.laws_trace.specs.LinkFrames.{is_frame_of}
 use Rattle.laws_trace.specs.Managing.{is_on}
-use Rattle.laws_trace.specs.News.{brings, is_sabme}
+use Rattle.laws_trace.specs.News.{brings, is_sabme, releases}
 use Rattle.laws_trace.specs.Observer.{Observed, View, at_first, steps, views}
-use Rattle.laws_trace.specs.Trace.{is_own, is_up, Seen, frame_in, seen, noted, granted}
+use Rattle.laws_trace.specs.Trace.{is_own, is_up, frame_in}
 
 -- What is known of the link; the contents that it keeps from V(A) on, oldest first: those granted and not acknowledged; and
 -- the control frames that wait, oldest first: those that were due, and have not begun; and whether an acknowledgement is owed.
@@ -30,25 +31,14 @@ pub record Outgoing : Type 0 where
   pub owes : Bool
 
 -- Data that is granted for a link.
-abbrev pub data_asked : Service → ℕ → Request → List (List ℕ)
-data_asked service tei (asked.Data of by contents) = if is_own service tei of by then contents ∷ [] else []
-data_asked service tei other = []
-
-abbrev pub data_granted : Service → ℕ → Seen → List (List ℕ)
-data_granted service tei (granted r) = data_asked service tei r
-data_granted service tei other = []
+abbrev pub data_granted : Service → ℕ → line_event.Event → Answer → List (List ℕ)
+data_granted service tei (request (Data of by contents)) a = if is_granted a && is_own service tei of by then contents ∷ [] else []
+data_granted service tei other a = []
 
 -- Layer 3 learns that a link keeps nothing, by a release or a deactivation of it that is granted, or by a note: an
 -- indication of its establishment, or an indication or a confirm of its release (Q.921 clauses 5.5.3.2 and 5.7).
-abbrev pub is_release_of : Service → ℕ → Request → Bool
-is_release_of service tei (Release of by) = is_own service tei of by
-is_release_of service tei (Deactivate of by) = is_own service tei of by
-is_release_of service tei other = false
-
-abbrev pub shows_loss : Service → ℕ → Seen → Bool
-shows_loss service tei (granted r) = is_release_of service tei r
-shows_loss service tei (noted ns contents) = list_any (is_loss_of service tei) ns
-shows_loss service tei other = false
+abbrev pub loses : Service → ℕ → line_event.Event → Answer → Bool
+loses service tei what a = releases service tei what a || (deactivates service tei what && is_granted a) || list_any (is_loss_of service tei) (notes_of a)
 
 -- How far V(A) goes on in states 7 and 8: by the N(R) that is heard, and not where SABME begins the numbers anew, or the
 -- link leaves these states (clauses 3.5.2.3 and 5.5.1.2).
@@ -59,17 +49,17 @@ went_on anew was now = if is_up now.state && not anew then steps was.acknowledge
 -- leave by which V(A) goes on, and data that is granted comes behind (clauses 5.6.1 and 5.6.3.2).
 abbrev pub keeps : Config → Service → ℕ → Observed → Observed → line_event.Event → Answer → List (List ℕ) → List (List ℕ)
 keeps c service tei was now what a kept =
-    let t = seen what a in
-    if list_any (shows_loss service tei) t then []
-    else if is_up was.state then drop (went_on (brings is_sabme c service tei what) was now) kept ++ flat_map (data_granted service tei) t
+    if loses service tei what a then []
+    else if is_up was.state then drop (went_on (brings is_sabme c service tei what) was now) kept ++ data_granted service tei what a
     else kept
 
--- And the first control frame leaves as it begins, those that are due come behind, and none waits where the link is
--- deactivated (annex B).
-abbrev pub waits : Config → Service → ℕ → ℕ → Observed → Observed → Moment → List ControlFrame → List ControlFrame
-waits c service tei number was now m waiting =
+-- And the first control frame leaves as a frame of the link begins; those that are put come behind, except the last of them
+-- that the answer counts as lost; and none waits where the link is deactivated (annex B).
+abbrev pub waits : Config → Service → ℕ → Observed → Observed → Moment → List ControlFrame → List ControlFrame
+waits c service tei was now m waiting =
+    let puts = put_in c service tei was now m in
     if deactivates service tei m.event.what then []
-    else drop (length (flat_map (controls_at c service tei) (seen m.event.what m.answer))) waiting ++ due_in c service tei number was now m
+    else drop (length (filter (is_frame_of c service tei) (frame_in m.answer))) waiting ++ take (length puts - lost_in m.answer) puts
 
 abbrev pub is_empty : {X : Type 0} → List X → Bool
 is_empty [] = true
@@ -93,7 +83,7 @@ watches c service tei number o m =
     record {
       view = now;
       kept = if stays then (if its then keeps c service tei o.view.link now.link m.event.what m.answer o.kept else o.kept) else [];
-      waiting = if stays then (if its then waits c service tei number o.view.link now.link m o.waiting else o.waiting) else [];
+      waiting = if stays then (if its then waits c service tei o.view.link now.link m o.waiting else o.waiting) else [];
       owes = stays && (if its then still_owes c service tei o.view.link now.link m o.waiting o.owes else o.owes);
     }
 

@@ -6,7 +6,7 @@ use Rattle.lapd_frame.specs.declared.services.Service.{Service}
 use Rattle.lapd_frame.specs.Services.{same_service}
 use Rattle.model_line.specs.declared.config.Config.{Config}
 use Rattle.model_line.specs.Event.{Event, hears, expiry, request, next, NextFrame, Answer, told, gave}
-use Rattle.model_line.specs.Request.{Request}
+use Rattle.model_line.specs.Request.{Request, Data}
 use Rattle.model_line.specs.Sound.{IsInRange}
 use Rattle.model_card.specs.Card.{fresh}
 use Rattle.model_card.specs.Event as card
@@ -49,6 +49,11 @@ seen next answer = map begun (frame_in answer)
 -- A note, a request or a timer of the link of a service with a TEI.
 abbrev pub is_own : Service → ℕ → Service → ℕ → Bool
 is_own service tei of by = same_service of service && by == tei
+
+-- The data of a link that a request asks for.
+abbrev pub data_asked : Service → ℕ → Request → List (List ℕ)
+data_asked service tei (Data of by contents) = if is_own service tei of by then contents ∷ [] else []
+data_asked service tei other = []
 
 -- What is seen of a line in the moments of a run.
 abbrev pub seen_in : ℕ → Moment → List Seen

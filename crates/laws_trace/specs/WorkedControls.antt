@@ -11,7 +11,7 @@ use Rattle.lapd_seq.specs.Numbers.{seq}
 use Rattle.lapd_tei.specs.Events as teis
 use Rattle.laws_link.specs.Waiting.{as_response, as_command}
 use Rattle.model_link.specs.declared.frames.ControlFrame.{ControlFrame}
-use Rattle.model_line.specs.Event.{hears, expiry, nothing, told}
+use Rattle.model_line.specs.Event.{hears, expiry}
 use Rattle.model_line.specs.Machine as lines
 use Rattle.model_line.specs.Request.{Assign, Remove, Establish, Release, SetBusy, ClearBusy, Deactivate}
 use Rattle.model_card.specs.Event.{Event, at}
@@ -101,7 +101,7 @@ abbrev rejected : Observed
 rejected = record (in_state 7) { rejected = true }
 
 abbrev answers_it : Observed → Observed → List ControlFrame
-answers_it was now = answers usual Call 64 was now out_of_sequence.what (told nothing)
+answers_it was now = answers usual Call 64 was now out_of_sequence.what
 
 rej_due : answers_it (in_state 7) rejected ≡ as_response (Reject (seq 0) false)
 unfolding seq reading header_of control_of unnumbered_of supervisory_of
@@ -116,7 +116,7 @@ abbrev of_eight : List ℕ
 of_eight = 1 ∷ 2 ∷ 3 ∷ 4 ∷ 5 ∷ 6 ∷ 7 ∷ 8 ∷ []
 
 abbrev answers_poll : List ℕ → List ControlFrame
-answers_poll info = answers (record usual { n201 = 8 }) Call 64 (in_state 7) (in_state 7) (hears (stream.frame (0x00 ∷ 0x81 ∷ 0x00 ∷ 0x01 ∷ info))) (told nothing)
+answers_poll info = answers (record usual { n201 = 8 }) Call 64 (in_state 7) (in_state 7) (hears (stream.frame (0x00 ∷ 0x81 ∷ 0x00 ∷ 0x01 ∷ info)))
 
 eight_answered : answers_poll of_eight ≡ as_response (ReceiveReady (seq 0) true)
 unfolding seq reading header_of control_of unnumbered_of supervisory_of

@@ -1,7 +1,6 @@
 -- Worked values: data that is granted takes a place; and a link that loses what had not gone, and tells nobody, which breaks
 -- the law.
-use Rattle.std.specs.Prelude.{◌≡◌, ℕ, ◌+◌, true, false, List, [], ◌∷◌, ◌++◌, length, flat_map, None, Ok, refl}
-use Rattle.std.specs.List.{list_any}
+use Rattle.std.specs.Prelude.{◌≡◌, ℕ, ◌+◌, true, false, List, [], ◌∷◌, ◌++◌, length, Ok, refl}
 use Rattle.lapd_frame.specs.declared.notes.ErrorCode.TheVariants.{F}
 use Rattle.lapd_frame.specs.declared.notes.Note.TheVariants.{Error, ReleaseIndication}
 use Rattle.lapd_frame.specs.declared.services.Service.TheVariants.{Call, Packet}
@@ -9,6 +8,7 @@ use Rattle.lapd_frame.specs.Reading.{reading, header_of, control_of, unnumbered_
 use Rattle.lapd_seq.specs.Circle.{named, distance_of}
 use Rattle.lapd_seq.specs.Numbers.{seq}
 use Rattle.lapd_tei.specs.Events as teis
+use Rattle.model_line.specs.Event.{request, next, told, nothing}
 use Rattle.model_line.specs.Machine as lines
 use Rattle.model_line.specs.Request.{Data}
 use Rattle.model_card.specs.Card.{fresh}
@@ -16,8 +16,7 @@ use Rattle.model_card.specs.Room.{room}
 use Rattle.model_card.specs.Event.{Event}
 use Rattle.model_card.specs.Run.{moments, after_all}
 use Rattle.laws_line.specs.card.Worked.{usual, on_0, up}
-use Rattle.laws_trace.specs.Outgoing.{data_granted, shows_loss, went_on}
-use Rattle.laws_trace.specs.Trace.{noted, granted}
+use Rattle.laws_trace.specs.Outgoing.{data_granted, loses, went_on}
 use Rattle.laws_trace.specs.WorkedObserver.{link_after}
 use Rattle.laws_trace.specs.WorkedUnits.{calls, comes}
 
@@ -27,10 +26,10 @@ unfolding after_all lines.after lines.takes_slot teis.course teis.refusal seq di
 one_taken = refl
 
 -- it was granted for its link, and for no other.
-for_its_link : length (flat_map (data_granted Call 64) (granted (Data Call 64 (7 ∷ [])) ∷ [])) ≡ 1
+for_its_link : length (data_granted Call 64 (request (Data Call 64 (7 ∷ []))) (told nothing)) ≡ 1
 for_its_link = refl
 
-for_no_other : flat_map (data_granted Packet 64) (granted (Data Call 64 (7 ∷ [])) ∷ []) ≡ []
+for_no_other : data_granted Packet 64 (request (Data Call 64 (7 ∷ []))) (told nothing) ≡ []
 for_no_other = refl
 
 -- SABME again leaves it, as nothing is outstanding; error F says nothing of a loss, as a release indication does.
@@ -38,10 +37,10 @@ still_taken : room 0 Call 64 (after_all (fresh usual) (up ++ on_0 (Data Call 64 
 unfolding after_all lines.after lines.takes_slot teis.course teis.refusal seq distance_of named reading header_of control_of unnumbered_of supervisory_of
 still_taken = refl
 
-no_loss : list_any (shows_loss Call 64) (noted (Error Call 64 F ∷ []) None ∷ []) ≡ false
+no_loss : loses Call 64 next (told (record nothing { notes = Error Call 64 F ∷ [] })) ≡ false
 no_loss = refl
 
-a_loss : list_any (shows_loss Call 64) (noted (ReleaseIndication Call 64 ∷ []) None ∷ []) ≡ true
+a_loss : loses Call 64 next (told (record nothing { notes = ReleaseIndication Call 64 ∷ [] })) ≡ true
 a_loss = refl
 
 -- RR 1 behind two I-frames acknowledges one, to the observer; SABME acknowledges none, though V(A) is 0 behind it.

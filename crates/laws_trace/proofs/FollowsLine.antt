@@ -1,5 +1,5 @@
 -- What is due of TEI management by one event of a line is what its answer shows, and the observer follows it.
-use Rattle.laws_trace.proofs.Vocabulary.{◌≡◌, ℕ, ◌==◌, Bool, true, false, cond, List, [], ◌∷◌, ◌++◌, map, take, drop, slice_get, All, filter, Option, Some, None, IfSome, option_map, refl, sym, ap, ◌∙◌, subst, append-nil, true≢false, ◌⊎◌, inl, inr, arith, option_map_or, none-some, filter-append, Ui, Note, Service, Call, Packet, Timer, T201, Parts, sapi_of, reading-again, Management, Message, LinkTimer, Config, Aim, at_none, at_link, at_management, of_aim, hears, expiry, next, Answer, LineTold, gave, at_timer, orders_in, Line, link_in, link_at, place_in, terms, service_at, aim_of, aim_of_heard, management_sapi, Taken, taken, next_of, line_of, at_requested, at_deactivated, heard_aims, lost_in, IsOwed, IsIdle, contents_of, IsOne, taken-one, served}
+use Rattle.laws_trace.proofs.Vocabulary.{◌≡◌, ℕ, ◌==◌, Bool, true, false, cond, List, [], ◌∷◌, ◌++◌, map, take, drop, slice_get, All, filter, Option, Some, None, IfSome, option_map, refl, sym, ap, ◌∙◌, subst, append-nil, true≢false, ◌⊎◌, inl, inr, arith, option_map_or, none-some, filter-append, Ui, Note, Service, Call, Packet, Timer, T201, Parts, reading, Result, ReadFault, sapi_of, reading-again, Management, Message, LinkTimer, Config, Aim, at_none, at_link, at_management, of_aim, hears, expiry, next, Answer, LineTold, gave, at_timer, orders_in, Line, link_in, link_at, place_in, terms, service_at, aim_of, aim_of_heard, management_sapi, Taken, taken, next_of, line_of, at_requested, at_deactivated, heard_aims, lost_in, IsOwed, IsIdle, contents_of, IsOne, taken-one, served}
 use Rattle.std.specs.Option.{unwrap_or}
 use Rattle.model_bits.specs.Stream as stream
 use Rattle.lapd_frame.specs.declared.timers.Timer.TheVariants.{T200, T203}
@@ -12,14 +12,22 @@ use Rattle.model_link.specs.declared.timers.LinkTimer.TheVariants as link_timer
 use Rattle.model_line.specs.Event.{Event, told, nothing}
 use Rattle.model_line.specs.Machine.{after, answer}
 use Rattle.model_line.specs.Sound.{IsSound}
+use Rattle.laws_trace.specs.LinkFrames.{parts_of}
 use Rattle.laws_trace.specs.Managing.{Managed, by_message, ran_out, by_event}
-use Rattle.laws_trace.specs.TeisAreManaged.{is_of_teis, is_of_t201, of_management, is_message, IsAsDue}
+use Rattle.laws_trace.specs.TeisAreManaged.{is_of_teis, is_of_t201, IsAsDue}
 use Rattle.laws_trace.specs.Trace.{frame_in}
 use Rattle.laws_trace.proofs.Follows.{Follows, Leads, InOrder, as_seen, here, serve-leads, expire-leads}
 use Rattle.laws_trace.proofs.ManagingTables.{AreOn}
 use Rattle.laws_trace.proofs.ManagingNotes.{IsOther, none-of-teis, link-others, told-orders, behind, Cases, is_management, message_in, message-is-read, heard-cases}
 use Rattle.laws_trace.proofs.OneLink.{given-orders}
 use Rattle.laws_trace.proofs.ReadAgain.{read-again}
+
+-- Frames with SAPI 63.
+abbrev of_management : Result Parts ReadFault → Bool
+of_management r = option_map_or (λ (f : Parts). f.address.sapi == management_sapi) (parts_of r) false
+
+abbrev is_message : Config → List ℕ → Bool
+is_message c octets = of_management (reading c.side octets)
 
 -- What an answer shows, and what is known behind it. What is lost is so many messages, or is none of them, where the event
 -- is one of a link.

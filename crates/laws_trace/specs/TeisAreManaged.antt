@@ -1,13 +1,11 @@
 -- TEIs are managed as the procedures of Q.921 clause 5.3 say: what an answer shows of it is what is due.
-use Rattle.std.specs.Prelude.{◌≡◌, ℕ, ◌==◌, Bool, true, false, List, filter, map, Some, Result, Ok, Err}
-use Rattle.lapd_frame.specs.declared.faults.ReadFault.{ReadFault}
+use Rattle.std.specs.Prelude.{◌≡◌, ℕ, ◌==◌, Bool, true, false, List, filter, map, Some}
 use Rattle.lapd_frame.specs.declared.notes.Note.{Note}
 use Rattle.lapd_frame.specs.declared.notes.Note.TheVariants.{Assigned, Removed, Doubled}
 use Rattle.lapd_frame.specs.declared.timers.Order.{Order}
 use Rattle.lapd_frame.specs.declared.timers.Order.TheVariants.{Start, Stop}
 use Rattle.lapd_frame.specs.declared.timers.Timer.TheVariants.{T201}
 use Rattle.lapd_frame.specs.Grammar.{Parts}
-use Rattle.lapd_frame.specs.Reading.{reading}
 use Rattle.lapd_tei.specs.Messages.{frame_of}
 use Rattle.model_line.specs.declared.config.Config.{Config}
 use Rattle.model_line.specs.Event as line_event
@@ -17,6 +15,7 @@ use Rattle.model_line.specs.Laws.{orders_in}
 use Rattle.laws_line.specs.Heard.{notes_of}
 use Rattle.laws_line.specs.Share.{is_granted}
 use Rattle.model_card.specs.Event.{Event}
+use Rattle.laws_trace.specs.LinkFrames.{reads}
 use Rattle.laws_trace.specs.Managing.{Managed, due, managed_after}
 use Rattle.laws_trace.specs.Observer.{moment_of}
 use Rattle.laws_trace.specs.Trace.{frame_in}
@@ -34,17 +33,10 @@ is_of_t201 (Start T201) = true
 is_of_t201 (Stop T201) = true
 is_of_t201 other = false
 
-abbrev pub of_management : Result Parts ReadFault → Bool
-of_management (Ok frame) = frame.address.sapi == management_sapi
-of_management (Err fault) = false
-
-abbrev pub is_message : Config → List ℕ → Bool
-is_message c octets = of_management (reading c.side octets)
-
 pub record IsAsDue (c : Config) (due : Managed) (a : Answer) : Type 0 where
   pub notes : filter is_of_teis (notes_of a) ≡ due.notes
   pub orders : filter is_of_t201 (orders_in a) ≡ due.orders
-  pub begins : filter (is_message c) (frame_in a) ≡ map (frame_of c.side) due.begins
+  pub begins : filter (reads c.side (λ (f : Parts). f.address.sapi == management_sapi)) (frame_in a) ≡ map (frame_of c.side) due.begins
   pub granted : (so : Bool) → due.granted ≡ Some so → is_granted a ≡ so
 
 -- So it is of each event of the line, after whatever happened to the card.

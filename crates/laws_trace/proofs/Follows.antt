@@ -1,5 +1,5 @@
 -- What the observer of a line knows of its TEIs is what TEI management has, and what is due by an event is what that tells.
-use Rattle.laws_trace.proofs.Vocabulary.{◌≡◌, ℕ, ◌+◌, ◌*◌, ◌/◌, ◌%◌, ◌≤◌, ◌<◌, ◌==◌, ◌&&◌, ◌||◌, Bool, true, false, cond, not, List, [], ◌∷◌, length, Option, Some, None, IfSome, option_map, refl, sym, ap, ◌∙◌, subst, arith, eq-eqb, true≢false, filter, is_some, nat_le, nat_lt, find, range_with_len, leb-true, leb-false, Stop, T201, Management, Remembered, Period, First, Second, Message, IdentityAssigned, IdentityDenied, IdentityCheckRequest, IdentityRemove, heard_of_type, heard_in, IsSoundCheck, place_of, free_place, free_tei-is, Config}
+use Rattle.laws_trace.proofs.Vocabulary.{◌≡◌, ℕ, ◌+◌, ◌*◌, ◌/◌, ◌%◌, ◌≤◌, ◌<◌, ◌==◌, ◌&&◌, ◌||◌, Bool, true, false, cond, not, List, [], ◌∷◌, length, drop, ◌-◌, ◌++◌, length-append, Option, Some, None, IfSome, option_map, option_map_or, refl, sym, ap, ◌∙◌, subst, arith, eq-eqb, true≢false, filter, is_some, nat_le, nat_lt, find, range_with_len, leb-true, leb-false, Management, Remembered, Period, First, Second, Message, IdentityAssigned, IdentityDenied, IdentityCheckRequest, IdentityRemove, heard_of_type, heard_in, IsSoundCheck, free_place, free_tei-is, Config}
 use Rattle.std.proofs.Common.{eqb-true}
 use Rattle.std.proofs.lemmas.Bool.{ltb-true, ltb-false}
 use Rattle.lapd_frame.specs.declared.notes.Note.TheVariants.{Removed, Doubled}
@@ -9,8 +9,7 @@ use Rattle.lapd_tei.specs.Sound.{IsSound}
 use Rattle.lapd_tei.specs.Table as table
 use Rattle.lapd_tei.specs.Words as words
 use Rattle.lapd_tei.specs.Words.{Course, begun}
-use Rattle.model_line.specs.Request as request
-use Rattle.laws_trace.specs.Managing.{by_type, by_message, Checked, Managed, Due, nothing_due, owes, free_tei, gives, asked, is_checked, without, first_check, may_check, responded, ran_out, by_granted, is_on}
+use Rattle.laws_trace.specs.Managing.{by_message, Checked, Managed, nothing_due, owes, gives, asked, leaves, over, checks, may_check, responded, ran_out, is_on}
 use Rattle.laws_trace.specs.TeisAreManaged.{is_of_teis, is_of_t201}
 use Rattle.laws_trace.proofs.ManagingTables.{AreOn, free-fewer, none-free, comes-on, leaves-on}
 
@@ -19,32 +18,33 @@ abbrev pub is_second : Period → Bool
 is_second First = false
 is_second Second = true
 
-abbrev pub earlier : Period → ℕ → Bool
-earlier First n = false
-earlier Second n = not (n == 0)
+abbrev pub earlier : Period → ℕ → Option Bool
+earlier First n = None
+earlier Second n = Some (not (n == 0))
 
 abbrev pub seen_check : Check → Checked
-seen_check check = record { tei = check.tei; again = is_second check.period; answered = not (rows.responses check == 0); before = earlier check.period check.first }
+seen_check check = record { tei = check.tei; answered = not (rows.responses check == 0); before = earlier check.period check.first }
 
 -- In the first period no answer is counted for the second.
 abbrev pub InOrder : Check → Type 0
 InOrder check = is_second check.period ≡ false → check.second ≡ 0
 
 abbrev pub as_seen : List ℕ → Management → Managed
-as_seen on m = record { on = on; held = m.remembered; check = option_map seen_check m.check; owed = m.waiting }
+as_seen on m = record { on = on; held = m.remembered; check = option_map seen_check m.check; owed = m.waiting; notes = []; orders = []; lost = 0; begins = []; granted = None }
 
 pub record Follows (w : Managed) (m : Management) : Type 0 where
-  pub is : w ≡ as_seen w.on m
+  pub is : nothing_due w ≡ as_seen w.on m
   pub on : AreOn w.on m.places
   pub order : IfSome m.check InOrder
 
 -- What is due is what is told.
-pub record Leads (d : Due) (x : Course) : Type 0 where
+pub record Leads (d : Managed) (x : Course) : Type 0 where
   pub notes : filter is_of_teis x.told.notes ≡ d.notes
   pub orders : filter is_of_t201 x.told.orders ≡ d.orders
   pub lost : x.told.lost ≡ d.lost
   pub begins : d.begins ≡ []
-  pub follows : Follows d.known x.now
+  pub granted : d.granted ≡ None
+  pub follows : Follows d x.now
 
 find-same : (f g : ℕ → Bool) → ((x : ℕ) → f x ≡ g x) → (xs : List ℕ) → find f xs ≡ find g xs
 find-same f g h [] = refl
@@ -53,6 +53,9 @@ find-same f g h (x ∷ xs) = ap (λ b. cond b (Some x) (find f xs)) (h x) ∙ ap
 some-seen : (o : Option Check) → is_some (option_map seen_check o) ≡ is_some o
 some-seen None = refl
 some-seen (Some check) = refl
+
+abbrev is_checked : ℕ → Option Checked → Bool
+is_checked tei o = option_map_or (λ (check : Checked). check.tei == tei) o false
 
 checked-seen : (tei : ℕ) (o : Option Check) → is_checked tei (option_map seen_check o) ≡ rows.is_checked tei o
 checked-seen tei None = refl
@@ -65,6 +68,9 @@ more-than-none n = go (n + 1 == 0) refl
     go true is = let none : n + 1 ≡ 0 = eqb-true (n + 1) 0 is in absurd (omega (arith, none))
     go false is = refl
 
+three-of : (n k : ℕ) → k ≡ n + 1 → n - 3 ≡ k - 4
+three-of n k e = omega (arith, e)
+
 module _ (on : List ℕ) (m : Management) (h : AreOn on m.places) (order : IfSome m.check InOrder) (s : IsSound m) where
   abbrev w : Managed
   w = as_seen on m
@@ -73,33 +79,32 @@ module _ (on : List ℕ) (m : Management) (h : AreOn on m.places) (order : IfSom
   here = record { is = refl; on = h; order = order }
 
   plain : (message : Message) → Leads (owes message w) (words.send message (begun m))
-  plain message = record { notes = refl; orders = refl; lost = refl; begins = refl; follows = record { is = refl; on = h; order = order } }
+  plain message = record { notes = refl; orders = refl; lost = refl; begins = refl; granted = refl; follows = record { is = refl; on = h; order = order } }
 
-  pub none-due : Leads (nothing_due w) (words.unserved (begun m))
-  none-due = record { notes = refl; orders = refl; lost = refl; begins = refl; follows = here }
+  pub none-due : Leads w (words.unserved (begun m))
+  none-due = record { notes = refl; orders = refl; lost = refl; begins = refl; granted = refl; follows = here }
 
-  -- A TEI leaves.
-  gone : (tei : ℕ) (check : Option Check) (waiting : List Message) → cond (is_checked tei w.check) None w.check ≡ option_map seen_check check → IfSome check InOrder
-      → Follows (record (without tei w) { owed = waiting })
-      (record { places = words.freed m.places (place_of tei m.places); remembered = filter (words.is_of_other tei) m.remembered; check = check; waiting = waiting })
-  gone tei check waiting is order = record {
-    is = ap (λ (o : Option Checked). record { on = (without tei w).on; held = (without tei w).held; check = o; owed = waiting }) is;
-    on = leaves-on on m.places h tei s.table;
-    order = order;
-  }
+  -- A TEI leaves, and where it is checked, the check is over.
+  abbrev left : Bool → ℕ → Managed
+  left b tei =
+      record (cond b (over w) w)
+      { on = filter (λ on. not (on == tei)) w.on; held = filter (λ (r : Remembered). not (r.tei == tei)) w.held }
+
+  own-check : (tei : ℕ) (check : Check) → m.check ≡ Some check → (check.tei == tei) ≡ true → is_checked tei w.check ≡ true
+  own-check tei check is own = checked-seen tei m.check ∙ ap (rows.is_checked tei) is ∙ own
 
   -- A check begins.
-  pub begins-check : (tei : ℕ) → Leads (first_check tei w) (words.begin_check tei (begun m))
-  begins-check tei = record { notes = refl; orders = refl; lost = refl; begins = refl; follows = record { is = refl; on = h; order = λ first. refl } }
+  pub begins-check : (tei : ℕ) → Leads (checks tei None w) (words.begin_check tei (begun m))
+  begins-check tei = record { notes = refl; orders = refl; lost = refl; begins = refl; granted = refl; follows = record { is = refl; on = h; order = λ first. refl } }
 
   pub may-is : (tei : ℕ) → may_check tei w ≡ rows.may_be_checked tei m
   may-is tei = ap (λ b. b && not (is_some w.check)) (h.same tei) ∙ ap (λ b. table.is_on tei m.places && not b) (some-seen m.check)
 
-  pub verify-leads : (tei : ℕ) → Leads (cond (may_check tei w) (first_check tei w) (nothing_due w)) (rows.verify tei (begun m))
+  pub verify-leads : (tei : ℕ) → Leads (cond (may_check tei w) (checks tei None w) w) (rows.verify tei (begun m))
   verify-leads tei =
-      subst (λ b. Leads (cond b (first_check tei w) (nothing_due w)) (rows.verify tei (begun m))) (sym (may-is tei)) (go (rows.may_be_checked tei m))
+      subst (λ b. Leads (cond b (checks tei None w) w) (rows.verify tei (begun m))) (sym (may-is tei)) (go (rows.may_be_checked tei m))
     where
-      go : (b : Bool) → Leads (cond b (first_check tei w) (nothing_due w)) ((cond b (words.begin_check tei) words.unserved) (begun m))
+      go : (b : Bool) → Leads (cond b (checks tei None w) w) ((cond b (words.begin_check tei) words.unserved) (begun m))
       go true = begins-check tei
       go false = none-due
 
@@ -111,22 +116,21 @@ module _ (on : List ℕ) (m : Management) (h : AreOn on m.places) (order : IfSom
 
   -- A response to a check: the second one of a period has the TEI leave.
   module _ (tei : ℕ) (check : Check) (is : m.check ≡ Some check) where
-    abbrev doubling : Due
-    doubling = record (owes (IdentityRemove tei) (without tei w)) { notes = Doubled tei ∷ []; orders = Stop T201 ∷ [] }
+    abbrev doubling : Managed
+    doubling = record (owes (IdentityRemove tei) (leaves tei w)) { notes = Doubled tei ∷ [] }
 
-    abbrev answered : Due
-    answered = nothing_due (record w { check = Some (record { tei = check.tei; again = is_second check.period; answered = true; before = earlier check.period check.first }) })
-
-    its-own : (check.tei == tei) ≡ true → cond (is_checked tei w.check) None w.check ≡ None
-    its-own own = ap (λ (o : Option Check). cond (is_checked tei (option_map seen_check o)) None (option_map seen_check o)) is ∙ ap (λ b. cond b None (Some (seen_check check))) own
+    abbrev answered : Managed
+    answered = record w { check = Some (record { tei = check.tei; answered = true; before = earlier check.period check.first }) }
 
     doubles : (check.tei == tei) ≡ true → Leads doubling (rows.doubled tei (begun m))
-    doubles own = record { notes = refl; orders = refl; lost = refl; begins = refl; follows = gone tei None (words.with_message (IdentityRemove tei) m.waiting) (its-own own) tt }
+    doubles own =
+        subst (λ b. Leads (record (owes (IdentityRemove tei) (left b tei)) { notes = Doubled tei ∷ [] }) (rows.doubled tei (begun m))) (sym (own-check tei check is own))
+        (record { notes = refl; orders = refl; lost = refl; begins = refl; granted = refl; follows = record { is = refl; on = leaves-on on m.places h tei s.table; order = tt } })
 
     one-more : (p : Period) → let k = record check { period = p } in
-        Some (record { tei = k.tei; again = is_second p; answered = true; before = earlier p k.first }) ≡ Some (seen_check (rows.counted k))
-    one-more First = ap (λ b. Some (record { tei = check.tei; again = false; answered = b; before = false })) (sym (more-than-none check.first))
-    one-more Second = ap (λ b. Some (record { tei = check.tei; again = true; answered = b; before = not (check.first == 0) })) (sym (more-than-none check.second))
+        Some (record { tei = k.tei; answered = true; before = earlier p k.first }) ≡ Some (seen_check (rows.counted k))
+    one-more First = ap (λ b. Some (record { tei = check.tei; answered = b; before = None })) (sym (more-than-none check.first))
+    one-more Second = ap (λ b. Some (record { tei = check.tei; answered = b; before = Some (not (check.first == 0)) })) (sym (more-than-none check.second))
 
     counted-order : (p : Period) → let k = record check { period = p } in InOrder k → InOrder (rows.counted k)
     counted-order First k = k
@@ -138,8 +142,9 @@ module _ (on : List ℕ) (m : Management) (h : AreOn on m.places) (order : IfSom
       orders = refl;
       lost = refl;
       begins = refl;
+      granted = refl;
       follows = record {
-        is = ap (λ (o : Option Checked). record { on = on; held = m.remembered; check = o; owed = m.waiting }) (one-more check.period);
+        is = ap (λ (o : Option Checked). record w { check = o }) (one-more check.period);
         on = h;
         order = counted-order check.period (in-order check is);
       };
@@ -171,105 +176,80 @@ module _ (on : List ℕ) (m : Management) (h : AreOn on m.places) (order : IfSom
         go true = doubles own
         go false = answers-once
 
-    responds-so : Leads (responded tei (Some (seen_check check)) w) (rows.respond tei (Some check) (begun m))
+    responds-so : Leads (responded tei w (seen_check check)) (rows.respond tei (Some check) (begun m))
     responds-so = go (check.tei == tei) refl
       where
         go : (b : Bool) → (check.tei == tei) ≡ b
-            → Leads (cond (not b) (nothing_due w) (cond (not (rows.responses check == 0)) doubling answered)) ((cond b (rows.count tei (rows.counted check)) words.unserved) (begun m))
+            → Leads (cond (not b) w (cond (not (rows.responses check == 0)) doubling answered)) ((cond b (rows.count tei (rows.counted check)) words.unserved) (begun m))
         go true own = counts own
         go false own = none-due
 
-  pub respond-leads : (tei : ℕ) → Leads (responded tei w.check w) (rows.respond tei m.check (begun m))
+  pub respond-leads : (tei : ℕ) → Leads (option_map_or (responded tei w) w.check w) (rows.respond tei m.check (begun m))
   respond-leads tei = go m.check refl
     where
-      go : (o : Option Check) → m.check ≡ o → Leads (responded tei (option_map seen_check o) w) (rows.respond tei o (begun m))
+      go : (o : Option Check) → m.check ≡ o → Leads (option_map_or (responded tei w) (option_map seen_check o) w) (rows.respond tei o (begun m))
       go None is = none-due
       go (Some check) is = responds-so tei check is
 
   -- T201 runs out.
   module _ (check : Check) (is : m.check ≡ Some check) where
-    abbrev over : Due
-    over = record (nothing_due (record w { check = None })) { orders = Stop T201 ∷ [] }
+    abbrev unanswered : Managed
+    unanswered = record (leaves check.tei w) { notes = Removed check.tei ∷ [] }
 
-    abbrev unanswered : Due
-    unanswered = record (nothing_due (without check.tei w)) { notes = Removed check.tei ∷ []; orders = Stop T201 ∷ [] }
-
-    asks-again : check.second ≡ 0
-        → Leads (ran_out (Some (record { tei = check.tei; again = false; answered = not (check.first == 0); before = false })) w) (rows.expire_period check First (begun m))
+    asks-again : check.second ≡ 0 → Leads (checks check.tei (Some (not (check.first == 0))) w) (rows.expire_period check First (begun m))
     asks-again none = record {
       notes = refl;
       orders = refl;
       lost = refl;
       begins = refl;
+      granted = refl;
       follows = record {
         is =
-            ap (λ n. record { on = on; held = m.remembered; check = Some (record { tei = check.tei; again = true; answered = not (n == 0); before = not (check.first == 0) }); owed = words.with_message (IdentityCheckRequest check.tei) m.waiting })
+            ap (λ n. record w { check = Some (record { tei = check.tei; answered = not (n == 0); before = Some (not (check.first == 0)) }); owed = words.with_message (IdentityCheckRequest check.tei) m.waiting })
             (sym none);
         on = h;
         order = λ first. absurd (true≢false first);
       };
     }
 
-    ends : Leads over (words.end_check (begun m))
-    ends = record { notes = refl; orders = refl; lost = refl; begins = refl; follows = record { is = refl; on = h; order = tt } }
-
-    own-check : cond (is_checked check.tei w.check) None w.check ≡ None
-    own-check =
-        ap (λ (o : Option Check). cond (is_checked check.tei (option_map seen_check o)) None (option_map seen_check o)) is
-        ∙ ap (λ b. cond b None (Some (seen_check check))) (eq-eqb check.tei check.tei refl)
+    ends : Leads (over w) (words.end_check (begun m))
+    ends = record { notes = refl; orders = refl; lost = refl; begins = refl; granted = refl; follows = record { is = refl; on = h; order = tt } }
 
     removes : Leads unanswered (rows.removed check.tei (begun m))
-    removes = record { notes = refl; orders = refl; lost = refl; begins = refl; follows = gone check.tei None m.waiting own-check tt }
+    removes =
+        subst (λ b. Leads (record (left b check.tei) { notes = Removed check.tei ∷ [] }) (rows.removed check.tei (begun m))) (sym (own-check check.tei check is (eq-eqb check.tei check.tei refl)))
+        (record { notes = refl; orders = refl; lost = refl; begins = refl; granted = refl; follows = record { is = refl; on = leaves-on on m.places h check.tei s.table; order = tt } })
 
-    by-answers : (a b : Bool) → Leads (cond (not a || not b) over unanswered) ((cond (a && b) (rows.removed check.tei) words.end_check) (begun m))
+    by-answers : (a b : Bool) → Leads (cond (not a || not b) (over w) unanswered) ((cond (a && b) (rows.removed check.tei) words.end_check) (begun m))
     by-answers true true = removes
     by-answers true false = ends
     by-answers false true = ends
     by-answers false false = ends
 
     by-period : (p : Period) → check.period ≡ p
-        → Leads (ran_out (Some (record { tei = check.tei; again = is_second p; answered = not (rows.responses (record check { period = p }) == 0); before = earlier p check.first })) w)
-        (rows.expire_period check p (begun m))
+        → Leads (ran_out w (record { tei = check.tei; answered = not (rows.responses (record check { period = p }) == 0); before = earlier p check.first })) (rows.expire_period check p (begun m))
     by-period First at = asks-again (in-order check is (ap is_second at))
     by-period Second at = by-answers (check.first == 0) (check.second == 0)
 
-  pub expire-leads : Leads (ran_out w.check w) (rows.expire (begun m))
+  pub expire-leads : Leads (option_map_or (ran_out w) w.check w) (rows.expire (begun m))
   expire-leads = go m.check refl
     where
-      go : (o : Option Check) → m.check ≡ o → Leads (ran_out (option_map seen_check o) w) (rows.expire_check o (begun m))
-      go None is = record { notes = refl; orders = refl; lost = refl; begins = refl; follows = here }
+      go : (o : Option Check) → m.check ≡ o → Leads (option_map_or (ran_out w) (option_map seen_check o) w) (rows.expire_check o (begun m))
+      go None is = record { notes = refl; orders = refl; lost = refl; begins = refl; granted = refl; follows = here }
       go (Some check) is = by-period check is check.period refl
 
   -- Management asks.
-  pub assign-leads : (tei place : ℕ) → free_place m.places ≡ Some place → table.is_on tei m.places ≡ false → Leads (by_granted (request.Assign tei) w) (rows.put_on tei (begun m))
+  pub assign-leads : (tei place : ℕ) → free_place m.places ≡ Some place → table.is_on tei m.places ≡ false → Leads (record w { on = tei ∷ on }) (rows.put_on tei (begun m))
   assign-leads tei place free off =
-      subst (λ o. Leads (by_granted (request.Assign tei) w) (rows.join_at tei o (begun m))) (sym free)
-      (record { notes = refl; orders = refl; lost = refl; begins = refl; follows = record { is = refl; on = comes-on on m.places h place tei free off; order = order } })
+      subst (λ o. Leads (record w { on = tei ∷ on }) (rows.join_at tei o (begun m))) (sym free)
+      (record { notes = refl; orders = refl; lost = refl; begins = refl; granted = refl; follows = record { is = refl; on = comes-on on m.places h place tei free off; order = order } })
 
-  pub remove-leads : (tei : ℕ) → Leads (by_granted (request.Remove tei) w) (rows.take_off tei (begun m))
-  remove-leads tei =
-      subst (λ b. Leads (record (owes (IdentityRemove tei) (without tei w)) { orders = cond b (Stop T201 ∷ []) [] }) (rows.take_off tei (begun m))) (sym same) (go (rows.is_checked tei m.check) refl)
+  pub remove-leads : (tei : ℕ) → Leads (owes (IdentityRemove tei) (leaves tei w)) (rows.take_off tei (begun m))
+  remove-leads tei = subst (λ b. Leads (owes (IdentityRemove tei) (left b tei)) (rows.take_off tei (begun m))) (sym (checked-seen tei m.check)) (go (rows.is_checked tei m.check))
     where
-      same : is_checked tei w.check ≡ rows.is_checked tei m.check
-      same = checked-seen tei m.check
-
-      go : (b : Bool) → rows.is_checked tei m.check ≡ b
-          → Leads (record (owes (IdentityRemove tei) (without tei w)) { orders = cond b (Stop T201 ∷ []) [] })
-          (words.leave tei ((cond b words.end_check rows.nothing_happens) (words.send (IdentityRemove tei) (begun m))))
-      go true is = record {
-        notes = refl;
-        orders = refl;
-        lost = refl;
-        begins = refl;
-        follows = gone tei None (words.with_message (IdentityRemove tei) m.waiting) (ap (λ b. cond b None w.check) (same ∙ is)) tt;
-      }
-      go false is = record {
-        notes = refl;
-        orders = refl;
-        lost = refl;
-        begins = refl;
-        follows = gone tei m.check (words.with_message (IdentityRemove tei) m.waiting) (ap (λ b. cond b None w.check) (same ∙ is)) order;
-      }
+      go : (b : Bool) → Leads (owes (IdentityRemove tei) (left b tei)) (words.leave tei ((cond b words.end_check rows.nothing_happens) (words.send (IdentityRemove tei) (begun m))))
+      go true = record { notes = refl; orders = refl; lost = refl; begins = refl; granted = refl; follows = record { is = refl; on = leaves-on on m.places h tei s.table; order = tt } }
+      go false = record { notes = refl; orders = refl; lost = refl; begins = refl; granted = refl; follows = record { is = refl; on = leaves-on on m.places h tei s.table; order = order } }
 
   -- A terminal asks for a TEI.
   module _ (c : Config) (places : length m.places ≡ c.terminals) where
@@ -308,30 +288,50 @@ module _ (on : List ℕ) (m : Management) (h : AreOn on m.places) (order : IfSom
         orders = refl;
         lost = refl;
         begins = refl;
-        follows = record { is = refl; on = comes-on on m.places h place tei free (free_tei-is m.places tei is).off; order = order };
+        granted = refl;
+        follows = record {
+          is =
+              ap (λ n. record w { on = tei ∷ on; held = drop n (m.remembered ++ record { ri = ri; tei = tei } ∷ []); owed = words.with_message (IdentityAssigned ri tei) m.waiting })
+              (three-of (length m.remembered) (length (m.remembered ++ record { ri = ri; tei = tei } ∷ [])) (length-append m.remembered (record { ri = ri; tei = tei } ∷ [])));
+          on = comes-on on m.places h place tei free (free_tei-is m.places tei is).off;
+          order = order;
+        };
       }
 
-      new : (p t : Option ℕ) → free_place m.places ≡ p → table.free_tei m.places ≡ t → Leads (gives ri None (free_tei c w) w) (rows.assign_new ri p t (begun m))
+      -- where there is room for the answer
+      new : (p t : Option ℕ) → free_place m.places ≡ p → table.free_tei m.places ≡ t → Leads (gives ri None (cond (nat_lt (length on) c.terminals && true) lowest None) w) (rows.assign_new ri p t (begun m))
       new None t free is =
-          subst (λ o. Leads (gives ri None o w) (rows.assign_new ri None t (begun m))) (sym (ap (λ b. cond b lowest None) (all-on free))) (plain (IdentityDenied ri))
+          subst (λ b. Leads (gives ri None (cond (b && true) lowest None) w) (rows.assign_new ri None t (begun m))) (sym (all-on free)) (plain (IdentityDenied ri))
       new (Some place) t free is =
-          subst (λ o. Leads (gives ri None o w) (rows.assign_new ri (Some place) t (begun m))) (sym (ap (λ b. cond b lowest None) (fewer-on place free) ∙ lowest-is ∙ is)) (go t is)
+          subst (λ b. Leads (gives ri None (cond (b && true) lowest None) w) (rows.assign_new ri (Some place) t (begun m))) (sym (fewer-on place free))
+          (subst (λ o. Leads (gives ri None o w) (rows.assign_new ri (Some place) t (begun m))) (sym (lowest-is ∙ is)) (go t is))
         where
           go : (t : Option ℕ) → table.free_tei m.places ≡ t → Leads (gives ri None t w) (rows.assign_new ri (Some place) t (begun m))
           go None is = plain (IdentityDenied ri)
           go (Some tei) is = comes place tei free is
 
-      by-held : (o : Option Remembered) → Leads (gives ri o (free_tei c w) w) (rows.assign ri (option_map rows.tei_in o) (begun m))
+      by-held : (o : Option Remembered) → Leads (gives ri o (cond (nat_lt (length on) c.terminals && true) lowest None) w) (rows.assign ri (option_map rows.tei_in o) (begun m))
       by-held (Some r) = plain (IdentityAssigned ri r.tei)
       by-held None = new (free_place m.places) (table.free_tei m.places) refl refl
 
+      -- and where there is none
+      lose : (message : Message) → words.no_room m.waiting ≡ true → Leads (owes message w) (words.lose_one (begun m))
+      lose message full =
+          subst (λ b. Leads (record w { owed = cond b m.waiting (m.waiting ++ message ∷ []); lost = cond b 1 0 }) (words.lose_one (begun m))) (sym full)
+          (record { notes = refl; orders = refl; lost = refl; begins = refl; granted = refl; follows = record { is = refl; on = h; order = order } })
+
+      loses : (o : Option Remembered) (b : Bool) → words.no_room m.waiting ≡ true → Leads (gives ri o (cond (b && false) lowest None) w) (words.lose_one (begun m))
+      loses (Some r) b full = lose (IdentityAssigned ri r.tei) full
+      loses None true full = lose (IdentityDenied ri) full
+      loses None false full = lose (IdentityDenied ri) full
+
       pub request-leads : Leads (asked c ri w) (rows.request ri (begun m))
-      request-leads = go (words.no_room m.waiting)
+      request-leads = go (words.no_room m.waiting) refl
         where
-          go : (b : Bool) → Leads (cond b (record (nothing_due w) { lost = 1 }) (gives ri (find (rows.is_for ri) m.remembered) (free_tei c w) w))
+          go : (b : Bool) → words.no_room m.waiting ≡ b → Leads (gives ri (find (rows.is_for ri) m.remembered) (cond (nat_lt (length on) c.terminals && not b) lowest None) w)
               ((cond b words.lose_one (rows.assign ri (rows.remembered_in ri m.remembered))) (begun m))
-          go true = record { notes = refl; orders = refl; lost = refl; begins = refl; follows = here }
-          go false = by-held (find (rows.is_for ri) m.remembered)
+          go true full = loses (find (rows.is_for ri) m.remembered) (nat_lt (length on) c.terminals) full
+          go false room = by-held (find (rows.is_for ri) m.remembered)
 
   -- What a terminal says.
   module _ (c : Config) (places : length m.places ≡ c.terminals) where
@@ -339,11 +339,17 @@ module _ (on : List ℕ) (m : Management) (h : AreOn on m.places) (order : IfSom
     by-both P true u v x y h k = h
     by-both P false u v x y h k = k
 
-    verifies : (action : ℕ) (b : Bool) → Leads (cond (b && may_check action w) (first_check action w) (nothing_due w)) (rows.serve (cond b (heard_of_type 7 0 action) None) (begun m))
+    otherwise : {X Y : Type 0} (P : X → Y → Type 0) (b : Bool) (u v : X) (x y : Y) → P u x → P v y → P (cond (not b) v u) (cond b x y)
+    otherwise P true u v x y h k = h
+    otherwise P false u v x y h k = k
+
+    verifies : (action : ℕ) (b : Bool) → Leads (cond (b && may_check action w) (checks action None w) w) (rows.serve (cond b (heard_of_type 7 0 action) None) (begun m))
     verifies action true = verify-leads action
     verifies action false = none-due
 
-    by-type-leads : (type ri action : ℕ) → Leads (by_type c type ri action w) (rows.serve (heard_of_type type ri action) (begun m))
+    by-type-leads : (type ri action : ℕ)
+        → Leads (cond (type == 1 && action == 127) (asked c ri w) (cond (type == 5) (option_map_or (responded action w) w.check w) (cond (type == 7 && may_check action w) (checks action None w) w)))
+        (rows.serve (heard_of_type type ri action) (begun m))
     by-type-leads type ri action =
         by-both (λ d o. Leads d (rows.serve o (begun m))) (type == 1 && action == 127) _ _ _ _ (request-leads c places ri)
         (by-both (λ d o. Leads d (rows.serve o (begun m))) (type == 5) _ _ _ _ (respond-leads action) (verifies action (type == 7)))
@@ -355,5 +361,5 @@ module _ (on : List ℕ) (m : Management) (h : AreOn on m.places) (order : IfSom
     serve-leads (a ∷ high ∷ low ∷ []) = none-due
     serve-leads (a ∷ high ∷ low ∷ type ∷ []) = none-due
     serve-leads (a ∷ high ∷ low ∷ type ∷ last ∷ []) =
-        by-both (λ d o. Leads d (rows.serve o (begun m))) (a == 0x0F && last % 2 == 1) _ _ _ _ (by-type-leads type (256 * high + low) (last / 2)) none-due
+        otherwise (λ d o. Leads d (rows.serve o (begun m))) (a == 0x0F && last % 2 == 1) _ _ _ _ (by-type-leads type (256 * high + low) (last / 2)) none-due
     serve-leads (a ∷ high ∷ low ∷ type ∷ last ∷ sixth ∷ more) = none-due

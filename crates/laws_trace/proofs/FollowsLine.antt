@@ -1,5 +1,5 @@
 -- What is due of TEI management by one event of a line is what its answer shows, and the observer follows it.
-use Rattle.laws_trace.proofs.Vocabulary.{◌≡◌, ℕ, ◌==◌, Bool, true, false, cond, List, [], ◌∷◌, ◌++◌, map, take, drop, slice_get, All, filter, Option, Some, None, IfSome, option_map, refl, sym, ap, ◌∙◌, subst, append-nil, true≢false, ◌⊎◌, inl, inr, arith, option_map_or, filter-append, Ui, Note, Service, Call, Packet, Timer, T201, Parts, sapi_of, reading-again, Management, Message, LinkTimer, Config, Aim, at_none, at_link, at_management, of_aim, hears, expiry, next, Answer, LineTold, gave, at_timer, orders_in, Line, link_in, link_at, place_in, terms, service_at, aim_of, aim_of_heard, management_sapi, Taken, taken, next_of, line_of, at_requested, at_deactivated, heard_aims, lost_in, IsOwed, IsIdle, contents_of, IsOne, taken-one, served}
+use Rattle.laws_trace.proofs.Vocabulary.{◌≡◌, ℕ, ◌==◌, Bool, true, false, cond, List, [], ◌∷◌, ◌++◌, map, take, drop, slice_get, All, filter, Option, Some, None, IfSome, option_map, refl, sym, ap, ◌∙◌, subst, append-nil, true≢false, ◌⊎◌, inl, inr, arith, option_map_or, none-some, filter-append, Ui, Note, Service, Call, Packet, Timer, T201, Parts, reading, Result, ReadFault, sapi_of, reading-again, Management, Message, LinkTimer, Config, Aim, at_none, at_link, at_management, of_aim, hears, expiry, next, Answer, LineTold, gave, at_timer, orders_in, Line, link_in, link_at, place_in, terms, service_at, aim_of, aim_of_heard, management_sapi, Taken, taken, next_of, line_of, at_requested, at_deactivated, heard_aims, lost_in, IsOwed, IsIdle, contents_of, IsOne, taken-one, served}
 use Rattle.std.specs.Option.{unwrap_or}
 use Rattle.model_bits.specs.Stream as stream
 use Rattle.lapd_frame.specs.declared.timers.Timer.TheVariants.{T200, T203}
@@ -12,35 +12,43 @@ use Rattle.model_link.specs.declared.timers.LinkTimer.TheVariants as link_timer
 use Rattle.model_line.specs.Event.{Event, told, nothing}
 use Rattle.model_line.specs.Machine.{after, answer}
 use Rattle.model_line.specs.Sound.{IsSound}
-use Rattle.laws_trace.specs.Managing.{Managed, Due, nothing_due, by_message, message_in, ran_out, due}
-use Rattle.laws_trace.specs.TeisAreManaged.{is_of_teis, is_of_t201, of_management, is_message, IsAsDue}
+use Rattle.laws_trace.specs.LinkFrames.{parts_of}
+use Rattle.laws_trace.specs.Managing.{Managed, by_message, ran_out, by_event}
+use Rattle.laws_trace.specs.TeisAreManaged.{is_of_teis, is_of_t201, IsAsDue}
 use Rattle.laws_trace.specs.Trace.{frame_in}
 use Rattle.laws_trace.proofs.Follows.{Follows, Leads, InOrder, as_seen, here, serve-leads, expire-leads}
 use Rattle.laws_trace.proofs.ManagingTables.{AreOn}
-use Rattle.laws_trace.proofs.ManagingNotes.{IsOther, none-of-teis, link-others, told-orders, behind, Cases, is_management, heard-cases}
+use Rattle.laws_trace.proofs.ManagingNotes.{IsOther, none-of-teis, link-others, told-orders, behind, Cases, is_management, message_in, message-is-read, heard-cases}
 use Rattle.laws_trace.proofs.OneLink.{given-orders}
 use Rattle.laws_trace.proofs.ReadAgain.{read-again}
 
+-- Frames with SAPI 63.
+abbrev of_management : Result Parts ReadFault → Bool
+of_management r = option_map_or (λ (f : Parts). f.address.sapi == management_sapi) (parts_of r) false
+
+abbrev is_message : Config → List ℕ → Bool
+is_message c octets = of_management (reading c.side octets)
+
 -- What an answer shows, and what is known behind it. What is lost is so many messages, or is none of them, where the event
 -- is one of a link.
-pub record Shows (c : Config) (l : Line) (e : Event) (d : Due) (a : Answer) (new : Management) : Type 0 where
+pub record Shows (c : Config) (l : Line) (e : Event) (d : Managed) (a : Answer) (new : Management) : Type 0 where
   pub as_due : IsAsDue c d a
   pub lost : (lost_in a ≡ d.lost) ⊎ ((d.lost ≡ 0) × (is_management (aim_of c e l) ≡ false))
-  pub follows : Follows d.known new
+  pub follows : Follows d new
 
 -- An event of TEI management: what it tells, and what its links tell behind.
-pub record Comes (d : Due) (t : LineTold) (new : Management) : Type 0 where
+pub record Comes (d : Managed) (t : LineTold) (new : Management) : Type 0 where
   pub notes : filter is_of_teis t.notes ≡ d.notes
   pub orders : filter is_of_t201 t.orders ≡ d.orders
   pub lost : t.lost ≡ d.lost
-  pub follows : Follows d.known new
+  pub follows : Follows d new
 
-teis-of-teis : (x : Course) (d : Due) → Leads d x → (others : List Note) → All IsOther others → filter is_of_teis (x.told.notes ++ others) ≡ d.notes
+teis-of-teis : (x : Course) (d : Managed) → Leads d x → (others : List Note) → All IsOther others → filter is_of_teis (x.told.notes ++ others) ≡ d.notes
 teis-of-teis x d h others are =
     filter-append is_of_teis x.told.notes others ∙ ap (λ ns. filter is_of_teis x.told.notes ++ ns) (none-of-teis others are) ∙ append-nil (filter is_of_teis x.told.notes) ∙ h.notes
 
 module _ (c : Config) (l : Line) where
-  managed : (me : teis.Event) (d : Due) → Leads d (teis.course me l.management) → let y = of_aim c (at_management me) l in Comes d y.told y.line.management
+  managed : (me : teis.Event) (d : Managed) → Leads d (teis.course me l.management) → let y = of_aim c (at_management me) l in Comes d y.told y.line.management
   managed me d h =
       let x = teis.course me l.management in
       let b = behind c x.told (record l { management = x.now }) x.told.change in
@@ -48,7 +56,7 @@ module _ (c : Config) (l : Line) where
         notes = ap (filter is_of_teis) b.notes ∙ teis-of-teis x d h b.others b.are;
         orders = b.orders ∙ h.orders;
         lost = b.lost ∙ h.lost;
-        follows = subst (Follows d.known) (sym b.stays) h.follows;
+        follows = subst (Follows d) (sym b.stays) h.follows;
       }
 
   -- No event of it.
@@ -88,6 +96,10 @@ no-sapi : (service : Service) → (sapi_of service == management_sapi) ≡ false
 no-sapi Call = refl
 no-sapi Packet = refl
 
+-- Where no request of management is granted or refused, nothing is said of it.
+pub none-granted : (d : Managed) → d.granted ≡ None → (its so : Bool) → d.granted ≡ Some so → its ≡ so
+none-granted d none its so is = absurd (none-some so (sym none ∙ is))
+
 module _ (c : Config) (l : Line) (s : IsSound c l) (on : List ℕ) (h : AreOn on l.management.places) (order : IfSome l.management.check InOrder) where
   abbrev m : Management
   m = l.management
@@ -98,25 +110,25 @@ module _ (c : Config) (l : Line) (s : IsSound c l) (on : List ℕ) (h : AreOn on
   known : Follows w m
   known = here on m h order s.management
 
-  pub managed-shows : (e : Event) (d : Due) (me : teis.Event) → Leads d (teis.course me m) → let y = of_aim c (at_management me) l in Shows c l e d (told y.told) y.line.management
+  pub managed-shows : (e : Event) (d : Managed) (me : teis.Event) → Leads d (teis.course me m) → let y = of_aim c (at_management me) l in Shows c l e d (told y.told) y.line.management
   managed-shows e d me leads =
       let x = managed c l me d leads in
-      record { as_due = record { notes = x.notes; orders = x.orders; begins = none-begins }; lost = inl x.lost; follows = x.follows }
+      record { as_due = record { notes = x.notes; orders = x.orders; begins = none-begins; granted = none-granted d leads.granted true }; lost = inl x.lost; follows = x.follows }
     where
       none-begins : [] ≡ map (frame_of c.side) d.begins
       none-begins = ap (map (frame_of c.side)) (sym leads.begins)
 
   pub unmanaged-shows : (e : Event) (aim : Aim) → is_management (aim_of c e l) ≡ false → IsUnmanaged c l aim
-      → let y = of_aim c aim l in Shows c l e (nothing_due w) (told y.told) y.line.management
+      → let y = of_aim c aim l in Shows c l e w (told y.told) y.line.management
   unmanaged-shows e aim none x = record {
-    as_due = record { notes = x.others; orders = x.orders; begins = refl };
+    as_due = record { notes = x.others; orders = x.orders; begins = refl; granted = none-granted w refl true };
     lost = inr (refl, none);
     follows = subst (Follows w) (sym x.stays) known;
   }
 
   -- What is heard.
   abbrev Heard : stream.Event → Aim → Option (List ℕ) → Type 0
-  Heard e aim message = let y = of_aim c aim l in Shows c l (hears e) (option_map_or (by_message c w) message (nothing_due w)) (told y.told) y.line.management
+  Heard e aim message = let y = of_aim c aim l in Shows c l (hears e) (option_map_or (by_message c w) message w) (told y.told) y.line.management
 
   plain-aim : (e : stream.Event) → is_management (aim_of_heard c l e) ≡ false → IsUnmanaged c l (aim_of_heard c l e)
   plain-aim e none =
@@ -131,18 +143,19 @@ module _ (c : Config) (l : Line) (s : IsSound c l) (on : List ℕ) (h : AreOn on
       (managed-shows (hears e) (by_message c w x.info) (teis.message x.info) (serve-leads on m h order s.management c s.places x.info)))
   by-cases e (inr x) = subst (Heard e (aim_of_heard c l e)) (sym x.said_is) (unmanaged-shows (hears e) (aim_of_heard c l e) x.aim_is (plain-aim e x.aim_is))
 
-  pub hears-shows : (e : stream.Event) → Shows c l (hears e) (due c (hears e) w) (answer c (hears e) l) (after c (hears e) l).management
+  pub hears-shows : (e : stream.Event) → Shows c l (hears e) (by_event c (hears e) w) (answer c (hears e) l) (after c (hears e) l).management
   unfolding after answer
-  hears-shows e = by-cases e (heard-cases c l e)
+  hears-shows e =
+      subst (λ (d : Managed). let y = of_aim c (aim_of_heard c l e) l in Shows c l (hears e) d (told y.told) y.line.management) (sym (message-is-read c w e)) (by-cases e (heard-cases c l e))
 
   -- An expiry.
-  pub expiry-shows : (timer : Timer) → Shows c l (expiry timer) (due c (expiry timer) w) (answer c (expiry timer) l) (after c (expiry timer) l).management
+  pub expiry-shows : (timer : Timer) → Shows c l (expiry timer) (by_event c (expiry timer) w) (answer c (expiry timer) l) (after c (expiry timer) l).management
   unfolding after answer teis.course teis.refusal
   expiry-shows (T200 service tei) =
       let x = timer-aims c l service tei link_timer.T200 (place_in l tei) in unmanaged-shows (expiry (T200 service tei)) (at_timer service tei link_timer.T200 (place_in l tei)) x.none x
   expiry-shows (T203 service tei) =
       let x = timer-aims c l service tei link_timer.T203 (place_in l tei) in unmanaged-shows (expiry (T203 service tei)) (at_timer service tei link_timer.T203 (place_in l tei)) x.none x
-  expiry-shows T201 = managed-shows (expiry T201) (ran_out w.check w) teis.expiry (expire-leads on m h order s.management)
+  expiry-shows T201 = managed-shows (expiry T201) (option_map_or (ran_out w) w.check w) teis.expiry (expire-leads on m h order s.management)
 
   -- A call for the next frame.
   next-orders : (o : Option Taken) → IfSome o (IsOne c l) → filter is_of_t201 (orders_in (gave (option_map next_of o))) ≡ []
@@ -163,10 +176,10 @@ module _ (c : Config) (l : Line) (s : IsSound c l) (on : List ℕ) (h : AreOn on
   kept-of frame b is = ap (λ b. cond b (frame ∷ []) []) is
 
   abbrev later : Managed
-  later = record w { owed = drop 1 m.waiting }
+  later = record w { owed = drop 1 m.waiting; begins = take 1 m.waiting }
 
   stays : (new : Line) → new.management ≡ m → m.waiting ≡ [] → Follows later new.management
-  stays new is none = subst (Follows later) (sym is) (subst (λ ms. Follows (record w { owed = ms }) m) (sym (ap (drop 1) none ∙ sym none)) known)
+  stays new is none = subst (Follows later) (sym is) (subst (λ ms. Follows (record w { owed = ms; begins = take 1 m.waiting }) m) (sym (ap (drop 1) none ∙ sym none)) (record { is = refl; on = h; order = order }))
 
   none-goes : m.waiting ≡ [] → [] ≡ map (frame_of c.side) (take 1 m.waiting)
   none-goes none = sym (ap (λ ms. map (frame_of c.side) (take 1 ms)) none)
@@ -194,12 +207,12 @@ module _ (c : Config) (l : Line) (s : IsSound c l) (on : List ℕ) (h : AreOn on
     stays new (ap (λ (l : Line). l.management) x.line) x.its_turn.no_message,
   )
 
-  pub next-shows : Shows c l next (due c next w) (answer c next l) (after c next l).management
+  pub next-shows : Shows c l next (by_event c next w) (answer c next l) (after c next l).management
   unfolding after answer
   next-shows =
       let x = goes (option_map_or line_of (taken c l) l) (taken c l) (served c l s) in
       record {
-        as_due = record { notes = refl; orders = next-orders (taken c l) (taken-one c l s); begins = x.0 };
+        as_due = record { notes = refl; orders = next-orders (taken c l) (taken-one c l s); begins = x.0; granted = none-granted later refl false };
         lost = inl refl;
         follows = x.1;
       }

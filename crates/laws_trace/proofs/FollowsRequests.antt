@@ -1,20 +1,20 @@
 -- What is due of TEI management by a request, and by any event of a line, is what its answer shows.
-use Rattle.laws_trace.proofs.Vocabulary.{◌≡◌, ℕ, ◌==◌, ◌&&◌, Bool, true, false, cond, not, List, [], ◌∷◌, length, Option, Some, None, IfSome, is_some, refl, sym, ap, ◌∙◌, subst, true≢false, inl, arith, leb-true, leb-false, nat_le, nat_lt, list_any, Refusal, Management, free_place, on-range, Config, at_management, of_aim, hears, expiry, request, next, Line, place_in, has_tei, unless_refused, unless_refused_told, wrong_side, bad_tei, no_link, tei_taken, table_full, check_running, control_full, Assign, Remove, Deactivate, aim_of_request, has_management, is_granted, passed, Down, at_no_link, filter, option_map, Stop, T201}
+use Rattle.laws_trace.proofs.Vocabulary.{IdentityRemove, ◌≡◌, ℕ, ◌==◌, ◌&&◌, Bool, true, false, cond, not, List, [], ◌∷◌, length, Option, Some, None, IfSome, is_some, refl, sym, ap, ◌∙◌, subst, true≢false, inl, arith, leb-true, leb-false, nat_le, nat_lt, list_any, Refusal, Management, free_place, on-range, Config, at_management, of_aim, hears, expiry, request, next, Line, place_in, has_tei, unless_refused, unless_refused_told, wrong_side, bad_tei, no_link, tei_taken, table_full, check_running, control_full, Assign, Remove, Deactivate, aim_of_request, has_management, passed, Down, at_no_link, filter, option_map, Stop, T201}
 use Rattle.std.proofs.lemmas.Bool.{ltb-true, ltb-false}
 use Rattle.lapd_tei.specs.Events as teis
-use Rattle.lapd_tei.specs.Words.{Course, begun}
+use Rattle.lapd_tei.specs.Words.{begun}
 use Rattle.model_link.specs.Events as link
 use Rattle.model_line.specs.Event.{Event, told}
 use Rattle.model_line.specs.Machine.{after, answer}
 use Rattle.model_line.specs.Refusal.{refusal}
 use Rattle.model_line.specs.Request.{Request, Establish, Release, Data, Check as Checking, SetBusy, ClearBusy}
 use Rattle.model_line.specs.Sound.{IsSound}
-use Rattle.laws_trace.specs.Managing.{Managed, nothing_due, is_grantable, by_granted, due}
-use Rattle.laws_trace.specs.TeisAreManaged.{IsGrantedSo, is_of_t201}
+use Rattle.laws_trace.specs.Managing.{Managed, owes, leaves, checks, may_check, grants, by_event, due}
+use Rattle.laws_trace.specs.TeisAreManaged.{is_of_t201}
 use Rattle.laws_trace.proofs.Follows.{Follows, Leads, InOrder, seen_check, as_seen, here, assign-leads, remove-leads, begins-check, may-is, fewer-on, all-on}
 use Rattle.laws_trace.proofs.ManagingTables.{AreOn}
 use Rattle.laws_trace.proofs.ManagingNotes.{is_management}
-use Rattle.laws_trace.proofs.FollowsLine.{Shows, IsUnmanaged, asked-aims, deactivated-aims, managed-shows, unmanaged-shows, hears-shows, expiry-shows, next-shows}
+use Rattle.laws_trace.proofs.FollowsLine.{Shows, IsUnmanaged, none-granted, asked-aims, deactivated-aims, managed-shows, unmanaged-shows, hears-shows, expiry-shows, next-shows}
 use Rattle.laws_line.proofs.Downs.{by-down}
 use Rattle.lapd_tei.specs.Laws.{stop_of}
 use Rattle.lapd_tei.specs.declared.check.Check.{Check}
@@ -65,32 +65,40 @@ module _ (c : Config) (l : Line) (s : IsSound c l) (on : List ℕ) (h : AreOn on
   known = here on m h order s.management
 
   -- A request.
-  abbrev Answers : Request → Bool → Option Refusal → Type 0
-  Answers r g o =
-      let x = of_aim c (unless_refused o (aim_of_request r l)) l in
-      let a = unless_refused_told o x in
-      Shows c l (request r) (cond g (by_granted r w) (nothing_due w)) a x.line.management × (is_granted a ≡ g)
+  abbrev Answers : Request → Managed → Option Refusal → Type 0
+  Answers r d o = let x = of_aim c (unless_refused o (aim_of_request r l)) l in Shows c l (request r) d (unless_refused_told o x) x.line.management
 
-  refused-shows : (r : Request) (why : Refusal) → Answers r false (Some why)
-  refused-shows r why = (record { as_due = record { notes = refl; orders = refl; begins = refl }; lost = inl refl; follows = known }, refl)
+  refused-so : (so : Bool) → Some false ≡ Some so → false ≡ so
+  refused-so so is = cc is
 
-  by-grant : (r : Request) → is_some (refusal c false r l) ≡ not (is_grantable c r w) → (refusal c false r l ≡ None → Answers r true None) → Answers r (is_grantable c r w) (refusal c false r l)
-  by-grant r same granted = go (refusal c false r l) refl (is_grantable c r w) same
+  granted-so : (so : Bool) → Some true ≡ Some so → true ≡ so
+  granted-so so is = cc is
+
+  refused-shows : (r : Request) (after : Managed) (why : Refusal) → Answers r (grants false after w) (Some why)
+  refused-shows r after why = record { as_due = record { notes = refl; orders = refl; begins = refl; granted = refused-so }; lost = inl refl; follows = record { is = refl; on = h; order = order } }
+
+  by-grant : (r : Request) (after : Managed) (may : Bool) → is_some (refusal c false r l) ≡ not may → (refusal c false r l ≡ None → Answers r (grants true after w) None) → Answers r (grants may after w) (refusal c false r l)
+  by-grant r after may same granted = go (refusal c false r l) refl may same
     where
-      go : (o : Option Refusal) → refusal c false r l ≡ o → (g : Bool) → is_some o ≡ not g → Answers r g o
+      go : (o : Option Refusal) → refusal c false r l ≡ o → (g : Bool) → is_some o ≡ not g → Answers r (grants g after w) o
       go None is true same = granted is
       go None is false same = absurd (true≢false (sym same))
       go (Some why) is true same = absurd (true≢false same)
-      go (Some why) is false same = refused-shows r why
+      go (Some why) is false same = refused-shows r after why
 
   course-is : (e : teis.Event) → teis.refusal e m ≡ None → teis.course e m ≡ teis.step e (begun m)
   unfolding teis.course
   course-is e none = ap (λ o. teis.unless_refused o (teis.step e) m) none
 
-  granted-shows : (r : Request) (e : teis.Event) → aim_of_request r l ≡ at_management e → teis.refusal e m ≡ None → Leads (by_granted r w) (teis.step e (begun m)) → Answers r true None
-  granted-shows r e aim none leads =
-      subst (λ aim. let y = of_aim c aim l in Shows c l (request r) (by_granted r w) (told y.told) y.line.management × (is_granted (told y.told) ≡ true)) (sym aim)
-      (managed-shows c l s on h order (request r) (by_granted r w) e (subst (λ (x : Course). Leads (by_granted r w) x) (sym (course-is e none)) leads), refl)
+  granted-shows : (r : Request) (d : Managed) (e : teis.Event) → aim_of_request r l ≡ at_management e → teis.refusal e m ≡ None → Leads d (teis.step e (begun m)) → Answers r (grants true d w) None
+  granted-shows r d e aim none leads =
+      subst (λ aim. let y = of_aim c aim l in Shows c l (request r) (grants true d w) (told y.told) y.line.management) (sym aim)
+      (let x = managed-shows c l s on h order (request r) d e (subst (Leads d) (sym (course-is e none)) leads) in
+      record {
+        as_due = record { notes = x.as_due.notes; orders = x.as_due.orders; begins = x.as_due.begins; granted = granted-so };
+        lost = x.lost;
+        follows = record { is = x.follows.is; on = x.follows.on; order = x.follows.order };
+      })
 
   two : (a b : Bool) (x y : Refusal) → a ≡ false → b ≡ false → teis.refusal_if a x (teis.refusal_if b y None) ≡ None
   two a b x y e f = rw (e, f) refl
@@ -116,63 +124,62 @@ module _ (c : Config) (l : Line) (s : IsSound c l) (on : List ℕ) (h : AreOn on
       go None is = all-on on m h order s.management c s.places is
       go (Some place) is = fewer-on on m h order s.management c s.places place is
 
-  assign-shows : (tei : ℕ) → Answers (Assign tei) (is_grantable c (Assign tei) w) (refusal c false (Assign tei) l)
+  assign-shows : (tei : ℕ) → Answers (Assign tei) (by_event c (request (Assign tei)) w) (refusal c false (Assign tei) l)
   unfolding teis.refusal
-  assign-shows tei = by-grant (Assign tei) same granted
+  assign-shows tei = by-grant (Assign tei) (record w { on = tei ∷ on }) (nat_le tei 126 && not (list_any (λ y. y == tei) on) && nat_lt (length on) c.terminals) same granted
     where
-      same : is_some (refusal c false (Assign tei) l) ≡ not (is_grantable c (Assign tei) w)
+      same : is_some (refusal c false (Assign tei) l) ≡ not (nat_le tei 126 && not (list_any (λ y. y == tei) on) && nat_lt (length on) c.terminals)
       same =
           refused-3 (nat_lt 126 tei) (has_tei tei l) (not (is_some (free_place m.places))) _ _ _
           ∙ sym (ap (λ b. not (b && not (list_any (λ y. y == tei) on) && nat_lt (length on) c.terminals)) (low-test tei)
           ∙ ap (λ b. not (not (nat_lt 126 tei) && not b && nat_lt (length on) c.terminals)) (h.same tei)
           ∙ ap (λ b. not (not (nat_lt 126 tei) && not (has_tei tei l) && b)) room-is)
 
-      granted : refusal c false (Assign tei) l ≡ None → Answers (Assign tei) true None
+      granted : refusal c false (Assign tei) l ≡ None → Answers (Assign tei) (grants true (record w { on = tei ∷ on }) w) None
       granted none =
           let bad = passed (bad_tei tei) (tei_taken tei l ∷ table_full l ∷ []) none in
           let taken = passed (tei_taken tei l) (table_full l ∷ []) bad.1 in
           let full = passed (table_full l) [] taken.1 in
           let free = is-there (free_place m.places) full.0 in
-          granted-shows (Assign tei) (teis.assign tei) refl (two _ _ _ _ taken.0 full.0) (assign-leads on m h order s.management tei free.0 free.1 taken.0)
+          granted-shows (Assign tei) (record w { on = tei ∷ on }) (teis.assign tei) refl (two _ _ _ _ taken.0 full.0) (assign-leads on m h order s.management tei free.0 free.1 taken.0)
 
-  remove-shows : (tei : ℕ) → Answers (Remove tei) (is_grantable c (Remove tei) w) (refusal c false (Remove tei) l)
+  remove-shows : (tei : ℕ) → Answers (Remove tei) (by_event c (request (Remove tei)) w) (refusal c false (Remove tei) l)
   unfolding teis.refusal
-  remove-shows tei = by-grant (Remove tei) same granted
+  remove-shows tei = by-grant (Remove tei) (owes (IdentityRemove tei) (leaves tei w)) (has_management c.side && list_any (λ y. y == tei) on && not (nat_le 4 (length m.waiting))) same granted
     where
-      same : is_some (refusal c false (Remove tei) l) ≡ not (is_grantable c (Remove tei) w)
+      same : is_some (refusal c false (Remove tei) l) ≡ not (has_management c.side && list_any (λ y. y == tei) on && not (nat_le 4 (length m.waiting)))
       same =
           refused-4 (has_management c.side) (nat_lt 126 tei) (has_tei tei l) (nat_le 4 (length m.waiting)) _ _ _ _ (on-low tei)
           ∙ ap (λ b. not (has_management c.side && b && not (nat_le 4 (length m.waiting)))) (sym (h.same tei))
 
-      granted : refusal c false (Remove tei) l ≡ None → Answers (Remove tei) true None
+      granted : refusal c false (Remove tei) l ≡ None → Answers (Remove tei) (grants true (owes (IdentityRemove tei) (leaves tei w)) w) None
       granted none =
           let side = passed (wrong_side c) (bad_tei tei ∷ no_link tei l ∷ control_full l ∷ []) none in
           let bad = passed (bad_tei tei) (no_link tei l ∷ control_full l ∷ []) side.1 in
           let unknown = passed (no_link tei l) (control_full l ∷ []) bad.1 in
           let full = passed (control_full l) [] unknown.1 in
-          granted-shows (Remove tei) (teis.remove tei) refl (two _ _ _ _ unknown.0 full.0) (remove-leads on m h order s.management tei)
+          granted-shows (Remove tei) (owes (IdentityRemove tei) (leaves tei w)) (teis.remove tei) refl (two _ _ _ _ unknown.0 full.0) (remove-leads on m h order s.management tei)
 
-  check-shows : (tei : ℕ) → Answers (Checking tei) (is_grantable c (Checking tei) w) (refusal c false (Checking tei) l)
+  check-shows : (tei : ℕ) → Answers (Checking tei) (by_event c (request (Checking tei)) w) (refusal c false (Checking tei) l)
   unfolding teis.refusal
-  check-shows tei = by-grant (Checking tei) same granted
+  check-shows tei = by-grant (Checking tei) (checks tei None w) (has_management c.side && may_check tei w && not (nat_le 4 (length m.waiting))) same granted
     where
-      same : is_some (refusal c false (Checking tei) l) ≡ not (is_grantable c (Checking tei) w)
+      same : is_some (refusal c false (Checking tei) l) ≡ not (has_management c.side && may_check tei w && not (nat_le 4 (length m.waiting)))
       same =
           refused-5 (has_management c.side) (nat_lt 126 tei) (has_tei tei l) (is_some m.check) (nat_le 4 (length m.waiting)) _ _ _ _ _ (on-low tei)
           ∙ ap (λ b. not (has_management c.side && b && not (nat_le 4 (length m.waiting)))) (sym (may-is on m h order s.management tei))
 
-      granted : refusal c false (Checking tei) l ≡ None → Answers (Checking tei) true None
+      granted : refusal c false (Checking tei) l ≡ None → Answers (Checking tei) (grants true (checks tei None w) w) None
       granted none =
           let side = passed (wrong_side c) (bad_tei tei ∷ no_link tei l ∷ check_running l ∷ control_full l ∷ []) none in
           let bad = passed (bad_tei tei) (no_link tei l ∷ check_running l ∷ control_full l ∷ []) side.1 in
           let unknown = passed (no_link tei l) (check_running l ∷ control_full l ∷ []) bad.1 in
           let running = passed (check_running l) (control_full l ∷ []) unknown.1 in
           let full = passed (control_full l) [] running.1 in
-          granted-shows (Checking tei) (teis.check tei) refl (three _ _ _ _ _ _ unknown.0 running.0 full.0) (begins-check on m h order s.management tei)
+          granted-shows (Checking tei) (checks tei None w) (teis.check tei) refl (three _ _ _ _ _ _ unknown.0 running.0 full.0) (begins-check on m h order s.management tei)
 
-  link-shows : (r : Request) → IsUnmanaged c l (aim_of_request r l) → (o : Option Refusal) → refusal c false r l ≡ o
-      → let x = of_aim c (unless_refused o (aim_of_request r l)) l in Shows c l (request r) (nothing_due w) (unless_refused_told o x) x.line.management
-  link-shows r x (Some why) is = (refused-shows r why).0
+  link-shows : (r : Request) → IsUnmanaged c l (aim_of_request r l) → (o : Option Refusal) → refusal c false r l ≡ o → Answers r w o
+  link-shows r x (Some why) is = record { as_due = record { notes = refl; orders = refl; begins = refl; granted = none-granted w refl false }; lost = inl refl; follows = known }
   link-shows r x None is = unmanaged-shows c l s on h order (request r) (aim_of_request r l) (ap (λ o. is_management (unless_refused o (aim_of_request r l))) is ∙ x.none) x
 
   -- That the line is down.
@@ -180,43 +187,43 @@ module _ (c : Config) (l : Line) (s : IsSound c l) (on : List ℕ) (h : AreOn on
   stopped None = refl
   stopped (Some check) = refl
 
-  down-shows : let y = of_aim c at_no_link l in Shows c l (request Down) (by_granted Down w) (told y.told) y.line.management × (is_granted (told y.told) ≡ true)
+  abbrev down : Managed
+  down = by_event c (request Down) w
+
+  down-shows : let y = of_aim c at_no_link l in Shows c l (request Down) down (told y.told) y.line.management
   down-shows =
-      by-down c l (λ y. Shows c l (request Down) (by_granted Down w) (told y.told) y.line.management × (is_granted (told y.told) ≡ true)) (
+      by-down c l (λ y. Shows c l (request Down) down (told y.told) y.line.management) (
         record {
-          as_due = record { notes = refl; orders = stopped m.check; begins = refl };
+          as_due = record { notes = refl; orders = stopped m.check; begins = refl; granted = granted-so };
           lost = inl refl;
           follows = record { is = refl; on = h; order = tt };
-        },
-        refl,
+        }
       )
 
   abbrev Requested : Request → Type 0
-  Requested r = Shows c l (request r) (due c (request r) w) (answer c (request r) l) (after c (request r) l).management × IsGrantedSo c w (request r) (answer c (request r) l)
+  Requested r = Shows c l (request r) (by_event c (request r) w) (answer c (request r) l) (after c (request r) l).management
 
   request-shows : (r : Request) → Requested r
   unfolding after answer
-  request-shows (Establish service tei) = (link-shows (Establish service tei) (asked-aims c l service tei link.Establish (place_in l tei)) (refusal c false (Establish service tei) l) refl, tt)
-  request-shows (Release service tei) = (link-shows (Release service tei) (asked-aims c l service tei link.Release (place_in l tei)) (refusal c false (Release service tei) l) refl, tt)
+  request-shows (Establish service tei) = link-shows (Establish service tei) (asked-aims c l service tei link.Establish (place_in l tei)) (refusal c false (Establish service tei) l) refl
+  request-shows (Release service tei) = link-shows (Release service tei) (asked-aims c l service tei link.Release (place_in l tei)) (refusal c false (Release service tei) l) refl
   request-shows (Data service tei contents) =
-      (link-shows (Data service tei contents) (asked-aims c l service tei (link.Data contents) (place_in l tei)) (refusal c false (Data service tei contents) l) refl, tt)
+      link-shows (Data service tei contents) (asked-aims c l service tei (link.Data contents) (place_in l tei)) (refusal c false (Data service tei contents) l) refl
   request-shows (Request.Unit service tei contents) =
-      (link-shows (Request.Unit service tei contents) (record { stays = refl; others = refl; orders = refl; none = refl }) (refusal c false (Request.Unit service tei contents) l) refl, tt)
-  request-shows (SetBusy service tei) = (link-shows (SetBusy service tei) (asked-aims c l service tei link.SetBusy (place_in l tei)) (refusal c false (SetBusy service tei) l) refl, tt)
-  request-shows (ClearBusy service tei) = (link-shows (ClearBusy service tei) (asked-aims c l service tei link.ClearBusy (place_in l tei)) (refusal c false (ClearBusy service tei) l) refl, tt)
-  request-shows (Deactivate service tei) = (link-shows (Deactivate service tei) (deactivated-aims c l service tei (place_in l tei)) (refusal c false (Deactivate service tei) l) refl, tt)
+      link-shows (Request.Unit service tei contents) (record { stays = refl; others = refl; orders = refl; none = refl }) (refusal c false (Request.Unit service tei contents) l) refl
+  request-shows (SetBusy service tei) = link-shows (SetBusy service tei) (asked-aims c l service tei link.SetBusy (place_in l tei)) (refusal c false (SetBusy service tei) l) refl
+  request-shows (ClearBusy service tei) = link-shows (ClearBusy service tei) (asked-aims c l service tei link.ClearBusy (place_in l tei)) (refusal c false (ClearBusy service tei) l) refl
+  request-shows (Deactivate service tei) = link-shows (Deactivate service tei) (deactivated-aims c l service tei (place_in l tei)) (refusal c false (Deactivate service tei) l) refl
   request-shows (Assign tei) = assign-shows tei
   request-shows (Remove tei) = remove-shows tei
   request-shows (Checking tei) = check-shows tei
   request-shows Down = down-shows
 
-  seen-shows : (e : Event) → Shows c l e (due c e w) (answer c e l) (after c e l).management × IsGrantedSo c w e (answer c e l)
-  seen-shows (hears e) = (hears-shows c l s on h order e, tt)
-  seen-shows (expiry timer) = (expiry-shows c l s on h order timer, tt)
+  seen-shows : (e : Event) → Shows c l e (by_event c e w) (answer c e l) (after c e l).management
+  seen-shows (hears e) = hears-shows c l s on h order e
+  seen-shows (expiry timer) = expiry-shows c l s on h order timer
   seen-shows (request r) = request-shows r
-  seen-shows next = (next-shows c l s on h order, tt)
+  seen-shows next = next-shows c l s on h order
 
-pub event-shows : (c : Config) (l : Line) → IsSound c l → (w : Managed) → Follows w l.management → (e : Event)
-    → Shows c l e (due c e w) (answer c e l) (after c e l).management × IsGrantedSo c w e (answer c e l)
-event-shows c l s w h e =
-    subst (λ w. Shows c l e (due c e w) (answer c e l) (after c e l).management × IsGrantedSo c w e (answer c e l)) (sym h.is) (seen-shows c l s w.on h.on h.order e)
+pub event-shows : (c : Config) (l : Line) → IsSound c l → (w : Managed) → Follows w l.management → (e : Event) → Shows c l e (due c e w) (answer c e l) (after c e l).management
+event-shows c l s w h e = subst (λ w. Shows c l e (by_event c e w) (answer c e l) (after c e l).management) (sym h.is) (seen-shows c l s w.on h.on h.order e)

@@ -1,5 +1,5 @@
 -- Which aims of a line are none of TEI management, and that what a line tells behind what TEI management tells changes nothing.
-use Rattle.laws_trace.proofs.Vocabulary.{◌≡◌, ℕ, ◌==◌, ◌&&◌, Bool, true, false, cond, List, [], ◌∷◌, ◌++◌, Option, Some, None, refl, sym, ap, ◌∙◌, subst, append-nil, append_assoc, true≢false, ◌⊎◌, inl, inr, All, filter, not, Result, Ok, Err, All-nil, All-cons, All-head, All-tail, All-append, filter-append, Tei, Unserved, Address, Side, Network, User, Information, ReceiveReady, ReceiveNotReady, Reject, Sabme, Disc, Ui, Ua, Dm, Frmr, ReadFault, BadExtension, Undefined, WrongSize, Short, Note, Long, Service, Start, Stop, Call, Packet, Parts, reading, long_reading, service_of, TeiTold, Change, Gained, Left, Link, runs, timer_at, order_for, orders_for, LinkTimer, Terms, notes-own, Config, Aim, at_none, at_link, at_management, at_units, told_of_management, of_change, Line, link_in, terms, place_in, management_sapi, group_tei, drop_for, at_place, to_service, addressed, message_of, aim_of_reading, unless_at_link, aim_of_long, aim_of_heard, heard_side, managed_at, at_side, has_management, at_no_link}
+use Rattle.laws_trace.proofs.Vocabulary.{◌≡◌, ℕ, ◌==◌, ◌&&◌, Bool, true, false, cond, List, [], ◌∷◌, ◌++◌, Option, Some, None, refl, sym, ap, ◌∙◌, subst, append-nil, append_assoc, option_map_or, true≢false, ◌⊎◌, inl, inr, All, filter, not, Result, Ok, Err, All-nil, All-cons, All-head, All-tail, All-append, filter-append, Tei, Unserved, Address, Side, Network, User, Information, ReceiveReady, ReceiveNotReady, Reject, Sabme, Disc, Ui, Ua, Dm, Frmr, ReadFault, BadExtension, Undefined, WrongSize, Short, Note, Long, Service, Start, Stop, Call, Packet, Parts, reading, long_reading, service_of, TeiTold, Change, Gained, Left, Link, runs, timer_at, order_for, orders_for, LinkTimer, Terms, notes-own, Config, Aim, at_none, at_link, at_management, at_units, told_of_management, of_change, Line, link_in, terms, place_in, management_sapi, group_tei, drop_for, at_place, to_service, addressed, message_of, aim_of_reading, unless_at_link, aim_of_long, aim_of_heard, heard_side, managed_at, at_side, has_management, at_no_link}
 use Rattle.model_bits.specs.Stream as stream
 use Rattle.lapd_frame.specs.declared.controls.Control.{Control}
 use Rattle.lapd_frame.specs.declared.controls.Control.TheVariants.{Xid}
@@ -11,8 +11,8 @@ use Rattle.model_link.specs.Machine as links
 use Rattle.model_link.specs.declared.timers.LinkTimer.TheVariants.{T200, T203}
 use Rattle.model_link.proofs.OwnNotes.{IsOwn}
 use Rattle.model_line.specs.Effect.{of_link}
-use Rattle.laws_trace.specs.LinkFrames.{parts_of}
-use Rattle.laws_trace.specs.Managing.{is_message_to, message_by, message_in}
+use Rattle.laws_trace.specs.LinkFrames.{frame_of, parts_of}
+use Rattle.laws_trace.specs.Managing.{Managed, by_message, by_frame}
 use Rattle.laws_trace.specs.TeisAreManaged.{is_of_teis, is_of_t201}
 use Rattle.laws_trace.specs.Units.{is_ui}
 
@@ -100,6 +100,28 @@ module _ (c : Config) (t : TeiTold) (l : Line) where
 abbrev pub is_management : Aim → Bool
 is_management (at_management e) = true
 is_management other = false
+
+-- The information of a message of a terminal.
+abbrev pub is_message_to : Parts → Bool
+is_message_to frame = (frame.address.sapi == management_sapi && frame.address.tei == group_tei) && is_ui frame.control
+
+abbrev pub message_by : Config → Option Parts → Option (List ℕ)
+message_by c None = None
+message_by c (Some frame) = cond (has_management c.side && is_message_to frame) (Some frame.info) None
+
+abbrev pub message_in : Config → stream.Event → Option (List ℕ)
+message_in c e = message_by c (frame_of c e)
+
+pub message-is-read : (c : Config) (w : Managed) (e : stream.Event) → option_map_or (by_frame c w) (frame_of c e) w ≡ option_map_or (by_message c w) (message_in c e) w
+message-is-read c w e = go (frame_of c e)
+  where
+    by-test : (b : Bool) (info : List ℕ) → cond b (by_message c w info) w ≡ option_map_or (by_message c w) (cond b (Some info) None) w
+    by-test true info = refl
+    by-test false info = refl
+
+    go : (o : Option Parts) → option_map_or (by_frame c w) o w ≡ option_map_or (by_message c w) (message_by c o) w
+    go None = refl
+    go (Some f) = by-test (has_management c.side && is_message_to f) f.info
 
 pub record OfMessage (aim : Aim) (said : Option (List ℕ)) : Type 0 where
   pub info : List ℕ

@@ -345,7 +345,7 @@ module _ (c : Config) (events : List card_event.Event) (number : ℕ) (ranged : 
             (ap (λ b. is_empty (cond b (put_in c service tei v.link u.link (moment_of c events number what)) [])) on ∙ some)
 
   of-messages : ((service : Service) (tei : ℕ) → puts_by c number events what service tei ≡ []) → lost_in its-answer ≡ messages
-  of-messages none = go (shows-behind c events number ranged all within what).0.lost
+  of-messages none = go (shows-behind c events number ranged all within what).lost
     where
       some-lost : is_management (aim_of k.config what l) ≡ false → 0 < lost_in its-answer → ⊥
       some-lost unmanaged some =

@@ -180,7 +180,7 @@ module _ (service : Service) (tei : ℕ) where
   still-busy (Check by) busy is = refl
   still-busy Down busy is = refl
 
-  pub none-led : (c : Config) (r : Request) (w : Managed) → busies r ≡ true → (due c (request r) w).known ≡ w
+  pub none-led : (c : Config) (r : Request) (w : Managed) → busies r ≡ true → (due c (request r) w).on ≡ w.on
   none-led c (SetBusy of by) w is = refl
   none-led c (ClearBusy of by) w is = refl
   none-led c (Establish of by) w is = absurd (true≢false (sym is))

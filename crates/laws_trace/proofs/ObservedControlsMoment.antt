@@ -13,7 +13,7 @@ use Rattle.model_card.specs.Run.{Moment, IsAtLine}
 use Rattle.model_card.specs.Sound as card_sound
 use Rattle.laws_trace.specs.ControlFrames as now_due
 use Rattle.laws_trace.specs.LinkFrames.{brought, frame_of, its_frame}
-use Rattle.laws_trace.specs.Managing.{Managed, is_on, led, due}
+use Rattle.laws_trace.specs.Managing.{is_on, led, due}
 use Rattle.laws_trace.specs.Observer.{Observed, View, in_state, by_event, by_heard, by_request, enters, views}
 use Rattle.laws_trace.specs.Trace.{is_up, Seen, frame_in, seen, seen_told, seen_granted, seen_in}
 use Rattle.laws_trace.proofs.CallRuns.{apart}
@@ -156,9 +156,9 @@ module _ (service : Service) (tei number : ℕ) where
           ∙ ap (λ on. cond (not is) (in_state 1) (cond on (cond (e.line == number) (by_event c service tei e.what a o) o) (in_state 4))) was-on
           ∙ ap (λ b. cond (not is) (in_state 1) (cond b (by_event c service tei e.what a o) o)) mine
 
-      on-by : (known : (due c e.what v.teis).known.on ≡ v.teis.on) → on-then ≡ true
+      on-by : (known : (due c e.what v.teis).on ≡ v.teis.on) → on-then ≡ true
       on-by known =
-          ap (λ b. is_on tei (cond b (due c e.what v.teis).known v.teis)) mine
+          ap (λ b. is_on tei (cond b (due c e.what v.teis) v.teis)) mine
           ∙ ap (λ on. list_any (λ n. n == tei) on) known ∙ was-on
 
       -- a frame that comes
@@ -170,7 +170,7 @@ module _ (service : Service) (tei number : ℕ) where
           is-at = λ i. record { line = same-line i; what = sym what i }
 
           stays : on-then ≡ true
-          stays = on-by (ap (λ z. (due c z v.teis).known.on) what ∙ ap (λ (w : Managed). w.on) (frame-leads c service tei e' f v.teis frame))
+          stays = on-by (ap (λ z. (due c z v.teis).on) what ∙ frame-leads c service tei e' f v.teis frame)
 
           q-now : q ≡ by_heard c service tei e' o
           q-now = q-is true stays ∙ ap (λ z. by_event c service tei z a o) what
@@ -207,7 +207,7 @@ module _ (service : Service) (tei number : ℕ) where
               still : (b : Bool) → busies service tei r ≡ b → busy_asked service tei busy r ≡ busy
               still false is = still-busy service tei r busy is
               still true is =
-                  let on = on-by (ap (λ z. (due c z v.teis).known.on) what ∙ ap (λ (w : Managed). w.on) (none-led service tei c r v.teis is)) in
+                  let on = on-by (ap (λ z. (due c z v.teis).on) what ∙ none-led service tei c r v.teis is) in
                   let stays = ap (λ (p : Observed). is_up p.state) (q-is true on) ∙ ap (λ z. is_up (by_event c service tei z a o).state) what
                   ∙ ap (λ b. is_up (cond b (by_request service tei r o) o).state) granted ∙ ap is_up (stays-up service tei r o is) in
                   absurd (true≢false (sym (stays ∙ up) ∙ none))

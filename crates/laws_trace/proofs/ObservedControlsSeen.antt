@@ -5,11 +5,12 @@ use Rattle.model_bits.specs.Stream as stream
 use Rattle.model_line.specs.Event.{told}
 use Rattle.model_line.specs.Request.{Request}
 use Rattle.laws_trace.specs.LinkFrames.{frame_of, its_frame, is_for}
-use Rattle.laws_trace.specs.Managing.{Managed, due, message_by, by_message, nothing_due}
+use Rattle.laws_trace.specs.Managing.{Managed, due, by_message, nothing_due}
 use Rattle.laws_trace.specs.Observer.{Observed, by_event, by_request}
 use Rattle.laws_trace.specs.Trace.{is_up, seen}
 use Rattle.laws_trace.specs.Units.{is_ui}
 use Rattle.laws_trace.proofs.DeliveriesWatched.{busy_asked}
+use Rattle.laws_trace.proofs.ManagingNotes.{message_by, message-is-read}
 use Rattle.laws_trace.proofs.ObservedControls.{stays-down}
 use Rattle.laws_trace.proofs.Standing.{standing}
 use Rattle.laws_trace.proofs.StandingOfLink.{calm}
@@ -52,8 +53,8 @@ module _ (c : Config) (service : Service) (tei : ℕ) where
           ap (λ b. cond (has_management c.side && ((b && g.address.tei == 127) && is_ui g.control)) (Some g.info) None) (away for)
           ∙ ap (λ b. cond b (Some g.info) None) (and-none (has_management c.side))
 
-  pub frame-leads : (e : stream.Event) (f : Parts) (w : Managed) → its_frame service tei (frame_of c e) ≡ Some f → (due c (hears e) w).known ≡ w
-  frame-leads e f w is = ap (λ m. (option_map_or (by_message c w) m (nothing_due w)).known) (no-message (frame_of c e) f is)
+  pub frame-leads : (e : stream.Event) (f : Parts) (w : Managed) → its_frame service tei (frame_of c e) ≡ Some f → (due c (hears e) w).on ≡ w.on
+  frame-leads e f w is = ap (λ (v : Managed). v.on) (message-is-read c (nothing_due w) e ∙ ap (λ m. option_map_or (by_message c (nothing_due w)) m (nothing_due w)) (no-message (frame_of c e) f is))
 
   pub granted-busy : (r : Request) (a : Answer) (n : ℕ) (busy rejected : Bool) → is_granted a ≡ true → (standing service tei c (calm n busy rejected) (seen (request r) a)).busy ≡ busy_asked service tei busy r
   granted-busy r (told t) n busy rejected granted = refl

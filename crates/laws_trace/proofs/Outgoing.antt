@@ -189,7 +189,7 @@ module _ (c : Config) (number : ℕ) (ranged : IsInRange c) (within : number < c
           let still_there : line_at number (after e card) ≡ its before = apart card e number (λ same. true≢false (sym (eq-eqb e.line number (sym same)) ∙ away)) in
           let on : place_in (its before) tei ≡ Some q = ap (λ l. place_in l tei) (sym still_there) ∙ there in
           let is : is_on tei o.view.teis ≡ true = on-before ∙ on-line (its before) tei q on in
-          let teis : now.teis ≡ o.view.teis = ap (λ b. cond b (due c e.what o.view.teis).known o.view.teis) away in
+          let teis : now.teis ≡ o.view.teis = ap (λ b. cond b (due c e.what o.view.teis) o.view.teis) away in
           field-is o m ∙ ap (λ b. cond (is_on tei now.teis && is_on tei o.view.teis) (cond b (by o.view now m (field o)) (field o)) none) away
           ∙ ap (λ b. cond (b && is_on tei o.view.teis) (field o) none) (ap (is_on tei) teis ∙ is) ∙ ap (λ b. cond b (field o) none) is
           ∙ has q on ∙ ap of_line (sym still_there)

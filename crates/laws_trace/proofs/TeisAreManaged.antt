@@ -12,26 +12,26 @@ use Rattle.model_card.specs.Run.{after_all, IsAtLine, AreAtLines}
 use Rattle.model_card.specs.Sound as card_sound
 use Rattle.model_card.proofs.CardSound.{always_sound}
 use Rattle.model_card.proofs.Steps.{line_sound as sound-at}
-use Rattle.laws_trace.specs.Managing.{Managed, none_on, due, led, managed_after}
-use Rattle.laws_trace.specs.TeisAreManaged.{IsGrantedSo, TeisAreManaged}
+use Rattle.laws_trace.specs.Managing.{Managed, none_on, nothing_due, due, led, managed_after}
+use Rattle.laws_trace.specs.TeisAreManaged.{TeisAreManaged}
 use Rattle.laws_trace.specs.Trace.{Always}
 use Rattle.laws_trace.proofs.CallRuns.{apart}
 use Rattle.laws_trace.proofs.Follows.{Follows}
-use Rattle.laws_trace.proofs.FollowsLine.{Shows}
+use Rattle.laws_trace.proofs.FollowsLine.{Shows, none-granted}
 use Rattle.laws_trace.proofs.FollowsRequests.{event-shows}
 use Rattle.laws_trace.proofs.ManagingTables.{none-on}
 
 -- A request that finds the pool full shows nothing, and is none of management.
-abbrev Both : Config → Line → Managed → line_event.Event → Answer → Line → Type 0
-Both c l w e a new = Shows c l e (due c e w) a new.management × IsGrantedSo c w e a
+abbrev Answers : Config → Line → Managed → line_event.Event → Answer → Line → Type 0
+Answers c l w e a new = Shows c l e (due c e w) a new.management
 
-refused-shows : (c : Config) (e : line_event.Event) (l : Line) (w : Managed) → lines.takes_slot c e l ≡ true → Follows w l.management → Both c l w e (refused PoolFull) l
+refused-shows : (c : Config) (e : line_event.Event) (l : Line) (w : Managed) → lines.takes_slot c e l ≡ true → Follows w l.management → Answers c l w e (refused PoolFull) l
 unfolding lines.takes_slot
 refused-shows c (line_event.hears what) l w takes h = absurd (true≢false (sym takes))
 refused-shows c (line_event.expiry timer) l w takes h = absurd (true≢false (sym takes))
 refused-shows c line_event.next l w takes h = absurd (true≢false (sym takes))
-refused-shows c (line_event.request (Data service tei contents)) l w takes h = (record { as_due = record { notes = refl; orders = refl; begins = refl }; lost = inl refl; follows = h }, tt)
-refused-shows c (line_event.request (request.Unit service tei contents)) l w takes h = (record { as_due = record { notes = refl; orders = refl; begins = refl }; lost = inl refl; follows = h }, tt)
+refused-shows c (line_event.request (Data service tei contents)) l w takes h = record { as_due = record { notes = refl; orders = refl; begins = refl; granted = none-granted (nothing_due w) refl false }; lost = inl refl; follows = record { is = h.is; on = h.on; order = h.order } }
+refused-shows c (line_event.request (request.Unit service tei contents)) l w takes h = record { as_due = record { notes = refl; orders = refl; begins = refl; granted = none-granted (nothing_due w) refl false }; lost = inl refl; follows = record { is = h.is; on = h.on; order = h.order } }
 refused-shows c (line_event.request (Establish service tei)) l w takes h = absurd (true≢false (sym takes))
 refused-shows c (line_event.request (Release service tei)) l w takes h = absurd (true≢false (sym takes))
 refused-shows c (line_event.request (SetBusy service tei)) l w takes h = absurd (true≢false (sym takes))
@@ -43,26 +43,26 @@ refused-shows c (line_event.request (Check tei)) l w takes h = absurd (true≢fa
 refused-shows c (line_event.request request.Down) l w takes h = absurd (true≢false (sym takes))
 
 pub own-shows : (k : Card) (e : Event) (w : Managed) → card_sound.IsSound k → IsAtLine k e → Follows w (line_at e.line k).management
-    → Both k.config (line_at e.line k) w e.what (answer e k) (line_at e.line (after e k))
+    → Answers k.config (line_at e.line k) w e.what (answer e k) (line_at e.line (after e k))
 own-shows k e w s here h =
     let c = k.config in
     let l = line_at e.line k in
-    by_room (λ ls a. Both c l w e.what a (get_or ls e.line (fresh_line c))) e k
+    by_room (λ ls a. Answers c l w e.what a (get_or ls e.line (fresh_line c))) e k
     (λ full. refused-shows c e.what l w (and_parts (lines.takes_slot c e.what l) (is_full k) full).0 h)
     (λ room.
-    subst (λ (x : Line). Both c l w e.what (lines.answer c e.what l) x) (sym (get_or-set_same k.lines e.line (lines.after c e.what l) (fresh_line c) (omega (arith, s.count, here))))
+    subst (λ (x : Line). Answers c l w e.what (lines.answer c e.what l) x) (sym (get_or-set_same k.lines e.line (lines.after c e.what l) (fresh_line c) (omega (arith, s.count, here))))
     (event-shows c l (sound-at k e.line (has_lines k s) here) w h e.what))
 
 -- The observer follows each moment,
 pub moment-follows : (k : Card) (e : Event) (number : ℕ) (w : Managed) → card_sound.IsSound k → IsAtLine k e → Follows w (line_at number k).management
-    → Follows (cond (e.line == number) (due k.config e.what w).known w) (line_at number (after e k)).management
+    → Follows (cond (e.line == number) (due k.config e.what w) w) (line_at number (after e k)).management
 moment-follows k e number w s here h = go (e.line == number) refl
   where
-    go : (b : Bool) → (e.line == number) ≡ b → Follows (cond b (due k.config e.what w).known w) (line_at number (after e k)).management
+    go : (b : Bool) → (e.line == number) ≡ b → Follows (cond b (due k.config e.what w) w) (line_at number (after e k)).management
     go true is =
         let same = eqb-true e.line number is in
-        subst (λ n. Follows (due k.config e.what w).known (line_at n (after e k)).management) same
-        (own-shows k e w s here (subst (λ n. Follows w (line_at n k).management) (sym same) h)).0.follows
+        subst (λ n. Follows (due k.config e.what w) (line_at n (after e k)).management) same
+        (own-shows k e w s here (subst (λ n. Follows w (line_at n k).management) (sym same) h)).follows
     go false other =
         subst (λ (x : Line). Follows w x.management) (sym (apart k e number (λ same. true≢false (sym (eq-eqb e.line number (sym same)) ∙ other)))) h
 
@@ -73,7 +73,7 @@ unfolding after_all
 run-follows k [] number w s all h = h
 run-follows k (e ∷ events) number w s all h =
     let here = All-head (IsAtLine k) e events all in
-    run-follows (after e k) events number (cond (e.line == number) (due k.config e.what w).known w) (after_is_sound k e s here) (All-tail (IsAtLine k) e events all)
+    run-follows (after e k) events number (cond (e.line == number) (due k.config e.what w) w) (after_is_sound k e s here) (All-tail (IsAtLine k) e events all)
     (moment-follows k e number w s here h)
 
 pub fresh-follows : (c : Config) → Follows none_on (fresh_line c).management
@@ -87,14 +87,14 @@ follows-now c events number ranged all within =
 
 -- What an event behind them shows.
 pub shows-behind : (c : Config) (events : List Event) (number : ℕ) → IsInRange c → AreAtLines (fresh c) events → number < c.lines → (what : line_event.Event)
-    → let k = after_all (fresh c) events in Both c (line_at number k) (managed_after c number events) what (answer (at number what) k) (line_at number (after (at number what) k))
+    → let k = after_all (fresh c) events in Answers c (line_at number k) (managed_after c number events) what (answer (at number what) k) (line_at number (after (at number what) k))
 shows-behind c events number ranged all within what =
     let k = after_all (fresh c) events in
     let kept = config-stays (fresh c) events in
-    subst (λ (d : Config). Both d (line_at number k) (managed_after c number events) what (answer (at number what) k) (line_at number (after (at number what) k))) kept
+    subst (λ (d : Config). Answers d (line_at number k) (managed_after c number events) what (answer (at number what) k) (line_at number (after (at number what) k))) kept
     (own-shows k (at number what) (managed_after c number events) (always_sound (fresh c) events (fresh_is_sound c ranged) all) (subst (λ (d : Config). number < d.lines) (sym kept) within)
     (follows-now c events number ranged all within))
 
 pub teis-are-managed : Always TeisAreManaged
 teis-are-managed c events number ranged all within what =
-    let x = shows-behind c events number ranged all within what in (x.0.as_due, x.1)
+    (shows-behind c events number ranged all within what).as_due

@@ -8,9 +8,10 @@ use Rattle.model_line.specs.Request as asked
 use Rattle.model_line.specs.Request.{Request}
 use Rattle.model_line.specs.Sound.{IsSound}
 use Rattle.laws_trace.specs.Trace as traces
-use Rattle.laws_trace.specs.Trace.{frame_in, Seen, seen_told, seen_granted, seen, frames_begun}
+use Rattle.laws_trace.specs.Trace.{frame_in, Seen, seen_told, seen_granted, seen, frames_begun, IsFront}
 use Rattle.laws_line.specs.Served.{units_behind, units_left}
-use Rattle.laws_trace.specs.Units.{is_ui, is_unit, units_begun, units_granted, is_down, one_more}
+use Rattle.laws_trace.specs.Units.{is_ui, is_down}
+use Rattle.laws_trace.specs.UnitsGoOut.{is_unit, waits}
 use Rattle.laws_trace.proofs.NoUi.{IsPlain, all-left}
 use Rattle.laws_trace.proofs.Reading.{other-frame, unit-is}
 use Rattle.laws_trace.specs.Units as units
@@ -33,6 +34,10 @@ event-none c e l s h number few =
           (subst (All IsPlain) (sym (event-follows t one.event (link_at number l)).leaves.waiting)
           (all-left t _ (link_at number l) _ (h number few)))
     ]
+
+-- The unit data that begins in a trace.
+abbrev pub units_begun : Config → List Seen → List (List ℕ)
+units_begun c t = filter (is_unit c.side) (frames_begun t)
 
 -- What a trace is to the unit data that waits before it and after it: a UI that begins is the oldest, unit data that is granted
 -- waits behind, and where the line is down none waits.
@@ -77,11 +82,6 @@ pub none-told : (a : Answer) → frames_begun (seen_told a) ≡ []
 none-told (told t) = refl
 none-told (refused why) = refl
 none-told (gave given) = refl
-
-none-asked : (c : Config) (a : Answer) → units_granted c (seen_told a) ≡ []
-none-asked c (told t) = refl
-none-asked c (refused why) = refl
-none-asked c (gave given) = refl
 
 pub none-requested : (r : Request) (a : Answer) → frames_begun (seen_granted r a ++ seen_told a) ≡ []
 none-requested r (told t) = refl
@@ -166,7 +166,7 @@ next-passes c l new s h (Some t) (inr (inl x)) =
 next-passes c l new s h (Some t) (inr (inr x)) =
     begins c (frames c l) (frames c new) t.frame false (of-link c l new t.frame h x) (ap (λ (l : Line). map (unit_frame c) l.units) x.line)
 
-next-passes-on : (c : Config) (l : Line) → IsSound c l → NoneWaits c l → Passes c l (seen next (answer c next l)) (after c next l)
+pub next-passes-on : (c : Config) (l : Line) → IsSound c l → NoneWaits c l → Passes c l (seen next (answer c next l)) (after c next l)
 unfolding answer
 next-passes-on c l s h = next-passes c l (after c next l) s h (taken c l) (served c l s)
 
@@ -183,35 +183,42 @@ pub steps : (c : Config) → IsInRange c → (e : Event) (l : Line) → IsSound 
     → Passes c l (seen e (answer c e l)) (after c e l) × NoneWaits c (after c e l)
 steps c ranged e l s h = (event-passes c e l s h, event-none c e l s h)
 
--- So of what is seen since the line was down the units that begin, with those that wait then, are those granted.
-abbrev Sums : Config → List Seen → List (List ℕ) → Type 0
-Sums c t waiting = units_begun c t ++ waiting ≡ units_granted c t
-
-one-sums : (c : Config) (t : List Seen) (s : Seen) (left : List (List ℕ))
-    → units_begun c t ++ (units_begun c (s ∷ []) ++ left) ≡ units_granted c t ++ units_granted c (s ∷ []) → Sums c (t ++ s ∷ []) left
-one-sums c t s left h =
-    ap (λ x. x ++ left) (ap (filter (is_unit c.side)) (flat_map-append traces.frame_begun t (s ∷ [])) ∙ filter-append (is_unit c.side) (frames_begun t) (frames_begun (s ∷ [])))
-    ∙ append_assoc (units_begun c t) (units_begun c (s ∷ [])) left ∙ h ∙ sym (flat_map-append (units.unit_granted c) t (s ∷ []))
-
-step-sums : (c : Config) (t : List Seen) (s : Seen) (waiting left : List (List ℕ)) → Sums c t waiting → Step c waiting s left → Sums c (one_more t s) left
-step-sums c t (traces.heard e) waiting left h is = one-sums c t (traces.heard e) left (ap (λ x. units_begun c t ++ x) is ∙ h ∙ sym (append-nil (units_granted c t)))
-step-sums c t (traces.noted ns x) waiting left h is = one-sums c t (traces.noted ns x) left (ap (λ x. units_begun c t ++ x) is ∙ h ∙ sym (append-nil (units_granted c t)))
-step-sums c t (traces.lost n) waiting left h is = one-sums c t (traces.lost n) left (ap (λ x. units_begun c t ++ x) is ∙ h ∙ sym (append-nil (units_granted c t)))
-step-sums c t (traces.begun octets) waiting left h is = one-sums c t (traces.begun octets) left (ap (λ x. units_begun c t ++ x) (go (is_unit c.side octets) is) ∙ h ∙ sym (append-nil (units_granted c t)))
-  where
-    go : (b : Bool) → Begun b waiting octets left → cond b (octets ∷ []) [] ++ left ≡ waiting
-    go true is = sym is
-    go false is = is
-step-sums c t (traces.granted r) waiting left h is = go (is_down r) is
-  where
-    go : (b : Bool) → left ≡ cond b [] (waiting ++ units.unit_asked c r) → Sums c (cond b [] (t ++ traces.granted r ∷ [])) left
-    go true none = none
-    go false more =
-        one-sums c t (traces.granted r) left
-        (ap (λ x. units_begun c t ++ x) more ∙ sym (append_assoc (units_begun c t) waiting (units.unit_asked c r)) ∙ ap (λ x. x ++ units.unit_asked c r) h
-        ∙ ap (λ x. units_granted c t ++ x) (sym (append-nil (units.unit_asked c r))))
-
-pub sums : (c : Config) (t u : List Seen) (waiting left : List (List ℕ)) → Sums c t waiting → Goes c waiting u left → Sums c (fold one_more t u) left
+-- So those that wait are as the observer has them;
+pub left-is-waiting : (c : Config) (t : List Seen) (waiting left : List (List ℕ)) → Goes c waiting t left → fold (waits c) waiting t ≡ left
 unfolding Goes
-sums c t [] waiting left h same = ap (λ x. units_begun c t ++ x) same ∙ h
-sums c t (s ∷ u) waiting left h (then, step, more) = sums c (one_more t s) u then left (step-sums c t s waiting then h step) more
+left-is-waiting c [] waiting left same = sym same
+left-is-waiting c (s ∷ t) waiting left (kept, step, more) = ap (λ ws. fold (waits c) ws t) (one s step) ∙ left-is-waiting c t kept left more
+  where
+    asks : (r : Request) → waits c waiting (traces.granted r) ≡ left_by c r waiting
+    asks (asked.Establish service tei) = sym (append-nil waiting)
+    asks (asked.Release service tei) = sym (append-nil waiting)
+    asks (asked.Data service tei contents) = sym (append-nil waiting)
+    asks (asked.Unit service tei contents) = refl
+    asks (asked.Assign tei) = sym (append-nil waiting)
+    asks (asked.Remove tei) = sym (append-nil waiting)
+    asks (asked.Check tei) = sym (append-nil waiting)
+    asks (asked.SetBusy service tei) = sym (append-nil waiting)
+    asks (asked.ClearBusy service tei) = sym (append-nil waiting)
+    asks (asked.Deactivate service tei) = sym (append-nil waiting)
+    asks asked.Down = refl
+
+    goes : (octets : List ℕ) (b : Bool) → Begun b waiting octets kept → cond b (drop 1 waiting) waiting ≡ kept
+    goes octets true is = ap (drop 1) is
+    goes octets false is = sym is
+
+    one : (s : Seen) → Step c waiting s kept → waits c waiting s ≡ kept
+    one (traces.heard e) is = sym is
+    one (traces.begun octets) is = goes octets (is_unit c.side octets) is
+    one (traces.noted ns x) is = sym is
+    one (traces.granted r) is = asks r ∙ sym is
+    one (traces.lost n) is = sym is
+
+-- and of what begins the unit data is the first of them.
+pub begun-first : (c : Config) (fs : List (List ℕ)) (waiting left : List (List ℕ)) → Goes c waiting (map traces.begun fs) left → IsFront (filter (is_unit c.side) fs) waiting
+unfolding Goes
+begun-first c [] waiting left same = record { rest = waiting; whole_is = refl }
+begun-first c (f ∷ fs) waiting left (kept, step, more) = go (is_unit c.side f) step (begun-first c fs kept left more)
+  where
+    go : (b : Bool) → Begun b waiting f kept → IsFront (filter (is_unit c.side) fs) kept → IsFront (cond b (f ∷ filter (is_unit c.side) fs) (filter (is_unit c.side) fs)) waiting
+    go true is x = record { rest = x.rest; whole_is = is ∙ ap (λ ws. f ∷ ws) x.whole_is }
+    go false same x = record { rest = x.rest; whole_is = sym same ∙ x.whole_is }

@@ -1,12 +1,13 @@
 -- Unit data goes out: the laws.
-use Rattle.laws_trace.proofs.Vocabulary.{◌≡◌, ℕ, ◌<◌, ◌≤◌, List, [], ◌++◌, map, sym, ap, ◌∙◌, subst, append-nil, get_or-replicate, Config, Line, fresh_line, unit_frame, most_frames, line_at, fresh_is_sound, AreTakesAt, takes_at, refl, arith, true, false, not, ◌||◌, true≢false, Option, Some, None, option_map, list_any, inl, inr, Service, Call, Packet, sapi_of, next, next_of, gave, Taken, taken, IsIdle, IsOwed, contents_of, served, at, config-stays}
+use Rattle.laws_trace.proofs.Vocabulary.{◌≡◌, ℕ, ◌<◌, ◌≤◌, List, [], ◌++◌, map, sym, ap, ◌∙◌, subst, append-nil, get_or-replicate, Config, Line, fresh_line, unit_frame, most_frames, line_at, fresh_is_sound, AreTakesAt, takes_at, refl, arith, true, false, not, ◌||◌, true≢false, Option, Some, None, option_map, list_any, inl, inr, Service, Call, Packet, sapi_of, next, next_of, gave, Taken, taken, IsIdle, IsOwed, contents_of, served, at, config-stays, Bool, filter, Parts}
 use Rattle.model_line.specs.Sound as line
 use Rattle.model_card.specs.Card.{fresh}
 use Rattle.model_card.specs.Event.{Event}
 use Rattle.model_card.specs.Run.{after_all, AreAtLines}
-use Rattle.laws_trace.specs.Trace.{Seen, frame_in, trace_of, Always}
-use Rattle.laws_trace.specs.Units.{units_begun, units_granted, since_down}
-use Rattle.laws_trace.specs.UnitsGoOut.{UnitsGoOut, AllUnitsGoOut}
+use Rattle.laws_trace.specs.Trace.{frame_in, trace_of, IsFront, Always}
+use Rattle.laws_trace.specs.LinkFrames.{reads}
+use Rattle.laws_trace.specs.Units.{is_ui}
+use Rattle.laws_trace.specs.UnitsGoOut.{is_unit, units_of, UnitsGoOut, AllUnitsGoOut}
 use Rattle.laws_trace.proofs.Runs.{run-shows}
 use Rattle.laws_trace.proofs.LineAtEnd.{line-at-end}
 use Rattle.laws_trace.proofs.Turns.{ui-frame}
@@ -15,7 +16,7 @@ use Rattle.lapd_tei.specs.Messages.{information_of}
 use Rattle.model_line.specs.Machine as lines
 use Rattle.model_card.specs.Machine as machine
 use Rattle.laws_trace.proofs.WaitedBegins.{drained}
-use Rattle.laws_trace.proofs.Units.{NoneWaits, first-of, fresh-none, Goes, Passes, rests, joins, steps, sums}
+use Rattle.laws_trace.proofs.Units.{NoneWaits, first-of, fresh-none, Goes, Passes, rests, joins, steps, next-passes-on, left-is-waiting, begun-first}
 
 -- What waits at the end.
 abbrev pub left-waiting : Config → List Event → ℕ → List (List ℕ)
@@ -25,16 +26,23 @@ small-sapi : (service : Service) → sapi_of service < 64
 small-sapi Call = omega arith
 small-sapi Packet = omega arith
 
+abbrev gives-ui : Config → List ℕ → Bool
+gives-ui c = reads c.side (λ (f : Parts). is_ui f.control)
+
 -- A call that gives no UI finds no unit data that waits.
-units-gone : (c : Config) (l : Line) → line.IsSound c l → list_any (λ octets. not (is_of_a_link c.side octets)) (frame_in (lines.answer c next l)) ≡ false → l.units ≡ []
+units-gone : (c : Config) (l : Line) → line.IsSound c l → list_any (gives-ui c) (frame_in (lines.answer c next l)) ≡ false → l.units ≡ []
 unfolding lines.answer
 units-gone c l s = go (taken c l) (served c l s)
   where
-    ui : (frame : List ℕ) → is_of_a_link c.side frame ≡ false → (not (is_of_a_link c.side frame) || false) ≡ false → l.units ≡ []
-    ui frame is none = absurd (true≢false (sym (ap (λ b. not b || false) is) ∙ none))
+    ui : (frame : List ℕ) → is_of_a_link c.side frame ≡ false → (gives-ui c frame || false) ≡ false → l.units ≡ []
+    ui frame is none = by-test (gives-ui c frame) is none
+      where
+        by-test : (b : Bool) → not b ≡ false → (b || false) ≡ false → l.units ≡ []
+        by-test true is none = absurd (true≢false none)
+        by-test false is none = absurd (true≢false is)
 
     go : (o : Option Taken) → elim o as (λ o. Type 0) [ None ↦ IsIdle c l (lines.after c next l) | Some t ↦ IsOwed c (contents_of l) l (lines.after c next l) t.frame ]
-        → list_any (λ octets. not (is_of_a_link c.side octets)) (frame_in (gave (option_map next_of o))) ≡ false → l.units ≡ []
+        → list_any (gives-ui c) (frame_in (gave (option_map next_of o))) ≡ false → l.units ≡ []
     go None x none = x.nothing.units
     go (Some t) (inl x) none =
         ui t.frame
@@ -53,35 +61,36 @@ module _ (c : Config) (events : List Event) (number : ℕ) (ranged : line.IsInRa
   abbrev end : Line
   end = line_at number (after_all (fresh c) events)
 
-  abbrev since : List Seen
-  since = since_down (trace_of c events number)
+  passed : Passes c (line_at number (fresh c)) (trace_of c events number) end × NoneWaits c end
+  passed =
+      run-shows NoneWaits Passes rests joins steps (fresh c) events number (fresh_is_sound c ranged) all
+      (subst (λ (l : Line). NoneWaits c l) (sym start) (fresh-none c))
 
   pub goes : Goes c [] (trace_of c events number) (map (unit_frame c) end.units)
-  goes =
-      subst (λ (l : Line). Goes c (map (unit_frame c) l.units) (trace_of c events number) (map (unit_frame c) end.units)) start
-      (run-shows NoneWaits Passes rests joins steps (fresh c) events number (fresh_is_sound c ranged) all
-      (subst (λ (l : Line). NoneWaits c l) (sym start) (fresh-none c))).0
+  goes = subst (λ (l : Line). Goes c (map (unit_frame c) l.units) (trace_of c events number) (map (unit_frame c) end.units)) start passed.0
 
-  passes : units_begun c since ++ map (unit_frame c) end.units ≡ units_granted c since
-  passes = sums c [] (trace_of c events number) [] (map (unit_frame c) end.units) refl goes
+  waiting-is : units_of c events number ≡ map (unit_frame c) end.units
+  waiting-is = left-is-waiting c (trace_of c events number) [] (map (unit_frame c) end.units) goes
 
   pub front : UnitsGoOut c events number
-  front = record { rest = map (unit_frame c) end.units; whole_is = sym passes }
+  unfolding lines.takes_slot
+  front =
+      subst (IsFront (filter (is_unit c.side) (frame_in (machine.answer (at number next) (after_all (fresh c) events))))) (sym waiting-is)
+      (subst (λ (d : Config). IsFront (filter (is_unit c.side) (frame_in (lines.answer d next end))) (map (unit_frame c) end.units)) (sym (config-stays (fresh c) events))
+      (begun-first c (frame_in (lines.answer c next end)) (map (unit_frame c) end.units) (map (unit_frame c) (lines.after c next end).units)
+      (next-passes-on c end (line-at-end c events number ranged all within) passed.1)))
 
   pub nothing-left : (before calls : List Event) → events ≡ before ++ calls → AreTakesAt number calls → most_frames c ≤ takes_at number calls → end.units ≡ []
   nothing-left before calls split only enough = (drained c events number ranged all within before calls split only enough).units
 
-  none-left : list_any (λ octets. not (is_of_a_link c.side octets)) (frame_in (machine.answer (at number next) (after_all (fresh c) events))) ≡ false → end.units ≡ []
+  none-left : list_any (gives-ui c) (frame_in (machine.answer (at number next) (after_all (fresh c) events))) ≡ false → end.units ≡ []
   unfolding lines.takes_slot
   none-left none =
       units-gone c end (line-at-end c events number ranged all within)
-      (subst (λ (d : Config). list_any (λ octets. not (is_of_a_link c.side octets)) (frame_in (lines.answer d next end)) ≡ false) (config-stays (fresh c) events) none)
+      (subst (λ (d : Config). list_any (gives-ui c) (frame_in (lines.answer d next end)) ≡ false) (config-stays (fresh c) events) none)
 
   pub whole : AllUnitsGoOut c events number
-  whole none =
-      sym (append-nil (units_begun c since))
-      ∙ ap (λ us. units_begun c since ++ map (unit_frame c) us) (sym (none-left none))
-      ∙ passes
+  whole none = waiting-is ∙ ap (map (unit_frame c)) (none-left none)
 
 pub units-go-out : Always UnitsGoOut
 units-go-out c events number ranged all within = front c events number ranged all within

@@ -36,7 +36,6 @@ pub mod WorkedOtherSide
 pub mod WorkedWaited
 pub mod RoomsAreTold
 pub mod WorkedRooms
-pub mod UnitsAreSpelled
 pub mod WorkedUnitsTold
 pub mod CountersCount
 pub mod WorkedCounters

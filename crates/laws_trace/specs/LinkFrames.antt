@@ -3,6 +3,7 @@ use Rattle.std.specs.Prelude.{ℕ, ◌==◌, ◌&&◌, not, Bool, false, List, O
 use Rattle.std.specs.Option.{option_map_or}
 use Rattle.model_bits.specs.Stream as stream
 use Rattle.lapd_frame.specs.declared.addresses.Address.{Address}
+use Rattle.lapd_frame.specs.declared.addresses.Side.{Side}
 use Rattle.lapd_frame.specs.declared.faults.ReadFault.{ReadFault}
 use Rattle.lapd_frame.specs.declared.faults.ReadFault.TheVariants.{Undefined, WrongSize}
 use Rattle.lapd_frame.specs.declared.notes.ErrorCode.{ErrorCode}
@@ -27,6 +28,10 @@ is_for service tei address = address.sapi == sapi_of service && address.tei == t
 abbrev pub parts_of : Result Parts ReadFault → Option Parts
 parts_of (Ok parts) = Some parts
 parts_of (Err fault) = None
+
+-- Octets are read as a frame of a side, of which this holds.
+abbrev pub reads : Side → (Parts → Bool) → List ℕ → Bool
+reads side holds octets = option_map_or holds (parts_of (reading side octets)) false
 
 abbrev pub frame_of : Config → stream.Event → Option Parts
 frame_of c (stream.frame octets) = parts_of (reading (heard_side c) octets)

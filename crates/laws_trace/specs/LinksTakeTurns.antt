@@ -1,14 +1,13 @@
 -- Links take turns.
-use Rattle.std.specs.Prelude.{◌≡◌, ◌≢◌, ℕ, ◌/◌, Bool, true, not, List, ◌∷◌, ◌++◌, map, filter, slice_index, Result, Ok, Err}
+use Rattle.std.specs.Prelude.{◌≡◌, ◌≢◌, ℕ, ◌/◌, Bool, not, List, ◌∷◌, ◌++◌, map, filter, slice_index}
 use Rattle.lapd_frame.specs.declared.addresses.Side.{Side}
-use Rattle.lapd_frame.specs.declared.faults.ReadFault.{ReadFault}
 use Rattle.lapd_frame.specs.Grammar.{Parts}
-use Rattle.lapd_frame.specs.Reading.{reading}
 use Rattle.model_line.specs.declared.config.Config.{Config}
 use Rattle.model_card.specs.Card.{fresh}
 use Rattle.model_card.specs.Event.{Event}
 use Rattle.model_card.specs.Run.{moments, after_all}
 use Rattle.laws_line.specs.card.Among.{AreTakesAt}
+use Rattle.laws_trace.specs.LinkFrames.{reads}
 use Rattle.laws_trace.specs.Trace.{Seen, trace, frames_begun, IsAmong}
 use Rattle.laws_trace.specs.Units.{is_ui}
 
@@ -21,12 +20,8 @@ pub record LinkName : Type 0 where
 abbrev pub named_in : List ℕ → LinkName
 named_in octets = record { sapi = slice_index octets 0 / 4; tei = slice_index octets 1 / 2 }
 
-abbrev pub is_no_ui : Result Parts ReadFault → Bool
-is_no_ui (Ok frame) = not (is_ui frame.control)
-is_no_ui (Err fault) = true
-
 abbrev pub is_of_a_link : Side → List ℕ → Bool
-is_of_a_link side octets = is_no_ui (reading side octets)
+is_of_a_link side octets = not (reads side (λ (f : Parts). is_ui f.control) octets)
 
 abbrev pub links_begun : Config → List Seen → List LinkName
 links_begun c t = map named_in (filter (is_of_a_link c.side) (frames_begun t))

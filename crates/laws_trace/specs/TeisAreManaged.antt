@@ -1,29 +1,27 @@
 -- TEIs are managed as the procedures of Q.921 clause 5.3 say: what an answer shows of it is what is due.
-use Rattle.std.specs.Prelude.{◌≡◌, ℕ, ◌==◌, Bool, true, false, List, filter, map, Result, Ok, Err}
-use Rattle.lapd_frame.specs.declared.faults.ReadFault.{ReadFault}
+use Rattle.std.specs.Prelude.{◌≡◌, ℕ, ◌==◌, Bool, true, false, List, filter, map, Some}
 use Rattle.lapd_frame.specs.declared.notes.Note.{Note}
 use Rattle.lapd_frame.specs.declared.notes.Note.TheVariants.{Assigned, Removed, Doubled}
 use Rattle.lapd_frame.specs.declared.timers.Order.{Order}
 use Rattle.lapd_frame.specs.declared.timers.Order.TheVariants.{Start, Stop}
 use Rattle.lapd_frame.specs.declared.timers.Timer.TheVariants.{T201}
 use Rattle.lapd_frame.specs.Grammar.{Parts}
-use Rattle.lapd_frame.specs.Reading.{reading}
 use Rattle.lapd_tei.specs.Messages.{frame_of}
 use Rattle.model_line.specs.declared.config.Config.{Config}
 use Rattle.model_line.specs.Event as line_event
-use Rattle.model_line.specs.Event.{request, Answer}
+use Rattle.model_line.specs.Event.{Answer}
 use Rattle.model_line.specs.Heard.{management_sapi}
-use Rattle.model_line.specs.Laws.{notes_in, orders_in}
-use Rattle.model_line.specs.Request.{Assign, Remove, Check, Down}
+use Rattle.model_line.specs.Laws.{orders_in}
+use Rattle.laws_line.specs.Heard.{notes_of}
 use Rattle.laws_line.specs.Share.{is_granted}
-use Rattle.model_card.specs.Card.{fresh}
-use Rattle.model_card.specs.Event.{Event, at}
-use Rattle.model_card.specs.Machine.{answer}
-use Rattle.model_card.specs.Run.{after_all}
-use Rattle.laws_trace.specs.Managing.{Managed, Due, is_grantable, due, managed_after}
+use Rattle.model_card.specs.Event.{Event}
+use Rattle.laws_trace.specs.LinkFrames.{reads}
+use Rattle.laws_trace.specs.Managing.{Managed, due, managed_after}
+use Rattle.laws_trace.specs.Observer.{moment_of}
 use Rattle.laws_trace.specs.Trace.{frame_in}
 
--- What an answer shows of TEI management: notes of TEIs, orders of T201, and frames with SAPI 63 (clauses 5.3.1 to 5.3.5).
+-- What an answer shows of TEI management: notes of TEIs, orders of T201, frames with SAPI 63, and whether what management
+-- asks for is granted (clauses 5.3.1 to 5.3.5).
 abbrev pub is_of_teis : Note → Bool
 is_of_teis (Assigned tei) = true
 is_of_teis (Removed tei) = true
@@ -35,30 +33,13 @@ is_of_t201 (Start T201) = true
 is_of_t201 (Stop T201) = true
 is_of_t201 other = false
 
-abbrev pub of_management : Result Parts ReadFault → Bool
-of_management (Ok frame) = frame.address.sapi == management_sapi
-of_management (Err fault) = false
-
-abbrev pub is_message : Config → List ℕ → Bool
-is_message c octets = of_management (reading c.side octets)
-
-pub record IsAsDue (c : Config) (d : Due) (a : Answer) : Type 0 where
-  pub notes : filter is_of_teis (notes_in a) ≡ d.notes
-  pub orders : filter is_of_t201 (orders_in a) ≡ d.orders
-  pub begins : filter (is_message c) (frame_in a) ≡ map (frame_of c.side) d.begins
-
--- and whether what management asks for is granted.
-abbrev pub IsGrantedSo : Config → Managed → line_event.Event → Answer → Type 0
-IsGrantedSo c w (request (Assign tei)) a = is_granted a ≡ is_grantable c (Assign tei) w
-IsGrantedSo c w (request (Remove tei)) a = is_granted a ≡ is_grantable c (Remove tei) w
-IsGrantedSo c w (request (Check tei)) a = is_granted a ≡ is_grantable c (Check tei) w
-IsGrantedSo c w (request Down) a = is_granted a ≡ is_grantable c Down w
-IsGrantedSo c w other a = Unit {0}
+pub record IsAsDue (c : Config) (due : Managed) (a : Answer) : Type 0 where
+  pub notes : filter is_of_teis (notes_of a) ≡ due.notes
+  pub orders : filter is_of_t201 (orders_in a) ≡ due.orders
+  pub begins : filter (reads c.side (λ (f : Parts). f.address.sapi == management_sapi)) (frame_in a) ≡ map (frame_of c.side) due.begins
+  pub granted : (so : Bool) → due.granted ≡ Some so → is_granted a ≡ so
 
 -- So it is of each event of the line, after whatever happened to the card.
 abbrev pub TeisAreManaged : Config → List Event → ℕ → Type 0
 TeisAreManaged c events number =
-    (what : line_event.Event) →
-    let w = managed_after c number events in
-    let a = answer (at number what) (after_all (fresh c) events) in
-    IsAsDue c (due c what w) a × IsGrantedSo c w what a
+    (what : line_event.Event) → IsAsDue c (due c what (managed_after c number events)) (moment_of c events number what).answer

@@ -20,7 +20,7 @@ use Rattle.model_card.specs.Event.{Event, at}
 use Rattle.model_card.specs.Machine.{answer}
 use Rattle.model_card.specs.Run.{after_all}
 use Rattle.laws_line.specs.card.Worked.{usual, on_0}
-use Rattle.laws_trace.specs.Managing.{Due, nothing_due, none_on, due, managed_after}
+use Rattle.laws_trace.specs.Managing.{Managed, nothing_due, none_on, due, managed_after}
 use Rattle.laws_trace.specs.TeisAreManaged.{IsAsDue}
 use Rattle.laws_trace.specs.WorkedUnits.{calls, comes}
 
@@ -41,7 +41,7 @@ abbrev expires : Event
 expires = at 0 (expiry T201)
 
 -- What is due by an event behind others.
-abbrev due_behind : Config → List Event → Event → Due
+abbrev due_behind : Config → List Event → Event → Managed
 due_behind c before e = due c e.what (managed_after c 0 before)
 
 abbrev owed_after : Config → List Event → List Message

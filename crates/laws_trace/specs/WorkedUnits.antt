@@ -1,5 +1,5 @@
 -- Worked values: a trace, unit data that goes out, and a trace that breaks the law.
-use Rattle.std.specs.Prelude.{◌≡◌, ℕ, List, [], ◌∷◌, ◌++◌, None, replicate, refl}
+use Rattle.std.specs.Prelude.{◌≡◌, ℕ, List, [], ◌∷◌, ◌++◌, fold, None, replicate, refl}
 use Rattle.model_bits.specs.Stream as stream
 use Rattle.lapd_frame.specs.declared.services.Service.TheVariants.{Call}
 use Rattle.lapd_frame.specs.Reading.{reading, header_of, control_of, unnumbered_of}
@@ -8,10 +8,11 @@ use Rattle.model_line.specs.Event.{hears, next}
 use Rattle.model_line.specs.Machine as lines
 use Rattle.model_line.specs.Request.{Request, Assign, Check, Unit, Down}
 use Rattle.model_card.specs.Event.{Event, at}
-use Rattle.model_card.specs.Run.{moments}
+use Rattle.model_card.specs.Run.{moments, after_all}
 use Rattle.laws_line.specs.card.Worked.{usual, on_0}
-use Rattle.laws_trace.specs.Trace.{Seen, begun, noted, granted, lost, trace_of, IsFront}
-use Rattle.laws_trace.specs.Units.{units_begun, units_granted, since_down}
+use Rattle.laws_trace.specs.Observer.{moment_of}
+use Rattle.laws_trace.specs.Trace.{begun, noted, granted, lost, frame_in, trace_of, IsFront}
+use Rattle.laws_trace.specs.UnitsGoOut.{waits, units_of}
 
 -- Unit data for the group: with a call for the next frame its UI frame begins, and with one more call none.
 abbrev pub unit : ℕ → Request
@@ -40,42 +41,39 @@ none_elsewhere = refl
 abbrev three_units : List Event
 three_units = on_0 (Assign 64) ∷ on_0 (Check 64) ∷ on_0 (unit 1) ∷ on_0 (unit 2) ∷ on_0 (unit 3) ∷ calls 3
 
-two_begin : units_begun usual (trace_of usual three_units 0) ≡ spelled 1 ∷ spelled 2 ∷ []
+second_begins : frame_in (moment_of usual (on_0 (unit 1) ∷ on_0 (unit 2) ∷ calls 1) 0 next).answer ≡ spelled 2 ∷ []
+unfolding after_all lines.after lines.answer lines.takes_slot
+second_begins = refl
+
+third_waits : units_of usual three_units 0 ≡ spelled 3 ∷ []
 unfolding moments lines.after lines.answer lines.takes_slot teis.course teis.refusal reading header_of control_of unnumbered_of
-two_begin = refl
+third_waits = refl
 
-three_granted : units_granted usual (trace_of usual three_units 0) ≡ spelled 1 ∷ spelled 2 ∷ spelled 3 ∷ []
-unfolding moments lines.after lines.answer lines.takes_slot teis.course teis.refusal
-three_granted = refl
-
--- Where the line is down while the second waits, it is given up; the third is granted behind that, and begins.
+-- Where the line is down while the second waits, it is given up; the third is granted behind that, and waits alone.
 abbrev down_between : List Event
-down_between = on_0 (unit 1) ∷ on_0 (unit 2) ∷ calls 1 ++ on_0 Down ∷ on_0 (unit 3) ∷ calls 2
+down_between = on_0 (unit 1) ∷ on_0 (unit 2) ∷ calls 1 ++ on_0 Down ∷ on_0 (unit 3) ∷ []
 
-third_begins : units_begun usual (trace_of usual down_between 0) ≡ spelled 1 ∷ spelled 3 ∷ []
+third_alone : units_of usual down_between 0 ≡ spelled 3 ∷ []
 unfolding moments lines.after lines.answer lines.takes_slot teis.course teis.refusal reading header_of control_of unnumbered_of
-third_begins = refl
-
-third_alone : units_granted usual (since_down (trace_of usual down_between 0)) ≡ spelled 3 ∷ []
-unfolding moments lines.after lines.answer lines.takes_slot teis.course teis.refusal
 third_alone = refl
 
 -- Where the second is destroyed, and the third begins, the law is broken,
-abbrev second_destroyed : List Seen
-second_destroyed = granted (unit 1) ∷ granted (unit 2) ∷ granted (unit 3) ∷ begun (spelled 1) ∷ begun (spelled 3) ∷ []
+abbrev two_wait : List (List ℕ)
+two_wait = fold (waits usual) [] (granted (unit 1) ∷ granted (unit 2) ∷ granted (unit 3) ∷ begun (spelled 1) ∷ [])
 
-is_no_front : IsFront (units_begun usual second_destroyed) (units_granted usual second_destroyed) → ⊥
+is_no_front : IsFront (spelled 3 ∷ []) two_wait → ⊥
 unfolding reading header_of control_of unnumbered_of
 is_no_front front = cc front.whole_is
 
--- and where one is kept for when the line is up again.
-abbrev kept_for_later : List Seen
-kept_for_later = since_down (granted (unit 1) ∷ granted Down ∷ begun (spelled 1) ∷ [])
-
-is_kept : IsFront (units_begun usual kept_for_later) (units_granted usual kept_for_later) → ⊥
+-- where one begins for the second time,
+once_more : IsFront (spelled 1 ∷ []) two_wait → ⊥
 unfolding reading header_of control_of unnumbered_of
+once_more front = cc front.whole_is
+
+-- and where one is kept for when the line is up again.
+is_kept : IsFront (spelled 1 ∷ []) (fold (waits usual) [] (granted (unit 1) ∷ granted Down ∷ [])) → ⊥
 is_kept front = cc front.whole_is
 
 -- Where one is granted, and never begins, that all of it goes out is broken.
-never_begun : units_begun usual (granted (unit 1) ∷ []) ≡ units_granted usual (granted (unit 1) ∷ []) → ⊥
+never_begun : fold (waits usual) [] (granted (unit 1) ∷ []) ≡ [] → ⊥
 never_begun all = cc all

@@ -16,7 +16,6 @@ ghost use Rattle.laws_trace.specs.OrdersHaveReasons.{OrdersHaveReasons};
 ghost use Rattle.laws_trace.specs.TeisAreManaged.{TeisAreManaged};
 ghost use Rattle.laws_trace.specs.TimersAreTimely.{TimersRun, TimersAreStarted};
 ghost use Rattle.laws_trace.specs.TurnsMeanwhile.{LinksTakeTurnsMeanwhile};
-ghost use Rattle.laws_trace.specs.UnitsAreSpelled.{UnitsAreSpelled};
 ghost use Rattle.laws_trace.specs.UnitsGoOut.{UnitsGoOut, AllUnitsGoOut};
 
 /// Each configuration within the ranges is served: no fault is found in it, so `Card::start` starts a card with it, as
@@ -31,12 +30,12 @@ pub fn the_other_side_is_heard()
     ensures { TheOtherSideIsHeard }
 {}
 
-/// Unit data goes out. The UI frames that begin on a line, except those of TEI management, are the first of the unit
-/// data that was granted: in order, whole, each once, with its service and its TEI; and so they are, from each time
-/// that the line is down on, of what was granted behind it, since what waited then is given up (`front`). And a call for
-/// the next frame gives none, or a frame of a link, only where they are all of it: so unit data goes before frames of
-/// links, and, as calls come to an end (`calls_come_to_an_end` of the promises), all of it goes (`all`; Q.921 clauses
-/// 3.6.5 and 5.2.2, annex B, and profile).
+/// Unit data goes out. The UI frame that a call for the next frame gives, except those of TEI management, is that of the
+/// unit data that has waited longest (`front`): spelled as a UI command with P=0, with its service, its TEI and its contents,
+/// whole. Unit data waits from when it is granted until it begins, so that it goes in order and once; or until the line is
+/// down, when what waits is given up. And a call for the next frame gives none, or a frame of a link, only where none waits:
+/// so unit data goes before frames of links, and, as calls come to an end (`calls_come_to_an_end` of the promises), all of it
+/// goes (`all`; Q.921 clauses 3.6.5 and 5.2.2, annex B, and profile).
 pub fn units_go_out()
     ensures front { Always UnitsGoOut }
     ensures all { Always AllUnitsGoOut }
@@ -191,12 +190,6 @@ pub fn news_is_told()
 /// clauses 3.5.2.3, 5.5.1.1, 5.5.1.2, 5.5.3.1, 5.5.3.2 and 5.7, and profile).
 pub fn rooms_are_told()
     ensures { Always RoomsAreTold }
-{}
-
-/// The UI frame of unit data, of which [`units_go_out`] speaks, is spelled by the grammar: a UI command with P=0, of the SAPI of
-/// its service and its TEI, that has its contents (Q.921 clauses 3.6.5 and 5.2.2).
-pub fn units_are_spelled()
-    ensures { UnitsAreSpelled }
 {}
 
 /// Counters count what is seen. What the moments at a line show under a name, but those of what is dropped, is as much as its

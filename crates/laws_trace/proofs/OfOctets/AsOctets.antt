@@ -3,7 +3,8 @@ use Rattle.laws_trace.proofs.Vocabulary.{◌≡◌, ℕ, ◌%◌, ◌<◌, Bool,
 use Rattle.lapd_frame.specs.declared.controls.Control.{Control}
 use Rattle.lapd_frame.specs.Grammar.{head_of}
 use Rattle.laws_trace.specs.FramesAreRead.{IsSpelled}
-use Rattle.laws_trace.specs.Units.{carries_unit, is_unit}
+use Rattle.laws_trace.specs.UnitsGoOut.{is_unit}
+use Rattle.laws_trace.proofs.Reading.{carries_unit}
 
 -- octets are as they were
 exact : (numbers : List ℕ) → AreOctets numbers → as_octets numbers ≡ numbers

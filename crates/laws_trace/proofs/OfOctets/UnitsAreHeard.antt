@@ -1,7 +1,8 @@
 -- What a receiver hears of unit data: the laws.
 use Rattle.laws_trace.proofs.Vocabulary.{◌≡◌, ℕ, ◌<◌, List, [], ◌∷◌, ◌++◌, map, refl, sym, ap, ◌∙◌, arith, filter, flat_map, flat_map-append, map-append, filter-append, Config, IsInRange, most_frames, takes_at, as_octets, octets_given, frames_to_hear, OfEachLine, given_frames_are_heard, append-nil, fold, unit_frame, subst}
 use Rattle.model_bits.specs.Stream as stream
-use Rattle.laws_trace.specs.Units.{is_unit, units_begun}
+use Rattle.laws_trace.specs.UnitsGoOut.{is_unit}
+use Rattle.laws_trace.proofs.Units.{units_begun}
 use Rattle.laws_trace.proofs.UnitsGoOut.{left-waiting, goes, nothing-left}
 use Rattle.model_card.specs.ports.Card.{fresh}
 use Rattle.model_card.specs.ports.Event.{Event}

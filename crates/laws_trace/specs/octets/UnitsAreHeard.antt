@@ -3,7 +3,7 @@ use Rattle.std.specs.Prelude.{◌≡◌, ℕ, List, [], ◌∷◌, ◌++◌, fil
 use Rattle.model_bits.specs.Stream as stream
 use Rattle.model_line.specs.declared.config.Config.{Config}
 use Rattle.laws_trace.specs.Trace.{IsFront}
-use Rattle.laws_trace.specs.Units.{is_unit}
+use Rattle.laws_trace.specs.UnitsGoOut.{is_unit}
 use Rattle.model_card.specs.ports.Event.{Event}
 use Rattle.model_card.specs.ports.GoingOut.{as_octets, octets_given}
 use Rattle.laws_trace.specs.octets.Granted.{Asked, units_to_hear}

@@ -51,10 +51,7 @@ module _ (c : Config) (l : Line) (service : Service) (tei place : ℕ) (on : pla
 
   request-aim : (asked : link.Request) → aim_of_request (of_link service tei asked) l ≡ at_link service tei place (link.requested asked false)
   request-aim link.Establish = ap (at_requested service tei link.Establish) on
-  request-aim link.Release = ap (at_requested service tei link.Release) on
-  request-aim (link.Data contents) = ap (at_requested service tei (link.Data contents)) on
-  request-aim link.SetBusy = ap (at_requested service tei link.SetBusy) on
-  request-aim link.ClearBusy = ap (at_requested service tei link.ClearBusy) on
+  request-aim other = ap (at_requested service tei other) on
 
   by-granted : (r : Request) (event : link.Event) → aim_of_request r l ≡ at_link service tei place event → refusal c false r l ≡ None → Alone (request r) event
   unfolding after answer

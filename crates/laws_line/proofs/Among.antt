@@ -1,5 +1,5 @@
 -- A control frame that waits is taken by one of so many calls also where other events of its line are between them.
-use Rattle.laws_line.proofs.Vocabulary.{◌≡◌, ℕ, ◌+◌, ◌-◌, ◌<◌, ◌≤◌, ◌==◌, ◌&&◌, Bool, true, false, cond, List, [], ◌∷◌, ◌++◌, length, take, Option, Some, None, refl, sym, ap, subst, ◌∙◌, ◌⊎◌, inl, inr, arith, append_assoc, append-nil, length-append, eq-eqb, true≢false, Service, Parts, ControlFrame, State, Terms, Link, event-follows, as_heard, is_overlong, waiting_left, room, put, Change, Gained, Left, one_more_waits, Config, hears, request, next, LineTold, Answer, Aim, at_none, at_link, at_management, at_units, told_of_management, of_change, of_aim, aim_of_expiry, Line, link_count, service_at, place_at, tei_at, terms, link_at, aim_of_heard, Taken, taken, Deactivate, aim_of_request, IsInRange, after_sound, at_no_link, Event, expiry, after, answer, unless_refused, refusal, IsSound, deactivates, IsBy, way_round, frames_before, control_text, after_events, is_take, takes_in, go_first, comes_first, come_first, StaysOnLine, IsTakenIn}
+use Rattle.laws_line.proofs.Vocabulary.{◌≡◌, ℕ, ◌+◌, ◌-◌, ◌<◌, ◌≤◌, ◌==◌, ◌&&◌, Bool, true, false, cond, List, [], ◌∷◌, ◌++◌, length, take, Option, Some, refl, sym, ap, subst, ◌∙◌, ◌⊎◌, inl, inr, arith, append_assoc, append-nil, length-append, eq-eqb, true≢false, Service, Parts, ControlFrame, State, Terms, Link, event-follows, as_heard, is_overlong, waiting_left, room, put, Change, Gained, one_more_waits, Config, hears, request, next, LineTold, Answer, Aim, at_management, at_units, told_of_management, of_change, of_aim, aim_of_expiry, Line, link_count, service_at, place_at, tei_at, terms, link_at, aim_of_heard, Taken, taken, Deactivate, aim_of_request, IsInRange, after_sound, at_no_link, Event, expiry, after, answer, unless_refused, refusal, IsSound, deactivates, IsBy, way_round, frames_before, control_text, after_events, is_take, takes_in, go_first, comes_first, come_first, StaysOnLine, IsTakenIn}
 use Rattle.model_link.specs.Events as link
 use Rattle.model_link.specs.Machine as links
 use Rattle.lapd_tei.specs.Events as teis
@@ -14,13 +14,10 @@ record Meanwhile (l l' : Line) : Type 0 where
   few : go_first l' ≤ go_first l + 1
 
 by-change : (c : Config) (o : Option Change) (t : LineTold) (l : Line) → ((of_change c o t l).line.turn ≡ l.turn) × (go_first (of_change c o t l).line ≡ go_first l)
-by-change c None t l = (refl, refl)
 by-change c (Some (Gained tei place)) t l = (refl, refl)
-by-change c (Some (Left tei place)) t l = (refl, refl)
+by-change c other t l = (refl, refl)
 
 by-aim : (c : Config) (l : Line) (aim : Aim) → Meanwhile l (of_aim c aim l).line
-by-aim c l (at_none what) = record { turn = refl; few = omega arith }
-by-aim c l (at_link service tei place e) = record { turn = refl; few = omega arith }
 by-aim c l (at_management e) =
     let x = by-change c (teis.told e l.management).change (told_of_management (teis.told e l.management)) (record l { management = teis.after e l.management }) in
     let more : length (teis.after e l.management).waiting ≤ length l.management.waiting + 1 = one_more_waits e l.management in
@@ -28,6 +25,7 @@ by-aim c l (at_management e) =
     record { turn = x.0; few = omega (arith, more, same) }
 by-aim c l (at_units unit) = let n = length-append l.units (unit ∷ []) in record { turn = refl; few = omega (arith, n) }
 by-aim c l at_no_link = by-down c l (λ f. Meanwhile l f.line) (record { turn = refl; few = omega arith })
+by-aim c l other = record { turn = refl; few = omega arith }
 
 meanwhile : (c : Config) (e : Event) (l : Line) → is_take e ≡ false → Meanwhile l (after c e l)
 unfolding after
@@ -58,13 +56,9 @@ by-heard t f l to false = (take (room t l) (put (link.received (link.frame f)) l
 left-waiting : (t : Terms) (e : link.Event) (l : Link) (to : State) → (IsOffer e → ⊥) → Waits l.waiting (waiting_left t (as_heard t e) l to)
 unfolding Waits
 left-waiting t (link.received (link.frame f)) l to other = by-heard t f l to (is_overlong t f.control f.info)
-left-waiting t (link.received link.undefined) l to other = (take (room t l) (put (link.received link.undefined) l to), refl)
-left-waiting t (link.received link.wrong_size) l to other = (take (room t l) (put (link.received link.wrong_size) l to), refl)
-left-waiting t (link.received link.overlong) l to other = (take (room t l) (put (link.received link.overlong) l to), refl)
-left-waiting t (link.expired timer) l to other = (take (room t l) (put (link.expired timer) l to), refl)
-left-waiting t (link.requested asked full) l to other = (take (room t l) (put (link.requested asked full) l to), refl)
 left-waiting t link.offer l to other = absurd (other (inl refl))
 left-waiting t link.cleared l to other = absurd (other (inr refl))
+left-waiting t another l to other = (take (room t l) (put another l to), refl)
 
 module _ (c : Config) (ranged : IsInRange c) (number tei : ℕ) (few : number < link_count c) where
   abbrev frames : Line → List ControlFrame

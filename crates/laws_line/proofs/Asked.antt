@@ -3,7 +3,6 @@ use Rattle.laws_line.proofs.Vocabulary.{◌≡◌, ℕ, Bool, true, false, cond,
 use Rattle.model_bits.specs.Stream as stream
 use Rattle.model_link.specs.Events as link
 use Rattle.model_link.specs.Requests as requests
-use Rattle.model_link.specs.declared.timers.LinkTimer.TheVariants as link_timer
 
 -- a row that does not hold is passed over
 pub passed : (row : Row) (rows : List Row) → first_that_holds (row ∷ rows) ≡ None → (row.holds ≡ false) × (first_that_holds rows ≡ None)
@@ -60,8 +59,8 @@ module _ (c : Config) (l : Line) (number : ℕ) where
   by-timer service tei timer (Some place) = at-link service tei place (link.expired timer) refl
 
   by-expiry : (timer : Timer) → Accepts [] (aim_of_expiry timer l)
-  by-expiry (T200 service tei) = by-timer service tei link_timer.T200 (place_in l tei)
-  by-expiry (T203 service tei) = by-timer service tei link_timer.T203 (place_in l tei)
+  by-expiry (T200 service tei) = by-timer service tei LinkTimer.T200 (place_in l tei)
+  by-expiry (T203 service tei) = by-timer service tei LinkTimer.T203 (place_in l tei)
   by-expiry T201 = ends _
 
   nothing-more : (b : Bool) → cond {A = List (List ℕ)} b [] [] ≡ []

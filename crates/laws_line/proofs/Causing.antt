@@ -2,7 +2,6 @@
 use Rattle.laws_line.proofs.Vocabulary.{◌≡◌, ◌⊎◌, inl, inr, ℕ, ◌<◌, ◌==◌, true, false, cond, List, [], ◌∷◌, length, Option, Some, None, refl, sym, ap, ◌∙◌, subst, arith, option_map_or, Tei, Address, Refusal, Service, T201, Parts, service_of, LinkTimer, Management, heard_in, Change, Gained, Left, Config, hears, request, next, Answer, Aim, at_management, told_of_management, of_change, of_aim, at_timer, Line, place_in, has_tei, unless_refused_told, management_sapi, drop_for, to_service, addressed, message_of, aim_of_reading, aim_of_heard, Taken, taken, line_of, wrong_side, bad_tei, no_link, tei_taken, table_full, check_running, control_full, at_side, managed_at, Request, Establish, Release, Assign, Remove, SetBusy, ClearBusy, Deactivate, at_requested, at_deactivated, aim_of_request, IsInRange, next_walk, ranges_of, not_not, Down, T200, T203, Event, expiry, after, answer, unless_refused, group_tei, refusal, Data, Unit, Check, IsSound, Hears, HasCause, IsTaken, HaveCauses, lost_in, Said, Says, Serves, Expires, Grants, is_granted, BringsMessage}
 use Rattle.model_bits.specs.Stream as stream
 use Rattle.model_link.specs.Events as link
-use Rattle.model_link.specs.declared.timers.LinkTimer.TheVariants as link_timer
 use Rattle.lapd_tei.specs.Events as teis
 use Rattle.lapd_tei.specs.Rows as rows
 use Rattle.lapd_tei.specs.Words as words
@@ -180,8 +179,8 @@ module _ (c : Config) (l : Line) where
       go : Caused c l e (aim_of_heard c l e) → FromCause (hears e) (of_aim c (aim_of_heard c l e) l).line (answer c (hears e) l)
       go (inl stays) = inl stays
       go (inr h) = inr (inr (inl h))
-  caused (expiry (T200 service tei)) s = inl (by-timer service tei link_timer.T200 (place_in l tei))
-  caused (expiry (T203 service tei)) s = inl (by-timer service tei link_timer.T203 (place_in l tei))
+  caused (expiry (T200 service tei)) s = inl (by-timer service tei LinkTimer.T200 (place_in l tei))
+  caused (expiry (T203 service tei)) s = inl (by-timer service tei LinkTimer.T203 (place_in l tei))
   caused (expiry T201) s = inr (inr (inr (inl refl)))
   caused (request r) s = go (refusal c false r l)
     where

@@ -1,6 +1,5 @@
 -- A caller that obeys the orders of a line's answers runs the timers that the line runs.
 use Rattle.laws_line.proofs.Vocabulary.{◌≡◌, ◌≢◌, ℕ, ◌+◌, ◌*◌, ◌<◌, ◌⊎◌, ◌==◌, ◌&&◌, Bool, true, false, is_some, List, ◌++◌, length, get_or, set, Option, Some, None, refl, ap, sym, ◌∙◌, subst, arith, length-set, eq-eqb, true≢false, inl, inr, cases_eq, get_or-set_same, get_or-set_other, none-some, Service, Call, Packet, same_service, Order, Timer, T201, LinkTimer, Link, is_same, obeyed, runs, timer_at, Follows, Management, IsAt, IsSoundTable, place_of, at-off, at-within, place_of-is, Config, runs_at, is_running, Line, link_number, place_at, link_in, terms, with_link, place_at-number, service_at-number, number_within, service_at, eqb-true, T200, T203, fresh, IsSound}
-use Rattle.model_link.specs.declared.timers.LinkTimer.TheVariants as link_timer
 use Rattle.model_link.specs.Events as link
 use Rattle.model_link.specs.Machine as links
 use Rattle.lapd_tei.specs.Laws as tei_laws
@@ -9,18 +8,18 @@ use Rattle.laws_line.proofs.Places.{has-no-place, has-place, stays-placed}
 
 -- A link's timer of the line, by its link_timer.
 abbrev pub timer_of : LinkTimer → Service → ℕ → Timer
-timer_of link_timer.T200 service tei = T200 service tei
-timer_of link_timer.T203 service tei = T203 service tei
+timer_of LinkTimer.T200 service tei = T200 service tei
+timer_of LinkTimer.T203 service tei = T203 service tei
 
 -- What holds of T201 and of both kinds holds of each timer.
 pub each-timer : (P : Timer → Type 0) → P T201 → ((k : LinkTimer) (service : Service) (tei : ℕ) → P (timer_of k service tei)) → (timer : Timer) → P timer
 each-timer P x y T201 = x
-each-timer P x y (T200 service tei) = y link_timer.T200 service tei
-each-timer P x y (T203 service tei) = y link_timer.T203 service tei
+each-timer P x y (T200 service tei) = y LinkTimer.T200 service tei
+each-timer P x y (T203 service tei) = y LinkTimer.T203 service tei
 
 pub running-of : (k : LinkTimer) (service : Service) (tei : ℕ) (l : Line) → is_running (timer_of k service tei) l ≡ runs_at service k (place_of tei l.management.places) l
-running-of link_timer.T200 service tei l = refl
-running-of link_timer.T203 service tei l = refl
+running-of LinkTimer.T200 service tei l = refl
+running-of LinkTimer.T203 service tei l = refl
 
 -- lines with the same table, check and links run the same timers
 alike : (before after : Line) → after.links ≡ before.links → (k : LinkTimer) (service : Service) (o : Option ℕ) → runs_at service k o after ≡ runs_at service k o before
@@ -31,25 +30,25 @@ pub same-running : (before after : Line) → after.management.places ≡ before.
     → (timer : Timer) → is_running timer after ≡ is_running timer before
 same-running before after places check links T201 = check
 same-running before after places check links (T200 service tei) =
-    ap (λ ps. runs_at service link_timer.T200 (place_of tei ps) after) places ∙ alike before after links link_timer.T200 service (place_of tei before.management.places)
+    ap (λ ps. runs_at service LinkTimer.T200 (place_of tei ps) after) places ∙ alike before after links LinkTimer.T200 service (place_of tei before.management.places)
 same-running before after places check links (T203 service tei) =
-    ap (λ ps. runs_at service link_timer.T203 (place_of tei ps) after) places ∙ alike before after links link_timer.T203 service (place_of tei before.management.places)
+    ap (λ ps. runs_at service LinkTimer.T203 (place_of tei ps) after) places ∙ alike before after links LinkTimer.T203 service (place_of tei before.management.places)
 
 -- Two timers of links are different, where service or TEI are.
 other-timers : (one other : LinkTimer) (c : Config) (s s' : Service) (n n' : ℕ) → (same_service s s' && (n == n')) ≡ false
     → is_same (timer_at (terms c s n) one) (timer_of other s' n') ≡ false
-other-timers link_timer.T200 link_timer.T200 c s s' n n' e = e
-other-timers link_timer.T200 link_timer.T203 c s s' n n' e = refl
-other-timers link_timer.T203 link_timer.T200 c s s' n n' e = refl
-other-timers link_timer.T203 link_timer.T203 c s s' n n' e = e
+other-timers LinkTimer.T200 LinkTimer.T200 c s s' n n' e = e
+other-timers LinkTimer.T200 LinkTimer.T203 c s s' n n' e = refl
+other-timers LinkTimer.T203 LinkTimer.T200 c s s' n n' e = refl
+other-timers LinkTimer.T203 LinkTimer.T203 c s s' n n' e = e
 
 pub t201-other : (k : LinkTimer) (s : Service) (n : ℕ) → is_same T201 (timer_of k s n) ≡ false
-t201-other link_timer.T200 s n = refl
-t201-other link_timer.T203 s n = refl
+t201-other LinkTimer.T200 s n = refl
+t201-other LinkTimer.T203 s n = refl
 
 its-timer : (c : Config) (k : LinkTimer) (s : Service) (n : ℕ) → timer_at (terms c s n) k ≡ timer_of k s n
-its-timer c link_timer.T200 s n = refl
-its-timer c link_timer.T203 s n = refl
+its-timer c LinkTimer.T200 s n = refl
+its-timer c LinkTimer.T203 s n = refl
 
 -- a number is that of one service and one place
 pub same-number : (s s' : Service) (p p' : ℕ) → link_number p s ≡ link_number p' s' → (s ≡ s') × (p ≡ p')
@@ -101,7 +100,7 @@ module _ (c : Config) (l : Line) (s : IsSound c l) (service : Service) (tei plac
 
   other-timer : (k : LinkTimer) (s' : Service) (n' : ℕ) → (same_service service s' && (tei == n')) ≡ false → Steered (timer_of k s' n')
   other-timer k s' n' other =
-      steers.others (timer_of k s' n') (is_running (timer_of k s' n') l) (other-timers link_timer.T200 k c service s' tei n' other) (other-timers link_timer.T203 k c service s' tei n' other)
+      steers.others (timer_of k s' n') (is_running (timer_of k s' n') l) (other-timers LinkTimer.T200 k c service s' tei n' other) (other-timers LinkTimer.T203 k c service s' tei n' other)
       ∙ running-of k s' n' l ∙ same-place k s' n' other (place_of n' l.management.places) refl ∙ sym (running-of k s' n' (with_link n y l))
 
   link-timer : (k : LinkTimer) (s' : Service) (n' : ℕ) → Steered (timer_of k s' n')
@@ -262,11 +261,11 @@ module _ (c : Config) (l : Line) (s : IsSound c l) (m : Management) (sound : IsS
         chain (timer_of k Call tei) (is_running (timer_of k Call tei) l) false false false call packet orders
         (ap (λ b. obeyed (timer_of k Call tei) b call) (ran k Call)
         ∙ subst (λ timer. obeyed timer (runs k first.running) call ≡ false) (its-timer c k Call tei) (by-call.own k ∙ no-timer k))
-        (by-packet.others (timer_of k Call tei) false (other-timers link_timer.T200 k c Packet Call tei tei refl) (other-timers link_timer.T203 k c Packet Call tei tei refl))
+        (by-packet.others (timer_of k Call tei) false (other-timers LinkTimer.T200 k c Packet Call tei tei refl) (other-timers LinkTimer.T203 k c Packet Call tei tei refl))
         (leaves k Call tei false)
     its-own-left k Packet =
         chain (timer_of k Packet tei) (is_running (timer_of k Packet tei) l) (is_running (timer_of k Packet tei) l) false false call packet orders
-        (by-call.others (timer_of k Packet tei) _ (other-timers link_timer.T200 k c Call Packet tei tei refl) (other-timers link_timer.T203 k c Call Packet tei tei refl))
+        (by-call.others (timer_of k Packet tei) _ (other-timers LinkTimer.T200 k c Call Packet tei tei refl) (other-timers LinkTimer.T203 k c Call Packet tei tei refl))
         (ap (λ b. obeyed (timer_of k Packet tei) b packet) (ran k Packet ∙ ap (λ (z : Link). runs k z.running) (sym second-is))
         ∙ subst (λ timer. obeyed timer (runs k second.running) packet ≡ false) (its-timer c k Packet tei) (by-packet.own k ∙ no-timer k))
         (leaves k Packet tei false)
@@ -282,8 +281,8 @@ module _ (c : Config) (l : Line) (s : IsSound c l) (m : Management) (sound : IsS
             let b = is_running (timer_of k s' n') l in
             let apart : (z : Service) → (same_service z s' && (tei == n')) ≡ false = λ z. ap (λ x. same_service z s' && x) e ∙ and-false (same_service z s') in
             chain (timer_of k s' n') b b b b call packet orders
-            (by-call.others (timer_of k s' n') b (other-timers link_timer.T200 k c Call s' tei n' (apart Call)) (other-timers link_timer.T203 k c Call s' tei n' (apart Call)))
-            (by-packet.others (timer_of k s' n') b (other-timers link_timer.T200 k c Packet s' tei n' (apart Packet)) (other-timers link_timer.T203 k c Packet s' tei n' (apart Packet)))
+            (by-call.others (timer_of k s' n') b (other-timers LinkTimer.T200 k c Call s' tei n' (apart Call)) (other-timers LinkTimer.T203 k c Call s' tei n' (apart Call)))
+            (by-packet.others (timer_of k s' n') b (other-timers LinkTimer.T200 k c Packet s' tei n' (apart Packet)) (other-timers LinkTimer.T203 k c Packet s' tei n' (apart Packet)))
             (leaves k s' n' b)
             ∙ elsewhere place None gone.is_free gone.within k s' n' (λ same. none-some n' same)
             (λ at. true≢false (sym (eq-eqb tei n' (some-same tei n' (sym gone.was_there ∙ at))) ∙ e))

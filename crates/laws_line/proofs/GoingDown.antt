@@ -1,6 +1,5 @@
 -- A line that is taken down is down.
 use Rattle.laws_line.proofs.Vocabulary.{◌≡◌, ℕ, zero, suc, ◌<◌, true, false, is_some, List, [], ◌∷◌, get_or, set, Option, Some, None, refl, sym, ap, subst, ◌∙◌, ◌⊎◌, inl, inr, ⊎_elim, arith, true≢false, option_map_or, All-head, All-tail, Refusal, Service, Timer, T201, LinkTimer, Terms, is_on-at, Config, request, gave, Line, link_number, link_count, service_at, place_at, tei_at, place_in, link_at, of_aim, next_of, Request, Deactivate, Down, at_deactivated, IsInRange, IsSoundAt, after_sound, next, option_map, cases_lt, get_or_past, All, Contains, map, Contains-append_cases, T200, T203, place_of, fresh, runs, needed, after, answer, unless_refused, refusal, IsSound, after_events, takes_down, TakeDown, IsDown, LinesGoDown, HasNothing, IsSilent, link_needs, is_needed}
-use Rattle.model_link.specs.declared.timers.LinkTimer.TheVariants as link_timer
 use Rattle.laws_line.proofs.Draining.{nothing-taken}
 use Rattle.laws_line.proofs.GivingUp.{deactivations_give_up}
 use Rattle.laws_line.proofs.Parts.{gives-up}
@@ -173,12 +172,12 @@ module _ (c : Config) (ranged : IsInRange c) (l : Line) (rs : List Request) (s :
 
   needs-none : (k : LinkTimer) (service : Service) (o : Option ℕ) → option_map_or (link_needs k service then) o false ≡ false
   needs-none k service None = refl
-  needs-none link_timer.T200 service (Some place) = ap (λ x. runs link_timer.T200 (needed x)) (any-begins (link_number place service))
-  needs-none link_timer.T203 service (Some place) = ap (λ x. runs link_timer.T203 (needed x)) (any-begins (link_number place service))
+  needs-none LinkTimer.T200 service (Some place) = ap (λ x. runs LinkTimer.T200 (needed x)) (any-begins (link_number place service))
+  needs-none LinkTimer.T203 service (Some place) = ap (λ x. runs LinkTimer.T203 (needed x)) (any-begins (link_number place service))
 
   none-needed : (timer : Timer) → is_needed timer then ≡ false
-  none-needed (T200 service tei) = needs-none link_timer.T200 service (place_in then tei)
-  none-needed (T203 service tei) = needs-none link_timer.T203 service (place_in then tei)
+  none-needed (T200 service tei) = needs-none LinkTimer.T200 service (place_in then tei)
+  none-needed (T203 service tei) = needs-none LinkTimer.T203 service (place_in then tei)
   none-needed T201 = ap is_some none-left.check
 
   gives-none : answer c next then ≡ gave None

@@ -1,8 +1,6 @@
 -- What is heard is to TEI management: nothing, or what a UI to the group brings.
-use Rattle.laws_line.proofs.Vocabulary.{◌≡◌, ℕ, ◌==◌, Bool, true, false, cond, List, Option, Some, None, Result, Ok, Err, refl, ap, Cause, Tei, Unserved, Address, Network, Control, ReadFault, BadExtension, Undefined, WrongSize, Short, Long, Service, Parts, reading, long_reading, service_of, Config, hears, Aim, at_none, at_link, at_management, Line, place_in, management_sapi, drop_for, to_service, addressed, message_of, aim_of_reading, unless_at_link, aim_of_long, heard_side, aim_of_heard, group_told, IsToGroup, WhereServed, everywhere, side_where, at_no_link, eqb-true, group_tei, at_place, Hears, Said, Says}
+use Rattle.laws_line.proofs.Vocabulary.{◌≡◌, ℕ, ◌==◌, Bool, true, false, cond, List, Option, Some, None, Result, Ok, Err, refl, ap, Cause, Tei, Unserved, Address, Network, Control, ReadFault, Undefined, WrongSize, Long, Service, Parts, reading, long_reading, service_of, Config, hears, Aim, at_none, at_link, at_management, Line, place_in, management_sapi, drop_for, to_service, addressed, message_of, aim_of_reading, unless_at_link, aim_of_long, heard_side, aim_of_heard, group_told, IsToGroup, WhereServed, everywhere, side_where, eqb-true, group_tei, at_place, Hears, Said, Says}
 use Rattle.model_bits.specs.Stream as stream
-use Rattle.lapd_frame.specs.declared.controls.Control.TheVariants as control
-use Rattle.lapd_frame.specs.declared.overlong.Long.TheVariants as long
 use Rattle.model_link.specs.Events as link
 use Rattle.lapd_tei.specs.Events as teis
 
@@ -15,7 +13,7 @@ pub record IsUi (c : Config) (e : stream.Event) (parts : Parts) : Type 0 where
   pub sapi : parts.address.sapi ≡ 63
   pub group : parts.address.tei ≡ 127
   pub poll : Bool
-  pub control : parts.control ≡ control.Ui poll
+  pub control : parts.control ≡ Control.Ui poll
 
 pub hears-said : (c : Config) (e : stream.Event) (parts : Parts) (said : Said) → IsUi c e parts → Says parts.info said → Hears c (hears e) said
 hears-said c e parts said ui says = record {
@@ -63,30 +61,27 @@ module _ (c : Config) (l : Line) (e : stream.Event) (P : Aim → Type 0) (none :
 
   unless : (aim : Aim) → P aim → P (unless_at_link aim)
   unless (at_link service tei place event) h = none _
-  unless at_no_link h = h
   unless other h = h
 
   too-long : (r : Result Long ReadFault) → P (aim_of_long l r)
-  too-long (Ok (long.Information address)) = dropped-too address link.overlong
-  too-long (Ok (long.Unnumbered address)) = unless (addressed l address link.overlong (drop_for Unserved)) (dropped-too address link.overlong)
-  too-long (Err BadExtension) = none _
+  too-long (Ok (Long.Information address)) = dropped-too address link.overlong
+  too-long (Ok (Long.Unnumbered address)) = unless (addressed l address link.overlong (drop_for Unserved)) (dropped-too address link.overlong)
   too-long (Err (Undefined address)) = dropped-too address link.undefined
   too-long (Err (WrongSize address)) = dropped-too address link.wrong_size
-  too-long (Err Short) = none _
+  too-long other = none _
 
   module _ (octets : List ℕ) (by : e ≡ stream.frame octets) (parts : Parts) (read : reading (heard_side c) octets ≡ Ok parts) (sapi : parts.address.sapi ≡ 63) (group : parts.address.tei ≡ 127) where
     by-control : (k : Control) → parts.control ≡ k → WhereServed c P (message_of k parts.info)
-    by-control (control.Ui poll) is = λ network. to_management parts (record { network = network; octets = octets; by = by; read = read; sapi = sapi; group = group; poll = poll; control = is })
+    by-control (Control.Ui poll) is = λ network. to_management parts (record { network = network; octets = octets; by = by; read = read; sapi = sapi; group = group; poll = poll; control = is })
     by-control other is = none _
 
   by-reading : (octets : List ℕ) → e ≡ stream.frame octets → (r : Result Parts ReadFault) → reading (heard_side c) octets ≡ r → P (aim_of_reading c l r)
   by-reading octets by (Ok parts) read =
       side_where c parts P (none _) (to_the_group parts octets by read) (addressed l parts.address (link.frame parts) (message_of parts.control parts.info))
       (to parts.address (link.frame parts) (message_of parts.control parts.info) (λ sapi group. by-control octets by parts read sapi group parts.control refl))
-  by-reading octets by (Err BadExtension) read = none _
   by-reading octets by (Err (Undefined address)) read = dropped-too address link.undefined
   by-reading octets by (Err (WrongSize address)) read = dropped-too address link.wrong_size
-  by-reading octets by (Err Short) read = none _
+  by-reading octets by other read = none _
 
   by-event : (x : stream.Event) → e ≡ x → P (aim_of_heard c l x)
   by-event (stream.frame octets) by = by-reading octets by (reading (heard_side c) octets) refl

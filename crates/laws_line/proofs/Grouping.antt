@@ -1,7 +1,6 @@
 -- What the user's side hears of the network for the group: unit data, and messages of TEI management.
 use Rattle.laws_line.proofs.Vocabulary.{◌≡◌, ℕ, ◌==◌, cond, List, length, Option, Some, None, Ok, refl, ap, ◌∙◌, arith, le-leb, Tei, Unserved, Address, Control, Service, Call, Packet, Parts, Spells, reading, service_of, sapi_of, reading-again, place_of-is, Config, LineTold, hears, Aim, at_none, Line, place_in, drop_for, management_sapi, to_service, addressed, message_of, aim_of_reading, heard_side, aim_of_heard, group_told, told_of_ui, told_of_group, told_at, at_side, IsToGroup, dropped, after, answer, at_place, line_group_tei as group_tei, IsSound, OnlyTells, IsToManagement}
 use Rattle.model_bits.specs.Stream as stream
-use Rattle.lapd_frame.specs.declared.controls.Control.TheVariants as control
 use Rattle.lapd_tei.specs.Events as teis
 use Rattle.model_link.specs.Events as link
 use Rattle.laws_line.proofs.Causing.{to-group}
@@ -60,7 +59,7 @@ module _ (c : Config) (parts : Parts) (to : IsToManagement c parts) where
       ∙ ap (λ n. at_none (told_of_group c parts (service_of n) (dropped Unserved))) to.sapi
 
   by-control : (k : Control) → at_side c parts (message_of k parts.info) ≡ drop_for Unserved
-  by-control (control.Ui p) = ap (λ side. Rattle.model_line.specs.Sides.managed_at side (teis.message parts.info)) to.side
+  by-control (Control.Ui p) = ap (λ side. Rattle.model_line.specs.Sides.managed_at side (teis.message parts.info)) to.side
   by-control other = no-unit
 
 pub managed-read : (c : Config) (l : Line) (parts : Parts) (octets : List ℕ) → reading (heard_side c) octets ≡ Ok parts

@@ -1,10 +1,6 @@
 -- What is handed on of what is heard.
 use Rattle.laws_line.proofs.Vocabulary.{◌≡◌, ℕ, Bool, true, false, cond, ◌==◌, List, [], ◌∷◌, Option, Some, None, Result, Ok, Err, is_some, refl, sym, ap, ◌∙◌, ◌⊎◌, inl, inr, list_any, option_or, unwrap_or, All-head, All-tail, none-some, Cause, Extension, Sapi, Tei, Unserved, Address, Control, ReadFault, BadExtension, Undefined, WrongSize, Short, Long, Note, Refusal, Service, Call, Packet, Timer, T201, Parts, reading, long_reading, service_of, reading-found, Terms, LinkTimer, IsOwn, Link, is_data, is_unit, notes-own, event-tells, contents_heard, unit_heard, data_due, unit_due, delivered-was-heard, event-unit, data-is, within-is, Change, Gained, Left, place_of-is, Config, hears, request, next, nothing, Aim, at_none, at_link, at_management, at_units, told_of_management, of_change, of_aim, at_timer, aim_of_expiry, Line, place_in, link_in, terms, unless_refused_told, drop_for, management_sapi, to_service, addressed, message_of, aim_of_reading, unless_at_link, aim_of_long, heard_side, aim_of_heard, group_told, IsToGroup, side_aims, Request, Establish, Release, Assign, Remove, SetBusy, ClearBusy, Deactivate, at_requested, at_deactivated, aim_of_request, IsInRange, sound_in, Down, at_no_link, All, T200, T203, Event, expiry, answer, unless_refused, group_tei, at_place, refusal, Data, Unit, Check, IsSound, IsFor, IsTo, contents_in, due, is_data_of, is_unit_of, IsHeard}
 use Rattle.model_bits.specs.Stream as stream
-use Rattle.lapd_frame.specs.declared.controls.Control.TheVariants as control
-use Rattle.lapd_frame.specs.declared.overlong.Long.TheVariants as long
-use Rattle.lapd_frame.specs.declared.notes.Note.TheVariants as notes
-use Rattle.model_link.specs.declared.timers.LinkTimer.TheVariants as link_timer
 use Rattle.model_link.specs.Events as link
 use Rattle.model_link.specs.Machine as links
 use Rattle.model_link.specs.Sound as link_sound
@@ -34,8 +30,8 @@ due-is c l service tei place parts octets ranged s f =
 
 -- Notes of data, and of unit data, are the link's own.
 own-data : (t : Terms) (n : Note) → IsOwn t n → (is_data_of t.service t.tei n ≡ is_data n) × (is_unit_of t.service t.tei n ≡ is_unit n)
-own-data t (notes.Data s n) own = (its-own t s n own, refl)
-own-data t (notes.Unit s n) own = (refl, its-own t s n own)
+own-data t (Note.Data s n) own = (its-own t s n own, refl)
+own-data t (Note.Unit s n) own = (refl, its-own t s n own)
 own-data t other own = (refl, refl)
 
 pub own-all : (t : Terms) (ns : List Note) → All (IsOwn t) ns
@@ -69,7 +65,7 @@ handed-on t l s e contents h = go (links.told t e l).delivered refl h
         let due : unit_due t e ≡ Some contents = sym (event-unit t l s e) ∙ e' in
         record { is = inr (within-is t.n201 (unit_heard e) contents due, own.1 ∙ (event-tells t e l).3 ∙ ap (λ o. is_some o) e') }
 
-unit-noted : (service : Service) → list_any (is_unit_of service group_tei) (notes.Unit service group_tei ∷ []) ≡ true
+unit-noted : (service : Service) → list_any (is_unit_of service group_tei) (Note.Unit service group_tei ∷ []) ≡ true
 unit-noted Call = refl
 unit-noted Packet = refl
 
@@ -134,12 +130,11 @@ module _ (c : Config) (ranged : IsInRange c) (l : Line) (s : IsSound c l) where
 
   unless-silent : (aim : Aim) → Silent aim → Silent (unless_at_link aim)
   unless-silent (at_link service tei place event) x = drops Unserved
-  unless-silent at_no_link x = x
   unless-silent other x = x
 
   too-long : (r : Result Long ReadFault) → Silent (aim_of_long l r)
-  too-long (Ok (long.Information address)) = not-read address link.overlong (drop_for Unserved) (drops Unserved) refl refl
-  too-long (Ok (long.Unnumbered address)) =
+  too-long (Ok (Long.Information address)) = not-read address link.overlong (drop_for Unserved) (drops Unserved) refl refl
+  too-long (Ok (Long.Unnumbered address)) =
       unless-silent (addressed l address link.overlong (drop_for Unserved)) (not-read address link.overlong (drop_for Unserved) (drops Unserved) refl refl)
   too-long (Err BadExtension) = drops Extension
   too-long (Err (Undefined address)) = not-read address link.undefined (drop_for Unserved) (drops Unserved) refl refl
@@ -147,7 +142,7 @@ module _ (c : Config) (ranged : IsInRange c) (l : Line) (s : IsSound c l) where
   too-long (Err Short) = drops Unserved
 
   message-silent : (k : Control) (info : List ℕ) → Silent (message_of k info)
-  message-silent (control.Ui p) info = managed (teis.message info)
+  message-silent (Control.Ui p) info = managed (teis.message info)
   message-silent other info = drops Unserved
 
   -- no contents by what is not heard
@@ -156,8 +151,8 @@ module _ (c : Config) (ranged : IsInRange c) (l : Line) (s : IsSound c l) where
   timer-silent service tei timer (Some place) e = none-by-link service tei place (link.expired timer) e refl refl
 
   pub expiry-silent : (timer : Timer) → Silent (aim_of_expiry timer l)
-  expiry-silent (T200 service tei) = timer-silent service tei link_timer.T200 (place_in l tei) refl
-  expiry-silent (T203 service tei) = timer-silent service tei link_timer.T203 (place_in l tei) refl
+  expiry-silent (T200 service tei) = timer-silent service tei LinkTimer.T200 (place_in l tei) refl
+  expiry-silent (T203 service tei) = timer-silent service tei LinkTimer.T203 (place_in l tei) refl
   expiry-silent T201 = managed teis.expiry
 
   asked-silent : (service : Service) (tei : ℕ) (what : link.Request) (o : Option ℕ) → place_in l tei ≡ o → Silent (at_requested service tei what o)

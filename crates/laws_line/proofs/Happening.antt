@@ -1,5 +1,5 @@
 -- What an event of a line is to one of its links.
-use Rattle.laws_line.proofs.Vocabulary.{◌≡◌, ◌≢◌, ℕ, ◌<◌, Bool, true, false, ◌==◌, length, get_or, set, Option, Some, None, refl, ap, sym, ◌∙◌, subst, arith, eq-eqb, true≢false, IfSome, inl, inr, ◌⊎◌, ⊎_elim, option_map_or, get_or-set_same, get_or-set_other, Refusal, Service, Call, Packet, Link, IsAt, Change, Gained, Left, Config, hears, request, next, Answer, told, gave, is_change_at, Aim, at_none, at_link, at_management, at_units, told_of_management, of_change, of_aim, aim_of_expiry, Line, link_number, service_at, place_at, tei_at, link_at, link_in, terms, link_count, unless_refused_told, aim_of_heard, Taken, taken, next_of, line_of, aim_of_request, IsProper, place_at-number, service_at-number, heard_proper, expiry_proper, request_proper, taken_walk, next_walk, at_no_link, eqb-true, option_map, fresh, Event, expiry, after, answer, unless_refused, refusal, IsSound, IsMoved, IsBy, IsDeactivated, IsOf}
+use Rattle.laws_line.proofs.Vocabulary.{◌≡◌, ◌≢◌, ℕ, ◌<◌, Bool, true, false, ◌==◌, length, get_or, set, Option, Some, None, refl, ap, sym, ◌∙◌, subst, arith, eq-eqb, true≢false, IfSome, inl, inr, ◌⊎◌, ⊎_elim, option_map_or, get_or-set_same, get_or-set_other, Refusal, Service, Call, Packet, Link, IsAt, Change, Gained, Left, Config, hears, request, next, Answer, told, gave, is_change_at, Aim, at_link, at_management, told_of_management, of_change, of_aim, aim_of_expiry, Line, link_number, service_at, place_at, tei_at, link_at, link_in, terms, link_count, unless_refused_told, aim_of_heard, Taken, taken, next_of, line_of, aim_of_request, IsProper, place_at-number, service_at-number, heard_proper, expiry_proper, request_proper, taken_walk, next_walk, at_no_link, eqb-true, option_map, fresh, Event, expiry, after, answer, unless_refused, refusal, IsSound, IsMoved, IsBy, IsDeactivated, IsOf}
 use Rattle.model_link.specs.Events as link
 use Rattle.model_link.specs.Machine as links
 use Rattle.lapd_tei.specs.Events as teis
@@ -113,11 +113,10 @@ module _ (c : Config) (l : Line) (s : IsSound c l) (number : ℕ) (few : number 
       go (Some (Left tei place)) m = at-its-place me (Some (Left tei place)) place refl m.within m _ refl refl (place == place_at number) refl
 
   pub aim-happens : (aim : Aim) → IsProper c l aim → Ties c e a aim → Goes (of_aim c aim l).line
-  aim-happens (at_none what) proper ties = inl refl
   aim-happens (at_link service tei place le) proper ties = at-its-link service tei place le proper ties
   aim-happens (at_management me) proper ties = managed me proper
-  aim-happens (at_units unit) proper ties = inl refl
   aim-happens at_no_link proper ties = inl (by-down c l (λ f. link_at number f.line ≡ link_at number l) refl)
+  aim-happens other proper ties = inl refl
 
 -- A call for the next frame takes what one link gives, and leaves the others.
 module _ (c : Config) (l : Line) (s : IsSound c l) (number : ℕ) where

@@ -1,5 +1,5 @@
 -- What an event makes of the contents of a link of a line.
-use Rattle.laws_line.proofs.Vocabulary.{⊎_elim, length-set, ◌≡◌, ◌≢◌, ℕ, ◌+◌, ◌*◌, ◌<◌, zero, suc, Bool, true, false, cond, ◌==◌, List, [], ◌∷◌, length, get_or, set, Option, Some, None, refl, ap, sym, ◌∙◌, subst, arith, eq-eqb, true≢false, IfSome, option_map_or, get_or-set_same, get_or-set_other, Service, Call, Packet, Link, Terms, Share, share, Comes, event-done, same-comes, restarted, offer-leaves, Moves, Management, IsAt, Places, Change, Gained, Left, Config, hears, request, next, LineTold, is_change_at, Aim, at_none, at_link, at_management, at_units, told_of_management, of_change, of_aim, Line, link_number, service_at, place_at, link_at, link_in, terms, link_count, aim_of_heard, aim_of_expiry, Taken, taken, line_of, aim_of_request, IsInRange, IsProper, sound_in, place_at-number, taken_walk, next_walk, heard_proper, expiry_proper, request_proper, at_no_link, eqb-true, fresh, Event, expiry, after, unless_refused, refusal, IsSound, line_at_place as at_place, no_share, ending, share_aimed, share_of}
+use Rattle.laws_line.proofs.Vocabulary.{⊎_elim, length-set, ◌≡◌, ◌≢◌, ℕ, ◌+◌, ◌*◌, ◌<◌, zero, suc, Bool, true, false, cond, ◌==◌, List, [], ◌∷◌, length, get_or, set, Option, Some, None, refl, ap, sym, ◌∙◌, subst, arith, eq-eqb, true≢false, IfSome, option_map_or, get_or-set_same, get_or-set_other, Service, Call, Packet, Link, Terms, Share, share, Comes, event-done, same-comes, restarted, offer-leaves, Moves, Management, IsAt, Places, Change, Gained, Left, Config, hears, request, next, LineTold, is_change_at, Aim, at_link, at_management, told_of_management, of_change, of_aim, Line, link_number, service_at, place_at, link_at, link_in, terms, link_count, aim_of_heard, aim_of_expiry, Taken, taken, line_of, aim_of_request, IsInRange, IsProper, sound_in, place_at-number, taken_walk, next_walk, heard_proper, expiry_proper, request_proper, at_no_link, eqb-true, fresh, Event, expiry, after, unless_refused, refusal, IsSound, line_at_place as at_place, no_share, ending, share_aimed, share_of}
 use Rattle.model_link.specs.Events as link
 use Rattle.model_link.specs.Machine as links
 use Rattle.lapd_tei.specs.Events as teis
@@ -79,13 +79,12 @@ module _ (c : Config) (ranged : IsInRange c) (l : Line) (s : IsSound c l) (numbe
   change_parts (Some (Left tei place)) r new m moves = place_parts place moves.within (place == place_at number) refl
 
   pub aim_parts : (aim : Aim) → IsProper c l aim → Parts aim
-  aim_parts (at_none t) proper = stays (link_at number l) (link_at number l) refl
   aim_parts (at_link service tei place e) proper = at_its_link service tei place e proper
   aim_parts (at_management e) proper =
       change_parts (teis.told e l.management).change (told_of_management (teis.told e l.management)) (teis.after e l.management).places
       (teis.after e l.management) (tei_lemmas.changes_are_told e l.management proper s.management)
-  aim_parts (at_units unit) proper = stays (link_at number l) (link_at number l) refl
   aim_parts at_no_link proper = stays (link_at number l) _ (by-down c l (λ f. link_at number f.line ≡ link_at number l) refl)
+  aim_parts other proper = stays (link_at number l) (link_at number l) refl
 
 -- A call for the next frame leaves the contents of each link, and V(A).
 record Same (before after : Link) : Type 0 where

@@ -3,7 +3,6 @@ use Rattle.laws_line.proofs.Vocabulary.{◌≡◌, ℕ, ◌==◌, ◌&&◌, Bool
 use Rattle.model_bits.specs.Stream as stream
 use Rattle.model_link.specs.Events as link
 use Rattle.model_link.specs.Machine as links
-use Rattle.model_link.specs.declared.timers.LinkTimer.TheVariants as link_timer
 use Rattle.lapd_tei.specs.Events as teis
 use Rattle.lapd_tei.specs.Laws as tei_laws
 use Rattle.lapd_tei.proofs.LawLemmas as tei_lemmas
@@ -227,8 +226,8 @@ pub known-up : (c : Config) (e : Event) (l : Line) (service : Service) (tei : �
     → taken_for_up service tei (is_up_of service tei l) (answer c e l) ≡ is_up_of service tei (after c e l)
 unfolding after answer
 known-up c (hears e) l service tei s = heard-up c l s e service tei
-known-up c (expiry (T200 by n)) l service tei s = timer-up c l s by n link_timer.T200 (place_in l n) refl service tei
-known-up c (expiry (T203 by n)) l service tei s = timer-up c l s by n link_timer.T203 (place_in l n) refl service tei
+known-up c (expiry (T200 by n)) l service tei s = timer-up c l s by n LinkTimer.T200 (place_in l n) refl service tei
+known-up c (expiry (T203 by n)) l service tei s = timer-up c l s by n LinkTimer.T203 (place_in l n) refl service tei
 known-up c (expiry T201) l service tei s = management-up c l s teis.expiry tt service tei
 known-up c (request r) l service tei s = go (refusal c false r l) (request_proper c l r)
   where

@@ -3,7 +3,6 @@ use Rattle.laws_line.proofs.Vocabulary.{◌≡◌, ℕ, ◌==◌, Bool, true, fa
 use Rattle.model_bits.specs.Stream as stream
 use Rattle.model_link.specs.Events as link
 use Rattle.model_link.specs.Machine as links
-use Rattle.model_link.specs.declared.timers.LinkTimer.TheVariants as link_timer
 use Rattle.lapd_tei.specs.Events as teis
 use Rattle.lapd_tei.specs.Laws as tei_laws
 use Rattle.lapd_tei.specs.Words as words
@@ -190,8 +189,8 @@ module _ (c : Config) (l : Line) (s : IsSound c l) (tei : ℕ) where
 pub known-on : (c : Config) (e : Event) (l : Line) (tei : ℕ) → IsSound c l → taken_for_on tei (has_tei tei l) e (answer c e l) ≡ has_tei tei (after c e l)
 unfolding after answer
 known-on c (hears e) l tei s = heard-knows c l s tei e
-known-on c (expiry (T200 by n)) l tei s = timer-knows c l s tei by n link_timer.T200 (place_in l n)
-known-on c (expiry (T203 by n)) l tei s = timer-knows c l s tei by n link_timer.T203 (place_in l n)
+known-on c (expiry (T200 by n)) l tei s = timer-knows c l s tei by n LinkTimer.T200 (place_in l n)
+known-on c (expiry (T203 by n)) l tei s = timer-knows c l s tei by n LinkTimer.T203 (place_in l n)
 known-on c (expiry T201) l tei s = management-knows c l s teis.expiry tt tei (λ none. refl)
 known-on c (request r) l tei s = go (refusal c false r l) refl (request_proper c l r)
   where

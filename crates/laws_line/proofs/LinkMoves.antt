@@ -1,5 +1,5 @@
 -- What holds of a link that begins, and is kept by each event of a link, holds of all links of a line.
-use Rattle.laws_line.proofs.Vocabulary.{◌≡◌, ℕ, zero, suc, ◌<◌, false, List, [], ◌∷◌, get_or, set, Option, Some, None, refl, ap, sym, ◌∙◌, subst, ◌⊎◌, inl, inr, IfSome, option_map_or, option_or, unwrap_or, All-head, All-tail, Call, Packet, Link, Given, Terms, Change, Gained, Left, Config, hears, request, next, LineTold, Aim, at_none, at_link, at_management, at_units, told_of_management, of_change, of_aim, Line, UnitData, link_number, service_at, place_at, tei_at, link_at, link_in, terms, link_count, aim_of_heard, aim_of_expiry, Taken, with_unit, with_given_frame, link_taken, first_taken, taken, line_of, aim_of_request, IsInRange, IsSoundAt, IsProper, sound_in, fresh_gives_nothing, heard_proper, expiry_proper, request_proper, taken_walk, next_walk, terms_in_range, at_no_link, option_map, frame_of, All, fresh, Event, expiry, after, unless_refused, with_message, refusal, IsSound}
+use Rattle.laws_line.proofs.Vocabulary.{◌≡◌, ℕ, zero, suc, ◌<◌, false, List, [], ◌∷◌, get_or, set, Option, Some, None, refl, ap, sym, ◌∙◌, subst, ◌⊎◌, inl, inr, IfSome, option_map_or, option_or, unwrap_or, All-head, All-tail, Call, Packet, Link, Given, Terms, Change, Gained, Left, Config, hears, request, next, LineTold, Aim, at_link, at_management, told_of_management, of_change, of_aim, Line, UnitData, link_number, service_at, place_at, tei_at, link_at, link_in, terms, link_count, aim_of_heard, aim_of_expiry, Taken, with_unit, with_given_frame, link_taken, first_taken, taken, line_of, aim_of_request, IsInRange, IsSoundAt, IsProper, sound_in, fresh_gives_nothing, heard_proper, expiry_proper, request_proper, taken_walk, next_walk, terms_in_range, at_no_link, option_map, frame_of, All, fresh, Event, expiry, after, unless_refused, with_message, refusal, IsSound}
 use Rattle.model_link.specs.Events as link
 use Rattle.model_link.specs.Machine as links
 use Rattle.model_link.specs.Sound as link_sound
@@ -70,15 +70,14 @@ module _ (P : Link → Type 0) (begins : P fresh) (keeps : (t : Terms) (e : link
     changed (Some (Left tei place)) r now all = both_hold now.links (link_number place Call) (link_number place Packet) number all
 
     aimed : (aim : Aim) → IsProper c l aim → P (link_at number (of_aim c aim l).line)
-    aimed (at_none t) proper = h number
     aimed (at_link service tei place e) proper =
         let t = terms c service tei in
         set_holds l.links (link_number place service) number (links.after t e (link_in l service place)) h
         (keeps t e (link_in l service place) (terms_in_range c ranged service tei (s.management.table.range place tei proper)) (sound_in c ranged l s service tei place proper)
         (h (link_number place service)))
     aimed (at_management e) proper = changed (teis.told e l.management).change (told_of_management (teis.told e l.management)) _ h
-    aimed (at_units unit) proper = h number
     aimed at_no_link proper = changed (teis.told teis.down l.management).change (told_of_management (teis.told teis.down l.management)) _ h
+    aimed other proper = h number
 
     took : (t : Taken) → IsOne c l t → P (link_at number t.line)
     took t (inl x) = subst (λ (u : Taken). P (link_at number u.line)) (sym x.1) (h number)

@@ -1,7 +1,6 @@
 -- All that an answer notes: each event of a line.
 use Rattle.laws_line.proofs.Vocabulary.{◌≡◌, ℕ, false, List, [], ◌++◌, get_or, set, Option, Some, None, refl, sym, ap, ◌∙◌, subst, arith, inl, inr, next_walk, option_map_or, get_or-set_same, get_or-set_other, Note, Refusal, Service, Call, Packet, Timer, T201, Terms, LinkTimer, Link, as_heard, told_by, told_cleared, event-follows, Change, Gained, Left, at-within, Config, hears, request, next, Answer, told, Aim, at_link, at_management, told_of_management, of_change, of_aim, at_timer, aim_of_expiry, Line, link_number, place_in, link_in, terms, unless_refused_told, aim_of_heard, Taken, taken, line_of, Request, Establish, Release, Assign, Remove, SetBusy, ClearBusy, Deactivate, at_requested, at_deactivated, aim_of_request, IsProper, number_within, heard_proper, expiry_proper, request_proper, Down, T200, T203, fresh, Event, expiry, after, answer, unless_refused, refusal, Data, Unit, Check, IsSound, notes_of, noted_coming, noted_leaving, noted_ending, NotesItsOwn}
 use Rattle.model_bits.specs.Stream as stream
-use Rattle.model_link.specs.declared.timers.LinkTimer.TheVariants as link_timer
 use Rattle.model_link.specs.Events as link
 use Rattle.model_link.specs.Machine as links
 use Rattle.lapd_tei.specs.Events as teis
@@ -117,8 +116,8 @@ module _ (c : Config) (l : Line) (s : IsSound c l) where
   timer-noted e service tei timer (Some place) proper by = of-link c l s e service tei place (link.expired timer) proper by
 
   expiry-noted : (timer : Timer) → OwnOf (expiry timer) (aim_of_expiry timer l)
-  expiry-noted (T200 service tei) proper by = timer-noted (expiry (T200 service tei)) service tei link_timer.T200 (place_in l tei) proper by
-  expiry-noted (T203 service tei) proper by = timer-noted (expiry (T203 service tei)) service tei link_timer.T203 (place_in l tei) proper by
+  expiry-noted (T200 service tei) proper by = timer-noted (expiry (T200 service tei)) service tei LinkTimer.T200 (place_in l tei) proper by
+  expiry-noted (T203 service tei) proper by = timer-noted (expiry (T203 service tei)) service tei LinkTimer.T203 (place_in l tei) proper by
   expiry-noted T201 proper by = managed c l s (expiry T201) teis.expiry proper (λ tei ns is. absurd is) (λ tei ns is. is)
 
   asked-noted : (e : Event) (service : Service) (tei : ℕ) (what : link.Request) (o : Option ℕ) → OwnOf e (at_requested service tei what o)

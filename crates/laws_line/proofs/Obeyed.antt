@@ -1,6 +1,5 @@
 -- What obeying the orders of a link, or of TEI management, comes to for each timer of a line.
 use Rattle.laws_line.proofs.Vocabulary.{◌≡◌, ℕ, ◌==◌, ◌&&◌, Bool, true, false, cond, List, [], ◌∷◌, ◌++◌, refl, ap, sym, ◌∙◌, subst, eq-eqb, true≢false, fold-append, Service, Call, Packet, Order, Start, Stop, Timer, T201, same_service, LinkTimer, Terms, Link, is_same, obey, obeyed, IsTimed, ComesInStep, runs, timer_at, stays-in-step, comes-in-step, leaves-others, Follows}
-use Rattle.model_link.specs.declared.timers.LinkTimer.TheVariants as link_timer
 use Rattle.model_link.specs.Events as link
 use Rattle.model_link.specs.Machine as links
 
@@ -40,7 +39,7 @@ t201-leaves timer other running before another after h = absurd h
 -- runs where the link runs it, and each other is as it was.
 pub record Steers (t : Terms) (left : Timer → Bool → Bool) (orders : List Order) (before after : Link) : Type 0 where
   pub own : (k : LinkTimer) → obeyed (timer_at t k) (left (timer_at t k) (runs k before.running)) orders ≡ runs k after.running
-  pub others : (timer : Timer) (running : Bool) → is_same (timer_at t link_timer.T200) timer ≡ false → is_same (timer_at t link_timer.T203) timer ≡ false
+  pub others : (timer : Timer) (running : Bool) → is_same (timer_at t LinkTimer.T200) timer ≡ false → is_same (timer_at t LinkTimer.T203) timer ≡ false
       → obeyed timer (left timer running) orders ≡ running
 
 abbrev pub as_it_was : Timer → Bool → Bool
@@ -64,29 +63,29 @@ comes t l k h false e = subst (λ b. obeyed (timer_at t k) b (links.told t (link
 
 pub steers-expiry : (t : Terms) (k : LinkTimer) (l : Link) → IsTimed l
     → Steers t (without (timer_at t k)) (links.told t (link.expired k) l).orders l (links.after t (link.expired k) l)
-steers-expiry t link_timer.T200 l h = record {
+steers-expiry t LinkTimer.T200 l h = record {
   own = own;
   others = λ timer running one two.
-      ap (λ b. obeyed timer (cond b false running) (links.told t (link.expired link_timer.T200) l).orders) one
-      ∙ leaves-others t (link.expired link_timer.T200) l timer running one two;
+      ap (λ b. obeyed timer (cond b false running) (links.told t (link.expired LinkTimer.T200) l).orders) one
+      ∙ leaves-others t (link.expired LinkTimer.T200) l timer running one two;
 }
   where
-    own : (k : LinkTimer) → obeyed (timer_at t k) (without (timer_at t link_timer.T200) (timer_at t k) (runs k l.running)) (links.told t (link.expired link_timer.T200) l).orders
-        ≡ runs k (links.after t (link.expired link_timer.T200) l).running
-    own link_timer.T200 =
-        ap (λ b. obeyed (timer_at t link_timer.T200) (cond b false (runs link_timer.T200 l.running)) (links.told t (link.expired link_timer.T200) l).orders) (itself t.service t.tei)
-        ∙ comes t l link_timer.T200 h (runs link_timer.T200 l.running) refl
-    own link_timer.T203 = stays-in-step t (link.expired link_timer.T200) l link_timer.T203
-steers-expiry t link_timer.T203 l h = record {
+    own : (k : LinkTimer) → obeyed (timer_at t k) (without (timer_at t LinkTimer.T200) (timer_at t k) (runs k l.running)) (links.told t (link.expired LinkTimer.T200) l).orders
+        ≡ runs k (links.after t (link.expired LinkTimer.T200) l).running
+    own LinkTimer.T200 =
+        ap (λ b. obeyed (timer_at t LinkTimer.T200) (cond b false (runs LinkTimer.T200 l.running)) (links.told t (link.expired LinkTimer.T200) l).orders) (itself t.service t.tei)
+        ∙ comes t l LinkTimer.T200 h (runs LinkTimer.T200 l.running) refl
+    own LinkTimer.T203 = stays-in-step t (link.expired LinkTimer.T200) l LinkTimer.T203
+steers-expiry t LinkTimer.T203 l h = record {
   own = own;
   others = λ timer running one two.
-      ap (λ b. obeyed timer (cond b false running) (links.told t (link.expired link_timer.T203) l).orders) two
-      ∙ leaves-others t (link.expired link_timer.T203) l timer running one two;
+      ap (λ b. obeyed timer (cond b false running) (links.told t (link.expired LinkTimer.T203) l).orders) two
+      ∙ leaves-others t (link.expired LinkTimer.T203) l timer running one two;
 }
   where
-    own : (k : LinkTimer) → obeyed (timer_at t k) (without (timer_at t link_timer.T203) (timer_at t k) (runs k l.running)) (links.told t (link.expired link_timer.T203) l).orders
-        ≡ runs k (links.after t (link.expired link_timer.T203) l).running
-    own link_timer.T203 =
-        ap (λ b. obeyed (timer_at t link_timer.T203) (cond b false (runs link_timer.T203 l.running)) (links.told t (link.expired link_timer.T203) l).orders) (itself t.service t.tei)
-        ∙ comes t l link_timer.T203 h (runs link_timer.T203 l.running) refl
-    own link_timer.T200 = stays-in-step t (link.expired link_timer.T203) l link_timer.T200
+    own : (k : LinkTimer) → obeyed (timer_at t k) (without (timer_at t LinkTimer.T203) (timer_at t k) (runs k l.running)) (links.told t (link.expired LinkTimer.T203) l).orders
+        ≡ runs k (links.after t (link.expired LinkTimer.T203) l).running
+    own LinkTimer.T203 =
+        ap (λ b. obeyed (timer_at t LinkTimer.T203) (cond b false (runs LinkTimer.T203 l.running)) (links.told t (link.expired LinkTimer.T203) l).orders) (itself t.service t.tei)
+        ∙ comes t l LinkTimer.T203 h (runs LinkTimer.T203 l.running) refl
+    own LinkTimer.T200 = stays-in-step t (link.expired LinkTimer.T203) l LinkTimer.T200

@@ -4,7 +4,6 @@ use Rattle.model_bits.specs.Stream as stream
 use Rattle.lapd_tei.specs.Events as teis
 use Rattle.lapd_tei.specs.Laws as tei_laws
 use Rattle.lapd_tei.proofs.LawLemmas as tei_lemmas
-use Rattle.model_link.specs.declared.timers.LinkTimer.TheVariants as link_timer
 use Rattle.model_link.specs.Events as link
 use Rattle.model_link.specs.Machine as links
 use Rattle.laws_line.proofs.Alone.{is-alone}
@@ -57,31 +56,27 @@ module _ (c : Config) (l : Line) (s : IsSound c l) (me : teis.Event) (fits : tei
   of-links (Some (Left tei place)) moves = of-places (Some (Left tei place)) place None (λ number. refl) moves moves.within moves.is_free refl
 
   line-is : (o : Option Change) → there o ≡ record l { management = teis.after me l.management; links = (there o).links }
-  line-is None = refl
   line-is (Some (Gained tei place)) = refl
-  line-is (Some (Left tei place)) = refl
+  line-is other = refl
 
   places-are : (o : Option Change) → (there o).management.places ≡ places
-  places-are None = refl
   places-are (Some (Gained tei place)) = refl
-  places-are (Some (Left tei place)) = refl
+  places-are other = refl
 
   noted-is : (o : Option Change) → (of_change c o (told_of_management (teis.told me l.management)) (record l { management = teis.after me l.management })).told.notes
       ≡ (teis.told me l.management).notes ++ noted_behind c l o
-  noted-is None = sym (append-nil (teis.told me l.management).notes)
-  noted-is (Some (Gained tei place)) = sym (append-nil (teis.told me l.management).notes)
   noted-is (Some (Left tei place)) =
       let first = links.after (terms c Call tei) link.cleared (link_in l Call place) in
       let same : get_or (set l.links (link_number place Call) first) (link_number place Packet) fresh ≡ link_in l Packet place =
       get_or-set_other l.links (link_number place Call) (link_number place Packet) first fresh (λ e. omega (arith, e)) in
       ap (λ (x : Link). (teis.told me l.management).notes ++ noted_ending c l Call tei place ++ (links.told (terms c Packet tei) link.cleared x).notes) same
       ∙ append_assoc (teis.told me l.management).notes (noted_ending c l Call tei place) (noted_ending c l Packet tei place)
+  noted-is other = sym (append-nil (teis.told me l.management).notes)
 
   lost-is : (o : Option Change) → (of_change c o (told_of_management (teis.told me l.management)) (record l { management = teis.after me l.management })).told.lost
       ≡ (teis.told me l.management).lost
-  lost-is None = refl
   lost-is (Some (Gained tei place)) = refl
-  lost-is (Some (Left tei place)) = refl
+  lost-is other = refl
 
   pub managed : IsManaged c l (of_aim c (at_management me) l).line (told (of_aim c (at_management me) l).told) me
   managed =
@@ -193,8 +188,8 @@ heard-falls c l s e =
 
 module _ (c : Config) (l : Line) (s : IsSound c l) where
   expiry-falls : (timer : Timer) → Falls c l s (expiry timer) (aim_of_expiry timer l)
-  expiry-falls (T200 service tei) = timer-falls c l s (expiry (T200 service tei)) service tei link_timer.T200 (place_in l tei)
-  expiry-falls (T203 service tei) = timer-falls c l s (expiry (T203 service tei)) service tei link_timer.T203 (place_in l tei)
+  expiry-falls (T200 service tei) = timer-falls c l s (expiry (T200 service tei)) service tei LinkTimer.T200 (place_in l tei)
+  expiry-falls (T203 service tei) = timer-falls c l s (expiry (T203 service tei)) service tei LinkTimer.T203 (place_in l tei)
   expiry-falls T201 = λ proper by. inl (of_management teis.expiry refl)
 
   request-falls : (r : Request) → Falls c l s (request r) (aim_of_request r l)

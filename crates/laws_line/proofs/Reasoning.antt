@@ -1,7 +1,5 @@
 -- Why notes say that a TEI came or left: each row of TEI management, and each event of a line.
-use Rattle.laws_line.proofs.Vocabulary.{◌≡◌, ℕ, ◌+◌, ◌*◌, ◌/◌, ◌%◌, ◌==◌, ◌&&◌, nat_le, Bool, true, false, cond, List, [], ◌∷◌, ◌++◌, Option, Some, None, refl, sym, subst, and_parts, All-nil, All-cons, All-append, All-weaker, Note, Assigned, Removed, Doubled, Refusal, Service, Call, Packet, T201, Terms, LinkTimer, IsOwn, Link, notes-own, Period, First, Second, Change, Gained, Left, IdentityRemove, Management, heard_in, heard_of_type, free_place, free_tei, no_room, lose_one, unserved, check_is, begin_check, end_check, send, leave, Config, hears, request, next, LineTold, at_management, told_of_management, of_link, of_change, of_aim, at_timer, Line, place_in, link_in, terms, unless_refused_told, Request, Establish, Release, Assign, Remove, SetBusy, ClearBusy, Deactivate, at_requested, at_deactivated, aim_of_request, Down, eqb-true, All, T200, T203, TeiCheck as Check, Course, tei_begun as begun, Event, expiry, answer, unless_refused, group_tei, refusal, Data, Unit, Check as Checking, notes_of, asks, responds, Says, HasReason, HaveReasons}
-use Rattle.lapd_frame.specs.declared.notes.Note.TheVariants as notes
-use Rattle.model_link.specs.declared.timers.LinkTimer.TheVariants as link_timer
+use Rattle.laws_line.proofs.Vocabulary.{◌≡◌, ℕ, ◌+◌, ◌*◌, ◌/◌, ◌%◌, ◌==◌, ◌&&◌, nat_le, Bool, true, false, cond, List, [], ◌∷◌, ◌++◌, Option, Some, None, refl, sym, subst, and_parts, All-nil, All-cons, All-append, All-weaker, Note, Assigned, Removed, Doubled, Refusal, Service, Call, Packet, T201, Terms, LinkTimer, IsOwn, Link, notes-own, Period, First, Second, Change, Left, IdentityRemove, Management, heard_in, heard_of_type, free_place, free_tei, no_room, lose_one, unserved, check_is, begin_check, end_check, send, leave, Config, hears, request, next, LineTold, at_management, told_of_management, of_link, of_change, of_aim, at_timer, Line, place_in, link_in, terms, unless_refused_told, Request, Establish, Release, Assign, Remove, SetBusy, ClearBusy, Deactivate, at_requested, at_deactivated, aim_of_request, Down, eqb-true, All, T200, T203, TeiCheck as Check, Course, tei_begun as begun, Event, expiry, answer, unless_refused, group_tei, refusal, Data, Unit, Check as Checking, notes_of, asks, responds, Says, HasReason, HaveReasons}
 use Rattle.model_link.specs.Events as link
 use Rattle.model_link.specs.Machine as links
 use Rattle.lapd_tei.specs.Events as teis
@@ -117,23 +115,22 @@ module _ (c : Config) (l : Line) (e : Event) where
   P = HasReason c e
 
   own : (t : Terms) (n : Note) → IsOwn t n → P n
-  own t (notes.Assigned n) h = absurd h
-  own t (notes.Removed n) h = absurd h
-  own t (notes.Doubled n) h = absurd h
+  own t (Note.Assigned n) h = absurd h
+  own t (Note.Removed n) h = absurd h
+  own t (Note.Doubled n) h = absurd h
   own t other h = tt
 
   link-noted : (t : Terms) (what : link.Event) (x : Link) → All P (links.told t what x).notes
   link-noted t what x = All-weaker (IsOwn t) P (λ n h. own t n h) (links.told t what x).notes (notes-own t what x)
 
   change-noted : (o : Option Change) (t : LineTold) (at : Line) → All P t.notes → All P (of_change c o t at).told.notes
-  change-noted None t at h = h
-  change-noted (Some (Gained tei place)) t at h = h
   change-noted (Some (Left tei place)) t at h =
       let call = of_link c Call tei place link.cleared at in
       let packet = of_link c Packet tei place link.cleared call.line in
       All-append P (t.notes ++ call.told.notes) packet.told.notes
       (All-append P t.notes call.told.notes h (link-noted (terms c Call tei) link.cleared (link_in at Call place)))
       (link-noted (terms c Packet tei) link.cleared (link_in call.line Packet place))
+  change-noted other t at h = h
 
   management-noted : (what : teis.Event) (at : Line) → All P (teis.told what at.management).notes → All P (of_aim c (at_management what) at).told.notes
   management-noted what at h =
@@ -179,9 +176,9 @@ have-reasons c (hears e) l =
     management-noted c l (hears e) (teis.message parts.info) l
     (message-noted (HasReason c (hears e)) l.management parts.info (λ ri tei says. (ri, hears-said c e parts (asks ri) ui says))
     (λ tei says. hears-said c e parts (responds tei) ui says) parts.info refl))
-    (λ parts octets by read service to. All-cons (HasReason c (hears e)) (notes.Unit service group_tei) [] tt (All-nil (HasReason c (hears e))))
-have-reasons c (expiry (T200 service tei)) l = timer-noted c l (expiry (T200 service tei)) service tei link_timer.T200 (place_in l tei)
-have-reasons c (expiry (T203 service tei)) l = timer-noted c l (expiry (T203 service tei)) service tei link_timer.T203 (place_in l tei)
+    (λ parts octets by read service to. All-cons (HasReason c (hears e)) (Note.Unit service group_tei) [] tt (All-nil (HasReason c (hears e))))
+have-reasons c (expiry (T200 service tei)) l = timer-noted c l (expiry (T200 service tei)) service tei LinkTimer.T200 (place_in l tei)
+have-reasons c (expiry (T203 service tei)) l = timer-noted c l (expiry (T203 service tei)) service tei LinkTimer.T203 (place_in l tei)
 have-reasons c (expiry T201) l =
     management-noted c l (expiry T201) teis.expiry l (expiry-noted (HasReason c (expiry T201)) l.management (λ tei. refl) l.management.check)
 have-reasons c (request r) l = go (refusal c false r l)

@@ -1,7 +1,6 @@
 -- What is taken.
-use Rattle.laws_line.proofs.Vocabulary.{◌≡◌, ℕ, ◌+◌, ◌<◌, false, cond, List, [], ◌∷◌, ◌++◌, drop, take, slice_get, get_or, set, Option, Some, None, refl, sym, ap, ◌∙◌, subst, arith, zero-add, append-nil, inl, inr, IfSome, range_with_len, option_or, option_map_or, unwrap_or, get_or-set_same, take-append-drop, All-head, All-tail, All-nil, All-cons, All-get_or, All-append, get_or-range_with_len, length-range_with_len, none-some, Refusal, Service, Timer, T201, LinkTimer, Change, Gained, Left, Terms, Link, is_information, Given, IsInOrder, IsOffered, given-in-order, given-is-offered, carried-is, offer-counts, nothing-given, Message, Config, hears, request, next, Aim, at_none, at_link, at_management, at_units, told_of_management, of_change, of_aim, at_timer, aim_of_expiry, aim_of_heard, Request, Establish, Release, SetBusy, ClearBusy, Deactivate, at_requested, at_deactivated, aim_of_request, heard_aims, Line, UnitData, link_count, service_at, place_at, place_in, tei_at, terms, terms_at, link_at, with_link, unless_refused_told, Taken, with_unit, with_given_frame, link_taken, first_taken, round, taken, line_of, IsSoundAt, round_below, at_no_link, option_map, All, T200, T203, fresh, link_one as one, frame_of, Event, expiry, refusal, Data, is_granted, after, answer, unless_refused, with_message, IsSound, IsSilent, IsSilentAt, IsItsTurn, IsOfLink, IsOwed, HasNothing, IsIdle, line_contents_of as contents_of, IsServed, unit_asked, units_behind, units_left, UnitsWait, TurnStays}
+use Rattle.laws_line.proofs.Vocabulary.{◌≡◌, ℕ, ◌+◌, ◌<◌, false, cond, List, [], ◌∷◌, ◌++◌, drop, take, slice_get, get_or, set, Option, Some, None, refl, sym, ap, ◌∙◌, subst, arith, zero-add, append-nil, inl, inr, IfSome, range_with_len, option_or, option_map_or, unwrap_or, get_or-set_same, take-append-drop, All-head, All-tail, All-nil, All-cons, All-get_or, All-append, get_or-range_with_len, length-range_with_len, none-some, Refusal, Service, Timer, T201, LinkTimer, Change, Gained, Left, Terms, Link, is_information, Given, IsInOrder, IsOffered, given-in-order, given-is-offered, carried-is, offer-counts, nothing-given, Message, Config, hears, request, next, Aim, at_management, at_units, told_of_management, of_change, of_aim, at_timer, aim_of_expiry, aim_of_heard, Request, Establish, Release, SetBusy, ClearBusy, Deactivate, at_requested, at_deactivated, aim_of_request, heard_aims, Line, UnitData, link_count, service_at, place_at, place_in, tei_at, terms, terms_at, link_at, with_link, unless_refused_told, Taken, with_unit, with_given_frame, link_taken, first_taken, round, taken, line_of, IsSoundAt, round_below, at_no_link, option_map, All, T200, T203, fresh, link_one as one, frame_of, Event, expiry, refusal, Data, is_granted, after, answer, unless_refused, with_message, IsSound, IsSilent, IsSilentAt, IsItsTurn, IsOfLink, IsOwed, HasNothing, IsIdle, line_contents_of as contents_of, IsServed, unit_asked, units_behind, units_left, UnitsWait, TurnStays}
 use Rattle.model_bits.specs.Stream as stream
-use Rattle.model_link.specs.declared.timers.LinkTimer.TheVariants as link_timer
 use Rattle.lapd_tei.specs.Events as teis
 use Rattle.model_link.specs.Events as link
 use Rattle.model_link.specs.Machine as links
@@ -170,7 +169,6 @@ module _ (c : Config) (l : Line) (s : IsSound c l) where
 module _ (c : Config) where
   abbrev unit_of : Aim → List UnitData
   unit_of (at_units unit) = unit ∷ []
-  unit_of at_no_link = []
   unit_of other = []
 
   abbrev left_by : Aim → List UnitData → List UnitData
@@ -181,8 +179,6 @@ module _ (c : Config) where
   units_by aim units = left_by aim units ++ unit_of aim
 
   aim-units : (l m : Line) (aim : Aim) → m.units ≡ l.units → (of_aim c aim m).line.units ≡ units_by aim l.units
-  aim-units l m (at_none t) e = e ∙ sym (append-nil l.units)
-  aim-units l m (at_link service tei place what) e = e ∙ sym (append-nil l.units)
   aim-units l m (at_management what) e = by-change (teis.told what m.management).change ∙ e ∙ sym (append-nil l.units)
     where
       by-change : (o : Option Change) → (of_change c o (told_of_management (teis.told what m.management)) (record m { management = teis.after what m.management })).line.units ≡ m.units
@@ -191,6 +187,7 @@ module _ (c : Config) where
       by-change (Some (Left tei place)) = refl
   aim-units l m (at_units unit) e = ap (λ us. us ++ unit ∷ []) e
   aim-units l m at_no_link e = by-down c m (λ f. f.line.units ≡ []) refl
+  aim-units l m other e = e ∙ sym (append-nil l.units)
 
   none-heard : (l : Line) (e : stream.Event) → units_by (aim_of_heard c l e) l.units ≡ l.units
   none-heard l e =
@@ -202,8 +199,8 @@ module _ (c : Config) where
   by-timer service tei timer (Some place) units = append-nil units
 
   by-expiry : (l : Line) (timer : Timer) → units_by (aim_of_expiry timer l) l.units ≡ l.units
-  by-expiry l (T200 service tei) = by-timer service tei link_timer.T200 (place_in l tei) l.units
-  by-expiry l (T203 service tei) = by-timer service tei link_timer.T203 (place_in l tei) l.units
+  by-expiry l (T200 service tei) = by-timer service tei LinkTimer.T200 (place_in l tei) l.units
+  by-expiry l (T203 service tei) = by-timer service tei LinkTimer.T203 (place_in l tei) l.units
   by-expiry l T201 = append-nil l.units
 
   by-asked : (service : Service) (tei : ℕ) (what : link.Request) (o : Option ℕ) (units : List UnitData) → units_by (at_requested service tei what o) units ≡ units ++ []

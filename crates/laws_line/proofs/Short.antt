@@ -1,7 +1,6 @@
 -- An answer has at most four notes and four orders.
-use Rattle.laws_line.proofs.Vocabulary.{ℕ, ◌≤◌, false, List, [], ◌∷◌, ◌++◌, length, Option, Some, None, IfSome, arith, length-append, option_or, Refusal, Service, Call, Packet, Timer, T201, Terms, LinkTimer, Link, Sent, event-tells, cleared-tells, two-orders, cleared-orders, Change, Gained, Left, Config, hears, request, next, LineTold, nothing, gave, at_timer, aim_of_expiry, notes_in, orders_in, Line, link_in, link_at, terms, terms_at, place_in, unless_refused_told, aim_of_heard, told_of_management, of_link, of_change, of_management, of_aim, Taken, message_taken, with_unit, unit_taken, with_given_frame, link_taken, first_taken, round, taken, next_of, Request, Establish, Release, Assign, Remove, SetBusy, ClearBusy, Deactivate, at_requested, at_deactivated, aim_of_request, IsBrief, told_brief, heard_aims, expiry_starts, Down, without_units, option_map, T200, T203, Event, expiry, AnswersAreShort, answer, unless_refused, with_message, refusal, Data, Unit, Check}
+use Rattle.laws_line.proofs.Vocabulary.{ℕ, ◌≤◌, false, List, [], ◌∷◌, ◌++◌, length, Option, Some, None, IfSome, arith, length-append, option_or, Refusal, Service, Call, Packet, Timer, T201, Terms, LinkTimer, Link, Sent, event-tells, cleared-tells, two-orders, cleared-orders, Change, Left, Config, hears, request, next, LineTold, nothing, gave, at_timer, aim_of_expiry, notes_in, orders_in, Line, link_in, link_at, terms, terms_at, place_in, unless_refused_told, aim_of_heard, told_of_management, of_link, of_change, of_management, of_aim, Taken, message_taken, with_unit, unit_taken, with_given_frame, link_taken, first_taken, round, taken, next_of, Request, Establish, Release, Assign, Remove, SetBusy, ClearBusy, Deactivate, at_requested, at_deactivated, aim_of_request, IsBrief, told_brief, heard_aims, expiry_starts, Down, without_units, option_map, T200, T203, Event, expiry, AnswersAreShort, answer, unless_refused, with_message, refusal, Data, Unit, Check}
 use Rattle.model_bits.specs.Stream as stream
-use Rattle.model_link.specs.declared.timers.LinkTimer.TheVariants as link_timer
 use Rattle.model_link.specs.Events as link
 use Rattle.model_link.specs.Machine as links
 use Rattle.lapd_tei.specs.Events as teis
@@ -32,8 +31,6 @@ module _ (c : Config) where
       omega (arith, whole, rest, other_whole, front, x, y, z)
 
   change_short : (o : Option Change) (t : tei.TeiTold) (l : Line) → IsBrief t → IsShort (of_change c o (told_of_management t) l).told
-  change_short None t l h = record { notes = omega (arith, h.notes); orders = omega (arith, h.orders) }
-  change_short (Some (Gained n place)) t l h = record { notes = omega (arith, h.notes); orders = omega (arith, h.orders) }
   change_short (Some (Left n place)) t l h =
       let call = of_link c Call n place link.cleared l in
       let first = link_in l Call place in
@@ -46,6 +43,7 @@ module _ (c : Config) where
             three call.told.orders (of_link c Packet n place link.cleared call.line).told.orders t.orders
             (cleared-orders (terms c Call n) first) (cleared-orders (terms c Packet n) second) h.orders;
       }
+  change_short other t l h = record { notes = omega (arith, h.notes); orders = omega (arith, h.orders) }
 
   management_short : (e : teis.Event) (l : Line) → IsShort (of_management c e l).told
   management_short e l =
@@ -66,8 +64,8 @@ module _ (c : Config) where
   timer_short l service n timer (Some place) = link_short service n place (link.expired timer) l
 
   expiry_short : (l : Line) (timer : Timer) → IsShort (of_aim c (aim_of_expiry timer l) l).told
-  expiry_short l (T200 service n) = timer_short l service n link_timer.T200 (place_in l n)
-  expiry_short l (T203 service n) = timer_short l service n link_timer.T203 (place_in l n)
+  expiry_short l (T200 service n) = timer_short l service n LinkTimer.T200 (place_in l n)
+  expiry_short l (T203 service n) = timer_short l service n LinkTimer.T203 (place_in l n)
   expiry_short l T201 = management_short teis.expiry l
 
   requested_short : (l : Line) (service : Service) (n : ℕ) (what : link.Request) (o : Option ℕ) → IsShort (of_aim c (at_requested service n what o) l).told

@@ -5,19 +5,14 @@ use Rattle.laws_line.proofs.Places.{is-off}
 -- A change of the table has its event, and its note.
 abbrev pub GainedBy : Event → ℕ → List Note → Type 0
 GainedBy (message octets) tei ns = ns ≡ Assigned tei ∷ []
-GainedBy expiry tei ns = ⊥
 GainedBy (assigning asked) tei ns = (asked ≡ tei) × (ns ≡ [])
-GainedBy (remove asked) tei ns = ⊥
-GainedBy (check asked) tei ns = ⊥
-GainedBy down tei ns = ⊥
+GainedBy other tei ns = ⊥
 
 abbrev pub LeftBy : Event → ℕ → List Note → Type 0
 LeftBy (message octets) tei ns = ns ≡ Doubled tei ∷ []
 LeftBy expiry tei ns = ns ≡ Removed tei ∷ []
-LeftBy (assigning asked) tei ns = ⊥
 LeftBy (remove asked) tei ns = (asked ≡ tei) × (ns ≡ [])
-LeftBy (check asked) tei ns = ⊥
-LeftBy down tei ns = ⊥
+LeftBy other tei ns = ⊥
 
 abbrev pub ByChange : Event → Option Change → List Note → Type 0
 ByChange e None ns = ns ≡ []

@@ -1,10 +1,7 @@
 -- How what an event aims at is tied to the event.
-use Rattle.laws_line.proofs.Vocabulary.{◌≡◌, ℕ, Bool, true, false, ◌==◌, cond, List, Option, Some, None, Result, Ok, Err, refl, inl, inr, Address, Control, ReadFault, BadExtension, Undefined, WrongSize, Short, Long, Service, Timer, T201, Tei, Unserved, Parts, reading, long_reading, service_of, LinkTimer, Config, hears, request, Answer, Aim, at_link, at_timer, aim_of_expiry, Line, place_in, drop_for, management_sapi, to_service, addressed, message_of, aim_of_reading, unless_at_link, aim_of_long, heard_side, aim_of_heard, side_aims, Request, Establish, Release, SetBusy, ClearBusy, Deactivate, at_requested, at_deactivated, aim_of_request, at_no_link, T200, T203, Event, expiry, group_tei, at_place, Data, is_granted, IsTooLong, BringsMalformed, IsBy, IsOf}
+use Rattle.laws_line.proofs.Vocabulary.{◌≡◌, ℕ, Bool, true, false, ◌==◌, cond, List, Option, Some, None, Result, Ok, Err, refl, inl, inr, Address, Control, ReadFault, Undefined, WrongSize, Long, Service, Timer, T201, Tei, Unserved, Parts, reading, long_reading, service_of, LinkTimer, Config, hears, request, Answer, Aim, at_link, at_timer, aim_of_expiry, Line, place_in, drop_for, management_sapi, to_service, addressed, message_of, aim_of_reading, unless_at_link, aim_of_long, heard_side, aim_of_heard, side_aims, Request, Establish, Release, SetBusy, ClearBusy, Deactivate, at_requested, at_deactivated, aim_of_request, at_no_link, T200, T203, Event, expiry, group_tei, at_place, Data, is_granted, IsTooLong, BringsMalformed, IsBy, IsOf}
 use Rattle.model_bits.specs.Stream as stream
-use Rattle.lapd_frame.specs.declared.controls.Control.TheVariants as control
-use Rattle.lapd_frame.specs.declared.overlong.Long.TheVariants as long
 use Rattle.model_link.specs.Events as link
-use Rattle.model_link.specs.declared.timers.LinkTimer.TheVariants as link_timer
 
 abbrev pub Ties : Config → Event → Answer → Aim → Type 0
 Ties c e answer (at_link service tei place event) = IsOf c e answer service tei event
@@ -33,7 +30,7 @@ module _ (c : Config) (l : Line) (e : Event) (answer : Answer) where
       go false group = to-its address.tei what (service_of address.sapi) by
 
   message-ties : (k : Control) (info : List ℕ) → Tied (message_of k info)
-  message-ties (control.Ui p) info = tt
+  message-ties (Control.Ui p) info = tt
   message-ties other info = tt
 
   unless-ties : (aim : Aim) → Tied (unless_at_link aim)
@@ -48,14 +45,13 @@ module _ (c : Config) (l : Line) (answer : Answer) where
       side_aims c parts (Ties c e answer) tt (λ service to. tt) (addressed l parts.address (link.frame parts) (message_of parts.control parts.info))
       (by-address c l e answer parts.address (link.frame parts) (message_of parts.control parts.info) (message-ties c l e answer parts.control parts.info)
       (λ service sapi. record { octets = octets; by = refl; read = read; sapi = sapi; tei_is = refl }))
-  read-ties octets (Err BadExtension) read = tt
   read-ties octets (Err (Undefined address)) read =
       by-address c l (hears (stream.frame octets)) answer address link.undefined (drop_for Unserved) tt
       (λ service sapi. record { octets = octets; address = address; by = inl (refl, read); sapi = sapi; tei_is = refl })
   read-ties octets (Err (WrongSize address)) read =
       by-address c l (hears (stream.frame octets)) answer address link.wrong_size (drop_for Unserved) tt
       (λ service sapi. record { octets = octets; address = address; by = inl (refl, read); sapi = sapi; tei_is = refl })
-  read-ties octets (Err Short) read = tt
+  read-ties octets other read = tt
 
   -- one that was too long to keep
   too-long : (head : List ℕ) (address : Address) (what : link.Received) → IsTooLong c address head what
@@ -63,15 +59,14 @@ module _ (c : Config) (l : Line) (answer : Answer) where
   too-long head address what is service sapi = record { octets = head; address = address; by = inr (refl, is); sapi = sapi; tei_is = refl }
 
   long-ties : (head : List ℕ) (r : Result Long ReadFault) → long_reading (heard_side c) head ≡ r → Ties c (hears (stream.overlong head)) answer (aim_of_long l r)
-  long-ties head (Ok (long.Information address)) read =
+  long-ties head (Ok (Long.Information address)) read =
       by-address c l (hears (stream.overlong head)) answer address link.overlong (drop_for Unserved) tt (too-long head address link.overlong read)
-  long-ties head (Ok (long.Unnumbered address)) read = unless-ties c l (hears (stream.overlong head)) answer (addressed l address link.overlong (drop_for Unserved))
-  long-ties head (Err BadExtension) read = tt
+  long-ties head (Ok (Long.Unnumbered address)) read = unless-ties c l (hears (stream.overlong head)) answer (addressed l address link.overlong (drop_for Unserved))
   long-ties head (Err (Undefined address)) read =
       by-address c l (hears (stream.overlong head)) answer address link.undefined (drop_for Unserved) tt (too-long head address link.undefined read)
   long-ties head (Err (WrongSize address)) read =
       by-address c l (hears (stream.overlong head)) answer address link.wrong_size (drop_for Unserved) tt (too-long head address link.wrong_size read)
-  long-ties head (Err Short) read = tt
+  long-ties head other read = tt
 
 pub heard-ties : (c : Config) (l : Line) (e : stream.Event) (answer : Answer) → Ties c (hears e) answer (aim_of_heard c l e)
 heard-ties c l (stream.frame octets) answer = read-ties c l answer octets (reading (heard_side c) octets) refl
@@ -85,8 +80,8 @@ timer-ties c l answer service tei timer None = tt
 timer-ties c l answer service tei timer (Some place) = refl
 
 pub expiry-ties : (c : Config) (l : Line) (timer : Timer) (answer : Answer) → Ties c (expiry timer) answer (aim_of_expiry timer l)
-expiry-ties c l (T200 service tei) answer = timer-ties c l answer service tei link_timer.T200 (place_in l tei)
-expiry-ties c l (T203 service tei) answer = timer-ties c l answer service tei link_timer.T203 (place_in l tei)
+expiry-ties c l (T200 service tei) answer = timer-ties c l answer service tei LinkTimer.T200 (place_in l tei)
+expiry-ties c l (T203 service tei) answer = timer-ties c l answer service tei LinkTimer.T203 (place_in l tei)
 expiry-ties c l T201 answer = tt
 
 -- A request that is granted.

@@ -1,7 +1,6 @@
 -- A caller that obeys the orders runs the timers that are needed: each event of a line.
 use Rattle.laws_line.proofs.Vocabulary.{◌≡◌, ◌≢◌, ℕ, zero, suc, ◌/◌, ◌%◌, ◌==◌, Bool, true, false, cond, arith, eq-eqb, true≢false, is_some, List, get_or, replicate, Option, Some, None, refl, ap, sym, ◌∙◌, subst, inl, inr, next_walk, option_map_or, none-some, Refusal, Service, Call, Packet, Order, Timer, T201, LinkTimer, Link, Sent, is_same, obeyed, IsTimed, Given, runs, timer_at, Terms, HasItsTimer, is-timed, timely-after, timely-fresh, sound-after, Follows, Moves, Management, IsSoundTable, Change, Gained, Left, t201_follows, expired_t201_follows, place_of-is, Config, request, gave, hears, next, at_link, at_management, at_units, told_of_management, of_change, of_aim, at_timer, is_running, runs_at, orders_in, Line, link_number, service_at, place_at, place_in, link_at, link_in, terms, with_link, fresh_line, link_count, unless_refused_told, aim_of_heard, Taken, with_unit, with_given_frame, taken, next_of, line_of, Request, Establish, Release, Assign, Remove, SetBusy, ClearBusy, Deactivate, at_requested, at_deactivated, aim_of_request, IsInRange, IsProper, heard_aims, request_proper, Down, without_units, at_no_link, option_map, eqb-true, T200, T203, fresh, Event, expiry, after, answer, unless_refused, with_message, refusal, Data, Unit, Check, IsSound, link_needs, is_needed, runs_then, HaveTheirTimers}
 use Rattle.model_bits.specs.Stream as stream
-use Rattle.model_link.specs.declared.timers.LinkTimer.TheVariants as link_timer
 use Rattle.model_link.specs.Events as link
 use Rattle.model_link.specs.Machine as links
 use Rattle.lapd_tei.specs.Events as teis
@@ -121,14 +120,14 @@ module _ (c : Config) (l : Line) (s : IsSound c l) where
   dead k service tei none = each-timer _ (by-t201 k) (λ k' s' n'. go k' s' n' (is_same (timer_of k service tei) (timer_of k' s' n')) refl)
     where
       by-t201 : (k : LinkTimer) → without (timer_of k service tei) T201 (is_running T201 l) ≡ is_running T201 l
-      by-t201 link_timer.T200 = refl
-      by-t201 link_timer.T203 = refl
+      by-t201 LinkTimer.T200 = refl
+      by-t201 LinkTimer.T203 = refl
 
       its-tei : (k k' : LinkTimer) (s' : Service) (n' : ℕ) → is_same (timer_of k service tei) (timer_of k' s' n') ≡ true → tei ≡ n'
-      its-tei link_timer.T200 link_timer.T200 s' n' e = eqb-true tei n' (both-true _ _ e).1
-      its-tei link_timer.T200 link_timer.T203 s' n' e = absurd (true≢false (sym e))
-      its-tei link_timer.T203 link_timer.T200 s' n' e = absurd (true≢false (sym e))
-      its-tei link_timer.T203 link_timer.T203 s' n' e = eqb-true tei n' (both-true _ _ e).1
+      its-tei LinkTimer.T200 LinkTimer.T200 s' n' e = eqb-true tei n' (both-true _ _ e).1
+      its-tei LinkTimer.T200 LinkTimer.T203 s' n' e = absurd (true≢false (sym e))
+      its-tei LinkTimer.T203 LinkTimer.T200 s' n' e = absurd (true≢false (sym e))
+      its-tei LinkTimer.T203 LinkTimer.T203 s' n' e = eqb-true tei n' (both-true _ _ e).1
 
       go : (k' : LinkTimer) (s' : Service) (n' : ℕ) (b : Bool) → is_same (timer_of k service tei) (timer_of k' s' n') ≡ b → cond b false (is_running (timer_of k' s' n') l) ≡ is_running (timer_of k' s' n') l
       go k' s' n' false e = refl
@@ -143,16 +142,16 @@ module _ (c : Config) (l : Line) (s : IsSound c l) where
       (same k) (steers-expiry (terms c service tei) k (link_in l service place) (timed (link_number place service))))
     where
       same : (k : LinkTimer) → timer_at (terms c service tei) k ≡ timer_of k service tei
-      same link_timer.T200 = refl
-      same link_timer.T203 = refl
+      same LinkTimer.T200 = refl
+      same LinkTimer.T203 = refl
 
   -- and of T201
   pub t201-expired : Follow (without T201) l (of_aim c (at_management teis.expiry) l).told.orders (of_aim c (at_management teis.expiry) l).line
   t201-expired = management-followed c l s (without T201) (λ k service tei b. ours k service tei b) teis.expiry tt (expired_t201_follows l.management)
     where
       ours : (k : LinkTimer) (service : Service) (tei : ℕ) (b : Bool) → without T201 (timer_of k service tei) b ≡ b
-      ours link_timer.T200 service tei b = refl
-      ours link_timer.T203 service tei b = refl
+      ours LinkTimer.T200 service tei b = refl
+      ours LinkTimer.T203 service tei b = refl
 
   -- A call for the next frame: what a link gives, it orders as well.
   given-orders : (t : Terms) (x : Link) (g : Given) → links.given t x ≡ Some g → g.orders ≡ (links.told t link.offer x).orders
@@ -193,8 +192,8 @@ Runs c e l timer = runs_then timer (is_running timer l) e (answer c e l) ≡ is_
 runs-follow : (c : Config) (e : Event) (l : Line) (timer : Timer) → IsSound c l → ((number : ℕ) → IsTimed (link_at number l)) → Runs c e l timer
 unfolding after answer
 runs-follow c (hears e) l timer s timed = heard-followed c l s e timer
-runs-follow c (expiry (T200 service tei)) l timer s timed = expired c l s link_timer.T200 service tei timed (place_in l tei) refl timer
-runs-follow c (expiry (T203 service tei)) l timer s timed = expired c l s link_timer.T203 service tei timed (place_in l tei) refl timer
+runs-follow c (expiry (T200 service tei)) l timer s timed = expired c l s LinkTimer.T200 service tei timed (place_in l tei) refl timer
+runs-follow c (expiry (T203 service tei)) l timer s timed = expired c l s LinkTimer.T203 service tei timed (place_in l tei) refl timer
 runs-follow c (expiry T201) l timer s timed = t201-expired c l s timer
 runs-follow c (request r) l timer s timed = go (refusal c false r l) (request_proper c l r)
   where
@@ -212,8 +211,8 @@ needs-runs k service l h (Some place) = ap (runs k) (sym (h.links (link_number p
 
 pub needed-runs : (l : Line) → HaveTheirTimers l → (timer : Timer) → is_needed timer l ≡ is_running timer l
 needed-runs l h T201 = refl
-needed-runs l h (T200 service tei) = needs-runs link_timer.T200 service l h (place_in l tei)
-needed-runs l h (T203 service tei) = needs-runs link_timer.T203 service l h (place_in l tei)
+needed-runs l h (T200 service tei) = needs-runs LinkTimer.T200 service l h (place_in l tei)
+needed-runs l h (T203 service tei) = needs-runs LinkTimer.T203 service l h (place_in l tei)
 
 pub timely-line : (c : Config) (e : Event) (l : Line) → IsInRange c → IsSound c l → HaveTheirTimers l → HaveTheirTimers (after c e l)
 timely-line c e l ranged s h = record {
@@ -241,5 +240,5 @@ nowhere c tei = has-no-place (replicate c.terminals None) tei (λ i at. none-som
 
 pub begins-with-none : (c : Config) (timer : Timer) → is_needed timer (fresh_line c) ≡ false
 begins-with-none c T201 = refl
-begins-with-none c (T200 service tei) = ap (λ o. option_map_or (link_needs link_timer.T200 service (fresh_line c)) o false) (nowhere c tei)
-begins-with-none c (T203 service tei) = ap (λ o. option_map_or (link_needs link_timer.T203 service (fresh_line c)) o false) (nowhere c tei)
+begins-with-none c (T200 service tei) = ap (λ o. option_map_or (link_needs LinkTimer.T200 service (fresh_line c)) o false) (nowhere c tei)
+begins-with-none c (T203 service tei) = ap (λ o. option_map_or (link_needs LinkTimer.T203 service (fresh_line c)) o false) (nowhere c tei)

@@ -1,8 +1,6 @@
 -- Where all that a link keeps goes, layer 3 learns it.
 use Rattle.laws_line.proofs.Vocabulary.{◌≡◌, ◌≢◌, ℕ, Bool, true, false, cond, ◌||◌, ◌&&◌, ◌==◌, List, [], ◌∷◌, get_or, Option, Some, None, is_some, refl, sym, ap, ◌∙◌, subst, true≢false, eq-eqb, ◌⊎◌, inl, inr, ⊎_elim, list_any, option_map_or, get_or-set_same, All-head, All-tail, none-some, Note, Refusal, Service, Call, Packet, Timer, T201, same_service, Terms, LinkTimer, IsOwn, notes-own, is_loss, tells_loss, is_release, ends, share, Management, IsAt, Change, Gained, Left, place_of-is, Config, request, LineTold, told, nothing, hears, next, is_change_at, Aim, at_none, at_link, at_management, at_units, told_of_management, of_change, of_aim, at_timer, aim_of_expiry, Line, link_number, service_at, place_at, tei_at, place_in, link_in, terms, unless_refused_told, aim_of_heard, Request, Establish, Release, Assign, Remove, SetBusy, ClearBusy, Deactivate, at_requested, at_deactivated, aim_of_request, IsProper, place_at-number, service_at-number, heard_aims, request_proper, Down, at_no_link, eqb-true, All, T200, T203, Event, expiry, after, answer, unless_refused, refusal, Data, Unit, Check, IsSound, no_share, ending, share_aimed, share_of, is_link, is_loss_of, IsTold}
 use Rattle.model_bits.specs.Stream as stream
-use Rattle.lapd_frame.specs.declared.notes.Note.TheVariants as notes
-use Rattle.model_link.specs.declared.timers.LinkTimer.TheVariants as link_timer
 use Rattle.model_link.specs.Events as link
 use Rattle.model_link.specs.Machine as links
 use Rattle.model_link.specs.Requests as requests
@@ -21,9 +19,9 @@ its-own t s n own =
     ∙ ap (λ b. b && n == t.tei) (same_of_itself t.service) ∙ eq-eqb n t.tei own.1
 
 own-loss : (t : Terms) (n : Note) → IsOwn t n → is_loss_of t.service t.tei n ≡ is_loss n
-own-loss t (notes.EstablishIndication s n) own = its-own t s n own
-own-loss t (notes.ReleaseIndication s n) own = its-own t s n own
-own-loss t (notes.ReleaseConfirm s n) own = its-own t s n own
+own-loss t (Note.EstablishIndication s n) own = its-own t s n own
+own-loss t (Note.ReleaseIndication s n) own = its-own t s n own
+own-loss t (Note.ReleaseConfirm s n) own = its-own t s n own
 own-loss t other own = refl
 
 own-losses : (t : Terms) (ns : List Note) → All (IsOwn t) ns → list_any (is_loss_of t.service t.tei) ns ≡ tells_loss ns
@@ -93,9 +91,8 @@ module _ (c : Config) (l : Line) (s : IsSound c l) (number : ℕ) where
       at-it false e = e
 
       places-are : (o : Option Change) → get_or m.places (place_at number) None ≡ tei_at (place_at number) (of_change c o r (record l { management = m })).line
-      places-are None = refl
       places-are (Some (Gained tei place)) = refl
-      places-are (Some (Left tei place)) = refl
+      places-are other = refl
 
   management : (event : Event) (e : teis.Event) → tei_laws.IsInRange e → Tells event (at_management e)
   management event e fits =
@@ -117,8 +114,8 @@ module _ (c : Config) (l : Line) (s : IsSound c l) (number : ℕ) where
   timer-tells event service tei timer (Some place) e = at-link event service tei place (link.expired timer) (place_of-is l.management.places tei place e).1 (λ y is. absurd (true≢false (sym y)))
 
   pub expiry-tells : (event : Event) (timer : Timer) → Tells event (aim_of_expiry timer l)
-  expiry-tells event (T200 service tei) = timer-tells event service tei link_timer.T200 (place_in l tei) refl
-  expiry-tells event (T203 service tei) = timer-tells event service tei link_timer.T203 (place_in l tei) refl
+  expiry-tells event (T200 service tei) = timer-tells event service tei LinkTimer.T200 (place_in l tei) refl
+  expiry-tells event (T203 service tei) = timer-tells event service tei LinkTimer.T203 (place_in l tei) refl
   expiry-tells event T201 = management event teis.expiry tt
 
   -- what is asked for

@@ -1,8 +1,6 @@
 -- Contents that an answer hands on are noted once.
 use Rattle.laws_line.proofs.Vocabulary.{◌≡◌, ℕ, ◌+◌, false, cond, List, [], ◌∷◌, ◌++◌, length, Option, Some, None, option_to_list, refl, ap, ◌∙◌, ◌⊎◌, inl, inr, arith, count_by, option_or, sum_by-cons, sum_by-append, Note, Refusal, Service, Call, Packet, Timer, T201, State, TeiAssigned, AwaitingEstablishment, AwaitingRelease, Established, TimerRecovery, Terms, LinkTimer, Link, is_data, is_unit, event-tells, Change, Gained, Left, place_of-is, Config, request, hears, next, Aim, at_link, at_management, told_of_management, of_link, of_change, of_aim, at_timer, aim_of_expiry, Line, place_in, link_in, terms, unless_refused_told, aim_of_heard, Request, Establish, Release, Assign, Remove, SetBusy, ClearBusy, Deactivate, at_requested, at_deactivated, aim_of_request, IsInRange, sound_in, heard_aims, Down, T200, T203, begun, Event, expiry, answer, unless_refused, refusal, Data, Unit, Check, IsSound, tells_contents, IsNotedOnce}
 use Rattle.model_bits.specs.Stream as stream
-use Rattle.lapd_frame.specs.declared.notes.Note.TheVariants as notes
-use Rattle.model_link.specs.declared.timers.LinkTimer.TheVariants as link_timer
 use Rattle.model_link.specs.Events as link
 use Rattle.model_link.specs.Machine as links
 use Rattle.model_link.specs.Sound as link_sound
@@ -13,7 +11,7 @@ use Rattle.laws_line.proofs.Downs.{by-down}
 
 -- Notes of contents are those of data and those of unit data.
 one-note : (n : Note) → cond {A = ℕ} (tells_contents n) 1 0 ≡ cond {A = ℕ} (is_data n) 1 0 + cond {A = ℕ} (is_unit n) 1 0
-one-note (notes.EstablishIndication s n) = refl
+one-note (Note.EstablishIndication s n) = refl
 one-note other = refl
 
 both : (ns : List Note) → count_by tells_contents ns ≡ count_by is_data ns + count_by is_unit ns
@@ -57,14 +55,14 @@ is-none ns known e none = ap (count_by tells_contents) e ∙ none
 
 management-none : (e : teis.Event) (o : Option Change) (ns : List Note) → ByChange e o ns → count_by tells_contents ns ≡ 0
 management-none e None ns by = is-none ns [] by refl
-management-none (teis.message octets) (Some (Gained tei place)) ns by = is-none ns (notes.Assigned tei ∷ []) by refl
+management-none (teis.message octets) (Some (Gained tei place)) ns by = is-none ns (Note.Assigned tei ∷ []) by refl
 management-none teis.expiry (Some (Gained tei place)) ns by = absurd by
 management-none (teis.assign asked) (Some (Gained tei place)) ns by = is-none ns [] by.1 refl
 management-none (teis.remove asked) (Some (Gained tei place)) ns by = absurd by
 management-none (teis.check asked) (Some (Gained tei place)) ns by = absurd by
 management-none teis.down (Some (Gained tei place)) ns by = absurd by
-management-none (teis.message octets) (Some (Left tei place)) ns by = is-none ns (notes.Doubled tei ∷ []) by refl
-management-none teis.expiry (Some (Left tei place)) ns by = is-none ns (notes.Removed tei ∷ []) by refl
+management-none (teis.message octets) (Some (Left tei place)) ns by = is-none ns (Note.Doubled tei ∷ []) by refl
+management-none teis.expiry (Some (Left tei place)) ns by = is-none ns (Note.Removed tei ∷ []) by refl
 management-none (teis.assign asked) (Some (Left tei place)) ns by = absurd by
 management-none (teis.remove asked) (Some (Left tei place)) ns by = is-none ns [] by.1 refl
 management-none (teis.check asked) (Some (Left tei place)) ns by = absurd by
@@ -92,8 +90,6 @@ module _ (c : Config) (ranged : IsInRange c) (l : Line) (s : IsSound c l) where
   changed-once : (e : teis.Event) (o : Option Change) → ByChange e o (teis.told e l.management).notes
       → let t = (of_change c o (told_of_management (teis.told e l.management)) (record l { management = teis.after e l.management })).told in
       count_by tells_contents t.notes ≡ length (option_to_list t.contents)
-  changed-once e None by = management-none e None (teis.told e l.management).notes by
-  changed-once e (Some (Gained tei place)) by = management-none e (Some (Gained tei place)) (teis.told e l.management).notes by
   changed-once e (Some (Left tei place)) by =
       let now = record l { management = teis.after e l.management } in
       let call = of_link c Call tei place link.cleared now in
@@ -101,6 +97,7 @@ module _ (c : Config) (ranged : IsInRange c) (l : Line) (s : IsSound c l) where
       three-none (teis.told e l.management).notes call.told.notes packet.told.notes
       (management-none e (Some (Left tei place)) (teis.told e l.management).notes by)
       (cleared-none (terms c Call tei) (link_in now Call place)) (cleared-none (terms c Packet tei) (link_in call.line Packet place))
+  changed-once e other by = management-none e other (teis.told e l.management).notes by
 
   managed : (e : teis.Event) → Once (at_management e)
   managed e = changed-once e (teis.told e l.management).change (noted e l.management s.management)
@@ -115,8 +112,8 @@ module _ (c : Config) (ranged : IsInRange c) (l : Line) (s : IsSound c l) where
   timer-once service tei timer (Some place) on = at-its-link service tei place (link.expired timer) on
 
   expiry-once : (timer : Timer) → Once (aim_of_expiry timer l)
-  expiry-once (T200 service tei) = timer-once service tei link_timer.T200 (place_in l tei) refl
-  expiry-once (T203 service tei) = timer-once service tei link_timer.T203 (place_in l tei) refl
+  expiry-once (T200 service tei) = timer-once service tei LinkTimer.T200 (place_in l tei) refl
+  expiry-once (T203 service tei) = timer-once service tei LinkTimer.T203 (place_in l tei) refl
   expiry-once T201 = managed teis.expiry
 
   asked-once : (service : Service) (tei : ℕ) (what : link.Request) (o : Option ℕ) → place_in l tei ≡ o → Once (at_requested service tei what o)

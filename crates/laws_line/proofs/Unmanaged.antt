@@ -2,7 +2,6 @@
 use Rattle.laws_line.proofs.Vocabulary.{◌≡◌, ℕ, Bool, true, false, not, [], ◌∷◌, drop, Option, Some, None, refl, sym, ap, ◌∙◌, true≢false, inl, inr, next_walk, option_map_or, User, Network, Refusal, Service, T201, Management, expire_check, join_at, put_on, free_place, LinkTimer, Config, at_management, of_aim, hears, request, next, at_timer, Line, place_in, Taken, taken, line_of, wrong_side, bad_tei, no_link, check_running, control_full, Request, Establish, Release, Assign, Remove, SetBusy, ClearBusy, Deactivate, at_requested, at_deactivated, aim_of_request, has_management, Down, T200, T203, tei_begun as begun, Event, expiry, after, unless_refused, refusal, Data, Unit, Check, IsSound, IsUnmanaged, UsersManageNothing}
 use Rattle.model_bits.specs.Stream as stream
 use Rattle.lapd_tei.specs.Events as teis
-use Rattle.model_link.specs.declared.timers.LinkTimer.TheVariants as link_timer
 use Rattle.model_link.specs.Events as link
 use Rattle.laws_line.proofs.Asked.{passed}
 use Rattle.laws_line.proofs.GroupAims.{heard-aims-at}
@@ -111,8 +110,8 @@ module _ (c : Config) (l : Line) (user : c.side ≡ User) (s : IsSound c l) (h :
 pub unmanaged-stays : (c : Config) (e : Event) (l : Line) → c.side ≡ User → IsSound c l → IsUnmanaged l → IsUnmanaged (after c e l)
 unfolding after
 unmanaged-stays c (hears e) l user s h = by-heard c l user s h e
-unmanaged-stays c (expiry (T200 service tei)) l user s h = by-timer c l user s h service tei link_timer.T200 (place_in l tei)
-unmanaged-stays c (expiry (T203 service tei)) l user s h = by-timer c l user s h service tei link_timer.T203 (place_in l tei)
+unmanaged-stays c (expiry (T200 service tei)) l user s h = by-timer c l user s h service tei LinkTimer.T200 (place_in l tei)
+unmanaged-stays c (expiry (T203 service tei)) l user s h = by-timer c l user s h service tei LinkTimer.T203 (place_in l tei)
 unmanaged-stays c (expiry T201) l user s h =
     let none = idle-t201 l.management h.check in
     by-management c l user s h teis.expiry

@@ -1,6 +1,5 @@
 -- What is told where the numbers begin anew.
-use Rattle.laws_link.proofs.Vocabulary.{◌≡◌, ℕ, Bool, true, false, cond, List, refl, ◌⊎◌, inl, inr, sym, true≢false, list_any, Control, Sabme, Ua, State, TeiAssigned, AwaitingEstablishment, AwaitingRelease, Established, TimerRecovery, Terms, Link, has_outstanding, restarts, MayEstablish, Establishes, Course, begun, ◌then◌, tells_beginning, IsSeen}
-use Rattle.lapd_frame.specs.declared.notes.ErrorCode.TheVariants as code
+use Rattle.laws_link.proofs.Vocabulary.{◌≡◌, ℕ, Bool, true, false, cond, List, refl, ◌⊎◌, inl, inr, sym, true≢false, list_any, Control, Sabme, Ua, State, TeiAssigned, AwaitingEstablishment, AwaitingRelease, Terms, Link, has_outstanding, restarts, MayEstablish, Establishes, Course, begun, ◌then◌, tells_beginning, IsSeen, ErrorCode}
 use Rattle.model_link.specs.Events
 use Rattle.model_link.specs.Words
 use Rattle.model_link.specs.Machine
@@ -19,16 +18,14 @@ module _ (t : Terms) (l : Link) where
   Seen c = Tells c ⊎ ((l.state ≡ AwaitingEstablishment) × (l.asked ≡ false))
 
   abbrev from-7-8 : Bool → Course
-  from-7-8 p = (Words.send t (Words.response (Ua p)) then Words.clear_flags then Words.error t code.F) (begun l)
+  from-7-8 p = (Words.send t (Words.response (Ua p)) then Words.clear_flags then Words.error t ErrorCode.F) (begun l)
 
   by-sabme : (here : State) (b p : Bool) (octets : List ℕ) → (Machine.frame_in here t b octets (Sabme p) (begun l)).zeroed ≡ true
       → Tells (Machine.frame_in here t b octets (Sabme p) (begun l))
   by-sabme TeiAssigned b p octets e = refl
   by-sabme AwaitingEstablishment b p octets e = absurd (true≢false (sym e))
   by-sabme AwaitingRelease b p octets e = absurd (true≢false (sym e))
-  by-sabme Established b p octets e =
-      either (has_outstanding (from-7-8 p).link) ((Words.discard then Words.establish_indication t) (from-7-8 p)) (from-7-8 p) refl refl
-  by-sabme TimerRecovery b p octets e =
+  by-sabme other b p octets e =
       either (has_outstanding (from-7-8 p).link) ((Words.discard then Words.establish_indication t) (from-7-8 p)) (from-7-8 p) refl refl
 
   asked-for : l.state ≡ AwaitingEstablishment → (asked : Bool) → l.asked ≡ asked → (u v : Course) → Tells u → Seen (cond asked u v)

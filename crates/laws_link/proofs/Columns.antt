@@ -1,7 +1,5 @@
 -- What an event leaves of a link, row by row of the tables.
-use Rattle.laws_link.proofs.Vocabulary.{◌≡◌, ℕ, ◌+◌, Bool, true, false, cond, not, ◌||◌, List, [], ◌∷◌, ◌++◌, length, drop, Option, None, Some, is_some, refl, nat_lt, Control, Note, Parts, State, AwaitingEstablishment, LinkTimer, ControlFrame, Terms, Link, Course, begun, Step, ◌then◌, as_heard, state_after, numbers_begin, answers, commands, peer_busy_left, own_busy_left, flag_left, rejecting_heard, takes_contents, unless_put, owed_in, owed_behind, asked_left, repeats_left, told_with}
-use Rattle.lapd_frame.specs.declared.notes.Note.TheVariants as said
-use Rattle.lapd_frame.specs.declared.notes.ErrorCode.TheVariants as code
+use Rattle.laws_link.proofs.Vocabulary.{◌≡◌, ℕ, ◌+◌, Bool, true, false, cond, not, ◌||◌, List, [], ◌∷◌, ◌++◌, length, drop, Option, None, Some, is_some, refl, nat_lt, Control, Note, Parts, State, AwaitingEstablishment, LinkTimer, ControlFrame, Terms, Link, Course, begun, Step, ◌then◌, as_heard, state_after, numbers_begin, answers, commands, peer_busy_left, own_busy_left, flag_left, rejecting_heard, takes_contents, unless_put, owed_in, owed_behind, asked_left, repeats_left, told_with, ErrorCode}
 use Rattle.model_link.specs.Events
 use Rattle.model_link.specs.Words
 use Rattle.model_link.specs.Machine
@@ -98,17 +96,17 @@ module _ (t : Terms) where
   chosen false u v c x y = y
 
   pub unit-left : (octets : List ℕ) (l : Link)
-      → left (Words.unit_data t octets (begun l)) ≡ record (left (begun l)) { notes = cond (nat_lt t.n201 (length octets)) [] (said.Unit t.service t.tei ∷ []) }
+      → left (Words.unit_data t octets (begun l)) ≡ record (left (begun l)) { notes = cond (nat_lt t.n201 (length octets)) [] (Note.Unit t.service t.tei ∷ []) }
   unit-left octets l = go (nat_lt t.n201 (length octets))
     where
       go : (over : Bool) → left (cond over (Words.leave_unserved (begun l)) (Words.deliver_unit t octets (begun l)))
-          ≡ record (left (begun l)) { notes = cond over [] (said.Unit t.service t.tei ∷ []) }
+          ≡ record (left (begun l)) { notes = cond over [] (Note.Unit t.service t.tei ∷ []) }
       go true = refl
       go false = refl
 
   -- An N(R) that is valid, or not.
   pub by-named : (D : State → Left) (c : Course) (f : ℕ → Step) (o : Option ℕ) (to : State)
-      → left ((Words.error t code.J then Words.re_establish t) c) ≡ D AwaitingEstablishment → ((n : ℕ) → left (f n c) ≡ D to)
-      → left (elim o [ None ↦ (Words.error t code.J then Words.re_establish t) c | Some n ↦ f n c ]) ≡ D (cond (not (is_some o)) AwaitingEstablishment to)
+      → left ((Words.error t ErrorCode.J then Words.re_establish t) c) ≡ D AwaitingEstablishment → ((n : ℕ) → left (f n c) ≡ D to)
+      → left (elim o [ None ↦ (Words.error t ErrorCode.J then Words.re_establish t) c | Some n ↦ f n c ]) ≡ D (cond (not (is_some o)) AwaitingEstablishment to)
   by-named D c f None to x y = x
   by-named D c f (Some n) to x y = y n

@@ -1,6 +1,5 @@
 -- What any event leaves of a link.
-use Rattle.laws_link.proofs.Vocabulary.{◌≡◌, ℕ, Bool, true, false, cond, List, [], ◌∷◌, Option, None, Some, refl, nat_lt, Control, Sabme, Disc, Refusal, Parts, State, TeiAssigned, AwaitingEstablishment, AwaitingRelease, Established, TimerRecovery, LinkTimer, T200, T203, ControlFrame, Terms, Link, Course, begun, ◌then◌, changed, by_expiry}
-use Rattle.lapd_frame.specs.declared.notes.ErrorCode.TheVariants as code
+use Rattle.laws_link.proofs.Vocabulary.{◌≡◌, ℕ, Bool, true, false, cond, List, [], ◌∷◌, Option, None, Some, refl, nat_lt, Control, Sabme, Disc, Refusal, Parts, State, TeiAssigned, AwaitingEstablishment, AwaitingRelease, Established, TimerRecovery, LinkTimer, T200, T203, ControlFrame, Terms, Link, Course, begun, ◌then◌, changed, by_expiry, ErrorCode}
 use Rattle.model_link.specs.Events
 use Rattle.model_link.specs.Words
 use Rattle.model_link.specs.MultipleFrame
@@ -35,7 +34,7 @@ module _ (t : Terms) where
     where
       go : (again : Bool) → let x = at-running AwaitingEstablishment (Some T200) l in
           left (cond again ((Words.send t (Words.command (Sabme true)) then Words.repeated then Words.start T200) (begun x))
-          ((Words.discard then Words.error t code.G then Words.release_indication t then Words.no_timer then Words.enter TeiAssigned) (begun x)))
+          ((Words.discard then Words.error t ErrorCode.G then Words.release_indication t then Words.no_timer then Words.enter TeiAssigned) (begun x)))
           ≡ due t (Events.expired T200) x (by_expiry AwaitingEstablishment T200 again)
       go true = refl
       go false = refl
@@ -45,7 +44,7 @@ module _ (t : Terms) where
     where
       go : (again : Bool) → let x = at-running AwaitingRelease (Some T200) l in
           left (cond again ((Words.send t (Words.command (Disc true)) then Words.repeated then Words.start T200) (begun x))
-          ((Words.error t code.H then Words.release_confirm t then Words.no_timer then Words.enter TeiAssigned) (begun x)))
+          ((Words.error t ErrorCode.H then Words.release_confirm t then Words.no_timer then Words.enter TeiAssigned) (begun x)))
           ≡ due t (Events.expired T200) x (by_expiry AwaitingRelease T200 again)
       go true = refl
       go false = refl
@@ -57,7 +56,7 @@ module _ (t : Terms) where
   by-t200 TimerRecovery l (Some T200) = go (nat_lt l.repeats t.n200)
     where
       go : (again : Bool) → let x = at-running TimerRecovery (Some T200) l in
-          left (cond again ((Words.enquire t then Words.repeated then Words.start T200) (begun x)) (MultipleFrame.failed t code.I (begun x)))
+          left (cond again ((Words.enquire t then Words.repeated then Words.start T200) (begun x)) (MultipleFrame.failed t ErrorCode.I (begun x)))
           ≡ due t (Events.expired T200) x (by_expiry TimerRecovery T200 again)
       go true = refl
       go false = refl

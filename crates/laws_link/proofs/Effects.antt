@@ -1,5 +1,5 @@
 -- What comes of a request that is granted.
-use Rattle.laws_link.proofs.Vocabulary.{◌≡◌, ℕ, ◌+◌, ◌≤◌, Bool, true, false, cond, List, [], ◌∷◌, ◌++◌, length, take, drop, length-take-le, Option, None, Some, refl, ap, sym, ◌∙◌, subst, true≢false, arith, ◌⊎◌, inl, inr, ⊎_elim, nat_lt, cases_lt, lt-ltb, le-ltb, drop_all, drop-append-le, Refusal, WrongState, State, TeiAssigned, AwaitingEstablishment, AwaitingRelease, Established, TimerRecovery, ControlFrame, Terms, Link, IsSound, Course, begun, ◌then◌, IsReleasedIn, TakesEffect}
+use Rattle.laws_link.proofs.Vocabulary.{◌≡◌, ℕ, ◌+◌, ◌≤◌, Bool, true, false, cond, List, [], ◌∷◌, ◌++◌, length, take, drop, length-take-le, Option, None, Some, refl, ap, sym, ◌∙◌, subst, true≢false, arith, ◌⊎◌, inl, inr, ⊎_elim, nat_lt, cases_lt, lt-ltb, le-ltb, drop_all, drop-append-le, Refusal, WrongState, State, TeiAssigned, Established, TimerRecovery, ControlFrame, Terms, Link, IsSound, Course, begun, ◌then◌, IsReleasedIn, TakesEffect}
 use Rattle.model_link.specs.Events
 use Rattle.model_link.specs.Machine
 use Rattle.model_link.specs.Words
@@ -24,10 +24,9 @@ module _ (t : Terms) (l : Link) where
   released : (here : State) → Requests.serves here Events.Release ≡ true → l.a ≤ length l.contents
       → let c = Requests.release_in here t (begun l) in (l.state ≡ here → IsReleasedIn here t l c.link c.notes c.lost)
   released TeiAssigned s most = λ e. (e, refl)
-  released AwaitingEstablishment s most = absurd (true≢false (sym s))
-  released AwaitingRelease s most = absurd (true≢false (sym s))
   released Established s most = λ e. (record { state_is = refl; waits = put t _ l.waiting; timed = refl; repeats = refl }, emptied most)
   released TimerRecovery s most = λ e. (record { state_is = refl; waits = put t _ l.waiting; timed = refl; repeats = refl }, emptied most)
+  released other s most = absurd (true≢false (sym s))
 
   begins-busy : (b : Bool) → l.own_busy ≡ b → Takes Events.SetBusy (cond b (begun l) ((Words.own_busy_is true then Words.report_ready t) (begun l)))
   begins-busy true e = record { busy = e; told = λ off. absurd (true≢false (sym e ∙ off)) }

@@ -1,7 +1,5 @@
 -- What comes of the expiry of a timer that runs.
-use Rattle.laws_link.proofs.Vocabulary.{◌≡◌, ◌+◌, ◌<◌, ◌≤◌, true, cond, [], ◌∷◌, refl, sym, subst, nat_lt, lt-ltb, le-ltb, Sabme, Disc, State, TeiAssigned, AwaitingEstablishment, AwaitingRelease, Established, TimerRecovery, LinkTimer, T200, T203, Terms, Link, Course, begun, runs, IsSent, enquiry, IsGivenUp, ExpiresIn, Expires}
-use Rattle.lapd_frame.specs.declared.notes.Note.TheVariants as notes
-use Rattle.lapd_frame.specs.declared.notes.ErrorCode.TheVariants as code
+use Rattle.laws_link.proofs.Vocabulary.{◌≡◌, ◌+◌, ◌<◌, ◌≤◌, true, cond, [], ◌∷◌, refl, sym, subst, nat_lt, lt-ltb, le-ltb, Sabme, Disc, State, TeiAssigned, AwaitingEstablishment, AwaitingRelease, Established, TimerRecovery, LinkTimer, T200, T203, Terms, Link, Course, begun, runs, IsSent, enquiry, IsGivenUp, ExpiresIn, Expires, Note, ErrorCode}
 use Rattle.model_link.specs.Events
 use Rattle.model_link.specs.Machine
 use Rattle.laws_link.proofs.Effects.{put}
@@ -22,14 +20,14 @@ module _ (t : Terms) (l : Link) where
   expires-in AwaitingEstablishment e T200 = (
     λ more. repeats (λ c. IsSent t AwaitingEstablishment (Sabme true) (l.repeats + 1) l c.link c.lost) _ _ more
         (record { state_is = e; waits = put t _ l.waiting; timed = refl; repeated = refl }),
-    λ most. ends (λ c. IsGivenUp l c.link (notes.Error t.service t.tei code.G ∷ notes.ReleaseIndication t.service t.tei ∷ []) c.notes) _ _ most
+    λ most. ends (λ c. IsGivenUp l c.link (Note.Error t.service t.tei ErrorCode.G ∷ Note.ReleaseIndication t.service t.tei ∷ []) c.notes) _ _ most
         (record { state = refl; tells = refl }),
   )
   expires-in AwaitingEstablishment e T203 = tt
   expires-in AwaitingRelease e T200 = (
     λ more. repeats (λ c. IsSent t AwaitingRelease (Disc true) (l.repeats + 1) l c.link c.lost) _ _ more
         (record { state_is = e; waits = put t _ l.waiting; timed = refl; repeated = refl }),
-    λ most. ends (λ c. IsGivenUp l c.link (notes.Error t.service t.tei code.H ∷ notes.ReleaseConfirm t.service t.tei ∷ []) c.notes) _ _ most
+    λ most. ends (λ c. IsGivenUp l c.link (Note.Error t.service t.tei ErrorCode.H ∷ Note.ReleaseConfirm t.service t.tei ∷ []) c.notes) _ _ most
         (record { state = refl; tells = refl }),
   )
   expires-in AwaitingRelease e T203 = tt
@@ -37,7 +35,7 @@ module _ (t : Terms) (l : Link) where
   expires-in TimerRecovery e T200 = (
     λ more. repeats (λ c. IsSent t TimerRecovery (enquiry l) (l.repeats + 1) l c.link c.lost) _ _ more
         (record { state_is = e; waits = put t _ l.waiting; timed = refl; repeated = refl }),
-    λ most. ends (λ c. IsSent t AwaitingEstablishment (Sabme true) 0 l c.link c.lost × (c.notes ≡ notes.Error t.service t.tei code.I ∷ [])) _ _ most
+    λ most. ends (λ c. IsSent t AwaitingEstablishment (Sabme true) 0 l c.link c.lost × (c.notes ≡ Note.Error t.service t.tei ErrorCode.I ∷ [])) _ _ most
         (record { state_is = refl; waits = put t _ l.waiting; timed = refl; repeated = refl }, refl),
   )
   expires-in TimerRecovery e T203 = tt

@@ -6,11 +6,9 @@ use Rattle.laws_link.proofs.Placing.{placed}
 use Rattle.laws_link.proofs.EachRow.{each-row}
 
 waiting-is : (t : Terms) (e : Events.Event) (l : Link) (to : State) → queued_by t e l (put e l to) ≡ waiting_left t e l to
-waiting-is t (Events.received r) l to = (placed t.control (put (Events.received r) l to) l.waiting).0
-waiting-is t (Events.expired timer) l to = (placed t.control (put (Events.expired timer) l to) l.waiting).0
-waiting-is t (Events.requested request full) l to = (placed t.control (put (Events.requested request full) l to) l.waiting).0
 waiting-is t Events.offer l to = refl
 waiting-is t Events.cleared l to = refl
+waiting-is t other l to = (placed t.control (put other l to) l.waiting).0
 
 pending-is : (e : Events.Event) (l : Link) (to : State) → owed_by e l to (put e l to) (takes_contents e l) ≡ pending_left e l to
 pending-is (Events.received r) l to = refl

@@ -1,6 +1,5 @@
 -- From where a link sends again.
-use Rattle.laws_link.proofs.Vocabulary.{◌≡◌, ℕ, Bool, true, false, List, Option, Some, None, refl, sym, ap, ◌∙◌, subst, Seq, named, Control, ReceiveReady, ReceiveNotReady, Reject, Note, State, Established, TimerRecovery, LinkTimer, T200, T203, Terms, Link, Course, begun, Step, ◌then◌, Leads, keeping_then, nothing_leads, depending_leads, bit_leads, asked_from, reported, GoesBackTo}
-use Rattle.lapd_frame.specs.declared.notes.ErrorCode.TheVariants as code
+use Rattle.laws_link.proofs.Vocabulary.{◌≡◌, ℕ, Bool, true, false, List, Option, Some, None, refl, sym, ap, ◌∙◌, subst, Seq, named, Control, ReceiveReady, ReceiveNotReady, Reject, State, Established, TimerRecovery, LinkTimer, T200, T203, Terms, Link, Course, begun, Step, ◌then◌, Leads, keeping_then, nothing_leads, depending_leads, bit_leads, asked_from, reported, GoesBackTo, leaves, ErrorCode}
 use Rattle.model_link.specs.Words
 use Rattle.model_link.specs.MultipleFrame
 use Rattle.model_link.specs.Established
@@ -8,53 +7,47 @@ use Rattle.model_link.specs.TimerRecovery
 use Rattle.model_link.specs.Machine
 
 -- The link as it is before its N(R) has its effect.
-record Still (l : Link) (c : Course) : Type 0 where
-  state : c.link.state ≡ l.state
-  contents : c.link.contents ≡ l.contents
-  a : c.link.a ≡ l.a
-  s : c.link.s ≡ l.s
+record StillAt (l : Link) (state : State) (contents : List (List ℕ)) (a s : ℕ) : Type 0 where
+  state_is : state ≡ l.state
+  contents_are : contents ≡ l.contents
+  a_is : a ≡ l.a
+  s_is : s ≡ l.s
+
+abbrev Still : Link → Course → Type 0
+Still l c = StillAt l c.link.state c.link.contents c.link.a c.link.s
 
 module _ (l : Link) where
-  note_still : (n : Note) → Leads (Still l) (Words.note n) (Still l)
-  note_still n = record { leads = λ c h. record { state = h.state; contents = h.contents; a = h.a; s = h.s } }
-
-  peer_busy_still : (b : Bool) → Leads (Still l) (Words.peer_busy_is b) (Still l)
-  peer_busy_still b = record { leads = λ c h. record { state = h.state; contents = h.contents; a = h.a; s = h.s } }
-
-  answer_still : (t : Terms) → Leads (Still l) (Words.answer t) (Still l)
-  answer_still t = record { leads = λ c h. record { state = h.state; contents = h.contents; a = h.a; s = h.s } }
-
   begins : Still l (begun l)
-  begins = record { state = refl; contents = refl; a = refl; s = refl }
+  begins = record { state_is = refl; contents_are = refl; a_is = refl; s_is = refl }
 
-ruleset words = (keeping_then, nothing_leads, depending_leads, bit_leads, note_still, peer_busy_still, answer_still)
+ruleset words = (leaves, keeping_then, nothing_leads, depending_leads, bit_leads)
 
 module _ (t : Terms) (l : Link) (nr : Seq) (n : ℕ) (valid : named l.a l.s nr ≡ Some n) where
   abbrev Back : Course → Type 0
   Back c = GoesBackTo n l c.link
 
   abbrev effect : (ℕ → Step) → Course → Option ℕ → Course
-  effect f c o = elim o [ None ↦ (Words.error t code.J then Words.re_establish t) c | Some m ↦ f m c ]
+  effect f c o = elim o [ None ↦ (Words.error t ErrorCode.J then Words.re_establish t) c | Some m ↦ f m c ]
 
   by-number : (f : ℕ → Step) → ((c : Course) → Still l c → Back (f n c)) → (c : Course) → Still l c → Back (Words.by_number t nr f c)
   by-number f x c h =
-      let same : named c.link.a c.link.s nr ≡ Some n = ap (λ a. named a c.link.s nr) h.a ∙ ap (λ s. named l.a s nr) h.s ∙ valid in
+      let same : named c.link.a c.link.s nr ≡ Some n = ap (λ a. named a c.link.s nr) h.a_is ∙ ap (λ s. named l.a s nr) h.s_is ∙ valid in
       subst (λ o. Back (effect f c o)) (sym same) (x c h)
 
   rejected-7 : l.state ≡ Established → (c : Course) → Still l c → Back (Established.acknowledged_by_rej_in_7 n c)
-  rejected-7 e c h = record { state = h.state ∙ e; contents = h.contents; acknowledged = refl; sent = refl }
+  rejected-7 e c h = record { state = h.state_is ∙ e; contents = h.contents_are; acknowledged = refl; sent = refl }
 
   reported-8 : (timer : LinkTimer) (c : Course) → Still l c → Back (TimerRecovery.acknowledged_in_8 timer true n c)
-  reported-8 timer c h = record { state = refl; contents = h.contents; acknowledged = refl; sent = refl }
+  reported-8 timer c h = record { state = refl; contents = h.contents_are; acknowledged = refl; sent = refl }
 
   before-7 : (command pf : Bool) → Leads (Still l) (Words.peer_busy_is false then MultipleFrame.answered t command pf then Established.unsolicited t (MultipleFrame.is_final command pf)) (Still l)
   before-7 command pf = search words depth 12 fits 4000
 
   in-7 : l.state ≡ Established → (command : Bool) (octets : List ℕ) (pf : Bool) → Back (Established.frame_in_7 t command octets (Reject nr pf) (begun l))
-  in-7 e command octets pf = by-number Established.acknowledged_by_rej_in_7 (rejected-7 e) _ ((before-7 command pf).leads (begun l) (begins l))
+  in-7 e command octets pf = by-number Established.acknowledged_by_rej_in_7 (rejected-7 e) ((Words.peer_busy_is false then MultipleFrame.answered t command pf then Established.unsolicited t (MultipleFrame.is_final command pf)) (begun l)) ((before-7 command pf).leads (begun l) (begins l))
 
   in-8 : (busy : Bool) (timer : LinkTimer) → Back ((Words.peer_busy_is busy then Words.by_number t nr (TimerRecovery.acknowledged_in_8 timer true)) (begun l))
-  in-8 busy timer = by-number (TimerRecovery.acknowledged_in_8 timer true) (reported-8 timer) _ ((peer_busy_still l busy).leads (begun l) (begins l))
+  in-8 busy timer = by-number (TimerRecovery.acknowledged_in_8 timer true) (reported-8 timer) (Words.peer_busy_is busy (begun l)) (begins l)
 
   same-number : (m : Seq) (P : Seq → Type 0) → Some m ≡ Some nr → P nr → P m
   same-number m P e x = let same : m ≡ nr = cc in subst P (sym same) x

@@ -1,5 +1,5 @@
 -- Orders keep a caller's timers in step with the link's.
-use Rattle.laws_link.proofs.Vocabulary.{◌≡◌, true, Option, None, sym, ◌⊎◌, inr, true≢false, LinkTimer, Terms, Course, runs, Kept, every_event}
+use Rattle.laws_link.proofs.Vocabulary.{◌≡◌, true, Option, None, Some, sym, ◌⊎◌, inr, true≢false, LinkTimer, Terms, Course, runs, Kept, every_event}
 use Rattle.model_link.specs.Events
 use Rattle.model_link.specs.Machine
 
@@ -13,44 +13,14 @@ none-runs timer e = true≢false (sym e)
 abbrev pub Coming : Option LinkTimer → Course → Type 0
 Coming before c = Comes before c.link.running c.started
 
+by-start : (before : Option LinkTimer) (timer : LinkTimer) → Comes before (Some timer) (Some timer)
+by-start before timer = record { from = λ other e. inr e }
+
+by-stop : (before started : Option LinkTimer) → Comes before None started
+by-stop before started = record { from = λ other e. absurd (none-runs other e) }
+
 words : (before : Option LinkTimer) (t : Terms) → Kept t (Unit {0}) (Unit {0}) (Unit {0}) (Coming before) (λ p q c. Coming before c) (Coming before)
-words before t = record {
-  begins = λ c h. h;
-  ends = λ p q c h. h;
-  unsent = λ p q c h. h;
-  untold = λ p q c h. h;
-  error = λ p q e c h. h;
-  establish_indication = λ p q c h. h;
-  establish_confirm = λ p q c h. h;
-  release_indication = λ p q c h. h;
-  release_confirm = λ p q c h. h;
-  xid = λ p q c h. h;
-  taken = λ may p q octets c h. h;
-  unit = λ may octets c h. h;
-  unserved = λ c h. h;
-  send = λ p q f c h. h;
-  peer_busy = λ p q b c h. h;
-  busy = λ p q b c h. h;
-  rejecting = λ p q c h. h;
-  settled = λ p q c h. h;
-  owing = λ p q c off h. h;
-  flags = λ p q c h. h;
-  asked = λ p q b c h. h;
-  repeats = λ p q n c h. h;
-  repeated = λ p q c h. h;
-  enter = λ p q state c h. h;
-  start = λ p q timer c h. record { from = λ other e. inr e };
-  no_timer = λ p q c h. record { from = λ other e. absurd (none-runs other e) };
-  zero = λ may p q c h. h;
-  begin_anew = λ may p q c h. record { from = λ other e. absurd (none-runs other e) };
-  discard = λ p q c h. h;
-  acknowledge = λ p q n c h. h;
-  send_again = λ p q n c h. h;
-  transfer = λ p q octets c h. h;
-  give = λ p q f o c h. h;
-  sent_one = λ p q c h. h;
-  waiting_rest = λ p q fs c h. h;
-}
+words before t = search (by-start, by-stop) depth 12 fits 4000
 
 pub comes-step : (before : Option LinkTimer) (t : Terms) (e : Events.Event) (c : Course) → Coming before c → Coming before (Machine.step t e c)
 comes-step before t e c h = (every_event (words before t) e).leads c h

@@ -1,6 +1,5 @@
 -- What each event makes of the contents of a link, of V(A) and of V(S).
-use Rattle.laws_link.proofs.Vocabulary.{◌≡◌, ℕ, ◌+◌, ◌≤◌, Bool, true, false, cond, List, [], ◌∷◌, ◌++◌, length, take, drop, Option, Some, None, is_some, refl, ◌⊎◌, inl, inr, sym, ap, ◌∙◌, subst, true≢false, arith, length-take-le, append-nil, drop-drop, add-zero, ⊎_elim, All, nat_lt, nat_le, option_map_or, drop_all, drop-append-le, All-head, Control, Information, ReceiveReady, ReceiveNotReady, Reject, Sabme, Disc, Ui, Ua, Dm, Frmr, Xid, ErrorCode, Refusal, WrongState, State, TeiAssigned, AwaitingEstablishment, AwaitingRelease, Established, TimerRecovery, LinkTimer, T200, T203, ControlFrame, Terms, Link, is_multiple_frame, IsSettledIn, IsSound, IsWaitingFrame, Course, begun, Step, ◌then◌, nothing, changed, Leads, nothing_leads, number_of, acknowledged_by, contents_of, is_release, tells_loss, Share, share, left_by, with_share, in_ui_frame, within, unit_due, one, is_i_frame, i_frames}
-use Rattle.lapd_frame.specs.declared.notes.ErrorCode.TheVariants as code
+use Rattle.laws_link.proofs.Vocabulary.{◌≡◌, ℕ, ◌+◌, ◌≤◌, Bool, true, false, cond, List, [], ◌∷◌, ◌++◌, length, take, drop, Option, Some, None, is_some, refl, ◌⊎◌, inl, inr, sym, ap, ◌∙◌, subst, true≢false, arith, length-take-le, append-nil, drop-drop, add-zero, ⊎_elim, All, nat_lt, nat_le, option_map_or, drop_all, drop-append-le, All-head, Control, Ui, ErrorCode, Refusal, WrongState, State, TeiAssigned, AwaitingEstablishment, AwaitingRelease, Established, TimerRecovery, LinkTimer, T200, T203, ControlFrame, Terms, Link, is_multiple_frame, IsSettledIn, IsSound, IsWaitingFrame, Course, begun, Step, ◌then◌, nothing, changed, Leads, nothing_leads, number_of, acknowledged_by, contents_of, is_release, tells_loss, Share, share, left_by, with_share, in_ui_frame, within, unit_due, one, is_i_frame, i_frames}
 use Rattle.model_link.specs.Events
 use Rattle.model_link.specs.Words
 use Rattle.model_link.specs.Requests
@@ -194,10 +193,9 @@ module _ (t : Terms) (l : Link) (h : IsSound t l) where
       → Led (requested-share false [] true (Requests.release_in here t (begun l))) 0 (Requests.release_in here t (begun l))
   unfolding Moved
   releases TeiAssigned e s = by-row 0 (Requests.release_in TeiAssigned t (begun l)) (released_in_4 t l h.ordered h.accepted (settled TeiAssigned e))
-  releases AwaitingEstablishment e s = absurd (true≢false (sym s))
-  releases AwaitingRelease e s = absurd (true≢false (sym s))
   releases Established e s = record { comes = emptied l.contents [] l.a 0 few; follows = inr (refl, refl) }
   releases TimerRecovery e s = record { comes = emptied l.contents [] l.a 0 few; follows = inr (refl, refl) }
+  releases other e s = absurd (true≢false (sym s))
 
   granted : (request : Events.Request) (o : Option Refusal) → cond (Requests.serves l.state request) o (Some WrongState) ≡ None
       → Led (requested-share false (contents_of request) (is_release request) (Requests.granted t request (begun l))) 0 (Requests.granted t request (begun l))
@@ -271,9 +269,9 @@ module _ (t : Terms) (l : Link) (h : IsSound t l) where
   -- Any event.
   pub event-done : (e : Events.Event) → Led (share t e l) (i_frames t e l) (Machine.course t e l)
   event-done (Events.received (Events.frame f)) = by-frame f.address.command f.info f.control (is_ui f.control) refl
-  event-done (Events.received Events.undefined) = by-row 0 (Machine.malformed_in l.state t code.L (begun l)) (malformed l.state code.L)
-  event-done (Events.received Events.wrong_size) = by-row 0 (Machine.malformed_in l.state t code.N (begun l)) (malformed l.state code.N)
-  event-done (Events.received Events.overlong) = by-row 0 (Machine.malformed_in l.state t code.O (begun l)) (malformed l.state code.O)
+  event-done (Events.received Events.undefined) = by-row 0 (Machine.malformed_in l.state t ErrorCode.L (begun l)) (malformed l.state ErrorCode.L)
+  event-done (Events.received Events.wrong_size) = by-row 0 (Machine.malformed_in l.state t ErrorCode.N (begun l)) (malformed l.state ErrorCode.N)
+  event-done (Events.received Events.overlong) = by-row 0 (Machine.malformed_in l.state t ErrorCode.O (begun l)) (malformed l.state ErrorCode.O)
   event-done (Events.expired timer) = by-row 0 (Machine.expired_step t timer (begun l)) (expires (Machine.is_running timer l) timer)
   event-done (Events.requested request full) = requested request full (Requests.refusal t l full request) refl
   event-done Events.offer = offers l.waiting h.frames
@@ -297,16 +295,7 @@ module _ (t : Terms) (l : Link) (h : IsSound t l) where
   unit-in : (b : Bool) (octets : List ℕ) (control : Control) → (d : Bool) → is_ui control ≡ d
       → (Machine.frame_step t b octets control (begun l)).unit ≡ within t.n201 (in_ui_frame control octets)
   unit-in b octets (Ui p) d e = ui-in l.state b octets p
-  unit-in b octets (Xid pf) d e = no-unit _ _ (by-state l.state refl b octets (Xid pf) refl)
-  unit-in b octets (Information ns nr p) d e = no-unit _ _ (by-state l.state refl b octets (Information ns nr p) refl)
-  unit-in b octets (ReceiveReady nr pf) d e = no-unit _ _ (by-state l.state refl b octets (ReceiveReady nr pf) refl)
-  unit-in b octets (ReceiveNotReady nr pf) d e = no-unit _ _ (by-state l.state refl b octets (ReceiveNotReady nr pf) refl)
-  unit-in b octets (Reject nr pf) d e = no-unit _ _ (by-state l.state refl b octets (Reject nr pf) refl)
-  unit-in b octets (Sabme p) d e = no-unit _ _ (by-state l.state refl b octets (Sabme p) refl)
-  unit-in b octets (Disc p) d e = no-unit _ _ (by-state l.state refl b octets (Disc p) refl)
-  unit-in b octets (Ua f) d e = no-unit _ _ (by-state l.state refl b octets (Ua f) refl)
-  unit-in b octets (Dm f) d e = no-unit _ _ (by-state l.state refl b octets (Dm f) refl)
-  unit-in b octets (Frmr f) d e = no-unit _ _ (by-state l.state refl b octets (Frmr f) refl)
+  unit-in b octets other d e = no-unit _ _ (by-state l.state refl b octets other refl)
 
   set-busy : Moved 0 (Requests.granted t Events.SetBusy (begun l))
   unfolding Moved
@@ -318,7 +307,6 @@ module _ (t : Terms) (l : Link) (h : IsSound t l) where
 
   unit-requested : (request : Events.Request) (o : Option Refusal) → cond (Requests.serves l.state request) o (Some WrongState) ≡ None
       → (Requests.granted t request (begun l)).unit ≡ None
-  unit-requested Events.Establish o e = refl
   unit-requested Events.Release o e = by-release l.state
     where
       by-release : (here : State) → (Requests.release_in here t (begun l)).unit ≡ None
@@ -327,9 +315,9 @@ module _ (t : Terms) (l : Link) (h : IsSound t l) where
       by-release AwaitingRelease = refl
       by-release Established = refl
       by-release TimerRecovery = refl
-  unit-requested (Events.Data octets) o e = refl
   unit-requested Events.SetBusy o e = no-unit 0 _ set-busy
   unit-requested Events.ClearBusy o e = no-unit 0 _ clear-busy
+  unit-requested other o e = refl
 
   unit-asked : (request : Events.Request) (full : Bool) (o : Option Refusal) → Requests.refusal t l full request ≡ o
       → (elim o as (λ o. Course) [ None ↦ Requests.granted t request (begun l) | Some _ ↦ begun l ]).unit ≡ None
@@ -350,9 +338,9 @@ module _ (t : Terms) (l : Link) (h : IsSound t l) where
 
   pub event-unit : (e : Events.Event) → (Machine.course t e l).unit ≡ unit_due t e
   event-unit (Events.received (Events.frame f)) = unit-in f.address.command f.info f.control (is_ui f.control) refl
-  event-unit (Events.received Events.undefined) = no-unit 0 _ (malformed l.state code.L)
-  event-unit (Events.received Events.wrong_size) = no-unit 0 _ (malformed l.state code.N)
-  event-unit (Events.received Events.overlong) = no-unit 0 _ (malformed l.state code.O)
+  event-unit (Events.received Events.undefined) = no-unit 0 _ (malformed l.state ErrorCode.L)
+  event-unit (Events.received Events.wrong_size) = no-unit 0 _ (malformed l.state ErrorCode.N)
+  event-unit (Events.received Events.overlong) = no-unit 0 _ (malformed l.state ErrorCode.O)
   event-unit (Events.expired timer) = no-unit 0 _ (expires (Machine.is_running timer l) timer)
   event-unit (Events.requested request full) = unit-asked request full (Requests.refusal t l full request) refl
   event-unit Events.offer = unit-offered l.waiting

@@ -1,7 +1,6 @@
 -- An event loses at most two control frames: a purse holds how many may still be lost.
 use Rattle.laws_link.proofs.Vocabulary.{ℕ, ◌+◌, ◌≤◌, Bool, true, false, cond, arith, Terms, Link, Course, begun, Purse, another, two, how_many, Kept, every_event}
 use Rattle.model_link.specs.Events
-use Rattle.model_link.specs.Words
 use Rattle.model_link.specs.Machine
 
 pub record Loses (p : Purse) (lost : ℕ) : Type 0 where
@@ -32,43 +31,7 @@ enough : (p : Purse) (n : ℕ) → Loses p n → IsFew n
 enough p n h = record { few = omega (arith, h.count) }
 
 words : (t : Terms) → Kept t (Unit {0}) (Unit {0}) (Unit {0}) (Losing two) (λ p q c. Losing p c) HasLost
-words t = record {
-  begins = λ c h. h;
-  ends = λ p q c h. enough p c.lost h;
-  unsent = λ p q c h. kept p c.lost h;
-  untold = λ p q c h. h;
-  error = λ p q e c h. h;
-  establish_indication = λ p q c h. h;
-  establish_confirm = λ p q c h. h;
-  release_indication = λ p q c h. h;
-  release_confirm = λ p q c h. h;
-  xid = λ p q c h. h;
-  taken = λ may p q octets c h. h;
-  unit = λ may octets c h. enough two c.lost h;
-  unserved = λ c h. enough two c.lost h;
-  send = λ p q f c h. sent-count p (Words.has_room t c.link) c.lost h;
-  peer_busy = λ p q b c h. h;
-  busy = λ p q b c h. sent-count p (Words.has_room t c.link) c.lost h;
-  rejecting = λ p q c h. h;
-  settled = λ p q c h. h;
-  owing = λ p q c off h. h;
-  flags = λ p q c h. h;
-  asked = λ p q b c h. h;
-  repeats = λ p q n c h. h;
-  repeated = λ p q c h. h;
-  enter = λ p q state c h. h;
-  start = λ p q timer c h. h;
-  no_timer = λ p q c h. h;
-  zero = λ may p q c h. h;
-  begin_anew = λ may p q c h. h;
-  discard = λ p q c h. h;
-  acknowledge = λ p q n c h. h;
-  send_again = λ p q n c h. h;
-  transfer = λ p q octets c h. h;
-  give = λ p q f o c h. h;
-  sent_one = λ p q c h. h;
-  waiting_rest = λ p q fs c h. h;
-}
+words t = search (sent-count, kept, enough) depth 12 fits 4000
 
 pub event-loses : (t : Terms) (e : Events.Event) (l : Link) → (Machine.told t e l).lost ≤ 2
 unfolding how_many

@@ -3,13 +3,12 @@ use Rattle.laws_link.proofs.Vocabulary.{◌≡◌, ℕ, Bool, true, false, List,
 use Rattle.model_link.specs.Events
 use Rattle.model_link.specs.TimerRecovery
 use Rattle.model_link.specs.Machine
-use Rattle.lapd_frame.specs.declared.timers.Order.TheVariants as orders
 use Rattle.laws_link.proofs.InStep.{comes-step}
 
 -- What obeying an event's orders comes to: orders for one timer, before or after those for the other.
 module _ (own other : Timer) (r : Bool) (same : is_same own own ≡ true) (differs : is_same other own ≡ false) where
   abbrev orders_of : Timer → Bool → Bool → List Order
-  orders_of timer starts stops = cond starts (orders.Start timer ∷ []) (cond stops (orders.Stop timer ∷ []) [])
+  orders_of timer starts stops = cond starts (Order.Start timer ∷ []) (cond stops (Order.Stop timer ∷ []) [])
 
   own-first : (starts stops begins ends b : Bool) → (starts ≡ true → r ≡ true) → (stops ≡ true → r ≡ false) → (starts ≡ false → stops ≡ false → b ≡ r)
       → obeyed own b (orders_of own starts stops ++ orders_of other begins ends) ≡ r
@@ -37,7 +36,7 @@ module _ (own other : Timer) (r : Bool) (same : is_same own own ≡ true) (diffe
 
 -- Orders for two timers leave any other.
 two-others : (one two timer : Timer) → is_same one timer ≡ false → is_same two timer ≡ false → (p q x y b : Bool)
-    → obeyed timer b (cond p (orders.Start one ∷ []) (cond q (orders.Stop one ∷ []) []) ++ cond x (orders.Start two ∷ []) (cond y (orders.Stop two ∷ []) [])) ≡ b
+    → obeyed timer b (cond p (Order.Start one ∷ []) (cond q (Order.Stop one ∷ []) []) ++ cond x (Order.Start two ∷ []) (cond y (Order.Stop two ∷ []) [])) ≡ b
 two-others one two timer first second true q true y b = rw (first, second) refl
 two-others one two timer first second true q false true b = rw (first, second) refl
 two-others one two timer first second true q false false b = rw first refl

@@ -1,7 +1,5 @@
 -- What is due is delivered, and is noted once.
-use Rattle.laws_link.proofs.Vocabulary.{◌≡◌, ℕ, ◌≤◌, Bool, true, false, cond, ◌||◌, List, [], ◌∷◌, length, Option, Some, None, is_some, option_to_list, refl, sym, ap, ◌∙◌, subst, inl, inr, arith, count_by, nat_lt, nat_le, list_any, or_parts, sum_by-cons, sum_by_push, none-some, Seq, named, Control, Information, Ui, Note, State, TeiAssigned, Established, TimerRecovery, Terms, Arrived, information_of, eligible_of, eligible, MayEstablish, restarts, Link, is_peer_busy, is_rejecting, is_data, is_unit, IsSound, Course, begun, Step, ◌then◌, delivery, event-delivers, event-tells, in_i_frame, in_ui_frame, contents_heard, unit_heard, within, in_sequence, data_due, IsNotedOnce}
-use Rattle.lapd_frame.specs.declared.notes.Note.TheVariants as notes
-use Rattle.lapd_frame.specs.declared.notes.ErrorCode.TheVariants as code
+use Rattle.laws_link.proofs.Vocabulary.{◌≡◌, ℕ, ◌≤◌, Bool, true, false, cond, ◌||◌, List, [], ◌∷◌, length, Option, Some, None, is_some, option_to_list, refl, sym, ap, ◌∙◌, subst, inl, inr, arith, count_by, nat_lt, nat_le, list_any, or_parts, sum_by-cons, sum_by_push, none-some, Seq, named, Control, Information, Ui, Note, State, TeiAssigned, Established, TimerRecovery, Terms, Arrived, information_of, eligible_of, eligible, MayEstablish, restarts, Link, is_peer_busy, is_rejecting, is_data, is_unit, IsSound, Course, begun, Step, ◌then◌, delivery, event-delivers, event-tells, in_i_frame, in_ui_frame, contents_heard, unit_heard, within, in_sequence, data_due, IsNotedOnce, ErrorCode}
 use Rattle.model_link.specs.Established
 use Rattle.model_link.specs.Events
 use Rattle.model_link.specs.Machine
@@ -77,8 +75,8 @@ module _ (t : Terms) (l : Link) where
   by-number : (nr : Seq) (f : ℕ → Step) → ((n : ℕ) (c : Course) → (f n c).notes ≡ c.notes) → (c : Course) → AtMostOne c → AtMostOne (Words.by_number t nr f c)
   by-number nr f keeps c few = go (named c.link.a c.link.s nr)
     where
-      go : (o : Option ℕ) → AtMostOne (elim o [ None ↦ (Words.error t code.J then Words.re_establish t) c | Some n ↦ f n c ])
-      go None = omega (arith, few, sum_by_push (λ n. cond (is_data n) 1 0) c.notes (notes.Error t.service t.tei code.J))
+      go : (o : Option ℕ) → AtMostOne (elim o [ None ↦ (Words.error t ErrorCode.J then Words.re_establish t) c | Some n ↦ f n c ])
+      go None = omega (arith, few, sum_by_push (λ n. cond (is_data n) 1 0) c.notes (Note.Error t.service t.tei ErrorCode.J))
       go (Some n) = subst (λ ns. count_by is_data ns ≤ 1) (sym (keeps n c)) few
 
   contents : (ns : Seq) (p : Bool) (octets : List ℕ) → AtMostOne (MultipleFrame.contents_in_7_8 t ns p octets (begun l))

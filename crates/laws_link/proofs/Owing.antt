@@ -1,6 +1,5 @@
 -- Each delivery is acknowledged.
-use Rattle.laws_link.proofs.Vocabulary.{◌≡◌, ℕ, ◌+◌, ◌≤◌, Bool, true, false, cond, List, [], ◌∷◌, ◌++◌, length, Option, Some, None, refl, ◌⊎◌, inl, inr, sym, ◌∙◌, arith, nat_lt, Seq, seq, named, Control, Information, ReceiveReady, ReceiveNotReady, State, Established, TimerRecovery, LinkTimer, ControlFrame, Terms, Link, Arrived, information_of, eligible_of, Course, begun, Step, ◌then◌, by_bit, Leads, keeping_then, nothing_leads, depending_leads, delivered-at_once, receipt, HasReceipt, Owes, IsBegunAgain}
-use Rattle.lapd_frame.specs.declared.notes.ErrorCode.TheVariants as code
+use Rattle.laws_link.proofs.Vocabulary.{◌≡◌, ℕ, ◌+◌, ◌≤◌, Bool, true, false, cond, List, [], ◌∷◌, ◌++◌, length, Option, Some, None, refl, ◌⊎◌, inl, inr, sym, ◌∙◌, arith, nat_lt, Seq, seq, named, Control, Information, ReceiveReady, ReceiveNotReady, State, Established, TimerRecovery, LinkTimer, ControlFrame, Terms, Link, Arrived, information_of, eligible_of, Course, begun, Step, ◌then◌, by_bit, Leads, keeping_then, nothing_leads, depending_leads, delivered-at_once, receipt, HasReceipt, Owes, IsBegunAgain, ErrorCode}
 use Rattle.model_link.specs.Events
 use Rattle.model_link.specs.Words
 use Rattle.model_link.specs.MultipleFrame
@@ -52,12 +51,12 @@ module _ (t : Terms) (l : Link) where
       (branch l.rejecting _ _ (branch p _ _ (inl refl) (inl refl)) (inl refl)))
 
   by-number : (f : ℕ → Step) → ((n : ℕ) → Leads (Half l.waiting) (f n) (Half l.waiting)) → (c : Course) → Half l.waiting c → (o : Option ℕ)
-      → Final t l.waiting (elim o [ None ↦ (Words.error t code.J then Words.re_establish t) c | Some n ↦ f n c ])
+      → Final t l.waiting (elim o [ None ↦ (Words.error t ErrorCode.J then Words.re_establish t) c | Some n ↦ f n c ])
   by-number f x c h None = inr (record { state = refl; before = c.notes; told = refl })
   by-number f x c h (Some n) = inl ((x n).leads c h)
 
   information : (ns nr : Seq) (p : Bool) (octets : List ℕ) (f : ℕ → Step) → ((n : ℕ) → Leads (Half l.waiting) (f n) (Half l.waiting)) → (b : Bool)
-      → Final t l.waiting (by_bit b (MultipleFrame.failed t code.O) (MultipleFrame.contents_in_7_8 t ns p octets then Words.by_number t nr f) (begun l))
+      → Final t l.waiting (by_bit b (MultipleFrame.failed t ErrorCode.O) (MultipleFrame.contents_in_7_8 t ns p octets then Words.by_number t nr f) (begun l))
   information ns nr p octets f x true = inl (inl refl)
   information ns nr p octets f x false =
       let c = MultipleFrame.contents_in_7_8 t ns p octets (begun l) in

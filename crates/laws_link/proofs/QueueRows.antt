@@ -1,6 +1,5 @@
 -- What each row of the tables makes of the contents of a link, of V(A) and of V(S).
 use Rattle.laws_link.proofs.Vocabulary.{◌≡◌, ℕ, ◌-◌, ◌≤◌, Bool, true, false, cond, not, ◌==◌, List, [], length, take, drop, length-take-le, Option, Some, None, IsTrue, true≢false, refl, ◌⊎◌, inl, inr, sym, ap, ◌∙◌, arith, nat_lt, option_map_or, ltb-false, drop_all, take_all, Seq, named, Control, Information, ReceiveReady, ReceiveNotReady, Reject, Sabme, Disc, Ui, Ua, Dm, Frmr, Xid, ErrorCode, Established, LinkTimer, T200, T203, Terms, Link, has_outstanding, is_peer_busy, Course, begun, Step, ◌then◌, by_bit, frame_in_4, release_in_4, establish_in_4, Leads, keeping_then, depending_leads, bit_leads, tested_leads, from_more, eqb-true, beyond, number_of}
-use Rattle.lapd_frame.specs.declared.notes.ErrorCode.TheVariants as code
 use Rattle.model_link.specs.Words
 use Rattle.model_link.specs.AwaitingEstablishment
 use Rattle.model_link.specs.AwaitingRelease
@@ -58,7 +57,6 @@ module _ (t : Terms) (l : Link) (ordered : l.a ≤ l.s) (most : l.s ≤ length l
   pub frames_in_4 : length l.contents ≡ l.a → (octets : List ℕ) (control : Control) → is_ui control ≡ false → On (Move 0) (frame_in_4 t octets control (begun l))
   frames_in_4 none octets (Sabme p) is = inr (inr (record { none = refl; contents = none-left none; acknowledged = refl; sent = refl; begins = refl; no_unit = refl }))
   frames_in_4 none octets (Ua true) is = still (frame_in_4 t octets (Ua true)) (search words)
-  frames_in_4 none octets (Ua false) is = still (frame_in_4 t octets (Ua false)) (search words)
   frames_in_4 none octets (Ui p) is = absurd (true≢false is)
   frames_in_4 none octets other is = still (frame_in_4 t octets other) (search words)
 
@@ -88,9 +86,7 @@ module _ (t : Terms) (l : Link) (ordered : l.a ≤ l.s) (most : l.s ≤ length l
 
   pub frames_in_5 : (IsTrue l.asked → length l.contents ≡ l.a) → (octets : List ℕ) (control : Control) → is_ui control ≡ false → On (Move 0) (AwaitingEstablishment.frame_in_5 t octets control (begun l))
   frames_in_5 none octets (Ua true) is = answered-in-5 none l.asked refl (has_outstanding l) refl
-  frames_in_5 none octets (Ua false) is = still (AwaitingEstablishment.frame_in_5 t octets (Ua false)) (search words)
   frames_in_5 none octets (Dm true) is = inr (inl (record { contents = refl; acknowledged = refl; sent = refl; told = refl; goes_on = refl; no_unit = refl }))
-  frames_in_5 none octets (Dm false) is = still (AwaitingEstablishment.frame_in_5 t octets (Dm false)) (search words)
   frames_in_5 none octets (Ui p) is = absurd (true≢false is)
   frames_in_5 none octets other is = still (AwaitingEstablishment.frame_in_5 t octets other) (search words)
 
@@ -104,10 +100,8 @@ module _ (t : Terms) (l : Link) (ordered : l.a ≤ l.s) (most : l.s ≤ length l
   pub frames_in_6 : length l.contents ≡ l.a → (octets : List ℕ) (control : Control) → is_ui control ≡ false → On (Move 0) (AwaitingRelease.frame_in_6 t octets control (begun l))
   frames_in_6 none octets (Ua true) is =
       inr (inl (record { contents = all-taken none; acknowledged = refl; sent = omega (arith, ordered, most, none); told = refl; goes_on = refl; no_unit = refl }))
-  frames_in_6 none octets (Ua false) is = still (AwaitingRelease.frame_in_6 t octets (Ua false)) (search words)
   frames_in_6 none octets (Dm true) is =
       inr (inl (record { contents = all-taken none; acknowledged = refl; sent = omega (arith, ordered, most, none); told = refl; goes_on = refl; no_unit = refl }))
-  frames_in_6 none octets (Dm false) is = still (AwaitingRelease.frame_in_6 t octets (Dm false)) (search words)
   frames_in_6 none octets (Ui p) is = absurd (true≢false is)
   frames_in_6 none octets other is = still (AwaitingRelease.frame_in_6 t octets other) (search words)
 
@@ -119,7 +113,7 @@ module _ (t : Terms) (l : Link) (ordered : l.a ≤ l.s) (most : l.s ≤ length l
 
   -- States 7 and 8.
   sabme-again : (p d : Bool) → has_outstanding l ≡ d
-      → let c = (Words.send t (Words.response (Ua p)) then Words.clear_flags then Words.error t code.F) (begun l) in
+      → let c = (Words.send t (Words.response (Ua p)) then Words.clear_flags then Words.error t ErrorCode.F) (begun l) in
       On (Move 0) ((Words.zero_numbers then Words.start T203 then Words.enter Established) (cond d ((Words.discard then Words.establish_indication t) c) c))
   sabme-again p true e = inr (inr (record { none = refl; contents = rest-goes; acknowledged = refl; sent = refl; begins = refl; no_unit = refl }))
   sabme-again p false e =
@@ -187,8 +181,8 @@ module _ (t : Terms) (l : Link) (ordered : l.a ≤ l.s) (most : l.s ≤ length l
 
   information : (ns nr : Seq) (p : Bool) (octets : List ℕ) (f : ℕ → Step)
       → ((m : ℕ) → l.a ≤ m → m ≤ l.s → Leads (On Stay) (f m) (On (Move (m - l.a)))) → (b : Bool)
-      → On (Move (count l.a l.s (cond b None (Some nr)))) (by_bit b (MultipleFrame.failed t code.O) (MultipleFrame.contents_in_7_8 t ns p octets then Words.by_number t nr f) (begun l))
-  information ns nr p octets f x true = failed_moves code.O
+      → On (Move (count l.a l.s (cond b None (Some nr)))) (by_bit b (MultipleFrame.failed t ErrorCode.O) (MultipleFrame.contents_in_7_8 t ns p octets then Words.by_number t nr f) (begun l))
+  information ns nr p octets f x true = failed_moves ErrorCode.O
   information ns nr p octets f x false = moved (MultipleFrame.contents_in_7_8 t ns p octets then Words.by_number t nr f) (keeping_then (contents_lead ns p octets) (numbers nr x))
 
   pub frames_in_7 : (b : Bool) (octets : List ℕ) (control : Control) → is_ui control ≡ false
@@ -199,12 +193,10 @@ module _ (t : Terms) (l : Link) (ordered : l.a ≤ l.s) (most : l.s ≤ length l
   frames_in_7 b octets (Reject nr pf) is = moved (Established.frame_in_7 t b octets (Reject nr pf)) (search (words, numbers, in-7-by-rej) depth 12 fits 4000)
   frames_in_7 b octets (Sabme p) is = sabme-again p (has_outstanding l) refl
   frames_in_7 b octets (Disc p) is = inr (inl (record { contents = refl; acknowledged = refl; sent = refl; told = refl; goes_on = refl; no_unit = refl }))
-  frames_in_7 b octets (Ua f) is = still (Established.frame_in_7 t b octets (Ua f)) (search words)
-  frames_in_7 b octets (Dm true) is = still (Established.frame_in_7 t b octets (Dm true)) (search words)
-  frames_in_7 b octets (Dm false) is = failed_moves code.E
-  frames_in_7 b octets (Frmr f) is = failed_moves code.K
+  frames_in_7 b octets (Dm false) is = failed_moves ErrorCode.E
+  frames_in_7 b octets (Frmr f) is = failed_moves ErrorCode.K
   frames_in_7 b octets (Ui p) is = absurd (true≢false is)
-  frames_in_7 b octets (Xid pf) is = still (Established.frame_in_7 t b octets (Xid pf)) (search words)
+  frames_in_7 b octets other is = still (Established.frame_in_7 t b octets other) (search words)
 
   pub timer_in_7 : On (Move 0) (Established.timer_in_7 t (begun l))
   timer_in_7 = still (Established.timer_in_7 t) (search words)
@@ -212,22 +204,20 @@ module _ (t : Terms) (l : Link) (ordered : l.a ≤ l.s) (most : l.s ≤ length l
   pub frames_in_8 : (b : Bool) (octets : List ℕ) (control : Control) → is_ui control ≡ false
       → On (Move (count l.a l.s (number_of t control octets))) (TimerRecovery.frame_in_8 t b octets control (begun l))
   frames_in_8 b octets (Information ns nr p) is = information ns nr p octets Words.acknowledge acknowledging (nat_lt t.n201 (length octets))
-  frames_in_8 b octets (ReceiveReady nr pf) is = moved (TimerRecovery.frame_in_8 t b octets (ReceiveReady nr pf)) (search (words, numbers, in-8) depth 12 fits 4000)
-  frames_in_8 b octets (ReceiveNotReady nr pf) is = moved (TimerRecovery.frame_in_8 t b octets (ReceiveNotReady nr pf)) (search (words, numbers, in-8) depth 12 fits 4000)
-  frames_in_8 b octets (Reject nr pf) is = moved (TimerRecovery.frame_in_8 t b octets (Reject nr pf)) (search (words, numbers, in-8) depth 12 fits 4000)
   frames_in_8 b octets (Sabme p) is = sabme-again p (has_outstanding l) refl
   frames_in_8 b octets (Disc p) is = inr (inl (record { contents = refl; acknowledged = refl; sent = refl; told = refl; goes_on = refl; no_unit = refl }))
   frames_in_8 b octets (Ua f) is = still (TimerRecovery.frame_in_8 t b octets (Ua f)) (search words)
-  frames_in_8 b octets (Dm true) is = failed_moves code.B
-  frames_in_8 b octets (Dm false) is = failed_moves code.E
-  frames_in_8 b octets (Frmr f) is = failed_moves code.K
+  frames_in_8 b octets (Dm true) is = failed_moves ErrorCode.B
+  frames_in_8 b octets (Dm false) is = failed_moves ErrorCode.E
+  frames_in_8 b octets (Frmr f) is = failed_moves ErrorCode.K
   frames_in_8 b octets (Ui p) is = absurd (true≢false is)
   frames_in_8 b octets (Xid pf) is = still (TimerRecovery.frame_in_8 t b octets (Xid pf)) (search words)
+  frames_in_8 b octets other is = moved (TimerRecovery.frame_in_8 t b octets other) (search (words, numbers, in-8) depth 12 fits 4000)
 
   pub t200_in_8 : On (Move 0) (TimerRecovery.t200_in_8 t (begun l))
   t200_in_8 =
       let again : Leads (On Stay) (Words.enquire t then Words.repeated then Words.start T200) (On Stay) = search words in
-      either (nat_lt l.repeats t.n200) _ _ (still (Words.enquire t then Words.repeated then Words.start T200) again) (failed_moves code.I)
+      either (nat_lt l.repeats t.n200) _ _ (still (Words.enquire t then Words.repeated then Words.start T200) again) (failed_moves ErrorCode.I)
 
   -- Requests of layer 3.
   pub set_busy : On (Move 0) (MultipleFrame.set_busy_in_7_8 t (begun l))

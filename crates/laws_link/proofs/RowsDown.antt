@@ -1,6 +1,5 @@
 -- What frames leave of a link in states 4, 5 and 6.
-use Rattle.laws_link.proofs.Vocabulary.{◌≡◌, Bool, true, false, cond, length, refl, ◌==◌, not, [], ◌∷◌, nat_lt, Control, Information, Ui, Ua, Dm, Parts, TeiAssigned, AwaitingEstablishment, AwaitingRelease, Established, T203, Terms, Link, begun, ◌then◌, state_after}
-use Rattle.lapd_frame.specs.declared.notes.Note.TheVariants as said
+use Rattle.laws_link.proofs.Vocabulary.{◌≡◌, Bool, true, false, cond, length, refl, ◌==◌, not, [], ◌∷◌, nat_lt, Control, Information, Ui, Ua, Dm, Parts, TeiAssigned, AwaitingEstablishment, AwaitingRelease, Established, T203, Terms, Link, begun, ◌then◌, state_after, Note}
 use Rattle.model_link.specs.Events
 use Rattle.model_link.specs.Words
 use Rattle.laws_link.proofs.Columns.{left, due, at, hears, Row, unit-left}
@@ -26,7 +25,7 @@ module _ (t : Terms) where
           left ((Words.zero_numbers then Words.start T203 then Words.enter Established)
           (cond asked (Words.establish_confirm t c) (cond (not same) ((Words.discard then Words.establish_indication t) c) c)))
           ≡ record (due t (hears f b (Ua true)) (at AwaitingEstablishment l) Established) {
-            notes = cond asked (said.EstablishConfirm t.service t.tei ∷ []) (cond same [] (said.EstablishIndication t.service t.tei ∷ []));
+            notes = cond asked (Note.EstablishConfirm t.service t.tei ∷ []) (cond same [] (Note.EstablishIndication t.service t.tei ∷ []));
           }
       go true same = refl
       go false true = refl

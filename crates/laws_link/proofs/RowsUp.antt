@@ -1,7 +1,5 @@
 -- What frames leave of a link in state 7.
-use Rattle.laws_link.proofs.Vocabulary.{◌≡◌, ℕ, Bool, true, false, cond, not, List, length, is_some, refl, ◌==◌, [], ◌∷◌, nat_lt, Seq, named, Control, Information, ReceiveReady, ReceiveNotReady, Reject, Sabme, Ui, Ua, Dm, Parts, AwaitingEstablishment, Established, T203, Terms, Link, Course, begun, ◌then◌, state_after, is_next, is_taken, to_information}
-use Rattle.lapd_frame.specs.declared.notes.ErrorCode.TheVariants as code
-use Rattle.lapd_frame.specs.declared.notes.Note.TheVariants as said
+use Rattle.laws_link.proofs.Vocabulary.{◌≡◌, ℕ, Bool, true, false, cond, not, List, length, is_some, refl, ◌==◌, [], ◌∷◌, nat_lt, Seq, named, Control, Information, ReceiveReady, ReceiveNotReady, Reject, Sabme, Ui, Ua, Dm, Parts, AwaitingEstablishment, Established, T203, Terms, Link, Course, begun, ◌then◌, state_after, is_next, is_taken, to_information, ErrorCode, Note}
 use Rattle.model_link.specs.Events
 use Rattle.model_link.specs.Words
 use Rattle.model_link.specs.MultipleFrame
@@ -107,10 +105,10 @@ module _ (t : Terms) where
   pub in-7 : (l : Link) (f : Parts) (b : Bool) (control : Control) → Row t (hears f b control) (at Established l)
   in-7 l f b (Sabme p) = go (l.s == l.a)
     where
-      go : (same : Bool) → let c = (Words.send t (Words.response (Ua p)) then Words.clear_flags then Words.error t code.F) (begun (at Established l)) in
+      go : (same : Bool) → let c = (Words.send t (Words.response (Ua p)) then Words.clear_flags then Words.error t ErrorCode.F) (begun (at Established l)) in
           left ((Words.zero_numbers then Words.start T203 then Words.enter Established)
           (cond (not same) ((Words.discard then Words.establish_indication t) c) c))
-          ≡ record (due t (hears f b (Sabme p)) (at Established l) Established) { notes = said.Error t.service t.tei code.F ∷ cond same [] (said.EstablishIndication t.service t.tei ∷ []) }
+          ≡ record (due t (hears f b (Sabme p)) (at Established l) Established) { notes = Note.Error t.service t.tei ErrorCode.F ∷ cond same [] (Note.EstablishIndication t.service t.tei ∷ []) }
       go true = refl
       go false = refl
   in-7 l f b (Ua true) = refl
@@ -118,7 +116,7 @@ module _ (t : Terms) where
   in-7 l f b (Information ns nr p) = go (nat_lt t.n201 (length f.info))
     where
       go : (over : Bool) → let e = Events.received (cond over Events.overlong (Events.frame (record f { address = record f.address { command = b }; control = Information ns nr p }))) in
-          left (cond over (MultipleFrame.failed t code.O (begun (at Established l))) ((MultipleFrame.contents_in_7_8 t ns p f.info then Words.by_number t nr seven.acknowledged_by_information_in_7) (begun (at Established l))))
+          left (cond over (MultipleFrame.failed t ErrorCode.O (begun (at Established l))) ((MultipleFrame.contents_in_7_8 t ns p f.info then Words.by_number t nr seven.acknowledged_by_information_in_7) (begun (at Established l))))
           ≡ due t e (at Established l) (state_after t e (at Established l))
       go true = refl
       go false = information-7 l f b ns nr l.own_busy l.rejecting (is_next ns l) p

@@ -6,16 +6,14 @@ use Rattle.model_link.specs.Words
 
 -- no order where no timer was started, and the same runs
 none-ordered : (t : Terms) (running : Option LinkTimer) → orders_for t running None running ≡ []
-none-ordered t None = refl
 none-ordered t (Some T200) = refl
-none-ordered t (Some T203) = refl
+none-ordered t other = refl
 
 -- T200 was started where it did not run
 t200-ordered : (t : Terms) (running : Option LinkTimer)
     → orders_for t running (Some T200) (Some T200) ≡ Start (timer_at t T200) ∷ cond (runs T203 running) (Stop (timer_at t T203) ∷ []) []
-t200-ordered t None = refl
 t200-ordered t (Some T200) = refl
-t200-ordered t (Some T203) = refl
+t200-ordered t other = refl
 
 module _ (t : Terms) (l : Link) where
   abbrev Leaves : Course → Type 0

@@ -1,6 +1,5 @@
 -- What each event changes of V(S) and of own busy, and which events tell a loss.
 use Rattle.laws_link.proofs.Vocabulary.{◌≡◌, ℕ, ◌+◌, Bool, true, false, cond, ◌||◌, List, [], ◌∷◌, Option, None, Some, is_some, refl, ap, sym, ◌∙◌, subst, true≢false, ◌⊎◌, inl, inr, ⊎_elim, nat_lt, Seq, named, Control, Information, ReceiveReady, ReceiveNotReady, Reject, Sabme, Disc, Ui, Ua, Dm, Frmr, Xid, ErrorCode, Refusal, Parts, State, TeiAssigned, AwaitingEstablishment, AwaitingRelease, Established, TimerRecovery, LinkTimer, T200, T203, ControlFrame, Terms, Link, has_outstanding, Course, begun, Step, ◌then◌, changed, Leads, is_release, tells_loss, empties, asked_from, AsksFrom, MovesSent, is_anew, MovesBusy, MayEndBy, MayLose}
-use Rattle.lapd_frame.specs.declared.notes.ErrorCode.TheVariants as code
 use Rattle.model_link.specs.Events
 use Rattle.model_link.specs.Words
 use Rattle.model_link.specs.TeiAssigned as four
@@ -44,13 +43,13 @@ module _ (Asks : ℕ → Type 0) (Ends : Type 0) (t : Terms) (l : Link) where
   by-number nr f c h x = subst (λ o. Row Asks Ends l (effect o)) (sym same) (go (named l.a l.s nr) refl)
     where
       effect : Option ℕ → Course
-      effect o = elim o [ None ↦ (Words.error t code.J then Words.re_establish t) c | Some n ↦ f n c ]
+      effect o = elim o [ None ↦ (Words.error t ErrorCode.J then Words.re_establish t) c | Some n ↦ f n c ]
 
       same : named c.link.a c.link.s nr ≡ named l.a l.s nr
       same = ap (λ a. named a c.link.s nr) h.a ∙ ap (λ s. named l.a s nr) h.holds.sent
 
-      go : (o : Option ℕ) → named l.a l.s nr ≡ o → Row Asks Ends l (elim o [ None ↦ (Words.error t code.J then Words.re_establish t) c | Some n ↦ f n c ])
-      go None e = ordinary (MultipleFrame.failed t code.J c) ((failed l t code.J refl).leads c h.holds)
+      go : (o : Option ℕ) → named l.a l.s nr ≡ o → Row Asks Ends l (elim o [ None ↦ (Words.error t ErrorCode.J then Words.re_establish t) c | Some n ↦ f n c ])
+      go None e = ordinary (MultipleFrame.failed t ErrorCode.J c) ((failed l t ErrorCode.J refl).leads c h.holds)
       go (Some n) e = x n e
 
 module _ (Asks : ℕ → Type 0) (t : Terms) (l : Link) where
@@ -58,7 +57,6 @@ module _ (Asks : ℕ → Type 0) (t : Terms) (l : Link) where
   pub frames_in_4 : (octets : List ℕ) (control : Control) → Row Asks (MayEndBy control) l (four.frame_in_4 t octets control (begun l))
   frames_in_4 octets (Sabme p) = record { sent = inr (inr (inr (refl, refl))); busy = inr (refl, refl); loss = λ some. tt }
   frames_in_4 octets (Ua true) = still Asks _ t l (four.frame_in_4 t octets (Ua true)) (search words)
-  frames_in_4 octets (Ua false) = still Asks _ t l (four.frame_in_4 t octets (Ua false)) (search words)
   frames_in_4 octets other = still Asks _ t l (four.frame_in_4 t octets other) (search words)
 
   -- State 5.
@@ -71,22 +69,18 @@ module _ (Asks : ℕ → Type 0) (t : Terms) (l : Link) where
 
   pub frames_in_5 : (octets : List ℕ) (control : Control) → Row Asks (MayEndBy control) l (five.frame_in_5 t octets control (begun l))
   frames_in_5 octets (Ua true) = answered_in_5 l.asked (has_outstanding l)
-  frames_in_5 octets (Ua false) = still Asks _ t l (five.frame_in_5 t octets (Ua false)) (search words)
   frames_in_5 octets (Dm true) = record { sent = inr (inr (inl (refl, refl))); busy = inl refl; loss = λ some. tt }
-  frames_in_5 octets (Dm false) = still Asks _ t l (five.frame_in_5 t octets (Dm false)) (search words)
   frames_in_5 octets other = still Asks _ t l (five.frame_in_5 t octets other) (search words)
 
   -- State 6.
   pub frames_in_6 : (octets : List ℕ) (control : Control) → Row Asks (MayEndBy control) l (six.frame_in_6 t octets control (begun l))
   frames_in_6 octets (Ua true) = record { sent = inl refl; busy = inl refl; loss = λ some. tt }
-  frames_in_6 octets (Ua false) = still Asks _ t l (six.frame_in_6 t octets (Ua false)) (search words)
   frames_in_6 octets (Dm true) = record { sent = inl refl; busy = inl refl; loss = λ some. tt }
-  frames_in_6 octets (Dm false) = still Asks _ t l (six.frame_in_6 t octets (Dm false)) (search words)
   frames_in_6 octets other = still Asks _ t l (six.frame_in_6 t octets other) (search words)
 
   -- States 7 and 8.
   sabme-again : (p out : Bool)
-      → let c = (Words.send t (Words.response (Ua p)) then Words.clear_flags then Words.error t code.F) (begun l) in
+      → let c = (Words.send t (Words.response (Ua p)) then Words.clear_flags then Words.error t ErrorCode.F) (begun l) in
       Row Asks (Unit {0}) l ((Words.zero_numbers then Words.start T203 then Words.enter Established) (cond out ((Words.discard then Words.establish_indication t) c) c))
   sabme-again p true = record { sent = inr (inr (inr (refl, refl))); busy = inr (refl, refl); loss = λ some. tt }
   sabme-again p false = record { sent = inr (inr (inr (refl, refl))); busy = inr (refl, refl); loss = λ some. tt }
@@ -113,8 +107,8 @@ module _ (Asks : ℕ → Type 0) (t : Terms) (l : Link) where
   frames_in_7 b octets (Disc p) asks = record { sent = inr (inr (inl (refl, refl))); busy = inl refl; loss = λ some. tt }
   frames_in_7 b octets (Ua f) asks = still Asks _ t l (seven.frame_in_7 t b octets (Ua f)) (search words)
   frames_in_7 b octets (Dm true) asks = still Asks _ t l (seven.frame_in_7 t b octets (Dm true)) (search words)
-  frames_in_7 b octets (Dm false) asks = fails Asks _ t l code.E refl
-  frames_in_7 b octets (Frmr f) asks = fails Asks _ t l code.K refl
+  frames_in_7 b octets (Dm false) asks = fails Asks _ t l ErrorCode.E refl
+  frames_in_7 b octets (Frmr f) asks = fails Asks _ t l ErrorCode.K refl
   frames_in_7 b octets (Ui p) asks = still Asks _ t l (seven.frame_in_7 t b octets (Ui p)) (search words)
   frames_in_7 b octets (Xid pf) asks = still Asks _ t l (seven.frame_in_7 t b octets (Xid pf)) (search words)
 
@@ -142,9 +136,9 @@ module _ (Asks : ℕ → Type 0) (t : Terms) (l : Link) where
   frames_in_8 b octets (Sabme p) asks = sabme-again p (has_outstanding l)
   frames_in_8 b octets (Disc p) asks = record { sent = inr (inr (inl (refl, refl))); busy = inl refl; loss = λ some. tt }
   frames_in_8 b octets (Ua f) asks = still Asks _ t l (eight.frame_in_8 t b octets (Ua f)) (search words)
-  frames_in_8 b octets (Dm true) asks = fails Asks _ t l code.B refl
-  frames_in_8 b octets (Dm false) asks = fails Asks _ t l code.E refl
-  frames_in_8 b octets (Frmr f) asks = fails Asks _ t l code.K refl
+  frames_in_8 b octets (Dm true) asks = fails Asks _ t l ErrorCode.B refl
+  frames_in_8 b octets (Dm false) asks = fails Asks _ t l ErrorCode.E refl
+  frames_in_8 b octets (Frmr f) asks = fails Asks _ t l ErrorCode.K refl
   frames_in_8 b octets (Ui p) asks = still Asks _ t l (eight.frame_in_8 t b octets (Ui p)) (search words)
   frames_in_8 b octets (Xid pf) asks = still Asks _ t l (eight.frame_in_8 t b octets (Xid pf)) (search words)
 
@@ -167,8 +161,7 @@ module _ (Asks : ℕ → Type 0) (t : Terms) (l : Link) where
   malformed TeiAssigned e anew = still Asks ⊥ t l four.malformed_in_4 (search words)
   malformed AwaitingEstablishment e anew = still Asks ⊥ t l five.malformed_in_5 (search words)
   malformed AwaitingRelease e anew = still Asks ⊥ t l six.malformed_in_6 (search words)
-  malformed Established e anew = fails Asks ⊥ t l e anew
-  malformed TimerRecovery e anew = fails Asks ⊥ t l e anew
+  malformed other e anew = fails Asks ⊥ t l e anew
 
   pub t200 : (here : State) → Row Asks (Unit {0}) l (Machine.expired_in here T200 t (begun l))
   t200 TeiAssigned = ordinary Asks _ t l (begun l) (begins l)
@@ -183,7 +176,7 @@ module _ (Asks : ℕ → Type 0) (t : Terms) (l : Link) where
   t200 Established = still Asks _ t l (seven.timer_in_7 t) (search words)
   t200 TimerRecovery =
       let again : Leads (Ordinary l) (Words.enquire t then Words.repeated then Words.start T200) (Ordinary l) = search words in
-      either Asks _ t l (nat_lt l.repeats t.n200) _ _ (still Asks _ t l (Words.enquire t then Words.repeated then Words.start T200) again) (fails Asks _ t l code.I refl)
+      either Asks _ t l (nat_lt l.repeats t.n200) _ _ (still Asks _ t l (Words.enquire t then Words.repeated then Words.start T200) again) (fails Asks _ t l ErrorCode.I refl)
 
   pub t203 : (here : State) → Row Asks ⊥ l (Machine.expired_in here T203 t (begun l))
   t203 Established = still Asks ⊥ t l (seven.timer_in_7 t) (search words)
@@ -316,9 +309,9 @@ module _ (t : Terms) (l : Link) where
 
   pub event-steady : (e : Events.Event) → Steady t e l
   event-steady (Events.received (Events.frame f)) = by-frame f
-  event-steady (Events.received Events.undefined) = by-malformed Events.undefined (malformed (AsksFrom (Events.received Events.undefined) l) t l l.state code.L refl)
-  event-steady (Events.received Events.wrong_size) = by-malformed Events.wrong_size (malformed (AsksFrom (Events.received Events.wrong_size) l) t l l.state code.N refl)
-  event-steady (Events.received Events.overlong) = by-malformed Events.overlong (malformed (AsksFrom (Events.received Events.overlong) l) t l l.state code.O refl)
+  event-steady (Events.received Events.undefined) = by-malformed Events.undefined (malformed (AsksFrom (Events.received Events.undefined) l) t l l.state ErrorCode.L refl)
+  event-steady (Events.received Events.wrong_size) = by-malformed Events.wrong_size (malformed (AsksFrom (Events.received Events.wrong_size) l) t l l.state ErrorCode.N refl)
+  event-steady (Events.received Events.overlong) = by-malformed Events.overlong (malformed (AsksFrom (Events.received Events.overlong) l) t l l.state ErrorCode.O refl)
   event-steady (Events.expired T200) = by-expiry T200 (Unit {0}) (λ x. x) (expires T200 (Machine.is_running T200 l) (t200 (AsksFrom (Events.expired T200) l) t l l.state))
   event-steady (Events.expired T203) = by-expiry T203 ⊥ (λ x. x) (expires T203 (Machine.is_running T203 l) (t203 (AsksFrom (Events.expired T203) l) t l l.state))
   event-steady (Events.requested request full) = by-request request full

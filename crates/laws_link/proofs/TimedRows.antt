@@ -1,6 +1,5 @@
 -- A link that awaits something has its timer: the rows by state, and every event.
-use Rattle.laws_link.proofs.Vocabulary.{◌≡◌, ℕ, ◌+◌, Bool, true, false, cond, ◌&&◌, List, [], ◌∷◌, Option, Some, None, inl, inr, refl, sym, subst, true≢false, Control, Information, ReceiveReady, ReceiveNotReady, Reject, Sabme, Disc, Ua, Dm, Frmr, ErrorCode, Refusal, State, TeiAssigned, AwaitingEstablishment, AwaitingRelease, Established, TimerRecovery, LinkTimer, T200, T203, ControlFrame, Terms, Link, fresh, runs, Course, begun, changed, frame_in_4, establish_in_4, frame_in_5, frame_in_6, Leads, IsTimed, IsTimedIn}
-use Rattle.lapd_frame.specs.declared.notes.ErrorCode.TheVariants as code
+use Rattle.laws_link.proofs.Vocabulary.{◌≡◌, ℕ, ◌+◌, Bool, true, false, cond, ◌&&◌, List, [], ◌∷◌, Option, Some, None, inl, inr, refl, sym, subst, true≢false, Control, Ua, Dm, ErrorCode, Refusal, State, TeiAssigned, AwaitingEstablishment, AwaitingRelease, Established, TimerRecovery, LinkTimer, T200, T203, ControlFrame, Terms, Link, fresh, runs, Course, begun, changed, frame_in_4, establish_in_4, frame_in_5, frame_in_6, Leads, IsTimed, IsTimedIn, leaves}
 use Rattle.model_link.specs.Events
 use Rattle.model_link.specs.Words
 use Rattle.model_link.specs.MultipleFrame
@@ -9,72 +8,39 @@ use Rattle.model_link.specs.TimerRecovery
 use Rattle.model_link.specs.Requests
 use Rattle.model_link.specs.Offers
 use Rattle.model_link.specs.Machine
-use Rattle.laws_link.proofs.Timing.{TimedBy, At, Ends, at_ends, transfer_timed, failed_timed, acknowledge_start_7, send_again_7, to_named, acknowledged_7, acknowledged_by_information_7, acknowledge_8, ends, information_timed, supervisory_7, supervisory_8}
+use Rattle.laws_link.proofs.Timing.{TimedBy, At, Ends, at_ends, failed_timed, ends, rows}
 
 module _ (t : Terms) where
-  -- the rows
   frames_in_4 : (octets : List ℕ) (control : Control) → Leads (At TeiAssigned) (frame_in_4 t octets control) Ends
-  frames_in_4 octets (Sabme p) = search ends depth 12 fits 4000
   frames_in_4 octets (Ua true) = search ends depth 12 fits 4000
-  frames_in_4 octets (Ua false) = search ends depth 12 fits 4000
   frames_in_4 octets other = search ends depth 12 fits 4000
 
   frames_in_5 : (octets : List ℕ) (control : Control) → Leads (At AwaitingEstablishment) (frame_in_5 t octets control) Ends
   frames_in_5 octets (Ua true) = search ends depth 12 fits 4000
-  frames_in_5 octets (Ua false) = search ends depth 12 fits 4000
   frames_in_5 octets (Dm true) = search ends depth 12 fits 4000
-  frames_in_5 octets (Dm false) = search ends depth 12 fits 4000
   frames_in_5 octets other = search ends depth 12 fits 4000
 
   frames_in_6 : (octets : List ℕ) (control : Control) → Leads (At AwaitingRelease) (frame_in_6 t octets control) Ends
   frames_in_6 octets (Ua true) = search ends depth 12 fits 4000
-  frames_in_6 octets (Ua false) = search ends depth 12 fits 4000
   frames_in_6 octets (Dm true) = search ends depth 12 fits 4000
-  frames_in_6 octets (Dm false) = search ends depth 12 fits 4000
   frames_in_6 octets other = search ends depth 12 fits 4000
 
-  sabme_timed : (here : State) (p : Bool) → Leads (At here) (MultipleFrame.sabme_in_7_8 t p) Ends
-  sabme_timed here p = search ends depth 12 fits 4000
-
-  disc_timed : (here : State) (p : Bool) → Leads (At here) (MultipleFrame.disc_in_7_8 t p) Ends
-  disc_timed here p = search ends depth 12 fits 4000
-
   frames_in_7 : (b : Bool) (octets : List ℕ) (control : Control) → Leads (At Established) (Established.frame_in_7 t b octets control) Ends
-  frames_in_7 b octets (Information ns nr p) = information_timed Established t ns nr p octets _ (λ m. to_named (acknowledged_by_information_7 m))
-  frames_in_7 b octets (ReceiveReady nr pf) = supervisory_7 t b false pf nr _ acknowledged_7
-  frames_in_7 b octets (ReceiveNotReady nr pf) = supervisory_7 t b true pf nr _ acknowledge_start_7
-  frames_in_7 b octets (Reject nr pf) = supervisory_7 t b false pf nr _ send_again_7
-  frames_in_7 b octets (Sabme p) = sabme_timed Established p
-  frames_in_7 b octets (Disc p) = disc_timed Established p
-  frames_in_7 b octets (Dm false) = failed_timed t code.E
-  frames_in_7 b octets (Frmr f) = failed_timed t code.K
-  frames_in_7 b octets other = search ends depth 12 fits 4000
+  frames_in_7 b octets (Dm true) = search rows depth 14 fits 6000
+  frames_in_7 b octets other = search rows depth 14 fits 6000
 
   frames_in_8 : (b : Bool) (octets : List ℕ) (control : Control) → Leads (At TimerRecovery) (TimerRecovery.frame_in_8 t b octets control) Ends
-  frames_in_8 b octets (Information ns nr p) = information_timed TimerRecovery t ns nr p octets _ (λ m. to_named (acknowledge_8 m))
-  frames_in_8 b octets (ReceiveReady nr pf) = supervisory_8 t b false pf nr T203
-  frames_in_8 b octets (ReceiveNotReady nr pf) = supervisory_8 t b true pf nr T200
-  frames_in_8 b octets (Reject nr pf) = supervisory_8 t b false pf nr T203
-  frames_in_8 b octets (Sabme p) = sabme_timed TimerRecovery p
-  frames_in_8 b octets (Disc p) = disc_timed TimerRecovery p
-  frames_in_8 b octets (Dm true) = failed_timed t code.B
-  frames_in_8 b octets (Dm false) = failed_timed t code.E
-  frames_in_8 b octets (Frmr f) = failed_timed t code.K
-  frames_in_8 b octets other = search ends depth 12 fits 4000
+  frames_in_8 b octets (Dm true) = search rows depth 14 fits 6000
+  frames_in_8 b octets other = search rows depth 14 fits 6000
 
   expired_timed : (here : State) (timer : LinkTimer) → Leads (At here) (Machine.expired_in here timer t) Ends
-  expired_timed TeiAssigned timer = search ends depth 12 fits 4000
   expired_timed AwaitingEstablishment T200 = search ends depth 12 fits 4000
-  expired_timed AwaitingEstablishment T203 = search ends depth 12 fits 4000
   expired_timed AwaitingRelease T200 = search ends depth 12 fits 4000
-  expired_timed AwaitingRelease T203 = search ends depth 12 fits 4000
-  expired_timed Established timer = search ends depth 12 fits 4000
   expired_timed TimerRecovery T200 = search ends depth 12 fits 4000
-  expired_timed TimerRecovery T203 = search ends depth 12 fits 4000
+  expired_timed other timer = search ends depth 12 fits 4000
 
   malformed_timed : (here : State) (e : ErrorCode) → Leads (At here) (Machine.malformed_in here t e) Ends
   malformed_timed Established e = failed_timed t e
-  malformed_timed TimerRecovery e = failed_timed t e
   malformed_timed other e = search ends depth 12 fits 4000
 
   release_timed : (here : State) → Leads (At here) (Requests.release_in here t) Ends
@@ -119,7 +85,7 @@ module _ (t : Terms) (l : Link) (timed : IsTimed l) where
   granted : (request : Events.Request) → Ends (Requests.granted t request (begun l))
   granted Events.Establish = (establish_timed t).leads (begun l) here
   granted Events.Release = (release_timed t l.state).leads (begun l) here
-  granted (Events.Data octets) = (at_ends (transfer_timed l.state octets)).leads (begun l) here
+  granted (Events.Data octets) = (at_ends (leaves {f = MultipleFrame.data_in_7_8 octets} (λ c h. h))).leads (begun l) here
   granted Events.SetBusy = (set_busy_timed t l.state).leads (begun l) here
   granted Events.ClearBusy = (clear_busy_timed t l.state).leads (begun l) here
 
@@ -169,9 +135,9 @@ offers t l timed [] =
 
 event-timed : (t : Terms) (e : Events.Event) (l : Link) → IsTimed l → Ends (Machine.course t e l)
 event-timed t (Events.received (Events.frame f)) l h = frames t l h f.address.command f.info f.control
-event-timed t (Events.received Events.undefined) l h = (malformed_timed t l.state code.L).leads (begun l) (here t l h)
-event-timed t (Events.received Events.wrong_size) l h = (malformed_timed t l.state code.N).leads (begun l) (here t l h)
-event-timed t (Events.received Events.overlong) l h = (malformed_timed t l.state code.O).leads (begun l) (here t l h)
+event-timed t (Events.received Events.undefined) l h = (malformed_timed t l.state ErrorCode.L).leads (begun l) (here t l h)
+event-timed t (Events.received Events.wrong_size) l h = (malformed_timed t l.state ErrorCode.N).leads (begun l) (here t l h)
+event-timed t (Events.received Events.overlong) l h = (malformed_timed t l.state ErrorCode.O).leads (begun l) (here t l h)
 event-timed t (Events.expired timer) l h = either (Machine.is_running timer l) _ _ (λ e. (expired_timed t l.state timer).leads (begun l) (here t l h)) (λ e. unchanged t l h)
 event-timed t (Events.requested request full) l h = requests t l h request (Requests.refusal t l full request)
 event-timed t Events.offer l h = offers t l h l.waiting

@@ -1,11 +1,9 @@
 -- A link that awaits something has its timer: every row keeps that.
-use Rattle.laws_link.proofs.Vocabulary.{◌≡◌, ℕ, ◌≤◌, Bool, true, List, Option, Some, None, ◌⊎◌, inl, inr, refl, arith, Seq, named, Note, ErrorCode, State, TeiAssigned, AwaitingEstablishment, AwaitingRelease, Established, TimerRecovery, LinkTimer, T200, T203, ControlFrame, Terms, Course, Step, ◌then◌, changed, named-within, Leads, keeping_then, nothing_leads, depending_leads, bit_leads, tested_leads, Passed, from_more, to_less, eqb-true}
-use Rattle.lapd_frame.specs.declared.notes.ErrorCode.TheVariants as code
+use Rattle.laws_link.proofs.Vocabulary.{◌≡◌, ℕ, ◌≤◌, Bool, true, List, Option, Some, None, ◌⊎◌, inl, inr, refl, arith, Seq, named, Note, ErrorCode, State, TeiAssigned, AwaitingEstablishment, AwaitingRelease, Established, TimerRecovery, LinkTimer, T200, T203, ControlFrame, Terms, Course, Step, ◌then◌, changed, named-within, Leads, keeping_then, nothing_leads, depending_leads, bit_leads, tested_leads, Passed, from_more, to_less, eqb-true, leaves}
 use Rattle.model_link.specs.Words
 use Rattle.model_link.specs.MultipleFrame
 use Rattle.model_link.specs.Established
 use Rattle.model_link.specs.TimerRecovery
-use Rattle.model_link.specs.Offers
 
 -- the same as `IsTimedIn`, of what it speaks of
 abbrev pub TimedBy : State → Option LinkTimer → ℕ → ℕ → Type 0
@@ -42,85 +40,11 @@ at_ends {here} {f} x = to_less (λ c h. enough here c.link.state c.link.running 
 pub unnamed : {here : State} {m : ℕ} {Q : Course → Type 0} {f : Step} → Leads (At here) f Q → Leads (Named here m) f Q
 unnamed x = from_more (λ c h. h.holds) x
 
--- words that touch neither the state, nor the timer, V(A) or V(S)
-module _ (here : State) where
-  pub note_timed : (n : Note) → Leads (At here) (Words.note n) (At here)
-  note_timed n = record { leads = λ c h. h }
-
-  pub deliver_timed : (t : Terms) (octets : List ℕ) → Leads (At here) (Words.deliver t octets) (At here)
-  deliver_timed t octets = record { leads = λ c h. h }
-
-  pub deliver_unit_timed : (t : Terms) (octets : List ℕ) → Leads (At here) (Words.deliver_unit t octets) (At here)
-  deliver_unit_timed t octets = record { leads = λ c h. h }
-
-  pub refuse_timed : Leads (At here) (Words.leave_unserved) (At here)
-  refuse_timed = record { leads = λ c h. h }
-
-  pub peer_busy_timed : (b : Bool) → Leads (At here) (Words.peer_busy_is b) (At here)
-  peer_busy_timed b = record { leads = λ c h. h }
-
-  pub own_busy_timed : (b : Bool) → Leads (At here) (Words.own_busy_is b) (At here)
-  own_busy_timed b = record { leads = λ c h. h }
-
-  pub rejecting_timed : (b : Bool) → Leads (At here) (Words.rejecting_is b) (At here)
-  rejecting_timed b = record { leads = λ c h. h }
-
-  pub pending_timed : (b : Bool) → Leads (At here) (Words.pending_is b) (At here)
-  pending_timed b = record { leads = λ c h. h }
-
-  pub asked_timed : (b : Bool) → Leads (At here) (Words.asked_is b) (At here)
-  asked_timed b = record { leads = λ c h. h }
-
-  pub repeats_timed : (n : ℕ) → Leads (At here) (Words.repeats_are n) (At here)
-  repeats_timed n = record { leads = λ c h. h }
-
-  pub repeated_timed : Leads (At here) (Words.repeated) (At here)
-  repeated_timed = record { leads = λ c h. h }
-
-  pub flags_timed : Leads (At here) (Words.clear_flags) (At here)
-  flags_timed = record { leads = λ c h. h }
-
-  pub count_timed : Leads (At here) (Words.count_received) (At here)
-  count_timed = record { leads = λ c h. h }
-
-  pub transfer_timed : (octets : List ℕ) → Leads (At here) (MultipleFrame.data_in_7_8 octets) (At here)
-  transfer_timed octets = record { leads = λ c h. h }
-
-  pub waiting_rest_timed : (fs : List ControlFrame) → Leads (At here) (changed (Offers.with_waiting_rest fs)) (At here)
-  waiting_rest_timed fs = record { leads = λ c h. h }
-
-  pub give_timed : (f : ControlFrame) (o : Option (List ℕ)) → Leads (At here) (Offers.give f o) (At here)
-  give_timed f o = record { leads = λ c h. h }
-
-  pub give_information_timed : Leads (At here) (Offers.give_information) (At here)
-  give_information_timed = record { leads = λ c h. h }
-
-  pub give_acknowledgement_timed : Leads (At here) (Offers.give_acknowledgement) (At here)
-  give_acknowledgement_timed = record { leads = λ c h. h }
-
-  pub send_timed : (t : Terms) (f : ControlFrame) → Leads (At here) (Words.send t f) (At here)
-  send_timed t f = record { leads = λ c h. h }
-
-  pub enquire_timed : (t : Terms) → Leads (At here) (Words.enquire t) (At here)
-  enquire_timed t = record { leads = λ c h. h }
-
-  pub answer_timed : (t : Terms) → Leads (At here) (Words.answer t) (At here)
-  answer_timed t = record { leads = λ c h. h }
-
-  pub report_timed : (t : Terms) → Leads (At here) (Words.report_ready t) (At here)
-  report_timed t = record { leads = λ c h. h }
-
-  pub reject_timed : (t : Terms) (f : Bool) → Leads (At here) (Words.reject t f) (At here)
-  reject_timed t f = record { leads = λ c h. h }
-
 -- all contents that are kept are released: nothing is outstanding
 pub discarded : (here : State) (running : Option LinkTimer) (a s : ℕ) → TimedBy here running a s → TimedBy here running a a
-discarded TeiAssigned running a s e = e
-discarded AwaitingEstablishment running a s e = e
-discarded AwaitingRelease running a s e = e
 discarded Established running a s (inl e) = inl e
 discarded Established running a s (inr e) = inr (e.0, omega arith)
-discarded TimerRecovery running a s e = e
+discarded other running a s e = e
 
 pub discard_timed : (here : State) → Leads (At here) Words.discard (At here)
 discard_timed here = record {
@@ -211,36 +135,15 @@ acknowledged_8 final timer m = bit_leads final (recovered_timed timer m) (to_nam
 
 -- by the N(R): an invalid one, or the one number that it names
 pub by-number : (here : State) (t : Terms) (nr : Seq) (f : ℕ → Step) → ((m : ℕ) → Leads (Named here m) (f m) Ends) → (c : Course) → At here c
-    → (o : Option ℕ) → named c.link.a c.link.s nr ≡ o → Ends (elim o [ None ↦ (Words.error t code.J then Words.re_establish t) c | Some n ↦ f n c ])
+    → (o : Option ℕ) → named c.link.a c.link.s nr ≡ o → Ends (elim o [ None ↦ (Words.error t ErrorCode.J then Words.re_establish t) c | Some n ↦ f n c ])
 by-number here t nr f x c h None e = record { timer = refl }
 by-number here t nr f x c h (Some m) e = (x m).leads c (record { holds = h; from = (named-within c.link.a c.link.s m nr e).0 })
 
 pub number_timed : {here : State} (t : Terms) (nr : Seq) (f : ℕ → Step) → ((m : ℕ) → Leads (Named here m) (f m) Ends) → Leads (At here) (Words.by_number t nr f) Ends
 number_timed {here} t nr f x = record { leads = λ c h. by-number here t nr f x c h (named c.link.a c.link.s nr) refl }
 
-pub ruleset words = (keeping_then, nothing_leads, depending_leads, bit_leads, discard_timed, restart_5, restart_6, restart_7, restart_8, note_timed, deliver_timed, deliver_unit_timed, refuse_timed, peer_busy_timed, own_busy_timed, rejecting_timed, pending_timed, asked_timed, repeats_timed, repeated_timed, flags_timed, count_timed, transfer_timed, waiting_rest_timed, give_timed, give_information_timed, give_acknowledgement_timed, send_timed, enquire_timed, answer_timed, report_timed, reject_timed)
+pub ruleset words = (leaves, keeping_then, nothing_leads, depending_leads, bit_leads, discard_timed, restart_5, restart_6, restart_7, restart_8)
 
 pub ruleset ends = (words, at_ends, enters_4, enters_5, asks_for_5, enters_6, enters_8, zero_enters_7, zero_told_enters_7, failed_timed)
 
-pub contents_timed : (here : State) (t : Terms) (ns : Seq) (p : Bool) (octets : List ℕ) → Leads (At here) (MultipleFrame.contents_in_7_8 t ns p octets) (At here)
-contents_timed here t ns p octets = search words depth 12 fits 4000
-
-pub information_timed : (here : State) (t : Terms) (ns nr : Seq) (p : Bool) (octets : List ℕ) (f : ℕ → Step) → ((m : ℕ) → Leads (Named here m) (f m) Ends)
-    → Leads (At here) (MultipleFrame.information_in_7_8 t ns nr p octets f) Ends
-information_timed here t ns nr p octets f x =
-    bit_leads _ (failed_timed t code.O) (keeping_then (contents_timed here t ns p octets) (number_timed t nr f x))
-
--- a supervisory frame
-pub supervisory_7 : (t : Terms) (is_command busy pf : Bool) (nr : Seq) (f : ℕ → Step) → ((m : ℕ) → Leads (Named Established m) (f m) (At Established))
-    → Leads (At Established) (Words.peer_busy_is busy then MultipleFrame.answered t is_command pf then Established.unsolicited t (MultipleFrame.is_final is_command pf) then Words.by_number t nr f) Ends
-supervisory_7 t is_command busy pf nr f x =
-    keeping_then (peer_busy_timed Established busy)
-    (keeping_then (bit_leads _ (answer_timed Established t) nothing_leads)
-    (keeping_then (bit_leads _ (note_timed Established _) nothing_leads) (number_timed t nr f (λ m. to_named (x m)))))
-
-pub supervisory_8 : (t : Terms) (is_command busy pf : Bool) (nr : Seq) (timer : LinkTimer)
-    → Leads (At TimerRecovery) (Words.peer_busy_is busy then MultipleFrame.answered t is_command pf then Words.by_number t nr (TimerRecovery.acknowledged_in_8 timer (MultipleFrame.is_final is_command pf))) Ends
-supervisory_8 t is_command busy pf nr timer =
-    keeping_then (peer_busy_timed TimerRecovery busy)
-    (keeping_then (bit_leads _ (answer_timed TimerRecovery t) nothing_leads)
-    (number_timed t nr _ (λ m. acknowledged_8 (MultipleFrame.is_final is_command pf) timer m)))
+pub ruleset rows = (ends, number_timed, to_named, acknowledged_7, acknowledged_by_information_7, acknowledge_start_7, send_again_7, acknowledged_8, acknowledge_8)

@@ -12,6 +12,10 @@ then_leads {f} x y = record { leads = λ c h. y.leads (f c) (x.leads c h) }
 pub keeping_then : {P R : Course → Type 0} {f g : Step} → Leads P f P → Leads P g R → Leads P (f then g) R
 keeping_then x y = then_leads x y
 
+-- a step that leaves what is claimed
+pub leaves : {P : Course → Type 0} {f : Step} → ((c : Course) → P c → P (f c)) → Leads P f P
+leaves x = record { leads = x }
+
 pub nothing_leads : {P : Course → Type 0} → Leads P nothing P
 nothing_leads = record { leads = λ c h. h }
 

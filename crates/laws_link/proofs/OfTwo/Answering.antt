@@ -1,6 +1,5 @@
 -- What answers a poll.
-use Rattle.laws_link.proofs.Vocabulary.{◌≡◌, ℕ, ◌+◌, ◌≤◌, Bool, true, false, cond, IsTrue, List, [], ◌∷◌, ◌++◌, length, Option, None, Some, refl, sym, ap, subst, ◌∙◌, true≢false, arith, nat_lt, lt-ltb, le-ltb, Seq, seq, named, Control, Information, ReceiveReady, ReceiveNotReady, Reject, Sabme, Disc, Ui, Ua, Dm, Frmr, Xid, Parts, State, TeiAssigned, AwaitingEstablishment, AwaitingRelease, Established, TimerRecovery, LinkTimer, T200, T203, ControlFrame, Terms, Link, is_multiple_frame, frame, received, Course, begun, Step, ◌then◌, Leads, then_leads, keeping_then, nothing_leads, depending_leads, bit_leads, IsValidAt, IsPollWith, SaysReceived, Answered, AnsweredBy, asked_of}
-use Rattle.lapd_frame.specs.declared.notes.ErrorCode.TheVariants as code
+use Rattle.laws_link.proofs.Vocabulary.{◌≡◌, ℕ, ◌+◌, ◌≤◌, Bool, true, false, cond, IsTrue, List, [], ◌∷◌, ◌++◌, length, Option, None, Some, refl, sym, ap, subst, ◌∙◌, true≢false, arith, nat_lt, lt-ltb, le-ltb, Seq, seq, named, Control, Information, ReceiveReady, ReceiveNotReady, Reject, Sabme, Disc, Ui, Ua, Dm, Frmr, Xid, Parts, State, TeiAssigned, AwaitingEstablishment, AwaitingRelease, Established, TimerRecovery, LinkTimer, T200, T203, ControlFrame, Terms, Link, is_multiple_frame, frame, received, Course, begun, Step, ◌then◌, Leads, then_leads, keeping_then, nothing_leads, depending_leads, bit_leads, IsValidAt, IsPollWith, SaysReceived, Answered, AnsweredBy, asked_of, leaves, ErrorCode}
 use Rattle.model_link.specs.Words
 use Rattle.model_link.specs.MultipleFrame
 use Rattle.model_link.specs.Established
@@ -8,24 +7,15 @@ use Rattle.model_link.specs.TimerRecovery
 use Rattle.model_link.specs.Machine
 
 -- What waits, and V(R), after the answer; V(A) and V(S) are still as they were before it.
-pub record Waits (ws : List ControlFrame) (r : ℕ) (c : Course) : Type 0 where
-  pub waits : c.link.waiting ≡ ws
-  pub number : c.link.r ≡ r
+pub record WaitsIn (ws : List ControlFrame) (r : ℕ) (waiting : List ControlFrame) (received : ℕ) : Type 0 where
+  pub waits : waiting ≡ ws
+  pub number : received ≡ r
+
+abbrev pub Waits : List ControlFrame → ℕ → Course → Type 0
+Waits ws r c = WaitsIn ws r c.link.waiting c.link.r
 
 module _ (ws : List ControlFrame) (r : ℕ) where
-  pub acknowledge_waits : (n : ℕ) → Leads (Waits ws r) (Words.acknowledge n) (Waits ws r)
-  acknowledge_waits n = record { leads = λ c h. record { waits = h.waits; number = h.number } }
-
-  pub again_waits : (n : ℕ) → Leads (Waits ws r) (Words.send_again_from n) (Waits ws r)
-  again_waits n = record { leads = λ c h. record { waits = h.waits; number = h.number } }
-
-  pub start_waits : (timer : LinkTimer) → Leads (Waits ws r) (Words.start timer) (Waits ws r)
-  start_waits timer = record { leads = λ c h. record { waits = h.waits; number = h.number } }
-
-  pub enter_waits : (state : State) → Leads (Waits ws r) (Words.enter state) (Waits ws r)
-  enter_waits state = record { leads = λ c h. record { waits = h.waits; number = h.number } }
-
-  pub ruleset words = (keeping_then, nothing_leads, depending_leads, bit_leads, acknowledge_waits, again_waits, start_waits, enter_waits)
+  pub ruleset words = (leaves, keeping_then, nothing_leads, depending_leads, bit_leads)
 
   pub in_7_waits : (n : ℕ) → Leads (Waits ws r) (Established.acknowledged_in_7 n) (Waits ws r)
   in_7_waits n = search words depth 12 fits 4000
@@ -70,7 +60,7 @@ module _ (t : Terms) (l : Link) (room : length l.waiting + 1 ≤ t.control) wher
 
   -- the effect of what an N(R) names
   abbrev effect : (ℕ → Step) → Course → Option ℕ → Course
-  effect f c o = elim o [ None ↦ (Words.error t code.J then Words.re_establish t) c | Some n ↦ f n c ]
+  effect f c o = elim o [ None ↦ (Words.error t ErrorCode.J then Words.re_establish t) c | Some n ↦ f n c ]
 
   numbered : (nr : Seq) (f : ℕ → Step) → ((ws : List ControlFrame) (r n : ℕ) → Leads (Waits ws r) (f n) (Waits ws r)) → IsValidAt l nr
       → (c : Course) → Halfway l c → Answered l.waiting (Words.by_number t nr f c).link
@@ -121,7 +111,7 @@ module _ (t : Terms) (l : Link) (room : length l.waiting + 1 ≤ t.control) wher
       → ((ws : List ControlFrame) (r n : ℕ) → Leads (Waits ws r) (f n) (Waits ws r)) → IsValidAt l nr
       → Answered l.waiting (MultipleFrame.information_in_7_8 t ns nr true octets f (begun l)).link
   information ns nr octets f size x valid =
-      subst (λ b. Answered l.waiting (cond b (MultipleFrame.failed t code.O (begun l)) ((MultipleFrame.contents_in_7_8 t ns true octets then Words.by_number t nr f) (begun l))).link)
+      subst (λ b. Answered l.waiting (cond b (MultipleFrame.failed t ErrorCode.O (begun l)) ((MultipleFrame.contents_in_7_8 t ns true octets then Words.by_number t nr f) (begun l))).link)
       (sym (le-ltb t.n201 (length octets) size))
       (numbered nr f x valid (MultipleFrame.contents_in_7_8 t ns true octets (begun l)) (contents ns octets))
 
@@ -152,7 +142,7 @@ module _ (t : Terms) (l : Link) (room : length l.waiting + 1 ≤ t.control) wher
 
   in-8 : (command : Bool) (octets : List ℕ) (control : Control) → IsPollWith t l command octets control
       → Answered l.waiting (TimerRecovery.frame_in_8 t command octets control (begun l)).link
-  in-8 command octets (Information ns nr true) h = information ns nr octets Words.acknowledge h.1 acknowledge_waits h.2
+  in-8 command octets (Information ns nr true) h = information ns nr octets Words.acknowledge h.1 (λ ws r n. leaves (λ c h. h)) h.2
   in-8 command octets (Information ns nr false) h = absurd (true≢false (sym h.0))
   in-8 true octets (ReceiveReady nr true) h = supervisory false nr (TimerRecovery.acknowledged_in_8 T203 false) (λ ws r n. in_8_waits ws r T203 false n) h.2
   in-8 true octets (ReceiveReady nr false) h = absurd (true≢false (sym h.1))

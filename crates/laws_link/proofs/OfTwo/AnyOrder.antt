@@ -1,7 +1,6 @@
 -- Two ends in state 7 with frames on both ways, none of which is lost: each turn lowers their weight, and in the end all has
 -- arrived.
-use Rattle.laws_link.proofs.Vocabulary.{◌≡◌, ℕ, suc, ◌+◌, ◌-◌, ◌*◌, ◌<◌, ◌≤◌, Bool, true, false, ◌==◌, List, [], ◌∷◌, ◌++◌, length, take, drop, Some, refl, sym, ap, subst, ◌∙◌, ◌⊎◌, inl, inr, append-nil, eq-eqb, true≢false, arith, All, if◌then◌else◌, nat_lt, slice_get, unwrap_or, ltb-true, le-ltb, and_parts, seq, named, Parts, Terms, Link, frame, received, offer, IsInRange, IsSound, End, with_link, with_sent, with_first_of, sound-after, HasNothingToSend, load_of, load, weight_at}
-use Rattle.model_link.specs.declared.states.State.TheVariants as state
+use Rattle.laws_link.proofs.Vocabulary.{◌≡◌, ℕ, suc, ◌+◌, ◌-◌, ◌*◌, ◌<◌, ◌≤◌, Bool, true, false, ◌==◌, List, [], ◌∷◌, ◌++◌, length, take, drop, Some, refl, sym, ap, subst, ◌∙◌, ◌⊎◌, inl, inr, append-nil, eq-eqb, true≢false, arith, All, if◌then◌else◌, nat_lt, slice_get, unwrap_or, ltb-true, le-ltb, and_parts, seq, named, Parts, Terms, Link, frame, received, offer, IsInRange, IsSound, End, with_link, with_sent, with_first_of, sound-after, HasNothingToSend, load_of, load, weight_at, State}
 use Rattle.model_link.specs.Offers
 use Rattle.laws_link.proofs.OfTwo.Plain.{plain, plain_end, with_information, with_acknowledgement, information_frame, acknowledgement_frame, gives-information, gives-acknowledgement}
 use Rattle.laws_link.proofs.OfTwo.Halves.{named-number, fits-at, take-one}
@@ -78,7 +77,7 @@ took-n u w w' p v x q less = omega (arith, less)
 pub record Steady (n : End) : Type 0 where
   pub ranges : IsInRange n.terms
   pub sound : IsSound n.terms n.link
-  pub state : n.link.state ≡ state.Established
+  pub state : n.link.state ≡ State.Established
   pub peer_busy : n.link.peer_busy ≡ false
   pub own_busy : n.link.own_busy ≡ false
   pub waiting : n.link.waiting ≡ []

@@ -1,16 +1,14 @@
 -- The premises of the law on turns in any order are met: by the worked run in which both ways are busy at once, and after which
 -- no turn is left.
-use Rattle.laws_link.proofs.Vocabulary.{◌≡◌, ℕ, Bool, true, false, ◌&&◌, List, [], ◌∷◌, length, refl, sym, ap, ◌∙◌, true≢false, arith, ◌||◌, nat_le, and_parts, leb-true, seq, distance_of, named, supervisory_of, unnumbered_of, control_of, header_of, reading, Event, Data, requested, after_all, End, Ends, Act, asks, expires, sends, receives, loses, Doing, at_near, at_far, doing, doing_all, sound-all, usual, up, IsReady, IsTaken, asked, IsTurnOf, IsTurn, AreTurns, IsStill, settling, settled}
+use Rattle.laws_link.proofs.Vocabulary.{◌≡◌, ℕ, Bool, true, false, ◌&&◌, List, [], ◌∷◌, length, refl, sym, ap, ◌∙◌, true≢false, arith, ◌||◌, nat_le, and_parts, leb-true, seq, distance_of, named, supervisory_of, unnumbered_of, control_of, header_of, reading, Event, Data, requested, after_all, End, Ends, Act, sends, receives, Doing, at_near, at_far, doing, doing_all, sound-all, usual, up, IsReady, IsTaken, asked, IsTurnOf, IsTurn, AreTurns, IsStill, settling, settled}
 use Rattle.model_link.specs.Offers
 use Rattle.laws_link.proofs.OfTwo.Premises.{begins}
 
 -- a test of turns
 unfoldable pub is_turn_of : Act → End → End → Bool
-is_turn_of (asks request full) n m = false
-is_turn_of (expires timer) n m = false
 is_turn_of sends n m = Offers.may_send_information n.terms n.link || n.link.pending
 is_turn_of receives n m = nat_le 1 (length m.way)
-is_turn_of loses n m = false
+is_turn_of other n m = false
 
 unfoldable pub is_turn : Doing → Ends → Bool
 is_turn (at_near act) e = is_turn_of act e.near e.far
@@ -22,11 +20,9 @@ are_turns (d ∷ ds) e = is_turn d e && are_turns ds (doing d e)
 
 by-act : (act : Act) (n m : End) → is_turn_of act n m ≡ true → IsTurnOf act n m
 unfolding is_turn_of
-by-act (asks request full) n m e = true≢false (sym e)
-by-act (expires timer) n m e = true≢false (sym e)
 by-act sends n m e = λ none. true≢false (sym e ∙ ap (λ b. b || n.link.pending) none.information ∙ none.pending)
 by-act receives n m e = leb-true 1 (length m.way) e
-by-act loses n m e = true≢false (sym e)
+by-act other n m e = true≢false (sym e)
 
 by-doing : (d : Doing) (e : Ends) → is_turn d e ≡ true → IsTurn d e
 unfolding is_turn

@@ -1,5 +1,5 @@
 -- Runs of turns in any order, and where they end.
-use Rattle.laws_link.proofs.Vocabulary.{◌≡◌, ℕ, suc, ◌+◌, ◌≤◌, false, List, [], ◌∷◌, length, take, refl, sym, ap, subst, ◌∙◌, arith, nat_lt, take-length, End, Ends, Act, asks, expires, sends, receives, loses, Doing, at_near, at_far, acting, turned, doing, doing_all, HasNothingToSend, IsReady, IsTaken, HasArrived, IsTurnOf, IsTurn, AreTurns, IsStill, weight_at, weight}
+use Rattle.laws_link.proofs.Vocabulary.{◌≡◌, ℕ, suc, ◌+◌, ◌≤◌, false, List, [], ◌∷◌, length, take, refl, sym, ap, subst, ◌∙◌, arith, nat_lt, take-length, End, Ends, Act, sends, receives, Doing, at_near, at_far, acting, turned, doing, doing_all, HasNothingToSend, IsReady, IsTaken, HasArrived, IsTurnOf, IsTurn, AreTurns, IsStill, weight_at, weight}
 use Rattle.model_link.specs.Offers
 use Rattle.laws_link.proofs.OfTwo.Plain.{plain}
 use Rattle.laws_link.proofs.OfTwo.Halves.{all-acknowledged}
@@ -26,8 +26,6 @@ both-lighter : (a' a b' b : ℕ) → (b' + a') + 1 ≤ b + a → (a' + b') + 1 �
 both-lighter a' a b' b h = omega (arith, h)
 
 turn-near : (act : Act) (e : Ends) → Pair e → IsTurnOf act e.near e.far → AfterTurn e (acting act e)
-turn-near (asks request full) e h t = absurd t
-turn-near (expires timer) e h t = absurd t
 turn-near sends e h t =
     let x = gives e.near e.far h.near h.there h.back t in
     record {
@@ -44,7 +42,7 @@ turn-near receives e h t =
       near_kept = x.kept_m;
       far_kept = x.kept_n;
     }
-turn-near loses e h t = absurd t
+turn-near other e h t = absurd t
 
 turn-any : (d : Doing) (e : Ends) → Pair e → IsTurn d e → AfterTurn e (doing d e)
 turn-any (at_near act) e h t = turn-near act e h t

@@ -1,6 +1,5 @@
 -- In state 7 T200 runs only where something is awaited: each row, and each event.
-use Rattle.laws_link.proofs.Vocabulary.{◌≡◌, ◌≢◌, ◌⊎◌, inl, inr, ℕ, ◌+◌, ◌≤◌, ◌==◌, ◌&&◌, nat_lt, Bool, true, false, cond, List, [], ◌∷◌, Option, None, Some, refl, sym, ap, ◌∙◌, arith, true≢false, eq-eqb, ltb-false, Seq, named, Control, Information, ReceiveReady, ReceiveNotReady, Reject, Sabme, Disc, Ui, Ua, Dm, Frmr, Xid, ErrorCode, Refusal, State, TeiAssigned, AwaitingEstablishment, AwaitingRelease, Established, TimerRecovery, LinkTimer, T200, T203, ControlFrame, Terms, Link, frame, undefined, wrong_size, overlong, Request, Establish, Release, Data, SetBusy, ClearBusy, Event, received, expired, requested, offer, cleared, Course, Step, begun, ◌then◌, nothing, runs, frame_in_4, frame_in_5, frame_in_6, Leads, then_leads, bit_leads, named-within}
-use Rattle.lapd_frame.specs.declared.notes.ErrorCode.TheVariants as code
+use Rattle.laws_link.proofs.Vocabulary.{◌≡◌, ◌≢◌, ◌⊎◌, inl, inr, ℕ, ◌+◌, ◌≤◌, ◌==◌, ◌&&◌, nat_lt, Bool, true, false, cond, List, [], ◌∷◌, Option, None, Some, refl, sym, ap, ◌∙◌, arith, true≢false, eq-eqb, ltb-false, Seq, named, Control, Information, ReceiveReady, ReceiveNotReady, Reject, Sabme, Disc, Ui, Ua, Dm, Frmr, Xid, ErrorCode, Refusal, State, TeiAssigned, AwaitingEstablishment, AwaitingRelease, Established, TimerRecovery, LinkTimer, T200, T203, ControlFrame, Terms, Link, frame, undefined, wrong_size, overlong, Request, Establish, Release, Data, Event, received, expired, requested, offer, cleared, Course, Step, begun, ◌then◌, nothing, runs, frame_in_4, frame_in_5, frame_in_6, Leads, then_leads, bit_leads, named-within}
 use Rattle.model_link.specs.Words
 use Rattle.model_link.specs.MultipleFrame
 use Rattle.model_link.specs.Established
@@ -53,7 +52,7 @@ number : {P : Course → Type 0} (t : Terms) (nr : Seq) (f : ℕ → Step) → (
 number {P} t nr f x = record { leads = λ c h. go c h (named c.link.a c.link.s nr) refl }
   where
     go : (c : Course) → P c → (o : Option ℕ) → named c.link.a c.link.s nr ≡ o
-        → Awaiting (elim o [ None ↦ (Words.error t code.J then Words.re_establish t) c | Some n ↦ f n c ])
+        → Awaiting (elim o [ None ↦ (Words.error t ErrorCode.J then Words.re_establish t) c | Some n ↦ f n c ])
     go c h None e = record { holds = elsewhere AwaitingEstablishment refl _ _ _ _ }
     go c h (Some n) e = x n c h (named-within c.link.a c.link.s n nr e).0
 
@@ -88,7 +87,7 @@ module _ (t : Terms) where
   answered-busy b pf = bit_leads {f = Words.answer t} {g = nothing} (b && pf) (record { leads = λ c h. h }) (record { leads = λ c h. h })
 
   unsolicited-busy : (f : Bool) → Leads Busy (Established.unsolicited t f) Busy
-  unsolicited-busy f = bit_leads {f = Words.error t code.A} {g = nothing} f (record { leads = λ c h. h }) (record { leads = λ c h. h })
+  unsolicited-busy f = bit_leads {f = Words.error t ErrorCode.A} {g = nothing} f (record { leads = λ c h. h }) (record { leads = λ c h. h })
 
   answered-at : (here : State) (b pf : Bool) → Leads (At here) (MultipleFrame.answered t b pf) (At here)
   answered-at here b pf = bit_leads {f = Words.answer t} {g = nothing} (b && pf) (record { leads = λ c h. h }) (record { leads = λ c h. h })
@@ -128,7 +127,7 @@ module _ (t : Terms) where
 
   in-7 : (b : Bool) (octets : List ℕ) (control : Control) → Leads Awaiting (Established.frame_in_7 t b octets control) Awaiting
   in-7 b octets (Information ns nr p) =
-      bit_leads _ (failed-ends code.O)
+      bit_leads _ (failed-ends ErrorCode.O)
       (any-then (MultipleFrame.contents_in_7_8 t ns p octets) (number {P = Any} t nr Established.acknowledged_by_information_in_7 (λ n c h from. information-7 n c from)))
   in-7 b octets (ReceiveReady nr pf) =
       any-then (Words.peer_busy_is false) (any-then (MultipleFrame.answered t b pf) (any-then (Established.unsolicited t (MultipleFrame.is_final b pf))
@@ -142,11 +141,10 @@ module _ (t : Terms) where
   in-7 b octets (Sabme p) = record { leads = λ c h. record { holds = t203-runs _ _ _ _ } }
   in-7 b octets (Disc p) = record { leads = λ c h. record { holds = elsewhere TeiAssigned refl _ _ _ _ } }
   in-7 b octets (Ua f) = ua-ends f
-  in-7 b octets (Dm true) = record { leads = λ c h. record { holds = h.holds } }
-  in-7 b octets (Dm false) = failed-ends code.E
-  in-7 b octets (Frmr f) = failed-ends code.K
+  in-7 b octets (Dm false) = failed-ends ErrorCode.E
+  in-7 b octets (Frmr f) = failed-ends ErrorCode.K
   in-7 b octets (Ui p) = unit-ends octets
-  in-7 b octets (Xid pf) = record { leads = λ c h. record { holds = h.holds } }
+  in-7 b octets other = record { leads = λ c h. record { holds = h.holds } }
 
   -- state 8: it stays, or T203 is started, or the terminal is busy
   at-8 : {f : Step} → Leads (At TimerRecovery) f (At TimerRecovery) → Leads (At TimerRecovery) f Awaiting
@@ -176,7 +174,7 @@ module _ (t : Terms) where
 
   in-8 : (b : Bool) (octets : List ℕ) (control : Control) → Leads (At TimerRecovery) (TimerRecovery.frame_in_8 t b octets control) Awaiting
   in-8 b octets (Information ns nr p) =
-      bit_leads _ (failed-ends code.O)
+      bit_leads _ (failed-ends ErrorCode.O)
       (then_leads (contents-at TimerRecovery ns p octets) (number t nr Words.acknowledge (λ n c h from. record { holds = stays-elsewhere TimerRecovery refl c.link.state h _ _ _ _ })))
   in-8 b octets (ReceiveReady nr pf) = supervisory-8 false b pf nr
   in-8 b octets (ReceiveNotReady nr pf) =
@@ -188,9 +186,9 @@ module _ (t : Terms) where
   in-8 b octets (Sabme p) = record { leads = λ c h. record { holds = t203-runs _ _ _ _ } }
   in-8 b octets (Disc p) = record { leads = λ c h. record { holds = elsewhere TeiAssigned refl _ _ _ _ } }
   in-8 b octets (Ua f) = at-8 (bit_leads f (record { leads = λ c h. h }) (record { leads = λ c h. h }))
-  in-8 b octets (Dm true) = failed-ends code.B
-  in-8 b octets (Dm false) = failed-ends code.E
-  in-8 b octets (Frmr f) = failed-ends code.K
+  in-8 b octets (Dm true) = failed-ends ErrorCode.B
+  in-8 b octets (Dm false) = failed-ends ErrorCode.E
+  in-8 b octets (Frmr f) = failed-ends ErrorCode.K
   in-8 b octets (Ui p) = at-8 (bit_leads _ (record { leads = λ c h. h }) (record { leads = λ c h. h }))
   in-8 b octets (Xid pf) = at-8 (record { leads = λ c h. h })
 
@@ -228,22 +226,20 @@ module _ (t : Terms) (l : Link) (h : Awaits l.state l.running l.peer_busy l.a l.
   expiries Established e timer = record { holds = elsewhere TimerRecovery refl _ _ _ _ }
   expiries TimerRecovery e T200 =
       branch (nat_lt l.repeats t.n200) _ _ (record { holds = stays-elsewhere TimerRecovery refl l.state e _ _ _ _ })
-      ((failed-ends t {P = Any} code.I).leads (begun l) tt)
+      ((failed-ends t {P = Any} ErrorCode.I).leads (begun l) tt)
   expiries TimerRecovery e T203 = before
 
   releases : (here : State) → Awaiting (Requests.release_in here t (begun l))
   releases TeiAssigned = record { holds = h }
-  releases AwaitingEstablishment = before
-  releases AwaitingRelease = before
   releases Established = record { holds = elsewhere AwaitingRelease refl _ _ _ _ }
   releases TimerRecovery = record { holds = elsewhere AwaitingRelease refl _ _ _ _ }
+  releases other = before
 
   grants : (request : Request) → Awaiting (Requests.granted t request (begun l))
   grants Establish = record { holds = elsewhere AwaitingEstablishment refl _ _ _ _ }
   grants Release = releases l.state
   grants (Data octets) = record { holds = h }
-  grants SetBusy = branch l.own_busy _ _ (record { holds = h }) (record { holds = h })
-  grants ClearBusy = branch l.own_busy _ _ (record { holds = h }) (record { holds = h })
+  grants other = branch l.own_busy _ _ (record { holds = h }) (record { holds = h })
 
   asked : (request : Request) (o : Option Refusal) → Awaiting (elim o [ None ↦ Requests.granted t request (begun l) | Some _ ↦ begun l ])
   asked request None = grants request
@@ -263,9 +259,9 @@ module _ (t : Terms) (l : Link) (h : Awaits l.state l.running l.peer_busy l.a l.
 
   pub event-awaits : (e : Event) → Awaiting (Machine.course t e l)
   event-awaits (received (frame f)) = frames l.state refl f.address.command f.info f.control
-  event-awaits (received undefined) = malformed l.state code.L
-  event-awaits (received wrong_size) = malformed l.state code.N
-  event-awaits (received overlong) = malformed l.state code.O
+  event-awaits (received undefined) = malformed l.state ErrorCode.L
+  event-awaits (received wrong_size) = malformed l.state ErrorCode.N
+  event-awaits (received overlong) = malformed l.state ErrorCode.O
   event-awaits (expired timer) = branch (Machine.is_running timer l) _ _ (expiries l.state refl timer) before
   event-awaits (requested request full) = asked request (Requests.refusal t l full request)
   event-awaits offer = offers l.waiting

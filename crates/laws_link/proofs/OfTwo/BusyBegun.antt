@@ -1,7 +1,5 @@
 -- Own busy begins at one of two ends that are ready: RNR goes to the other, and then what the busy end gives arrives.
-use Rattle.laws_link.proofs.Vocabulary.{◌≡◌, ℕ, suc, ◌+◌, ◌-◌, ◌<◌, ◌≤◌, Bool, true, false, cond, List, [], ◌∷◌, ◌++◌, length, take, Option, Some, refl, sym, ap, subst, ◌∙◌, append-nil, arith, nat_lt, slice_get, unwrap_or, lt-ltb, le-ltb, ltb-true, and_parts, seq, named, LinkTimer, T200, ControlFrame, Terms, Link, frame, received, requested, SetBusy, Course, begun, End, Ends, with_link, with_first_of, with_first_lost, sound-after, IsReady, IsTaken, HasUnsent, rounds, GetsThrough, with_near_busy, with_far_busy}
-use Rattle.lapd_frame.specs.declared.notes.ErrorCode.TheVariants as code
-use Rattle.model_link.specs.declared.states.State.TheVariants as state
+use Rattle.laws_link.proofs.Vocabulary.{◌≡◌, ℕ, suc, ◌+◌, ◌-◌, ◌<◌, ◌≤◌, Bool, true, false, cond, List, [], ◌∷◌, ◌++◌, length, take, Option, Some, refl, sym, ap, subst, ◌∙◌, append-nil, arith, nat_lt, slice_get, unwrap_or, lt-ltb, le-ltb, ltb-true, and_parts, seq, named, LinkTimer, T200, ControlFrame, Terms, Link, frame, received, requested, SetBusy, Course, begun, End, Ends, with_link, with_first_of, with_first_lost, sound-after, IsReady, IsTaken, HasUnsent, rounds, GetsThrough, with_near_busy, with_far_busy, ErrorCode, State}
 use Rattle.model_link.specs.Words
 use Rattle.model_link.specs.MultipleFrame
 use Rattle.model_link.specs.Established
@@ -32,7 +30,7 @@ module _ (n : End) (ws : List ControlFrame) (a s : ℕ) (p : Bool) (running : Op
   drops : nat_lt n.terms.n201 (length (unwrap_or (slice_get l.contents l.s) [])) ≡ false
       → Heeds n ws x s p ds (with_link (received (frame (information_frame t l))) (in_7_with true false n ws a s p running ds))
   drops fits =
-      subst (λ b. Heeds n ws x s p ds (having (in_7_with true false n ws a s p running ds) (cond b (MultipleFrame.failed n.terms code.O here) (Words.by_number n.terms (seq l.r) Established.acknowledged_by_information_in_7 here))))
+      subst (λ b. Heeds n ws x s p ds (having (in_7_with true false n ws a s p running ds) (cond b (MultipleFrame.failed n.terms ErrorCode.O here) (Words.by_number n.terms (seq l.r) Established.acknowledged_by_information_in_7 here))))
       (sym fits) (ended _ (by-information n.terms (seq l.r) x here names low))
 
   notes : Heeds n ws x s p ds (with_link (received (frame (acknowledgement_frame t l))) (in_7_with true false n ws a s p running ds))
@@ -46,7 +44,7 @@ module _ (n : End) (h : IsReady n) where
   abbrev told : Bool → End
   told b =
       record n {
-        link = record n.link { state = state.Established; own_busy = true; peer_busy = false; pending = false; waiting = cond b (busy_report n.link.r ∷ []) [] };
+        link = record n.link { state = State.Established; own_busy = true; peer_busy = false; pending = false; waiting = cond b (busy_report n.link.r ∷ []) [] };
         way = [];
         delivered = n.delivered ++ [];
       }

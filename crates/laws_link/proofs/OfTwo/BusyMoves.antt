@@ -1,7 +1,5 @@
 -- An end that is busy itself, and the other, in state 7: one gives its next frame, and the other receives it.
-use Rattle.laws_link.proofs.Vocabulary.{◌≡◌, ℕ, ◌+◌, ◌≤◌, Bool, true, false, cond, ◌==◌, List, [], ◌∷◌, ◌++◌, length, Some, refl, sym, ap, subst, ◌∙◌, ◌⊎◌, inl, inr, append-nil, eq-eqb, arith, nat_lt, slice_get, unwrap_or, option_to_list, ltb-true, le-ltb, and_parts, seq, named, Terms, Link, frame, received, Course, begun, End, with_link, with_sent, with_first_of, with_first_lost, IsTaken, IsBusyItself, IsOpenItself, IsDropped}
-use Rattle.lapd_frame.specs.declared.notes.ErrorCode.TheVariants as code
-use Rattle.model_link.specs.declared.states.State.TheVariants as state
+use Rattle.laws_link.proofs.Vocabulary.{◌≡◌, ℕ, ◌+◌, ◌≤◌, Bool, true, false, cond, ◌==◌, List, [], ◌∷◌, ◌++◌, length, Some, refl, sym, ap, subst, ◌∙◌, ◌⊎◌, inl, inr, append-nil, eq-eqb, arith, nat_lt, slice_get, unwrap_or, option_to_list, ltb-true, le-ltb, and_parts, seq, named, Terms, Link, frame, received, Course, begun, End, with_link, with_sent, with_first_of, with_first_lost, IsTaken, IsBusyItself, IsOpenItself, IsDropped, ErrorCode, State}
 use Rattle.model_link.specs.Words
 use Rattle.model_link.specs.MultipleFrame
 use Rattle.model_link.specs.Established
@@ -17,7 +15,7 @@ pub record Same (n n' : End) : Type 0 where
 
 -- and of the flags.
 pub record Flags (own busy : Bool) (n : End) : Type 0 where
-  pub state : n.link.state ≡ state.Established
+  pub state : n.link.state ≡ State.Established
   pub own_busy : n.link.own_busy ≡ own
   pub peer_busy : n.link.peer_busy ≡ busy
   pub waiting : n.link.waiting ≡ []
@@ -63,7 +61,7 @@ module _ (m : End) where
         → with_link (received (frame (information_frame t l))) (plain_end_with false busy m)
         ≡ record m { link = record (plain_with false busy m.link) { r = m.link.r + 1; rejecting = false; pending = true; a = x; running = acked.running }; way = []; delivered = m.delivered ++ octets ∷ [] }
     takes-one next =
-        ap (λ b. having (cond b (MultipleFrame.failed m.terms code.O here) (number (MultipleFrame.contents_in_7_8 m.terms (seq l.s) false octets here)))) fits
+        ap (λ b. having (cond b (MultipleFrame.failed m.terms ErrorCode.O here) (number (MultipleFrame.contents_in_7_8 m.terms (seq l.s) false octets here)))) fits
         ∙ ap (λ b. having (number (cond b (MultipleFrame.in_sequence m.terms false octets here) (MultipleFrame.out_of_sequence m.terms false here)))) next
         ∙ ap having acked.is
 
@@ -77,7 +75,7 @@ module _ (m : End) where
     drops-one : with_link (received (frame (information_frame t l))) (plain_end_with true false m)
         ≡ record m { link = record (plain_with true false m.link) { a = x; running = heeded.running }; way = []; delivered = m.delivered ++ [] }
     drops-one =
-        ap (λ b. having (cond b (MultipleFrame.failed m.terms code.O there) (number there))) fits
+        ap (λ b. having (cond b (MultipleFrame.failed m.terms ErrorCode.O there) (number there))) fits
         ∙ ap having heeded.is
 
   module _ (own : Bool) (t : Terms) (l : Link) (x : ℕ) (names : named m.link.a m.link.s (seq l.r) ≡ Some x) (low : m.link.a ≤ x) where

@@ -1,6 +1,5 @@
 -- An end that is busy itself, and the other end: what each makes of the other's frames in states 7 and 8.
-use Rattle.laws_link.proofs.Vocabulary.{◌≡◌, ℕ, Bool, true, false, cond, List, [], ◌∷◌, ◌++◌, length, Option, Some, ap, ◌∙◌, append-nil, nat_lt, slice_get, unwrap_or, seq, named, ReceiveNotReady, LinkTimer, T200, ControlFrame, Terms, Link, frame_of, frame, received, begun, End, with_link}
-use Rattle.lapd_frame.specs.declared.notes.ErrorCode.TheVariants as code
+use Rattle.laws_link.proofs.Vocabulary.{◌≡◌, ℕ, Bool, true, false, cond, List, [], ◌∷◌, ◌++◌, length, Option, Some, ap, ◌∙◌, append-nil, nat_lt, slice_get, unwrap_or, seq, named, ReceiveNotReady, LinkTimer, T200, ControlFrame, Terms, Link, frame_of, frame, received, begun, End, with_link, ErrorCode}
 use Rattle.model_link.specs.Words
 use Rattle.model_link.specs.MultipleFrame
 use Rattle.model_link.specs.Established
@@ -59,6 +58,6 @@ drops-8 n ws busy a p ds t l x fits names =
     let octets = unwrap_or (slice_get l.contents l.s) [] in
     let number = Words.by_number n.terms (seq l.r) Words.acknowledge in
     let here = begun e.link in
-    ap (λ b. having e (cond b (MultipleFrame.failed n.terms code.O here) (number here))) fits
+    ap (λ b. having e (cond b (MultipleFrame.failed n.terms ErrorCode.O here) (number here))) fits
     ∙ ap (λ o. having e (effect n.terms (seq l.r) Words.acknowledge here o)) names
     ∙ ap (λ xs. in_8_with true n ws busy x p xs) (append-nil ds)

@@ -1,6 +1,5 @@
 -- What an event does to a link that stays in states 7 and 8: its numbers, its state, and the kind of frame that waits anew.
-use Rattle.laws_link.proofs.Vocabulary.{◌≡◌, ℕ, ◌+◌, Bool, true, false, cond, IsTrue, List, [], ◌∷◌, ◌++◌, Option, None, Some, refl, sym, subst, ◌∙◌, ◌⊎◌, inl, inr, true≢false, nat_lt, length, eqb-false, Seq, seq, named, seq-value, is_seq, Control, ReceiveReady, ReceiveNotReady, Reject, State, Established, TimerRecovery, LinkTimer, ControlFrame, Terms, Link, is_multiple_frame, Course, begun, Step, ◌then◌, eqb-true}
-use Rattle.lapd_frame.specs.declared.notes.ErrorCode.TheVariants as code
+use Rattle.laws_link.proofs.Vocabulary.{◌≡◌, ℕ, ◌+◌, Bool, true, false, cond, IsTrue, List, [], ◌∷◌, ◌++◌, Option, None, Some, refl, sym, subst, ◌∙◌, ◌⊎◌, inl, inr, true≢false, nat_lt, length, eqb-false, Seq, seq, named, seq-value, is_seq, Control, ReceiveReady, ReceiveNotReady, Reject, State, Established, TimerRecovery, LinkTimer, ControlFrame, Terms, Link, is_multiple_frame, Course, begun, Step, ◌then◌, eqb-true, ErrorCode}
 use Rattle.model_link.specs.Words
 use Rattle.model_link.specs.MultipleFrame
 use Rattle.model_link.specs.Established
@@ -76,7 +75,7 @@ either P false u v x y = y
 
 -- An N(R) has its effect, or leads out of the states.
 abbrev effected : Terms → (ℕ → Step) → Course → Option ℕ → Course
-effected t f c o = elim o [ None ↦ (Words.error t code.J then Words.re_establish t) c | Some n ↦ f n c ]
+effected t f c o = elim o [ None ↦ (Words.error t ErrorCode.J then Words.re_establish t) c | Some n ↦ f n c ]
 
 effect : (P : Link → Type 0) (t : Terms) (f : ℕ → Step) (c : Course) (o : Option ℕ) → ((n : ℕ) → o ≡ Some n → P (f n c).link)
     → IsUpIn (effected t f c o) → P (effected t f c o).link
@@ -194,5 +193,5 @@ module _ (t : Terms) (l : Link) where
       → IsUpIn (MultipleFrame.information_in_7_8 t ns nr false octets f (begun l)) → Informed ns l (MultipleFrame.information_in_7_8 t ns nr false octets f (begun l)).link
   informs ns nr octets f x up =
       let c = MultipleFrame.contents_in_7_8 t ns false octets (begun l) in
-      fitting ns (nat_lt t.n201 (length octets)) (MultipleFrame.failed t code.O (begun l)) (Words.by_number t nr f c) (λ u. true≢false (sym u))
+      fitting ns (nat_lt t.n201 (length octets)) (MultipleFrame.failed t ErrorCode.O (begun l)) (Words.by_number t nr f c) (λ u. true≢false (sym u))
       (λ u. by-number (Informed ns l) t nr f c (λ n e. took-then ns c _ (contents ns octets) (x c n)) u) up

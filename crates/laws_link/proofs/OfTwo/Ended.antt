@@ -1,6 +1,5 @@
 -- What comes of two ends once own busy is over at one of them.
 use Rattle.laws_link.proofs.Vocabulary.{◌≡◌, ℕ, ◌+◌, ◌<◌, ◌≤◌, Bool, true, false, IsTrue, [], length, take, Some, refl, sym, ap, subst, ◌∙◌, arith, All, State, T200, is_multiple_frame, requested, ClearBusy, IsInRange, IsSound, End, Ends, asks, sends, receives, loses, at_near, at_far, with_first_of, turned, doing, sound-after, IsTimedIn, rounds, IsReady, IsTaken, HasUnsent, IsCutOff, IsCutOffWith, HasMissing, with_t200_expired, IsBusyItself, IsOpenItself, with_near_told, with_near_untold, HasDroppedNothing, BothHaveArrived}
-use Rattle.model_link.specs.declared.states.State.TheVariants as state
 use Rattle.laws_link.proofs.OfTwo.Halves.{named-number}
 use Rattle.laws_link.proofs.OfTwo.Arriving.{Arrived, all-arrived}
 use Rattle.laws_link.proofs.OfTwo.Recovering.{Sounds, sounds-near}
@@ -17,15 +16,15 @@ module _ (e : Ends) where
   abbrev asked : Ends
   asked = doing (at_near (asks ClearBusy false)) e
 
-  timed-8 : (here : State) → e.far.link.state ≡ here → IsTimedIn here e.far.link → here ≡ state.TimerRecovery → e.far.link.running ≡ Some T200
-  timed-8 here s h is = let at : IsTimedIn state.TimerRecovery e.far.link = subst (λ x. IsTimedIn x e.far.link) is h in at
+  timed-8 : (here : State) → e.far.link.state ≡ here → IsTimedIn here e.far.link → here ≡ State.TimerRecovery → e.far.link.running ≡ Some T200
+  timed-8 here s h is = let at : IsTimedIn State.TimerRecovery e.far.link = subst (λ x. IsTimedIn x e.far.link) is h in at
 
   module _ (ranges : IsInRange e.near.terms) (busy : e.near.link.own_busy ≡ true) (waiting : e.near.link.waiting ≡ []) (way : e.near.way ≡ []) (up : IsTrue (is_multiple_frame e.near.link.state)) where
     given : Gives e.near ranges busy waiting way (doing (at_near sends) asked).near
     given = gives e.near ranges busy waiting way up
 
     told : e.far.link.own_busy ≡ false → e.far.link.waiting ≡ [] → e.far.way ≡ [] → IsTrue (is_multiple_frame e.far.link.state)
-        → (e.far.link.state ≡ state.TimerRecovery → e.far.link.running ≡ Some T200) → e.far.link.a ≤ e.near.link.r → e.near.link.r ≤ e.far.link.s → e.far.link.s ≤ e.far.link.a + 127
+        → (e.far.link.state ≡ State.TimerRecovery → e.far.link.running ≡ Some T200) → e.far.link.a ≤ e.near.link.r → e.near.link.r ≤ e.far.link.s → e.far.link.s ≤ e.far.link.a + 127
         → Over e e.near.link.r false (with_near_told e)
     told free waits ways up' ran low high within =
         record {
@@ -117,8 +116,8 @@ module _ (u : ℕ) (e : Ends) (hn : IsBusyItself e.near) (hm : IsOpenItself e.fa
   abbrev after : Ends
   after = with_near_told e
 
-  no-8 : e.far.link.state ≡ state.TimerRecovery → e.far.link.running ≡ Some T200
-  no-8 s = absurd (let two : state.Established ≡ state.TimerRecovery = sym hm.state ∙ s in cc)
+  no-8 : e.far.link.state ≡ State.TimerRecovery → e.far.link.running ≡ Some T200
+  no-8 s = absurd (let two : State.Established ≡ State.TimerRecovery = sym hm.state ∙ s in cc)
 
   left : Over e e.near.link.r false after
   left =

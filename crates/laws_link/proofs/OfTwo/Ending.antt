@@ -1,6 +1,5 @@
 -- Own busy ends at an end: what its request and its RR leave, at that end and at the other.
 use Rattle.laws_link.proofs.Vocabulary.{◌≡◌, ℕ, ◌≤◌, Bool, true, false, cond, IsTrue, List, [], ◌∷◌, ◌++◌, Option, Some, refl, sym, ap, subst, ◌∙◌, append-nil, true≢false, arith, nat_lt, lt-ltb, seq, named, ReceiveReady, Parts, State, LinkTimer, T200, Terms, Link, is_multiple_frame, frame, received, requested, ClearBusy, IsInRange, Course, begun, End, with_link, with_sent, with_first_lost}
-use Rattle.model_link.specs.declared.states.State.TheVariants as state
 use Rattle.model_link.specs.Words
 use Rattle.laws_link.proofs.OfTwo.Plain.{acknowledgement_frame}
 use Rattle.laws_link.proofs.OfTwo.Shapes.{in_8_with, in_7_with, having, acknowledged-8}
@@ -59,19 +58,19 @@ module _ (n : End) (ranges : IsInRange n.terms) (busy : n.link.own_busy ≡ true
         left = record { terms = refl; contents = refl; a = refl; s = refl; r = refl; delivered = refl; state = sym s; repeats = refl; peer_busy = refl; pending = refl; own_busy = refl; waiting = refl; way = refl };
       }
 
-  in-7 : n.link.state ≡ state.Established → over n ≡ quiet state.Established (acknowledgement_frame n.terms n.link ∷ []) n.delivered
+  in-7 : n.link.state ≡ State.Established → over n ≡ quiet State.Established (acknowledgement_frame n.terms n.link ∷ []) n.delivered
   in-7 s =
-      ap over (is-known state.Established s) ∙ ap (λ b. with_sent (told state.Established b)) room
-      ∙ ap (quiet state.Established (acknowledgement_frame n.terms n.link ∷ [])) (append-nil n.delivered)
+      ap over (is-known State.Established s) ∙ ap (λ b. with_sent (told State.Established b)) room
+      ∙ ap (quiet State.Established (acknowledgement_frame n.terms n.link ∷ [])) (append-nil n.delivered)
 
-  in-8 : n.link.state ≡ state.TimerRecovery → over n ≡ quiet state.TimerRecovery (acknowledgement_frame n.terms n.link ∷ []) n.delivered
+  in-8 : n.link.state ≡ State.TimerRecovery → over n ≡ quiet State.TimerRecovery (acknowledgement_frame n.terms n.link ∷ []) n.delivered
   in-8 s =
-      ap over (is-known state.TimerRecovery s) ∙ ap (λ b. with_sent (told state.TimerRecovery b)) room
-      ∙ ap (quiet state.TimerRecovery (acknowledgement_frame n.terms n.link ∷ [])) (append-nil n.delivered)
+      ap over (is-known State.TimerRecovery s) ∙ ap (λ b. with_sent (told State.TimerRecovery b)) room
+      ∙ ap (quiet State.TimerRecovery (acknowledgement_frame n.terms n.link ∷ [])) (append-nil n.delivered)
 
   by-state : (here : State) → n.link.state ≡ here → IsTrue (is_multiple_frame here) → Gives (over n)
-  by-state state.Established e up = subst Gives (sym (in-7 e)) (gives-quiet state.Established e)
-  by-state state.TimerRecovery e up = subst Gives (sym (in-8 e)) (gives-quiet state.TimerRecovery e)
+  by-state State.Established e up = subst Gives (sym (in-7 e)) (gives-quiet State.Established e)
+  by-state State.TimerRecovery e up = subst Gives (sym (in-8 e)) (gives-quiet State.TimerRecovery e)
   by-state other e up = absurd (true≢false (sym up))
 
   pub gives : IsTrue (is_multiple_frame n.link.state) → Gives (over n)
@@ -86,38 +85,38 @@ module _ (m : End) (free : m.link.own_busy ≡ false) (waiting : m.link.waiting 
   abbrev Hears : End → Type 0
   Hears y = IsLeft x false m.link.pending m y
 
-  is-7 : m.link.state ≡ state.Established → m ≡ in_7_with false m.link.peer_busy m [] m.link.a m.link.s m.link.pending m.link.running m.delivered
+  is-7 : m.link.state ≡ State.Established → m ≡ in_7_with false m.link.peer_busy m [] m.link.a m.link.s m.link.pending m.link.running m.delivered
   is-7 e = λ i. record m { link = record m.link { state = e i; own_busy = free i; waiting = waiting i }; way = way i }
 
-  is-8 : m.link.state ≡ state.TimerRecovery → m.link.running ≡ Some T200 → m ≡ in_8_with false m [] m.link.peer_busy m.link.a m.link.pending m.delivered
+  is-8 : m.link.state ≡ State.TimerRecovery → m.link.running ≡ Some T200 → m ≡ in_8_with false m [] m.link.peer_busy m.link.a m.link.pending m.delivered
   is-8 e r = λ i. record m { link = record m.link { state = e i; own_busy = free i; waiting = waiting i; running = r i }; way = way i }
 
   abbrev here : Course
   here = begun (in_7_with false false m [] m.link.a m.link.s m.link.pending m.link.running m.delivered).link
 
-  left-7 : (running : Option LinkTimer) → m.link.state ≡ state.Established → Hears (in_7_with false false m [] x m.link.s m.link.pending running m.delivered)
+  left-7 : (running : Option LinkTimer) → m.link.state ≡ State.Established → Hears (in_7_with false false m [] x m.link.s m.link.pending running m.delivered)
   left-7 running e =
       record { terms = refl; contents = refl; a = refl; s = refl; r = refl; delivered = refl; state = sym e; repeats = refl; peer_busy = refl; pending = refl; own_busy = refl; waiting = refl; way = refl }
 
-  left-8 : m.link.state ≡ state.TimerRecovery → Hears (in_8_with false m [] false x m.link.pending m.delivered)
+  left-8 : m.link.state ≡ State.TimerRecovery → Hears (in_8_with false m [] false x m.link.pending m.delivered)
   left-8 e =
       record { terms = refl; contents = refl; a = refl; s = refl; r = refl; delivered = refl; state = sym e; repeats = refl; peer_busy = refl; pending = refl; own_busy = refl; waiting = refl; way = refl }
 
-  ended : (c : Course) → Acknowledges x here c → m.link.state ≡ state.Established → Hears (having (in_7_with false false m [] m.link.a m.link.s m.link.pending m.link.running m.delivered) c)
+  ended : (c : Course) → Acknowledges x here c → m.link.state ≡ State.Established → Hears (having (in_7_with false false m [] m.link.a m.link.s m.link.pending m.link.running m.delivered) c)
   ended c h e =
       let is : having (in_7_with false false m [] m.link.a m.link.s m.link.pending m.link.running m.delivered) c ≡ in_7_with false false m [] x m.link.s m.link.pending h.running m.delivered =
       ap (having (in_7_with false false m [] m.link.a m.link.s m.link.pending m.link.running m.delivered)) h.is
       ∙ ap (λ ds. in_7_with false false m [] x m.link.s m.link.pending h.running ds) (append-nil m.delivered) in
       subst Hears (sym is) (left-7 h.running e)
 
-  hears-7 : m.link.state ≡ state.Established → Hears (hears m)
+  hears-7 : m.link.state ≡ State.Established → Hears (hears m)
   hears-7 e = subst (λ y. Hears (hears y)) (sym (is-7 e)) (ended _ (by-rr m.terms (seq l.r) x here names low) e)
 
-  hears-8 : m.link.state ≡ state.TimerRecovery → m.link.running ≡ Some T200 → Hears (hears m)
+  hears-8 : m.link.state ≡ State.TimerRecovery → m.link.running ≡ Some T200 → Hears (hears m)
   hears-8 e r =
       subst Hears (sym (ap hears (is-8 e r) ∙ acknowledged-8 false m [] m.link.peer_busy m.link.a m.link.pending m.delivered t l x names)) (left-8 e)
 
-  pub heard : (here : State) → m.link.state ≡ here → IsTrue (is_multiple_frame here) → (here ≡ state.TimerRecovery → m.link.running ≡ Some T200) → Hears (hears m)
-  heard state.Established e up ran = hears-7 e
-  heard state.TimerRecovery e up ran = hears-8 e (ran refl)
+  pub heard : (here : State) → m.link.state ≡ here → IsTrue (is_multiple_frame here) → (here ≡ State.TimerRecovery → m.link.running ≡ Some T200) → Hears (hears m)
+  heard State.Established e up ran = hears-7 e
+  heard State.TimerRecovery e up ran = hears-8 e (ran refl)
   heard other e up ran = absurd (true≢false (sym up))

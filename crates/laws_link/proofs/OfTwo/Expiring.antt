@@ -1,7 +1,5 @@
 -- What the expiry of T200 makes of an end that is cut off: it asks, or it has nothing outstanding.
-use Rattle.laws_link.proofs.Vocabulary.{◌≡◌, ℕ, ◌+◌, ◌≤◌, Bool, true, false, cond, IsTrue, [], ◌∷◌, ◌++◌, Option, Some, refl, sym, ap, ◌∙◌, ◌⊎◌, inl, inr, append-nil, true≢false, arith, nat_lt, option_to_list, lt-ltb, State, LinkTimer, T200, T203, Link, is_multiple_frame, expired, Course, begun, End, with_link, IsTimedIn, HeedsIn, IsCutOffWith}
-use Rattle.model_link.specs.declared.states.State.TheVariants as state
-use Rattle.lapd_frame.specs.declared.notes.ErrorCode.TheVariants as code
+use Rattle.laws_link.proofs.Vocabulary.{◌≡◌, ℕ, ◌+◌, ◌≤◌, Bool, true, false, cond, IsTrue, [], ◌∷◌, ◌++◌, Option, Some, refl, sym, ap, ◌∙◌, ◌⊎◌, inl, inr, append-nil, true≢false, arith, nat_lt, option_to_list, lt-ltb, State, LinkTimer, T200, T203, Link, is_multiple_frame, expired, Course, begun, End, with_link, IsTimedIn, HeedsIn, IsCutOffWith, ErrorCode}
 use Rattle.model_link.specs.Words
 use Rattle.model_link.specs.MultipleFrame
 use Rattle.laws_link.proofs.OfTwo.Shapes.{enquiry_with, in_8_with, in_7_with}
@@ -38,7 +36,7 @@ module _ (own : Bool) (n m : End) (h : IsCutOffWith own n m) where
   abbrev asked : Bool → ℕ → End
   asked b count =
       record n {
-        link = record n.link { state = state.TimerRecovery; own_busy = own; pending = false; waiting = cond b (enquiry_with own n.link.r ∷ []) []; running = Some T200; repeats = count };
+        link = record n.link { state = State.TimerRecovery; own_busy = own; pending = false; waiting = cond b (enquiry_with own n.link.r ∷ []) []; running = Some T200; repeats = count };
         way = [];
         delivered = n.delivered ++ [];
       }
@@ -46,27 +44,27 @@ module _ (own : Bool) (n m : End) (h : IsCutOffWith own n m) where
   asks : (b : Bool) (count : ℕ) → b ≡ true → asked b count ≡ in_8_with own (with_count count n) (enquiry_with own n.link.r ∷ []) n.link.peer_busy n.link.a false n.delivered
   asks b count e = ap (λ x. asked x count) e ∙ ap (λ ds. in_8_with own (with_count count n) (enquiry_with own n.link.r ∷ []) n.link.peer_busy n.link.a false ds) (append-nil n.delivered)
 
-  in-7-t200 : n.link.state ≡ state.Established → n.link.running ≡ Some T200 → Asking own n (after n)
-  in-7-t200 s r = record { count = 0; is = ap after (is-known state.Established n.link.peer_busy (Some T200) s refl r) ∙ asks (nat_lt 0 n.terms.control) 0 room }
+  in-7-t200 : n.link.state ≡ State.Established → n.link.running ≡ Some T200 → Asking own n (after n)
+  in-7-t200 s r = record { count = 0; is = ap after (is-known State.Established n.link.peer_busy (Some T200) s refl r) ∙ asks (nat_lt 0 n.terms.control) 0 room }
 
-  in-7-t203 : n.link.state ≡ state.Established → n.link.peer_busy ≡ false → n.link.running ≡ Some T203 → n.link.s ≤ n.link.a → Resting own n (after n)
+  in-7-t203 : n.link.state ≡ State.Established → n.link.peer_busy ≡ false → n.link.running ≡ Some T203 → n.link.s ≤ n.link.a → Resting own n (after n)
   in-7-t203 s b r all =
       record {
         running = Some T203;
-        is = ap after (is-known state.Established false (Some T203) s b r) ∙ ap (λ ds. in_7_with own false n [] n.link.a n.link.s n.link.pending (Some T203) ds) (append-nil n.delivered);
+        is = ap after (is-known State.Established false (Some T203) s b r) ∙ ap (λ ds. in_7_with own false n [] n.link.a n.link.s n.link.pending (Some T203) ds) (append-nil n.delivered);
         all = all;
         before = r;
       }
 
-  in-8-t200 : n.link.state ≡ state.TimerRecovery → n.link.running ≡ Some T200 → Asking own n (after n)
+  in-8-t200 : n.link.state ≡ State.TimerRecovery → n.link.running ≡ Some T200 → Asking own n (after n)
   in-8-t200 s r =
-      let l = (known state.TimerRecovery n.link.peer_busy (Some T200)).link in
+      let l = (known State.TimerRecovery n.link.peer_busy (Some T200)).link in
       let again : nat_lt n.link.repeats n.terms.n200 ≡ true = lt-ltb n.link.repeats n.terms.n200 (h.repeats s) in
       record {
         count = n.link.repeats + 1;
         is =
-            ap after (is-known state.TimerRecovery n.link.peer_busy (Some T200) s refl r)
-            ∙ ap (λ b. ended (cond b (repeating l) (MultipleFrame.failed n.terms code.I (begun l)))) again
+            ap after (is-known State.TimerRecovery n.link.peer_busy (Some T200) s refl r)
+            ∙ ap (λ b. ended (cond b (repeating l) (MultipleFrame.failed n.terms ErrorCode.I (begun l)))) again
             ∙ asks (nat_lt 0 n.terms.control) (n.link.repeats + 1) room;
       }
     where
@@ -82,12 +80,10 @@ module _ (own : Bool) (n m : End) (h : IsCutOffWith own n m) where
 
   by-state : (here : State) → n.link.state ≡ here → IsTrue (is_multiple_frame here) → IsTimedIn here n.link → HeedsIn here n.link.peer_busy n.link.running
       → Asking own n (after n) ⊎ Resting own n (after n)
-  by-state state.TeiAssigned e up timed heeds = absurd (true≢false (sym up))
-  by-state state.AwaitingEstablishment e up timed heeds = absurd (true≢false (sym up))
-  by-state state.AwaitingRelease e up timed heeds = absurd (true≢false (sym up))
-  by-state state.Established e up (inl r) heeds = inl (in-7-t200 e r)
-  by-state state.Established e up (inr r) heeds = inr (in-7-t203 e (not-busy n.link.peer_busy refl r.0 heeds) r.0 r.1)
-  by-state state.TimerRecovery e up timed heeds = inl (in-8-t200 e timed)
+  by-state State.Established e up (inl r) heeds = inl (in-7-t200 e r)
+  by-state State.Established e up (inr r) heeds = inr (in-7-t203 e (not-busy n.link.peer_busy refl r.0 heeds) r.0 r.1)
+  by-state State.TimerRecovery e up timed heeds = inl (in-8-t200 e timed)
+  by-state other e up timed heeds = absurd (true≢false (sym up))
 
   pub expires-one : Asking own n (after n) ⊎ Resting own n (after n)
   expires-one = by-state n.link.state refl h.up h.timed.timer h.heeds.heeds

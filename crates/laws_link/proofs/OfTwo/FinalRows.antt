@@ -7,7 +7,7 @@ use Rattle.model_link.specs.TimerRecovery
 use Rattle.model_link.specs.Requests
 use Rattle.model_link.specs.Offers
 use Rattle.model_link.specs.Machine
-use Rattle.laws_link.proofs.OfTwo.Finals.{Few, rows, answers, weaker, ua_few, dm_few, failed_few, number_few, acknowledge_few}
+use Rattle.laws_link.proofs.OfTwo.Finals.{Few, few_stays, rows, answers, weaker, ua_few, dm_few, failed_few, number_few}
 
 module _ (t : Terms) (n : ℕ) where
   in-4 : (b : Bool) (octets : List ℕ) (control : Control) → Leads (Few n) (frame_in_4 t octets control) (Few (n + cond {A = ℕ} (is_poll b control) 1 0))
@@ -31,7 +31,6 @@ module _ (t : Terms) (n : ℕ) where
   in-5 b octets (ReceiveNotReady nr p) = weaker n (b && p) (search rows)
   in-5 b octets (Reject nr p) = weaker n (b && p) (search rows)
   in-5 b octets (Dm true) = weaker n false (search rows depth 12 fits 4000)
-  in-5 b octets (Dm false) = weaker n false (search rows)
   in-5 b octets other = weaker n false (search rows)
 
   in-6 : (b : Bool) (octets : List ℕ) (control : Control) → Leads (Few n) (frame_in_6 t octets control) (Few (n + cond {A = ℕ} (is_poll b control) 1 0))
@@ -44,7 +43,6 @@ module _ (t : Terms) (n : ℕ) where
   in-6 b octets (ReceiveNotReady nr p) = weaker n (b && p) (search rows)
   in-6 b octets (Reject nr p) = weaker n (b && p) (search rows)
   in-6 b octets (Dm true) = weaker n false (search rows depth 12 fits 4000)
-  in-6 b octets (Dm false) = weaker n false (search rows)
   in-6 b octets other = weaker n false (search rows)
 
   -- states 7 and 8
@@ -67,7 +65,7 @@ module _ (t : Terms) (n : ℕ) where
   in-7 b octets other = search answers depth 14 fits 6000
 
   in-8 : (b : Bool) (octets : List ℕ) (control : Control) → Leads (Few n) (TimerRecovery.frame_in_8 t b octets control) (Few (n + cond {A = ℕ} (is_poll b control) 1 0))
-  in-8 b octets (Information ns nr p) = information ns nr p octets Words.acknowledge (λ m i. acknowledge_few m i)
+  in-8 b octets (Information ns nr p) = information ns nr p octets Words.acknowledge (λ m i. few_stays (λ c h. h))
   in-8 b octets (Ua f) = weaker n false (search rows depth 12 fits 4000)
   in-8 b octets (Dm true) = weaker n false (search rows depth 12 fits 4000)
   in-8 b octets (Dm false) = weaker n false (search rows depth 12 fits 4000)

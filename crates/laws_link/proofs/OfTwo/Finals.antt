@@ -1,11 +1,13 @@
 -- How many responses with F=1 wait: each word but the answers leaves their number.
-use Rattle.laws_link.proofs.Vocabulary.{◌≡◌, ℕ, ◌+◌, ◌≤◌, Bool, true, false, cond, List, [], ◌∷◌, ◌++◌, Option, None, Some, refl, subst, arith, sum_by_push, Seq, seq, named, Control, ReceiveReady, ReceiveNotReady, Reject, Ua, Dm, Note, State, LinkTimer, ControlFrame, Terms, Link, Course, Step, ◌then◌, nothing, by_bit, Leads, then_leads, keeping_then, nothing_leads, depending_leads, bit_leads, to_less, finals, is_final_response}
-use Rattle.lapd_frame.specs.declared.notes.ErrorCode.TheVariants as code
+use Rattle.laws_link.proofs.Vocabulary.{◌≡◌, ℕ, ◌+◌, ◌≤◌, Bool, true, false, cond, List, [], ◌∷◌, ◌++◌, Option, None, Some, refl, subst, arith, sum_by_push, Seq, seq, named, Control, ReceiveReady, ReceiveNotReady, Reject, Ua, Dm, Note, State, LinkTimer, ControlFrame, Terms, Link, Course, Step, ◌then◌, nothing, by_bit, Leads, then_leads, keeping_then, nothing_leads, depending_leads, bit_leads, to_less, finals, is_final_response, ErrorCode}
 use Rattle.model_link.specs.Words
 
 -- At most n of them wait.
 pub record Few (n : ℕ) (c : Course) : Type 0 where
   pub few : finals c.link.waiting ≤ n
+
+pub few_stays : {n : ℕ} {f : Step} → ((c : Course) → finals c.link.waiting ≤ n → finals (f c).link.waiting ≤ n) → Leads (Few n) f (Few n)
+few_stays x = record { leads = λ c h. record { few = x c h.few } }
 
 pushed : (b : Bool) (n : ℕ) (ws : List ControlFrame) (f : ControlFrame) → finals ws ≤ n
     → finals (cond b (ws ++ f ∷ []) ws) ≤ n + cond {A = ℕ} (is_final_response f) 1 0
@@ -48,72 +50,12 @@ pub command_few : (t : Terms) (n : ℕ) (control : Control) → Leads (Few n) (W
 command_few t n control = to_less (no-more n) (sends t n (λ l. Words.command control) false (λ l. refl))
 
 module _ (n : ℕ) where
-  pub note_few : (x : Note) → Leads (Few n) (Words.note x) (Few n)
-  note_few x = record { leads = λ c h. record { few = h.few } }
-
-  pub deliver_few : (t : Terms) (octets : List ℕ) → Leads (Few n) (Words.deliver t octets) (Few n)
-  deliver_few t octets = record { leads = λ c h. record { few = h.few } }
-
-  pub deliver_unit_few : (t : Terms) (octets : List ℕ) → Leads (Few n) (Words.deliver_unit t octets) (Few n)
-  deliver_unit_few t octets = record { leads = λ c h. record { few = h.few } }
-
-  pub refuse_few : Leads (Few n) Words.leave_unserved (Few n)
-  refuse_few = record { leads = λ c h. record { few = h.few } }
-
-  pub peer_busy_few : (b : Bool) → Leads (Few n) (Words.peer_busy_is b) (Few n)
-  peer_busy_few b = record { leads = λ c h. record { few = h.few } }
-
-  pub own_busy_few : (b : Bool) → Leads (Few n) (Words.own_busy_is b) (Few n)
-  own_busy_few b = record { leads = λ c h. record { few = h.few } }
-
-  pub rejecting_few : (b : Bool) → Leads (Few n) (Words.rejecting_is b) (Few n)
-  rejecting_few b = record { leads = λ c h. record { few = h.few } }
-
-  pub pending_few : (b : Bool) → Leads (Few n) (Words.pending_is b) (Few n)
-  pending_few b = record { leads = λ c h. record { few = h.few } }
-
-  pub asked_few : (b : Bool) → Leads (Few n) (Words.asked_is b) (Few n)
-  asked_few b = record { leads = λ c h. record { few = h.few } }
-
-  pub repeats_few : (m : ℕ) → Leads (Few n) (Words.repeats_are m) (Few n)
-  repeats_few m = record { leads = λ c h. record { few = h.few } }
-
-  pub repeated_few : Leads (Few n) Words.repeated (Few n)
-  repeated_few = record { leads = λ c h. record { few = h.few } }
-
-  pub enter_few : (state : State) → Leads (Few n) (Words.enter state) (Few n)
-  enter_few state = record { leads = λ c h. record { few = h.few } }
-
-  pub flags_few : Leads (Few n) Words.clear_flags (Few n)
-  flags_few = record { leads = λ c h. record { few = h.few } }
-
-  pub start_few : (timer : LinkTimer) → Leads (Few n) (Words.start timer) (Few n)
-  start_few timer = record { leads = λ c h. record { few = h.few } }
-
-  pub no_timer_few : Leads (Few n) Words.no_timer (Few n)
-  no_timer_few = record { leads = λ c h. record { few = h.few } }
-
-  pub zero_few : Leads (Few n) Words.zero_numbers (Few n)
-  zero_few = record { leads = λ c h. record { few = h.few } }
-
-  pub count_few : Leads (Few n) Words.count_received (Few n)
-  count_few = record { leads = λ c h. record { few = h.few } }
-
-  pub discard_few : Leads (Few n) Words.discard (Few n)
-  discard_few = record { leads = λ c h. record { few = h.few } }
-
-  pub acknowledge_few : (m : ℕ) → Leads (Few n) (Words.acknowledge m) (Few n)
-  acknowledge_few m = record { leads = λ c h. record { few = h.few } }
-
-  pub send_again_few : (m : ℕ) → Leads (Few n) (Words.send_again_from m) (Few n)
-  send_again_few m = record { leads = λ c h. record { few = h.few } }
-
   pub enquire_few : (t : Terms) → Leads (Few n) (Words.enquire t) (Few n)
-  enquire_few t = then_leads (to_less (no-more n) (sends t n (λ l. Words.command (Words.ready_to_receive true l)) false (λ l. refl))) (pending_few false)
+  enquire_few t = then_leads (to_less (no-more n) (sends t n (λ l. Words.command (Words.ready_to_receive true l)) false (λ l. refl))) (few_stays {f = Words.pending_is false} (λ c h. h))
 
   pub report_few : (t : Terms) → Leads (Few n) (Words.report_ready t) (Few n)
   report_few t =
-      then_leads (to_less (no-more n) (sends t n (λ l. Words.response (Words.ready_to_receive false l)) false (λ l. ready-response l.own_busy false (seq l.r) (seq l.r)))) (pending_few false)
+      then_leads (to_less (no-more n) (sends t n (λ l. Words.response (Words.ready_to_receive false l)) false (λ l. ready-response l.own_busy false (seq l.r) (seq l.r)))) (few_stays {f = Words.pending_is false} (λ c h. h))
 
 -- the answers
 pub ua_few : (t : Terms) (n : ℕ) (p : Bool) → Leads (Few n) (Words.send t (Words.response (Ua p))) (Few (n + cond {A = ℕ} p 1 0))
@@ -123,10 +65,10 @@ pub dm_few : (t : Terms) (n : ℕ) (p : Bool) → Leads (Few n) (Words.send t (W
 dm_few t n p = sends t n (λ l. Words.response (Dm p)) p (λ l. same-bit-dm p)
 
 pub reject_few : (t : Terms) (n : ℕ) (p : Bool) → Leads (Few n) (Words.reject t p) (Few (n + cond {A = ℕ} p 1 0))
-reject_few t n p = then_leads (sends t n (λ l. Words.response (Reject (seq l.r) p)) p (λ l. same-bit-rej p (seq l.r))) (pending_few (n + cond {A = ℕ} p 1 0) false)
+reject_few t n p = then_leads (sends t n (λ l. Words.response (Reject (seq l.r) p)) p (λ l. same-bit-rej p (seq l.r))) (few_stays {f = Words.pending_is false} (λ c h. h))
 
 pub answer_few : (t : Terms) (n : ℕ) → Leads (Few n) (Words.answer t) (Few (n + 1))
-answer_few t n = then_leads (sends t n (λ l. Words.response (Words.ready_to_receive true l)) true (λ l. ready-response l.own_busy true (seq l.r) (seq l.r))) (pending_few (n + 1) false)
+answer_few t n = then_leads (sends t n (λ l. Words.response (Words.ready_to_receive true l)) true (λ l. ready-response l.own_busy true (seq l.r) (seq l.r))) (few_stays {f = Words.pending_is false} (λ c h. h))
 
 -- an answer where the bit is 1, else another step
 pub answer-by : (t : Terms) (n : ℕ) (p : Bool) {g : Step} → Leads (Few n) g (Few n) → Leads (Few n) (by_bit p (Words.answer t) g) (Few (n + cond {A = ℕ} p 1 0))
@@ -138,11 +80,11 @@ pub weaker : (n : ℕ) (b : Bool) {f : Step} → Leads (Few n) f (Few n) → Lea
 weaker n true x = to_less (λ c h. record { few = omega (arith, h.few) }) x
 weaker n false x = to_less (λ c h. record { few = omega (arith, h.few) }) x
 
-pub ruleset words = (keeping_then, nothing_leads, depending_leads, bit_leads, command_few, note_few, deliver_few, deliver_unit_few, refuse_few, peer_busy_few, own_busy_few, rejecting_few, pending_few, asked_few, repeats_few, repeated_few, enter_few, flags_few, start_few, no_timer_few, zero_few, count_few, discard_few, acknowledge_few, send_again_few, enquire_few, report_few)
+pub ruleset words = (few_stays, keeping_then, nothing_leads, depending_leads, bit_leads, command_few, enquire_few, report_few)
 
-by-number : (t : Terms) (n : ℕ) (nr : Seq) (f : ℕ → Step) → Leads (Few n) (Words.error t code.J then Words.re_establish t) (Few n)
+by-number : (t : Terms) (n : ℕ) (nr : Seq) (f : ℕ → Step) → Leads (Few n) (Words.error t ErrorCode.J then Words.re_establish t) (Few n)
     → ((m : ℕ) → Leads (Few n) (f m) (Few n)) → (c : Course) → Few n c → (o : Option ℕ)
-    → Few n (elim o [ None ↦ (Words.error t code.J then Words.re_establish t) c | Some m ↦ f m c ])
+    → Few n (elim o [ None ↦ (Words.error t ErrorCode.J then Words.re_establish t) c | Some m ↦ f m c ])
 by-number t n nr f w x c h None = w.leads c h
 by-number t n nr f w x c h (Some m) = (x m).leads c h
 

@@ -1,6 +1,6 @@
 -- One direction between two links whose T200 is timely: the sender's V(S), the receiver's V(R), and what is between them.
 use Rattle.laws_link.proofs.Vocabulary.{◌≡◌, ℕ, ◌+◌, ◌<◌, ◌≤◌, Bool, true, false, List, [], ◌∷◌, ◌++◌, refl, arith, seq}
-use Rattle.laws_link.proofs.OfTwo.Trains.{Kind, numbered, enquiry, answer, report, rejection, alien, tally, one_enquiry, one_answer, one_rejection, tally-push, Every, every-push, Behind, behind-push, behind-first, Calm, Comes, calm-comes, Rise, rise-lower, rise-low, rise-push, calm-rise, Beyond, calm-beyond, Late, rise-late, beyond-late, late-low, late-tail, late-push, rise-next, late-next}
+use Rattle.laws_link.proofs.OfTwo.Trains.{Kind, numbered, enquiry, answer, rejection, tally, one_enquiry, one_answer, one_rejection, tally-push, Every, every-push, Behind, behind-push, behind-first, Calm, Comes, calm-comes, Rise, rise-lower, rise-low, rise-push, calm-rise, Beyond, calm-beyond, Late, rise-late, beyond-late, late-low, late-tail, late-push, rise-next, late-next}
 
 -- What is on the line to a receiver that has sent no REJ, and to one that has.
 abbrev pub Order : Bool → ℕ → ℕ → List Kind → Type 0
@@ -9,20 +9,12 @@ Order false r s xs = Rise r s xs
 
 -- An N(R) of REJ, or of an answer, is V(R).
 abbrev pub RejectsAt : ℕ → Kind → Type 0
-RejectsAt r (numbered ns) = Unit {0}
-RejectsAt r enquiry = Unit {0}
-RejectsAt r (answer nr) = Unit {0}
-RejectsAt r report = Unit {0}
 RejectsAt r (rejection nr) = nr ≡ seq r
-RejectsAt r alien = Unit {0}
+RejectsAt r other = Unit {0}
 
 abbrev pub AnswersAt : ℕ → Kind → Type 0
-AnswersAt r (numbered ns) = Unit {0}
-AnswersAt r enquiry = Unit {0}
 AnswersAt r (answer nr) = nr ≡ seq r
-AnswersAt r report = Unit {0}
-AnswersAt r (rejection nr) = Unit {0}
-AnswersAt r alien = Unit {0}
+AnswersAt r other = Unit {0}
 
 abbrev pub IsNoRejection : Kind → Type 0
 IsNoRejection x = one_rejection x ≡ 0

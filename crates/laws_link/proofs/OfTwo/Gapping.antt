@@ -1,12 +1,11 @@
 -- The first I-frame out of sequence is answered by REJ, and a delivery ends the wait for what REJ asked for.
-use Rattle.laws_link.proofs.Vocabulary.{◌≡◌, ℕ, ◌+◌, ◌≤◌, Bool, true, false, cond, IsTrue, List, [], ◌∷◌, ◌++◌, length, Option, None, Some, refl, sym, ap, subst, ◌∙◌, ◌⊎◌, inl, inr, true≢false, arith, nat_lt, lt-ltb, le-ltb, none-some, Seq, seq, named, Address, Control, Information, Reject, State, Established, TimerRecovery, LinkTimer, ControlFrame, Terms, Link, is_multiple_frame, Arrived, information_of, eligible, eligible_of, Course, begun, Step, ◌then◌, by_bit, Leads, keeping_then, nothing_leads, depending_leads, delivered-at_once, IsValidAt, i_frame, IsFirstGap}
-use Rattle.lapd_frame.specs.declared.notes.ErrorCode.TheVariants as code
+use Rattle.laws_link.proofs.Vocabulary.{◌≡◌, ℕ, ◌+◌, ◌≤◌, Bool, true, false, cond, IsTrue, List, [], ◌∷◌, ◌++◌, length, Option, None, Some, refl, sym, ap, subst, ◌∙◌, ◌⊎◌, inl, inr, true≢false, arith, nat_lt, lt-ltb, le-ltb, none-some, Seq, seq, named, Address, Control, Information, Reject, State, Established, TimerRecovery, LinkTimer, ControlFrame, Terms, Link, is_multiple_frame, Arrived, information_of, eligible, eligible_of, Course, begun, Step, ◌then◌, by_bit, Leads, keeping_then, nothing_leads, depending_leads, delivered-at_once, IsValidAt, i_frame, IsFirstGap, leaves, ErrorCode}
 use Rattle.model_link.specs.Events
 use Rattle.model_link.specs.Words
 use Rattle.model_link.specs.MultipleFrame
 use Rattle.model_link.specs.Established
 use Rattle.model_link.specs.Machine
-use Rattle.laws_link.proofs.OfTwo.Answering.{Waits, information_7_waits, acknowledge_waits}
+use Rattle.laws_link.proofs.OfTwo.Answering.{Waits, information_7_waits}
 
 -- the third branch
 third : (a b c : Bool) (u v w x : Course) → a ≡ false → b ≡ false → c ≡ false → cond a u (cond b v (cond c w x)) ≡ x
@@ -30,7 +29,7 @@ module _ (t : Terms) (l : Link) (room : length l.waiting + 1 ≤ t.control) wher
 
   -- the effect of what an N(R) names
   abbrev effect : (ℕ → Step) → Course → Option ℕ → Course
-  effect f c o = elim o [ None ↦ (Words.error t code.J then Words.re_establish t) c | Some n ↦ f n c ]
+  effect f c o = elim o [ None ↦ (Words.error t ErrorCode.J then Words.re_establish t) c | Some n ↦ f n c ]
 
   numbered : (nr : Seq) (p : Bool) (f : ℕ → Step) → ((ws : List ControlFrame) (r n : ℕ) → Leads (Waits ws r) (f n) (Waits ws r)) → IsValidAt l nr
       → (Words.by_number t nr f (rejected p)).link.waiting ≡ rejection p
@@ -41,14 +40,14 @@ module _ (t : Terms) (l : Link) (room : length l.waiting + 1 ≤ t.control) wher
   information : (ns nr : Seq) (p : Bool) (octets : List ℕ) (f : ℕ → Step) → ((ws : List ControlFrame) (r n : ℕ) → Leads (Waits ws r) (f n) (Waits ws r))
       → IsFirstGap t l ns nr octets → (MultipleFrame.information_in_7_8 t ns nr p octets f (begun l)).link.waiting ≡ rejection p
   information ns nr p octets f x h =
-      subst (λ b. (cond b (MultipleFrame.failed t code.O (begun l)) ((MultipleFrame.contents_in_7_8 t ns p octets then Words.by_number t nr f) (begun l))).link.waiting ≡ rejection p)
+      subst (λ b. (cond b (MultipleFrame.failed t ErrorCode.O (begun l)) ((MultipleFrame.contents_in_7_8 t ns p octets then Words.by_number t nr f) (begun l))).link.waiting ≡ rejection p)
       (sym (le-ltb t.n201 (length octets) h.size))
       (subst (λ c. (Words.by_number t nr f c).link.waiting ≡ rejection p) (sym (contents ns nr p octets h)) (numbered nr p f x h.valid))
 
   in-state : (here : State) → IsTrue (is_multiple_frame here) → (command : Bool) (ns nr : Seq) (p : Bool) (octets : List ℕ) → IsFirstGap t l ns nr octets
       → (Machine.frame_in here t command octets (Information ns nr p) (begun l)).link.waiting ≡ rejection p
   in-state Established up command ns nr p octets h = information ns nr p octets Established.acknowledged_by_information_in_7 information_7_waits h
-  in-state TimerRecovery up command ns nr p octets h = information ns nr p octets Words.acknowledge acknowledge_waits h
+  in-state TimerRecovery up command ns nr p octets h = information ns nr p octets Words.acknowledge (λ ws r n. leaves (λ c h. h)) h
   in-state other up command ns nr p octets h = absurd (true≢false (sym up))
 
   pub gap-rejected : (address : Address) (ns nr : Seq) (p : Bool) (octets : List ℕ) → IsFirstGap t l ns nr octets
@@ -82,12 +81,12 @@ module _ (t : Terms) (l : Link) where
       (branch l.rejecting _ _ (branch p _ _ (inl refl) (inl refl)) (inl refl)))
 
   by-number : (f : ℕ → Step) → ((n : ℕ) → Leads Ended (f n) Ended) → (c : Course) → Ended c → (o : Option ℕ)
-      → Ended (elim o [ None ↦ (Words.error t code.J then Words.re_establish t) c | Some n ↦ f n c ])
+      → Ended (elim o [ None ↦ (Words.error t ErrorCode.J then Words.re_establish t) c | Some n ↦ f n c ])
   by-number f x c h None = inr refl
   by-number f x c h (Some n) = (x n).leads c h
 
   row : (ns nr : Seq) (p : Bool) (octets : List ℕ) (f : ℕ → Step) → ((n : ℕ) → Leads Ended (f n) Ended) → (b : Bool)
-      → Ended (by_bit b (MultipleFrame.failed t code.O) (MultipleFrame.contents_in_7_8 t ns p octets then Words.by_number t nr f) (begun l))
+      → Ended (by_bit b (MultipleFrame.failed t ErrorCode.O) (MultipleFrame.contents_in_7_8 t ns p octets then Words.by_number t nr f) (begun l))
   row ns nr p octets f x true = inl refl
   row ns nr p octets f x false =
       let c = MultipleFrame.contents_in_7_8 t ns p octets (begun l) in

@@ -1,6 +1,5 @@
 -- What requests, expiries and offers do to a link that stays in states 7 and 8, and to what is on its line.
-use Rattle.laws_link.proofs.Vocabulary.{◌≡◌, ◌+◌, ◌-◌, Bool, true, false, cond, not, ◌&&◌, IsTrue, List, [], ◌∷◌, ◌++◌, Option, None, Some, refl, sym, ap, subst, ◌∙◌, append_assoc, append-nil, ◌⊎◌, inl, inr, true≢false, nat_lt, length, slice_get, unwrap_or, and_parts, seq, ReceiveReady, ReceiveNotReady, Refusal, WrongState, Parts, State, TeiAssigned, AwaitingEstablishment, AwaitingRelease, Established, TimerRecovery, LinkTimer, T200, T203, ControlFrame, Terms, Link, is_multiple_frame, frame_of, may_repeat, Request, Establish, Release, Data, SetBusy, ClearBusy, expired, requested, offer, Course, begun, frame_given, frames_of, IsMildRequest}
-use Rattle.lapd_frame.specs.declared.notes.ErrorCode.TheVariants as code
+use Rattle.laws_link.proofs.Vocabulary.{◌≡◌, ◌+◌, ◌-◌, Bool, true, false, cond, not, ◌&&◌, IsTrue, List, [], ◌∷◌, ◌++◌, Option, None, Some, refl, sym, ap, subst, ◌∙◌, append_assoc, append-nil, ◌⊎◌, inl, inr, true≢false, nat_lt, length, slice_get, unwrap_or, and_parts, seq, ReceiveReady, ReceiveNotReady, Refusal, WrongState, Parts, State, Established, TimerRecovery, LinkTimer, T200, T203, ControlFrame, Terms, Link, is_multiple_frame, frame_of, may_repeat, Request, Establish, Release, Data, SetBusy, ClearBusy, expired, requested, offer, Course, begun, frame_given, frames_of, IsMildRequest, ErrorCode}
 use Rattle.model_link.specs.Words
 use Rattle.model_link.specs.MultipleFrame
 use Rattle.model_link.specs.Requests
@@ -100,8 +99,8 @@ module _ (t : Terms) (l : Link) where
             (grows (Words.has_room t l) l.waiting (Words.command (Words.ready_to_receive true l)) enquiry (kind-of-enquiry l.own_busy));
       }
 
-  again : l.state ≡ TimerRecovery → (b : Bool) → IsUpIn (cond b (Words.start T200 (Words.repeated (Words.enquire t (begun l)))) (MultipleFrame.failed t code.I (begun l)))
-      → Asked l (cond b (Words.start T200 (Words.repeated (Words.enquire t (begun l)))) (MultipleFrame.failed t code.I (begun l))).link
+  again : l.state ≡ TimerRecovery → (b : Bool) → IsUpIn (cond b (Words.start T200 (Words.repeated (Words.enquire t (begun l)))) (MultipleFrame.failed t ErrorCode.I (begun l)))
+      → Asked l (cond b (Words.start T200 (Words.repeated (Words.enquire t (begun l)))) (MultipleFrame.failed t ErrorCode.I (begun l))).link
   again here true up = enquires _ here refl refl refl refl
   again here false up = absurd (true≢false (sym up))
 
@@ -110,12 +109,10 @@ module _ (t : Terms) (l : Link) where
 
   expires-in : (here : State) → l.state ≡ here → IsTrue (is_multiple_frame here) → (timer : LinkTimer) → IsUpIn (Machine.expired_in here timer t (begun l))
       → Expires (Machine.expired_in here timer t (begun l))
-  expires-in TeiAssigned e before timer up = absurd (true≢false (sym before))
-  expires-in AwaitingEstablishment e before timer up = absurd (true≢false (sym before))
-  expires-in AwaitingRelease e before timer up = absurd (true≢false (sym before))
   expires-in Established e before timer up = inr (enquires _ refl refl refl refl refl)
   expires-in TimerRecovery e before T200 up = inr (again e (may_repeat t l) up)
   expires-in TimerRecovery e before T203 up = inl (unchanged t l)
+  expires-in other e before timer up = absurd (true≢false (sym before))
 
   abbrev pub RanOut : LinkTimer → Course → Type 0
   RanOut timer c = Kept l c.link ⊎ ((Machine.is_running timer l ≡ true) × Asked l c.link)

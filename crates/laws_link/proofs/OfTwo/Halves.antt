@@ -1,6 +1,5 @@
 -- Half a round: one end gives its next frame, and the other receives it.
-use Rattle.laws_link.proofs.Vocabulary.{◌≡◌, ℕ, zero, suc, ◌+◌, ◌-◌, ◌<◌, ◌≤◌, Bool, true, false, cond, ◌==◌, List, [], ◌∷◌, ◌++◌, length, take, None, Some, refl, sym, ap, subst, ◌∙◌, ◌⊎◌, inl, inr, append-nil, eq-eqb, true≢false, arith, All, nat_lt, nat_le, slice_get, unwrap_or, ltb-true, ltb-false, le-ltb, le-leb, and_parts, All-head, All-tail, seq, named, distance-plain, Parts, frame, received, offer, IsInRange, IsSound, End, with_link, with_sent, with_first_lost, with_first_of, sound-after, IsReady, IsTaken}
-use Rattle.model_link.specs.declared.states.State.TheVariants as state
+use Rattle.laws_link.proofs.Vocabulary.{◌≡◌, ℕ, zero, suc, ◌+◌, ◌-◌, ◌<◌, ◌≤◌, Bool, true, false, cond, ◌==◌, List, [], ◌∷◌, ◌++◌, length, take, None, Some, refl, sym, ap, subst, ◌∙◌, ◌⊎◌, inl, inr, append-nil, eq-eqb, true≢false, arith, All, nat_lt, nat_le, slice_get, unwrap_or, ltb-true, ltb-false, le-ltb, le-leb, and_parts, All-head, All-tail, seq, named, distance-plain, Parts, frame, received, offer, IsInRange, IsSound, End, with_link, with_sent, with_first_lost, with_first_of, sound-after, IsReady, IsTaken, State}
 use Rattle.model_link.specs.Offers
 use Rattle.laws_link.proofs.OfTwo.Plain.{plain, is_plain, information_frame, acknowledgement_frame, with_information, with_acknowledgement, with_taken, with_all_acknowledged, gives-information, gives-acknowledgement, gives-nothing, takes-information, takes-acknowledgement}
 
@@ -45,7 +44,7 @@ pub record Giver (n n' : End) : Type 0 where
   pub r : n'.link.r ≡ n.link.r
   pub delivered : n'.delivered ≡ n.delivered
   pub pending : n'.link.pending ≡ false
-  pub state : n'.link.state ≡ state.Established
+  pub state : n'.link.state ≡ State.Established
   pub peer_busy : n'.link.peer_busy ≡ false
   pub own_busy : n'.link.own_busy ≡ false
   pub waiting : n'.link.waiting ≡ []
@@ -56,7 +55,7 @@ pub record Taker (m m' : End) : Type 0 where
   pub contents : m'.link.contents ≡ m.link.contents
   pub a : m'.link.a ≡ m.link.s
   pub s : m'.link.s ≡ m.link.s
-  pub state : m'.link.state ≡ state.Established
+  pub state : m'.link.state ≡ State.Established
   pub peer_busy : m'.link.peer_busy ≡ false
   pub own_busy : m'.link.own_busy ≡ false
   pub waiting : m'.link.waiting ≡ []

@@ -1,5 +1,5 @@
 -- What each frame does to a link that stays in states 7 and 8.
-use Rattle.laws_link.proofs.Vocabulary.{◌≡◌, ℕ, Bool, true, false, IsTrue, List, refl, sym, true≢false, Control, Information, ReceiveReady, ReceiveNotReady, Reject, Sabme, Disc, Ui, Ua, Dm, Frmr, Xid, State, Established, TimerRecovery, T200, T203, Terms, Link, is_multiple_frame, Course, begun}
+use Rattle.laws_link.proofs.Vocabulary.{◌≡◌, ℕ, Bool, true, false, IsTrue, List, refl, sym, true≢false, Control, Information, ReceiveReady, ReceiveNotReady, Reject, State, Established, TimerRecovery, T200, T203, Terms, Link, is_multiple_frame, Course, begun}
 use Rattle.model_link.specs.Words
 use Rattle.model_link.specs.Established
 use Rattle.model_link.specs.TimerRecovery
@@ -22,7 +22,6 @@ module _ (t : Terms) (l : Link) where
 
   heard-7 : l.state ≡ Established → (b : Bool) (octets : List ℕ) (control : Control) → IsUpIn (Established.frame_in_7 t b octets control (begun l))
       → Heard (kind_of b control) false l (Established.frame_in_7 t b octets control (begun l)).link
-  heard-7 here b octets (Information ns nr true) up = tt
   heard-7 here b octets (Information ns nr false) up = informs t l ns nr octets Established.acknowledged_by_information_in_7 information-7 up
   heard-7 here true octets (ReceiveReady nr true) up = enquired-7 t l false nr Established.acknowledged_in_7 acknowledged-7 up
   heard-7 here true octets (ReceiveReady nr false) up = kept-by t l nr Established.acknowledged_in_7 (c-7 t l false true false) (as-it-was false) acknowledged-7 up
@@ -35,17 +34,10 @@ module _ (t : Terms) (l : Link) where
   heard-7 here true octets (Reject nr pf) up = tt
   heard-7 here false octets (Reject nr true) up = tt
   heard-7 here false octets (Reject nr false) up = backs-7 t l nr here up
-  heard-7 here b octets (Sabme p) up = tt
-  heard-7 here b octets (Disc p) up = tt
-  heard-7 here b octets (Ui p) up = tt
-  heard-7 here b octets (Ua f) up = tt
-  heard-7 here b octets (Dm f) up = tt
-  heard-7 here b octets (Frmr f) up = tt
-  heard-7 here b octets (Xid pf) up = tt
+  heard-7 here b octets other up = tt
 
   heard-8 : (b : Bool) (octets : List ℕ) (control : Control) → IsUpIn (TimerRecovery.frame_in_8 t b octets control (begun l))
       → Heard (kind_of b control) true l (TimerRecovery.frame_in_8 t b octets control (begun l)).link
-  heard-8 b octets (Information ns nr true) up = tt
   heard-8 b octets (Information ns nr false) up = informs t l ns nr octets Words.acknowledge acknowledged-8 up
   heard-8 true octets (ReceiveReady nr true) up = enquired-8 t l false nr (TimerRecovery.acknowledged_in_8 T203 false) acknowledged-8 up
   heard-8 true octets (ReceiveReady nr false) up = kept-by t l nr (TimerRecovery.acknowledged_in_8 T203 false) (c-8 t l false true false) (as-it-was false) acknowledged-8 up
@@ -58,13 +50,7 @@ module _ (t : Terms) (l : Link) where
   heard-8 true octets (Reject nr pf) up = tt
   heard-8 false octets (Reject nr true) up = tt
   heard-8 false octets (Reject nr false) up = kept-by t l nr (TimerRecovery.acknowledged_in_8 T203 false) (c-8 t l false false false) (as-it-was false) acknowledged-8 up
-  heard-8 b octets (Sabme p) up = tt
-  heard-8 b octets (Disc p) up = tt
-  heard-8 b octets (Ui p) up = tt
-  heard-8 b octets (Ua f) up = tt
-  heard-8 b octets (Dm f) up = tt
-  heard-8 b octets (Frmr f) up = tt
-  heard-8 b octets (Xid pf) up = tt
+  heard-8 b octets other up = tt
 
   heard-in : (here : State) → l.state ≡ here → IsTrue (is_multiple_frame here) → (b : Bool) (octets : List ℕ) (control : Control)
       → IsUpIn (Machine.frame_in here t b octets control (begun l)) → Heard (kind_of b control) (is_recovering here) l (Machine.frame_in here t b octets control (begun l)).link

@@ -1,6 +1,5 @@
 -- Where T200 runs while the terminal is taken for busy: each word, and each row.
-use Rattle.laws_link.proofs.Vocabulary.{◌≡◌, ℕ, Bool, true, false, cond, IsTrue, List, Option, None, Some, refl, sym, subst, true≢false, Seq, named, Control, Information, ReceiveReady, ReceiveNotReady, Reject, Sabme, Disc, Ui, Ua, Dm, Frmr, Xid, Note, State, TeiAssigned, AwaitingEstablishment, AwaitingRelease, Established, TimerRecovery, LinkTimer, T200, T203, ControlFrame, Terms, Course, Step, ◌then◌, frame_in_4, establish_in_4, frame_in_5, t200_in_5, frame_in_6, t200_in_6, Leads, then_leads, keeping_then, nothing_leads, depending_leads, bit_leads, to_less, HeedsIn}
-use Rattle.lapd_frame.specs.declared.notes.ErrorCode.TheVariants as code
+use Rattle.laws_link.proofs.Vocabulary.{◌≡◌, ℕ, Bool, true, false, cond, IsTrue, List, Option, None, Some, refl, sym, subst, true≢false, Seq, named, Control, Information, ReceiveReady, ReceiveNotReady, Reject, Sabme, Disc, Ui, Ua, Dm, Frmr, Xid, Note, State, TeiAssigned, AwaitingEstablishment, AwaitingRelease, Established, TimerRecovery, LinkTimer, T200, T203, ControlFrame, Terms, Course, Step, ◌then◌, frame_in_4, establish_in_4, frame_in_5, t200_in_5, frame_in_6, t200_in_6, Leads, then_leads, keeping_then, nothing_leads, depending_leads, bit_leads, to_less, HeedsIn, leaves, ErrorCode}
 use Rattle.model_link.specs.Words
 use Rattle.model_link.specs.MultipleFrame
 use Rattle.model_link.specs.Established
@@ -10,71 +9,13 @@ use Rattle.model_link.specs.TimerRecovery
 abbrev pub Claim : Type 1
 Claim = State → Bool → Option LinkTimer → Type 0
 
-pub record On (P : Claim) (c : Course) : Type 0 where
-  pub holds : P c.link.state c.link.peer_busy c.link.running
+pub record Holds (P : Claim) (state : State) (busy : Bool) (running : Option LinkTimer) : Type 0 where
+  pub holds : P state busy running
 
-module _ (P : Claim) where
-  pub note_on : (x : Note) → Leads (On P) (Words.note x) (On P)
-  note_on x = record { leads = λ c h. record { holds = h.holds } }
+abbrev pub On : Claim → Course → Type 0
+On P c = Holds P c.link.state c.link.peer_busy c.link.running
 
-  pub deliver_on : (t : Terms) (octets : List ℕ) → Leads (On P) (Words.deliver t octets) (On P)
-  deliver_on t octets = record { leads = λ c h. record { holds = h.holds } }
-
-  pub deliver_unit_on : (t : Terms) (octets : List ℕ) → Leads (On P) (Words.deliver_unit t octets) (On P)
-  deliver_unit_on t octets = record { leads = λ c h. record { holds = h.holds } }
-
-  pub refuse_on : Leads (On P) Words.leave_unserved (On P)
-  refuse_on = record { leads = λ c h. record { holds = h.holds } }
-
-  pub own_busy_on : (b : Bool) → Leads (On P) (Words.own_busy_is b) (On P)
-  own_busy_on b = record { leads = λ c h. record { holds = h.holds } }
-
-  pub rejecting_on : (b : Bool) → Leads (On P) (Words.rejecting_is b) (On P)
-  rejecting_on b = record { leads = λ c h. record { holds = h.holds } }
-
-  pub pending_on : (b : Bool) → Leads (On P) (Words.pending_is b) (On P)
-  pending_on b = record { leads = λ c h. record { holds = h.holds } }
-
-  pub asked_on : (b : Bool) → Leads (On P) (Words.asked_is b) (On P)
-  asked_on b = record { leads = λ c h. record { holds = h.holds } }
-
-  pub repeats_on : (m : ℕ) → Leads (On P) (Words.repeats_are m) (On P)
-  repeats_on m = record { leads = λ c h. record { holds = h.holds } }
-
-  pub repeated_on : Leads (On P) Words.repeated (On P)
-  repeated_on = record { leads = λ c h. record { holds = h.holds } }
-
-  pub zero_on : Leads (On P) Words.zero_numbers (On P)
-  zero_on = record { leads = λ c h. record { holds = h.holds } }
-
-  pub count_on : Leads (On P) Words.count_received (On P)
-  count_on = record { leads = λ c h. record { holds = h.holds } }
-
-  pub discard_on : Leads (On P) Words.discard (On P)
-  discard_on = record { leads = λ c h. record { holds = h.holds } }
-
-  pub acknowledge_on : (m : ℕ) → Leads (On P) (Words.acknowledge m) (On P)
-  acknowledge_on m = record { leads = λ c h. record { holds = h.holds } }
-
-  pub again_on : (m : ℕ) → Leads (On P) (Words.send_again_from m) (On P)
-  again_on m = record { leads = λ c h. record { holds = h.holds } }
-
-  pub send_on : (t : Terms) (f : ControlFrame) → Leads (On P) (Words.send t f) (On P)
-  send_on t f = record { leads = λ c h. record { holds = h.holds } }
-
-  pub enquire_on : (t : Terms) → Leads (On P) (Words.enquire t) (On P)
-  enquire_on t = record { leads = λ c h. record { holds = h.holds } }
-
-  pub answer_on : (t : Terms) → Leads (On P) (Words.answer t) (On P)
-  answer_on t = record { leads = λ c h. record { holds = h.holds } }
-
-  pub report_on : (t : Terms) → Leads (On P) (Words.report_ready t) (On P)
-  report_on t = record { leads = λ c h. record { holds = h.holds } }
-
-  pub reject_on : (t : Terms) (f : Bool) → Leads (On P) (Words.reject t f) (On P)
-  reject_on t f = record { leads = λ c h. record { holds = h.holds } }
-
-pub ruleset words = (keeping_then, nothing_leads, depending_leads, bit_leads, note_on, deliver_on, deliver_unit_on, refuse_on, own_busy_on, rejecting_on, pending_on, asked_on, repeats_on, repeated_on, zero_on, count_on, discard_on, acknowledge_on, again_on, send_on, enquire_on, answer_on, report_on, reject_on)
+pub ruleset words = (leaves, keeping_then, nothing_leads, depending_leads, bit_leads)
 
 -- The claims: the end; a state; a state in which the terminal is not taken for busy; any state in which it is not; a
 -- state in which T200 runs; T200 runs; state 7 as it is between events.
@@ -177,7 +118,7 @@ module _ {P : Claim} (t : Terms) where
   enter_6_heeds = record { leads = λ c h. record { holds = tt } }
 
   by-number : (nr : Seq) (f : ℕ → Step) → ((m : ℕ) → Leads (On P) (f m) (On heeding)) → (c : Course) → On P c → (o : Option ℕ)
-      → On heeding (elim o [ None ↦ (Words.error t code.J then Words.re_establish t) c | Some m ↦ f m c ])
+      → On heeding (elim o [ None ↦ (Words.error t ErrorCode.J then Words.re_establish t) c | Some m ↦ f m c ])
   by-number nr f x c h None = record { holds = refl }
   by-number nr f x c h (Some m) = (x m).leads c h
 
@@ -255,7 +196,7 @@ in_7_calm : (n : ℕ) → Leads (On (calm_at Established)) (Established.acknowle
 in_7_calm n = as_calm_7 _ (search (words, calm_7_start) depth 12 fits 4000)
 
 rnr_7 : (n : ℕ) → Leads (On (at_state Established)) (Established.acknowledged_by_rnr_in_7 n) (On heeding)
-rnr_7 n = as_awake_7 _ (keeping_then (acknowledge_on (at_state Established) n) awake_7_start)
+rnr_7 n = as_awake_7 _ (search (words, awake_7_start))
 
 rej_7 : (n : ℕ) → Leads (On (calm_at Established)) (Established.acknowledged_by_rej_in_7 n) (On heeding)
 rej_7 n = as_calm_7 _ (search (words, calm_7_start) depth 12 fits 4000)
@@ -263,7 +204,7 @@ rej_7 n = as_calm_7 _ (search (words, calm_7_start) depth 12 fits 4000)
 -- an I-frame's N(R), by whether the terminal is taken for busy
 information-by : (n : ℕ) (c : Course) → On heeding_in_7 c → (b : Bool) → c.link.peer_busy ≡ b
     → On heeding (cond b (Words.acknowledge n c) (Established.acknowledged_in_7 n c))
-information-by n c h true e = (as_7 (Words.acknowledge n) (acknowledge_on heeding_in_7 n)).leads c h
+information-by n c h true e = (as_7 (Words.acknowledge n) (leaves {f = Words.acknowledge n} (λ c h. h))).leads c h
 information-by n c h false e = (in_7_calm n).leads c (record { holds = (h.holds.0, e) })
 
 information_7 : (n : ℕ) → Leads (On heeding_in_7) (Established.acknowledged_by_information_in_7 n) (On heeding)
@@ -306,7 +247,7 @@ rnr_8 : (b : Bool) (n : ℕ) → Leads (On (awake_at TimerRecovery)) (TimerRecov
 rnr_8 b n = search (rows, t200_then, as_8) depth 14 fits 6000
 
 acknowledge_8 : (n : ℕ) → Leads (On (awake_at TimerRecovery)) (Words.acknowledge n) (On heeding)
-acknowledge_8 n = as_8 (Words.acknowledge n) (acknowledge_on (awake_at TimerRecovery) n)
+acknowledge_8 n = as_8 (Words.acknowledge n) (leaves (λ c h. h))
 
 ruleset rows_8 = (rows, calm_8_then, busy_8_then, acknowledged_8, rnr_8, acknowledge_8)
 

@@ -1,5 +1,5 @@
 -- T200 runs while the terminal is taken for busy: every event.
-use Rattle.laws_link.proofs.Vocabulary.{◌≡◌, ℕ, Bool, true, false, cond, ◌&&◌, not, List, [], ◌∷◌, Option, None, Some, refl, sym, subst, true≢false, Control, ErrorCode, Refusal, State, TeiAssigned, AwaitingEstablishment, AwaitingRelease, Established, TimerRecovery, LinkTimer, T200, T203, ControlFrame, Terms, Link, fresh, frame, Request, Establish, Release, Data, SetBusy, ClearBusy, Event, received, expired, requested, offer, cleared, Course, begun, HeedsIn, Heeds}
+use Rattle.laws_link.proofs.Vocabulary.{◌≡◌, ℕ, Bool, true, false, cond, ◌&&◌, not, List, [], ◌∷◌, Option, None, Some, refl, sym, subst, true≢false, Control, ErrorCode, Refusal, State, TeiAssigned, AwaitingEstablishment, AwaitingRelease, Established, TimerRecovery, LinkTimer, T200, T203, ControlFrame, Terms, Link, fresh, frame, Request, Establish, Release, Data, Event, received, expired, requested, offer, cleared, Course, begun, HeedsIn, Heeds}
 use Rattle.model_link.specs.Requests
 use Rattle.model_link.specs.Offers
 use Rattle.model_link.specs.Machine
@@ -61,17 +61,15 @@ module _ (t : Terms) (l : Link) where
 
   releases : (here : State) → l.state ≡ here → HeedsIn here l.peer_busy l.running → Ends (Requests.release_in here t (begun l))
   releases TeiAssigned e h = (Heeding.releases_4 t).leads (begun l) (at-4 e)
-  releases AwaitingEstablishment e h = idle AwaitingEstablishment e h
-  releases AwaitingRelease e h = idle AwaitingRelease e h
   releases Established e h = (Heeding.release_7_8 t).leads (begun l) (at-7 e h)
   releases TimerRecovery e h = (Heeding.release_7_8 t).leads (begun l) (at-8 e h)
+  releases other e h = idle other e h
 
   grants : Heeds l → (request : Request) → Ends (Requests.granted t request (begun l))
   grants h Establish = record { holds = refl }
   grants h Release = releases l.state refl h.heeds
   grants h (Data octets) = record { holds = h.heeds }
-  grants h SetBusy = branch l.own_busy _ _ (record { holds = h.heeds }) (record { holds = h.heeds })
-  grants h ClearBusy = branch l.own_busy _ _ (record { holds = h.heeds }) (record { holds = h.heeds })
+  grants h other = branch l.own_busy _ _ (record { holds = h.heeds }) (record { holds = h.heeds })
 
   asked : Heeds l → (request : Request) (o : Option Refusal) → Ends (elim o [ None ↦ Requests.granted t request (begun l) | Some _ ↦ begun l ])
   asked h request None = grants h request
@@ -79,12 +77,11 @@ module _ (t : Terms) (l : Link) where
 
   -- an I-frame goes in state 7 alone, and only while the terminal is not busy
   free : (state : State) (busy x y : Bool) → (Offers.is_established state && not busy && x && y) ≡ true → (running : Option LinkTimer) → HeedsIn state busy running
-  free TeiAssigned busy x y e running = tt
   free AwaitingEstablishment busy x y e running = absurd (true≢false (sym e))
-  free AwaitingRelease busy x y e running = tt
   free Established true x y e running = absurd (true≢false (sym e))
   free Established false x y e running = λ b. absurd (true≢false (sym b))
   free TimerRecovery busy x y e running = absurd (true≢false (sym e))
+  free other busy x y e running = tt
 
   told : (b : Bool) (u v : Course) → (b ≡ true → Ends u) → Ends v → Ends (cond b u v)
   told true u v x y = x refl

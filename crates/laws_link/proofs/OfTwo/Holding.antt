@@ -30,11 +30,8 @@ near-acts receives e h s = by-first e.far.way e.near h s
 near-acts loses e h s = record { ranges = s.ranges; sound = s.sound; counted = s.counted }
 
 far-waits : (act : Act) (e : Ends) (h : History) → Stands e.far h → Stands (acting act e).far h
-far-waits (asks request full) e h s = s
-far-waits (expires timer) e h s = s
-far-waits sends e h s = s
 far-waits receives e h s = record { ranges = s.ranges; sound = s.sound; counted = s.counted }
-far-waits loses e h s = s
+far-waits other e h s = s
 
 pub near-all : (ds : List Doing) (e : Ends) (h : History) → Stands e.near h → IsCounted (near_history ds e h) (doing_all ds e).near.link
 unfolding near_history doing_all

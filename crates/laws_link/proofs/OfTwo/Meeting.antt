@@ -40,8 +40,6 @@ back-longer s r b q ln lm lm' k none none' says says' (inr e) h = flow-at refl r
 
 -- no frame that the direction knows is an alien
 abbrev pub NoAlien : Kind → Type 0
-NoAlien enquiry = Unit {0}
-NoAlien report = Unit {0}
 NoAlien alien = ⊥
 NoAlien other = Unit {0}
 
@@ -54,8 +52,6 @@ no-alien : (s r : ℕ) (b q : Bool) (ln lm : List Kind) → Flow s r b q (alien 
 no-alien s r b q ln lm h = no-alien-in q s r ln h.order
 
 pub is-no-alien : (s r : ℕ) (b q : Bool) (x : Kind) (ln lm : List Kind) → Flow s r b q (x ∷ ln) lm → NoAlien x
-is-no-alien s r b q enquiry ln lm h = tt
-is-no-alien s r b q report ln lm h = tt
 is-no-alien s r b q alien ln lm h = no-alien s r b q ln lm h
 is-no-alien s r b q other ln lm h = tt
 

@@ -1,5 +1,5 @@
 -- A link runs the timer that it needs: from what each event keeps.
-use Rattle.laws_link.proofs.Vocabulary.{◌≡◌, ◌≢◌, ◌⊎◌, inl, inr, ℕ, ◌≤◌, ◌==◌, Bool, true, false, not, cond, ◌||◌, IsTrue, Option, None, Some, refl, sym, ap, ◌∙◌, arith, true≢false, eq-eqb, State, TeiAssigned, AwaitingEstablishment, AwaitingRelease, Established, TimerRecovery, LinkTimer, T200, T203, Terms, Link, fresh, Event, after, IsSound, runs, eqb-true, IsTimedIn, IsTimed, HeedsIn, needed_in, IsCalmIn, HasItsTimer}
+use Rattle.laws_link.proofs.Vocabulary.{◌≡◌, ◌≢◌, ◌⊎◌, inl, inr, ℕ, ◌≤◌, ◌==◌, Bool, true, false, not, cond, ◌||◌, IsTrue, Option, None, Some, refl, sym, ap, ◌∙◌, arith, true≢false, eq-eqb, State, TeiAssigned, AwaitingEstablishment, Established, TimerRecovery, LinkTimer, T200, T203, Terms, Link, fresh, Event, after, IsSound, runs, eqb-true, IsTimedIn, IsTimed, HeedsIn, needed_in, IsCalmIn, HasItsTimer}
 use Rattle.laws_link.proofs.TimedRows.{timed-after}
 use Rattle.laws_link.proofs.OfTwo.Awaiting.{Awaits, event-awaits}
 use Rattle.laws_link.proofs.OfTwo.HeedingEvents.{heeds-after}
@@ -53,11 +53,10 @@ busy-needs true a s h = ap (λ b. cond b (Some T200) (Some T203)) (or-true (not 
 busy-needs false a s h = absurd (true≢false (sym h))
 
 to-heeds : (here : State) (busy : Bool) (running : Option LinkTimer) (a s : ℕ) → running ≡ need here busy a s → calm here busy → HeedsIn here busy running
-to-heeds TeiAssigned busy running a s e h = tt
 to-heeds AwaitingEstablishment busy running a s e h = h
-to-heeds AwaitingRelease busy running a s e h = tt
 to-heeds Established busy running a s e h = λ b. e ∙ busy-needs busy a s b
 to-heeds TimerRecovery busy running a s e h = e
+to-heeds other busy running a s e h = tt
 
 to-awaits : (here : State) (busy : Bool) (running : Option LinkTimer) (a s : ℕ) → running ≡ need here busy a s → Awaits here running busy a s
 to-awaits here busy running a s e is timer = by (not (s == a)) refl busy refl

@@ -1,7 +1,5 @@
 -- An end in state 7 with nothing waiting: what it gives, and, with neither side busy, what it makes of what it receives.
-use Rattle.laws_link.proofs.Vocabulary.{◌≡◌, ℕ, ◌+◌, Bool, true, false, cond, ◌==◌, [], ◌∷◌, ◌++◌, length, Option, None, Some, refl, ap, ◌∙◌, nat_lt, slice_get, unwrap_or, option_to_list, Seq, seq, named, Information, ReceiveReady, Parts, T200, T203, Terms, Link, frame_of, address_at, runs, frame, received, Course, Step, begun, ◌then◌, changed, given_of, End, with_link, with_sent, frame_given, IsReady}
-use Rattle.lapd_frame.specs.declared.notes.ErrorCode.TheVariants as code
-use Rattle.model_link.specs.declared.states.State.TheVariants as state
+use Rattle.laws_link.proofs.Vocabulary.{◌≡◌, ℕ, ◌+◌, Bool, true, false, cond, ◌==◌, [], ◌∷◌, ◌++◌, length, Option, None, Some, refl, ap, ◌∙◌, nat_lt, slice_get, unwrap_or, option_to_list, Seq, seq, named, Information, ReceiveReady, Parts, T200, T203, Terms, Link, frame_of, address_at, runs, frame, received, Course, Step, begun, ◌then◌, changed, given_of, End, with_link, with_sent, frame_given, IsReady, ErrorCode, State}
 use Rattle.model_link.specs.Words
 use Rattle.model_link.specs.MultipleFrame
 use Rattle.model_link.specs.Established
@@ -9,7 +7,7 @@ use Rattle.model_link.specs.Offers
 
 -- with own busy, and the other end taken for busy, as the bits say
 abbrev pub plain_with : Bool → Bool → Link → Link
-plain_with own busy l = record l { state = state.Established; peer_busy = busy; own_busy = own; waiting = [] }
+plain_with own busy l = record l { state = State.Established; peer_busy = busy; own_busy = own; waiting = [] }
 
 abbrev pub plain : Link → Link
 plain l = plain_with false false l
@@ -98,7 +96,7 @@ module _ (m : End) (same : (m.link.s == m.link.s) ≡ true) where
 
   -- the effect of an N(R)
   abbrev effect : Seq → (ℕ → Step) → Course → Option ℕ → Course
-  effect nr f c o = elim o [ None ↦ (Words.error m.terms code.J then Words.re_establish m.terms) c | Some x ↦ f x c ]
+  effect nr f c o = elim o [ None ↦ (Words.error m.terms ErrorCode.J then Words.re_establish m.terms) c | Some x ↦ f x c ]
 
   acknowledged : (nr : Seq) (c : Course) → named c.link.a c.link.s nr ≡ Some c.link.s → (c.link.s == c.link.s) ≡ true
       → Words.by_number m.terms nr Established.acknowledged_in_7 c ≡ (Words.acknowledge c.link.s then Words.start T203) c
@@ -120,7 +118,7 @@ module _ (m : End) (same : (m.link.s == m.link.s) ≡ true) where
   takes-information t l fits next all =
       let octets = unwrap_or (slice_get l.contents l.s) [] in
       let number = Words.by_number m.terms (seq l.r) Established.acknowledged_by_information_in_7 in
-      ap (λ b. having (cond b (MultipleFrame.failed m.terms code.O here) (number (MultipleFrame.contents_in_7_8 m.terms (seq l.s) false octets here)))) fits
+      ap (λ b. having (cond b (MultipleFrame.failed m.terms ErrorCode.O here) (number (MultipleFrame.contents_in_7_8 m.terms (seq l.s) false octets here)))) fits
       ∙ ap (λ b. having (number (cond b (MultipleFrame.in_sequence m.terms false octets here) (MultipleFrame.out_of_sequence m.terms false here)))) next
       ∙ ap having (by-information (seq l.r) (MultipleFrame.in_sequence m.terms false octets here) refl all same)
 

@@ -1,6 +1,6 @@
 -- The premises are met: by two links that begin, by the worked run in which every frame is lost, and by one in which a
 -- frame is lost and REJ makes it good.
-use Rattle.laws_link.proofs.Vocabulary.{◌≡◌, Bool, true, false, ◌&&◌, List, [], ◌∷◌, length, refl, inr, arith, nat_lt, nat_le, and_parts, ltb-true, leb-true, seq, distance_of, named, supervisory_of, unnumbered_of, control_of, header_of, reading, Request, Release, after_all, End, Ends, Act, asks, expires, sends, receives, loses, Doing, at_near, at_far, doing, doing_all, StayUp, IsTimed, both, mended, IsMildRequest, IsMildAct, IsMild, StayAhead, IsReady, IsTaken, HasUnsent, IsSilent, HasMissing, losing, cut_off}
+use Rattle.laws_link.proofs.Vocabulary.{◌≡◌, Bool, true, false, ◌&&◌, List, [], ◌∷◌, length, refl, inr, arith, nat_lt, nat_le, and_parts, ltb-true, leb-true, seq, distance_of, named, supervisory_of, unnumbered_of, control_of, header_of, reading, Request, Release, after_all, End, Ends, Act, asks, expires, Doing, at_near, at_far, doing, doing_all, StayUp, IsTimed, both, mended, IsMildRequest, IsMildAct, IsMild, StayAhead, IsReady, IsTaken, HasUnsent, IsSilent, HasMissing, losing, cut_off}
 use Rattle.laws_link.proofs.OfTwo.Premises.{begins}
 use Rattle.laws_link.proofs.OfTwo.Together.{all-stay_up}
 
@@ -12,9 +12,7 @@ mild_request other = true
 unfoldable pub mild_act : Act → End → Bool
 mild_act (asks request full) n = mild_request request
 mild_act (expires timer) n = nat_lt n.link.repeats n.terms.n200
-mild_act sends n = true
-mild_act receives n = true
-mild_act loses n = true
+mild_act other n = true
 
 unfoldable pub mild : Doing → Ends → Bool
 mild (at_near act) e = mild_act act e.near
@@ -33,9 +31,7 @@ by-act : (act : Act) (n : End) → mild_act act n ≡ true → IsMildAct act n
 unfolding mild_act
 by-act (asks request full) n e = by-request request e
 by-act (expires timer) n e = λ state running. ltb-true n.link.repeats n.terms.n200 e
-by-act sends n e = tt
-by-act receives n e = tt
-by-act loses n e = tt
+by-act other n e = tt
 
 by-doing : (d : Doing) (e : Ends) → mild d e ≡ true → IsMild d e
 unfolding mild

@@ -1,7 +1,5 @@
 -- An end that asks and one that answers: what each makes of the other's frames.
-use Rattle.laws_link.proofs.Vocabulary.{◌≡◌, ℕ, ◌+◌, Bool, true, false, cond, ◌==◌, List, [], ◌∷◌, ◌++◌, length, Option, None, Some, refl, ap, ◌∙◌, append-nil, arith, nat_lt, slice_get, unwrap_or, option_to_list, le-ltb, Seq, seq, named, ReceiveReady, ReceiveNotReady, LinkTimer, T200, T203, ControlFrame, Terms, Link, frame_of, frame, received, Course, Step, begun, ◌then◌, End, with_link}
-use Rattle.lapd_frame.specs.declared.notes.ErrorCode.TheVariants as code
-use Rattle.model_link.specs.declared.states.State.TheVariants as state
+use Rattle.laws_link.proofs.Vocabulary.{◌≡◌, ℕ, ◌+◌, Bool, true, false, cond, ◌==◌, List, [], ◌∷◌, ◌++◌, length, Option, None, Some, refl, ap, ◌∙◌, append-nil, arith, nat_lt, slice_get, unwrap_or, option_to_list, le-ltb, Seq, seq, named, ReceiveReady, ReceiveNotReady, LinkTimer, T200, T203, ControlFrame, Terms, Link, frame_of, frame, received, Course, Step, begun, ◌then◌, End, with_link, ErrorCode, State}
 use Rattle.model_link.specs.Words
 use Rattle.model_link.specs.MultipleFrame
 use Rattle.model_link.specs.Established
@@ -25,14 +23,14 @@ reply_with own r = Words.response (cond own (ReceiveNotReady (seq r) true) (Rece
 -- An end in state 8, and one in state 7, with own busy as the first bit says.
 abbrev pub in_8_with : Bool → End → List ControlFrame → Bool → ℕ → Bool → List (List ℕ) → End
 in_8_with own n ws busy a p ds =
-    record n { link = record n.link { state = state.TimerRecovery; own_busy = own; peer_busy = busy; pending = p; waiting = ws; running = Some T200; a = a }; way = []; delivered = ds }
+    record n { link = record n.link { state = State.TimerRecovery; own_busy = own; peer_busy = busy; pending = p; waiting = ws; running = Some T200; a = a }; way = []; delivered = ds }
 
 abbrev pub in_8 : End → List ControlFrame → Bool → ℕ → Bool → List (List ℕ) → End
 in_8 n ws busy a p ds = in_8_with false n ws busy a p ds
 
 abbrev pub in_7_with : Bool → Bool → End → List ControlFrame → ℕ → ℕ → Bool → Option LinkTimer → List (List ℕ) → End
 in_7_with own busy n ws a s p running ds =
-    record n { link = record n.link { state = state.Established; own_busy = own; peer_busy = busy; pending = p; waiting = ws; running = running; a = a; s = s }; way = []; delivered = ds }
+    record n { link = record n.link { state = State.Established; own_busy = own; peer_busy = busy; pending = p; waiting = ws; running = running; a = a; s = s }; way = []; delivered = ds }
 
 abbrev pub in_7 : End → List ControlFrame → ℕ → ℕ → Bool → Option LinkTimer → List (List ℕ) → End
 in_7 n ws a s p running ds = in_7_with false false n ws a s p running ds
@@ -42,7 +40,7 @@ abbrev pub with_one_more : End → End
 with_one_more m = record m { link = record m.link { r = m.link.r + 1; rejecting = false } }
 
 abbrev pub effect : Terms → Seq → (ℕ → Step) → Course → Option ℕ → Course
-effect t nr f c o = elim o [ None ↦ (Words.error t code.J then Words.re_establish t) c | Some x ↦ f x c ]
+effect t nr f c o = elim o [ None ↦ (Words.error t ErrorCode.J then Words.re_establish t) c | Some x ↦ f x c ]
 
 module _ (m : End) where
   abbrev pub having : Course → End
@@ -92,7 +90,7 @@ informed-8 m ws busy a p ds t l x fits next names =
     let octets = unwrap_or (slice_get l.contents l.s) [] in
     let number = Words.by_number m.terms (seq l.r) Words.acknowledge in
     let here = begun e.link in
-    ap (λ b. having e (cond b (MultipleFrame.failed m.terms code.O here) (number (MultipleFrame.contents_in_7_8 m.terms (seq l.s) false octets here)))) fits
+    ap (λ b. having e (cond b (MultipleFrame.failed m.terms ErrorCode.O here) (number (MultipleFrame.contents_in_7_8 m.terms (seq l.s) false octets here)))) fits
     ∙ ap (λ b. having e (number (cond b (MultipleFrame.in_sequence m.terms false octets here) (MultipleFrame.out_of_sequence m.terms false here)))) next
     ∙ ap (λ o. having e (effect m.terms (seq l.r) Words.acknowledge (MultipleFrame.in_sequence m.terms false octets here) o)) names
 

@@ -1,6 +1,5 @@
 -- What keeps a link in states 7 and 8: each word, each row of a frame whose N(R) is valid, and each mild event.
-use Rattle.laws_link.proofs.Vocabulary.{◌≡◌, ℕ, ◌<◌, ◌≤◌, Bool, true, false, cond, IsTrue, List, [], ◌∷◌, length, Option, None, Some, refl, sym, ap, subst, ◌∙◌, true≢false, lt-ltb, le-ltb, Seq, seq, named, Control, Information, ReceiveReady, ReceiveNotReady, Reject, Sabme, Disc, Ui, Ua, Dm, Frmr, Xid, Note, Refusal, WrongState, State, TeiAssigned, AwaitingEstablishment, AwaitingRelease, Established, TimerRecovery, LinkTimer, T200, T203, ControlFrame, Terms, Link, is_multiple_frame, Request, Establish, Release, Data, SetBusy, ClearBusy, expired, requested, offer, Course, begun, Step, ◌then◌, Leads, then_leads, keeping_then, nothing_leads, depending_leads, bit_leads, Means, IsMildRequest}
-use Rattle.lapd_frame.specs.declared.notes.ErrorCode.TheVariants as code
+use Rattle.laws_link.proofs.Vocabulary.{◌≡◌, ℕ, ◌<◌, ◌≤◌, Bool, true, false, cond, IsTrue, List, [], ◌∷◌, length, Option, None, Some, refl, sym, ap, subst, ◌∙◌, true≢false, lt-ltb, le-ltb, Seq, seq, named, Control, Information, ReceiveReady, ReceiveNotReady, Reject, Sabme, Disc, Ui, Ua, Dm, Frmr, Xid, Note, Refusal, WrongState, State, TeiAssigned, AwaitingEstablishment, AwaitingRelease, Established, TimerRecovery, LinkTimer, T200, T203, ControlFrame, Terms, Link, is_multiple_frame, Request, Establish, Release, Data, SetBusy, ClearBusy, expired, requested, offer, Course, begun, Step, ◌then◌, Leads, then_leads, keeping_then, nothing_leads, depending_leads, bit_leads, Means, IsMildRequest, leaves, ErrorCode}
 use Rattle.model_link.specs.Words
 use Rattle.model_link.specs.MultipleFrame
 use Rattle.model_link.specs.Established
@@ -13,54 +12,26 @@ abbrev IsUpIn : Course → Type 0
 IsUpIn c = IsTrue (is_multiple_frame c.link.state)
 
 -- A link in state 7 or 8, with its V(A) and V(S); and whatever these are.
-pub record Holds (a s : ℕ) (c : Course) : Type 0 where
-  pub up : IsTrue (is_multiple_frame c.link.state)
-  pub low : c.link.a ≡ a
-  pub high : c.link.s ≡ s
+pub record HoldsAt (a s : ℕ) (state : State) (x y : ℕ) : Type 0 where
+  pub up : IsTrue (is_multiple_frame state)
+  pub low : x ≡ a
+  pub high : y ≡ s
 
-pub record Stays (c : Course) : Type 0 where
-  pub up : IsTrue (is_multiple_frame c.link.state)
+abbrev pub Holds : ℕ → ℕ → Course → Type 0
+Holds a s c = HoldsAt a s c.link.state c.link.a c.link.s
 
-module _ (a s : ℕ) where
-  pub note_holds : (x : Note) → Leads (Holds a s) (Words.note x) (Holds a s)
-  note_holds x = record { leads = λ c h. record { up = h.up; low = h.low; high = h.high } }
+pub record StaysIn (state : State) : Type 0 where
+  pub up : IsTrue (is_multiple_frame state)
 
-  pub deliver_holds : (t : Terms) (octets : List ℕ) → Leads (Holds a s) (Words.deliver t octets) (Holds a s)
-  deliver_holds t octets = record { leads = λ c h. record { up = h.up; low = h.low; high = h.high } }
-
-  pub peer_busy_holds : (b : Bool) → Leads (Holds a s) (Words.peer_busy_is b) (Holds a s)
-  peer_busy_holds b = record { leads = λ c h. record { up = h.up; low = h.low; high = h.high } }
-
-  pub rejecting_holds : (b : Bool) → Leads (Holds a s) (Words.rejecting_is b) (Holds a s)
-  rejecting_holds b = record { leads = λ c h. record { up = h.up; low = h.low; high = h.high } }
-
-  pub pending_holds : (b : Bool) → Leads (Holds a s) (Words.pending_is b) (Holds a s)
-  pending_holds b = record { leads = λ c h. record { up = h.up; low = h.low; high = h.high } }
-
-  pub count_holds : Leads (Holds a s) Words.count_received (Holds a s)
-  count_holds = record { leads = λ c h. record { up = h.up; low = h.low; high = h.high } }
-
-  pub answer_holds : (t : Terms) → Leads (Holds a s) (Words.answer t) (Holds a s)
-  answer_holds t = record { leads = λ c h. record { up = h.up; low = h.low; high = h.high } }
-
-  pub reject_holds : (t : Terms) (f : Bool) → Leads (Holds a s) (Words.reject t f) (Holds a s)
-  reject_holds t f = record { leads = λ c h. record { up = h.up; low = h.low; high = h.high } }
-
-pub acknowledge_stays : (n : ℕ) → Leads Stays (Words.acknowledge n) Stays
-acknowledge_stays n = record { leads = λ c h. record { up = h.up } }
-
-pub again_stays : (n : ℕ) → Leads Stays (Words.send_again_from n) Stays
-again_stays n = record { leads = λ c h. record { up = h.up } }
-
-pub start_stays : (timer : LinkTimer) → Leads Stays (Words.start timer) Stays
-start_stays timer = record { leads = λ c h. record { up = h.up } }
+abbrev pub Stays : Course → Type 0
+Stays c = StaysIn c.link.state
 
 pub enter_7_stays : Leads Stays (Words.enter Established) Stays
 enter_7_stays = record { leads = λ c h. record { up = refl } }
 
-pub ruleset words = (keeping_then, nothing_leads, depending_leads, bit_leads, note_holds, deliver_holds, peer_busy_holds, rejecting_holds, pending_holds, count_holds, answer_holds, reject_holds)
+pub ruleset words = (leaves, keeping_then, nothing_leads, depending_leads, bit_leads)
 
-pub ruleset effects = (keeping_then, nothing_leads, depending_leads, bit_leads, acknowledge_stays, again_stays, start_stays, enter_7_stays)
+pub ruleset effects = (leaves, keeping_then, nothing_leads, depending_leads, bit_leads, enter_7_stays)
 
 in_7_stays : (n : ℕ) → Leads Stays (Established.acknowledged_in_7 n) Stays
 in_7_stays n = search effects depth 12 fits 4000
@@ -87,7 +58,7 @@ module _ (t : Terms) (l : Link) (up : IsTrue (is_multiple_frame l.state)) (p : �
   first = record { up = up; low = refl; high = refl }
 
   abbrev effect : (ℕ → Step) → Course → Option ℕ → Course
-  effect f c o = elim o [ None ↦ (Words.error t code.J then Words.re_establish t) c | Some n ↦ f n c ]
+  effect f c o = elim o [ None ↦ (Words.error t ErrorCode.J then Words.re_establish t) c | Some n ↦ f n c ]
 
   numbered : (f : ℕ → Step) → ((n : ℕ) → Leads Stays (f n) Stays) → (c : Course) → Holds l.a l.s c → IsUpIn (Words.by_number t (seq p) f c)
   numbered f x c h =
@@ -100,7 +71,7 @@ module _ (t : Terms) (l : Link) (up : IsTrue (is_multiple_frame l.state)) (p : �
   information : (ns : Seq) (b : Bool) (octets : List ℕ) (f : ℕ → Step) → ((n : ℕ) → Leads Stays (f n) Stays) → length octets ≤ t.n201
       → IsUpIn (MultipleFrame.information_in_7_8 t ns (seq p) b octets f (begun l))
   information ns b octets f x size =
-      subst (λ o. IsUpIn (cond o (MultipleFrame.failed t code.O (begun l)) ((MultipleFrame.contents_in_7_8 t ns b octets then Words.by_number t (seq p) f) (begun l))))
+      subst (λ o. IsUpIn (cond o (MultipleFrame.failed t ErrorCode.O (begun l)) ((MultipleFrame.contents_in_7_8 t ns b octets then Words.by_number t (seq p) f) (begun l))))
       (sym (le-ltb t.n201 (length octets) size))
       (numbered f x (MultipleFrame.contents_in_7_8 t ns b octets (begun l)) ((contents ns b octets).leads (begun l) first))
 
@@ -134,7 +105,7 @@ module _ (t : Terms) (l : Link) (up : IsTrue (is_multiple_frame l.state)) (p : �
   in-8 : (b : Bool) (octets : List ℕ) (control : Control) → Means p control → Fits t control octets → IsUpIn (TimerRecovery.frame_in_8 t b octets control (begun l))
   in-8 b octets (Information ns nr x) e size =
       subst (λ n. IsUpIn (MultipleFrame.information_in_7_8 t ns n x octets Words.acknowledge (begun l))) (sym e)
-      (information ns x octets Words.acknowledge acknowledge_stays size)
+      (information ns x octets Words.acknowledge (λ n. leaves (λ c h. h)) size)
   in-8 b octets (ReceiveReady nr pf) e size =
       subst (λ n. IsUpIn (MultipleFrame.supervisory t (TimerRecovery.particulars_in_8 t) false b pf n (TimerRecovery.particulars_in_8 t).by_rr (begun l))) (sym e)
       (supervisory-8 false b pf (TimerRecovery.particulars_in_8 t).by_rr (in_8_stays T203))
@@ -183,19 +154,16 @@ module _ (t : Terms) (l : Link) (up : IsTrue (is_multiple_frame l.state)) where
   request-stays Establish full mild = refuses (Requests.refusal t l full Establish) (refused l.state refl up full)
   request-stays Release full mild = absurd mild
   request-stays (Data octets) full mild = whatever (Data octets) (Requests.refusal t l full (Data octets)) up
-  request-stays SetBusy full mild = whatever SetBusy (Requests.refusal t l full SetBusy) (either l.own_busy _ _ up up)
-  request-stays ClearBusy full mild = whatever ClearBusy (Requests.refusal t l full ClearBusy) (either l.own_busy _ _ up up)
+  request-stays other full mild = whatever other (Requests.refusal t l full other) (either l.own_busy _ _ up up)
 
   expires-in : (here : State) → l.state ≡ here → IsTrue (is_multiple_frame here) → (timer : LinkTimer) → (here ≡ TimerRecovery → l.repeats < t.n200)
       → IsUpIn (Machine.expired_in here timer t (begun l))
-  expires-in TeiAssigned e h timer again = absurd (true≢false (sym h))
-  expires-in AwaitingEstablishment e h timer again = absurd (true≢false (sym h))
-  expires-in AwaitingRelease e h timer again = absurd (true≢false (sym h))
   expires-in Established e h timer again = refl
   expires-in TimerRecovery e h T200 again =
-      subst (λ b. IsUpIn (cond b (Words.start T200 (Words.repeated (Words.enquire t (begun l)))) (MultipleFrame.failed t code.I (begun l))))
+      subst (λ b. IsUpIn (cond b (Words.start T200 (Words.repeated (Words.enquire t (begun l)))) (MultipleFrame.failed t ErrorCode.I (begun l))))
       (sym (lt-ltb l.repeats t.n200 (again refl))) up
   expires-in TimerRecovery e h T203 again = up
+  expires-in other e h timer again = absurd (true≢false (sym h))
 
   pub timer-stays : (timer : LinkTimer) → (l.state ≡ TimerRecovery → Machine.is_running timer l ≡ true → l.repeats < t.n200) → IsUpIn (Machine.course t (expired timer) l)
   timer-stays timer again = branch (Machine.is_running timer l) _ _ (λ run. expires-in l.state refl up timer (λ e. again e run)) up

@@ -1,5 +1,5 @@
 -- Two links stay up where T200 is timely: what holds in both directions is kept by each act.
-use Rattle.laws_link.proofs.Vocabulary.{◌≡◌, ℕ, ◌+◌, ◌≤◌, Bool, true, false, IsTrue, List, [], ◌∷◌, ◌++◌, refl, sym, ap, subst, ◌∙◌, inl, inr, true≢false, arith, All, drop, All-head, All-tail, seq, Control, Information, ReceiveReady, ReceiveNotReady, Reject, Sabme, Disc, Ui, Ua, Dm, Frmr, Xid, Parts, State, Established, TimerRecovery, LinkTimer, ControlFrame, Terms, Link, is_multiple_frame, Request, frame, received, expired, requested, offer, Course, End, Act, asks, expires, sends, receives, loses, with_link, with_sent, with_first_of, frame_given, acting, IsUp, rising-low, frames_of, line_of, Joined, IsMildRequest, is_enquiry, is_answer, IsNoneOpen, IsTimelyAct}
+use Rattle.laws_link.proofs.Vocabulary.{◌≡◌, ℕ, ◌+◌, ◌≤◌, Bool, true, false, IsTrue, List, [], ◌∷◌, ◌++◌, refl, sym, ap, subst, ◌∙◌, inl, inr, true≢false, arith, All, drop, All-head, All-tail, seq, Control, Information, ReceiveReady, ReceiveNotReady, Reject, Parts, State, Established, TimerRecovery, LinkTimer, ControlFrame, Terms, Link, is_multiple_frame, Request, frame, received, expired, requested, offer, Course, End, Act, asks, expires, sends, receives, loses, with_link, with_sent, with_first_of, frame_given, acting, IsUp, rising-low, frames_of, line_of, Joined, IsMildRequest, is_enquiry, is_answer, IsNoneOpen, IsTimelyAct}
 use Rattle.model_link.specs.Machine
 use Rattle.laws_link.proofs.OfTwo.Trains.{Kind, numbered, enquiry, report, kind_of, kinds_of, tally, one_enquiry, one_answer}
 use Rattle.laws_link.proofs.OfTwo.Flow.{most, Flow, there-calm, there-enquiry, there-unasked, there-information, there-tail, back-other, back-tail}
@@ -11,7 +11,6 @@ use Rattle.laws_link.proofs.OfTwo.Going.{Asked, Gives, Offered, asks-went, RanOu
 -- no enquiry, and no answer, is none among the kinds
 not-enquiry : (b : Bool) (control : Control) → is_enquiry b control ≡ false → one_enquiry (kind_of b control) ≡ 0
 not-enquiry b (Information ns nr true) e = refl
-not-enquiry b (Information ns nr false) e = refl
 not-enquiry true (ReceiveReady nr true) e = absurd (true≢false e)
 not-enquiry true (ReceiveReady nr false) e = refl
 not-enquiry false (ReceiveReady nr true) e = refl
@@ -23,17 +22,10 @@ not-enquiry false (ReceiveNotReady nr false) e = refl
 not-enquiry true (Reject nr pf) e = refl
 not-enquiry false (Reject nr true) e = refl
 not-enquiry false (Reject nr false) e = refl
-not-enquiry b (Sabme p) e = refl
-not-enquiry b (Disc p) e = refl
-not-enquiry b (Ui p) e = refl
-not-enquiry b (Ua f) e = refl
-not-enquiry b (Dm f) e = refl
-not-enquiry b (Frmr f) e = refl
-not-enquiry b (Xid pf) e = refl
+not-enquiry b other e = refl
 
 not-answer : (b : Bool) (control : Control) → is_answer b control ≡ false → one_answer (kind_of b control) ≡ 0
 not-answer b (Information ns nr true) e = refl
-not-answer b (Information ns nr false) e = refl
 not-answer true (ReceiveReady nr true) e = refl
 not-answer true (ReceiveReady nr false) e = refl
 not-answer false (ReceiveReady nr true) e = absurd (true≢false e)
@@ -45,13 +37,7 @@ not-answer false (ReceiveNotReady nr false) e = refl
 not-answer true (Reject nr pf) e = refl
 not-answer false (Reject nr true) e = refl
 not-answer false (Reject nr false) e = refl
-not-answer b (Sabme p) e = refl
-not-answer b (Disc p) e = refl
-not-answer b (Ui p) e = refl
-not-answer b (Ua f) e = refl
-not-answer b (Dm f) e = refl
-not-answer b (Frmr f) e = refl
-not-answer b (Xid pf) e = refl
+not-answer b other e = refl
 
 module _ (asked : Bool → Control → Bool) (one : Kind → ℕ) (w : (b : Bool) (control : Control) → asked b control ≡ false → one (kind_of b control) ≡ 0) (t : Terms) where
   none-waits : (ws : List ControlFrame) → All (λ f. asked f.command f.control ≡ false) ws → tally one (kinds_of (frames_of t ws)) ≡ 0

@@ -1,6 +1,6 @@
 -- The premises of the law on a timely T200 are met: by the worked run in which it expires twice, and by the one in which
 -- all frames are lost.
-use Rattle.laws_link.proofs.Vocabulary.{◌≡◌, Bool, true, false, not, ◌&&◌, List, [], ◌∷◌, refl, sym, true≢false, All, nat_lt, and_parts, ltb-true, All-nil, All-cons, seq, distance_of, named, Control, Parts, supervisory_of, unnumbered_of, control_of, header_of, reading, ControlFrame, after_all, End, Ends, Act, asks, expires, sends, receives, loses, Doing, at_near, at_far, doing, both, is_enquiry, is_answer, IsNoneOpen, IsTimelyAct, IsTimelyDoing, StayTimely, IsHushed, answered_at_last, losing, cut_off}
+use Rattle.laws_link.proofs.Vocabulary.{◌≡◌, Bool, true, false, not, ◌&&◌, List, [], ◌∷◌, refl, sym, true≢false, All, nat_lt, and_parts, ltb-true, All-nil, All-cons, seq, distance_of, named, Control, Parts, supervisory_of, unnumbered_of, control_of, header_of, reading, ControlFrame, after_all, End, Ends, Act, asks, expires, Doing, at_near, at_far, doing, both, is_enquiry, is_answer, IsNoneOpen, IsTimelyAct, IsTimelyDoing, StayTimely, IsHushed, answered_at_last, losing, cut_off}
 use Rattle.laws_link.proofs.OfTwo.PremisesMet.{mild_request, by-request, near-silent}
 
 -- a test of what goes on timely
@@ -18,9 +18,7 @@ none_open n m = (none_waiting is_enquiry n.link.waiting && none_on_way is_enquir
 timely_act : Act → End → End → Bool
 timely_act (asks request full) n m = mild_request request
 timely_act (expires timer) n m = nat_lt n.link.repeats n.terms.n200 && none_open n m
-timely_act sends n m = true
-timely_act receives n m = true
-timely_act loses n m = true
+timely_act other n m = true
 
 timely : Doing → Ends → Bool
 timely (at_near act) e = timely_act act e.near e.far
@@ -65,9 +63,7 @@ by-act (asks request full) n m e = by-request request e
 by-act (expires timer) n m e =
     let both = and_parts (nat_lt n.link.repeats n.terms.n200) (none_open n m) e in
     (λ state running. ltb-true n.link.repeats n.terms.n200 both.0, λ state running. by-open n m both.1)
-by-act sends n m e = tt
-by-act receives n m e = tt
-by-act loses n m e = tt
+by-act other n m e = tt
 
 by-doing : (d : Doing) (e : Ends) → timely d e ≡ true → IsTimelyDoing d e
 unfolding timely

@@ -1,5 +1,5 @@
 -- Two links whose T200 is timely, from an establishment on.
-use Rattle.laws_link.proofs.Vocabulary.{◌≡◌, ℕ, ◌+◌, ◌≤◌, false, List, [], ◌∷◌, ap, ◌∙◌, arith, End, Ends, Act, asks, expires, sends, receives, loses, Doing, at_near, at_far, doing, doing_all, Begins, IsUp, StayUp, Agree, Joined, joined-turned, joined-first, done-at, ends-agree, IsTimed, IsAhead, IsMild, IsMildAct, IsTimelyAct, IsTimelyDoing, StayTimely, IsHushed, IsSilent, HasMissing, with_t200_expired, rounds}
+use Rattle.laws_link.proofs.Vocabulary.{◌≡◌, ℕ, ◌+◌, ◌≤◌, false, List, [], ◌∷◌, ap, ◌∙◌, arith, End, Ends, Act, asks, expires, Doing, at_near, at_far, doing, doing_all, Begins, IsUp, StayUp, Agree, Joined, joined-turned, joined-first, done-at, ends-agree, IsTimed, IsAhead, IsMild, IsMildAct, IsTimelyAct, IsTimelyDoing, StayTimely, IsHushed, IsSilent, HasMissing, with_t200_expired, rounds}
 use Rattle.laws_link.proofs.OfTwo.Arriving.{Arrived}
 use Rattle.laws_link.proofs.OfTwo.Reached.{reached}
 use Rattle.laws_link.proofs.OfTwo.Together.{done-up, same-after}
@@ -23,9 +23,7 @@ ahead e h = (flows-low e.near e.far h.there, flows-low e.far e.near h.back)
 mild-act : (act : Act) (n m : End) → IsTimelyAct act n m → IsMildAct act n
 mild-act (asks request full) n m x = x
 mild-act (expires timer) n m x = x.0
-mild-act sends n m x = tt
-mild-act receives n m x = tt
-mild-act loses n m x = tt
+mild-act other n m x = tt
 
 mild : (d : Doing) (e : Ends) → IsTimelyDoing d e → IsMild d e
 mild (at_near act) e x = mild-act act e.near e.far x

@@ -52,11 +52,8 @@ first-terms [] n = refl
 first-terms (f ∷ fs) n = refl
 
 acting-terms : (act : Act) (e : Ends) → ((acting act e).near.terms ≡ e.near.terms) × ((acting act e).far.terms ≡ e.far.terms)
-acting-terms (asks request full) e = (refl, refl)
-acting-terms (expires timer) e = (refl, refl)
-acting-terms sends e = (refl, refl)
 acting-terms receives e = (first-terms e.far.way e.near, refl)
-acting-terms loses e = (refl, refl)
+acting-terms other e = (refl, refl)
 
 pub same-after : (d : Doing) (e : Ends) → e.near.terms.n201 ≡ e.far.terms.n201 → (doing d e).near.terms.n201 ≡ (doing d e).far.terms.n201
 same-after (at_near act) e same = let x = acting-terms act e in ap (λ t. t.n201) x.0 ∙ same ∙ sym (ap (λ t. t.n201) x.1)

@@ -50,25 +50,15 @@ tally one (x ∷ xs) = one x + tally one xs
 
 abbrev pub one_enquiry : Kind → ℕ
 one_enquiry enquiry = 1
-one_enquiry report = 0
-one_enquiry alien = 0
 one_enquiry other = 0
 
 abbrev pub one_answer : Kind → ℕ
-one_answer (numbered ns) = 0
-one_answer enquiry = 0
 one_answer (answer nr) = 1
-one_answer report = 0
-one_answer (rejection nr) = 0
-one_answer alien = 0
+one_answer other = 0
 
 abbrev pub one_rejection : Kind → ℕ
-one_rejection (numbered ns) = 0
-one_rejection enquiry = 0
-one_rejection (answer nr) = 0
-one_rejection report = 0
 one_rejection (rejection nr) = 1
-one_rejection alien = 0
+one_rejection other = 0
 
 pub tally-push : (one : Kind → ℕ) (xs : List Kind) (y : Kind) → tally one (xs ++ y ∷ []) ≡ tally one xs + one y
 tally-push one [] y = omega arith
@@ -102,20 +92,14 @@ behind-first one Q (x ∷ xs) y none = (λ some. absurd (omega (arith, none, som
 -- Neither an I-frame nor an alien.
 abbrev pub Calm : Kind → Type 0
 Calm (numbered ns) = ⊥
-Calm enquiry = Unit {0}
-Calm (answer nr) = Unit {0}
-Calm report = Unit {0}
-Calm (rejection nr) = Unit {0}
 Calm alien = ⊥
+Calm other = Unit {0}
 
 -- An I-frame among them has a number from lo to below top.
 abbrev pub Comes : ℕ → ℕ → Kind → Type 0
 Comes lo top (numbered ns) = (i : ℕ) × (ns ≡ seq i) × (lo ≤ i) × (i < top)
-Comes lo top enquiry = Unit {0}
-Comes lo top (answer nr) = Unit {0}
-Comes lo top report = Unit {0}
-Comes lo top (rejection nr) = Unit {0}
 Comes lo top alien = ⊥
+Comes lo top other = Unit {0}
 
 -- The numbers rise, from lo to below hi.
 abbrev pub Rise : ℕ → ℕ → List Kind → Type 0
@@ -124,19 +108,13 @@ Rise lo hi (x ∷ xs) = (top : ℕ) × (lo ≤ top) × Comes lo top x × Rise to
 
 comes-lower : (lo lo' top : ℕ) (x : Kind) → lo' ≤ lo → Comes lo top x → Comes lo' top x
 comes-lower lo lo' top (numbered ns) le (i, e, low, high) = (i, e, omega (arith, le, low), high)
-comes-lower lo lo' top enquiry le h = tt
-comes-lower lo lo' top (answer nr) le h = tt
-comes-lower lo lo' top report le h = tt
-comes-lower lo lo' top (rejection nr) le h = tt
 comes-lower lo lo' top alien le h = h
+comes-lower lo lo' top other le h = tt
 
 pub calm-comes : (lo top : ℕ) (x : Kind) → Calm x → Comes lo top x
 calm-comes lo top (numbered ns) h = absurd h
-calm-comes lo top enquiry h = tt
-calm-comes lo top (answer nr) h = tt
-calm-comes lo top report h = tt
-calm-comes lo top (rejection nr) h = tt
 calm-comes lo top alien h = h
+calm-comes lo top other h = tt
 
 pub rise-lower : (lo lo' hi : ℕ) (xs : List Kind) → lo' ≤ lo → Rise lo hi xs → Rise lo' hi xs
 rise-lower lo lo' hi [] le h = omega (arith, le, h)
@@ -157,27 +135,18 @@ calm-rise lo (x ∷ xs) h = (lo, omega arith, calm-comes lo lo x h.0, calm-rise 
 -- An I-frame has a number beyond r, by at most 127.
 abbrev pub Beyond : ℕ → Kind → Type 0
 Beyond r (numbered ns) = (i : ℕ) × (ns ≡ seq i) × (r < i) × (i ≤ r + 127)
-Beyond r enquiry = Unit {0}
-Beyond r (answer nr) = Unit {0}
-Beyond r report = Unit {0}
-Beyond r (rejection nr) = Unit {0}
 Beyond r alien = ⊥
+Beyond r other = Unit {0}
 
 pub calm-beyond : (r : ℕ) (x : Kind) → Calm x → Beyond r x
 calm-beyond r (numbered ns) h = absurd h
-calm-beyond r enquiry h = tt
-calm-beyond r (answer nr) h = tt
-calm-beyond r report h = tt
-calm-beyond r (rejection nr) h = tt
 calm-beyond r alien h = h
+calm-beyond r other h = tt
 
 comes-beyond : (r lo top : ℕ) (x : Kind) → r < lo → top ≤ r + 128 → Comes lo top x → Beyond r x
 comes-beyond r lo top (numbered ns) less le (i, e, low, high) = (i, e, omega (arith, less, low), omega (arith, le, high))
-comes-beyond r lo top enquiry less le h = tt
-comes-beyond r lo top (answer nr) less le h = tt
-comes-beyond r lo top report less le h = tt
-comes-beyond r lo top (rejection nr) less le h = tt
 comes-beyond r lo top alien less le h = h
+comes-beyond r lo top other less le h = tt
 
 pub rise-beyond : (r lo hi : ℕ) (xs : List Kind) → r < lo → hi ≤ r + 128 → Rise lo hi xs → Every (Beyond r) xs
 rise-beyond r lo hi [] less le h = tt

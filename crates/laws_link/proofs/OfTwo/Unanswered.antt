@@ -1,6 +1,5 @@
 -- An answer that finds no room is told as lost.
-use Rattle.laws_link.proofs.Vocabulary.{◌≡◌, ℕ, ◌+◌, ◌≤◌, Bool, true, false, cond, IsTrue, List, length, Option, None, Some, is_some, sym, subst, true≢false, arith, nat_lt, le-ltb, Seq, named, Control, Information, ReceiveReady, ReceiveNotReady, Reject, Sabme, Disc, Ui, Ua, Dm, Frmr, Xid, Note, Parts, State, TeiAssigned, Established, TimerRecovery, LinkTimer, T200, T203, Terms, Link, is_multiple_frame, frame, received, Course, begun, Step, ◌then◌, Leads, keeping_then, nothing_leads, depending_leads, bit_leads, IsPollWith, asked_of}
-use Rattle.lapd_frame.specs.declared.notes.ErrorCode.TheVariants as code
+use Rattle.laws_link.proofs.Vocabulary.{◌≡◌, ℕ, ◌+◌, ◌≤◌, Bool, true, false, cond, IsTrue, List, length, Option, None, Some, is_some, sym, subst, true≢false, arith, nat_lt, le-ltb, Seq, named, Control, Information, ReceiveReady, ReceiveNotReady, Reject, Sabme, Disc, Ui, Ua, Dm, Frmr, Xid, Parts, State, TeiAssigned, Established, TimerRecovery, LinkTimer, T200, T203, Terms, Link, is_multiple_frame, frame, received, Course, begun, Step, ◌then◌, Leads, keeping_then, nothing_leads, depending_leads, bit_leads, IsPollWith, asked_of, leaves, ErrorCode}
 use Rattle.model_link.specs.Words
 use Rattle.model_link.specs.MultipleFrame
 use Rattle.model_link.specs.Established
@@ -15,32 +14,17 @@ more : (b : Bool) (n : ℕ) → 1 ≤ n → 1 ≤ cond {A = ℕ} b n (n + 1)
 more true n h = h
 more false n h = omega (arith, h)
 
-note_lost : (n : Note) → Leads Lost (Words.note n) Lost
-note_lost n = record { leads = λ c h. h }
-
-acknowledge_lost : (n : ℕ) → Leads Lost (Words.acknowledge n) Lost
-acknowledge_lost n = record { leads = λ c h. h }
-
-again_lost : (n : ℕ) → Leads Lost (Words.send_again_from n) Lost
-again_lost n = record { leads = λ c h. h }
-
-start_lost : (timer : LinkTimer) → Leads Lost (Words.start timer) Lost
-start_lost timer = record { leads = λ c h. h }
-
-enter_lost : (state : State) → Leads Lost (Words.enter state) Lost
-enter_lost state = record { leads = λ c h. h }
-
 begun_again_lost : (t : Terms) → Leads Lost (Words.re_establish t) Lost
 begun_again_lost t = record { leads = λ c h. more (Words.has_room t (Words.without_flags c.link)) c.lost h }
 
 number_lost : (t : Terms) (nr : Seq) {f : ℕ → Step} → ((n : ℕ) → Leads Lost (f n) Lost) → Leads Lost (Words.by_number t nr f) Lost
 number_lost t nr {f} x = record { leads = λ c h. go c h (named c.link.a c.link.s nr) }
   where
-    go : (c : Course) → Lost c → (o : Option ℕ) → Lost (elim o [ None ↦ (Words.error t code.J then Words.re_establish t) c | Some n ↦ f n c ])
-    go c h None = (begun_again_lost t).leads (Words.error t code.J c) h
+    go : (c : Course) → Lost c → (o : Option ℕ) → Lost (elim o [ None ↦ (Words.error t ErrorCode.J then Words.re_establish t) c | Some n ↦ f n c ])
+    go c h None = (begun_again_lost t).leads (Words.error t ErrorCode.J c) h
     go c h (Some n) = (x n).leads c h
 
-ruleset words = (keeping_then, nothing_leads, depending_leads, bit_leads, note_lost, acknowledge_lost, again_lost, start_lost, enter_lost, begun_again_lost, number_lost)
+ruleset words = (leaves, keeping_then, nothing_leads, depending_leads, bit_leads, begun_again_lost, number_lost)
 
 in_7_lost : (n : ℕ) → Leads Lost (Established.acknowledged_in_7 n) Lost
 in_7_lost n = search words depth 12 fits 4000
@@ -74,7 +58,7 @@ module _ (t : Terms) (l : Link) (full : t.control ≤ length l.waiting) where
   information : (ns nr : Seq) (octets : List ℕ) (f : ℕ → Step) → length octets ≤ t.n201 → ((n : ℕ) → Leads Lost (f n) Lost)
       → Lost (MultipleFrame.information_in_7_8 t ns nr true octets f (begun l))
   information ns nr octets f size x =
-      subst (λ b. Lost (cond b (MultipleFrame.failed t code.O (begun l)) ((MultipleFrame.contents_in_7_8 t ns true octets then Words.by_number t nr f) (begun l))))
+      subst (λ b. Lost (cond b (MultipleFrame.failed t ErrorCode.O (begun l)) ((MultipleFrame.contents_in_7_8 t ns true octets then Words.by_number t nr f) (begun l))))
       (sym (le-ltb t.n201 (length octets) size))
       ((number_lost t nr x).leads (MultipleFrame.contents_in_7_8 t ns true octets (begun l)) (contents ns octets))
 
@@ -105,7 +89,7 @@ module _ (t : Terms) (l : Link) (full : t.control ≤ length l.waiting) where
 
   in-8 : (command : Bool) (octets : List ℕ) (control : Control) → IsPollWith t l command octets control
       → Lost (TimerRecovery.frame_in_8 t command octets control (begun l))
-  in-8 command octets (Information ns nr true) h = information ns nr octets Words.acknowledge h.1 acknowledge_lost
+  in-8 command octets (Information ns nr true) h = information ns nr octets Words.acknowledge h.1 (λ n. leaves (λ c h. h))
   in-8 command octets (Information ns nr false) h = absurd (true≢false (sym h.0))
   in-8 true octets (ReceiveReady nr true) h = supervisory false nr (TimerRecovery.acknowledged_in_8 T203 false) (in_8_lost T203 false)
   in-8 true octets (ReceiveReady nr false) h = absurd (true≢false (sym h.1))

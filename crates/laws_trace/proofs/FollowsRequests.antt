@@ -193,11 +193,11 @@ module _ (c : Config) (l : Line) (s : IsSound c l) (on : List ℕ) (h : AreOn on
   down-shows : let y = of_aim c at_no_link l in Shows c l (request Down) down (told y.told) y.line.management
   down-shows =
       by-down c l (λ y. Shows c l (request Down) down (told y.told) y.line.management) (
-        record {
-          as_due = record { notes = refl; orders = stopped m.check; begins = refl; granted = granted-so };
-          lost = inl refl;
-          follows = record { is = refl; on = h; order = tt };
-        }
+      record {
+        as_due = record { notes = refl; orders = stopped m.check; begins = refl; granted = granted-so };
+        lost = inl refl;
+        follows = record { is = refl; on = h; order = tt };
+      }
       )
 
   abbrev Requested : Request → Type 0

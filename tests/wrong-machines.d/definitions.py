@@ -12,7 +12,7 @@ WORKED = re.compile(
     re.MULTILINE,
 )
 # What a file of worked values has beside them: imports and definitions.
-DEFINES = re.compile(r"(?:--.*\n)*(?:use|abbrev|unfoldable) ")
+DEFINES = re.compile(r"(?:--.*\n)*(?:pub )?(?:use|abbrev|unfoldable) ")
 # A plain type, and what it is named.
 TYPE = re.compile(r"^#\[derive\(Clone, Copy.*\npub(?:\(crate\))? (?:struct|enum) .*\{\n(?:.+\n|\n)*?\}\n", re.MULTILINE)
 NAME = re.compile(r"^pub (?:struct|enum) (\w+)", re.MULTILINE)

@@ -18,6 +18,7 @@ pub mod Noted
 pub mod Machine
 pub mod Deactivated
 pub mod Laws
+pub mod WorkedWords
 pub mod WorkedLine
 pub mod WorkedSides
 pub mod WorkedCame

@@ -1,20 +1,7 @@
 -- Worked values: what requests and their ends are to the links of a line.
-use Rattle.std.specs.Prelude.{◌≡◌, ℕ, true, false, List, [], ◌∷◌, refl}
-use Rattle.lapd_frame.specs.declared.addresses.Side.TheVariants.{Network}
-use Rattle.lapd_frame.specs.declared.services.Service.TheVariants.{Call, Packet}
-use Rattle.lapd_frame.specs.Reading.{reading, header_of, control_of, unnumbered_of}
+use Rattle.laws_line.specs.WorkedWords.{◌≡◌, ℕ, true, false, List, [], ◌∷◌, refl, Network, Call, Packet, reading, header_of, control_of, unnumbered_of, request, told, nothing, refused, PoolFull, Config, of_aim, Line, fresh_line, of_request, aim_of_heard, Assign, Data, Unit, Remove, Release, no_share, ending, share_of, asked_by, units_asked}
 use Rattle.lapd_tei.specs.Events as teis
-use Rattle.model_line.specs.Event.{request, told, nothing, refused}
-use Rattle.lapd_frame.specs.declared.refusals.Refusal.TheVariants.{PoolFull}
 use Rattle.model_bits.specs.Stream as stream
-use Rattle.model_line.specs.declared.config.Config.{Config}
-use Rattle.model_line.specs.Effect.{of_aim}
-use Rattle.model_line.specs.Line.{Line, fresh_line}
-use Rattle.model_line.specs.Machine.{of_request}
-use Rattle.model_line.specs.Heard.{aim_of_heard}
-use Rattle.model_line.specs.Request.{Assign, Data, Unit, Remove, Release}
-use Rattle.laws_line.specs.Share.{no_share, ending, share_of, asked_by}
-use Rattle.laws_line.specs.Served.{units_asked}
 
 abbrev pub usual : Config
 usual = record { lines = 1; terminals = 8; k = 7; k16 = 7; queue = 8; unit_queue = 4; control = 4; slots = 64; n201 = 260; n200 = 3; side = Network }

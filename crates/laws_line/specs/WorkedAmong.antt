@@ -1,17 +1,7 @@
 -- Worked values: a control frame that waits while other events of its line are between the calls for the next frame.
-use Rattle.std.specs.Prelude.{◌≡◌, List, [], ◌∷◌, replicate, refl}
-use Rattle.model_bits.specs.Stream.{dropped}
-use Rattle.model_bits.specs.declared.heard.Cause.TheVariants.{Fcs}
-use Rattle.lapd_frame.specs.declared.services.Service.TheVariants.{Call}
-use Rattle.lapd_frame.specs.Reading.{reading, header_of, control_of, unnumbered_of, supervisory_of}
-use Rattle.lapd_seq.specs.Numbers.{seq}
-use Rattle.lapd_seq.specs.Circle.{distance_of, named}
+use Rattle.laws_line.specs.WorkedWords.{◌≡◌, List, [], ◌∷◌, replicate, refl, bits_dropped as dropped, Fcs, Call, reading, header_of, control_of, unnumbered_of, supervisory_of, seq, distance_of, named, LineEvent as Event, hears, request, next, after, takes_in, come_first, frames_before}
 use Rattle.lapd_tei.specs.Events as teis
-use Rattle.model_line.specs.Event.{Event, hears, request, next}
-use Rattle.model_line.specs.Machine.{after}
 use Rattle.model_line.specs.Request
-use Rattle.laws_line.specs.Among.{takes_in, come_first}
-use Rattle.laws_line.specs.Drains.{frames_before}
 use Rattle.laws_line.specs.WorkedPolled.{small, asked}
 
 -- Behind a poll its answer waits, after a UA. Then a wrong check is heard, layer 3 gives unit data, and the next frame is

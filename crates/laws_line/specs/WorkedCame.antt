@@ -1,8 +1,6 @@
 -- Worked values of what a frame is heard as that a controller brings: each computes.
-use Rattle.std.specs.Prelude.{◌≡◌, [], ◌∷◌, refl}
-use Rattle.model_bits.specs.Stream.{frame, overlong, dropped}
+use Rattle.laws_line.specs.WorkedWords.{◌≡◌, [], ◌∷◌, refl, frame, overlong, bits_dropped as dropped, came}
 use Rattle.model_bits.specs.declared.heard.Cause.TheVariants as cause
-use Rattle.model_line.specs.Came.{came}
 
 -- no octets at all, and an RR that has lost its second control octet, are too short
 nothing_came : came 260 [] ≡ dropped cause.Short

@@ -1,19 +1,6 @@
 -- Worked values: a line goes down.
-use Rattle.std.proofs.Common.{ap}
-use Rattle.std.specs.Prelude.{◌≡◌, [], ◌∷◌, map, refl}
-use Rattle.lapd_frame.specs.declared.services.Service.TheVariants.{Call, Packet}
-use Rattle.lapd_frame.specs.declared.timers.Order.TheVariants.{Stop}
-use Rattle.lapd_frame.specs.declared.timers.Timer.TheVariants.{T201}
-use Rattle.lapd_frame.specs.Reading.{reading, header_of, control_of, unnumbered_of}
+use Rattle.laws_line.specs.WorkedWords.{ap, ◌≡◌, [], ◌∷◌, map, refl, Call, Packet, Stop, T201, reading, header_of, control_of, unnumbered_of, request, told, nothing, orders_in, Line, fresh_line, after, answer, Assign, Check, Unit, Deactivate, Down, after_events, GivesUp, HasNothing}
 use Rattle.lapd_tei.specs.Events as teis
-use Rattle.model_line.specs.Event.{request, told, nothing}
-use Rattle.model_line.specs.Laws.{orders_in}
-use Rattle.model_line.specs.Line.{Line, fresh_line}
-use Rattle.model_line.specs.Machine.{after, answer}
-use Rattle.model_line.specs.Request.{Assign, Check, Unit, Deactivate, Down}
-use Rattle.laws_line.specs.Among.{after_events}
-use Rattle.laws_line.specs.GoesDown.{GivesUp}
-use Rattle.laws_line.specs.Served.{HasNothing}
 use Rattle.laws_line.specs.Worked.{usual, both_up}
 use Rattle.laws_line.specs.WorkedServed.{asked}
 

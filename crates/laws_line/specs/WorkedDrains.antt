@@ -1,18 +1,7 @@
 -- Worked values: what calls for the next frame alone come to.
-use Rattle.std.specs.Prelude.{◌≡◌, ℕ, List, [], ◌∷◌, length, refl}
+use Rattle.laws_line.specs.WorkedWords.{◌≡◌, ℕ, List, [], ◌∷◌, length, refl, Network, reading, header_of, control_of, unnumbered_of, supervisory_of, seq, distance_of, named, Config, of_aim, Line, fresh_line, link_at, of_request, aim_of_heard, Assign, frames_to_go, way_round, frames_before, most_frames, most_frames_before}
 use Rattle.model_bits.specs.Stream as stream
-use Rattle.lapd_frame.specs.declared.addresses.Side.TheVariants.{Network}
-use Rattle.lapd_frame.specs.Reading.{reading, header_of, control_of, unnumbered_of, supervisory_of}
-use Rattle.lapd_seq.specs.Numbers.{seq}
-use Rattle.lapd_seq.specs.Circle.{distance_of, named}
 use Rattle.lapd_tei.specs.Events as teis
-use Rattle.model_line.specs.declared.config.Config.{Config}
-use Rattle.model_line.specs.Effect.{of_aim}
-use Rattle.model_line.specs.Line.{Line, fresh_line, link_at}
-use Rattle.model_line.specs.Machine.{of_request}
-use Rattle.model_line.specs.Heard.{aim_of_heard}
-use Rattle.model_line.specs.Request.{Assign}
-use Rattle.laws_line.specs.Drains.{frames_to_go, way_round, frames_before, most_frames, most_frames_before}
 
 abbrev usual : Config
 usual = record { lines = 1; terminals = 8; k = 7; k16 = 7; queue = 8; unit_queue = 4; control = 4; slots = 64; n201 = 260; n200 = 3; side = Network }

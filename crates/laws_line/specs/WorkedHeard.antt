@@ -1,19 +1,7 @@
 -- Worked values: an I-frame and a UI are heard, and their contents are handed on; and a frame that the grammar refuses.
-use Rattle.std.specs.Prelude.{◌≡◌, true, false, [], ◌∷◌, Some, None, refl}
-use Rattle.std.specs.List.{list_any}
+use Rattle.laws_line.specs.WorkedWords.{◌≡◌, true, false, [], ◌∷◌, Some, None, refl, list_any, Fcs, Information, Call, Packet, Parts, reading, header_of, control_of, unnumbered_of, seq, distance_of, named, LineEvent as Event, Answer, hears, told, dropped, link_in, state_in, terms, after, answer, contents_in, due, is_data_of, is_unit_of, notes_of, IsNotedOnce}
 use Rattle.model_bits.specs.Stream as stream
-use Rattle.model_bits.specs.declared.heard.Cause.TheVariants.{Fcs}
-use Rattle.lapd_frame.specs.declared.controls.Control.TheVariants.{Information}
-use Rattle.lapd_frame.specs.declared.services.Service.TheVariants.{Call, Packet}
-use Rattle.lapd_frame.specs.Grammar.{Parts}
-use Rattle.lapd_frame.specs.Reading.{reading, header_of, control_of, unnumbered_of}
-use Rattle.lapd_seq.specs.Numbers.{seq}
-use Rattle.lapd_seq.specs.Circle.{distance_of, named}
 use Rattle.lapd_tei.specs.Events as teis
-use Rattle.model_line.specs.Event.{Event, Answer, hears, told, dropped}
-use Rattle.model_line.specs.Line.{link_in, state_in, terms}
-use Rattle.model_line.specs.Machine.{after, answer}
-use Rattle.laws_line.specs.Heard.{contents_in, due, is_data_of, is_unit_of, notes_of, IsNotedOnce}
 use Rattle.laws_line.specs.Worked.{usual, both_up}
 
 -- TEI 64 is on the line, its links are up, and an I-frame of its call control link is heard.

@@ -1,25 +1,9 @@
 -- Worked values of a line: each computes.
-use Rattle.std.specs.Prelude.{◌≡◌, ℕ, zero, suc, false, List, [], ◌∷◌, replicate, Some, None, refl}
+use Rattle.laws_line.specs.WorkedWords.{◌≡◌, ℕ, zero, suc, false, List, [], ◌∷◌, replicate, Some, None, refl, Sapi, Tei, Network, BadTei, NoLink, WrongState, TeiTaken, CheckRunning, ControlFull, Call, Packet, Start, Stop, T203, reading, header_of, control_of, unnumbered_of, Config, nothing, dropped, Request, Data, Unit, Assign, Remove, Check, Line, fresh_line, state_of, Effect, of_aim, aim_of_heard, refusal, of_request, Taken, taken}
 use Rattle.model_bits.specs.Stream as stream
-use Rattle.model_bits.specs.declared.heard.Cause.TheVariants.{Sapi, Tei}
-use Rattle.lapd_frame.specs.declared.addresses.Side.TheVariants.{Network}
 use Rattle.lapd_frame.specs.declared.notes.Note.TheVariants as notes
 use Rattle.lapd_frame.specs.declared.notes.ErrorCode.TheVariants as code
-use Rattle.lapd_frame.specs.declared.refusals.Refusal.TheVariants.{BadTei, NoLink, WrongState, TeiTaken, CheckRunning, ControlFull}
-use Rattle.lapd_frame.specs.declared.services.Service.TheVariants.{Call, Packet}
-use Rattle.lapd_frame.specs.declared.timers.Order.TheVariants.{Start, Stop}
-use Rattle.lapd_frame.specs.declared.timers.Timer.TheVariants.{T203}
-use Rattle.lapd_frame.specs.Reading.{reading, header_of, control_of, unnumbered_of}
 use Rattle.lapd_tei.specs.Events as teis
-use Rattle.model_line.specs.declared.config.Config.{Config}
-use Rattle.model_line.specs.Event.{nothing, dropped}
-use Rattle.model_line.specs.Request.{Request, Data, Unit, Assign, Remove, Check}
-use Rattle.model_line.specs.Line.{Line, fresh_line, state_of}
-use Rattle.model_line.specs.Effect.{Effect, of_aim}
-use Rattle.model_line.specs.Heard.{aim_of_heard}
-use Rattle.model_line.specs.Refusal.{refusal}
-use Rattle.model_line.specs.Machine.{of_request}
-use Rattle.model_line.specs.Taken.{Taken, taken}
 
 abbrev pub usual : Config
 usual = record { lines = 1; terminals = 8; k = 7; k16 = 7; queue = 8; unit_queue = 4; control = 4; slots = 64; n201 = 260; n200 = 3; side = Network }

@@ -1,21 +1,6 @@
 -- Worked values: what frames, requests and calls for the next frame make of a link of a line.
-use Rattle.std.specs.Prelude.{◌≡◌, true, false, [], ◌∷◌, Some, refl}
-use Rattle.lapd_frame.specs.declared.controls.Control.TheVariants.{ReceiveReady, ReceiveNotReady, Sabme, Ua}
-use Rattle.lapd_frame.specs.declared.services.Service.TheVariants.{Call}
-use Rattle.lapd_frame.specs.Reading.{reading, header_of, control_of, unnumbered_of, supervisory_of}
-use Rattle.laws_link.specs.States.{state_after}
-use Rattle.laws_link.specs.Waiting.{waiting_left}
-use Rattle.model_link.specs.declared.states.State.TheVariants.{TeiAssigned, AwaitingEstablishment, Established}
-use Rattle.model_link.specs.declared.timers.LinkTimer.TheVariants.{T200}
-use Rattle.model_link.specs.Events.{received, undefined, overlong}
-use Rattle.model_link.specs.Words.{command, response}
-use Rattle.lapd_seq.specs.Circle.{distance_of, named}
-use Rattle.lapd_seq.specs.Numbers.{seq}
+use Rattle.laws_line.specs.WorkedWords.{◌≡◌, true, false, [], ◌∷◌, Some, refl, ReceiveReady, ReceiveNotReady, Sabme, Ua, Call, reading, header_of, control_of, unnumbered_of, supervisory_of, state_after, waiting_left, TeiAssigned, AwaitingEstablishment, Established, LinkT200 as T200, received, undefined, link_overlong as overlong, command, response, distance_of, named, seq, link_fresh as fresh, Line, fresh_line, has_tei, link_at, terms, after, Establish, Data, Assign, SetBusy, Deactivate}
 use Rattle.lapd_tei.specs.Events as teis
-use Rattle.model_link.specs.Link.{fresh}
-use Rattle.model_line.specs.Line.{Line, fresh_line, has_tei, link_at, terms}
-use Rattle.model_line.specs.Machine.{after}
-use Rattle.model_line.specs.Request.{Establish, Data, Assign, SetBusy, Deactivate}
 use Rattle.laws_line.specs.Worked.{usual, both_up, heard}
 use Rattle.laws_line.specs.WorkedServed.{asked, taken_from}
 

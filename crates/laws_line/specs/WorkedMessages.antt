@@ -1,20 +1,7 @@
 -- Worked values: a terminal asks for a TEI, and what TEI management says.
-use Rattle.std.specs.Prelude.{◌≡◌, ℕ, true, false, List, [], ◌∷◌, refl}
+use Rattle.laws_line.specs.WorkedWords.{◌≡◌, ℕ, true, false, List, [], ◌∷◌, refl, Ui, T201, reading, header_of, control_of, unnumbered_of, Message, IdentityAssigned, IdentityDenied, IdentityCheckRequest, IdentityRemove, Config, LineEvent as Event, hears, expiry, Line, fresh_line, has_tei, after, answer, Assign, Check, Hears, lost_in, asks}
 use Rattle.model_bits.specs.Stream as stream
-use Rattle.lapd_frame.specs.declared.controls.Control.TheVariants.{Ui}
-use Rattle.lapd_frame.specs.declared.timers.Timer.TheVariants.{T201}
-use Rattle.lapd_frame.specs.Reading.{reading, header_of, control_of, unnumbered_of}
-use Rattle.lapd_tei.specs.declared.messages.Message.{Message}
-use Rattle.lapd_tei.specs.declared.messages.Message.TheVariants.{IdentityAssigned, IdentityDenied, IdentityCheckRequest, IdentityRemove}
 use Rattle.lapd_tei.specs.Events as teis
-use Rattle.model_line.specs.declared.config.Config.{Config}
-use Rattle.model_line.specs.Event.{Event, hears, expiry}
-use Rattle.model_line.specs.Line.{Line, fresh_line, has_tei}
-use Rattle.model_line.specs.Machine.{after, answer}
-use Rattle.model_line.specs.Request.{Assign, Check}
-use Rattle.laws_line.specs.Causes.{Hears}
-use Rattle.laws_line.specs.Frames.{lost_in}
-use Rattle.laws_line.specs.Messages.{asks}
 use Rattle.laws_line.specs.Worked.{usual, heard}
 use Rattle.laws_line.specs.WorkedServed.{asked}
 

@@ -1,21 +1,8 @@
 -- Worked values: what an answer notes as a TEI comes, as it leaves, and of an event of one of its links.
-use Rattle.std.specs.Prelude.{◌≡◌, [], ◌∷◌, ◌++◌, refl}
+use Rattle.laws_line.specs.WorkedWords.{◌≡◌, [], ◌∷◌, ◌++◌, refl, Removed, ReleaseIndication, Error, Call, Packet, T201, reading, header_of, control_of, unnumbered_of, seq, distance_of, named, told_by, expiry, request, Line, fresh_line, link_in, terms, after, answer, Assign, Check, Remove, notes_of, noted_coming, noted_leaving, noted_ending}
 use Rattle.lapd_frame.specs.declared.notes.ErrorCode.TheVariants as code
-use Rattle.lapd_frame.specs.declared.notes.Note.TheVariants.{Removed, ReleaseIndication, Error}
-use Rattle.lapd_frame.specs.declared.services.Service.TheVariants.{Call, Packet}
-use Rattle.lapd_frame.specs.declared.timers.Timer.TheVariants.{T201}
-use Rattle.lapd_frame.specs.Reading.{reading, header_of, control_of, unnumbered_of}
-use Rattle.lapd_seq.specs.Numbers.{seq}
-use Rattle.lapd_seq.specs.Circle.{distance_of, named}
 use Rattle.lapd_tei.specs.Events as teis
 use Rattle.model_link.specs.Events as link
-use Rattle.laws_link.specs.Telling.{told_by}
-use Rattle.model_line.specs.Event.{expiry, request}
-use Rattle.model_line.specs.Line.{Line, fresh_line, link_in, terms}
-use Rattle.model_line.specs.Machine.{after, answer}
-use Rattle.model_line.specs.Request.{Assign, Check, Remove}
-use Rattle.laws_line.specs.Heard.{notes_of}
-use Rattle.laws_line.specs.Noted.{noted_coming, noted_leaving, noted_ending}
 use Rattle.laws_line.specs.Worked.{usual, both_up}
 use Rattle.laws_line.specs.WorkedHeard.{undefined}
 use Rattle.laws_line.specs.WorkedMessages.{asking}

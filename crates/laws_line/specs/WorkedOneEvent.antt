@@ -1,22 +1,7 @@
 -- Worked values: events of one part of a line, which leave all else as it was.
-use Rattle.std.proofs.Common.{ap, arith}
-use Rattle.std.specs.Prelude.{◌≡◌, [], ◌∷◌, Some, refl}
-use Rattle.model_bits.specs.declared.heard.Cause.TheVariants.{Fcs}
-use Rattle.lapd_frame.specs.declared.notes.Note.TheVariants.{ReleaseIndication}
-use Rattle.lapd_frame.specs.declared.services.Service.TheVariants.{Call, Packet}
-use Rattle.lapd_frame.specs.Reading.{reading, header_of, control_of, unnumbered_of}
-use Rattle.lapd_seq.specs.Circle.{distance_of, named}
-use Rattle.lapd_seq.specs.Numbers.{seq}
-use Rattle.lapd_tei.specs.declared.outcome.Change.TheVariants.{Left}
+use Rattle.laws_line.specs.WorkedWords.{ap, arith, ◌≡◌, [], ◌∷◌, Some, refl, Fcs, ReleaseIndication, Call, Packet, reading, header_of, control_of, unnumbered_of, distance_of, named, seq, Left, received, link_frame as frame, link_fresh as fresh, LineTold, request, told, dropped, nothing, link_at, link_in, with_link, terms, after, Unit, Remove, noted_behind, SaysNothing}
 use Rattle.lapd_tei.specs.Events as teis
-use Rattle.model_link.specs.Events.{received, frame}
-use Rattle.model_link.specs.Link.{fresh}
 use Rattle.model_link.specs.Machine as links
-use Rattle.model_line.specs.Event.{LineTold, request, told, dropped, nothing}
-use Rattle.model_line.specs.Line.{link_at, link_in, with_link, terms}
-use Rattle.model_line.specs.Machine.{after}
-use Rattle.model_line.specs.Request.{Unit, Remove}
-use Rattle.laws_line.specs.OneEvent.{noted_behind, SaysNothing}
 use Rattle.laws_line.specs.Worked.{usual, both_up}
 use Rattle.laws_line.specs.WorkedHeard.{i_frame, information}
 

@@ -1,24 +1,8 @@
 -- Worked values: a poll, and what is before its answer. With them the laws of a poll say something: they are what those ask of
 -- a line.
-use Rattle.std.specs.Prelude.{◌≡◌, ℕ, true, List, [], ◌∷◌, length, Some, None, refl}
+use Rattle.laws_line.specs.WorkedWords.{◌≡◌, ℕ, true, List, [], ◌∷◌, length, Some, None, refl, Network, ReceiveReady, Ua, Call, Parts, reading, header_of, control_of, unnumbered_of, supervisory_of, seq, distance_of, named, Link, is_multiple_frame, response, Config, hears, request, first_fault, Line, fresh_line, place_in, tei_at, link_in, after, Assign, frames_to_go, most_frames, most_frames_before}
 use Rattle.model_bits.specs.Stream as stream
-use Rattle.lapd_frame.specs.declared.addresses.Side.TheVariants.{Network}
-use Rattle.lapd_frame.specs.declared.controls.Control.TheVariants.{ReceiveReady, Ua}
-use Rattle.lapd_frame.specs.declared.services.Service.TheVariants.{Call}
-use Rattle.lapd_frame.specs.Grammar.{Parts}
-use Rattle.lapd_frame.specs.Reading.{reading, header_of, control_of, unnumbered_of, supervisory_of}
-use Rattle.lapd_seq.specs.Numbers.{seq}
-use Rattle.lapd_seq.specs.Circle.{distance_of, named}
 use Rattle.lapd_tei.specs.Events as teis
-use Rattle.model_link.specs.Link.{Link, is_multiple_frame}
-use Rattle.model_link.specs.Words.{response}
-use Rattle.model_line.specs.declared.config.Config.{Config}
-use Rattle.model_line.specs.Event.{hears, request}
-use Rattle.model_line.specs.Config.{first_fault}
-use Rattle.model_line.specs.Line.{Line, fresh_line, place_in, tei_at, link_in}
-use Rattle.model_line.specs.Machine.{after}
-use Rattle.model_line.specs.Request.{Assign}
-use Rattle.laws_line.specs.Drains.{frames_to_go, most_frames, most_frames_before}
 
 -- One terminal, and room for two control frames.
 abbrev pub small : Config

@@ -1,18 +1,7 @@
 -- Worked values: a SABME. They are what the law of SABME and DISC asks of a line.
-use Rattle.std.specs.Prelude.{◌≡◌, true, [], length, Some, refl}
+use Rattle.laws_line.specs.WorkedWords.{◌≡◌, true, [], length, Some, refl, Sabme, Ua, Parts, reading, header_of, control_of, unnumbered_of, supervisory_of, seq, distance_of, named, asked_of, hears, request, Line, fresh_line, place_in, after, Assign, frames_to_go}
 use Rattle.model_bits.specs.Stream as stream
-use Rattle.lapd_frame.specs.declared.controls.Control.TheVariants.{Sabme, Ua}
-use Rattle.lapd_frame.specs.Grammar.{Parts}
-use Rattle.lapd_frame.specs.Reading.{reading, header_of, control_of, unnumbered_of, supervisory_of}
-use Rattle.lapd_seq.specs.Numbers.{seq}
-use Rattle.lapd_seq.specs.Circle.{distance_of, named}
 use Rattle.lapd_tei.specs.Events as teis
-use Rattle.laws_link.specs.two.Polls.{asked_of}
-use Rattle.model_line.specs.Event.{hears, request}
-use Rattle.model_line.specs.Line.{Line, fresh_line, place_in}
-use Rattle.model_line.specs.Machine.{after}
-use Rattle.model_line.specs.Request.{Assign}
-use Rattle.laws_line.specs.Drains.{frames_to_go}
 use Rattle.laws_line.specs.WorkedPolled.{small, sabme_octets, call_link}
 
 -- TEI 64 comes on the line, and then SABME with P=1 of the call control link.

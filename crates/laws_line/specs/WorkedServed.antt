@@ -1,18 +1,6 @@
 -- Worked values: what calls for the next frame take.
-use Rattle.std.specs.Prelude.{◌≡◌, ℕ, zero, suc, List, [], ◌∷◌, Option, Some, None, option_map, refl}
-use Rattle.lapd_frame.specs.declared.services.Service.TheVariants.{Call, Packet}
-use Rattle.lapd_frame.specs.declared.timers.Order.{Order}
-use Rattle.lapd_frame.specs.declared.timers.Order.TheVariants.{Start, Stop}
-use Rattle.lapd_frame.specs.declared.timers.Timer.TheVariants.{T200, T203}
-use Rattle.lapd_frame.specs.Reading.{reading, header_of, control_of, unnumbered_of}
-use Rattle.lapd_seq.specs.Numbers.{seq}
+use Rattle.laws_line.specs.WorkedWords.{◌≡◌, ℕ, zero, suc, List, [], ◌∷◌, Option, Some, None, option_map, refl, Call, Packet, Order, Start, Stop, T200, T203, reading, header_of, control_of, unnumbered_of, seq, next, orders_in, Line, fresh_line, of_request, after, answer, Taken, taken, Request, Assign, Data, Unit, Check}
 use Rattle.lapd_tei.specs.Events as teis
-use Rattle.model_line.specs.Event.{next}
-use Rattle.model_line.specs.Laws.{orders_in}
-use Rattle.model_line.specs.Line.{Line, fresh_line}
-use Rattle.model_line.specs.Machine.{of_request, after, answer}
-use Rattle.model_line.specs.Taken.{Taken, taken}
-use Rattle.model_line.specs.Request.{Request, Assign, Data, Unit, Check}
 use Rattle.laws_line.specs.Worked.{usual, both_up, heard}
 
 abbrev pub asked : Request → Line → Line

@@ -1,24 +1,8 @@
 -- Worked values of the user's side of a line: each computes.
-use Rattle.std.specs.Prelude.{◌≡◌, ℕ, false, List, [], ◌∷◌, replicate, Option, Some, None, refl}
+use Rattle.laws_line.specs.WorkedWords.{◌≡◌, ℕ, false, List, [], ◌∷◌, replicate, Option, Some, None, refl, Tei, Unserved, User, BadTei, WrongSide, Call, Packet, Start, Stop, T200, T203, reading, header_of, control_of, unnumbered_of, Config, nothing, dropped, Request, Establish, Unit, Assign, Remove, Check, Line, fresh_line, state_of, Effect, of_aim, aim_of_heard, refusal, of_request, Taken, taken}
 use Rattle.model_bits.specs.Stream as stream
-use Rattle.model_bits.specs.declared.heard.Cause.TheVariants.{Tei, Unserved}
-use Rattle.lapd_frame.specs.declared.addresses.Side.TheVariants.{User}
 use Rattle.lapd_frame.specs.declared.notes.Note.TheVariants as notes
-use Rattle.lapd_frame.specs.declared.refusals.Refusal.TheVariants.{BadTei, WrongSide}
-use Rattle.lapd_frame.specs.declared.services.Service.TheVariants.{Call, Packet}
-use Rattle.lapd_frame.specs.declared.timers.Order.TheVariants.{Start, Stop}
-use Rattle.lapd_frame.specs.declared.timers.Timer.TheVariants.{T200, T203}
-use Rattle.lapd_frame.specs.Reading.{reading, header_of, control_of, unnumbered_of}
 use Rattle.lapd_tei.specs.Events as teis
-use Rattle.model_line.specs.declared.config.Config.{Config}
-use Rattle.model_line.specs.Event.{nothing, dropped}
-use Rattle.model_line.specs.Request.{Request, Establish, Unit, Assign, Remove, Check}
-use Rattle.model_line.specs.Line.{Line, fresh_line, state_of}
-use Rattle.model_line.specs.Effect.{Effect, of_aim}
-use Rattle.model_line.specs.Heard.{aim_of_heard}
-use Rattle.model_line.specs.Refusal.{refusal}
-use Rattle.model_line.specs.Machine.{of_request}
-use Rattle.model_line.specs.Taken.{Taken, taken}
 use Rattle.laws_line.specs.WorkedLine.{usual}
 
 -- the private exchange's end of a trunk

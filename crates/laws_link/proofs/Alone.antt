@@ -1,5 +1,5 @@
 -- An I-frame is offered only where it may go; and with offers alone contents go one after the other.
-use Rattle.laws_link.proofs.Vocabulary.{◌≡◌, ℕ, zero, suc, ◌+◌, ◌-◌, ◌<◌, Bool, true, false, cond, IsTrue, ◌&&◌, not, List, [], ◌∷◌, length, Option, Some, None, refl, sym, ap, ◌∙◌, subst, true≢false, arith, All, IfSome, nat_lt, ltb-true, and_parts, All-head, State, Established, ControlFrame, T200, Terms, Link, outstanding, course, after, given, given_of, IsInRange, IsSound, IsWaitingFrame, is_information, Course, Sent, begun, ◌then◌, changed, sound-after, IsOffered, is_i_frame, i_frames, MayGo, offered, i_frames_offered}
+use Rattle.laws_link.proofs.Vocabulary.{◌≡◌, ℕ, zero, suc, ◌+◌, ◌-◌, ◌<◌, Bool, true, false, cond, IsTrue, ◌&&◌, not, List, [], ◌∷◌, length, Option, Some, None, refl, sym, ap, ◌∙◌, subst, true≢false, arith, All, IfSome, nat_lt, ltb-true, and_parts, All-head, State, Established, ControlFrame, T200, Terms, Link, outstanding, course, after, given, given_of, IsInRange, IsSound, IsWaitingFrame, is_information, Course, Sent, begun, ◌then◌, changed, sound-after, IsOffered, is_i_frame, i_frames, MayGo, offered, i_frames_offered, both_ways}
 use Rattle.model_link.specs.Events as link
 use Rattle.model_link.specs.Offers
 use Rattle.model_link.specs.Words
@@ -34,17 +34,13 @@ module _ (t : Terms) (l : Link) (h : IsSound t l) where
   tested true e u v x y = x refl
   tested false e u v x y = y
 
-  choose : (b : Bool) (u v : Course) → May u → May v → May (cond b u v)
-  choose true u v x y = x
-  choose false u v x y = y
-
   offering : (ws : List ControlFrame) → All (IsWaitingFrame t) ws → May (Offers.offer_among t ws (begun l))
   offering (f ∷ fs) frames = λ is. absurd (true≢false (sym is ∙ (All-head (IsWaitingFrame t) f fs frames).without_contents))
   offering [] frames =
       let one_more = (Offers.give_information then changed Offers.with_one_sent then Words.pending_is false) (begun l) in
       tested (Offers.may_send_information t l) refl _ _
-      (λ e. choose (Offers.is_awaiting_acknowledgement one_more.link) one_more (Words.start T200 one_more) (λ is. may-go e) (λ is. may-go e))
-      (choose l.pending _ _ (λ is. absurd (true≢false (sym is))) tt)
+      (λ e. both_ways May (Offers.is_awaiting_acknowledgement one_more.link) one_more (Words.start T200 one_more) (λ is. may-go e) (λ is. may-go e))
+      (both_ways May l.pending _ _ (λ is. absurd (true≢false (sym is))) tt)
 
   from-sent : (c : Course) (o : Option Sent) → IfSome o (λ s. IsTrue (is_information s.frame.control) → MayGo t l)
       → IfSome (given_of t l c o) (λ g. IsTrue (is_i_frame g) → MayGo t l)

@@ -1,5 +1,5 @@
 -- What is told where the numbers begin anew.
-use Rattle.laws_link.proofs.Vocabulary.{◌≡◌, ℕ, Bool, true, false, cond, List, refl, ◌⊎◌, inl, inr, sym, true≢false, list_any, Control, Sabme, Ua, State, TeiAssigned, AwaitingEstablishment, AwaitingRelease, Terms, Link, has_outstanding, restarts, MayEstablish, Establishes, Course, begun, ◌then◌, tells_beginning, IsSeen, ErrorCode}
+use Rattle.laws_link.proofs.Vocabulary.{◌≡◌, ℕ, Bool, true, false, cond, List, refl, ◌⊎◌, inl, inr, sym, true≢false, list_any, Control, Sabme, Ua, State, TeiAssigned, AwaitingEstablishment, AwaitingRelease, Terms, Link, has_outstanding, restarts, MayEstablish, Establishes, Course, begun, ◌then◌, tells_beginning, IsSeen, ErrorCode, both_ways}
 use Rattle.model_link.specs.Events
 use Rattle.model_link.specs.Words
 use Rattle.model_link.specs.Machine
@@ -7,10 +7,6 @@ use Rattle.laws_link.proofs.Restarts.{establishes}
 
 abbrev Tells : Course → Type 0
 Tells c = list_any tells_beginning c.notes ≡ true
-
-either : (b : Bool) (u v : Course) → Tells u → Tells v → Tells (cond b u v)
-either true u v x y = x
-either false u v x y = y
 
 module _ (t : Terms) (l : Link) where
   -- of a frame: a note, or it ends an establishment that this side began itself
@@ -26,7 +22,7 @@ module _ (t : Terms) (l : Link) where
   by-sabme AwaitingEstablishment b p octets e = absurd (true≢false (sym e))
   by-sabme AwaitingRelease b p octets e = absurd (true≢false (sym e))
   by-sabme other b p octets e =
-      either (has_outstanding (from-7-8 p).link) ((Words.discard then Words.establish_indication t) (from-7-8 p)) (from-7-8 p) refl refl
+      both_ways Tells (has_outstanding (from-7-8 p).link) ((Words.discard then Words.establish_indication t) (from-7-8 p)) (from-7-8 p) refl refl
 
   asked-for : l.state ≡ AwaitingEstablishment → (asked : Bool) → l.asked ≡ asked → (u v : Course) → Tells u → Seen (cond asked u v)
   asked-for e true is u v x = inl x

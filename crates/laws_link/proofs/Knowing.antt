@@ -1,5 +1,5 @@
 -- What layer 3 is told is what becomes of the link: every row keeps that.
-use Rattle.laws_link.proofs.Vocabulary.{◌≡◌, ℕ, Bool, true, false, IsTrue, List, [], ◌∷◌, Option, Some, None, refl, sym, subst, ◌∙◌, ap, cond, not, ◌++◌, fold, true≢false, Seq, named, Note, ErrorCode, State, TeiAssigned, AwaitingEstablishment, AwaitingRelease, Established, TimerRecovery, LinkTimer, T203, ControlFrame, Terms, Link, is_asked, has_outstanding, Course, Step, ◌then◌, nothing, depending_on, changed, Leads, then_leads, keeping_then, nothing_leads, depending_leads, bit_leads, tested_leads, Passed, from_more, to_less, seen, known, is_up_in, leaves}
+use Rattle.laws_link.proofs.Vocabulary.{◌≡◌, ℕ, Bool, true, false, IsTrue, List, [], ◌∷◌, Option, Some, None, refl, sym, subst, ◌∙◌, ap, cond, not, ◌++◌, fold, true≢false, Seq, named, Note, ErrorCode, State, TeiAssigned, AwaitingEstablishment, AwaitingRelease, Established, TimerRecovery, LinkTimer, T203, ControlFrame, Terms, Link, is_asked, has_outstanding, Course, Step, ◌then◌, nothing, depending_on, changed, Leads, then_leads, keeping_then, nothing_leads, depending_leads, bit_leads, tested_leads, Passed, from_more, to_less, seen, known, is_up_in, leaves, number_leads}
 use Rattle.model_link.specs.Words
 use Rattle.model_link.specs.MultipleFrame
 
@@ -131,11 +131,4 @@ module _ (up : Bool) (t : Terms) (here : State) (e : (asked : Bool) → up_by he
   pub failed_knows : (x : ErrorCode) → Leads (At up here) (MultipleFrame.failed t x) (Ends up)
   failed_knows x = record { leads = λ c h. record { known_is = ((note_knows up here (Note.Error t.service t.tei x) refl).leads c h).known_is ∙ e c.link.asked } }
 
-  pub number_knows : (nr : Seq) (f : ℕ → Step) → ((m : ℕ) → Leads (At up here) (f m) (Ends up)) → Leads (At up here) (Words.by_number t nr f) (Ends up)
-  number_knows nr f x = record { leads = λ c h. go c h (named c.link.a c.link.s nr) }
-    where
-      go : (c : Course) → At up here c → (o : Option ℕ) → Ends up (elim o [ None ↦ (Words.error t ErrorCode.J then Words.re_establish t) c | Some n ↦ f n c ])
-      go c h None = (failed_knows ErrorCode.J).leads c h
-      go c h (Some m) = (x m).leads c h
-
-pub ruleset rows = (ends, failed_knows, number_knows)
+pub ruleset rows = (ends, failed_knows, number_leads)

@@ -1,5 +1,5 @@
 -- What an offer gives.
-use Rattle.laws_link.proofs.Vocabulary.{◌≡◌, ℕ, ◌+◌, ◌<◌, Bool, true, false, cond, ◌&&◌, not, List, [], ◌∷◌, length, slice_get, Option, Some, None, refl, sym, ap, ◌∙◌, true≢false, add-zero, All, IfSome, nat_lt, option_map_or, ltb-true, and_parts, slice_get-get_or, get_or, All-head, seq, Control, Information, ReceiveReady, ControlFrame, T200, Terms, Link, course, after, given, given_of, IsSound, IsWaitingFrame, is_information, Course, Sent, begun, ◌then◌, changed, IsOffered, one, is_i_frame}
+use Rattle.laws_link.proofs.Vocabulary.{◌≡◌, ℕ, ◌+◌, ◌<◌, Bool, true, false, cond, ◌&&◌, not, List, [], ◌∷◌, length, slice_get, Option, Some, None, refl, sym, ap, ◌∙◌, true≢false, add-zero, All, IfSome, nat_lt, option_map_or, ltb-true, and_parts, slice_get-get_or, get_or, All-head, seq, Control, Information, ReceiveReady, ControlFrame, T200, Terms, Link, course, after, given, given_of, IsSound, IsWaitingFrame, is_information, Course, Sent, begun, ◌then◌, changed, IsOffered, one, is_i_frame, both_ways}
 use Rattle.model_link.specs.Events as link
 use Rattle.model_link.specs.Offers
 use Rattle.model_link.specs.Words
@@ -28,17 +28,13 @@ module _ (t : Terms) (l : Link) (h : IsSound t l) where
   tested true e u v x y = x refl
   tested false e u v x y = y
 
-  choose : (b : Bool) (u v : Course) → Offers-it u → Offers-it v → Offers-it (cond b u v)
-  choose true u v x y = x
-  choose false u v x y = y
-
   offered : (ws : List ControlFrame) → All (IsWaitingFrame t) ws → Offers-it (Offers.offer_among t ws (begun l))
   offered (f ∷ fs) frames = alone l.contents l.s f.command f.control (All-head (IsWaitingFrame t) f fs frames).without_contents
   offered [] frames =
       let one_more = (Offers.give_information then changed Offers.with_one_sent then Words.pending_is false) (begun l) in
       tested (Offers.may_send_information t l) refl _ _
-      (λ e. choose (Offers.is_awaiting_acknowledgement one_more.link) one_more (Words.start T200 one_more) (information e) (information e))
-      (choose l.pending _ _ (alone l.contents l.s false (ReceiveReady (seq l.r) false) refl) tt)
+      (λ e. both_ways Offers-it (Offers.is_awaiting_acknowledgement one_more.link) one_more (Words.start T200 one_more) (information e) (information e))
+      (both_ways Offers-it l.pending _ _ (alone l.contents l.s false (ReceiveReady (seq l.r) false) refl) tt)
 
   from-sent : (c : Course) (o : Option Sent) → IfSome o (λ s. IsOffered l.contents l.s s.frame s.contents)
       → IfSome (given_of t l c o) (λ g. IsOffered l.contents l.s g.frame g.contents)
@@ -60,18 +56,14 @@ pub record Left (l : Link) (c : Course) : Type 0 where
   pub acknowledged : c.link.a ≡ l.a
 
 module _ (t : Terms) (l : Link) where
-  either : (b : Bool) (u v : Course) → Left l u → Left l v → Left l (cond b u v)
-  either true u v x y = x
-  either false u v x y = y
-
   leaving : (ws : List ControlFrame) → Left l (Offers.offer_among t ws (begun l))
   leaving (f ∷ fs) = record { contents = refl; acknowledged = refl }
   leaving [] =
       let one_more = (Offers.give_information then changed Offers.with_one_sent then Words.pending_is false) (begun l) in
-      either (Offers.may_send_information t l) _ _
-      (either (Offers.is_awaiting_acknowledgement one_more.link) one_more (Words.start T200 one_more)
+      both_ways (Left l) (Offers.may_send_information t l) _ _
+      (both_ways (Left l) (Offers.is_awaiting_acknowledgement one_more.link) one_more (Words.start T200 one_more)
       (record { contents = refl; acknowledged = refl }) (record { contents = refl; acknowledged = refl }))
-      (either l.pending _ _ (record { contents = refl; acknowledged = refl }) (record { contents = refl; acknowledged = refl }))
+      (both_ways (Left l) l.pending _ _ (record { contents = refl; acknowledged = refl }) (record { contents = refl; acknowledged = refl }))
 
   pub offer-leaves : Left l (course t link.offer l)
   offer-leaves = leaving l.waiting
@@ -81,19 +73,15 @@ abbrev counts-it : Terms → Link → Course → Type 0
 counts-it t l c = c.link.s ≡ l.s + one (option_map_or is_i_frame (given_of t l c c.sent) false)
 
 module _ (t : Terms) (l : Link) (h : IsSound t l) where
-  one-of : (b : Bool) (u v : Course) → counts-it t l u → counts-it t l v → counts-it t l (cond b u v)
-  one-of true u v x y = x
-  one-of false u v x y = y
-
   counting : (ws : List ControlFrame) → All (IsWaitingFrame t) ws → counts-it t l (Offers.offer_among t ws (begun l))
   counting (f ∷ fs) frames =
       let bare = (All-head (IsWaitingFrame t) f fs frames).without_contents in
       sym (add-zero l.s) ∙ ap (λ b. l.s + one b) (sym bare)
   counting [] frames =
       let one_more = (Offers.give_information then changed Offers.with_one_sent then Words.pending_is false) (begun l) in
-      one-of (Offers.may_send_information t l) _ _
-      (one-of (Offers.is_awaiting_acknowledgement one_more.link) one_more (Words.start T200 one_more) refl refl)
-      (one-of l.pending _ _ (sym (add-zero l.s)) (sym (add-zero l.s)))
+      both_ways (counts-it t l) (Offers.may_send_information t l) _ _
+      (both_ways (counts-it t l) (Offers.is_awaiting_acknowledgement one_more.link) one_more (Words.start T200 one_more) refl refl)
+      (both_ways (counts-it t l) l.pending _ _ (sym (add-zero l.s)) (sym (add-zero l.s)))
 
   pub offer-counts : (after t link.offer l).s ≡ l.s + one (option_map_or is_i_frame (given t l) false)
   offer-counts = counting l.waiting h.frames

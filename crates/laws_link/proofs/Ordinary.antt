@@ -1,5 +1,5 @@
 -- Most words of the tables leave V(S) and own busy, and tell no loss; an error that is told may end own busy.
-use Rattle.laws_link.proofs.Vocabulary.{◌≡◌, ℕ, Bool, true, false, ◌||◌, List, [], ◌∷◌, ◌++◌, Option, None, Some, refl, ap, sym, ◌∙◌, ◌⊎◌, inl, inr, ⊎_elim, list_any, list_any-append, Seq, named, Note, ErrorCode, State, LinkTimer, ControlFrame, Terms, Link, Course, begun, Step, ◌then◌, Leads, keeping_then, nothing_leads, depending_leads, bit_leads, is_loss, tells_loss, is_anew, tells_anew, leaves}
+use Rattle.laws_link.proofs.Vocabulary.{◌≡◌, ℕ, Bool, true, false, ◌||◌, List, [], ◌∷◌, ◌++◌, Option, None, Some, refl, ap, sym, ◌∙◌, ◌⊎◌, inl, inr, ⊎_elim, list_any, list_any-append, Seq, named, Note, ErrorCode, State, LinkTimer, ControlFrame, Terms, Link, Course, begun, Step, ◌then◌, Leads, keeping_then, nothing_leads, depending_leads, bit_leads, is_loss, tells_loss, is_anew, tells_anew, leaves, number_leads}
 use Rattle.model_link.specs.MultipleFrame
 use Rattle.model_link.specs.Words
 use Rattle.laws_link.proofs.Queueing.{no_loss-note}
@@ -56,12 +56,4 @@ module _ (l : Link) where
     };
   }
 
-  pub number_ordinary : (t : Terms) (nr : Seq) {f : ℕ → Step} → ((n : ℕ) → Leads (Ordinary l) (f n) (Ordinary l))
-      → Leads (Ordinary l) (Words.by_number t nr f) (Ordinary l)
-  number_ordinary t nr {f} x = record { leads = λ c h. go c h (named c.link.a c.link.s nr) }
-    where
-      go : (c : Course) → Ordinary l c → (o : Option ℕ) → Ordinary l (elim o [ None ↦ (Words.error t ErrorCode.J then Words.re_establish t) c | Some n ↦ f n c ])
-      go c h None = (failed t ErrorCode.J refl).leads c h
-      go c h (Some n) = (x n).leads c h
-
-pub ruleset words = (leaves, keeping_then, nothing_leads, depending_leads, bit_leads, note_ordinary, deliver_ordinary, unit_ordinary, failed, refl, number_ordinary)
+pub ruleset words = (leaves, keeping_then, nothing_leads, depending_leads, bit_leads, note_ordinary, deliver_ordinary, unit_ordinary, failed, refl, number_leads)

@@ -1,5 +1,5 @@
 -- Each delivery is acknowledged.
-use Rattle.laws_link.proofs.Vocabulary.{◌≡◌, ℕ, ◌+◌, ◌≤◌, Bool, true, false, cond, List, [], ◌∷◌, ◌++◌, length, Option, Some, None, refl, ◌⊎◌, inl, inr, sym, ◌∙◌, arith, nat_lt, Seq, seq, named, Control, Information, ReceiveReady, ReceiveNotReady, State, Established, TimerRecovery, LinkTimer, ControlFrame, Terms, Link, Arrived, information_of, eligible_of, Course, begun, Step, ◌then◌, by_bit, Leads, keeping_then, nothing_leads, depending_leads, delivered-at_once, receipt, HasReceipt, Owes, IsBegunAgain, ErrorCode}
+use Rattle.laws_link.proofs.Vocabulary.{◌≡◌, ℕ, ◌+◌, ◌≤◌, Bool, true, false, cond, List, [], ◌∷◌, ◌++◌, length, Option, Some, None, refl, ◌⊎◌, inl, inr, sym, ◌∙◌, arith, nat_lt, Seq, seq, named, Control, Information, ReceiveReady, ReceiveNotReady, State, Established, TimerRecovery, LinkTimer, ControlFrame, Terms, Link, Arrived, information_of, eligible_of, Course, begun, Step, ◌then◌, by_bit, Leads, keeping_then, nothing_leads, depending_leads, delivered-at_once, receipt, HasReceipt, Owes, IsBegunAgain, ErrorCode, both_ways}
 use Rattle.model_link.specs.Events
 use Rattle.model_link.specs.Words
 use Rattle.model_link.specs.MultipleFrame
@@ -34,10 +34,6 @@ put true ws f r e = inl (record { frame = f; waits = refl; number = e })
 put false ws f r e = inr (omega arith)
 
 module _ (t : Terms) (l : Link) where
-  branch : (b : Bool) (u v : Course) → Half l.waiting u → Half l.waiting v → Half l.waiting (cond b u v)
-  branch true u v x y = x
-  branch false u v x y = y
-
   in-sequence : (p : Bool) (octets : List ℕ) → Half l.waiting (MultipleFrame.in_sequence t p octets (begun l))
   in-sequence true octets =
       let one_more = (Words.count_received then Words.rejecting_is false then Words.deliver t octets) (begun l) in
@@ -46,9 +42,9 @@ module _ (t : Terms) (l : Link) where
 
   contents : (ns : Seq) (p : Bool) (octets : List ℕ) → Half l.waiting (MultipleFrame.contents_in_7_8 t ns p octets (begun l))
   contents ns p octets =
-      branch l.own_busy _ _ (branch p _ _ (inl refl) (inl refl))
-      (branch (MultipleFrame.is_next ns l) _ _ (in-sequence p octets)
-      (branch l.rejecting _ _ (branch p _ _ (inl refl) (inl refl)) (inl refl)))
+      both_ways (Half l.waiting) l.own_busy _ _ (both_ways (Half l.waiting) p _ _ (inl refl) (inl refl))
+      (both_ways (Half l.waiting) (MultipleFrame.is_next ns l) _ _ (in-sequence p octets)
+      (both_ways (Half l.waiting) l.rejecting _ _ (both_ways (Half l.waiting) p _ _ (inl refl) (inl refl)) (inl refl)))
 
   by-number : (f : ℕ → Step) → ((n : ℕ) → Leads (Half l.waiting) (f n) (Half l.waiting)) → (c : Course) → Half l.waiting c → (o : Option ℕ)
       → Final t l.waiting (elim o [ None ↦ (Words.error t ErrorCode.J then Words.re_establish t) c | Some n ↦ f n c ])

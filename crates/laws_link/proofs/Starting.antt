@@ -1,5 +1,5 @@
 -- An offer leaves the timers that run.
-use Rattle.laws_link.proofs.Vocabulary.{◌≡◌, Bool, true, false, cond, List, [], ◌∷◌, Option, Some, None, refl, inl, inr, IfSome, Start, Stop, ControlFrame, LinkTimer, T200, T203, Terms, Link, course, after, given, given_of, Course, Sent, begun, ◌then◌, changed, runs, timer_at, orders_for, LeavesTimers}
+use Rattle.laws_link.proofs.Vocabulary.{◌≡◌, Bool, true, false, cond, List, [], ◌∷◌, Option, Some, None, refl, inl, inr, IfSome, Start, Stop, ControlFrame, LinkTimer, T200, T203, Terms, Link, course, after, given, given_of, Course, Sent, begun, ◌then◌, changed, runs, timer_at, orders_for, LeavesTimers, told_ways}
 use Rattle.model_link.specs.Events as link
 use Rattle.model_link.specs.Offers
 use Rattle.model_link.specs.Words
@@ -19,19 +19,15 @@ module _ (t : Terms) (l : Link) where
   abbrev Leaves : Course → Type 0
   Leaves c = LeavesTimers t l c.link (orders_for t l.running c.started c.link.running)
 
-  tested : (b : Bool) (u v : Course) → (b ≡ true → Leaves u) → (b ≡ false → Leaves v) → Leaves (cond b u v)
-  tested true u v x y = x refl
-  tested false u v x y = y refl
-
   offering : (ws : List ControlFrame) → Leaves (Offers.offer_among t ws (begun l))
   offering (f ∷ fs) = inl (none-ordered t l.running)
   offering [] =
       let one_more = (Offers.give_information then changed Offers.with_one_sent then Words.pending_is false) (begun l) in
-      tested (Offers.may_send_information t l) _ _
+      told_ways Leaves (Offers.may_send_information t l) _ _
       (λ may.
-      tested (Offers.is_awaiting_acknowledgement one_more.link) one_more (Words.start T200 one_more) (λ runs. inl (none-ordered t l.running))
+      told_ways Leaves (Offers.is_awaiting_acknowledgement one_more.link) one_more (Words.start T200 one_more) (λ runs. inl (none-ordered t l.running))
       (λ idle. inr (record { counted = refl; idle = idle; orders_are = t200-ordered t l.running })))
-      (λ may_not. tested l.pending _ _ (λ owed. inl (none-ordered t l.running)) (λ none. inl (none-ordered t l.running)))
+      (λ may_not. told_ways Leaves l.pending _ _ (λ owed. inl (none-ordered t l.running)) (λ none. inl (none-ordered t l.running)))
 
   from-sent : (c : Course) (o : Option Sent) → Leaves c → IfSome (given_of t l c o) (λ g. LeavesTimers t l c.link g.orders)
   from-sent c None x = tt

@@ -1,5 +1,5 @@
 -- What each event changes of V(S) and of own busy, and which events tell a loss.
-use Rattle.laws_link.proofs.Vocabulary.{◌≡◌, ℕ, ◌+◌, Bool, true, false, cond, ◌||◌, List, [], ◌∷◌, Option, None, Some, is_some, refl, ap, sym, ◌∙◌, subst, true≢false, ◌⊎◌, inl, inr, ⊎_elim, nat_lt, Seq, named, Control, Information, ReceiveReady, ReceiveNotReady, Reject, Sabme, Disc, Ui, Ua, Dm, Frmr, Xid, ErrorCode, Refusal, Parts, State, TeiAssigned, AwaitingEstablishment, AwaitingRelease, Established, TimerRecovery, LinkTimer, T200, T203, ControlFrame, Terms, Link, has_outstanding, Course, begun, Step, ◌then◌, changed, Leads, is_release, tells_loss, empties, asked_from, AsksFrom, MovesSent, is_anew, MovesBusy, MayEndBy, MayLose}
+use Rattle.laws_link.proofs.Vocabulary.{◌≡◌, ℕ, ◌+◌, Bool, true, false, cond, ◌||◌, List, [], ◌∷◌, Option, None, Some, is_some, refl, ap, sym, ◌∙◌, subst, true≢false, ◌⊎◌, inl, inr, ⊎_elim, nat_lt, Seq, named, Control, Information, ReceiveReady, ReceiveNotReady, Reject, Sabme, Disc, Ui, Ua, Dm, Frmr, Xid, ErrorCode, Refusal, Parts, State, TeiAssigned, AwaitingEstablishment, AwaitingRelease, Established, TimerRecovery, LinkTimer, T200, T203, ControlFrame, Terms, Link, has_outstanding, Course, begun, Step, ◌then◌, changed, Leads, is_release, tells_loss, empties, asked_from, AsksFrom, MovesSent, is_anew, MovesBusy, MayEndBy, MayLose, both_ways}
 use Rattle.model_link.specs.Events
 use Rattle.model_link.specs.Words
 use Rattle.model_link.specs.TeiAssigned as four
@@ -25,10 +25,6 @@ module _ (Asks : ℕ → Type 0) (Ends : Type 0) (t : Terms) (l : Link) where
 
   pub still : (f : Step) → Leads (Ordinary l) f (Ordinary l) → Row Asks Ends l (f (begun l))
   still f x = ordinary (f (begun l)) (x.leads (begun l) (begins l))
-
-  either : (b : Bool) (u v : Course) → Row Asks Ends l u → Row Asks Ends l v → Row Asks Ends l (cond b u v)
-  either true u v x y = x
-  either false u v x y = y
 
   pub fails : (e : ErrorCode) → is_anew e ≡ true → Row Asks Ends l (MultipleFrame.failed t e (begun l))
   fails e anew = still (MultipleFrame.failed t e) (failed l t e anew)
@@ -167,16 +163,16 @@ module _ (Asks : ℕ → Type 0) (t : Terms) (l : Link) where
   t200 TeiAssigned = ordinary Asks _ t l (begun l) (begins l)
   t200 AwaitingEstablishment =
       let again : Leads (Ordinary l) (Words.send t (Words.command (Sabme true)) then Words.repeated then Words.start T200) (Ordinary l) = search words in
-      either Asks _ t l (nat_lt l.repeats t.n200) _ _ (still Asks _ t l (Words.send t (Words.command (Sabme true)) then Words.repeated then Words.start T200) again)
+      both_ways (Row Asks _ l) (nat_lt l.repeats t.n200) _ _ (still Asks _ t l (Words.send t (Words.command (Sabme true)) then Words.repeated then Words.start T200) again)
       (record { sent = inr (inr (inl (refl, refl))); busy = inl refl; loss = λ some. tt })
   t200 AwaitingRelease =
       let again : Leads (Ordinary l) (Words.send t (Words.command (Disc true)) then Words.repeated then Words.start T200) (Ordinary l) = search words in
-      either Asks _ t l (nat_lt l.repeats t.n200) _ _ (still Asks _ t l (Words.send t (Words.command (Disc true)) then Words.repeated then Words.start T200) again)
+      both_ways (Row Asks _ l) (nat_lt l.repeats t.n200) _ _ (still Asks _ t l (Words.send t (Words.command (Disc true)) then Words.repeated then Words.start T200) again)
       (record { sent = inl refl; busy = inl refl; loss = λ some. tt })
   t200 Established = still Asks _ t l (seven.timer_in_7 t) (search words)
   t200 TimerRecovery =
       let again : Leads (Ordinary l) (Words.enquire t then Words.repeated then Words.start T200) (Ordinary l) = search words in
-      either Asks _ t l (nat_lt l.repeats t.n200) _ _ (still Asks _ t l (Words.enquire t then Words.repeated then Words.start T200) again) (fails Asks _ t l ErrorCode.I refl)
+      both_ways (Row Asks _ l) (nat_lt l.repeats t.n200) _ _ (still Asks _ t l (Words.enquire t then Words.repeated then Words.start T200) again) (fails Asks _ t l ErrorCode.I refl)
 
   pub t203 : (here : State) → Row Asks ⊥ l (Machine.expired_in here T203 t (begun l))
   t203 Established = still Asks ⊥ t l (seven.timer_in_7 t) (search words)
@@ -285,18 +281,14 @@ module _ (t : Terms) (l : Link) where
     busy : c.link.own_busy ≡ l.own_busy
     no_loss : tells_loss c.notes ≡ false
 
-  choose : (b : Bool) (u v : Course) → Offers-it u → Offers-it v → Offers-it (cond b u v)
-  choose true u v x y = x
-  choose false u v x y = y
-
   offers : (ws : List ControlFrame) → Offers-it (Offers.offer_among t ws (begun l))
   offers (f ∷ fs) = record { sent = inl refl; busy = refl; no_loss = refl }
   offers [] =
       let one_more = (Offers.give_information then changed Offers.with_one_sent then Words.pending_is false) (begun l) in
-      choose (Offers.may_send_information t l) _ _
-      (choose (Offers.is_awaiting_acknowledgement one_more.link) one_more (Words.start T200 one_more)
+      both_ways Offers-it (Offers.may_send_information t l) _ _
+      (both_ways Offers-it (Offers.is_awaiting_acknowledgement one_more.link) one_more (Words.start T200 one_more)
       (record { sent = inr refl; busy = refl; no_loss = refl }) (record { sent = inr refl; busy = refl; no_loss = refl }))
-      (choose l.pending _ _ (record { sent = inl refl; busy = refl; no_loss = refl }) (record { sent = inl refl; busy = refl; no_loss = refl }))
+      (both_ways Offers-it l.pending _ _ (record { sent = inl refl; busy = refl; no_loss = refl }) (record { sent = inl refl; busy = refl; no_loss = refl }))
 
   by-offer : Steady t Events.offer l
   by-offer =

@@ -1,5 +1,5 @@
 -- A link that awaits something has its timer: the rows by state, and every event.
-use Rattle.laws_link.proofs.Vocabulary.{◌≡◌, ℕ, ◌+◌, Bool, true, false, cond, ◌&&◌, List, [], ◌∷◌, Option, Some, None, inl, inr, refl, sym, subst, true≢false, Control, Ua, Dm, ErrorCode, Refusal, State, TeiAssigned, AwaitingEstablishment, AwaitingRelease, Established, TimerRecovery, LinkTimer, T200, T203, ControlFrame, Terms, Link, fresh, runs, Course, begun, changed, frame_in_4, establish_in_4, frame_in_5, frame_in_6, Leads, IsTimed, IsTimedIn, leaves}
+use Rattle.laws_link.proofs.Vocabulary.{◌≡◌, ℕ, ◌+◌, Bool, true, false, cond, ◌&&◌, List, [], ◌∷◌, Option, Some, None, inl, inr, refl, sym, subst, true≢false, Control, Ua, Dm, ErrorCode, Refusal, State, TeiAssigned, AwaitingEstablishment, AwaitingRelease, Established, TimerRecovery, LinkTimer, T200, T203, ControlFrame, Terms, Link, fresh, runs, Course, begun, changed, frame_in_4, establish_in_4, frame_in_5, frame_in_6, Leads, IsTimed, IsTimedIn, leaves, told_ways}
 use Rattle.model_link.specs.Events
 use Rattle.model_link.specs.Words
 use Rattle.model_link.specs.MultipleFrame
@@ -116,10 +116,6 @@ established : (here : State) (x y z : Bool) → (Offers.is_established here && x
 established Established x y z e = refl
 established other x y z e = absurd (true≢false (sym e))
 
-either : (b : Bool) (u v : Course) → (b ≡ true → Ends u) → (b ≡ false → Ends v) → Ends (cond b u v)
-either true u v x y = x refl
-either false u v x y = y refl
-
 at-established : (state : State) (running : Option LinkTimer) (a s : ℕ) → state ≡ Established → TimedBy state running a s → TimedBy Established running a s
 at-established state running a s e h = subst (λ x. TimedBy x running a s) e h
 
@@ -127,18 +123,18 @@ offers : (t : Terms) (l : Link) → IsTimed l → (ws : List ControlFrame) → E
 unfolding gone
 offers t l timed (f ∷ fs) = record { timer = of-law l.state l timed.timer }
 offers t l timed [] =
-    either (Offers.may_send_information t l) _ _
+    told_ways Ends (Offers.may_send_information t l) _ _
     (λ e.
     let at : l.state ≡ Established = established l.state _ _ _ e in
     goes l at (at-established l.state l.running l.a l.s at (of-law l.state l timed.timer)) (runs T200 l.running) refl)
-    (λ e. either l.pending _ _ (λ e. record { timer = of-law l.state l timed.timer }) (λ e. record { timer = of-law l.state l timed.timer }))
+    (λ e. told_ways Ends l.pending _ _ (λ e. record { timer = of-law l.state l timed.timer }) (λ e. record { timer = of-law l.state l timed.timer }))
 
 event-timed : (t : Terms) (e : Events.Event) (l : Link) → IsTimed l → Ends (Machine.course t e l)
 event-timed t (Events.received (Events.frame f)) l h = frames t l h f.address.command f.info f.control
 event-timed t (Events.received Events.undefined) l h = (malformed_timed t l.state ErrorCode.L).leads (begun l) (here t l h)
 event-timed t (Events.received Events.wrong_size) l h = (malformed_timed t l.state ErrorCode.N).leads (begun l) (here t l h)
 event-timed t (Events.received Events.overlong) l h = (malformed_timed t l.state ErrorCode.O).leads (begun l) (here t l h)
-event-timed t (Events.expired timer) l h = either (Machine.is_running timer l) _ _ (λ e. (expired_timed t l.state timer).leads (begun l) (here t l h)) (λ e. unchanged t l h)
+event-timed t (Events.expired timer) l h = told_ways Ends (Machine.is_running timer l) _ _ (λ e. (expired_timed t l.state timer).leads (begun l) (here t l h)) (λ e. unchanged t l h)
 event-timed t (Events.requested request full) l h = requests t l h request (Requests.refusal t l full request)
 event-timed t Events.offer l h = offers t l h l.waiting
 event-timed t Events.cleared l h = record { timer = refl }

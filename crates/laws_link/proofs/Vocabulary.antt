@@ -34,7 +34,7 @@ pub use Rattle.model_link.proofs.Direction.{frames-append, frames_of, line_of}
 pub use Rattle.model_link.proofs.Joined.{Joined, done-at, ends-agree, joined-first, joined-turned}
 pub use Rattle.model_link.proofs.Kept.{Fits, FitsEvent, Kept, Purse, another, two}
 unfoldable pub use Rattle.model_link.proofs.Kept.{how_many}
-pub use Rattle.model_link.proofs.Leads.{Leads, Passed, bit_leads, depending_leads, from_more, keeping_then, leaves, nothing_leads, tested_leads, then_leads, to_less}
+pub use Rattle.model_link.proofs.Leads.{Leads, Passed, bit_leads, both_ways, depending_leads, from_more, keeping_then, leaves, nothing_leads, number_leads, tested_leads, then_leads, to_less, told_ways}
 pub use Rattle.model_link.proofs.Lines.{Carried, Means, Piece, Rising, rising-low}
 pub use Rattle.model_link.proofs.Numbering.{delivered-at_once}
 pub use Rattle.model_link.proofs.OwnNotes.{notes-own}

@@ -17,6 +17,7 @@ pub mod Flags
 pub mod Telling
 pub mod Following
 pub mod Samples
+pub mod WorkedWords
 pub mod WorkedRelease
 pub mod WorkedTransfer
 pub mod WorkedRuns

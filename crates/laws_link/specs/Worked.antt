@@ -1,16 +1,5 @@
 -- Worked values: contents that are accepted, sent, acknowledged and lost.
-use Rattle.std.specs.Prelude.{◌≡◌, true, List, [], ◌∷◌, replicate, Some, None, refl}
-use Rattle.lapd_seq.specs.Numbers.{seq}
-use Rattle.lapd_seq.specs.Circle.{distance_of, named}
-use Rattle.lapd_frame.specs.Reading.{supervisory_of, unnumbered_of, control_of, header_of, reading}
-use Rattle.model_link.specs.Link.{queue_of}
-use Rattle.model_link.specs.Events.{Event, Data, Release, offer}
-use Rattle.model_link.specs.Machine.{after_all}
-use Rattle.laws_link.specs.Samples.{usual, comes, ask, sabme, up}
-use Rattle.laws_link.specs.Accepted.{empties}
-use Rattle.laws_link.specs.History.{nothing_yet, share, with_all}
-use Rattle.laws_link.specs.Offered.{i_frames}
-use Rattle.laws_link.specs.Heard.{unit_due}
+use Rattle.laws_link.specs.WorkedWords.{◌≡◌, true, List, [], ◌∷◌, replicate, Some, None, refl, seq, distance_of, named, supervisory_of, unnumbered_of, control_of, header_of, reading, queue_of, Event, Data, Release, offer, after_all, usual, comes, ask, sabme, up, empties, nothing_yet, share, with_all, i_frames, unit_due}
 
 -- Three contents are accepted, two I-frames are given, and an RR with N(R) 1 comes.
 abbrev three : List Event

@@ -1,15 +1,5 @@
 -- Worked values: the numbers of a link begin anew, and it is told.
-use Rattle.std.specs.Prelude.{◌≡◌, Bool, true, false, [], ◌∷◌, refl}
-use Rattle.std.specs.List.{list_any}
-use Rattle.lapd_seq.specs.Numbers.{seq}
-use Rattle.lapd_seq.specs.Circle.{distance_of, named}
-use Rattle.lapd_frame.specs.Reading.{supervisory_of, unnumbered_of, control_of, header_of, reading}
-use Rattle.model_link.specs.Deliveries.{restarts}
-use Rattle.model_link.specs.Link.{Link, fresh}
-use Rattle.model_link.specs.Events.{Event, Data, Establish, offer, cleared}
-use Rattle.model_link.specs.Machine.{after_all, told}
-use Rattle.laws_link.specs.Samples.{usual, comes, ask, sabme, up}
-use Rattle.laws_link.specs.Beginning.{tells_beginning}
+use Rattle.laws_link.specs.WorkedWords.{◌≡◌, Bool, true, false, [], ◌∷◌, refl, list_any, seq, distance_of, named, supervisory_of, unnumbered_of, control_of, header_of, reading, restarts, Link, fresh, Event, Data, Establish, offer, cleared, after_all, told, usual, comes, ask, sabme, up, tells_beginning}
 
 abbrev tells : Event → Link → Bool
 tells e l = list_any tells_beginning (told usual e l).notes

@@ -1,20 +1,7 @@
 -- Worked values: what comes of the expiry of T200 and T203.
-use Rattle.std.specs.Prelude.{◌≡◌, true, List, [], ◌∷◌, replicate, refl}
-use Rattle.lapd_seq.specs.Numbers.{seq}
-use Rattle.lapd_seq.specs.Circle.{distance_of, named}
-use Rattle.lapd_frame.specs.declared.controls.Control.TheVariants.{ReceiveReady, Sabme, Disc}
+use Rattle.laws_link.specs.WorkedWords.{◌≡◌, true, List, [], ◌∷◌, replicate, refl, seq, distance_of, named, ReceiveReady, Sabme, Disc, Call, supervisory_of, unnumbered_of, control_of, header_of, reading, ControlFrame, TeiAssigned, AwaitingEstablishment, TimerRecovery, T200, T203, Event, Establish, Release, expired, offer, Link, fresh, after, after_all, told, command, usual, ask, up}
 use Rattle.lapd_frame.specs.declared.notes.ErrorCode.TheVariants as code
 use Rattle.lapd_frame.specs.declared.notes.Note.TheVariants as notes
-use Rattle.lapd_frame.specs.declared.services.Service.TheVariants.{Call}
-use Rattle.lapd_frame.specs.Reading.{supervisory_of, unnumbered_of, control_of, header_of, reading}
-use Rattle.model_link.specs.declared.frames.ControlFrame.{ControlFrame}
-use Rattle.model_link.specs.declared.states.State.TheVariants.{TeiAssigned, AwaitingEstablishment, TimerRecovery}
-use Rattle.model_link.specs.declared.timers.LinkTimer.TheVariants.{T200, T203}
-use Rattle.model_link.specs.Events.{Event, Establish, Release, expired, offer}
-use Rattle.model_link.specs.Link.{Link, fresh}
-use Rattle.model_link.specs.Machine.{after, after_all, told}
-use Rattle.model_link.specs.Words.{command}
-use Rattle.laws_link.specs.Samples.{usual, ask, up}
 
 abbrev waits_after : Event → Link → List ControlFrame
 waits_after e l = (after usual e l).waiting

@@ -1,24 +1,7 @@
 -- Worked values: what an event leaves of a link.
-use Rattle.std.specs.Prelude.{◌≡◌, true, false, List, [], ◌∷◌, refl}
-use Rattle.lapd_seq.specs.Numbers.{seq}
-use Rattle.lapd_seq.specs.Circle.{distance_of, named}
-use Rattle.lapd_frame.specs.Reading.{supervisory_of, unnumbered_of, control_of, header_of, reading}
-use Rattle.lapd_frame.specs.declared.controls.Control.TheVariants.{ReceiveReady, ReceiveNotReady, Reject, Sabme}
+use Rattle.laws_link.specs.WorkedWords.{◌≡◌, true, false, List, [], ◌∷◌, refl, seq, distance_of, named, supervisory_of, unnumbered_of, control_of, header_of, reading, ReceiveReady, ReceiveNotReady, Reject, Sabme, Call, State, AwaitingEstablishment, Established, TimerRecovery, T203, ControlFrame, Link, fresh, Event, SetBusy, expired, after, after_all, usual, comes, ask, sabme, up, as_heard, state_after, numbers_begin, put, peer_busy_left, pending_left, told_by}
 use Rattle.lapd_frame.specs.declared.notes.ErrorCode.TheVariants as code
 use Rattle.lapd_frame.specs.declared.notes.Note.TheVariants as notes
-use Rattle.lapd_frame.specs.declared.services.Service.TheVariants.{Call}
-use Rattle.model_link.specs.declared.states.State.{State}
-use Rattle.model_link.specs.declared.states.State.TheVariants.{AwaitingEstablishment, Established, TimerRecovery}
-use Rattle.model_link.specs.declared.timers.LinkTimer.TheVariants.{T203}
-use Rattle.model_link.specs.declared.frames.ControlFrame.{ControlFrame}
-use Rattle.model_link.specs.Link.{Link, fresh}
-use Rattle.model_link.specs.Events.{Event, SetBusy, expired}
-use Rattle.model_link.specs.Machine.{after, after_all}
-use Rattle.laws_link.specs.Samples.{usual, comes, ask, sabme, up}
-use Rattle.laws_link.specs.States.{as_heard, state_after, numbers_begin}
-use Rattle.laws_link.specs.Waiting.{put}
-use Rattle.laws_link.specs.Flags.{peer_busy_left, pending_left}
-use Rattle.laws_link.specs.Telling.{told_by}
 
 -- by the tables
 abbrev led : Event → Link → State

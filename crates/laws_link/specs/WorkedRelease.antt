@@ -1,22 +1,8 @@
 -- Worked values: links are established and released.
-use Rattle.std.specs.Prelude.{◌≡◌, true, false, [], ◌∷◌, None, Some, refl}
-use Rattle.lapd_seq.specs.Numbers.{seq}
-use Rattle.lapd_seq.specs.Circle.{distance_of, named}
+use Rattle.laws_link.specs.WorkedWords.{◌≡◌, true, false, [], ◌∷◌, None, Some, refl, seq, distance_of, named, Call, Packet, Start, Stop, WrongState, supervisory_of, unnumbered_of, control_of, header_of, reading, TeiAssigned, AwaitingEstablishment, Established, T200, T203, fresh, Establish, Release, expired, offer, cleared, refusal, after, after_all, told, price_of_all, usual, with_n200, packet, comes, ask, out, notes, lost, told_after, sabme, up}
 use Rattle.lapd_frame.specs.declared.notes.Note.TheVariants as tell
 use Rattle.lapd_frame.specs.declared.notes.ErrorCode.TheVariants as code
-use Rattle.lapd_frame.specs.declared.services.Service.TheVariants.{Call, Packet}
-use Rattle.lapd_frame.specs.declared.timers.Order.TheVariants.{Start, Stop}
 use Rattle.lapd_frame.specs.declared.timers.Timer.TheVariants as timer
-use Rattle.lapd_frame.specs.declared.refusals.Refusal.TheVariants.{WrongState}
-use Rattle.lapd_frame.specs.Reading.{supervisory_of, unnumbered_of, control_of, header_of, reading}
-use Rattle.model_link.specs.declared.states.State.TheVariants.{TeiAssigned, AwaitingEstablishment, Established}
-use Rattle.model_link.specs.declared.timers.LinkTimer.TheVariants.{T200, T203}
-use Rattle.model_link.specs.Link.{fresh}
-use Rattle.model_link.specs.Events.{Establish, Release, expired, offer, cleared}
-use Rattle.model_link.specs.Requests.{refusal}
-use Rattle.model_link.specs.Machine.{after, after_all, told}
-use Rattle.model_link.specs.Rises.{price_of_all}
-use Rattle.laws_link.specs.Samples.{usual, with_n200, packet, comes, ask, out, notes, lost, told_after, sabme, up}
 
 -- Establish, and T200 four times with N200 3: SABME four times, then error G and a release indication.
 refused_thrice : out usual (ask Establish ∷ offer ∷ expired T200 ∷ offer ∷ expired T200 ∷ offer ∷ expired T200 ∷ offer ∷ expired T200 ∷ offer ∷ []) fresh

@@ -1,14 +1,5 @@
 -- Worked values: the room of a link.
-use Rattle.std.specs.Prelude.{◌≡◌, [], ◌∷◌, None, Some, refl}
-use Rattle.lapd_seq.specs.Numbers.{seq}
-use Rattle.lapd_seq.specs.Circle.{distance_of, named}
-use Rattle.lapd_frame.specs.declared.refusals.Refusal.TheVariants.{QueueFull, PoolFull}
-use Rattle.lapd_frame.specs.Reading.{supervisory_of, unnumbered_of, control_of, header_of, reading}
-use Rattle.model_link.specs.Link.{Link, fresh}
-use Rattle.model_link.specs.Events.{Data, offer}
-use Rattle.model_link.specs.Machine.{after_all}
-use Rattle.model_link.specs.Room.{room_of, refusal_for}
-use Rattle.laws_link.specs.Samples.{usual, with_k_and_queue, comes, ask, sabme}
+use Rattle.laws_link.specs.WorkedWords.{◌≡◌, [], ◌∷◌, None, Some, refl, seq, distance_of, named, QueueFull, PoolFull, supervisory_of, unnumbered_of, control_of, header_of, reading, Link, fresh, Data, offer, after_all, room_of, refusal_for, usual, with_k_and_queue, comes, ask, sabme}
 
 -- With k 1 and places for two contents, two leave no place, however many slots are free; once the terminal has
 -- acknowledged the first, there is one.

@@ -1,15 +1,6 @@
 -- Worked values: long runs.
-use Rattle.std.specs.Prelude.{◌≡◌, ℕ, ◌+◌, ◌*◌, ◌%◌, List, [], ◌∷◌, ◌++◌, length, replicate, zero, suc, refl}
-use Rattle.lapd_seq.specs.Numbers.{seq}
-use Rattle.lapd_seq.specs.Circle.{distance_of, named}
+use Rattle.laws_link.specs.WorkedWords.{◌≡◌, ℕ, ◌+◌, ◌*◌, ◌%◌, List, [], ◌∷◌, ◌++◌, length, replicate, zero, suc, refl, seq, distance_of, named, Call, supervisory_of, unnumbered_of, control_of, header_of, reading, fresh, Event, Data, offer, after_all, may_send, price_of_all, usual, packet, comes, ask, pulls, out, notes, lost, up}
 use Rattle.lapd_frame.specs.declared.notes.Note.TheVariants as tell
-use Rattle.lapd_frame.specs.declared.services.Service.TheVariants.{Call}
-use Rattle.lapd_frame.specs.Reading.{supervisory_of, unnumbered_of, control_of, header_of, reading}
-use Rattle.model_link.specs.Link.{fresh}
-use Rattle.model_link.specs.Events.{Event, Data, offer}
-use Rattle.model_link.specs.Machine.{after_all}
-use Rattle.model_link.specs.Rises.{may_send, price_of_all}
-use Rattle.laws_link.specs.Samples.{usual, packet, comes, ask, pulls, out, notes, lost, up}
 
 -- 129 I-frames numbered 0 to 127 and 0 again, each acknowledged before the next.
 abbrev numbered_frames : ℕ → ℕ → List Event

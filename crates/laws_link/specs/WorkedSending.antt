@@ -1,18 +1,5 @@
 -- Worked values: a terminal that is busy, one that rejects, and deliveries.
-use Rattle.std.specs.Prelude.{◌≡◌, true, false, List, [], ◌∷◌, refl}
-use Rattle.lapd_seq.specs.Numbers.{seq}
-use Rattle.lapd_seq.specs.Circle.{distance_of, named}
-use Rattle.lapd_frame.specs.declared.services.Service.TheVariants.{Call}
-use Rattle.lapd_frame.specs.declared.timers.Order.{Order}
-use Rattle.lapd_frame.specs.declared.timers.Order.TheVariants.{Start, Stop}
-use Rattle.lapd_frame.specs.declared.timers.Timer.TheVariants.{T200, T203}
-use Rattle.lapd_frame.specs.Reading.{supervisory_of, unnumbered_of, control_of, header_of, reading}
-use Rattle.model_link.specs.declared.states.State.TheVariants.{AwaitingEstablishment}
-use Rattle.model_link.specs.Link.{Link}
-use Rattle.model_link.specs.Events.{Data, offer}
-use Rattle.model_link.specs.Machine.{after, after_all, told}
-use Rattle.laws_link.specs.Samples.{usual, comes, ask, up}
-use Rattle.laws_link.specs.Sending.{i_frames_offered}
+use Rattle.laws_link.specs.WorkedWords.{◌≡◌, true, false, List, [], ◌∷◌, refl, seq, distance_of, named, Call, Order, Start, Stop, FrameT200 as T200, FrameT203 as T203, supervisory_of, unnumbered_of, control_of, header_of, reading, AwaitingEstablishment, Link, Data, offer, after, after_all, told, usual, comes, ask, up, i_frames_offered}
 
 -- Contents are accepted, and RNR comes: no I-frame goes.
 busy : i_frames_offered usual 5 (after_all usual (ask (Data (1 ∷ [])) ∷ comes (0x02 ∷ 0x81 ∷ 0x05 ∷ 0x00 ∷ []) ∷ []) up)

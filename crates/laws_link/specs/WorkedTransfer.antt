@@ -1,22 +1,8 @@
 -- Worked values: I-frames come and go.
-use Rattle.std.specs.Prelude.{◌≡◌, ◌+◌, true, false, [], ◌∷◌, length, replicate, None, Some, sum_by, refl}
-use Rattle.lapd_seq.specs.Numbers.{seq}
-use Rattle.lapd_seq.specs.Circle.{distance_of, named}
+use Rattle.laws_link.specs.WorkedWords.{◌≡◌, ◌+◌, true, false, [], ◌∷◌, length, replicate, None, Some, sum_by, refl, seq, distance_of, named, Call, Start, Stop, WrongState, TooLong, QueueFull, PoolFull, supervisory_of, unnumbered_of, control_of, header_of, reading, AwaitingEstablishment, T200, T203, Link, fresh, queue_of, received, overlong, Release, Data, SetBusy, ClearBusy, expired, offer, refusal, after, after_all, told, held, price_of_all, usual, with_k_and_queue, comes, ask, out, notes, lost, sabme, up}
 use Rattle.lapd_frame.specs.declared.notes.Note.TheVariants as tell
 use Rattle.lapd_frame.specs.declared.notes.ErrorCode.TheVariants as code
-use Rattle.lapd_frame.specs.declared.services.Service.TheVariants.{Call}
-use Rattle.lapd_frame.specs.declared.timers.Order.TheVariants.{Start, Stop}
 use Rattle.lapd_frame.specs.declared.timers.Timer.TheVariants as timer
-use Rattle.lapd_frame.specs.declared.refusals.Refusal.TheVariants.{WrongState, TooLong, QueueFull, PoolFull}
-use Rattle.lapd_frame.specs.Reading.{supervisory_of, unnumbered_of, control_of, header_of, reading}
-use Rattle.model_link.specs.declared.states.State.TheVariants.{AwaitingEstablishment}
-use Rattle.model_link.specs.declared.timers.LinkTimer.TheVariants.{T200, T203}
-use Rattle.model_link.specs.Link.{Link, fresh, queue_of}
-use Rattle.model_link.specs.Events.{received, overlong, Release, Data, SetBusy, ClearBusy, expired, offer}
-use Rattle.model_link.specs.Requests.{refusal}
-use Rattle.model_link.specs.Machine.{after, after_all, told}
-use Rattle.model_link.specs.Rises.{held, price_of_all}
-use Rattle.laws_link.specs.Samples.{usual, with_k_and_queue, comes, ask, out, notes, lost, sabme, up}
 
 -- The same I-frame twice: one delivery, then REJ. The acknowledgement that was owed goes with it.
 twice : notes usual (comes (0x00 ∷ 0x81 ∷ 0x00 ∷ 0x00 ∷ 0x41 ∷ []) ∷ comes (0x00 ∷ 0x81 ∷ 0x00 ∷ 0x00 ∷ 0x41 ∷ []) ∷ []) up

@@ -2,7 +2,7 @@
 use Rattle.model_link.proofs.Vocabulary.{◌≡◌, ℕ, Bool, true, false, List, Option, Some, None, ◌⊎◌, inl, inr, refl, Seq, named, Terms, Course, Step, ◌then◌}
 use Rattle.lapd_frame.specs.declared.notes.ErrorCode.TheVariants as code
 use Rattle.model_link.specs.Words
-use Rattle.model_link.proofs.Leads.{Leads}
+use Rattle.model_link.proofs.Leads.{Leads, number_leads}
 use Rattle.model_link.proofs.Kept.{Kept}
 
 -- A claim on V(R), on what is delivered, and on whether the numbers began anew.
@@ -50,12 +50,6 @@ pub words : (t : Terms) (r : ℕ) → Kept t (Unit {0}) (Unit {0}) ⊥ (On (coun
 words t r = search (first, anew, none-taken) depth 12 fits 4000
 
 -- by the N(R), whatever it names
-by-number : (Q : Count) (t : Terms) (nr : Seq) (f : ℕ → Step) → ((m : ℕ) → Leads (On Q) (f m) (On Q))
-    → (c : Course) → On Q c → (o : Option ℕ)
-    → On Q (elim o [ None ↦ (Words.error t code.J then Words.re_establish t) c | Some n ↦ f n c ])
-by-number Q t nr f x c h None = h
-by-number Q t nr f x c h (Some m) = (x m).leads c h
-
 pub number_counts : (Q : Count) (t : Terms) (nr : Seq) {f : ℕ → Step} → ((m : ℕ) → Leads (On Q) (f m) (On Q))
     → Leads (On Q) (Words.by_number t nr f) (On Q)
-number_counts Q t nr {f} x = record { leads = λ c h. by-number Q t nr f x c h (named c.link.a c.link.s nr) }
+number_counts Q t nr x = number_leads t nr (record { leads = λ c h. h }) x

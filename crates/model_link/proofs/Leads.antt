@@ -1,5 +1,7 @@
 -- Where a step leads: from what held before it to what holds after it.
-use Rattle.model_link.proofs.Vocabulary.{◌≡◌, Bool, true, false, cond, refl, Link, Course, Step, ◌then◌, nothing, depending_on, by_bit}
+use Rattle.model_link.proofs.Vocabulary.{◌≡◌, Bool, true, false, cond, refl, Link, Course, Step, ◌then◌, nothing, depending_on, by_bit, ℕ, Option, None, Some, Seq, named, Terms}
+use Rattle.lapd_frame.specs.declared.notes.ErrorCode.TheVariants as code
+use Rattle.model_link.specs.Words
 
 pub record Leads (P : Course → Type 0) (f : Step) (Q : Course → Type 0) : Type 0 where
   pub leads : (c : Course) → P c → Q (f c)
@@ -20,31 +22,31 @@ pub nothing_leads : {P : Course → Type 0} → Leads P nothing P
 nothing_leads = record { leads = λ c h. h }
 
 -- either branch
-chosen : (Q : Course → Type 0) (b : Bool) (u v : Course) → Q u → Q v → Q (cond b u v)
-chosen Q true u v x y = x
-chosen Q false u v x y = y
+pub both_ways : (Q : Course → Type 0) (b : Bool) (u v : Course) → Q u → Q v → Q (cond b u v)
+both_ways Q true u v x y = x
+both_ways Q false u v x y = y
 
 pub depending_leads : {P Q : Course → Type 0} {f g : Step} (test : Link → Bool) → Leads P f Q → Leads P g Q → Leads P (depending_on test f g) Q
 depending_leads {P} {Q} {f} {g} test x y =
-    record { leads = λ c h. chosen Q (test c.link) (f c) (g c) (x.leads c h) (y.leads c h) }
+    record { leads = λ c h. both_ways Q (test c.link) (f c) (g c) (x.leads c h) (y.leads c h) }
 
 pub bit_leads : {P Q : Course → Type 0} {f g : Step} (b : Bool) → Leads P f Q → Leads P g Q → Leads P (by_bit b f g) Q
-bit_leads {P} {Q} {f} {g} b x y = record { leads = λ c h. chosen Q b (f c) (g c) (x.leads c h) (y.leads c h) }
+bit_leads {P} {Q} {f} {g} b x y = record { leads = λ c h. both_ways Q b (f c) (g c) (x.leads c h) (y.leads c h) }
 
 -- either branch, with what the test tells
 pub record Passed (P : Course → Type 0) (test : Link → Bool) (b : Bool) (c : Course) : Type 0 where
   pub holds : P c
   pub told : test c.link ≡ b
 
-tested : (Q : Course → Type 0) (b : Bool) (u v : Course) → (b ≡ true → Q u) → (b ≡ false → Q v) → Q (cond b u v)
-tested Q true u v x y = x refl
-tested Q false u v x y = y refl
+pub told_ways : (Q : Course → Type 0) (b : Bool) (u v : Course) → (b ≡ true → Q u) → (b ≡ false → Q v) → Q (cond b u v)
+told_ways Q true u v x y = x refl
+told_ways Q false u v x y = y refl
 
 pub tested_leads : {P Q : Course → Type 0} {f g : Step} (test : Link → Bool)
     → Leads (Passed P test true) f Q → Leads (Passed P test false) g Q → Leads P (depending_on test f g) Q
 tested_leads {P} {Q} {f} {g} test x y =
     record {
-      leads = λ c h. tested Q (test c.link) (f c) (g c) (λ e. x.leads c (record { holds = h; told = e })) (λ e. y.leads c (record { holds = h; told = e }));
+      leads = λ c h. told_ways Q (test c.link) (f c) (g c) (λ e. x.leads c (record { holds = h; told = e })) (λ e. y.leads c (record { holds = h; told = e }));
     }
 
 -- more known before, less wanted after
@@ -53,3 +55,12 @@ from_more w x = record { leads = λ c h. x.leads c (w c h) }
 
 pub to_less : {P Q Q' : Course → Type 0} {f : Step} → ((c : Course) → Q c → Q' c) → Leads P f Q → Leads P f Q'
 to_less {f} w x = record { leads = λ c h. w (f c) (x.leads c h) }
+
+-- by an N(R): an invalid one, or one that names a number
+pub number_leads : {P Q : Course → Type 0} (t : Terms) (nr : Seq) {f : ℕ → Step}
+    → Leads P (Words.error t code.J then Words.re_establish t) Q → ((n : ℕ) → Leads P (f n) Q) → Leads P (Words.by_number t nr f) Q
+number_leads {P} {Q} t nr {f} x y = record { leads = λ c h. go c h (named c.link.a c.link.s nr) }
+  where
+    go : (c : Course) → P c → (o : Option ℕ) → Q (elim o [ None ↦ (Words.error t code.J then Words.re_establish t) c | Some n ↦ f n c ])
+    go c h None = x.leads c h
+    go c h (Some n) = (y n).leads c h

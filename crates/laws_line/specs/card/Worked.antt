@@ -1,19 +1,7 @@
 -- Worked values: what was accepted over a run, and what waits to be sent.
-use Rattle.std.specs.Prelude.{◌≡◌, ℕ, List, [], ◌∷◌, ◌++◌, refl}
-use Rattle.lapd_frame.specs.declared.addresses.Side.TheVariants.{Network}
-use Rattle.model_bits.specs.Stream.{frame}
-use Rattle.lapd_frame.specs.declared.services.Service.TheVariants.{Call}
-use Rattle.lapd_frame.specs.Reading.{reading, header_of, control_of, unnumbered_of}
-use Rattle.laws_link.specs.History.{History}
+use Rattle.laws_line.specs.WorkedWords.{◌≡◌, ℕ, List, [], ◌∷◌, ◌++◌, refl, Network, frame, Call, reading, header_of, control_of, unnumbered_of, History, Config, hears, request, Request, Assign, Data, Release, fresh, Event, at, moments, history, accepted_at}
 use Rattle.lapd_tei.specs.Events as teis
 use Rattle.model_line.specs.Machine as lines
-use Rattle.model_line.specs.declared.config.Config.{Config}
-use Rattle.model_line.specs.Event.{hears, request}
-use Rattle.model_line.specs.Request.{Request, Assign, Data, Release}
-use Rattle.model_card.specs.Card.{fresh}
-use Rattle.model_card.specs.Event.{Event, at}
-use Rattle.model_card.specs.Run.{moments}
-use Rattle.laws_line.specs.card.Contents.{history, accepted_at}
 
 abbrev pub usual : Config
 usual = record { lines = 1; terminals = 8; k = 7; k16 = 7; queue = 8; unit_queue = 4; control = 4; slots = 64; n201 = 260; n200 = 3; side = Network }

@@ -1,22 +1,7 @@
 -- Worked values: states, answers and runs that would break the promises, which no card comes to.
-use Rattle.std.specs.Prelude.{◌≡◌, ◌≢◌, ℕ, zero, suc, ◌<◌, true, false, List, [], ◌∷◌, ◌++◌, None, refl}
-use Rattle.std.proofs.Common.{ap, arith}
+use Rattle.laws_line.specs.WorkedWords.{◌≡◌, ◌≢◌, ℕ, zero, suc, ◌<◌, true, false, List, [], ◌∷◌, ◌++◌, None, refl, ap, arith, Fcs, Call, T200, Link, link_fresh as fresh_link, told, gave, hears, next, nothing, cause_in, Line, fresh_line, place_at, tei_at, link_at, Card, fresh, Event, at, card_answer as answer, IsTakenAmong, LinksStay, TellsCause, up_by_notes, runs_at_callers}
 use Rattle.model_bits.specs.Stream as stream
-use Rattle.model_bits.specs.declared.heard.Cause.TheVariants.{Fcs}
-use Rattle.lapd_frame.specs.declared.services.Service.TheVariants.{Call}
-use Rattle.lapd_frame.specs.declared.timers.Timer.TheVariants.{T200}
-use Rattle.model_link.specs.Link.{Link, fresh as fresh_link}
-use Rattle.model_line.specs.Event.{told, gave, hears, next, nothing}
-use Rattle.model_line.specs.Laws.{cause_in}
 use Rattle.model_line.specs.Machine as lines
-use Rattle.model_line.specs.Line.{Line, fresh_line, place_at, tei_at, link_at}
-use Rattle.model_card.specs.Card.{Card, fresh}
-use Rattle.model_card.specs.Event.{Event, at}
-use Rattle.model_card.specs.Machine.{answer}
-use Rattle.laws_line.specs.card.Among.{IsTakenAmong}
-use Rattle.laws_line.specs.card.Brief.{LinksStay, TellsCause}
-use Rattle.laws_line.specs.card.Knowledge.{up_by_notes}
-use Rattle.laws_line.specs.card.Timers.{runs_at_callers}
 use Rattle.laws_line.specs.card.Worked.{usual}
 
 -- `others_stay`: two links of a line that an event changes.

@@ -1,21 +1,8 @@
 -- Worked values of a card: each computes.
-use Rattle.std.specs.Prelude.{None, ◌≡◌, ℕ, List, [], ◌∷◌, ◌++◌, map, Some, refl}
-use Rattle.model_bits.specs.Stream.{frame}
-use Rattle.lapd_frame.specs.declared.addresses.Side.TheVariants.{Network}
-use Rattle.lapd_frame.specs.declared.refusals.Refusal.TheVariants.{QueueFull, PoolFull}
-use Rattle.lapd_frame.specs.declared.services.Service.TheVariants.{Call}
-use Rattle.lapd_frame.specs.Reading.{reading, header_of, control_of, unnumbered_of}
+use Rattle.laws_line.specs.WorkedWords.{None, ◌≡◌, ℕ, List, [], ◌∷◌, ◌++◌, map, Some, refl, frame, Network, QueueFull, PoolFull, Call, reading, header_of, control_of, unnumbered_of, Config, first_fault, Answer, told, refused, gave, hears, next, request, nothing, Request, Assign, Data, Unit, Event, at, Card, fresh, state, run, stored, limit}
 use Rattle.lapd_tei.specs.Events as teis
-use Rattle.model_line.specs.declared.config.Config.{Config}
 use Rattle.model_line.specs.declared.config.Field.TheVariants as field
-use Rattle.model_line.specs.Config.{first_fault}
-use Rattle.model_line.specs.Event.{Answer, told, refused, gave, hears, next, request, nothing}
-use Rattle.model_line.specs.Request.{Request, Assign, Data, Unit}
 use Rattle.model_line.specs.Machine as lines
-use Rattle.model_card.specs.Event.{Event, at}
-use Rattle.model_card.specs.Card.{Card, fresh, state}
-use Rattle.model_card.specs.Run.{run}
-use Rattle.model_card.specs.Stored.{stored, limit}
 
 abbrev usual : Config
 usual = record { lines = 1; terminals = 8; k = 7; k16 = 7; queue = 8; unit_queue = 4; control = 4; slots = 64; n201 = 260; n200 = 3; side = Network }

@@ -1,29 +1,9 @@
 -- Worked values: cards, and moments with other answers, that would break the clauses of `Card::drive`.
-use Rattle.std.specs.Prelude.{◌≡◌, ◌+◌, ◌*◌, ◌≤◌, List, [], ◌∷◌, map, Some, None, refl}
-use Rattle.std.proofs.Common.{ap, arith}
+use Rattle.laws_line.specs.WorkedWords.{◌≡◌, ◌+◌, ◌*◌, ◌≤◌, List, [], ◌∷◌, map, Some, None, refl, ap, arith, frame, Fcs, Short, PoolFull, Call, reading, header_of, control_of, unnumbered_of, seq, hears, next, request, gave, Answer, told, refused, dropped, cause_in, Line, fresh_line, Assign, Data, lost_in, Card, fresh, sent, heard, accepted, expired, rejected, window, IsDropWithoutCost, IsDropWithoutEffect, at, events_at, answers_at, answer_in, Share, AreNumbered, IsWithinLimit, IsNotRefusedForPool, Moment, moments, after_all}
 use Rattle.model_bits.specs.Stream as stream
-use Rattle.model_bits.specs.Stream.{frame}
-use Rattle.model_bits.specs.declared.heard.Cause.TheVariants.{Fcs, Short}
-use Rattle.lapd_frame.specs.declared.refusals.Refusal.TheVariants.{PoolFull}
-use Rattle.lapd_frame.specs.declared.services.Service.TheVariants.{Call}
-use Rattle.lapd_frame.specs.Reading.{reading, header_of, control_of, unnumbered_of}
-use Rattle.lapd_seq.specs.Numbers.{seq}
 use Rattle.lapd_tei.specs.Events as teis
 use Rattle.model_line.specs.Event as line_event
-use Rattle.model_line.specs.Event.{hears, next, request, gave, Answer, told, refused, dropped}
-use Rattle.model_line.specs.Laws.{cause_in}
-use Rattle.model_line.specs.Line.{Line, fresh_line}
 use Rattle.model_line.specs.Machine as lines
-use Rattle.model_line.specs.Request.{Assign, Data}
-use Rattle.laws_line.specs.Frames.{lost_in}
-use Rattle.model_card.specs.Card.{Card, fresh}
-use Rattle.model_card.specs.Counts.{sent, heard, accepted, expired, rejected, window}
-use Rattle.model_card.specs.Drops.{IsDropWithoutCost, IsDropWithoutEffect}
-use Rattle.model_card.specs.Event.{at}
-use Rattle.model_card.specs.Isolation.{events_at, answers_at, answer_in}
-use Rattle.model_card.specs.Numbered.{Share, AreNumbered}
-use Rattle.model_card.specs.Promises.{IsWithinLimit, IsNotRefusedForPool}
-use Rattle.model_card.specs.Run.{Moment, moments, after_all}
 use Rattle.laws_line.specs.card.Worked.{usual, on_0}
 
 abbrev moment : Card → line_event.Event → Answer → Moment

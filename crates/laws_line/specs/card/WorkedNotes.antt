@@ -1,16 +1,7 @@
 -- Worked values: what is known by notes.
-use Rattle.std.specs.Prelude.{◌≡◌, Bool, true, false, List, [], ◌∷◌, ◌++◌, refl}
-use Rattle.lapd_frame.specs.declared.services.Service.TheVariants.{Call, Packet}
-use Rattle.lapd_frame.specs.declared.timers.Timer.TheVariants.{T201}
-use Rattle.lapd_frame.specs.Reading.{reading, header_of, control_of, unnumbered_of}
+use Rattle.laws_line.specs.WorkedWords.{◌≡◌, Bool, true, false, List, [], ◌∷◌, ◌++◌, refl, Call, Packet, T201, reading, header_of, control_of, unnumbered_of, expiry, Assign, Remove, Check, fresh, Event, at, moments, up_by_notes}
 use Rattle.lapd_tei.specs.Events as teis
 use Rattle.model_line.specs.Machine as lines
-use Rattle.model_line.specs.Event.{expiry}
-use Rattle.model_line.specs.Request.{Assign, Remove, Check}
-use Rattle.model_card.specs.Card.{fresh}
-use Rattle.model_card.specs.Event.{Event, at}
-use Rattle.model_card.specs.Run.{moments}
-use Rattle.laws_line.specs.card.Knowledge.{up_by_notes}
 use Rattle.laws_line.specs.card.Worked.{usual, on_0, up}
 
 -- Whether the links of TEI 64 are taken for up, that of call control first, after these events.

@@ -1,16 +1,7 @@
 -- Worked values: which timers a caller runs that obeys the orders.
-use Rattle.std.specs.Prelude.{◌≡◌, Bool, true, false, List, [], ◌∷◌, ◌++◌, refl}
-use Rattle.lapd_frame.specs.declared.services.Service.TheVariants.{Call}
-use Rattle.lapd_frame.specs.declared.timers.Timer.TheVariants.{T200, T203, T201}
-use Rattle.lapd_frame.specs.Reading.{reading, header_of, control_of, unnumbered_of}
+use Rattle.laws_line.specs.WorkedWords.{◌≡◌, Bool, true, false, List, [], ◌∷◌, ◌++◌, refl, Call, T200, T203, T201, reading, header_of, control_of, unnumbered_of, expiry, Assign, Establish, Remove, Check, fresh, Event, at, moments, runs_at_callers}
 use Rattle.lapd_tei.specs.Events as teis
 use Rattle.model_line.specs.Machine as lines
-use Rattle.model_line.specs.Event.{expiry}
-use Rattle.model_line.specs.Request.{Assign, Establish, Remove, Check}
-use Rattle.model_card.specs.Card.{fresh}
-use Rattle.model_card.specs.Event.{Event, at}
-use Rattle.model_card.specs.Run.{moments}
-use Rattle.laws_line.specs.card.Timers.{runs_at_callers}
 use Rattle.laws_line.specs.card.Worked.{usual, on_0, up}
 
 -- T200, T203 of the call control link of TEI 64, and T201, after these events

@@ -1,5 +1,5 @@
 -- What answers a poll.
-use Rattle.laws_link.proofs.Vocabulary.{◌≡◌, ℕ, ◌+◌, ◌≤◌, Bool, true, false, cond, IsTrue, List, [], ◌∷◌, ◌++◌, length, Option, None, Some, refl, sym, ap, subst, ◌∙◌, true≢false, arith, nat_lt, lt-ltb, le-ltb, Seq, seq, named, Control, Information, ReceiveReady, ReceiveNotReady, Reject, Sabme, Disc, Ui, Ua, Dm, Frmr, Xid, Parts, State, TeiAssigned, AwaitingEstablishment, AwaitingRelease, Established, TimerRecovery, LinkTimer, T200, T203, ControlFrame, Terms, Link, is_multiple_frame, frame, received, Course, begun, Step, ◌then◌, Leads, then_leads, keeping_then, nothing_leads, depending_leads, bit_leads, IsValidAt, IsPollWith, SaysReceived, Answered, AnsweredBy, asked_of, leaves, ErrorCode}
+use Rattle.laws_link.proofs.Vocabulary.{◌≡◌, ℕ, ◌+◌, ◌≤◌, Bool, true, false, cond, IsTrue, List, [], ◌∷◌, ◌++◌, length, Option, None, Some, refl, sym, ap, subst, ◌∙◌, true≢false, arith, nat_lt, lt-ltb, le-ltb, Seq, seq, named, Control, Information, ReceiveReady, ReceiveNotReady, Reject, Sabme, Disc, Ui, Ua, Dm, Frmr, Xid, Parts, State, TeiAssigned, AwaitingEstablishment, AwaitingRelease, Established, TimerRecovery, LinkTimer, T200, T203, ControlFrame, Terms, Link, is_multiple_frame, frame, received, Course, begun, Step, ◌then◌, Leads, then_leads, keeping_then, nothing_leads, depending_leads, bit_leads, IsValidAt, IsPollWith, SaysReceived, Answered, AnsweredBy, asked_of, leaves, ErrorCode, both_ways}
 use Rattle.model_link.specs.Words
 use Rattle.model_link.specs.MultipleFrame
 use Rattle.model_link.specs.Established
@@ -14,23 +14,10 @@ pub record WaitsIn (ws : List ControlFrame) (r : ℕ) (waiting : List ControlFra
 abbrev pub Waits : List ControlFrame → ℕ → Course → Type 0
 Waits ws r c = WaitsIn ws r c.link.waiting c.link.r
 
-module _ (ws : List ControlFrame) (r : ℕ) where
-  pub ruleset words = (leaves, keeping_then, nothing_leads, depending_leads, bit_leads)
+pub ruleset words = (leaves, keeping_then, nothing_leads, depending_leads, bit_leads)
 
-  pub in_7_waits : (n : ℕ) → Leads (Waits ws r) (Established.acknowledged_in_7 n) (Waits ws r)
-  in_7_waits n = search words depth 12 fits 4000
-
-  pub information_7_waits : (n : ℕ) → Leads (Waits ws r) (Established.acknowledged_by_information_in_7 n) (Waits ws r)
-  information_7_waits n = search words depth 12 fits 4000
-
-  pub rnr_7_waits : (n : ℕ) → Leads (Waits ws r) (Established.acknowledged_by_rnr_in_7 n) (Waits ws r)
-  rnr_7_waits n = search words depth 12 fits 4000
-
-  pub rej_7_waits : (n : ℕ) → Leads (Waits ws r) (Established.acknowledged_by_rej_in_7 n) (Waits ws r)
-  rej_7_waits n = search words depth 12 fits 4000
-
-  pub in_8_waits : (timer : LinkTimer) (final : Bool) (n : ℕ) → Leads (Waits ws r) (TimerRecovery.acknowledged_in_8 timer final n) (Waits ws r)
-  in_8_waits timer final n = search words depth 12 fits 4000
+pub information_7_waits : (ws : List ControlFrame) (r n : ℕ) → Leads (Waits ws r) (Established.acknowledged_by_information_in_7 n) (Waits ws r)
+information_7_waits ws r n = search words depth 12 fits 4000
 
 -- The answer waits, before the N(R) has its effect.
 record Halfway (l : Link) (c : Course) : Type 0 where
@@ -96,16 +83,12 @@ module _ (t : Terms) (l : Link) (room : length l.waiting + 1 ≤ t.control) wher
         high = refl;
       }
 
-  branch : (b : Bool) (u v : Course) → Halfway l u → Halfway l v → Halfway l (cond b u v)
-  branch true u v x y = x
-  branch false u v x y = y
-
   contents : (ns : Seq) (octets : List ℕ) → Halfway l (MultipleFrame.contents_in_7_8 t ns true octets (begun l))
   contents ns octets =
-      branch l.own_busy _ _ (ready (begun l) refl refl refl)
-      (branch (MultipleFrame.is_next ns l) _ _
+      both_ways (Halfway l) l.own_busy _ _ (ready (begun l) refl refl refl)
+      (both_ways (Halfway l) (MultipleFrame.is_next ns l) _ _
       (ready ((Words.count_received then Words.rejecting_is false then Words.deliver t octets) (begun l)) refl refl refl)
-      (branch l.rejecting _ _ (ready (begun l) refl refl refl) rejected))
+      (both_ways (Halfway l) l.rejecting _ _ (ready (begun l) refl refl refl) rejected))
 
   information : (ns nr : Seq) (octets : List ℕ) (f : ℕ → Step) → length octets ≤ t.n201
       → ((ws : List ControlFrame) (r n : ℕ) → Leads (Waits ws r) (f n) (Waits ws r)) → IsValidAt l nr
@@ -123,43 +106,31 @@ module _ (t : Terms) (l : Link) (room : length l.waiting + 1 ≤ t.control) wher
       → Answered l.waiting (Established.frame_in_7 t command octets control (begun l)).link
   in-7 command octets (Information ns nr true) h = information ns nr octets Established.acknowledged_by_information_in_7 h.1 information_7_waits h.2
   in-7 command octets (Information ns nr false) h = absurd (true≢false (sym h.0))
-  in-7 true octets (ReceiveReady nr true) h = supervisory false nr Established.acknowledged_in_7 in_7_waits h.2
+  in-7 true octets (ReceiveReady nr true) h = supervisory false nr Established.acknowledged_in_7 (λ ws r n. search words depth 12 fits 4000) h.2
   in-7 true octets (ReceiveReady nr false) h = absurd (true≢false (sym h.1))
   in-7 false octets (ReceiveReady nr p) h = absurd (true≢false (sym h.0))
-  in-7 true octets (ReceiveNotReady nr true) h = supervisory true nr Established.acknowledged_by_rnr_in_7 rnr_7_waits h.2
+  in-7 true octets (ReceiveNotReady nr true) h = supervisory true nr Established.acknowledged_by_rnr_in_7 (λ ws r n. search words depth 12 fits 4000) h.2
   in-7 true octets (ReceiveNotReady nr false) h = absurd (true≢false (sym h.1))
   in-7 false octets (ReceiveNotReady nr p) h = absurd (true≢false (sym h.0))
-  in-7 true octets (Reject nr true) h = supervisory false nr Established.acknowledged_by_rej_in_7 rej_7_waits h.2
+  in-7 true octets (Reject nr true) h = supervisory false nr Established.acknowledged_by_rej_in_7 (λ ws r n. search words depth 12 fits 4000) h.2
   in-7 true octets (Reject nr false) h = absurd (true≢false (sym h.1))
   in-7 false octets (Reject nr p) h = absurd (true≢false (sym h.0))
-  in-7 command octets (Sabme p) h = absurd h
-  in-7 command octets (Disc p) h = absurd h
-  in-7 command octets (Ui p) h = absurd h
-  in-7 command octets (Ua f) h = absurd h
-  in-7 command octets (Dm f) h = absurd h
-  in-7 command octets (Frmr f) h = absurd h
-  in-7 command octets (Xid pf) h = absurd h
+  in-7 command octets other h = absurd h
 
   in-8 : (command : Bool) (octets : List ℕ) (control : Control) → IsPollWith t l command octets control
       → Answered l.waiting (TimerRecovery.frame_in_8 t command octets control (begun l)).link
   in-8 command octets (Information ns nr true) h = information ns nr octets Words.acknowledge h.1 (λ ws r n. leaves (λ c h. h)) h.2
   in-8 command octets (Information ns nr false) h = absurd (true≢false (sym h.0))
-  in-8 true octets (ReceiveReady nr true) h = supervisory false nr (TimerRecovery.acknowledged_in_8 T203 false) (λ ws r n. in_8_waits ws r T203 false n) h.2
+  in-8 true octets (ReceiveReady nr true) h = supervisory false nr (TimerRecovery.acknowledged_in_8 T203 false) (λ ws r n. search words depth 12 fits 4000) h.2
   in-8 true octets (ReceiveReady nr false) h = absurd (true≢false (sym h.1))
   in-8 false octets (ReceiveReady nr p) h = absurd (true≢false (sym h.0))
-  in-8 true octets (ReceiveNotReady nr true) h = supervisory true nr (TimerRecovery.acknowledged_in_8 T200 false) (λ ws r n. in_8_waits ws r T200 false n) h.2
+  in-8 true octets (ReceiveNotReady nr true) h = supervisory true nr (TimerRecovery.acknowledged_in_8 T200 false) (λ ws r n. search words depth 12 fits 4000) h.2
   in-8 true octets (ReceiveNotReady nr false) h = absurd (true≢false (sym h.1))
   in-8 false octets (ReceiveNotReady nr p) h = absurd (true≢false (sym h.0))
-  in-8 true octets (Reject nr true) h = supervisory false nr (TimerRecovery.acknowledged_in_8 T203 false) (λ ws r n. in_8_waits ws r T203 false n) h.2
+  in-8 true octets (Reject nr true) h = supervisory false nr (TimerRecovery.acknowledged_in_8 T203 false) (λ ws r n. search words depth 12 fits 4000) h.2
   in-8 true octets (Reject nr false) h = absurd (true≢false (sym h.1))
   in-8 false octets (Reject nr p) h = absurd (true≢false (sym h.0))
-  in-8 command octets (Sabme p) h = absurd h
-  in-8 command octets (Disc p) h = absurd h
-  in-8 command octets (Ui p) h = absurd h
-  in-8 command octets (Ua f) h = absurd h
-  in-8 command octets (Dm f) h = absurd h
-  in-8 command octets (Frmr f) h = absurd h
-  in-8 command octets (Xid pf) h = absurd h
+  in-8 command octets other h = absurd h
 
   frames-in : (here : State) → IsTrue (is_multiple_frame here) → (command : Bool) (octets : List ℕ) (control : Control)
       → IsPollWith t l command octets control → Answered l.waiting (Machine.frame_in here t command octets control (begun l)).link

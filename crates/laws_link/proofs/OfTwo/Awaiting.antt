@@ -1,5 +1,5 @@
 -- In state 7 T200 runs only where something is awaited: each row, and each event.
-use Rattle.laws_link.proofs.Vocabulary.{◌≡◌, ◌≢◌, ◌⊎◌, inl, inr, ℕ, ◌+◌, ◌≤◌, ◌==◌, ◌&&◌, nat_lt, Bool, true, false, cond, List, [], ◌∷◌, Option, None, Some, refl, sym, ap, ◌∙◌, arith, true≢false, eq-eqb, ltb-false, Seq, named, Control, Information, ReceiveReady, ReceiveNotReady, Reject, Sabme, Disc, Ui, Ua, Dm, Frmr, Xid, ErrorCode, Refusal, State, TeiAssigned, AwaitingEstablishment, AwaitingRelease, Established, TimerRecovery, LinkTimer, T200, T203, ControlFrame, Terms, Link, frame, undefined, wrong_size, overlong, Request, Establish, Release, Data, Event, received, expired, requested, offer, cleared, Course, Step, begun, ◌then◌, nothing, runs, frame_in_4, frame_in_5, frame_in_6, Leads, then_leads, bit_leads, named-within}
+use Rattle.laws_link.proofs.Vocabulary.{◌≡◌, ◌≢◌, ◌⊎◌, inl, inr, ℕ, ◌+◌, ◌≤◌, ◌==◌, ◌&&◌, nat_lt, Bool, true, false, cond, List, [], ◌∷◌, Option, None, Some, refl, sym, ap, ◌∙◌, arith, true≢false, eq-eqb, ltb-false, Seq, named, Control, Information, ReceiveReady, ReceiveNotReady, Reject, Sabme, Disc, Ui, Ua, Dm, Frmr, Xid, ErrorCode, Refusal, State, TeiAssigned, AwaitingEstablishment, AwaitingRelease, Established, TimerRecovery, LinkTimer, T200, T203, ControlFrame, Terms, Link, frame, undefined, wrong_size, overlong, Request, Establish, Release, Data, Event, received, expired, requested, offer, cleared, Course, Step, begun, ◌then◌, nothing, runs, frame_in_4, frame_in_5, frame_in_6, Leads, then_leads, bit_leads, named-within, both_ways}
 use Rattle.model_link.specs.Words
 use Rattle.model_link.specs.MultipleFrame
 use Rattle.model_link.specs.Established
@@ -209,23 +209,19 @@ module _ (t : Terms) (l : Link) (h : Awaits l.state l.running l.peer_busy l.a l.
   malformed TimerRecovery e = (failed-ends t {P = Any} e).leads (begun l) tt
   malformed other e = record { holds = h }
 
-  branch : (b : Bool) (u v : Course) → Awaiting u → Awaiting v → Awaiting (cond b u v)
-  branch true u v x y = x
-  branch false u v x y = y
-
   expiries : (here : State) → l.state ≡ here → (timer : LinkTimer) → Awaiting (Machine.expired_in here timer t (begun l))
   expiries TeiAssigned e timer = before
   expiries AwaitingEstablishment e T200 =
-      branch (nat_lt l.repeats t.n200) _ _ (record { holds = stays-elsewhere AwaitingEstablishment refl l.state e _ _ _ _ })
+      both_ways Awaiting (nat_lt l.repeats t.n200) _ _ (record { holds = stays-elsewhere AwaitingEstablishment refl l.state e _ _ _ _ })
       (record { holds = elsewhere TeiAssigned refl _ _ _ _ })
   expiries AwaitingEstablishment e T203 = before
   expiries AwaitingRelease e T200 =
-      branch (nat_lt l.repeats t.n200) _ _ (record { holds = stays-elsewhere AwaitingRelease refl l.state e _ _ _ _ })
+      both_ways Awaiting (nat_lt l.repeats t.n200) _ _ (record { holds = stays-elsewhere AwaitingRelease refl l.state e _ _ _ _ })
       (record { holds = elsewhere TeiAssigned refl _ _ _ _ })
   expiries AwaitingRelease e T203 = before
   expiries Established e timer = record { holds = elsewhere TimerRecovery refl _ _ _ _ }
   expiries TimerRecovery e T200 =
-      branch (nat_lt l.repeats t.n200) _ _ (record { holds = stays-elsewhere TimerRecovery refl l.state e _ _ _ _ })
+      both_ways Awaiting (nat_lt l.repeats t.n200) _ _ (record { holds = stays-elsewhere TimerRecovery refl l.state e _ _ _ _ })
       ((failed-ends t {P = Any} ErrorCode.I).leads (begun l) tt)
   expiries TimerRecovery e T203 = before
 
@@ -239,7 +235,7 @@ module _ (t : Terms) (l : Link) (h : Awaits l.state l.running l.peer_busy l.a l.
   grants Establish = record { holds = elsewhere AwaitingEstablishment refl _ _ _ _ }
   grants Release = releases l.state
   grants (Data octets) = record { holds = h }
-  grants other = branch l.own_busy _ _ (record { holds = h }) (record { holds = h })
+  grants other = both_ways Awaiting l.own_busy _ _ (record { holds = h }) (record { holds = h })
 
   asked : (request : Request) (o : Option Refusal) → Awaiting (elim o [ None ↦ Requests.granted t request (begun l) | Some _ ↦ begun l ])
   asked request None = grants request
@@ -252,17 +248,17 @@ module _ (t : Terms) (l : Link) (h : Awaits l.state l.running l.peer_busy l.a l.
   offers : (ws : List ControlFrame) → Awaiting (Offers.offer_among t ws (begun l))
   offers (f ∷ fs) = record { holds = h }
   offers [] =
-      branch (Offers.may_send_information t l) _ _
-      (branch (Offers.is_awaiting_acknowledgement (Offers.with_one_sent l)) _ _
+      both_ways Awaiting (Offers.may_send_information t l) _ _
+      (both_ways Awaiting (Offers.is_awaiting_acknowledgement (Offers.with_one_sent l)) _ _
       (record { holds = λ at timer. inr one-more }) (record { holds = λ at timer. inr one-more }))
-      (branch l.pending _ _ (record { holds = h }) (record { holds = h }))
+      (both_ways Awaiting l.pending _ _ (record { holds = h }) (record { holds = h }))
 
   pub event-awaits : (e : Event) → Awaiting (Machine.course t e l)
   event-awaits (received (frame f)) = frames l.state refl f.address.command f.info f.control
   event-awaits (received undefined) = malformed l.state ErrorCode.L
   event-awaits (received wrong_size) = malformed l.state ErrorCode.N
   event-awaits (received overlong) = malformed l.state ErrorCode.O
-  event-awaits (expired timer) = branch (Machine.is_running timer l) _ _ (expiries l.state refl timer) before
+  event-awaits (expired timer) = both_ways Awaiting (Machine.is_running timer l) _ _ (expiries l.state refl timer) before
   event-awaits (requested request full) = asked request (Requests.refusal t l full request)
   event-awaits offer = offers l.waiting
   event-awaits cleared = record { holds = elsewhere TeiAssigned refl _ _ _ _ }

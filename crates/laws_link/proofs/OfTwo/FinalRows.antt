@@ -1,5 +1,5 @@
 -- No event but a poll makes a response with F=1 wait, and a poll makes at most one.
-use Rattle.laws_link.proofs.Vocabulary.{◌≡◌, ℕ, ◌+◌, ◌≤◌, Bool, true, false, cond, ◌&&◌, List, [], ◌∷◌, Option, None, Some, arith, sum_by-cons, Seq, Control, Information, ReceiveReady, ReceiveNotReady, Reject, Sabme, Disc, Ui, Ua, Dm, Frmr, Xid, ErrorCode, Refusal, State, TeiAssigned, AwaitingEstablishment, AwaitingRelease, Established, TimerRecovery, LinkTimer, T200, T203, ControlFrame, Terms, Link, frame, Request, Establish, Release, Data, SetBusy, ClearBusy, Event, received, expired, requested, offer, cleared, Course, Step, begun, frame_in_4, establish_in_4, frame_in_5, frame_in_6, Leads, then_leads, nothing_leads, bit_leads, finals, is_poll, polls, is_final_response}
+use Rattle.laws_link.proofs.Vocabulary.{◌≡◌, ℕ, ◌+◌, ◌≤◌, Bool, true, false, cond, ◌&&◌, List, [], ◌∷◌, Option, None, Some, arith, sum_by-cons, Seq, Control, Information, ReceiveReady, ReceiveNotReady, Reject, Sabme, Disc, Ui, Ua, Dm, Frmr, Xid, ErrorCode, Refusal, State, TeiAssigned, AwaitingEstablishment, AwaitingRelease, Established, TimerRecovery, LinkTimer, T200, T203, ControlFrame, Terms, Link, frame, Request, Establish, Release, Data, SetBusy, ClearBusy, Event, received, expired, requested, offer, cleared, Course, Step, begun, frame_in_4, establish_in_4, frame_in_5, frame_in_6, Leads, then_leads, nothing_leads, bit_leads, finals, is_poll, polls, is_final_response, both_ways}
 use Rattle.model_link.specs.Words
 use Rattle.model_link.specs.MultipleFrame
 use Rattle.model_link.specs.Established
@@ -125,16 +125,12 @@ module _ (t : Terms) (n : ℕ) where
   asked request c None h = grants request c h
   asked request c (Some w) h = h
 
-  chosen : (b : Bool) (u v : Course) → Few n u → Few n v → Few n (cond b u v)
-  chosen true u v x y = x
-  chosen false u v x y = y
-
   offers : (ws : List ControlFrame) (c : Course) → finals ws ≤ n → Few n c → Few n (Offers.offer_among t ws c)
   offers (f ∷ fs) c few h = record { few = let e : finals (f ∷ fs) ≡ cond {A = ℕ} (is_final_response f) 1 0 + finals fs = sum_by-cons (λ g. cond {A = ℕ} (is_final_response g) 1 0) f fs in omega (arith, few) }
   offers [] c few h =
-      chosen (Offers.may_send_information t c.link) _ _
-      (chosen (Offers.is_awaiting_acknowledgement (Offers.with_one_sent c.link)) _ _ (record { few = h.few }) (record { few = h.few }))
-      (chosen c.link.pending _ _ (record { few = h.few }) h)
+      both_ways (Few n) (Offers.may_send_information t c.link) _ _
+      (both_ways (Few n) (Offers.is_awaiting_acknowledgement (Offers.with_one_sent c.link)) _ _ (record { few = h.few }) (record { few = h.few }))
+      (both_ways (Few n) c.link.pending _ _ (record { few = h.few }) h)
 
 none-left : (n : ℕ) (c : Course) → Few n c → finals c.link.waiting ≤ n + 0
 none-left n c h = omega (arith, h.few)
@@ -142,7 +138,7 @@ none-left n c h = omega (arith, h.few)
 pub event-finals : (t : Terms) (l : Link) (e : Event) → finals (Machine.after t e l).waiting ≤ finals l.waiting + polls e
 event-finals t l (received (frame f)) = ((frames t (finals l.waiting) f.address.command f.info f.control).leads (begun l) (record { few = omega arith })).few
 event-finals t l (expired timer) =
-    none-left _ _ (chosen t (finals l.waiting) (Machine.is_running timer l) _ _ ((expiries t (finals l.waiting) l.state timer).leads (begun l) (record { few = omega arith })) (record { few = omega arith }))
+    none-left _ _ (both_ways (Few (finals l.waiting)) (Machine.is_running timer l) _ _ ((expiries t (finals l.waiting) l.state timer).leads (begun l) (record { few = omega arith })) (record { few = omega arith }))
 event-finals t l (requested request full) = none-left _ _ (asked t (finals l.waiting) request (begun l) (Requests.refusal t l full request) (record { few = omega arith }))
 event-finals t l offer = none-left _ _ (offers t (finals l.waiting) l.waiting (begun l) (omega arith) (record { few = omega arith }))
 event-finals t l cleared = none-left _ (Machine.course t cleared l) (cleared-few l.state)

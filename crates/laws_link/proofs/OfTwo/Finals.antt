@@ -1,5 +1,5 @@
 -- How many responses with F=1 wait: each word but the answers leaves their number.
-use Rattle.laws_link.proofs.Vocabulary.{◌≡◌, ℕ, ◌+◌, ◌≤◌, Bool, true, false, cond, List, [], ◌∷◌, ◌++◌, Option, None, Some, refl, subst, arith, sum_by_push, Seq, seq, named, Control, ReceiveReady, ReceiveNotReady, Reject, Ua, Dm, Note, State, LinkTimer, ControlFrame, Terms, Link, Course, Step, ◌then◌, nothing, by_bit, Leads, then_leads, keeping_then, nothing_leads, depending_leads, bit_leads, to_less, finals, is_final_response, ErrorCode}
+use Rattle.laws_link.proofs.Vocabulary.{◌≡◌, ℕ, ◌+◌, ◌≤◌, Bool, true, false, cond, List, [], ◌∷◌, ◌++◌, Option, None, Some, refl, subst, arith, sum_by_push, Seq, seq, named, Control, ReceiveReady, ReceiveNotReady, Reject, Ua, Dm, Note, State, LinkTimer, ControlFrame, Terms, Link, Course, Step, ◌then◌, nothing, by_bit, Leads, then_leads, keeping_then, nothing_leads, depending_leads, bit_leads, to_less, finals, is_final_response, ErrorCode, number_leads}
 use Rattle.model_link.specs.Words
 
 -- At most n of them wait.
@@ -82,17 +82,11 @@ weaker n false x = to_less (λ c h. record { few = omega (arith, h.few) }) x
 
 pub ruleset words = (few_stays, keeping_then, nothing_leads, depending_leads, bit_leads, command_few, enquire_few, report_few)
 
-by-number : (t : Terms) (n : ℕ) (nr : Seq) (f : ℕ → Step) → Leads (Few n) (Words.error t ErrorCode.J then Words.re_establish t) (Few n)
-    → ((m : ℕ) → Leads (Few n) (f m) (Few n)) → (c : Course) → Few n c → (o : Option ℕ)
-    → Few n (elim o [ None ↦ (Words.error t ErrorCode.J then Words.re_establish t) c | Some m ↦ f m c ])
-by-number t n nr f w x c h None = w.leads c h
-by-number t n nr f w x c h (Some m) = (x m).leads c h
-
 pub failed_few : (t : Terms) (n : ℕ) (x : Note) → Leads (Few n) (Words.note x then Words.re_establish t) (Few n)
 failed_few t n x = search words depth 12 fits 4000
 
 pub number_few : (t : Terms) (n : ℕ) (nr : Seq) {f : ℕ → Step} → ((m : ℕ) → Leads (Few n) (f m) (Few n)) → Leads (Few n) (Words.by_number t nr f) (Few n)
-number_few t n nr {f} x = record { leads = λ c h. by-number t n nr f (failed_few t n _) x c h (named c.link.a c.link.s nr) }
+number_few t n nr x = number_leads t nr (failed_few t n _) x
 
 -- an answer, and then the rest
 pub ua_then : (t : Terms) (n : ℕ) (p : Bool) {g : Step} → Leads (Few (n + cond {A = ℕ} p 1 0)) g (Few (n + cond {A = ℕ} p 1 0))

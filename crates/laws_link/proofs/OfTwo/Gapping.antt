@@ -1,5 +1,5 @@
 -- The first I-frame out of sequence is answered by REJ, and a delivery ends the wait for what REJ asked for.
-use Rattle.laws_link.proofs.Vocabulary.{◌≡◌, ℕ, ◌+◌, ◌≤◌, Bool, true, false, cond, IsTrue, List, [], ◌∷◌, ◌++◌, length, Option, None, Some, refl, sym, ap, subst, ◌∙◌, ◌⊎◌, inl, inr, true≢false, arith, nat_lt, lt-ltb, le-ltb, none-some, Seq, seq, named, Address, Control, Information, Reject, State, Established, TimerRecovery, LinkTimer, ControlFrame, Terms, Link, is_multiple_frame, Arrived, information_of, eligible, eligible_of, Course, begun, Step, ◌then◌, by_bit, Leads, keeping_then, nothing_leads, depending_leads, delivered-at_once, IsValidAt, i_frame, IsFirstGap, leaves, ErrorCode}
+use Rattle.laws_link.proofs.Vocabulary.{◌≡◌, ℕ, ◌+◌, ◌≤◌, Bool, true, false, cond, IsTrue, List, [], ◌∷◌, ◌++◌, length, Option, None, Some, refl, sym, ap, subst, ◌∙◌, ◌⊎◌, inl, inr, true≢false, arith, nat_lt, lt-ltb, le-ltb, none-some, Seq, seq, named, Address, Control, Information, Reject, State, Established, TimerRecovery, LinkTimer, ControlFrame, Terms, Link, is_multiple_frame, Arrived, information_of, eligible, eligible_of, Course, begun, Step, ◌then◌, by_bit, Leads, keeping_then, nothing_leads, depending_leads, delivered-at_once, IsValidAt, i_frame, IsFirstGap, leaves, ErrorCode, both_ways}
 use Rattle.model_link.specs.Events
 use Rattle.model_link.specs.Words
 use Rattle.model_link.specs.MultipleFrame
@@ -70,15 +70,11 @@ in_7_ends : (n : ℕ) → Leads Ended (Established.acknowledged_by_information_i
 in_7_ends n = search (keeping_then, nothing_leads, depending_leads, acknowledge_ends, start_ends) depth 12 fits 4000
 
 module _ (t : Terms) (l : Link) where
-  branch : (b : Bool) (u v : Course) → Ended u → Ended v → Ended (cond b u v)
-  branch true u v x y = x
-  branch false u v x y = y
-
   delivering : (ns : Seq) (p : Bool) (octets : List ℕ) → Ended (MultipleFrame.contents_in_7_8 t ns p octets (begun l))
   delivering ns p octets =
-      branch l.own_busy _ _ (branch p _ _ (inl refl) (inl refl))
-      (branch (MultipleFrame.is_next ns l) _ _ (branch p _ _ (inr refl) (inr refl))
-      (branch l.rejecting _ _ (branch p _ _ (inl refl) (inl refl)) (inl refl)))
+      both_ways Ended l.own_busy _ _ (both_ways Ended p _ _ (inl refl) (inl refl))
+      (both_ways Ended (MultipleFrame.is_next ns l) _ _ (both_ways Ended p _ _ (inr refl) (inr refl))
+      (both_ways Ended l.rejecting _ _ (both_ways Ended p _ _ (inl refl) (inl refl)) (inl refl)))
 
   by-number : (f : ℕ → Step) → ((n : ℕ) → Leads Ended (f n) Ended) → (c : Course) → Ended c → (o : Option ℕ)
       → Ended (elim o [ None ↦ (Words.error t ErrorCode.J then Words.re_establish t) c | Some n ↦ f n c ])

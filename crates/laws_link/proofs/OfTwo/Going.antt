@@ -1,5 +1,5 @@
 -- What requests, expiries and offers do to a link that stays in states 7 and 8, and to what is on its line.
-use Rattle.laws_link.proofs.Vocabulary.{◌≡◌, ◌+◌, ◌-◌, Bool, true, false, cond, not, ◌&&◌, IsTrue, List, [], ◌∷◌, ◌++◌, Option, None, Some, refl, sym, ap, subst, ◌∙◌, append_assoc, append-nil, ◌⊎◌, inl, inr, true≢false, nat_lt, length, slice_get, unwrap_or, and_parts, seq, ReceiveReady, ReceiveNotReady, Refusal, WrongState, Parts, State, Established, TimerRecovery, LinkTimer, T200, T203, ControlFrame, Terms, Link, is_multiple_frame, frame_of, may_repeat, Request, Establish, Release, Data, SetBusy, ClearBusy, expired, requested, offer, Course, begun, frame_given, frames_of, IsMildRequest, ErrorCode}
+use Rattle.laws_link.proofs.Vocabulary.{◌≡◌, ◌+◌, ◌-◌, Bool, true, false, cond, not, ◌&&◌, IsTrue, List, [], ◌∷◌, ◌++◌, Option, None, Some, refl, sym, ap, subst, ◌∙◌, append_assoc, append-nil, ◌⊎◌, inl, inr, true≢false, nat_lt, length, slice_get, unwrap_or, and_parts, seq, ReceiveReady, ReceiveNotReady, Refusal, WrongState, Parts, State, Established, TimerRecovery, LinkTimer, T200, T203, ControlFrame, Terms, Link, is_multiple_frame, frame_of, may_repeat, Request, Establish, Release, Data, SetBusy, ClearBusy, expired, requested, offer, Course, begun, frame_given, frames_of, IsMildRequest, ErrorCode, both_ways}
 use Rattle.model_link.specs.Words
 use Rattle.model_link.specs.MultipleFrame
 use Rattle.model_link.specs.Requests
@@ -54,10 +54,6 @@ module _ (t : Terms) (l : Link) where
   refuses None e = absurd (cc)
   refuses (Some w) e = nothing-new
 
-  either : (b : Bool) (u v : Course) → WentIn report l u → WentIn report l v → WentIn report l (cond b u v)
-  either true u v x y = x
-  either false u v x y = y
-
   reports : (l' : Link) (f : ControlFrame) → l'.state ≡ l.state → l'.s ≡ l.s → l'.r ≡ l.r → l'.rejecting ≡ l.rejecting
       → l'.waiting ≡ cond (Words.has_room t l) (l.waiting ++ f ∷ []) l.waiting → kind_of f.command f.control ≡ report → Went report l l'
   reports l' f state s r rejecting waiting is =
@@ -76,10 +72,10 @@ module _ (t : Terms) (l : Link) where
       by-refusal (Data octets) (Requests.refusal t l full (Data octets)) (record { state = refl; s = refl; r = refl; rejecting = refl; waiting = inl refl })
   asks-went up SetBusy full mild =
       by-refusal SetBusy (Requests.refusal t l full SetBusy)
-      (either l.own_busy _ _ nothing-new (reports _ (Words.response (ReceiveNotReady (seq l.r) false)) refl refl refl refl refl refl))
+      (both_ways (WentIn report l) l.own_busy _ _ nothing-new (reports _ (Words.response (ReceiveNotReady (seq l.r) false)) refl refl refl refl refl refl))
   asks-went up ClearBusy full mild =
       by-refusal ClearBusy (Requests.refusal t l full ClearBusy)
-      (either l.own_busy _ _ (reports _ (Words.response (ReceiveReady (seq l.r) false)) refl refl refl refl refl refl) nothing-new)
+      (both_ways (WentIn report l) l.own_busy _ _ (reports _ (Words.response (ReceiveReady (seq l.r) false)) refl refl refl refl refl refl) nothing-new)
 
   -- An expiry: the timer does not run, or an enquiry waits.
   kind-of-enquiry : (own : Bool) → kind_of true (cond own (ReceiveNotReady (seq l.r) true) (ReceiveReady (seq l.r) true)) ≡ enquiry

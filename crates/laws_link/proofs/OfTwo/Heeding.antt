@@ -1,5 +1,5 @@
 -- Where T200 runs while the terminal is taken for busy: each word, and each row.
-use Rattle.laws_link.proofs.Vocabulary.{◌≡◌, ℕ, Bool, true, false, cond, IsTrue, List, Option, None, Some, refl, sym, subst, true≢false, Seq, named, Control, Information, ReceiveReady, ReceiveNotReady, Reject, Sabme, Disc, Ui, Ua, Dm, Frmr, Xid, Note, State, TeiAssigned, AwaitingEstablishment, AwaitingRelease, Established, TimerRecovery, LinkTimer, T200, T203, ControlFrame, Terms, Course, Step, ◌then◌, frame_in_4, establish_in_4, frame_in_5, t200_in_5, frame_in_6, t200_in_6, Leads, then_leads, keeping_then, nothing_leads, depending_leads, bit_leads, to_less, HeedsIn, leaves, ErrorCode}
+use Rattle.laws_link.proofs.Vocabulary.{◌≡◌, ℕ, Bool, true, false, cond, IsTrue, List, Option, None, Some, refl, sym, subst, true≢false, Seq, named, Control, Information, ReceiveReady, ReceiveNotReady, Reject, Sabme, Disc, Ui, Ua, Dm, Frmr, Xid, Note, State, TeiAssigned, AwaitingEstablishment, AwaitingRelease, Established, TimerRecovery, LinkTimer, T200, T203, ControlFrame, Terms, Course, Step, ◌then◌, frame_in_4, establish_in_4, frame_in_5, t200_in_5, frame_in_6, t200_in_6, Leads, then_leads, keeping_then, nothing_leads, depending_leads, bit_leads, to_less, HeedsIn, leaves, ErrorCode, number_leads}
 use Rattle.model_link.specs.Words
 use Rattle.model_link.specs.MultipleFrame
 use Rattle.model_link.specs.Established
@@ -117,13 +117,8 @@ module _ {P : Claim} (t : Terms) where
   pub enter_6_heeds : Leads (On P) (Words.enter AwaitingRelease) (On heeding)
   enter_6_heeds = record { leads = λ c h. record { holds = tt } }
 
-  by-number : (nr : Seq) (f : ℕ → Step) → ((m : ℕ) → Leads (On P) (f m) (On heeding)) → (c : Course) → On P c → (o : Option ℕ)
-      → On heeding (elim o [ None ↦ (Words.error t ErrorCode.J then Words.re_establish t) c | Some m ↦ f m c ])
-  by-number nr f x c h None = record { holds = refl }
-  by-number nr f x c h (Some m) = (x m).leads c h
-
   pub number_heeds : (nr : Seq) {f : ℕ → Step} → ((m : ℕ) → Leads (On P) (f m) (On heeding)) → Leads (On P) (Words.by_number t nr f) (On heeding)
-  number_heeds nr {f} x = record { leads = λ c h. by-number nr f x c h (named c.link.a c.link.s nr) }
+  number_heeds nr x = number_leads t nr (re_establish_heeds _) x
 
   -- a last word that may stop a timer: into state 4
   pub no_timer_then_4 : Leads (On P) (Words.no_timer then Words.enter TeiAssigned) (On heeding)

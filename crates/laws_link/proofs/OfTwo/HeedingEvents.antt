@@ -1,5 +1,5 @@
 -- T200 runs while the terminal is taken for busy: every event.
-use Rattle.laws_link.proofs.Vocabulary.{◌≡◌, ℕ, Bool, true, false, cond, ◌&&◌, not, List, [], ◌∷◌, Option, None, Some, refl, sym, subst, true≢false, Control, ErrorCode, Refusal, State, TeiAssigned, AwaitingEstablishment, AwaitingRelease, Established, TimerRecovery, LinkTimer, T200, T203, ControlFrame, Terms, Link, fresh, frame, Request, Establish, Release, Data, Event, received, expired, requested, offer, cleared, Course, begun, HeedsIn, Heeds}
+use Rattle.laws_link.proofs.Vocabulary.{◌≡◌, ℕ, Bool, true, false, cond, ◌&&◌, not, List, [], ◌∷◌, Option, None, Some, refl, sym, subst, true≢false, Control, ErrorCode, Refusal, State, TeiAssigned, AwaitingEstablishment, AwaitingRelease, Established, TimerRecovery, LinkTimer, T200, T203, ControlFrame, Terms, Link, fresh, frame, Request, Establish, Release, Data, Event, received, expired, requested, offer, cleared, Course, begun, HeedsIn, Heeds, both_ways}
 use Rattle.model_link.specs.Requests
 use Rattle.model_link.specs.Offers
 use Rattle.model_link.specs.Machine
@@ -37,10 +37,6 @@ module _ (t : Terms) (l : Link) where
   frames-in Established e h b octets control = (Heeding.in_7 t b octets control).leads (begun l) (at-7 e h)
   frames-in TimerRecovery e h b octets control = (Heeding.in_8 t b octets control).leads (begun l) (at-8 e h)
 
-  branch : (b : Bool) (u v : Course) → Ends u → Ends v → Ends (cond b u v)
-  branch true u v x y = x
-  branch false u v x y = y
-
   frames : Heeds l → (b : Bool) (octets : List ℕ) (control : Control) → Ends (Machine.frame_step t b octets control (begun l))
   frames h b octets control = frames-in l.state refl h.heeds b octets control
 
@@ -69,7 +65,7 @@ module _ (t : Terms) (l : Link) where
   grants h Establish = record { holds = refl }
   grants h Release = releases l.state refl h.heeds
   grants h (Data octets) = record { holds = h.heeds }
-  grants h other = branch l.own_busy _ _ (record { holds = h.heeds }) (record { holds = h.heeds })
+  grants h other = both_ways Ends l.own_busy _ _ (record { holds = h.heeds }) (record { holds = h.heeds })
 
   asked : Heeds l → (request : Request) (o : Option Refusal) → Ends (elim o [ None ↦ Requests.granted t request (begun l) | Some _ ↦ begun l ])
   asked h request None = grants h request
@@ -91,13 +87,13 @@ module _ (t : Terms) (l : Link) where
   offers h (f ∷ fs) = record { holds = h.heeds }
   offers h [] =
       told (Offers.may_send_information t l) _ _
-      (λ e. branch (Offers.is_awaiting_acknowledgement (Offers.with_one_sent l)) _ _
+      (λ e. both_ways Ends (Offers.is_awaiting_acknowledgement (Offers.with_one_sent l)) _ _
       (record { holds = free l.state l.peer_busy _ _ e l.running }) (record { holds = free l.state l.peer_busy _ _ e (Some T200) }))
-      (branch l.pending _ _ (record { holds = h.heeds }) (record { holds = h.heeds }))
+      (both_ways Ends l.pending _ _ (record { holds = h.heeds }) (record { holds = h.heeds }))
 
 pub heeds-after : (t : Terms) (e : Event) (l : Link) → Heeds l → Heeds (Machine.after t e l)
 heeds-after t (received (frame f)) l h = record { heeds = (frames t l h f.address.command f.info f.control).holds }
-heeds-after t (expired timer) l h = record { heeds = (branch t l (Machine.is_running timer l) _ _ (expiries t l l.state refl h.heeds timer) (record { holds = h.heeds })).holds }
+heeds-after t (expired timer) l h = record { heeds = (both_ways Ends (Machine.is_running timer l) _ _ (expiries t l l.state refl h.heeds timer) (record { holds = h.heeds })).holds }
 heeds-after t (requested request full) l h = record { heeds = (asked t l h request (Requests.refusal t l full request)).holds }
 heeds-after t offer l h = record { heeds = (offers t l h l.waiting).holds }
 heeds-after t cleared l h = record { heeds = tt }

@@ -1,5 +1,5 @@
 -- What keeps a link in states 7 and 8: each word, each row of a frame whose N(R) is valid, and each mild event.
-use Rattle.laws_link.proofs.Vocabulary.{◌≡◌, ℕ, ◌<◌, ◌≤◌, Bool, true, false, cond, IsTrue, List, [], ◌∷◌, length, Option, None, Some, refl, sym, ap, subst, ◌∙◌, true≢false, lt-ltb, le-ltb, Seq, seq, named, Control, Information, ReceiveReady, ReceiveNotReady, Reject, Sabme, Disc, Ui, Ua, Dm, Frmr, Xid, Note, Refusal, WrongState, State, TeiAssigned, AwaitingEstablishment, AwaitingRelease, Established, TimerRecovery, LinkTimer, T200, T203, ControlFrame, Terms, Link, is_multiple_frame, Request, Establish, Release, Data, SetBusy, ClearBusy, expired, requested, offer, Course, begun, Step, ◌then◌, Leads, then_leads, keeping_then, nothing_leads, depending_leads, bit_leads, Means, IsMildRequest, leaves, ErrorCode}
+use Rattle.laws_link.proofs.Vocabulary.{◌≡◌, ℕ, ◌<◌, ◌≤◌, Bool, true, false, cond, IsTrue, List, [], ◌∷◌, length, Option, None, Some, refl, sym, ap, subst, ◌∙◌, true≢false, lt-ltb, le-ltb, Seq, seq, named, Control, Information, ReceiveReady, ReceiveNotReady, Reject, Sabme, Disc, Ui, Ua, Dm, Frmr, Xid, Note, Refusal, WrongState, State, TeiAssigned, AwaitingEstablishment, AwaitingRelease, Established, TimerRecovery, LinkTimer, T200, T203, ControlFrame, Terms, Link, is_multiple_frame, Request, Establish, Release, Data, SetBusy, ClearBusy, expired, requested, offer, Course, begun, Step, ◌then◌, Leads, then_leads, keeping_then, nothing_leads, depending_leads, bit_leads, Means, IsMildRequest, leaves, ErrorCode, both_ways}
 use Rattle.model_link.specs.Words
 use Rattle.model_link.specs.MultipleFrame
 use Rattle.model_link.specs.Established
@@ -32,21 +32,6 @@ enter_7_stays = record { leads = λ c h. record { up = refl } }
 pub ruleset words = (leaves, keeping_then, nothing_leads, depending_leads, bit_leads)
 
 pub ruleset effects = (leaves, keeping_then, nothing_leads, depending_leads, bit_leads, enter_7_stays)
-
-in_7_stays : (n : ℕ) → Leads Stays (Established.acknowledged_in_7 n) Stays
-in_7_stays n = search effects depth 12 fits 4000
-
-information_7_stays : (n : ℕ) → Leads Stays (Established.acknowledged_by_information_in_7 n) Stays
-information_7_stays n = search effects depth 12 fits 4000
-
-rnr_7_stays : (n : ℕ) → Leads Stays (Established.acknowledged_by_rnr_in_7 n) Stays
-rnr_7_stays n = search effects depth 12 fits 4000
-
-rej_7_stays : (n : ℕ) → Leads Stays (Established.acknowledged_by_rej_in_7 n) Stays
-rej_7_stays n = search effects depth 12 fits 4000
-
-in_8_stays : (timer : LinkTimer) (final : Bool) (n : ℕ) → Leads Stays (TimerRecovery.acknowledged_in_8 timer final n) Stays
-in_8_stays timer final n = search effects depth 12 fits 4000
 
 -- what fits, where it is an I-frame
 abbrev pub Fits : Terms → Control → List ℕ → Type 0
@@ -90,16 +75,16 @@ module _ (t : Terms) (l : Link) (up : IsTrue (is_multiple_frame l.state)) (p : �
   in-7 : (b : Bool) (octets : List ℕ) (control : Control) → Means p control → Fits t control octets → IsUpIn (Established.frame_in_7 t b octets control (begun l))
   in-7 b octets (Information ns nr x) e size =
       subst (λ n. IsUpIn (MultipleFrame.information_in_7_8 t ns n x octets Established.acknowledged_by_information_in_7 (begun l))) (sym e)
-      (information ns x octets Established.acknowledged_by_information_in_7 information_7_stays size)
+      (information ns x octets Established.acknowledged_by_information_in_7 (λ n. search effects depth 12 fits 4000) size)
   in-7 b octets (ReceiveReady nr pf) e size =
       subst (λ n. IsUpIn (MultipleFrame.supervisory t (Established.particulars_in_7 t) false b pf n (Established.particulars_in_7 t).by_rr (begun l))) (sym e)
-      (supervisory-7 false b pf (Established.particulars_in_7 t).by_rr (λ final n. in_7_stays n))
+      (supervisory-7 false b pf (Established.particulars_in_7 t).by_rr (λ final n. search effects depth 12 fits 4000))
   in-7 b octets (ReceiveNotReady nr pf) e size =
       subst (λ n. IsUpIn (MultipleFrame.supervisory t (Established.particulars_in_7 t) true b pf n (Established.particulars_in_7 t).by_rnr (begun l))) (sym e)
-      (supervisory-7 true b pf (Established.particulars_in_7 t).by_rnr (λ final n. rnr_7_stays n))
+      (supervisory-7 true b pf (Established.particulars_in_7 t).by_rnr (λ final n. search effects depth 12 fits 4000))
   in-7 b octets (Reject nr pf) e size =
       subst (λ n. IsUpIn (MultipleFrame.supervisory t (Established.particulars_in_7 t) false b pf n (Established.particulars_in_7 t).by_rej (begun l))) (sym e)
-      (supervisory-7 false b pf (Established.particulars_in_7 t).by_rej (λ final n. rej_7_stays n))
+      (supervisory-7 false b pf (Established.particulars_in_7 t).by_rej (λ final n. search effects depth 12 fits 4000))
   in-7 b octets other e size = absurd e
 
   in-8 : (b : Bool) (octets : List ℕ) (control : Control) → Means p control → Fits t control octets → IsUpIn (TimerRecovery.frame_in_8 t b octets control (begun l))
@@ -108,13 +93,13 @@ module _ (t : Terms) (l : Link) (up : IsTrue (is_multiple_frame l.state)) (p : �
       (information ns x octets Words.acknowledge (λ n. leaves (λ c h. h)) size)
   in-8 b octets (ReceiveReady nr pf) e size =
       subst (λ n. IsUpIn (MultipleFrame.supervisory t (TimerRecovery.particulars_in_8 t) false b pf n (TimerRecovery.particulars_in_8 t).by_rr (begun l))) (sym e)
-      (supervisory-8 false b pf (TimerRecovery.particulars_in_8 t).by_rr (in_8_stays T203))
+      (supervisory-8 false b pf (TimerRecovery.particulars_in_8 t).by_rr (λ final n. search effects depth 12 fits 4000))
   in-8 b octets (ReceiveNotReady nr pf) e size =
       subst (λ n. IsUpIn (MultipleFrame.supervisory t (TimerRecovery.particulars_in_8 t) true b pf n (TimerRecovery.particulars_in_8 t).by_rnr (begun l))) (sym e)
-      (supervisory-8 true b pf (TimerRecovery.particulars_in_8 t).by_rnr (in_8_stays T200))
+      (supervisory-8 true b pf (TimerRecovery.particulars_in_8 t).by_rnr (λ final n. search effects depth 12 fits 4000))
   in-8 b octets (Reject nr pf) e size =
       subst (λ n. IsUpIn (MultipleFrame.supervisory t (TimerRecovery.particulars_in_8 t) false b pf n (TimerRecovery.particulars_in_8 t).by_rej (begun l))) (sym e)
-      (supervisory-8 false b pf (TimerRecovery.particulars_in_8 t).by_rej (in_8_stays T203))
+      (supervisory-8 false b pf (TimerRecovery.particulars_in_8 t).by_rej (λ final n. search effects depth 12 fits 4000))
   in-8 b octets other e size = absurd e
 
   frames-in : (here : State) → IsTrue (is_multiple_frame here) → (b : Bool) (octets : List ℕ) (control : Control) → Means p control → Fits t control octets
@@ -138,10 +123,6 @@ module _ (t : Terms) (l : Link) (up : IsTrue (is_multiple_frame l.state)) where
   refused TimerRecovery e h full = ap (λ s. cond (Requests.serves s Establish) None (Some WrongState)) e
   refused other e h full = absurd (true≢false (sym h))
 
-  either : (b : Bool) (u v : Course) → IsUpIn u → IsUpIn v → IsUpIn (cond b u v)
-  either true u v x y = x
-  either false u v x y = y
-
   whatever : (request : Request) (o : Option Refusal) → IsUpIn (Requests.granted t request (begun l)) → IsUpIn (elim o [ None ↦ Requests.granted t request (begun l) | Some _ ↦ begun l ])
   whatever request None x = x
   whatever request (Some w) x = up
@@ -154,7 +135,7 @@ module _ (t : Terms) (l : Link) (up : IsTrue (is_multiple_frame l.state)) where
   request-stays Establish full mild = refuses (Requests.refusal t l full Establish) (refused l.state refl up full)
   request-stays Release full mild = absurd mild
   request-stays (Data octets) full mild = whatever (Data octets) (Requests.refusal t l full (Data octets)) up
-  request-stays other full mild = whatever other (Requests.refusal t l full other) (either l.own_busy _ _ up up)
+  request-stays other full mild = whatever other (Requests.refusal t l full other) (both_ways IsUpIn l.own_busy _ _ up up)
 
   expires-in : (here : State) → l.state ≡ here → IsTrue (is_multiple_frame here) → (timer : LinkTimer) → (here ≡ TimerRecovery → l.repeats < t.n200)
       → IsUpIn (Machine.expired_in here timer t (begun l))
@@ -171,8 +152,8 @@ module _ (t : Terms) (l : Link) (up : IsTrue (is_multiple_frame l.state)) where
   offers : (ws : List ControlFrame) → IsUpIn (Offers.offer_among t ws (begun l))
   offers (f ∷ fs) = up
   offers [] =
-      either (Offers.may_send_information t l) _ _ (either (Offers.is_awaiting_acknowledgement (Offers.with_one_sent l)) _ _ up up)
-      (either l.pending _ _ up up)
+      both_ways IsUpIn (Offers.may_send_information t l) _ _ (both_ways IsUpIn (Offers.is_awaiting_acknowledgement (Offers.with_one_sent l)) _ _ up up)
+      (both_ways IsUpIn l.pending _ _ up up)
 
   pub offer-stays : IsUpIn (Machine.course t offer l)
   offer-stays = offers l.waiting

@@ -1,5 +1,5 @@
 -- An answer that finds no room is told as lost.
-use Rattle.laws_link.proofs.Vocabulary.{◌≡◌, ℕ, ◌+◌, ◌≤◌, Bool, true, false, cond, IsTrue, List, length, Option, None, Some, is_some, sym, subst, true≢false, arith, nat_lt, le-ltb, Seq, named, Control, Information, ReceiveReady, ReceiveNotReady, Reject, Sabme, Disc, Ui, Ua, Dm, Frmr, Xid, Parts, State, TeiAssigned, Established, TimerRecovery, LinkTimer, T200, T203, Terms, Link, is_multiple_frame, frame, received, Course, begun, Step, ◌then◌, Leads, keeping_then, nothing_leads, depending_leads, bit_leads, IsPollWith, asked_of, leaves, ErrorCode}
+use Rattle.laws_link.proofs.Vocabulary.{◌≡◌, ℕ, ◌+◌, ◌≤◌, Bool, true, false, cond, IsTrue, List, length, Option, None, Some, is_some, sym, subst, true≢false, arith, nat_lt, le-ltb, Seq, named, Control, Information, ReceiveReady, ReceiveNotReady, Reject, Sabme, Disc, Ui, Ua, Dm, Frmr, Xid, Parts, State, TeiAssigned, Established, TimerRecovery, LinkTimer, T200, T203, Terms, Link, is_multiple_frame, frame, received, Course, begun, Step, ◌then◌, Leads, keeping_then, nothing_leads, depending_leads, bit_leads, IsPollWith, asked_of, leaves, ErrorCode, both_ways, number_leads}
 use Rattle.model_link.specs.Words
 use Rattle.model_link.specs.MultipleFrame
 use Rattle.model_link.specs.Established
@@ -18,28 +18,9 @@ begun_again_lost : (t : Terms) → Leads Lost (Words.re_establish t) Lost
 begun_again_lost t = record { leads = λ c h. more (Words.has_room t (Words.without_flags c.link)) c.lost h }
 
 number_lost : (t : Terms) (nr : Seq) {f : ℕ → Step} → ((n : ℕ) → Leads Lost (f n) Lost) → Leads Lost (Words.by_number t nr f) Lost
-number_lost t nr {f} x = record { leads = λ c h. go c h (named c.link.a c.link.s nr) }
-  where
-    go : (c : Course) → Lost c → (o : Option ℕ) → Lost (elim o [ None ↦ (Words.error t ErrorCode.J then Words.re_establish t) c | Some n ↦ f n c ])
-    go c h None = (begun_again_lost t).leads (Words.error t ErrorCode.J c) h
-    go c h (Some n) = (x n).leads c h
+number_lost t nr x = number_leads t nr (search (keeping_then, leaves, begun_again_lost)) x
 
 ruleset words = (leaves, keeping_then, nothing_leads, depending_leads, bit_leads, begun_again_lost, number_lost)
-
-in_7_lost : (n : ℕ) → Leads Lost (Established.acknowledged_in_7 n) Lost
-in_7_lost n = search words depth 12 fits 4000
-
-information_7_lost : (n : ℕ) → Leads Lost (Established.acknowledged_by_information_in_7 n) Lost
-information_7_lost n = search words depth 12 fits 4000
-
-rnr_7_lost : (n : ℕ) → Leads Lost (Established.acknowledged_by_rnr_in_7 n) Lost
-rnr_7_lost n = search words depth 12 fits 4000
-
-rej_7_lost : (n : ℕ) → Leads Lost (Established.acknowledged_by_rej_in_7 n) Lost
-rej_7_lost n = search words depth 12 fits 4000
-
-in_8_lost : (timer : LinkTimer) (final : Bool) (n : ℕ) → Leads Lost (TimerRecovery.acknowledged_in_8 timer final n) Lost
-in_8_lost timer final n = search words depth 12 fits 4000
 
 module _ (t : Terms) (l : Link) (full : t.control ≤ length l.waiting) where
   no-room : nat_lt (length l.waiting) t.control ≡ false
@@ -48,12 +29,8 @@ module _ (t : Terms) (l : Link) (full : t.control ≤ length l.waiting) where
   put : 1 ≤ cond {A = ℕ} (nat_lt (length l.waiting) t.control) 0 (0 + 1)
   put = subst (λ b. 1 ≤ cond {A = ℕ} b 0 (0 + 1)) (sym no-room) (omega arith)
 
-  branch : (b : Bool) (u v : Course) → Lost u → Lost v → Lost (cond b u v)
-  branch true u v x y = x
-  branch false u v x y = y
-
   contents : (ns : Seq) (octets : List ℕ) → Lost (MultipleFrame.contents_in_7_8 t ns true octets (begun l))
-  contents ns octets = branch l.own_busy _ _ put (branch (MultipleFrame.is_next ns l) _ _ put (branch l.rejecting _ _ put put))
+  contents ns octets = both_ways Lost l.own_busy _ _ put (both_ways Lost (MultipleFrame.is_next ns l) _ _ put (both_ways Lost l.rejecting _ _ put put))
 
   information : (ns nr : Seq) (octets : List ℕ) (f : ℕ → Step) → length octets ≤ t.n201 → ((n : ℕ) → Leads Lost (f n) Lost)
       → Lost (MultipleFrame.information_in_7_8 t ns nr true octets f (begun l))
@@ -68,45 +45,33 @@ module _ (t : Terms) (l : Link) (full : t.control ≤ length l.waiting) where
 
   in-7 : (command : Bool) (octets : List ℕ) (control : Control) → IsPollWith t l command octets control
       → Lost (Established.frame_in_7 t command octets control (begun l))
-  in-7 command octets (Information ns nr true) h = information ns nr octets Established.acknowledged_by_information_in_7 h.1 information_7_lost
+  in-7 command octets (Information ns nr true) h = information ns nr octets Established.acknowledged_by_information_in_7 h.1 (λ n. search words depth 12 fits 4000)
   in-7 command octets (Information ns nr false) h = absurd (true≢false (sym h.0))
-  in-7 true octets (ReceiveReady nr true) h = supervisory false nr Established.acknowledged_in_7 in_7_lost
+  in-7 true octets (ReceiveReady nr true) h = supervisory false nr Established.acknowledged_in_7 (λ n. search words depth 12 fits 4000)
   in-7 true octets (ReceiveReady nr false) h = absurd (true≢false (sym h.1))
   in-7 false octets (ReceiveReady nr p) h = absurd (true≢false (sym h.0))
-  in-7 true octets (ReceiveNotReady nr true) h = supervisory true nr Established.acknowledged_by_rnr_in_7 rnr_7_lost
+  in-7 true octets (ReceiveNotReady nr true) h = supervisory true nr Established.acknowledged_by_rnr_in_7 (λ n. search words depth 12 fits 4000)
   in-7 true octets (ReceiveNotReady nr false) h = absurd (true≢false (sym h.1))
   in-7 false octets (ReceiveNotReady nr p) h = absurd (true≢false (sym h.0))
-  in-7 true octets (Reject nr true) h = supervisory false nr Established.acknowledged_by_rej_in_7 rej_7_lost
+  in-7 true octets (Reject nr true) h = supervisory false nr Established.acknowledged_by_rej_in_7 (λ n. search words depth 12 fits 4000)
   in-7 true octets (Reject nr false) h = absurd (true≢false (sym h.1))
   in-7 false octets (Reject nr p) h = absurd (true≢false (sym h.0))
-  in-7 command octets (Sabme p) h = absurd h
-  in-7 command octets (Disc p) h = absurd h
-  in-7 command octets (Ui p) h = absurd h
-  in-7 command octets (Ua f) h = absurd h
-  in-7 command octets (Dm f) h = absurd h
-  in-7 command octets (Frmr f) h = absurd h
-  in-7 command octets (Xid pf) h = absurd h
+  in-7 command octets other h = absurd h
 
   in-8 : (command : Bool) (octets : List ℕ) (control : Control) → IsPollWith t l command octets control
       → Lost (TimerRecovery.frame_in_8 t command octets control (begun l))
   in-8 command octets (Information ns nr true) h = information ns nr octets Words.acknowledge h.1 (λ n. leaves (λ c h. h))
   in-8 command octets (Information ns nr false) h = absurd (true≢false (sym h.0))
-  in-8 true octets (ReceiveReady nr true) h = supervisory false nr (TimerRecovery.acknowledged_in_8 T203 false) (in_8_lost T203 false)
+  in-8 true octets (ReceiveReady nr true) h = supervisory false nr (TimerRecovery.acknowledged_in_8 T203 false) (λ n. search words depth 12 fits 4000)
   in-8 true octets (ReceiveReady nr false) h = absurd (true≢false (sym h.1))
   in-8 false octets (ReceiveReady nr p) h = absurd (true≢false (sym h.0))
-  in-8 true octets (ReceiveNotReady nr true) h = supervisory true nr (TimerRecovery.acknowledged_in_8 T200 false) (in_8_lost T200 false)
+  in-8 true octets (ReceiveNotReady nr true) h = supervisory true nr (TimerRecovery.acknowledged_in_8 T200 false) (λ n. search words depth 12 fits 4000)
   in-8 true octets (ReceiveNotReady nr false) h = absurd (true≢false (sym h.1))
   in-8 false octets (ReceiveNotReady nr p) h = absurd (true≢false (sym h.0))
-  in-8 true octets (Reject nr true) h = supervisory false nr (TimerRecovery.acknowledged_in_8 T203 false) (in_8_lost T203 false)
+  in-8 true octets (Reject nr true) h = supervisory false nr (TimerRecovery.acknowledged_in_8 T203 false) (λ n. search words depth 12 fits 4000)
   in-8 true octets (Reject nr false) h = absurd (true≢false (sym h.1))
   in-8 false octets (Reject nr p) h = absurd (true≢false (sym h.0))
-  in-8 command octets (Sabme p) h = absurd h
-  in-8 command octets (Disc p) h = absurd h
-  in-8 command octets (Ui p) h = absurd h
-  in-8 command octets (Ua f) h = absurd h
-  in-8 command octets (Dm f) h = absurd h
-  in-8 command octets (Frmr f) h = absurd h
-  in-8 command octets (Xid pf) h = absurd h
+  in-8 command octets other h = absurd h
 
   frames-in : (here : State) → IsTrue (is_multiple_frame here) → (command : Bool) (octets : List ℕ) (control : Control)
       → IsPollWith t l command octets control → Lost (Machine.frame_in here t command octets control (begun l))
@@ -120,8 +85,8 @@ module _ (t : Terms) (l : Link) (full : t.control ≤ length l.waiting) where
 
   -- SABME and DISC
   sabme-in : (here : State) (command : Bool) (octets : List ℕ) (p : Bool) → Lost (Machine.frame_in here t command octets (Sabme p) (begun l))
-  sabme-in Established command octets p = branch _ _ _ put put
-  sabme-in TimerRecovery command octets p = branch _ _ _ put put
+  sabme-in Established command octets p = both_ways Lost _ _ _ put put
+  sabme-in TimerRecovery command octets p = both_ways Lost _ _ _ put put
   sabme-in other command octets p = put
 
   disc-in : (here : State) (command : Bool) (octets : List ℕ) (p : Bool) → Lost (Machine.frame_in here t command octets (Disc p) (begun l))

@@ -1,12 +1,5 @@
 -- Worked values: the loss of the third of seven frames between two links, and its recovery by REJ.
-use Rattle.std.specs.Prelude.{◌≡◌, ℕ, false, List, [], ◌∷◌, ◌++◌, length, replicate, refl}
-use Rattle.lapd_seq.specs.Numbers.{seq}
-use Rattle.lapd_seq.specs.Circle.{distance_of, named}
-use Rattle.lapd_frame.specs.Reading.{supervisory_of, unnumbered_of, control_of, header_of, reading}
-use Rattle.model_link.specs.Events.{Data}
-use Rattle.model_link.specs.Machine.{after_all}
-use Rattle.model_link.specs.TwoEnds.{Ends, asks, sends, receives, loses, Doing, at_near, at_far, doing_all}
-use Rattle.laws_link.specs.Samples.{usual, up}
+use Rattle.laws_link.specs.WorkedWords.{◌≡◌, ℕ, false, List, [], ◌∷◌, ◌++◌, length, replicate, refl, seq, distance_of, named, supervisory_of, unnumbered_of, control_of, header_of, reading, Data, after_all, Ends, asks, sends, receives, loses, Doing, at_near, at_far, doing_all, usual, up}
 
 abbrev pub both : Ends
 both = record {

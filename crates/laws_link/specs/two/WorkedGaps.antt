@@ -1,14 +1,5 @@
 -- Worked values: I-frames out of sequence, and REJ.
-use Rattle.std.specs.Prelude.{◌≡◌, ℕ, ◌*◌, false, List, [], ◌∷◌, refl}
-use Rattle.lapd_seq.specs.Numbers.{seq}
-use Rattle.lapd_seq.specs.Circle.{distance_of, named}
-use Rattle.lapd_frame.specs.declared.controls.Control.TheVariants.{Reject}
-use Rattle.lapd_frame.specs.Reading.{supervisory_of, unnumbered_of, control_of, header_of, reading}
-use Rattle.model_link.specs.declared.frames.ControlFrame.{ControlFrame}
-use Rattle.model_link.specs.Events.{Event}
-use Rattle.model_link.specs.Words.{response}
-use Rattle.model_link.specs.Machine.{after_all}
-use Rattle.laws_link.specs.Samples.{usual, comes, up}
+use Rattle.laws_link.specs.WorkedWords.{◌≡◌, ℕ, ◌*◌, false, List, [], ◌∷◌, refl, seq, distance_of, named, Reject, supervisory_of, unnumbered_of, control_of, header_of, reading, ControlFrame, Event, response, after_all, usual, comes, up}
 
 abbrev waits_after : List Event → List ControlFrame
 waits_after es = (after_all usual es up).waiting

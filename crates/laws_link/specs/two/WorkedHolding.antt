@@ -1,13 +1,6 @@
 -- Worked values: what two links that face each other have accepted, while a frame is lost and sent again.
-use Rattle.std.specs.Prelude.{◌≡◌, ℕ, List, [], ◌∷◌, ◌++◌, refl}
-use Rattle.lapd_seq.specs.Numbers.{seq}
-use Rattle.lapd_seq.specs.Circle.{distance_of, named}
-use Rattle.lapd_frame.specs.Reading.{supervisory_of, unnumbered_of, control_of, header_of, reading}
-use Rattle.model_link.specs.Machine.{after_all}
-use Rattle.model_link.specs.TwoEnds.{sends, receives, Doing, at_near, at_far, doing_all}
+use Rattle.laws_link.specs.WorkedWords.{◌≡◌, ℕ, List, [], ◌∷◌, ◌++◌, refl, seq, distance_of, named, supervisory_of, unnumbered_of, control_of, header_of, reading, after_all, sends, receives, Doing, at_near, at_far, doing_all, begun, near_history, far_history, nothing_yet}
 use Rattle.laws_link.specs.two.WorkedEnds.{both, mended}
-use Rattle.laws_link.specs.two.Holding.{begun, near_history, far_history}
-use Rattle.laws_link.specs.History.{nothing_yet}
 
 abbrev seven : List (List ℕ)
 seven = (1 ∷ []) ∷ (2 ∷ []) ∷ (3 ∷ []) ∷ (4 ∷ []) ∷ (5 ∷ []) ∷ (6 ∷ []) ∷ (7 ∷ []) ∷ []

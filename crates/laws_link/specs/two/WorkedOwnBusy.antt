@@ -1,16 +1,6 @@
 -- Worked values: what an end that is busy itself gives arrives, and what the other gives waits.
-use Rattle.std.specs.Prelude.{◌≡◌, true, false, List, [], ◌∷◌, ◌++◌, refl}
-use Rattle.lapd_seq.specs.Numbers.{seq}
-use Rattle.lapd_seq.specs.Circle.{distance_of, named}
-use Rattle.lapd_frame.specs.Reading.{supervisory_of, unnumbered_of, control_of, header_of, reading}
-use Rattle.model_link.specs.declared.timers.LinkTimer.TheVariants.{T200}
-use Rattle.model_link.specs.Events.{SetBusy, ClearBusy}
-use Rattle.model_link.specs.Machine.{after_all}
-use Rattle.model_link.specs.TwoEnds.{Ends, asks, expires, sends, receives, loses, Doing, at_near, at_far, doing_all}
+use Rattle.laws_link.specs.WorkedWords.{◌≡◌, true, false, List, [], ◌∷◌, ◌++◌, refl, seq, distance_of, named, supervisory_of, unnumbered_of, control_of, header_of, reading, T200, SetBusy, ClearBusy, after_all, Ends, asks, expires, sends, receives, loses, Doing, at_near, at_far, doing_all, rounds, with_t200_expired, with_far_busy}
 use Rattle.laws_link.specs.two.WorkedEnds.{both}
-use Rattle.laws_link.specs.two.Rounds.{rounds}
-use Rattle.laws_link.specs.two.CutOff.{with_t200_expired}
-use Rattle.laws_link.specs.two.OwnBusy.{with_far_busy}
 use Rattle.laws_link.specs.two.WorkedRounds.{near_asked, far_asked, octets, asking, asked}
 
 -- Own busy begins at far where two contents are unsent there, and three at near: four rounds are enough, and three are not.

@@ -1,17 +1,5 @@
 -- Worked values: polls and their answers, and what goes in its turn.
-use Rattle.std.specs.Prelude.{◌≡◌, ℕ, false, true, List, [], ◌∷◌, refl, Some}
-use Rattle.lapd_seq.specs.Numbers.{seq}
-use Rattle.lapd_seq.specs.Circle.{distance_of, named}
-use Rattle.lapd_frame.specs.declared.controls.Control.TheVariants.{ReceiveReady, ReceiveNotReady, Reject, Ua, Dm}
-use Rattle.lapd_frame.specs.Reading.{supervisory_of, unnumbered_of, control_of, header_of, reading}
-use Rattle.model_link.specs.declared.frames.ControlFrame.{ControlFrame}
-use Rattle.model_link.specs.declared.timers.LinkTimer.TheVariants.{T200}
-use Rattle.model_link.specs.Link.{Link, fresh}
-use Rattle.model_link.specs.Events.{Data, SetBusy}
-use Rattle.model_link.specs.Words.{response}
-use Rattle.model_link.specs.Machine.{after, after_all}
-use Rattle.laws_link.specs.Samples.{usual, comes, ask, up}
-use Rattle.laws_link.specs.two.Waits.{after_offers, turns}
+use Rattle.laws_link.specs.WorkedWords.{◌≡◌, ℕ, false, true, List, [], ◌∷◌, refl, Some, seq, distance_of, named, ReceiveReady, ReceiveNotReady, Reject, Ua, Dm, supervisory_of, unnumbered_of, control_of, header_of, reading, ControlFrame, T200, Link, fresh, Data, SetBusy, response, after, after_all, usual, comes, ask, up, after_offers, turns}
 
 -- What waits after an event.
 abbrev waits_after : List ℕ → Link → List ControlFrame

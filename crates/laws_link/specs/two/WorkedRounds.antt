@@ -1,14 +1,6 @@
 -- Worked values: seven contents one way and two the other arrive, after no loss and after the loss of every frame.
-use Rattle.std.specs.Prelude.{◌≡◌, ℕ, false, List, [], ◌∷◌, ◌++◌, length, replicate, refl}
-use Rattle.lapd_seq.specs.Numbers.{seq}
-use Rattle.lapd_seq.specs.Circle.{distance_of, named}
-use Rattle.lapd_frame.specs.Reading.{supervisory_of, unnumbered_of, control_of, header_of, reading}
-use Rattle.model_link.specs.Events.{Data}
-use Rattle.model_link.specs.Machine.{after_all}
-use Rattle.model_link.specs.TwoEnds.{Ends, asks, sends, receives, loses, Doing, at_near, at_far, doing_all}
+use Rattle.laws_link.specs.WorkedWords.{◌≡◌, ℕ, false, List, [], ◌∷◌, ◌++◌, length, replicate, refl, seq, distance_of, named, supervisory_of, unnumbered_of, control_of, header_of, reading, Data, after_all, Ends, asks, sends, receives, loses, Doing, at_near, at_far, doing_all, rounds, with_t200_expired}
 use Rattle.laws_link.specs.two.WorkedEnds.{both}
-use Rattle.laws_link.specs.two.Rounds.{rounds}
-use Rattle.laws_link.specs.two.CutOff.{with_t200_expired}
 
 abbrev pub near_asked : ℕ → Doing
 near_asked n = at_near (asks (Data (n ∷ [])) false)

@@ -1,13 +1,5 @@
 -- A worked value of a T200 that is timely, where losses make it expire twice.
-use Rattle.std.specs.Prelude.{◌≡◌, false, List, [], ◌∷◌, ◌++◌, refl}
-use Rattle.lapd_seq.specs.Numbers.{seq}
-use Rattle.lapd_seq.specs.Circle.{distance_of, named}
-use Rattle.lapd_frame.specs.Reading.{supervisory_of, unnumbered_of, control_of, header_of, reading}
-use Rattle.model_link.specs.declared.states.State.TheVariants.{Established, TimerRecovery}
-use Rattle.model_link.specs.declared.timers.LinkTimer.TheVariants.{T200}
-use Rattle.model_link.specs.Events.{Data}
-use Rattle.model_link.specs.Machine.{after_all}
-use Rattle.model_link.specs.TwoEnds.{asks, expires, sends, receives, loses, Doing, at_near, at_far, doing_all}
+use Rattle.laws_link.specs.WorkedWords.{◌≡◌, false, List, [], ◌∷◌, ◌++◌, refl, seq, distance_of, named, supervisory_of, unnumbered_of, control_of, header_of, reading, Established, TimerRecovery, T200, Data, after_all, asks, expires, sends, receives, loses, Doing, at_near, at_far, doing_all}
 use Rattle.laws_link.specs.two.WorkedEnds.{both}
 
 -- Near sends an I-frame, which is lost; T200 expires, and the enquiry is lost too. Neither is on its way any more, so that

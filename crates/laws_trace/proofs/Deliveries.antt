@@ -12,7 +12,8 @@ use Rattle.model_line.specs.Event.{Event}
 use Rattle.model_line.specs.Machine.{answer}
 use Rattle.model_line.specs.Sound.{IsSound}
 use Rattle.laws_line.specs.Heard as line_heard
-use Rattle.laws_trace.specs.LinkFrames.{parts_of, frame_of, is_for}
+use Rattle.std.specs.Result.{result_ok}
+use Rattle.laws_trace.specs.LinkFrames.{frame_of, is_for}
 use Rattle.laws_trace.proofs.Counting.{begins_by, begins}
 use Rattle.laws_trace.proofs.DeliveriesWatched.{number_in, IsOfFrame}
 use Rattle.laws_trace.specs.Units.{is_ui}
@@ -157,11 +158,11 @@ module _ (c : Config) (e : Event) (a : Answer) (service : Service) (tei : ℕ) w
       ap (λ b. b && f.address.tei == tei) (eq-eqb f.address.sapi (sapi_of service) (sapi-is f.address.sapi service sapi)) ∙ eq-eqb f.address.tei tei is
 
   pub brings-frame : (f : Parts) → Brings c e service tei f → (frame_by c e ≡ Some f) × (is_for service tei f.address ≡ true)
-  brings-frame f x = (ap (frame_by c) x.by ∙ ap parts_of x.read, its-address f x.sapi x.tei_is)
+  brings-frame f x = (ap (frame_by c) x.by ∙ ap result_ok x.read, its-address f x.sapi x.tei_is)
 
-  is-fault : (address : Address) (octets : List ℕ) (what : link.Received) → IsMalformed c address octets what → parts_of (reading (heard_side c) octets) ≡ None
-  is-fault address octets link.undefined is = ap parts_of is
-  is-fault address octets link.wrong_size is = ap parts_of is
+  is-fault : (address : Address) (octets : List ℕ) (what : link.Received) → IsMalformed c address octets what → result_ok (reading (heard_side c) octets) ≡ None
+  is-fault address octets link.undefined is = ap result_ok is
+  is-fault address octets link.wrong_size is = ap result_ok is
   is-fault address octets link.overlong is = absurd is
   is-fault address octets (link.frame parts) is = absurd is
 

@@ -12,7 +12,8 @@ use Rattle.model_line.specs.Machine.{after, answer}
 use Rattle.model_line.specs.Sound.{IsSound}
 use Rattle.laws_trace.proofs.Counting.{Watched, begins, counted}
 use Rattle.laws_trace.proofs.DeliveriesWatched.{number_in, IsOfFrame, IsHeard}
-use Rattle.laws_trace.specs.LinkFrames.{parts_of, frame_of, is_for}
+use Rattle.std.specs.Result.{result_ok}
+use Rattle.laws_trace.specs.LinkFrames.{frame_of, is_for}
 use Rattle.laws_trace.specs.Units.{is_ui}
 use Rattle.laws_trace.proofs.Begins.{unless, up-before}
 use Rattle.laws_trace.proofs.Deliveries.{frame_by, data-tells, unit-tells, data-own, unit-own, none-noted, one-begins, data-of, unit-of, group-notes}
@@ -36,7 +37,7 @@ abbrev pub IsCount : Link → ℕ → Type 0
 IsCount k n = is_multiple_frame k.state ≡ true → k.r ≡ n
 
 -- A frame for a link of a TEI on the line is an event of this link.
-its-aim : (c : Config) (l : Line) (service : Service) (tei place : ℕ) → place_in l tei ≡ Some place → (r : Result Parts ReadFault) (f : Parts) → parts_of r ≡ Some f
+its-aim : (c : Config) (l : Line) (service : Service) (tei place : ℕ) → place_in l tei ≡ Some place → (r : Result Parts ReadFault) (f : Parts) → result_ok r ≡ Some f
     → is_for service tei f.address ≡ true → is_at_link service tei (aim_of_reading c l r) ≡ true
 its-aim c l service tei place on (Err fault) f is for = absurd (none-some f is)
 its-aim c l service tei place on (Ok g) f is for =
@@ -177,7 +178,7 @@ module _ (c : Config) (ranged : IsInRange c) (l : Line) (s : IsSound c l) (e : E
         record {
           frame = f;
           heard =
-              ap (frame_by c) h.by ∙ ap parts_of h.read;
+              ap (frame_by c) h.by ∙ ap result_ok h.read;
           whose =
               ap (λ n. n == sapi_of service && f.address.tei == tei) (sapi-is f.address.sapi h.service h.whose.sapi)
               ∙ ap (λ n. sapi_of h.service == sapi_of service && n == tei) h.whose.group

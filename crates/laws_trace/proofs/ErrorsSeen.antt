@@ -1,19 +1,25 @@
 -- What is wrong with what is seen of a link: one event of its line.
-use Rattle.laws_trace.proofs.Vocabulary.{◌≡◌, ℕ, ◌==◌, ◌&&◌, Bool, true, false, cond, List, [], ◌∷◌, ◌++◌, Option, Some, None, Result, Ok, Err, refl, sym, ap, ◌∙◌, subst, true≢false, ◌⊎◌, inl, inr, append-nil, option_to_list, option_map_or, Unserved, Address, ReadFault, BadExtension, Undefined, WrongSize, Short, ErrorCode, Long, Service, Parts, reading, long_reading, Config, hears, expiry, request, next, Answer, heard_side, aim_of_heard, aim_of_reading, aim_of_long, drop_for, Line, place_in, terms, aim_of, IsMalformed, IsTooLong, IsBy, BringsMalformed}
+use Rattle.laws_trace.proofs.Vocabulary.{◌≡◌, ℕ, ◌==◌, ◌&&◌, Bool, true, false, cond, List, [], ◌∷◌, ◌++◌, Option, Some, None, Result, Ok, Err, refl, sym, ap, ◌∙◌, subst, true≢false, ◌⊎◌, inl, inr, append-nil, option_to_list, option_map_or, Unserved, Address, ReadFault, BadExtension, Undefined, WrongSize, Short, ErrorCode, Long, Service, Parts, reading, long_reading, Config, hears, expiry, request, next, Answer, heard_side, aim_of_heard, aim_of_reading, aim_of_long, drop_for, Line, place_in, terms, aim_of, IsMalformed, IsTooLong, IsBy, BringsMalformed, nat_lt, length}
 use Rattle.std.proofs.Common.{eqb-true}
 use Rattle.model_bits.specs.Stream as stream
+use Rattle.lapd_frame.specs.declared.notes.ErrorCode.{ErrorCode}
 use Rattle.lapd_frame.specs.declared.notes.ErrorCode.TheVariants as code
 use Rattle.lapd_frame.specs.declared.overlong.Long.TheVariants as long
 use Rattle.model_link.specs.Events as link
 use Rattle.model_line.specs.Event.{Event}
-use Rattle.laws_trace.specs.LinkFrames.{parts_of, frame_of, its_frame, is_for, faulty, faulty_long, malformed}
-use Rattle.laws_trace.specs.News.{wrong_parts, given_up, wrong}
+use Rattle.std.specs.Option.{option_and_then}
+use Rattle.std.specs.Result.{result_ok, result_err}
+use Rattle.laws_trace.specs.LinkFrames.{frame_of, its_frame, is_for, faulty_long, malformed, fault_of}
+use Rattle.laws_trace.specs.News.{wrong_frame, given_up, wrong}
 use Rattle.laws_trace.specs.Trace.{is_up}
 use Rattle.laws_trace.proofs.DeliveriesRun.{heard-aims-at}
 use Rattle.laws_trace.proofs.LinkLed.{addressed-none, own-address}
 use Rattle.laws_trace.proofs.NewsRows.{errors_of}
 use Rattle.laws_trace.proofs.OneLink.{is_at_link}
 use Rattle.laws_trace.proofs.TimersWatched.{nothing_yet}
+
+abbrev wrong_parts : Config → ℕ → ℕ → Parts → List ErrorCode
+wrong_parts c was to f = wrong_frame (nat_lt c.n201 (length f.info)) f.address.command f.control was to
 
 -- Where the state stays, or the TEI has left, T200 gave nothing up.
 none-given-up : (n m : ℕ) → (n ≡ m) ⊎ (m ≡ 1) → given_up n m ≡ []
@@ -45,7 +51,7 @@ module _ (c : Config) (service : Service) (tei : ℕ) where
 
   -- no event of the link
   module _ (l : Line) (place : ℕ) (on : place_in l tei ≡ Some place) where
-    no-fault : (r : Result Parts ReadFault) → is_at_link service tei (aim_of_reading c l r) ≡ false → faulty service tei r ≡ None
+    no-fault : (r : Result Parts ReadFault) → is_at_link service tei (aim_of_reading c l r) ≡ false → option_and_then (fault_of service tei) (result_err r) ≡ None
     no-fault (Err BadExtension) aims = refl
     no-fault (Err Short) aims = refl
     no-fault (Err (Undefined address)) aims = no-letter (is_for service tei address) code.L (addressed-none c service tei nothing_yet l place on address link.undefined (drop_for Unserved) aims)
@@ -97,7 +103,7 @@ module _ (c : Config) (service : Service) (tei : ℕ) where
     by-letter b letter is = ap (λ b. cond (is_up from) (option_to_list (cond b (Some letter) None)) [] ++ []) is ∙ append-nil (cond (is_up from) (letter ∷ []) [])
 
     abbrev By-reading : Result Parts ReadFault → List ErrorCode
-    By-reading r = cond (is_up from) (option_to_list (faulty service tei r)) [] ++ option_map_or (wrong_parts c from to) (its_frame service tei (parts_of r)) []
+    By-reading r = cond (is_up from) (option_to_list (option_and_then (fault_of service tei) (result_err r))) [] ++ option_map_or (wrong_parts c from to) (its_frame service tei (result_ok r)) []
 
     abbrev By-long : Result Long ReadFault → List ErrorCode
     By-long r = cond (is_up from) (option_to_list (faulty_long service tei r)) [] ++ []
@@ -129,7 +135,7 @@ module _ (c : Config) (service : Service) (tei : ℕ) where
     pub one-wrong : (event : link.Event) → IsBy c e a service tei event → Wrong event
     one-wrong (link.received (link.frame f)) y =
         ap (λ e. wrong c service tei e from to) y.by
-        ∙ ap (λ r. cond (is_up from) (option_to_list (faulty service tei r)) [] ++ option_map_or (wrong_parts c from to) (its_frame service tei (parts_of r)) []) y.read
+        ∙ ap (λ r. cond (is_up from) (option_to_list (option_and_then (fault_of service tei) (result_err r))) [] ++ option_map_or (wrong_parts c from to) (its_frame service tei (result_ok r)) []) y.read
         ∙ ap (λ xs. xs ++ option_map_or (wrong_parts c from to) (cond (is_for service tei f.address) (Some f) None) []) (bare-up (is_up from))
         ∙ ap (λ b. option_map_or (wrong_parts c from to) (cond b (Some f) None) []) (own-address c service tei nothing_yet a f.address y.sapi y.tei_is)
     one-wrong (link.received link.undefined) y = brings-malformed link.undefined y

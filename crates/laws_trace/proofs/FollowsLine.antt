@@ -12,7 +12,7 @@ use Rattle.model_link.specs.declared.timers.LinkTimer.TheVariants as link_timer
 use Rattle.model_line.specs.Event.{Event, told, nothing}
 use Rattle.model_line.specs.Machine.{after, answer}
 use Rattle.model_line.specs.Sound.{IsSound}
-use Rattle.laws_trace.specs.LinkFrames.{parts_of}
+use Rattle.std.specs.Result.{result_ok}
 use Rattle.laws_trace.specs.Managing.{Managed, by_message, ran_out, by_event}
 use Rattle.laws_trace.specs.TeisAreManaged.{is_of_teis, is_of_t201, IsAsDue}
 use Rattle.laws_trace.specs.Trace.{frame_in}
@@ -24,7 +24,7 @@ use Rattle.laws_trace.proofs.ReadAgain.{read-again}
 
 -- Frames with SAPI 63.
 abbrev of_management : Result Parts ReadFault → Bool
-of_management r = option_map_or (λ (f : Parts). f.address.sapi == management_sapi) (parts_of r) false
+of_management r = option_map_or (λ (f : Parts). f.address.sapi == management_sapi) (result_ok r) false
 
 abbrev is_message : Config → List ℕ → Bool
 is_message c octets = of_management (reading c.side octets)

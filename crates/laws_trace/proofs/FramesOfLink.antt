@@ -3,7 +3,8 @@ use Rattle.laws_trace.proofs.Vocabulary.{◌≡◌, ℕ, ◌==◌, ◌&&◌, ◌
 use Rattle.std.specs.Option.{unwrap_or}
 use Rattle.lapd_tei.specs.Messages.{information_of}
 use Rattle.model_line.specs.Taken.{frame_of}
-use Rattle.laws_trace.specs.LinkFrames.{its_frame, parts_of, is_frame_of}
+use Rattle.std.specs.Result.{result_ok}
+use Rattle.laws_trace.specs.LinkFrames.{its_frame, is_frame_of}
 use Rattle.laws_trace.specs.Units.{is_ui}
 use Rattle.laws_trace.proofs.OneLink.{IsForeign}
 use Rattle.laws_trace.proofs.ReadAgain.{read-again}
@@ -21,18 +22,18 @@ module _ (c : Config) (service : Service) (tei : ℕ) where
   pub foreign : (frame : List ℕ) → IsForeign c service tei frame → is_frame_of c service tei frame ≡ false
   foreign frame (inl x) =
       ap (is_frame_of c service tei) x.1
-      ∙ read-again c.side (λ r. option_map_or plain (its_frame service tei (parts_of r)) false ≡ false) (record { sapi = 63; command = true; tei = 127 }) (Ui false)
+      ∙ read-again c.side (λ r. option_map_or plain (its_frame service tei (result_ok r)) false ≡ false) (record { sapi = 63; command = true; tei = 127 }) (Ui false)
       (λ info. no-ui (63 == sapi_of service && 127 == tei) _ refl) (λ fault. refl) (information_of x.0)
   foreign frame (inr (inl x)) =
       ap (is_frame_of c service tei) x.1
-      ∙ read-again c.side (λ r. option_map_or plain (its_frame service tei (parts_of r)) false ≡ false) (record { sapi = sapi_of x.0.service; command = true; tei = x.0.tei }) (Ui false)
+      ∙ read-again c.side (λ r. option_map_or plain (its_frame service tei (result_ok r)) false ≡ false) (record { sapi = sapi_of x.0.service; command = true; tei = x.0.tei }) (Ui false)
       (λ info. no-ui (sapi_of x.0.service == sapi_of service && x.0.tei == tei) _ refl) (λ fault. refl) x.0.contents
   foreign frame (inr (inr x)) =
       let t = x.0 in
       let g = x.1 in
       let away : (sapi_of t.service == sapi_of service && t.tei == tei) ≡ false = ap (λ b. b && t.tei == tei) (same-sapi t.service service) ∙ x.3 in
       ap (is_frame_of c service tei) x.2
-      ∙ read-again c.side (λ r. option_map_or plain (its_frame service tei (parts_of r)) false ≡ false) (address_at t g.frame.command) g.frame.control
+      ∙ read-again c.side (λ r. option_map_or plain (its_frame service tei (result_ok r)) false ≡ false) (address_at t g.frame.command) g.frame.control
       (λ info. ap (λ b. option_map_or plain (cond b (Some (record { address = address_at t g.frame.command; control = g.frame.control; info = info })) None) false) away) (λ fault. refl) (unwrap_or g.contents [])
 
   pub all-foreign : (frames : List (List ℕ)) → All (IsForeign c service tei) frames → filter (is_frame_of c service tei) frames ≡ []
@@ -51,6 +52,6 @@ module _ (c : Config) (service : Service) (tei : ℕ) where
   pub own-frame : (g : Given) → IsGiven (terms c service tei) g.frame g.contents → is_ui g.frame.control ≡ false → is_frame_of c service tei (frame_of c (terms c service tei) g) ≡ true
   own-frame g h none =
       let t = terms c service tei in
-      ap (λ r. option_map_or plain (its_frame service tei (parts_of r)) false) (reading-again c.side (whole-parts t g) (frame_of c t g) (given-spells c t g h))
+      ap (λ r. option_map_or plain (its_frame service tei (result_ok r)) false) (reading-again c.side (whole-parts t g) (frame_of c t g) (given-spells c t g h))
       ∙ ap (λ b. option_map_or plain (cond b (Some (whole-parts t g)) None) false) (ap (λ b. b && tei == tei) (eq-eqb (sapi_of service) (sapi_of service) refl) ∙ eq-eqb tei tei refl)
       ∙ ap not none

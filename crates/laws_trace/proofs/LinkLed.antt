@@ -11,7 +11,9 @@ use Rattle.model_line.specs.Machine.{answer}
 use Rattle.model_line.specs.Refusal.{refusal}
 use Rattle.model_line.specs.Request.{Request, Establish, Release, Data, Check, SetBusy, ClearBusy}
 use Rattle.laws_line.specs.Requests as requests
-use Rattle.laws_trace.specs.LinkFrames.{parts_of, is_for, faulty, faulty_long}
+use Rattle.std.specs.Option.{option_and_then}
+use Rattle.std.specs.Result.{result_ok, result_err}
+use Rattle.laws_trace.specs.LinkFrames.{is_for, faulty_long, fault_of}
 use Rattle.laws_trace.proofs.MovesWatched.{by_frame, by_parts, by_request, by_seen, by_expiry, led}
 use Rattle.laws_trace.proofs.States.{expired_of, one_more}
 use Rattle.laws_trace.proofs.TimersWatched.{Known}
@@ -73,7 +75,7 @@ module _ (c : Config) (service : Service) (tei : ℕ) (k : Known) where
 
   -- a frame as it is read, and one that was too long to keep
   abbrev by_reading : ℕ → Result Parts ReadFault → ℕ
-  by_reading x r = cond (is_up x && is_some (faulty service tei r)) 5 (by_parts c service tei k x (parts_of r))
+  by_reading x r = cond (is_up x && is_some (option_and_then (fault_of service tei) (result_err r))) 5 (by_parts c service tei k x (result_ok r))
 
   abbrev by_long : ℕ → Result Long ReadFault → ℕ
   by_long x r = cond (is_up x && is_some (faulty_long service tei r)) 5 x

@@ -11,7 +11,8 @@ use Rattle.model_link.specs.Machine as links
 use Rattle.model_link.specs.declared.timers.LinkTimer.TheVariants.{T200, T203}
 use Rattle.model_link.proofs.OwnNotes.{IsOwn}
 use Rattle.model_line.specs.Effect.{of_link}
-use Rattle.laws_trace.specs.LinkFrames.{frame_of, parts_of}
+use Rattle.std.specs.Result.{result_ok}
+use Rattle.laws_trace.specs.LinkFrames.{frame_of}
 use Rattle.laws_trace.specs.Managing.{Managed, by_message, by_frame}
 use Rattle.laws_trace.specs.TeisAreManaged.{is_of_teis, is_of_t201}
 use Rattle.laws_trace.specs.Units.{is_ui}
@@ -185,7 +186,7 @@ module _ (c : Config) (l : Line) where
       none true = x.said_is
       none false = refl
 
-  by-reading : (r : Result Parts ReadFault) → Cases (aim_of_reading c l r) (message_by c (parts_of r))
+  by-reading : (r : Result Parts ReadFault) → Cases (aim_of_reading c l r) (message_by c (result_ok r))
   by-reading (Ok f) =
       at-side f (is_message_to f) (Some f.info) (addressed l f.address (link.frame f) (message_of f.control f.info)) (go (f.address.sapi == management_sapi) (f.address.tei == group_tei))
     where

@@ -9,7 +9,9 @@ use Rattle.model_card.specs.Machine.{answer}
 use Rattle.model_card.specs.Run.{IsAtLine}
 use Rattle.model_card.specs.Sound as card_sound
 use Rattle.laws_trace.proofs.Counting.{begins}
-use Rattle.laws_trace.specs.LinkFrames.{parts_of, frame_of, its_frame, faulty, malformed}
+use Rattle.std.specs.Option.{option_and_then}
+use Rattle.std.specs.Result.{result_ok, result_err}
+use Rattle.laws_trace.specs.LinkFrames.{frame_of, its_frame, malformed, fault_of}
 use Rattle.laws_trace.specs.Observer.{Observed, is_next, is_invalid, takes, anew, while_up, while_down, by_frame, by_heard}
 use Rattle.laws_trace.specs.Deliveries.{brings_next}
 use Rattle.laws_trace.specs.Trace.{is_up, seen}
@@ -87,7 +89,7 @@ module _ (c : Config) (service : Service) (tei : ℕ) where
   clean : (e : stream.Event) (f : Parts) → its_frame service tei (frame_of c e) ≡ Some f → malformed c service tei e ≡ None
   clean (stream.frame octets) f is = go (reading (heard_side c) octets) is
     where
-      go : (r : Result Parts ReadFault) → its_frame service tei (parts_of r) ≡ Some f → faulty service tei r ≡ None
+      go : (r : Result Parts ReadFault) → its_frame service tei (result_ok r) ≡ Some f → option_and_then (fault_of service tei) (result_err r) ≡ None
       go (Ok g) is = refl
       go (Err fault) is = absurd (none-some f is)
   clean (stream.overlong head) f is = absurd (none-some f is)

@@ -8,7 +8,8 @@ use Rattle.model_line.specs.Event as line_event
 use Rattle.model_line.specs.Event.{told}
 use Rattle.model_line.specs.Request.{Request, Establish, Release, Data, Check, SetBusy, ClearBusy}
 use Rattle.laws_trace.specs.ControlFrames as now_due
-use Rattle.laws_trace.specs.LinkFrames.{brought, parts_of, frame_of, its_frame, is_for, malformed}
+use Rattle.std.specs.Result.{result_ok}
+use Rattle.laws_trace.specs.LinkFrames.{brought, frame_of, its_frame, is_for, malformed}
 use Rattle.laws_trace.specs.Managing.{Managed, due}
 use Rattle.laws_trace.specs.Observer.{Observed, in_state, awaits, anew, enquires, by_frame, by_t200, by_expiry, by_request, by_event, sends}
 use Rattle.laws_trace.specs.Trace.{is_own, is_up, heard, seen_told, seen_granted}
@@ -94,8 +95,8 @@ module _ (c : Config) (service : Service) (tei : ℕ) (o q : Observed) (w u : St
   by-frame octets behind = go (reading (heard_side c) octets) behind
     where
       go : (r : Result Parts ReadFault)
-          → ((f : Parts) → its_frame service tei (parts_of r) ≡ Some f → is_up o.state ≡ true → is_answered (nat_lt c.n201 (length f.info)) f.control ≡ true → Same q u.told.count u.busy u.rejected)
-          → old.answers_to_frame c service tei w u o.state r ≡ option_map_or (λ (f : Parts). now_due.answer_to c o q f f.control) (its_frame service tei (parts_of r)) []
+          → ((f : Parts) → its_frame service tei (result_ok r) ≡ Some f → is_up o.state ≡ true → is_answered (nat_lt c.n201 (length f.info)) f.control ≡ true → Same q u.told.count u.busy u.rejected)
+          → old.answers_to_frame c service tei w u o.state r ≡ option_map_or (λ (f : Parts). now_due.answer_to c o q f f.control) (its_frame service tei (result_ok r)) []
       go (Err fault) behind = refl
       go (Ok f) behind = on (is_for service tei f.address) (λ is. behind f (ap (λ b. cond b (Some f) None) is))
         where
@@ -277,4 +278,4 @@ module _ (c : Config) (service : Service) (tei : ℕ) (o : Observed) where
   as-busy-before next (told t) none idle = λ up. refl
   as-busy-before next (refused why) none idle = λ up. refl
   as-busy-before next (gave None) none idle = λ up. refl
-  as-busy-before next (gave (Some f)) none idle = sent-so (its_frame service tei (parts_of (reading c.side f.octets)))
+  as-busy-before next (gave (Some f)) none idle = sent-so (its_frame service tei (result_ok (reading c.side f.octets)))

@@ -6,7 +6,8 @@ use Rattle.lapd_frame.specs.declared.timers.Timer.TheVariants as timers
 use Rattle.model_link.specs.declared.timers.LinkTimer.TheVariants.{T200, T203}
 use Rattle.model_line.specs.Event.{Event, told}
 use Rattle.model_line.specs.Request.{Request, Establish, Release, Data, Check, SetBusy, ClearBusy}
-use Rattle.laws_trace.specs.LinkFrames.{parts_of, frame_of, its_frame, is_for, malformed}
+use Rattle.std.specs.Result.{result_ok}
+use Rattle.laws_trace.specs.LinkFrames.{frame_of, its_frame, is_for, malformed}
 use Rattle.laws_trace.proofs.TimersWatched.{Sent, sent_by, sent_in}
 use Rattle.laws_trace.specs.Observer.{Observed, in_state, awaits, anew, while_up, while_down, by_frame, by_t200, by_expiry, enquires, sends, by_event, takes}
 use Rattle.laws_trace.proofs.States as states
@@ -366,7 +367,7 @@ module _ (c : Config) (service : Service) (tei : ℕ) where
   control-moves x k shape o (Xid pf) info = stays x k shape false o
 
   sent-moves : (x : State) (k : Known) → Shape x k → (o : Observed) (r : Result Parts ReadFault) → let p = at_state (state_number x) k o in
-      Sends x k p (sent_in service tei r) (option_map_or (λ (f : Parts). sends p f.control) (its_frame service tei (parts_of r)) p)
+      Sends x k p (sent_in service tei r) (option_map_or (λ (f : Parts). sends p f.control) (its_frame service tei (result_ok r)) p)
   sent-moves x k shape o (Err fault) = stays x k shape false o
   sent-moves x k shape o (Ok f) = go (is_for service tei f.address)
     where

@@ -7,7 +7,8 @@ use Rattle.lapd_frame.specs.declared.timers.Timer.TheVariants as timers
 use Rattle.model_line.specs.Event.{Event, told}
 use Rattle.model_line.specs.Request.{Request, Establish, Release, Data, Check, SetBusy, ClearBusy}
 use Rattle.laws_trace.specs.Deliveries.{brings_next, is_taken}
-use Rattle.laws_trace.specs.LinkFrames.{brought, parts_of, frame_of, its_frame, malformed}
+use Rattle.std.specs.Result.{result_ok}
+use Rattle.laws_trace.specs.LinkFrames.{brought, frame_of, its_frame, malformed}
 use Rattle.laws_trace.specs.Observer.{Observed, in_state, awaits, anew, takes, is_next, is_invalid, while_up, while_down, by_frame, by_t200, by_expiry, enquires, sends, by_event}
 use Rattle.laws_trace.specs.Trace.{is_own, is_up}
 use Rattle.laws_trace.proofs.ObservedShape.{When}
@@ -318,4 +319,4 @@ module _ (c : Config) (service : Service) (tei : ℕ) where
   event-stands-so x o next (told t) = rests x o
   event-stands-so x o next (refused why) = rests x o
   event-stands-so x o next (gave None) = rests x o
-  event-stands-so x o next (gave (Some frame)) = sent-stands x o (its_frame service tei (parts_of (reading c.side frame.octets)))
+  event-stands-so x o next (gave (Some frame)) = sent-stands x o (its_frame service tei (result_ok (reading c.side frame.octets)))

@@ -1,5 +1,5 @@
 -- What a link gives next is what an observer has it offer.
-use Rattle.laws_trace.proofs.Vocabulary.{◌≡◌, ℕ, zero, suc, ◌+◌, ◌%◌, ◌<◌, ◌≤◌, ◌==◌, ◌&&◌, not, nat_lt, Bool, true, false, cond, List, [], ◌∷◌, drop, length, slice_get, Option, Some, None, refl, sym, ap, ◌∙◌, subst, inl, inr, arith, true≢false, IfSome, and_parts, fold, Service, place_of-is, Information, ReceiveReady, ReceiveNotReady, Reject, Sabme, Disc, Ui, Ua, Dm, Frmr, Seq, seq, given-in-order, given-is-offered, IsInOrder, IsOffered, State, TeiAssigned, AwaitingEstablishment, AwaitingRelease, Established, TimerRecovery, ControlFrame, Terms, Link, is_multiple_frame, is_information, state_number, Given, Config, Line, link_of, place_in, terms, window, IsInRange, IsSilent, terms_in_range, line_at, moments}
+use Rattle.laws_trace.proofs.Vocabulary.{◌≡◌, ℕ, zero, suc, ◌+◌, ◌%◌, ◌<◌, ◌≤◌, ◌==◌, ◌&&◌, not, nat_lt, Bool, true, false, cond, List, [], ◌∷◌, drop, length, slice_get, Option, Some, None, refl, sym, ap, ◌∙◌, subst, inl, inr, arith, true≢false, IfSome, and_parts, fold, Service, place_of-is, Information, ReceiveReady, ReceiveNotReady, Reject, Sabme, Disc, Ui, Ua, Dm, Frmr, Seq, seq, given-in-order, given-is-offered, IsInOrder, IsOffered, State, TeiAssigned, AwaitingEstablishment, AwaitingRelease, Established, TimerRecovery, ControlFrame, Terms, Link, is_multiple_frame, is_information, state_number, Given, Config, Line, link_of, place_in, terms, window, IsInRange, IsSilent, terms_in_range, line_at, moments, take, map, ◌++◌}
 use Rattle.std.proofs.lemmas.Bool.{ltb-true, lt-ltb}
 use Rattle.lapd_frame.specs.declared.controls.Control.{Control}
 use Rattle.lapd_frame.specs.declared.controls.Control.TheVariants.{Xid}
@@ -14,7 +14,7 @@ use Rattle.model_card.specs.Run.{after_all, AreAtLines}
 use Rattle.lapd_seq.proofs.Callers.{is_seq}
 use Rattle.laws_link.specs.Offered.{number_sent, Carries}
 use Rattle.laws_link.specs.Sending.{MayGo}
-use Rattle.laws_trace.specs.FramesAreDue.{text, may_go, unsent, by_itself, sends, offers_behind, offers}
+use Rattle.laws_trace.specs.FramesAreDue.{text, may_go, offers}
 use Rattle.laws_trace.specs.Observer.{View, steps, view_of}
 use Rattle.laws_trace.specs.Outgoing.{Outgoing, outgoing_of}
 use Rattle.laws_trace.specs.Trace.{is_up}
@@ -31,6 +31,45 @@ use Rattle.laws_trace.proofs.TimerClaims.{IsKnown}
 use Rattle.laws_trace.proofs.TimersAreTimely.{true-now}
 use Rattle.laws_trace.proofs.TimersWatched.{Known, nothing_yet, watch}
 use Rattle.laws_trace.proofs.WaitingNow.{waiting-now}
+
+-- What a link offers, one after the other.
+abbrev unsent : Outgoing → List (List ℕ)
+unsent o = drop (steps o.view.link.acknowledged o.view.link.next) o.kept
+
+abbrev by_itself : Config → Service → ℕ → Outgoing → List (List ℕ)
+by_itself c service tei o = cond o.owes (text c service tei false (ReceiveReady (seq o.view.link.count) false) [] ∷ []) []
+
+abbrev sends : Config → Service → ℕ → Outgoing → List (List ℕ) → List (List ℕ)
+sends c service tei o (contents ∷ rest) =
+    cond (may_go c service o.view.link) (text c service tei true (Information (seq o.view.link.next) (seq o.view.link.count) false) contents ∷ []) (by_itself c service tei o)
+sends c service tei o [] = by_itself c service tei o
+
+abbrev offers_behind : Config → Service → ℕ → Outgoing → List ControlFrame → List (List ℕ)
+offers_behind c service tei o (f ∷ fs) = text c service tei f.command f.control [] ∷ []
+offers_behind c service tei o [] = sends c service tei o (unsent o)
+
+module _ (c : Config) (service : Service) (tei : ℕ) (o : Outgoing) where
+  abbrev information : List ℕ → List ℕ
+  information contents = text c service tei true (Information (seq o.view.link.next) (seq o.view.link.count) false) contents
+
+  take-own : (b : Bool) (x : List ℕ) → take 1 (cond b (x ∷ []) []) ≡ cond b (x ∷ []) []
+  take-own true x = refl
+  take-own false x = refl
+
+  by-left : (left : List (List ℕ)) (b : Bool) → may_go c service o.view.link ≡ b → take 1 (map information (cond b left []) ++ by_itself c service tei o) ≡ sends c service tei o left
+  by-left (x ∷ xs) true may = sym (ap (λ b. cond b (information x ∷ []) (by_itself c service tei o)) may)
+  by-left (x ∷ xs) false may = take-own o.owes _ ∙ sym (ap (λ b. cond b (information x ∷ []) (by_itself c service tei o)) may)
+  by-left [] true may = take-own o.owes _
+  by-left [] false may = take-own o.owes _
+
+  offers-are : offers c service tei o ≡ offers_behind c service tei o o.waiting
+  offers-are = go o.waiting
+    where
+      go : (ws : List ControlFrame)
+          → take 1 (map (λ (f : ControlFrame). text c service tei f.command f.control []) ws ++ map information (cond (may_go c service o.view.link) (unsent o) []) ++ by_itself c service tei o)
+          ≡ offers_behind c service tei o ws
+      go (f ∷ fs) = refl
+      go [] = by-left (unsent o) (may_go c service o.view.link) refl
 
 -- Lists.
 drop-none : (n : ℕ) → drop {A = List ℕ} n [] ≡ []
@@ -209,7 +248,7 @@ module _ (c : Config) (events : List Event) (number : ℕ) (ranged : IsInRange c
       go (contents ∷ rest) some false may = ap (λ b. cond b (text c service tei true (Information (seq o.view.link.next) (seq o.view.link.count) false) contents ∷ []) (by_itself c service tei o)) may
 
   behind-none : own.waiting ≡ [] → offers c service tei o ≡ sends c service tei o (unsent o)
-  behind-none none = ap (offers_behind c service tei o) (waits-are ∙ none)
+  behind-none none = offers-are c service tei o ∙ ap (offers_behind c service tei o) (waits-are ∙ none)
 
   pub nothing-offered : IsSilent t own → offers c service tei o ≡ []
   nothing-offered silent =
@@ -231,7 +270,7 @@ module _ (c : Config) (events : List Event) (number : ℕ) (ranged : IsInRange c
 
   in-order : (g : Given) → IsInOrder t own (links.after t link.offer own) g.frame → IsOffered own.contents own.s g.frame g.contents → Offers g
   in-order g (inl oldest) offered =
-      ap (offers_behind c service tei o) (waits-are ∙ oldest.waited)
+      offers-are c service tei o ∙ ap (offers_behind c service tei o) (waits-are ∙ oldest.waited)
       ∙ ap (λ f. f ∷ []) (sym (with-frame g g.frame None refl (bare-contents own.contents own.s g.frame g.contents oldest.bare offered)))
   in-order g (inr (inl x)) offered =
       let up : is_multiple_frame own.state ≡ true = ap is_multiple_frame x.may.state in

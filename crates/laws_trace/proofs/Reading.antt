@@ -1,12 +1,12 @@
 -- Which frames that a line begins are unit data.
 use Rattle.laws_trace.proofs.Vocabulary.{◌≡◌, ℕ, ◌+◌, ◌*◌, ◌++◌, ◌<◌, ◌≤◌, ◌==◌, ◌&&◌, Bool, true, false, cond, List, length, drop, slice_index, refl, sym, ap, ◌∙◌, subst, Result, Ok, Err, Some, arith, not, Address, Side, Ui, ReadFault, BadExtension, Undefined, WrongSize, Short, Service, Call, Packet, is_short, has_bad_extension, Parts, cr_bit, allows, takes, row, spelling, address_of, checked, header_of, start_of, completed, reading, sapi_of, address-again, control-again, reading-again, Config, UnitData, management_sapi, unit_frame, option_map_or}
 use Rattle.lapd_frame.specs.declared.controls.Control.{Control}
-use Rattle.laws_trace.specs.LinkFrames.{parts_of}
+use Rattle.std.specs.Result.{result_ok}
 use Rattle.laws_trace.specs.Units.{is_ui}
 use Rattle.laws_trace.specs.UnitsGoOut.{is_unit}
 
 abbrev pub carries_unit : Result Parts ReadFault → Bool
-carries_unit r = option_map_or (λ (f : Parts). is_ui f.control && not (f.address.sapi == management_sapi)) (parts_of r) false
+carries_unit r = option_map_or (λ (f : Parts). is_ui f.control && not (f.address.sapi == management_sapi)) (result_ok r) false
 
 -- What is no UI, or has SAPI 63, is none, whether the grammar has it or not.
 module _ (side : Side) (a : Address) (c : Control) (other : (is_ui c && not (a.sapi == management_sapi)) ≡ false) where

@@ -2,11 +2,11 @@
 use Rattle.laws_trace.proofs.Vocabulary.{◌≡◌, ℕ, ◌+◌, ◌*◌, ◌/◌, ◌<◌, ◌≤◌, Bool, true, false, cond, List, ◌++◌, length, drop, slice_index, Some, Result, Ok, Err, refl, sym, ap, ◌∙◌, subst, arith, not, Address, Side, User, Network, Ui, ReadFault, BadExtension, Undefined, WrongSize, Short, is_short, has_bad_extension, Parts, cr_bit, allows, takes, row, spelling, address_of, checked, header_of, start_of, completed, reading, address-again, control-again, reading-again, option_map_or}
 use Rattle.lapd_frame.specs.declared.controls.Control.{Control}
 use Rattle.laws_trace.specs.Units.{is_ui}
-use Rattle.laws_trace.specs.LinkFrames.{parts_of}
+use Rattle.std.specs.Result.{result_ok}
 use Rattle.laws_trace.specs.LinksTakeTurns.{named_in, is_of_a_link}
 
 abbrev is_no_ui : Result Parts ReadFault → Bool
-is_no_ui r = not (option_map_or (λ (f : Parts). is_ui f.control) (parts_of r) false)
+is_no_ui r = not (option_map_or (λ (f : Parts). is_ui f.control) (result_ok r) false)
 
 -- What is no UI is of a link, whether the grammar has it or not.
 module _ (side : Side) (a : Address) (c : Control) (other : is_ui c ≡ false) where

@@ -10,7 +10,8 @@ use Rattle.model_card.specs.Event.{Event}
 use Rattle.model_card.specs.Machine.{answer}
 use Rattle.model_card.specs.Run.{after_all, AreAtLines}
 use Rattle.laws_trace.specs.Deliveries.{is_unit_for}
-use Rattle.laws_trace.specs.LinkFrames.{brought, frame_of, its_frame, is_for, parts_of}
+use Rattle.std.specs.Result.{result_ok}
+use Rattle.laws_trace.specs.LinkFrames.{brought, frame_of, its_frame, is_for}
 use Rattle.laws_trace.specs.Managing.{is_on}
 use Rattle.laws_trace.specs.Observer.{view_of}
 use Rattle.laws_trace.specs.Units.{is_ui}
@@ -100,7 +101,7 @@ module _ (c : Config) (events : List Event) (number : ℕ) (ranged : IsInRange c
   Comes frame = option_map_or (λ (f : Parts). is_unit_for c tei (view_of c service tei number before).teis f && nat_le (length f.info) c.n201) frame false ≡ true
 
   by-frame : (octets : List ℕ) (behind : List Event) → events ≡ before ++ at number (hears (stream.frame octets)) ∷ behind → (r : Result Parts ReadFault) → reading (heard_side c) octets ≡ r
-      → Comes (its_frame service tei (parts_of r)) → Told (hears (stream.frame octets))
+      → Comes (its_frame service tei (result_ok r)) → Told (hears (stream.frame octets))
   by-frame octets behind split (Err fault) read some = absurd (true≢false (sym some))
   by-frame octets behind split (Ok f) read some = on (is_for service tei f.address) refl some
     where

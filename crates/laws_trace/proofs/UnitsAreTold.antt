@@ -16,7 +16,8 @@ use Rattle.model_line.specs.Sound.{IsSound}
 use Rattle.model_card.specs.Card.{fresh}
 use Rattle.model_card.specs.Event.{Event}
 use Rattle.model_card.specs.Run.{after_all, AreAtLines}
-use Rattle.laws_trace.specs.LinkFrames.{is_for, parts_of}
+use Rattle.std.specs.Result.{result_ok}
+use Rattle.laws_trace.specs.LinkFrames.{is_for}
 use Rattle.laws_trace.specs.Trace.{Always}
 use Rattle.laws_trace.specs.Units.{is_ui}
 use Rattle.laws_trace.proofs.LineAtEnd.{line-at-end}
@@ -108,7 +109,7 @@ module _ (c : Config) (ranged : IsInRange c) (l : Line) (s : IsSound c l) (servi
   one x =
       let sound : link_sound.IsSound t k = subst (link_sound.IsSound t) (sym (ap (λ o. option_map_or (link_in l service) o fresh_link) x.placed))
       (sound_in c ranged l s service tei x.place (place_of-is l.management.places tei x.place x.placed).1) in
-      let is = is-frame c e (lines.answer c e l) service tei f (ap parts_of read) x.event x.by in
+      let is = is-frame c e (lines.answer c e l) service tei f (ap result_ok read) x.event x.by in
       let unit : (links.told t x.event k).unit ≡ Some f.info = ap (λ le. (links.told t le k).unit) is ∙ event-unit t k sound (link.received (link.frame f)) ∙ due in
       let none : (links.told t x.event k).delivered ≡ None = ap (λ le. (links.told t le k).delivered) is ∙ its-unit in (
         ap (list_any (is_unit_of service tei)) x.notes ∙ (own-all t (links.told t x.event k).notes (notes-own t x.event k)).1 ∙ (event-tells t x.event k).3 ∙ ap is_some unit,
@@ -125,7 +126,7 @@ module _ (c : Config) (ranged : IsInRange c) (l : Line) (s : IsSound c l) (servi
       go : Goes c service tei e l (lines.after c e l) (lines.answer c e l) → Tells service tei f.info (lines.answer c e l)
       go (inl x) =
           let there = on-line on (place_in l tei) refl in
-          absurd (true≢false (sym (event-aims c l service tei there.0 there.1 e f (ap parts_of read) for) ∙ x.aims))
+          absurd (true≢false (sym (event-aims c l service tei there.0 there.1 e f (ap result_ok read) for) ∙ x.aims))
       go (inr (inl x)) = one x
       go (inr (inr x)) = absurd (cc x.by.0)
 

@@ -1,5 +1,5 @@
 -- What is given of a link is due.
-use Rattle.std.specs.Prelude.{◌≡◌, ◌==◌, ◌&&◌, ℕ, not, nat_lt, Bool, true, false, List, [], ◌∷◌, drop, filter, if◌then◌else◌}
+use Rattle.std.specs.Prelude.{◌≡◌, ◌==◌, ◌&&◌, ℕ, not, nat_lt, Bool, true, false, List, [], ◌∷◌, ◌++◌, map, take, drop, filter, if◌then◌else◌}
 use Rattle.lapd_seq.specs.Numbers.{seq}
 use Rattle.lapd_frame.specs.declared.controls.Control.{Control}
 use Rattle.lapd_frame.specs.declared.controls.Control.TheVariants.{Information, ReceiveReady}
@@ -26,28 +26,16 @@ text c service tei command control info =
 abbrev pub may_go : Config → Service → Observed → Bool
 may_go c service o = o.state == 7 && (not o.busy && nat_lt (steps o.acknowledged o.next) (window c service))
 
--- The contents that have not gone, or are to go again: those kept from V(S) on.
-abbrev pub unsent : Outgoing → List (List ℕ)
-unsent o = drop (steps o.view.link.acknowledged o.view.link.next) o.kept
-
--- What a link offers next: the control frame that has waited longest; else an I-frame, where one may go, with N(S) = V(S),
--- which acknowledges all that was told; else, where it is owed, an acknowledgement by itself, RR (clauses 3.5.2.1 to 3.5.2.6,
--- 5.6.1 and 5.6.3.1).
-abbrev pub by_itself : Config → Service → ℕ → Outgoing → List (List ℕ)
-by_itself c service tei o = if o.owes then text c service tei false (ReceiveReady (seq o.view.link.count) false) [] ∷ [] else []
-
-abbrev pub sends : Config → Service → ℕ → Outgoing → List (List ℕ) → List (List ℕ)
-sends c service tei o (contents ∷ rest) =
-    if may_go c service o.view.link then text c service tei true (Information (seq o.view.link.next) (seq o.view.link.count) false) contents ∷ []
-    else by_itself c service tei o
-sends c service tei o [] = by_itself c service tei o
-
-abbrev pub offers_behind : Config → Service → ℕ → Outgoing → List ControlFrame → List (List ℕ)
-offers_behind c service tei o (f ∷ fs) = text c service tei f.command f.control [] ∷ []
-offers_behind c service tei o [] = sends c service tei o (unsent o)
-
+-- What a link offers next is the first of these: the control frames that wait, the oldest first; where I-frames may go, one
+-- with N(S) = V(S), which acknowledges all that was told, with the first contents that have not gone, or are to go again: those
+-- kept from V(S) on; and, where it is owed, an acknowledgement by itself, RR (clauses 3.5.2.1 to 3.5.2.6, 5.6.1 and 5.6.3.1).
 abbrev pub offers : Config → Service → ℕ → Outgoing → List (List ℕ)
-offers c service tei o = offers_behind c service tei o o.waiting
+offers c service tei o =
+    let l = o.view.link in
+    let unsent = if may_go c service l then drop (steps l.acknowledged l.next) o.kept else [] in
+    take 1 (map (λ (f : ControlFrame). text c service tei f.command f.control []) o.waiting
+    ++ map (text c service tei true (Information (seq l.next) (seq l.count) false)) unsent
+    ++ (if o.owes then text c service tei false (ReceiveReady (seq l.count) false) [] ∷ [] else []))
 
 -- A call for the next frame, after whatever happened before, gives no frame of a link but what it offers;
 abbrev pub GivenIsDue : Config → List Event → ℕ → Type 0

@@ -1,6 +1,7 @@
 -- The frames of a link, as an observer of its line reads them.
 use Rattle.std.specs.Prelude.{ℕ, ◌==◌, ◌&&◌, not, Bool, false, List, Option, Some, None, Result, Ok, Err, if◌then◌else◌}
-use Rattle.std.specs.Option.{option_map_or}
+use Rattle.std.specs.Option.{option_map_or, option_and_then}
+use Rattle.std.specs.Result.{result_ok, result_err}
 use Rattle.model_bits.specs.Stream as stream
 use Rattle.lapd_frame.specs.declared.addresses.Address.{Address}
 use Rattle.lapd_frame.specs.declared.addresses.Side.{Side}
@@ -25,16 +26,12 @@ use Rattle.laws_trace.specs.Units.{is_ui}
 abbrev pub is_for : Service → ℕ → Address → Bool
 is_for service tei address = address.sapi == sapi_of service && address.tei == tei
 
-abbrev pub parts_of : Result Parts ReadFault → Option Parts
-parts_of (Ok parts) = Some parts
-parts_of (Err fault) = None
-
 -- Octets are read as a frame of a side, of which this holds.
 abbrev pub reads : Side → (Parts → Bool) → List ℕ → Bool
-reads side holds octets = option_map_or holds (parts_of (reading side octets)) false
+reads side holds octets = option_map_or holds (result_ok (reading side octets)) false
 
 abbrev pub frame_of : Config → stream.Event → Option Parts
-frame_of c (stream.frame octets) = parts_of (reading (heard_side c) octets)
+frame_of c (stream.frame octets) = result_ok (reading (heard_side c) octets)
 frame_of c other = None
 
 abbrev pub its_frame : Service → ℕ → Option Parts → Option Parts
@@ -53,20 +50,16 @@ fault_of service tei (Undefined address) = if is_for service tei address then So
 fault_of service tei (WrongSize address) = if is_for service tei address then Some N else None
 fault_of service tei other = None
 
-abbrev pub faulty : Service → ℕ → Result Parts ReadFault → Option ErrorCode
-faulty service tei (Ok frame) = None
-faulty service tei (Err fault) = fault_of service tei fault
-
 abbrev pub faulty_long : Service → ℕ → Result Long ReadFault → Option ErrorCode
 faulty_long service tei (Ok (long.Information address)) = if is_for service tei address then Some O else None
 faulty_long service tei (Ok (long.Unnumbered address)) = None
 faulty_long service tei (Err fault) = fault_of service tei fault
 
 abbrev pub malformed : Config → Service → ℕ → stream.Event → Option ErrorCode
-malformed c service tei (stream.frame octets) = faulty service tei (reading (heard_side c) octets)
+malformed c service tei (stream.frame octets) = option_and_then (fault_of service tei) (result_err (reading (heard_side c) octets))
 malformed c service tei (stream.overlong head) = faulty_long service tei (long_reading (heard_side c) head)
 malformed c service tei (stream.dropped cause) = None
 
 -- A frame that begins is one of the link, and no unit data.
 abbrev pub is_frame_of : Config → Service → ℕ → List ℕ → Bool
-is_frame_of c service tei octets = option_map_or (λ (f : Parts). not (is_ui f.control)) (its_frame service tei (parts_of (reading c.side octets))) false
+is_frame_of c service tei octets = option_map_or (λ (f : Parts). not (is_ui f.control)) (its_frame service tei (result_ok (reading c.side octets))) false

@@ -84,12 +84,10 @@ wrong_frame long command other was to = []
 abbrev pub given_up : ℕ → ℕ → List ErrorCode
 given_up was to = if was == 5 && to == 4 then G ∷ [] else if was == 6 && to == 4 then H ∷ [] else if was == 8 && to == 5 then I ∷ [] else []
 
-abbrev pub wrong_parts : Config → ℕ → ℕ → Parts → List ErrorCode
-wrong_parts c was to f = wrong_frame (nat_lt c.n201 (length f.info)) f.address.command f.control was to
-
 abbrev pub wrong : Config → Service → ℕ → line_event.Event → ℕ → ℕ → List ErrorCode
 wrong c service tei (hears e) was to =
-    (if is_up was then option_to_list (malformed c service tei e) else []) ++ option_map_or (wrong_parts c was to) (its_frame service tei (frame_of c e)) []
+    (if is_up was then option_to_list (malformed c service tei e) else [])
+    ++ option_map_or (λ (f : Parts). wrong_frame (nat_lt c.n201 (length f.info)) f.address.command f.control was to) (its_frame service tei (frame_of c e)) []
 wrong c service tei (expiry timer) was to = given_up was to
 wrong c service tei other was to = []
 

@@ -2,6 +2,7 @@
 -- runs out, and what it sends.
 use Rattle.std.specs.Prelude.{ℕ, ◌+◌, ◌-◌, ◌%◌, ◌==◌, ◌&&◌, ◌||◌, not, nat_lt, Bool, true, false, List, length, fold, is_some, if◌then◌else◌}
 use Rattle.std.specs.Option.{option_map_or}
+use Rattle.std.specs.Result.{result_ok}
 use Rattle.model_bits.specs.Stream as stream
 use Rattle.lapd_frame.specs.declared.controls.Control.{Control}
 use Rattle.lapd_frame.specs.declared.controls.Control.TheVariants.{Information, ReceiveReady, ReceiveNotReady, Reject, Sabme, Disc, Ua, Dm, Frmr}
@@ -20,7 +21,7 @@ use Rattle.model_card.specs.Card.{fresh}
 use Rattle.model_card.specs.Event.{Event, at}
 use Rattle.model_card.specs.Machine.{answer}
 use Rattle.model_card.specs.Run.{Moment, moments, after_all}
-use Rattle.laws_trace.specs.LinkFrames.{frame_of, its_frame, parts_of, malformed}
+use Rattle.laws_trace.specs.LinkFrames.{frame_of, its_frame, malformed}
 use Rattle.laws_trace.specs.Managing.{Managed, none_on, is_on, led}
 use Rattle.laws_trace.specs.Trace.{is_own, is_up, frame_in}
 
@@ -42,19 +43,7 @@ pub record Observed : Type 0 where
   pub expiries : ℕ
 
 abbrev pub in_state : ℕ → Observed
-in_state n =
-    record {
-      state = n;
-      count = 0;
-      own_busy = false;
-      rejected = false;
-      acknowledged = 0;
-      next = 0;
-      busy = false;
-      asked = false;
-      outstanding = false;
-      expiries = 0;
-    }
+in_state n = record { state = n; count = 0; own_busy = false; rejected = false; acknowledged = 0; next = 0; busy = false; asked = false; outstanding = false; expiries = 0 }
 
 -- I-frames are outstanding that went, are not acknowledged and are not to go again (clauses 5.6.1, 5.6.4 and 5.6.7).
 abbrev pub is_outstanding : Observed → Bool
@@ -165,7 +154,7 @@ sends o (Information ns nr p) = if is_up o.state then record o { next = (ns.valu
 sends o other = o
 
 abbrev pub by_frame_begun : Config → Service → ℕ → Observed → List ℕ → Observed
-by_frame_begun c service tei o octets = option_map_or (λ (f : Parts). sends o f.control) (its_frame service tei (parts_of (reading c.side octets))) o
+by_frame_begun c service tei o octets = option_map_or (λ (f : Parts). sends o f.control) (its_frame service tei (result_ok (reading c.side octets))) o
 
 abbrev pub by_event : Config → Service → ℕ → line_event.Event → Answer → Observed → Observed
 by_event c service tei (hears e) a o = by_heard c service tei e o

@@ -1,11 +1,8 @@
 -- An I-frame is offered only where it may go; and with offers alone contents go one after the other.
-use Rattle.laws_link.proofs.Vocabulary.{◌≡◌, ℕ, zero, suc, ◌+◌, ◌-◌, ◌<◌, Bool, true, false, cond, IsTrue, ◌&&◌, not, List, [], ◌∷◌, length, Option, Some, None, refl, sym, ap, ◌∙◌, subst, true≢false, arith, All, IfSome, nat_lt, ltb-true, and_parts, All-head, State, Established, ControlFrame, T200, Terms, Link, outstanding, course, after, given, given_of, IsInRange, IsSound, IsWaitingFrame, is_information, Course, Sent, begun, ◌then◌, changed, sound-after, IsOffered, is_i_frame, i_frames, MayGo, offered, i_frames_offered, both_ways}
-use Rattle.model_link.specs.Events as link
-use Rattle.model_link.specs.Offers
-use Rattle.model_link.specs.Words
+use Rattle.laws_link.proofs.Vocabulary.{◌≡◌, ℕ, zero, suc, ◌+◌, ◌-◌, ◌<◌, Bool, true, false, cond, IsTrue, ◌&&◌, not, List, [], ◌∷◌, length, Option, Some, None, refl, sym, ap, ◌∙◌, subst, true≢false, arith, All, IfSome, nat_lt, ltb-true, and_parts, All-head, State, Established, ControlFrame, T200, Terms, Link, outstanding, course, after, given, given_of, IsInRange, IsSound, IsWaitingFrame, is_information, Course, Sent, begun, ◌then◌, changed, sound-after, IsOffered, is_i_frame, i_frames, MayGo, offered, i_frames_offered, both_ways, offer, give_information, is_awaiting_acknowledgement, is_established, may_send_information, offer_among, with_one_sent, pending_is, start}
 use Rattle.laws_link.proofs.Offering.{given-is-offered, offer-leaves, offer-counts}
 
-in-state-7 : (state : State) → Offers.is_established state ≡ true → state ≡ Established
+in-state-7 : (state : State) → is_established state ≡ true → state ≡ Established
 in-state-7 Established e = refl
 in-state-7 other e = absurd (true≢false (sym e))
 
@@ -14,11 +11,11 @@ off true e = absurd (true≢false (sym e))
 off false e = refl
 
 module _ (t : Terms) (l : Link) (h : IsSound t l) where
-  pub may-go : Offers.may_send_information t l ≡ true → MayGo t l
+  pub may-go : may_send_information t l ≡ true → MayGo t l
   may-go e =
-      let some = and_parts (Offers.is_established l.state && not l.peer_busy && nat_lt (outstanding l) t.k) (nat_lt l.s (length l.contents)) e in
-      let fewer = and_parts (Offers.is_established l.state && not l.peer_busy) (nat_lt (outstanding l) t.k) some.0 in
-      let free = and_parts (Offers.is_established l.state) (not l.peer_busy) fewer.0 in
+      let some = and_parts (is_established l.state && not l.peer_busy && nat_lt (outstanding l) t.k) (nat_lt l.s (length l.contents)) e in
+      let fewer = and_parts (is_established l.state && not l.peer_busy) (nat_lt (outstanding l) t.k) some.0 in
+      let free = and_parts (is_established l.state) (not l.peer_busy) fewer.0 in
       let fewer_out : l.s - l.a < t.k = ltb-true (l.s - l.a) t.k fewer.1 in
       record {
         state = in-state-7 l.state free.0;
@@ -30,16 +27,16 @@ module _ (t : Terms) (l : Link) (h : IsSound t l) where
   abbrev May : Course → Type 0
   May c = IfSome c.sent (λ s. IsTrue (is_information s.frame.control) → MayGo t l)
 
-  tested : (b : Bool) → Offers.may_send_information t l ≡ b → (u v : Course) → (b ≡ true → May u) → May v → May (cond b u v)
+  tested : (b : Bool) → may_send_information t l ≡ b → (u v : Course) → (b ≡ true → May u) → May v → May (cond b u v)
   tested true e u v x y = x refl
   tested false e u v x y = y
 
-  offering : (ws : List ControlFrame) → All (IsWaitingFrame t) ws → May (Offers.offer_among t ws (begun l))
+  offering : (ws : List ControlFrame) → All (IsWaitingFrame t) ws → May (offer_among t ws (begun l))
   offering (f ∷ fs) frames = λ is. absurd (true≢false (sym is ∙ (All-head (IsWaitingFrame t) f fs frames).without_contents))
   offering [] frames =
-      let one_more = (Offers.give_information then changed Offers.with_one_sent then Words.pending_is false) (begun l) in
-      tested (Offers.may_send_information t l) refl _ _
-      (λ e. both_ways May (Offers.is_awaiting_acknowledgement one_more.link) one_more (Words.start T200 one_more) (λ is. may-go e) (λ is. may-go e))
+      let one_more = (give_information then changed with_one_sent then pending_is false) (begun l) in
+      tested (may_send_information t l) refl _ _
+      (λ e. both_ways May (is_awaiting_acknowledgement one_more.link) one_more (start T200 one_more) (λ is. may-go e) (λ is. may-go e))
       (both_ways May l.pending _ _ (λ is. absurd (true≢false (sym is))) tt)
 
   from-sent : (c : Course) (o : Option Sent) → IfSome o (λ s. IsTrue (is_information s.frame.control) → MayGo t l)
@@ -48,7 +45,7 @@ module _ (t : Terms) (l : Link) (h : IsSound t l) where
   from-sent c (Some s) x = x
 
   pub given-may-go : IfSome (given t l) (λ g. IsTrue (is_i_frame g) → MayGo t l)
-  given-may-go = from-sent (course t link.offer l) (course t link.offer l).sent (offering l.waiting h.frames)
+  given-may-go = from-sent (course t offer l) (course t offer l).sent (offering l.waiting h.frames)
 
 -- after any number of offers
 pub offered-in-order : (t : Terms) → IsInRange t → (m : ℕ) (l : Link) → IsSound t l
@@ -56,9 +53,9 @@ pub offered-in-order : (t : Terms) → IsInRange t → (m : ℕ) (l : Link) → 
 unfolding offered i_frames_offered
 offered-in-order t r zero l h = subst (λ j. IfSome (given t l) (λ g. IsOffered l.contents j g.frame g.contents)) (omega arith) (given-is-offered t l h)
 offered-in-order t r (suc m) l h =
-    let next = after t link.offer l in
-    let rest = offered-in-order t r m next (sound-after t r link.offer l h) in
-    let at : next.s + i_frames_offered t m next ≡ l.s + (i_frames t link.offer l + i_frames_offered t m next) =
+    let next = after t offer l in
+    let rest = offered-in-order t r m next (sound-after t r offer l h) in
+    let at : next.s + i_frames_offered t m next ≡ l.s + (i_frames t offer l + i_frames_offered t m next) =
     ap (λ s. s + i_frames_offered t m next) (offer-counts t l h) ∙ omega arith in
     subst (λ j. IfSome (given t (offered t m next)) (λ g. IsOffered l.contents j g.frame g.contents)) at
     (subst (λ xs. IfSome (given t (offered t m next)) (λ g. IsOffered xs (next.s + i_frames_offered t m next) g.frame g.contents)) (offer-leaves t l).contents rest)

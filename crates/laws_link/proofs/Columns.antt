@@ -1,8 +1,5 @@
 -- What an event leaves of a link, row by row of the tables.
-use Rattle.laws_link.proofs.Vocabulary.{◌≡◌, ℕ, ◌+◌, Bool, true, false, cond, not, ◌||◌, List, [], ◌∷◌, ◌++◌, length, drop, Option, None, Some, is_some, refl, nat_lt, Control, Note, Parts, State, AwaitingEstablishment, LinkTimer, ControlFrame, Terms, Link, Course, begun, Step, ◌then◌, as_heard, state_after, numbers_begin, answers, commands, peer_busy_left, own_busy_left, flag_left, rejecting_heard, takes_contents, unless_put, owed_in, owed_behind, asked_left, repeats_left, told_with, ErrorCode}
-use Rattle.model_link.specs.Events
-use Rattle.model_link.specs.Words
-use Rattle.model_link.specs.Machine
+use Rattle.laws_link.proofs.Vocabulary.{◌≡◌, ℕ, ◌+◌, Bool, true, false, cond, not, ◌||◌, List, [], ◌∷◌, ◌++◌, length, drop, Option, None, Some, is_some, refl, nat_lt, Control, Note, Parts, State, AwaitingEstablishment, LinkTimer, ControlFrame, Terms, Link, Course, begun, Step, ◌then◌, as_heard, state_after, numbers_begin, answers, commands, peer_busy_left, own_busy_left, flag_left, rejecting_heard, takes_contents, unless_put, owed_in, owed_behind, asked_left, repeats_left, told_with, ErrorCode, Event, cleared, frame, offer, received, deliver_unit, error, leave_unserved, re_establish, unit_data, course}
 
 -- What a course leaves: fields of its link, how many frames were lost, and whether the numbers begin.
 pub record Left : Type 0 where
@@ -43,17 +40,17 @@ unplaced most ws n [] = n
 unplaced most ws n (f ∷ fs) =
     unplaced most (cond (nat_lt (length ws) most) (ws ++ f ∷ []) ws) (cond {A = ℕ} (nat_lt (length ws) most) n (n + 1)) fs
 
-abbrev pub queued_by : Terms → Events.Event → Link → List ControlFrame → List ControlFrame
-queued_by t Events.offer l fs = drop 1 l.waiting
-queued_by t Events.cleared l fs = []
+abbrev pub queued_by : Terms → Event → Link → List ControlFrame → List ControlFrame
+queued_by t offer l fs = drop 1 l.waiting
+queued_by t cleared l fs = []
 queued_by t other l fs = queued t.control l.waiting fs
 
-abbrev pub owed_by : Events.Event → Link → State → List ControlFrame → Bool → Bool
-owed_by Events.offer l to fs takes = owed_behind l.waiting l.pending
+abbrev pub owed_by : Event → Link → State → List ControlFrame → Bool → Bool
+owed_by offer l to fs takes = owed_behind l.waiting l.pending
 owed_by other l to fs takes = flag_left other l to (owed_in to (unless_put fs (takes || l.pending))) l.pending
 
 -- What the definitions say that it leaves, by the answers to it and what it says of REJ and of an I-frame that is taken.
-abbrev pub due_by : Terms → Events.Event → Link → List ControlFrame → Bool → Bool → State → Left
+abbrev pub due_by : Terms → Event → Link → List ControlFrame → Bool → Bool → State → Left
 due_by t e l answers rejecting takes to = record {
   state = to;
   waiting = queued_by t e l (answers ++ commands e l to);
@@ -68,7 +65,7 @@ due_by t e l answers rejecting takes to = record {
   zeroed = numbers_begin e l.state to;
 }
 
-abbrev pub due : Terms → Events.Event → Link → State → Left
+abbrev pub due : Terms → Event → Link → State → Left
 due t e l to = due_by t e l (answers e l) (rejecting_heard e l) (takes_contents e l) to
 
 abbrev pub at : State → Link → Link
@@ -83,30 +80,30 @@ at-running here o l = record l { state = here; running = o }
 abbrev pub at-waiting : State → List ControlFrame → Bool → Link → Link
 at-waiting here ws owed l = record l { state = here; waiting = ws; pending = owed }
 
-abbrev pub hears : Parts → Bool → Control → Events.Event
-hears f b control = Events.received (Events.frame (record f { address = record f.address { command = b }; control = control }))
+abbrev pub hears : Parts → Bool → Control → Event
+hears f b control = received (frame (record f { address = record f.address { command = b }; control = control }))
 
 module _ (t : Terms) where
   -- The event leaves what is due in the state to which the table leads.
-  abbrev pub Row : Events.Event → Link → Type 0
-  Row e l = left (Machine.course t e l) ≡ due t (as_heard t e) l (state_after t (as_heard t e) l)
+  abbrev pub Row : Event → Link → Type 0
+  Row e l = left (course t e l) ≡ due t (as_heard t e) l (state_after t (as_heard t e) l)
 
   pub chosen : (b : Bool) (u v c : Course) → left u ≡ left c → left v ≡ left c → left (cond b u v) ≡ left c
   chosen true u v c x y = x
   chosen false u v c x y = y
 
   pub unit-left : (octets : List ℕ) (l : Link)
-      → left (Words.unit_data t octets (begun l)) ≡ record (left (begun l)) { notes = cond (nat_lt t.n201 (length octets)) [] (Note.Unit t.service t.tei ∷ []) }
+      → left (unit_data t octets (begun l)) ≡ record (left (begun l)) { notes = cond (nat_lt t.n201 (length octets)) [] (Note.Unit t.service t.tei ∷ []) }
   unit-left octets l = go (nat_lt t.n201 (length octets))
     where
-      go : (over : Bool) → left (cond over (Words.leave_unserved (begun l)) (Words.deliver_unit t octets (begun l)))
+      go : (over : Bool) → left (cond over (leave_unserved (begun l)) (deliver_unit t octets (begun l)))
           ≡ record (left (begun l)) { notes = cond over [] (Note.Unit t.service t.tei ∷ []) }
       go true = refl
       go false = refl
 
   -- An N(R) that is valid, or not.
   pub by-named : (D : State → Left) (c : Course) (f : ℕ → Step) (o : Option ℕ) (to : State)
-      → left ((Words.error t ErrorCode.J then Words.re_establish t) c) ≡ D AwaitingEstablishment → ((n : ℕ) → left (f n c) ≡ D to)
-      → left (elim o [ None ↦ (Words.error t ErrorCode.J then Words.re_establish t) c | Some n ↦ f n c ]) ≡ D (cond (not (is_some o)) AwaitingEstablishment to)
+      → left ((error t ErrorCode.J then re_establish t) c) ≡ D AwaitingEstablishment → ((n : ℕ) → left (f n c) ≡ D to)
+      → left (elim o [ None ↦ (error t ErrorCode.J then re_establish t) c | Some n ↦ f n c ]) ≡ D (cond (not (is_some o)) AwaitingEstablishment to)
   by-named D c f None to x y = x
   by-named D c f (Some n) to x y = y n

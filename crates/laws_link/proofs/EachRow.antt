@@ -1,10 +1,5 @@
 -- What any event leaves of a link.
-use Rattle.laws_link.proofs.Vocabulary.{◌≡◌, ℕ, Bool, true, false, cond, List, [], ◌∷◌, Option, None, Some, refl, nat_lt, Control, Sabme, Disc, Refusal, Parts, State, TeiAssigned, AwaitingEstablishment, AwaitingRelease, Established, TimerRecovery, LinkTimer, T200, T203, ControlFrame, Terms, Link, Course, begun, ◌then◌, changed, by_expiry, ErrorCode}
-use Rattle.model_link.specs.Events
-use Rattle.model_link.specs.Words
-use Rattle.model_link.specs.MultipleFrame
-use Rattle.model_link.specs.Requests
-use Rattle.model_link.specs.Offers
+use Rattle.laws_link.proofs.Vocabulary.{◌≡◌, ℕ, Bool, true, false, cond, List, [], ◌∷◌, Option, None, Some, refl, nat_lt, Control, Sabme, Disc, Refusal, Parts, State, TeiAssigned, AwaitingEstablishment, AwaitingRelease, Established, TimerRecovery, LinkTimer, T200, T203, ControlFrame, Terms, Link, Course, begun, ◌then◌, changed, by_expiry, ErrorCode, ClearBusy, Data, Establish, Event, Release, Request, SetBusy, cleared, expired, frame, offer, overlong, received, requested, undefined, wrong_size, command, discard, enquire, enter, error, no_timer, pending_is, release_confirm, release_indication, repeated, send, start, data_in_7_8, failed, refusal_of_contents, give_information, is_awaiting_acknowledgement, may_send_information, send_acknowledgement, with_one_sent}
 use Rattle.laws_link.proofs.Columns.{left, due, at, at-busy, at-running, at-waiting, hears, Row}
 use Rattle.laws_link.proofs.RowsDown.{in-4, in-5, in-6}
 use Rattle.laws_link.proofs.RowsUp.{in-7}
@@ -20,12 +15,12 @@ module _ (t : Terms) where
   by-a-frame TimerRecovery l f b control = in-8 t l f b control
 
   malformed : (here : State) (l : Link)
-      → Row t (Events.received Events.undefined) (at here l) × Row t (Events.received Events.wrong_size) (at here l) × Row t (Events.received Events.overlong) (at here l)
+      → Row t (received undefined) (at here l) × Row t (received wrong_size) (at here l) × Row t (received overlong) (at here l)
   malformed TeiAssigned l = (refl, refl, refl)
   malformed other l = (refl, refl, refl)
 
   -- Expiries.
-  by-t200 : (here : State) (l : Link) (o : Option LinkTimer) → Row t (Events.expired T200) (at-running here o l)
+  by-t200 : (here : State) (l : Link) (o : Option LinkTimer) → Row t (expired T200) (at-running here o l)
   by-t200 TeiAssigned l None = refl
   by-t200 TeiAssigned l (Some T200) = refl
   by-t200 TeiAssigned l (Some T203) = refl
@@ -33,9 +28,9 @@ module _ (t : Terms) where
   by-t200 AwaitingEstablishment l (Some T200) = go (nat_lt l.repeats t.n200)
     where
       go : (again : Bool) → let x = at-running AwaitingEstablishment (Some T200) l in
-          left (cond again ((Words.send t (Words.command (Sabme true)) then Words.repeated then Words.start T200) (begun x))
-          ((Words.discard then Words.error t ErrorCode.G then Words.release_indication t then Words.no_timer then Words.enter TeiAssigned) (begun x)))
-          ≡ due t (Events.expired T200) x (by_expiry AwaitingEstablishment T200 again)
+          left (cond again ((send t (command (Sabme true)) then repeated then start T200) (begun x))
+          ((discard then error t ErrorCode.G then release_indication t then no_timer then enter TeiAssigned) (begun x)))
+          ≡ due t (expired T200) x (by_expiry AwaitingEstablishment T200 again)
       go true = refl
       go false = refl
   by-t200 AwaitingEstablishment l (Some T203) = refl
@@ -43,9 +38,9 @@ module _ (t : Terms) where
   by-t200 AwaitingRelease l (Some T200) = go (nat_lt l.repeats t.n200)
     where
       go : (again : Bool) → let x = at-running AwaitingRelease (Some T200) l in
-          left (cond again ((Words.send t (Words.command (Disc true)) then Words.repeated then Words.start T200) (begun x))
-          ((Words.error t ErrorCode.H then Words.release_confirm t then Words.no_timer then Words.enter TeiAssigned) (begun x)))
-          ≡ due t (Events.expired T200) x (by_expiry AwaitingRelease T200 again)
+          left (cond again ((send t (command (Disc true)) then repeated then start T200) (begun x))
+          ((error t ErrorCode.H then release_confirm t then no_timer then enter TeiAssigned) (begun x)))
+          ≡ due t (expired T200) x (by_expiry AwaitingRelease T200 again)
       go true = refl
       go false = refl
   by-t200 AwaitingRelease l (Some T203) = refl
@@ -56,13 +51,13 @@ module _ (t : Terms) where
   by-t200 TimerRecovery l (Some T200) = go (nat_lt l.repeats t.n200)
     where
       go : (again : Bool) → let x = at-running TimerRecovery (Some T200) l in
-          left (cond again ((Words.enquire t then Words.repeated then Words.start T200) (begun x)) (MultipleFrame.failed t ErrorCode.I (begun x)))
-          ≡ due t (Events.expired T200) x (by_expiry TimerRecovery T200 again)
+          left (cond again ((enquire t then repeated then start T200) (begun x)) (failed t ErrorCode.I (begun x)))
+          ≡ due t (expired T200) x (by_expiry TimerRecovery T200 again)
       go true = refl
       go false = refl
   by-t200 TimerRecovery l (Some T203) = refl
 
-  by-t203 : (here : State) (l : Link) (o : Option LinkTimer) → Row t (Events.expired T203) (at-running here o l)
+  by-t203 : (here : State) (l : Link) (o : Option LinkTimer) → Row t (expired T203) (at-running here o l)
   by-t203 TeiAssigned l None = refl
   by-t203 TeiAssigned l (Some T200) = refl
   by-t203 TeiAssigned l (Some T203) = refl
@@ -81,56 +76,56 @@ module _ (t : Terms) where
 
   -- Requests.
   by-data : (o : Option Refusal) (octets : List ℕ) (c : Course)
-      → left (elim o as (λ o. Course) [ None ↦ MultipleFrame.data_in_7_8 octets c | Some _ ↦ c ]) ≡ left c
+      → left (elim o as (λ o. Course) [ None ↦ data_in_7_8 octets c | Some _ ↦ c ]) ≡ left c
   by-data None octets c = refl
   by-data (Some w) octets c = refl
 
-  by-request : (request : Events.Request) (full : Bool) (here : State) (l : Link) (own rej : Bool) → Row t (Events.requested request full) (at-busy here own rej l)
-  by-request Events.Establish full TeiAssigned l own rej = refl
-  by-request Events.Establish full AwaitingEstablishment l own rej = refl
-  by-request Events.Establish full AwaitingRelease l own rej = refl
-  by-request Events.Establish full Established l own rej = refl
-  by-request Events.Establish full TimerRecovery l own rej = refl
-  by-request Events.Release full TeiAssigned l own rej = refl
-  by-request Events.Release full AwaitingEstablishment l own rej = refl
-  by-request Events.Release full AwaitingRelease l own rej = refl
-  by-request Events.Release full Established l own rej = refl
-  by-request Events.Release full TimerRecovery l own rej = refl
-  by-request (Events.Data octets) full TeiAssigned l own rej = refl
-  by-request (Events.Data octets) full AwaitingEstablishment l own rej = refl
-  by-request (Events.Data octets) full AwaitingRelease l own rej = refl
-  by-request (Events.Data octets) full Established l own rej =
-      by-data (Requests.refusal_of_contents t l full octets) octets (begun (at-busy Established own rej l))
-  by-request (Events.Data octets) full TimerRecovery l own rej =
-      by-data (Requests.refusal_of_contents t l full octets) octets (begun (at-busy TimerRecovery own rej l))
-  by-request Events.SetBusy full TeiAssigned l own rej = refl
-  by-request Events.SetBusy full AwaitingEstablishment l own rej = refl
-  by-request Events.SetBusy full AwaitingRelease l own rej = refl
-  by-request Events.SetBusy full Established l true rej = refl
-  by-request Events.SetBusy full Established l false rej = refl
-  by-request Events.SetBusy full TimerRecovery l true rej = refl
-  by-request Events.SetBusy full TimerRecovery l false rej = refl
-  by-request Events.ClearBusy full TeiAssigned l own rej = refl
-  by-request Events.ClearBusy full AwaitingEstablishment l own rej = refl
-  by-request Events.ClearBusy full AwaitingRelease l own rej = refl
-  by-request Events.ClearBusy full Established l true rej = refl
-  by-request Events.ClearBusy full Established l false rej = refl
-  by-request Events.ClearBusy full TimerRecovery l true rej = refl
-  by-request Events.ClearBusy full TimerRecovery l false rej = refl
+  by-request : (request : Request) (full : Bool) (here : State) (l : Link) (own rej : Bool) → Row t (requested request full) (at-busy here own rej l)
+  by-request Establish full TeiAssigned l own rej = refl
+  by-request Establish full AwaitingEstablishment l own rej = refl
+  by-request Establish full AwaitingRelease l own rej = refl
+  by-request Establish full Established l own rej = refl
+  by-request Establish full TimerRecovery l own rej = refl
+  by-request Release full TeiAssigned l own rej = refl
+  by-request Release full AwaitingEstablishment l own rej = refl
+  by-request Release full AwaitingRelease l own rej = refl
+  by-request Release full Established l own rej = refl
+  by-request Release full TimerRecovery l own rej = refl
+  by-request (Data octets) full TeiAssigned l own rej = refl
+  by-request (Data octets) full AwaitingEstablishment l own rej = refl
+  by-request (Data octets) full AwaitingRelease l own rej = refl
+  by-request (Data octets) full Established l own rej =
+      by-data (refusal_of_contents t l full octets) octets (begun (at-busy Established own rej l))
+  by-request (Data octets) full TimerRecovery l own rej =
+      by-data (refusal_of_contents t l full octets) octets (begun (at-busy TimerRecovery own rej l))
+  by-request SetBusy full TeiAssigned l own rej = refl
+  by-request SetBusy full AwaitingEstablishment l own rej = refl
+  by-request SetBusy full AwaitingRelease l own rej = refl
+  by-request SetBusy full Established l true rej = refl
+  by-request SetBusy full Established l false rej = refl
+  by-request SetBusy full TimerRecovery l true rej = refl
+  by-request SetBusy full TimerRecovery l false rej = refl
+  by-request ClearBusy full TeiAssigned l own rej = refl
+  by-request ClearBusy full AwaitingEstablishment l own rej = refl
+  by-request ClearBusy full AwaitingRelease l own rej = refl
+  by-request ClearBusy full Established l true rej = refl
+  by-request ClearBusy full Established l false rej = refl
+  by-request ClearBusy full TimerRecovery l true rej = refl
+  by-request ClearBusy full TimerRecovery l false rej = refl
 
   -- Offers.
   abbrev given-in-7 : Bool → Link → Course
-  given-in-7 owed l = (Offers.give_information then changed Offers.with_one_sent then Words.pending_is false) (begun (at-waiting Established [] owed l))
+  given-in-7 owed l = (give_information then changed with_one_sent then pending_is false) (begun (at-waiting Established [] owed l))
 
   by-information : (go runs owed : Bool) (l : Link) → let x = at-waiting Established [] owed l in
-      left (cond go (cond runs (given-in-7 owed l) (Words.start T200 (given-in-7 owed l))) (cond owed (Offers.send_acknowledgement (begun x)) (begun x)))
-      ≡ due t Events.offer x Established
+      left (cond go (cond runs (given-in-7 owed l) (start T200 (given-in-7 owed l))) (cond owed (send_acknowledgement (begun x)) (begun x)))
+      ≡ due t offer x Established
   by-information true true owed l = refl
   by-information true false owed l = refl
   by-information false runs true l = refl
   by-information false runs false l = refl
 
-  by-offer : (here : State) (l : Link) (ws : List ControlFrame) (owed : Bool) → Row t Events.offer (at-waiting here ws owed l)
+  by-offer : (here : State) (l : Link) (ws : List ControlFrame) (owed : Bool) → Row t offer (at-waiting here ws owed l)
   by-offer TeiAssigned l (f ∷ fs) owed = refl
   by-offer AwaitingEstablishment l (f ∷ fs) owed = refl
   by-offer AwaitingRelease l (f ∷ fs) owed = refl
@@ -143,22 +138,22 @@ module _ (t : Terms) where
   by-offer AwaitingRelease l [] true = refl
   by-offer AwaitingRelease l [] false = refl
   by-offer Established l [] owed =
-      by-information (Offers.may_send_information t (at Established l)) (Offers.is_awaiting_acknowledgement l) owed l
+      by-information (may_send_information t (at Established l)) (is_awaiting_acknowledgement l) owed l
   by-offer TimerRecovery l [] true = refl
   by-offer TimerRecovery l [] false = refl
 
   -- The end of the TEI.
-  by-clearing : (here : State) (l : Link) → Row t Events.cleared (at here l)
+  by-clearing : (here : State) (l : Link) → Row t cleared (at here l)
   by-clearing TeiAssigned l = refl
   by-clearing other l = refl
 
-  pub each-row : (e : Events.Event) (l : Link) → Row t e l
-  each-row (Events.received (Events.frame f)) l = by-a-frame l.state l f f.address.command f.control
-  each-row (Events.received Events.undefined) l = (malformed l.state l).0
-  each-row (Events.received Events.wrong_size) l = (malformed l.state l).1
-  each-row (Events.received Events.overlong) l = (malformed l.state l).2
-  each-row (Events.expired T200) l = by-t200 l.state l l.running
-  each-row (Events.expired T203) l = by-t203 l.state l l.running
-  each-row (Events.requested request full) l = by-request request full l.state l l.own_busy l.rejecting
-  each-row Events.offer l = by-offer l.state l l.waiting l.pending
-  each-row Events.cleared l = by-clearing l.state l
+  pub each-row : (e : Event) (l : Link) → Row t e l
+  each-row (received (frame f)) l = by-a-frame l.state l f f.address.command f.control
+  each-row (received undefined) l = (malformed l.state l).0
+  each-row (received wrong_size) l = (malformed l.state l).1
+  each-row (received overlong) l = (malformed l.state l).2
+  each-row (expired T200) l = by-t200 l.state l l.running
+  each-row (expired T203) l = by-t203 l.state l l.running
+  each-row (requested request full) l = by-request request full l.state l l.own_busy l.rejecting
+  each-row offer l = by-offer l.state l l.waiting l.pending
+  each-row cleared l = by-clearing l.state l

@@ -1,7 +1,5 @@
 -- What comes of the expiry of a timer that runs.
-use Rattle.laws_link.proofs.Vocabulary.{◌≡◌, ◌+◌, ◌<◌, ◌≤◌, true, cond, [], ◌∷◌, refl, sym, subst, nat_lt, lt-ltb, le-ltb, Sabme, Disc, State, TeiAssigned, AwaitingEstablishment, AwaitingRelease, Established, TimerRecovery, LinkTimer, T200, T203, Terms, Link, Course, begun, runs, IsSent, enquiry, IsGivenUp, ExpiresIn, Expires, Note, ErrorCode}
-use Rattle.model_link.specs.Events
-use Rattle.model_link.specs.Machine
+use Rattle.laws_link.proofs.Vocabulary.{◌≡◌, ◌+◌, ◌<◌, ◌≤◌, true, cond, [], ◌∷◌, refl, sym, subst, nat_lt, lt-ltb, le-ltb, Sabme, Disc, State, TeiAssigned, AwaitingEstablishment, AwaitingRelease, Established, TimerRecovery, LinkTimer, T200, T203, Terms, Link, Course, begun, runs, IsSent, enquiry, IsGivenUp, ExpiresIn, Expires, Note, ErrorCode, expired, after, expired_in, told}
 use Rattle.laws_link.proofs.Effects.{put}
 
 module _ (t : Terms) (l : Link) where
@@ -15,7 +13,7 @@ module _ (t : Terms) (l : Link) where
   ends : (P : Course → Type 0) (u v : Course) → t.n200 ≤ l.repeats → P v → P (cond (nat_lt l.repeats t.n200) u v)
   ends P u v most x = subst (λ b. P (cond b u v)) (sym (le-ltb l.repeats t.n200 most)) x
 
-  expires-in : (here : State) → l.state ≡ here → (timer : LinkTimer) → Does here timer (Machine.expired_in here timer t (begun l))
+  expires-in : (here : State) → l.state ≡ here → (timer : LinkTimer) → Does here timer (expired_in here timer t (begun l))
   expires-in TeiAssigned e timer = tt
   expires-in AwaitingEstablishment e T200 = (
     λ more. repeats (λ c. IsSent t AwaitingEstablishment (Sabme true) (l.repeats + 1) l c.link c.lost) _ _ more
@@ -42,6 +40,6 @@ module _ (t : Terms) (l : Link) where
 
   -- the timer that runs
   pub expires : (timer : LinkTimer) → runs timer l.running ≡ true
-      → Expires timer t l (Machine.after t (Events.expired timer) l) (Machine.told t (Events.expired timer) l).notes (Machine.told t (Events.expired timer) l).lost
+      → Expires timer t l (after t (expired timer) l) (told t (expired timer) l).notes (told t (expired timer) l).lost
   expires timer running =
-      subst (λ b. Does l.state timer (cond b (Machine.expired_in l.state timer t (begun l)) (begun l))) (sym running) (expires-in l.state refl timer)
+      subst (λ b. Does l.state timer (cond b (expired_in l.state timer t (begun l)) (begun l))) (sym running) (expires-in l.state refl timer)

@@ -1,21 +1,20 @@
 -- What follows an event, from what it leaves.
-use Rattle.laws_link.proofs.Vocabulary.{◌≡◌, ℕ, Bool, List, refl, ap, sym, ◌∙◌, subst, Note, State, ControlFrame, Terms, restarts, Link, after, told, Follows, as_heard, state_after, numbers_begin, put, waiting_left, lost_by, peer_busy_left, own_busy_left, rejecting_left, takes_contents, pending_left, asked_left, repeats_left, told_by}
-use Rattle.model_link.specs.Events
+use Rattle.laws_link.proofs.Vocabulary.{◌≡◌, ℕ, Bool, List, refl, ap, sym, ◌∙◌, subst, Note, State, ControlFrame, Terms, restarts, Link, after, told, Follows, as_heard, state_after, numbers_begin, put, waiting_left, lost_by, peer_busy_left, own_busy_left, rejecting_left, takes_contents, pending_left, asked_left, repeats_left, told_by, Event, cleared, offer, received}
 use Rattle.laws_link.proofs.Columns.{Left, queued_by, owed_by}
 use Rattle.laws_link.proofs.Placing.{placed}
 use Rattle.laws_link.proofs.EachRow.{each-row}
 
-waiting-is : (t : Terms) (e : Events.Event) (l : Link) (to : State) → queued_by t e l (put e l to) ≡ waiting_left t e l to
-waiting-is t Events.offer l to = refl
-waiting-is t Events.cleared l to = refl
+waiting-is : (t : Terms) (e : Event) (l : Link) (to : State) → queued_by t e l (put e l to) ≡ waiting_left t e l to
+waiting-is t offer l to = refl
+waiting-is t cleared l to = refl
 waiting-is t other l to = (placed t.control (put other l to) l.waiting).0
 
-pending-is : (e : Events.Event) (l : Link) (to : State) → owed_by e l to (put e l to) (takes_contents e l) ≡ pending_left e l to
-pending-is (Events.received r) l to = refl
+pending-is : (e : Event) (l : Link) (to : State) → owed_by e l to (put e l to) (takes_contents e l) ≡ pending_left e l to
+pending-is (received r) l to = refl
 pending-is other l to = refl
 
-module _ (t : Terms) (e : Events.Event) (l : Link) where
-  abbrev heard : Events.Event
+module _ (t : Terms) (e : Event) (l : Link) where
+  abbrev heard : Event
   heard = as_heard t e
 
   leads : (after t e l).state ≡ state_after t heard l

@@ -1,10 +1,5 @@
 -- From where a link sends again.
-use Rattle.laws_link.proofs.Vocabulary.{◌≡◌, ℕ, Bool, true, false, List, Option, Some, None, refl, sym, ap, ◌∙◌, subst, Seq, named, Control, ReceiveReady, ReceiveNotReady, Reject, State, Established, TimerRecovery, LinkTimer, T200, T203, Terms, Link, Course, begun, Step, ◌then◌, Leads, keeping_then, nothing_leads, depending_leads, bit_leads, asked_from, reported, GoesBackTo, leaves, ErrorCode}
-use Rattle.model_link.specs.Words
-use Rattle.model_link.specs.MultipleFrame
-use Rattle.model_link.specs.Established
-use Rattle.model_link.specs.TimerRecovery
-use Rattle.model_link.specs.Machine
+use Rattle.laws_link.proofs.Vocabulary.{◌≡◌, ℕ, Bool, true, false, List, Option, Some, None, refl, sym, ap, ◌∙◌, subst, Seq, named, Control, ReceiveReady, ReceiveNotReady, Reject, State, Established, TimerRecovery, LinkTimer, T200, T203, Terms, Link, Course, begun, Step, ◌then◌, Leads, keeping_then, nothing_leads, depending_leads, bit_leads, asked_from, reported, GoesBackTo, leaves, ErrorCode, by_number, error, peer_busy_is, re_establish, answered, is_final, acknowledged_by_rej_in_7, frame_in_7, unsolicited, acknowledged_in_8, frame_in_8, frame_in, frame_step}
 
 -- The link as it is before its N(R) has its effect.
 record StillAt (l : Link) (state : State) (contents : List (List ℕ)) (a s : ℕ) : Type 0 where
@@ -27,53 +22,53 @@ module _ (t : Terms) (l : Link) (nr : Seq) (n : ℕ) (valid : named l.a l.s nr �
   Back c = GoesBackTo n l c.link
 
   abbrev effect : (ℕ → Step) → Course → Option ℕ → Course
-  effect f c o = elim o [ None ↦ (Words.error t ErrorCode.J then Words.re_establish t) c | Some m ↦ f m c ]
+  effect f c o = elim o [ None ↦ (error t ErrorCode.J then re_establish t) c | Some m ↦ f m c ]
 
-  by-number : (f : ℕ → Step) → ((c : Course) → Still l c → Back (f n c)) → (c : Course) → Still l c → Back (Words.by_number t nr f c)
+  by-number : (f : ℕ → Step) → ((c : Course) → Still l c → Back (f n c)) → (c : Course) → Still l c → Back (by_number t nr f c)
   by-number f x c h =
       let same : named c.link.a c.link.s nr ≡ Some n = ap (λ a. named a c.link.s nr) h.a_is ∙ ap (λ s. named l.a s nr) h.s_is ∙ valid in
       subst (λ o. Back (effect f c o)) (sym same) (x c h)
 
-  rejected-7 : l.state ≡ Established → (c : Course) → Still l c → Back (Established.acknowledged_by_rej_in_7 n c)
+  rejected-7 : l.state ≡ Established → (c : Course) → Still l c → Back (acknowledged_by_rej_in_7 n c)
   rejected-7 e c h = record { state = h.state_is ∙ e; contents = h.contents_are; acknowledged = refl; sent = refl }
 
-  reported-8 : (timer : LinkTimer) (c : Course) → Still l c → Back (TimerRecovery.acknowledged_in_8 timer true n c)
+  reported-8 : (timer : LinkTimer) (c : Course) → Still l c → Back (acknowledged_in_8 timer true n c)
   reported-8 timer c h = record { state = refl; contents = h.contents_are; acknowledged = refl; sent = refl }
 
-  before-7 : (command pf : Bool) → Leads (Still l) (Words.peer_busy_is false then MultipleFrame.answered t command pf then Established.unsolicited t (MultipleFrame.is_final command pf)) (Still l)
+  before-7 : (command pf : Bool) → Leads (Still l) (peer_busy_is false then answered t command pf then unsolicited t (is_final command pf)) (Still l)
   before-7 command pf = search words depth 12 fits 4000
 
-  in-7 : l.state ≡ Established → (command : Bool) (octets : List ℕ) (pf : Bool) → Back (Established.frame_in_7 t command octets (Reject nr pf) (begun l))
-  in-7 e command octets pf = by-number Established.acknowledged_by_rej_in_7 (rejected-7 e) ((Words.peer_busy_is false then MultipleFrame.answered t command pf then Established.unsolicited t (MultipleFrame.is_final command pf)) (begun l)) ((before-7 command pf).leads (begun l) (begins l))
+  in-7 : l.state ≡ Established → (command : Bool) (octets : List ℕ) (pf : Bool) → Back (frame_in_7 t command octets (Reject nr pf) (begun l))
+  in-7 e command octets pf = by-number acknowledged_by_rej_in_7 (rejected-7 e) ((peer_busy_is false then answered t command pf then unsolicited t (is_final command pf)) (begun l)) ((before-7 command pf).leads (begun l) (begins l))
 
-  in-8 : (busy : Bool) (timer : LinkTimer) → Back ((Words.peer_busy_is busy then Words.by_number t nr (TimerRecovery.acknowledged_in_8 timer true)) (begun l))
-  in-8 busy timer = by-number (TimerRecovery.acknowledged_in_8 timer true) (reported-8 timer) (Words.peer_busy_is busy (begun l)) (begins l)
+  in-8 : (busy : Bool) (timer : LinkTimer) → Back ((peer_busy_is busy then by_number t nr (acknowledged_in_8 timer true)) (begun l))
+  in-8 busy timer = by-number (acknowledged_in_8 timer true) (reported-8 timer) (peer_busy_is busy (begun l)) (begins l)
 
   same-number : (m : Seq) (P : Seq → Type 0) → Some m ≡ Some nr → P nr → P m
   same-number m P e x = let same : m ≡ nr = cc in subst P (sym same) x
 
   frames-7 : l.state ≡ Established → (command : Bool) (octets : List ℕ) (control : Control) → asked_from Established command control ≡ Some nr
-      → Back (Machine.frame_in Established t command octets control (begun l))
-  frames-7 e command octets (Reject m pf) is = same-number m (λ x. Back (Established.frame_in_7 t command octets (Reject x pf) (begun l))) is (in-7 e command octets pf)
+      → Back (frame_in Established t command octets control (begun l))
+  frames-7 e command octets (Reject m pf) is = same-number m (λ x. Back (frame_in_7 t command octets (Reject x pf) (begun l))) is (in-7 e command octets pf)
   frames-7 e command octets other is = absurd (cc)
 
-  responses-8 : (octets : List ℕ) (control : Control) → reported control ≡ Some nr → Back (TimerRecovery.frame_in_8 t false octets control (begun l))
-  responses-8 octets (ReceiveReady m true) is = same-number m (λ x. Back (TimerRecovery.frame_in_8 t false octets (ReceiveReady x true) (begun l))) is (in-8 false T203)
-  responses-8 octets (ReceiveNotReady m true) is = same-number m (λ x. Back (TimerRecovery.frame_in_8 t false octets (ReceiveNotReady x true) (begun l))) is (in-8 true T200)
-  responses-8 octets (Reject m true) is = same-number m (λ x. Back (TimerRecovery.frame_in_8 t false octets (Reject x true) (begun l))) is (in-8 false T203)
+  responses-8 : (octets : List ℕ) (control : Control) → reported control ≡ Some nr → Back (frame_in_8 t false octets control (begun l))
+  responses-8 octets (ReceiveReady m true) is = same-number m (λ x. Back (frame_in_8 t false octets (ReceiveReady x true) (begun l))) is (in-8 false T203)
+  responses-8 octets (ReceiveNotReady m true) is = same-number m (λ x. Back (frame_in_8 t false octets (ReceiveNotReady x true) (begun l))) is (in-8 true T200)
+  responses-8 octets (Reject m true) is = same-number m (λ x. Back (frame_in_8 t false octets (Reject x true) (begun l))) is (in-8 false T203)
   responses-8 octets other is = absurd (cc)
 
   frames-8 : (command : Bool) (octets : List ℕ) (control : Control) → asked_from TimerRecovery command control ≡ Some nr
-      → Back (Machine.frame_in TimerRecovery t command octets control (begun l))
+      → Back (frame_in TimerRecovery t command octets control (begun l))
   frames-8 true octets control is = absurd (cc)
   frames-8 false octets control is = responses-8 octets control is
 
   frames : (here : State) → l.state ≡ here → (command : Bool) (octets : List ℕ) (control : Control) → asked_from here command control ≡ Some nr
-      → Back (Machine.frame_in here t command octets control (begun l))
+      → Back (frame_in here t command octets control (begun l))
   frames Established e command octets control is = frames-7 e command octets control is
   frames TimerRecovery e command octets control is = frames-8 command octets control is
   frames other e command octets control is = absurd (cc)
 
   pub goes-back : (command : Bool) (octets : List ℕ) (control : Control) → asked_from l.state command control ≡ Some nr
-      → Back (Machine.frame_step t command octets control (begun l))
+      → Back (frame_step t command octets control (begun l))
   goes-back command octets control is = frames l.state refl command octets control is

@@ -1,8 +1,5 @@
 -- A link gives what waits in its order.
-use Rattle.laws_link.proofs.Vocabulary.{◌≡◌, Bool, true, false, cond, List, [], ◌∷◌, Option, Some, None, refl, subst, inl, inr, All, IfSome, All-head, ControlFrame, T200, Terms, Link, course, after, given, given_of, IsSound, IsWaitingFrame, Course, Sent, begun, ◌then◌, changed, IsInOrder, told_ways}
-use Rattle.model_link.specs.Events as link
-use Rattle.model_link.specs.Offers
-use Rattle.model_link.specs.Words
+use Rattle.laws_link.proofs.Vocabulary.{◌≡◌, false, List, [], ◌∷◌, Option, Some, None, refl, subst, inl, inr, All, IfSome, All-head, ControlFrame, T200, Terms, Link, course, after, given, given_of, IsSound, IsWaitingFrame, Course, Sent, begun, ◌then◌, changed, IsInOrder, told_ways, offer, give_information, is_awaiting_acknowledgement, may_send_information, offer_among, with_one_sent, pending_is, start}
 use Rattle.laws_link.proofs.Alone.{may-go}
 use Rattle.laws_link.proofs.MayGo.{none-goes}
 
@@ -10,16 +7,16 @@ module _ (t : Terms) (l : Link) (h : IsSound t l) where
   abbrev InOrder : Course → Type 0
   InOrder c = IfSome c.sent (λ s. IsInOrder t l c.link s.frame)
 
-  offering : (ws : List ControlFrame) → l.waiting ≡ ws → InOrder (Offers.offer_among t ws (begun l))
+  offering : (ws : List ControlFrame) → l.waiting ≡ ws → InOrder (offer_among t ws (begun l))
   offering (f ∷ fs) w =
       inl (record { waited = w; bare = (All-head (IsWaitingFrame t) f fs (subst (All (IsWaitingFrame t)) w h.frames)).without_contents; owed = refl })
   offering [] w =
-      let one_more = (Offers.give_information then changed Offers.with_one_sent then Words.pending_is false) (begun l) in
-      told_ways InOrder (Offers.may_send_information t l) _ _
+      let one_more = (give_information then changed with_one_sent then pending_is false) (begun l) in
+      told_ways InOrder (may_send_information t l) _ _
       (λ e.
       let goes : InOrder one_more = inr (inl (record { none = w; may = may-go t l h e; is = refl; rest = w; owed = refl })) in
-      let goes_timed : InOrder (Words.start T200 one_more) = inr (inl (record { none = w; may = may-go t l h e; is = refl; rest = w; owed = refl })) in
-      told_ways InOrder (Offers.is_awaiting_acknowledgement one_more.link) one_more (Words.start T200 one_more) (λ b. goes) (λ b. goes_timed))
+      let goes_timed : InOrder (start T200 one_more) = inr (inl (record { none = w; may = may-go t l h e; is = refl; rest = w; owed = refl })) in
+      told_ways InOrder (is_awaiting_acknowledgement one_more.link) one_more (start T200 one_more) (λ b. goes) (λ b. goes_timed))
       (λ e. told_ways InOrder l.pending _ _ (λ owed. inr (inr (record { none = w; may_not = none-goes t l h e; was_owed = owed; is = refl; rest = w; owed = refl }))) (λ none. tt))
 
   from-sent : (c : Course) (o : Option Sent) → IfSome o (λ s. IsInOrder t l c.link s.frame)
@@ -27,5 +24,5 @@ module _ (t : Terms) (l : Link) (h : IsSound t l) where
   from-sent c None x = tt
   from-sent c (Some s) x = x
 
-  pub given-in-order : IfSome (given t l) (λ g. IsInOrder t l (after t link.offer l) g.frame)
-  given-in-order = from-sent (course t link.offer l) (course t link.offer l).sent (offering l.waiting refl)
+  pub given-in-order : IfSome (given t l) (λ g. IsInOrder t l (after t offer l) g.frame)
+  given-in-order = from-sent (course t offer l) (course t offer l).sent (offering l.waiting refl)

@@ -1,7 +1,5 @@
 -- Orders keep a caller's timers in step with the link's.
-use Rattle.laws_link.proofs.Vocabulary.{◌≡◌, true, Option, None, Some, sym, ◌⊎◌, inr, true≢false, LinkTimer, Terms, Course, runs, Kept, every_event}
-use Rattle.model_link.specs.Events
-use Rattle.model_link.specs.Machine
+use Rattle.laws_link.proofs.Vocabulary.{◌≡◌, true, Option, None, Some, sym, ◌⊎◌, inr, true≢false, LinkTimer, Terms, Course, runs, Kept, every_event, Event, step}
 
 -- The timer that runs ran before the event, or the event started it.
 pub record Comes (before : Option LinkTimer) (running started : Option LinkTimer) : Type 0 where
@@ -22,5 +20,5 @@ by-stop before started = record { from = λ other e. absurd (none-runs other e) 
 words : (before : Option LinkTimer) (t : Terms) → Kept t (Unit {0}) (Unit {0}) (Unit {0}) (Coming before) (λ p q c. Coming before c) (Coming before)
 words before t = search (by-start, by-stop) depth 12 fits 4000
 
-pub comes-step : (before : Option LinkTimer) (t : Terms) (e : Events.Event) (c : Course) → Coming before c → Coming before (Machine.step t e c)
+pub comes-step : (before : Option LinkTimer) (t : Terms) (e : Event) (c : Course) → Coming before c → Coming before (step t e c)
 comes-step before t e c h = (every_event (words before t) e).leads c h

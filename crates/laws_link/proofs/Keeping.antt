@@ -1,10 +1,7 @@
 -- What each event makes of the contents of a link, of V(A) and of V(S).
-use Rattle.laws_link.proofs.Vocabulary.{◌≡◌, ℕ, ◌+◌, ◌≤◌, Bool, true, false, cond, List, [], ◌∷◌, ◌++◌, length, take, drop, Option, Some, None, is_some, refl, ◌⊎◌, inl, inr, sym, ap, ◌∙◌, subst, true≢false, arith, length-take-le, append-nil, drop-drop, add-zero, ⊎_elim, All, nat_lt, nat_le, option_map_or, drop_all, drop-append-le, All-head, Control, Ui, ErrorCode, Refusal, WrongState, State, TeiAssigned, AwaitingEstablishment, AwaitingRelease, Established, TimerRecovery, LinkTimer, T200, T203, ControlFrame, Terms, Link, is_multiple_frame, IsSettledIn, IsSound, IsWaitingFrame, Course, begun, Step, ◌then◌, nothing, changed, Leads, nothing_leads, number_of, acknowledged_by, contents_of, is_release, tells_loss, Share, share, left_by, with_share, in_ui_frame, within, unit_due, one, is_i_frame, i_frames}
+use Rattle.laws_link.proofs.Vocabulary.{◌≡◌, ℕ, ◌+◌, ◌≤◌, Bool, true, false, cond, List, [], ◌∷◌, ◌++◌, length, take, drop, Option, Some, None, is_some, refl, ◌⊎◌, inl, inr, sym, ap, ◌∙◌, subst, true≢false, arith, length-take-le, append-nil, drop-drop, add-zero, ⊎_elim, All, nat_lt, nat_le, option_map_or, drop_all, drop-append-le, All-head, Control, Ui, ErrorCode, Refusal, WrongState, State, TeiAssigned, AwaitingEstablishment, AwaitingRelease, Established, TimerRecovery, LinkTimer, T200, T203, ControlFrame, Terms, Link, is_multiple_frame, IsSettledIn, IsSound, IsWaitingFrame, Course, begun, Step, ◌then◌, nothing, changed, Leads, nothing_leads, number_of, acknowledged_by, contents_of, is_release, tells_loss, Share, share, left_by, with_share, in_ui_frame, within, unit_due, one, is_i_frame, i_frames, begin_anew, deliver_unit, leave_unserved, pending_is, start, unit_data, give_information, give_waiting, is_awaiting_acknowledgement, may_send_information, offer_among, send_acknowledgement, with_one_sent, course, expired_in, expired_step, frame_in, frame_step, given_of, is_running, malformed_in, told_of_clearing}
 use Rattle.model_link.specs.Events
-use Rattle.model_link.specs.Words
 use Rattle.model_link.specs.Requests
-use Rattle.model_link.specs.Offers
-use Rattle.model_link.specs.Machine
 use Rattle.laws_link.proofs.Queueing.{On, words}
 use Rattle.laws_link.proofs.Moves.{Goes, Empties, Restarts, Moves}
 use Rattle.laws_link.proofs.Delivered.{not-over}
@@ -130,38 +127,38 @@ module _ (t : Terms) (l : Link) (h : IsSound t l) where
   none-counts here e (Some nr) m = rw (e, m) refl
 
   by-state : (here : State) → l.state ≡ here → (b : Bool) (octets : List ℕ) (control : Control) → is_ui control ≡ false
-      → Moved (acknowledged_by (number_of t control octets) l) (Machine.frame_in here t b octets control (begun l))
+      → Moved (acknowledged_by (number_of t control octets) l) (frame_in here t b octets control (begun l))
   unfolding Moved
   by-state TeiAssigned e b octets control is =
-      subst (λ n. Moved n (Machine.frame_in TeiAssigned t b octets control (begun l))) (sym (none-counts TeiAssigned e (number_of t control octets) refl))
+      subst (λ n. Moved n (frame_in TeiAssigned t b octets control (begun l))) (sym (none-counts TeiAssigned e (number_of t control octets) refl))
       (frames_in_4 t l h.ordered h.accepted (settled TeiAssigned e) octets control is)
   by-state AwaitingEstablishment e b octets control is =
-      subst (λ n. Moved n (Machine.frame_in AwaitingEstablishment t b octets control (begun l))) (sym (none-counts AwaitingEstablishment e (number_of t control octets) refl))
+      subst (λ n. Moved n (frame_in AwaitingEstablishment t b octets control (begun l))) (sym (none-counts AwaitingEstablishment e (number_of t control octets) refl))
       (frames_in_5 t l h.ordered h.accepted (settled AwaitingEstablishment e) octets control is)
   by-state AwaitingRelease e b octets control is =
-      subst (λ n. Moved n (Machine.frame_in AwaitingRelease t b octets control (begun l))) (sym (none-counts AwaitingRelease e (number_of t control octets) refl))
+      subst (λ n. Moved n (frame_in AwaitingRelease t b octets control (begun l))) (sym (none-counts AwaitingRelease e (number_of t control octets) refl))
       (frames_in_6 t l h.ordered h.accepted (settled AwaitingRelease e) octets control is)
   by-state Established e b octets control is =
-      subst (λ n. Moved n (Machine.frame_in Established t b octets control (begun l))) (sym (count-is Established e (number_of t control octets) refl))
+      subst (λ n. Moved n (frame_in Established t b octets control (begun l))) (sym (count-is Established e (number_of t control octets) refl))
       (frames_in_7 t l h.ordered h.accepted b octets control is)
   by-state TimerRecovery e b octets control is =
-      subst (λ n. Moved n (Machine.frame_in TimerRecovery t b octets control (begun l))) (sym (count-is TimerRecovery e (number_of t control octets) refl))
+      subst (λ n. Moved n (frame_in TimerRecovery t b octets control (begun l))) (sym (count-is TimerRecovery e (number_of t control octets) refl))
       (frames_in_8 t l h.ordered h.accepted b octets control is)
 
-  frames : (b : Bool) (octets : List ℕ) (control : Control) → is_ui control ≡ false → Moved (acknowledged_by (number_of t control octets) l) (Machine.frame_step t b octets control (begun l))
+  frames : (b : Bool) (octets : List ℕ) (control : Control) → is_ui control ≡ false → Moved (acknowledged_by (number_of t control octets) l) (frame_step t b octets control (begun l))
   frames b octets control is = by-state l.state refl b octets control is
 
-  malformed : (here : State) (e : ErrorCode) → Moved 0 (Machine.malformed_in here t e (begun l))
+  malformed : (here : State) (e : ErrorCode) → Moved 0 (malformed_in here t e (begun l))
   unfolding Moved
   malformed Established e = failed_moves t l h.ordered h.accepted e
   malformed TimerRecovery e = failed_moves t l h.ordered h.accepted e
-  malformed other e = unmoved-by Words.leave_unserved (search words)
+  malformed other e = unmoved-by leave_unserved (search words)
 
   -- Timers.
   unmoved : Moved 0 (begun l)
   unmoved = unmoved-by nothing nothing_leads
 
-  expired-in : (here : State) → l.state ≡ here → (timer : LinkTimer) → Moved 0 (Machine.expired_in here timer t (begun l))
+  expired-in : (here : State) → l.state ≡ here → (timer : LinkTimer) → Moved 0 (expired_in here timer t (begun l))
   unfolding Moved
   expired-in TeiAssigned e timer = unmoved
   expired-in AwaitingEstablishment e T200 = t200_in_5 t l h.ordered h.accepted
@@ -172,7 +169,7 @@ module _ (t : Terms) (l : Link) (h : IsSound t l) where
   expired-in TimerRecovery e T200 = t200_in_8 t l h.ordered h.accepted
   expired-in TimerRecovery e T203 = unmoved
 
-  expires : (b : Bool) (timer : LinkTimer) → Moved 0 (cond b (Machine.expired_in l.state timer t (begun l)) (begun l))
+  expires : (b : Bool) (timer : LinkTimer) → Moved 0 (cond b (expired_in l.state timer t (begun l)) (begun l))
   expires true timer = expired-in l.state refl timer
   expires false timer = unmoved
 
@@ -218,7 +215,7 @@ module _ (t : Terms) (l : Link) (h : IsSound t l) where
 
   -- Offers.
   abbrev given-in : Course → ℕ
-  given-in c = one (option_map_or is_i_frame (Machine.given_of t l c c.sent) false)
+  given-in c = one (option_map_or is_i_frame (given_of t l c c.sent) false)
 
   gives : (c : Course) (n : ℕ) → c.link.contents ≡ l.contents → c.link.a ≡ l.a → c.link.s ≡ l.s + n → tells_loss c.notes ≡ false → c.zeroed ≡ false
       → Led (row c.zeroed (tells_loss c.notes) 0) n c
@@ -231,48 +228,48 @@ module _ (t : Terms) (l : Link) (h : IsSound t l) where
   abbrev Gives : Course → Type 0
   Gives c = Led (row c.zeroed (tells_loss c.notes) 0) (given-in c) c
 
-  offers : (ws : List ControlFrame) → All (IsWaitingFrame t) ws → Gives (Offers.offer_among t ws (begun l))
+  offers : (ws : List ControlFrame) → All (IsWaitingFrame t) ws → Gives (offer_among t ws (begun l))
   offers (f ∷ fs) frames =
       let bare = (All-head (IsWaitingFrame t) f fs frames).without_contents in
-      subst (λ b. Led (row false false 0) (one b) (Offers.give_waiting f fs (begun l))) (sym bare) (gives (Offers.give_waiting f fs (begun l)) 0 refl refl (sym (add-zero l.s)) refl refl)
+      subst (λ b. Led (row false false 0) (one b) (give_waiting f fs (begun l))) (sym bare) (gives (give_waiting f fs (begun l)) 0 refl refl (sym (add-zero l.s)) refl refl)
   offers [] frames =
-      let one_more = (Offers.give_information then changed Offers.with_one_sent then Words.pending_is false) (begun l) in
-      choose Gives (Offers.may_send_information t l) _ _
-      (choose Gives (Offers.is_awaiting_acknowledgement one_more.link) one_more (Words.start T200 one_more) (gives one_more 1 refl refl refl refl refl) (gives (Words.start T200 one_more) 1 refl refl refl refl refl))
-      (choose Gives l.pending _ _ (gives (Offers.send_acknowledgement (begun l)) 0 refl refl (sym (add-zero l.s)) refl refl) (gives (begun l) 0 refl refl (sym (add-zero l.s)) refl refl))
+      let one_more = (give_information then changed with_one_sent then pending_is false) (begun l) in
+      choose Gives (may_send_information t l) _ _
+      (choose Gives (is_awaiting_acknowledgement one_more.link) one_more (start T200 one_more) (gives one_more 1 refl refl refl refl refl) (gives (start T200 one_more) 1 refl refl refl refl refl))
+      (choose Gives l.pending _ _ (gives (send_acknowledgement (begun l)) 0 refl refl (sym (add-zero l.s)) refl refl) (gives (begun l) 0 refl refl (sym (add-zero l.s)) refl refl))
 
   -- The TEI leaves the line.
-  clears : (here : State) → let c = Words.begin_anew (Machine.told_of_clearing here t (begun l)) in
+  clears : (here : State) → let c = begin_anew (told_of_clearing here t (begun l)) in
       Led (record { restarts = true; empties = true; accepted = []; acknowledged = 0 }) 0 c
   clears TeiAssigned = record { comes = restarted true l.contents l.a; follows = inr (refl, refl) }
   clears other = record { comes = restarted true l.contents l.a; follows = inr (refl, refl) }
 
   -- A UI, in every state.
-  unit-led : (octets : List ℕ) → let c = Words.unit_data t octets (begun l) in Led (row c.zeroed (tells_loss c.notes) 0) 0 c
+  unit-led : (octets : List ℕ) → let c = unit_data t octets (begun l) in Led (row c.zeroed (tells_loss c.notes) 0) 0 c
   unit-led octets = choose (λ c. Led (row c.zeroed (tells_loss c.notes) 0) 0 c) (nat_lt t.n201 (length octets)) _ _
-      (gives (Words.leave_unserved (begun l)) 0 refl refl (sym (add-zero l.s)) refl refl)
-      (gives (Words.deliver_unit t octets (begun l)) 0 refl refl (sym (add-zero l.s)) refl refl)
+      (gives (leave_unserved (begun l)) 0 refl refl (sym (add-zero l.s)) refl refl)
+      (gives (deliver_unit t octets (begun l)) 0 refl refl (sym (add-zero l.s)) refl refl)
 
-  by-unit : (here : State) (b : Bool) (octets : List ℕ) (p : Bool) → let c = Machine.frame_in here t b octets (Ui p) (begun l) in
+  by-unit : (here : State) (b : Bool) (octets : List ℕ) (p : Bool) → let c = frame_in here t b octets (Ui p) (begun l) in
       Led (row c.zeroed (tells_loss c.notes) 0) 0 c
   by-unit TeiAssigned b octets p = unit-led octets
   by-unit other b octets p = unit-led octets
 
   -- A frame.
   by-frame : (b : Bool) (octets : List ℕ) (control : Control) → (d : Bool) → is_ui control ≡ d
-      → let c = Machine.frame_step t b octets control (begun l) in
+      → let c = frame_step t b octets control (begun l) in
       Led (row c.zeroed (tells_loss c.notes) (acknowledged_by (number_of t control octets) l)) 0 c
-  by-frame b octets control false e = by-row _ (Machine.frame_step t b octets control (begun l)) (frames b octets control e)
+  by-frame b octets control false e = by-row _ (frame_step t b octets control (begun l)) (frames b octets control e)
   by-frame b octets (Ui p) true e = by-unit l.state b octets p
   by-frame b octets other true e = absurd (true≢false (sym e))
 
   -- Any event.
-  pub event-done : (e : Events.Event) → Led (share t e l) (i_frames t e l) (Machine.course t e l)
+  pub event-done : (e : Events.Event) → Led (share t e l) (i_frames t e l) (course t e l)
   event-done (Events.received (Events.frame f)) = by-frame f.address.command f.info f.control (is_ui f.control) refl
-  event-done (Events.received Events.undefined) = by-row 0 (Machine.malformed_in l.state t ErrorCode.L (begun l)) (malformed l.state ErrorCode.L)
-  event-done (Events.received Events.wrong_size) = by-row 0 (Machine.malformed_in l.state t ErrorCode.N (begun l)) (malformed l.state ErrorCode.N)
-  event-done (Events.received Events.overlong) = by-row 0 (Machine.malformed_in l.state t ErrorCode.O (begun l)) (malformed l.state ErrorCode.O)
-  event-done (Events.expired timer) = by-row 0 (Machine.expired_step t timer (begun l)) (expires (Machine.is_running timer l) timer)
+  event-done (Events.received Events.undefined) = by-row 0 (malformed_in l.state t ErrorCode.L (begun l)) (malformed l.state ErrorCode.L)
+  event-done (Events.received Events.wrong_size) = by-row 0 (malformed_in l.state t ErrorCode.N (begun l)) (malformed l.state ErrorCode.N)
+  event-done (Events.received Events.overlong) = by-row 0 (malformed_in l.state t ErrorCode.O (begun l)) (malformed l.state ErrorCode.O)
+  event-done (Events.expired timer) = by-row 0 (expired_step t timer (begun l)) (expires (is_running timer l) timer)
   event-done (Events.requested request full) = requested request full (Requests.refusal t l full request) refl
   event-done Events.offer = offers l.waiting h.frames
   event-done Events.cleared = clears l.state
@@ -283,17 +280,17 @@ module _ (t : Terms) (l : Link) (h : IsSound t l) where
   no-unit n c m = ⊎_elim (λ g. g.no_unit) (λ other. ⊎_elim (λ g. g.no_unit) (λ g. g.no_unit) other) m
 
   by-length : (octets : List ℕ) (b : Bool) → nat_lt t.n201 (length octets) ≡ b
-      → (cond b (Words.leave_unserved (begun l)) (Words.deliver_unit t octets (begun l))).unit ≡ cond (nat_le (length octets) t.n201) (Some octets) None
+      → (cond b (leave_unserved (begun l)) (deliver_unit t octets (begun l))).unit ≡ cond (nat_le (length octets) t.n201) (Some octets) None
   by-length octets true e = sym (ap (λ x. cond x (Some octets) None) (not-over true t.n201 (length octets) e))
   by-length octets false e = sym (ap (λ x. cond x (Some octets) None) (not-over false t.n201 (length octets) e))
 
   ui-in : (here : State) (b : Bool) (octets : List ℕ) (p : Bool)
-      → (Machine.frame_in here t b octets (Ui p) (begun l)).unit ≡ within t.n201 (in_ui_frame (Ui p) octets)
+      → (frame_in here t b octets (Ui p) (begun l)).unit ≡ within t.n201 (in_ui_frame (Ui p) octets)
   ui-in TeiAssigned b octets p = by-length octets (nat_lt t.n201 (length octets)) refl
   ui-in other b octets p = by-length octets (nat_lt t.n201 (length octets)) refl
 
   unit-in : (b : Bool) (octets : List ℕ) (control : Control) → (d : Bool) → is_ui control ≡ d
-      → (Machine.frame_step t b octets control (begun l)).unit ≡ within t.n201 (in_ui_frame control octets)
+      → (frame_step t b octets control (begun l)).unit ≡ within t.n201 (in_ui_frame control octets)
   unit-in b octets (Ui p) d e = ui-in l.state b octets p
   unit-in b octets other d e = no-unit _ _ (by-state l.state refl b octets other refl)
 
@@ -324,24 +321,24 @@ module _ (t : Terms) (l : Link) (h : IsSound t l) where
   unit-asked request full None e = unit-requested request (Requests.refusal_for_room t l full request) e
   unit-asked request full (Some w) e = refl
 
-  unit-offered : (ws : List ControlFrame) → (Offers.offer_among t ws (begun l)).unit ≡ None
+  unit-offered : (ws : List ControlFrame) → (offer_among t ws (begun l)).unit ≡ None
   unit-offered (f ∷ fs) = refl
   unit-offered [] =
-      let one_more = (Offers.give_information then changed Offers.with_one_sent then Words.pending_is false) (begun l) in
-      choose (λ c. c.unit ≡ None) (Offers.may_send_information t l) _ _
-      (choose (λ c. c.unit ≡ None) (Offers.is_awaiting_acknowledgement one_more.link) one_more (Words.start T200 one_more) refl refl)
+      let one_more = (give_information then changed with_one_sent then pending_is false) (begun l) in
+      choose (λ c. c.unit ≡ None) (may_send_information t l) _ _
+      (choose (λ c. c.unit ≡ None) (is_awaiting_acknowledgement one_more.link) one_more (start T200 one_more) refl refl)
       (choose (λ c. c.unit ≡ None) l.pending _ _ refl refl)
 
-  unit-cleared : (here : State) → (Machine.told_of_clearing here t (begun l)).unit ≡ None
+  unit-cleared : (here : State) → (told_of_clearing here t (begun l)).unit ≡ None
   unit-cleared TeiAssigned = refl
   unit-cleared other = refl
 
-  pub event-unit : (e : Events.Event) → (Machine.course t e l).unit ≡ unit_due t e
+  pub event-unit : (e : Events.Event) → (course t e l).unit ≡ unit_due t e
   event-unit (Events.received (Events.frame f)) = unit-in f.address.command f.info f.control (is_ui f.control) refl
   event-unit (Events.received Events.undefined) = no-unit 0 _ (malformed l.state ErrorCode.L)
   event-unit (Events.received Events.wrong_size) = no-unit 0 _ (malformed l.state ErrorCode.N)
   event-unit (Events.received Events.overlong) = no-unit 0 _ (malformed l.state ErrorCode.O)
-  event-unit (Events.expired timer) = no-unit 0 _ (expires (Machine.is_running timer l) timer)
+  event-unit (Events.expired timer) = no-unit 0 _ (expires (is_running timer l) timer)
   event-unit (Events.requested request full) = unit-asked request full (Requests.refusal t l full request) refl
   event-unit Events.offer = unit-offered l.waiting
   event-unit Events.cleared = unit-cleared l.state

@@ -1,7 +1,5 @@
 -- What layer 3 is told is what becomes of the link: every row keeps that.
-use Rattle.laws_link.proofs.Vocabulary.{◌≡◌, ℕ, Bool, true, false, IsTrue, List, [], ◌∷◌, Option, Some, None, refl, sym, subst, ◌∙◌, ap, cond, not, ◌++◌, fold, true≢false, Seq, named, Note, ErrorCode, State, TeiAssigned, AwaitingEstablishment, AwaitingRelease, Established, TimerRecovery, LinkTimer, T203, ControlFrame, Terms, Link, is_asked, has_outstanding, Course, Step, ◌then◌, nothing, depending_on, changed, Leads, then_leads, keeping_then, nothing_leads, depending_leads, bit_leads, tested_leads, Passed, from_more, to_less, seen, known, is_up_in, leaves, number_leads}
-use Rattle.model_link.specs.Words
-use Rattle.model_link.specs.MultipleFrame
+use Rattle.laws_link.proofs.Vocabulary.{◌≡◌, ℕ, Bool, true, false, IsTrue, List, [], ◌∷◌, Option, Some, None, refl, sym, subst, ◌∙◌, ap, cond, not, ◌++◌, fold, true≢false, Seq, named, Note, ErrorCode, State, TeiAssigned, AwaitingEstablishment, AwaitingRelease, Established, TimerRecovery, LinkTimer, T203, ControlFrame, Terms, Link, is_asked, has_outstanding, Course, Step, ◌then◌, nothing, depending_on, changed, Leads, then_leads, keeping_then, nothing_leads, depending_leads, bit_leads, tested_leads, Passed, from_more, to_less, seen, known, is_up_in, leaves, number_leads, asked_is, deliver, deliver_unit, discard, enter, establish_confirm, establish_indication, no_timer, note, release_confirm, release_indication, start, zero_numbers, failed}
 
 -- the same as `is_up_in`, of what it speaks of
 abbrev pub up_by : State → Bool → Bool
@@ -64,47 +62,47 @@ module _ (up : Bool) where
 
   -- what is told, and layer 3 knows as before
   module _ (here : State) where
-    pub note_knows : (n : Note) → is_plain n ≡ true → Leads (At here) (Words.note n) (At here)
+    pub note_knows : (n : Note) → is_plain n ≡ true → Leads (At here) (note n) (At here)
     note_knows n plain = record {
       leads = λ c h. record { state_is = h.state_is; known_is = one-more up c.notes n ∙ (plain-seen n plain (known up c.notes) ∙ h.known_is) };
     }
 
-    pub deliver_knows : (t : Terms) (octets : List ℕ) → Leads (At here) (Words.deliver t octets) (At here)
+    pub deliver_knows : (t : Terms) (octets : List ℕ) → Leads (At here) (deliver t octets) (At here)
     deliver_knows t octets = record { leads = λ c h. (note_knows (Note.Data t.service t.tei) refl).leads c h }
 
-    pub deliver_unit_knows : (t : Terms) (octets : List ℕ) → Leads (At here) (Words.deliver_unit t octets) (At here)
+    pub deliver_unit_knows : (t : Terms) (octets : List ℕ) → Leads (At here) (deliver_unit t octets) (At here)
     deliver_unit_knows t octets = record { leads = λ c h. (note_knows (Note.Unit t.service t.tei) refl).leads c h }
 
-    pub indication_knows : (t : Terms) → ((asked : Bool) → up_by here asked ≡ true) → Leads (At here) (Words.establish_indication t) (At here)
+    pub indication_knows : (t : Terms) → ((asked : Bool) → up_by here asked ≡ true) → Leads (At here) (establish_indication t) (At here)
     indication_knows t e = record {
       leads = λ c h. record { state_is = h.state_is; known_is = one-more up c.notes (Note.EstablishIndication t.service t.tei) ∙ sym (e c.link.asked) };
     }
 
-    pub enters : (state : State) → ((asked : Bool) → up_by here asked ≡ up_by state asked) → Leads (At here) (Words.enter state) Ends
+    pub enters : (state : State) → ((asked : Bool) → up_by here asked ≡ up_by state asked) → Leads (At here) (enter state) Ends
     enters state e = record { leads = λ c h. record { known_is = h.known_is ∙ e c.link.asked } }
 
-    pub asks : (b : Bool) → ((asked : Bool) → up_by here asked ≡ not b) → Leads (At here) (Words.asked_is b then Words.enter AwaitingEstablishment) Ends
+    pub asks : (b : Bool) → ((asked : Bool) → up_by here asked ≡ not b) → Leads (At here) (asked_is b then enter AwaitingEstablishment) Ends
     asks b e = record { leads = λ c h. record { known_is = h.known_is ∙ e c.link.asked } }
 
   -- the ends of rows, whatever was before
   module _ {X : Course → Type 0} where
-    pub indicates_release : (t : Terms) → Leads X (Words.release_indication t then Words.no_timer then Words.enter TeiAssigned) Ends
+    pub indicates_release : (t : Terms) → Leads X (release_indication t then no_timer then enter TeiAssigned) Ends
     indicates_release t = record { leads = λ c h. record { known_is = one-more up c.notes (Note.ReleaseIndication t.service t.tei) } }
 
-    pub confirms_release : (t : Terms) → Leads X (Words.release_confirm t then Words.no_timer then Words.enter TeiAssigned) Ends
+    pub confirms_release : (t : Terms) → Leads X (release_confirm t then no_timer then enter TeiAssigned) Ends
     confirms_release t = record { leads = λ c h. record { known_is = one-more up c.notes (Note.ReleaseConfirm t.service t.tei) } }
 
-    pub indicates : (t : Terms) → Leads X (Words.establish_indication t then Words.enter Established) Ends
+    pub indicates : (t : Terms) → Leads X (establish_indication t then enter Established) Ends
     indicates t = record { leads = λ c h. record { known_is = one-more up c.notes (Note.EstablishIndication t.service t.tei) } }
 
-    pub confirm_up : (t : Terms) → Leads X (Words.establish_confirm t) Up
+    pub confirm_up : (t : Terms) → Leads X (establish_confirm t) Up
     confirm_up t = record { leads = λ c h. record { is = one-more up c.notes (Note.EstablishConfirm t.service t.tei) } }
 
-    pub indication_up : (t : Terms) → Leads X (Words.discard then Words.establish_indication t) Up
+    pub indication_up : (t : Terms) → Leads X (discard then establish_indication t) Up
     indication_up t = record { leads = λ c h. record { is = one-more up c.notes (Note.EstablishIndication t.service t.tei) } }
 
   -- from state 4
-  pub confirms_in_4 : (t : Terms) → Leads (At TeiAssigned) (Words.release_confirm t) (At TeiAssigned)
+  pub confirms_in_4 : (t : Terms) → Leads (At TeiAssigned) (release_confirm t) (At TeiAssigned)
   confirms_in_4 t = record {
     leads = λ c h. record { state_is = h.state_is; known_is = one-more up c.notes (Note.ReleaseConfirm t.service t.tei) };
   }
@@ -113,13 +111,13 @@ module _ (up : Bool) where
   pub not-asked : (asked k : Bool) → asked ≡ false → k ≡ not asked → k ≡ true
   not-asked asked k e h = h ∙ ap not e
 
-  pub established_up : (t : Terms) → Leads (At AwaitingEstablishment) (depending_on is_asked (Words.establish_confirm t) (depending_on has_outstanding (Words.discard then Words.establish_indication t) nothing)) Up
+  pub established_up : (t : Terms) → Leads (At AwaitingEstablishment) (depending_on is_asked (establish_confirm t) (depending_on has_outstanding (discard then establish_indication t) nothing)) Up
   established_up t =
       tested_leads is_asked (confirm_up t)
       (depending_leads has_outstanding (indication_up t)
       (record { leads = λ c h. record { is = not-asked c.link.asked (known up c.notes) h.told h.holds.known_is } }))
 
-  pub zero_enters : Leads Up (Words.zero_numbers then Words.start T203 then Words.enter Established) Ends
+  pub zero_enters : Leads Up (zero_numbers then start T203 then enter Established) Ends
   zero_enters = record { leads = λ c h. record { known_is = h.is } }
 
 pub ruleset words = (leaves, keeping_then, nothing_leads, depending_leads, bit_leads, note_knows, deliver_knows, deliver_unit_knows, confirms_in_4, indication_knows, refl)
@@ -128,7 +126,7 @@ pub ruleset ends = (indicates_release, confirms_release, indicates, asks, enters
 
 -- from states 7 and 8
 module _ (up : Bool) (t : Terms) (here : State) (e : (asked : Bool) → up_by here asked ≡ true) where
-  pub failed_knows : (x : ErrorCode) → Leads (At up here) (MultipleFrame.failed t x) (Ends up)
+  pub failed_knows : (x : ErrorCode) → Leads (At up here) (failed t x) (Ends up)
   failed_knows x = record { leads = λ c h. record { known_is = ((note_knows up here (Note.Error t.service t.tei x) refl).leads c h).known_is ∙ e c.link.asked } }
 
 pub ruleset rows = (ends, failed_knows, number_leads)

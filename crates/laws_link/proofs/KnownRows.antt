@@ -1,12 +1,6 @@
 -- What layer 3 is told is what becomes of the link: the rows by state, and every event.
-use Rattle.laws_link.proofs.Vocabulary.{◌≡◌, ℕ, Bool, true, false, List, [], ◌∷◌, Option, Some, None, refl, sym, subst, ◌∙◌, cond, Control, Ua, Dm, ErrorCode, Refusal, WrongState, State, TeiAssigned, AwaitingEstablishment, AwaitingRelease, Established, TimerRecovery, LinkTimer, T200, ControlFrame, Terms, Link, Course, begun, frame_in_4, establish_in_4, frame_in_5, frame_in_6, Leads, then_leads, nothing_leads, depending_leads, known, is_up_in, is_up, leaves}
-use Rattle.model_link.specs.Events
-use Rattle.model_link.specs.MultipleFrame
-use Rattle.model_link.specs.Established
-use Rattle.model_link.specs.TimerRecovery
+use Rattle.laws_link.proofs.Vocabulary.{◌≡◌, ℕ, Bool, true, false, List, [], ◌∷◌, Option, Some, None, refl, sym, subst, ◌∙◌, cond, Control, Ua, Dm, ErrorCode, Refusal, WrongState, State, TeiAssigned, AwaitingEstablishment, AwaitingRelease, Established, TimerRecovery, LinkTimer, T200, ControlFrame, Terms, Link, Course, begun, frame_in_4, establish_in_4, frame_in_5, frame_in_6, Leads, then_leads, nothing_leads, depending_leads, known, is_up_in, is_up, leaves, ClearBusy, Data, Establish, Event, Release, Request, SetBusy, cleared, expired, frame, offer, overlong, received, requested, undefined, wrong_size, clear_busy_in_7_8, data_in_7_8, set_busy_in_7_8, frame_in_7, frame_in_8, offer_among, after, course, expired_in, frame_in, frame_step, is_running, malformed_in, told, told_of_clearing}
 use Rattle.model_link.specs.Requests
-use Rattle.model_link.specs.Offers
-use Rattle.model_link.specs.Machine
 use Rattle.laws_link.proofs.Knowing.{up_by, is-up-by, At, Ends, at_ends, established_up, zero_enters, words, ends, rows}
 
 module _ (up : Bool) (t : Terms) where
@@ -24,21 +18,21 @@ module _ (up : Bool) (t : Terms) where
   frames_in_6 octets (Dm true) = search ends depth 12 fits 4000
   frames_in_6 octets other = search ends depth 12 fits 4000
 
-  frames_in_7 : (b : Bool) (octets : List ℕ) (control : Control) → Leads (At up Established) (Established.frame_in_7 t b octets control) (Ends up)
+  frames_in_7 : (b : Bool) (octets : List ℕ) (control : Control) → Leads (At up Established) (frame_in_7 t b octets control) (Ends up)
   frames_in_7 b octets (Dm true) = search rows depth 14 fits 6000
   frames_in_7 b octets other = search rows depth 14 fits 6000
 
-  frames_in_8 : (b : Bool) (octets : List ℕ) (control : Control) → Leads (At up TimerRecovery) (TimerRecovery.frame_in_8 t b octets control) (Ends up)
+  frames_in_8 : (b : Bool) (octets : List ℕ) (control : Control) → Leads (At up TimerRecovery) (frame_in_8 t b octets control) (Ends up)
   frames_in_8 b octets (Dm true) = search rows depth 14 fits 6000
   frames_in_8 b octets other = search rows depth 14 fits 6000
 
-  expired_knows : (here : State) (timer : LinkTimer) → Leads (At up here) (Machine.expired_in here timer t) (Ends up)
+  expired_knows : (here : State) (timer : LinkTimer) → Leads (At up here) (expired_in here timer t) (Ends up)
   expired_knows AwaitingEstablishment T200 = search rows depth 12 fits 4000
   expired_knows AwaitingRelease T200 = search rows depth 12 fits 4000
   expired_knows TimerRecovery T200 = search rows depth 12 fits 4000
   expired_knows other timer = search rows depth 12 fits 4000
 
-  malformed_knows : (here : State) (e : ErrorCode) → Leads (At up here) (Machine.malformed_in here t e) (Ends up)
+  malformed_knows : (here : State) (e : ErrorCode) → Leads (At up here) (malformed_in here t e) (Ends up)
   malformed_knows Established e = search rows depth 12 fits 4000
   malformed_knows other e = search rows depth 12 fits 4000
 
@@ -49,25 +43,25 @@ module _ (up : Bool) (t : Terms) where
   establish_knows : Leads (At up TeiAssigned) (establish_in_4 t) (Ends up)
   establish_knows = search ends depth 12 fits 4000
 
-  set_busy_knows : (here : State) → Leads (At up here) (MultipleFrame.set_busy_in_7_8 t) (Ends up)
+  set_busy_knows : (here : State) → Leads (At up here) (set_busy_in_7_8 t) (Ends up)
   set_busy_knows here = at_ends up (search words)
 
-  clear_busy_knows : (here : State) → Leads (At up here) (MultipleFrame.clear_busy_in_7_8 t) (Ends up)
+  clear_busy_knows : (here : State) → Leads (At up here) (clear_busy_in_7_8 t) (Ends up)
   clear_busy_knows here = at_ends up (search words)
 
-  frame_knows : (here : State) (b : Bool) (octets : List ℕ) (control : Control) → Leads (At up here) (Machine.frame_in here t b octets control) (Ends up)
+  frame_knows : (here : State) (b : Bool) (octets : List ℕ) (control : Control) → Leads (At up here) (frame_in here t b octets control) (Ends up)
   frame_knows TeiAssigned b octets control = frames_in_4 octets control
   frame_knows AwaitingEstablishment b octets control = frames_in_5 octets control
   frame_knows AwaitingRelease b octets control = frames_in_6 octets control
   frame_knows Established b octets control = frames_in_7 b octets control
   frame_knows TimerRecovery b octets control = frames_in_8 b octets control
 
-  offers_know : (here : State) (ws : List ControlFrame) → Leads (At up here) (Offers.offer_among t ws) (Ends up)
+  offers_know : (here : State) (ws : List ControlFrame) → Leads (At up here) (offer_among t ws) (Ends up)
   offers_know here [] = search ends depth 12 fits 4000
   offers_know here (f ∷ fs) = search ends depth 12 fits 4000
 
 -- the TEI leaves the line
-cleared-knows : (t : Terms) (here : State) (l : Link) → known (is_up_in here l) (Machine.told_of_clearing here t (begun l)).notes ≡ false
+cleared-knows : (t : Terms) (here : State) (l : Link) → known (is_up_in here l) (told_of_clearing here t (begun l)).notes ≡ false
 cleared-knows t TeiAssigned l = refl
 cleared-knows t other l = refl
 
@@ -83,33 +77,33 @@ module _ (t : Terms) (l : Link) where
   unchanged : Ends (is_up l) (begun l)
   unchanged = record { known_is = is-up-by l.state l }
 
-  frames : (b : Bool) (octets : List ℕ) (control : Control) → Ends (is_up l) (Machine.frame_step t b octets control (begun l))
+  frames : (b : Bool) (octets : List ℕ) (control : Control) → Ends (is_up l) (frame_step t b octets control (begun l))
   frames b octets control = (frame_knows (is_up l) t l.state b octets control).leads (begun l) here
 
   establishes : l.state ≡ TeiAssigned → Ends (is_up l) (establish_in_4 t (begun l))
   establishes at = (establish_knows (is_up l) t).leads (begun l) (record { state_is = at; known_is = subst (λ x. is_up l ≡ up_by x l.asked) at (is-up-by l.state l) })
 
-  granted : (request : Events.Request) (full : Bool) → Requests.refusal t l full request ≡ None → Ends (is_up l) (Requests.granted t request (begun l))
-  granted Events.Establish full e = establishes (granted-in-4 l.state e)
-  granted Events.Release full e = (release_knows (is_up l) t l.state).leads (begun l) here
-  granted (Events.Data octets) full e = (at_ends (is_up l) (leaves {f = MultipleFrame.data_in_7_8 octets} (λ c h. h))).leads (begun l) here
-  granted Events.SetBusy full e = (set_busy_knows (is_up l) t l.state).leads (begun l) here
-  granted Events.ClearBusy full e = (clear_busy_knows (is_up l) t l.state).leads (begun l) here
+  granted : (request : Request) (full : Bool) → Requests.refusal t l full request ≡ None → Ends (is_up l) (Requests.granted t request (begun l))
+  granted Establish full e = establishes (granted-in-4 l.state e)
+  granted Release full e = (release_knows (is_up l) t l.state).leads (begun l) here
+  granted (Data octets) full e = (at_ends (is_up l) (leaves {f = data_in_7_8 octets} (λ c h. h))).leads (begun l) here
+  granted SetBusy full e = (set_busy_knows (is_up l) t l.state).leads (begun l) here
+  granted ClearBusy full e = (clear_busy_knows (is_up l) t l.state).leads (begun l) here
 
-  requests : (request : Events.Request) (full : Bool) (o : Option Refusal) → Requests.refusal t l full request ≡ o
+  requests : (request : Request) (full : Bool) (o : Option Refusal) → Requests.refusal t l full request ≡ o
       → Ends (is_up l) (elim o as (λ o. Course) [ None ↦ Requests.granted t request (begun l) | Some _ ↦ begun l ])
   requests request full None e = granted request full e
   requests request full (Some w) e = unchanged
 
-  event-knows : (e : Events.Event) → Ends (is_up l) (Machine.course t e l)
-  event-knows (Events.received (Events.frame f)) = frames f.address.command f.info f.control
-  event-knows (Events.received Events.undefined) = (malformed_knows (is_up l) t l.state ErrorCode.L).leads (begun l) here
-  event-knows (Events.received Events.wrong_size) = (malformed_knows (is_up l) t l.state ErrorCode.N).leads (begun l) here
-  event-knows (Events.received Events.overlong) = (malformed_knows (is_up l) t l.state ErrorCode.O).leads (begun l) here
-  event-knows (Events.expired timer) = (depending_leads (Machine.is_running timer) (expired_knows (is_up l) t l.state timer) (at_ends (is_up l) nothing_leads)).leads (begun l) here
-  event-knows (Events.requested request full) = requests request full (Requests.refusal t l full request) refl
-  event-knows Events.offer = (offers_know (is_up l) t l.state l.waiting).leads (begun l) here
-  event-knows Events.cleared = record { known_is = cleared-knows t l.state l }
+  event-knows : (e : Event) → Ends (is_up l) (course t e l)
+  event-knows (received (frame f)) = frames f.address.command f.info f.control
+  event-knows (received undefined) = (malformed_knows (is_up l) t l.state ErrorCode.L).leads (begun l) here
+  event-knows (received wrong_size) = (malformed_knows (is_up l) t l.state ErrorCode.N).leads (begun l) here
+  event-knows (received overlong) = (malformed_knows (is_up l) t l.state ErrorCode.O).leads (begun l) here
+  event-knows (expired timer) = (depending_leads (is_running timer) (expired_knows (is_up l) t l.state timer) (at_ends (is_up l) nothing_leads)).leads (begun l) here
+  event-knows (requested request full) = requests request full (Requests.refusal t l full request) refl
+  event-knows offer = (offers_know (is_up l) t l.state l.waiting).leads (begun l) here
+  event-knows cleared = record { known_is = cleared-knows t l.state l }
 
-pub layer_3_knows : (t : Terms) (e : Events.Event) (l : Link) → known (is_up l) (Machine.told t e l).notes ≡ is_up (Machine.after t e l)
-layer_3_knows t e l = (event-knows t l e).known_is ∙ sym (is-up-by (Machine.after t e l).state (Machine.after t e l))
+pub layer_3_knows : (t : Terms) (e : Event) (l : Link) → known (is_up l) (told t e l).notes ≡ is_up (after t e l)
+layer_3_knows t e l = (event-knows t l e).known_is ∙ sym (is-up-by (after t e l).state (after t e l))

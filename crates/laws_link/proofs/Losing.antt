@@ -1,7 +1,5 @@
 -- An event loses at most two control frames: a purse holds how many may still be lost.
-use Rattle.laws_link.proofs.Vocabulary.{ℕ, ◌+◌, ◌≤◌, Bool, true, false, cond, arith, Terms, Link, Course, begun, Purse, another, two, how_many, Kept, every_event}
-use Rattle.model_link.specs.Events
-use Rattle.model_link.specs.Machine
+use Rattle.laws_link.proofs.Vocabulary.{ℕ, ◌+◌, ◌≤◌, Bool, true, false, cond, arith, Terms, Link, Course, begun, Purse, another, two, how_many, Kept, every_event, Event, told}
 
 pub record Loses (p : Purse) (lost : ℕ) : Type 0 where
   pub count : lost + how_many p ≤ 2
@@ -33,6 +31,6 @@ enough p n h = record { few = omega (arith, h.count) }
 words : (t : Terms) → Kept t (Unit {0}) (Unit {0}) (Unit {0}) (Losing two) (λ p q c. Losing p c) HasLost
 words t = search (sent-count, kept, enough) depth 12 fits 4000
 
-pub event-loses : (t : Terms) (e : Events.Event) (l : Link) → (Machine.told t e l).lost ≤ 2
+pub event-loses : (t : Terms) (e : Event) (l : Link) → (told t e l).lost ≤ 2
 unfolding how_many
 event-loses t e l = ((every_event (words t) e).leads (begun l) (record { count = omega arith })).few

@@ -1,7 +1,6 @@
 -- What a row makes of the contents of a link, of V(A) and of V(S): they stay, some are acknowledged, all go, or the
 -- numbers begin anew.
-use Rattle.laws_link.proofs.Vocabulary.{◌≡◌, ℕ, ◌+◌, ◌-◌, ◌≤◌, Bool, true, false, cond, List, [], length, take, drop, Option, Some, None, refl, ◌⊎◌, inl, arith, option_map_or, Seq, named, Terms, Course, Step, ◌then◌, Leads, named-within, beyond, ErrorCode, Note}
-use Rattle.model_link.specs.Words
+use Rattle.laws_link.proofs.Vocabulary.{◌≡◌, ℕ, ◌+◌, ◌-◌, ◌≤◌, Bool, true, false, cond, List, [], length, take, drop, Option, Some, None, refl, ◌⊎◌, inl, arith, option_map_or, Seq, named, Terms, Course, Step, ◌then◌, Leads, named-within, beyond, ErrorCode, Note, by_number, error, re_establish}
 use Rattle.laws_link.proofs.Queueing.{Claim, On, note_keeps}
 
 -- the contents are these, n of them more are acknowledged, and no loss is told
@@ -63,20 +62,20 @@ module _ (all : List (List ℕ)) (a s : ℕ) (ordered : a ≤ s) (most : s ≤ l
 
   -- by an N(R): an invalid one, or one that names m
   by-number : (t : Terms) (f : ℕ → Step) → ((m : ℕ) → a ≤ m → m ≤ s → Leads (On Stays) (f m) (On (Moves all a s (m - a)))) → (c : Course) → On Stays c → (nr : Seq) (o : Option ℕ) → named a s nr ≡ o
-      → On (Moves all a s (option_map_or (beyond a) o 0)) (elim o [ None ↦ (Words.error t ErrorCode.J then Words.re_establish t) c | Some n ↦ f n c ])
-  by-number t f x c h nr None e = stays ((Words.error t ErrorCode.J then Words.re_establish t) c) ((note_keeps Stays (Note.Error t.service t.tei ErrorCode.J) refl).leads c h)
+      → On (Moves all a s (option_map_or (beyond a) o 0)) (elim o [ None ↦ (error t ErrorCode.J then re_establish t) c | Some n ↦ f n c ])
+  by-number t f x c h nr None e = stays ((error t ErrorCode.J then re_establish t) c) ((note_keeps Stays (Note.Error t.service t.tei ErrorCode.J) refl).leads c h)
   by-number t f x c h nr (Some m) e =
       let between = named-within a s m nr e in
       (x m between.0 between.1).leads c h
 
   with-numbers : (t : Terms) (nr : Seq) (f : ℕ → Step) (c : Course) (a' s' : ℕ) (o : Option ℕ) → a' ≡ a → s' ≡ s
-      → On (Moves all a s (option_map_or (beyond a) (named a s nr) 0)) (elim (named a s nr) [ None ↦ (Words.error t ErrorCode.J then Words.re_establish t) c | Some n ↦ f n c ])
-      → On (Moves all a s (option_map_or (beyond a) (named a s nr) 0)) (elim (named a' s' nr) [ None ↦ (Words.error t ErrorCode.J then Words.re_establish t) c | Some n ↦ f n c ])
+      → On (Moves all a s (option_map_or (beyond a) (named a s nr) 0)) (elim (named a s nr) [ None ↦ (error t ErrorCode.J then re_establish t) c | Some n ↦ f n c ])
+      → On (Moves all a s (option_map_or (beyond a) (named a s nr) 0)) (elim (named a' s' nr) [ None ↦ (error t ErrorCode.J then re_establish t) c | Some n ↦ f n c ])
   with-numbers t nr f c a' s' o e e' h = rw (e, e') h
 
   pub number_moves : (t : Terms) (nr : Seq) {f : ℕ → Step}
       → ((m : ℕ) → a ≤ m → m ≤ s → Leads (On Stays) (f m) (On (Moves all a s (m - a))))
-      → Leads (On Stays) (Words.by_number t nr f) (On (Moves all a s (option_map_or (beyond a) (named a s nr) 0)))
+      → Leads (On Stays) (by_number t nr f) (On (Moves all a s (option_map_or (beyond a) (named a s nr) 0)))
   number_moves t nr {f} x =
       record {
         leads = λ c h. with-numbers t nr f c c.link.a c.link.s None h.acknowledged h.sent (by-number t f x c h nr (named a s nr) refl);

@@ -1,8 +1,5 @@
 -- What obeying orders comes to.
-use Rattle.laws_link.proofs.Vocabulary.{◌≡◌, ℕ, Bool, true, false, List, [], ◌∷◌, Option, Some, None, refl, sym, ◌∙◌, ap, ◌==◌, eq-eqb, cond, not, ◌&&◌, ◌++◌, ◌⊎◌, inl, inr, true≢false, State, TeiAssigned, AwaitingEstablishment, AwaitingRelease, Established, TimerRecovery, LinkTimer, T200, T203, Terms, Link, may_repeat, Course, begun, t200_in_5, t200_in_6, Leads, depending_leads, same_service, Service, Call, Packet, Order, Timer, runs, timer_at, orders_for, is_same, obeyed, IsTimed, IsTimedIn, StaysInStep, ComesInStep}
-use Rattle.model_link.specs.Events
-use Rattle.model_link.specs.TimerRecovery
-use Rattle.model_link.specs.Machine
+use Rattle.laws_link.proofs.Vocabulary.{◌≡◌, ℕ, Bool, true, false, List, [], ◌∷◌, Option, Some, None, refl, sym, ◌∙◌, ap, ◌==◌, eq-eqb, cond, not, ◌&&◌, ◌++◌, ◌⊎◌, inl, inr, true≢false, State, TeiAssigned, AwaitingEstablishment, AwaitingRelease, Established, TimerRecovery, LinkTimer, T200, T203, Terms, Link, may_repeat, Course, begun, t200_in_5, t200_in_6, Leads, depending_leads, same_service, Service, Call, Packet, Order, Timer, runs, timer_at, orders_for, is_same, obeyed, IsTimed, IsTimedIn, StaysInStep, ComesInStep, Event, expired, t200_in_8, course, expired_in, told}
 use Rattle.laws_link.proofs.InStep.{comes-step}
 
 -- What obeying an event's orders comes to: orders for one timer, before or after those for the other.
@@ -85,17 +82,17 @@ comes-to t before started after T203 b z =
     (runs T203 started && runs T203 after) (runs T203 before && not (runs T203 after)) (runs T200 started && runs T200 after) (runs T200 before && not (runs T200 after)) b
     (right (runs T203 started) (runs T203 after)) (stopped (runs T203 before) (runs T203 after)) z
 
-pub stays-in-step : (t : Terms) (e : Events.Event) (l : Link) (timer : LinkTimer) → StaysInStep t e l timer
+pub stays-in-step : (t : Terms) (e : Event) (l : Link) (timer : LinkTimer) → StaysInStep t e l timer
 stays-in-step t e l timer =
-    let c = Machine.course t e l in
+    let c = course t e l in
     let h = comes-step l.running t e (begun l) (record { from = λ other e. inl e }) in
     comes-to t l.running c.started c.link.running timer (runs timer l.running)
     (left-alone (runs timer l.running) (runs timer c.started) (runs timer c.link.running) (h.from timer))
 
-pub leaves-others : (t : Terms) (e : Events.Event) (l : Link) (timer : Timer) (running : Bool) → is_same (timer_at t T200) timer ≡ false → is_same (timer_at t T203) timer ≡ false
-    → obeyed timer running (Machine.told t e l).orders ≡ running
+pub leaves-others : (t : Terms) (e : Event) (l : Link) (timer : Timer) (running : Bool) → is_same (timer_at t T200) timer ≡ false → is_same (timer_at t T203) timer ≡ false
+    → obeyed timer running (told t e l).orders ≡ running
 leaves-others t e l timer running one two =
-    let c = Machine.course t e l in
+    let c = course t e l in
     two-others (timer_at t T200) (timer_at t T203) timer one two
     (runs T200 c.started && runs T200 c.link.running) (runs T200 l.running && not (runs T200 c.link.running))
     (runs T203 c.started && runs T203 c.link.running) (runs T203 l.running && not (runs T203 c.link.running)) running
@@ -116,14 +113,14 @@ anew_in_5 t = depending_leads (may_repeat t) (record { leads = λ c h. record { 
 anew_in_6 : (t : Terms) → Leads Any (t200_in_6 t) IsAnew
 anew_in_6 t = depending_leads (may_repeat t) (record { leads = λ c h. record { is = refl } }) (record { leads = λ c h. record { is = refl } })
 
-anew_in_8 : (t : Terms) → Leads Any (TimerRecovery.t200_in_8 t) IsAnew
+anew_in_8 : (t : Terms) → Leads Any (t200_in_8 t) IsAnew
 anew_in_8 t = depending_leads (may_repeat t) (record { leads = λ c h. record { is = refl } }) (record { leads = λ c h. record { is = refl } })
 
 clash : (timer : LinkTimer) (running : Option LinkTimer) (other : Option LinkTimer) → runs timer running ≡ true → running ≡ other → runs timer other ≡ true
 clash timer running other e same = rw (sym same) e
 
 anew : (t : Terms) (here : State) (l : Link) (timer : LinkTimer) → IsTimedIn here l → runs timer l.running ≡ true
-    → Anew (Machine.expired_in here timer t (begun l)).started (Machine.expired_in here timer t (begun l)).link.running
+    → Anew (expired_in here timer t (begun l)).started (expired_in here timer t (begun l)).link.running
 anew t TeiAssigned l timer h e = absurd (true≢false (sym (clash timer l.running None e h)))
 anew t AwaitingEstablishment l T200 h e = (anew_in_5 t).leads (begun l) tt
 anew t AwaitingEstablishment l T203 h e = absurd (true≢false (sym (clash T203 l.running (Some T200) e h)))
@@ -139,13 +136,13 @@ not-anew started false same x = refl
 not-anew true true same x = absurd (true≢false x)
 not-anew false true same x = absurd (true≢false (sym same))
 
-expired-course : (t : Terms) (l : Link) (timer : LinkTimer) → runs timer l.running ≡ true → Machine.course t (Events.expired timer) l ≡ Machine.expired_in l.state timer t (begun l)
+expired-course : (t : Terms) (l : Link) (timer : LinkTimer) → runs timer l.running ≡ true → course t (expired timer) l ≡ expired_in l.state timer t (begun l)
 expired-course t l timer e = rw e refl
 
-pub comes-in-step : (t : Terms) (l : Link) (timer : LinkTimer) → IsTimed l → runs timer l.running ≡ true → ComesInStep t (Events.expired timer) l timer
+pub comes-in-step : (t : Terms) (l : Link) (timer : LinkTimer) → IsTimed l → runs timer l.running ≡ true → ComesInStep t (expired timer) l timer
 comes-in-step t l timer h e =
-    let c = Machine.course t (Events.expired timer) l in
-    let same : c ≡ Machine.expired_in l.state timer t (begun l) = expired-course t l timer e in
+    let c = course t (expired timer) l in
+    let same : c ≡ expired_in l.state timer t (begun l) = expired-course t l timer e in
     let fresh = (anew t l.state l timer h.timer e).is in
     comes-to t l.running c.started c.link.running timer false
     (λ x y. not-anew (runs timer c.started) (runs timer c.link.running) (ap (λ o. runs timer o) (ap (λ d. d.started) same ∙ (fresh ∙ sym (ap (λ d. d.link.running) same)))) x)

@@ -1,10 +1,6 @@
 -- What is due is delivered, and is noted once.
-use Rattle.laws_link.proofs.Vocabulary.{◌≡◌, ℕ, ◌≤◌, Bool, true, false, cond, ◌||◌, List, [], ◌∷◌, length, Option, Some, None, is_some, option_to_list, refl, sym, ap, ◌∙◌, subst, inl, inr, arith, count_by, nat_lt, nat_le, list_any, or_parts, sum_by-cons, sum_by_push, none-some, Seq, named, Control, Information, Ui, Note, State, TeiAssigned, Established, TimerRecovery, Terms, Arrived, information_of, eligible_of, eligible, MayEstablish, restarts, Link, is_peer_busy, is_rejecting, is_data, is_unit, IsSound, Course, begun, Step, ◌then◌, delivery, event-delivers, event-tells, in_i_frame, in_ui_frame, contents_heard, unit_heard, within, in_sequence, data_due, IsNotedOnce, ErrorCode}
-use Rattle.model_link.specs.Established
-use Rattle.model_link.specs.Events
-use Rattle.model_link.specs.Machine
+use Rattle.laws_link.proofs.Vocabulary.{◌≡◌, ℕ, ◌≤◌, Bool, true, false, cond, ◌||◌, List, [], ◌∷◌, length, Option, Some, None, is_some, option_to_list, refl, sym, ap, ◌∙◌, subst, inl, inr, arith, count_by, nat_lt, nat_le, list_any, or_parts, sum_by-cons, sum_by_push, none-some, Seq, named, Control, Information, Ui, Note, State, TeiAssigned, Established, TimerRecovery, Terms, Arrived, information_of, eligible_of, eligible, MayEstablish, restarts, Link, is_peer_busy, is_rejecting, is_data, is_unit, IsSound, Course, begun, Step, ◌then◌, delivery, event-delivers, event-tells, in_i_frame, in_ui_frame, contents_heard, unit_heard, within, in_sequence, data_due, IsNotedOnce, ErrorCode, acknowledged_by_information_in_7, is_all_sent, is_beyond_acknowledged, Event, frame, received, course, frame_in, frame_step, told, acknowledge, by_number, error, re_establish}
 use Rattle.model_link.specs.MultipleFrame
-use Rattle.model_link.specs.Words
 use Rattle.laws_link.proofs.Restarts.{establishes}
 use Rattle.laws_link.proofs.Delivered.{delivered-was-heard}
 use Rattle.laws_link.proofs.Keeping.{event-unit}
@@ -19,12 +15,12 @@ module _ (t : Terms) (l : Link) where
   establishing (Information ns nr p) octets may = absurd may
   establishing other octets may = refl
 
-  none-due : (e : Events.Event) → restarts t e l ≡ true → data_due t e l ≡ None
-  none-due (Events.received (Events.frame f)) begins =
-      ap (λ o. in_sequence l.r (eligible_of t l o)) (establishing f.control f.info (establishes t l (Events.received (Events.frame f)) begins).by)
+  none-due : (e : Event) → restarts t e l ≡ true → data_due t e l ≡ None
+  none-due (received (frame f)) begins =
+      ap (λ o. in_sequence l.r (eligible_of t l o)) (establishing f.control f.info (establishes t l (received (frame f)) begins).by)
   none-due other begins = refl
 
-  pub data-is : (e : Events.Event) → (Machine.told t e l).delivered ≡ data_due t e l
+  pub data-is : (e : Event) → (told t e l).delivered ≡ data_due t e l
   data-is e =
       elim (event-delivers t l e) [
         | inl x ↦ x.delivered ∙ delivery-is l.r (eligible t e l)
@@ -72,10 +68,10 @@ module _ (t : Terms) (l : Link) where
   choose Q true u v x y = x
   choose Q false u v x y = y
 
-  by-number : (nr : Seq) (f : ℕ → Step) → ((n : ℕ) (c : Course) → (f n c).notes ≡ c.notes) → (c : Course) → AtMostOne c → AtMostOne (Words.by_number t nr f c)
+  by-number : (nr : Seq) (f : ℕ → Step) → ((n : ℕ) (c : Course) → (f n c).notes ≡ c.notes) → (c : Course) → AtMostOne c → AtMostOne (by_number t nr f c)
   by-number nr f keeps c few = go (named c.link.a c.link.s nr)
     where
-      go : (o : Option ℕ) → AtMostOne (elim o [ None ↦ (Words.error t ErrorCode.J then Words.re_establish t) c | Some n ↦ f n c ])
+      go : (o : Option ℕ) → AtMostOne (elim o [ None ↦ (error t ErrorCode.J then re_establish t) c | Some n ↦ f n c ])
       go None = omega (arith, few, sum_by_push (λ n. cond (is_data n) 1 0) c.notes (Note.Error t.service t.tei ErrorCode.J))
       go (Some n) = subst (λ ns. count_by is_data ns ≤ 1) (sym (keeps n c)) few
 
@@ -90,43 +86,43 @@ module _ (t : Terms) (l : Link) where
   information ns nr p octets f keeps =
       choose AtMostOne (nat_lt t.n201 (length octets)) _ _ (omega arith) (by-number nr f keeps (MultipleFrame.contents_in_7_8 t ns p octets (begun l)) (contents ns p octets))
 
-  keeps-in-7 : (n : ℕ) (c : Course) → (Established.acknowledged_by_information_in_7 n c).notes ≡ c.notes
+  keeps-in-7 : (n : ℕ) (c : Course) → (acknowledged_by_information_in_7 n c).notes ≡ c.notes
   keeps-in-7 n c =
       choose (λ d. d.notes ≡ c.notes) (is_peer_busy c.link) _ _ refl
-      (choose (λ d. d.notes ≡ c.notes) (Established.is_all_sent n c.link) _ _ refl (choose (λ d. d.notes ≡ c.notes) (Established.is_beyond_acknowledged n c.link) _ _ refl refl))
+      (choose (λ d. d.notes ≡ c.notes) (is_all_sent n c.link) _ _ refl (choose (λ d. d.notes ≡ c.notes) (is_beyond_acknowledged n c.link) _ _ refl refl))
 
-  i-frame : (here : State) (b : Bool) (octets : List ℕ) (ns nr : Seq) (p : Bool) → AtMostOne (Machine.frame_in here t b octets (Information ns nr p) (begun l))
-  i-frame Established b octets ns nr p = information ns nr p octets Established.acknowledged_by_information_in_7 keeps-in-7
-  i-frame TimerRecovery b octets ns nr p = information ns nr p octets Words.acknowledge (λ n c. refl)
+  i-frame : (here : State) (b : Bool) (octets : List ℕ) (ns nr : Seq) (p : Bool) → AtMostOne (frame_in here t b octets (Information ns nr p) (begun l))
+  i-frame Established b octets ns nr p = information ns nr p octets acknowledged_by_information_in_7 keeps-in-7
+  i-frame TimerRecovery b octets ns nr p = information ns nr p octets acknowledge (λ n c. refl)
   i-frame other b octets ns nr p = omega arith
 
-  data-frame : (b : Bool) (octets : List ℕ) (control : Control) (contents : List ℕ) → in_i_frame control octets ≡ Some contents → AtMostOne (Machine.frame_step t b octets control (begun l))
+  data-frame : (b : Bool) (octets : List ℕ) (control : Control) (contents : List ℕ) → in_i_frame control octets ≡ Some contents → AtMostOne (frame_step t b octets control (begun l))
   data-frame b octets (Information ns nr p) contents h = i-frame l.state b octets ns nr p
   data-frame b octets other contents h = absurd (none-some contents h)
 
-  data-few : (e : Events.Event) (contents : List ℕ) → contents_heard e ≡ Some contents → AtMostOne (Machine.course t e l)
-  data-few (Events.received (Events.frame f)) contents h = data-frame f.address.command f.info f.control contents h
+  data-few : (e : Event) (contents : List ℕ) → contents_heard e ≡ Some contents → AtMostOne (course t e l)
+  data-few (received (frame f)) contents h = data-frame f.address.command f.info f.control contents h
   data-few other contents h = absurd (none-some contents h)
 
   abbrev OneUnit : Course → Type 0
   OneUnit c = count_by is_unit c.notes ≤ 1
 
-  ui-frame : (here : State) (b : Bool) (octets : List ℕ) (p : Bool) → OneUnit (Machine.frame_in here t b octets (Ui p) (begun l))
+  ui-frame : (here : State) (b : Bool) (octets : List ℕ) (p : Bool) → OneUnit (frame_in here t b octets (Ui p) (begun l))
   ui-frame TeiAssigned b octets p = choose OneUnit (nat_lt t.n201 (length octets)) _ _ (omega arith) (omega arith)
   ui-frame other b octets p = choose OneUnit (nat_lt t.n201 (length octets)) _ _ (omega arith) (omega arith)
 
-  unit-frame : (b : Bool) (octets : List ℕ) (control : Control) (contents : List ℕ) → in_ui_frame control octets ≡ Some contents → OneUnit (Machine.frame_step t b octets control (begun l))
+  unit-frame : (b : Bool) (octets : List ℕ) (control : Control) (contents : List ℕ) → in_ui_frame control octets ≡ Some contents → OneUnit (frame_step t b octets control (begun l))
   unit-frame b octets (Ui p) contents h = ui-frame l.state b octets p
   unit-frame b octets other contents h = absurd (none-some contents h)
 
-  unit-few : (e : Events.Event) (contents : List ℕ) → unit_heard e ≡ Some contents → OneUnit (Machine.course t e l)
-  unit-few (Events.received (Events.frame f)) contents h = unit-frame f.address.command f.info f.control contents h
+  unit-few : (e : Event) (contents : List ℕ) → unit_heard e ≡ Some contents → OneUnit (course t e l)
+  unit-few (received (frame f)) contents h = unit-frame f.address.command f.info f.control contents h
   unit-few other contents h = absurd (none-some contents h)
 
-  pub noted-once : IsSound t l → (e : Events.Event) → IsNotedOnce (Machine.told t e l)
+  pub noted-once : IsSound t l → (e : Event) → IsNotedOnce (told t e l)
   noted-once s e = record {
-    contents = once is_data (Machine.told t e l).notes (Machine.told t e l).delivered (event-tells t e l).1
+    contents = once is_data (told t e l).notes (told t e l).delivered (event-tells t e l).1
         (λ contents is. data-few e contents (delivered-was-heard t l e contents is));
-    unit = once is_unit (Machine.told t e l).notes (Machine.told t e l).unit (event-tells t e l).3
+    unit = once is_unit (told t e l).notes (told t e l).unit (event-tells t e l).3
         (λ contents is. unit-few e contents (within-is t.n201 (unit_heard e) contents (sym (event-unit t l s e) ∙ is)));
   }

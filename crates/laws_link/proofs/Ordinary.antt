@@ -1,7 +1,6 @@
 -- Most words of the tables leave V(S) and own busy, and tell no loss; an error that is told may end own busy.
-use Rattle.laws_link.proofs.Vocabulary.{◌≡◌, ℕ, Bool, true, false, ◌||◌, List, [], ◌∷◌, ◌++◌, Option, None, Some, refl, ap, sym, ◌∙◌, ◌⊎◌, inl, inr, ⊎_elim, list_any, list_any-append, Seq, named, Note, ErrorCode, State, LinkTimer, ControlFrame, Terms, Link, Course, begun, Step, ◌then◌, Leads, keeping_then, nothing_leads, depending_leads, bit_leads, is_loss, tells_loss, is_anew, tells_anew, leaves, number_leads}
+use Rattle.laws_link.proofs.Vocabulary.{◌≡◌, ℕ, Bool, true, false, ◌||◌, List, [], ◌∷◌, ◌++◌, Option, None, Some, refl, ap, sym, ◌∙◌, ◌⊎◌, inl, inr, ⊎_elim, list_any, list_any-append, Seq, named, Note, ErrorCode, State, LinkTimer, ControlFrame, Terms, Link, Course, begun, Step, ◌then◌, Leads, keeping_then, nothing_leads, depending_leads, bit_leads, is_loss, tells_loss, is_anew, tells_anew, leaves, number_leads, deliver, deliver_unit, note}
 use Rattle.model_link.specs.MultipleFrame
-use Rattle.model_link.specs.Words
 use Rattle.laws_link.proofs.Queueing.{no_loss-note}
 
 abbrev pub BusyIn : Link → Bool → List Note → Type 0
@@ -33,17 +32,17 @@ module _ (l : Link) where
   pub begins : Ordinary l (begun l)
   begins = record { sent = refl; busy = inl refl; no_loss = refl }
 
-  pub still-busy : (c : Course) (n : Note) → Busy l c → Busy l (Words.note n c)
+  pub still-busy : (c : Course) (n : Note) → Busy l c → Busy l (note n c)
   still-busy c n (inl e) = inl e
   still-busy c n (inr x) = inr (x.0, told-still c.notes n x.1)
 
-  pub note_ordinary : (n : Note) → is_loss n ≡ false → Leads (Ordinary l) (Words.note n) (Ordinary l)
+  pub note_ordinary : (n : Note) → is_loss n ≡ false → Leads (Ordinary l) (note n) (Ordinary l)
   note_ordinary n e = record { leads = λ c h. record { sent = h.sent; busy = still-busy c n h.busy; no_loss = no_loss-note c.notes n e ∙ h.no_loss } }
 
-  pub deliver_ordinary : (t : Terms) (octets : List ℕ) → Leads (Ordinary l) (Words.deliver t octets) (Ordinary l)
+  pub deliver_ordinary : (t : Terms) (octets : List ℕ) → Leads (Ordinary l) (deliver t octets) (Ordinary l)
   deliver_ordinary t octets = record { leads = λ c h. (note_ordinary (Note.Data t.service t.tei) refl).leads c h }
 
-  pub unit_ordinary : (t : Terms) (octets : List ℕ) → Leads (Ordinary l) (Words.deliver_unit t octets) (Ordinary l)
+  pub unit_ordinary : (t : Terms) (octets : List ℕ) → Leads (Ordinary l) (deliver_unit t octets) (Ordinary l)
   unit_ordinary t octets = record { leads = λ c h. (note_ordinary (Note.Unit t.service t.tei) refl).leads c h }
 
   -- an error after which the link is established anew

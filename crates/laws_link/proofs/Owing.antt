@@ -1,9 +1,7 @@
 -- Each delivery is acknowledged.
-use Rattle.laws_link.proofs.Vocabulary.{◌≡◌, ℕ, ◌+◌, ◌≤◌, Bool, true, false, cond, List, [], ◌∷◌, ◌++◌, length, Option, Some, None, refl, ◌⊎◌, inl, inr, sym, ◌∙◌, arith, nat_lt, Seq, seq, named, Control, Information, ReceiveReady, ReceiveNotReady, State, Established, TimerRecovery, LinkTimer, ControlFrame, Terms, Link, Arrived, information_of, eligible_of, Course, begun, Step, ◌then◌, by_bit, Leads, keeping_then, nothing_leads, depending_leads, delivered-at_once, receipt, HasReceipt, Owes, IsBegunAgain, ErrorCode, both_ways}
+use Rattle.laws_link.proofs.Vocabulary.{◌≡◌, ℕ, ◌+◌, ◌≤◌, Bool, true, false, cond, List, [], ◌∷◌, ◌++◌, length, Option, Some, None, refl, ◌⊎◌, inl, inr, sym, ◌∙◌, arith, nat_lt, Seq, seq, named, Control, Information, ReceiveReady, ReceiveNotReady, State, Established, TimerRecovery, LinkTimer, ControlFrame, Terms, Link, Arrived, information_of, eligible_of, Course, begun, Step, ◌then◌, by_bit, Leads, keeping_then, nothing_leads, depending_leads, delivered-at_once, receipt, HasReceipt, Owes, IsBegunAgain, ErrorCode, both_ways, acknowledge, by_number, count_received, deliver, error, re_establish, ready_to_receive, rejecting_is, response, start, acknowledged_by_information_in_7}
 use Rattle.model_link.specs.Events
-use Rattle.model_link.specs.Words
 use Rattle.model_link.specs.MultipleFrame
-use Rattle.model_link.specs.Established
 use Rattle.model_link.specs.Machine
 
 -- Nothing is delivered, or its acknowledgement is owed.
@@ -15,13 +13,13 @@ Final t ws c = Half ws c ⊎ IsBegunAgain t c.link c.notes
 
 -- what a valid N(R) does leaves it
 module _ (ws : List ControlFrame) where
-  acknowledge_owes : (n : ℕ) → Leads (Half ws) (Words.acknowledge n) (Half ws)
+  acknowledge_owes : (n : ℕ) → Leads (Half ws) (acknowledge n) (Half ws)
   acknowledge_owes n = record { leads = λ c h. h }
 
-  start_owes : (timer : LinkTimer) → Leads (Half ws) (Words.start timer) (Half ws)
+  start_owes : (timer : LinkTimer) → Leads (Half ws) (start timer) (Half ws)
   start_owes timer = record { leads = λ c h. h }
 
-  in_7_owes : (n : ℕ) → Leads (Half ws) (Established.acknowledged_by_information_in_7 n) (Half ws)
+  in_7_owes : (n : ℕ) → Leads (Half ws) (acknowledged_by_information_in_7 n) (Half ws)
   in_7_owes n = search (keeping_then, nothing_leads, depending_leads, acknowledge_owes, start_owes) depth 12 fits 4000
 
 says-ready : (b : Bool) (r : ℕ) → receipt (cond b (ReceiveNotReady (seq r) true) (ReceiveReady (seq r) true)) ≡ Some (seq r)
@@ -36,8 +34,8 @@ put false ws f r e = inr (omega arith)
 module _ (t : Terms) (l : Link) where
   in-sequence : (p : Bool) (octets : List ℕ) → Half l.waiting (MultipleFrame.in_sequence t p octets (begun l))
   in-sequence true octets =
-      let one_more = (Words.count_received then Words.rejecting_is false then Words.deliver t octets) (begun l) in
-      inr (inr (put (nat_lt (length l.waiting) t.control) l.waiting (Words.response (Words.ready_to_receive true one_more.link)) (l.r + 1) (says-ready l.own_busy (l.r + 1))))
+      let one_more = (count_received then rejecting_is false then deliver t octets) (begun l) in
+      inr (inr (put (nat_lt (length l.waiting) t.control) l.waiting (response (ready_to_receive true one_more.link)) (l.r + 1) (says-ready l.own_busy (l.r + 1))))
   in-sequence false octets = inr (inl refl)
 
   contents : (ns : Seq) (p : Bool) (octets : List ℕ) → Half l.waiting (MultipleFrame.contents_in_7_8 t ns p octets (begun l))
@@ -47,12 +45,12 @@ module _ (t : Terms) (l : Link) where
       (both_ways (Half l.waiting) l.rejecting _ _ (both_ways (Half l.waiting) p _ _ (inl refl) (inl refl)) (inl refl)))
 
   by-number : (f : ℕ → Step) → ((n : ℕ) → Leads (Half l.waiting) (f n) (Half l.waiting)) → (c : Course) → Half l.waiting c → (o : Option ℕ)
-      → Final t l.waiting (elim o [ None ↦ (Words.error t ErrorCode.J then Words.re_establish t) c | Some n ↦ f n c ])
+      → Final t l.waiting (elim o [ None ↦ (error t ErrorCode.J then re_establish t) c | Some n ↦ f n c ])
   by-number f x c h None = inr (record { state = refl; before = c.notes; told = refl })
   by-number f x c h (Some n) = inl ((x n).leads c h)
 
   information : (ns nr : Seq) (p : Bool) (octets : List ℕ) (f : ℕ → Step) → ((n : ℕ) → Leads (Half l.waiting) (f n) (Half l.waiting)) → (b : Bool)
-      → Final t l.waiting (by_bit b (MultipleFrame.failed t ErrorCode.O) (MultipleFrame.contents_in_7_8 t ns p octets then Words.by_number t nr f) (begun l))
+      → Final t l.waiting (by_bit b (MultipleFrame.failed t ErrorCode.O) (MultipleFrame.contents_in_7_8 t ns p octets then by_number t nr f) (begun l))
   information ns nr p octets f x true = inl (inl refl)
   information ns nr p octets f x false =
       let c = MultipleFrame.contents_in_7_8 t ns p octets (begun l) in
@@ -60,8 +58,8 @@ module _ (t : Terms) (l : Link) where
 
   i-frame : (here : State) (command : Bool) (ns nr : Seq) (p : Bool) (octets : List ℕ)
       → Final t l.waiting (Machine.frame_in here t command octets (Information ns nr p) (begun l))
-  i-frame Established command ns nr p octets = information ns nr p octets Established.acknowledged_by_information_in_7 (in_7_owes l.waiting) (nat_lt t.n201 (length octets))
-  i-frame TimerRecovery command ns nr p octets = information ns nr p octets Words.acknowledge (acknowledge_owes l.waiting) (nat_lt t.n201 (length octets))
+  i-frame Established command ns nr p octets = information ns nr p octets acknowledged_by_information_in_7 (in_7_owes l.waiting) (nat_lt t.n201 (length octets))
+  i-frame TimerRecovery command ns nr p octets = information ns nr p octets acknowledge (acknowledge_owes l.waiting) (nat_lt t.n201 (length octets))
   i-frame other command ns nr p octets = inl (inl refl)
 
   -- only an I-frame is eligible

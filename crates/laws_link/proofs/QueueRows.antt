@@ -1,9 +1,7 @@
 -- What each row of the tables makes of the contents of a link, of V(A) and of V(S).
-use Rattle.laws_link.proofs.Vocabulary.{◌≡◌, ℕ, ◌-◌, ◌≤◌, Bool, true, false, cond, not, ◌==◌, List, [], length, take, drop, length-take-le, Option, Some, None, IsTrue, true≢false, refl, ◌⊎◌, inl, inr, sym, ap, ◌∙◌, arith, nat_lt, option_map_or, ltb-false, drop_all, take_all, Seq, named, Control, Information, ReceiveReady, ReceiveNotReady, Reject, Sabme, Disc, Ui, Ua, Dm, Frmr, Xid, ErrorCode, Established, LinkTimer, T200, T203, Terms, Link, has_outstanding, is_peer_busy, Course, begun, Step, ◌then◌, by_bit, frame_in_4, release_in_4, establish_in_4, Leads, keeping_then, depending_leads, bit_leads, tested_leads, from_more, eqb-true, beyond, number_of}
-use Rattle.model_link.specs.Words
+use Rattle.laws_link.proofs.Vocabulary.{◌≡◌, ℕ, ◌-◌, ◌≤◌, Bool, true, false, cond, not, ◌==◌, List, [], length, take, drop, length-take-le, Option, Some, None, IsTrue, true≢false, refl, ◌⊎◌, inl, inr, sym, ap, ◌∙◌, arith, nat_lt, option_map_or, ltb-false, drop_all, take_all, Seq, named, Control, Information, ReceiveReady, ReceiveNotReady, Reject, Sabme, Disc, Ui, Ua, Dm, Frmr, Xid, ErrorCode, Established, LinkTimer, T200, T203, Terms, Link, has_outstanding, is_peer_busy, Course, begun, Step, ◌then◌, by_bit, frame_in_4, release_in_4, establish_in_4, Leads, keeping_then, depending_leads, bit_leads, tested_leads, from_more, eqb-true, beyond, number_of, acknowledge, by_number, clear_flags, command, discard, enquire, enter, error, establish_confirm, establish_indication, repeated, response, send, start, zero_numbers, clear_busy_in_7_8, contents_in_7_8, failed, set_busy_in_7_8}
 use Rattle.model_link.specs.AwaitingEstablishment
 use Rattle.model_link.specs.AwaitingRelease
-use Rattle.model_link.specs.MultipleFrame
 use Rattle.model_link.specs.Established
 use Rattle.model_link.specs.TimerRecovery
 use Rattle.laws_link.proofs.Queueing.{Claim, On, words}
@@ -69,8 +67,8 @@ module _ (t : Terms) (l : Link) (ordered : l.a ≤ l.s) (most : l.s ≤ length l
 
   -- State 5.
   answered-in-5 : (IsTrue l.asked → length l.contents ≡ l.a) → (b : Bool) → l.asked ≡ b → (d : Bool) → has_outstanding l ≡ d
-      → On (Move 0) ((Words.zero_numbers then Words.start T203 then Words.enter Established)
-      (cond b (Words.establish_confirm t (begun l)) (cond d ((Words.discard then Words.establish_indication t) (begun l)) (begun l))))
+      → On (Move 0) ((zero_numbers then start T203 then enter Established)
+      (cond b (establish_confirm t (begun l)) (cond d ((discard then establish_indication t) (begun l)) (begun l))))
   answered-in-5 none true e d e' =
       inr (inr (record {
         none = refl;
@@ -92,8 +90,8 @@ module _ (t : Terms) (l : Link) (ordered : l.a ≤ l.s) (most : l.s ≤ length l
 
   pub t200_in_5 : On (Move 0) (AwaitingEstablishment.t200_in_5 t (begun l))
   t200_in_5 =
-      let again : Leads (On Stay) (Words.send t (Words.command (Sabme true)) then Words.repeated then Words.start T200) (On Stay) = search words in
-      either (nat_lt l.repeats t.n200) _ _ (still (Words.send t (Words.command (Sabme true)) then Words.repeated then Words.start T200) again)
+      let again : Leads (On Stay) (send t (command (Sabme true)) then repeated then start T200) (On Stay) = search words in
+      either (nat_lt l.repeats t.n200) _ _ (still (send t (command (Sabme true)) then repeated then start T200) again)
       (inr (inl (record { contents = refl; acknowledged = refl; sent = refl; told = refl; goes_on = refl; no_unit = refl })))
 
   -- State 6.
@@ -107,14 +105,14 @@ module _ (t : Terms) (l : Link) (ordered : l.a ≤ l.s) (most : l.s ≤ length l
 
   pub t200_in_6 : length l.contents ≡ l.a → On (Move 0) (AwaitingRelease.t200_in_6 t (begun l))
   t200_in_6 none =
-      let again : Leads (On Stay) (Words.send t (Words.command (Disc true)) then Words.repeated then Words.start T200) (On Stay) = search words in
-      either (nat_lt l.repeats t.n200) _ _ (still (Words.send t (Words.command (Disc true)) then Words.repeated then Words.start T200) again)
+      let again : Leads (On Stay) (send t (command (Disc true)) then repeated then start T200) (On Stay) = search words in
+      either (nat_lt l.repeats t.n200) _ _ (still (send t (command (Disc true)) then repeated then start T200) again)
       (inr (inl (record { contents = all-taken none; acknowledged = refl; sent = omega (arith, ordered, most, none); told = refl; goes_on = refl; no_unit = refl })))
 
   -- States 7 and 8.
   sabme-again : (p d : Bool) → has_outstanding l ≡ d
-      → let c = (Words.send t (Words.response (Ua p)) then Words.clear_flags then Words.error t ErrorCode.F) (begun l) in
-      On (Move 0) ((Words.zero_numbers then Words.start T203 then Words.enter Established) (cond d ((Words.discard then Words.establish_indication t) c) c))
+      → let c = (send t (response (Ua p)) then clear_flags then error t ErrorCode.F) (begun l) in
+      On (Move 0) ((zero_numbers then start T203 then enter Established) (cond d ((discard then establish_indication t) c) c))
   sabme-again p true e = inr (inr (record { none = refl; contents = rest-goes; acknowledged = refl; sent = refl; begins = refl; no_unit = refl }))
   sabme-again p false e =
       inr (inr (record { none = refl; contents = ap (λ n. drop n l.contents) (same-place e); acknowledged = refl; sent = refl; begins = refl; no_unit = refl }))
@@ -134,11 +132,11 @@ module _ (t : Terms) (l : Link) (ordered : l.a ≤ l.s) (most : l.s ≤ length l
         no_unit = none;
       })
 
-  acknowledging : (m : ℕ) → l.a ≤ m → m ≤ l.s → Leads (On Stay) (Words.acknowledge m) (On (Move (m - l.a)))
+  acknowledging : (m : ℕ) → l.a ≤ m → m ≤ l.s → Leads (On Stay) (acknowledge m) (On (Move (m - l.a)))
   acknowledging m from to =
       record { leads = λ c h. went m from to c.link.contents m c.link.s _ c.zeroed c.unit h.contents refl (inl h.sent) h.no_loss h.goes_on h.no_unit }
 
-  acknowledging-then : (m : ℕ) → l.a ≤ m → m ≤ l.s → (timer : LinkTimer) → Leads (On Stay) (Words.acknowledge m then Words.start timer) (On (Move (m - l.a)))
+  acknowledging-then : (m : ℕ) → l.a ≤ m → m ≤ l.s → (timer : LinkTimer) → Leads (On Stay) (acknowledge m then start timer) (On (Move (m - l.a)))
   acknowledging-then m from to timer =
       record { leads = λ c h. went m from to c.link.contents m c.link.s _ c.zeroed c.unit h.contents refl (inl h.sent) h.no_loss h.goes_on h.no_unit }
 
@@ -167,23 +165,23 @@ module _ (t : Terms) (l : Link) (ordered : l.a ≤ l.s) (most : l.s ≤ length l
       (acknowledging m from to)
 
   numbers : (nr : Seq) {f : ℕ → Step} → ((m : ℕ) → l.a ≤ m → m ≤ l.s → Leads (On Stay) (f m) (On (Move (m - l.a))))
-      → Leads (On Stay) (Words.by_number t nr f) (On (Move (count l.a l.s (Some nr))))
+      → Leads (On Stay) (by_number t nr f) (On (Move (count l.a l.s (Some nr))))
   numbers nr x = number_moves l.contents l.a l.s ordered most t nr x
 
   moved : {n : ℕ} (f : Step) → Leads (On Stay) f (On (Move n)) → On (Move n) (f (begun l))
   moved f x = x.leads (begun l) begins
 
-  pub failed_moves : (e : ErrorCode) → On (Move 0) (MultipleFrame.failed t e (begun l))
-  failed_moves e = still (MultipleFrame.failed t e) (search words)
+  pub failed_moves : (e : ErrorCode) → On (Move 0) (failed t e (begun l))
+  failed_moves e = still (failed t e) (search words)
 
-  contents_lead : (ns : Seq) (p : Bool) (octets : List ℕ) → Leads (On Stay) (MultipleFrame.contents_in_7_8 t ns p octets) (On Stay)
+  contents_lead : (ns : Seq) (p : Bool) (octets : List ℕ) → Leads (On Stay) (contents_in_7_8 t ns p octets) (On Stay)
   contents_lead ns p octets = search words depth 12 fits 4000
 
   information : (ns nr : Seq) (p : Bool) (octets : List ℕ) (f : ℕ → Step)
       → ((m : ℕ) → l.a ≤ m → m ≤ l.s → Leads (On Stay) (f m) (On (Move (m - l.a)))) → (b : Bool)
-      → On (Move (count l.a l.s (cond b None (Some nr)))) (by_bit b (MultipleFrame.failed t ErrorCode.O) (MultipleFrame.contents_in_7_8 t ns p octets then Words.by_number t nr f) (begun l))
+      → On (Move (count l.a l.s (cond b None (Some nr)))) (by_bit b (failed t ErrorCode.O) (contents_in_7_8 t ns p octets then by_number t nr f) (begun l))
   information ns nr p octets f x true = failed_moves ErrorCode.O
-  information ns nr p octets f x false = moved (MultipleFrame.contents_in_7_8 t ns p octets then Words.by_number t nr f) (keeping_then (contents_lead ns p octets) (numbers nr x))
+  information ns nr p octets f x false = moved (contents_in_7_8 t ns p octets then by_number t nr f) (keeping_then (contents_lead ns p octets) (numbers nr x))
 
   pub frames_in_7 : (b : Bool) (octets : List ℕ) (control : Control) → is_ui control ≡ false
       → On (Move (count l.a l.s (number_of t control octets))) (Established.frame_in_7 t b octets control (begun l))
@@ -203,7 +201,7 @@ module _ (t : Terms) (l : Link) (ordered : l.a ≤ l.s) (most : l.s ≤ length l
 
   pub frames_in_8 : (b : Bool) (octets : List ℕ) (control : Control) → is_ui control ≡ false
       → On (Move (count l.a l.s (number_of t control octets))) (TimerRecovery.frame_in_8 t b octets control (begun l))
-  frames_in_8 b octets (Information ns nr p) is = information ns nr p octets Words.acknowledge acknowledging (nat_lt t.n201 (length octets))
+  frames_in_8 b octets (Information ns nr p) is = information ns nr p octets acknowledge acknowledging (nat_lt t.n201 (length octets))
   frames_in_8 b octets (Sabme p) is = sabme-again p (has_outstanding l) refl
   frames_in_8 b octets (Disc p) is = inr (inl (record { contents = refl; acknowledged = refl; sent = refl; told = refl; goes_on = refl; no_unit = refl }))
   frames_in_8 b octets (Ua f) is = still (TimerRecovery.frame_in_8 t b octets (Ua f)) (search words)
@@ -216,12 +214,12 @@ module _ (t : Terms) (l : Link) (ordered : l.a ≤ l.s) (most : l.s ≤ length l
 
   pub t200_in_8 : On (Move 0) (TimerRecovery.t200_in_8 t (begun l))
   t200_in_8 =
-      let again : Leads (On Stay) (Words.enquire t then Words.repeated then Words.start T200) (On Stay) = search words in
-      either (nat_lt l.repeats t.n200) _ _ (still (Words.enquire t then Words.repeated then Words.start T200) again) (failed_moves ErrorCode.I)
+      let again : Leads (On Stay) (enquire t then repeated then start T200) (On Stay) = search words in
+      either (nat_lt l.repeats t.n200) _ _ (still (enquire t then repeated then start T200) again) (failed_moves ErrorCode.I)
 
   -- Requests of layer 3.
-  pub set_busy : On (Move 0) (MultipleFrame.set_busy_in_7_8 t (begun l))
-  set_busy = still (MultipleFrame.set_busy_in_7_8 t) (search words)
+  pub set_busy : On (Move 0) (set_busy_in_7_8 t (begun l))
+  set_busy = still (set_busy_in_7_8 t) (search words)
 
-  pub clear_busy : On (Move 0) (MultipleFrame.clear_busy_in_7_8 t (begun l))
-  clear_busy = still (MultipleFrame.clear_busy_in_7_8 t) (search words)
+  pub clear_busy : On (Move 0) (clear_busy_in_7_8 t (begun l))
+  clear_busy = still (clear_busy_in_7_8 t) (search words)

@@ -1,6 +1,5 @@
 -- The contents of a link, its numbers, and what its notes tell of them: most words of the tables leave them.
-use Rattle.laws_link.proofs.Vocabulary.{◌≡◌, ℕ, Bool, true, false, ◌||◌, List, [], ◌∷◌, ◌++◌, Option, refl, subst, sym, ◌∙◌, list_any-append, Note, ErrorCode, State, LinkTimer, ControlFrame, Terms, Course, Leads, keeping_then, nothing_leads, depending_leads, bit_leads, is_loss, tells_loss, leaves}
-use Rattle.model_link.specs.Words
+use Rattle.laws_link.proofs.Vocabulary.{◌≡◌, ℕ, Bool, true, false, ◌||◌, List, [], ◌∷◌, ◌++◌, Option, refl, subst, sym, ◌∙◌, list_any-append, Note, ErrorCode, State, LinkTimer, ControlFrame, Terms, Course, Leads, keeping_then, nothing_leads, depending_leads, bit_leads, is_loss, tells_loss, leaves, deliver, note}
 
 -- A claim on the contents, on V(A) and V(S), on whether the notes tell a loss, on whether the numbers began anew, and on
 -- what unit data is told.
@@ -22,10 +21,10 @@ module _ (Q : Claim) where
   noting : (n : Note) → is_loss n ≡ false → (c : Course) → On Q c → Q c.link.contents c.link.a c.link.s (tells_loss (c.notes ++ n ∷ [])) c.zeroed c.unit
   noting n e c h = subst (λ b. Q c.link.contents c.link.a c.link.s b c.zeroed c.unit) (sym (no_loss-note c.notes n e)) h
 
-  pub note_keeps : (n : Note) → is_loss n ≡ false → Leads (On Q) (Words.note n) (On Q)
+  pub note_keeps : (n : Note) → is_loss n ≡ false → Leads (On Q) (note n) (On Q)
   note_keeps n e = record { leads = λ c h. noting n e c h }
 
-  pub deliver_keeps : (t : Terms) (octets : List ℕ) → Leads (On Q) (Words.deliver t octets) (On Q)
+  pub deliver_keeps : (t : Terms) (octets : List ℕ) → Leads (On Q) (deliver t octets) (On Q)
   deliver_keeps t octets = record { leads = λ c h. noting (Note.Data t.service t.tei) refl c h }
 
 pub ruleset words = (leaves, keeping_then, nothing_leads, depending_leads, bit_leads, note_keeps, refl, deliver_keeps)

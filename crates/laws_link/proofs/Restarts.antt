@@ -1,7 +1,5 @@
 -- The numbers of a link begin anew by nothing but an establishment, or the end of its TEI.
-use Rattle.laws_link.proofs.Vocabulary.{◌≡◌, ℕ, Bool, true, false, List, refl, sym, ◌∙◌, true≢false, Control, Sabme, Ua, State, TeiAssigned, AwaitingEstablishment, AwaitingRelease, Established, TimerRecovery, Terms, Link, Course, begun, restarts, IsEstablished, Establishes, Fits, FitsEvent, Kept, frame_row, event_row}
-use Rattle.model_link.specs.Events
-use Rattle.model_link.specs.Machine
+use Rattle.laws_link.proofs.Vocabulary.{◌≡◌, ℕ, Bool, true, false, List, refl, sym, ◌∙◌, true≢false, Control, Sabme, Ua, State, TeiAssigned, AwaitingEstablishment, AwaitingRelease, Established, TimerRecovery, Terms, Link, Course, begun, restarts, IsEstablished, Establishes, Fits, FitsEvent, Kept, frame_row, event_row, Event, cleared, frame, received, after, frame_in, frame_step}
 
 -- The numbers go on.
 pub record GoesOn (zeroed : Bool) : Type 0 where
@@ -25,20 +23,20 @@ module _ (t : Terms) (l : Link) where
   begins = record { on = refl }
 
   goes-on : (here : State) (b : Bool) (octets : List ℕ) (control : Control) → Fits (Unit {0}) ⊥ (Unit {0}) control
-      → {X : Type 0} → (Machine.frame_in here t b octets control (begun l)).zeroed ≡ true → X
+      → {X : Type 0} → (frame_in here t b octets control (begun l)).zeroed ≡ true → X
   goes-on here b octets control may e = clash ((frame_row (words t) here b octets control may).leads (begun l) begins) e
 
-  other : (e : Events.Event) → FitsEvent (Unit {0}) ⊥ (Unit {0}) e → {X : Type 0} → restarts t e l ≡ true → X
+  other : (e : Event) → FitsEvent (Unit {0}) ⊥ (Unit {0}) e → {X : Type 0} → restarts t e l ≡ true → X
   other e may is = clash ((event_row (words t) e may).leads (begun l) begins) is
 
-  by-sabme : (here : State) (b p : Bool) (octets : List ℕ) → (Machine.frame_in here t b octets (Sabme p) (begun l)).zeroed ≡ true
-      → IsEstablished (Sabme p) (Machine.frame_in here t b octets (Sabme p) (begun l)).link
+  by-sabme : (here : State) (b p : Bool) (octets : List ℕ) → (frame_in here t b octets (Sabme p) (begun l)).zeroed ≡ true
+      → IsEstablished (Sabme p) (frame_in here t b octets (Sabme p) (begun l)).link
   by-sabme AwaitingEstablishment b p octets e = absurd (true≢false (sym e))
   by-sabme AwaitingRelease b p octets e = absurd (true≢false (sym e))
   by-sabme other b p octets e = record { by = tt; state = refl; a = refl; s = refl; r = refl }
 
-  by-ua : (here : State) (b f : Bool) (octets : List ℕ) → (Machine.frame_in here t b octets (Ua f) (begun l)).zeroed ≡ true
-      → IsEstablished (Ua f) (Machine.frame_in here t b octets (Ua f) (begun l)).link
+  by-ua : (here : State) (b f : Bool) (octets : List ℕ) → (frame_in here t b octets (Ua f) (begun l)).zeroed ≡ true
+      → IsEstablished (Ua f) (frame_in here t b octets (Ua f) (begun l)).link
   by-ua here b false octets e = goes-on here b octets (Ua false) tt e
   by-ua TeiAssigned b true octets e = absurd (true≢false (sym e))
   by-ua AwaitingEstablishment b true octets e = record { by = tt; state = refl; a = refl; s = refl; r = refl }
@@ -46,13 +44,13 @@ module _ (t : Terms) (l : Link) where
   by-ua Established b true octets e = absurd (true≢false (sym e))
   by-ua TimerRecovery b true octets e = absurd (true≢false (sym e))
 
-  frames : (b : Bool) (octets : List ℕ) (control : Control) → (Machine.frame_step t b octets control (begun l)).zeroed ≡ true
-      → IsEstablished control (Machine.frame_step t b octets control (begun l)).link
+  frames : (b : Bool) (octets : List ℕ) (control : Control) → (frame_step t b octets control (begun l)).zeroed ≡ true
+      → IsEstablished control (frame_step t b octets control (begun l)).link
   frames b octets (Sabme p) e = by-sabme l.state b p octets e
   frames b octets (Ua f) e = by-ua l.state b f octets e
   frames b octets other e = goes-on l.state b octets other tt e
 
-  pub establishes : (e : Events.Event) → restarts t e l ≡ true → Establishes e (Machine.after t e l)
-  establishes (Events.received (Events.frame f)) is = frames f.address.command f.info f.control is
-  establishes Events.cleared is = refl
+  pub establishes : (e : Event) → restarts t e l ≡ true → Establishes e (after t e l)
+  establishes (received (frame f)) is = frames f.address.command f.info f.control is
+  establishes cleared is = refl
   establishes another is = other another tt is

@@ -1,7 +1,5 @@
 -- What frames leave of a link in states 4, 5 and 6.
-use Rattle.laws_link.proofs.Vocabulary.{◌≡◌, Bool, true, false, cond, length, refl, ◌==◌, not, [], ◌∷◌, nat_lt, Control, Information, Ui, Ua, Dm, Parts, TeiAssigned, AwaitingEstablishment, AwaitingRelease, Established, T203, Terms, Link, begun, ◌then◌, state_after, Note}
-use Rattle.model_link.specs.Events
-use Rattle.model_link.specs.Words
+use Rattle.laws_link.proofs.Vocabulary.{◌≡◌, Bool, true, false, cond, length, refl, ◌==◌, not, [], ◌∷◌, nat_lt, Control, Information, Ui, Ua, Dm, Parts, TeiAssigned, AwaitingEstablishment, AwaitingRelease, Established, T203, Terms, Link, begun, ◌then◌, state_after, Note, frame, overlong, received, discard, enter, establish_confirm, establish_indication, leave_unserved, start, zero_numbers}
 use Rattle.laws_link.proofs.Columns.{left, due, at, hears, Row, unit-left}
 
 module _ (t : Terms) where
@@ -11,8 +9,8 @@ module _ (t : Terms) where
   in-4 l f b (Ui p) = unit-left t f.info (at TeiAssigned l)
   in-4 l f b (Information ns nr p) = go (nat_lt t.n201 (length f.info))
     where
-      go : (over : Bool) → let e = Events.received (cond over Events.overlong (Events.frame (record f { address = record f.address { command = b }; control = Information ns nr p }))) in
-          left (Words.leave_unserved (begun (at TeiAssigned l))) ≡ due t e (at TeiAssigned l) (state_after t e (at TeiAssigned l))
+      go : (over : Bool) → let e = received (cond over overlong (frame (record f { address = record f.address { command = b }; control = Information ns nr p }))) in
+          left (leave_unserved (begun (at TeiAssigned l))) ≡ due t e (at TeiAssigned l) (state_after t e (at TeiAssigned l))
       go true = refl
       go false = refl
   in-4 l f b other = refl
@@ -22,8 +20,8 @@ module _ (t : Terms) where
   in-5 l f b (Ua true) = go l.asked (l.s == l.a)
     where
       go : (asked same : Bool) → let c = begun (at AwaitingEstablishment l) in
-          left ((Words.zero_numbers then Words.start T203 then Words.enter Established)
-          (cond asked (Words.establish_confirm t c) (cond (not same) ((Words.discard then Words.establish_indication t) c) c)))
+          left ((zero_numbers then start T203 then enter Established)
+          (cond asked (establish_confirm t c) (cond (not same) ((discard then establish_indication t) c) c)))
           ≡ record (due t (hears f b (Ua true)) (at AwaitingEstablishment l) Established) {
             notes = cond asked (Note.EstablishConfirm t.service t.tei ∷ []) (cond same [] (Note.EstablishIndication t.service t.tei ∷ []));
           }
@@ -33,8 +31,8 @@ module _ (t : Terms) where
   in-5 l f b (Ui p) = unit-left t f.info (at AwaitingEstablishment l)
   in-5 l f b (Information ns nr p) = go (nat_lt t.n201 (length f.info))
     where
-      go : (over : Bool) → let e = Events.received (cond over Events.overlong (Events.frame (record f { address = record f.address { command = b }; control = Information ns nr p }))) in
-          left (Words.leave_unserved (begun (at AwaitingEstablishment l))) ≡ due t e (at AwaitingEstablishment l) (state_after t e (at AwaitingEstablishment l))
+      go : (over : Bool) → let e = received (cond over overlong (frame (record f { address = record f.address { command = b }; control = Information ns nr p }))) in
+          left (leave_unserved (begun (at AwaitingEstablishment l))) ≡ due t e (at AwaitingEstablishment l) (state_after t e (at AwaitingEstablishment l))
       go true = refl
       go false = refl
   in-5 l f b (Dm true) = refl
@@ -46,8 +44,8 @@ module _ (t : Terms) where
   in-6 l f b (Ui p) = unit-left t f.info (at AwaitingRelease l)
   in-6 l f b (Information ns nr p) = go (nat_lt t.n201 (length f.info))
     where
-      go : (over : Bool) → let e = Events.received (cond over Events.overlong (Events.frame (record f { address = record f.address { command = b }; control = Information ns nr p }))) in
-          left (Words.leave_unserved (begun (at AwaitingRelease l))) ≡ due t e (at AwaitingRelease l) (state_after t e (at AwaitingRelease l))
+      go : (over : Bool) → let e = received (cond over overlong (frame (record f { address = record f.address { command = b }; control = Information ns nr p }))) in
+          left (leave_unserved (begun (at AwaitingRelease l))) ≡ due t e (at AwaitingRelease l) (state_after t e (at AwaitingRelease l))
       go true = refl
       go false = refl
   in-6 l f b (Dm true) = refl

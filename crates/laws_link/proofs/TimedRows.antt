@@ -1,13 +1,6 @@
 -- A link that awaits something has its timer: the rows by state, and every event.
-use Rattle.laws_link.proofs.Vocabulary.{◌≡◌, ℕ, ◌+◌, Bool, true, false, cond, ◌&&◌, List, [], ◌∷◌, Option, Some, None, inl, inr, refl, sym, subst, true≢false, Control, Ua, Dm, ErrorCode, Refusal, State, TeiAssigned, AwaitingEstablishment, AwaitingRelease, Established, TimerRecovery, LinkTimer, T200, T203, ControlFrame, Terms, Link, fresh, runs, Course, begun, changed, frame_in_4, establish_in_4, frame_in_5, frame_in_6, Leads, IsTimed, IsTimedIn, leaves, told_ways}
-use Rattle.model_link.specs.Events
-use Rattle.model_link.specs.Words
-use Rattle.model_link.specs.MultipleFrame
-use Rattle.model_link.specs.Established
-use Rattle.model_link.specs.TimerRecovery
+use Rattle.laws_link.proofs.Vocabulary.{◌≡◌, ℕ, ◌+◌, Bool, true, false, cond, ◌&&◌, List, [], ◌∷◌, Option, Some, None, inl, inr, refl, sym, subst, true≢false, Control, Ua, Dm, ErrorCode, Refusal, State, TeiAssigned, AwaitingEstablishment, AwaitingRelease, Established, TimerRecovery, LinkTimer, T200, T203, ControlFrame, Terms, Link, fresh, runs, Course, begun, changed, frame_in_4, establish_in_4, frame_in_5, frame_in_6, Leads, IsTimed, IsTimedIn, leaves, told_ways, ClearBusy, Data, Establish, Event, Release, Request, SetBusy, cleared, expired, frame, offer, overlong, received, requested, undefined, wrong_size, pending_is, start, clear_busy_in_7_8, data_in_7_8, set_busy_in_7_8, frame_in_7, frame_in_8, give_information, is_established, may_send_information, offer_among, with_one_sent, after, after_all, course, expired_in, frame_in, frame_step, is_running, malformed_in}
 use Rattle.model_link.specs.Requests
-use Rattle.model_link.specs.Offers
-use Rattle.model_link.specs.Machine
 use Rattle.laws_link.proofs.Timing.{TimedBy, At, Ends, at_ends, failed_timed, ends, rows}
 
 module _ (t : Terms) where
@@ -25,21 +18,21 @@ module _ (t : Terms) where
   frames_in_6 octets (Dm true) = search ends depth 12 fits 4000
   frames_in_6 octets other = search ends depth 12 fits 4000
 
-  frames_in_7 : (b : Bool) (octets : List ℕ) (control : Control) → Leads (At Established) (Established.frame_in_7 t b octets control) Ends
+  frames_in_7 : (b : Bool) (octets : List ℕ) (control : Control) → Leads (At Established) (frame_in_7 t b octets control) Ends
   frames_in_7 b octets (Dm true) = search rows depth 14 fits 6000
   frames_in_7 b octets other = search rows depth 14 fits 6000
 
-  frames_in_8 : (b : Bool) (octets : List ℕ) (control : Control) → Leads (At TimerRecovery) (TimerRecovery.frame_in_8 t b octets control) Ends
+  frames_in_8 : (b : Bool) (octets : List ℕ) (control : Control) → Leads (At TimerRecovery) (frame_in_8 t b octets control) Ends
   frames_in_8 b octets (Dm true) = search rows depth 14 fits 6000
   frames_in_8 b octets other = search rows depth 14 fits 6000
 
-  expired_timed : (here : State) (timer : LinkTimer) → Leads (At here) (Machine.expired_in here timer t) Ends
+  expired_timed : (here : State) (timer : LinkTimer) → Leads (At here) (expired_in here timer t) Ends
   expired_timed AwaitingEstablishment T200 = search ends depth 12 fits 4000
   expired_timed AwaitingRelease T200 = search ends depth 12 fits 4000
   expired_timed TimerRecovery T200 = search ends depth 12 fits 4000
   expired_timed other timer = search ends depth 12 fits 4000
 
-  malformed_timed : (here : State) (e : ErrorCode) → Leads (At here) (Machine.malformed_in here t e) Ends
+  malformed_timed : (here : State) (e : ErrorCode) → Leads (At here) (malformed_in here t e) Ends
   malformed_timed Established e = failed_timed t e
   malformed_timed other e = search ends depth 12 fits 4000
 
@@ -50,13 +43,13 @@ module _ (t : Terms) where
   establish_timed : {here : State} → Leads (At here) (establish_in_4 t) Ends
   establish_timed {here} = search ends depth 12 fits 4000
 
-  set_busy_timed : (here : State) → Leads (At here) (MultipleFrame.set_busy_in_7_8 t) Ends
+  set_busy_timed : (here : State) → Leads (At here) (set_busy_in_7_8 t) Ends
   set_busy_timed here = search ends depth 12 fits 4000
 
-  clear_busy_timed : (here : State) → Leads (At here) (MultipleFrame.clear_busy_in_7_8 t) Ends
+  clear_busy_timed : (here : State) → Leads (At here) (clear_busy_in_7_8 t) Ends
   clear_busy_timed here = search ends depth 12 fits 4000
 
-  frame_timed : (here : State) (b : Bool) (octets : List ℕ) (control : Control) → Leads (At here) (Machine.frame_in here t b octets control) Ends
+  frame_timed : (here : State) (b : Bool) (octets : List ℕ) (control : Control) → Leads (At here) (frame_in here t b octets control) Ends
   frame_timed TeiAssigned b octets control = frames_in_4 octets control
   frame_timed AwaitingEstablishment b octets control = frames_in_5 octets control
   frame_timed AwaitingRelease b octets control = frames_in_6 octets control
@@ -79,17 +72,17 @@ module _ (t : Terms) (l : Link) (timed : IsTimed l) where
   unchanged : Ends (begun l)
   unchanged = record { timer = of-law l.state l timed.timer }
 
-  frames : (b : Bool) (octets : List ℕ) (control : Control) → Ends (Machine.frame_step t b octets control (begun l))
+  frames : (b : Bool) (octets : List ℕ) (control : Control) → Ends (frame_step t b octets control (begun l))
   frames b octets control = (frame_timed t l.state b octets control).leads (begun l) here
 
-  granted : (request : Events.Request) → Ends (Requests.granted t request (begun l))
-  granted Events.Establish = (establish_timed t).leads (begun l) here
-  granted Events.Release = (release_timed t l.state).leads (begun l) here
-  granted (Events.Data octets) = (at_ends (leaves {f = MultipleFrame.data_in_7_8 octets} (λ c h. h))).leads (begun l) here
-  granted Events.SetBusy = (set_busy_timed t l.state).leads (begun l) here
-  granted Events.ClearBusy = (clear_busy_timed t l.state).leads (begun l) here
+  granted : (request : Request) → Ends (Requests.granted t request (begun l))
+  granted Establish = (establish_timed t).leads (begun l) here
+  granted Release = (release_timed t l.state).leads (begun l) here
+  granted (Data octets) = (at_ends (leaves {f = data_in_7_8 octets} (λ c h. h))).leads (begun l) here
+  granted SetBusy = (set_busy_timed t l.state).leads (begun l) here
+  granted ClearBusy = (clear_busy_timed t l.state).leads (begun l) here
 
-  requests : (request : Events.Request) (o : Option Refusal) → Ends (elim o as (λ o. Course) [ None ↦ Requests.granted t request (begun l) | Some _ ↦ begun l ])
+  requests : (request : Request) (o : Option Refusal) → Ends (elim o as (λ o. Course) [ None ↦ Requests.granted t request (begun l) | Some _ ↦ begun l ])
   requests request None = granted request
   requests request (Some w) = unchanged
 
@@ -105,47 +98,47 @@ goes_on running a s true e (inr h) = absurd (clash running e h.0)
     clash (Some T203) e h = true≢false (sym e)
 
 gone : Link → Course
-gone l = Words.pending_is false (changed Offers.with_one_sent (Offers.give_information (begun l)))
+gone l = pending_is false (changed with_one_sent (give_information (begun l)))
 
-goes : (l : Link) → l.state ≡ Established → TimedBy Established l.running l.a l.s → (b : Bool) → runs T200 l.running ≡ b → Ends (cond b (gone l) (Words.start T200 (gone l)))
+goes : (l : Link) → l.state ≡ Established → TimedBy Established l.running l.a l.s → (b : Bool) → runs T200 l.running ≡ b → Ends (cond b (gone l) (start T200 (gone l)))
 unfolding gone
 goes l at h true e = record { timer = rw at (goes_on l.running l.a l.s true e h) }
 goes l at h false e = record { timer = rw at (goes_on l.running l.a l.s false e h) }
 
-established : (here : State) (x y z : Bool) → (Offers.is_established here && x && y && z) ≡ true → here ≡ Established
+established : (here : State) (x y z : Bool) → (is_established here && x && y && z) ≡ true → here ≡ Established
 established Established x y z e = refl
 established other x y z e = absurd (true≢false (sym e))
 
 at-established : (state : State) (running : Option LinkTimer) (a s : ℕ) → state ≡ Established → TimedBy state running a s → TimedBy Established running a s
 at-established state running a s e h = subst (λ x. TimedBy x running a s) e h
 
-offers : (t : Terms) (l : Link) → IsTimed l → (ws : List ControlFrame) → Ends (Offers.offer_among t ws (begun l))
+offers : (t : Terms) (l : Link) → IsTimed l → (ws : List ControlFrame) → Ends (offer_among t ws (begun l))
 unfolding gone
 offers t l timed (f ∷ fs) = record { timer = of-law l.state l timed.timer }
 offers t l timed [] =
-    told_ways Ends (Offers.may_send_information t l) _ _
+    told_ways Ends (may_send_information t l) _ _
     (λ e.
     let at : l.state ≡ Established = established l.state _ _ _ e in
     goes l at (at-established l.state l.running l.a l.s at (of-law l.state l timed.timer)) (runs T200 l.running) refl)
     (λ e. told_ways Ends l.pending _ _ (λ e. record { timer = of-law l.state l timed.timer }) (λ e. record { timer = of-law l.state l timed.timer }))
 
-event-timed : (t : Terms) (e : Events.Event) (l : Link) → IsTimed l → Ends (Machine.course t e l)
-event-timed t (Events.received (Events.frame f)) l h = frames t l h f.address.command f.info f.control
-event-timed t (Events.received Events.undefined) l h = (malformed_timed t l.state ErrorCode.L).leads (begun l) (here t l h)
-event-timed t (Events.received Events.wrong_size) l h = (malformed_timed t l.state ErrorCode.N).leads (begun l) (here t l h)
-event-timed t (Events.received Events.overlong) l h = (malformed_timed t l.state ErrorCode.O).leads (begun l) (here t l h)
-event-timed t (Events.expired timer) l h = told_ways Ends (Machine.is_running timer l) _ _ (λ e. (expired_timed t l.state timer).leads (begun l) (here t l h)) (λ e. unchanged t l h)
-event-timed t (Events.requested request full) l h = requests t l h request (Requests.refusal t l full request)
-event-timed t Events.offer l h = offers t l h l.waiting
-event-timed t Events.cleared l h = record { timer = refl }
+event-timed : (t : Terms) (e : Event) (l : Link) → IsTimed l → Ends (course t e l)
+event-timed t (received (frame f)) l h = frames t l h f.address.command f.info f.control
+event-timed t (received undefined) l h = (malformed_timed t l.state ErrorCode.L).leads (begun l) (here t l h)
+event-timed t (received wrong_size) l h = (malformed_timed t l.state ErrorCode.N).leads (begun l) (here t l h)
+event-timed t (received overlong) l h = (malformed_timed t l.state ErrorCode.O).leads (begun l) (here t l h)
+event-timed t (expired timer) l h = told_ways Ends (is_running timer l) _ _ (λ e. (expired_timed t l.state timer).leads (begun l) (here t l h)) (λ e. unchanged t l h)
+event-timed t (requested request full) l h = requests t l h request (Requests.refusal t l full request)
+event-timed t offer l h = offers t l h l.waiting
+event-timed t cleared l h = record { timer = refl }
 
-pub timed-after : (t : Terms) (e : Events.Event) (l : Link) → IsTimed l → IsTimed (Machine.after t e l)
-timed-after t e l h = record { timer = to-law (Machine.after t e l).state (Machine.after t e l) (event-timed t e l h).timer }
+pub timed-after : (t : Terms) (e : Event) (l : Link) → IsTimed l → IsTimed (after t e l)
+timed-after t e l h = record { timer = to-law (after t e l).state (after t e l) (event-timed t e l h).timer }
 
-pub timed-all : (t : Terms) (es : List Events.Event) (l : Link) → IsTimed l → IsTimed (Machine.after_all t es l)
-unfolding Machine.after_all
+pub timed-all : (t : Terms) (es : List Event) (l : Link) → IsTimed l → IsTimed (after_all t es l)
+unfolding after_all
 timed-all t [] l h = h
-timed-all t (e ∷ es) l h = timed-all t es (Machine.after t e l) (timed-after t e l h)
+timed-all t (e ∷ es) l h = timed-all t es (after t e l) (timed-after t e l h)
 
 pub timed-fresh : IsTimed fresh
 timed-fresh = record { timer = refl }

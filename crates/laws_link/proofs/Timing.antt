@@ -1,9 +1,5 @@
 -- A link that awaits something has its timer: every row keeps that.
-use Rattle.laws_link.proofs.Vocabulary.{◌≡◌, ℕ, ◌≤◌, Bool, true, List, Option, Some, None, ◌⊎◌, inl, inr, refl, arith, Seq, named, Note, ErrorCode, State, TeiAssigned, AwaitingEstablishment, AwaitingRelease, Established, TimerRecovery, LinkTimer, T200, T203, ControlFrame, Terms, Course, Step, ◌then◌, changed, named-within, Leads, keeping_then, nothing_leads, depending_leads, bit_leads, tested_leads, Passed, from_more, to_less, eqb-true, leaves}
-use Rattle.model_link.specs.Words
-use Rattle.model_link.specs.MultipleFrame
-use Rattle.model_link.specs.Established
-use Rattle.model_link.specs.TimerRecovery
+use Rattle.laws_link.proofs.Vocabulary.{◌≡◌, ℕ, ◌≤◌, Bool, true, List, Option, Some, None, ◌⊎◌, inl, inr, refl, arith, Seq, named, Note, ErrorCode, State, TeiAssigned, AwaitingEstablishment, AwaitingRelease, Established, TimerRecovery, LinkTimer, T200, T203, ControlFrame, Terms, Course, Step, ◌then◌, changed, named-within, Leads, keeping_then, nothing_leads, depending_leads, bit_leads, tested_leads, Passed, from_more, to_less, eqb-true, leaves, acknowledge, asked_is, by_number, discard, enter, error, establish_indication, no_timer, re_establish, send_again_from, start, zero_numbers, failed, acknowledged_by_information_in_7, acknowledged_in_7, is_all_sent, is_beyond_acknowledged, acknowledged_in_8, recovered}
 
 -- the same as `IsTimedIn`, of what it speaks of
 abbrev pub TimedBy : State → Option LinkTimer → ℕ → ℕ → Type 0
@@ -46,52 +42,52 @@ discarded Established running a s (inl e) = inl e
 discarded Established running a s (inr e) = inr (e.0, omega arith)
 discarded other running a s e = e
 
-pub discard_timed : (here : State) → Leads (At here) Words.discard (At here)
+pub discard_timed : (here : State) → Leads (At here) discard (At here)
 discard_timed here = record {
   leads = λ c h. record { state_is = h.state_is; timer = discarded here c.link.running c.link.a c.link.s h.timer };
 }
 
 -- the ends of rows, whatever was before
 module _ {X : Course → Type 0} where
-  pub enters_4 : Leads X (Words.no_timer then Words.enter TeiAssigned) Ends
+  pub enters_4 : Leads X (no_timer then enter TeiAssigned) Ends
   enters_4 = record { leads = λ c h. record { timer = refl } }
 
-  pub enters_5 : Leads X (Words.start T200 then Words.enter AwaitingEstablishment) Ends
+  pub enters_5 : Leads X (start T200 then enter AwaitingEstablishment) Ends
   enters_5 = record { leads = λ c h. record { timer = refl } }
 
-  pub asks_for_5 : (b : Bool) → Leads X (Words.start T200 then Words.asked_is b then Words.enter AwaitingEstablishment) Ends
+  pub asks_for_5 : (b : Bool) → Leads X (start T200 then asked_is b then enter AwaitingEstablishment) Ends
   asks_for_5 b = record { leads = λ c h. record { timer = refl } }
 
-  pub enters_6 : Leads X (Words.start T200 then Words.enter AwaitingRelease) Ends
+  pub enters_6 : Leads X (start T200 then enter AwaitingRelease) Ends
   enters_6 = record { leads = λ c h. record { timer = refl } }
 
-  pub enters_8 : Leads X (Words.start T200 then Words.enter TimerRecovery) Ends
+  pub enters_8 : Leads X (start T200 then enter TimerRecovery) Ends
   enters_8 = record { leads = λ c h. record { timer = refl } }
 
-  pub zero_enters_7 : Leads X (Words.zero_numbers then Words.start T203 then Words.enter Established) Ends
+  pub zero_enters_7 : Leads X (zero_numbers then start T203 then enter Established) Ends
   zero_enters_7 = record { leads = λ c h. record { timer = inr (refl, omega arith) } }
 
-  pub zero_told_enters_7 : (t : Terms) → Leads X (Words.zero_numbers then Words.start T203 then Words.establish_indication t then Words.enter Established) Ends
+  pub zero_told_enters_7 : (t : Terms) → Leads X (zero_numbers then start T203 then establish_indication t then enter Established) Ends
   zero_told_enters_7 t = record { leads = λ c h. record { timer = inr (refl, omega arith) } }
 
-  pub failed_timed : (t : Terms) (e : ErrorCode) → Leads X (MultipleFrame.failed t e) Ends
+  pub failed_timed : (t : Terms) (e : ErrorCode) → Leads X (failed t e) Ends
   failed_timed t e = record { leads = λ c h. record { timer = refl } }
 
-  pub recovered_timed : (timer : LinkTimer) (m : ℕ) → Leads X (TimerRecovery.recovered timer m) Ends
+  pub recovered_timed : (timer : LinkTimer) (m : ℕ) → Leads X (recovered timer m) Ends
   recovered_timed T200 m = record { leads = λ c h. record { timer = inl refl } }
   recovered_timed T203 m = record { leads = λ c h. record { timer = inr (refl, omega arith) } }
 
 -- T200 is started anew, and the state stays
-pub restart_5 : Leads (At AwaitingEstablishment) (Words.start T200) (At AwaitingEstablishment)
+pub restart_5 : Leads (At AwaitingEstablishment) (start T200) (At AwaitingEstablishment)
 restart_5 = record { leads = λ c h. record { state_is = h.state_is; timer = refl } }
 
-pub restart_6 : Leads (At AwaitingRelease) (Words.start T200) (At AwaitingRelease)
+pub restart_6 : Leads (At AwaitingRelease) (start T200) (At AwaitingRelease)
 restart_6 = record { leads = λ c h. record { state_is = h.state_is; timer = refl } }
 
-pub restart_7 : Leads (At Established) (Words.start T200) (At Established)
+pub restart_7 : Leads (At Established) (start T200) (At Established)
 restart_7 = record { leads = λ c h. record { state_is = h.state_is; timer = inl refl } }
 
-pub restart_8 : Leads (At TimerRecovery) (Words.start T200) (At TimerRecovery)
+pub restart_8 : Leads (At TimerRecovery) (start T200) (At TimerRecovery)
 restart_8 = record { leads = λ c h. record { state_is = h.state_is; timer = refl } }
 
 -- what a valid N(R) does in state 7
@@ -99,47 +95,47 @@ pub nearer : (running : Option LinkTimer) (a s m : ℕ) → a ≤ m → TimedBy 
 nearer running a s m from (inl e) = inl e
 nearer running a s m from (inr e) = inr (e.0, omega (arith, from, e.1))
 
-pub acknowledge_7 : (m : ℕ) → Leads (Named Established m) (Words.acknowledge m) (At Established)
+pub acknowledge_7 : (m : ℕ) → Leads (Named Established m) (acknowledge m) (At Established)
 acknowledge_7 m = record {
   leads = λ c h. record { state_is = h.holds.state_is; timer = nearer c.link.running c.link.a c.link.s m h.from h.holds.timer };
 }
 
-pub all_acknowledged_7 : (m : ℕ) → Leads (Passed (Named Established m) (Established.is_all_sent m) true) (Words.acknowledge m then Words.start T203) (At Established)
+pub all_acknowledged_7 : (m : ℕ) → Leads (Passed (Named Established m) (is_all_sent m) true) (acknowledge m then start T203) (At Established)
 all_acknowledged_7 m = record {
   leads = λ c h. record { state_is = h.holds.holds.state_is; timer = inr (refl, omega (arith, eqb-true m c.link.s h.told)) };
 }
 
-pub acknowledge_start_7 : (m : ℕ) → Leads (Named Established m) (Words.acknowledge m then Words.start T200) (At Established)
+pub acknowledge_start_7 : (m : ℕ) → Leads (Named Established m) (acknowledge m then start T200) (At Established)
 acknowledge_start_7 m = record { leads = λ c h. record { state_is = h.holds.state_is; timer = inl refl } }
 
-pub send_again_7 : (m : ℕ) → Leads (Named Established m) (Words.acknowledge m then Words.send_again_from m then Words.start T203) (At Established)
+pub send_again_7 : (m : ℕ) → Leads (Named Established m) (acknowledge m then send_again_from m then start T203) (At Established)
 send_again_7 m = record { leads = λ c h. record { state_is = h.holds.state_is; timer = inr (refl, omega arith) } }
 
 pub to_named : {here : State} {m : ℕ} {f : Step} → Leads (Named here m) f (At here) → Leads (Named here m) f Ends
 to_named {here} {m} {f} x = to_less (λ c h. enough here c.link.state c.link.running c.link.a c.link.s h) x
 
-pub acknowledged_7 : (m : ℕ) → Leads (Named Established m) (Established.acknowledged_in_7 m) (At Established)
+pub acknowledged_7 : (m : ℕ) → Leads (Named Established m) (acknowledged_in_7 m) (At Established)
 acknowledged_7 m =
-    tested_leads (Established.is_all_sent m) (all_acknowledged_7 m)
-    (from_more (λ c h. h.holds) (depending_leads (Established.is_beyond_acknowledged m) (acknowledge_start_7 m) (unnamed nothing_leads)))
+    tested_leads (is_all_sent m) (all_acknowledged_7 m)
+    (from_more (λ c h. h.holds) (depending_leads (is_beyond_acknowledged m) (acknowledge_start_7 m) (unnamed nothing_leads)))
 
-pub acknowledged_by_information_7 : (m : ℕ) → Leads (Named Established m) (Established.acknowledged_by_information_in_7 m) (At Established)
+pub acknowledged_by_information_7 : (m : ℕ) → Leads (Named Established m) (acknowledged_by_information_in_7 m) (At Established)
 acknowledged_by_information_7 m = depending_leads _ (acknowledge_7 m) (acknowledged_7 m)
 
 -- and in state 8
-pub acknowledge_8 : (m : ℕ) → Leads (Named TimerRecovery m) (Words.acknowledge m) (At TimerRecovery)
+pub acknowledge_8 : (m : ℕ) → Leads (Named TimerRecovery m) (acknowledge m) (At TimerRecovery)
 acknowledge_8 m = record { leads = λ c h. record { state_is = h.holds.state_is; timer = h.holds.timer } }
 
-pub acknowledged_8 : (final : Bool) (timer : LinkTimer) (m : ℕ) → Leads (Named TimerRecovery m) (TimerRecovery.acknowledged_in_8 timer final m) Ends
+pub acknowledged_8 : (final : Bool) (timer : LinkTimer) (m : ℕ) → Leads (Named TimerRecovery m) (acknowledged_in_8 timer final m) Ends
 acknowledged_8 final timer m = bit_leads final (recovered_timed timer m) (to_named (acknowledge_8 m))
 
 -- by the N(R): an invalid one, or the one number that it names
 pub by-number : (here : State) (t : Terms) (nr : Seq) (f : ℕ → Step) → ((m : ℕ) → Leads (Named here m) (f m) Ends) → (c : Course) → At here c
-    → (o : Option ℕ) → named c.link.a c.link.s nr ≡ o → Ends (elim o [ None ↦ (Words.error t ErrorCode.J then Words.re_establish t) c | Some n ↦ f n c ])
+    → (o : Option ℕ) → named c.link.a c.link.s nr ≡ o → Ends (elim o [ None ↦ (error t ErrorCode.J then re_establish t) c | Some n ↦ f n c ])
 by-number here t nr f x c h None e = record { timer = refl }
 by-number here t nr f x c h (Some m) e = (x m).leads c (record { holds = h; from = (named-within c.link.a c.link.s m nr e).0 })
 
-pub number_timed : {here : State} (t : Terms) (nr : Seq) (f : ℕ → Step) → ((m : ℕ) → Leads (Named here m) (f m) Ends) → Leads (At here) (Words.by_number t nr f) Ends
+pub number_timed : {here : State} (t : Terms) (nr : Seq) (f : ℕ → Step) → ((m : ℕ) → Leads (Named here m) (f m) Ends) → Leads (At here) (by_number t nr f) Ends
 number_timed {here} t nr f x = record { leads = λ c h. by-number here t nr f x c h (named c.link.a c.link.s nr) refl }
 
 pub ruleset words = (leaves, keeping_then, nothing_leads, depending_leads, bit_leads, discard_timed, restart_5, restart_6, restart_7, restart_8)

@@ -42,28 +42,32 @@ pub use Rattle.model_link.proofs.Rows.{event_row, every_event, frame_row}
 pub use Rattle.model_link.proofs.SoundEvents.{sound-after, sound-all, sound-fresh}
 pub use Rattle.model_link.proofs.SoundRows.{named-within}
 pub use Rattle.model_link.proofs.TellRows.{event-tells}
-pub use Rattle.model_link.specs.AwaitingEstablishment.{frame_in_5, t200_in_5}
-pub use Rattle.model_link.specs.AwaitingRelease.{frame_in_6, t200_in_6}
+pub use Rattle.model_link.specs.AwaitingEstablishment.{frame_in_5, malformed_in_5, t200_in_5}
+pub use Rattle.model_link.specs.AwaitingRelease.{frame_in_6, malformed_in_6, t200_in_6}
 pub use Rattle.model_link.specs.Deliveries.{Arrived, Establishes, IsEstablished, MayEstablish, eligible, eligible_of, information_in, information_of, is_eligible, restarts}
-pub use Rattle.model_link.specs.Events.{ClearBusy, Data, Establish, Event, Release, Request, SetBusy, cleared, expired, frame, offer, overlong, received, requested, undefined, wrong_size}
+pub use Rattle.model_link.specs.Events.{ClearBusy, Data, Establish, Event, Received, Release, Request, SetBusy, cleared, expired, frame, offer, overlong, received, requested, undefined, wrong_size}
 pub use Rattle.model_link.specs.Link.{Link, address_at, frame_of, fresh, has_outstanding, is_asked, is_multiple_frame, is_own_busy, is_peer_busy, is_rejecting, may_repeat, outstanding}
-pub use Rattle.model_link.specs.Machine.{after, course, given, given_of, told}
+pub use Rattle.model_link.specs.Machine.{after, course, expire_running, expired_in, expired_step, frame_in, frame_step, given, given_of, is_running, malformed_in, received_step, step, told, told_of_clearing}
 unfoldable pub use Rattle.model_link.specs.Machine.{after_all}
 pub use Rattle.model_link.specs.Notes.{is_data, is_unit}
-pub use Rattle.model_link.specs.Offers.{is_established, may_send_information}
+pub use Rattle.model_link.specs.Offers.{first_unsent, give_information, give_waiting, is_awaiting_acknowledgement, is_established, may_send_information, next_information, offer_among, offer_step, send_acknowledgement, send_information, with_one_sent}
 pub use Rattle.model_link.specs.Sound.{IsInRange, IsSettledIn, IsSound, IsWaitingFrame, is_information}
 pub use Rattle.model_link.specs.Steps.{Course, Sent, Step, begun, by_bit, changed, depending_on, nothing, ◌then◌}
-pub use Rattle.model_link.specs.TeiAssigned.{establish_in_4, frame_in_4, release_in_4}
+pub use Rattle.model_link.specs.TeiAssigned.{establish_in_4, frame_in_4, malformed_in_4, release_in_4}
 pub use Rattle.model_link.specs.Told.{orders_for, runs, timer_at}
 pub use Rattle.model_link.specs.TwoEnds.{Act, Agree, Begins, Doing, End, Ends, IsUp, acting, asks, at_far, at_near, doing, expires, frame_given, loses, receives, sends, turned, with_first_lost, with_first_of, with_link, with_sent}
 unfoldable pub use Rattle.model_link.specs.TwoEnds.{StayUp, doing_all}
-pub use Rattle.model_link.specs.Words.{command, response}
+pub use Rattle.model_link.specs.Words.{acknowledge, answer, asked_is, begin_anew, by_number, clear_flags, command, count_received, deliver, deliver_unit, discard, enquire, enter, error, establish_confirm, establish_indication, has_room, leave_unserved, no_timer, note, own_busy_is, peer_busy_is, pending_is, re_establish, ready_to_receive, reject, rejecting_is, release_confirm, release_indication, repeated, report_ready, response, send, send_again_from, start, unit_data, without_flags, zero_numbers}
 pub use Rattle.model_link.specs.declared.frames.ControlFrame.{ControlFrame}
 pub use Rattle.model_link.specs.declared.states.State.{State}
 pub use Rattle.model_link.specs.declared.states.State.TheVariants.{AwaitingEstablishment, AwaitingRelease, Established, TeiAssigned, TimerRecovery}
 pub use Rattle.model_link.specs.declared.terms.Terms.{Terms}
 pub use Rattle.model_link.specs.declared.timers.LinkTimer.{LinkTimer}
 pub use Rattle.model_link.specs.declared.timers.LinkTimer.TheVariants.{T200, T203}
+pub use Rattle.model_link.specs.Established.{acknowledged_by_information_in_7, acknowledged_by_rej_in_7, acknowledged_by_rnr_in_7, acknowledged_in_7, frame_in_7, is_all_sent, is_beyond_acknowledged, particulars_in_7, timer_in_7, unsolicited}
+pub use Rattle.model_link.specs.MultipleFrame.{answered, clear_busy_in_7_8, contents_in_7_8, data_in_7_8, failed, information_in_7_8, is_final, release_in_7_8, set_busy_in_7_8, supervisory, ua_in_7_8}
+pub use Rattle.model_link.specs.Requests.{granted, refusal, refusal_of_contents, release_in, serves}
+pub use Rattle.model_link.specs.TimerRecovery.{acknowledged_in_8, frame_in_8, particulars_in_8, recovered, solicited, t200_in_8}
 pub use Rattle.laws_link.specs.Accepted.{acknowledged_by, beyond, contents_of, empties, is_loss, is_release, number_of, tells_loss}
 pub use Rattle.laws_link.specs.Beginning.{IsSeen, tells_beginning}
 pub use Rattle.laws_link.specs.Effects.{IsReleasedIn, TakesEffect}

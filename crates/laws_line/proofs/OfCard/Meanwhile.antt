@@ -19,11 +19,6 @@ pub at-next : (card : Card) (number : ℕ) → number < length card.lines → li
 unfolding lines.takes_slot
 at-next card number few = get_or-set_same card.lines number (lines.after card.config next (line_at number card)) (fresh_line card.config) few
 
-pub at-heard : (card : Card) (number : ℕ) (e : stream.Event) → number < length card.lines
-    → line_at number (after (at number (hears e)) card) ≡ lines.after card.config (hears e) (line_at number card)
-unfolding lines.takes_slot
-at-heard card number e few = get_or-set_same card.lines number (lines.after card.config (hears e) (line_at number card)) (fresh_line card.config) few
-
 is-next : (number : ℕ) (e : Event) → (e.line ≡ number → e.what ≡ next) → e.line ≡ number → e ≡ at number next
 is-next number e h same = let what = h same in λ i. record { line = same i; what = what i }
 

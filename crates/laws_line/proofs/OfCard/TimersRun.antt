@@ -81,9 +81,3 @@ pub begins-timely-card : (c : Config) → AllHaveTheirTimers (fresh c)
 begins-timely-card c = record {
   lines = λ line within. subst (λ (l : Line). HaveTheirTimers l) (sym (get_or-replicate c.lines line (fresh_line c) (fresh_line c) within)) (begins-timely c);
 }
-
--- so each link of a card that is reached runs the timer that it needs
-pub reached-timely : (card : Card) → IsReached card → AllHaveTheirTimers card
-reached-timely card r =
-    subst AllHaveTheirTimers (sym r.same)
-    (timely-all (fresh card.config) r.events (fresh_is_sound card.config r.config) (begins-timely-card card.config) r.at_lines)

@@ -1,10 +1,7 @@
 -- What answers a poll.
-use Rattle.laws_link.proofs.Vocabulary.{◌≡◌, ℕ, ◌+◌, ◌≤◌, Bool, true, false, cond, IsTrue, List, [], ◌∷◌, ◌++◌, length, Option, None, Some, refl, sym, ap, subst, ◌∙◌, true≢false, arith, nat_lt, lt-ltb, le-ltb, Seq, seq, named, Control, Information, ReceiveReady, ReceiveNotReady, Reject, Sabme, Disc, Ui, Ua, Dm, Frmr, Xid, Parts, State, TeiAssigned, AwaitingEstablishment, AwaitingRelease, Established, TimerRecovery, LinkTimer, T200, T203, ControlFrame, Terms, Link, is_multiple_frame, frame, received, Course, begun, Step, ◌then◌, Leads, then_leads, keeping_then, nothing_leads, depending_leads, bit_leads, IsValidAt, IsPollWith, SaysReceived, Answered, AnsweredBy, asked_of, leaves, ErrorCode, both_ways}
+use Rattle.laws_link.proofs.Vocabulary.{◌≡◌, ℕ, ◌+◌, ◌≤◌, Bool, true, false, cond, IsTrue, List, [], ◌∷◌, ◌++◌, length, Option, None, Some, refl, sym, ap, subst, ◌∙◌, true≢false, arith, nat_lt, lt-ltb, le-ltb, Seq, seq, named, Control, Information, ReceiveReady, ReceiveNotReady, Reject, Sabme, Disc, Ui, Ua, Dm, Frmr, Xid, Parts, State, TeiAssigned, AwaitingEstablishment, AwaitingRelease, Established, TimerRecovery, LinkTimer, T200, T203, ControlFrame, Terms, Link, is_multiple_frame, frame, received, Course, begun, Step, ◌then◌, Leads, then_leads, keeping_then, nothing_leads, depending_leads, bit_leads, IsValidAt, IsPollWith, SaysReceived, Answered, AnsweredBy, asked_of, leaves, ErrorCode, both_ways, acknowledged_by_information_in_7, acknowledged_by_rej_in_7, acknowledged_by_rnr_in_7, acknowledged_in_7, frame_in_7, acknowledged_in_8, frame_in_8, after, frame_in, frame_step}
 use Rattle.model_link.specs.Words
 use Rattle.model_link.specs.MultipleFrame
-use Rattle.model_link.specs.Established
-use Rattle.model_link.specs.TimerRecovery
-use Rattle.model_link.specs.Machine
 
 -- What waits, and V(R), after the answer; V(A) and V(S) are still as they were before it.
 pub record WaitsIn (ws : List ControlFrame) (r : ℕ) (waiting : List ControlFrame) (received : ℕ) : Type 0 where
@@ -16,7 +13,7 @@ Waits ws r c = WaitsIn ws r c.link.waiting c.link.r
 
 pub ruleset words = (leaves, keeping_then, nothing_leads, depending_leads, bit_leads)
 
-pub information_7_waits : (ws : List ControlFrame) (r n : ℕ) → Leads (Waits ws r) (Established.acknowledged_by_information_in_7 n) (Waits ws r)
+pub information_7_waits : (ws : List ControlFrame) (r n : ℕ) → Leads (Waits ws r) (acknowledged_by_information_in_7 n) (Waits ws r)
 information_7_waits ws r n = search words depth 12 fits 4000
 
 -- The answer waits, before the N(R) has its effect.
@@ -103,43 +100,43 @@ module _ (t : Terms) (l : Link) (room : length l.waiting + 1 ≤ t.control) wher
   supervisory b nr f x valid = numbered nr f x valid (Words.answer t (Words.peer_busy_is b (begun l))) (ready (Words.peer_busy_is b (begun l)) refl refl refl)
 
   in-7 : (command : Bool) (octets : List ℕ) (control : Control) → IsPollWith t l command octets control
-      → Answered l.waiting (Established.frame_in_7 t command octets control (begun l)).link
-  in-7 command octets (Information ns nr true) h = information ns nr octets Established.acknowledged_by_information_in_7 h.1 information_7_waits h.2
+      → Answered l.waiting (frame_in_7 t command octets control (begun l)).link
+  in-7 command octets (Information ns nr true) h = information ns nr octets acknowledged_by_information_in_7 h.1 information_7_waits h.2
   in-7 command octets (Information ns nr false) h = absurd (true≢false (sym h.0))
-  in-7 true octets (ReceiveReady nr true) h = supervisory false nr Established.acknowledged_in_7 (λ ws r n. search words depth 12 fits 4000) h.2
+  in-7 true octets (ReceiveReady nr true) h = supervisory false nr acknowledged_in_7 (λ ws r n. search words depth 12 fits 4000) h.2
   in-7 true octets (ReceiveReady nr false) h = absurd (true≢false (sym h.1))
   in-7 false octets (ReceiveReady nr p) h = absurd (true≢false (sym h.0))
-  in-7 true octets (ReceiveNotReady nr true) h = supervisory true nr Established.acknowledged_by_rnr_in_7 (λ ws r n. search words depth 12 fits 4000) h.2
+  in-7 true octets (ReceiveNotReady nr true) h = supervisory true nr acknowledged_by_rnr_in_7 (λ ws r n. search words depth 12 fits 4000) h.2
   in-7 true octets (ReceiveNotReady nr false) h = absurd (true≢false (sym h.1))
   in-7 false octets (ReceiveNotReady nr p) h = absurd (true≢false (sym h.0))
-  in-7 true octets (Reject nr true) h = supervisory false nr Established.acknowledged_by_rej_in_7 (λ ws r n. search words depth 12 fits 4000) h.2
+  in-7 true octets (Reject nr true) h = supervisory false nr acknowledged_by_rej_in_7 (λ ws r n. search words depth 12 fits 4000) h.2
   in-7 true octets (Reject nr false) h = absurd (true≢false (sym h.1))
   in-7 false octets (Reject nr p) h = absurd (true≢false (sym h.0))
   in-7 command octets other h = absurd h
 
   in-8 : (command : Bool) (octets : List ℕ) (control : Control) → IsPollWith t l command octets control
-      → Answered l.waiting (TimerRecovery.frame_in_8 t command octets control (begun l)).link
+      → Answered l.waiting (frame_in_8 t command octets control (begun l)).link
   in-8 command octets (Information ns nr true) h = information ns nr octets Words.acknowledge h.1 (λ ws r n. leaves (λ c h. h)) h.2
   in-8 command octets (Information ns nr false) h = absurd (true≢false (sym h.0))
-  in-8 true octets (ReceiveReady nr true) h = supervisory false nr (TimerRecovery.acknowledged_in_8 T203 false) (λ ws r n. search words depth 12 fits 4000) h.2
+  in-8 true octets (ReceiveReady nr true) h = supervisory false nr (acknowledged_in_8 T203 false) (λ ws r n. search words depth 12 fits 4000) h.2
   in-8 true octets (ReceiveReady nr false) h = absurd (true≢false (sym h.1))
   in-8 false octets (ReceiveReady nr p) h = absurd (true≢false (sym h.0))
-  in-8 true octets (ReceiveNotReady nr true) h = supervisory true nr (TimerRecovery.acknowledged_in_8 T200 false) (λ ws r n. search words depth 12 fits 4000) h.2
+  in-8 true octets (ReceiveNotReady nr true) h = supervisory true nr (acknowledged_in_8 T200 false) (λ ws r n. search words depth 12 fits 4000) h.2
   in-8 true octets (ReceiveNotReady nr false) h = absurd (true≢false (sym h.1))
   in-8 false octets (ReceiveNotReady nr p) h = absurd (true≢false (sym h.0))
-  in-8 true octets (Reject nr true) h = supervisory false nr (TimerRecovery.acknowledged_in_8 T203 false) (λ ws r n. search words depth 12 fits 4000) h.2
+  in-8 true octets (Reject nr true) h = supervisory false nr (acknowledged_in_8 T203 false) (λ ws r n. search words depth 12 fits 4000) h.2
   in-8 true octets (Reject nr false) h = absurd (true≢false (sym h.1))
   in-8 false octets (Reject nr p) h = absurd (true≢false (sym h.0))
   in-8 command octets other h = absurd h
 
   frames-in : (here : State) → IsTrue (is_multiple_frame here) → (command : Bool) (octets : List ℕ) (control : Control)
-      → IsPollWith t l command octets control → Answered l.waiting (Machine.frame_in here t command octets control (begun l)).link
+      → IsPollWith t l command octets control → Answered l.waiting (frame_in here t command octets control (begun l)).link
   frames-in Established up command octets control h = in-7 command octets control h
   frames-in TimerRecovery up command octets control h = in-8 command octets control h
   frames-in other up command octets control h = absurd (true≢false (sym up))
 
   frame-answered : IsTrue (is_multiple_frame l.state) → (command : Bool) (octets : List ℕ) (control : Control) → IsPollWith t l command octets control
-      → Answered l.waiting (Machine.frame_step t command octets control (begun l)).link
+      → Answered l.waiting (frame_step t command octets control (begun l)).link
   frame-answered up command octets (Information ns nr p) h = frames-in l.state up command octets (Information ns nr p) h
   frame-answered up command octets (ReceiveReady nr p) h = frames-in l.state up command octets (ReceiveReady nr p) h
   frame-answered up command octets (ReceiveNotReady nr p) h = frames-in l.state up command octets (ReceiveNotReady nr p) h
@@ -147,7 +144,7 @@ module _ (t : Terms) (l : Link) (room : length l.waiting + 1 ≤ t.control) wher
   frame-answered up command octets other h = absurd h
 
   pub poll-answered : (f : Parts) → IsTrue (is_multiple_frame l.state) → IsPollWith t l f.address.command f.info f.control
-      → Answered l.waiting (Machine.after t (received (frame f)) l)
+      → Answered l.waiting (after t (received (frame f)) l)
   poll-answered f up h = frame-answered up f.address.command f.info f.control h
 
   -- SABME and DISC
@@ -159,18 +156,18 @@ module _ (t : Terms) (l : Link) (room : length l.waiting + 1 ≤ t.control) wher
   sabme-7-8 p = same-waiting _ _ _ (l.waiting ++ Words.response (Ua p) ∷ []) (put _) (put _)
 
   sabme-in : (here : State) (command : Bool) (octets : List ℕ) (p : Bool)
-      → AnsweredBy (asked_of here (Sabme p)) l.waiting (Machine.frame_in here t command octets (Sabme p) (begun l)).link
+      → AnsweredBy (asked_of here (Sabme p)) l.waiting (frame_in here t command octets (Sabme p) (begun l)).link
   sabme-in Established command octets p = sabme-7-8 p
   sabme-in TimerRecovery command octets p = sabme-7-8 p
   sabme-in other command octets p = put _
 
   disc-in : (here : State) (command : Bool) (octets : List ℕ) (p : Bool)
-      → AnsweredBy (asked_of here (Disc p)) l.waiting (Machine.frame_in here t command octets (Disc p) (begun l)).link
+      → AnsweredBy (asked_of here (Disc p)) l.waiting (frame_in here t command octets (Disc p) (begun l)).link
   disc-in TeiAssigned command octets p = put _
   disc-in other command octets p = put _
 
   pub unnumbered-answered : (command : Bool) (octets : List ℕ) (control : Control)
-      → AnsweredBy (asked_of l.state control) l.waiting (Machine.frame_step t command octets control (begun l)).link
+      → AnsweredBy (asked_of l.state control) l.waiting (frame_step t command octets control (begun l)).link
   unnumbered-answered command octets (Sabme p) = sabme-in l.state command octets p
   unnumbered-answered command octets (Disc p) = disc-in l.state command octets p
   unnumbered-answered command octets other = tt

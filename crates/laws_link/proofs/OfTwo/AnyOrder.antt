@@ -1,7 +1,6 @@
 -- Two ends in state 7 with frames on both ways, none of which is lost: each turn lowers their weight, and in the end all has
 -- arrived.
-use Rattle.laws_link.proofs.Vocabulary.{◌≡◌, ℕ, suc, ◌+◌, ◌-◌, ◌*◌, ◌<◌, ◌≤◌, Bool, true, false, ◌==◌, List, [], ◌∷◌, ◌++◌, length, take, drop, Some, refl, sym, ap, subst, ◌∙◌, ◌⊎◌, inl, inr, append-nil, eq-eqb, true≢false, arith, All, if◌then◌else◌, nat_lt, slice_get, unwrap_or, ltb-true, le-ltb, and_parts, seq, named, Parts, Terms, Link, frame, received, offer, IsInRange, IsSound, End, with_link, with_sent, with_first_of, sound-after, HasNothingToSend, load_of, load, weight_at, State}
-use Rattle.model_link.specs.Offers
+use Rattle.laws_link.proofs.Vocabulary.{◌≡◌, ℕ, suc, ◌+◌, ◌-◌, ◌*◌, ◌<◌, ◌≤◌, Bool, true, false, ◌==◌, List, [], ◌∷◌, ◌++◌, length, take, drop, Some, refl, sym, ap, subst, ◌∙◌, ◌⊎◌, inl, inr, append-nil, eq-eqb, true≢false, arith, All, if◌then◌else◌, nat_lt, slice_get, unwrap_or, ltb-true, le-ltb, and_parts, seq, named, Parts, Terms, Link, frame, received, offer, IsInRange, IsSound, End, with_link, with_sent, with_first_of, sound-after, HasNothingToSend, load_of, load, weight_at, State, may_send_information}
 use Rattle.laws_link.proofs.OfTwo.Plain.{plain, plain_end, with_information, with_acknowledgement, information_frame, acknowledgement_frame, gives-information, gives-acknowledgement}
 use Rattle.laws_link.proofs.OfTwo.Halves.{named-number, fits-at, take-one}
 use Rattle.laws_link.proofs.OfTwo.BusyMoves.{takes-one, takes-note, acked, noted}
@@ -113,7 +112,7 @@ module _ (n m : End) (hn : Steady n) (there : Direction n m) (back : Direction m
   sound-sent : IsSound n.terms (with_sent n).link
   sound-sent = sound-after n.terms hn.ranges offer n.link hn.sound
 
-  gives-i : Offers.may_send_information n.terms (plain n.link) ≡ true → Gave n m (with_sent n)
+  gives-i : may_send_information n.terms (plain n.link) ≡ true → Gave n m (with_sent n)
   gives-i may =
       let parts = and_parts (nat_lt (n.link.s - n.link.a) n.terms.k) (nat_lt n.link.s (length n.link.contents)) may in
       let unsent : n.link.s < length n.link.contents = ltb-true n.link.s (length n.link.contents) parts.1 in
@@ -132,7 +131,7 @@ module _ (n m : End) (hn : Steady n) (there : Direction n m) (back : Direction m
         kept = refl;
       })
 
-  gives-note : Offers.may_send_information n.terms (plain n.link) ≡ false → n.link.pending ≡ true → Gave n m (with_sent n)
+  gives-note : may_send_information n.terms (plain n.link) ≡ false → n.link.pending ≡ true → Gave n m (with_sent n)
   gives-note may owed =
       let form : with_sent n ≡ record n { link = with_acknowledgement n.link; way = n.way ++ acknowledgement_frame n.terms n.link ∷ [] } = sends-form n _ hn (gives-acknowledgement false false n may owed) in
       let more : load (n.way ++ acknowledgement_frame n.terms n.link ∷ []) ≡ load n.way + 1 = load-push n.way (acknowledgement_frame n.terms n.link) in
@@ -150,16 +149,16 @@ module _ (n m : End) (hn : Steady n) (there : Direction n m) (back : Direction m
         kept = refl;
       })
 
-  may-plain : Offers.may_send_information n.terms (plain n.link) ≡ false → Offers.may_send_information n.terms n.link ≡ false
-  may-plain e = subst (λ x. Offers.may_send_information n.terms x.link ≡ false) (sym (is-steady n hn)) e
+  may-plain : may_send_information n.terms (plain n.link) ≡ false → may_send_information n.terms n.link ≡ false
+  may-plain e = subst (λ x. may_send_information n.terms x.link ≡ false) (sym (is-steady n hn)) e
 
-  gives-by : (may owed : Bool) → Offers.may_send_information n.terms (plain n.link) ≡ may → n.link.pending ≡ owed → (HasNothingToSend n.terms n.link → ⊥) → Gave n m (with_sent n)
+  gives-by : (may owed : Bool) → may_send_information n.terms (plain n.link) ≡ may → n.link.pending ≡ owed → (HasNothingToSend n.terms n.link → ⊥) → Gave n m (with_sent n)
   gives-by true owed e p some = gives-i e
   gives-by false true e p some = gives-note e p
   gives-by false false e p some = absurd (some (record { waiting = hn.waiting; information = may-plain e; pending = p }))
 
   pub gives : (HasNothingToSend n.terms n.link → ⊥) → Gave n m (with_sent n)
-  gives = gives-by (Offers.may_send_information n.terms (plain n.link)) n.link.pending refl refl
+  gives = gives-by (may_send_information n.terms (plain n.link)) n.link.pending refl refl
 
 -- An end, m, receives the first frame of the other's way.
 pub record Took (n m n' m' : End) : Type 0 where

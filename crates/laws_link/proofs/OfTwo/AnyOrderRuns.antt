@@ -1,6 +1,5 @@
 -- Runs of turns in any order, and where they end.
-use Rattle.laws_link.proofs.Vocabulary.{◌≡◌, ℕ, suc, ◌+◌, ◌≤◌, false, List, [], ◌∷◌, length, take, refl, sym, ap, subst, ◌∙◌, arith, nat_lt, take-length, End, Ends, Act, sends, receives, Doing, at_near, at_far, acting, turned, doing, doing_all, HasNothingToSend, IsReady, IsTaken, HasArrived, IsTurnOf, IsTurn, AreTurns, IsStill, weight_at, weight}
-use Rattle.model_link.specs.Offers
+use Rattle.laws_link.proofs.Vocabulary.{◌≡◌, ℕ, suc, ◌+◌, ◌≤◌, false, List, [], ◌∷◌, length, take, refl, sym, ap, subst, ◌∙◌, arith, nat_lt, take-length, End, Ends, Act, sends, receives, Doing, at_near, at_far, acting, turned, doing, doing_all, HasNothingToSend, IsReady, IsTaken, HasArrived, IsTurnOf, IsTurn, AreTurns, IsStill, weight_at, weight, may_send_information}
 use Rattle.laws_link.proofs.OfTwo.Plain.{plain}
 use Rattle.laws_link.proofs.OfTwo.Halves.{all-acknowledged}
 use Rattle.laws_link.proofs.OfTwo.Arriving.{nothing-unsent}
@@ -127,7 +126,7 @@ module _ (n m : End) (hn : Steady n) (there : Direction n m) (back : Direction m
   arrived-one : (cs : List (List ℕ)) → n.link.contents ≡ cs → HasArrived cs n m
   arrived-one cs kept =
       let all-sent : n.link.a ≡ n.link.s = by-lanes.1 ∙ by-lanes.0 in
-      let may : Offers.may_send_information n.terms (plain n.link) ≡ false = subst (λ x. Offers.may_send_information n.terms x.link ≡ false) (is-steady n hn) rn.information in
+      let may : may_send_information n.terms (plain n.link) ≡ false = subst (λ x. may_send_information n.terms x.link ≡ false) (is-steady n hn) rn.information in
       let ready : IsReady n = record { ranges = hn.ranges; sound = hn.sound; state = hn.state; peer_busy = hn.peer_busy; own_busy = hn.own_busy; waiting = hn.waiting; way = en } in
       let none : length n.link.contents ≤ n.link.s = nothing-unsent n ready all-sent may in
       let most : n.link.s ≤ length cs = subst (λ xs. n.link.s ≤ length xs) kept hn.sound.accepted in

@@ -1,6 +1,5 @@
 -- Half a round after another, until all contents have arrived.
-use Rattle.laws_link.proofs.Vocabulary.{◌≡◌, ℕ, zero, suc, ◌+◌, ◌-◌, ◌≤◌, Bool, true, false, ◌&&◌, List, length, take, refl, sym, ap, subst, ◌∙◌, ◌⊎◌, inl, inr, true≢false, arith, nat_lt, lt-ltb, le-ltb, ltb-false, and_right, take-length, End, Ends, IsReady, IsTaken, HasUnsent, HasArrived, rounds}
-use Rattle.model_link.specs.Offers
+use Rattle.laws_link.proofs.Vocabulary.{◌≡◌, ℕ, zero, suc, ◌+◌, ◌-◌, ◌≤◌, Bool, true, false, ◌&&◌, List, length, take, refl, sym, ap, subst, ◌∙◌, ◌⊎◌, inl, inr, true≢false, arith, nat_lt, lt-ltb, le-ltb, ltb-false, and_right, take-length, End, Ends, IsReady, IsTaken, HasUnsent, HasArrived, rounds, may_send_information}
 use Rattle.laws_link.proofs.OfTwo.Plain.{plain}
 use Rattle.laws_link.proofs.OfTwo.Halves.{One, Nothing, giver_of, taker_of, moves, ready-giver, ready-taker, takes, taken}
 
@@ -18,7 +17,7 @@ pub record Turn (v w : ℕ) (cn cm : List (List ℕ)) (n m : End) : Type 0 where
   pub left_n : length n.link.contents ≤ n.link.s + w
 
 -- With the window open an end that may send no I-frame has nothing unsent.
-pub nothing-unsent : (n : End) → IsReady n → n.link.a ≡ n.link.s → Offers.may_send_information n.terms (plain n.link) ≡ false → length n.link.contents ≤ n.link.s
+pub nothing-unsent : (n : End) → IsReady n → n.link.a ≡ n.link.s → may_send_information n.terms (plain n.link) ≡ false → length n.link.contents ≤ n.link.s
 nothing-unsent n h open_ may = by-test (nat_lt n.link.s (length n.link.contents)) refl
   where
     window : nat_lt (n.link.s - n.link.a) n.terms.k ≡ true

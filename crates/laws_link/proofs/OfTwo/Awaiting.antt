@@ -1,12 +1,5 @@
 -- In state 7 T200 runs only where something is awaited: each row, and each event.
-use Rattle.laws_link.proofs.Vocabulary.{◌≡◌, ◌≢◌, ◌⊎◌, inl, inr, ℕ, ◌+◌, ◌≤◌, ◌==◌, ◌&&◌, nat_lt, Bool, true, false, cond, List, [], ◌∷◌, Option, None, Some, refl, sym, ap, ◌∙◌, arith, true≢false, eq-eqb, ltb-false, Seq, named, Control, Information, ReceiveReady, ReceiveNotReady, Reject, Sabme, Disc, Ui, Ua, Dm, Frmr, Xid, ErrorCode, Refusal, State, TeiAssigned, AwaitingEstablishment, AwaitingRelease, Established, TimerRecovery, LinkTimer, T200, T203, ControlFrame, Terms, Link, frame, undefined, wrong_size, overlong, Request, Establish, Release, Data, Event, received, expired, requested, offer, cleared, Course, Step, begun, ◌then◌, nothing, runs, frame_in_4, frame_in_5, frame_in_6, Leads, then_leads, bit_leads, named-within, both_ways}
-use Rattle.model_link.specs.Words
-use Rattle.model_link.specs.MultipleFrame
-use Rattle.model_link.specs.Established
-use Rattle.model_link.specs.TimerRecovery
-use Rattle.model_link.specs.Requests
-use Rattle.model_link.specs.Offers
-use Rattle.model_link.specs.Machine
+use Rattle.laws_link.proofs.Vocabulary.{◌≡◌, ◌≢◌, ◌⊎◌, inl, inr, ℕ, ◌+◌, ◌≤◌, ◌==◌, ◌&&◌, nat_lt, Bool, true, false, cond, List, [], ◌∷◌, Option, None, Some, refl, sym, ap, ◌∙◌, arith, true≢false, eq-eqb, ltb-false, Seq, named, Control, Information, ReceiveReady, ReceiveNotReady, Reject, Sabme, Disc, Ui, Ua, Dm, Frmr, Xid, ErrorCode, Refusal, State, TeiAssigned, AwaitingEstablishment, AwaitingRelease, Established, TimerRecovery, LinkTimer, T200, T203, ControlFrame, Terms, Link, frame, undefined, wrong_size, overlong, Request, Establish, Release, Data, Event, received, expired, requested, offer, cleared, Course, Step, begun, ◌then◌, nothing, runs, frame_in_4, frame_in_5, frame_in_6, Leads, then_leads, bit_leads, named-within, both_ways, acknowledge, answer, by_number, error, peer_busy_is, re_establish, start, unit_data, answered, contents_in_7_8, failed, is_final, supervisory, ua_in_7_8, acknowledged_by_information_in_7, acknowledged_by_rej_in_7, acknowledged_by_rnr_in_7, acknowledged_in_7, frame_in_7, unsolicited, acknowledged_in_8, frame_in_8, particulars_in_8, solicited, granted, refusal, release_in, is_awaiting_acknowledgement, is_established, may_send_information, offer_among, with_one_sent, course, expired_in, frame_in, is_running, malformed_in}
 use Rattle.laws_link.proofs.OfTwo.Heeding.{On, at_state, words}
 
 -- the terminal is taken for busy, or an I-frame is outstanding
@@ -27,16 +20,16 @@ At here c = c.link.state ≡ here
 other-timer : Some T203 ≡ Some T200 → ⊥
 other-timer e = true≢false (sym (ap (runs T200) e))
 
-other-state : (here : State) → Offers.is_established here ≡ false → here ≡ Established → ⊥
-other-state here down is = true≢false (sym (ap Offers.is_established is) ∙ down)
+other-state : (here : State) → is_established here ≡ false → here ≡ Established → ⊥
+other-state here down is = true≢false (sym (ap is_established is) ∙ down)
 
 t203-runs : (state : State) (busy : Bool) (a s : ℕ) → Awaits state (Some T203) busy a s
 t203-runs state busy a s is e = absurd (other-timer e)
 
-elsewhere : (here : State) → Offers.is_established here ≡ false → (running : Option LinkTimer) (busy : Bool) (a s : ℕ) → Awaits here running busy a s
+elsewhere : (here : State) → is_established here ≡ false → (running : Option LinkTimer) (busy : Bool) (a s : ℕ) → Awaits here running busy a s
 elsewhere here down running busy a s is e = absurd (other-state here down is)
 
-stays-elsewhere : (here : State) → Offers.is_established here ≡ false → (state : State) → state ≡ here → (running : Option LinkTimer) (busy : Bool) (a s : ℕ) → Awaits state running busy a s
+stays-elsewhere : (here : State) → is_established here ≡ false → (state : State) → state ≡ here → (running : Option LinkTimer) (busy : Bool) (a s : ℕ) → Awaits state running busy a s
 stays-elsewhere here down state at running busy a s is e = absurd (other-state here down (sym at ∙ is))
 
 unequal : (a b : ℕ) → (a == b) ≡ false → a ≢ b
@@ -48,63 +41,63 @@ any-then f x = record { leads = λ c h. x.leads (f c) tt }
 
 -- by the N(R)
 number : {P : Course → Type 0} (t : Terms) (nr : Seq) (f : ℕ → Step) → ((n : ℕ) (c : Course) → P c → c.link.a ≤ n → Awaiting (f n c))
-    → Leads P (Words.by_number t nr f) Awaiting
+    → Leads P (by_number t nr f) Awaiting
 number {P} t nr f x = record { leads = λ c h. go c h (named c.link.a c.link.s nr) refl }
   where
     go : (c : Course) → P c → (o : Option ℕ) → named c.link.a c.link.s nr ≡ o
-        → Awaiting (elim o [ None ↦ (Words.error t ErrorCode.J then Words.re_establish t) c | Some n ↦ f n c ])
+        → Awaiting (elim o [ None ↦ (error t ErrorCode.J then re_establish t) c | Some n ↦ f n c ])
     go c h None e = record { holds = elsewhere AwaitingEstablishment refl _ _ _ _ }
     go c h (Some n) e = x n c h (named-within c.link.a c.link.s n nr e).0
 
 -- state 7
-acknowledged-7 : (n : ℕ) (c : Course) → c.link.a ≤ n → Awaiting (Established.acknowledged_in_7 n c)
+acknowledged-7 : (n : ℕ) (c : Course) → c.link.a ≤ n → Awaiting (acknowledged_in_7 n c)
 acknowledged-7 n c from = go (n == c.link.s) refl (nat_lt c.link.a n) refl
   where
     go : (all : Bool) → (n == c.link.s) ≡ all → (more : Bool) → nat_lt c.link.a n ≡ more
-        → Awaiting (cond all ((Words.acknowledge n then Words.start T203) c) (cond more ((Words.acknowledge n then Words.start T200) c) c))
+        → Awaiting (cond all ((acknowledge n then start T203) c) (cond more ((acknowledge n then start T200) c) c))
     go true is more e = record { holds = t203-runs _ _ _ _ }
     go false is true e = record { holds = λ at timer. inr (unequal n c.link.s is) }
     go false is false e =
         let same : c.link.a ≡ n = omega (arith, from, ltb-false c.link.a n e) in
         record { holds = λ at timer. inr (λ x. unequal n c.link.s is (sym same ∙ x)) }
 
-information-7 : (n : ℕ) (c : Course) → c.link.a ≤ n → Awaiting (Established.acknowledged_by_information_in_7 n c)
+information-7 : (n : ℕ) (c : Course) → c.link.a ≤ n → Awaiting (acknowledged_by_information_in_7 n c)
 information-7 n c from = go c.link.peer_busy refl
   where
-    go : (b : Bool) → c.link.peer_busy ≡ b → Awaiting (cond b (Words.acknowledge n c) (Established.acknowledged_in_7 n c))
+    go : (b : Bool) → c.link.peer_busy ≡ b → Awaiting (cond b (acknowledge n c) (acknowledged_in_7 n c))
     go true e = record { holds = λ at timer. inl e }
     go false e = acknowledged-7 n c from
 
 abbrev Busy : Course → Type 0
 Busy c = c.link.peer_busy ≡ true
 
-rnr-7 : (n : ℕ) (c : Course) → Busy c → Awaiting (Established.acknowledged_by_rnr_in_7 n c)
+rnr-7 : (n : ℕ) (c : Course) → Busy c → Awaiting (acknowledged_by_rnr_in_7 n c)
 rnr-7 n c busy = record { holds = λ at timer. inl busy }
 
 -- a row leaves the terminal busy, or the state
 module _ (t : Terms) where
-  answered-busy : (b pf : Bool) → Leads Busy (MultipleFrame.answered t b pf) Busy
-  answered-busy b pf = bit_leads {f = Words.answer t} {g = nothing} (b && pf) (record { leads = λ c h. h }) (record { leads = λ c h. h })
+  answered-busy : (b pf : Bool) → Leads Busy (answered t b pf) Busy
+  answered-busy b pf = bit_leads {f = answer t} {g = nothing} (b && pf) (record { leads = λ c h. h }) (record { leads = λ c h. h })
 
-  unsolicited-busy : (f : Bool) → Leads Busy (Established.unsolicited t f) Busy
-  unsolicited-busy f = bit_leads {f = Words.error t ErrorCode.A} {g = nothing} f (record { leads = λ c h. h }) (record { leads = λ c h. h })
+  unsolicited-busy : (f : Bool) → Leads Busy (unsolicited t f) Busy
+  unsolicited-busy f = bit_leads {f = error t ErrorCode.A} {g = nothing} f (record { leads = λ c h. h }) (record { leads = λ c h. h })
 
-  answered-at : (here : State) (b pf : Bool) → Leads (At here) (MultipleFrame.answered t b pf) (At here)
-  answered-at here b pf = bit_leads {f = Words.answer t} {g = nothing} (b && pf) (record { leads = λ c h. h }) (record { leads = λ c h. h })
+  answered-at : (here : State) (b pf : Bool) → Leads (At here) (answered t b pf) (At here)
+  answered-at here b pf = bit_leads {f = answer t} {g = nothing} (b && pf) (record { leads = λ c h. h }) (record { leads = λ c h. h })
 
-  contents-on : (here : State) (ns : Seq) (p : Bool) (octets : List ℕ) → Leads (On (at_state here)) (MultipleFrame.contents_in_7_8 t ns p octets) (On (at_state here))
+  contents-on : (here : State) (ns : Seq) (p : Bool) (octets : List ℕ) → Leads (On (at_state here)) (contents_in_7_8 t ns p octets) (On (at_state here))
   contents-on here ns p octets = search words depth 12 fits 4000
 
-  contents-at : (here : State) (ns : Seq) (p : Bool) (octets : List ℕ) → Leads (At here) (MultipleFrame.contents_in_7_8 t ns p octets) (At here)
+  contents-at : (here : State) (ns : Seq) (p : Bool) (octets : List ℕ) → Leads (At here) (contents_in_7_8 t ns p octets) (At here)
   contents-at here ns p octets = record { leads = λ c h. ((contents-on here ns p octets).leads c (record { holds = h })).holds }
 
-  failed-ends : {P : Course → Type 0} (e : ErrorCode) → Leads P (MultipleFrame.failed t e) Awaiting
+  failed-ends : {P : Course → Type 0} (e : ErrorCode) → Leads P (failed t e) Awaiting
   failed-ends e = record { leads = λ c h. record { holds = elsewhere AwaitingEstablishment refl _ _ _ _ } }
 
-  unit-ends : (octets : List ℕ) → Leads Awaiting (Words.unit_data t octets) Awaiting
+  unit-ends : (octets : List ℕ) → Leads Awaiting (unit_data t octets) Awaiting
   unit-ends octets = bit_leads _ (record { leads = λ c h. record { holds = h.holds } }) (record { leads = λ c h. record { holds = h.holds } })
 
-  ua-ends : (f : Bool) → Leads Awaiting (MultipleFrame.ua_in_7_8 t f) Awaiting
+  ua-ends : (f : Bool) → Leads Awaiting (ua_in_7_8 t f) Awaiting
   ua-ends f = bit_leads f (record { leads = λ c h. record { holds = h.holds } }) (record { leads = λ c h. record { holds = h.holds } })
 
   in-4 : (octets : List ℕ) (control : Control) → Leads Awaiting (frame_in_4 t octets control) Awaiting
@@ -125,19 +118,19 @@ module _ (t : Terms) where
   in-6 octets (Dm true) = record { leads = λ c h. record { holds = elsewhere TeiAssigned refl _ _ _ _ } }
   in-6 octets other = record { leads = λ c h. record { holds = h.holds } }
 
-  in-7 : (b : Bool) (octets : List ℕ) (control : Control) → Leads Awaiting (Established.frame_in_7 t b octets control) Awaiting
+  in-7 : (b : Bool) (octets : List ℕ) (control : Control) → Leads Awaiting (frame_in_7 t b octets control) Awaiting
   in-7 b octets (Information ns nr p) =
       bit_leads _ (failed-ends ErrorCode.O)
-      (any-then (MultipleFrame.contents_in_7_8 t ns p octets) (number {P = Any} t nr Established.acknowledged_by_information_in_7 (λ n c h from. information-7 n c from)))
+      (any-then (contents_in_7_8 t ns p octets) (number {P = Any} t nr acknowledged_by_information_in_7 (λ n c h from. information-7 n c from)))
   in-7 b octets (ReceiveReady nr pf) =
-      any-then (Words.peer_busy_is false) (any-then (MultipleFrame.answered t b pf) (any-then (Established.unsolicited t (MultipleFrame.is_final b pf))
-      (number {P = Any} t nr Established.acknowledged_in_7 (λ n c h from. acknowledged-7 n c from))))
+      any-then (peer_busy_is false) (any-then (answered t b pf) (any-then (unsolicited t (is_final b pf))
+      (number {P = Any} t nr acknowledged_in_7 (λ n c h from. acknowledged-7 n c from))))
   in-7 b octets (ReceiveNotReady nr pf) =
-      then_leads {Q = Busy} {f = Words.peer_busy_is true} (record { leads = λ c h. refl }) (then_leads {Q = Busy} (answered-busy b pf) (then_leads {Q = Busy} (unsolicited-busy (MultipleFrame.is_final b pf))
-      (number {P = Busy} t nr Established.acknowledged_by_rnr_in_7 (λ n c h from. rnr-7 n c h))))
+      then_leads {Q = Busy} {f = peer_busy_is true} (record { leads = λ c h. refl }) (then_leads {Q = Busy} (answered-busy b pf) (then_leads {Q = Busy} (unsolicited-busy (is_final b pf))
+      (number {P = Busy} t nr acknowledged_by_rnr_in_7 (λ n c h from. rnr-7 n c h))))
   in-7 b octets (Reject nr pf) =
-      any-then (Words.peer_busy_is false) (any-then (MultipleFrame.answered t b pf) (any-then (Established.unsolicited t (MultipleFrame.is_final b pf))
-      (number {P = Any} t nr Established.acknowledged_by_rej_in_7 (λ n c h from. record { holds = t203-runs _ _ _ _ }))))
+      any-then (peer_busy_is false) (any-then (answered t b pf) (any-then (unsolicited t (is_final b pf))
+      (number {P = Any} t nr acknowledged_by_rej_in_7 (λ n c h from. record { holds = t203-runs _ _ _ _ }))))
   in-7 b octets (Sabme p) = record { leads = λ c h. record { holds = t203-runs _ _ _ _ } }
   in-7 b octets (Disc p) = record { leads = λ c h. record { holds = elsewhere TeiAssigned refl _ _ _ _ } }
   in-7 b octets (Ua f) = ua-ends f
@@ -150,38 +143,38 @@ module _ (t : Terms) where
   at-8 : {f : Step} → Leads (At TimerRecovery) f (At TimerRecovery) → Leads (At TimerRecovery) f Awaiting
   at-8 {f} x = record { leads = λ c h. record { holds = stays-elsewhere TimerRecovery refl (f c).link.state (x.leads c h) _ _ _ _ } }
 
-  recovers : (final : Bool) (n : ℕ) → Leads (At TimerRecovery) (TimerRecovery.acknowledged_in_8 T203 final n) Awaiting
+  recovers : (final : Bool) (n : ℕ) → Leads (At TimerRecovery) (acknowledged_in_8 T203 final n) Awaiting
   recovers final n = bit_leads final (record { leads = λ c h. record { holds = t203-runs _ _ _ _ } }) (at-8 (record { leads = λ c h. h }))
 
   abbrev BusyAt : State → Course → Type 0
   BusyAt here c = (c.link.state ≡ here) × (c.link.peer_busy ≡ true)
 
-  recovers-busy : (final : Bool) (n : ℕ) → Leads (BusyAt TimerRecovery) (TimerRecovery.acknowledged_in_8 T200 final n) Awaiting
+  recovers-busy : (final : Bool) (n : ℕ) → Leads (BusyAt TimerRecovery) (acknowledged_in_8 T200 final n) Awaiting
   recovers-busy final n =
       bit_leads final (record { leads = λ c h. record { holds = λ at timer. inl h.1 } })
       (record { leads = λ c h. record { holds = stays-elsewhere TimerRecovery refl c.link.state h.0 _ _ _ _ } })
 
   supervisory-8 : (busy b pf : Bool) (nr : Seq) → Leads (At TimerRecovery)
-      (MultipleFrame.supervisory t (TimerRecovery.particulars_in_8 t) busy b pf nr (TimerRecovery.acknowledged_in_8 T203)) Awaiting
+      (supervisory t (particulars_in_8 t) busy b pf nr (acknowledged_in_8 T203)) Awaiting
   supervisory-8 busy b pf nr =
-      let final = MultipleFrame.is_final b pf in
-      then_leads {Q = At TimerRecovery} {f = Words.peer_busy_is busy} (record { leads = λ c h. h }) (then_leads {Q = At TimerRecovery} (answered-at TimerRecovery b pf)
-      (then_leads {Q = At TimerRecovery} {f = TimerRecovery.solicited final} (record { leads = λ c h. h })
-      (number t nr (TimerRecovery.acknowledged_in_8 T203 final) (λ n c h from. (recovers final n).leads c h))))
+      let final = is_final b pf in
+      then_leads {Q = At TimerRecovery} {f = peer_busy_is busy} (record { leads = λ c h. h }) (then_leads {Q = At TimerRecovery} (answered-at TimerRecovery b pf)
+      (then_leads {Q = At TimerRecovery} {f = solicited final} (record { leads = λ c h. h })
+      (number t nr (acknowledged_in_8 T203 final) (λ n c h from. (recovers final n).leads c h))))
 
-  answered-busy-at : (here : State) (b pf : Bool) → Leads (BusyAt here) (MultipleFrame.answered t b pf) (BusyAt here)
-  answered-busy-at here b pf = bit_leads {f = Words.answer t} {g = nothing} (b && pf) (record { leads = λ c h. h }) (record { leads = λ c h. h })
+  answered-busy-at : (here : State) (b pf : Bool) → Leads (BusyAt here) (answered t b pf) (BusyAt here)
+  answered-busy-at here b pf = bit_leads {f = answer t} {g = nothing} (b && pf) (record { leads = λ c h. h }) (record { leads = λ c h. h })
 
-  in-8 : (b : Bool) (octets : List ℕ) (control : Control) → Leads (At TimerRecovery) (TimerRecovery.frame_in_8 t b octets control) Awaiting
+  in-8 : (b : Bool) (octets : List ℕ) (control : Control) → Leads (At TimerRecovery) (frame_in_8 t b octets control) Awaiting
   in-8 b octets (Information ns nr p) =
       bit_leads _ (failed-ends ErrorCode.O)
-      (then_leads (contents-at TimerRecovery ns p octets) (number t nr Words.acknowledge (λ n c h from. record { holds = stays-elsewhere TimerRecovery refl c.link.state h _ _ _ _ })))
+      (then_leads (contents-at TimerRecovery ns p octets) (number t nr acknowledge (λ n c h from. record { holds = stays-elsewhere TimerRecovery refl c.link.state h _ _ _ _ })))
   in-8 b octets (ReceiveReady nr pf) = supervisory-8 false b pf nr
   in-8 b octets (ReceiveNotReady nr pf) =
-      let final = MultipleFrame.is_final b pf in
-      then_leads {Q = BusyAt TimerRecovery} {f = Words.peer_busy_is true} (record { leads = λ c h. (h, refl) }) (then_leads {Q = BusyAt TimerRecovery} (answered-busy-at TimerRecovery b pf)
-      (then_leads {Q = BusyAt TimerRecovery} {f = TimerRecovery.solicited final} (record { leads = λ c h. h })
-      (number t nr (TimerRecovery.acknowledged_in_8 T200 final) (λ n c h from. (recovers-busy final n).leads c h))))
+      let final = is_final b pf in
+      then_leads {Q = BusyAt TimerRecovery} {f = peer_busy_is true} (record { leads = λ c h. (h, refl) }) (then_leads {Q = BusyAt TimerRecovery} (answered-busy-at TimerRecovery b pf)
+      (then_leads {Q = BusyAt TimerRecovery} {f = solicited final} (record { leads = λ c h. h })
+      (number t nr (acknowledged_in_8 T200 final) (λ n c h from. (recovers-busy final n).leads c h))))
   in-8 b octets (Reject nr pf) = supervisory-8 false b pf nr
   in-8 b octets (Sabme p) = record { leads = λ c h. record { holds = t203-runs _ _ _ _ } }
   in-8 b octets (Disc p) = record { leads = λ c h. record { holds = elsewhere TeiAssigned refl _ _ _ _ } }
@@ -197,19 +190,19 @@ module _ (t : Terms) (l : Link) (h : Awaits l.state l.running l.peer_busy l.a l.
   before : Awaiting (begun l)
   before = record { holds = h }
 
-  frames : (here : State) → l.state ≡ here → (b : Bool) (octets : List ℕ) (control : Control) → Awaiting (Machine.frame_in here t b octets control (begun l))
+  frames : (here : State) → l.state ≡ here → (b : Bool) (octets : List ℕ) (control : Control) → Awaiting (frame_in here t b octets control (begun l))
   frames TeiAssigned e b octets control = (in-4 t octets control).leads (begun l) before
   frames AwaitingEstablishment e b octets control = (in-5 t octets control).leads (begun l) before
   frames AwaitingRelease e b octets control = (in-6 t octets control).leads (begun l) before
   frames Established e b octets control = (in-7 t b octets control).leads (begun l) before
   frames TimerRecovery e b octets control = (in-8 t b octets control).leads (begun l) e
 
-  malformed : (here : State) (e : ErrorCode) → Awaiting (Machine.malformed_in here t e (begun l))
+  malformed : (here : State) (e : ErrorCode) → Awaiting (malformed_in here t e (begun l))
   malformed Established e = (failed-ends t {P = Any} e).leads (begun l) tt
   malformed TimerRecovery e = (failed-ends t {P = Any} e).leads (begun l) tt
   malformed other e = record { holds = h }
 
-  expiries : (here : State) → l.state ≡ here → (timer : LinkTimer) → Awaiting (Machine.expired_in here timer t (begun l))
+  expiries : (here : State) → l.state ≡ here → (timer : LinkTimer) → Awaiting (expired_in here timer t (begun l))
   expiries TeiAssigned e timer = before
   expiries AwaitingEstablishment e T200 =
       both_ways Awaiting (nat_lt l.repeats t.n200) _ _ (record { holds = stays-elsewhere AwaitingEstablishment refl l.state e _ _ _ _ })
@@ -225,19 +218,19 @@ module _ (t : Terms) (l : Link) (h : Awaits l.state l.running l.peer_busy l.a l.
       ((failed-ends t {P = Any} ErrorCode.I).leads (begun l) tt)
   expiries TimerRecovery e T203 = before
 
-  releases : (here : State) → Awaiting (Requests.release_in here t (begun l))
+  releases : (here : State) → Awaiting (release_in here t (begun l))
   releases TeiAssigned = record { holds = h }
   releases Established = record { holds = elsewhere AwaitingRelease refl _ _ _ _ }
   releases TimerRecovery = record { holds = elsewhere AwaitingRelease refl _ _ _ _ }
   releases other = before
 
-  grants : (request : Request) → Awaiting (Requests.granted t request (begun l))
+  grants : (request : Request) → Awaiting (granted t request (begun l))
   grants Establish = record { holds = elsewhere AwaitingEstablishment refl _ _ _ _ }
   grants Release = releases l.state
   grants (Data octets) = record { holds = h }
   grants other = both_ways Awaiting l.own_busy _ _ (record { holds = h }) (record { holds = h })
 
-  asked : (request : Request) (o : Option Refusal) → Awaiting (elim o [ None ↦ Requests.granted t request (begun l) | Some _ ↦ begun l ])
+  asked : (request : Request) (o : Option Refusal) → Awaiting (elim o [ None ↦ granted t request (begun l) | Some _ ↦ begun l ])
   asked request None = grants request
   asked request (Some w) = before
 
@@ -245,20 +238,20 @@ module _ (t : Terms) (l : Link) (h : Awaits l.state l.running l.peer_busy l.a l.
   one-more : l.a ≢ l.s + 1
   one-more e = omega (arith, ordered, e)
 
-  offers : (ws : List ControlFrame) → Awaiting (Offers.offer_among t ws (begun l))
+  offers : (ws : List ControlFrame) → Awaiting (offer_among t ws (begun l))
   offers (f ∷ fs) = record { holds = h }
   offers [] =
-      both_ways Awaiting (Offers.may_send_information t l) _ _
-      (both_ways Awaiting (Offers.is_awaiting_acknowledgement (Offers.with_one_sent l)) _ _
+      both_ways Awaiting (may_send_information t l) _ _
+      (both_ways Awaiting (is_awaiting_acknowledgement (with_one_sent l)) _ _
       (record { holds = λ at timer. inr one-more }) (record { holds = λ at timer. inr one-more }))
       (both_ways Awaiting l.pending _ _ (record { holds = h }) (record { holds = h }))
 
-  pub event-awaits : (e : Event) → Awaiting (Machine.course t e l)
+  pub event-awaits : (e : Event) → Awaiting (course t e l)
   event-awaits (received (frame f)) = frames l.state refl f.address.command f.info f.control
   event-awaits (received undefined) = malformed l.state ErrorCode.L
   event-awaits (received wrong_size) = malformed l.state ErrorCode.N
   event-awaits (received overlong) = malformed l.state ErrorCode.O
-  event-awaits (expired timer) = both_ways Awaiting (Machine.is_running timer l) _ _ (expiries l.state refl timer) before
-  event-awaits (requested request full) = asked request (Requests.refusal t l full request)
+  event-awaits (expired timer) = both_ways Awaiting (is_running timer l) _ _ (expiries l.state refl timer) before
+  event-awaits (requested request full) = asked request (refusal t l full request)
   event-awaits offer = offers l.waiting
   event-awaits cleared = record { holds = elsewhere TeiAssigned refl _ _ _ _ }

@@ -1,9 +1,5 @@
 -- Own busy begins at one of two ends that are ready: RNR goes to the other, and then what the busy end gives arrives.
-use Rattle.laws_link.proofs.Vocabulary.{◌≡◌, ℕ, suc, ◌+◌, ◌-◌, ◌<◌, ◌≤◌, Bool, true, false, cond, List, [], ◌∷◌, ◌++◌, length, take, Option, Some, refl, sym, ap, subst, ◌∙◌, append-nil, arith, nat_lt, slice_get, unwrap_or, lt-ltb, le-ltb, ltb-true, and_parts, seq, named, LinkTimer, T200, ControlFrame, Terms, Link, frame, received, requested, SetBusy, Course, begun, End, Ends, with_link, with_first_of, with_first_lost, sound-after, IsReady, IsTaken, HasUnsent, rounds, GetsThrough, with_near_busy, with_far_busy, ErrorCode, State}
-use Rattle.model_link.specs.Words
-use Rattle.model_link.specs.MultipleFrame
-use Rattle.model_link.specs.Established
-use Rattle.model_link.specs.Offers
+use Rattle.laws_link.proofs.Vocabulary.{◌≡◌, ℕ, suc, ◌+◌, ◌-◌, ◌<◌, ◌≤◌, Bool, true, false, cond, List, [], ◌∷◌, ◌++◌, length, take, Option, Some, refl, sym, ap, subst, ◌∙◌, append-nil, arith, nat_lt, slice_get, unwrap_or, lt-ltb, le-ltb, ltb-true, and_parts, seq, named, LinkTimer, T200, ControlFrame, Terms, Link, frame, received, requested, SetBusy, Course, begun, End, Ends, with_link, with_first_of, with_first_lost, sound-after, IsReady, IsTaken, HasUnsent, rounds, GetsThrough, with_near_busy, with_far_busy, ErrorCode, State, by_number, failed, acknowledged_by_information_in_7, may_send_information}
 use Rattle.laws_link.proofs.OfTwo.Plain.{plain, plain_end, is_plain, with_information, information_frame, acknowledgement_frame, gives-information, gives-acknowledgement, gives-nothing}
 use Rattle.laws_link.proofs.OfTwo.Halves.{named-number, fits-at}
 use Rattle.laws_link.proofs.OfTwo.Arriving.{near_moves, far_moves}
@@ -30,7 +26,7 @@ module _ (n : End) (ws : List ControlFrame) (a s : ℕ) (p : Bool) (running : Op
   drops : nat_lt n.terms.n201 (length (unwrap_or (slice_get l.contents l.s) [])) ≡ false
       → Heeds n ws x s p ds (with_link (received (frame (information_frame t l))) (in_7_with true false n ws a s p running ds))
   drops fits =
-      subst (λ b. Heeds n ws x s p ds (having (in_7_with true false n ws a s p running ds) (cond b (MultipleFrame.failed n.terms ErrorCode.O here) (Words.by_number n.terms (seq l.r) Established.acknowledged_by_information_in_7 here))))
+      subst (λ b. Heeds n ws x s p ds (having (in_7_with true false n ws a s p running ds) (cond b (failed n.terms ErrorCode.O here) (by_number n.terms (seq l.r) acknowledged_by_information_in_7 here))))
       (sym fits) (ended _ (by-information n.terms (seq l.r) x here names low))
 
   notes : Heeds n ws x s p ds (with_link (received (frame (acknowledgement_frame t l))) (in_7_with true false n ws a s p running ds))
@@ -142,7 +138,7 @@ module _ (u : ℕ) (n m : End) (hn : IsReady n) (hm : IsReady m) (there : IsTake
     plain-first = ap (λ x. near_moves (record { near = x; far = reporting n })) (is_plain m hm)
 
     -- by what the other gives before
-    informs : Offers.may_send_information m.terms (plain m.link) ≡ true → Sounds far_first → FarDone (near_moves far_first)
+    informs : may_send_information m.terms (plain m.link) ≡ true → Sounds far_first → FarDone (near_moves far_first)
     informs may h =
         let parts = and_parts (nat_lt (m.link.s - m.link.a) m.terms.k) (nat_lt m.link.s (length m.link.contents)) may in
         let few : m.link.s - m.link.a < m.terms.k = ltb-true (m.link.s - m.link.a) m.terms.k parts.0 in
@@ -155,19 +151,19 @@ module _ (u : ℕ) (n m : End) (hn : IsReady n) (hm : IsReady m) (there : IsTake
         plain-first ∙ ap giving (gives-information false false m may) ∙ ap (λ y. record { near = record m { link = with_information m.link; way = [] }; far = y }) d.is in
         subst FarDone (sym next) (after-heard n.link.s (m.link.s + 1) false d.running running' (omega arith) (omega arith) (λ less. absurd (omega (arith, less))) (subst Sounds next (sounds-near far_first h)))
 
-    acknowledges : Offers.may_send_information m.terms (plain m.link) ≡ false → m.link.pending ≡ true → Sounds far_first → FarDone (near_moves far_first)
+    acknowledges : may_send_information m.terms (plain m.link) ≡ false → m.link.pending ≡ true → Sounds far_first → FarDone (near_moves far_first)
     acknowledges may owed h =
         let d = notes n (busy_report n.link.r ∷ []) n.link.a n.link.s false n.link.running n.delivered m.terms m.link n.link.s names-s hn.sound.ordered in
         let next : near_moves far_first ≡ far_heard n.link.s m.link.s false d.running m.link.running =
         plain-first ∙ ap giving (gives-acknowledgement false false m may owed) ∙ ap (λ y. record { near = record m { link = record (plain m.link) { pending = false }; way = [] }; far = y }) d.is in
         subst FarDone (sym next) (after-heard n.link.s m.link.s false d.running m.link.running (omega arith) within-m (λ less. absurd (omega (arith, less))) (subst Sounds next (sounds-near far_first h)))
 
-    rests : Offers.may_send_information m.terms (plain m.link) ≡ false → m.link.pending ≡ false → Sounds far_first → FarDone (near_moves far_first)
+    rests : may_send_information m.terms (plain m.link) ≡ false → m.link.pending ≡ false → Sounds far_first → FarDone (near_moves far_first)
     rests may owed h =
         let next : near_moves far_first ≡ far_heard n.link.a m.link.s false n.link.running m.link.running = plain-first ∙ ap giving (gives-nothing false false m may owed) in
         subst FarDone (sym next) (after-heard n.link.a m.link.s false n.link.running m.link.running (omega arith) within-m (λ less. sym owed ∙ there.owed less) (subst Sounds next (sounds-near far_first h)))
 
-    by-flags : (may owed : Bool) → Offers.may_send_information m.terms (plain m.link) ≡ may → m.link.pending ≡ owed → Sounds far_first → FarDone (near_moves far_first)
+    by-flags : (may owed : Bool) → may_send_information m.terms (plain m.link) ≡ may → m.link.pending ≡ owed → Sounds far_first → FarDone (near_moves far_first)
     by-flags true owed e p = informs e
     by-flags false true e p = acknowledges e p
     by-flags false false e p = rests e p
@@ -175,7 +171,7 @@ module _ (u : ℕ) (n m : End) (hn : IsReady n) (hm : IsReady m) (there : IsTake
     pub far-begun : Sounds far_first → Done true n.link.r n.delivered n.link.contents m.link.contents (rounds (u + 2) far_first).far (rounds (u + 2) far_first).near
     far-begun h =
         one-passed (λ e. Done true n.link.r n.delivered n.link.contents m.link.contents e.far e.near) u far_first
-        (by-flags (Offers.may_send_information m.terms (plain m.link)) m.link.pending refl refl h)
+        (by-flags (may_send_information m.terms (plain m.link)) m.link.pending refl refl h)
 
 -- So it is from the request on.
 abbrev pub Begun : End → End → End → End → Type 0

@@ -48,28 +48,11 @@ busy_now = doing_all begun both
 
 pub is-busy : IsBusyItself busy_now.near
 unfolding seq distance_of named reading header_of control_of unnumbered_of supervisory_of after_all doing_all
-is-busy =
-    record {
-      ranges = begins.ranges;
-      sound = sound-all usual begins.ranges (requested SetBusy false ∷ offer ∷ []) up begins.sound;
-      state = refl;
-      peer_busy = refl;
-      own_busy = refl;
-      waiting = refl;
-      way = refl;
-    }
+is-busy = search (begins.ranges, sound-all usual begins.ranges (requested SetBusy false ∷ offer ∷ []) up begins.sound)
 
 pub is-open : IsOpenItself busy_now.far
 unfolding seq distance_of named reading header_of control_of unnumbered_of supervisory_of after_all doing_all
-is-open =
-    record {
-      ranges = begins.ranges;
-      sound = sound-all usual begins.ranges (received (frame (frame_of usual (response (ReceiveNotReady (seq 0) false)))) ∷ []) up begins.sound;
-      state = refl;
-      own_busy = refl;
-      waiting = refl;
-      way = refl;
-    }
+is-open = search (begins.ranges, sound-all usual begins.ranges (received (frame (frame_of usual (response (ReceiveNotReady (seq 0) false)))) ∷ []) up begins.sound)
 
 pub is-taken : IsTaken busy_now.near busy_now.far
 unfolding seq distance_of named reading header_of control_of unnumbered_of supervisory_of after_all doing_all
@@ -95,28 +78,11 @@ dropping theirs own = requested SetBusy false ∷ offer ∷ received (frame (sen
 
 pub near-busy : IsBusyItself near_dropped.near
 unfolding seq distance_of named reading header_of control_of unnumbered_of supervisory_of after_all doing_all
-near-busy =
-    record {
-      ranges = begins.ranges;
-      sound = sound-all usual begins.ranges (dropping 4 1) up begins.sound;
-      state = refl;
-      peer_busy = refl;
-      own_busy = refl;
-      waiting = refl;
-      way = refl;
-    }
+near-busy = search (begins.ranges, sound-all usual begins.ranges (dropping 4 1) up begins.sound)
 
 pub far-open : IsOpenItself near_dropped.far
 unfolding seq distance_of named reading header_of control_of unnumbered_of supervisory_of after_all doing_all
-far-open =
-    record {
-      ranges = begins.ranges;
-      sound = sound-all usual begins.ranges (asks_for 4 ∷ offer ∷ []) up begins.sound;
-      state = refl;
-      own_busy = refl;
-      waiting = refl;
-      way = refl;
-    }
+far-open = search (begins.ranges, sound-all usual begins.ranges (asks_for 4 ∷ offer ∷ []) up begins.sound)
 
 pub near-taken : IsTaken near_dropped.near near_dropped.far
 unfolding seq distance_of named reading header_of control_of unnumbered_of supervisory_of after_all doing_all
@@ -132,28 +98,11 @@ near-unsent = leb-true (length near_dropped.near.link.contents) 1 refl
 
 pub far-busy : IsBusyItself far_dropped.far
 unfolding seq distance_of named reading header_of control_of unnumbered_of supervisory_of after_all doing_all
-far-busy =
-    record {
-      ranges = begins.ranges;
-      sound = sound-all usual begins.ranges (dropping 1 4) up begins.sound;
-      state = refl;
-      peer_busy = refl;
-      own_busy = refl;
-      waiting = refl;
-      way = refl;
-    }
+far-busy = search (begins.ranges, sound-all usual begins.ranges (dropping 1 4) up begins.sound)
 
 pub near-open : IsOpenItself far_dropped.near
 unfolding seq distance_of named reading header_of control_of unnumbered_of supervisory_of after_all doing_all
-near-open =
-    record {
-      ranges = begins.ranges;
-      sound = sound-all usual begins.ranges (asks_for 1 ∷ offer ∷ []) up begins.sound;
-      state = refl;
-      own_busy = refl;
-      waiting = refl;
-      way = refl;
-    }
+near-open = search (begins.ranges, sound-all usual begins.ranges (asks_for 1 ∷ offer ∷ []) up begins.sound)
 
 pub far-taken : IsTaken far_dropped.far far_dropped.near
 unfolding seq distance_of named reading header_of control_of unnumbered_of supervisory_of after_all doing_all

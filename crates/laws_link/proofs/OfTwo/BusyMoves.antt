@@ -1,9 +1,6 @@
 -- An end that is busy itself, and the other, in state 7: one gives its next frame, and the other receives it.
-use Rattle.laws_link.proofs.Vocabulary.{◌≡◌, ℕ, ◌+◌, ◌≤◌, Bool, true, false, cond, ◌==◌, List, [], ◌∷◌, ◌++◌, length, Some, refl, sym, ap, subst, ◌∙◌, ◌⊎◌, inl, inr, append-nil, eq-eqb, arith, nat_lt, slice_get, unwrap_or, option_to_list, ltb-true, le-ltb, and_parts, seq, named, Terms, Link, frame, received, Course, begun, End, with_link, with_sent, with_first_of, with_first_lost, IsTaken, IsBusyItself, IsOpenItself, IsDropped, ErrorCode, State}
-use Rattle.model_link.specs.Words
+use Rattle.laws_link.proofs.Vocabulary.{◌≡◌, ℕ, ◌+◌, ◌≤◌, Bool, true, false, cond, ◌==◌, List, [], ◌∷◌, ◌++◌, length, Some, refl, sym, ap, subst, ◌∙◌, ◌⊎◌, inl, inr, append-nil, eq-eqb, arith, nat_lt, slice_get, unwrap_or, option_to_list, ltb-true, le-ltb, and_parts, seq, named, Terms, Link, frame, received, Course, begun, End, with_link, with_sent, with_first_of, with_first_lost, IsTaken, IsBusyItself, IsOpenItself, IsDropped, ErrorCode, State, by_number, acknowledged_by_information_in_7, acknowledged_in_7, may_send_information}
 use Rattle.model_link.specs.MultipleFrame
-use Rattle.model_link.specs.Established
-use Rattle.model_link.specs.Offers
 use Rattle.laws_link.proofs.OfTwo.Plain.{plain, plain_with, plain_end_with, with_information_with, with_acknowledgement_with, information_frame, acknowledgement_frame, gives-information, gives-acknowledgement, gives-nothing}
 use Rattle.laws_link.proofs.OfTwo.Halves.{named-number, fits-at, all-acknowledged, One, Nothing, giver_of, taker_of}
 use Rattle.laws_link.proofs.OfTwo.Acknowledging.{Acknowledges, by-rr, by-information}
@@ -45,7 +42,7 @@ module _ (m : End) where
     octets = unwrap_or (slice_get l.contents l.s) []
 
     abbrev number : Course → Course
-    number c = Words.by_number m.terms (seq l.r) Established.acknowledged_by_information_in_7 c
+    number c = by_number m.terms (seq l.r) acknowledged_by_information_in_7 c
 
     -- taken
     abbrev here : Course
@@ -82,7 +79,7 @@ module _ (m : End) where
     abbrev told : Course
     told = begun (plain_with own false m.link)
 
-    pub noted : Acknowledges x told (Words.by_number m.terms (seq l.r) Established.acknowledged_in_7 told)
+    pub noted : Acknowledges x told (by_number m.terms (seq l.r) acknowledged_in_7 told)
     noted = by-rr m.terms (seq l.r) x told names low
 
     pub takes-note : with_link (received (frame (acknowledgement_frame t l))) (plain_end_with own false m)
@@ -141,7 +138,7 @@ module _ (n m : End) (hn : IsBusyItself n) (hm : IsOpenItself m) (there : IsTake
       subst (λ w. named n.link.a n.link.s (seq w) ≡ Some n.link.s) (sym there.received) (named-number n.link.a n.link.s n.link.s hn.sound.ordered (omega arith) (omega arith))
 
   -- the busy end gives an I-frame
-  busy-one : Offers.may_send_information n.terms (plain n.link) ≡ true → BusyMoved n m (giver_of n) (taker_of n m)
+  busy-one : may_send_information n.terms (plain n.link) ≡ true → BusyMoved n m (giver_of n) (taker_of n m)
   busy-one may =
       let parts = and_parts (nat_lt _ n.terms.k) (nat_lt n.link.s (length n.link.contents)) may in
       let gives : with_sent n ≡ record n { link = with_information_with true false n.link; way = information_frame n.terms n.link ∷ [] } = ap with_sent is-n ∙ gives-information true false n may in
@@ -165,7 +162,7 @@ module _ (n m : End) (hn : IsBusyItself n) (hm : IsOpenItself m) (there : IsTake
       }))
 
   -- or nothing
-  busy-none : Offers.may_send_information n.terms (plain n.link) ≡ false → BusyMoved n m (giver_of n) (taker_of n m)
+  busy-none : may_send_information n.terms (plain n.link) ≡ false → BusyMoved n m (giver_of n) (taker_of n m)
   busy-none may =
       let gives : with_sent n ≡ record n { link = with_acknowledgement_with true false n.link; way = [] } = ap with_sent is-n ∙ gives-nothing true false n may quiet in
       subst (λ x. BusyMoved n m (with_first_lost x) (with_first_of x.way m)) (sym gives)
@@ -182,15 +179,15 @@ module _ (n m : End) (hn : IsBusyItself n) (hm : IsOpenItself m) (there : IsTake
         moved = inr (record { may = may; sent = refl; received = refl; pending = refl; delivered = refl });
       })
 
-  busy-by : (may : Bool) → Offers.may_send_information n.terms (plain n.link) ≡ may → BusyMoved n m (giver_of n) (taker_of n m)
+  busy-by : (may : Bool) → may_send_information n.terms (plain n.link) ≡ may → BusyMoved n m (giver_of n) (taker_of n m)
   busy-by true e = busy-one e
   busy-by false e = busy-none e
 
   pub busy-moves : BusyMoved n m (giver_of n) (taker_of n m)
-  busy-moves = busy-by (Offers.may_send_information n.terms (plain n.link)) refl
+  busy-moves = busy-by (may_send_information n.terms (plain n.link)) refl
 
   -- the other end gives an I-frame, which is dropped,
-  open-one : Offers.may_send_information m.terms (plain_with false m.link.peer_busy m.link) ≡ true → OpenMoved n m (taker_of m n) (giver_of m)
+  open-one : may_send_information m.terms (plain_with false m.link.peer_busy m.link) ≡ true → OpenMoved n m (taker_of m n) (giver_of m)
   open-one may =
       let gives : with_sent m ≡ record m { link = with_information_with false m.link.peer_busy m.link; way = information_frame m.terms m.link ∷ [] } = ap with_sent is-m ∙ gives-information false m.link.peer_busy m may in
       let fits = le-ltb n.terms.n201 (length (unwrap_or (slice_get m.link.contents m.link.s) [])) (fits-at n.terms.n201 m.link.contents m.link.s back.sizes) in
@@ -215,7 +212,7 @@ module _ (n m : End) (hn : IsBusyItself n) (hm : IsOpenItself m) (there : IsTake
       }))
 
   -- or an acknowledgement,
-  open-note : Offers.may_send_information m.terms (plain_with false m.link.peer_busy m.link) ≡ false → m.link.pending ≡ true → OpenMoved n m (taker_of m n) (giver_of m)
+  open-note : may_send_information m.terms (plain_with false m.link.peer_busy m.link) ≡ false → m.link.pending ≡ true → OpenMoved n m (taker_of m n) (giver_of m)
   open-note may owed =
       let gives : with_sent m ≡ record m { link = with_acknowledgement_with false m.link.peer_busy m.link; way = acknowledgement_frame m.terms m.link ∷ [] } = ap with_sent is-m ∙ gives-acknowledgement false m.link.peer_busy m may owed in
       let takes =
@@ -239,7 +236,7 @@ module _ (n m : End) (hn : IsBusyItself n) (hm : IsOpenItself m) (there : IsTake
       }))
 
   -- or nothing: then nothing of the busy end's is outstanding
-  open-none : Offers.may_send_information m.terms (plain_with false m.link.peer_busy m.link) ≡ false → m.link.pending ≡ false → OpenMoved n m (taker_of m n) (giver_of m)
+  open-none : may_send_information m.terms (plain_with false m.link.peer_busy m.link) ≡ false → m.link.pending ≡ false → OpenMoved n m (taker_of m n) (giver_of m)
   open-none may owed =
       let gives : with_sent m ≡ record m { link = with_acknowledgement_with false m.link.peer_busy m.link; way = [] } = ap with_sent is-m ∙ gives-nothing false m.link.peer_busy m may owed in
       subst (λ x. OpenMoved n m (with_first_of x.way n) (with_first_lost x)) (sym gives)
@@ -259,10 +256,10 @@ module _ (n m : End) (hn : IsBusyItself n) (hm : IsOpenItself m) (there : IsTake
         quiet = refl;
       })
 
-  open-by : (may owed : Bool) → Offers.may_send_information m.terms (plain_with false m.link.peer_busy m.link) ≡ may → m.link.pending ≡ owed → OpenMoved n m (taker_of m n) (giver_of m)
+  open-by : (may owed : Bool) → may_send_information m.terms (plain_with false m.link.peer_busy m.link) ≡ may → m.link.pending ≡ owed → OpenMoved n m (taker_of m n) (giver_of m)
   open-by true owed e p = open-one e
   open-by false true e p = open-note e p
   open-by false false e p = open-none e p
 
   pub open-moves : OpenMoved n m (taker_of m n) (giver_of m)
-  open-moves = open-by (Offers.may_send_information m.terms (plain_with false m.link.peer_busy m.link)) m.link.pending refl refl
+  open-moves = open-by (may_send_information m.terms (plain_with false m.link.peer_busy m.link)) m.link.pending refl refl

@@ -1,7 +1,6 @@
 -- After the loss of all frames, an end that is busy itself and the other, of which each asks or has nothing outstanding:
 -- after a round or two both are in state 7, and what was sent is taken.
-use Rattle.laws_link.proofs.Vocabulary.{◌≡◌, ℕ, suc, ◌+◌, ◌-◌, ◌<◌, ◌≤◌, Bool, true, false, cond, ◌==◌, List, [], ◌∷◌, ◌++◌, length, take, Option, Some, refl, sym, ap, subst, ◌∙◌, eq-eqb, arith, nat_lt, slice_get, unwrap_or, le-ltb, ltb-true, and_parts, seq, named, LinkTimer, T200, T203, IsSound, End, Ends, with_first_of, with_first_lost, HasUnsent}
-use Rattle.model_link.specs.Offers
+use Rattle.laws_link.proofs.Vocabulary.{◌≡◌, ℕ, suc, ◌+◌, ◌-◌, ◌<◌, ◌≤◌, Bool, true, false, cond, ◌==◌, List, [], ◌∷◌, ◌++◌, length, take, Option, Some, refl, sym, ap, subst, ◌∙◌, eq-eqb, arith, nat_lt, slice_get, unwrap_or, le-ltb, ltb-true, and_parts, seq, named, LinkTimer, T200, T203, IsSound, End, Ends, with_first_of, with_first_lost, HasUnsent, may_send_information}
 use Rattle.laws_link.proofs.OfTwo.Plain.{plain, plain_with, plain_end, plain_end_with, with_information_with, gives-information, gives-acknowledgement, gives-nothing}
 use Rattle.laws_link.proofs.OfTwo.Halves.{named-number, fits-at, take-one}
 use Rattle.laws_link.proofs.OfTwo.Arriving.{near_moves, far_moves}
@@ -262,7 +261,7 @@ module _ (u v : ℕ) (cn cm : List (List ℕ)) (n m : End) (there : Between u cn
     abbrev BeganReady : Type 0
     BeganReady = NearReady true (near_moves (far_moves (near_moves other_began)))
 
-    began-information : Offers.may_send_information n.terms (plain_with true false n.link) ≡ true → Sounds other_began → BeganReady
+    began-information : may_send_information n.terms (plain_with true false n.link) ≡ true → Sounds other_began → BeganReady
     began-information may sounds =
         let parts = and_parts (nat_lt (n.link.s - n.link.a) n.terms.k) (nat_lt n.link.s (length n.link.contents)) may in
         let unsent : n.link.s < length n.link.contents = ltb-true n.link.s (length n.link.contents) parts.1 in
@@ -282,7 +281,7 @@ module _ (u v : ℕ) (cn cm : List (List ℕ)) (n m : End) (there : Between u cn
         (ap (λ ds. ds ++ octets ∷ []) (there.delivered ∙ ap (λ i. take i n.link.contents) (sym began-sent)) ∙ take-one n.link.contents n.link.s unsent ∙ ap (λ i. take i n.link.contents) one)
         (λ less. refl) (omega (arith, left)) (subst Sounds next (sounds-near other_began sounds)))
 
-    began-nothing : Offers.may_send_information n.terms (plain_with true false n.link) ≡ false → Sounds other_began → BeganReady
+    began-nothing : may_send_information n.terms (plain_with true false n.link) ≡ false → Sounds other_began → BeganReady
     began-nothing may sounds =
         let next : near_moves other_began ≡ heard m.link.r m.link.a m.link.rejecting bm false n.link.running m.delivered =
         ap (λ x. record { near = with_first_lost x; far = with_first_of x.way (in_8 m (enquiry m.link.r ∷ []) bm m.link.a false m.delivered) }) (gives-nothing true false n may quiet)
@@ -291,12 +290,12 @@ module _ (u v : ℕ) (cn cm : List (List ℕ)) (n m : End) (there : Between u cn
         (heard-near m.link.r m.link.a m.link.rejecting bm false n.link.running m.delivered (names-a m n back) there.low (omega (arith, began-at)) there.delivered
         (λ less. absurd (omega (arith, less, began-at))) there.left (subst Sounds next (sounds-near other_began sounds)))
 
-    began-by : (may : Bool) → Offers.may_send_information n.terms (plain_with true false n.link) ≡ may → Sounds other_began → BeganReady
+    began-by : (may : Bool) → may_send_information n.terms (plain_with true false n.link) ≡ may → Sounds other_began → BeganReady
     began-by true e = began-information e
     began-by false e = began-nothing e
 
     pub other-began : Sounds other_began → BeganReady
-    other-began = began-by (Offers.may_send_information n.terms (plain_with true false n.link)) refl
+    other-began = began-by (may_send_information n.terms (plain_with true false n.link)) refl
 
   -- The busy end asks, far, and the other has nothing outstanding: a round and a half, after which the busy end's turn is as any.
   module _ (bn : Bool) (all : m.link.s ≤ m.link.a) where
@@ -340,7 +339,7 @@ module _ (u v : ℕ) (cn cm : List (List ℕ)) (n m : End) (there : Between u cn
     abbrev giving_far : End → Ends
     giving_far x = record { near = with_first_lost x; far = with_first_of x.way (in_8_with true n (enquiry_with true n.link.r ∷ []) bn n.link.a false n.delivered) }
 
-    noted-information : Offers.may_send_information m.terms (plain m.link) ≡ true → Sounds busy_began → NotedReady
+    noted-information : may_send_information m.terms (plain m.link) ≡ true → Sounds busy_began → NotedReady
     noted-information may sounds =
         let octets = unwrap_or (slice_get m.link.contents m.link.s) [] in
         let running = (with_information_with false false m.link).running in
@@ -352,7 +351,7 @@ module _ (u v : ℕ) (cn cm : List (List ℕ)) (n m : End) (there : Between u cn
         subst (λ e. FarReady true (near_moves (far_moves e))) (sym next)
         (noted-far (m.link.s + 1) m.link.r bn running (names-r n m there) (omega arith) (omega (arith, all)) (subst Sounds next (sounds-near busy_began sounds)))
 
-    noted-note : Offers.may_send_information m.terms (plain m.link) ≡ false → m.link.pending ≡ true → Sounds busy_began → NotedReady
+    noted-note : may_send_information m.terms (plain m.link) ≡ false → m.link.pending ≡ true → Sounds busy_began → NotedReady
     noted-note may owed sounds =
         let next : near_moves busy_began ≡ noted m.link.s m.link.r false m.link.running =
         ap giving_far (gives-acknowledgement false false m may owed)
@@ -361,19 +360,19 @@ module _ (u v : ℕ) (cn cm : List (List ℕ)) (n m : End) (there : Between u cn
         subst (λ e. FarReady true (near_moves (far_moves e))) (sym next)
         (noted-far m.link.s m.link.r false m.link.running (names-r n m there) (omega arith) back.near (subst Sounds next (sounds-near busy_began sounds)))
 
-    noted-nothing : Offers.may_send_information m.terms (plain m.link) ≡ false → m.link.pending ≡ false → Sounds busy_began → NotedReady
+    noted-nothing : may_send_information m.terms (plain m.link) ≡ false → m.link.pending ≡ false → Sounds busy_began → NotedReady
     noted-nothing may owed sounds =
         let next : near_moves busy_began ≡ noted m.link.s n.link.a bn m.link.running = ap giving_far (gives-nothing false false m may owed) in
         subst (λ e. FarReady true (near_moves (far_moves e))) (sym next)
         (noted-far m.link.s n.link.a bn m.link.running (names-a n m there) (omega arith) back.near (subst Sounds next (sounds-near busy_began sounds)))
 
-    noted-by : (may owed : Bool) → Offers.may_send_information m.terms (plain m.link) ≡ may → m.link.pending ≡ owed → Sounds busy_began → NotedReady
+    noted-by : (may owed : Bool) → may_send_information m.terms (plain m.link) ≡ may → m.link.pending ≡ owed → Sounds busy_began → NotedReady
     noted-by true owed e p = noted-information e
     noted-by false true e p = noted-note e p
     noted-by false false e p = noted-nothing e p
 
     pub busy-began : Sounds busy_began → NotedReady
-    busy-began = noted-by (Offers.may_send_information m.terms (plain m.link)) m.link.pending refl refl
+    busy-began = noted-by (may_send_information m.terms (plain m.link)) m.link.pending refl refl
 
   -- Neither asks.
   pub none-asks : (p : Bool) (running running' : Option LinkTimer) → n.link.s ≤ n.link.a

@@ -1,6 +1,5 @@
 -- Turn after turn of an end that is busy itself and of the other, until all contents of the busy end have arrived.
-use Rattle.laws_link.proofs.Vocabulary.{◌≡◌, ℕ, zero, suc, ◌+◌, ◌-◌, ◌<◌, ◌≤◌, Bool, true, false, ◌&&◌, List, [], ◌∷◌, ◌++◌, length, take, Option, refl, sym, ap, subst, ◌∙◌, ◌⊎◌, inl, inr, true≢false, arith, All, nat_lt, slice_get, unwrap_or, lt-ltb, le-ltb, ltb-false, and_right, take-length, Parts, LinkTimer, frame, received, offer, IsInRange, IsSound, End, Ends, with_sent, with_first_of, sound-after, IsTaken, HasUnsent, HasArrived, rounds, IsBusyItself, IsOpenItself, IsDropped, GetsThrough}
-use Rattle.model_link.specs.Offers
+use Rattle.laws_link.proofs.Vocabulary.{◌≡◌, ℕ, zero, suc, ◌+◌, ◌-◌, ◌<◌, ◌≤◌, Bool, true, false, ◌&&◌, List, [], ◌∷◌, ◌++◌, length, take, Option, refl, sym, ap, subst, ◌∙◌, ◌⊎◌, inl, inr, true≢false, arith, All, nat_lt, slice_get, unwrap_or, lt-ltb, le-ltb, ltb-false, and_right, take-length, Parts, LinkTimer, frame, received, offer, IsInRange, IsSound, End, Ends, with_sent, with_first_of, sound-after, IsTaken, HasUnsent, HasArrived, rounds, IsBusyItself, IsOpenItself, IsDropped, GetsThrough, may_send_information}
 use Rattle.laws_link.proofs.OfTwo.Plain.{plain}
 use Rattle.laws_link.proofs.OfTwo.Halves.{take-one, One, Nothing, giver_of, taker_of}
 use Rattle.laws_link.proofs.OfTwo.Arriving.{near_moves, far_moves, no-more}
@@ -132,7 +131,7 @@ first-open u busy r ds cn cm n m h left =
     }
 
 -- with the window open one fewer is left
-nothing-unsent : (n : End) → IsBusyItself n → n.link.a ≡ n.link.s → Offers.may_send_information n.terms (plain n.link) ≡ false → length n.link.contents ≤ n.link.s
+nothing-unsent : (n : End) → IsBusyItself n → n.link.a ≡ n.link.s → may_send_information n.terms (plain n.link) ≡ false → length n.link.contents ≤ n.link.s
 nothing-unsent n h open_ may = by-test (nat_lt n.link.s (length n.link.contents)) refl
   where
     window : nat_lt (n.link.s - n.link.a) n.terms.k ≡ true

@@ -1,9 +1,6 @@
 -- What an event does to a link that stays in states 7 and 8: its numbers, its state, and the kind of frame that waits anew.
-use Rattle.laws_link.proofs.Vocabulary.{◌≡◌, ℕ, ◌+◌, Bool, true, false, cond, IsTrue, List, [], ◌∷◌, ◌++◌, Option, None, Some, refl, sym, subst, ◌∙◌, ◌⊎◌, inl, inr, true≢false, nat_lt, length, eqb-false, Seq, seq, named, seq-value, is_seq, Control, ReceiveReady, ReceiveNotReady, Reject, State, Established, TimerRecovery, LinkTimer, ControlFrame, Terms, Link, is_multiple_frame, Course, begun, Step, ◌then◌, eqb-true, ErrorCode}
-use Rattle.model_link.specs.Words
+use Rattle.laws_link.proofs.Vocabulary.{◌≡◌, ℕ, ◌+◌, Bool, true, false, cond, IsTrue, List, [], ◌∷◌, ◌++◌, Option, None, Some, refl, sym, subst, ◌∙◌, ◌⊎◌, inl, inr, true≢false, nat_lt, length, eqb-false, Seq, seq, named, seq-value, is_seq, Control, ReceiveReady, ReceiveNotReady, Reject, State, Established, TimerRecovery, LinkTimer, ControlFrame, Terms, Link, is_multiple_frame, Course, begun, Step, ◌then◌, eqb-true, ErrorCode, by_number, error, has_room, peer_busy_is, re_establish, ready_to_receive, response, acknowledged_by_information_in_7, acknowledged_by_rej_in_7, acknowledged_in_7, is_all_sent, is_beyond_acknowledged, unsolicited, acknowledged_in_8, solicited}
 use Rattle.model_link.specs.MultipleFrame
-use Rattle.model_link.specs.Established
-use Rattle.model_link.specs.TimerRecovery
 use Rattle.laws_link.proofs.OfTwo.Trains.{Kind, numbered, enquiry, answer, report, rejection, alien, kind_of}
 
 -- Whether a state is timer recovery.
@@ -75,7 +72,7 @@ either P false u v x y = y
 
 -- An N(R) has its effect, or leads out of the states.
 abbrev effected : Terms → (ℕ → Step) → Course → Option ℕ → Course
-effected t f c o = elim o [ None ↦ (Words.error t ErrorCode.J then Words.re_establish t) c | Some n ↦ f n c ]
+effected t f c o = elim o [ None ↦ (error t ErrorCode.J then re_establish t) c | Some n ↦ f n c ]
 
 effect : (P : Link → Type 0) (t : Terms) (f : ℕ → Step) (c : Course) (o : Option ℕ) → ((n : ℕ) → o ≡ Some n → P (f n c).link)
     → IsUpIn (effected t f c o) → P (effected t f c o).link
@@ -83,32 +80,32 @@ effect P t f c None x up = absurd (true≢false (sym up))
 effect P t f c (Some n) x up = x n refl
 
 by-number : (P : Link → Type 0) (t : Terms) (nr : Seq) (f : ℕ → Step) (c : Course) → ((n : ℕ) → named c.link.a c.link.s nr ≡ Some n → P (f n c).link)
-    → IsUpIn (Words.by_number t nr f c) → P (Words.by_number t nr f c).link
+    → IsUpIn (by_number t nr f c) → P (by_number t nr f c).link
 by-number P t nr f c x up = effect P t f c (named c.link.a c.link.s nr) x up
 
 -- The effects.
 same : (c : Course) → Kept c.link c.link
 same c = record { state = refl; s = refl; r = refl; rejecting = refl; waiting = refl }
 
-pub acknowledged-7 : (c : Course) (n : ℕ) → Kept c.link (Established.acknowledged_in_7 n c).link
+pub acknowledged-7 : (c : Course) (n : ℕ) → Kept c.link (acknowledged_in_7 n c).link
 acknowledged-7 c n =
-    either (Kept c.link) (Established.is_all_sent n c.link) _ _ (record { state = refl; s = refl; r = refl; rejecting = refl; waiting = refl })
-    (either (Kept c.link) (Established.is_beyond_acknowledged n c.link) _ _ (record { state = refl; s = refl; r = refl; rejecting = refl; waiting = refl }) (same c))
+    either (Kept c.link) (is_all_sent n c.link) _ _ (record { state = refl; s = refl; r = refl; rejecting = refl; waiting = refl })
+    (either (Kept c.link) (is_beyond_acknowledged n c.link) _ _ (record { state = refl; s = refl; r = refl; rejecting = refl; waiting = refl }) (same c))
 
-pub information-7 : (c : Course) (n : ℕ) → Kept c.link (Established.acknowledged_by_information_in_7 n c).link
+pub information-7 : (c : Course) (n : ℕ) → Kept c.link (acknowledged_by_information_in_7 n c).link
 information-7 c n =
     either (Kept c.link) c.link.peer_busy _ _ (record { state = refl; s = refl; r = refl; rejecting = refl; waiting = refl }) (acknowledged-7 c n)
 
 -- A supervisory frame, up to its N(R).
 module _ (t : Terms) (l : Link) where
   abbrev pub c-7 : Bool → Bool → Bool → Course
-  c-7 busy b pf = (Words.peer_busy_is busy then MultipleFrame.answered t b pf then Established.unsolicited t (MultipleFrame.is_final b pf)) (begun l)
+  c-7 busy b pf = (peer_busy_is busy then MultipleFrame.answered t b pf then unsolicited t (MultipleFrame.is_final b pf)) (begun l)
 
   abbrev pub c-8 : Bool → Bool → Bool → Course
-  c-8 busy b pf = (Words.peer_busy_is busy then MultipleFrame.answered t b pf then TimerRecovery.solicited (MultipleFrame.is_final b pf)) (begun l)
+  c-8 busy b pf = (peer_busy_is busy then MultipleFrame.answered t b pf then solicited (MultipleFrame.is_final b pf)) (begun l)
 
   abbrev ready : Control
-  ready = Words.ready_to_receive true l
+  ready = ready_to_receive true l
 
   kind-of-ready : (own : Bool) → kind_of false (cond own (ReceiveNotReady (seq l.r) true) (ReceiveReady (seq l.r) true)) ≡ answer (seq l.r)
   kind-of-ready true = refl
@@ -116,7 +113,7 @@ module _ (t : Terms) (l : Link) where
 
   -- what waits, after the answer
   answers : (c : Course) (l' : Link) → c.link.state ≡ l.state → c.link.s ≡ l.s → c.link.r ≡ l.r → c.link.rejecting ≡ l.rejecting
-      → c.link.waiting ≡ cond (Words.has_room t l) (l.waiting ++ Words.response ready ∷ []) l.waiting → Kept c.link l' → Went (answer (seq l.r)) l l'
+      → c.link.waiting ≡ cond (has_room t l) (l.waiting ++ response ready ∷ []) l.waiting → Kept c.link l' → Went (answer (seq l.r)) l l'
   answers c l' state s r rejecting waiting k =
       record {
         state = k.state ∙ state;
@@ -125,15 +122,15 @@ module _ (t : Terms) (l : Link) where
         rejecting = k.rejecting ∙ rejecting;
         waiting =
             subst (λ ws. Grown l.waiting ws (answer (seq l.r))) (sym (k.waiting ∙ waiting))
-            (grows (Words.has_room t l) l.waiting (Words.response ready) (answer (seq l.r)) (kind-of-ready l.own_busy));
+            (grows (has_room t l) l.waiting (response ready) (answer (seq l.r)) (kind-of-ready l.own_busy));
       }
 
   pub enquired-7 : (busy : Bool) (nr : Seq) (f : ℕ → Step) → ((c : Course) (n : ℕ) → Kept c.link (f n c).link)
-      → IsUpIn (Words.by_number t nr f (c-7 busy true true)) → Went (answer (seq l.r)) l (Words.by_number t nr f (c-7 busy true true)).link
+      → IsUpIn (by_number t nr f (c-7 busy true true)) → Went (answer (seq l.r)) l (by_number t nr f (c-7 busy true true)).link
   enquired-7 busy nr f x up = by-number (Went (answer (seq l.r)) l) t nr f (c-7 busy true true) (λ n e. answers (c-7 busy true true) _ refl refl refl refl refl (x (c-7 busy true true) n)) up
 
   pub enquired-8 : (busy : Bool) (nr : Seq) (f : ℕ → Step) → ((c : Course) (n : ℕ) → Kept c.link (f n c).link)
-      → IsUpIn (Words.by_number t nr f (c-8 busy true true)) → Went (answer (seq l.r)) l (Words.by_number t nr f (c-8 busy true true)).link
+      → IsUpIn (by_number t nr f (c-8 busy true true)) → Went (answer (seq l.r)) l (by_number t nr f (c-8 busy true true)).link
   enquired-8 busy nr f x up = by-number (Went (answer (seq l.r)) l) t nr f (c-8 busy true true) (λ n e. answers (c-8 busy true true) _ refl refl refl refl refl (x (c-8 busy true true) n)) up
 
   -- nothing is answered
@@ -142,20 +139,20 @@ module _ (t : Terms) (l : Link) where
       record { state = k.state ∙ h.state; s = k.s ∙ h.s; r = k.r ∙ h.r; rejecting = k.rejecting ∙ h.rejecting; waiting = k.waiting ∙ h.waiting }
 
   pub kept-by : (nr : Seq) (f : ℕ → Step) (c : Course) → Kept l c.link → ((c : Course) (n : ℕ) → Kept c.link (f n c).link)
-      → IsUpIn (Words.by_number t nr f c) → Kept l (Words.by_number t nr f c).link
+      → IsUpIn (by_number t nr f c) → Kept l (by_number t nr f c).link
   kept-by nr f c h x up = by-number (Kept l) t nr f c (λ n e. keeps c _ h (x c n)) up
 
   pub unchanged : Kept l l
   unchanged = record { state = refl; s = refl; r = refl; rejecting = refl; waiting = refl }
 
   -- V(S) goes back
-  pub backs-7 : (nr : Seq) → l.state ≡ Established → IsUpIn (Words.by_number t nr Established.acknowledged_by_rej_in_7 (c-7 false false false))
-      → Back nr l (Words.by_number t nr Established.acknowledged_by_rej_in_7 (c-7 false false false)).link
-  backs-7 nr here up = by-number (Back nr l) t nr Established.acknowledged_by_rej_in_7 (c-7 false false false) (λ n e. record { state = here; s = e; r = refl; rejecting = refl; waiting = refl }) up
+  pub backs-7 : (nr : Seq) → l.state ≡ Established → IsUpIn (by_number t nr acknowledged_by_rej_in_7 (c-7 false false false))
+      → Back nr l (by_number t nr acknowledged_by_rej_in_7 (c-7 false false false)).link
+  backs-7 nr here up = by-number (Back nr l) t nr acknowledged_by_rej_in_7 (c-7 false false false) (λ n e. record { state = here; s = e; r = refl; rejecting = refl; waiting = refl }) up
 
-  pub backs-8 : (busy : Bool) (timer : LinkTimer) (nr : Seq) → IsUpIn (Words.by_number t nr (TimerRecovery.acknowledged_in_8 timer true) (c-8 busy false true))
-      → Back nr l (Words.by_number t nr (TimerRecovery.acknowledged_in_8 timer true) (c-8 busy false true)).link
-  backs-8 busy timer nr up = by-number (Back nr l) t nr (TimerRecovery.acknowledged_in_8 timer true) (c-8 busy false true) (λ n e. record { state = refl; s = e; r = refl; rejecting = refl; waiting = refl }) up
+  pub backs-8 : (busy : Bool) (timer : LinkTimer) (nr : Seq) → IsUpIn (by_number t nr (acknowledged_in_8 timer true) (c-8 busy false true))
+      → Back nr l (by_number t nr (acknowledged_in_8 timer true) (c-8 busy false true)).link
+  backs-8 busy timer nr up = by-number (Back nr l) t nr (acknowledged_in_8 timer true) (c-8 busy false true) (λ n e. record { state = refl; s = e; r = refl; rejecting = refl; waiting = refl }) up
 
   -- I-frames
   chosen : (ns : Seq) (b : Bool) (u v : Course) → (b ≡ true → Informed ns l u.link) → (b ≡ false → Informed ns l v.link) → Informed ns l (cond b u v).link
@@ -171,7 +168,7 @@ module _ (t : Terms) (l : Link) where
       (λ q. record {
         state = refl;
         s = refl;
-        takes = inr (inr (eqb-false ns.value (seq l.r).value other, q, refl, refl, grows (Words.has_room t l) l.waiting (Words.response (Reject (seq l.r) false)) (rejection (seq l.r)) refl));
+        takes = inr (inr (eqb-false ns.value (seq l.r).value other, q, refl, refl, grows (has_room t l) l.waiting (response (Reject (seq l.r) false)) (rejection (seq l.r)) refl));
       })))
 
   took-then : (ns : Seq) (c : Course) (l' : Link) → Informed ns l c.link → Kept c.link l' → Informed ns l l'
@@ -193,5 +190,5 @@ module _ (t : Terms) (l : Link) where
       → IsUpIn (MultipleFrame.information_in_7_8 t ns nr false octets f (begun l)) → Informed ns l (MultipleFrame.information_in_7_8 t ns nr false octets f (begun l)).link
   informs ns nr octets f x up =
       let c = MultipleFrame.contents_in_7_8 t ns false octets (begun l) in
-      fitting ns (nat_lt t.n201 (length octets)) (MultipleFrame.failed t ErrorCode.O (begun l)) (Words.by_number t nr f c) (λ u. true≢false (sym u))
+      fitting ns (nat_lt t.n201 (length octets)) (MultipleFrame.failed t ErrorCode.O (begun l)) (by_number t nr f c) (λ u. true≢false (sym u))
       (λ u. by-number (Informed ns l) t nr f c (λ n e. took-then ns c _ (contents ns octets) (x c n)) u) up

@@ -9,28 +9,11 @@ use Rattle.laws_link.proofs.OfTwo.Ended.{near-arrives, told-recovers}
 -- nothing was dropped
 near-busy : IsBusyItself kept.near
 unfolding seq distance_of named reading header_of control_of unnumbered_of supervisory_of after_all doing_all
-near-busy =
-    record {
-      ranges = begins.ranges;
-      sound = sound-all usual begins.ranges (requested SetBusy false ∷ offer ∷ requested (Data (1 ∷ [])) false ∷ []) up begins.sound;
-      state = refl;
-      peer_busy = refl;
-      own_busy = refl;
-      waiting = refl;
-      way = refl;
-    }
+near-busy = search (begins.ranges, sound-all usual begins.ranges (requested SetBusy false ∷ offer ∷ requested (Data (1 ∷ [])) false ∷ []) up begins.sound)
 
 far-open : IsOpenItself kept.far
 unfolding seq distance_of named reading header_of control_of unnumbered_of supervisory_of after_all doing_all
-far-open =
-    record {
-      ranges = begins.ranges;
-      sound = sound-all usual begins.ranges (received (frame (frame_of usual (response (ReceiveNotReady (seq 0) false)))) ∷ requested (Data (4 ∷ [])) false ∷ []) up begins.sound;
-      state = refl;
-      own_busy = refl;
-      waiting = refl;
-      way = refl;
-    }
+far-open = search (begins.ranges, sound-all usual begins.ranges (received (frame (frame_of usual (response (ReceiveNotReady (seq 0) false)))) ∷ requested (Data (4 ∷ [])) false ∷ []) up begins.sound)
 
 near-taken : IsTaken kept.near kept.far
 unfolding seq distance_of named reading header_of control_of unnumbered_of supervisory_of after_all doing_all

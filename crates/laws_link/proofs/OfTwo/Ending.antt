@@ -1,6 +1,5 @@
 -- Own busy ends at an end: what its request and its RR leave, at that end and at the other.
-use Rattle.laws_link.proofs.Vocabulary.{◌≡◌, ℕ, ◌≤◌, Bool, true, false, cond, IsTrue, List, [], ◌∷◌, ◌++◌, Option, Some, refl, sym, ap, subst, ◌∙◌, append-nil, true≢false, arith, nat_lt, lt-ltb, seq, named, ReceiveReady, Parts, State, LinkTimer, T200, Terms, Link, is_multiple_frame, frame, received, requested, ClearBusy, IsInRange, Course, begun, End, with_link, with_sent, with_first_lost}
-use Rattle.model_link.specs.Words
+use Rattle.laws_link.proofs.Vocabulary.{◌≡◌, ℕ, ◌≤◌, Bool, true, false, cond, IsTrue, List, [], ◌∷◌, ◌++◌, Option, Some, refl, sym, ap, subst, ◌∙◌, append-nil, true≢false, arith, nat_lt, lt-ltb, seq, named, ReceiveReady, Parts, State, LinkTimer, T200, Terms, Link, is_multiple_frame, frame, received, requested, ClearBusy, IsInRange, Course, begun, End, with_link, with_sent, with_first_lost, response}
 use Rattle.laws_link.proofs.OfTwo.Plain.{acknowledgement_frame}
 use Rattle.laws_link.proofs.OfTwo.Shapes.{in_8_with, in_7_with, having, acknowledged-8}
 use Rattle.laws_link.proofs.OfTwo.Acknowledging.{Acknowledges, by-rr}
@@ -39,7 +38,7 @@ module _ (n : End) (ranges : IsInRange n.terms) (busy : n.link.own_busy ≡ true
   abbrev told : State → Bool → End
   told here b =
       record n {
-        link = record n.link { state = here; own_busy = false; pending = false; waiting = cond b (Words.response (ReceiveReady (seq n.link.r) false) ∷ []) [] };
+        link = record n.link { state = here; own_busy = false; pending = false; waiting = cond b (response (ReceiveReady (seq n.link.r) false) ∷ []) [] };
         way = [];
         delivered = n.delivered ++ [];
       }

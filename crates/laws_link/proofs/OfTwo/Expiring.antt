@@ -1,7 +1,5 @@
 -- What the expiry of T200 makes of an end that is cut off: it asks, or it has nothing outstanding.
-use Rattle.laws_link.proofs.Vocabulary.{◌≡◌, ℕ, ◌+◌, ◌≤◌, Bool, true, false, cond, IsTrue, [], ◌∷◌, ◌++◌, Option, Some, refl, sym, ap, ◌∙◌, ◌⊎◌, inl, inr, append-nil, true≢false, arith, nat_lt, option_to_list, lt-ltb, State, LinkTimer, T200, T203, Link, is_multiple_frame, expired, Course, begun, End, with_link, IsTimedIn, HeedsIn, IsCutOffWith, ErrorCode}
-use Rattle.model_link.specs.Words
-use Rattle.model_link.specs.MultipleFrame
+use Rattle.laws_link.proofs.Vocabulary.{◌≡◌, ℕ, ◌+◌, ◌≤◌, Bool, true, false, cond, IsTrue, [], ◌∷◌, ◌++◌, Option, Some, refl, sym, ap, ◌∙◌, ◌⊎◌, inl, inr, append-nil, true≢false, arith, nat_lt, option_to_list, lt-ltb, State, LinkTimer, T200, T203, Link, is_multiple_frame, expired, Course, begun, End, with_link, IsTimedIn, HeedsIn, IsCutOffWith, ErrorCode, enquire, repeated, start, failed}
 use Rattle.laws_link.proofs.OfTwo.Shapes.{enquiry_with, in_8_with, in_7_with}
 
 abbrev pub with_count : ℕ → End → End
@@ -64,12 +62,12 @@ module _ (own : Bool) (n m : End) (h : IsCutOffWith own n m) where
         count = n.link.repeats + 1;
         is =
             ap after (is-known State.TimerRecovery n.link.peer_busy (Some T200) s refl r)
-            ∙ ap (λ b. ended (cond b (repeating l) (MultipleFrame.failed n.terms ErrorCode.I (begun l)))) again
+            ∙ ap (λ b. ended (cond b (repeating l) (failed n.terms ErrorCode.I (begun l)))) again
             ∙ asks (nat_lt 0 n.terms.control) (n.link.repeats + 1) room;
       }
     where
       repeating : Link → Course
-      repeating l = Words.start T200 (Words.repeated (Words.enquire n.terms (begun l)))
+      repeating l = start T200 (repeated (enquire n.terms (begun l)))
 
       ended : Course → End
       ended c = record n { link = c.link; way = []; delivered = n.delivered ++ option_to_list c.delivered }

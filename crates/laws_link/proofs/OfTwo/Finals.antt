@@ -1,6 +1,5 @@
 -- How many responses with F=1 wait: each word but the answers leaves their number.
-use Rattle.laws_link.proofs.Vocabulary.{◌≡◌, ℕ, ◌+◌, ◌≤◌, Bool, true, false, cond, List, [], ◌∷◌, ◌++◌, Option, None, Some, refl, subst, arith, sum_by_push, Seq, seq, named, Control, ReceiveReady, ReceiveNotReady, Reject, Ua, Dm, Note, State, LinkTimer, ControlFrame, Terms, Link, Course, Step, ◌then◌, nothing, by_bit, Leads, then_leads, keeping_then, nothing_leads, depending_leads, bit_leads, to_less, finals, is_final_response, ErrorCode, number_leads}
-use Rattle.model_link.specs.Words
+use Rattle.laws_link.proofs.Vocabulary.{◌≡◌, ℕ, ◌+◌, ◌≤◌, Bool, true, false, cond, List, [], ◌∷◌, ◌++◌, Option, None, Some, refl, subst, arith, sum_by_push, Seq, seq, named, Control, ReceiveReady, ReceiveNotReady, Reject, Ua, Dm, Note, State, LinkTimer, ControlFrame, Terms, Link, Course, Step, ◌then◌, nothing, by_bit, Leads, then_leads, keeping_then, nothing_leads, depending_leads, bit_leads, to_less, finals, is_final_response, ErrorCode, number_leads, answer, by_number, command, enquire, has_room, note, pending_is, re_establish, ready_to_receive, reject, report_ready, response, send}
 
 -- At most n of them wait.
 pub record Few (n : ℕ) (c : Course) : Type 0 where
@@ -16,29 +15,29 @@ pushed false n ws f h = omega (arith, h)
 
 -- one that may be such a response
 pub sends : (t : Terms) (n : ℕ) (f : Link → ControlFrame) (b : Bool) → ((l : Link) → is_final_response (f l) ≡ b)
-    → Leads (Few n) (λ c. Words.send t (f c.link) c) (Few (n + cond {A = ℕ} b 1 0))
+    → Leads (Few n) (λ c. send t (f c.link) c) (Few (n + cond {A = ℕ} b 1 0))
 sends t n f b e =
     record {
       leads = λ c h. record {
-        few = subst (λ b. finals (cond (Words.has_room t c.link) (c.link.waiting ++ f c.link ∷ []) c.link.waiting) ≤ n + cond {A = ℕ} b 1 0) (e c.link) (pushed (Words.has_room t c.link) n c.link.waiting (f c.link) h.few);
+        few = subst (λ b. finals (cond (has_room t c.link) (c.link.waiting ++ f c.link ∷ []) c.link.waiting) ≤ n + cond {A = ℕ} b 1 0) (e c.link) (pushed (has_room t c.link) n c.link.waiting (f c.link) h.few);
       };
     }
 
-ready-response : (b f : Bool) (x y : Seq) → is_final_response (Words.response (cond b (ReceiveNotReady x f) (ReceiveReady y f))) ≡ f
+ready-response : (b f : Bool) (x y : Seq) → is_final_response (response (cond b (ReceiveNotReady x f) (ReceiveReady y f))) ≡ f
 ready-response true true x y = refl
 ready-response true false x y = refl
 ready-response false true x y = refl
 ready-response false false x y = refl
 
-same-bit : (f : Bool) → is_final_response (Words.response (Ua f)) ≡ f
+same-bit : (f : Bool) → is_final_response (response (Ua f)) ≡ f
 same-bit true = refl
 same-bit false = refl
 
-same-bit-dm : (f : Bool) → is_final_response (Words.response (Dm f)) ≡ f
+same-bit-dm : (f : Bool) → is_final_response (response (Dm f)) ≡ f
 same-bit-dm true = refl
 same-bit-dm false = refl
 
-same-bit-rej : (f : Bool) (nr : Seq) → is_final_response (Words.response (Reject nr f)) ≡ f
+same-bit-rej : (f : Bool) (nr : Seq) → is_final_response (response (Reject nr f)) ≡ f
 same-bit-rej true nr = refl
 same-bit-rej false nr = refl
 
@@ -46,32 +45,32 @@ no-more : (n : ℕ) (c : Course) → Few (n + 0) c → Few n c
 no-more n c h = record { few = omega (arith, h.few) }
 
 -- commands, and responses with F=0
-pub command_few : (t : Terms) (n : ℕ) (control : Control) → Leads (Few n) (Words.send t (Words.command control)) (Few n)
-command_few t n control = to_less (no-more n) (sends t n (λ l. Words.command control) false (λ l. refl))
+pub command_few : (t : Terms) (n : ℕ) (control : Control) → Leads (Few n) (send t (command control)) (Few n)
+command_few t n control = to_less (no-more n) (sends t n (λ l. command control) false (λ l. refl))
 
 module _ (n : ℕ) where
-  pub enquire_few : (t : Terms) → Leads (Few n) (Words.enquire t) (Few n)
-  enquire_few t = then_leads (to_less (no-more n) (sends t n (λ l. Words.command (Words.ready_to_receive true l)) false (λ l. refl))) (few_stays {f = Words.pending_is false} (λ c h. h))
+  pub enquire_few : (t : Terms) → Leads (Few n) (enquire t) (Few n)
+  enquire_few t = then_leads (to_less (no-more n) (sends t n (λ l. command (ready_to_receive true l)) false (λ l. refl))) (few_stays {f = pending_is false} (λ c h. h))
 
-  pub report_few : (t : Terms) → Leads (Few n) (Words.report_ready t) (Few n)
+  pub report_few : (t : Terms) → Leads (Few n) (report_ready t) (Few n)
   report_few t =
-      then_leads (to_less (no-more n) (sends t n (λ l. Words.response (Words.ready_to_receive false l)) false (λ l. ready-response l.own_busy false (seq l.r) (seq l.r)))) (few_stays {f = Words.pending_is false} (λ c h. h))
+      then_leads (to_less (no-more n) (sends t n (λ l. response (ready_to_receive false l)) false (λ l. ready-response l.own_busy false (seq l.r) (seq l.r)))) (few_stays {f = pending_is false} (λ c h. h))
 
 -- the answers
-pub ua_few : (t : Terms) (n : ℕ) (p : Bool) → Leads (Few n) (Words.send t (Words.response (Ua p))) (Few (n + cond {A = ℕ} p 1 0))
-ua_few t n p = sends t n (λ l. Words.response (Ua p)) p (λ l. same-bit p)
+pub ua_few : (t : Terms) (n : ℕ) (p : Bool) → Leads (Few n) (send t (response (Ua p))) (Few (n + cond {A = ℕ} p 1 0))
+ua_few t n p = sends t n (λ l. response (Ua p)) p (λ l. same-bit p)
 
-pub dm_few : (t : Terms) (n : ℕ) (p : Bool) → Leads (Few n) (Words.send t (Words.response (Dm p))) (Few (n + cond {A = ℕ} p 1 0))
-dm_few t n p = sends t n (λ l. Words.response (Dm p)) p (λ l. same-bit-dm p)
+pub dm_few : (t : Terms) (n : ℕ) (p : Bool) → Leads (Few n) (send t (response (Dm p))) (Few (n + cond {A = ℕ} p 1 0))
+dm_few t n p = sends t n (λ l. response (Dm p)) p (λ l. same-bit-dm p)
 
-pub reject_few : (t : Terms) (n : ℕ) (p : Bool) → Leads (Few n) (Words.reject t p) (Few (n + cond {A = ℕ} p 1 0))
-reject_few t n p = then_leads (sends t n (λ l. Words.response (Reject (seq l.r) p)) p (λ l. same-bit-rej p (seq l.r))) (few_stays {f = Words.pending_is false} (λ c h. h))
+pub reject_few : (t : Terms) (n : ℕ) (p : Bool) → Leads (Few n) (reject t p) (Few (n + cond {A = ℕ} p 1 0))
+reject_few t n p = then_leads (sends t n (λ l. response (Reject (seq l.r) p)) p (λ l. same-bit-rej p (seq l.r))) (few_stays {f = pending_is false} (λ c h. h))
 
-pub answer_few : (t : Terms) (n : ℕ) → Leads (Few n) (Words.answer t) (Few (n + 1))
-answer_few t n = then_leads (sends t n (λ l. Words.response (Words.ready_to_receive true l)) true (λ l. ready-response l.own_busy true (seq l.r) (seq l.r))) (few_stays {f = Words.pending_is false} (λ c h. h))
+pub answer_few : (t : Terms) (n : ℕ) → Leads (Few n) (answer t) (Few (n + 1))
+answer_few t n = then_leads (sends t n (λ l. response (ready_to_receive true l)) true (λ l. ready-response l.own_busy true (seq l.r) (seq l.r))) (few_stays {f = pending_is false} (λ c h. h))
 
 -- an answer where the bit is 1, else another step
-pub answer-by : (t : Terms) (n : ℕ) (p : Bool) {g : Step} → Leads (Few n) g (Few n) → Leads (Few n) (by_bit p (Words.answer t) g) (Few (n + cond {A = ℕ} p 1 0))
+pub answer-by : (t : Terms) (n : ℕ) (p : Bool) {g : Step} → Leads (Few n) g (Few n) → Leads (Few n) (by_bit p (answer t) g) (Few (n + cond {A = ℕ} p 1 0))
 answer-by t n true {g} x = record { leads = λ c h. (answer_few t n).leads c h }
 answer-by t n false {g} x = record { leads = λ c h. record { few = omega (arith, (x.leads c h).few) } }
 
@@ -82,22 +81,22 @@ weaker n false x = to_less (λ c h. record { few = omega (arith, h.few) }) x
 
 pub ruleset words = (few_stays, keeping_then, nothing_leads, depending_leads, bit_leads, command_few, enquire_few, report_few)
 
-pub failed_few : (t : Terms) (n : ℕ) (x : Note) → Leads (Few n) (Words.note x then Words.re_establish t) (Few n)
+pub failed_few : (t : Terms) (n : ℕ) (x : Note) → Leads (Few n) (note x then re_establish t) (Few n)
 failed_few t n x = search words depth 12 fits 4000
 
-pub number_few : (t : Terms) (n : ℕ) (nr : Seq) {f : ℕ → Step} → ((m : ℕ) → Leads (Few n) (f m) (Few n)) → Leads (Few n) (Words.by_number t nr f) (Few n)
+pub number_few : (t : Terms) (n : ℕ) (nr : Seq) {f : ℕ → Step} → ((m : ℕ) → Leads (Few n) (f m) (Few n)) → Leads (Few n) (by_number t nr f) (Few n)
 number_few t n nr x = number_leads t nr (failed_few t n _) x
 
 -- an answer, and then the rest
 pub ua_then : (t : Terms) (n : ℕ) (p : Bool) {g : Step} → Leads (Few (n + cond {A = ℕ} p 1 0)) g (Few (n + cond {A = ℕ} p 1 0))
-    → Leads (Few n) (Words.send t (Words.response (Ua p)) then g) (Few (n + cond {A = ℕ} p 1 0))
+    → Leads (Few n) (send t (response (Ua p)) then g) (Few (n + cond {A = ℕ} p 1 0))
 ua_then t n p x = then_leads (ua_few t n p) x
 
 pub answered_then : (t : Terms) (n : ℕ) (p : Bool) {g : Step} → Leads (Few (n + cond {A = ℕ} p 1 0)) g (Few (n + cond {A = ℕ} p 1 0))
-    → Leads (Few n) (by_bit p (Words.answer t) nothing then g) (Few (n + cond {A = ℕ} p 1 0))
+    → Leads (Few n) (by_bit p (answer t) nothing then g) (Few (n + cond {A = ℕ} p 1 0))
 answered_then t n p x = then_leads (answer-by t n p nothing_leads) x
 
-pub answer_by : (t : Terms) (n : ℕ) (p : Bool) {g : Step} → Leads (Few n) g (Few n) → Leads (Few n) (by_bit p (Words.answer t) g) (Few (n + cond {A = ℕ} p 1 0))
+pub answer_by : (t : Terms) (n : ℕ) (p : Bool) {g : Step} → Leads (Few n) g (Few n) → Leads (Few n) (by_bit p (answer t) g) (Few (n + cond {A = ℕ} p 1 0))
 answer_by t n p x = answer-by t n p x
 
 pub ruleset rows = (words, failed_few, number_few)

@@ -1,10 +1,6 @@
 -- The first I-frame out of sequence is answered by REJ, and a delivery ends the wait for what REJ asked for.
-use Rattle.laws_link.proofs.Vocabulary.{◌≡◌, ℕ, ◌+◌, ◌≤◌, Bool, true, false, cond, IsTrue, List, [], ◌∷◌, ◌++◌, length, Option, None, Some, refl, sym, ap, subst, ◌∙◌, ◌⊎◌, inl, inr, true≢false, arith, nat_lt, lt-ltb, le-ltb, none-some, Seq, seq, named, Address, Control, Information, Reject, State, Established, TimerRecovery, LinkTimer, ControlFrame, Terms, Link, is_multiple_frame, Arrived, information_of, eligible, eligible_of, Course, begun, Step, ◌then◌, by_bit, Leads, keeping_then, nothing_leads, depending_leads, delivered-at_once, IsValidAt, i_frame, IsFirstGap, leaves, ErrorCode, both_ways}
-use Rattle.model_link.specs.Events
-use Rattle.model_link.specs.Words
+use Rattle.laws_link.proofs.Vocabulary.{◌≡◌, ℕ, ◌+◌, ◌≤◌, Bool, true, false, cond, IsTrue, List, [], ◌∷◌, ◌++◌, length, Option, None, Some, refl, sym, ap, subst, ◌∙◌, ◌⊎◌, inl, inr, true≢false, arith, nat_lt, lt-ltb, le-ltb, none-some, Seq, seq, named, Address, Control, Information, Reject, State, Established, TimerRecovery, LinkTimer, ControlFrame, Terms, Link, is_multiple_frame, Arrived, information_of, eligible, eligible_of, Course, begun, Step, ◌then◌, by_bit, Leads, keeping_then, nothing_leads, depending_leads, delivered-at_once, IsValidAt, i_frame, IsFirstGap, leaves, ErrorCode, both_ways, Event, frame, received, acknowledge, by_number, error, re_establish, reject, rejecting_is, response, start, acknowledged_by_information_in_7, after, course, frame_in, frame_step, told}
 use Rattle.model_link.specs.MultipleFrame
-use Rattle.model_link.specs.Established
-use Rattle.model_link.specs.Machine
 use Rattle.laws_link.proofs.OfTwo.Answering.{Waits, information_7_waits}
 
 -- the third branch
@@ -14,14 +10,14 @@ third a b c u v w x e f g = rw e (rw f (rw g refl))
 module _ (t : Terms) (l : Link) (room : length l.waiting + 1 ≤ t.control) where
   -- what waits once REJ does
   rejection : Bool → List ControlFrame
-  rejection p = l.waiting ++ Words.response (Reject (seq l.r) p) ∷ []
+  rejection p = l.waiting ++ response (Reject (seq l.r) p) ∷ []
 
   abbrev rejected : Bool → Course
-  rejected p = (Words.rejecting_is true then Words.reject t p) (begun l)
+  rejected p = (rejecting_is true then reject t p) (begun l)
 
   put : (p : Bool) → (rejected p).link.waiting ≡ rejection p
   unfolding rejection
-  put p = ap (λ b. cond b (l.waiting ++ Words.response (Reject (seq l.r) p) ∷ []) l.waiting) (lt-ltb (length l.waiting) t.control (omega (arith, room)))
+  put p = ap (λ b. cond b (l.waiting ++ response (Reject (seq l.r) p) ∷ []) l.waiting) (lt-ltb (length l.waiting) t.control (omega (arith, room)))
 
   contents : (ns nr : Seq) (p : Bool) (octets : List ℕ) → IsFirstGap t l ns nr octets
       → MultipleFrame.contents_in_7_8 t ns p octets (begun l) ≡ rejected p
@@ -29,10 +25,10 @@ module _ (t : Terms) (l : Link) (room : length l.waiting + 1 ≤ t.control) wher
 
   -- the effect of what an N(R) names
   abbrev effect : (ℕ → Step) → Course → Option ℕ → Course
-  effect f c o = elim o [ None ↦ (Words.error t ErrorCode.J then Words.re_establish t) c | Some n ↦ f n c ]
+  effect f c o = elim o [ None ↦ (error t ErrorCode.J then re_establish t) c | Some n ↦ f n c ]
 
   numbered : (nr : Seq) (p : Bool) (f : ℕ → Step) → ((ws : List ControlFrame) (r n : ℕ) → Leads (Waits ws r) (f n) (Waits ws r)) → IsValidAt l nr
-      → (Words.by_number t nr f (rejected p)).link.waiting ≡ rejection p
+      → (by_number t nr f (rejected p)).link.waiting ≡ rejection p
   numbered nr p f x (n, valid) =
       subst (λ o. (effect f (rejected p) o).link.waiting ≡ rejection p) (sym valid)
       (((x (rejection p) l.r n).leads (rejected p) (record { waits = put p; number = refl })).waits)
@@ -40,18 +36,18 @@ module _ (t : Terms) (l : Link) (room : length l.waiting + 1 ≤ t.control) wher
   information : (ns nr : Seq) (p : Bool) (octets : List ℕ) (f : ℕ → Step) → ((ws : List ControlFrame) (r n : ℕ) → Leads (Waits ws r) (f n) (Waits ws r))
       → IsFirstGap t l ns nr octets → (MultipleFrame.information_in_7_8 t ns nr p octets f (begun l)).link.waiting ≡ rejection p
   information ns nr p octets f x h =
-      subst (λ b. (cond b (MultipleFrame.failed t ErrorCode.O (begun l)) ((MultipleFrame.contents_in_7_8 t ns p octets then Words.by_number t nr f) (begun l))).link.waiting ≡ rejection p)
+      subst (λ b. (cond b (MultipleFrame.failed t ErrorCode.O (begun l)) ((MultipleFrame.contents_in_7_8 t ns p octets then by_number t nr f) (begun l))).link.waiting ≡ rejection p)
       (sym (le-ltb t.n201 (length octets) h.size))
-      (subst (λ c. (Words.by_number t nr f c).link.waiting ≡ rejection p) (sym (contents ns nr p octets h)) (numbered nr p f x h.valid))
+      (subst (λ c. (by_number t nr f c).link.waiting ≡ rejection p) (sym (contents ns nr p octets h)) (numbered nr p f x h.valid))
 
   in-state : (here : State) → IsTrue (is_multiple_frame here) → (command : Bool) (ns nr : Seq) (p : Bool) (octets : List ℕ) → IsFirstGap t l ns nr octets
-      → (Machine.frame_in here t command octets (Information ns nr p) (begun l)).link.waiting ≡ rejection p
-  in-state Established up command ns nr p octets h = information ns nr p octets Established.acknowledged_by_information_in_7 information_7_waits h
-  in-state TimerRecovery up command ns nr p octets h = information ns nr p octets Words.acknowledge (λ ws r n. leaves (λ c h. h)) h
+      → (frame_in here t command octets (Information ns nr p) (begun l)).link.waiting ≡ rejection p
+  in-state Established up command ns nr p octets h = information ns nr p octets acknowledged_by_information_in_7 information_7_waits h
+  in-state TimerRecovery up command ns nr p octets h = information ns nr p octets acknowledge (λ ws r n. leaves (λ c h. h)) h
   in-state other up command ns nr p octets h = absurd (true≢false (sym up))
 
   pub gap-rejected : (address : Address) (ns nr : Seq) (p : Bool) (octets : List ℕ) → IsFirstGap t l ns nr octets
-      → (Machine.after t (Events.received (Events.frame (i_frame address ns nr p octets))) l).waiting ≡ l.waiting ++ Words.response (Reject (seq l.r) p) ∷ []
+      → (after t (received (frame (i_frame address ns nr p octets))) l).waiting ≡ l.waiting ++ response (Reject (seq l.r) p) ∷ []
   unfolding rejection
   gap-rejected address ns nr p octets h = in-state l.state h.up address.command ns nr p octets h
 
@@ -60,13 +56,13 @@ abbrev Ended : Course → Type 0
 Ended c = (c.delivered ≡ None) ⊎ (c.link.rejecting ≡ false)
 
 -- what a valid N(R) does leaves it
-acknowledge_ends : (n : ℕ) → Leads Ended (Words.acknowledge n) Ended
+acknowledge_ends : (n : ℕ) → Leads Ended (acknowledge n) Ended
 acknowledge_ends n = record { leads = λ c h. h }
 
-start_ends : (timer : LinkTimer) → Leads Ended (Words.start timer) Ended
+start_ends : (timer : LinkTimer) → Leads Ended (start timer) Ended
 start_ends timer = record { leads = λ c h. h }
 
-in_7_ends : (n : ℕ) → Leads Ended (Established.acknowledged_by_information_in_7 n) Ended
+in_7_ends : (n : ℕ) → Leads Ended (acknowledged_by_information_in_7 n) Ended
 in_7_ends n = search (keeping_then, nothing_leads, depending_leads, acknowledge_ends, start_ends) depth 12 fits 4000
 
 module _ (t : Terms) (l : Link) where
@@ -77,38 +73,38 @@ module _ (t : Terms) (l : Link) where
       (both_ways Ended l.rejecting _ _ (both_ways Ended p _ _ (inl refl) (inl refl)) (inl refl)))
 
   by-number : (f : ℕ → Step) → ((n : ℕ) → Leads Ended (f n) Ended) → (c : Course) → Ended c → (o : Option ℕ)
-      → Ended (elim o [ None ↦ (Words.error t ErrorCode.J then Words.re_establish t) c | Some n ↦ f n c ])
+      → Ended (elim o [ None ↦ (error t ErrorCode.J then re_establish t) c | Some n ↦ f n c ])
   by-number f x c h None = inr refl
   by-number f x c h (Some n) = (x n).leads c h
 
   row : (ns nr : Seq) (p : Bool) (octets : List ℕ) (f : ℕ → Step) → ((n : ℕ) → Leads Ended (f n) Ended) → (b : Bool)
-      → Ended (by_bit b (MultipleFrame.failed t ErrorCode.O) (MultipleFrame.contents_in_7_8 t ns p octets then Words.by_number t nr f) (begun l))
+      → Ended (by_bit b (MultipleFrame.failed t ErrorCode.O) (MultipleFrame.contents_in_7_8 t ns p octets then by_number t nr f) (begun l))
   row ns nr p octets f x true = inl refl
   row ns nr p octets f x false =
       let c = MultipleFrame.contents_in_7_8 t ns p octets (begun l) in
       by-number f x c (delivering ns p octets) (named c.link.a c.link.s nr)
 
   by-state : (here : State) (command : Bool) (ns nr : Seq) (p : Bool) (octets : List ℕ)
-      → Ended (Machine.frame_in here t command octets (Information ns nr p) (begun l))
-  by-state Established command ns nr p octets = row ns nr p octets Established.acknowledged_by_information_in_7 in_7_ends (nat_lt t.n201 (length octets))
-  by-state TimerRecovery command ns nr p octets = row ns nr p octets Words.acknowledge acknowledge_ends (nat_lt t.n201 (length octets))
+      → Ended (frame_in here t command octets (Information ns nr p) (begun l))
+  by-state Established command ns nr p octets = row ns nr p octets acknowledged_by_information_in_7 in_7_ends (nat_lt t.n201 (length octets))
+  by-state TimerRecovery command ns nr p octets = row ns nr p octets acknowledge acknowledge_ends (nat_lt t.n201 (length octets))
   by-state other command ns nr p octets = inl refl
 
   -- only an I-frame is eligible
   by-frame : (command : Bool) (octets : List ℕ) (control : Control) (i : Arrived) → eligible_of t l (information_of control octets) ≡ Some i
-      → Ended (Machine.frame_step t command octets control (begun l))
+      → Ended (frame_step t command octets control (begun l))
   by-frame command octets (Information ns nr p) i e = by-state l.state command ns nr p octets
   by-frame command octets other i e = absurd (none-some i e)
 
-  by-event : (e : Events.Event) (i : Arrived) → eligible t e l ≡ Some i → Ended (Machine.course t e l)
-  by-event (Events.received (Events.frame f)) i e = by-frame f.address.command f.info f.control i e
+  by-event : (e : Event) (i : Arrived) → eligible t e l ≡ Some i → Ended (course t e l)
+  by-event (received (frame f)) i e = by-frame f.address.command f.info f.control i e
   by-event other i e = absurd (none-some i e)
 
   after-delivery : (c : Course) (octets : List ℕ) → c.delivered ≡ Some octets → Ended c → c.link.rejecting ≡ false
   after-delivery c octets d (inl none) = absurd (none-some octets (sym none ∙ d))
   after-delivery c octets d (inr e) = e
 
-  pub told-again : (e : Events.Event) (octets : List ℕ) → (Machine.told t e l).delivered ≡ Some octets → (Machine.after t e l).rejecting ≡ false
+  pub told-again : (e : Event) (octets : List ℕ) → (told t e l).delivered ≡ Some octets → (after t e l).rejecting ≡ false
   told-again e octets d =
       let x = delivered-at_once t e l octets d in
-      after-delivery (Machine.course t e l) octets d (by-event e x.0 x.1)
+      after-delivery (course t e l) octets d (by-event e x.0 x.1)

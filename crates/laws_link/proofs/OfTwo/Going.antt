@@ -1,10 +1,5 @@
 -- What requests, expiries and offers do to a link that stays in states 7 and 8, and to what is on its line.
-use Rattle.laws_link.proofs.Vocabulary.{◌≡◌, ◌+◌, ◌-◌, Bool, true, false, cond, not, ◌&&◌, IsTrue, List, [], ◌∷◌, ◌++◌, Option, None, Some, refl, sym, ap, subst, ◌∙◌, append_assoc, append-nil, ◌⊎◌, inl, inr, true≢false, nat_lt, length, slice_get, unwrap_or, and_parts, seq, ReceiveReady, ReceiveNotReady, Refusal, WrongState, Parts, State, Established, TimerRecovery, LinkTimer, T200, T203, ControlFrame, Terms, Link, is_multiple_frame, frame_of, may_repeat, Request, Establish, Release, Data, SetBusy, ClearBusy, expired, requested, offer, Course, begun, frame_given, frames_of, IsMildRequest, ErrorCode, both_ways}
-use Rattle.model_link.specs.Words
-use Rattle.model_link.specs.MultipleFrame
-use Rattle.model_link.specs.Requests
-use Rattle.model_link.specs.Offers
-use Rattle.model_link.specs.Machine
+use Rattle.laws_link.proofs.Vocabulary.{◌≡◌, ◌+◌, ◌-◌, Bool, true, false, cond, not, ◌&&◌, IsTrue, List, [], ◌∷◌, ◌++◌, Option, None, Some, refl, sym, ap, subst, ◌∙◌, append_assoc, append-nil, ◌⊎◌, inl, inr, true≢false, nat_lt, length, slice_get, unwrap_or, and_parts, seq, ReceiveReady, ReceiveNotReady, Refusal, WrongState, Parts, State, Established, TimerRecovery, LinkTimer, T200, T203, ControlFrame, Terms, Link, is_multiple_frame, frame_of, may_repeat, Request, Establish, Release, Data, SetBusy, ClearBusy, expired, requested, offer, Course, begun, frame_given, frames_of, IsMildRequest, ErrorCode, both_ways, command, enquire, has_room, ready_to_receive, repeated, response, start, failed, granted, refusal, give_waiting, is_awaiting_acknowledgement, is_established, may_send_information, next_information, offer_among, send_acknowledgement, with_one_sent, course, expire_running, expired_in, given_of, is_running}
 use Rattle.laws_link.proofs.OfTwo.Staying.{refused}
 use Rattle.laws_link.proofs.OfTwo.Trains.{Kind, numbered, enquiry, report, kind_of, kinds_of, kinds-append}
 use Rattle.laws_link.proofs.OfTwo.Effects.{Grown, grows, Kept, Went, unchanged}
@@ -27,9 +22,9 @@ pub record Asked (l l' : Link) : Type 0 where
 -- What an offer gives, as the line sees it: no frame more, a report, or the next I-frame.
 abbrev pub Gives : Terms → Link → Course → Type 0
 Gives t l c =
-    ((c.link.s ≡ l.s) × ((way : List Parts) → kinds_of ((way ++ frame_given t (Machine.given_of t l c c.sent)) ++ frames_of t c.link.waiting) ≡ line t way l.waiting))
-    ⊎ ((c.link.s ≡ l.s) × ((way : List Parts) → kinds_of ((way ++ frame_given t (Machine.given_of t l c c.sent)) ++ frames_of t c.link.waiting) ≡ line t way l.waiting ++ report ∷ []))
-    ⊎ ((l.state ≡ Established) × (c.link.s ≡ l.s + 1) × ((way : List Parts) → kinds_of ((way ++ frame_given t (Machine.given_of t l c c.sent)) ++ frames_of t c.link.waiting) ≡ line t way l.waiting ++ numbered (seq l.s) ∷ []))
+    ((c.link.s ≡ l.s) × ((way : List Parts) → kinds_of ((way ++ frame_given t (given_of t l c c.sent)) ++ frames_of t c.link.waiting) ≡ line t way l.waiting))
+    ⊎ ((c.link.s ≡ l.s) × ((way : List Parts) → kinds_of ((way ++ frame_given t (given_of t l c c.sent)) ++ frames_of t c.link.waiting) ≡ line t way l.waiting ++ report ∷ []))
+    ⊎ ((l.state ≡ Established) × (c.link.s ≡ l.s + 1) × ((way : List Parts) → kinds_of ((way ++ frame_given t (given_of t l c c.sent)) ++ frames_of t c.link.waiting) ≡ line t way l.waiting ++ numbered (seq l.s) ∷ []))
 
 pub record Offered (t : Terms) (l : Link) (c : Course) : Type 0 where
   pub state : c.link.state ≡ l.state
@@ -37,7 +32,7 @@ pub record Offered (t : Terms) (l : Link) (c : Course) : Type 0 where
   pub rejecting : c.link.rejecting ≡ l.rejecting
   pub gives : Gives t l c
 
-is-established : (here : State) → Offers.is_established here ≡ true → here ≡ Established
+is-established : (here : State) → is_established here ≡ true → here ≡ Established
 is-established Established e = refl
 is-established other e = absurd (true≢false (sym e))
 
@@ -45,37 +40,37 @@ module _ (t : Terms) (l : Link) where
   nothing-new : Went report l l
   nothing-new = record { state = refl; s = refl; r = refl; rejecting = refl; waiting = inl refl }
 
-  by-refusal : (request : Request) (o : Option Refusal) → WentIn report l (Requests.granted t request (begun l))
-      → WentIn report l (elim o [ None ↦ Requests.granted t request (begun l) | Some _ ↦ begun l ])
+  by-refusal : (request : Request) (o : Option Refusal) → WentIn report l (granted t request (begun l))
+      → WentIn report l (elim o [ None ↦ granted t request (begun l) | Some _ ↦ begun l ])
   by-refusal request None x = x
   by-refusal request (Some w) x = nothing-new
 
-  refuses : (o : Option Refusal) → o ≡ Some WrongState → WentIn report l (elim o [ None ↦ Requests.granted t Establish (begun l) | Some _ ↦ begun l ])
+  refuses : (o : Option Refusal) → o ≡ Some WrongState → WentIn report l (elim o [ None ↦ granted t Establish (begun l) | Some _ ↦ begun l ])
   refuses None e = absurd (cc)
   refuses (Some w) e = nothing-new
 
   reports : (l' : Link) (f : ControlFrame) → l'.state ≡ l.state → l'.s ≡ l.s → l'.r ≡ l.r → l'.rejecting ≡ l.rejecting
-      → l'.waiting ≡ cond (Words.has_room t l) (l.waiting ++ f ∷ []) l.waiting → kind_of f.command f.control ≡ report → Went report l l'
+      → l'.waiting ≡ cond (has_room t l) (l.waiting ++ f ∷ []) l.waiting → kind_of f.command f.control ≡ report → Went report l l'
   reports l' f state s r rejecting waiting is =
       record {
         state = state;
         s = s;
         r = r;
         rejecting = rejecting;
-        waiting = subst (λ ws. Grown l.waiting ws report) (sym waiting) (grows (Words.has_room t l) l.waiting f report is);
+        waiting = subst (λ ws. Grown l.waiting ws report) (sym waiting) (grows (has_room t l) l.waiting f report is);
       }
 
-  pub asks-went : IsTrue (is_multiple_frame l.state) → (request : Request) (full : Bool) → IsMildRequest request → WentIn report l (Machine.course t (requested request full) l)
-  asks-went up Establish full mild = refuses (Requests.refusal t l full Establish) (refused t l up l.state refl up full)
+  pub asks-went : IsTrue (is_multiple_frame l.state) → (request : Request) (full : Bool) → IsMildRequest request → WentIn report l (course t (requested request full) l)
+  asks-went up Establish full mild = refuses (refusal t l full Establish) (refused t l up l.state refl up full)
   asks-went up Release full mild = absurd mild
   asks-went up (Data octets) full mild =
-      by-refusal (Data octets) (Requests.refusal t l full (Data octets)) (record { state = refl; s = refl; r = refl; rejecting = refl; waiting = inl refl })
+      by-refusal (Data octets) (refusal t l full (Data octets)) (record { state = refl; s = refl; r = refl; rejecting = refl; waiting = inl refl })
   asks-went up SetBusy full mild =
-      by-refusal SetBusy (Requests.refusal t l full SetBusy)
-      (both_ways (WentIn report l) l.own_busy _ _ nothing-new (reports _ (Words.response (ReceiveNotReady (seq l.r) false)) refl refl refl refl refl refl))
+      by-refusal SetBusy (refusal t l full SetBusy)
+      (both_ways (WentIn report l) l.own_busy _ _ nothing-new (reports _ (response (ReceiveNotReady (seq l.r) false)) refl refl refl refl refl refl))
   asks-went up ClearBusy full mild =
-      by-refusal ClearBusy (Requests.refusal t l full ClearBusy)
-      (both_ways (WentIn report l) l.own_busy _ _ (reports _ (Words.response (ReceiveReady (seq l.r) false)) refl refl refl refl refl refl) nothing-new)
+      by-refusal ClearBusy (refusal t l full ClearBusy)
+      (both_ways (WentIn report l) l.own_busy _ _ (reports _ (response (ReceiveReady (seq l.r) false)) refl refl refl refl refl refl) nothing-new)
 
   -- An expiry: the timer does not run, or an enquiry waits.
   kind-of-enquiry : (own : Bool) → kind_of true (cond own (ReceiveNotReady (seq l.r) true) (ReceiveReady (seq l.r) true)) ≡ enquiry
@@ -83,7 +78,7 @@ module _ (t : Terms) (l : Link) where
   kind-of-enquiry false = refl
 
   enquires : (l' : Link) → l'.state ≡ TimerRecovery → l'.s ≡ l.s → l'.r ≡ l.r → l'.rejecting ≡ l.rejecting
-      → l'.waiting ≡ cond (Words.has_room t l) (l.waiting ++ Words.command (Words.ready_to_receive true l) ∷ []) l.waiting → Asked l l'
+      → l'.waiting ≡ cond (has_room t l) (l.waiting ++ command (ready_to_receive true l) ∷ []) l.waiting → Asked l l'
   enquires l' state s r rejecting waiting =
       record {
         state = state;
@@ -92,37 +87,37 @@ module _ (t : Terms) (l : Link) where
         rejecting = rejecting;
         waiting =
             subst (λ ws. Grown l.waiting ws enquiry) (sym waiting)
-            (grows (Words.has_room t l) l.waiting (Words.command (Words.ready_to_receive true l)) enquiry (kind-of-enquiry l.own_busy));
+            (grows (has_room t l) l.waiting (command (ready_to_receive true l)) enquiry (kind-of-enquiry l.own_busy));
       }
 
-  again : l.state ≡ TimerRecovery → (b : Bool) → IsUpIn (cond b (Words.start T200 (Words.repeated (Words.enquire t (begun l)))) (MultipleFrame.failed t ErrorCode.I (begun l)))
-      → Asked l (cond b (Words.start T200 (Words.repeated (Words.enquire t (begun l)))) (MultipleFrame.failed t ErrorCode.I (begun l))).link
+  again : l.state ≡ TimerRecovery → (b : Bool) → IsUpIn (cond b (start T200 (repeated (enquire t (begun l)))) (failed t ErrorCode.I (begun l)))
+      → Asked l (cond b (start T200 (repeated (enquire t (begun l)))) (failed t ErrorCode.I (begun l))).link
   again here true up = enquires _ here refl refl refl refl
   again here false up = absurd (true≢false (sym up))
 
   abbrev pub Expires : Course → Type 0
   Expires c = Kept l c.link ⊎ Asked l c.link
 
-  expires-in : (here : State) → l.state ≡ here → IsTrue (is_multiple_frame here) → (timer : LinkTimer) → IsUpIn (Machine.expired_in here timer t (begun l))
-      → Expires (Machine.expired_in here timer t (begun l))
+  expires-in : (here : State) → l.state ≡ here → IsTrue (is_multiple_frame here) → (timer : LinkTimer) → IsUpIn (expired_in here timer t (begun l))
+      → Expires (expired_in here timer t (begun l))
   expires-in Established e before timer up = inr (enquires _ refl refl refl refl refl)
   expires-in TimerRecovery e before T200 up = inr (again e (may_repeat t l) up)
   expires-in TimerRecovery e before T203 up = inl (unchanged t l)
   expires-in other e before timer up = absurd (true≢false (sym before))
 
   abbrev pub RanOut : LinkTimer → Course → Type 0
-  RanOut timer c = Kept l c.link ⊎ ((Machine.is_running timer l ≡ true) × Asked l c.link)
+  RanOut timer c = Kept l c.link ⊎ ((is_running timer l ≡ true) × Asked l c.link)
 
-  running : (timer : LinkTimer) (c : Course) → Machine.is_running timer l ≡ true → Expires c → RanOut timer c
+  running : (timer : LinkTimer) (c : Course) → is_running timer l ≡ true → Expires c → RanOut timer c
   running timer c run (inl k) = inl k
   running timer c run (inr a) = inr (run, a)
 
-  ran : (timer : LinkTimer) (b : Bool) (u : Course) → Machine.is_running timer l ≡ b → (IsUpIn u → Expires u) → IsUpIn (cond b u (begun l)) → RanOut timer (cond b u (begun l))
+  ran : (timer : LinkTimer) (b : Bool) (u : Course) → is_running timer l ≡ b → (IsUpIn u → Expires u) → IsUpIn (cond b u (begun l)) → RanOut timer (cond b u (begun l))
   ran timer true u e x up = running timer u e (x up)
   ran timer false u e x up = inl (unchanged t l)
 
-  pub expires-goes : IsTrue (is_multiple_frame l.state) → (timer : LinkTimer) → IsUpIn (Machine.course t (expired timer) l) → RanOut timer (Machine.course t (expired timer) l)
-  expires-goes before timer up = ran timer (Machine.is_running timer l) (Machine.expire_running timer t (begun l)) refl (expires-in l.state refl before timer) up
+  pub expires-goes : IsTrue (is_multiple_frame l.state) → (timer : LinkTimer) → IsUpIn (course t (expired timer) l) → RanOut timer (course t (expired timer) l)
+  expires-goes before timer up = ran timer (is_running timer l) (expire_running timer t (begun l)) refl (expires-in l.state refl before timer) up
 
   -- An offer.
   at-end : (way : List Parts) (f : Parts) (ws : List ControlFrame) → ws ≡ [] → kinds_of ((way ++ f ∷ []) ++ frames_of t ws) ≡ line t way ws ++ kind_of f.address.command f.control ∷ []
@@ -130,7 +125,7 @@ module _ (t : Terms) (l : Link) where
       ap kinds_of (append-nil (way ++ f ∷ [])) ∙ kinds-append way (f ∷ []) ∙ sym (ap (λ xs. kinds_of xs ++ kind_of f.address.command f.control ∷ []) (append-nil way))
   at-end way f (w ∷ ws) e = absurd (cc)
 
-  waited : (f : ControlFrame) (fs : List ControlFrame) → l.waiting ≡ f ∷ fs → Offered t l (Offers.give_waiting f fs (begun l))
+  waited : (f : ControlFrame) (fs : List ControlFrame) → l.waiting ≡ f ∷ fs → Offered t l (give_waiting f fs (begun l))
   waited f fs e =
       record {
         state = refl;
@@ -142,23 +137,23 @@ module _ (t : Terms) (l : Link) where
   idle : Offered t l (begun l)
   idle = record { state = refl; r = refl; rejecting = refl; gives = inl (refl, λ way. ap (λ xs. kinds_of (xs ++ frames_of t l.waiting)) (append-nil way)) }
 
-  acknowledges : l.waiting ≡ [] → Offered t l (Offers.send_acknowledgement (begun l))
+  acknowledges : l.waiting ≡ [] → Offered t l (send_acknowledgement (begun l))
   acknowledges e =
       record {
         state = refl;
         r = refl;
         rejecting = refl;
-        gives = inr (inl (refl, λ way. at-end way (frame_of t (Words.response (ReceiveReady (seq l.r) false))) l.waiting e));
+        gives = inr (inl (refl, λ way. at-end way (frame_of t (response (ReceiveReady (seq l.r) false))) l.waiting e));
       }
 
-  informs : (c : Course) → Offers.may_send_information t l ≡ true → l.waiting ≡ [] → c.link.state ≡ l.state → c.link.s ≡ l.s + 1 → c.link.r ≡ l.r → c.link.rejecting ≡ l.rejecting
-      → c.link.waiting ≡ l.waiting → frame_given t (Machine.given_of t l c c.sent) ≡ record (frame_of t (Offers.next_information l)) { info = unwrap_or (slice_get l.contents l.s) [] } ∷ []
+  informs : (c : Course) → may_send_information t l ≡ true → l.waiting ≡ [] → c.link.state ≡ l.state → c.link.s ≡ l.s + 1 → c.link.r ≡ l.r → c.link.rejecting ≡ l.rejecting
+      → c.link.waiting ≡ l.waiting → frame_given t (given_of t l c c.sent) ≡ record (frame_of t (next_information l)) { info = unwrap_or (slice_get l.contents l.s) [] } ∷ []
       → Offered t l c
   informs c may e state s r rejecting waits gives =
-      let parts = and_parts (Offers.is_established l.state && not l.peer_busy && nat_lt (l.s - l.a) t.k) (nat_lt l.s (length l.contents)) may in
-      let inner = and_parts (Offers.is_established l.state && not l.peer_busy) (nat_lt (l.s - l.a) t.k) parts.0 in
-      let here = and_parts (Offers.is_established l.state) (not l.peer_busy) inner.0 in
-      let f : Parts = record (frame_of t (Offers.next_information l)) { info = unwrap_or (slice_get l.contents l.s) [] } in
+      let parts = and_parts (is_established l.state && not l.peer_busy && nat_lt (l.s - l.a) t.k) (nat_lt l.s (length l.contents)) may in
+      let inner = and_parts (is_established l.state && not l.peer_busy) (nat_lt (l.s - l.a) t.k) parts.0 in
+      let here = and_parts (is_established l.state) (not l.peer_busy) inner.0 in
+      let f : Parts = record (frame_of t (next_information l)) { info = unwrap_or (slice_get l.contents l.s) [] } in
       record {
         state = state;
         r = r;
@@ -176,12 +171,12 @@ module _ (t : Terms) (l : Link) where
   branch true u v x y = x refl
   branch false u v x y = y
 
-  offers : (ws : List ControlFrame) → l.waiting ≡ ws → Offered t l (Offers.offer_among t ws (begun l))
+  offers : (ws : List ControlFrame) → l.waiting ≡ ws → Offered t l (offer_among t ws (begun l))
   offers (f ∷ fs) e = waited f fs e
   offers [] e =
-      branch (Offers.may_send_information t l) _ _
-      (λ may. branch (Offers.is_awaiting_acknowledgement (Offers.with_one_sent l)) _ _ (λ run. informs _ may e refl refl refl refl refl refl) (informs _ may e refl refl refl refl refl refl))
+      branch (may_send_information t l) _ _
+      (λ may. branch (is_awaiting_acknowledgement (with_one_sent l)) _ _ (λ run. informs _ may e refl refl refl refl refl refl) (informs _ may e refl refl refl refl refl refl))
       (branch l.pending _ _ (λ owed. acknowledges e) idle)
 
-  pub offer-goes : Offered t l (Machine.course t offer l)
+  pub offer-goes : Offered t l (course t offer l)
   offer-goes = offers l.waiting refl

@@ -1,6 +1,5 @@
 -- Half a round: one end gives its next frame, and the other receives it.
-use Rattle.laws_link.proofs.Vocabulary.{◌≡◌, ℕ, zero, suc, ◌+◌, ◌-◌, ◌<◌, ◌≤◌, Bool, true, false, cond, ◌==◌, List, [], ◌∷◌, ◌++◌, length, take, None, Some, refl, sym, ap, subst, ◌∙◌, ◌⊎◌, inl, inr, append-nil, eq-eqb, true≢false, arith, All, nat_lt, nat_le, slice_get, unwrap_or, ltb-true, ltb-false, le-ltb, le-leb, and_parts, All-head, All-tail, seq, named, distance-plain, Parts, frame, received, offer, IsInRange, IsSound, End, with_link, with_sent, with_first_lost, with_first_of, sound-after, IsReady, IsTaken, State}
-use Rattle.model_link.specs.Offers
+use Rattle.laws_link.proofs.Vocabulary.{◌≡◌, ℕ, zero, suc, ◌+◌, ◌-◌, ◌<◌, ◌≤◌, Bool, true, false, cond, ◌==◌, List, [], ◌∷◌, ◌++◌, length, take, None, Some, refl, sym, ap, subst, ◌∙◌, ◌⊎◌, inl, inr, append-nil, eq-eqb, true≢false, arith, All, nat_lt, nat_le, slice_get, unwrap_or, ltb-true, ltb-false, le-ltb, le-leb, and_parts, All-head, All-tail, seq, named, distance-plain, Parts, frame, received, offer, IsInRange, IsSound, End, with_link, with_sent, with_first_lost, with_first_of, sound-after, IsReady, IsTaken, State, may_send_information}
 use Rattle.laws_link.proofs.OfTwo.Plain.{plain, is_plain, information_frame, acknowledgement_frame, with_information, with_acknowledgement, with_taken, with_all_acknowledged, gives-information, gives-acknowledgement, gives-nothing, takes-information, takes-acknowledgement}
 
 -- an N(R) names the number that it means, if that lies between V(A) and V(S)
@@ -30,7 +29,7 @@ pub record One (n m n' m' : End) : Type 0 where
   pub delivered : m'.delivered ≡ m.delivered ++ unwrap_or (slice_get n.link.contents n.link.s) [] ∷ []
 
 pub record Nothing (n m n' m' : End) : Type 0 where
-  pub may : Offers.may_send_information n.terms (plain n.link) ≡ false
+  pub may : may_send_information n.terms (plain n.link) ≡ false
   pub sent : n'.link.s ≡ n.link.s
   pub received : m'.link.r ≡ m.link.r
   pub pending : m'.link.pending ≡ m.link.pending
@@ -98,7 +97,7 @@ module _ (n m : End) (hn : IsReady n) (hm : IsReady m) (there : IsTaken n m) (ba
       record { terms = refl; contents = refl; a = refl; r = refl; delivered = refl; pending = refl; state = refl; peer_busy = refl; own_busy = refl; waiting = refl; way = refl }
 
   -- an I-frame goes
-  one : Offers.may_send_information n.terms (plain n.link) ≡ true → Moved n m (giver_of n) (taker_of n m)
+  one : may_send_information n.terms (plain n.link) ≡ true → Moved n m (giver_of n) (taker_of n m)
   one may =
       let parts = and_parts (nat_lt (n.link.s - n.link.a) n.terms.k) (nat_lt n.link.s (length n.link.contents)) may in
       let gives : with_sent n ≡ record n { link = with_information n.link; way = information_frame n.terms n.link ∷ [] } = ap with_sent (is_plain n hn) ∙ gives-information false false n may in
@@ -116,7 +115,7 @@ module _ (n m : End) (hn : IsReady n) (hm : IsReady m) (there : IsTaken n m) (ba
       }))
 
   -- an acknowledgement goes
-  acknowledges : Offers.may_send_information n.terms (plain n.link) ≡ false → n.link.pending ≡ true → Moved n m (giver_of n) (taker_of n m)
+  acknowledges : may_send_information n.terms (plain n.link) ≡ false → n.link.pending ≡ true → Moved n m (giver_of n) (taker_of n m)
   acknowledges may owed =
       let gives : with_sent n ≡ record n { link = with_acknowledgement n.link; way = acknowledgement_frame n.terms n.link ∷ [] } = ap with_sent (is_plain n hn) ∙ gives-acknowledgement false false n may owed in
       let takes : with_link (received (frame (acknowledgement_frame n.terms n.link))) m ≡ record m { link = with_all_acknowledged m.link; way = []; delivered = m.delivered ++ [] } =
@@ -130,7 +129,7 @@ module _ (n m : End) (hn : IsReady n) (hm : IsReady m) (there : IsTaken n m) (ba
       }))
 
   -- nothing goes: then nothing is outstanding at the other end
-  rests : Offers.may_send_information n.terms (plain n.link) ≡ false → n.link.pending ≡ false → Moved n m (giver_of n) (taker_of n m)
+  rests : may_send_information n.terms (plain n.link) ≡ false → n.link.pending ≡ false → Moved n m (giver_of n) (taker_of n m)
   rests may owed =
       let gives : with_sent n ≡ record n { link = with_acknowledgement n.link; way = [] } = ap with_sent (is_plain n hn) ∙ gives-nothing false false n may owed in
       subst (λ x. Moved n m (with_first_lost x) (with_first_of x.way m)) (sym gives)
@@ -140,13 +139,13 @@ module _ (n m : End) (hn : IsReady n) (hm : IsReady m) (there : IsTaken n m) (ba
         moved = inr (record { may = may; sent = refl; received = refl; pending = refl; delivered = refl });
       })
 
-  by-flags : (may owed : Bool) → Offers.may_send_information n.terms (plain n.link) ≡ may → n.link.pending ≡ owed → Moved n m (giver_of n) (taker_of n m)
+  by-flags : (may owed : Bool) → may_send_information n.terms (plain n.link) ≡ may → n.link.pending ≡ owed → Moved n m (giver_of n) (taker_of n m)
   by-flags true owed e p = one e
   by-flags false true e p = acknowledges e p
   by-flags false false e p = rests e p
 
   pub moves : Moved n m (giver_of n) (taker_of n m)
-  moves = by-flags (Offers.may_send_information n.terms (plain n.link)) n.link.pending refl refl
+  moves = by-flags (may_send_information n.terms (plain n.link)) n.link.pending refl refl
 
   -- both ends stay sound
   sound-taker : (way : List Parts) → IsSound (with_first_of way m).terms (with_first_of way m).link

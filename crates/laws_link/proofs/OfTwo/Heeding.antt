@@ -1,9 +1,5 @@
 -- Where T200 runs while the terminal is taken for busy: each word, and each row.
-use Rattle.laws_link.proofs.Vocabulary.{◌≡◌, ℕ, Bool, true, false, cond, IsTrue, List, Option, None, Some, refl, sym, subst, true≢false, Seq, named, Control, Information, ReceiveReady, ReceiveNotReady, Reject, Sabme, Disc, Ui, Ua, Dm, Frmr, Xid, Note, State, TeiAssigned, AwaitingEstablishment, AwaitingRelease, Established, TimerRecovery, LinkTimer, T200, T203, ControlFrame, Terms, Course, Step, ◌then◌, frame_in_4, establish_in_4, frame_in_5, t200_in_5, frame_in_6, t200_in_6, Leads, then_leads, keeping_then, nothing_leads, depending_leads, bit_leads, to_less, HeedsIn, leaves, ErrorCode, number_leads}
-use Rattle.model_link.specs.Words
-use Rattle.model_link.specs.MultipleFrame
-use Rattle.model_link.specs.Established
-use Rattle.model_link.specs.TimerRecovery
+use Rattle.laws_link.proofs.Vocabulary.{◌≡◌, ℕ, Bool, true, false, cond, IsTrue, List, Option, None, Some, refl, sym, subst, true≢false, Seq, named, Control, Information, ReceiveReady, ReceiveNotReady, Reject, Sabme, Disc, Ui, Ua, Dm, Frmr, Xid, Note, State, TeiAssigned, AwaitingEstablishment, AwaitingRelease, Established, TimerRecovery, LinkTimer, T200, T203, ControlFrame, Terms, Course, Step, ◌then◌, frame_in_4, establish_in_4, frame_in_5, t200_in_5, frame_in_6, t200_in_6, Leads, then_leads, keeping_then, nothing_leads, depending_leads, bit_leads, to_less, HeedsIn, leaves, ErrorCode, number_leads, acknowledge, by_number, clear_flags, enter, no_timer, note, peer_busy_is, re_establish, release_confirm, start, release_in_7_8, acknowledged_by_information_in_7, acknowledged_by_rej_in_7, acknowledged_by_rnr_in_7, acknowledged_in_7, frame_in_7, timer_in_7, acknowledged_in_8, frame_in_8, t200_in_8}
 
 -- A claim on the state, on whether the terminal is taken for busy, and on the timer that runs.
 abbrev pub Claim : Type 1
@@ -75,32 +71,32 @@ module _ (f : Step) where
 
 -- the words that change what is claimed
 module _ {g : Step} {R : Course → Type 0} where
-  pub flags_then : {P : Claim} → Leads (On calm) g R → Leads (On P) (Words.clear_flags then g) R
-  flags_then x = record { leads = λ c h. x.leads (Words.clear_flags c) (record { holds = refl }) }
+  pub flags_then : {P : Claim} → Leads (On calm) g R → Leads (On P) (clear_flags then g) R
+  flags_then x = record { leads = λ c h. x.leads (clear_flags c) (record { holds = refl }) }
 
-  pub t200_then : {P : Claim} → Leads (On awake) g R → Leads (On P) (Words.start T200 then g) R
-  t200_then x = record { leads = λ c h. x.leads (Words.start T200 c) (record { holds = refl }) }
+  pub t200_then : {P : Claim} → Leads (On awake) g R → Leads (On P) (start T200 then g) R
+  t200_then x = record { leads = λ c h. x.leads (start T200 c) (record { holds = refl }) }
 
-  pub start_then : (timer : LinkTimer) → Leads (On calm) g R → Leads (On calm) (Words.start timer then g) R
-  start_then timer x = record { leads = λ c h. x.leads (Words.start timer c) (record { holds = h.holds }) }
+  pub start_then : (timer : LinkTimer) → Leads (On calm) g R → Leads (On calm) (start timer then g) R
+  start_then timer x = record { leads = λ c h. x.leads (start timer c) (record { holds = h.holds }) }
 
-  pub start_from_8_then : (timer : LinkTimer) → Leads (On calm) g R → Leads (On calm_in_8) (Words.start timer then g) R
-  start_from_8_then timer x = record { leads = λ c h. x.leads (Words.start timer c) (record { holds = h.holds.2 }) }
+  pub start_from_8_then : (timer : LinkTimer) → Leads (On calm) g R → Leads (On calm_in_8) (start timer then g) R
+  start_from_8_then timer x = record { leads = λ c h. x.leads (start timer c) (record { holds = h.holds.2 }) }
 
   pub calm_then : (here : State) {P : Claim} → ((state : State) (busy : Bool) (running : Option LinkTimer) → P state busy running → state ≡ here)
-      → Leads (On (calm_at here)) g R → Leads (On P) (Words.peer_busy_is false then g) R
-  calm_then here w x = record { leads = λ c h. x.leads (Words.peer_busy_is false c) (record { holds = (w c.link.state c.link.peer_busy c.link.running h.holds, refl) }) }
+      → Leads (On (calm_at here)) g R → Leads (On P) (peer_busy_is false then g) R
+  calm_then here w x = record { leads = λ c h. x.leads (peer_busy_is false c) (record { holds = (w c.link.state c.link.peer_busy c.link.running h.holds, refl) }) }
 
-pub enter_7_calm : Leads (On calm) (Words.enter Established) (On heeding)
+pub enter_7_calm : Leads (On calm) (enter Established) (On heeding)
 enter_7_calm = record { leads = λ c h. record { holds = not-busy c.link.peer_busy c.link.running h.holds } }
 
-pub enter_7_awake : Leads (On awake) (Words.enter Established) (On heeding)
+pub enter_7_awake : Leads (On awake) (enter Established) (On heeding)
 enter_7_awake = record { leads = λ c h. record { holds = λ b. h.holds } }
 
-pub enter_5_calm : Leads (On calm) (Words.enter AwaitingEstablishment) (On heeding)
+pub enter_5_calm : Leads (On calm) (enter AwaitingEstablishment) (On heeding)
 enter_5_calm = record { leads = λ c h. record { holds = h.holds } }
 
-pub enter_8_awake : Leads (On awake) (Words.enter TimerRecovery) (On heeding)
+pub enter_8_awake : Leads (On awake) (enter TimerRecovery) (On heeding)
 enter_8_awake = record { leads = λ c h. record { holds = h.holds } }
 
 -- whatever was claimed
@@ -108,23 +104,23 @@ any : Claim
 any state busy running = Unit {0}
 
 module _ {P : Claim} (t : Terms) where
-  pub re_establish_heeds : (x : Note) → Leads (On P) (Words.note x then Words.re_establish t) (On heeding)
+  pub re_establish_heeds : (x : Note) → Leads (On P) (note x then re_establish t) (On heeding)
   re_establish_heeds x = record { leads = λ c h. record { holds = refl } }
 
-  pub enter_4_heeds : Leads (On P) (Words.enter TeiAssigned) (On heeding)
+  pub enter_4_heeds : Leads (On P) (enter TeiAssigned) (On heeding)
   enter_4_heeds = record { leads = λ c h. record { holds = tt } }
 
-  pub enter_6_heeds : Leads (On P) (Words.enter AwaitingRelease) (On heeding)
+  pub enter_6_heeds : Leads (On P) (enter AwaitingRelease) (On heeding)
   enter_6_heeds = record { leads = λ c h. record { holds = tt } }
 
-  pub number_heeds : (nr : Seq) {f : ℕ → Step} → ((m : ℕ) → Leads (On P) (f m) (On heeding)) → Leads (On P) (Words.by_number t nr f) (On heeding)
+  pub number_heeds : (nr : Seq) {f : ℕ → Step} → ((m : ℕ) → Leads (On P) (f m) (On heeding)) → Leads (On P) (by_number t nr f) (On heeding)
   number_heeds nr x = number_leads t nr (re_establish_heeds _) x
 
   -- a last word that may stop a timer: into state 4
-  pub no_timer_then_4 : Leads (On P) (Words.no_timer then Words.enter TeiAssigned) (On heeding)
+  pub no_timer_then_4 : Leads (On P) (no_timer then enter TeiAssigned) (On heeding)
   no_timer_then_4 = record { leads = λ c h. record { holds = tt } }
 
-  pub start_then_6 : (timer : LinkTimer) → Leads (On P) (Words.start timer then Words.enter AwaitingRelease) (On heeding)
+  pub start_then_6 : (timer : LinkTimer) → Leads (On P) (start timer then enter AwaitingRelease) (On heeding)
   start_then_6 timer = record { leads = λ c h. record { holds = tt } }
 
 pub ruleset rows = (words, flags_then, enter_7_calm, enter_7_awake, enter_5_calm, enter_8_awake, re_establish_heeds, enter_4_heeds, enter_6_heeds, number_heeds, no_timer_then_4, start_then_6)
@@ -139,7 +135,7 @@ module _ (t : Terms) where
   pub establishes : Leads (On (at_state TeiAssigned)) (establish_in_4 t) (On heeding)
   establishes = record { leads = λ c h. record { holds = refl } }
 
-  pub releases_4 : Leads (On (at_state TeiAssigned)) (Words.release_confirm t) (On heeding)
+  pub releases_4 : Leads (On (at_state TeiAssigned)) (release_confirm t) (On heeding)
   releases_4 = search (words, as_4) depth 12 fits 4000
 
 -- State 5.
@@ -155,7 +151,7 @@ module _ (t : Terms) where
   in_5 octets (Dm true) = search rows depth 14 fits 6000
   in_5 octets other = search (words, as_5) depth 12 fits 4000
 
-  start_last_5 : (timer : LinkTimer) → Leads (On (calm_at AwaitingEstablishment)) (Words.start timer) (On heeding)
+  start_last_5 : (timer : LinkTimer) → Leads (On (calm_at AwaitingEstablishment)) (start timer) (On heeding)
   start_last_5 timer = record { leads = λ c h. record { holds = down_heeds AwaitingEstablishment c.link.state c.link.peer_busy (Some timer) h.holds.0 h.holds.1 } }
 
   pub t200_5 : Leads (On (calm_at AwaitingEstablishment)) (t200_in_5 t) (On heeding)
@@ -168,47 +164,47 @@ module _ (t : Terms) where
   in_6 octets (Dm true) = search rows depth 14 fits 6000
   in_6 octets other = search (words, as_6) depth 12 fits 4000
 
-  start_last_6 : (timer : LinkTimer) → Leads (On (at_state AwaitingRelease)) (Words.start timer) (On heeding)
+  start_last_6 : (timer : LinkTimer) → Leads (On (at_state AwaitingRelease)) (start timer) (On heeding)
   start_last_6 timer = record { leads = λ c h. record { holds = down_heeds AwaitingRelease c.link.state c.link.peer_busy (Some timer) h.holds tt } }
 
   pub t200_6 : Leads (On (at_state AwaitingRelease)) (t200_in_6 t) (On heeding)
   t200_6 = search (rows, start_last_6) depth 14 fits 6000
 
 -- State 7.
-calm_7_start : (timer : LinkTimer) → Leads (On (calm_at Established)) (Words.start timer) (On (calm_at Established))
+calm_7_start : (timer : LinkTimer) → Leads (On (calm_at Established)) (start timer) (On (calm_at Established))
 calm_7_start timer = record { leads = λ c h. record { holds = h.holds } }
 
-awake_7_start : Leads (On (at_state Established)) (Words.start T200) (On (awake_at Established))
+awake_7_start : Leads (On (at_state Established)) (start T200) (On (awake_at Established))
 awake_7_start = record { leads = λ c h. record { holds = (h.holds, refl) } }
 
-calm_7_then : {g : Step} → Leads (On (calm_at Established)) g (On heeding) → Leads (On heeding_in_7) (Words.peer_busy_is false then g) (On heeding)
+calm_7_then : {g : Step} → Leads (On (calm_at Established)) g (On heeding) → Leads (On heeding_in_7) (peer_busy_is false then g) (On heeding)
 calm_7_then x = calm_then Established (λ state busy running h. h.0) x
 
-busy_7_then : {g : Step} → Leads (On (at_state Established)) g (On heeding) → Leads (On heeding_in_7) (Words.peer_busy_is true then g) (On heeding)
-busy_7_then x = record { leads = λ c h. x.leads (Words.peer_busy_is true c) (record { holds = h.holds.0 }) }
+busy_7_then : {g : Step} → Leads (On (at_state Established)) g (On heeding) → Leads (On heeding_in_7) (peer_busy_is true then g) (On heeding)
+busy_7_then x = record { leads = λ c h. x.leads (peer_busy_is true c) (record { holds = h.holds.0 }) }
 
-in_7_calm : (n : ℕ) → Leads (On (calm_at Established)) (Established.acknowledged_in_7 n) (On heeding)
+in_7_calm : (n : ℕ) → Leads (On (calm_at Established)) (acknowledged_in_7 n) (On heeding)
 in_7_calm n = as_calm_7 _ (search (words, calm_7_start) depth 12 fits 4000)
 
-rnr_7 : (n : ℕ) → Leads (On (at_state Established)) (Established.acknowledged_by_rnr_in_7 n) (On heeding)
+rnr_7 : (n : ℕ) → Leads (On (at_state Established)) (acknowledged_by_rnr_in_7 n) (On heeding)
 rnr_7 n = as_awake_7 _ (search (words, awake_7_start))
 
-rej_7 : (n : ℕ) → Leads (On (calm_at Established)) (Established.acknowledged_by_rej_in_7 n) (On heeding)
+rej_7 : (n : ℕ) → Leads (On (calm_at Established)) (acknowledged_by_rej_in_7 n) (On heeding)
 rej_7 n = as_calm_7 _ (search (words, calm_7_start) depth 12 fits 4000)
 
 -- an I-frame's N(R), by whether the terminal is taken for busy
 information-by : (n : ℕ) (c : Course) → On heeding_in_7 c → (b : Bool) → c.link.peer_busy ≡ b
-    → On heeding (cond b (Words.acknowledge n c) (Established.acknowledged_in_7 n c))
-information-by n c h true e = (as_7 (Words.acknowledge n) (leaves {f = Words.acknowledge n} (λ c h. h))).leads c h
+    → On heeding (cond b (acknowledge n c) (acknowledged_in_7 n c))
+information-by n c h true e = (as_7 (acknowledge n) (leaves {f = acknowledge n} (λ c h. h))).leads c h
 information-by n c h false e = (in_7_calm n).leads c (record { holds = (h.holds.0, e) })
 
-information_7 : (n : ℕ) → Leads (On heeding_in_7) (Established.acknowledged_by_information_in_7 n) (On heeding)
+information_7 : (n : ℕ) → Leads (On heeding_in_7) (acknowledged_by_information_in_7 n) (On heeding)
 information_7 n = record { leads = λ c h. information-by n c h c.link.peer_busy refl }
 
 ruleset rows_7 = (rows, calm_7_then, busy_7_then, in_7_calm, rnr_7, rej_7, information_7)
 
 module _ (t : Terms) where
-  pub in_7 : (b : Bool) (octets : List ℕ) (control : Control) → Leads (On heeding_in_7) (Established.frame_in_7 t b octets control) (On heeding)
+  pub in_7 : (b : Bool) (octets : List ℕ) (control : Control) → Leads (On heeding_in_7) (frame_in_7 t b octets control) (On heeding)
   in_7 b octets (Sabme p) = search (rows, start_then) depth 14 fits 6000
   in_7 b octets (Disc p) = search rows depth 14 fits 6000
   in_7 b octets (Ua f) = search (words, as_7) depth 14 fits 6000
@@ -219,35 +215,35 @@ module _ (t : Terms) where
   in_7 b octets (Xid pf) = search (words, as_7) depth 14 fits 6000
   in_7 b octets other = search rows_7 depth 14 fits 6000
 
-  pub timer_7 : Leads (On heeding_in_7) (Established.timer_in_7 t) (On heeding)
+  pub timer_7 : Leads (On heeding_in_7) (timer_in_7 t) (On heeding)
   timer_7 = search (rows, t200_then) depth 14 fits 6000
 
-  pub release_7_8 : {P : Claim} → Leads (On P) (MultipleFrame.release_in_7_8 t) (On heeding)
+  pub release_7_8 : {P : Claim} → Leads (On P) (release_in_7_8 t) (On heeding)
   release_7_8 = search rows depth 14 fits 6000
 
 -- State 8.
-calm_8_then : {g : Step} → Leads (On calm_in_8) g (On heeding) → Leads (On (awake_at TimerRecovery)) (Words.peer_busy_is false then g) (On heeding)
-calm_8_then x = record { leads = λ c h. x.leads (Words.peer_busy_is false c) (record { holds = (h.holds.0, h.holds.1, refl) }) }
+calm_8_then : {g : Step} → Leads (On calm_in_8) g (On heeding) → Leads (On (awake_at TimerRecovery)) (peer_busy_is false then g) (On heeding)
+calm_8_then x = record { leads = λ c h. x.leads (peer_busy_is false c) (record { holds = (h.holds.0, h.holds.1, refl) }) }
 
-busy_8_then : {g : Step} → Leads (On (awake_at TimerRecovery)) g (On heeding) → Leads (On (awake_at TimerRecovery)) (Words.peer_busy_is true then g) (On heeding)
-busy_8_then x = record { leads = λ c h. x.leads (Words.peer_busy_is true c) (record { holds = h.holds }) }
+busy_8_then : {g : Step} → Leads (On (awake_at TimerRecovery)) g (On heeding) → Leads (On (awake_at TimerRecovery)) (peer_busy_is true then g) (On heeding)
+busy_8_then x = record { leads = λ c h. x.leads (peer_busy_is true c) (record { holds = h.holds }) }
 
 calm_8 : {f : Step} → Leads (On calm_in_8) f (On calm_in_8) → Leads (On calm_in_8) f (On heeding)
 calm_8 x = to_less (λ c h. record { holds = down_heeds TimerRecovery c.link.state c.link.peer_busy c.link.running h.holds.0 h.holds.1 }) x
 
-acknowledged_8 : (b : Bool) (n : ℕ) → Leads (On calm_in_8) (TimerRecovery.acknowledged_in_8 T203 b n) (On heeding)
+acknowledged_8 : (b : Bool) (n : ℕ) → Leads (On calm_in_8) (acknowledged_in_8 T203 b n) (On heeding)
 acknowledged_8 b n = search (rows, start_from_8_then, calm_8) depth 14 fits 6000
 
-rnr_8 : (b : Bool) (n : ℕ) → Leads (On (awake_at TimerRecovery)) (TimerRecovery.acknowledged_in_8 T200 b n) (On heeding)
+rnr_8 : (b : Bool) (n : ℕ) → Leads (On (awake_at TimerRecovery)) (acknowledged_in_8 T200 b n) (On heeding)
 rnr_8 b n = search (rows, t200_then, as_8) depth 14 fits 6000
 
-acknowledge_8 : (n : ℕ) → Leads (On (awake_at TimerRecovery)) (Words.acknowledge n) (On heeding)
-acknowledge_8 n = as_8 (Words.acknowledge n) (leaves (λ c h. h))
+acknowledge_8 : (n : ℕ) → Leads (On (awake_at TimerRecovery)) (acknowledge n) (On heeding)
+acknowledge_8 n = as_8 (acknowledge n) (leaves (λ c h. h))
 
 ruleset rows_8 = (rows, calm_8_then, busy_8_then, acknowledged_8, rnr_8, acknowledge_8)
 
 module _ (t : Terms) where
-  pub in_8 : (b : Bool) (octets : List ℕ) (control : Control) → Leads (On (awake_at TimerRecovery)) (TimerRecovery.frame_in_8 t b octets control) (On heeding)
+  pub in_8 : (b : Bool) (octets : List ℕ) (control : Control) → Leads (On (awake_at TimerRecovery)) (frame_in_8 t b octets control) (On heeding)
   in_8 b octets (Sabme p) = search (rows, start_then) depth 14 fits 6000
   in_8 b octets (Disc p) = search rows depth 14 fits 6000
   in_8 b octets (Ua f) = search (words, as_8) depth 14 fits 6000
@@ -258,8 +254,8 @@ module _ (t : Terms) where
   in_8 b octets (Xid pf) = search (words, as_8) depth 14 fits 6000
   in_8 b octets other = search rows_8 depth 14 fits 6000
 
-  start_last_8 : Leads (On (awake_at TimerRecovery)) (Words.start T200) (On heeding)
+  start_last_8 : Leads (On (awake_at TimerRecovery)) (start T200) (On heeding)
   start_last_8 = record { leads = λ c h. record { holds = down_heeds TimerRecovery c.link.state c.link.peer_busy (Some T200) h.holds.0 refl } }
 
-  pub t200_8 : Leads (On (awake_at TimerRecovery)) (TimerRecovery.t200_in_8 t) (On heeding)
+  pub t200_8 : Leads (On (awake_at TimerRecovery)) (t200_in_8 t) (On heeding)
   t200_8 = search (rows, start_last_8) depth 14 fits 6000

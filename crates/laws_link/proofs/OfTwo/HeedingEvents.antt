@@ -1,8 +1,5 @@
 -- T200 runs while the terminal is taken for busy: every event.
-use Rattle.laws_link.proofs.Vocabulary.{◌≡◌, ℕ, Bool, true, false, cond, ◌&&◌, not, List, [], ◌∷◌, Option, None, Some, refl, sym, subst, true≢false, Control, ErrorCode, Refusal, State, TeiAssigned, AwaitingEstablishment, AwaitingRelease, Established, TimerRecovery, LinkTimer, T200, T203, ControlFrame, Terms, Link, fresh, frame, Request, Establish, Release, Data, Event, received, expired, requested, offer, cleared, Course, begun, HeedsIn, Heeds, both_ways}
-use Rattle.model_link.specs.Requests
-use Rattle.model_link.specs.Offers
-use Rattle.model_link.specs.Machine
+use Rattle.laws_link.proofs.Vocabulary.{◌≡◌, ℕ, Bool, true, false, cond, ◌&&◌, not, List, [], ◌∷◌, Option, None, Some, refl, sym, subst, true≢false, Control, ErrorCode, Refusal, State, TeiAssigned, AwaitingEstablishment, AwaitingRelease, Established, TimerRecovery, LinkTimer, T200, T203, ControlFrame, Terms, Link, fresh, frame, Request, Establish, Release, Data, Event, received, expired, requested, offer, cleared, Course, begun, HeedsIn, Heeds, both_ways, granted, refusal, release_in, is_awaiting_acknowledgement, is_established, may_send_information, offer_among, with_one_sent, after, after_all, expired_in, frame_in, frame_step, is_running, malformed_in}
 use Rattle.laws_link.proofs.OfTwo.Heeding
 
 abbrev Ends : Course → Type 0
@@ -30,22 +27,22 @@ module _ (t : Terms) (l : Link) where
   idle here e h = record { holds = subst (λ s. HeedsIn s l.peer_busy l.running) (sym e) h }
 
   frames-in : (here : State) → l.state ≡ here → HeedsIn here l.peer_busy l.running → (b : Bool) (octets : List ℕ) (control : Control)
-      → Ends (Machine.frame_in here t b octets control (begun l))
+      → Ends (frame_in here t b octets control (begun l))
   frames-in TeiAssigned e h b octets control = (Heeding.in_4 t octets control).leads (begun l) (at-4 e)
   frames-in AwaitingEstablishment e h b octets control = (Heeding.in_5 t octets control).leads (begun l) (at-5 e h)
   frames-in AwaitingRelease e h b octets control = (Heeding.in_6 t octets control).leads (begun l) (at-6 e)
   frames-in Established e h b octets control = (Heeding.in_7 t b octets control).leads (begun l) (at-7 e h)
   frames-in TimerRecovery e h b octets control = (Heeding.in_8 t b octets control).leads (begun l) (at-8 e h)
 
-  frames : Heeds l → (b : Bool) (octets : List ℕ) (control : Control) → Ends (Machine.frame_step t b octets control (begun l))
+  frames : Heeds l → (b : Bool) (octets : List ℕ) (control : Control) → Ends (frame_step t b octets control (begun l))
   frames h b octets control = frames-in l.state refl h.heeds b octets control
 
-  malformed : (e : ErrorCode) (here : State) → l.state ≡ here → HeedsIn here l.peer_busy l.running → Ends (Machine.malformed_in here t e (begun l))
+  malformed : (e : ErrorCode) (here : State) → l.state ≡ here → HeedsIn here l.peer_busy l.running → Ends (malformed_in here t e (begun l))
   malformed e Established s h = record { holds = refl }
   malformed e TimerRecovery s h = record { holds = refl }
   malformed e other s h = record { holds = subst (λ x. HeedsIn x l.peer_busy l.running) (sym s) h }
 
-  expiries : (here : State) → l.state ≡ here → HeedsIn here l.peer_busy l.running → (timer : LinkTimer) → Ends (Machine.expired_in here timer t (begun l))
+  expiries : (here : State) → l.state ≡ here → HeedsIn here l.peer_busy l.running → (timer : LinkTimer) → Ends (expired_in here timer t (begun l))
   expiries TeiAssigned e h timer = idle TeiAssigned e h
   expiries AwaitingEstablishment e h T200 = (Heeding.t200_5 t).leads (begun l) (at-5 e h)
   expiries AwaitingEstablishment e h T203 = idle AwaitingEstablishment e h
@@ -55,24 +52,24 @@ module _ (t : Terms) (l : Link) where
   expiries TimerRecovery e h T200 = (Heeding.t200_8 t).leads (begun l) (at-8 e h)
   expiries TimerRecovery e h T203 = idle TimerRecovery e h
 
-  releases : (here : State) → l.state ≡ here → HeedsIn here l.peer_busy l.running → Ends (Requests.release_in here t (begun l))
+  releases : (here : State) → l.state ≡ here → HeedsIn here l.peer_busy l.running → Ends (release_in here t (begun l))
   releases TeiAssigned e h = (Heeding.releases_4 t).leads (begun l) (at-4 e)
   releases Established e h = (Heeding.release_7_8 t).leads (begun l) (at-7 e h)
   releases TimerRecovery e h = (Heeding.release_7_8 t).leads (begun l) (at-8 e h)
   releases other e h = idle other e h
 
-  grants : Heeds l → (request : Request) → Ends (Requests.granted t request (begun l))
+  grants : Heeds l → (request : Request) → Ends (granted t request (begun l))
   grants h Establish = record { holds = refl }
   grants h Release = releases l.state refl h.heeds
   grants h (Data octets) = record { holds = h.heeds }
   grants h other = both_ways Ends l.own_busy _ _ (record { holds = h.heeds }) (record { holds = h.heeds })
 
-  asked : Heeds l → (request : Request) (o : Option Refusal) → Ends (elim o [ None ↦ Requests.granted t request (begun l) | Some _ ↦ begun l ])
+  asked : Heeds l → (request : Request) (o : Option Refusal) → Ends (elim o [ None ↦ granted t request (begun l) | Some _ ↦ begun l ])
   asked h request None = grants h request
   asked h request (Some w) = record { holds = h.heeds }
 
   -- an I-frame goes in state 7 alone, and only while the terminal is not busy
-  free : (state : State) (busy x y : Bool) → (Offers.is_established state && not busy && x && y) ≡ true → (running : Option LinkTimer) → HeedsIn state busy running
+  free : (state : State) (busy x y : Bool) → (is_established state && not busy && x && y) ≡ true → (running : Option LinkTimer) → HeedsIn state busy running
   free AwaitingEstablishment busy x y e running = absurd (true≢false (sym e))
   free Established true x y e running = absurd (true≢false (sym e))
   free Established false x y e running = λ b. absurd (true≢false (sym b))
@@ -83,18 +80,18 @@ module _ (t : Terms) (l : Link) where
   told true u v x y = x refl
   told false u v x y = y
 
-  offers : Heeds l → (ws : List ControlFrame) → Ends (Offers.offer_among t ws (begun l))
+  offers : Heeds l → (ws : List ControlFrame) → Ends (offer_among t ws (begun l))
   offers h (f ∷ fs) = record { holds = h.heeds }
   offers h [] =
-      told (Offers.may_send_information t l) _ _
-      (λ e. both_ways Ends (Offers.is_awaiting_acknowledgement (Offers.with_one_sent l)) _ _
+      told (may_send_information t l) _ _
+      (λ e. both_ways Ends (is_awaiting_acknowledgement (with_one_sent l)) _ _
       (record { holds = free l.state l.peer_busy _ _ e l.running }) (record { holds = free l.state l.peer_busy _ _ e (Some T200) }))
       (both_ways Ends l.pending _ _ (record { holds = h.heeds }) (record { holds = h.heeds }))
 
-pub heeds-after : (t : Terms) (e : Event) (l : Link) → Heeds l → Heeds (Machine.after t e l)
+pub heeds-after : (t : Terms) (e : Event) (l : Link) → Heeds l → Heeds (after t e l)
 heeds-after t (received (frame f)) l h = record { heeds = (frames t l h f.address.command f.info f.control).holds }
-heeds-after t (expired timer) l h = record { heeds = (both_ways Ends (Machine.is_running timer l) _ _ (expiries t l l.state refl h.heeds timer) (record { holds = h.heeds })).holds }
-heeds-after t (requested request full) l h = record { heeds = (asked t l h request (Requests.refusal t l full request)).holds }
+heeds-after t (expired timer) l h = record { heeds = (both_ways Ends (is_running timer l) _ _ (expiries t l l.state refl h.heeds timer) (record { holds = h.heeds })).holds }
+heeds-after t (requested request full) l h = record { heeds = (asked t l h request (refusal t l full request)).holds }
 heeds-after t offer l h = record { heeds = (offers t l h l.waiting).holds }
 heeds-after t cleared l h = record { heeds = tt }
 heeds-after t other l h = record { heeds = (malformed t l _ l.state refl h.heeds).holds }
@@ -102,7 +99,7 @@ heeds-after t other l h = record { heeds = (malformed t l _ l.state refl h.heeds
 pub heeds-fresh : Heeds fresh
 heeds-fresh = record { heeds = tt }
 
-pub heeds-all : (t : Terms) (es : List Event) (l : Link) → Heeds l → Heeds (Machine.after_all t es l)
-unfolding Machine.after_all
+pub heeds-all : (t : Terms) (es : List Event) (l : Link) → Heeds l → Heeds (after_all t es l)
+unfolding after_all
 heeds-all t [] l h = h
-heeds-all t (e ∷ es) l h = heeds-all t es (Machine.after t e l) (heeds-after t e l h)
+heeds-all t (e ∷ es) l h = heeds-all t es (after t e l) (heeds-after t e l h)

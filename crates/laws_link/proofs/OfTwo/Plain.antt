@@ -1,9 +1,6 @@
 -- An end in state 7 with nothing waiting: what it gives, and, with neither side busy, what it makes of what it receives.
-use Rattle.laws_link.proofs.Vocabulary.{◌≡◌, ℕ, ◌+◌, Bool, true, false, cond, ◌==◌, [], ◌∷◌, ◌++◌, length, Option, None, Some, refl, ap, ◌∙◌, nat_lt, slice_get, unwrap_or, option_to_list, Seq, seq, named, Information, ReceiveReady, Parts, T200, T203, Terms, Link, frame_of, address_at, runs, frame, received, Course, Step, begun, ◌then◌, changed, given_of, End, with_link, with_sent, frame_given, IsReady, ErrorCode, State}
-use Rattle.model_link.specs.Words
+use Rattle.laws_link.proofs.Vocabulary.{◌≡◌, ℕ, ◌+◌, Bool, true, false, cond, ◌==◌, [], ◌∷◌, ◌++◌, length, Option, None, Some, refl, ap, ◌∙◌, nat_lt, slice_get, unwrap_or, option_to_list, Seq, seq, named, Information, ReceiveReady, Parts, T200, T203, Terms, Link, frame_of, address_at, runs, frame, received, Course, Step, begun, ◌then◌, changed, given_of, End, with_link, with_sent, frame_given, IsReady, ErrorCode, State, acknowledge, by_number, error, pending_is, re_establish, response, start, acknowledged_by_information_in_7, acknowledged_in_7, give_information, may_send_information, send_acknowledgement, send_information, with_one_sent}
 use Rattle.model_link.specs.MultipleFrame
-use Rattle.model_link.specs.Established
-use Rattle.model_link.specs.Offers
 
 -- with own busy, and the other end taken for busy, as the bits say
 abbrev pub plain_with : Bool → Bool → Link → Link
@@ -30,7 +27,7 @@ abbrev pub information_frame : Terms → Link → Parts
 information_frame t l = record { address = address_at t true; control = Information (seq l.s) (seq l.r) false; info = unwrap_or (slice_get l.contents l.s) [] }
 
 abbrev pub acknowledgement_frame : Terms → Link → Parts
-acknowledgement_frame t l = frame_of t (Words.response (ReceiveReady (seq l.r) false))
+acknowledgement_frame t l = frame_of t (response (ReceiveReady (seq l.r) false))
 
 -- What the end is after each offer.
 abbrev pub with_information_with : Bool → Bool → Link → Link
@@ -54,30 +51,30 @@ module _ (own busy : Bool) (n : End) where
   giving c = record n { link = c.link; way = [] ++ frame_given n.terms (given_of n.terms (plain_with own busy n.link) c c.sent) }
 
   abbrev informing : Course
-  informing = (Offers.give_information then changed Offers.with_one_sent then Words.pending_is false) first
+  informing = (give_information then changed with_one_sent then pending_is false) first
 
   abbrev otherwise : Course
-  otherwise = cond n.link.pending (Offers.send_acknowledgement first) first
+  otherwise = cond n.link.pending (send_acknowledgement first) first
 
   timed : (a : Bool) → runs T200 n.link.running ≡ a
-      → giving (cond a informing (Words.start T200 informing)) ≡ record n { link = record (plain_with own busy n.link) { s = n.link.s + 1; pending = false; running = cond a n.link.running (Some T200) }; way = information_frame n.terms n.link ∷ [] }
+      → giving (cond a informing (start T200 informing)) ≡ record n { link = record (plain_with own busy n.link) { s = n.link.s + 1; pending = false; running = cond a n.link.running (Some T200) }; way = information_frame n.terms n.link ∷ [] }
   timed true e = refl
   timed false e = refl
 
-  pub gives-information : Offers.may_send_information n.terms (plain_with own busy n.link) ≡ true
+  pub gives-information : may_send_information n.terms (plain_with own busy n.link) ≡ true
       → with_sent (plain_end_with own busy n) ≡ record n { link = with_information_with own busy n.link; way = information_frame n.terms n.link ∷ [] }
   gives-information may =
-      ap (λ b. giving (cond b (cond (runs T200 n.link.running) informing (Words.start T200 informing)) otherwise)) may ∙ timed (runs T200 n.link.running) refl
+      ap (λ b. giving (cond b (cond (runs T200 n.link.running) informing (start T200 informing)) otherwise)) may ∙ timed (runs T200 n.link.running) refl
 
-  pub gives-acknowledgement : Offers.may_send_information n.terms (plain_with own busy n.link) ≡ false → n.link.pending ≡ true
+  pub gives-acknowledgement : may_send_information n.terms (plain_with own busy n.link) ≡ false → n.link.pending ≡ true
       → with_sent (plain_end_with own busy n) ≡ record n { link = with_acknowledgement_with own busy n.link; way = acknowledgement_frame n.terms n.link ∷ [] }
   gives-acknowledgement may owed =
-      ap (λ b. giving (cond b (Offers.send_information first) otherwise)) may ∙ ap (λ b. giving (cond b (Offers.send_acknowledgement first) first)) owed
+      ap (λ b. giving (cond b (send_information first) otherwise)) may ∙ ap (λ b. giving (cond b (send_acknowledgement first) first)) owed
 
-  pub gives-nothing : Offers.may_send_information n.terms (plain_with own busy n.link) ≡ false → n.link.pending ≡ false
+  pub gives-nothing : may_send_information n.terms (plain_with own busy n.link) ≡ false → n.link.pending ≡ false
       → with_sent (plain_end_with own busy n) ≡ record n { link = with_acknowledgement_with own busy n.link; way = [] }
   gives-nothing may owed =
-      ap (λ b. giving (cond b (Offers.send_information first) otherwise)) may ∙ ap (λ b. giving (cond b (Offers.send_acknowledgement first) first)) owed
+      ap (λ b. giving (cond b (send_information first) otherwise)) may ∙ ap (λ b. giving (cond b (send_acknowledgement first) first)) owed
       ∙ ap (λ b. record n { link = record (plain_with own busy n.link) { pending = b }; way = [] }) owed
 
 -- What it is after each frame that acknowledges all.
@@ -96,20 +93,20 @@ module _ (m : End) (same : (m.link.s == m.link.s) ≡ true) where
 
   -- the effect of an N(R)
   abbrev effect : Seq → (ℕ → Step) → Course → Option ℕ → Course
-  effect nr f c o = elim o [ None ↦ (Words.error m.terms ErrorCode.J then Words.re_establish m.terms) c | Some x ↦ f x c ]
+  effect nr f c o = elim o [ None ↦ (error m.terms ErrorCode.J then re_establish m.terms) c | Some x ↦ f x c ]
 
   acknowledged : (nr : Seq) (c : Course) → named c.link.a c.link.s nr ≡ Some c.link.s → (c.link.s == c.link.s) ≡ true
-      → Words.by_number m.terms nr Established.acknowledged_in_7 c ≡ (Words.acknowledge c.link.s then Words.start T203) c
+      → by_number m.terms nr acknowledged_in_7 c ≡ (acknowledge c.link.s then start T203) c
   acknowledged nr c all test =
-      ap (effect nr Established.acknowledged_in_7 c) all
-      ∙ ap (λ b. cond b ((Words.acknowledge c.link.s then Words.start T203) c) (cond (nat_lt c.link.a c.link.s) ((Words.acknowledge c.link.s then Words.start T200) c) c)) test
+      ap (effect nr acknowledged_in_7 c) all
+      ∙ ap (λ b. cond b ((acknowledge c.link.s then start T203) c) (cond (nat_lt c.link.a c.link.s) ((acknowledge c.link.s then start T200) c) c)) test
 
   by-information : (nr : Seq) (c : Course) → c.link.peer_busy ≡ false → named c.link.a c.link.s nr ≡ Some c.link.s → (c.link.s == c.link.s) ≡ true
-      → Words.by_number m.terms nr Established.acknowledged_by_information_in_7 c ≡ (Words.acknowledge c.link.s then Words.start T203) c
+      → by_number m.terms nr acknowledged_by_information_in_7 c ≡ (acknowledge c.link.s then start T203) c
   by-information nr c free all test =
-      ap (effect nr Established.acknowledged_by_information_in_7 c) all
-      ∙ ap (λ b. cond b (Words.acknowledge c.link.s c) (Established.acknowledged_in_7 c.link.s c)) free
-      ∙ ap (λ b. cond b ((Words.acknowledge c.link.s then Words.start T203) c) (cond (nat_lt c.link.a c.link.s) ((Words.acknowledge c.link.s then Words.start T200) c) c)) test
+      ap (effect nr acknowledged_by_information_in_7 c) all
+      ∙ ap (λ b. cond b (acknowledge c.link.s c) (acknowledged_in_7 c.link.s c)) free
+      ∙ ap (λ b. cond b ((acknowledge c.link.s then start T203) c) (cond (nat_lt c.link.a c.link.s) ((acknowledge c.link.s then start T200) c) c)) test
 
   pub takes-information : (t : Terms) (l : Link) → nat_lt m.terms.n201 (length (unwrap_or (slice_get l.contents l.s) [])) ≡ false
       → ((seq l.s).value == (seq m.link.r).value) ≡ true → named m.link.a m.link.s (seq l.r) ≡ Some m.link.s
@@ -117,7 +114,7 @@ module _ (m : End) (same : (m.link.s == m.link.s) ≡ true) where
       ≡ record m { link = with_taken m.link; way = []; delivered = m.delivered ++ unwrap_or (slice_get l.contents l.s) [] ∷ [] }
   takes-information t l fits next all =
       let octets = unwrap_or (slice_get l.contents l.s) [] in
-      let number = Words.by_number m.terms (seq l.r) Established.acknowledged_by_information_in_7 in
+      let number = by_number m.terms (seq l.r) acknowledged_by_information_in_7 in
       ap (λ b. having (cond b (MultipleFrame.failed m.terms ErrorCode.O here) (number (MultipleFrame.contents_in_7_8 m.terms (seq l.s) false octets here)))) fits
       ∙ ap (λ b. having (number (cond b (MultipleFrame.in_sequence m.terms false octets here) (MultipleFrame.out_of_sequence m.terms false here)))) next
       ∙ ap having (by-information (seq l.r) (MultipleFrame.in_sequence m.terms false octets here) refl all same)

@@ -1,6 +1,5 @@
 -- Two ends of which each asks or has nothing outstanding: after a round or two both are ready, and nothing is missing.
-use Rattle.laws_link.proofs.Vocabulary.{◌≡◌, ℕ, suc, ◌+◌, ◌-◌, ◌<◌, ◌≤◌, Bool, true, false, cond, ◌==◌, List, [], ◌∷◌, ◌++◌, length, take, Option, Some, refl, sym, ap, subst, ◌∙◌, eq-eqb, arith, All, nat_lt, slice_get, unwrap_or, lt-ltb, le-ltb, ltb-true, and_parts, seq, named, Parts, LinkTimer, T203, frame, received, offer, IsInRange, IsSound, End, Ends, with_first_of, with_first_lost, sound-after, IsReady, IsTaken, HasUnsent}
-use Rattle.model_link.specs.Offers
+use Rattle.laws_link.proofs.Vocabulary.{◌≡◌, ℕ, suc, ◌+◌, ◌-◌, ◌<◌, ◌≤◌, Bool, true, false, cond, ◌==◌, List, [], ◌∷◌, ◌++◌, length, take, Option, Some, refl, sym, ap, subst, ◌∙◌, eq-eqb, arith, All, nat_lt, slice_get, unwrap_or, lt-ltb, le-ltb, ltb-true, and_parts, seq, named, Parts, LinkTimer, T203, frame, received, offer, IsInRange, IsSound, End, Ends, with_first_of, with_first_lost, sound-after, IsReady, IsTaken, HasUnsent, may_send_information}
 use Rattle.laws_link.proofs.OfTwo.Plain.{plain, plain_end, with_information, with_acknowledgement, gives-information, gives-acknowledgement, gives-nothing}
 use Rattle.laws_link.proofs.OfTwo.Halves.{named-number, fits-at, take-one, moves, ready-giver, ready-taker, takes, taken}
 use Rattle.laws_link.proofs.OfTwo.Arriving.{near_moves, far_moves, no-more}
@@ -273,7 +272,7 @@ module _ (u : ℕ) (cn cm : List (List ℕ)) (n m : End) (there : Between u cn n
           omega (arith, all)
 
       -- by what near gives
-      by-information : Offers.may_send_information n.terms (plain n.link) ≡ true → Sounds far_asks → Recovered u cn cm (near_moves (far_moves (near_moves far_asks)))
+      by-information : may_send_information n.terms (plain n.link) ≡ true → Sounds far_asks → Recovered u cn cm (near_moves (far_moves (near_moves far_asks)))
       by-information may sounds =
           let parts = and_parts (nat_lt (n.link.s - n.link.a) n.terms.k) (nat_lt n.link.s (length n.link.contents)) may in
           let unsent : n.link.s < length n.link.contents = ltb-true n.link.s (length n.link.contents) parts.1 in
@@ -300,7 +299,7 @@ module _ (u : ℕ) (cn cm : List (List ℕ)) (n m : End) (there : Between u cn n
             left = omega (arith, at-r);
           }) (subst Sounds next (sounds-near far_asks sounds)))
 
-      by-acknowledgement : Offers.may_send_information n.terms (plain n.link) ≡ false → n.link.pending ≡ true → Sounds far_asks → Recovered u cn cm (near_moves (far_moves (near_moves far_asks)))
+      by-acknowledgement : may_send_information n.terms (plain n.link) ≡ false → n.link.pending ≡ true → Sounds far_asks → Recovered u cn cm (near_moves (far_moves (near_moves far_asks)))
       by-acknowledgement may owed sounds =
           let next : near_moves far_asks ≡ heard m n.link.s n.link.r false false n.link.running m.delivered =
           ap (λ x. record { near = with_first_lost x; far = with_first_of x.way (in_8 m (enquiry m.link.r ∷ []) bm m.link.a false m.delivered) }) (gives-acknowledgement false false n may owed)
@@ -319,7 +318,7 @@ module _ (u : ℕ) (cn cm : List (List ℕ)) (n m : End) (there : Between u cn n
             left = subst (λ i. length n.link.contents ≤ i + u) (sym at-r) there.left;
           }) (subst Sounds next (sounds-near far_asks sounds)))
 
-      by-nothing : Offers.may_send_information n.terms (plain n.link) ≡ false → n.link.pending ≡ false → Sounds far_asks → Recovered u cn cm (near_moves (far_moves (near_moves far_asks)))
+      by-nothing : may_send_information n.terms (plain n.link) ≡ false → n.link.pending ≡ false → Sounds far_asks → Recovered u cn cm (near_moves (far_moves (near_moves far_asks)))
       by-nothing may owed sounds =
           let next : near_moves far_asks ≡ heard m n.link.s m.link.a bm false n.link.running m.delivered =
           ap (λ x. record { near = with_first_lost x; far = with_first_of x.way (in_8 m (enquiry m.link.r ∷ []) bm m.link.a false m.delivered) }) (gives-nothing false false n may owed) in
@@ -336,7 +335,7 @@ module _ (u : ℕ) (cn cm : List (List ℕ)) (n m : End) (there : Between u cn n
             left = subst (λ i. length n.link.contents ≤ i + u) (sym at-r) there.left;
           }) (subst Sounds next (sounds-near far_asks sounds)))
 
-      by-flags : (may owed : Bool) → Offers.may_send_information n.terms (plain n.link) ≡ may → n.link.pending ≡ owed → Sounds far_asks
+      by-flags : (may owed : Bool) → may_send_information n.terms (plain n.link) ≡ may → n.link.pending ≡ owed → Sounds far_asks
           → Recovered u cn cm (near_moves (far_moves (near_moves far_asks)))
       by-flags true owed e p = by-information e
       by-flags false true e p = by-acknowledgement e p
@@ -345,4 +344,4 @@ module _ (u : ℕ) (cn cm : List (List ℕ)) (n m : End) (there : Between u cn n
       pub far-recovers : Sounds far_asks → Recovered u cn cm (far_moves (near_moves (far_moves (near_moves far_asks))))
       far-recovers sounds =
           recovered-far u cn cm (near_moves (far_moves (near_moves far_asks)))
-          (by-flags (Offers.may_send_information n.terms (plain n.link)) n.link.pending refl refl sounds)
+          (by-flags (may_send_information n.terms (plain n.link)) n.link.pending refl refl sounds)

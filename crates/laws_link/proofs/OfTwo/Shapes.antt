@@ -1,24 +1,21 @@
 -- An end that asks and one that answers: what each makes of the other's frames.
-use Rattle.laws_link.proofs.Vocabulary.{◌≡◌, ℕ, ◌+◌, Bool, true, false, cond, ◌==◌, List, [], ◌∷◌, ◌++◌, length, Option, None, Some, refl, ap, ◌∙◌, append-nil, arith, nat_lt, slice_get, unwrap_or, option_to_list, le-ltb, Seq, seq, named, ReceiveReady, ReceiveNotReady, LinkTimer, T200, T203, ControlFrame, Terms, Link, frame_of, frame, received, Course, Step, begun, ◌then◌, End, with_link, ErrorCode, State}
-use Rattle.model_link.specs.Words
+use Rattle.laws_link.proofs.Vocabulary.{◌≡◌, ℕ, ◌+◌, Bool, true, false, cond, ◌==◌, List, [], ◌∷◌, ◌++◌, length, Option, None, Some, refl, ap, ◌∙◌, append-nil, arith, nat_lt, slice_get, unwrap_or, option_to_list, le-ltb, Seq, seq, named, ReceiveReady, ReceiveNotReady, LinkTimer, T200, T203, ControlFrame, Terms, Link, frame_of, frame, received, Course, Step, begun, ◌then◌, End, with_link, ErrorCode, State, acknowledge, by_number, command, error, re_establish, response, start, acknowledged_in_7, acknowledged_in_8}
 use Rattle.model_link.specs.MultipleFrame
-use Rattle.model_link.specs.Established
-use Rattle.model_link.specs.TimerRecovery
 use Rattle.laws_link.proofs.OfTwo.Plain.{information_frame, acknowledgement_frame}
 
 -- The enquiry and the answer.
 abbrev pub enquiry : ℕ → ControlFrame
-enquiry r = Words.command (ReceiveReady (seq r) true)
+enquiry r = command (ReceiveReady (seq r) true)
 
 abbrev pub reply : ℕ → ControlFrame
-reply r = Words.response (ReceiveReady (seq r) true)
+reply r = response (ReceiveReady (seq r) true)
 
 -- The same of an end with own busy off or on.
 abbrev pub enquiry_with : Bool → ℕ → ControlFrame
-enquiry_with own r = Words.command (cond own (ReceiveNotReady (seq r) true) (ReceiveReady (seq r) true))
+enquiry_with own r = command (cond own (ReceiveNotReady (seq r) true) (ReceiveReady (seq r) true))
 
 abbrev pub reply_with : Bool → ℕ → ControlFrame
-reply_with own r = Words.response (cond own (ReceiveNotReady (seq r) true) (ReceiveReady (seq r) true))
+reply_with own r = response (cond own (ReceiveNotReady (seq r) true) (ReceiveReady (seq r) true))
 
 -- An end in state 8, and one in state 7, with own busy as the first bit says.
 abbrev pub in_8_with : Bool → End → List ControlFrame → Bool → ℕ → Bool → List (List ℕ) → End
@@ -40,7 +37,7 @@ abbrev pub with_one_more : End → End
 with_one_more m = record m { link = record m.link { r = m.link.r + 1; rejecting = false } }
 
 abbrev pub effect : Terms → Seq → (ℕ → Step) → Course → Option ℕ → Course
-effect t nr f c o = elim o [ None ↦ (Words.error t ErrorCode.J then Words.re_establish t) c | Some x ↦ f x c ]
+effect t nr f c o = elim o [ None ↦ (error t ErrorCode.J then re_establish t) c | Some x ↦ f x c ]
 
 module _ (m : End) where
   abbrev pub having : Course → End
@@ -57,8 +54,8 @@ pub asked-8 : (own : Bool) (n : End) (ws : List ControlFrame) (busy : Bool) (a :
     → with_link (received (frame (frame_of t (enquiry w)))) (in_8_with own n ws busy a p ds) ≡ in_8_with own n (ws ++ reply_with own n.link.r ∷ []) false x false ds
 asked-8 own n ws busy a p ds t w x room names =
     let e = in_8_with own n ws busy a p ds in
-    ap (λ b. having e (Words.by_number n.terms (seq w) (TimerRecovery.acknowledged_in_8 T203 false) (replied e own false ws b))) room
-    ∙ ap (λ o. having e (effect n.terms (seq w) (TimerRecovery.acknowledged_in_8 T203 false) (replied e own false ws true) o)) names
+    ap (λ b. having e (by_number n.terms (seq w) (acknowledged_in_8 T203 false) (replied e own false ws b))) room
+    ∙ ap (λ o. having e (effect n.terms (seq w) (acknowledged_in_8 T203 false) (replied e own false ws true) o)) names
     ∙ ap (λ xs. in_8_with own n (ws ++ reply_with own n.link.r ∷ []) false x false xs) (append-nil ds)
 
 -- its answer
@@ -67,7 +64,7 @@ pub answered-8 : (own : Bool) (n : End) (ws : List ControlFrame) (busy : Bool) (
     → with_link (received (frame (frame_of t (reply w)))) (in_8_with own n ws busy a p ds) ≡ in_7_with own false n ws x x p (Some T203) ds
 answered-8 own n ws busy a p ds t w x names =
     let e = in_8_with own n ws busy a p ds in
-    ap (λ o. having e (effect n.terms (seq w) (TimerRecovery.acknowledged_in_8 T203 true) (begun (record e.link { peer_busy = false })) o)) names
+    ap (λ o. having e (effect n.terms (seq w) (acknowledged_in_8 T203 true) (begun (record e.link { peer_busy = false })) o)) names
     ∙ ap (λ xs. in_7_with own false n ws x x p (Some T203) xs) (append-nil ds)
 
 -- an acknowledgement in state 8
@@ -76,7 +73,7 @@ pub acknowledged-8 : (own : Bool) (n : End) (ws : List ControlFrame) (busy : Boo
     → with_link (received (frame (acknowledgement_frame t l))) (in_8_with own n ws busy a p ds) ≡ in_8_with own n ws false x p ds
 acknowledged-8 own n ws busy a p ds t l x names =
     let e = in_8_with own n ws busy a p ds in
-    ap (λ o. having e (effect n.terms (seq l.r) (TimerRecovery.acknowledged_in_8 T203 false) (begun (record e.link { peer_busy = false })) o)) names
+    ap (λ o. having e (effect n.terms (seq l.r) (acknowledged_in_8 T203 false) (begun (record e.link { peer_busy = false })) o)) names
     ∙ ap (λ xs. in_8_with own n ws false x p xs) (append-nil ds)
 
 -- an I-frame in state 8
@@ -88,11 +85,11 @@ pub informed-8 : (m : End) (ws : List ControlFrame) (busy : Bool) (a : ℕ) (p :
 informed-8 m ws busy a p ds t l x fits next names =
     let e = in_8 m ws busy a p ds in
     let octets = unwrap_or (slice_get l.contents l.s) [] in
-    let number = Words.by_number m.terms (seq l.r) Words.acknowledge in
+    let number = by_number m.terms (seq l.r) acknowledge in
     let here = begun e.link in
     ap (λ b. having e (cond b (MultipleFrame.failed m.terms ErrorCode.O here) (number (MultipleFrame.contents_in_7_8 m.terms (seq l.s) false octets here)))) fits
     ∙ ap (λ b. having e (number (cond b (MultipleFrame.in_sequence m.terms false octets here) (MultipleFrame.out_of_sequence m.terms false here)))) next
-    ∙ ap (λ o. having e (effect m.terms (seq l.r) Words.acknowledge (MultipleFrame.in_sequence m.terms false octets here) o)) names
+    ∙ ap (λ o. having e (effect m.terms (seq l.r) acknowledge (MultipleFrame.in_sequence m.terms false octets here) o)) names
 
 -- an enquiry in state 7 that acknowledges nothing new
 pub asked-7 : (own : Bool) (n : End) (a s : ℕ) (p : Bool) (running : Option LinkTimer) (ds : List (List ℕ)) (t : Terms) (w : ℕ)
@@ -101,15 +98,15 @@ pub asked-7 : (own : Bool) (n : End) (a s : ℕ) (p : Bool) (running : Option Li
 asked-7 own n a s p running ds t w room names =
     let e = in_7_with own false n [] a s p running ds in
     let c = replied e own false [] true in
-    ap (λ b. having e (Words.by_number n.terms (seq w) Established.acknowledged_in_7 (replied e own false [] b))) room
-    ∙ ap (λ o. having e (effect n.terms (seq w) Established.acknowledged_in_7 c o)) names
+    ap (λ b. having e (by_number n.terms (seq w) acknowledged_in_7 (replied e own false [] b))) room
+    ∙ ap (λ o. having e (effect n.terms (seq w) acknowledged_in_7 c o)) names
     ∙ by-test (a == s) refl
     ∙ ap (λ xs. in_7_with own false n (reply_with own n.link.r ∷ []) a s false (cond (a == s) (Some T203) running) xs) (append-nil ds)
   where
     by-test : (b : Bool) → (a == s) ≡ b
-        → having (in_7_with own false n [] a s p running ds) (cond b ((Words.acknowledge a then Words.start T203) (replied (in_7_with own false n [] a s p running ds) own false [] true)) (cond (nat_lt a a) ((Words.acknowledge a then Words.start T200) (replied (in_7_with own false n [] a s p running ds) own false [] true)) (replied (in_7_with own false n [] a s p running ds) own false [] true)))
+        → having (in_7_with own false n [] a s p running ds) (cond b ((acknowledge a then start T203) (replied (in_7_with own false n [] a s p running ds) own false [] true)) (cond (nat_lt a a) ((acknowledge a then start T200) (replied (in_7_with own false n [] a s p running ds) own false [] true)) (replied (in_7_with own false n [] a s p running ds) own false [] true)))
         ≡ in_7_with own false n (reply_with own n.link.r ∷ []) a s false (cond b (Some T203) running) (ds ++ [])
     by-test true e = refl
     by-test false e =
-        ap (λ b. having (in_7_with own false n [] a s p running ds) (cond b ((Words.acknowledge a then Words.start T200) (replied (in_7_with own false n [] a s p running ds) own false [] true)) (replied (in_7_with own false n [] a s p running ds) own false [] true)))
+        ap (λ b. having (in_7_with own false n [] a s p running ds) (cond b ((acknowledge a then start T200) (replied (in_7_with own false n [] a s p running ds) own false [] true)) (replied (in_7_with own false n [] a s p running ds) own false [] true)))
         (le-ltb a a (omega arith))

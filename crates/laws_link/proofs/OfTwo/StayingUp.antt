@@ -1,6 +1,5 @@
 -- Two links stay up where T200 is timely: what holds in both directions is kept by each act.
-use Rattle.laws_link.proofs.Vocabulary.{◌≡◌, ℕ, ◌+◌, ◌≤◌, Bool, true, false, IsTrue, List, [], ◌∷◌, ◌++◌, refl, sym, ap, subst, ◌∙◌, inl, inr, true≢false, arith, All, drop, All-head, All-tail, seq, Control, Information, ReceiveReady, ReceiveNotReady, Reject, Parts, State, Established, TimerRecovery, LinkTimer, ControlFrame, Terms, Link, is_multiple_frame, Request, frame, received, expired, requested, offer, Course, End, Act, asks, expires, sends, receives, loses, with_link, with_sent, with_first_of, frame_given, acting, IsUp, rising-low, frames_of, line_of, Joined, IsMildRequest, is_enquiry, is_answer, IsNoneOpen, IsTimelyAct}
-use Rattle.model_link.specs.Machine
+use Rattle.laws_link.proofs.Vocabulary.{◌≡◌, ℕ, ◌+◌, ◌≤◌, Bool, true, false, IsTrue, List, [], ◌∷◌, ◌++◌, refl, sym, ap, subst, ◌∙◌, inl, inr, true≢false, arith, All, drop, All-head, All-tail, seq, Control, Information, ReceiveReady, ReceiveNotReady, Reject, Parts, State, Established, TimerRecovery, LinkTimer, ControlFrame, Terms, Link, is_multiple_frame, Request, frame, received, expired, requested, offer, Course, End, Act, asks, expires, sends, receives, loses, with_link, with_sent, with_first_of, frame_given, acting, IsUp, rising-low, frames_of, line_of, Joined, IsMildRequest, is_enquiry, is_answer, IsNoneOpen, IsTimelyAct, after, course, given_of, is_running}
 use Rattle.laws_link.proofs.OfTwo.Trains.{Kind, numbered, enquiry, report, kind_of, kinds_of, tally, one_enquiry, one_answer}
 use Rattle.laws_link.proofs.OfTwo.Flow.{most, Flow, there-calm, there-enquiry, there-unasked, there-information, there-tail, back-other, back-tail}
 use Rattle.laws_link.proofs.OfTwo.Effects.{is_recovering}
@@ -70,7 +69,7 @@ module _ (n m : End) (h : Joined n m) (f : Flows n m) (g : Flows m n) where
   asks-flows : (request : Request) (full : Bool) → IsMildRequest request → Flows (with_link (requested request full) n) m × Flows m (with_link (requested request full) n)
   asks-flows request full mild =
       let w = asks-went n.terms n.link h.near_up request full mild in
-      let l' = Machine.after n.terms (requested request full) n.link in (
+      let l' = after n.terms (requested request full) n.link in (
         sender-went n.terms n.way n.link l' m.link.r m.link.rejecting other (is_recovering n.link.state) report tt refl refl w f,
         receiver-went n.terms n.way n.link l' m.link.s (is_recovering m.link.state) other report refl refl tt tt w.r w.rejecting w.waiting g,
       )
@@ -95,7 +94,7 @@ module _ (n m : End) (h : Joined n m) (f : Flows n m) (g : Flows m n) where
   asked-flows l' a (inr e) none =
       flow-at a.s refl (ap is_recovering a.state) refl e refl (there-enquiry n.link.s m.link.r (is_recovering n.link.state) m.link.rejecting own other none.0 none.1 f)
 
-  ran-flows : (timer : LinkTimer) (c : Course) → (n.link.state ≡ TimerRecovery → Machine.is_running timer n.link ≡ true → IsNoneOpen n m) → RanOut n.terms n.link timer c
+  ran-flows : (timer : LinkTimer) (c : Course) → (n.link.state ≡ TimerRecovery → is_running timer n.link ≡ true → IsNoneOpen n m) → RanOut n.terms n.link timer c
       → Flow c.link.s m.link.r (is_recovering c.link.state) m.link.rejecting (line n.terms n.way c.link.waiting) other
       × Flow m.link.s c.link.r (is_recovering m.link.state) c.link.rejecting other (line n.terms n.way c.link.waiting)
   ran-flows timer c x (inl k) = (
@@ -107,9 +106,9 @@ module _ (n m : End) (h : Joined n m) (f : Flows n m) (g : Flows m n) where
     receiver-went n.terms n.way n.link c.link m.link.s (is_recovering m.link.state) other enquiry refl refl tt tt a.1.r a.1.rejecting a.1.waiting g,
   )
 
-  expires-flows : (timer : LinkTimer) → (n.link.state ≡ TimerRecovery → Machine.is_running timer n.link ≡ true → IsNoneOpen n m) → IsTrue (is_multiple_frame (with_link (expired timer) n).link.state)
+  expires-flows : (timer : LinkTimer) → (n.link.state ≡ TimerRecovery → is_running timer n.link ≡ true → IsNoneOpen n m) → IsTrue (is_multiple_frame (with_link (expired timer) n).link.state)
       → Flows (with_link (expired timer) n) m × Flows m (with_link (expired timer) n)
-  expires-flows timer x up = ran-flows timer (Machine.course n.terms (expired timer) n.link) x (expires-goes n.terms n.link h.near_up timer up)
+  expires-flows timer x up = ran-flows timer (course n.terms (expired timer) n.link) x (expires-goes n.terms n.link h.near_up timer up)
 
   -- V(S) is at most 127 beyond the other's V(R)
   near : n.link.s ≤ m.link.r + 127
@@ -128,7 +127,7 @@ module _ (n m : End) (h : Joined n m) (f : Flows n m) (g : Flows m n) where
 
   -- offers
   gives-flows : (c : Course) → Offered n.terms n.link c → Gives n.terms n.link c
-      → let way = n.way ++ frame_given n.terms (Machine.given_of n.terms n.link c c.sent) in
+      → let way = n.way ++ frame_given n.terms (given_of n.terms n.link c c.sent) in
       Flow c.link.s m.link.r (is_recovering c.link.state) m.link.rejecting (line n.terms way c.link.waiting) other
       × Flow m.link.s c.link.r (is_recovering m.link.state) c.link.rejecting other (line n.terms way c.link.waiting)
   gives-flows c o (inl x) =
@@ -144,13 +143,13 @@ module _ (n m : End) (h : Joined n m) (f : Flows n m) (g : Flows m n) where
   )
 
   sends-flows : Flows (with_sent n) m × Flows m (with_sent n)
-  sends-flows = let o = offer-goes n.terms n.link in gives-flows (Machine.course n.terms offer n.link) o o.gives
+  sends-flows = let o = offer-goes n.terms n.link in gives-flows (course n.terms offer n.link) o o.gives
 
   -- frames
   hears-flows : (p : Parts) (fs : List Parts) → m.way ≡ p ∷ fs → IsTrue (is_multiple_frame (with_link (received (frame p)) n).link.state)
       → Flows (with_link (received (frame p)) n) (record m { way = fs }) × Flows (record m { way = fs }) (with_link (received (frame p)) n)
   hears-flows p fs first up =
-      let l' = Machine.after n.terms (received (frame p)) n.link in
+      let l' = after n.terms (received (frame p)) n.link in
       let x = kind_of p.address.command p.control in
       let rest = line m.terms fs m.link.waiting in
       let f' : Flow n.link.s m.link.r (is_recovering n.link.state) m.link.rejecting own (x ∷ rest) =

@@ -72,10 +72,6 @@ pub every-push : (P : Kind → Type 0) (xs : List Kind) (y : Kind) → Every P x
 every-push P [] y h p = (p, tt)
 every-push P (x ∷ xs) y h p = (h.0, every-push P xs y h.1 p)
 
-pub every-to : (P Q : Kind → Type 0) (xs : List Kind) → ((x : Kind) → P x → Q x) → Every P xs → Every Q xs
-every-to P Q [] w h = tt
-every-to P Q (x ∷ xs) w h = (w x h.0, every-to P Q xs w h.1)
-
 -- All that is behind one of a kind.
 abbrev pub Behind : (Kind → ℕ) → (Kind → Type 0) → List Kind → Type 0
 Behind one Q [] = Unit {0}

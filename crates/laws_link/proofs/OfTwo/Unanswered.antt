@@ -1,10 +1,6 @@
 -- An answer that finds no room is told as lost.
-use Rattle.laws_link.proofs.Vocabulary.{◌≡◌, ℕ, ◌+◌, ◌≤◌, Bool, true, false, cond, IsTrue, List, length, Option, None, Some, is_some, sym, subst, true≢false, arith, nat_lt, le-ltb, Seq, named, Control, Information, ReceiveReady, ReceiveNotReady, Reject, Sabme, Disc, Ui, Ua, Dm, Frmr, Xid, Parts, State, TeiAssigned, Established, TimerRecovery, LinkTimer, T200, T203, Terms, Link, is_multiple_frame, frame, received, Course, begun, Step, ◌then◌, Leads, keeping_then, nothing_leads, depending_leads, bit_leads, IsPollWith, asked_of, leaves, ErrorCode, both_ways, number_leads}
-use Rattle.model_link.specs.Words
+use Rattle.laws_link.proofs.Vocabulary.{◌≡◌, ℕ, ◌+◌, ◌≤◌, Bool, true, false, cond, IsTrue, List, length, is_some, sym, subst, true≢false, arith, nat_lt, le-ltb, Seq, Control, Information, ReceiveReady, ReceiveNotReady, Reject, Sabme, Disc, Parts, State, TeiAssigned, Established, TimerRecovery, T200, T203, Terms, Link, is_multiple_frame, frame, received, Course, begun, Step, ◌then◌, Leads, keeping_then, nothing_leads, depending_leads, bit_leads, IsPollWith, asked_of, leaves, ErrorCode, both_ways, number_leads, acknowledge, answer, by_number, has_room, peer_busy_is, re_establish, without_flags, acknowledged_by_information_in_7, acknowledged_by_rej_in_7, acknowledged_by_rnr_in_7, acknowledged_in_7, frame_in_7, acknowledged_in_8, frame_in_8, frame_in, frame_step, told}
 use Rattle.model_link.specs.MultipleFrame
-use Rattle.model_link.specs.Established
-use Rattle.model_link.specs.TimerRecovery
-use Rattle.model_link.specs.Machine
 
 -- What is counted as lost stays counted.
 abbrev Lost : Course → Type 0
@@ -14,10 +10,10 @@ more : (b : Bool) (n : ℕ) → 1 ≤ n → 1 ≤ cond {A = ℕ} b n (n + 1)
 more true n h = h
 more false n h = omega (arith, h)
 
-begun_again_lost : (t : Terms) → Leads Lost (Words.re_establish t) Lost
-begun_again_lost t = record { leads = λ c h. more (Words.has_room t (Words.without_flags c.link)) c.lost h }
+begun_again_lost : (t : Terms) → Leads Lost (re_establish t) Lost
+begun_again_lost t = record { leads = λ c h. more (has_room t (without_flags c.link)) c.lost h }
 
-number_lost : (t : Terms) (nr : Seq) {f : ℕ → Step} → ((n : ℕ) → Leads Lost (f n) Lost) → Leads Lost (Words.by_number t nr f) Lost
+number_lost : (t : Terms) (nr : Seq) {f : ℕ → Step} → ((n : ℕ) → Leads Lost (f n) Lost) → Leads Lost (by_number t nr f) Lost
 number_lost t nr x = number_leads t nr (search (keeping_then, leaves, begun_again_lost)) x
 
 ruleset words = (leaves, keeping_then, nothing_leads, depending_leads, bit_leads, begun_again_lost, number_lost)
@@ -35,66 +31,66 @@ module _ (t : Terms) (l : Link) (full : t.control ≤ length l.waiting) where
   information : (ns nr : Seq) (octets : List ℕ) (f : ℕ → Step) → length octets ≤ t.n201 → ((n : ℕ) → Leads Lost (f n) Lost)
       → Lost (MultipleFrame.information_in_7_8 t ns nr true octets f (begun l))
   information ns nr octets f size x =
-      subst (λ b. Lost (cond b (MultipleFrame.failed t ErrorCode.O (begun l)) ((MultipleFrame.contents_in_7_8 t ns true octets then Words.by_number t nr f) (begun l))))
+      subst (λ b. Lost (cond b (MultipleFrame.failed t ErrorCode.O (begun l)) ((MultipleFrame.contents_in_7_8 t ns true octets then by_number t nr f) (begun l))))
       (sym (le-ltb t.n201 (length octets) size))
       ((number_lost t nr x).leads (MultipleFrame.contents_in_7_8 t ns true octets (begun l)) (contents ns octets))
 
   supervisory : (b : Bool) (nr : Seq) (f : ℕ → Step) → ((n : ℕ) → Leads Lost (f n) Lost)
-      → Lost ((Words.peer_busy_is b then Words.answer t then Words.by_number t nr f) (begun l))
-  supervisory b nr f x = (number_lost t nr x).leads (Words.answer t (Words.peer_busy_is b (begun l))) put
+      → Lost ((peer_busy_is b then answer t then by_number t nr f) (begun l))
+  supervisory b nr f x = (number_lost t nr x).leads (answer t (peer_busy_is b (begun l))) put
 
   in-7 : (command : Bool) (octets : List ℕ) (control : Control) → IsPollWith t l command octets control
-      → Lost (Established.frame_in_7 t command octets control (begun l))
-  in-7 command octets (Information ns nr true) h = information ns nr octets Established.acknowledged_by_information_in_7 h.1 (λ n. search words depth 12 fits 4000)
+      → Lost (frame_in_7 t command octets control (begun l))
+  in-7 command octets (Information ns nr true) h = information ns nr octets acknowledged_by_information_in_7 h.1 (λ n. search words depth 12 fits 4000)
   in-7 command octets (Information ns nr false) h = absurd (true≢false (sym h.0))
-  in-7 true octets (ReceiveReady nr true) h = supervisory false nr Established.acknowledged_in_7 (λ n. search words depth 12 fits 4000)
+  in-7 true octets (ReceiveReady nr true) h = supervisory false nr acknowledged_in_7 (λ n. search words depth 12 fits 4000)
   in-7 true octets (ReceiveReady nr false) h = absurd (true≢false (sym h.1))
   in-7 false octets (ReceiveReady nr p) h = absurd (true≢false (sym h.0))
-  in-7 true octets (ReceiveNotReady nr true) h = supervisory true nr Established.acknowledged_by_rnr_in_7 (λ n. search words depth 12 fits 4000)
+  in-7 true octets (ReceiveNotReady nr true) h = supervisory true nr acknowledged_by_rnr_in_7 (λ n. search words depth 12 fits 4000)
   in-7 true octets (ReceiveNotReady nr false) h = absurd (true≢false (sym h.1))
   in-7 false octets (ReceiveNotReady nr p) h = absurd (true≢false (sym h.0))
-  in-7 true octets (Reject nr true) h = supervisory false nr Established.acknowledged_by_rej_in_7 (λ n. search words depth 12 fits 4000)
+  in-7 true octets (Reject nr true) h = supervisory false nr acknowledged_by_rej_in_7 (λ n. search words depth 12 fits 4000)
   in-7 true octets (Reject nr false) h = absurd (true≢false (sym h.1))
   in-7 false octets (Reject nr p) h = absurd (true≢false (sym h.0))
   in-7 command octets other h = absurd h
 
   in-8 : (command : Bool) (octets : List ℕ) (control : Control) → IsPollWith t l command octets control
-      → Lost (TimerRecovery.frame_in_8 t command octets control (begun l))
-  in-8 command octets (Information ns nr true) h = information ns nr octets Words.acknowledge h.1 (λ n. leaves (λ c h. h))
+      → Lost (frame_in_8 t command octets control (begun l))
+  in-8 command octets (Information ns nr true) h = information ns nr octets acknowledge h.1 (λ n. leaves (λ c h. h))
   in-8 command octets (Information ns nr false) h = absurd (true≢false (sym h.0))
-  in-8 true octets (ReceiveReady nr true) h = supervisory false nr (TimerRecovery.acknowledged_in_8 T203 false) (λ n. search words depth 12 fits 4000)
+  in-8 true octets (ReceiveReady nr true) h = supervisory false nr (acknowledged_in_8 T203 false) (λ n. search words depth 12 fits 4000)
   in-8 true octets (ReceiveReady nr false) h = absurd (true≢false (sym h.1))
   in-8 false octets (ReceiveReady nr p) h = absurd (true≢false (sym h.0))
-  in-8 true octets (ReceiveNotReady nr true) h = supervisory true nr (TimerRecovery.acknowledged_in_8 T200 false) (λ n. search words depth 12 fits 4000)
+  in-8 true octets (ReceiveNotReady nr true) h = supervisory true nr (acknowledged_in_8 T200 false) (λ n. search words depth 12 fits 4000)
   in-8 true octets (ReceiveNotReady nr false) h = absurd (true≢false (sym h.1))
   in-8 false octets (ReceiveNotReady nr p) h = absurd (true≢false (sym h.0))
-  in-8 true octets (Reject nr true) h = supervisory false nr (TimerRecovery.acknowledged_in_8 T203 false) (λ n. search words depth 12 fits 4000)
+  in-8 true octets (Reject nr true) h = supervisory false nr (acknowledged_in_8 T203 false) (λ n. search words depth 12 fits 4000)
   in-8 true octets (Reject nr false) h = absurd (true≢false (sym h.1))
   in-8 false octets (Reject nr p) h = absurd (true≢false (sym h.0))
   in-8 command octets other h = absurd h
 
   frames-in : (here : State) → IsTrue (is_multiple_frame here) → (command : Bool) (octets : List ℕ) (control : Control)
-      → IsPollWith t l command octets control → Lost (Machine.frame_in here t command octets control (begun l))
+      → IsPollWith t l command octets control → Lost (frame_in here t command octets control (begun l))
   frames-in Established up command octets control h = in-7 command octets control h
   frames-in TimerRecovery up command octets control h = in-8 command octets control h
   frames-in other up command octets control h = absurd (true≢false (sym up))
 
   pub poll-lost : (f : Parts) → IsTrue (is_multiple_frame l.state) → IsPollWith t l f.address.command f.info f.control
-      → 1 ≤ (Machine.told t (received (frame f)) l).lost
+      → 1 ≤ (told t (received (frame f)) l).lost
   poll-lost f up h = frames-in l.state up f.address.command f.info f.control h
 
   -- SABME and DISC
-  sabme-in : (here : State) (command : Bool) (octets : List ℕ) (p : Bool) → Lost (Machine.frame_in here t command octets (Sabme p) (begun l))
+  sabme-in : (here : State) (command : Bool) (octets : List ℕ) (p : Bool) → Lost (frame_in here t command octets (Sabme p) (begun l))
   sabme-in Established command octets p = both_ways Lost _ _ _ put put
   sabme-in TimerRecovery command octets p = both_ways Lost _ _ _ put put
   sabme-in other command octets p = put
 
-  disc-in : (here : State) (command : Bool) (octets : List ℕ) (p : Bool) → Lost (Machine.frame_in here t command octets (Disc p) (begun l))
+  disc-in : (here : State) (command : Bool) (octets : List ℕ) (p : Bool) → Lost (frame_in here t command octets (Disc p) (begun l))
   disc-in TeiAssigned command octets p = put
   disc-in other command octets p = put
 
   pub unnumbered-lost : (command : Bool) (octets : List ℕ) (control : Control) → is_some (asked_of l.state control) ≡ true
-      → Lost (Machine.frame_step t command octets control (begun l))
+      → Lost (frame_step t command octets control (begun l))
   unnumbered-lost command octets (Sabme p) e = sabme-in l.state command octets p
   unnumbered-lost command octets (Disc p) e = disc-in l.state command octets p
   unnumbered-lost command octets other e = absurd (true≢false (sym e))

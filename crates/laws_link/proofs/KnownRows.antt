@@ -4,27 +4,14 @@ use Rattle.model_link.specs.Requests
 use Rattle.laws_link.proofs.Knowing.{up_by, is-up-by, At, Ends, at_ends, established_up, zero_enters, words, ends, rows}
 
 module _ (up : Bool) (t : Terms) where
-  frames_in_4 : (octets : List ℕ) (control : Control) → Leads (At up TeiAssigned) (frame_in_4 t octets control) (Ends up)
-  frames_in_4 octets (Ua true) = search ends depth 12 fits 4000
-  frames_in_4 octets other = search ends depth 12 fits 4000
-
-  frames_in_5 : (octets : List ℕ) (control : Control) → Leads (At up AwaitingEstablishment) (frame_in_5 t octets control) (Ends up)
-  frames_in_5 octets (Ua true) = then_leads (established_up up t) (zero_enters up)
-  frames_in_5 octets (Dm true) = search ends depth 12 fits 4000
-  frames_in_5 octets other = search ends depth 12 fits 4000
-
-  frames_in_6 : (octets : List ℕ) (control : Control) → Leads (At up AwaitingRelease) (frame_in_6 t octets control) (Ends up)
-  frames_in_6 octets (Ua true) = search ends depth 12 fits 4000
-  frames_in_6 octets (Dm true) = search ends depth 12 fits 4000
-  frames_in_6 octets other = search ends depth 12 fits 4000
-
-  frames_in_7 : (b : Bool) (octets : List ℕ) (control : Control) → Leads (At up Established) (frame_in_7 t b octets control) (Ends up)
-  frames_in_7 b octets (Dm true) = search rows depth 14 fits 6000
-  frames_in_7 b octets other = search rows depth 14 fits 6000
-
-  frames_in_8 : (b : Bool) (octets : List ℕ) (control : Control) → Leads (At up TimerRecovery) (frame_in_8 t b octets control) (Ends up)
-  frames_in_8 b octets (Dm true) = search rows depth 14 fits 6000
-  frames_in_8 b octets other = search rows depth 14 fits 6000
+  frame_knows : (here : State) (b : Bool) (octets : List ℕ) (control : Control) → Leads (At up here) (frame_in here t b octets control) (Ends up)
+  frame_knows AwaitingEstablishment b octets (Ua true) = then_leads (established_up up t) (zero_enters up)
+  frame_knows AwaitingEstablishment b octets (Dm true) = search rows depth 14 fits 6000
+  frame_knows AwaitingRelease b octets (Ua true) = search rows depth 14 fits 6000
+  frame_knows AwaitingRelease b octets (Dm true) = search rows depth 14 fits 6000
+  frame_knows TeiAssigned b octets (Ua true) = search rows depth 14 fits 6000
+  frame_knows here b octets (Dm true) = search rows depth 14 fits 6000
+  frame_knows here b octets other = search rows depth 14 fits 6000
 
   expired_knows : (here : State) (timer : LinkTimer) → Leads (At up here) (expired_in here timer t) (Ends up)
   expired_knows AwaitingEstablishment T200 = search rows depth 12 fits 4000
@@ -48,13 +35,6 @@ module _ (up : Bool) (t : Terms) where
 
   clear_busy_knows : (here : State) → Leads (At up here) (clear_busy_in_7_8 t) (Ends up)
   clear_busy_knows here = at_ends up (search words)
-
-  frame_knows : (here : State) (b : Bool) (octets : List ℕ) (control : Control) → Leads (At up here) (frame_in here t b octets control) (Ends up)
-  frame_knows TeiAssigned b octets control = frames_in_4 octets control
-  frame_knows AwaitingEstablishment b octets control = frames_in_5 octets control
-  frame_knows AwaitingRelease b octets control = frames_in_6 octets control
-  frame_knows Established b octets control = frames_in_7 b octets control
-  frame_knows TimerRecovery b octets control = frames_in_8 b octets control
 
   offers_know : (here : State) (ws : List ControlFrame) → Leads (At up here) (offer_among t ws) (Ends up)
   offers_know here [] = search ends depth 12 fits 4000

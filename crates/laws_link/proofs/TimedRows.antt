@@ -4,27 +4,14 @@ use Rattle.model_link.specs.Requests
 use Rattle.laws_link.proofs.Timing.{TimedBy, At, Ends, at_ends, failed_timed, ends, rows}
 
 module _ (t : Terms) where
-  frames_in_4 : (octets : List ℕ) (control : Control) → Leads (At TeiAssigned) (frame_in_4 t octets control) Ends
-  frames_in_4 octets (Ua true) = search ends depth 12 fits 4000
-  frames_in_4 octets other = search ends depth 12 fits 4000
-
-  frames_in_5 : (octets : List ℕ) (control : Control) → Leads (At AwaitingEstablishment) (frame_in_5 t octets control) Ends
-  frames_in_5 octets (Ua true) = search ends depth 12 fits 4000
-  frames_in_5 octets (Dm true) = search ends depth 12 fits 4000
-  frames_in_5 octets other = search ends depth 12 fits 4000
-
-  frames_in_6 : (octets : List ℕ) (control : Control) → Leads (At AwaitingRelease) (frame_in_6 t octets control) Ends
-  frames_in_6 octets (Ua true) = search ends depth 12 fits 4000
-  frames_in_6 octets (Dm true) = search ends depth 12 fits 4000
-  frames_in_6 octets other = search ends depth 12 fits 4000
-
-  frames_in_7 : (b : Bool) (octets : List ℕ) (control : Control) → Leads (At Established) (frame_in_7 t b octets control) Ends
-  frames_in_7 b octets (Dm true) = search rows depth 14 fits 6000
-  frames_in_7 b octets other = search rows depth 14 fits 6000
-
-  frames_in_8 : (b : Bool) (octets : List ℕ) (control : Control) → Leads (At TimerRecovery) (frame_in_8 t b octets control) Ends
-  frames_in_8 b octets (Dm true) = search rows depth 14 fits 6000
-  frames_in_8 b octets other = search rows depth 14 fits 6000
+  frame_timed : (here : State) (b : Bool) (octets : List ℕ) (control : Control) → Leads (At here) (frame_in here t b octets control) Ends
+  frame_timed AwaitingEstablishment b octets (Ua true) = search rows depth 14 fits 6000
+  frame_timed AwaitingEstablishment b octets (Dm true) = search rows depth 14 fits 6000
+  frame_timed AwaitingRelease b octets (Ua true) = search rows depth 14 fits 6000
+  frame_timed AwaitingRelease b octets (Dm true) = search rows depth 14 fits 6000
+  frame_timed TeiAssigned b octets (Ua true) = search rows depth 14 fits 6000
+  frame_timed here b octets (Dm true) = search rows depth 14 fits 6000
+  frame_timed here b octets other = search rows depth 14 fits 6000
 
   expired_timed : (here : State) (timer : LinkTimer) → Leads (At here) (expired_in here timer t) Ends
   expired_timed AwaitingEstablishment T200 = search ends depth 12 fits 4000
@@ -48,13 +35,6 @@ module _ (t : Terms) where
 
   clear_busy_timed : (here : State) → Leads (At here) (clear_busy_in_7_8 t) Ends
   clear_busy_timed here = search ends depth 12 fits 4000
-
-  frame_timed : (here : State) (b : Bool) (octets : List ℕ) (control : Control) → Leads (At here) (frame_in here t b octets control) Ends
-  frame_timed TeiAssigned b octets control = frames_in_4 octets control
-  frame_timed AwaitingEstablishment b octets control = frames_in_5 octets control
-  frame_timed AwaitingRelease b octets control = frames_in_6 octets control
-  frame_timed Established b octets control = frames_in_7 b octets control
-  frame_timed TimerRecovery b octets control = frames_in_8 b octets control
 
 -- as the law says it, and back
 of-law : (here : State) (l : Link) → IsTimedIn here l → TimedBy here l.running l.a l.s

@@ -1,10 +1,7 @@
 -- What each word of the tables does with a claim that asks more of some: which frame is sent, which number is
 -- acknowledged, which state is entered.
-use Rattle.model_link.proofs.Vocabulary.{◌≡◌, ℕ, ◌≤◌, ◌⊎◌, Bool, true, false, IsTrue, List, ◌∷◌, length, Some, None, named, reject_number, Seq, Control, ErrorCode, State, TeiAssigned, AwaitingEstablishment, AwaitingRelease, Established, TimerRecovery, LinkTimer, T203, ControlFrame, Terms, Course, ◌then◌, changed, is_multiple_frame}
-use Rattle.model_link.specs.Events
+use Rattle.model_link.proofs.Vocabulary.{◌≡◌, ℕ, ◌≤◌, ◌⊎◌, Bool, true, false, IsTrue, List, ◌∷◌, length, Some, None, named, reject_number, Seq, Control, ErrorCode, State, TeiAssigned, AwaitingEstablishment, AwaitingRelease, Established, TimerRecovery, LinkTimer, T203, ControlFrame, Terms, Course, ◌then◌, changed, is_multiple_frame, Data, Event, Request, requested, data_in_7_8, refusal}
 use Rattle.model_link.specs.Words
-use Rattle.model_link.specs.MultipleFrame
-use Rattle.model_link.specs.Requests
 use Rattle.model_link.specs.Offers
 use Rattle.model_link.proofs.Waits.{Waits}
 use Rattle.model_link.proofs.Kept.{Purse, another, two, Kept}
@@ -48,20 +45,20 @@ starts In Window here control a s n state =
     In state here × ((nr : Seq) (i : ℕ) → IsTrue (is_multiple_frame here) → reject_number control ≡ Some nr → named a s nr ≡ Some i → Window)
 
 -- Requests that queue contents.
-abbrev pub QueuesFor : Type 0 → Events.Request → Type 0
-QueuesFor queued (Events.Data octets) = queued
+abbrev pub QueuesFor : Type 0 → Request → Type 0
+QueuesFor queued (Data octets) = queued
 QueuesFor queued other = Unit {0}
 
-abbrev pub Queues : Type 0 → Events.Event → Type 0
-Queues queued (Events.requested request full) = QueuesFor queued request
+abbrev pub Queues : Type 0 → Event → Type 0
+Queues queued (requested request full) = QueuesFor queued request
 Queues queued other = Unit {0}
 
-pub any_contents : (request : Events.Request) → QueuesFor (Unit {0}) request
-any_contents (Events.Data octets) = tt
+pub any_contents : (request : Request) → QueuesFor (Unit {0}) request
+any_contents (Data octets) = tt
 any_contents other = tt
 
-pub any_request : (e : Events.Event) → Queues (Unit {0}) e
-any_request (Events.requested request full) = any_contents request
+pub any_request : (e : Event) → Queues (Unit {0}) e
+any_request (requested request full) = any_contents request
 any_request other = tt
 
 pub record Careful (t : Terms) (Units Anew Taken Window Queued Offered : Type 0) (In : State → State → Type 0) (S : Course → Type 0) (P : Purse → Purse → Course → Type 0) (E : Course → Type 0) : Type 0 where
@@ -111,8 +108,8 @@ pub record Careful (t : Terms) (Units Anew Taken Window Queued Offered : Type 0)
       → E ((Words.send_again_from n then Words.start T203) c)
   pub recovered : (p q : Purse) (n : ℕ) (timer : LinkTimer) (c : Course) → c.link.a ≤ n → n ≤ c.link.s → In c.link.state TimerRecovery → P p q c
       → E ((Words.send_again_from n then Words.start timer then Words.enter Established) c)
-  pub transfer : Queued → (p q : Purse) (octets : List ℕ) (full : Bool) (c : Course) → Requests.refusal t c.link full (Events.Data octets) ≡ None
-      → P (another p) q c → E (MultipleFrame.data_in_7_8 octets c)
+  pub transfer : Queued → (p q : Purse) (octets : List ℕ) (full : Bool) (c : Course) → refusal t c.link full (Data octets) ≡ None
+      → P (another p) q c → E (data_in_7_8 octets c)
   -- an offer
   pub give_waiting : Offered → (p q : Purse) (f : ControlFrame) (fs : List ControlFrame) (c : Course) → c.link.waiting ≡ f ∷ fs → P p q c
       → E (Offers.give_waiting f fs c)
@@ -144,7 +141,7 @@ module _ {t : Terms} {Units Anew Taken : Type 0} {S : Course → Type 0} {P : Pu
   owes : (p q : Purse) (c : Course) → c.link.own_busy ≡ false → P (another p) q c → P p q (Words.pending_is true c)
   owes p q c off h = k.owing p q c off (k.unsent p q c h)
 
-  transfers : (p q : Purse) (octets : List ℕ) (c : Course) → P (another p) q c → E (MultipleFrame.data_in_7_8 octets c)
+  transfers : (p q : Purse) (octets : List ℕ) (c : Course) → P (another p) q c → E (data_in_7_8 octets c)
   transfers p q octets c h = k.ends p q _ (k.transfer p q octets c (k.unsent p q c h))
 
   gives : (p q : Purse) (f : ControlFrame) (fs : List ControlFrame) (c : Course) → P p q c → E (Offers.give_waiting f fs c)

@@ -1,7 +1,5 @@
 -- What is delivered, and V(R): each word but three leaves them.
-use Rattle.model_link.proofs.Vocabulary.{◌≡◌, ℕ, Bool, true, false, List, Option, Some, None, ◌⊎◌, inl, inr, refl, Seq, named, Terms, Course, Step, ◌then◌}
-use Rattle.lapd_frame.specs.declared.notes.ErrorCode.TheVariants as code
-use Rattle.model_link.specs.Words
+use Rattle.model_link.proofs.Vocabulary.{◌≡◌, ℕ, Bool, true, false, List, Option, Some, None, ◌⊎◌, inl, inr, refl, Seq, named, Terms, Course, Step, ◌then◌, by_number, ErrorCode}
 use Rattle.model_link.proofs.Leads.{Leads, number_leads}
 use Rattle.model_link.proofs.Kept.{Kept}
 
@@ -51,5 +49,5 @@ words t r = search (first, anew, none-taken) depth 12 fits 4000
 
 -- by the N(R), whatever it names
 pub number_counts : (Q : Count) (t : Terms) (nr : Seq) {f : ℕ → Step} → ((m : ℕ) → Leads (On Q) (f m) (On Q))
-    → Leads (On Q) (Words.by_number t nr f) (On Q)
+    → Leads (On Q) (by_number t nr f) (On Q)
 number_counts Q t nr x = number_leads t nr (record { leads = λ c h. h }) x

@@ -1,11 +1,6 @@
 -- Every event delivers the contents of the next eligible I-frame, if it brings it, and counts them; or the numbers
 -- begin anew.
-use Rattle.model_link.proofs.Vocabulary.{◌≡◌, ℕ, ◌+◌, ◌%◌, ◌<◌, ◌≤◌, Bool, true, false, cond, not, ◌&&◌, ◌==◌, List, length, Option, Some, None, is_some, refl, sym, ap, subst, inl, arith, nat_lt, nat_le, ltb-true, ltb-false, leb-true, leb-false, false_from_ne_true, true_from_ne_false, Seq, seq, Control, Information, Ua, State, Established, TimerRecovery, Terms, Link, is_multiple_frame, Arrived, information_of, eligible_of, eligible, Course, begun, Step}
-use Rattle.model_link.specs.Events
-use Rattle.model_link.specs.Words
-use Rattle.model_link.specs.MultipleFrame
-use Rattle.model_link.specs.Established
-use Rattle.model_link.specs.Machine
+use Rattle.model_link.proofs.Vocabulary.{◌≡◌, ℕ, ◌+◌, ◌%◌, ◌<◌, ◌≤◌, Bool, true, false, cond, not, ◌&&◌, ◌==◌, List, length, Option, Some, None, is_some, refl, sym, ap, subst, inl, arith, nat_lt, nat_le, ltb-true, ltb-false, leb-true, leb-false, false_from_ne_true, true_from_ne_false, Seq, seq, Control, Information, Ua, State, Established, TimerRecovery, Terms, Link, is_multiple_frame, Arrived, information_of, eligible_of, eligible, Course, begun, Step, Event, frame, received, acknowledge, leave_unserved, contents_in_7_8, information_in_7_8, is_next, acknowledged_by_information_in_7, course, frame_in}
 use Rattle.model_link.proofs.Leads.{Leads, depending_leads}
 use Rattle.model_link.proofs.Kept.{FitsEvent}
 use Rattle.model_link.proofs.Contents.{contents}
@@ -30,12 +25,12 @@ module _ (t : Terms) (l : Link) where
   branch-done false r r' x x' u v h h' = h'
 
   information : (ns nr : Seq) (p : Bool) (octets : List ℕ) (f : ℕ → Step) → ((Q : Count) (m : ℕ) → Leads (On Q) (f m) (On Q))
-      → On (done (cond (nat_lt t.n201 (length octets)) l.r (cond l.own_busy l.r (cond (MultipleFrame.is_next ns l) (l.r + 1) l.r)))
-      (cond (nat_lt t.n201 (length octets)) None (cond l.own_busy None (cond (MultipleFrame.is_next ns l) (Some octets) None))))
-      (MultipleFrame.information_in_7_8 t ns nr p octets f (begun l))
+      → On (done (cond (nat_lt t.n201 (length octets)) l.r (cond l.own_busy l.r (cond (is_next ns l) (l.r + 1) l.r)))
+      (cond (nat_lt t.n201 (length octets)) None (cond l.own_busy None (cond (is_next ns l) (Some octets) None))))
+      (information_in_7_8 t ns nr p octets f (begun l))
   information ns nr p octets f x =
       branch-done (nat_lt t.n201 (length octets)) _ _ _ _ _ _ (inl begins)
-      (inl ((number_counts (counted _ _) t nr (x (counted _ _))).leads (MultipleFrame.contents_in_7_8 t ns p octets (begun l))
+      (inl ((number_counts (counted _ _) t nr (x (counted _ _))).leads (contents_in_7_8 t ns p octets (begun l))
       (contents t l (λ r' d. On (counted r' d)) (λ r' d. record { leads = λ c h. h }) (λ r' d. record { leads = λ c h. h }) (λ r' d b. record { leads = λ c h. h }) begins ns p octets
       (record { number = refl; delivered = refl; goes_on = refl }))))
 
@@ -62,15 +57,15 @@ module _ (t : Terms) (l : Link) where
   numbered-frame : (ns nr : Seq) (p : Bool) (octets : List ℕ) (f : ℕ → Step) → ((Q : Count) (m : ℕ) → Leads (On Q) (f m) (On Q))
       → is_multiple_frame l.state ≡ true
       → let d = delivery l.r (eligible_of t l (Some (record { ns = ns; contents = octets }))) in
-      On (done (counted_on l.r d) d) (MultipleFrame.information_in_7_8 t ns nr p octets f (begun l))
+      On (done (counted_on l.r d) d) (information_in_7_8 t ns nr p octets f (begun l))
   unfolding seq
   numbered-frame ns nr p octets f x e =
       let small = nat_lt t.n201 (length octets) in
       let next = ns.value == l.r % 128 in
       let is : delivery l.r (eligible_of t l (Some (record { ns = ns; contents = octets }))) ≡ cond small None (cond l.own_busy None (cond next (Some octets) None)) = eligible-is small (nat_le (length octets) t.n201) (is_multiple_frame l.state) l.own_busy (record { ns = ns; contents = octets }) l.r (not-over small t.n201 (length octets) refl) e in
       let count = next-is small l.own_busy next octets l.r in
-      subst (λ d. On (done (counted_on l.r d) d) (MultipleFrame.information_in_7_8 t ns nr p octets f (begun l))) (sym is)
-      (subst (λ n. On (done n (cond small None (cond l.own_busy None (cond next (Some octets) None)))) (MultipleFrame.information_in_7_8 t ns nr p octets f (begun l))) count (information t l ns nr p octets f x))
+      subst (λ d. On (done (counted_on l.r d) d) (information_in_7_8 t ns nr p octets f (begun l))) (sym is)
+      (subst (λ n. On (done n (cond small None (cond l.own_busy None (cond next (Some octets) None)))) (information_in_7_8 t ns nr p octets f (begun l))) count (information t l ns nr p octets f x))
 
   In : Option Arrived → Course → Type 0
   In o c = On (done (counted_on l.r (delivery l.r (eligible_of t l o))) (delivery l.r (eligible_of t l o))) c
@@ -84,21 +79,21 @@ module _ (t : Terms) (l : Link) where
       none-there true m o i e = rw e refl
       none-there false m o i e = refl
 
-  unserved : (o : Option Arrived) → is_multiple_frame l.state ≡ false → In o (Words.leave_unserved (begun l))
+  unserved : (o : Option Arrived) → is_multiple_frame l.state ≡ false → In o (leave_unserved (begun l))
   unfolding In
   unserved o e =
-      subst (λ y. On (done (counted_on l.r (delivery l.r y)) (delivery l.r y)) (Words.leave_unserved (begun l))) (sym (none-eligible o e)) (inl (begins t l))
+      subst (λ y. On (done (counted_on l.r (delivery l.r y)) (delivery l.r y)) (leave_unserved (begun l))) (sym (none-eligible o e)) (inl (begins t l))
 
   -- an I-frame in any state, and another frame
   information-in : (here : State) → l.state ≡ here → (b : Bool) (octets : List ℕ) (ns nr : Seq) (p : Bool)
-      → In (information_of (Information ns nr p) octets) (Machine.frame_in here t b octets (Information ns nr p) (begun l))
+      → In (information_of (Information ns nr p) octets) (frame_in here t b octets (Information ns nr p) (begun l))
   unfolding In
   information-in Established e b octets ns nr p =
-      numbered-frame ns nr p octets Established.acknowledged_by_information_in_7 (λ Q m. search (depending_leads)) (ap is_multiple_frame e)
-  information-in TimerRecovery e b octets ns nr p = numbered-frame ns nr p octets Words.acknowledge (λ Q m. record { leads = λ c h. h }) (ap is_multiple_frame e)
+      numbered-frame ns nr p octets acknowledged_by_information_in_7 (λ Q m. search (depending_leads)) (ap is_multiple_frame e)
+  information-in TimerRecovery e b octets ns nr p = numbered-frame ns nr p octets acknowledge (λ Q m. record { leads = λ c h. h }) (ap is_multiple_frame e)
   information-in other e b octets ns nr p = unserved (information_of (Information ns nr p) octets) (ap is_multiple_frame e)
 
-  frames : (here : State) → l.state ≡ here → (b : Bool) (octets : List ℕ) (control : Control) → In (information_of control octets) (Machine.frame_in here t b octets control (begun l))
+  frames : (here : State) → l.state ≡ here → (b : Bool) (octets : List ℕ) (control : Control) → In (information_of control octets) (frame_in here t b octets control (begun l))
   unfolding In
   frames here e b octets (Information ns nr p) = information-in here e b octets ns nr p
   frames here e b octets (Ua true) = (frame_row (words t l.r) here b octets (Ua true) tt).leads (begun l) (begins t l)
@@ -106,12 +101,12 @@ module _ (t : Terms) (l : Link) where
   frames here e b octets other = (frame_row (words t l.r) here b octets other tt).leads (begun l) (begins t l)
 
   -- the other events
-  others : (e : Events.Event) → FitsEvent (Unit {0}) (Unit {0}) ⊥ e → On (done l.r None) (Machine.course t e l)
+  others : (e : Event) → FitsEvent (Unit {0}) (Unit {0}) ⊥ e → On (done l.r None) (course t e l)
   others e may = (event_row (words t l.r) e may).leads (begun l) (begins t l)
 
-  pub event-delivers : (e : Events.Event)
-      → On (done (counted_on l.r (delivery l.r (eligible t e l))) (delivery l.r (eligible t e l))) (Machine.course t e l)
+  pub event-delivers : (e : Event)
+      → On (done (counted_on l.r (delivery l.r (eligible t e l))) (delivery l.r (eligible t e l))) (course t e l)
   unfolding In
-  event-delivers (Events.received (Events.frame f)) = frames l.state refl f.address.command f.info f.control
-  event-delivers (Events.received other) = others (Events.received other) tt
+  event-delivers (received (frame f)) = frames l.state refl f.address.command f.info f.control
+  event-delivers (received other) = others (received other) tt
   event-delivers other = others other tt

@@ -1,11 +1,5 @@
 -- What an event does to a link that stays in states 7 and 8, for the end that it faces.
-use Rattle.model_link.proofs.Vocabulary.{◌≡◌, ℕ, ◌≤◌, Bool, true, false, cond, IsTrue, List, [], ◌∷◌, ◌++◌, Option, None, Some, refl, sym, ap, subst, ◌∙◌, append_assoc, append-nil, true≢false, arith, ltb-false, Seq, seq, named, Control, ReceiveReady, ReceiveNotReady, Reject, ErrorCode, State, Established, LinkTimer, ControlFrame, Terms, Link, is_multiple_frame, Course, Step, ◌then◌, nothing, TimerRecovery}
-use Rattle.lapd_frame.specs.declared.notes.ErrorCode.TheVariants as code
-use Rattle.model_link.specs.Words
-use Rattle.model_link.specs.MultipleFrame
-use Rattle.model_link.specs.Established
-use Rattle.model_link.specs.TimerRecovery
-use Rattle.model_link.specs.Machine
+use Rattle.model_link.proofs.Vocabulary.{◌≡◌, ℕ, ◌≤◌, Bool, true, false, cond, IsTrue, List, [], ◌∷◌, ◌++◌, Option, None, Some, refl, sym, ap, subst, ◌∙◌, append_assoc, append-nil, true≢false, arith, ltb-false, Seq, seq, named, Control, ReceiveReady, ReceiveNotReady, Reject, ErrorCode, State, Established, LinkTimer, ControlFrame, Terms, Link, is_multiple_frame, Course, Step, ◌then◌, nothing, TimerRecovery, acknowledge, answer, by_number, command, enquire, error, has_room, pending_is, re_establish, ready_to_receive, reject, report_ready, response, send, clear_busy_in_7_8, failed, set_busy_in_7_8, acknowledged_by_information_in_7, acknowledged_by_rej_in_7, acknowledged_by_rnr_in_7, acknowledged_in_7, frame_in_7, is_all_sent, is_beyond_acknowledged, timer_in_7, acknowledged_in_8, frame_in_8, t200_in_8, frame_in}
 use Rattle.model_link.proofs.Leads.{Leads, then_leads, keeping_then, nothing_leads, depending_leads, bit_leads, tested_leads, Passed, from_more, to_less}
 use Rattle.model_link.proofs.SoundRows.{named-within}
 
@@ -60,7 +54,7 @@ ready-is false n pf = refl
 
 module _ {l : Link} {S : Number} {a r : ℕ} (t : Terms) where
   sends : (f : Link → ControlFrame) → ((l' : Link) → IsReport l'.r (f l').control)
-      → Leads (Stays l S a r) (λ c. (Words.send t (f c.link) then Words.pending_is false) c) (Stays l S a r)
+      → Leads (Stays l S a r) (λ c. (send t (f c.link) then pending_is false) c) (Stays l S a r)
   sends f x =
       record {
         leads = λ c h. record {
@@ -68,21 +62,21 @@ module _ {l : Link} {S : Number} {a r : ℕ} (t : Terms) where
           acknowledged = h.acknowledged;
           sent = h.sent;
           received = h.received;
-          reports = reported r l.waiting c.link.waiting (f c.link) (Words.has_room t c.link) (subst (λ n. IsReport n (f c.link).control) h.received (x c.link)) h.reports;
+          reports = reported r l.waiting c.link.waiting (f c.link) (has_room t c.link) (subst (λ n. IsReport n (f c.link).control) h.received (x c.link)) h.reports;
         };
       }
 
-  pub enquire_stays : Leads (Stays l S a r) (Words.enquire t) (Stays l S a r)
-  enquire_stays = sends (λ l'. Words.command (Words.ready_to_receive true l')) (λ l'. ready-is l'.own_busy l'.r true)
+  pub enquire_stays : Leads (Stays l S a r) (enquire t) (Stays l S a r)
+  enquire_stays = sends (λ l'. command (ready_to_receive true l')) (λ l'. ready-is l'.own_busy l'.r true)
 
-  pub answer_stays : Leads (Stays l S a r) (Words.answer t) (Stays l S a r)
-  answer_stays = sends (λ l'. Words.response (Words.ready_to_receive true l')) (λ l'. ready-is l'.own_busy l'.r true)
+  pub answer_stays : Leads (Stays l S a r) (answer t) (Stays l S a r)
+  answer_stays = sends (λ l'. response (ready_to_receive true l')) (λ l'. ready-is l'.own_busy l'.r true)
 
-  pub report_stays : Leads (Stays l S a r) (Words.report_ready t) (Stays l S a r)
-  report_stays = sends (λ l'. Words.response (Words.ready_to_receive false l')) (λ l'. ready-is l'.own_busy l'.r false)
+  pub report_stays : Leads (Stays l S a r) (report_ready t) (Stays l S a r)
+  report_stays = sends (λ l'. response (ready_to_receive false l')) (λ l'. ready-is l'.own_busy l'.r false)
 
-  pub reject_stays : (f : Bool) → Leads (Stays l S a r) (Words.reject t f) (Stays l S a r)
-  reject_stays f = sends (λ l'. Words.response (Reject (seq l'.r) f)) (λ l'. refl)
+  pub reject_stays : (f : Bool) → Leads (Stays l S a r) (reject t f) (Stays l S a r)
+  reject_stays f = sends (λ l'. response (Reject (seq l'.r) f)) (λ l'. refl)
 
 -- What is wanted in the end, if the link is still in state 7 or 8.
 pub record Up (l : Link) (a r : ℕ) (c : Course) : Type 0 where
@@ -98,7 +92,7 @@ module _ (l : Link) (a r : ℕ) where
       }
 
   -- a row that leads out of the states
-  pub failed_up : {P : Course → Type 0} (t : Terms) (e : ErrorCode) → Leads P (MultipleFrame.failed t e) (Up l a r)
+  pub failed_up : {P : Course → Type 0} (t : Terms) (e : ErrorCode) → Leads P (failed t e) (Up l a r)
   failed_up t e = record { leads = λ c h. record { stay = λ up. absurd (true≢false (sym up)) } }
 
 pub ruleset words = (keeping_then, depending_leads, bit_leads, enquire_stays, answer_stays, report_stays, reject_stays)
@@ -106,16 +100,16 @@ pub ruleset words = (keeping_then, depending_leads, bit_leads, enquire_stays, an
 pub ruleset rows = (words, stays_up, failed_up)
 
 module _ (t : Terms) (l : Link) where
-  pub timer_7_up : {S : Number} → Leads (Stays l S l.a l.r) (Established.timer_in_7 t) (Up l l.a l.r)
+  pub timer_7_up : {S : Number} → Leads (Stays l S l.a l.r) (timer_in_7 t) (Up l l.a l.r)
   timer_7_up = search rows depth 12 fits 4000
 
-  pub t200_8_up : {S : Number} → Leads (Stays l S l.a l.r) (TimerRecovery.t200_in_8 t) (Up l l.a l.r)
+  pub t200_8_up : {S : Number} → Leads (Stays l S l.a l.r) (t200_in_8 t) (Up l l.a l.r)
   t200_8_up = search rows depth 12 fits 4000
 
-  pub set_busy_up : {S : Number} → Leads (Stays l S l.a l.r) (MultipleFrame.set_busy_in_7_8 t) (Up l l.a l.r)
+  pub set_busy_up : {S : Number} → Leads (Stays l S l.a l.r) (set_busy_in_7_8 t) (Up l l.a l.r)
   set_busy_up = search rows depth 12 fits 4000
 
-  pub clear_busy_up : {S : Number} → Leads (Stays l S l.a l.r) (MultipleFrame.clear_busy_in_7_8 t) (Up l l.a l.r)
+  pub clear_busy_up : {S : Number} → Leads (Stays l S l.a l.r) (clear_busy_in_7_8 t) (Up l l.a l.r)
   clear_busy_up = search rows depth 12 fits 4000
 
 abbrev pub any_number : Number
@@ -131,7 +125,7 @@ acknowledged n s h = record { same = h.same; acknowledged = refl; sent = tt; rec
 
 module _ (l : Link) (r : ℕ) {S : Number} (a n : ℕ) where
   -- in state 7 nothing happens only where n is V(A)
-  nothing_up : a ≤ n → Leads (Passed (Stays l S a r) (Established.is_beyond_acknowledged n) false) nothing (Up l n r)
+  nothing_up : a ≤ n → Leads (Passed (Stays l S a r) (is_beyond_acknowledged n) false) nothing (Up l n r)
   nothing_up low =
       record {
         leads = λ c h. record {
@@ -142,24 +136,24 @@ module _ (l : Link) (r : ℕ) {S : Number} (a n : ℕ) where
         };
       }
 
-  pub acknowledge_up : Leads (Stays l S a r) (Words.acknowledge n) (Up l n r)
+  pub acknowledge_up : Leads (Stays l S a r) (acknowledge n) (Up l n r)
   acknowledge_up = search (acknowledged)
 
-  pub in_7_up : a ≤ n → Leads (Stays l S a r) (Established.acknowledged_in_7 n) (Up l n r)
+  pub in_7_up : a ≤ n → Leads (Stays l S a r) (acknowledged_in_7 n) (Up l n r)
   in_7_up low =
-      depending_leads (Established.is_all_sent n) (search (acknowledged))
-      (tested_leads (Established.is_beyond_acknowledged n) (from_more (λ c h. h.holds) (search (acknowledged))) (nothing_up low))
+      depending_leads (is_all_sent n) (search (acknowledged))
+      (tested_leads (is_beyond_acknowledged n) (from_more (λ c h. h.holds) (search (acknowledged))) (nothing_up low))
 
-  pub information_7_up : a ≤ n → Leads (Stays l S a r) (Established.acknowledged_by_information_in_7 n) (Up l n r)
+  pub information_7_up : a ≤ n → Leads (Stays l S a r) (acknowledged_by_information_in_7 n) (Up l n r)
   information_7_up low = depending_leads _ acknowledge_up (in_7_up low)
 
-  pub rnr_7_up : a ≤ n → Leads (Stays l S a r) (Established.acknowledged_by_rnr_in_7 n) (Up l n r)
+  pub rnr_7_up : a ≤ n → Leads (Stays l S a r) (acknowledged_by_rnr_in_7 n) (Up l n r)
   rnr_7_up low = search (acknowledged)
 
-  pub rej_7_up : a ≤ n → Leads (Stays l S a r) (Established.acknowledged_by_rej_in_7 n) (Up l n r)
+  pub rej_7_up : a ≤ n → Leads (Stays l S a r) (acknowledged_by_rej_in_7 n) (Up l n r)
   rej_7_up low = search (acknowledged)
 
-  pub in_8_up : (final : Bool) (timer : LinkTimer) → a ≤ n → Leads (Stays l S a r) (TimerRecovery.acknowledged_in_8 timer final n) (Up l n r)
+  pub in_8_up : (final : Bool) (timer : LinkTimer) → a ≤ n → Leads (Stays l S a r) (acknowledged_in_8 timer final n) (Up l n r)
   in_8_up final timer low = search (bit_leads, acknowledged)
 
 -- What a received frame does: the N(R) names n, which is acknowledged.
@@ -170,38 +164,38 @@ pub record UpBy (l : Link) (nr : Seq) (r : ℕ) (c : Course) : Type 0 where
 module _ (t : Terms) (l : Link) (r : ℕ) where
   by-number : (nr : Seq) (f : ℕ → Step) → ((n : ℕ) → l.a ≤ n → Leads (Stays l (still l.s) l.a r) (f n) (Up l n r))
       → (c : Course) → Stays l (still l.s) l.a r c → (o : Option ℕ) → named l.a l.s nr ≡ o
-      → UpBy l nr r (elim o [ None ↦ (Words.error t code.J then Words.re_establish t) c | Some n ↦ f n c ])
+      → UpBy l nr r (elim o [ None ↦ (error t ErrorCode.J then re_establish t) c | Some n ↦ f n c ])
   by-number nr f x c h None e = record { stay = λ up. absurd (true≢false (sym up)) }
   by-number nr f x c h (Some n) e =
       record { stay = λ up. (n, e, ((x n (named-within l.a l.s n nr e).0).leads c h).stay up) }
 
   pub number_up : (nr : Seq) (f : ℕ → Step) → ((n : ℕ) → l.a ≤ n → Leads (Stays l (still l.s) l.a r) (f n) (Up l n r))
-      → Leads (Stays l (still l.s) l.a r) (Words.by_number t nr f) (UpBy l nr r)
+      → Leads (Stays l (still l.s) l.a r) (by_number t nr f) (UpBy l nr r)
   number_up nr f x =
       record {
         leads = λ c h.
             let e : named c.link.a c.link.s nr ≡ named l.a l.s nr = ap (λ a. named a c.link.s nr) h.acknowledged ∙ ap (λ s. named l.a s nr) h.sent in
-            subst (λ o. UpBy l nr r (elim o [ None ↦ (Words.error t code.J then Words.re_establish t) c | Some n ↦ f n c ])) (sym e)
+            subst (λ o. UpBy l nr r (elim o [ None ↦ (error t ErrorCode.J then re_establish t) c | Some n ↦ f n c ])) (sym e)
             (by-number nr f x c h (named l.a l.s nr) refl);
       }
 
   -- supervisory frames
   reports_7 : (b : Bool) (octets : List ℕ) (m : ℕ) (control : Control) → IsReport m control
-      → Leads (Stays l (still l.s) l.a r) (Established.frame_in_7 t b octets control) (UpBy l (seq m) r)
-  reports_7 b octets m (ReceiveReady nr pf) e = subst (λ n. Leads (Stays l (still l.s) l.a r) (Established.frame_in_7 t b octets (ReceiveReady nr pf)) (UpBy l n r)) e (search (words, number_up, in_7_up) depth 12 fits 4000)
-  reports_7 b octets m (ReceiveNotReady nr pf) e = subst (λ n. Leads (Stays l (still l.s) l.a r) (Established.frame_in_7 t b octets (ReceiveNotReady nr pf)) (UpBy l n r)) e (search (words, number_up, rnr_7_up) depth 12 fits 4000)
-  reports_7 b octets m (Reject nr pf) e = subst (λ n. Leads (Stays l (still l.s) l.a r) (Established.frame_in_7 t b octets (Reject nr pf)) (UpBy l n r)) e (search (words, number_up, rej_7_up) depth 12 fits 4000)
+      → Leads (Stays l (still l.s) l.a r) (frame_in_7 t b octets control) (UpBy l (seq m) r)
+  reports_7 b octets m (ReceiveReady nr pf) e = subst (λ n. Leads (Stays l (still l.s) l.a r) (frame_in_7 t b octets (ReceiveReady nr pf)) (UpBy l n r)) e (search (words, number_up, in_7_up) depth 12 fits 4000)
+  reports_7 b octets m (ReceiveNotReady nr pf) e = subst (λ n. Leads (Stays l (still l.s) l.a r) (frame_in_7 t b octets (ReceiveNotReady nr pf)) (UpBy l n r)) e (search (words, number_up, rnr_7_up) depth 12 fits 4000)
+  reports_7 b octets m (Reject nr pf) e = subst (λ n. Leads (Stays l (still l.s) l.a r) (frame_in_7 t b octets (Reject nr pf)) (UpBy l n r)) e (search (words, number_up, rej_7_up) depth 12 fits 4000)
   reports_7 b octets m other e = absurd e
 
   reports_8 : (b : Bool) (octets : List ℕ) (m : ℕ) (control : Control) → IsReport m control
-      → Leads (Stays l (still l.s) l.a r) (TimerRecovery.frame_in_8 t b octets control) (UpBy l (seq m) r)
-  reports_8 b octets m (ReceiveReady nr pf) e = subst (λ n. Leads (Stays l (still l.s) l.a r) (TimerRecovery.frame_in_8 t b octets (ReceiveReady nr pf)) (UpBy l n r)) e (search (words, number_up, in_8_up) depth 12 fits 4000)
-  reports_8 b octets m (ReceiveNotReady nr pf) e = subst (λ n. Leads (Stays l (still l.s) l.a r) (TimerRecovery.frame_in_8 t b octets (ReceiveNotReady nr pf)) (UpBy l n r)) e (search (words, number_up, in_8_up) depth 12 fits 4000)
-  reports_8 b octets m (Reject nr pf) e = subst (λ n. Leads (Stays l (still l.s) l.a r) (TimerRecovery.frame_in_8 t b octets (Reject nr pf)) (UpBy l n r)) e (search (words, number_up, in_8_up) depth 12 fits 4000)
+      → Leads (Stays l (still l.s) l.a r) (frame_in_8 t b octets control) (UpBy l (seq m) r)
+  reports_8 b octets m (ReceiveReady nr pf) e = subst (λ n. Leads (Stays l (still l.s) l.a r) (frame_in_8 t b octets (ReceiveReady nr pf)) (UpBy l n r)) e (search (words, number_up, in_8_up) depth 12 fits 4000)
+  reports_8 b octets m (ReceiveNotReady nr pf) e = subst (λ n. Leads (Stays l (still l.s) l.a r) (frame_in_8 t b octets (ReceiveNotReady nr pf)) (UpBy l n r)) e (search (words, number_up, in_8_up) depth 12 fits 4000)
+  reports_8 b octets m (Reject nr pf) e = subst (λ n. Leads (Stays l (still l.s) l.a r) (frame_in_8 t b octets (Reject nr pf)) (UpBy l n r)) e (search (words, number_up, in_8_up) depth 12 fits 4000)
   reports_8 b octets m other e = absurd e
 
   pub reports_up : (here : State) → IsTrue (is_multiple_frame here) → (b : Bool) (octets : List ℕ) (m : ℕ) (control : Control) → IsReport m control
-      → Leads (Stays l (still l.s) l.a r) (Machine.frame_in here t b octets control) (UpBy l (seq m) r)
+      → Leads (Stays l (still l.s) l.a r) (frame_in here t b octets control) (UpBy l (seq m) r)
   reports_up Established up b octets m control e = reports_7 b octets m control e
   reports_up TimerRecovery up b octets m control e = reports_8 b octets m control e
   reports_up other up b octets m control e = absurd (true≢false (sym up))

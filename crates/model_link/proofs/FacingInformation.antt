@@ -1,8 +1,5 @@
 -- What a received I-frame does to a link that stays in states 7 and 8, for the end that it faces.
-use Rattle.model_link.proofs.Vocabulary.{◌≡◌, ℕ, ◌+◌, ◌≤◌, Bool, true, false, cond, IsTrue, List, length, Option, None, Some, refl, sym, ◌∙◌, true≢false, nat_lt, Seq, Terms, Link, is_multiple_frame, Course, begun, Step}
-use Rattle.lapd_frame.specs.declared.notes.ErrorCode.TheVariants as code
-use Rattle.model_link.specs.Words
-use Rattle.model_link.specs.MultipleFrame
+use Rattle.model_link.proofs.Vocabulary.{◌≡◌, ℕ, ◌+◌, ◌≤◌, Bool, true, false, cond, IsTrue, List, length, Option, None, Some, refl, sym, ◌∙◌, true≢false, nat_lt, Seq, Terms, Link, is_multiple_frame, Course, begun, Step, by_number, rejecting_is, contents_in_7_8, failed, information_in_7_8, is_next, ErrorCode}
 use Rattle.model_link.proofs.Leads.{Leads}
 use Rattle.model_link.proofs.Contents.{contents}
 use Rattle.model_link.proofs.Counting.{Count, On, number_counts}
@@ -27,18 +24,18 @@ module _ (t : Terms) (l : Link) where
   at-first = record { same = refl; acknowledged = refl; sent = refl; received = refl; reports = no-reports l.r l.waiting }
 
   after-contents : (ns : Seq) (p : Bool) (octets : List ℕ)
-      → Halfway l (cond l.own_busy l.r (cond (MultipleFrame.is_next ns l) (l.r + 1) l.r)) (cond l.own_busy None (cond (MultipleFrame.is_next ns l) (Some octets) None))
-      (MultipleFrame.contents_in_7_8 t ns p octets (begun l))
+      → Halfway l (cond l.own_busy l.r (cond (is_next ns l) (l.r + 1) l.r)) (cond l.own_busy None (cond (is_next ns l) (Some octets) None))
+      (contents_in_7_8 t ns p octets (begun l))
   after-contents ns p octets =
       contents t l (Halfway l) (λ r d. record { leads = λ c h. record { stays = (answer_stays t).leads c h.stays; delivered = h.delivered } }) (λ r d. record { leads = λ c h. record { stays = h.stays; delivered = h.delivered } })
-      (λ r d f. record { leads = λ c h. record { stays = (reject_stays t f).leads (Words.rejecting_is true c) h.stays; delivered = h.delivered } }) (record { stays = at-first; delivered = refl })
+      (λ r d f. record { leads = λ c h. record { stays = (reject_stays t f).leads (rejecting_is true c) h.stays; delivered = h.delivered } }) (record { stays = at-first; delivered = refl })
       ns p octets
       (record { stays = record { same = refl; acknowledged = refl; sent = refl; received = refl; reports = no-reports (l.r + 1) l.waiting }; delivered = refl })
 
   -- the N(R) has its effect
   numbered : (nr : Seq) (r : ℕ) (d : Option (List ℕ)) (f : ℕ → Step) → ((Q : Count) (m : ℕ) → Leads (On Q) (f m) (On Q))
       → ((n : ℕ) → l.a ≤ n → Leads (Stays l (still l.s) l.a r) (f n) (Up l n r))
-      → (c : Course) → Halfway l r d c → Took l nr r d (Words.by_number t nr f c)
+      → (c : Course) → Halfway l r d c → Took l nr r d (by_number t nr f c)
   numbered nr r d f x y c h =
       record {
         by = (number_up t l r nr f y).leads c h.stays;
@@ -52,7 +49,7 @@ module _ (t : Terms) (l : Link) where
 
   pub information_took : (ns nr : Seq) (p : Bool) (octets : List ℕ) (f : ℕ → Step) → ((Q : Count) (m : ℕ) → Leads (On Q) (f m) (On Q))
       → ((r n : ℕ) → l.a ≤ n → Leads (Stays l (still l.s) l.a r) (f n) (Up l n r))
-      → Took l nr (cond l.own_busy l.r (cond (MultipleFrame.is_next ns l) (l.r + 1) l.r)) (cond l.own_busy None (cond (MultipleFrame.is_next ns l) (Some octets) None))
-      (MultipleFrame.information_in_7_8 t ns nr p octets f (begun l))
+      → Took l nr (cond l.own_busy l.r (cond (is_next ns l) (l.r + 1) l.r)) (cond l.own_busy None (cond (is_next ns l) (Some octets) None))
+      (information_in_7_8 t ns nr p octets f (begun l))
   information_took ns nr p octets f x y =
-      or-failed (nat_lt t.n201 (length octets)) nr _ _ (MultipleFrame.failed t code.O (begun l)) _ refl (numbered nr _ _ f x (y _) (MultipleFrame.contents_in_7_8 t ns p octets (begun l)) (after-contents ns p octets))
+      or-failed (nat_lt t.n201 (length octets)) nr _ _ (failed t ErrorCode.O (begun l)) _ refl (numbered nr _ _ f x (y _) (contents_in_7_8 t ns p octets (begun l)) (after-contents ns p octets))

@@ -1,12 +1,9 @@
 -- What the row of a frame does, said once: a claim that every word of the tables leads on is led on by every row.
-use Rattle.model_link.proofs.Vocabulary.{◌≡◌, ℕ, ◌+◌, ◌≤◌, Bool, true, false, cond, IsTrue, List, Option, Some, None, inl, inr, refl, sym, true≢false, length-take, arith, Seq, seq, named, distance_of, nat_le, leb-true, Control, Information, ReceiveReady, ReceiveNotReady, Reject, Sabme, Disc, Ui, Ua, Dm, Frmr, Xid, ErrorCode, State, TeiAssigned, AwaitingEstablishment, AwaitingRelease, Established, TimerRecovery, LinkTimer, T200, T203, ControlFrame, Terms, has_outstanding, is_asked, is_peer_busy, is_own_busy, is_multiple_frame, Course, Step, ◌then◌, nothing, depending_on, frame_in_4, frame_in_5, frame_in_6}
+use Rattle.model_link.proofs.Vocabulary.{◌≡◌, ℕ, ◌+◌, ◌≤◌, Bool, true, false, cond, IsTrue, List, Option, Some, None, inl, inr, refl, sym, true≢false, length-take, arith, Seq, seq, named, distance_of, nat_le, leb-true, Control, Information, ReceiveReady, ReceiveNotReady, Reject, Sabme, Disc, Ui, Ua, Dm, Frmr, Xid, ErrorCode, State, TeiAssigned, AwaitingEstablishment, AwaitingRelease, Established, TimerRecovery, LinkTimer, T200, T203, ControlFrame, Terms, has_outstanding, is_asked, is_peer_busy, is_own_busy, is_multiple_frame, Course, Step, ◌then◌, nothing, depending_on, frame_in_4, frame_in_5, frame_in_6, acknowledged_in_8, particulars_in_8, frame_in}
 use Rattle.std.specs.Prelude.{◌&&◌}
-use Rattle.lapd_frame.specs.declared.notes.ErrorCode.TheVariants as code
 use Rattle.model_link.specs.Words
 use Rattle.model_link.specs.MultipleFrame
 use Rattle.model_link.specs.Established
-use Rattle.model_link.specs.TimerRecovery
-use Rattle.model_link.specs.Machine
 use Rattle.model_link.proofs.Leads.{Leads, then_leads, depending_leads, bit_leads, tested_leads, Passed, from_more, to_less}
 use Rattle.model_link.proofs.Waits.{Waits, ua_waits, dm_waits, sabme_waits, rej_waits, ready_waits}
 use Rattle.model_link.proofs.Kept.{Purse, no_more, another, two, Fits}
@@ -184,8 +181,8 @@ module _ {t : Terms} {Units Anew Taken Window Queued Offered : Type 0} {In : Sta
       → ((a s n i : ℕ) (state : State) → X a s n state → named a s nr ≡ Some i → Y i a s n state)
       → ((i : ℕ) → Leads (At (Y i) (P one one)) (f i) E)
       → (c : Course) → At X (P one one) c → (o : Option ℕ) → named c.link.a c.link.s nr ≡ o
-      → E (elim o [ None ↦ (Words.error t code.J then Words.re_establish t) c | Some n ↦ f n c ])
-  by-number nr f w x c h None e = (failed code.J).leads c h
+      → E (elim o [ None ↦ (Words.error t ErrorCode.J then Words.re_establish t) c | Some n ↦ f n c ])
+  by-number nr f w x c h None e = (failed ErrorCode.J).leads c h
   by-number nr f w x c h (Some i) e = (x i).leads c (record { known = w _ _ _ i _ h.known e; holds = h.holds })
 
   number : {X : Claim} {Y : ℕ → Claim} (nr : Seq) {f : ℕ → Step}
@@ -221,8 +218,8 @@ module _ {t : Terms} {Units Anew Taken Window Queued Offered : Type 0} {In : Sta
   row_in_4 octets (Sabme p) may =
       begun_by (send (ua_waits t p) ▹ flags ▹ zero may ▹ start T203 ▹ establish_indication ▹ enter_7)
   row_in_4 octets (Disc p) may = begun_by (ends (send (dm_waits t p)))
-  row_in_4 octets (Ua true) may = begun_by (ends (error code.C))
-  row_in_4 octets (Ua false) may = begun_by (ends (error code.D))
+  row_in_4 octets (Ua true) may = begun_by (ends (error ErrorCode.C))
+  row_in_4 octets (Ua false) may = begun_by (ends (error ErrorCode.D))
   row_in_4 octets (Ui p) may = unit_data may octets
   row_in_4 octets (Xid pf) may = begun_by (ends xid)
   row_in_4 octets other may = unserved
@@ -233,7 +230,7 @@ module _ {t : Terms} {Units Anew Taken Window Queued Offered : Type 0} {In : Sta
   row_in_5 octets (Disc p) may = begun_by (ends (send (dm_waits t p)))
   row_in_5 octets (Ua true) may =
       begun_by (depending_leads is_asked (loose establish_confirm) emptied ▹ zero may ▹ start T203 ▹ enter_7)
-  row_in_5 octets (Ua false) may = begun_by (ends (error code.D))
+  row_in_5 octets (Ua false) may = begun_by (ends (error ErrorCode.D))
   row_in_5 octets (Dm true) may = begun_by (discard ▹ release_indication ▹ no_timer ▹ enter_4)
   row_in_5 octets (Dm false) may = unserved
   row_in_5 octets (Ui p) may = unit_data may octets
@@ -245,7 +242,7 @@ module _ {t : Terms} {Units Anew Taken Window Queued Offered : Type 0} {In : Sta
   row_in_6 octets (Sabme p) may = begun_by (ends (send (dm_waits t p)))
   row_in_6 octets (Disc p) may = begun_by (ends (send (ua_waits t p)))
   row_in_6 octets (Ua true) may = begun_by (release_confirm ▹ no_timer ▹ enter_4)
-  row_in_6 octets (Ua false) may = begun_by (ends (error code.D))
+  row_in_6 octets (Ua false) may = begun_by (ends (error ErrorCode.D))
   row_in_6 octets (Dm true) may = begun_by (release_confirm ▹ no_timer ▹ enter_4)
   row_in_6 octets (Dm false) may = unserved
   row_in_6 octets (Ui p) may = unit_data may octets
@@ -263,7 +260,7 @@ module _ {t : Terms} {Units Anew Taken Window Queued Offered : Type 0} {In : Sta
       → (b : Bool) (octets : List ℕ) (control : Control) → Fits Units Anew Taken control
       → Leads (At (starts In Window here control) S) (MultipleFrame.frame_in_7_8 own t b octets control) E
   row_in_7_8 here own told information rr rnr rej dm up b octets (Information ns nr p) may =
-      begun_by (bit_leads _ (failed code.O) (contents may ns p octets ▹ number nr (names-in here (Information ns nr p) nr) information))
+      begun_by (bit_leads _ (failed ErrorCode.O) (contents may ns p octets ▹ number nr (names-in here (Information ns nr p) nr) information))
   row_in_7_8 here own told information rr rnr rej dm up b octets (ReceiveReady nr pf) may =
       supervisory own false b pf nr own.by_rr (told (ReceiveReady nr pf)) (names-in here (ReceiveReady nr pf) nr) rr
   row_in_7_8 here own told information rr rnr rej dm up b octets (ReceiveNotReady nr pf) may =
@@ -272,14 +269,14 @@ module _ {t : Terms} {Units Anew Taken Window Queued Offered : Type 0} {In : Sta
       supervisory own false b pf nr own.by_rej (told (Reject nr pf))
       (λ a s n i state x e. (names-in here (Reject nr pf) nr a s n i state x e, x.1 nr i up refl e)) rej
   row_in_7_8 here own told information rr rnr rej dm up b octets (Sabme p) may =
-      begun_by (send (ua_waits t p) ▹ flags ▹ error code.F ▹ emptied ▹ zero may ▹ start T203 ▹ enter_7)
+      begun_by (send (ua_waits t p) ▹ flags ▹ error ErrorCode.F ▹ emptied ▹ zero may ▹ start T203 ▹ enter_7)
   row_in_7_8 here own told information rr rnr rej dm up b octets (Disc p) may =
       begun_by (discard ▹ settled ▹ send (ua_waits t p) ▹ release_indication ▹ no_timer ▹ enter_4)
-  row_in_7_8 here own told information rr rnr rej dm up b octets (Ua true) may = begun_by (ends (error code.C))
-  row_in_7_8 here own told information rr rnr rej dm up b octets (Ua false) may = begun_by (ends (error code.D))
+  row_in_7_8 here own told information rr rnr rej dm up b octets (Ua true) may = begun_by (ends (error ErrorCode.C))
+  row_in_7_8 here own told information rr rnr rej dm up b octets (Ua false) may = begun_by (ends (error ErrorCode.D))
   row_in_7_8 here own told information rr rnr rej dm up b octets (Dm true) may = knowing (λ a s n state x. tt) dm
-  row_in_7_8 here own told information rr rnr rej dm up b octets (Dm false) may = begun_by (failed code.E)
-  row_in_7_8 here own told information rr rnr rej dm up b octets (Frmr f) may = begun_by (failed code.K)
+  row_in_7_8 here own told information rr rnr rej dm up b octets (Dm false) may = begun_by (failed ErrorCode.E)
+  row_in_7_8 here own told information rr rnr rej dm up b octets (Frmr f) may = begun_by (failed ErrorCode.K)
   row_in_7_8 here own told information rr rnr rej dm up b octets (Ui p) may = unit_data may octets
   row_in_7_8 here own told information rr rnr rej dm up b octets (Xid pf) may = begun_by (ends xid)
 
@@ -292,7 +289,7 @@ module _ {t : Terms} {Units Anew Taken Window Queued Offered : Type 0} {In : Sta
   again : (i : ℕ) → Leads (At (λ a s n state. names In i Established a s n state × Window) (P one one)) (Established.acknowledged_by_rej_in_7 i) E
   again i = record { leads = λ c h. k.again h.known.1 one one i _ (omega arith) h.known.0.to (k.acknowledge one one i Established c h.known.0.from h.known.0.to h.known.0.state_is refl h.holds) }
 
-  recovered : (timer : LinkTimer) (final : Bool) (i : ℕ) → Leads (At (names In i TimerRecovery) (P one one)) (TimerRecovery.acknowledged_in_8 timer final i) E
+  recovered : (timer : LinkTimer) (final : Bool) (i : ℕ) → Leads (At (names In i TimerRecovery) (P one one)) (acknowledged_in_8 timer final i) E
   recovered timer final i =
       bit_leads final
       (record { leads = λ c h. k.recovered one one i timer _ (omega arith) h.known.to h.known.state_is (k.acknowledge one one i TimerRecovery c h.known.from h.known.to h.known.state_is refl h.holds) })
@@ -300,7 +297,7 @@ module _ {t : Terms} {Units Anew Taken Window Queued Offered : Type 0} {In : Sta
 
   -- a final response that no command asked for
   unsolicited : {X : Claim} (final : Bool) → Leads (At X (P one two)) (Established.unsolicited t final) (At X (P one one))
-  unsolicited final = bit_leads final (error code.A) untold
+  unsolicited final = bit_leads final (error ErrorCode.A) untold
 
   -- a frame in any state
   fits-down : (control : Control) → Fits Units Anew Taken control → Fits Units Anew (Unit {0}) control
@@ -310,13 +307,13 @@ module _ {t : Terms} {Units Anew Taken Window Queued Offered : Type 0} {In : Sta
   fits-down other may = may
 
   pub frame_by : (here : State) (b : Bool) (octets : List ℕ) (control : Control) → Fits Units Anew Taken control
-      → Leads (At (starts In Window here control) S) (Machine.frame_in here t b octets control) E
+      → Leads (At (starts In Window here control) S) (frame_in here t b octets control) E
   frame_by TeiAssigned b octets control may = knowing (λ a s n state x. inr (TeiAssigned, x.0, refl)) (row_in_4 octets control (fits-down control may))
   frame_by AwaitingEstablishment b octets control may = row_in_5 octets control (fits-down control may)
   frame_by AwaitingRelease b octets control may = knowing (λ a s n state x. inr (AwaitingRelease, x.0, refl)) (row_in_6 octets control (fits-down control may))
   frame_by Established b octets control may =
       row_in_7_8 Established (Established.particulars_in_7 t) (λ control'. unsolicited) (λ i. depending_leads is_peer_busy (ends (acknowledge i refl)) (acknowledged_in_7 i))
-      (λ final. acknowledged_in_7) (λ final i. ends (acknowledge i refl ▹ start T200)) (λ final. again) (begun_by (ends (error code.B))) refl b octets control may
+      (λ final. acknowledged_in_7) (λ final i. ends (acknowledge i refl ▹ start T200)) (λ final. again) (begun_by (ends (error ErrorCode.B))) refl b octets control may
   frame_by TimerRecovery b octets control may =
-      row_in_7_8 TimerRecovery (TimerRecovery.particulars_in_8 t) (λ control' final. untold) (λ i. ends (acknowledge i refl))
-      (recovered T203) (recovered T200) (λ final i. knowing (λ a s n state x. x.0) (recovered T203 final i)) (begun_by (failed code.B)) refl b octets control may
+      row_in_7_8 TimerRecovery (particulars_in_8 t) (λ control' final. untold) (λ i. ends (acknowledge i refl))
+      (recovered T203) (recovered T200) (λ final i. knowing (λ a s n state x. x.0) (recovered T203 final i)) (begun_by (failed ErrorCode.B)) refl b octets control may

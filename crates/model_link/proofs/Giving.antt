@@ -1,9 +1,5 @@
 -- What an offer gives is a frame.
-use Rattle.model_link.proofs.Vocabulary.{◌≡◌, ℕ, zero, suc, ◌≤◌, Bool, true, false, cond, List, [], ◌∷◌, length, Option, None, Some, refl, subst, arith, All, IfSome, slice_get, All-head, All-tail, seq, ReceiveReady, ControlFrame, Terms, Link, Sent, Course, begun, IsInRange, IsSound, IsWaitingFrame, IsGiven}
-use Rattle.model_link.specs.Events
-use Rattle.model_link.specs.Words
-use Rattle.model_link.specs.Offers
-use Rattle.model_link.specs.Machine
+use Rattle.model_link.proofs.Vocabulary.{◌≡◌, ℕ, zero, suc, ◌≤◌, Bool, true, false, cond, List, [], ◌∷◌, length, Option, None, Some, refl, subst, arith, All, IfSome, slice_get, All-head, All-tail, seq, ReceiveReady, ControlFrame, Terms, Link, Sent, Course, begun, IsInRange, IsSound, IsWaitingFrame, IsGiven, offer, response, first_unsent, is_awaiting_acknowledgement, may_send_information, next_information, offer_among, with_one_sent, course, given, given_of}
 use Rattle.model_link.proofs.Waits.{frame_without_information, may_wait}
 
 -- a control frame goes alone
@@ -20,9 +16,9 @@ module _ (t : Terms) (r : IsInRange t) (l : Link) (h : IsSound t l) where
   Gives : Option Sent → Type 0
   Gives o = IfSome o (λ s. IsGiven t s.frame s.contents)
 
-  information : IsGiven t (Offers.next_information l) (Offers.first_unsent l)
+  information : IsGiven t (next_information l) (first_unsent l)
   information =
-      let f = frame_without_information t (Offers.next_information l) r.tei refl refl in
+      let f = frame_without_information t (next_information l) r.tei refl refl in
       record {
         head = f;
         octets = omega arith;
@@ -30,25 +26,25 @@ module _ (t : Terms) (r : IsInRange t) (l : Link) (h : IsSound t l) where
         whole = record { sapi = f.sapi; tei = f.tei; kind = refl; size = refl };
       }
 
-  acknowledgement : IsGiven t (Words.response (ReceiveReady (seq l.r) false)) None
-  acknowledgement = alone t _ ((may_wait t (Words.response (ReceiveReady (seq l.r) false)) refl refl (omega arith) refl).waits r.tei)
+  acknowledgement : IsGiven t (response (ReceiveReady (seq l.r) false)) None
+  acknowledgement = alone t _ ((may_wait t (response (ReceiveReady (seq l.r) false)) refl refl (omega arith) refl).waits r.tei)
 
   either : (b : Bool) (u v : Course) → Gives u.sent → Gives v.sent → Gives (cond b u v).sent
   either true u v x y = x
   either false u v x y = y
 
-  offered : (ws : List ControlFrame) → l.waiting ≡ ws → Gives (Offers.offer_among t ws (begun l)).sent
+  offered : (ws : List ControlFrame) → l.waiting ≡ ws → Gives (offer_among t ws (begun l)).sent
   unfolding Gives
   offered [] e =
-      either (Offers.may_send_information t l) _ _
-      (either (Offers.is_awaiting_acknowledgement (Offers.with_one_sent l)) _ _ information information)
+      either (may_send_information t l) _ _
+      (either (is_awaiting_acknowledgement (with_one_sent l)) _ _ information information)
       (either l.pending _ _ acknowledgement tt)
   offered (f ∷ fs) e = alone t f (All-head (IsWaitingFrame t) f fs (subst (All (IsWaitingFrame t)) e h.frames))
 
-  from-sent : (c : Course) (o : Option Sent) → Gives o → IfSome (Machine.given_of t l c o) (λ g. IsGiven t g.frame g.contents)
+  from-sent : (c : Course) (o : Option Sent) → Gives o → IfSome (given_of t l c o) (λ g. IsGiven t g.frame g.contents)
   unfolding Gives
   from-sent c None x = tt
   from-sent c (Some s) x = x
 
-  pub given_is_frame : IfSome (Machine.given t l) (λ g. IsGiven t g.frame g.contents)
-  given_is_frame = from-sent (Machine.course t Events.offer l) (Machine.course t Events.offer l).sent (offered l.waiting refl)
+  pub given_is_frame : IfSome (given t l) (λ g. IsGiven t g.frame g.contents)
+  given_is_frame = from-sent (course t offer l) (course t offer l).sent (offered l.waiting refl)

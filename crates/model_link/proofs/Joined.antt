@@ -1,7 +1,5 @@
 -- Two ends: what holds in both directions, as long as both links stay in states 7 and 8.
-use Rattle.model_link.proofs.Vocabulary.{◌≡◌, ℕ, ◌+◌, Bool, true, false, cond, IsTrue, List, [], ◌∷◌, ◌++◌, take, drop, Option, None, Some, refl, sym, ap, subst, ◌∙◌, append-nil, true≢false, arith, option_to_list, Refusal, Parts, State, Established, TimerRecovery, LinkTimer, T200, T203, Terms, Link, is_multiple_frame, frame, Request, Establish, Release, Data, SetBusy, ClearBusy, Event, received, expired, requested, offer, Course, begun, IsInRange, IsSound, End, Ends, Act, asks, expires, sends, receives, loses, Doing, at_near, at_far, with_link, with_sent, with_first_lost, with_first_of, acting, turned, doing, doing_all, Begins, IsUp, StayUp, Agree}
-use Rattle.model_link.specs.Requests
-use Rattle.model_link.specs.Machine
+use Rattle.model_link.proofs.Vocabulary.{◌≡◌, ℕ, ◌+◌, Bool, true, false, cond, IsTrue, List, [], ◌∷◌, ◌++◌, take, drop, Option, None, Some, refl, sym, ap, subst, ◌∙◌, append-nil, true≢false, arith, option_to_list, Refusal, Parts, State, Established, TimerRecovery, LinkTimer, T200, T203, Terms, Link, is_multiple_frame, frame, Request, Establish, Release, Data, SetBusy, ClearBusy, Event, received, expired, requested, offer, Course, begun, IsInRange, IsSound, End, Ends, Act, asks, expires, sends, receives, loses, Doing, at_near, at_far, with_link, with_sent, with_first_lost, with_first_of, acting, turned, doing, doing_all, Begins, IsUp, StayUp, Agree, granted, refusal, release_in, after, course, expired_in, is_running, told}
 use Rattle.model_link.proofs.SoundEvents.{sound-after}
 use Rattle.model_link.proofs.Delivering.{event-delivers}
 use Rattle.model_link.proofs.Lines.{Carried, Rising, rising-low}
@@ -40,13 +38,13 @@ module _ (t : Terms) (l : Link) where
   either false u v x y up = y up
 
   -- requests
-  release-leads_out : (here : State) → IsTrue (is_multiple_frame here) → IsUpIn (Requests.release_in here t (begun l)) → ⊥
+  release-leads_out : (here : State) → IsTrue (is_multiple_frame here) → IsUpIn (release_in here t (begun l)) → ⊥
   release-leads_out Established before up = true≢false (sym up)
   release-leads_out TimerRecovery before up = true≢false (sym up)
   release-leads_out other before up = true≢false (sym before)
 
-  granted-goes : IsTrue (is_multiple_frame l.state) → (request : Request) → IsUpIn (Requests.granted t request (begun l))
-      → Goes l (Requests.granted t request (begun l)).link
+  granted-goes : IsTrue (is_multiple_frame l.state) → (request : Request) → IsUpIn (granted t request (begun l))
+      → Goes l (granted t request (begun l)).link
   granted-goes before Establish up = absurd (true≢false (sym up))
   granted-goes before Release up = absurd (release-leads_out l.state before up)
   granted-goes before (Data octets) up = record { more = octets ∷ []; same = refl; still = refl; received = refl; reports = no-reports l.r l.waiting }
@@ -54,21 +52,21 @@ module _ (t : Terms) (l : Link) where
   granted-goes before ClearBusy up = by-up _ ((clear_busy_up t l {S = still l.s}).leads (begun l) (at-first t l)) up
 
   request-goes : IsTrue (is_multiple_frame l.state) → (request : Request) (o : Option Refusal)
-      → IsUpIn (elim o [ None ↦ Requests.granted t request (begun l) | Some _ ↦ begun l ])
-      → Went l (elim o [ None ↦ Requests.granted t request (begun l) | Some _ ↦ begun l ])
+      → IsUpIn (elim o [ None ↦ granted t request (begun l) | Some _ ↦ begun l ])
+      → Went l (elim o [ None ↦ granted t request (begun l) | Some _ ↦ begun l ])
   request-goes before request None up = granted-goes before request up
   request-goes before request (Some w) up = stays
 
   -- timers
-  expired-goes : (here : State) → IsTrue (is_multiple_frame here) → (timer : LinkTimer) → IsUpIn (Machine.expired_in here timer t (begun l))
-      → Goes l (Machine.expired_in here timer t (begun l)).link
+  expired-goes : (here : State) → IsTrue (is_multiple_frame here) → (timer : LinkTimer) → IsUpIn (expired_in here timer t (begun l))
+      → Goes l (expired_in here timer t (begun l)).link
   expired-goes Established before timer up = by-up _ ((timer_7_up t l {S = still l.s}).leads (begun l) (at-first t l)) up
   expired-goes TimerRecovery before T200 up = by-up _ ((t200_8_up t l {S = still l.s}).leads (begun l) (at-first t l)) up
   expired-goes TimerRecovery before T203 up = stays
   expired-goes other before timer up = absurd (true≢false (sym before))
 
-  timer-goes : IsTrue (is_multiple_frame l.state) → (timer : LinkTimer) → IsUpIn (Machine.course t (expired timer) l) → Goes l (Machine.after t (expired timer) l)
-  timer-goes before timer up = either (Machine.is_running timer l) _ _ (λ u. expired-goes l.state before timer u) (λ u. stays) up
+  timer-goes : IsTrue (is_multiple_frame l.state) → (timer : LinkTimer) → IsUpIn (course t (expired timer) l) → Goes l (after t (expired timer) l)
+  timer-goes before timer up = either (is_running timer l) _ _ (λ u. expired-goes l.state before timer u) (λ u. stays) up
 
 -- What holds of both ends.
 pub record Joined (n m : End) : Type 0 where
@@ -98,11 +96,11 @@ module _ (n m : End) (h : Joined n m) where
   moved n' way ranges sound up there back = search
 
   -- an event of the link alone, which delivers nothing
-  goes : (e : Event) → (Machine.course n.terms e n.link).delivered ≡ None → Goes n.link (Machine.after n.terms e n.link)
+  goes : (e : Event) → (course n.terms e n.link).delivered ≡ None → Goes n.link (after n.terms e n.link)
       → IsTrue (is_multiple_frame (with_link e n).link.state) → Joined (with_link e n) m
   goes e none g up =
-      let l = Machine.after n.terms e n.link in
-      let ds = n.delivered ++ option_to_list (Machine.told n.terms e n.link).delivered in
+      let l = after n.terms e n.link in
+      let ds = n.delivered ++ option_to_list (told n.terms e n.link).delivered in
       moved (with_link e n) m.way h.near_ranges (sound-after n.terms h.near_ranges e n.link h.near_sound) up
       (sender-told (record n { link = l }) m ds (sender-goes n m l g.more n.link.r g.same g.still g.reports h.there))
       (receiver-told m (record n { link = l }) ds (ap (λ o. n.delivered ++ option_to_list o) none ∙ append-nil n.delivered)
@@ -112,12 +110,12 @@ module _ (n m : End) (h : Joined n m) where
   gives up =
       let gave = offer-gave n.terms h.near_ranges n.link h.near_sound n.link.waiting refl in
       moved (with_sent n) m.way h.near_ranges (sound-after n.terms h.near_ranges offer n.link h.near_sound) up
-      (sender-gives n m (Machine.course n.terms offer n.link) gave h.there) (receiver-gives n m (Machine.course n.terms offer n.link) gave h.back)
+      (sender-gives n m (course n.terms offer n.link) gave h.there) (receiver-gives n m (course n.terms offer n.link) gave h.back)
 
   hears : (f : Parts) (fs : List Parts) → m.way ≡ f ∷ fs → IsTrue (is_multiple_frame (with_link (received (frame f)) n).link.state)
       → Joined (with_link (received (frame f)) n) (record m { way = fs })
   hears f fs first up =
-      let c = Machine.course n.terms (received (frame f)) n.link in
+      let c = course n.terms (received (frame f)) n.link in
       let ds = n.delivered ++ option_to_list c.delivered in
       let rising : Rising n.link.a m.link.r (f ∷ fs ++ frames_of m.terms m.link.waiting) = subst (λ way. Rising n.link.a m.link.r (way ++ frames_of m.terms m.link.waiting)) first h.there.rising in
       let this = frame-taken n.terms n.link h.near_up f.address.command f.info rising.0 f.control rising.2 in
@@ -141,10 +139,10 @@ module _ (n m : End) (h : Joined n m) where
 
   acted : (act : Act) → IsUp (acting act (record { near = n; far = m })) → Joined (acting act (record { near = n; far = m })).near (acting act (record { near = n; far = m })).far
   acted (asks request full) up =
-      goes (requested request full) (none-delivered n.terms n.link (Machine.course n.terms (requested request full) n.link) (event-delivers n.terms n.link (requested request full)))
-      (request-goes n.terms n.link h.near_up request (Requests.refusal n.terms n.link full request) up.0) up.0
+      goes (requested request full) (none-delivered n.terms n.link (course n.terms (requested request full) n.link) (event-delivers n.terms n.link (requested request full)))
+      (request-goes n.terms n.link h.near_up request (refusal n.terms n.link full request) up.0) up.0
   acted (expires timer) up =
-      goes (expired timer) (none-delivered n.terms n.link (Machine.course n.terms (expired timer) n.link) (event-delivers n.terms n.link (expired timer)))
+      goes (expired timer) (none-delivered n.terms n.link (course n.terms (expired timer) n.link) (event-delivers n.terms n.link (expired timer)))
       (timer-goes n.terms n.link h.near_up timer up.0) up.0
   acted sends up = gives up.0
   acted receives up = first-of m.way refl up.0

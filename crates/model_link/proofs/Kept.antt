@@ -1,8 +1,6 @@
 -- What each word of the tables does with a claim, as a record with a field for each word.
-use Rattle.model_link.proofs.Vocabulary.{◌≡◌, ℕ, ◌+◌, Bool, true, false, List, Option, Control, Information, Sabme, Ui, Ua, ErrorCode, State, LinkTimer, ControlFrame, Terms, Course, changed}
-use Rattle.model_link.specs.Events
+use Rattle.model_link.proofs.Vocabulary.{◌≡◌, ℕ, ◌+◌, Bool, true, false, List, Option, Control, Information, Sabme, Ui, Ua, ErrorCode, State, LinkTimer, ControlFrame, Terms, Course, changed, Event, cleared, frame, received, data_in_7_8}
 use Rattle.model_link.specs.Words
-use Rattle.model_link.specs.MultipleFrame
 use Rattle.model_link.specs.Offers
 
 -- How often a row may still do something: send a control frame, or tell a note.
@@ -25,9 +23,9 @@ Fits units anew taken (Ua true) = anew
 Fits units anew taken (Information ns nr p) = taken
 Fits units anew taken other = Unit {0}
 
-abbrev pub FitsEvent : Type 0 → Type 0 → Type 0 → Events.Event → Type 0
-FitsEvent units anew taken (Events.received (Events.frame f)) = Fits units anew taken f.control
-FitsEvent units anew taken Events.cleared = anew
+abbrev pub FitsEvent : Type 0 → Type 0 → Type 0 → Event → Type 0
+FitsEvent units anew taken (received (frame f)) = Fits units anew taken f.control
+FitsEvent units anew taken cleared = anew
 FitsEvent units anew taken other = Unit {0}
 
 -- What each word does with a claim: it holds at first as S says, in a row as P says while so many frames may still be
@@ -71,7 +69,7 @@ pub record Kept (t : Terms) (Units Anew Taken : Type 0) (S : Course → Type 0) 
   pub discard : (p q : Purse) (c : Course) → P p q c → P p q (Words.discard c)
   pub acknowledge : (p q : Purse) (n : ℕ) (c : Course) → P p q c → P p q (Words.acknowledge n c)
   pub send_again : (p q : Purse) (n : ℕ) (c : Course) → P p q c → P p q (Words.send_again_from n c)
-  pub transfer : (p q : Purse) (octets : List ℕ) (c : Course) → P p q c → P p q (MultipleFrame.data_in_7_8 octets c)
+  pub transfer : (p q : Purse) (octets : List ℕ) (c : Course) → P p q c → P p q (data_in_7_8 octets c)
   -- an offer
   pub give : (p q : Purse) (f : ControlFrame) (o : Option (List ℕ)) (c : Course) → P p q c → P p q (Offers.give f o c)
   pub sent_one : (p q : Purse) (c : Course) → P p q c → P p q (changed Offers.with_one_sent c)
@@ -83,6 +81,6 @@ any_control (Ua true) = tt
 any_control (Ua false) = tt
 any_control other = tt
 
-pub any_event : (e : Events.Event) → FitsEvent (Unit {0}) (Unit {0}) (Unit {0}) e
-any_event (Events.received (Events.frame f)) = any_control f.control
+pub any_event : (e : Event) → FitsEvent (Unit {0}) (Unit {0}) (Unit {0}) e
+any_event (received (frame f)) = any_control f.control
 any_event other = tt

@@ -1,7 +1,5 @@
 -- Where a step leads: from what held before it to what holds after it.
-use Rattle.model_link.proofs.Vocabulary.{◌≡◌, Bool, true, false, cond, refl, Link, Course, Step, ◌then◌, nothing, depending_on, by_bit, ℕ, Option, None, Some, Seq, named, Terms}
-use Rattle.lapd_frame.specs.declared.notes.ErrorCode.TheVariants as code
-use Rattle.model_link.specs.Words
+use Rattle.model_link.proofs.Vocabulary.{◌≡◌, Bool, true, false, cond, refl, Link, Course, Step, ◌then◌, nothing, depending_on, by_bit, ℕ, Option, None, Some, Seq, named, Terms, by_number, error, re_establish, ErrorCode}
 
 pub record Leads (P : Course → Type 0) (f : Step) (Q : Course → Type 0) : Type 0 where
   pub leads : (c : Course) → P c → Q (f c)
@@ -58,9 +56,9 @@ to_less {f} w x = record { leads = λ c h. w (f c) (x.leads c h) }
 
 -- by an N(R): an invalid one, or one that names a number
 pub number_leads : {P Q : Course → Type 0} (t : Terms) (nr : Seq) {f : ℕ → Step}
-    → Leads P (Words.error t code.J then Words.re_establish t) Q → ((n : ℕ) → Leads P (f n) Q) → Leads P (Words.by_number t nr f) Q
+    → Leads P (error t ErrorCode.J then re_establish t) Q → ((n : ℕ) → Leads P (f n) Q) → Leads P (by_number t nr f) Q
 number_leads {P} {Q} t nr {f} x y = record { leads = λ c h. go c h (named c.link.a c.link.s nr) }
   where
-    go : (c : Course) → P c → (o : Option ℕ) → Q (elim o [ None ↦ (Words.error t code.J then Words.re_establish t) c | Some n ↦ f n c ])
+    go : (c : Course) → P c → (o : Option ℕ) → Q (elim o [ None ↦ (error t ErrorCode.J then re_establish t) c | Some n ↦ f n c ])
     go c h None = x.leads c h
     go c h (Some n) = (y n).leads c h

@@ -1,7 +1,5 @@
 -- What a link owes the line, and how each word raises it: a purse holds the frames that may still be sent.
-use Rattle.model_link.proofs.Vocabulary.{◌≡◌, ℕ, ◌+◌, ◌-◌, ◌≤◌, Bool, true, false, cond, IsTrue, List, [], ◌∷◌, ◌++◌, length, take, drop, Option, is_some, refl, ap, arith, length-append, length-take-le, length-drop, State, TeiAssigned, AwaitingEstablishment, AwaitingRelease, Established, TimerRecovery, LinkTimer, T203, ControlFrame, Terms, may_send, window_back, data_in_7_8, is_multiple_frame, IsInRange, Sent, Course, ◌then◌, changed}
-use Rattle.model_link.specs.Words
-use Rattle.model_link.specs.Offers
+use Rattle.model_link.proofs.Vocabulary.{◌≡◌, ℕ, ◌+◌, ◌-◌, ◌≤◌, Bool, true, false, cond, IsTrue, List, [], ◌∷◌, ◌++◌, length, take, drop, Option, is_some, refl, ap, arith, length-append, length-take-le, length-drop, State, TeiAssigned, AwaitingEstablishment, AwaitingRelease, Established, TimerRecovery, LinkTimer, T203, ControlFrame, Terms, may_send, window_back, data_in_7_8, is_multiple_frame, IsInRange, Sent, Course, ◌then◌, changed, acknowledge, asked_is, begin_anew, clear_flags, discard, enter, has_room, own_busy_is, pending_is, ready_to_receive, report_ready, response, send, send_again_from, start, with_own_busy, zero_numbers, give_acknowledgement, give_information, give_waiting, with_one_sent}
 use Rattle.model_link.proofs.Waits.{Waits}
 use Rattle.model_link.proofs.Kept.{Purse, another, two}
 unfoldable use Rattle.model_link.proofs.Kept.{how_many}
@@ -48,64 +46,64 @@ module _ (t : Terms) (r : IsInRange t) (total extra : ℕ) (Window : Type 0) (pa
   saves p c h = spends (another p) p c c h.stands (omega arith) h
 
   -- the words that change what is owed
-  sends : (p : Purse) (f : ControlFrame) (c : Course) → Waits t f → Owes t total extra (another p) c → Owes t total extra p (Words.send t f c)
+  sends : (p : Purse) (f : ControlFrame) (c : Course) → Waits t f → Owes t total extra (another p) c → Owes t total extra p (send t f c)
   unfolding how_many
-  sends p f c w h = spends (another p) p c (Words.send t f c) (sound.send p p f c w h.stands) (let more = one-more (Words.has_room t c.link) c.link.waiting f in omega (arith, more)) h
+  sends p f c w h = spends (another p) p c (send t f c) (sound.send p p f c w h.stands) (let more = one-more (has_room t c.link) c.link.waiting f in omega (arith, more)) h
 
-  settles : (p : Purse) (c : Course) → Owes t total extra p c → Owes t total extra p (Words.pending_is false c)
-  settles p c h = spends p p c (Words.pending_is false c) (sound.settled p p c h.stands) (omega arith) h
+  settles : (p : Purse) (c : Course) → Owes t total extra p c → Owes t total extra p (pending_is false c)
+  settles p c h = spends p p c (pending_is false c) (sound.settled p p c h.stands) (omega arith) h
 
-  flags : (p : Purse) (c : Course) → Owes t total extra p c → Owes t total extra p (Words.clear_flags c)
-  flags p c h = spends p p c (Words.clear_flags c) (sound.flags p p c h.stands) (omega arith) h
+  flags : (p : Purse) (c : Course) → Owes t total extra p c → Owes t total extra p (clear_flags c)
+  flags p c h = spends p p c (clear_flags c) (sound.flags p p c h.stands) (omega arith) h
 
-  reports : (p : Purse) (b : Bool) (c : Course) → Owes t total extra (another p) c → Owes t total extra p (Words.report_ready t (Words.own_busy_is b c))
+  reports : (p : Purse) (b : Bool) (c : Course) → Owes t total extra (another p) c → Owes t total extra p (report_ready t (own_busy_is b c))
   unfolding how_many
   reports p b c h =
-      spends (another p) p c (Words.report_ready t (Words.own_busy_is b c)) (sound.busy p p b c h.stands)
-      (let more = one-more (Words.has_room t c.link) c.link.waiting (Words.response (Words.ready_to_receive false (Words.with_own_busy b c.link))) in omega (arith, more)) h
+      spends (another p) p c (report_ready t (own_busy_is b c)) (sound.busy p p b c h.stands)
+      (let more = one-more (has_room t c.link) c.link.waiting (response (ready_to_receive false (with_own_busy b c.link))) in omega (arith, more)) h
 
-  owes : (p : Purse) (c : Course) → c.link.own_busy ≡ false → Owes t total extra (another p) c → Owes t total extra p (Words.pending_is true c)
+  owes : (p : Purse) (c : Course) → c.link.own_busy ≡ false → Owes t total extra (another p) c → Owes t total extra p (pending_is true c)
   unfolding how_many
-  owes p c off h = spends (another p) p c (Words.pending_is true c) (sound.owing p p c off h.stands) (omega arith) h
+  owes p c off h = spends (another p) p c (pending_is true c) (sound.owing p p c off h.stands) (omega arith) h
 
-  zeroes : (p : Purse) (c : Course) → Owes t total extra p c → Owes t total extra p (Words.zero_numbers c)
+  zeroes : (p : Purse) (c : Course) → Owes t total extra p c → Owes t total extra p (zero_numbers c)
   zeroes p c h =
       let e : length (drop c.link.s c.link.contents) ≡ length c.link.contents - c.link.s = length-drop c.link.s c.link.contents in
-      spends p p c (Words.zero_numbers c) (sound.zero tt p p c h.stands) (omega (arith, e)) h
+      spends p p c (zero_numbers c) (sound.zero tt p p c h.stands) (omega (arith, e)) h
 
-  discards : (p : Purse) (c : Course) → Owes t total extra p c → Owes t total extra p (Words.discard c)
+  discards : (p : Purse) (c : Course) → Owes t total extra p c → Owes t total extra p (discard c)
   discards p c h =
       let order : c.link.a ≤ c.link.s = h.stands.ordered in
       let all : c.link.s ≤ length c.link.contents = h.stands.accepted in
       let e : length (take c.link.a c.link.contents) ≡ c.link.a = length-take-le c.link.a c.link.contents (omega arith) in
-      spends p p c (Words.discard c) (sound.discard p p c h.stands) (omega (arith, e)) h
+      spends p p c (discard c) (sound.discard p p c h.stands) (omega (arith, e)) h
 
   acknowledges : (p : Purse) (n : ℕ) (here : State) (c : Course) → c.link.a ≤ n → n ≤ c.link.s → c.link.state ≡ here → IsTrue (is_multiple_frame here)
-      → Owes t total extra p c → Owes t total extra p (Words.acknowledge n c)
-  acknowledges p n here c from to e up h = spends p p c (Words.acknowledge n c) (sound.acknowledge p p n here c from to e up h.stands) (omega arith) h
+      → Owes t total extra p c → Owes t total extra p (acknowledge n c)
+  acknowledges p n here c from to e up h = spends p p c (acknowledge n c) (sound.acknowledge p p n here c from to e up h.stands) (omega arith) h
 
   -- the states that are entered last
-  enters-4 : (p : Purse) (c : Course) → Owes t total extra p c → Within t total (Words.enter TeiAssigned c)
+  enters-4 : (p : Purse) (c : Course) → Owes t total extra p c → Within t total (enter TeiAssigned c)
   enters-4 p c h = record { within = omega (arith, h.within) }
 
-  enters-5 : (p : Purse) (b : Bool) (c : Course) → Owes t total extra p c → Within t total ((Words.asked_is b then Words.enter AwaitingEstablishment) c)
+  enters-5 : (p : Purse) (b : Bool) (c : Course) → Owes t total extra p c → Within t total ((asked_is b then enter AwaitingEstablishment) c)
   enters-5 p b c h = record { within = omega (arith, h.within) }
 
-  enters-6 : (p : Purse) (c : Course) → Owes t total extra p c → Within t total (Words.enter AwaitingRelease c)
+  enters-6 : (p : Purse) (c : Course) → Owes t total extra p c → Within t total (enter AwaitingRelease c)
   enters-6 p c h = record { within = omega (arith, h.within) }
 
-  enters-7 : (p : Purse) (c : Course) → Owes t total extra p c → Within t total (Words.enter Established c)
+  enters-7 : (p : Purse) (c : Course) → Owes t total extra p c → Within t total (enter Established c)
   enters-7 p c h = record { within = omega (arith, h.within) }
 
   -- the window is what state 8 may bring back
-  enters-8 : (p : Purse) (c : Course) → Window → Owes t total extra p c → Within t total (Words.enter TimerRecovery c)
+  enters-8 : (p : Purse) (c : Course) → Window → Owes t total extra p c → Within t total (enter TimerRecovery c)
   enters-8 p c w h = let paid = pays w in record { within = omega (arith, paid, h.within) }
 
-  begins : (p : Purse) (c : Course) → Owes t total extra p c → Within t total (Words.begin_anew c)
+  begins : (p : Purse) (c : Course) → Owes t total extra p c → Within t total (begin_anew c)
   begins p c h = record { within = omega (arith, h.within) }
 
   again : (p : Purse) (n : ℕ) (c : Course) → Window → c.link.a ≤ n → n ≤ c.link.s → Owes t total extra p c
-      → Within t total ((Words.send_again_from n then Words.start T203) c)
+      → Within t total ((send_again_from n then start T203) c)
   again p n c w from to h =
       let paid = pays w in
       let more = resent (length c.link.contents) c.link.a c.link.s n t.k from h.stands.within h.stands.accepted to in
@@ -113,7 +111,7 @@ module _ (t : Terms) (r : IsInRange t) (total extra : ℕ) (Window : Type 0) (pa
 
   -- the way back from state 8 to state 7 costs a window, and pays it
   recovers : (p : Purse) (n : ℕ) (timer : LinkTimer) (c : Course) → c.link.a ≤ n → n ≤ c.link.s → c.link.state ≡ TimerRecovery → Owes t total extra p c
-      → Within t total ((Words.send_again_from n then Words.start timer then Words.enter Established) c)
+      → Within t total ((send_again_from n then start timer then enter Established) c)
   recovers p n timer c from to e h =
       let more = resent (length c.link.contents) c.link.a c.link.s n t.k from h.stands.within h.stands.accepted to in
       let back : window_back c.link.state t.k ≡ t.k = ap (λ state. window_back state t.k) e in
@@ -126,13 +124,13 @@ module _ (t : Terms) (r : IsInRange t) (total extra : ℕ) (Window : Type 0) (pa
       record { within = omega (arith, size, h.within) }
 
   -- no offer is one of these events
-  gives-waiting : (f : ControlFrame) (fs : List ControlFrame) (c : Course) → ⊥ → Within t total (Offers.give_waiting f fs c)
+  gives-waiting : (f : ControlFrame) (fs : List ControlFrame) (c : Course) → ⊥ → Within t total (give_waiting f fs c)
   gives-waiting f fs c o = absurd o
 
-  gives-information : (p : Purse) (c : Course) → ⊥ → Owes t total extra p ((Offers.give_information then changed Offers.with_one_sent) c)
+  gives-information : (p : Purse) (c : Course) → ⊥ → Owes t total extra p ((give_information then changed with_one_sent) c)
   gives-information p c o = absurd o
 
-  gives-acknowledgement : (p : Purse) (c : Course) → ⊥ → Owes t total extra p (Offers.give_acknowledgement c)
+  gives-acknowledgement : (p : Purse) (c : Course) → ⊥ → Owes t total extra p (give_acknowledgement c)
   gives-acknowledgement p c o = absurd o
 
   pub costs : Careful t (Unit {0}) (Unit {0}) (Unit {0}) Window (Unit {0}) ⊥ is_in (Owes t total extra two) (λ p q c. Owes t total extra p c) (Within t total)

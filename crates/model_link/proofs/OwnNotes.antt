@@ -1,10 +1,6 @@
 -- The notes that an event tells are of its own link.
 pub use Rattle.model_link.specs.Notes.{IsOwn}
-use Rattle.model_link.proofs.Vocabulary.{◌≡◌, ℕ, Bool, true, false, cond, List, [], ◌∷◌, Option, Some, None, refl, All, All-nil, All-push, Refusal, ControlFrame, Terms, Link, Course, begun}
-use Rattle.model_link.specs.Requests
-use Rattle.model_link.specs.Machine
-use Rattle.model_link.specs.Events
-use Rattle.model_link.specs.Offers
+use Rattle.model_link.proofs.Vocabulary.{◌≡◌, ℕ, Bool, true, false, cond, List, [], ◌∷◌, Option, Some, None, refl, All, All-nil, All-push, Refusal, ControlFrame, Terms, Link, Course, begun, granted, refusal, after, course, Data, Event, offer, requested, is_awaiting_acknowledgement, may_send_information, offer_among, with_one_sent}
 use Rattle.model_link.proofs.Kept.{Kept}
 use Rattle.model_link.proofs.Rows.{every_event}
 
@@ -15,7 +11,7 @@ Own t c = All (IsOwn t) c.notes
 words : (t : Terms) → Kept t (Unit {0}) (Unit {0}) (Unit {0}) (Own t) (λ p q c. Own t c) (Own t)
 words t = search (All-push) depth 12 fits 4000
 
-pub notes-own : (t : Terms) (e : Events.Event) (l : Link) → Own t (Machine.course t e l)
+pub notes-own : (t : Terms) (e : Event) (l : Link) → Own t (course t e l)
 notes-own t e l = (every_event (words t) e).leads (begun l) (All-nil (IsOwn t))
 
 -- An offer leaves V(R).
@@ -23,20 +19,20 @@ either_r : (l : Link) (b : Bool) (u v : Course) → u.link.r ≡ l.r → v.link.
 either_r l true u v x y = x
 either_r l false u v x y = y
 
-pub offer-keeps-r : (t : Terms) (l : Link) → (Machine.after t Events.offer l).r ≡ l.r
+pub offer-keeps-r : (t : Terms) (l : Link) → (after t offer l).r ≡ l.r
 offer-keeps-r t l = go l.waiting
   where
-    go : (ws : List ControlFrame) → (Offers.offer_among t ws (begun l)).link.r ≡ l.r
+    go : (ws : List ControlFrame) → (offer_among t ws (begun l)).link.r ≡ l.r
     go [] =
-        either_r l (Offers.may_send_information t l) _ _
-        (either_r l (Offers.is_awaiting_acknowledgement (Offers.with_one_sent l)) _ _ refl refl) (either_r l l.pending _ _ refl refl)
+        either_r l (may_send_information t l) _ _
+        (either_r l (is_awaiting_acknowledgement (with_one_sent l)) _ _ refl refl) (either_r l l.pending _ _ refl refl)
     go (f ∷ fs) = refl
 
 -- Contents that are to be sent begin no numbers anew.
-pub transfer-goes-on : (t : Terms) (octets : List ℕ) (full : Bool) (l : Link) → (Machine.course t (Events.requested (Events.Data octets) full) l).zeroed ≡ false
-transfer-goes-on t octets full l = go (Requests.refusal t l full (Events.Data octets))
+pub transfer-goes-on : (t : Terms) (octets : List ℕ) (full : Bool) (l : Link) → (course t (requested (Data octets) full) l).zeroed ≡ false
+transfer-goes-on t octets full l = go (refusal t l full (Data octets))
   where
     go : (o : Option Refusal)
-        → (elim o as (λ o. Course) [ None ↦ Requests.granted t (Events.Data octets) (begun l) | Some _ ↦ begun l ]).zeroed ≡ false
+        → (elim o as (λ o. Course) [ None ↦ granted t (Data octets) (begun l) | Some _ ↦ begun l ]).zeroed ≡ false
     go None = refl
     go (Some w) = refl

@@ -1,11 +1,5 @@
 -- No event raises what is sent and still owed by more than its price.
-use Rattle.model_link.proofs.Vocabulary.{◌≡◌, ℕ, ◌+◌, ◌-◌, ◌*◌, ◌<◌, ◌≤◌, Bool, true, false, cond, not, ◌&&◌, List, [], ◌∷◌, length, Option, Some, None, is_some, refl, ap, ◌∙◌, arith, nat_lt, ltb-true, and_parts, and_from, Seq, named, Control, ErrorCode, Refusal, State, TeiAssigned, LinkTimer, ControlFrame, Terms, Link, is_multiple_frame, may_send, sent, reject_number, is_valid_reject, price, sent_in_all, price_of_all, IsInRange, IsSound, Course, begun}
-use Rattle.lapd_frame.specs.declared.notes.ErrorCode.TheVariants as code
-use Rattle.model_link.specs.Events
-use Rattle.model_link.specs.Words
-use Rattle.model_link.specs.Requests
-use Rattle.model_link.specs.Offers
-use Rattle.model_link.specs.Machine
+use Rattle.model_link.proofs.Vocabulary.{◌≡◌, ℕ, ◌+◌, ◌-◌, ◌*◌, ◌<◌, ◌≤◌, Bool, true, false, cond, not, ◌&&◌, List, [], ◌∷◌, length, Option, Some, None, is_some, refl, ap, ◌∙◌, arith, nat_lt, ltb-true, and_parts, and_from, Seq, named, Control, ErrorCode, Refusal, State, TeiAssigned, LinkTimer, ControlFrame, Terms, Link, is_multiple_frame, may_send, sent, reject_number, is_valid_reject, price, sent_in_all, price_of_all, IsInRange, IsSound, Course, begun, Event, Request, cleared, expired, frame, offer, overlong, received, requested, undefined, wrong_size, begin_anew, granted, refusal, is_awaiting_acknowledgement, is_established, may_send_information, offer_among, send_acknowledgement, send_information, with_one_sent, after, after_all, course, expired_in, frame_in, is_running, malformed_in, told_of_clearing}
 use Rattle.model_link.proofs.Kept.{Purse, no_more, another, two, any_control}
 unfoldable use Rattle.model_link.proofs.Kept.{how_many}
 use Rattle.model_link.proofs.Careful.{anything, any_contents, Careful}
@@ -22,7 +16,7 @@ module _ (t : Terms) (r : IsInRange t) (l : Link) (h : IsSound t l) where
 
   -- a frame costs two, and a window more if it is an REJ that is valid
   frame-costs : (here : State) → l.state ≡ here → (b : Bool) (octets : List ℕ) (control : Control)
-      → owed t (Machine.frame_in here t b octets control (begun l)) ≤ may_send t l + (2 + cond {A = ℕ} (is_valid_reject (reject_number control) l) t.k 0)
+      → owed t (frame_in here t b octets control (begun l)) ≤ may_send t l + (2 + cond {A = ℕ} (is_valid_reject (reject_number control) l) t.k 0)
   unfolding how_many
   frame-costs here e b octets control =
       let valid = is_valid_reject (reject_number control) l in
@@ -40,11 +34,11 @@ module _ (t : Terms) (r : IsInRange t) (l : Link) (h : IsSound t l) where
   plain : (total : ℕ) → Careful t (Unit {0}) (Unit {0}) (Unit {0}) ⊥ (Unit {0}) ⊥ is_in (Owes t total 0 two) (λ p q c. Owes t total 0 p c) (Within t total)
   plain total = costs t r total 0 ⊥ (λ w. absurd w)
 
-  malformed-costs : (e : ErrorCode) → owed t (Machine.malformed_in l.state t e (begun l)) ≤ may_send t l + 2
+  malformed-costs : (e : ErrorCode) → owed t (malformed_in l.state t e (begun l)) ≤ may_send t l + 2
   unfolding how_many
   malformed-costs e = ((malformed_by (plain (may_send t l + 2)) {X = anything} l.state e).leads (begun l) (record { known = tt; holds = begins (may_send t l + 2) 0 two (omega arith) })).within
 
-  expired-costs : (timer : LinkTimer) → owed t (Machine.expired_in l.state timer t (begun l)) ≤ may_send t l + (t.k + 1)
+  expired-costs : (timer : LinkTimer) → owed t (expired_in l.state timer t (begun l)) ≤ may_send t l + (t.k + 1)
   unfolding how_many
   expired-costs timer =
       ((expired_by (costs t r (may_send t l + (t.k + 1)) t.k (Unit {0}) (λ w. refl)) l.state timer).leads (begun l)
@@ -54,15 +48,15 @@ module _ (t : Terms) (r : IsInRange t) (l : Link) (h : IsSound t l) where
   if-running true u v n x y = x
   if-running false u v n x y = omega arith
 
-  request-costs : (request : Events.Request) (full : Bool) (o : Option Refusal) → Requests.refusal t l full request ≡ o
-      → owed t (elim o [ None ↦ Requests.granted t request (begun l) | Some _ ↦ begun l ]) ≤ may_send t l + cond {A = ℕ} (is_some o) 0 1
+  request-costs : (request : Request) (full : Bool) (o : Option Refusal) → refusal t l full request ≡ o
+      → owed t (elim o [ None ↦ granted t request (begun l) | Some _ ↦ begun l ]) ≤ may_send t l + cond {A = ℕ} (is_some o) 0 1
   unfolding how_many
   request-costs request full None e =
       (granted_by (plain (may_send t l + 1)) request full (any_contents request) (begun l) (begins (may_send t l + 1) 0 (another no_more) (omega arith)) e).within
   request-costs request full (Some w) e = omega arith
 
   -- the TEI leaves the line
-  cleared-costs : (here : State) → owed t (Words.begin_anew (Machine.told_of_clearing here t (begun l))) ≤ may_send t l
+  cleared-costs : (here : State) → owed t (begin_anew (told_of_clearing here t (begun l))) ≤ may_send t l
   cleared-costs TeiAssigned = omega arith
   cleared-costs other = omega arith
 
@@ -82,15 +76,15 @@ module _ (t : Terms) (r : IsInRange t) (l : Link) (h : IsSound t l) where
   bit-high true = omega arith
   bit-high false = omega arith
 
-  information-pays : Offers.may_send_information t l ≡ true → Pays (Offers.send_information (begun l))
+  information-pays : may_send_information t l ≡ true → Pays (send_information (begun l))
   unfolding Pays
   information-pays e =
-      let parts = and_parts (Offers.is_established l.state && not l.peer_busy && nat_lt (l.s - l.a) t.k) (nat_lt l.s (length l.contents)) e in
+      let parts = and_parts (is_established l.state && not l.peer_busy && nat_lt (l.s - l.a) t.k) (nat_lt l.s (length l.contents)) e in
       let some : l.s < length l.contents = ltb-true l.s (length l.contents) parts.1 in
       let small : cond {A = ℕ} l.pending 1 0 ≤ 1 = bit-high l.pending in
-      either-pays (Offers.is_awaiting_acknowledgement (Offers.with_one_sent l)) _ _ (omega (arith, some), omega (arith, some, small)) (omega (arith, some), omega (arith, some, small))
+      either-pays (is_awaiting_acknowledgement (with_one_sent l)) _ _ (omega (arith, some), omega (arith, some, small)) (omega (arith, some), omega (arith, some, small))
 
-  acknowledgement-pays : l.pending ≡ true → Pays (Offers.send_acknowledgement (begun l))
+  acknowledgement-pays : l.pending ≡ true → Pays (send_acknowledgement (begun l))
   unfolding Pays
   acknowledgement-pays e =
       let due : cond {A = ℕ} l.pending 1 0 ≡ 1 = ap (λ b. cond {A = ℕ} b 1 0) e in
@@ -100,38 +94,38 @@ module _ (t : Terms) (r : IsInRange t) (l : Link) (h : IsSound t l) where
   unfolding Pays
   nothing-pays = (omega arith, omega arith)
 
-  offers-pay : (ws : List ControlFrame) → l.waiting ≡ ws → Pays (Offers.offer_among t ws (begun l))
+  offers-pay : (ws : List ControlFrame) → l.waiting ≡ ws → Pays (offer_among t ws (begun l))
   unfolding Pays
   offers-pay [] e =
-      tested-pays (Offers.may_send_information t l) _ _ information-pays
+      tested-pays (may_send_information t l) _ _ information-pays
       (λ x. tested-pays l.pending _ _ acknowledgement-pays (λ y. nothing-pays))
   offers-pay (f ∷ fs) e =
       let size : length l.waiting ≡ length (f ∷ fs) = ap length e in
       (omega (arith, size), omega (arith, size))
 
   -- Any event.
-  pub event-rises : (e : Events.Event) → owed t (Machine.course t e l) ≤ may_send t l + price t e l
+  pub event-rises : (e : Event) → owed t (course t e l) ≤ may_send t l + price t e l
   unfolding Pays
-  event-rises (Events.received (Events.frame f)) = frame-costs l.state refl f.address.command f.info f.control
-  event-rises (Events.received Events.undefined) = malformed-costs code.L
-  event-rises (Events.received Events.wrong_size) = malformed-costs code.N
-  event-rises (Events.received Events.overlong) = malformed-costs code.O
-  event-rises (Events.expired timer) =
-      if-running (Machine.is_running timer l) _ _ (t.k + 1) (expired-costs timer) (omega arith)
-  event-rises (Events.requested request full) = request-costs request full (Requests.refusal t l full request) refl
-  event-rises Events.offer = let pays = offers-pay l.waiting refl in omega (arith, pays.0)
-  event-rises Events.cleared = let cost = cleared-costs l.state in omega (arith, cost)
+  event-rises (received (frame f)) = frame-costs l.state refl f.address.command f.info f.control
+  event-rises (received undefined) = malformed-costs ErrorCode.L
+  event-rises (received wrong_size) = malformed-costs ErrorCode.N
+  event-rises (received overlong) = malformed-costs ErrorCode.O
+  event-rises (expired timer) =
+      if-running (is_running timer l) _ _ (t.k + 1) (expired-costs timer) (omega arith)
+  event-rises (requested request full) = request-costs request full (refusal t l full request) refl
+  event-rises offer = let pays = offers-pay l.waiting refl in omega (arith, pays.0)
+  event-rises cleared = let cost = cleared-costs l.state in omega (arith, cost)
 
-  pub offer-falls : may_send t l ≤ may_send t (Machine.after t Events.offer l) + 2 * sent t Events.offer l
+  pub offer-falls : may_send t l ≤ may_send t (after t offer l) + 2 * sent t offer l
   unfolding Pays
   offer-falls = (offers-pay l.waiting refl).1
 
 -- Lists of events.
-pub all-rises : (t : Terms) → IsInRange t → (es : List Events.Event) (l : Link) → IsSound t l
-    → sent_in_all t es l + may_send t (Machine.after_all t es l) ≤ may_send t l + price_of_all t es l
-unfolding sent_in_all price_of_all Machine.after_all
+pub all-rises : (t : Terms) → IsInRange t → (es : List Event) (l : Link) → IsSound t l
+    → sent_in_all t es l + may_send t (after_all t es l) ≤ may_send t l + price_of_all t es l
+unfolding sent_in_all price_of_all after_all
 all-rises t r [] l h = omega arith
 all-rises t r (e ∷ es) l h =
-    let first : owed t (Machine.course t e l) ≤ may_send t l + price t e l = event-rises t r l h e in
-    let rest = all-rises t r es (Machine.after t e l) (sound-after t r e l h) in
+    let first : owed t (course t e l) ≤ may_send t l + price t e l = event-rises t r l h e in
+    let rest = all-rises t r es (after t e l) (sound-after t r e l h) in
     omega (arith, first, rest)

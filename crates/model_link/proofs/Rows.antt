@@ -1,12 +1,6 @@
 -- What a row does, said once: a claim that every word of the tables leads on is led on by every event.
-use Rattle.model_link.proofs.Vocabulary.{◌≡◌, ℕ, Bool, true, false, cond, List, [], ◌∷◌, Option, Some, None, inr, refl, Control, ErrorCode, Refusal, WrongState, State, TeiAssigned, AwaitingEstablishment, AwaitingRelease, Established, TimerRecovery, LinkTimer, T200, T203, ControlFrame, Terms, is_own_busy, Course, ◌then◌, nothing}
-use Rattle.lapd_frame.specs.declared.notes.ErrorCode.TheVariants as code
-use Rattle.model_link.specs.Events
+use Rattle.model_link.proofs.Vocabulary.{◌≡◌, ℕ, Bool, true, false, cond, List, [], ◌∷◌, Option, Some, None, inr, refl, Control, ErrorCode, Refusal, WrongState, State, TeiAssigned, AwaitingEstablishment, AwaitingRelease, Established, TimerRecovery, LinkTimer, T200, T203, ControlFrame, Terms, is_own_busy, Course, ◌then◌, nothing, ClearBusy, Data, Establish, Event, Release, Request, SetBusy, cleared, expired, frame, offer, overlong, received, requested, undefined, wrong_size, begin_anew, own_busy_is, report_ready, clear_busy_in_7_8, set_busy_in_7_8, granted, is_down, refusal, release_in, is_awaiting_acknowledgement, is_pending, may_send_information, offer_among, send_acknowledgement, send_information}
 use Rattle.model_link.specs.Link.{may_repeat}
-use Rattle.model_link.specs.Words
-use Rattle.model_link.specs.MultipleFrame
-use Rattle.model_link.specs.Requests
-use Rattle.model_link.specs.Offers
 use Rattle.model_link.specs.Machine
 use Rattle.model_link.proofs.Leads.{Leads, depending_leads, tested_leads, Passed, from_more}
 use Rattle.model_link.proofs.Waits.{sabme_waits, disc_waits}
@@ -19,7 +13,7 @@ served : (b : Bool) (o : Option Refusal) (w : Refusal) → cond b o (Some w) ≡
 served true o w e = refl
 served false o w e = absurd (cc)
 
-down-rests : (state : State) → Requests.is_down state ≡ true → is_at_rest state ≡ true
+down-rests : (state : State) → is_down state ≡ true → is_at_rest state ≡ true
 down-rests TeiAssigned e = refl
 down-rests AwaitingRelease e = refl
 down-rests other e = e
@@ -34,17 +28,17 @@ module _ {t : Terms} {Units Anew Taken Window Queued Offered : Type 0} {In : Sta
   expired_by TeiAssigned timer = stays k
   expired_by AwaitingEstablishment T200 =
       depending_leads (may_repeat t) (ends k (send k (sabme_waits t true) ▹ repeated k ▹ start k T200))
-      (discard k ▹ error k code.G ▹ release_indication k ▹ no_timer k ▹ enter_4 k)
+      (discard k ▹ error k ErrorCode.G ▹ release_indication k ▹ no_timer k ▹ enter_4 k)
   expired_by AwaitingEstablishment T203 = stays k
   expired_by AwaitingRelease T200 =
       depending_leads (may_repeat t) (ends k (send k (disc_waits t true) ▹ repeated k ▹ start k T200))
-      (knowing k (λ a s n state x. inr (AwaitingRelease, x.0, refl)) (error k code.H ▹ release_confirm k ▹ no_timer k ▹ enter_4 k))
+      (knowing k (λ a s n state x. inr (AwaitingRelease, x.0, refl)) (error k ErrorCode.H ▹ release_confirm k ▹ no_timer k ▹ enter_4 k))
   expired_by AwaitingRelease T203 = stays k
   expired_by Established timer = repeats k 0 ▹ ready k true ▹ start k T200 ▹ enter_8 k
-  expired_by TimerRecovery T200 = depending_leads (may_repeat t) (ends k (ready k true ▹ repeated k ▹ start k T200)) (failed k code.I)
+  expired_by TimerRecovery T200 = depending_leads (may_repeat t) (ends k (ready k true ▹ repeated k ▹ start k T200)) (failed k ErrorCode.I)
   expired_by TimerRecovery T203 = stays k
 
-  pub release_by : (here : State) → Leads (At anything (P one two)) (Requests.release_in here t) E
+  pub release_by : (here : State) → Leads (At anything (P one two)) (release_in here t) E
   release_by TeiAssigned = ends k (release_confirm k)
   release_by AwaitingEstablishment = stays k
   release_by AwaitingRelease = stays k
@@ -54,45 +48,45 @@ module _ {t : Terms} {Units Anew Taken Window Queued Offered : Type 0} {In : Sta
   still : Leads (P one two) nothing E
   still = record { leads = λ c h. k.ends one two c h }
 
-  busy : (b : Bool) → Leads (P one two) (Words.own_busy_is b then Words.report_ready t) E
+  busy : (b : Bool) → Leads (P one two) (own_busy_is b then report_ready t) E
   busy b = record { leads = λ c h. k.ends no_more two _ (k.busy no_more two b c h) }
 
-  pub set_busy_by : Leads (P one two) (MultipleFrame.set_busy_in_7_8 t) E
+  pub set_busy_by : Leads (P one two) (set_busy_in_7_8 t) E
   set_busy_by = depending_leads is_own_busy still (busy true)
 
-  pub clear_busy_by : Leads (P one two) (MultipleFrame.clear_busy_in_7_8 t) E
+  pub clear_busy_by : Leads (P one two) (clear_busy_in_7_8 t) E
   clear_busy_by = depending_leads is_own_busy (busy false) still
 
-  pub granted_by : (request : Events.Request) (full : Bool) → QueuesFor Queued request → (c : Course) → P one two c
-      → Requests.refusal t c.link full request ≡ None → E (Requests.granted t request c)
-  granted_by Events.Establish full may c h e =
+  pub granted_by : (request : Request) (full : Bool) → QueuesFor Queued request → (c : Course) → P one two c
+      → refusal t c.link full request ≡ None → E (granted t request c)
+  granted_by Establish full may c h e =
       (flags k ▹ send k (sabme_waits t true) ▹ repeats k 0 ▹ start k T200 ▹ enter_5 k {X = idle In} true (λ a s n state x on. x)).leads c
       (record { known = inr (c.link.state, k.is_in c.link.state, down-rests c.link.state (served _ _ WrongState e)); holds = h })
-  granted_by Events.Release full may c h e = (release_by c.link.state).leads c (record { known = tt; holds = h })
-  granted_by (Events.Data octets) full may c h e = k.transfer may no_more two octets full c e h
-  granted_by Events.SetBusy full may c h e = set_busy_by.leads c h
-  granted_by Events.ClearBusy full may c h e = clear_busy_by.leads c h
+  granted_by Release full may c h e = (release_by c.link.state).leads c (record { known = tt; holds = h })
+  granted_by (Data octets) full may c h e = k.transfer may no_more two octets full c e h
+  granted_by SetBusy full may c h e = set_busy_by.leads c h
+  granted_by ClearBusy full may c h e = clear_busy_by.leads c h
 
-  pub request_by : (request : Events.Request) (full : Bool) → QueuesFor Queued request → (c : Course) → P one two c → (o : Option Refusal)
-      → Requests.refusal t c.link full request ≡ o → E (elim o [ None ↦ Requests.granted t request c | Some _ ↦ c ])
+  pub request_by : (request : Request) (full : Bool) → QueuesFor Queued request → (c : Course) → P one two c → (o : Option Refusal)
+      → refusal t c.link full request ≡ o → E (elim o [ None ↦ granted t request c | Some _ ↦ c ])
   request_by request full may c h None e = granted_by request full may c h e
   request_by request full may c h (Some w) e = k.ends one two c h
 
-  information_by : Offered → Leads (Passed (P two two) (Offers.may_send_information t) true) Offers.send_information E
+  information_by : Offered → Leads (Passed (P two two) (may_send_information t) true) send_information E
   information_by may =
       record {
         leads = λ c h.
-            (settled k {X = anything} ▹ depending_leads Offers.is_awaiting_acknowledgement (stays k) (ends k (start k T200))).leads _
+            (settled k {X = anything} ▹ depending_leads is_awaiting_acknowledgement (stays k) (ends k (start k T200))).leads _
             (record { known = tt; holds = k.give_information may two two c h.told h.holds });
       }
 
-  acknowledgement_by : Offered → Leads (P two two) Offers.send_acknowledgement E
+  acknowledgement_by : Offered → Leads (P two two) send_acknowledgement E
   acknowledgement_by may = record { leads = λ c h. k.ends two two _ (k.settled two two _ (k.give_acknowledgement may two two c h)) }
 
-  offer_by : Offered → (ws : List ControlFrame) (c : Course) → P two two c → c.link.waiting ≡ ws → E (Offers.offer_among t ws c)
+  offer_by : Offered → (ws : List ControlFrame) (c : Course) → P two two c → c.link.waiting ≡ ws → E (offer_among t ws c)
   offer_by may [] c h e =
-      (tested_leads (Offers.may_send_information t) (information_by may)
-      (from_more (λ c' h'. h'.holds) (depending_leads Offers.is_pending (acknowledgement_by may) (record { leads = λ c' h'. k.ends two two c' h' })))).leads c h
+      (tested_leads (may_send_information t) (information_by may)
+      (from_more (λ c' h'. h'.holds) (depending_leads is_pending (acknowledgement_by may) (record { leads = λ c' h'. k.ends two two c' h' })))).leads c h
   offer_by may (f ∷ fs) c h e = k.give_waiting may two two f fs c e h
 
   told_of_clearing : (here : State) → Leads (At anything (P two two)) (Machine.told_of_clearing here t) (At anything (P two one))
@@ -100,22 +94,22 @@ module _ {t : Terms} {Units Anew Taken Window Queued Offered : Type 0} {In : Sta
   told_of_clearing AwaitingRelease = release_confirm k
   told_of_clearing other = release_indication k
 
-  cleared_by : Anew → (here : State) → Leads (At anything S) (Machine.told_of_clearing here t then Words.begin_anew) E
+  cleared_by : Anew → (here : State) → Leads (At anything S) (Machine.told_of_clearing here t then begin_anew) E
   cleared_by may here = begun_by k (told_of_clearing here ▹ record { leads = λ c h. k.begin_anew may two one c h.holds })
 
   -- every event that is among those of the claim
-  pub event_by : Window → Offered → (e : Events.Event) → FitsEvent Units Anew Taken e → Queues Queued e → Leads S (Machine.step t e) E
-  event_by w o (Events.received (Events.frame f)) may room =
+  pub event_by : Window → Offered → (e : Event) → FitsEvent Units Anew Taken e → Queues Queued e → Leads S (Machine.step t e) E
+  event_by w o (received (frame f)) may room =
       record { leads = λ c h. (frame_by k c.link.state f.address.command f.info f.control may).leads c (record { known = (k.is_in c.link.state, λ nr i up e e'. w); holds = h }) }
-  event_by w o (Events.received Events.undefined) may room = record { leads = λ c h. (malformed_by {X = anything} c.link.state code.L).leads c (record { known = tt; holds = h }) }
-  event_by w o (Events.received Events.wrong_size) may room = record { leads = λ c h. (malformed_by {X = anything} c.link.state code.N).leads c (record { known = tt; holds = h }) }
-  event_by w o (Events.received Events.overlong) may room = record { leads = λ c h. (malformed_by {X = anything} c.link.state code.O).leads c (record { known = tt; holds = h }) }
-  event_by w o (Events.expired timer) may room =
+  event_by w o (received undefined) may room = record { leads = λ c h. (malformed_by {X = anything} c.link.state ErrorCode.L).leads c (record { known = tt; holds = h }) }
+  event_by w o (received wrong_size) may room = record { leads = λ c h. (malformed_by {X = anything} c.link.state ErrorCode.N).leads c (record { known = tt; holds = h }) }
+  event_by w o (received overlong) may room = record { leads = λ c h. (malformed_by {X = anything} c.link.state ErrorCode.O).leads c (record { known = tt; holds = h }) }
+  event_by w o (expired timer) may room =
       record { leads = λ c h. (depending_leads (Machine.is_running timer) (expired_by c.link.state timer) (stays k)).leads c (record { known = (k.is_in c.link.state, w); holds = k.unsent one two c (k.begins c h) }) }
-  event_by w o (Events.requested request full) may room =
-      record { leads = λ c h. request_by request full room c (k.unsent one two c (k.begins c h)) (Requests.refusal t c.link full request) refl }
-  event_by w o Events.offer may room = record { leads = λ c h. offer_by o c.link.waiting c (k.begins c h) refl }
-  event_by w o Events.cleared may room = record { leads = λ c h. (cleared_by may c.link.state).leads c (record { known = tt; holds = h }) }
+  event_by w o (requested request full) may room =
+      record { leads = λ c h. request_by request full room c (k.unsent one two c (k.begins c h)) (refusal t c.link full request) refl }
+  event_by w o offer may room = record { leads = λ c h. offer_by o c.link.waiting c (k.begins c h) refl }
+  event_by w o cleared may room = record { leads = λ c h. (cleared_by may c.link.state).leads c (record { known = tt; holds = h }) }
 
 -- The same of a claim that asks for no more.
 module _ {t : Terms} {Units Anew Taken : Type 0} {S : Course → Type 0} {P : Purse → Purse → Course → Type 0} {E : Course → Type 0} (k : Kept t Units Anew Taken S P E) where
@@ -123,10 +117,10 @@ module _ {t : Terms} {Units Anew Taken : Type 0} {S : Course → Type 0} {P : Pu
   frame_row here b octets control may =
       from_more (λ c h. record { known = (tt, λ nr i up e e'. tt); holds = h }) (frame_by (plainly k) here b octets control may)
 
-  pub event_row : (e : Events.Event) → FitsEvent Units Anew Taken e → Leads S (Machine.step t e) E
+  pub event_row : (e : Event) → FitsEvent Units Anew Taken e → Leads S (Machine.step t e) E
   event_row e may = event_by (plainly k) tt tt e may (any_request e)
 
 -- every event, of a claim of all frames
 pub every_event : {t : Terms} {S : Course → Type 0} {P : Purse → Purse → Course → Type 0} {E : Course → Type 0}
-    → Kept t (Unit {0}) (Unit {0}) (Unit {0}) S P E → (e : Events.Event) → Leads S (Machine.step t e) E
+    → Kept t (Unit {0}) (Unit {0}) (Unit {0}) S P E → (e : Event) → Leads S (Machine.step t e) E
 every_event k e = event_row k e (any_event e)

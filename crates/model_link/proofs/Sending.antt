@@ -1,7 +1,5 @@
 -- One direction between two ends, where an end gives a frame to its way.
-use Rattle.model_link.proofs.Vocabulary.{◌≡◌, ℕ, ◌+◌, ◌-◌, ◌<◌, ◌≤◌, Bool, true, false, cond, not, ◌&&◌, List, [], ◌∷◌, ◌++◌, length, take, Option, None, Some, refl, sym, ap, subst, ◌∙◌, append_assoc, append-nil, arith, slice_get, get_or, unwrap_or, nat_lt, ltb-true, and_parts, slice_get-get_or, seq, ReceiveReady, Parts, ControlFrame, Terms, Link, frame_of, Course, begun, given_of, IsInRange, IsSound, End, frame_given}
-use Rattle.model_link.specs.Words
-use Rattle.model_link.specs.Offers
+use Rattle.model_link.proofs.Vocabulary.{◌≡◌, ℕ, ◌+◌, ◌-◌, ◌<◌, ◌≤◌, Bool, true, false, cond, not, ◌&&◌, List, [], ◌∷◌, ◌++◌, length, take, Option, None, Some, refl, sym, ap, subst, ◌∙◌, append_assoc, append-nil, arith, slice_get, get_or, unwrap_or, nat_lt, ltb-true, and_parts, slice_get-get_or, seq, ReceiveReady, Parts, ControlFrame, Terms, Link, frame_of, Course, begun, given_of, IsInRange, IsSound, End, frame_given, response, give_waiting, is_awaiting_acknowledgement, is_established, may_send_information, next_information, offer_among, send_acknowledgement, with_one_sent}
 use Rattle.model_link.proofs.Lines.{Carries, Carried, Rising, carried-push, rising-push}
 use Rattle.model_link.proofs.Direction.{Direction, frames_of}
 
@@ -26,7 +24,7 @@ unwrapped (Some y) x e = refl
 
 module _ (t : Terms) (ranges : IsInRange t) (l : Link) (sound : IsSound t l) where
   -- a frame that waited
-  waited : (f : ControlFrame) (fs : List ControlFrame) → l.waiting ≡ f ∷ fs → Gave t l (Offers.give_waiting f fs (begun l))
+  waited : (f : ControlFrame) (fs : List ControlFrame) → l.waiting ≡ f ∷ fs → Gave t l (give_waiting f fs (begun l))
   waited f fs e =
       record {
         same = refl;
@@ -52,26 +50,26 @@ module _ (t : Terms) (ranges : IsInRange t) (l : Link) (sound : IsSound t l) whe
       }
 
   -- an acknowledgement
-  acknowledgement : l.waiting ≡ [] → Gave t l (Offers.send_acknowledgement (begun l))
+  acknowledgement : l.waiting ≡ [] → Gave t l (send_acknowledgement (begun l))
   acknowledgement e =
       record {
         same = refl;
         acknowledged = refl;
         received = refl;
-        news = frame_of t (Words.response (ReceiveReady (seq l.r) false)) ∷ [];
-        line = λ way. at-end t way (frame_of t (Words.response (ReceiveReady (seq l.r) false))) l.waiting e;
-        carried = λ r gs h. carried-push l.contents (l.a + t.k) r gs (frame_of t (Words.response (ReceiveReady (seq l.r) false))) (λ r' le. tt) h;
-        rising = λ a gs h. rising-push a l.r gs (frame_of t (Words.response (ReceiveReady (seq l.r) false))) refl h;
+        news = frame_of t (response (ReceiveReady (seq l.r) false)) ∷ [];
+        line = λ way. at-end t way (frame_of t (response (ReceiveReady (seq l.r) false))) l.waiting e;
+        carried = λ r gs h. carried-push l.contents (l.a + t.k) r gs (frame_of t (response (ReceiveReady (seq l.r) false))) (λ r' le. tt) h;
+        rising = λ a gs h. rising-push a l.r gs (frame_of t (response (ReceiveReady (seq l.r) false))) refl h;
       }
 
   -- an I-frame carries the contents number V(S)
   abbrev information_frame : Parts
-  information_frame = record (frame_of t (Offers.next_information l)) { info = unwrap_or (slice_get l.contents l.s) [] }
+  information_frame = record (frame_of t (next_information l)) { info = unwrap_or (slice_get l.contents l.s) [] }
 
-  carries : Offers.may_send_information t l ≡ true → (r : ℕ) → r ≤ l.a + t.k → Carries l.contents (l.a + t.k) r (l.a + t.k) (seq l.s) (unwrap_or (slice_get l.contents l.s) [])
+  carries : may_send_information t l ≡ true → (r : ℕ) → r ≤ l.a + t.k → Carries l.contents (l.a + t.k) r (l.a + t.k) (seq l.s) (unwrap_or (slice_get l.contents l.s) [])
   carries e r le =
-      let parts = and_parts (Offers.is_established l.state && not l.peer_busy && nat_lt (l.s - l.a) t.k) (nat_lt l.s (length l.contents)) e in
-      let inner = and_parts (Offers.is_established l.state && not l.peer_busy) (nat_lt (l.s - l.a) t.k) parts.0 in
+      let parts = and_parts (is_established l.state && not l.peer_busy && nat_lt (l.s - l.a) t.k) (nat_lt l.s (length l.contents)) e in
+      let inner = and_parts (is_established l.state && not l.peer_busy) (nat_lt (l.s - l.a) t.k) parts.0 in
       let low : l.a ≤ l.s = sound.ordered in
       let some : l.s < length l.contents = ltb-true l.s (length l.contents) parts.1 in
       let free : l.s - l.a < t.k = ltb-true (l.s - l.a) t.k inner.1 in
@@ -94,7 +92,7 @@ module _ (t : Terms) (ranges : IsInRange t) (l : Link) (sound : IsSound t l) whe
   either-told false u v x y = y
 
   -- whatever it does to the timer
-  sent : (c : Course) → Offers.may_send_information t l ≡ true → l.waiting ≡ [] → c.link.contents ≡ l.contents → c.link.a ≡ l.a → c.link.r ≡ l.r
+  sent : (c : Course) → may_send_information t l ≡ true → l.waiting ≡ [] → c.link.contents ≡ l.contents → c.link.a ≡ l.a → c.link.r ≡ l.r
       → c.link.waiting ≡ l.waiting → frame_given t (given_of t l c c.sent) ≡ information_frame ∷ [] → Gave t l c
   sent c may e same acknowledged received waits gives =
       record {
@@ -107,10 +105,10 @@ module _ (t : Terms) (ranges : IsInRange t) (l : Link) (sound : IsSound t l) whe
         rising = λ a gs h. rising-push a l.r gs information_frame refl h;
       }
 
-  pub offer-gave : (ws : List ControlFrame) → l.waiting ≡ ws → Gave t l (Offers.offer_among t ws (begun l))
+  pub offer-gave : (ws : List ControlFrame) → l.waiting ≡ ws → Gave t l (offer_among t ws (begun l))
   offer-gave [] e =
-      either-told (Offers.may_send_information t l) _ _
-      (λ may. either (Offers.is_awaiting_acknowledgement (Offers.with_one_sent l)) _ _ (sent _ may e refl refl refl refl refl) (sent _ may e refl refl refl refl refl))
+      either-told (may_send_information t l) _ _
+      (λ may. either (is_awaiting_acknowledgement (with_one_sent l)) _ _ (sent _ may e refl refl refl refl refl) (sent _ may e refl refl refl refl refl))
       (either l.pending _ _ (acknowledgement e) idle)
   offer-gave (f ∷ fs) e = waited f fs e
 

@@ -1,7 +1,5 @@
 -- Every event leads from a sound link to a sound link.
-use Rattle.model_link.proofs.Vocabulary.{◌≡◌, ℕ, ◌+◌, ◌-◌, ◌≤◌, List, [], ◌∷◌, length, drop, refl, arith, length-drop, State, Established, TimerRecovery, Terms, Link, fresh, queue_of, IsInRange, IsSettledIn, IsSound, Course, begun}
-use Rattle.model_link.specs.Events
-use Rattle.model_link.specs.Machine
+use Rattle.model_link.proofs.Vocabulary.{◌≡◌, ℕ, ◌+◌, ◌-◌, ◌≤◌, List, [], ◌∷◌, length, drop, refl, arith, length-drop, State, Established, TimerRecovery, Terms, Link, fresh, queue_of, IsInRange, IsSettledIn, IsSound, Course, begun, Event, after, after_all, course}
 use Rattle.model_link.proofs.Kept.{any_event}
 use Rattle.model_link.proofs.Careful.{Queues, any_request}
 use Rattle.model_link.proofs.Rows.{event_by}
@@ -32,24 +30,24 @@ stands-sound t c h =
     search (in-settled)
 
 -- A sound link stays sound.
-pub sound-after : (t : Terms) → IsInRange t → (e : Events.Event) (l : Link) → IsSound t l → IsSound t (Machine.after t e l)
+pub sound-after : (t : Terms) → IsInRange t → (e : Event) (l : Link) → IsSound t l → IsSound t (after t e l)
 sound-after t r e l h =
-    stands-sound t (Machine.course t e l)
+    stands-sound t (course t e l)
     ((event_by (stand t r.tei t.queue (Unit {0}) (λ x. refl)) tt tt e (any_event e) (any_request e)).leads (begun l) (sound-stands t t.queue l h.queue h))
 
 pub sound-fresh : (t : Terms) → IsInRange t → IsSound t fresh
 sound-fresh t r = stands-sound t (begun fresh) (begins t r.tei t.queue (Unit {0}) (λ x. refl) (begun fresh))
 
-pub sound-all : (t : Terms) → IsInRange t → (es : List Events.Event) (l : Link) → IsSound t l → IsSound t (Machine.after_all t es l)
-unfolding Machine.after_all
+pub sound-all : (t : Terms) → IsInRange t → (es : List Event) (l : Link) → IsSound t l → IsSound t (after_all t es l)
+unfolding after_all
 sound-all t r [] l h = h
-sound-all t r (e ∷ es) l h = sound-all t r es (Machine.after t e l) (sound-after t r e l h)
+sound-all t r (e ∷ es) l h = sound-all t r es (after t e l) (sound-after t r e l h)
 
 -- The queue grows by contents that are asked for alone.
-pub queue-stays : (t : Terms) → t.tei ≤ 126 → (e : Events.Event) (l : Link) → Queues ⊥ e → IsSound t l
-    → length (queue_of (Machine.after t e l)) ≤ length (queue_of l)
+pub queue-stays : (t : Terms) → t.tei ≤ 126 → (e : Event) (l : Link) → Queues ⊥ e → IsSound t l
+    → length (queue_of (after t e l)) ≤ length (queue_of l)
 queue-stays t r e l may h =
-    let c = Machine.course t e l in
+    let c = course t e l in
     let room = ((event_by (stand t r (length (queue_of l)) ⊥ (λ x. absurd x)) tt tt e (any_event e) may).leads (begun l) (sound-stands t (length (queue_of l)) l (omega arith) h)).queue in
     let e : length (drop c.link.a c.link.contents) ≡ length c.link.contents - c.link.a = length-drop c.link.a c.link.contents in
     omega (arith, room)

@@ -1,10 +1,6 @@
 -- Every word of the tables keeps a link sound, over the plain values of which soundness speaks.
 pub use Rattle.model_link.proofs.FrameRows.{named-within}
-use Rattle.model_link.proofs.Vocabulary.{◌≡◌, ℕ, ◌+◌, ◌-◌, ◌<◌, ◌≤◌, inl, inr, Bool, true, false, cond, not, ◌&&◌, IsTrue, List, [], ◌∷◌, ◌++◌, length, take, drop, Option, Some, None, refl, sym, ap, subst, ◌∙◌, true≢false, arith, length-append, length-drop, length-take-le, All, nat_lt, nat_le, ltb-true, ltb-false, leb-false, and_parts, All-push, All-nil, All-tail, All-take, All-drop, Refusal, WrongState, TooLong, QueueFull, State, TeiAssigned, AwaitingEstablishment, AwaitingRelease, Established, TimerRecovery, ControlFrame, Terms, is_multiple_frame, IsWaitingFrame, Course, ◌then◌, LinkTimer, data_in_7_8}
-use Rattle.model_link.specs.Events
-use Rattle.model_link.specs.Words
-use Rattle.model_link.specs.Requests
-use Rattle.model_link.specs.Offers
+use Rattle.model_link.proofs.Vocabulary.{◌≡◌, ℕ, ◌+◌, ◌-◌, ◌<◌, ◌≤◌, inl, inr, Bool, true, false, cond, not, ◌&&◌, IsTrue, List, [], ◌∷◌, ◌++◌, length, take, drop, Option, Some, None, refl, sym, ap, subst, ◌∙◌, true≢false, arith, length-append, length-drop, length-take-le, All, nat_lt, nat_le, ltb-true, ltb-false, leb-false, and_parts, All-push, All-nil, All-tail, All-take, All-drop, Refusal, WrongState, TooLong, QueueFull, State, TeiAssigned, AwaitingEstablishment, AwaitingRelease, Established, TimerRecovery, ControlFrame, Terms, is_multiple_frame, IsWaitingFrame, Course, ◌then◌, LinkTimer, data_in_7_8, Data, begin_anew, enter, own_busy_is, report_ready, send_again_from, start, with_own_busy, refusal, is_established}
 use Rattle.model_link.proofs.Waits.{Waits, ready_waits}
 use Rattle.model_link.proofs.Careful.{is_at_rest, idle, Careful}
 
@@ -157,11 +153,11 @@ module _ {t : Terms} {q : ℕ} {contents : List (List ℕ)} {a s : ℕ} {state :
       (All-push (λ os. length os ≤ t.n201) contents octets h.sizes small)
 
   -- one that is not sent goes, within the window
-  sent : (here : State) (busy : Bool) → (Offers.is_established here && not busy && nat_lt (s - a) t.k && nat_lt s (length contents)) ≡ true
+  sent : (here : State) (busy : Bool) → (is_established here && not busy && nat_lt (s - a) t.k && nat_lt s (length contents)) ≡ true
       → Standing t q contents a (s + 1) state asked ws own pending
   sent here busy e =
-      let parts = and_parts (Offers.is_established here && not busy && nat_lt (s - a) t.k) (nat_lt s (length contents)) e in
-      let inner = and_parts (Offers.is_established here && not busy) (nat_lt (s - a) t.k) parts.0 in
+      let parts = and_parts (is_established here && not busy && nat_lt (s - a) t.k) (nat_lt s (length contents)) e in
+      let inner = and_parts (is_established here && not busy) (nat_lt (s - a) t.k) parts.0 in
       let low : a ≤ s = h.ordered in
       let some : s < length contents = ltb-true s (length contents) parts.1 in
       let free : s - a < t.k = ltb-true (s - a) t.k inner.1 in
@@ -178,7 +174,7 @@ not-first false o w e = (refl, e)
 
 module _ (t : Terms) (r : t.tei ≤ 126) (q : ℕ) (Queued : Type 0) (room : Queued → q ≡ t.queue) where
   -- words that are put together
-  transfers : Queued → (octets : List ℕ) (full : Bool) (c : Course) → Requests.refusal t c.link full (Events.Data octets) ≡ None
+  transfers : Queued → (octets : List ℕ) (full : Bool) (c : Course) → refusal t c.link full (Data octets) ≡ None
       → Stands t q c → Stands t q (data_in_7_8 octets c)
   transfers may octets full c e h =
       let same = room may in
@@ -187,10 +183,10 @@ module _ (t : Terms) (r : t.tei ≤ 126) (q : ℕ) (Queued : Type 0) (room : Que
       let free = not-first (nat_le t.queue (length (drop c.link.a c.link.contents))) _ QueueFull small.1 in
       queueing h octets parts.0 (ltb-false t.n201 (length octets) small.0) (omega (arith, same, leb-false t.queue (length (drop c.link.a c.link.contents)) free.0))
 
-  reports : (b : Bool) (c : Course) → Stands t q c → Stands t q (Words.report_ready t (Words.own_busy_is b c))
-  reports b c h = sending (silent h b) _ r (ready_waits t false false (Words.with_own_busy b c.link))
+  reports : (b : Bool) (c : Course) → Stands t q c → Stands t q (report_ready t (own_busy_is b c))
+  reports b c h = sending (silent h b) _ r (ready_waits t false false (with_own_busy b c.link))
 
-  pub begins : (c : Course) → Stands t q (Words.begin_anew c)
+  pub begins : (c : Course) → Stands t q (begin_anew c)
   begins c = record {
     ordered = omega arith;
     accepted = omega arith;
@@ -204,7 +200,7 @@ module _ (t : Terms) (r : t.tei ≤ 126) (q : ℕ) (Queued : Type 0) (room : Que
   }
 
   recovers : (i : ℕ) (timer : LinkTimer) (c : Course) → c.link.a ≤ i → i ≤ c.link.s → Stands t q c
-      → Stands t q ((Words.send_again_from i then Words.start timer then Words.enter Established) c)
+      → Stands t q ((send_again_from i then start timer then enter Established) c)
   recovers i timer c from to h = up (going-back h i from to) Established refl
 
   pub stand : Careful t (Unit {0}) (Unit {0}) (Unit {0}) (Unit {0}) Queued (Unit {0}) is_in (Stands t q) (λ p p' c. Stands t q c) (Stands t q)

@@ -1,9 +1,5 @@
 -- What a frame of the other end does to a link that stays in states 7 and 8.
-use Rattle.model_link.proofs.Vocabulary.{◌≡◌, ℕ, ◌+◌, Bool, true, false, cond, IsTrue, List, Option, None, Some, refl, sym, ap, subst, ◌∙◌, ◌⊎◌, inl, inr, eqb-true, true≢false, nat_le, Seq, seq, distance_of, named, seq-value, is_seq, seq-distance, Control, Information, ReceiveReady, ReceiveNotReady, Reject, State, Established, TimerRecovery, Terms, Link, is_multiple_frame, Course, begun}
-use Rattle.model_link.specs.Words
-use Rattle.model_link.specs.MultipleFrame
-use Rattle.model_link.specs.Established
-use Rattle.model_link.specs.Machine
+use Rattle.model_link.proofs.Vocabulary.{◌≡◌, ℕ, ◌+◌, Bool, true, false, cond, IsTrue, List, Option, None, Some, refl, sym, ap, subst, ◌∙◌, ◌⊎◌, inl, inr, eqb-true, true≢false, nat_le, Seq, seq, distance_of, named, seq-value, is_seq, seq-distance, Control, Information, ReceiveReady, ReceiveNotReady, Reject, State, Established, TimerRecovery, Terms, Link, is_multiple_frame, Course, begun, acknowledge, is_next, acknowledged_by_information_in_7, frame_in, frame_step}
 use Rattle.model_link.proofs.Counting.{On, done, undelivered, words}
 use Rattle.model_link.proofs.Leads.{depending_leads}
 use Rattle.model_link.proofs.Rows.{frame_row}
@@ -46,19 +42,19 @@ by-flags false true ns nr p octets r h = inr (refl, refl, h refl)
 by-flags false false ns nr p octets r h = inl (refl, refl)
 
 module _ (t : Terms) (l : Link) where
-  next-is_seq : (ns : Seq) → MultipleFrame.is_next ns l ≡ true → ns ≡ seq l.r
+  next-is_seq : (ns : Seq) → is_next ns l ≡ true → ns ≡ seq l.r
   next-is_seq ns e = is_seq ns l.r (eqb-true ns.value (seq l.r).value e ∙ seq-value (seq l.r) l.r refl)
 
   -- an I-frame
   information : (ns nr : Seq) (p : Bool) (octets : List ℕ) (m : ℕ) (c : Course) → nr ≡ seq m
-      → Took l nr (cond l.own_busy l.r (cond (MultipleFrame.is_next ns l) (l.r + 1) l.r)) (cond l.own_busy None (cond (MultipleFrame.is_next ns l) (Some octets) None)) c
+      → Took l nr (cond l.own_busy l.r (cond (is_next ns l) (l.r + 1) l.r)) (cond l.own_busy None (cond (is_next ns l) (Some octets) None)) c
       → Taken l m (Information ns nr p) octets c
   information ns nr p octets m c e h =
       record {
-        r = cond l.own_busy l.r (cond (MultipleFrame.is_next ns l) (l.r + 1) l.r);
-        delivered = cond l.own_busy None (cond (MultipleFrame.is_next ns l) (Some octets) None);
-        advance = by-flags l.own_busy (MultipleFrame.is_next ns l) ns nr p octets l.r (next-is_seq ns);
-        took = subst (λ n. Took l n (cond l.own_busy l.r (cond (MultipleFrame.is_next ns l) (l.r + 1) l.r)) (cond l.own_busy None (cond (MultipleFrame.is_next ns l) (Some octets) None)) c) e h;
+        r = cond l.own_busy l.r (cond (is_next ns l) (l.r + 1) l.r);
+        delivered = cond l.own_busy None (cond (is_next ns l) (Some octets) None);
+        advance = by-flags l.own_busy (is_next ns l) ns nr p octets l.r (next-is_seq ns);
+        took = subst (λ n. Took l n (cond l.own_busy l.r (cond (is_next ns l) (l.r + 1) l.r)) (cond l.own_busy None (cond (is_next ns l) (Some octets) None)) c) e h;
       }
 
   -- a supervisory frame delivers nothing
@@ -66,7 +62,7 @@ module _ (t : Terms) (l : Link) where
   none-delivered c h = undelivered h
 
   supervisory : (here : State) → IsTrue (is_multiple_frame here) → (b : Bool) (octets : List ℕ) (m : ℕ) (control : Control) → IsReport m control
-      → Fits (Unit {0}) (Unit {0}) ⊥ control → Taken l m control octets (Machine.frame_in here t b octets control (begun l))
+      → Fits (Unit {0}) (Unit {0}) ⊥ control → Taken l m control octets (frame_in here t b octets control (begun l))
   supervisory here up b octets m control e may =
       record {
         r = l.r;
@@ -79,15 +75,15 @@ module _ (t : Terms) (l : Link) where
       }
 
   information-in : (here : State) → IsTrue (is_multiple_frame here) → (b : Bool) (octets : List ℕ) (m : ℕ) (ns nr : Seq) (p : Bool) → nr ≡ seq m
-      → Taken l m (Information ns nr p) octets (Machine.frame_in here t b octets (Information ns nr p) (begun l))
+      → Taken l m (Information ns nr p) octets (frame_in here t b octets (Information ns nr p) (begun l))
   information-in Established up b octets m ns nr p e =
-      information ns nr p octets m _ e (information_took t l ns nr p octets Established.acknowledged_by_information_in_7 (λ Q n. search (depending_leads)) (λ r n low. information_7_up l r l.a n low))
+      information ns nr p octets m _ e (information_took t l ns nr p octets acknowledged_by_information_in_7 (λ Q n. search (depending_leads)) (λ r n low. information_7_up l r l.a n low))
   information-in TimerRecovery up b octets m ns nr p e =
-      information ns nr p octets m _ e (information_took t l ns nr p octets Words.acknowledge (λ Q n. record { leads = λ c h. h }) (λ r n low. acknowledge_up l r l.a n))
+      information ns nr p octets m _ e (information_took t l ns nr p octets acknowledge (λ Q n. record { leads = λ c h. h }) (λ r n low. acknowledge_up l r l.a n))
   information-in other up b octets m ns nr p e = absurd (true≢false (sym up))
 
   frames-in : (here : State) → IsTrue (is_multiple_frame here) → (b : Bool) (octets : List ℕ) (m : ℕ) (control : Control) → Means m control
-      → Taken l m control octets (Machine.frame_in here t b octets control (begun l))
+      → Taken l m control octets (frame_in here t b octets control (begun l))
   frames-in here up b octets m (Information ns nr p) e = information-in here up b octets m ns nr p e
   frames-in here up b octets m (ReceiveReady nr pf) e = supervisory here up b octets m (ReceiveReady nr pf) e tt
   frames-in here up b octets m (ReceiveNotReady nr pf) e = supervisory here up b octets m (ReceiveNotReady nr pf) e tt
@@ -95,5 +91,5 @@ module _ (t : Terms) (l : Link) where
   frames-in here up b octets m other e = absurd e
 
   pub frame-taken : IsTrue (is_multiple_frame l.state) → (b : Bool) (octets : List ℕ) (m : ℕ) (control : Control) → Means m control
-      → Taken l m control octets (Machine.frame_step t b octets control (begun l))
+      → Taken l m control octets (frame_step t b octets control (begun l))
   frame-taken up b octets m control e = frames-in l.state up b octets m control e

@@ -1,11 +1,6 @@
 -- Each row of the tables tells at most two notes.
-use Rattle.model_link.proofs.Vocabulary.{◌≡◌, ℕ, ◌+◌, ◌≤◌, zero-add, Bool, true, false, cond, not, ◌&&◌, List, [], ◌∷◌, ◌++◌, length, Option, Some, None, is_some, ◌⊎◌, inl, inr, refl, sym, ap, ◌∙◌, arith, length-append, Control, Ui, Ua, Note, ErrorCode, State, TeiAssigned, AwaitingEstablishment, AwaitingRelease, Established, TimerRecovery, LinkTimer, T200, T203, Terms, Link, Course, begun, by_bit, frame_in_4, frame_in_5, frame_in_6, list_any, Timer, Order, Start, Stop, is_data, is_unit, runs, timer_at, order_for, orders_for, starts}
-use Rattle.model_link.specs.Requests
-use Rattle.model_link.specs.Established
-use Rattle.model_link.specs.TimerRecovery
+use Rattle.model_link.proofs.Vocabulary.{◌≡◌, ℕ, ◌+◌, ◌≤◌, zero-add, Bool, true, false, cond, not, ◌&&◌, List, [], ◌∷◌, ◌++◌, length, Option, Some, None, is_some, ◌⊎◌, inl, inr, refl, sym, ap, ◌∙◌, arith, length-append, Control, Ui, Ua, Note, ErrorCode, State, TeiAssigned, AwaitingEstablishment, AwaitingRelease, Established, TimerRecovery, LinkTimer, T200, T203, Terms, Link, Course, begun, by_bit, frame_in_4, frame_in_5, frame_in_6, list_any, Timer, Order, Start, Stop, is_data, is_unit, runs, timer_at, order_for, orders_for, starts, granted, frame_in_7, frame_in_8, ClearBusy, Data, Establish, Event, Release, Request, SetBusy, cleared, frame, received, deliver_unit, leave_unserved}
 use Rattle.model_link.specs.Machine
-use Rattle.model_link.specs.Events
-use Rattle.model_link.specs.Words
 use Rattle.model_link.proofs.Leads.{Leads, from_more}
 use Rattle.model_link.proofs.Telling.{Purse, no_more, another, how_many, Telling, HasTold, ToldWithin, untold, note-told, enough, words}
 use Rattle.model_link.proofs.Kept.{two, Fits, FitsEvent}
@@ -40,10 +35,10 @@ module _ (t : Terms) where
   pub frames_in_6 : (octets : List ℕ) (control : Control) → IsNoUnit control → Leads (Telling 2 (another (another no_more))) (frame_in_6 t octets control) (HasTold 2)
   frames_in_6 octets control h = frames_in AwaitingRelease false octets control h
 
-  pub frames_in_7 : (b : Bool) (octets : List ℕ) (control : Control) → IsNoUnit control → Leads (Telling 2 (another (another no_more))) (Established.frame_in_7 t b octets control) (HasTold 2)
+  pub frames_in_7 : (b : Bool) (octets : List ℕ) (control : Control) → IsNoUnit control → Leads (Telling 2 (another (another no_more))) (frame_in_7 t b octets control) (HasTold 2)
   frames_in_7 b octets control h = frames_in Established b octets control h
 
-  pub frames_in_8 : (b : Bool) (octets : List ℕ) (control : Control) → IsNoUnit control → Leads (Telling 2 (another (another no_more))) (TimerRecovery.frame_in_8 t b octets control) (HasTold 2)
+  pub frames_in_8 : (b : Bool) (octets : List ℕ) (control : Control) → IsNoUnit control → Leads (Telling 2 (another (another no_more))) (frame_in_8 t b octets control) (HasTold 2)
   frames_in_8 b octets control h = frames_in TimerRecovery b octets control h
 
   pub expired_tells : (here : State) (timer : LinkTimer) → Leads (Telling 2 (another (another no_more))) (Machine.expired_in here timer t) (HasTold 2)
@@ -52,12 +47,12 @@ module _ (t : Terms) where
   pub malformed_tells : (here : State) (e : ErrorCode) → Leads (Telling 2 (another (another no_more))) (Machine.malformed_in here t e) (HasTold 2)
   malformed_tells here e = from_more (λ c h. record { known = tt; holds = h }) (malformed_by told {X = anything} here e)
 
-  pub granted_tells : (request : Events.Request) → Leads (Telling 2 (another (another no_more))) (λ c. Requests.granted t request c) (HasTold 2)
-  granted_tells Events.Establish = search (enough)
-  granted_tells Events.Release = record { leads = λ c h. (release_by told c.link.state).leads c (record { known = tt; holds = h }) }
-  granted_tells (Events.Data octets) = search (enough)
-  granted_tells Events.SetBusy = set_busy_by told
-  granted_tells Events.ClearBusy = clear_busy_by told
+  pub granted_tells : (request : Request) → Leads (Telling 2 (another (another no_more))) (λ c. granted t request c) (HasTold 2)
+  granted_tells Establish = search (enough)
+  granted_tells Release = record { leads = λ c h. (release_by told c.link.state).leads c (record { known = tt; holds = h }) }
+  granted_tells (Data octets) = search (enough)
+  granted_tells SetBusy = set_busy_by told
+  granted_tells ClearBusy = clear_busy_by told
 
   pub cleared_tells : (here : State) → Leads (Telling 1 (another no_more)) (Machine.told_of_clearing here t) (Telling 1 no_more)
   cleared_tells TeiAssigned = search (untold)
@@ -75,7 +70,7 @@ module _ (t : Terms) where
       → (length ns ≤ 2) × (list_any is_data ns ≡ is_some d) × ((d ≡ None) ⊎ (u ≡ None)) × (list_any is_unit ns ≡ is_some u)
   from-told h = (h.count, h.data_told, inr h.no_unit, h.no_note ∙ sym (ap is_some h.no_unit))
 
-  units : (b : Bool) (octets : List ℕ) (l : Link) → TellsOf (by_bit b Words.leave_unserved (Words.deliver_unit t octets) (begun l))
+  units : (b : Bool) (octets : List ℕ) (l : Link) → TellsOf (by_bit b leave_unserved (deliver_unit t octets) (begun l))
   unfolding TellsOf
   units true octets l = (omega arith, refl, inl refl, refl)
   units false octets l = (omega arith, refl, inl refl, refl)
@@ -84,7 +79,7 @@ module _ (t : Terms) where
   unit-tells TeiAssigned b octets p l = units _ octets l
   unit-tells other b octets p l = units _ octets l
 
-  tells : (e : Events.Event) → FitsEvent ⊥ (Unit {0}) (Unit {0}) e → (l : Link) → TellsOf (Machine.course t e l)
+  tells : (e : Event) → FitsEvent ⊥ (Unit {0}) (Unit {0}) e → (l : Link) → TellsOf (Machine.course t e l)
   unfolding TellsOf how_many
   tells e may l = from-told ((event_row (words t) e may).leads (begun l) (begins two 2 (omega arith) l))
 
@@ -98,16 +93,16 @@ module _ (t : Terms) where
   unfolding how_many
   clears here l = (cleared_tells here).leads (begun l) (begins (another no_more) 1 (omega arith) l)
 
-  pub cleared-tells : (l : Link) → length (Machine.told t Events.cleared l).notes ≤ 1
+  pub cleared-tells : (l : Link) → length (Machine.told t cleared l).notes ≤ 1
   cleared-tells l = omega (arith, (clears l.state l).count)
 
-  pub event-tells : (e : Events.Event) (l : Link)
+  pub event-tells : (e : Event) (l : Link)
       → (length (Machine.told t e l).notes ≤ 2) × (list_any is_data (Machine.told t e l).notes ≡ is_some (Machine.told t e l).delivered)
       × (((Machine.told t e l).delivered ≡ None) ⊎ ((Machine.told t e l).unit ≡ None))
       × (list_any is_unit (Machine.told t e l).notes ≡ is_some (Machine.told t e l).unit)
   unfolding TellsOf
-  event-tells (Events.received (Events.frame f)) l = frame-tells f.address.command f.info f.control l
-  event-tells (Events.received other) l = tells (Events.received other) tt l
+  event-tells (received (frame f)) l = frame-tells f.address.command f.info f.control l
+  event-tells (received other) l = tells (received other) tt l
   event-tells other l = tells other tt l
 
 -- At most one order for each timer, and at a clear only for the one that runs.
@@ -161,5 +156,5 @@ stopped t None = omega arith
 stopped t (Some T200) = omega arith
 stopped t (Some T203) = omega arith
 
-pub cleared-orders : (t : Terms) (l : Link) → length (Machine.told t Events.cleared l).orders ≤ 1
+pub cleared-orders : (t : Terms) (l : Link) → length (Machine.told t cleared l).orders ≤ 1
 cleared-orders t l = stopped t l.running

@@ -3,7 +3,6 @@ pub use Rattle.model_link.proofs.Kept.{Purse, no_more, another}
 unfoldable pub use Rattle.model_link.proofs.Kept.{how_many}
 use Rattle.model_link.proofs.Vocabulary.{◌≡◌, ℕ, ◌+◌, ◌≤◌, false, List, [], ◌∷◌, ◌++◌, length, Option, None, Some, is_some, ◌∙◌, arith, length-append, list_any, list_any-append, Note, Terms, Course, is_data, is_unit}
 use Rattle.std.proofs.Math.Bool.{or-false, or-true}
-use Rattle.lapd_frame.specs.declared.notes.Note.TheVariants as notes
 use Rattle.model_link.proofs.Kept.{two, Kept}
 
 pub record Tells (total : ℕ) (p : Purse) (notes : List Note) (delivered unit : Option (List ℕ)) : Type 0 where
@@ -40,15 +39,15 @@ module _ (total : ℕ) (p : Purse) where
       }
 
   contents-told : (t : Terms) (octets : List ℕ) (ns : List Note) (d u : Option (List ℕ))
-      → Tells total (another p) ns d u → Tells total p (ns ++ notes.Data t.service t.tei ∷ []) (Some octets) u
+      → Tells total (another p) ns d u → Tells total p (ns ++ Note.Data t.service t.tei ∷ []) (Some octets) u
   unfolding how_many
   contents-told t octets ns d u h =
       let more : length ns + (1 + how_many p) ≤ total = h.count in
       record {
         count = simp length-append (omega arith);
-        data_told = list_any-append is_data ns (notes.Data t.service t.tei ∷ []) ∙ or-true (list_any is_data ns);
+        data_told = list_any-append is_data ns (Note.Data t.service t.tei ∷ []) ∙ or-true (list_any is_data ns);
         no_unit = h.no_unit;
-        no_note = list_any-append is_unit ns (notes.Data t.service t.tei ∷ []) ∙ (or-false (list_any is_unit ns) ∙ h.no_note);
+        no_note = list_any-append is_unit ns (Note.Data t.service t.tei ∷ []) ∙ (or-false (list_any is_unit ns) ∙ h.no_note);
       }
 
   -- a note that is not told

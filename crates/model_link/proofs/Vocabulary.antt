@@ -29,11 +29,11 @@ pub use Rattle.lapd_seq.specs.declared.numbers.Seq.{Seq}
 pub use Rattle.model_link.specs.AwaitingEstablishment.{frame_in_5, t200_in_5}
 pub use Rattle.model_link.specs.AwaitingRelease.{frame_in_6, t200_in_6}
 pub use Rattle.model_link.specs.Deliveries.{Arrived, eligible, eligible_of, information_of}
-pub use Rattle.model_link.specs.Events.{ClearBusy, Data, Establish, Event, Release, Request, SetBusy, expired, frame, offer, received, requested}
+pub use Rattle.model_link.specs.Events.{ClearBusy, Data, Establish, Event, Received, Release, Request, SetBusy, cleared, expired, frame, offer, overlong, received, requested, undefined, wrong_size}
 pub use Rattle.model_link.specs.Link.{Link, frame_of, fresh, has_outstanding, is_asked, is_multiple_frame, is_own_busy, is_peer_busy, queue_of, unsent}
-pub use Rattle.model_link.specs.Machine.{after, course, given_of, told}
+pub use Rattle.model_link.specs.Machine.{after, course, expired_in, frame_in, frame_step, given, given_of, is_running, malformed_in, told, told_of_clearing}
 unfoldable pub use Rattle.model_link.specs.Machine.{after_all}
-pub use Rattle.model_link.specs.MultipleFrame.{data_in_7_8}
+pub use Rattle.model_link.specs.MultipleFrame.{clear_busy_in_7_8, contents_in_7_8, data_in_7_8, failed, information_in_7_8, is_next, set_busy_in_7_8}
 pub use Rattle.model_link.specs.Notes.{is_data, is_unit}
 pub use Rattle.model_link.specs.Numbered.{History, IsNumbered, Numbered, nothing_yet, with_event}
 unfoldable pub use Rattle.model_link.specs.Numbered.{with_all}
@@ -46,10 +46,14 @@ pub use Rattle.model_link.specs.Told.{order_for, orders_for, runs, timer_at}
 unfoldable pub use Rattle.model_link.specs.Told.{starts}
 pub use Rattle.model_link.specs.TwoEnds.{Act, Agree, Begins, Doing, End, Ends, IsUp, acting, asks, at_far, at_near, doing, expires, frame_given, loses, receives, sends, turned, with_first_lost, with_first_of, with_link, with_sent}
 unfoldable pub use Rattle.model_link.specs.TwoEnds.{StayUp, doing_all}
-pub use Rattle.model_link.specs.Words.{command, ready_to_receive, response}
+pub use Rattle.model_link.specs.Words.{acknowledge, answer, asked_is, begin_anew, by_number, clear_flags, command, count_received, deliver, deliver_unit, discard, enquire, enter, error, has_room, leave_unserved, own_busy_is, pending_is, re_establish, ready_to_receive, reject, rejecting_is, report_ready, response, send, send_again_from, start, with_own_busy, zero_numbers}
 pub use Rattle.model_link.specs.declared.frames.ControlFrame.{ControlFrame}
 pub use Rattle.model_link.specs.declared.states.State.{State}
 pub use Rattle.model_link.specs.declared.states.State.TheVariants.{AwaitingEstablishment, AwaitingRelease, Established, TeiAssigned, TimerRecovery}
 pub use Rattle.model_link.specs.declared.terms.Terms.{Terms}
 pub use Rattle.model_link.specs.declared.timers.LinkTimer.{LinkTimer}
 pub use Rattle.model_link.specs.declared.timers.LinkTimer.TheVariants.{T200, T203}
+pub use Rattle.model_link.specs.Established.{acknowledged_by_information_in_7, acknowledged_by_rej_in_7, acknowledged_by_rnr_in_7, acknowledged_in_7, frame_in_7, is_all_sent, is_beyond_acknowledged, timer_in_7}
+pub use Rattle.model_link.specs.Offers.{first_unsent, give_acknowledgement, give_information, give_waiting, is_awaiting_acknowledgement, is_established, is_pending, may_send_information, next_information, offer_among, send_acknowledgement, send_information, with_one_sent}
+pub use Rattle.model_link.specs.Requests.{granted, is_down, refusal, release_in}
+pub use Rattle.model_link.specs.TimerRecovery.{acknowledged_in_8, frame_in_8, particulars_in_8, t200_in_8}

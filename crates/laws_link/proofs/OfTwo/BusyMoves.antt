@@ -186,6 +186,12 @@ module _ (n m : End) (hn : IsBusyItself n) (hm : IsOpenItself m) (there : IsTake
   pub busy-moves : BusyMoved n m (giver_of n) (taker_of n m)
   busy-moves = busy-by (may_send_information n.terms (plain n.link)) refl
 
+  grows : (k : ℕ) → k ≤ k + 1
+  grows k = omega arith
+
+  stays-as : (k : ℕ) → k ≤ k
+  stays-as k = omega arith
+
   -- the other end gives an I-frame, which is dropped,
   open-one : may_send_information m.terms (plain_with false m.link.peer_busy m.link) ≡ true → OpenMoved n m (taker_of m n) (giver_of m)
   open-one may =
@@ -195,21 +201,7 @@ module _ (n m : End) (hn : IsBusyItself n) (hm : IsOpenItself m) (there : IsTake
       ap (with_link (received (frame (information_frame m.terms m.link)))) is-n ∙ drops-one n false m.terms m.link n.link.s fits names-s hn.sound.ordered in
       subst (λ x. OpenMoved n m (with_first_of x.way n) (with_first_lost x)) (sym gives)
       (subst (λ y. OpenMoved n m y (record m { link = with_information_with false m.link.peer_busy m.link; way = [] })) (sym takes)
-      (record {
-        giver = record { terms = refl; contents = refl };
-        giver_flags = record { state = refl; own_busy = refl; peer_busy = refl; waiting = refl; way = refl };
-        taker = record { terms = refl; contents = refl };
-        taker_flags = record { state = refl; own_busy = refl; peer_busy = refl; waiting = refl; way = refl };
-        received = refl;
-        delivered = append-nil n.delivered;
-        a = refl;
-        s = refl;
-        other_received = refl;
-        other_delivered = refl;
-        other_a = refl;
-        other_s = omega arith;
-        quiet = refl;
-      }))
+      (search (append-nil, grows, stays-as) parts 3))
 
   -- or an acknowledgement,
   open-note : may_send_information m.terms (plain_with false m.link.peer_busy m.link) ≡ false → m.link.pending ≡ true → OpenMoved n m (taker_of m n) (giver_of m)
@@ -219,42 +211,14 @@ module _ (n m : End) (hn : IsBusyItself n) (hm : IsOpenItself m) (there : IsTake
       ap (with_link (received (frame (acknowledgement_frame m.terms m.link)))) is-n ∙ takes-note n true m.terms m.link n.link.s names-s hn.sound.ordered in
       subst (λ x. OpenMoved n m (with_first_of x.way n) (with_first_lost x)) (sym gives)
       (subst (λ y. OpenMoved n m y (record m { link = with_acknowledgement_with false m.link.peer_busy m.link; way = [] })) (sym takes)
-      (record {
-        giver = record { terms = refl; contents = refl };
-        giver_flags = record { state = refl; own_busy = refl; peer_busy = refl; waiting = refl; way = refl };
-        taker = record { terms = refl; contents = refl };
-        taker_flags = record { state = refl; own_busy = refl; peer_busy = refl; waiting = refl; way = refl };
-        received = refl;
-        delivered = append-nil n.delivered;
-        a = refl;
-        s = refl;
-        other_received = refl;
-        other_delivered = refl;
-        other_a = refl;
-        other_s = omega arith;
-        quiet = refl;
-      }))
+      (search (append-nil, grows, stays-as) parts 3))
 
   -- or nothing: then nothing of the busy end's is outstanding
   open-none : may_send_information m.terms (plain_with false m.link.peer_busy m.link) ≡ false → m.link.pending ≡ false → OpenMoved n m (taker_of m n) (giver_of m)
   open-none may owed =
       let gives : with_sent m ≡ record m { link = with_acknowledgement_with false m.link.peer_busy m.link; way = [] } = ap with_sent is-m ∙ gives-nothing false m.link.peer_busy m may owed in
       subst (λ x. OpenMoved n m (with_first_of x.way n) (with_first_lost x)) (sym gives)
-      (record {
-        giver = record { terms = refl; contents = refl };
-        giver_flags = record { state = refl; own_busy = refl; peer_busy = refl; waiting = refl; way = refl };
-        taker = record { terms = refl; contents = refl };
-        taker_flags = busy-flags n hn;
-        received = refl;
-        delivered = refl;
-        a = all-acknowledged n.link.a n.link.s m.link.pending (nat_lt n.link.a n.link.s) refl owed hn.sound.ordered there.owed;
-        s = refl;
-        other_received = refl;
-        other_delivered = refl;
-        other_a = refl;
-        other_s = omega arith;
-        quiet = refl;
-      })
+      (search (busy-flags n hn, all-acknowledged n.link.a n.link.s m.link.pending (nat_lt n.link.a n.link.s) refl owed hn.sound.ordered there.owed, grows, stays-as) parts 3)
 
   open-by : (may owed : Bool) → may_send_information m.terms (plain_with false m.link.peer_busy m.link) ≡ may → m.link.pending ≡ owed → OpenMoved n m (taker_of m n) (giver_of m)
   open-by true owed e p = open-one e

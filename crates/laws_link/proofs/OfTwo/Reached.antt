@@ -1,5 +1,5 @@
 -- What holds of two links that came from an establishment, and stayed up: all that recovery asks but silence.
-use Rattle.laws_link.proofs.Vocabulary.{◌≡◌, ℕ, ◌+◌, ◌≤◌, Bool, false, List, [], ◌∷◌, length, sym, subst, ◌∙◌, true≢false, All, Parts, Link, frame, received, expired, requested, offer, End, Ends, Act, asks, expires, sends, receives, loses, Doing, at_near, at_far, with_first_of, acting, turned, doing, doing_all, Begins, StayUp, Agree, Joined, joined-first, done-at, ends-agree, IsTimed, HeedsIn, Heeds, rounds, IsCutOffWith, IsSilent, IsSilentWith, HasMissing, with_t200_expired}
+use Rattle.laws_link.proofs.Vocabulary.{◌≡◌, ℕ, ◌+◌, ◌≤◌, Bool, false, List, [], ◌∷◌, length, sym, subst, ◌∙◌, true≢false, All, Parts, Link, frame, received, expired, requested, offer, End, Ends, Act, asks, expires, sends, receives, loses, Doing, at_near, at_far, with_first_of, acting, turned, doing, doing_all, Begins, StayUp, Agree, Joined, joined-first, done-at, ends-agree, IsTimed, HeedsIn, Heeds, rounds, IsCutOffWith, IsSilent, IsSilentWith, HasMissing, with_t200_expired, joined-turned}
 use Rattle.laws_link.proofs.TimedRows.{timed-after}
 use Rattle.laws_link.proofs.OfTwo.HeedingEvents.{heeds-after}
 use Rattle.laws_link.proofs.OfTwo.Arriving.{Arrived}
@@ -70,21 +70,7 @@ cut-off own e h agree silent =
 
 pub cut-off-far : (own : Bool) (e : Ends) → Whole e → Agree e.near e.far → IsSilentWith own e.far e.near → IsCutOffWith own e.far e.near
 cut-off-far own e h agree silent =
-    record {
-      ranges = h.joined.far_ranges;
-      sound = h.joined.far_sound;
-      timed = h.sane.1.timed;
-      heeds = h.sane.1.heeds;
-      up = h.joined.far_up;
-      repeats = silent.repeats;
-      own_busy = silent.own_busy;
-      waiting = silent.waiting;
-      way = silent.way;
-      low = agree.acknowledged;
-      high = silent.high;
-      delivered = agree.delivered;
-      sizes = subst (λ i. All (λ octets. length octets ≤ i) e.far.link.contents) (sym h.same) h.joined.far_sound.sizes;
-    }
+    cut-off own (turned e) (record { joined = joined-turned e.near e.far h.joined; sane = (h.sane.1, h.sane.0); same = sym h.same }) agree silent
 
 pub whole-first : (ds : List Doing) (e : Ends) → Begins e.near → Begins e.far → IsTimed e.near.link → IsTimed e.far.link → e.near.terms.n201 ≡ e.far.terms.n201 → StayUp ds e
     → Whole (doing_all ds e)

@@ -43,6 +43,8 @@ pub mod Walking
 pub mod Turns
 pub mod CallRuns
 pub mod LinksTakeTurns
+pub mod NamedFrames
+pub mod TurnsKept
 pub mod TurnsMeanwhile
 pub mod ReadAgain
 pub mod Deliveries

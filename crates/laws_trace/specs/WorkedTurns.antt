@@ -1,5 +1,6 @@
 -- Worked values: links that take turns, and frames that break these laws.
-use Rattle.std.specs.Prelude.{◌≡◌, ◌≢◌, List, [], ◌∷◌, ◌++◌, refl}
+use Rattle.std.specs.Prelude.{◌≡◌, ◌≢◌, true, List, [], ◌∷◌, ◌++◌, refl}
+use Rattle.std.specs.List.{list_any}
 use Rattle.std.proofs.Common.{ap, arith}
 use Rattle.model_bits.specs.Stream as stream
 use Rattle.model_bits.specs.declared.heard.Cause.TheVariants.{Fcs}
@@ -15,8 +16,9 @@ use Rattle.model_card.specs.Event.{Event, at}
 use Rattle.model_card.specs.Run.{moments, after_all}
 use Rattle.laws_line.specs.card.Worked.{usual, on_0}
 use Rattle.laws_trace.specs.LinksTakeTurns.{LinkName, links_begun, TakeTurns}
-use Rattle.laws_trace.specs.Trace.{trace, IsAmong}
-use Rattle.laws_trace.specs.TurnsMeanwhile.{name_of, HasToSend}
+use Rattle.laws_trace.specs.LinkFrames.{is_frame_of}
+use Rattle.laws_trace.specs.Trace.{trace}
+use Rattle.laws_trace.specs.TurnsMeanwhile.{IsKeptWaiting}
 use Rattle.laws_trace.specs.WorkedUnits.{calls}
 
 -- Both links of TEI 64 send SABME, and that of call control sends it again.
@@ -49,13 +51,15 @@ none_among (y ∷ front) back e = cc e
 no_turns : TakeTurns (call ∷ call ∷ packet ∷ []) → ⊥
 no_turns law = let x = law call packet [] [] [] [] apart refl in none_among x.front x.back x.split
 
--- The packet link has its SABME to send meanwhile; where that of call control goes twice before it, the law is broken.
-packet_waits : HasToSend (after_all (fresh usual) both_up) 0 1 64
-unfolding after_all lines.after lines.answer lines.takes_slot teis.course teis.refusal
-packet_waits = record { few = omega arith; on_line = refl; calls = 3; begins = record { front = call ∷ []; back = call ∷ []; split = turns_taken } }
+-- The packet link offers its SABME meanwhile; where that of call control goes twice, and it does not between, the law is broken.
+packet_waits : IsKeptWaiting usual 0 64 Packet 64 both_up
+unfolding moments after_all lines.after lines.answer lines.takes_slot teis.course teis.refusal reading header_of control_of unnumbered_of
+packet_waits = record { stays = refl; on_line = refl; offers_one = λ none. cc none }
 
-its_name : name_of 1 64 ≡ packet
-its_name = refl
+goes_between : list_any (is_frame_of usual Packet 64) ((0x42 ∷ 0x81 ∷ 0x7F ∷ []) ∷ []) ≡ true
+unfolding reading header_of control_of unnumbered_of
+goes_between = refl
 
-passed_over : IsAmong packet [] → ⊥
-passed_over among = none_among among.front among.back among.split
+passed_over : list_any (is_frame_of usual Packet 64) ((0x02 ∷ 0x81 ∷ 0x7F ∷ []) ∷ []) ≡ true → ⊥
+unfolding reading header_of control_of unnumbered_of
+passed_over other = cc other

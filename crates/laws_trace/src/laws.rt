@@ -55,9 +55,9 @@ pub fn links_take_turns()
     ensures { Always LinksTakeTurns }
 {}
 
-/// Links take turns, whatever else happens at the line meanwhile. Between two frames that begin for one link, which
-/// keeps its place on the line, begins one of every other link that would begin one all the while, were the line only
-/// called for its next frame (profile).
+/// Links take turns, whatever else happens at the line meanwhile. Between two frames that begin for one link, whose TEI
+/// stays on the line, begins one of every other link that offers one all the while, as whoever watches it has this
+/// ([`what_is_given_is_due`]; profile).
 pub fn links_take_turns_meanwhile()
     ensures { Always LinksTakeTurnsMeanwhile }
 {}

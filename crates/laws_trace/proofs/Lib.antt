@@ -39,10 +39,9 @@ pub mod SmallMessages
 pub mod SmallMessagesWait
 pub mod OctetsBegin
 pub mod WaitedBegins
-pub mod Walking
+pub mod LinkNames
 pub mod Turns
 pub mod CallRuns
-pub mod LinksTakeTurns
 pub mod NamedFrames
 pub mod TurnsKept
 pub mod TurnsMeanwhile

@@ -4,7 +4,7 @@ use Rattle.std.proofs.Common.{eqb-true}
 use Rattle.std.specs.Result.{result_ok}
 use Rattle.laws_trace.specs.FramesAreRead.{IsSpelled}
 use Rattle.laws_trace.specs.LinkFrames.{its_frame, is_frame_of}
-use Rattle.laws_trace.specs.LinksTakeTurns.{LinkName, named_in, is_of_a_link}
+use Rattle.laws_trace.proofs.LinkNames.{LinkName, named_in, is_of_a_link}
 use Rattle.laws_trace.specs.Trace.{IsAmong}
 use Rattle.laws_trace.specs.Units.{is_ui}
 use Rattle.laws_trace.proofs.Turns.{name-is}

@@ -20,13 +20,12 @@ use Rattle.laws_trace.specs.FramesAreRead.{IsSpelled}
 use Rattle.laws_trace.specs.LinkFrames.{is_frame_of}
 use Rattle.laws_trace.specs.Managing.{managed_after}
 use Rattle.laws_trace.specs.Outgoing.{outgoing_of}
-use Rattle.laws_trace.specs.LinksTakeTurns.{LinkName, named_in, is_of_a_link, links_begun}
 use Rattle.laws_trace.specs.TurnsMeanwhile.{IsKeptWaiting, LinksTakeTurnsMeanwhile}
 use Rattle.laws_trace.proofs.CallRuns.{apart, none-after}
 use Rattle.laws_trace.proofs.Runs.{nothing-seen, run-shows}
 use Rattle.laws_trace.proofs.Turns.{link-frame, ui-frame, name-is}
 use Rattle.laws_trace.proofs.Units.{NoneWaits, fresh-none, Passes, rests, joins, steps, plain-order, first-of, none-told, none-requested, given-frames}
-use Rattle.laws_trace.proofs.Walking.{named as name_of, same-number}
+use Rattle.laws_trace.proofs.LinkNames.{LinkName, named_in, is_of_a_link, links_begun, named as name_of, same-number}
 use Rattle.laws_trace.proofs.Addressed.{at-some-place}
 use Rattle.laws_trace.proofs.LineAtEnd.{line-at-end}
 use Rattle.laws_trace.proofs.LinkLed.{own-is}

@@ -44,6 +44,7 @@ pub mod Turns
 pub mod CallRuns
 pub mod NamedFrames
 pub mod TurnsKept
+pub mod TurnsWalked
 pub mod TurnsMeanwhile
 pub mod ReadAgain
 pub mod Deliveries

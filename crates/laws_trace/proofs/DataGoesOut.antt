@@ -7,7 +7,6 @@ use Rattle.lapd_tei.specs.Messages.{information_of}
 use Rattle.model_link.specs.Machine as links
 use Rattle.model_link.specs.Sound as link_sound
 use Rattle.model_line.specs.Taken.{frame_of}
-use Rattle.laws_trace.specs.Trace as traces
 use Rattle.laws_trace.proofs.TimersWatched.{Sent, sent_by, sent_in}
 use Rattle.laws_trace.proofs.OneLink.{IsForeign}
 use Rattle.laws_trace.proofs.ReadAgain.{read-again}
@@ -62,4 +61,4 @@ module _ (c : Config) (service : Service) (tei : ℕ) where
       ∙ ap (λ b. cond b (sent_by g.frame.control info) None) (ap (λ b. b && tei == tei) (eq-eqb (sapi_of service) (sapi_of service) refl) ∙ eq-eqb tei tei refl)
 
   abbrev pub sent_with : Option NextFrame → Option Sent
-  sent_with o = option_map_or (λ f. sent_of (traces.octets_of f)) o None
+  sent_with o = option_map_or (λ (f : NextFrame). sent_of f.octets) o None

@@ -39,10 +39,12 @@ pub mod SmallMessages
 pub mod SmallMessagesWait
 pub mod OctetsBegin
 pub mod WaitedBegins
-pub mod Walking
+pub mod LinkNames
 pub mod Turns
 pub mod CallRuns
-pub mod LinksTakeTurns
+pub mod NamedFrames
+pub mod TurnsKept
+pub mod TurnsWalked
 pub mod TurnsMeanwhile
 pub mod ReadAgain
 pub mod Deliveries

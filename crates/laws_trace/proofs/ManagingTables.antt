@@ -35,7 +35,7 @@ none-else x (o ∷ places) h = go (has x o) refl (none-else x places (λ j at. h
     go true is rest = absurd (h 0 (holder x o is))
     go false is rest = ap (λ b. b || is_on x places) is ∙ rest
 
-clear-same : (x : ℕ) (places : Places) (place : ℕ) → place < length places → IsAlone places place x → is_on x (set places place None) ≡ false
+pub clear-same : (x : ℕ) (places : Places) (place : ℕ) → place < length places → IsAlone places place x → is_on x (set places place None) ≡ false
 clear-same x [] place within alone = absurd (omega (arith, within))
 clear-same x (o ∷ places) zero within alone = none-else x places (λ j at. let e : suc j ≡ 0 = alone (suc j) at in absurd (omega (arith, e)))
 clear-same x (o ∷ places) (suc i) within alone =

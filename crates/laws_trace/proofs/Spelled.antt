@@ -1,5 +1,5 @@
 -- Each frame that begins on a line is one that the grammar has, of a service or of TEI management: the law.
-use Rattle.laws_trace.proofs.Vocabulary.{◌≡◌, ◌<◌, ◌≤◌, true, false, List, [], ◌∷◌, ◌++◌, slice_get, Option, Some, None, IfSome, option_map, refl, sym, subst, arith, All, option_or, flat_map-append, All-nil, All-cons, All-head, All-append, Service, Call, Packet, Parts, Spells, Ui, sapi_of, Message, address_at, IsGiven, Given, Terms, given_is_frame, Config, hears, expiry, request, next, gave, Line, UnitData, service_at, place_at, terms, link_at, Taken, with_unit, unit_frame, first_taken, round, taken, next_of, IsInRange, IsSoundAt, IsUnitData, round_below, terms_in_range, OfLink, of-links, fresh_is_sound}
+use Rattle.laws_trace.proofs.Vocabulary.{◌≡◌, ◌<◌, ◌≤◌, true, false, List, [], ◌∷◌, ◌++◌, slice_get, Option, Some, None, IfSome, option_map, refl, sym, subst, arith, All, option_or, flat_map-append, All-nil, All-cons, All-head, All-append, Service, Call, Packet, Parts, Spells, Ui, sapi_of, Message, address_at, IsGiven, Given, Terms, given_is_frame, Config, hears, expiry, request, next, gave, Line, UnitData, service_at, place_at, terms, link_at, Taken, with_unit, unit_frame, first_taken, round, taken, next_of, IsInRange, IsSoundAt, IsUnitData, round_below, terms_in_range, OfLink, of-links, fresh_is_sound, Card, ℕ, moments}
 use Rattle.std.specs.Option.{unwrap_or}
 use Rattle.lapd_tei.specs.Messages.{information_of, frame_of as message_frame}
 use Rattle.model_link.specs.Machine as links
@@ -10,7 +10,10 @@ use Rattle.model_line.specs.Taken.{with_message, frame_of}
 use Rattle.model_line.specs.Sound.{IsSound}
 use Rattle.model_card.specs.Card.{fresh}
 use Rattle.laws_trace.specs.FramesAreRead.{is_of_use, IsSpelled, FramesAreRead}
-use Rattle.laws_trace.specs.Trace.{frame_in, Seen, seen, frames_begun, Always}
+use Rattle.model_card.specs.Event as card_event
+use Rattle.model_card.specs.Run.{AreAtLines}
+use Rattle.model_card.specs.Sound as card_sound
+use Rattle.laws_trace.specs.Trace.{frame_in, Seen, seen, trace, frames_begun, Always}
 use Rattle.laws_trace.proofs.Runs.{run-shows}
 use Rattle.laws_trace.proofs.Units.{given-frames, none-told, none-requested}
 use Rattle.laws_trace.specs.Trace as traces
@@ -105,6 +108,8 @@ steps : (c : Config) → IsInRange c → (e : Event) (l : Line) → IsSound c l 
     → AreSpelled c l (seen e (answer c e l)) (after c e l) × Anything c (after c e l)
 steps c ranged e l s h = (event-spelled c ranged e l s, tt)
 
+pub run-spelled : (card : Card) (events : List card_event.Event) (number : ℕ) → card_sound.IsSound card → AreAtLines card events → All (IsSpelled card.config) (frames_begun (trace number (moments card events)))
+run-spelled card events number s all = (run-shows Anything AreSpelled rests joins steps card events number s all tt).0
+
 pub frames-are-read : Always FramesAreRead
-frames-are-read c events number ranged all within =
-    (run-shows Anything AreSpelled rests joins steps (fresh c) events number (fresh_is_sound c ranged) all tt).0
+frames-are-read c events number ranged all within = run-spelled (fresh c) events number (fresh_is_sound c ranged) all

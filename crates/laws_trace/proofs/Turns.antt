@@ -3,7 +3,7 @@ use Rattle.laws_trace.proofs.Vocabulary.{◌≡◌, ℕ, ◌+◌, ◌*◌, ◌/�
 use Rattle.lapd_frame.specs.declared.controls.Control.{Control}
 use Rattle.laws_trace.specs.Units.{is_ui}
 use Rattle.std.specs.Result.{result_ok}
-use Rattle.laws_trace.specs.LinksTakeTurns.{named_in, is_of_a_link}
+use Rattle.laws_trace.proofs.LinkNames.{named_in, is_of_a_link}
 
 abbrev is_no_ui : Result Parts ReadFault → Bool
 is_no_ui r = not (option_map_or (λ (f : Parts). is_ui f.control) (result_ok r) false)

@@ -11,7 +11,7 @@ use Rattle.laws_trace.specs.UnitsGoOut.{is_unit, units_of, UnitsGoOut, AllUnitsG
 use Rattle.laws_trace.proofs.Runs.{run-shows}
 use Rattle.laws_trace.proofs.LineAtEnd.{line-at-end}
 use Rattle.laws_trace.proofs.Turns.{ui-frame}
-use Rattle.laws_trace.specs.LinksTakeTurns.{is_of_a_link}
+use Rattle.laws_trace.proofs.LinkNames.{is_of_a_link}
 use Rattle.lapd_tei.specs.Messages.{information_of}
 use Rattle.model_line.specs.Machine as lines
 use Rattle.model_card.specs.Machine as machine

@@ -7,7 +7,6 @@ pub mod OtherSide
 pub mod Units
 pub mod UnitsGoOut
 pub mod FramesAreRead
-pub mod LinksTakeTurns
 pub mod TurnsMeanwhile
 pub mod ControlFrames
 pub mod WaitedBegins

@@ -31,11 +31,8 @@ seen_granted r (told t) = granted r ∷ []
 seen_granted r other = []
 
 -- The frame that it gives, which begins then.
-abbrev pub octets_of : NextFrame → List ℕ
-octets_of f = f.octets
-
 abbrev pub frame_in : Answer → List (List ℕ)
-frame_in (gave frame) = option_to_list (option_map octets_of frame)
+frame_in (gave frame) = option_to_list (option_map (λ (f : NextFrame). f.octets) frame)
 frame_in other = []
 
 -- What an event of a line and its answer show: what is heard; a request, whether it is granted; and a call for the next
@@ -57,8 +54,7 @@ data_asked service tei other = []
 
 -- What is seen of a line in the moments of a run.
 abbrev pub seen_in : ℕ → Moment → List Seen
-seen_in number m =
-    if m.event.line == number then seen m.event.what m.answer else []
+seen_in number m = if m.event.line == number then seen m.event.what m.answer else []
 
 abbrev pub trace : ℕ → List Moment → List Seen
 trace number ms = flat_map (seen_in number) ms

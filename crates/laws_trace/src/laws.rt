@@ -8,7 +8,6 @@ ghost use Rattle.laws_trace.specs.FramesAreRead.{FramesAreRead, FramesAreOctets}
 ghost use Rattle.laws_trace.specs.FramesAreDue.{GivenIsDue, DueIsGiven};
 ghost use Rattle.laws_trace.specs.Deliveries.{Deliveries};
 ghost use Rattle.laws_trace.specs.LinksMove.{LinksMove};
-ghost use Rattle.laws_trace.specs.LinksTakeTurns.{LinksTakeTurns};
 ghost use Rattle.laws_trace.specs.News.{NewsIsTold};
 ghost use Rattle.laws_trace.specs.NoLossInVain.{NoLossInVain};
 ghost use Rattle.laws_trace.specs.RoomsAreTold.{RoomsAreTold};
@@ -49,15 +48,9 @@ pub fn frames_are_read()
     ensures octets { Always FramesAreOctets }
 {}
 
-/// Links take turns. While a line is only called for its next frame, after whatever happened to it, between two frames
-/// that begin for one link begins one of every other link that begins one behind these (profile).
-pub fn links_take_turns()
-    ensures { Always LinksTakeTurns }
-{}
-
-/// Links take turns, whatever else happens at the line meanwhile. Between two frames that begin for one link, which
-/// keeps its place on the line, begins one of every other link that would begin one all the while, were the line only
-/// called for its next frame (profile).
+/// Links take turns, whatever else happens at the line meanwhile. Between two frames that begin for one link, whose TEI
+/// stays on the line, begins one of every other link that offers one all the while, as whoever watches it has this
+/// ([`what_is_given_is_due`]; profile).
 pub fn links_take_turns_meanwhile()
     ensures { Always LinksTakeTurnsMeanwhile }
 {}

@@ -1,24 +1,24 @@
 //! Laws of the trace of a line: of what an observer of it sees, in order of time.
 //!
 //! Each law holds from a fresh card of a configuration in range, for every list of events at its lines, and for every
-//! line. `specs/` has the trace (`Trace`), which of its frames are unit data (`Units`), what whoever watches the line knows
-//! of its TEIs (`Managing`), of a link (`Observer`) and of what it keeps (`Outgoing`), by the procedures of Q.921, and a
-//! file for each law, with worked values of it. Each law is the contract of a call that does nothing.
+//! line. `specs/` has the trace (`Trace`), what whoever watches the line knows of its TEIs (`Managing`), of a link
+//! (`Observer`) and of what it keeps (`Outgoing`), by the procedures of Q.921, and a file for each law, with worked values
+//! of it. Each law is the contract of a call that does nothing.
 //!
 //! - `laws`: the laws.
 //! - `octets`: what they come to in the octets of a line.
 //!
 //! # Open
 //!
-//! Turns, where the place of the first link changes.
+//! Turns, where the TEI of the first link does not stay on the line.
 #![tactic(auto)]
 
 mod laws;
 mod octets;
 
 pub use laws::{
-    counters_count, frames_are_read, links_move, links_take_turns, links_take_turns_meanwhile,
-    news_is_told, nothing_is_lost_in_vain, ranges_are_served, rooms_are_told, teis_are_managed,
+    counters_count, frames_are_read, links_move, links_take_turns_meanwhile, news_is_told,
+    nothing_is_lost_in_vain, ranges_are_served, rooms_are_told, teis_are_managed,
     the_other_side_is_heard, timers_are_timely, units_go_out, what_is_given_is_due,
     what_is_told_was_heard,
 };

@@ -1,0 +1,86 @@
+-- Frames of a link, and their names.
+use Rattle.laws_trace.proofs.Vocabulary.{◌≡◌, ℕ, ◌==◌, ◌&&◌, ◌||◌, not, Bool, true, false, cond, List, [], ◌∷◌, ◌++◌, map, filter, list_any, Option, Some, None, Ok, refl, sym, ap, ◌∙◌, subst, eq-eqb, true≢false, option_map_or, and_parts, map-append, filter-append, All, All-head, All-tail, All-append, Parts, Service, reading-again, sapi_of, Config}
+use Rattle.std.proofs.Common.{eqb-true}
+use Rattle.std.specs.Result.{result_ok}
+use Rattle.laws_trace.specs.FramesAreRead.{IsSpelled}
+use Rattle.laws_trace.specs.LinkFrames.{its_frame, is_frame_of}
+use Rattle.laws_trace.proofs.LinkNames.{LinkName, named_in, is_of_a_link}
+use Rattle.laws_trace.specs.Trace.{IsAmong}
+use Rattle.laws_trace.specs.Units.{is_ui}
+use Rattle.laws_trace.proofs.Turns.{name-is}
+
+module _ (c : Config) where
+  abbrev pub names : List (List ℕ) → List LinkName
+  names fs = map named_in (filter (is_of_a_link c.side) fs)
+
+  pub names-append : (front behind : List (List ℕ)) → names (front ++ behind) ≡ names front ++ names behind
+  names-append front behind =
+      ap (map named_in) (filter-append (is_of_a_link c.side) front behind) ∙ map-append named_in (filter (is_of_a_link c.side) front) (filter (is_of_a_link c.side) behind)
+
+  module _ (service : Service) (tei : ℕ) where
+    abbrev pub name : LinkName
+    name = record { sapi = sapi_of service; tei = tei }
+
+    abbrev is-its : Parts → Bool
+    is-its f = f.address.sapi == sapi_of service && f.address.tei == tei
+
+    -- A frame is read as what it spells.
+    module _ (f : List ℕ) (h : IsSpelled c f) where
+      abbrev parts : Parts
+      parts = h.0
+
+      read : is_frame_of c service tei f ≡ option_map_or (λ (f : Parts). not (is_ui f.control)) (cond (is-its parts) (Some parts) None) false
+      read = ap (λ r. option_map_or (λ (f : Parts). not (is_ui f.control)) (its_frame service tei (result_ok r)) false) (reading-again c.side parts f h.1)
+
+      kind : is_of_a_link c.side f ≡ not (is_ui parts.control)
+      kind = ap (λ r. not (option_map_or (λ (f : Parts). is_ui f.control) (result_ok r) false)) (reading-again c.side parts f h.1)
+
+      named : named_in f ≡ record { sapi = parts.address.sapi; tei = parts.address.tei }
+      named = ap named_in h.1.octets_are ∙ name-is c.side parts.address parts.control parts.info
+
+      pub own-name : is_frame_of c service tei f ≡ true → (is_of_a_link c.side f ≡ true) × (named_in f ≡ name)
+      own-name is = go (is-its parts) refl (sym read ∙ is)
+        where
+          go : (b : Bool) → is-its parts ≡ b → option_map_or (λ (f : Parts). not (is_ui f.control)) (cond b (Some parts) None) false ≡ true → (is_of_a_link c.side f ≡ true) × (named_in f ≡ name)
+          go false its none = absurd (true≢false (sym none))
+          go true its some =
+              let both = and_parts (parts.address.sapi == sapi_of service) (parts.address.tei == tei) its in
+              let sapi = eqb-true parts.address.sapi (sapi_of service) both.0 in
+              let by = eqb-true parts.address.tei tei both.1 in
+              (kind ∙ some, named ∙ ap (λ n. record { sapi = n; tei = parts.address.tei }) sapi ∙ ap (λ n. record { sapi = sapi_of service; tei = n }) by)
+
+      pub name-own : is_of_a_link c.side f ≡ true → named_in f ≡ name → is_frame_of c service tei f ≡ true
+      name-own is its =
+          let same = sym named ∙ its in
+          let sapi : parts.address.sapi ≡ sapi_of service = ap (λ (n : LinkName). n.sapi) same in
+          let by : parts.address.tei ≡ tei = ap (λ (n : LinkName). n.tei) same in
+          read ∙ ap (λ b. option_map_or (λ (f : Parts). not (is_ui f.control)) (cond (b && parts.address.tei == tei) (Some parts) None) false) (eq-eqb parts.address.sapi (sapi_of service) sapi)
+          ∙ ap (λ b. option_map_or (λ (f : Parts). not (is_ui f.control)) (cond b (Some parts) None) false) (eq-eqb parts.address.tei tei by)
+          ∙ sym kind ∙ is
+
+    -- A frame of the link among others has its name among theirs, and so the other way round.
+    pub its-name : (a : List ℕ) (behind : List (List ℕ)) → IsSpelled c a → is_frame_of c service tei a ≡ true → names (a ∷ behind) ≡ name ∷ names behind
+    its-name a behind h is =
+        let x = own-name a h is in
+        ap (λ b. map named_in (cond b (a ∷ filter (is_of_a_link c.side) behind) (filter (is_of_a_link c.side) behind))) x.0 ∙ ap (λ n. n ∷ names behind) x.1
+
+    none-there : (front back : List LinkName) → [] ≡ front ++ name ∷ back → ⊥
+    none-there [] back e = cc e
+    none-there (y ∷ front) back e = cc e
+
+    or-true : (b : Bool) → (b || true) ≡ true
+    or-true true = refl
+    or-true false = refl
+
+    pub among-frames : (fs : List (List ℕ)) → All (IsSpelled c) fs → (front back : List LinkName) → names fs ≡ front ++ name ∷ back → list_any (is_frame_of c service tei) fs ≡ true
+    among-frames [] all front back e = absurd (none-there front back e)
+    among-frames (f ∷ fs) all front back e =
+        go (λ front e. ap (λ b. is_frame_of c service tei f || b) (among-frames fs (All-tail (IsSpelled c) f fs all) front back e) ∙ or-true (is_frame_of c service tei f))
+        (is_of_a_link c.side f) refl front e
+      where
+        go : ((front : List LinkName) → names fs ≡ front ++ name ∷ back → (is_frame_of c service tei f || list_any (is_frame_of c service tei) fs) ≡ true)
+            → (b : Bool) → is_of_a_link c.side f ≡ b → (front : List LinkName) → map named_in (cond b (f ∷ filter (is_of_a_link c.side) fs) (filter (is_of_a_link c.side) fs)) ≡ front ++ name ∷ back
+            → (is_frame_of c service tei f || list_any (is_frame_of c service tei) fs) ≡ true
+        go more false is front e = more front e
+        go more true is [] e = let its : named_in f ≡ name = cc e in ap (λ b. b || list_any (is_frame_of c service tei) fs) (name-own f (All-head (IsSpelled c) f fs all) is its)
+        go more true is (x ∷ front) e = let rest : names fs ≡ front ++ name ∷ back = cc e in more front rest

@@ -1,0 +1,82 @@
+-- A TEI that is on a line before an event and behind it keeps its place.
+use Rattle.laws_trace.proofs.Vocabulary.{◌≡◌, ◌≢◌, ℕ, ◌==◌, ◌<◌, Bool, true, false, cond, get_or, Option, Some, None, refl, sym, ap, ◌∙◌, subst, arith, eq-eqb, true≢false, none-some, get_or-set_same, get_or-set_other, Places, is_on, Change, Gained, Left, Refusal, Config, IsInRange, ranges_of, Aim, at_none, at_link, at_management, at_units, at_no_link, of_aim, of_change, told_of_management, IsProper, heard_proper, expiry_proper, request_proper, aim_of_heard, aim_of_request, unless_refused, hears, expiry, request, next, Line, fresh_line, next-moves, Card, line_at, by_room, has_lines}
+use Rattle.std.proofs.Common.{eqb-true}
+use Rattle.lapd_tei.specs.Events as teis
+use Rattle.lapd_tei.specs.Laws as tei_laws
+use Rattle.lapd_tei.proofs.LawLemmas as tei_lemmas
+use Rattle.model_line.specs.Event as line_event
+use Rattle.model_line.specs.Expiry.{aim_of_expiry}
+use Rattle.model_line.specs.Machine as lines
+use Rattle.model_line.specs.Refusal.{refusal}
+use Rattle.model_line.specs.Sound.{IsSound}
+use Rattle.model_card.specs.Event.{Event}
+use Rattle.model_card.specs.Machine.{after}
+use Rattle.model_card.specs.Run.{IsAtLine}
+use Rattle.model_card.specs.Sound as card_sound
+use Rattle.model_card.proofs.Steps.{line_sound}
+use Rattle.laws_line.proofs.Downs.{by-down}
+use Rattle.laws_trace.proofs.CallRuns.{apart}
+use Rattle.laws_trace.proofs.ManagingTables.{clear-same}
+
+module _ (c : Config) (ranged : IsInRange c) (l : Line) (s : IsSound c l) (p tei : ℕ) (at : get_or l.management.places p None ≡ Some tei) where
+  abbrev pub Keeps : Line → Type 0
+  Keeps m = is_on tei m.management.places ≡ true → get_or m.management.places p None ≡ Some tei
+
+  by-change : (o : Option Change) (new : Places) → tei_laws.Moves l.management.places o new → is_on tei new ≡ true → get_or new p None ≡ Some tei
+  by-change None new same on = ap (λ ps. get_or ps p None) same ∙ at
+  by-change (Some (Gained by place)) new joined on =
+      let away : p ≢ place = λ same. none-some tei (sym joined.was_free ∙ ap (λ q. get_or l.management.places q None) (sym same) ∙ at) in
+      ap (λ ps. get_or ps p None) joined.is_there ∙ get_or-set_other l.management.places place p (Some by) None away ∙ at
+  by-change (Some (Left by place)) new gone on =
+      let away : p ≢ place = λ same. left (ap (λ q. get_or l.management.places q None) (sym same) ∙ at) in
+      ap (λ ps. get_or ps p None) gone.is_free ∙ get_or-set_other l.management.places place p None None away ∙ at
+    where
+      left : get_or l.management.places place None ≡ Some tei → ⊥
+      left there =
+          true≢false (sym on ∙ ap (is_on tei) gone.is_free
+          ∙ clear-same tei l.management.places place gone.within (λ j also. s.management.table.once j place tei also there))
+
+  by-aim : (aim : Aim) → IsProper c l aim → Keeps (of_aim c aim l).line
+  by-aim (at_none what) proper on = at
+  by-aim (at_link service its place e) proper on = at
+  by-aim (at_management me) fits on = go (teis.told me l.management).change (tei_lemmas.changes_are_told me l.management fits s.management) on
+    where
+      go : (o : Option Change) → tei_laws.Moves l.management.places o (teis.after me l.management).places
+          → Keeps (of_change c o (told_of_management (teis.told me l.management)) (record l { management = teis.after me l.management })).line
+      go None m on = by-change None (teis.after me l.management).places m on
+      go (Some (Gained by place)) m on = by-change (Some (Gained by place)) (teis.after me l.management).places m on
+      go (Some (Left by place)) m on = by-change (Some (Left by place)) (teis.after me l.management).places m on
+  by-aim (at_units unit) proper on = at
+  by-aim at_no_link proper on = by-down c l (λ y. Keeps y.line) (λ on. at) on
+
+  pub keeps : (e : line_event.Event) → Keeps (lines.after c e l)
+  unfolding lines.after
+  keeps (hears what) = by-aim (aim_of_heard c l what) (heard_proper c l what)
+  keeps (expiry timer) = by-aim (aim_of_expiry timer l) (expiry_proper c l timer)
+  keeps (request r) = go (refusal c false r l) refl
+    where
+      go : (o : Option Refusal) → refusal c false r l ≡ o → Keeps (of_aim c (unless_refused o (aim_of_request r l)) l).line
+      go None none = by-aim (aim_of_request r l) (subst (λ o. IsProper c l (unless_refused o (aim_of_request r l))) none (request_proper c l r))
+      go (Some why) some = λ on. at
+  keeps next = λ on. subst (λ ps. get_or ps p None ≡ Some tei) (sym (next-moves c 0 l s (omega (arith, (ranges_of c ranged).terminals.least))).places) at
+
+-- So it does on a card.
+abbrev Stays : ℕ → ℕ → Line → Type 0
+Stays p tei m = is_on tei m.management.places ≡ true → get_or m.management.places p None ≡ Some tei
+
+pub keeps-there : (card : Card) (e : Event) (number p tei : ℕ) → card_sound.IsSound card → IsAtLine card e → get_or (line_at number card).management.places p None ≡ Some tei
+    → Stays p tei (line_at number (after e card))
+keeps-there card e number p tei s here at = go (e.line == number) refl
+  where
+    own : get_or (line_at e.line card).management.places p None ≡ Some tei → Stays p tei (line_at e.line (after e card))
+    own at =
+        let c = card.config in
+        let l = line_at e.line card in
+        by_room (λ ls a. Stays p tei (get_or ls e.line (fresh_line c))) e card (λ full on. at)
+        (λ room. subst (Stays p tei) (sym (get_or-set_same card.lines e.line (lines.after c e.what l) (fresh_line c) (omega (arith, s.count, here)))) (keeps c s.config l (line_sound card e.line (has_lines card s) here) p tei at e.what))
+
+    go : (b : Bool) → (e.line == number) ≡ b → Stays p tei (line_at number (after e card))
+    go true is =
+        let same : e.line ≡ number = eqb-true e.line number is in
+        subst (λ n. Stays p tei (line_at n (after e card))) same (own (subst (λ n. get_or (line_at n card).management.places p None ≡ Some tei) (sym same) at))
+    go false other = subst (Stays p tei) (sym (apart card e number (λ same. true≢false (sym (eq-eqb e.line number (sym same)) ∙ other)))) (λ on. at)

@@ -49,7 +49,7 @@ module _ (service : Service) (tei : ℕ) (c : Config) (place : ℕ) (s : Station
   link-is = ap (λ o. option_map_or (link_in (line_of s) service) o fresh) h.speaks.placed ∙ h.speaks.link
 
   -- its frames are read as what they are
-  read-again : (way : List Parts) → All (IsCarried c service tei) way → flat_map (read_as c) (map (spelling c.side) way) ≡ way
+  pub read-again : (way : List Parts) → All (IsCarried c service tei) way → flat_map (read_as c) (map (spelling c.side) way) ≡ way
   read-again [] all = refl
   read-again (f ∷ fs) all =
       ap (λ r. parts_of r ++ flat_map (read_as c) (map (spelling c.side) fs)) (All-head (IsCarried c service tei) f fs all).carried.read

@@ -1,5 +1,5 @@
 -- A call that ends where both ends rest: from its release on.
-use Rattle.laws_wire.proofs.Vocabulary.{◌≡◌, ℕ, ◌≤◌, Bool, true, false, not, cond, List, [], ◌∷◌, ◌++◌, None, Some, refl, sym, ap, subst, ◌∙◌, ◌⊎◌, inl, inr, append-nil, true≢false, All, nat_lt, flat_map, replicate, option_map_or, le-ltb, lt-ltb, Refusal, BadTei, NoLink, WrongState, Service, is_on-at, place_of-is, Established, Terms, Link, fresh, course, serves, IsInRange, runs, End, with_link, Config, LineTold, request, Line, link_in, link_of, terms, line_at, wants_room, HasNothingToSend, nothing-given}
+use Rattle.laws_wire.proofs.Vocabulary.{◌≡◌, ℕ, ◌≤◌, Bool, true, false, not, cond, List, [], ◌∷◌, ◌++◌, None, Some, refl, sym, ap, subst, ◌∙◌, ◌⊎◌, inl, inr, append-nil, true≢false, All, nat_lt, flat_map, option_map_or, le-ltb, lt-ltb, Refusal, BadTei, NoLink, WrongState, Service, is_on-at, place_of-is, Established, Terms, Link, fresh, course, serves, IsInRange, runs, End, with_link, Config, LineTold, request, Line, link_in, link_of, terms, line_at, wants_room, HasNothingToSend, nothing-given}
 use Rattle.std.proofs.lemmas.List.Concat.{flat_map-append}
 use Rattle.model_link.specs.declared.timers.LinkTimer.TheVariants.{T200}
 use Rattle.model_link.specs.Events as link
@@ -8,30 +8,55 @@ use Rattle.model_line.specs.Refusal.{refusal}
 use Rattle.model_line.specs.Request.{Release}
 use Rattle.model_card.specs.Event.{at as event_at}
 use Rattle.laws_wire.specs.Wire.{Station, Wire, happens, requests, acting, turned, Doing, doing_all, IsStill}
-use Rattle.laws_wire.specs.Call.{calling, confirmed, indicated}
+use Rattle.laws_wire.specs.Call.{calling, confirmed}
 use Rattle.laws_wire.specs.Losing.{for_layer_3, heard_in}
 use Rattle.laws_wire.specs.Arriving.{runs_t200}
-use Rattle.laws_wire.specs.Answering.{calls, error_f}
+use Rattle.laws_wire.specs.Answering.{uncalled, seen}
 use Rattle.laws_wire.specs.Ending.{IsLeaving, StayTimelyThere, release_confirmed, release_indicated, EndsSo, CallsEnd}
 use Rattle.laws_wire.proofs.Awaited.{link-is}
 use Rattle.laws_wire.proofs.Ended.{Phase, ends}
 use Rattle.laws_wire.proofs.Leaving.{its_disc, disc, leaving, releases, releases-untold}
-use Rattle.laws_wire.proofs.Loose.{loose-turned, loose-came}
-use Rattle.laws_wire.proofs.LooseUp.{LooseUp, loose-turned-up}
+use Rattle.laws_wire.proofs.Loose.{Loose, loose-turned, loose-came}
+use Rattle.laws_wire.proofs.LooseUp.{LooseUp}
 use Rattle.laws_wire.proofs.Speaking.{said_by}
 use Rattle.laws_wire.proofs.Standing.{Stands, Granted, asks-granted}
 use Rattle.laws_wire.proofs.Talking.{Face}
 use Rattle.laws_wire.proofs.Tells.{Tells, as-end}
 use Rattle.laws_wire.proofs.LossyRun.{setting}
 use Rattle.laws_wire.proofs.TimelyUp.{IsHushed, hushed}
-use Rattle.laws_wire.proofs.UaLostRun.{up-where, patient-goes}
+use Rattle.laws_wire.proofs.UaRenewed.{with_before, regranted}
+use Rattle.laws_wire.proofs.UaTold.{up-where, patient-goes}
 
 three-pass : (a b d : Bool) (x y z : Refusal) → a ≡ false → b ≡ false → d ≡ false → cond a (Some x) (cond b (Some y) (cond d (Some z) None)) ≡ None
 three-pass a b d x y z e e' e'' = rw (e, e', e'') refl
 
+-- two stations at rest, whose links are up
+pub record BothRest (service : Service) (tei : ℕ) (c d : Config) (p q : ℕ) (w : Wire) : Type 0 where
+  n : End
+  m : End
+  near : Stands c service tei p w.near n
+  far : Stands d service tei q w.far m
+  near_hushed : IsHushed service tei n
+  far_hushed : IsHushed service tei m
+  near_stopped : runs_t200 service tei w.near ≡ false
+  far_stopped : runs_t200 service tei w.far ≡ false
+  loose : Loose n m
+
+turned-rest : (service : Service) (tei : ℕ) (c d : Config) (p q : ℕ) (w : Wire) → BothRest service tei c d p q w → BothRest service tei d c q p (turned w)
+turned-rest service tei c d p q w h = record {
+  n = h.m;
+  m = h.n;
+  near = h.far;
+  far = h.near;
+  near_hushed = h.far_hushed;
+  far_hushed = h.near_hushed;
+  near_stopped = h.far_stopped;
+  far_stopped = h.near_stopped;
+  loose = loose-turned h.n h.m h.loose;
+}
+
 module _ (service : Service) (tei : ℕ) (few : tei ≤ 126) (c d : Config) (p q : ℕ) (face : Face c d) (back : Face d c) (rt : IsInRange (terms c service tei)) (ru : IsInRange (terms d service tei))
-    (past other : List LineTold) (w : Wire) (h : LooseUp service tei c d p q past other w) (still : IsStill w) (none : runs_t200 service tei w.near ≡ false)
-    (none' : runs_t200 service tei w.far ≡ false) where
+    (w : Wire) (h : BothRest service tei c d p q w) where
   abbrev n : End
   n = h.n
 
@@ -45,28 +70,28 @@ module _ (service : Service) (tei : ℕ) (few : tei ≤ 126) (c d : Config) (p q
   u = terms d service tei
 
   near-hushed : IsHushed service tei n
-  near-hushed = hushed service tei c p past w.near n h.near still.near still.near_way
+  near-hushed = h.near_hushed
 
   far-hushed : IsHushed service tei m
-  far-hushed = hushed service tei d q other w.far m h.far still.far still.far_way
+  far-hushed = h.far_hushed
 
   near-quiet : HasNothingToSend n.terms n.link
   near-quiet = nothing-given n.terms n.link near-hushed.given
 
   far-quiet : HasNothingToSend u m.link
-  far-quiet = subst (λ t. HasNothingToSend t m.link) h.far.stands.terms (nothing-given m.terms m.link far-hushed.given)
+  far-quiet = subst (λ t. HasNothingToSend t m.link) h.far.terms (nothing-given m.terms m.link far-hushed.given)
 
   near-state : n.link.state ≡ Established
-  near-state = (loose-came n m h.loose near-quiet (ap (λ (l : Link). runs T200 l.running) (sym (link-is service tei c p w.near n h.near.stands)) ∙ none)).state
+  near-state = (loose-came n m h.loose near-quiet (ap (λ (l : Link). runs T200 l.running) (sym (link-is service tei c p w.near n h.near)) ∙ h.near_stopped)).state
 
   far-state : m.link.state ≡ Established
   far-state =
       (loose-came m n (loose-turned n m h.loose) (nothing-given m.terms m.link far-hushed.given)
-      (ap (λ (l : Link). runs T200 l.running) (sym (link-is service tei d q w.far m h.far.stands)) ∙ none')).state
+      (ap (λ (l : Link). runs T200 l.running) (sym (link-is service tei d q w.far m h.far)) ∙ h.far_stopped)).state
 
   -- the release is granted
   own : Stands w.near.card.config service tei p w.near n
-  own = subst (λ k. Stands k service tei p w.near n) (sym h.near.stands.config) h.near.stands
+  own = subst (λ k. Stands k service tei p w.near n) (sym h.near.config) h.near
 
   abbrev its_line : Line
   its_line = line_at w.near.line w.near.card
@@ -89,7 +114,7 @@ module _ (service : Service) (tei : ℕ) (few : tei ≤ 126) (c d : Config) (p q
   granted = asks-granted service tei p w.near n own (Release service tei) link.Release (λ l. refl) has-room not-refused
 
   room : nat_lt 0 n.terms.control ≡ true
-  room = subst (λ t. nat_lt 0 t.control ≡ true) (sym h.near.stands.terms) (let low = rt.control_low in lt-ltb 0 t.control (omega (Rattle.std.proofs.Common.arith, low)))
+  room = subst (λ t. nat_lt 0 t.control ≡ true) (sym h.near.terms) (let low = rt.control_low in lt-ltb 0 t.control (omega (Rattle.std.proofs.Common.arith, low)))
 
   abbrev released : Wire
   released = acting (requests (Release service tei)) w
@@ -103,13 +128,13 @@ module _ (service : Service) (tei : ℕ) (few : tei ≤ 126) (c d : Config) (p q
     inl (record {
       near = as-end service tei c p _ (heard_in w.near) s' (with_link (link.requested link.Release false) n) (record { terms = t; link = leaving n.link 0 (its_disc ∷ []); way = []; delivered = [] })
           (record {
-            stands = subst (λ k. Stands k service tei p s' (with_link (link.requested link.Release false) n)) h.near.stands.config granted.stands;
+            stands = subst (λ k. Stands k service tei p s' (with_link (link.requested link.Release false) n)) h.near.config granted.stands;
             told = ap (flat_map for_layer_3) granted.told ∙ flat_map-append for_layer_3 w.near.told (said_by (course n.terms (link.requested link.Release false) n.link));
           })
-          (λ i. record { terms = h.near.stands.terms i; link = releases n.terms room n.link near-state near-quiet.waiting i; way = near-hushed.way i; delivered = [] })
+          (λ i. record { terms = h.near.terms i; link = releases n.terms room n.link near-state near-quiet.waiting i; way = near-hushed.way i; delivered = [] })
           (ap (λ ts. heard_in w.near ++ flat_map for_layer_3 ts) (releases-untold n.terms room n.link near-state near-quiet.waiting) ∙ append-nil (heard_in w.near));
       far = as-end service tei d q (heard_in w.far) (heard_in w.far) w.far m (record { terms = u; link = m.link; way = []; delivered = [] })
-          (record { stands = h.far.stands; told = refl }) (λ i. record { terms = h.far.stands.terms i; link = m.link; way = far-hushed.way i; delivered = [] }) refl;
+          (record { stands = h.far; told = refl }) (λ i. record { terms = h.far.terms i; link = m.link; way = far-hushed.way i; delivered = [] }) refl;
     }),
   )
 
@@ -141,22 +166,40 @@ module _ (service : Service) (tei : ℕ) (few : tei ≤ 126) (c d : Config) (p q
   ends-so ds all timely =
       so (doing_all ds released) (ends service tei c d p q face back rt ru n.link m.link far-state far-quiet (heard_in w.near) (heard_in w.far) ds all released timely leaves)
 
+-- so it is behind a call with losses, whatever was granted before
+at-rest : (service : Service) (tei : ℕ) (c d : Config) (p q : ℕ) (past other : List LineTold) (g : List (List ℕ)) (v : Wire) → LooseUp service tei c d p q past other v → IsStill v
+    → runs_t200 service tei v.near ≡ false → runs_t200 service tei v.far ≡ false → BothRest service tei c d p q (with_before g v)
+at-rest service tei c d p q past other g v h still none none' = record {
+  n = h.n;
+  m = h.m;
+  near = h.near.stands;
+  far = regranted d service tei q v.far h.m (g ++ v.far.granted) h.far.stands;
+  near_hushed = hushed service tei c p past v.near h.n h.near still.near still.near_way;
+  far_hushed = hushed service tei d q other v.far h.m h.far still.far still.far_way;
+  near_stopped = none;
+  far_stopped = none';
+  loose = h.loose;
+}
+
 pub calls-end : CallsEnd
 calls-end service c d line other tei before after_ v can full leaving_ = λ patient still none none' which timely.
     let x = setting service c d line other tei can in
-    let w = doing_all before (calling service tei c line d other) in
-    let up = up-where service tei c d 0 0 x.face x.back x.near x.far (calls before (calling service tei c line d other)) w (patient-goes service c d line other tei before can full patient) none in
-    go w x.face x.back x.near x.far up.0 up.1 still none none' which timely
+    let begun = calling service tei c line d other in
+    let w = doing_all before begun in
+    let goes = patient-goes service c d line other tei before can full patient in
+    let last = seen service tei before begun uncalled in
+    let up = up-where service tei c d 0 0 x.face x.back x.near x.far last w goes none in
+    let at : IsStill w → runs_t200 service tei w.near ≡ false → runs_t200 service tei w.far ≡ false → BothRest service tei c d 0 0 w =
+    subst (λ w. IsStill w → runs_t200 service tei w.near ≡ false → runs_t200 service tei w.far ≡ false → BothRest service tei c d 0 0 w) (sym goes.is)
+    (λ still none none'. at-rest service tei c d 0 0 (confirmed service tei ∷ []) last.told goes.earlier goes.v up
+    (record { near = still.near; far = still.far; near_way = still.near_way; far_way = still.far_way }) none none') in
+    go w x.face x.back x.near x.far (at still none none') which timely
   where
-    go : (w : Wire) (face : Face c d) (back : Face d c) (rt : IsInRange (terms c service tei)) (ru : IsInRange (terms d service tei)) (j : ℕ)
-        → LooseUp service tei c d 0 0 (confirmed service tei ∷ []) (indicated service tei ∷ replicate j (error_f service tei)) w → IsStill w
-        → runs_t200 service tei w.near ≡ false → runs_t200 service tei w.far ≡ false → (v ≡ w) ⊎ (v ≡ turned w)
+    go : (w : Wire) (face : Face c d) (back : Face d c) (rt : IsInRange (terms c service tei)) (ru : IsInRange (terms d service tei)) → BothRest service tei c d 0 0 w → (v ≡ w) ⊎ (v ≡ turned w)
         → StayTimelyThere after_ (acting (requests (Release service tei)) v) → EndsSo service tei v (doing_all after_ (acting (requests (Release service tei)) v))
-    go w face back rt ru j h still none none' (inl e) timely =
+    go w face back rt ru h (inl e) timely =
         subst (λ v. StayTimelyThere after_ (acting (requests (Release service tei)) v) → EndsSo service tei v (doing_all after_ (acting (requests (Release service tei)) v))) (sym e)
-        (λ x. ends-so service tei can.terminal c d 0 0 face back rt ru (confirmed service tei ∷ []) (indicated service tei ∷ replicate j (error_f service tei)) w h still none none' after_ leaving_ x) timely
-    go w face back rt ru j h still none none' (inr e) timely =
-        let other-still : IsStill (turned w) = record { near = still.far; far = still.near; near_way = still.far_way; far_way = still.near_way } in
+        (λ x. ends-so service tei can.terminal c d 0 0 face back rt ru w h after_ leaving_ x) timely
+    go w face back rt ru h (inr e) timely =
         subst (λ v. StayTimelyThere after_ (acting (requests (Release service tei)) v) → EndsSo service tei v (doing_all after_ (acting (requests (Release service tei)) v))) (sym e)
-        (λ x. ends-so service tei can.terminal d c 0 0 back face ru rt (indicated service tei ∷ replicate j (error_f service tei)) (confirmed service tei ∷ []) (turned w)
-        (loose-turned-up service tei c d 0 0 (confirmed service tei ∷ []) (indicated service tei ∷ replicate j (error_f service tei)) w h) other-still none' none after_ leaving_ x) timely
+        (λ x. ends-so service tei can.terminal d c 0 0 back face ru rt (turned w) (turned-rest service tei c d 0 0 w h) after_ leaving_ x) timely

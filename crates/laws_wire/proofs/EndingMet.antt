@@ -42,7 +42,7 @@ leaving-all =
 
 patient : StayPatient establishes begins
 unfolding StayPatient
-patient = (tt, ((tt, tt), ((tt, tt), (tt, tt))))
+patient = (tt, (tt, (tt, (tt, tt))))
 
 -- DISC was lost, and UA
 disc-lost : Wire

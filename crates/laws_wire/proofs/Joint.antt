@@ -91,10 +91,10 @@ accepts octets l = record { same = refl; still = refl; received = refl; reports 
 
 -- a timer
 module _ (t : Terms) (l : Link) where
-  stays : Goes l l []
+  pub stays : Goes l l []
   stays = record { same = sym (append-nil l.contents); still = refl; received = refl; reports = no-reports l.r l.waiting }
 
-  by-up : (c : Course) → Up l l.a l.r c → IsTrue (is_multiple_frame c.link.state) → Goes l c.link []
+  pub by-up : (c : Course) → Up l l.a l.r c → IsTrue (is_multiple_frame c.link.state) → Goes l c.link []
   by-up c h up = let x = h.stay up in record { same = x.same ∙ sym (append-nil l.contents); still = x.acknowledged; received = x.received; reports = x.reports }
 
   expired-goes : (here : State) → IsTrue (is_multiple_frame here) → (timer : LinkTimer) → IsTrue (is_multiple_frame (Machine.expired_in here timer t (begun l)).link.state)

@@ -48,8 +48,13 @@ pub mod Underway
 pub mod UnderwayRun
 pub mod UnderwayRounds
 pub mod LooseUp
+pub mod UaCalled
+pub mod UaCalledAt
 pub mod UaLost
+pub mod UaPhases
+pub mod UaRenewed
 pub mod UaLostRun
+pub mod UaTold
 pub mod Leaving
 pub mod Tells
 pub mod Ended

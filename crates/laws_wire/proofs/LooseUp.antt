@@ -26,11 +26,11 @@ use Rattle.laws_wire.proofs.Talking.{Face}
 use Rattle.laws_wire.proofs.TimelyUp.{each-timer, hushed, timer-held, never}
 
 -- what own busy asks for is told nobody, and leaves the contents
-record Mute (l : Link) (c : Course) : Type 0 where
-  contents : c.link.contents ≡ l.contents
-  notes : c.notes ≡ []
-  delivered : c.delivered ≡ None
-  unit : c.unit ≡ None
+pub record Mute (l : Link) (c : Course) : Type 0 where
+  pub contents : c.link.contents ≡ l.contents
+  pub notes : c.notes ≡ []
+  pub delivered : c.delivered ≡ None
+  pub unit : c.unit ≡ None
 
 drop-all : (xs : List (List ℕ)) → drop (length xs) xs ≡ []
 drop-all [] = refl
@@ -49,12 +49,12 @@ module _ (t : Terms) (l : Link) where
   unless-refused rq None h = h
   unless-refused rq (Some why) h = nothing-asked
 
-  busy-mute : Mute l (course t (link.requested link.SetBusy false) l)
+  pub busy-mute : Mute l (course t (link.requested link.SetBusy false) l)
   busy-mute =
       unless-refused link.SetBusy (requests.refusal t l false link.SetBusy)
       (either l.own_busy _ _ nothing-asked (record { contents = refl; notes = refl; delivered = refl; unit = refl }))
 
-  ready-mute : Mute l (course t (link.requested link.ClearBusy false) l)
+  pub ready-mute : Mute l (course t (link.requested link.ClearBusy false) l)
   ready-mute =
       unless-refused link.ClearBusy (requests.refusal t l false link.ClearBusy)
       (either l.own_busy _ _ (record { contents = refl; notes = refl; delivered = refl; unit = refl }) nothing-asked)
@@ -98,7 +98,7 @@ module _ (service : Service) (tei : ℕ) where
     own : Stands s.card.config service tei place s n
     own = subst (λ k. Stands k service tei place s n) (sym h.stands.config) h.stands
 
-    held-busy : (s' ≡ s) ⊎ Held c service tei place past s' n'
+    pub held-busy : (s' ≡ s) ⊎ Held c service tei place past s' n'
     held-busy = go (asks-stands service tei place s n own r rq aims)
       where
         x : Course

@@ -1,52 +1,81 @@
--- The phases of a call in which UA may be lost: one end rings, and the other is down, or up as its UA left it, or is about to send UA again.
-use Rattle.laws_wire.proofs.Vocabulary.{◌≡◌, ℕ, zero, suc, ◌+◌, ◌<◌, Bool, true, false, cond, ◌&&◌, List, [], ◌∷◌, ◌++◌, map, None, refl, sym, ap, subst, ◌∙◌, ◌⊎◌, inl, inr, append-nil, arith, nat_lt, replicate, flat_map, option_to_list, lt-ltb, F, Service, Parts, spelling, ControlFrame, Terms, fresh, course, given, IsInRange, begun, End, with_link, Config, LineTold, expiry, terms, nothing-to_send}
-use Rattle.std.proofs.lemmas.List.Concat.{flat_map-append}
+-- The phases of a call in which UA may be lost: one end rings, and the other is down; or it is up, and its UA waits, is on its way, or is
+-- not to come.
+use Rattle.laws_wire.proofs.Vocabulary.{◌≡◌, ℕ, ◌+◌, ◌<◌, ◌≤◌, Bool, true, false, not, List, [], ◌∷◌, ◌++◌, length, map, take, drop, refl, sym, ap, subst, ◌∙◌, ◌⊎◌, inl, inr, true≢false, arith, nat_lt, option_to_list, lt-ltb, front_rest, All, All-head, All-drop, Control, Information, ReceiveReady, ReceiveNotReady, Reject, Sabme, Disc, Ui, Ua, Dm, Frmr, Xid, Service, Parts, spelling, ControlFrame, Terms, awaits_answer, course, IsInRange, End, with_link, Config, LineTold, expiry, request, terms, Request, T203, Means, Rising, kind_of, one_enquiry, tally, line, HasNo}
 use Rattle.lapd_frame.specs.declared.notes.Note.TheVariants as notes
 use Rattle.lapd_frame.specs.declared.timers.Timer.TheVariants as timers
 use Rattle.model_link.specs.declared.timers.LinkTimer.TheVariants.{T200}
 use Rattle.model_link.specs.Events as link
-use Rattle.model_link.specs.Machine.{after}
 use Rattle.model_link.specs.Steps.{Course}
 use Rattle.model_line.specs.Request.{Data}
-use Rattle.model_line.specs.Request as ask
-use Rattle.laws_wire.specs.Wire.{Station, Wire, happens, comes, with_first_of, Act, requests, times_out, gives, takes, loses, acting, turned}
-use Rattle.laws_wire.specs.Call.{confirmed, indicated}
-use Rattle.laws_wire.specs.Losing.{for_layer_3, heard_in}
-use Rattle.laws_wire.specs.Timely.{is_poll, is_final, IsTimelyOf}
-use Rattle.laws_wire.specs.Answering.{IsFullTalkOf, Waits, error_f}
-use Rattle.laws_wire.proofs.Answered.{takes-granted}
-use Rattle.laws_wire.proofs.Awaited.{may-there, waits-first, goes-first}
-use Rattle.laws_wire.proofs.Calling.{its_ua, ua, sabme, end, called, answering}
-use Rattle.laws_wire.proofs.Held.{TellsIt, Held, held-given, held-lost, held-first, held-expired, taken-told, taken-stands}
+use Rattle.laws_wire.specs.Wire.{Station, Wire, happens, comes, with_first_of, with_first_lost, Act, requests, times_out, gives, takes, loses, acting}
+use Rattle.laws_wire.specs.Call.{confirmed}
+use Rattle.laws_wire.specs.Losing.{heard_in}
+use Rattle.laws_wire.specs.Timely.{is_poll, IsTimelyOf}
+use Rattle.laws_wire.specs.Answering.{IsFullTalkOf}
+use Rattle.laws_wire.proofs.Awaited.{as-here, may-there, none-there, goes-first, waits-first}
+use Rattle.laws_wire.proofs.Calling.{sabme, end}
+use Rattle.laws_wire.proofs.Held.{TellsIt, Held, held-given, held-lost, held-taken, held-expired}
 use Rattle.laws_wire.proofs.LooseUp.{for-asked}
 use Rattle.laws_wire.proofs.LossyPhases.{first-way, empty}
-use Rattle.laws_wire.proofs.Ringing.{ringing, answered, its_sabme, repeated, t200-repeats}
-use Rattle.laws_wire.proofs.Speaking.{said_by}
-use Rattle.laws_wire.proofs.Standing.{IsCarried, Stands}
+use Rattle.laws_wire.proofs.Ringing.{ringing, its_sabme, repeated, t200-repeats, Ignores, ignores}
 use Rattle.laws_wire.proofs.Talking.{Face}
-use Rattle.laws_wire.proofs.TimelyFirst.{firm-first, takes-none, loses-none, gives-nothing, asks-refused, busy-refused, ready-refused}
-use Rattle.laws_wire.proofs.TimelyPhases.{silent-t203, ringing-open}
-use Rattle.laws_wire.proofs.TimelyUp.{each-timer, BothUp}
+use Rattle.laws_wire.proofs.TimelyFirst.{takes-none, loses-none, gives-nothing, asks-refused, busy-refused, ready-refused}
+use Rattle.laws_wire.proofs.TimelyPhases.{silent-t203}
+use Rattle.laws_wire.proofs.TimelyUp.{each-timer}
+use Rattle.model_link.proofs.Lines.{rising-lower}
+use Rattle.laws_wire.proofs.UaCalled.{again}
 
--- SABME comes to the end that is up with its numbers zero: UA goes again, and error F is told
-module _ (t : Terms) (room : nat_lt 0 t.control ≡ true) where
-  takes-again : (u : Terms) → after t (link.received (link.frame (sabme u))) called ≡ answering
-  takes-again u = ap (λ b. record answering { waiting = cond b ([] ++ its_ua ∷ []) [] }) room
+-- This goes before what is on the way of an end.
+abbrev pub behind : List Parts → End → End
+behind before n = record n { way = before ++ n.way }
 
-  told-again : (u : Terms) → said_by (course t (link.received (link.frame (sabme u))) called) ≡ error_f t.service t.tei ∷ []
-  told-again u = ap (λ b. said_by (record (begun fresh) { notes = notes.Error t.service t.tei F ∷ []; lost = cond {A = ℕ} b 0 1 })) room
+-- where no enquiry waits, none is counted
+not-poll : (command : Bool) (control : Control) → is_poll command control ≡ false → one_enquiry (kind_of command control) ≡ 0
+not-poll true (ReceiveReady nr true) e = absurd (true≢false e)
+not-poll true (ReceiveReady nr false) e = refl
+not-poll true (ReceiveNotReady nr true) e = absurd (true≢false e)
+not-poll true (ReceiveNotReady nr false) e = refl
+not-poll false (ReceiveReady nr true) e = refl
+not-poll false (ReceiveReady nr false) e = refl
+not-poll false (ReceiveNotReady nr true) e = refl
+not-poll false (ReceiveNotReady nr false) e = refl
+not-poll command (Information ns nr true) e = refl
+not-poll command (Information ns nr false) e = refl
+not-poll true (Reject nr pf) e = refl
+not-poll false (Reject nr true) e = refl
+not-poll false (Reject nr false) e = refl
+not-poll command (Sabme p) e = refl
+not-poll command (Disc p) e = refl
+not-poll command (Ui p) e = refl
+not-poll command (Ua f) e = refl
+not-poll command (Dm f) e = refl
+not-poll command (Frmr f) e = refl
+not-poll command (Xid pf) e = refl
 
-and-false : (b : Bool) → (b && false) ≡ false
-and-false true = refl
-and-false false = refl
+abbrev pub IsNoPoll : ControlFrame → Type 0
+IsNoPoll f = is_poll f.command f.control ≡ false
 
--- it has nothing to give
-pub called-quiet : (t : Terms) → given t called ≡ None
-called-quiet t = nothing-to_send t called (record { waiting = refl; information = and-false _; pending = refl })
+pub none-asked : (t : Terms) (fs : List ControlFrame) → All IsNoPoll fs → tally one_enquiry (line t [] fs) ≡ 0
+none-asked t [] h = refl
+none-asked t (f ∷ fs) h =
+    let one = not-poll f.command f.control (All-head IsNoPoll f fs h) in
+    let more : tally one_enquiry (line t [] fs) ≡ 0 = none-asked t fs (All-drop IsNoPoll 1 (f ∷ fs) h) in
+    omega (arith, one, more)
 
-replicate-push : (n : ℕ) (x : LineTold) → replicate n x ++ x ∷ [] ≡ x ∷ replicate n x
-replicate-push zero x = refl
-replicate-push (suc n) x = ap (λ xs. x ∷ xs) (replicate-push n x)
+-- of all that waits, what is behind
+pub all-behind : (P : ControlFrame → Type 0) (first rest : List ControlFrame) → All P (first ++ rest) → All P rest
+all-behind P first rest h = subst (All P) (front_rest (first ++ rest) first rest refl) (All-drop P (length first) (first ++ rest) h)
+
+pub all-behind-way : (P : Parts → Type 0) (first rest : List Parts) → All P (first ++ rest) → All P rest
+all-behind-way P first rest h = subst (All P) (front_rest (first ++ rest) first rest refl) (All-drop P (length first) (first ++ rest) h)
+
+-- the first of a line is lost
+pub rising-drop : (r : ℕ) (way rest : List Parts) → Rising 0 r (way ++ rest) → Rising 0 r (drop 1 way ++ rest)
+rising-drop r [] rest h = h
+rising-drop r (f ∷ fs) rest (m, up, means, more) = rising-lower m 0 r (fs ++ rest) up more
+
+pub taken-none : (r : ℕ) (xs : List (List ℕ)) → xs ≡ [] → r ≤ 0 → take r xs ≡ []
+taken-none r xs e le = ap (λ xs. take r xs) e ∙ (let none : r ≡ 0 = omega (arith, le) in ap (λ r. take r []) none)
 
 module _ (service : Service) (tei : ℕ) (c d : Config) (p q : ℕ) (face : Face c d) (back : Face d c) (rt : IsInRange (terms c service tei)) (ru : IsInRange (terms d service tei)) where
   abbrev t : Terms
@@ -58,62 +87,94 @@ module _ (service : Service) (tei : ℕ) (c d : Config) (p q : ℕ) (face : Face
   abbrev pub first_near : List LineTold
   first_near = confirmed service tei ∷ []
 
-  abbrev pub past_far : ℕ → List LineTold
-  past_far j = indicated service tei ∷ replicate j (error_f service tei)
-
-  -- one end rings, with this waiting and this on its way, and the other stands so
-  pub record Rings (m : End) (past : List LineTold) (ws : List ControlFrame) (way : List Parts) (w : Wire) : Type 0 where
-    pub repeats : ℕ
-    pub near : Held c service tei p [] w.near (end t (ringing repeats ws) way)
-    pub far : Held d service tei q past w.far m
-
-  abbrev pub Ringing : End → List LineTold → Wire → Type 0
-  Ringing m past w = Rings m past [] [] w ⊎ Rings m past (its_sabme ∷ []) [] w ⊎ Rings m past [] (sabme t ∷ []) w
-
   room : nat_lt 0 t.control ≡ true
   room = let low = rt.control_low in lt-ltb 0 t.control (omega (arith, low))
 
-  room-far : nat_lt 0 u.control ≡ true
-  room-far = let low = ru.control_low in lt-ltb 0 u.control (omega (arith, low))
+  -- ---- one end rings, with this waiting and this on its way; and this holds of the other's station
+  pub record Rings (P : Station → Type 0) (ws : List ControlFrame) (way : List Parts) (w : Wire) : Type 0 where
+    pub repeats : ℕ
+    pub near : Held c service tei p [] w.near (end t (ringing repeats ws) way)
+    pub far : P w.far
 
-  module _ (m : End) (past : List LineTold) (mway : m.way ≡ []) where
+  abbrev pub Ringing : (Station → Type 0) → Wire → Type 0
+  Ringing P w = Rings P [] [] w ⊎ Rings P (its_sabme ∷ []) [] w ⊎ Rings P [] (sabme t ∷ []) w
+
+  -- what is asked of it is refused
+  asks-held : (ws : List ControlFrame) (way : List Parts) (k : ℕ) (s : Station) → Held c service tei p [] s (end t (ringing k ws) way) → (r : Request) → IsFullTalkOf service tei (requests r)
+      → Held c service tei p [] (happens (request r) s) (end t (ringing k ws) way)
+  asks-held ws way k s h r is =
+      let n = end t (ringing k ws) way in
+      for-asked service tei (λ r. Held c service tei p [] (happens (request r) s) n)
+      (λ octets. subst (λ s. Held c service tei p [] s n) (sym (asks-refused service tei c p [] s n h (λ octets none. cc none) octets)) h)
+      (subst (λ s. Held c service tei p [] s n) (sym (busy-refused service tei c p [] s n h refl)) h)
+      (subst (λ s. Held c service tei p [] s n) (sym (ready-refused service tei c p [] s n h refl)) h) r is
+
+  -- while UA is to come T200 does not expire
+  pub near-waits : (k : ℕ) (w : Wire) → Held c service tei p [] w.near (end t (ringing k []) []) → (IsTimelyOf (times_out (timers.T200 service tei)) w → ⊥) → (act : Act)
+      → (act ≡ takes → ⊥) → IsFullTalkOf service tei act → IsTimelyOf act w → Held c service tei p [] (acting act w).near (end t (ringing k []) [])
+  near-waits k w h never (requests r) not is x = asks-held [] [] k w.near h r is
+  near-waits k w h never (times_out timer) not is x =
+      each-timer service tei (λ timer. IsTimelyOf (times_out timer) w → Held c service tei p [] (happens (expiry timer) w.near) (end t (ringing k []) [])) (λ x. absurd (never x))
+      (λ x. silent-t203 service tei c d p q k [] [] w.near h) timer is x
+  near-waits k w h never gives not is x = gives-nothing service tei c p [] w.near (end t (ringing k []) []) h refl
+  near-waits k w h never takes not is x = absurd (not refl)
+  near-waits k w h never loses not is x = held-lost service tei p [] c w.near (end t (ringing k []) []) h
+
+  -- a frame of a link that is up is not served
+  module _ (ws : List ControlFrame) (way : List Parts) (w : Wire) (repeats : ℕ) (near : Held c service tei p [] w.near (end t (ringing repeats ws) way)) (past : List LineTold) (M : End)
+      (held : Held d service tei q past w.far M) where
+    abbrev it : End
+    it = end t (ringing repeats ws) way
+
+    pub ignores-frame : (f : Parts) (fs : List Parts) → M.way ≡ f ∷ fs → (number : ℕ) → Means number f.control → Held c service tei p [] (with_first_of w.far.way w.near) it
+    ignores-frame f fs first number means =
+        let its_way = first-way service tei d q past w.far M f fs first held in
+        let i : Ignores t repeats ws f = ignores t repeats ws f number means in
+        let s' = comes (spelling d.side f) w.near in
+        let event = link.received (link.frame f) in
+        let tells : TellsIt service tei (course t event it.link) =
+        record {
+          its_notes = i.notes ∙ ap (λ o. map (λ octets. notes.Data service tei) (option_to_list o)) (sym i.delivered);
+          no_unit = i.unit;
+        } in
+        let is : with_link event it ≡ it = (λ j. record it { link = i.stays j; delivered = ap option_to_list i.delivered j }) in
+        let taken : Held c service tei p [] s' it =
+        subst (Held c service tei p [] s') is (held-taken service tei p [] c w.near it near d face f its_way.1 tells (ap (λ l. l.contents) i.stays)) in
+        subst (λ ways. Held c service tei p [] (with_first_of ways w.near) it) (sym its_way.0) taken
+
+  -- so it rings on, as it takes
+  pub ringing-takes : (P : Station → Type 0) (ws : List ControlFrame) (way : List Parts) (w : Wire) → Rings P ws way w → P (with_first_lost w.far) → (past : List LineTold) (M : End)
+      → Held d service tei q past w.far M → (r : ℕ) (rest : List Parts) → Rising 0 r (M.way ++ rest) → Rings P ws way (acting takes w)
+  ringing-takes P ws way w h lost past M held r rest rising = go M.way refl
+    where
+      go : (its : List Parts) → M.way ≡ its → Rings P ws way (acting takes w)
+      go [] e = subst (Rings P ws way) (sym (takes-none w (empty service tei d q past w.far M held e))) h
+      go (f ∷ fs) e =
+          let x = subst (λ its. Rising 0 r (its ++ rest)) e rising in
+          record { repeats = h.repeats; near = ignores-frame ws way w h.repeats h.near past M held f fs e x.0 x.2; far = lost }
+
+  module _ (P : Station → Type 0) where
     abbrev R : List ControlFrame → List Parts → Wire → Type 0
-    R ws way w = Rings m past ws way w
+    R ws way w = Rings P ws way w
 
-    -- ---- what the near end does, whatever waits or goes
     module _ (ws : List ControlFrame) (way : List Parts) (w : Wire) (h : R ws way w) where
       abbrev n : End
       n = end t (ringing h.repeats ws) way
 
-      near-asks : (octets : List ℕ) → R ws way (acting (requests (Data service tei octets)) w)
-      near-asks octets = subst (λ s. R ws way (record w { near = s })) (sym (asks-refused service tei c p [] w.near n h.near (λ octets none. cc none) octets)) h
-
-      near-busy : R ws way (acting (requests (ask.SetBusy service tei)) w)
-      near-busy = subst (λ s. R ws way (record w { near = s })) (sym (busy-refused service tei c p [] w.near n h.near refl)) h
-
-      near-ready : R ws way (acting (requests (ask.ClearBusy service tei)) w)
-      near-ready = subst (λ s. R ws way (record w { near = s })) (sym (ready-refused service tei c p [] w.near n h.near refl)) h
+      near-asks : (r : Request) → IsFullTalkOf service tei (requests r) → R ws way (acting (requests r) w)
+      near-asks r is = record { repeats = h.repeats; near = asks-held ws way h.repeats w.near h.near r is; far = h.far }
 
       near-t203 : R ws way (acting (times_out (timers.T203 service tei)) w)
       near-t203 = record { repeats = h.repeats; near = silent-t203 service tei c d p q h.repeats ws way w.near h.near; far = h.far }
 
-      near-takes : R ws way (acting takes w)
-      near-takes = subst (R ws way) (sym (takes-none w (empty service tei d q past w.far m h.far mway))) h
-
       near-loses : way ≡ [] → R ws way (acting loses w)
       near-loses none = subst (R ws way) (sym (loses-none w (empty service tei c p [] w.near n h.near none))) h
 
-      -- ---- and the far end, which has nothing to give
-      pub far-gives : given m.terms m.link ≡ None → R ws way (turned (acting gives (turned w)))
-      far-gives none = record { repeats = h.repeats; near = h.near; far = gives-nothing service tei d q past w.far m h.far none }
+      -- nothing that it asked is open as T200 expires
+      nothing-asked : IsTimelyOf (times_out (timers.T200 service tei)) w → HasNo is_poll n
+      nothing-asked x = none-there service tei c p w.near n h.near.stands is_poll (x.0 (ap awaits_answer (as-here service tei c p w.near n h.near.stands refl))).commands
 
-      pub far-loses : R ws way (turned (acting loses (turned w)))
-      far-loses = subst (λ w'. R ws way (turned w')) (sym (loses-none (turned w) (empty service tei d q past w.far m h.far mway))) h
-
-      pub far-takes : way ≡ [] → R ws way (turned (acting takes (turned w)))
-      far-takes none = subst (λ w'. R ws way (turned w')) (sym (takes-none (turned w) (empty service tei c p [] w.near n h.near none))) h
-
-    -- ---- T200 expires, and SABME goes again
+    -- T200 expires, and SABME goes again
     repeats-sabme : (w : Wire) (h : R [] [] w) → h.repeats < t.n200 → R (its_sabme ∷ []) [] (acting (times_out (timers.T200 service tei)) w)
     repeats-sabme w h few =
         let rung = end t (ringing h.repeats []) [] in
@@ -134,176 +195,48 @@ module _ (service : Service) (tei : ℕ) (c d : Config) (p q : ℕ) (face : Face
           far = h.far;
         }
 
-    -- ---- each act of the near end
-    silent : (w : Wire) (h : R [] [] w) (act : Act) → IsFullTalkOf service tei act → IsTimelyOf act w → Ringing m past (acting act w)
-    silent w h (requests r) is x = for-asked service tei (λ r. Ringing m past (acting (requests r) w)) (λ octets. inl (near-asks [] [] w h octets)) (inl (near-busy [] [] w h)) (inl (near-ready [] [] w h)) r is
-    silent w h (times_out timer) is x =
-        each-timer service tei (λ timer. IsTimelyOf (times_out timer) w → Ringing m past (acting (times_out timer) w))
+    -- each act of the near end, but that it takes
+    module _ (w : Wire) (act : Act) where
+      abbrev Now : Type 0
+      Now = IsFullTalkOf service tei act → IsTimelyOf act w → Ringing P (acting act w)
+
+    silent : (w : Wire) (h : R [] [] w) (act : Act) → (act ≡ takes → ⊥) → Now w act
+    silent w h (requests r) not is x = inl (near-asks [] [] w h r is)
+    silent w h (times_out timer) not is x =
+        each-timer service tei (λ timer. IsTimelyOf (times_out timer) w → Ringing P (acting (times_out timer) w))
         (λ x. inr (inl (repeats-sabme w h (may-there service tei c p w.near (end t (ringing h.repeats []) []) h.near.stands x.1 refl)))) (λ x. inl (near-t203 [] [] w h)) timer is x
-    silent w h gives is x = inl (record { repeats = h.repeats; near = gives-nothing service tei c p [] w.near (end t (ringing h.repeats []) []) h.near refl; far = h.far })
-    silent w h takes is x = inl (near-takes [] [] w h)
-    silent w h loses is x = inl (near-loses [] [] w h refl)
+    silent w h gives not is x = inl (record { repeats = h.repeats; near = gives-nothing service tei c p [] w.near (end t (ringing h.repeats []) []) h.near refl; far = h.far })
+    silent w h takes not is x = absurd (not refl)
+    silent w h loses not is x = inl (near-loses [] [] w h refl)
 
-    asking : (w : Wire) (h : R (its_sabme ∷ []) [] w) (act : Act) → IsFullTalkOf service tei act → IsTimelyOf act w → Ringing m past (acting act w)
-    asking w h (requests r) is x =
-        for-asked service tei (λ r. Ringing m past (acting (requests r) w)) (λ octets. inr (inl (near-asks (its_sabme ∷ []) [] w h octets)))
-        (inr (inl (near-busy (its_sabme ∷ []) [] w h))) (inr (inl (near-ready (its_sabme ∷ []) [] w h))) r is
-    asking w h (times_out timer) is x =
-        each-timer service tei (λ timer. IsTimelyOf (times_out timer) w → Ringing m past (acting (times_out timer) w))
-        (λ x. absurd (waits-first is_poll (end t (ringing h.repeats (its_sabme ∷ [])) []) its_sabme [] refl refl (ringing-open service tei c d p q h.repeats (its_sabme ∷ []) [] w m past h.near h.far x.0).commands))
+    asking : (w : Wire) (h : R (its_sabme ∷ []) [] w) (act : Act) → (act ≡ takes → ⊥) → Now w act
+    asking w h (requests r) not is x = inr (inl (near-asks (its_sabme ∷ []) [] w h r is))
+    asking w h (times_out timer) not is x =
+        each-timer service tei (λ timer. IsTimelyOf (times_out timer) w → Ringing P (acting (times_out timer) w))
+        (λ x. absurd (waits-first is_poll (end t (ringing h.repeats (its_sabme ∷ [])) []) its_sabme [] refl refl (nothing-asked (its_sabme ∷ []) [] w h x)))
         (λ x. inr (inl (near-t203 (its_sabme ∷ []) [] w h))) timer is x
-    asking w h gives is x =
+    asking w h gives not is x =
         inr (inr (record { repeats = h.repeats; near = held-given service tei p [] c w.near (end t (ringing h.repeats (its_sabme ∷ [])) []) h.near refl; far = h.far }))
-    asking w h takes is x = inr (inl (near-takes (its_sabme ∷ []) [] w h))
-    asking w h loses is x = inr (inl (near-loses (its_sabme ∷ []) [] w h refl))
+    asking w h takes not is x = absurd (not refl)
+    asking w h loses not is x = inr (inl (near-loses (its_sabme ∷ []) [] w h refl))
 
-    calling : (w : Wire) (h : R [] (sabme t ∷ []) w) (act : Act) → IsFullTalkOf service tei act → IsTimelyOf act w → Ringing m past (acting act w)
-    calling w h (requests r) is x =
-        for-asked service tei (λ r. Ringing m past (acting (requests r) w)) (λ octets. inr (inr (near-asks [] (sabme t ∷ []) w h octets)))
-        (inr (inr (near-busy [] (sabme t ∷ []) w h))) (inr (inr (near-ready [] (sabme t ∷ []) w h))) r is
-    calling w h (times_out timer) is x =
-        each-timer service tei (λ timer. IsTimelyOf (times_out timer) w → Ringing m past (acting (times_out timer) w))
-        (λ x. absurd (goes-first is_poll (end t (ringing h.repeats []) (sabme t ∷ [])) (sabme t) [] refl refl (ringing-open service tei c d p q h.repeats [] (sabme t ∷ []) w m past h.near h.far x.0).commands))
+    calling : (w : Wire) (h : R [] (sabme t ∷ []) w) (act : Act) → (act ≡ takes → ⊥) → Now w act
+    calling w h (requests r) not is x = inr (inr (near-asks [] (sabme t ∷ []) w h r is))
+    calling w h (times_out timer) not is x =
+        each-timer service tei (λ timer. IsTimelyOf (times_out timer) w → Ringing P (acting (times_out timer) w))
+        (λ x. absurd (goes-first is_poll (end t (ringing h.repeats []) (sabme t ∷ [])) (sabme t) [] refl refl (nothing-asked [] (sabme t ∷ []) w h x)))
         (λ x. inr (inr (near-t203 [] (sabme t ∷ []) w h))) timer is x
-    calling w h gives is x =
+    calling w h gives not is x =
         inr (inr (record { repeats = h.repeats; near = gives-nothing service tei c p [] w.near (end t (ringing h.repeats []) (sabme t ∷ [])) h.near refl; far = h.far }))
-    calling w h takes is x = inr (inr (near-takes [] (sabme t ∷ []) w h))
-    calling w h loses is x = inl (record { repeats = h.repeats; near = held-lost service tei p [] c w.near (end t (ringing h.repeats []) (sabme t ∷ [])) h.near; far = h.far })
+    calling w h takes not is x = absurd (not refl)
+    calling w h loses not is x = inl (record { repeats = h.repeats; near = held-lost service tei p [] c w.near (end t (ringing h.repeats []) (sabme t ∷ [])) h.near; far = h.far })
 
-    pub near-rings : (w : Wire) → Ringing m past w → (act : Act) → IsFullTalkOf service tei act → IsTimelyOf act w → Ringing m past (acting act w)
-    near-rings w (inl h) act is x = silent w h act is x
-    near-rings w (inr (inl h)) act is x = asking w h act is x
-    near-rings w (inr (inr h)) act is x = calling w h act is x
+    pub near-rings : (w : Wire) → Ringing P w → (act : Act) → (act ≡ takes → ⊥) → Now w act
+    near-rings w (inl h) act not is x = silent w h act not is x
+    near-rings w (inr (inl h)) act not is x = asking w h act not is x
+    near-rings w (inr (inr h)) act not is x = calling w h act not is x
 
-    pub not-told : (w : Wire) → Ringing m past w → heard_in w.near ≡ []
+    pub not-told : (w : Wire) → Ringing P w → heard_in w.near ≡ []
     not-told w (inl h) = h.near.heard
     not-told w (inr (inl h)) = h.near.heard
     not-told w (inr (inr h)) = h.near.heard
-
-  -- the other is up, its UA waits, or is on its way
-  pub record UaWaits (j : ℕ) (w : Wire) : Type 0 where
-    pub repeats : ℕ
-    pub near : Held c service tei p [] w.near (end t (ringing repeats []) [])
-    pub far : Held d service tei q (past_far j) w.far (end u answering [])
-
-  pub record UaGoes (j : ℕ) (w : Wire) : Type 0 where
-    pub repeats : ℕ
-    pub near : Held c service tei p [] w.near (end t (ringing repeats []) [])
-    pub far : Held d service tei q (past_far j) w.far (end u called (ua u ∷ []))
-
-  -- ---- the far end takes SABME
-  module _ (w : Wire) (j : ℕ) (h : Rings (end u called []) (past_far j) [] (sabme t ∷ []) w) where
-    abbrev caller_end : End
-    caller_end = end t (ringing h.repeats []) (sabme t ∷ [])
-
-    abbrev reached : Station
-    reached = comes (spelling c.side (sabme t)) w.far
-
-    abbrev x : Course
-    x = course u (link.received (link.frame (sabme t))) called
-
-    way-first : (w.near.way ≡ spelling c.side (sabme t) ∷ []) × IsCarried c service tei (sabme t)
-    way-first = first-way service tei c p [] w.near caller_end (sabme t) [] refl h.near
-
-    heard-again : heard_in reached ≡ past_far (suc j) ++ []
-    heard-again =
-        ap (flat_map for_layer_3) (taken-told service tei q (past_far j) d w.far (end u called []) h.far c back (sabme t) way-first.1)
-        ∙ flat_map-append for_layer_3 w.far.told (said_by x) ∙ ap (λ ts. ts ++ flat_map for_layer_3 (said_by x)) (h.far.heard ∙ append-nil (past_far j))
-        ∙ ap (λ ts. past_far j ++ flat_map for_layer_3 ts) (told-again u room-far t)
-        ∙ ap (λ ts. indicated service tei ∷ ts) (replicate-push j (error_f service tei)) ∙ sym (append-nil (past_far (suc j)))
-
-    pub answers-again : UaWaits (suc j) (turned (acting takes (turned w)))
-    answers-again =
-        let becomes : with_link (link.received (link.frame (sabme t))) (end u called []) ≡ end u answering [] =
-        (λ i. record (end u called []) { link = takes-again u room-far t i; delivered = [] }) in
-        let held : Held d service tei q (past_far (suc j)) reached (end u answering []) = record {
-          stands = subst (Stands d service tei q reached) becomes (taken-stands service tei q (past_far j) d w.far (end u called []) h.far c back (sabme t) way-first.1);
-          granted = takes-granted (spelling c.side (sabme t)) w.far ∙ h.far.granted;
-          heard = heard-again;
-        } in
-        record {
-          repeats = h.repeats;
-          near = held-lost service tei p [] c w.near caller_end h.near;
-          far = subst (λ ways. Held d service tei q (past_far (suc j)) (with_first_of ways w.far) (end u answering [])) (sym way-first.0) held;
-        }
-
-  -- ---- UA waits
-  module _ (j : ℕ) (w : Wire) (h : UaWaits j w) where
-    abbrev rung : End
-    rung = end t (ringing h.repeats []) []
-
-    abbrev other : End
-    other = end u answering []
-
-    abbrev UaStays : Wire → Type 0
-    UaStays w = UaWaits j w
-
-    pub waits-near : (act : Act) → IsFullTalkOf service tei act → IsTimelyOf act w → UaWaits j (acting act w)
-    waits-near (requests r) is x =
-        for-asked service tei (λ r. UaWaits j (acting (requests r) w))
-        (λ octets. subst (λ s. UaWaits j (record w { near = s })) (sym (asks-refused service tei c p [] w.near rung h.near (λ octets none. cc none) octets)) h)
-        (subst (λ s. UaWaits j (record w { near = s })) (sym (busy-refused service tei c p [] w.near rung h.near refl)) h)
-        (subst (λ s. UaWaits j (record w { near = s })) (sym (ready-refused service tei c p [] w.near rung h.near refl)) h) r is
-    waits-near (times_out timer) is x =
-        each-timer service tei (λ timer. IsTimelyOf (times_out timer) w → UaWaits j (acting (times_out timer) w))
-        (λ x. absurd (waits-first is_final other its_ua [] refl refl (ringing-open service tei c d p q h.repeats [] [] w other (past_far j) h.near h.far x.0).responses))
-        (λ x. record { repeats = h.repeats; near = silent-t203 service tei c d p q h.repeats [] [] w.near h.near; far = h.far }) timer is x
-    waits-near gives is x = record { repeats = h.repeats; near = gives-nothing service tei c p [] w.near rung h.near refl; far = h.far }
-    waits-near takes is x = subst UaStays (sym (takes-none w (empty service tei d q (past_far j) w.far other h.far refl))) h
-    waits-near loses is x = subst UaStays (sym (loses-none w (empty service tei c p [] w.near rung h.near refl))) h
-
-    pub waits-far : (act : Act) → Waits act w → UaWaits j (turned (acting act (turned w))) ⊎ UaGoes j (turned (acting act (turned w)))
-    waits-far (requests r) y = absurd (y h.near.heard)
-    waits-far (times_out timer) y = absurd (y h.near.heard)
-    waits-far gives y = inr (record { repeats = h.repeats; near = h.near; far = held-given service tei q (past_far j) d w.far other h.far refl })
-    waits-far takes y = inl (subst (λ w'. UaWaits j (turned w')) (sym (takes-none (turned w) (empty service tei c p [] w.near rung h.near refl))) h)
-    waits-far loses y = inl (subst (λ w'. UaWaits j (turned w')) (sym (loses-none (turned w) (empty service tei d q (past_far j) w.far other h.far refl))) h)
-
-  -- ---- UA is on its way
-  module _ (j : ℕ) (w : Wire) (h : UaGoes j w) where
-    abbrev rung' : End
-    rung' = end t (ringing h.repeats []) []
-
-    abbrev sent : End
-    sent = end u called (ua u ∷ [])
-
-    -- it comes
-    pub confirms : BothUp service tei c d p q first_near (past_far j) (acting takes w) (end t (answered h.repeats []) []) (end u called [])
-    confirms =
-        let f = ua u in
-        let way = first-way service tei d q (past_far j) w.far sent f [] refl h.far in
-        let s' = comes (spelling d.side f) w.near in
-        let n' = end t (answered h.repeats []) [] in
-        let held : Held c service tei p first_near s' n' =
-        held-first service tei p [] c w.near rung' h.near (confirmed service tei) s' n' (course t (link.received (link.frame f)) rung'.link) refl refl refl
-        (taken-stands service tei p [] c w.near rung' h.near d face f way.1) (takes-granted (spelling d.side f) w.near) refl
-        (taken-told service tei p [] c w.near rung' h.near d face f way.1) refl refl in
-        record {
-          near = subst (λ ways. Held c service tei p first_near (with_first_of ways w.near) n') (sym way.0) held;
-          far = held-lost service tei q (past_far j) d w.far sent h.far;
-          firm = firm-first t u rt ru face.n201 h.repeats;
-        }
-
-    abbrev Comes : Wire → Type 0
-    Comes w' = UaGoes j w' ⊎ BothUp service tei c d p q first_near (past_far j) w' (end t (answered h.repeats []) []) (end u called [])
-
-    pub goes-near : (act : Act) → IsFullTalkOf service tei act → IsTimelyOf act w → Comes (acting act w)
-    goes-near (requests r) is x =
-        for-asked service tei (λ r. Comes (acting (requests r) w))
-        (λ octets. inl (subst (λ s. UaGoes j (record w { near = s })) (sym (asks-refused service tei c p [] w.near rung' h.near (λ octets none. cc none) octets)) h))
-        (inl (subst (λ s. UaGoes j (record w { near = s })) (sym (busy-refused service tei c p [] w.near rung' h.near refl)) h))
-        (inl (subst (λ s. UaGoes j (record w { near = s })) (sym (ready-refused service tei c p [] w.near rung' h.near refl)) h)) r is
-    goes-near (times_out timer) is x =
-        each-timer service tei (λ timer. IsTimelyOf (times_out timer) w → Comes (acting (times_out timer) w))
-        (λ x. absurd (goes-first is_final sent (ua u) [] refl refl (ringing-open service tei c d p q h.repeats [] [] w sent (past_far j) h.near h.far x.0).responses))
-        (λ x. inl (record { repeats = h.repeats; near = silent-t203 service tei c d p q h.repeats [] [] w.near h.near; far = h.far })) timer is x
-    goes-near gives is x = inl (record { repeats = h.repeats; near = gives-nothing service tei c p [] w.near rung' h.near refl; far = h.far })
-    goes-near takes is x = inr confirms
-    goes-near loses is x = inl (subst (UaGoes j) (sym (loses-none w (empty service tei c p [] w.near rung' h.near refl))) h)
-
-    pub goes-far : (act : Act) → Waits act w → UaGoes j (turned (acting act (turned w))) ⊎ Rings (end u called []) (past_far j) [] [] (turned (acting act (turned w)))
-    goes-far (requests r) y = absurd (y h.near.heard)
-    goes-far (times_out timer) y = absurd (y h.near.heard)
-    goes-far gives y = inl (record { repeats = h.repeats; near = h.near; far = gives-nothing service tei d q (past_far j) w.far sent h.far (called-quiet u) })
-    goes-far takes y = inl (subst (λ w'. UaGoes j (turned w')) (sym (takes-none (turned w) (empty service tei c p [] w.near rung' h.near refl))) h)
-    goes-far loses y = inr (record { repeats = h.repeats; near = h.near; far = held-lost service tei q (past_far j) d w.far sent h.far })

@@ -1,24 +1,27 @@
 -- A whole call in which UA may be lost: what is told, and that all has come where no turn is left and T200 runs at neither end.
-use Rattle.laws_wire.proofs.Vocabulary.{◌≡◌, ℕ, suc, ◌+◌, ◌==◌, Bool, true, false, cond, ◌&&◌, List, [], ◌∷◌, ◌++◌, length, map, take, drop, refl, sym, ap, subst, ◌∙◌, ◌⊎◌, inl, inr, append-nil, append_assoc, true≢false, eqb-true, arith, All, replicate, map-append, take-append-drop, All-head, All-tail, Service, Parts, spelling, Link, fresh, IsInRange, runs, End, Config, LineTold, terms}
+use Rattle.laws_wire.proofs.Vocabulary.{◌≡◌, ℕ, suc, ◌+◌, ◌==◌, Bool, true, false, cond, ◌&&◌, ◌||◌, List, [], ◌∷◌, ◌++◌, length, map, take, drop, refl, sym, ap, subst, ◌∙◌, ◌⊎◌, inl, inr, append-nil, append_assoc, true≢false, eqb-true, arith, All, map-append, take-append-drop, All-head, All-tail, Service, Parts, ControlFrame, spelling, fresh, IsInRange, End, frames_of, Config, LineTold, T203, expiry, request, next, terms, awaits_answer}
+use Rattle.lapd_frame.specs.declared.timers.Timer.TheVariants as timers
 use Rattle.model_link.specs.declared.timers.LinkTimer.TheVariants.{T200}
-use Rattle.laws_wire.specs.Wire.{Wire, Act, requests, times_out, gives, takes, loses, acting, turned, Doing, at_near, at_far, doing, doing_all, is_any, IsStill}
-use Rattle.laws_wire.specs.Call.{CanCall, calling, confirmed, indicated, data_told, all_told, IsBeginningOf}
+use Rattle.model_line.specs.Event.{Event}
+use Rattle.laws_wire.specs.Wire.{Station, Wire, answered, happens, with_first_of, with_first_lost, unless_refused, contents_in, Act, requests, times_out, gives, takes, loses, acting, turned, Doing, at_near, at_far, doing, doing_all, is_any}
+use Rattle.laws_wire.specs.Call.{confirmed, indicated, data_told, IsBeginningOf}
 use Rattle.laws_wire.specs.Losing.{heard_in}
-use Rattle.laws_wire.specs.Timely.{IsTimelyOf}
-use Rattle.laws_wire.specs.Arriving.{runs_t200}
-use Rattle.laws_wire.specs.Answering.{IsFullTalkOf, IsFullTalk, Waits, Rests, IsPatient, StayPatient, takes_sabme, calls, error_f, told_of_calls, LossyCallsComeThrough}
-use Rattle.laws_wire.proofs.Awaited.{link-is}
-use Rattle.laws_wire.proofs.Calling.{end, called, sabme}
-use Rattle.laws_wire.proofs.Held.{Held}
-use Rattle.laws_wire.proofs.Loose.{as-loose}
-use Rattle.laws_wire.proofs.LooseUp.{LooseUp, loose-turned-up, loose-acts, loose-told, loose-rests}
-use Rattle.laws_wire.proofs.Ringing.{ringing, answered, its_sabme}
+use Rattle.laws_wire.specs.Timely.{is_final, IsTimelyOf}
+use Rattle.laws_wire.specs.Answering.{IsFullTalkOf, IsFullTalk, IsPatient, StayPatient, Called, error_f, renewed, told_of_sabme, with_sabme, takes_sabme, gives_information, seeing, seen}
+use Rattle.laws_wire.proofs.Awaited.{as-here, none-there}
+use Rattle.laws_wire.proofs.Calling.{end, answering, sabme, ua}
+use Rattle.laws_wire.proofs.Held.{Held, held-lost, held-expired}
+use Rattle.laws_wire.proofs.LooseUp.{for-asked, LooseUp, loose-turned-up, loose-acts}
+use Rattle.laws_wire.proofs.Ringing.{ringing, its_sabme}
 use Rattle.laws_wire.proofs.Talking.{Face}
+use Rattle.laws_wire.proofs.TimelyFirst.{takes-none, gives-nothing, asks-refused, busy-refused, ready-refused}
 use Rattle.laws_wire.proofs.TimelyPhases as phases
 use Rattle.laws_wire.proofs.TimelyRinging as first_ringing
-use Rattle.laws_wire.proofs.LossyRun.{setting}
-use Rattle.laws_wire.proofs.TimelyUp.{BothUp}
-use Rattle.laws_wire.proofs.UaLost.{called-quiet, Rings, Ringing, near-rings, not-told, far-gives, far-loses, far-takes, UaWaits, UaGoes, answers-again, waits-near, waits-far, goes-near, goes-far}
+use Rattle.laws_wire.proofs.TimelyUp.{each-timer}
+use Rattle.laws_wire.proofs.UaCalledAt.{none-informed}
+use Rattle.laws_wire.proofs.UaLost.{behind, Rings, Ringing, ringing-takes, near-rings, near-waits}
+use Rattle.laws_wire.proofs.UaPhases.{IsAway, IsWaiting, Comes, away-loses, away-gives, away-acts, waiting-loses, waiting-gives, waiting-acts, is-awaited, comes-acts, comes-gives, comes-loses, comes-takes, comes-awaited}
+use Rattle.laws_wire.proofs.UaRenewed.{before, with_before, more_told, TookSabme, sabme-renews}
 
 and-false : (b : Bool) → (b && false) ≡ false
 and-false true = refl
@@ -31,9 +34,62 @@ some-told t ts = go (length (t ∷ ts) == 0) refl
     go true e = let none : suc (length ts) ≡ 0 = eqb-true (length (t ∷ ts)) 0 e in absurd (omega (arith, none))
     go false e = refl
 
+more-told : (ts : List LineTold) (t : LineTold) → (length (ts ++ t ∷ []) == 0) ≡ false
+more-told [] t = some-told t []
+more-told (s ∷ ts) t = some-told s (ts ++ t ∷ [])
+
+-- ---- where more was granted before
+
+happens-before : (e : Event) (g : List (List ℕ)) (s : Station) → happens e (before g s) ≡ before g (happens e s)
+happens-before e g s = λ i. record (happens e s) { granted = append_assoc g s.granted (unless_refused (answered e s) (contents_in e)) i }
+
+first-before : (ways : List (List ℕ)) (g : List (List ℕ)) (s : Station) → with_first_of ways (before g s) ≡ before g (with_first_of ways s)
+first-before [] g s = refl
+first-before (octets ∷ more) g s = happens-before _ g s
+
+far-before : (act : Act) (g : List (List ℕ)) (w : Wire) → turned (acting act (turned (with_before g w))) ≡ with_before g (turned (acting act (turned w)))
+far-before (requests r) g w = ap (λ s. record { near = w.near; far = s }) (happens-before (request r) g w.far)
+far-before (times_out timer) g w = ap (λ s. record { near = w.near; far = s }) (happens-before (expiry timer) g w.far)
+far-before gives g w = ap (λ s. record { near = w.near; far = s }) (happens-before next g w.far)
+far-before takes g w = ap (λ s. record { near = with_first_lost w.near; far = s }) (first-before w.near.way g w.far)
+far-before loses g w = refl
+
+near-before : (act : Act) (g : List (List ℕ)) (w : Wire) → acting act (with_before g w) ≡ with_before g (acting act w)
+near-before (requests r) g w = refl
+near-before (times_out timer) g w = refl
+near-before gives g w = refl
+near-before takes g w = refl
+near-before loses g w = refl
+
+-- what T200 asks does not look at it
+timely-near : (act : Act) (g : List (List ℕ)) (w : Wire) → IsTimelyOf act (with_before g w) → IsTimelyOf act w
+timely-near (requests r) g w x = x
+timely-near (times_out (timers.T200 service tei)) g w x = x
+timely-near (times_out (timers.T203 service tei)) g w x = x
+timely-near (times_out timers.T201) g w x = x
+timely-near gives g w x = x
+timely-near takes g w x = x
+timely-near loses g w x = x
+
+timely-far : (act : Act) (g : List (List ℕ)) (w : Wire) → IsTimelyOf act (turned (with_before g w)) → IsTimelyOf act (turned w)
+timely-far (requests r) g w x = x
+timely-far (times_out (timers.T200 service tei)) g w x = x
+timely-far (times_out (timers.T203 service tei)) g w x = x
+timely-far (times_out timers.T201) g w x = x
+timely-far gives g w x = x
+timely-far takes g w x = x
+timely-far loses g w x = x
+
+far-same : (act : Act) → (act ≡ takes → ⊥) → (w : Wire) → (acting act w).far ≡ w.far
+far-same (requests r) not w = refl
+far-same (times_out timer) not w = refl
+far-same gives not w = refl
+far-same takes not w = absurd (not refl)
+far-same loses not w = refl
+
 module _ (service : Service) (tei : ℕ) (past : List LineTold) where
   -- a beginning of all, where so many contents were delivered
-  so-many : (r : ℕ) (granted : List (List ℕ)) (told : List LineTold) → told ≡ past ++ map (data_told service tei) (take r granted)
+  pub so-many : (r : ℕ) (granted : List (List ℕ)) (told : List LineTold) → told ≡ past ++ map (data_told service tei) (take r granted)
       → IsBeginningOf (past ++ map (data_told service tei) granted) told
   so-many r granted told is = (
     map (data_told service tei) (drop r granted),
@@ -42,314 +98,370 @@ module _ (service : Service) (tei : ℕ) (past : List LineTold) where
         ∙ ap (λ ts. past ++ ts) (sym (map-append (data_told service tei) (take r granted) (drop r granted)) ∙ ap (map (data_told service tei)) (take-append-drop r granted)),
   )
 
-  none-yet : (granted : List (List ℕ)) (told : List LineTold) → told ≡ past ++ [] → IsBeginningOf (past ++ map (data_told service tei) granted) told
+  pub none-yet : (granted : List (List ℕ)) (told : List LineTold) → told ≡ past ++ [] → IsBeginningOf (past ++ map (data_told service tei) granted) told
   none-yet granted told is = (map (data_told service tei) granted, ap (λ ts. ts ++ map (data_told service tei) granted) (is ∙ append-nil past))
 
 module _ (service : Service) (tei : ℕ) (c d : Config) (p q : ℕ) (face : Face c d) (back : Face d c) (rt : IsInRange (terms c service tei)) (ru : IsInRange (terms d service tei)) where
-  abbrev its_near : List LineTold
+  abbrev pub its_near : List LineTold
   its_near = confirmed service tei ∷ []
 
-  abbrev its_far : ℕ → List LineTold
-  its_far j = indicated service tei ∷ replicate j (error_f service tei)
+  abbrev pub Away : List LineTold → Bool → Station → Type 0
+  Away past b s = IsAway service tei c d p q face back rt ru past b s
 
-  abbrev R : End → List LineTold → Wire → Type 0
-  R m past w = Ringing service tei c d p q face back rt ru m past w
+  abbrev pub Waiting : List LineTold → Bool → Station → Type 0
+  Waiting past b s = IsWaiting service tei c d p q face back rt ru past b s
+
+  abbrev Coming : List LineTold → Bool → Wire → Type 0
+  Coming past b w = Comes service tei c d p q face back rt ru past b w
+
+  abbrev pub R : (Station → Type 0) → List ControlFrame → List Parts → Wire → Type 0
+  R P ws way w = Rings service tei c d p q face back rt ru P ws way w
+
+  abbrev pub Rs : (Station → Type 0) → Wire → Type 0
+  Rs P w = Ringing service tei c d p q face back rt ru P w
 
   abbrev down : End
   down = end (terms d service tei) fresh []
 
-  abbrev up : End
-  up = end (terms d service tei) called []
+  abbrev pub Down : Station → Type 0
+  Down s = Held d service tei q [] s down
 
-  -- SABME was taken j + 1 times
-  abbrev Called : ℕ → Wire → Type 0
-  Called j w =
-      R up (its_far j) w ⊎ UaWaits service tei c d p q face back rt ru j w ⊎ UaGoes service tei c d p q face back rt ru j w
-      ⊎ LooseUp service tei c d p q its_near (its_far j) w
+  abbrev pub Up : List LineTold → Wire → Type 0
+  Up past w = LooseUp service tei c d p q its_near past w
 
-  abbrev pub Goes : ℕ → Wire → Type 0
-  Goes n w = ((n ≡ 0) × R down [] w) ⊎ ((j : ℕ) × (n ≡ suc j) × Called j w)
-
-  as-called : (n j : ℕ) (w : Wire) → n ≡ suc j → Called j w → Goes n w
-  as-called n j w e h = inr (j, e, h)
+  -- SABME was taken, and so it was told
+  abbrev pub IsCalled : List LineTold → Bool → Wire → Type 0
+  IsCalled past b w = Rs (Away past b) w ⊎ R (Waiting past b) [] [] w ⊎ Coming past b w ⊎ Up past w
 
   -- ---- what the near end does
 
-  near-called : (j : ℕ) (w : Wire) → Called j w → (act : Act) → IsFullTalkOf service tei act → IsTimelyOf act w → Called j (acting act w)
-  near-called j w (inl h) act is x = inl (near-rings service tei c d p q face back rt ru up (its_far j) refl w h act is x)
-  near-called j w (inr (inl h)) act is x = inr (inl (waits-near service tei c d p q face back rt ru j w h act is x))
-  near-called j w (inr (inr (inl h))) act is x = go (goes-near service tei c d p q face back rt ru j w h act is x)
+  near-but : (past : List LineTold) (b : Bool) (w : Wire) → IsCalled past b w → (act : Act) → (act ≡ takes → ⊥) → IsFullTalkOf service tei act → IsTimelyOf act w → IsCalled past b (acting act w)
+  near-but past b w (inl h) act not is x = inl (near-rings service tei c d p q face back rt ru (Away past b) w h act not is x)
+  near-but past b w (inr (inl h)) act not is x =
+      let awaited = λ (x : IsTimelyOf (times_out (timers.T200 service tei)) w).
+      is-awaited service tei c d p q face back rt ru past b (turned w) h.far
+      (none-there service tei d q w.far h.far.M h.far.held.stands is_final (x.0 (ap awaits_answer (as-here service tei c p w.near (end (terms c service tei) (ringing h.repeats []) []) h.near.stands refl))).responses) in
+      inr (inl (record { repeats = h.repeats; near = near-waits service tei c d p q face back rt ru h.repeats w h.near awaited act not is x; far = subst (Waiting past b) (sym (far-same act not w)) h.far }))
+  near-but past b w (inr (inr (inl h))) act not is x =
+      let awaited = λ (x : IsTimelyOf (times_out (timers.T200 service tei)) w).
+      comes-awaited service tei c d p q face back rt ru past b w h
+      (none-there service tei d q w.far (whole h) h.far.stands is_final (x.0 (ap awaits_answer (as-here service tei c p w.near (end (terms c service tei) (ringing h.repeats []) []) h.near.stands refl))).responses) in
+      inr (inr (inl (record {
+        repeats = h.repeats;
+        near = near-waits service tei c d p q face back rt ru h.repeats w h.near awaited act not is x;
+        m = h.m;
+        stale = h.stale;
+        far = subst (λ s. Held d service tei q past s (whole h)) (sym (far-same act not w)) h.far;
+        rising = h.rising;
+        loose = h.loose;
+        flag = h.flag;
+      })))
     where
-      go : UaGoes service tei c d p q face back rt ru j (acting act w)
-          ⊎ BothUp service tei c d p q its_near (its_far j) (acting act w) (end (terms c service tei) (answered h.repeats []) []) up → Called j (acting act w)
-      go (inl g) = inr (inr (inl g))
-      go (inr b) =
-          let n = end (terms c service tei) (answered h.repeats []) [] in
-          inr (inr (inr (record { n = n; m = up; near = b.near; far = b.far; loose = as-loose n up b.firm })))
-  near-called j w (inr (inr (inr h))) act is x = inr (inr (inr (loose-acts service tei c d p q face its_near (its_far j) w h act is x)))
+      whole : Coming past b w → End
+      whole h = behind (h.stale ++ ua (terms d service tei) ∷ []) h.m
+  near-but past b w (inr (inr (inr h))) act not is x = inr (inr (inr (loose-acts service tei c d p q face its_near past w h act is x)))
 
-  near-step : (n : ℕ) (w : Wire) → Goes n w → (act : Act) → IsFullTalkOf service tei act → IsTimelyOf act w → Goes n (acting act w)
-  near-step n w (inl (e, h)) act is x = inl (e, near-rings service tei c d p q face back rt ru down [] refl w h act is x)
-  near-step n w (inr (j, e, h)) act is x = as-called n j (acting act w) e (near-called j w h act is x)
+  module _ (past : List LineTold) (b : Bool) (w : Wire) where
+    away-takes : (ws : List ControlFrame) (way : List Parts) → R (Away past b) ws way w → R (Away past b) ws way (acting takes w)
+    away-takes ws way h =
+        ringing-takes service tei c d p q face back rt ru (Away past b) ws way w h (away-loses service tei c d p q face back rt ru past b (turned w) h.far) past h.far.M h.far.held
+        h.far.M.link.r (frames_of h.far.M.terms h.far.M.link.waiting) h.far.rising
+
+    near-takes : IsCalled past b w → IsCalled past b (acting takes w)
+    near-takes (inl (inl h)) = inl (inl (away-takes [] [] h))
+    near-takes (inl (inr (inl h))) = inl (inr (inl (away-takes (its_sabme ∷ []) [] h)))
+    near-takes (inl (inr (inr h))) = inl (inr (inr (away-takes [] (sabme (terms c service tei) ∷ []) h)))
+    near-takes (inr (inl h)) =
+        inr (inl (ringing-takes service tei c d p q face back rt ru (Waiting past b) [] [] w h (waiting-loses service tei c d p q face back rt ru past b (turned w) h.far) past h.far.M h.far.held
+        0 (frames_of (terms d service tei) h.far.old) h.far.rising))
+    near-takes (inr (inr (inl h))) = inr (inr (comes-takes service tei c d p q face back rt ru past b w h))
+    near-takes (inr (inr (inr h))) = inr (inr (inr (loose-acts service tei c d p q face its_near past w h takes tt tt)))
+
+  near-called : (past : List LineTold) (b : Bool) (w : Wire) → IsCalled past b w → (act : Act) → IsFullTalkOf service tei act → IsTimelyOf act w → IsCalled past b (acting act w)
+  near-called past b w h (requests r) is x = near-but past b w h (requests r) (λ e. cc e) is x
+  near-called past b w h (times_out timer) is x = near-but past b w h (times_out timer) (λ e. cc e) is x
+  near-called past b w h gives is x = near-but past b w h gives (λ e. cc e) is x
+  near-called past b w h takes is x = near-takes past b w h
+  near-called past b w h loses is x = near-but past b w h loses (λ e. cc e) is x
 
   -- ---- what the far end does
 
   abbrev done : Act → Wire → Wire
   done act w = turned (acting act (turned w))
 
-  -- so many times more it took SABME
-  abbrev more : Act → Wire → ℕ
-  more act w = cond {A = ℕ} (takes_sabme (at_far act) w) 1 0
+  rings-far : (P P' : Station → Type 0) (ws : List ControlFrame) (way : List Parts) (w w' : Wire) → w'.near ≡ w.near → (P w.far → P' w'.far) → R P ws way w → R P' ws way w'
+  rings-far P P' ws way w w' same on h =
+      record { repeats = h.repeats; near = subst (λ s. Held c service tei p [] s (end (terms c service tei) (ringing h.repeats ws) way)) (sym same) h.near; far = on h.far }
 
-  -- it takes none
-  module _ (m : End) (past : List LineTold) (mway : m.way ≡ []) (quiet : Rattle.model_link.specs.Machine.given m.terms m.link ≡ Rattle.std.proofs.Common.None) where
-    other-acts : (w : Wire) → R m past w → (act : Act) → Waits act w → (act ≡ takes → ⊥) → R m past (done act w)
-    other-acts w h (requests r) y not = absurd (y (not-told service tei c d p q face back rt ru m past mway w h))
-    other-acts w h (times_out timer) y not = absurd (y (not-told service tei c d p q face back rt ru m past mway w h))
-    other-acts w h takes y not = absurd (not refl)
-    other-acts w (inl h) gives y not = inl (far-gives service tei c d p q face back rt ru m past mway [] [] w h quiet)
-    other-acts w (inr (inl h)) gives y not = inr (inl (far-gives service tei c d p q face back rt ru m past mway (its_sabme ∷ []) [] w h quiet))
-    other-acts w (inr (inr h)) gives y not = inr (inr (far-gives service tei c d p q face back rt ru m past mway [] (sabme (terms c service tei) ∷ []) w h quiet))
-    other-acts w (inl h) loses y not = inl (far-loses service tei c d p q face back rt ru m past mway [] [] w h)
-    other-acts w (inr (inl h)) loses y not = inr (inl (far-loses service tei c d p q face back rt ru m past mway (its_sabme ∷ []) [] w h))
-    other-acts w (inr (inr h)) loses y not = inr (inr (far-loses service tei c d p q face back rt ru m past mway [] (sabme (terms c service tei) ∷ []) w h))
+  all-far : (P P' : Station → Type 0) (w w' : Wire) → w'.near ≡ w.near → (P w.far → P' w'.far) → Rs P w → Rs P' w'
+  all-far P P' w w' same on (inl h) = inl (rings-far P P' [] [] w w' same on h)
+  all-far P P' w w' same on (inr (inl h)) = inr (inl (rings-far P P' (its_sabme ∷ []) [] w w' same on h))
+  all-far P P' w w' same on (inr (inr h)) = inr (inr (rings-far P P' [] (sabme (terms c service tei) ∷ []) w w' same on h))
 
-  -- what the near end has on its way
-  no-way : (w : Wire) (past : List LineTold) (n : End) → Held c service tei p past w.near n → n.way ≡ [] → takes_sabme (at_far takes) w ≡ false
-  no-way w past n h none =
-      ap (λ way. is_any way && length (heard_in w.near) == 0) (h.stands.way ∙ ap (map (spelling c.side)) none)
+  up-far : (past : List LineTold) (w : Wire) → Up past w → (act : Act) → IsFullTalkOf service tei act → IsTimelyOf act (turned w) → Up past (done act w)
+  up-far past w h act is x =
+      loose-turned-up service tei d c q p past its_near (acting act (turned w))
+      (loose-acts service tei d c q p back past its_near (turned w) (loose-turned-up service tei c d p q its_near past w h) act is x)
 
-  one-way : (w : Wire) (f : Parts) (n : End) → Held c service tei p [] w.near n → n.way ≡ f ∷ [] → n.delivered ≡ [] → takes_sabme (at_far takes) w ≡ true
-  one-way w f n h one new =
-      ap (λ way. is_any way && length (heard_in w.near) == 0) (h.stands.way ∙ ap (map (spelling c.side)) one)
-      ∙ ap (λ ts. length ts == 0) (h.heard ∙ ap (map (data_told service tei)) new)
+  -- it takes SABME, or nothing
+  module _ (w : Wire) where
+    empty-way : (n : End) (ts : List LineTold) → Held c service tei p ts w.near n → n.way ≡ [] → w.near.way ≡ []
+    empty-way n ts h none = h.stands.way ∙ ap (map (spelling c.side)) none
 
-  told-way : (w : Wire) (n : End) → Held c service tei p its_near w.near n → takes_sabme (at_far takes) w ≡ false
-  told-way w n h =
-      ap (λ ts. is_any w.near.way && length ts == 0) h.heard ∙ ap (λ b. is_any w.near.way && b) (some-told (confirmed service tei) (map (data_told service tei) n.delivered))
-      ∙ and-false (is_any w.near.way)
+    no-sabme : w.near.way ≡ [] → takes_sabme w ≡ false
+    no-sabme none = ap (λ way. is_any way && length (heard_in w.near) == 0) none
 
-  same-count : (b : Bool) (n k : ℕ) → b ≡ false → n ≡ k → cond {A = ℕ} b 1 0 + n ≡ k
-  same-count b n k e is = ap (λ b. cond {A = ℕ} b 1 0 + n) e ∙ (let same : 0 + n ≡ k = omega (arith, is) in same)
+    stays : (A : Wire → Type 0) → w.near.way ≡ [] → A w → A (done takes w)
+    stays A none h = subst A (sym (ap turned (takes-none (turned w) none))) h
 
-  one-more : (b : Bool) (n k : ℕ) → b ≡ true → n ≡ k → cond {A = ℕ} b 1 0 + n ≡ suc k
-  one-more b n k e is = ap (λ b. cond {A = ℕ} b 1 0 + n) e ∙ (let same : 1 + n ≡ suc k = omega (arith, is) in same)
+    told-no : (n : End) → Held c service tei p its_near w.near n → takes_sabme w ≡ false
+    told-no n h =
+        ap (λ ts. is_any w.near.way && length ts == 0) h.heard
+        ∙ ap (λ b. is_any w.near.way && b) (some-told (confirmed service tei) (map (data_told service tei) n.delivered)) ∙ and-false (is_any w.near.way)
 
-  same-goes : (n k : ℕ) (w : Wire) → k ≡ n → Goes n w → Goes k w
-  same-goes n k w e h = subst (λ n. Goes n w) (sym e) h
+  -- it is asked, or a timer expires
+  module _ (past : List LineTold) (b : Bool) (w : Wire) (act : Act) (untaken : act ≡ takes → ⊥) (not : act ≡ gives → ⊥) (nor : act ≡ loses → ⊥) (is : IsFullTalkOf service tei act)
+      (x : IsTimelyOf act (turned w)) where
+    far-stirs : IsCalled past b w → IsCalled past b (done act w)
+    far-stirs (inl h) =
+        inl (all-far (Away past b) (Away past b) w (done act w) (far-same act untaken (turned w)) (λ y. away-acts service tei c d p q face back rt ru past b (turned w) y act untaken not is x) h)
+    far-stirs (inr (inl h)) =
+        inr (inl (rings-far (Waiting past b) (Waiting past b) [] [] w (done act w) (far-same act untaken (turned w)) (λ y. waiting-acts service tei c d p q face back rt ru past b (turned w) y act untaken not is x) h))
+    far-stirs (inr (inr (inl h))) = inr (inr (inl (comes-acts service tei c d p q face back rt ru past b w h act untaken not nor is x)))
+    far-stirs (inr (inr (inr h))) = inr (inr (inr (up-far past w h act is x)))
 
-  -- the near end rings, and the far end takes
-  down-takes : (n : ℕ) (w : Wire) → n ≡ 0 → R down [] w → Goes (more takes w + n) (done takes w)
-  down-takes n w e (inl h) =
-      inl (same-count _ n 0 (no-way w [] (end (terms c service tei) (ringing h.repeats []) []) h.near refl) e, inl (far-takes service tei c d p q face back rt ru down [] refl [] [] w h refl))
-  down-takes n w e (inr (inl h)) =
-      inl (
-        same-count _ n 0 (no-way w [] (end (terms c service tei) (ringing h.repeats (its_sabme ∷ [])) []) h.near refl) e,
-        inr (inl (far-takes service tei c d p q face back rt ru down [] refl (its_sabme ∷ []) [] w h refl)),
-      )
-  down-takes n w e (inr (inr h)) =
-      let was : phases.Rings service tei c d p q [] (sabme (terms c service tei) ∷ []) w = record { repeats = h.repeats; near = h.near; far = h.far } in
-      let now = first_ringing.answers service tei c d p q face back rt ru w was in
-      as-called _ 0 (done takes w)
-      (one-more _ n 0 (one-way w (sabme (terms c service tei)) (end (terms c service tei) (ringing h.repeats []) (sabme (terms c service tei) ∷ [])) h.near refl refl) e)
-      (inr (inl (record { repeats = now.repeats; near = now.near; far = now.far })))
+  module _ (past : List LineTold) (b : Bool) (w : Wire) where
+    abbrev now : Bool
+    now = b || gives_information w.far
 
-  up-takes : (n j : ℕ) (w : Wire) → n ≡ suc j → R up (its_far j) w → Goes (more takes w + n) (done takes w)
-  up-takes n j w e (inl h) =
-      as-called _ j (done takes w) (same-count _ n (suc j) (no-way w [] (end (terms c service tei) (ringing h.repeats []) []) h.near refl) e)
-      (inl (inl (far-takes service tei c d p q face back rt ru up (its_far j) refl [] [] w h refl)))
-  up-takes n j w e (inr (inl h)) =
-      as-called _ j (done takes w) (same-count _ n (suc j) (no-way w [] (end (terms c service tei) (ringing h.repeats (its_sabme ∷ [])) []) h.near refl) e)
-      (inl (inr (inl (far-takes service tei c d p q face back rt ru up (its_far j) refl (its_sabme ∷ []) [] w h refl))))
-  up-takes n j w e (inr (inr h)) =
-      as-called _ (suc j) (done takes w)
-      (one-more _ n (suc j) (one-way w (sabme (terms c service tei)) (end (terms c service tei) (ringing h.repeats []) (sabme (terms c service tei) ∷ [])) h.near refl refl) e)
-      (inr (inl (answers-again service tei c d p q face back rt ru w j h)))
+    far-gives : IsCalled past b w → IsCalled past now (done gives w)
+    far-gives (inl h) = inl (all-far (Away past b) (Away past now) w (done gives w) refl (λ y. away-gives service tei c d p q face back rt ru past b (turned w) y) h)
+    far-gives (inr (inl h)) = go (waiting-gives service tei c d p q face back rt ru past b (turned w) h.far h.repeats (done gives w) h.near refl)
+      where
+        go : Waiting past now (done gives w).far ⊎ Coming past now (done gives w) → IsCalled past now (done gives w)
+        go (inl y) = inr (inl (record { repeats = h.repeats; near = h.near; far = y }))
+        go (inr y) = inr (inr (inl y))
+    far-gives (inr (inr (inl h))) = inr (inr (inl (comes-gives service tei c d p q face back rt ru past b w h)))
+    far-gives (inr (inr (inr h))) = inr (inr (inr (up-far past w h gives tt tt)))
 
-  -- it acts, and takes no SABME
-  far-other : (n j : ℕ) (w : Wire) → n ≡ suc j → (act : Act) → IsFullTalkOf service tei act → IsTimelyOf act (turned w) → Waits act w
-      → UaWaits service tei c d p q face back rt ru j w ⊎ UaGoes service tei c d p q face back rt ru j w ⊎ LooseUp service tei c d p q its_near (its_far j) w → Goes n (done act w)
-  far-other n j w e act is x y (inl h) = go (waits-far service tei c d p q face back rt ru j w h act y)
-    where
-      go : UaWaits service tei c d p q face back rt ru j (done act w) ⊎ UaGoes service tei c d p q face back rt ru j (done act w) → Goes n (done act w)
-      go (inl g) = as-called n j (done act w) e (inr (inl g))
-      go (inr g) = as-called n j (done act w) e (inr (inr (inl g)))
-  far-other n j w e act is x y (inr (inl h)) = go (goes-far service tei c d p q face back rt ru j w h act y)
-    where
-      go : UaGoes service tei c d p q face back rt ru j (done act w) ⊎ Rings service tei c d p q face back rt ru up (its_far j) [] [] (done act w) → Goes n (done act w)
-      go (inl g) = as-called n j (done act w) e (inr (inr (inl g)))
-      go (inr g) = as-called n j (done act w) e (inl (inl g))
-  far-other n j w e act is x y (inr (inr h)) =
-      let other = loose-turned-up service tei c d p q its_near (its_far j) w h in
-      as-called n j (done act w) e (inr (inr (inr
-      (loose-turned-up service tei d c q p (its_far j) its_near (acting act (turned w)) (loose-acts service tei d c q p back (its_far j) its_near (turned w) other act is x)))))
+    far-loses : IsCalled past b w → IsCalled past b (done loses w)
+    far-loses (inl h) = inl (all-far (Away past b) (Away past b) w (done loses w) refl (λ y. away-loses service tei c d p q face back rt ru past b (turned w) y) h)
+    far-loses (inr (inl h)) = inr (inl (rings-far (Waiting past b) (Waiting past b) [] [] w (done loses w) refl (λ y. waiting-loses service tei c d p q face back rt ru past b (turned w) y) h))
+    far-loses (inr (inr (inl h))) = go (comes-loses service tei c d p q face back rt ru past b w h)
+      where
+        go : Coming past b (done loses w) ⊎ Away past b (with_first_lost w.far) → IsCalled past b (done loses w)
+        go (inl y) = inr (inr (inl y))
+        go (inr y) = inl (inl (record { repeats = h.repeats; near = h.near; far = y }))
+    far-loses (inr (inr (inr h))) = inr (inr (inr (up-far past w h loses tt tt)))
 
-  none-taken : (j : ℕ) (w : Wire) → UaWaits service tei c d p q face back rt ru j w ⊎ UaGoes service tei c d p q face back rt ru j w ⊎ LooseUp service tei c d p q its_near (its_far j) w
-      → takes_sabme (at_far takes) w ≡ false
-  none-taken j w (inl h) = no-way w [] (end (terms c service tei) (ringing h.repeats []) []) h.near refl
-  none-taken j w (inr (inl h)) = no-way w [] (end (terms c service tei) (ringing h.repeats []) []) h.near refl
-  none-taken j w (inr (inr h)) = told-way w h.n h.near
+    abbrev Takes : Type 0
+    Takes = ((takes_sabme w ≡ false) × IsCalled past b (done takes w)) ⊎ ((takes_sabme w ≡ true) × TookSabme service tei c d p q face back rt ru past b w (done takes w))
 
-  far-takes-one : (n j : ℕ) (w : Wire) → n ≡ suc j → IsFullTalkOf service tei takes → IsTimelyOf takes (turned w)
-      → UaWaits service tei c d p q face back rt ru j w ⊎ UaGoes service tei c d p q face back rt ru j w ⊎ LooseUp service tei c d p q its_near (its_far j) w
-      → Goes (more takes w + n) (done takes w)
-  far-takes-one n j w e is x h = same-goes n _ (done takes w) (same-count _ n n (none-taken j w h) refl) (far-other n j w e takes is x tt h)
+    far-takes : IsCalled past b w → IsTimelyOf takes (turned w) → Takes
+    far-takes (inl (inl h)) x =
+        let none = empty-way w (end (terms c service tei) (ringing h.repeats []) []) [] h.near refl in
+        inl (no-sabme w none, stays w (IsCalled past b) none (inl (inl h)))
+    far-takes (inl (inr (inl h))) x =
+        let none = empty-way w (end (terms c service tei) (ringing h.repeats (its_sabme ∷ [])) []) [] h.near refl in
+        inl (no-sabme w none, stays w (IsCalled past b) none (inl (inr (inl h))))
+    far-takes (inl (inr (inr h))) x =
+        inr (
+          ap (λ way. is_any way && length (heard_in w.near) == 0) h.near.stands.way ∙ ap (λ ts. length ts == 0) h.near.heard,
+          sabme-renews service tei c d p q face back rt ru past w h.repeats h.near b h.far,
+        )
+    far-takes (inr (inl h)) x =
+        let none = empty-way w (end (terms c service tei) (ringing h.repeats []) []) [] h.near refl in
+        inl (no-sabme w none, stays w (IsCalled past b) none (inr (inl h)))
+    far-takes (inr (inr (inl h))) x =
+        let none = empty-way w (end (terms c service tei) (ringing h.repeats []) []) [] h.near refl in
+        inl (no-sabme w none, stays w (IsCalled past b) none (inr (inr (inl h))))
+    far-takes (inr (inr (inr h))) x = inl (told-no w h.n h.near, inr (inr (inr (up-far past w h takes tt x))))
 
-  -- an act that takes nothing leaves the count
-  far-quiet : (n : ℕ) (w : Wire) (act : Act) → takes_sabme (at_far act) w ≡ false → Goes n (done act w) → Goes (more act w + n) (done act w)
-  far-quiet n w act none h = same-goes n _ (done act w) (same-count _ n n none refl) h
+  -- ---- while it is down
 
-  silent-goes : (n : ℕ) (w : Wire) (act : Act) → (act ≡ takes → ⊥) → IsFullTalkOf service tei act → IsTimelyOf act (turned w) → Waits act w → Goes n w → Goes n (done act w)
-  silent-goes n w act not is x y (inl (e, h)) = inl (e, other-acts down [] refl refl w h act y not)
-  silent-goes n w act not is x y (inr (j, e, inl h)) = as-called n j (done act w) e (inl (other-acts up (its_far j) refl (called-quiet (terms d service tei)) w h act y not))
-  silent-goes n w act not is x y (inr (j, e, inr h)) = far-other n j w e act is x y h
+  module _ (w : Wire) where
+    down-acts : Down w.far → (act : Act) → (act ≡ takes → ⊥) → IsFullTalkOf service tei act → Down (acting act (turned w)).near
+    down-acts h (requests r) not is =
+        for-asked service tei (λ r. Down (happens (request r) w.far)) (λ octets. subst Down (sym (asks-refused service tei d q [] w.far down h (λ octets none. cc none) octets)) h)
+        (subst Down (sym (busy-refused service tei d q [] w.far down h refl)) h) (subst Down (sym (ready-refused service tei d q [] w.far down h refl)) h) r is
+    down-acts h (times_out timer) not is =
+        each-timer service tei (λ timer. Down (happens (expiry timer) w.far))
+        (held-expired service tei q [] d w.far down h (timers.T200 service tei) T200 (λ l. refl) (record { its_notes = refl; no_unit = refl }) refl)
+        (held-expired service tei q [] d w.far down h (timers.T203 service tei) T203 (λ l. refl) (record { its_notes = refl; no_unit = refl }) refl) timer is
+    down-acts h gives not is = gives-nothing service tei d q [] w.far down h refl
+    down-acts h takes not is = absurd (not refl)
+    down-acts h loses not is = held-lost service tei q [] d w.far down h
 
-  takes-goes : (n : ℕ) (w : Wire) → IsFullTalkOf service tei takes → IsTimelyOf takes (turned w) → Goes n w → Goes (more takes w + n) (done takes w)
-  takes-goes n w is x (inl (e, h)) = down-takes n w e h
-  takes-goes n w is x (inr (j, e, inl h)) = up-takes n j w e h
-  takes-goes n w is x (inr (j, e, inr h)) = far-takes-one n j w e is x h
+    down-far : Rs Down w → (act : Act) → (act ≡ takes → ⊥) → IsFullTalkOf service tei act → Rs Down (done act w)
+    down-far h act not is = all-far Down Down w (done act w) (far-same act not (turned w)) (λ y. down-acts y act not is) h
 
-  far-step : (n : ℕ) (w : Wire) → Goes n w → (act : Act) → IsFullTalkOf service tei act → IsTimelyOf act (turned w) → Waits act w → Goes (more act w + n) (done act w)
-  far-step n w h (requests r) is x y = far-quiet n w (requests r) refl (silent-goes n w (requests r) (λ e. cc e) is x y h)
-  far-step n w h (times_out timer) is x y = far-quiet n w (times_out timer) refl (silent-goes n w (times_out timer) (λ e. cc e) is x y h)
-  far-step n w h gives is x y = far-quiet n w gives refl (silent-goes n w gives (λ e. cc e) is x y h)
-  far-step n w h takes is x y = takes-goes n w is x h
-  far-step n w h loses is x y = far-quiet n w loses refl (silent-goes n w loses (λ e. cc e) is x y h)
+    there : (P : Station → Type 0) → Rs P w → P w.far
+    there P (inl h) = h.far
+    there P (inr (inl h)) = h.far
+    there P (inr (inr h)) = h.far
 
-  nothing-more : (n : ℕ) → 0 + n ≡ n
-  nothing-more n = omega arith
+    down-takes : Rs Down w → ((takes_sabme w ≡ false) × Rs Down (done takes w)) ⊎ ((takes_sabme w ≡ true) × R (Waiting (indicated service tei ∷ []) false) [] [] (done takes w))
+    down-takes (inl h) =
+        let none = empty-way w (end (terms c service tei) (ringing h.repeats []) []) [] h.near refl in
+        inl (no-sabme w none, stays w (Rs Down) none (inl h))
+    down-takes (inr (inl h)) =
+        let none = empty-way w (end (terms c service tei) (ringing h.repeats (its_sabme ∷ [])) []) [] h.near refl in
+        inl (no-sabme w none, stays w (Rs Down) none (inr (inl h)))
+    down-takes (inr (inr h)) =
+        let was : phases.Rings service tei c d p q [] (sabme (terms c service tei) ∷ []) w = record { repeats = h.repeats; near = h.near; far = h.far } in
+        let now = first_ringing.answers service tei c d p q face back rt ru w was in
+        inr (
+          ap (λ way. is_any way && length (heard_in w.near) == 0) h.near.stands.way ∙ ap (λ ts. length ts == 0) h.near.heard,
+          record {
+            repeats = now.repeats;
+            near = now.near;
+            far = record {
+              M = end (terms d service tei) answering [];
+              old = [];
+              post = [];
+              held = now.far;
+              waits = refl;
+              delivered = refl;
+              rising = omega arith;
+              poised = record {
+                up = refl;
+                a = refl;
+                s = refl;
+                r = refl;
+                rejecting = refl;
+                sane = record { timed = record { timer = inr (refl, omega arith) }; heeds = record { heeds = λ busy. absurd (true≢false (sym busy)) } };
+                reports = tt;
+                idle = tt;
+                one = omega arith;
+              };
+              flag = refl;
+            };
+          },
+        )
 
-  step : (n : ℕ) (k : Doing) → IsFullTalk service tei k → (w : Wire) → IsPatient k w → Goes n w → Goes (cond {A = ℕ} (takes_sabme k w) 1 0 + n) (doing k w)
-  step n (at_near act) is w x h = same-goes n _ (acting act w) (nothing-more n) (near-step n w h act is x)
-  step n (at_far act) is w x h = far-step n w h act is x.0 x.1
+    down-near : Rs Down w → (act : Act) → IsFullTalkOf service tei act → IsTimelyOf act w → Rs Down (acting act w)
+    down-near h (requests r) is x = near-rings service tei c d p q face back rt ru Down w h (requests r) (λ e. cc e) is x
+    down-near h (times_out timer) is x = near-rings service tei c d p q face back rt ru Down w h (times_out timer) (λ e. cc e) is x
+    down-near h gives is x = near-rings service tei c d p q face back rt ru Down w h gives (λ e. cc e) is x
+    down-near h takes is x = subst (Rs Down) (sym (takes-none w ((there Down h).stands.way))) h
+    down-near h loses is x = near-rings service tei c d p q face back rt ru Down w h loses (λ e. cc e) is x
 
-  added : (a b n : ℕ) → (a + b) + n ≡ b + (a + n)
-  added a b n = omega arith
+  -- ---- the whole call
 
-  pub patient-runs : (ds : List Doing) → All (IsFullTalk service tei) ds → (w : Wire) → StayPatient ds w → (n : ℕ) → Goes n w → Goes (calls ds w + n) (doing_all ds w)
-  unfolding doing_all StayPatient calls
-  patient-runs [] all w x n h = same-goes n _ w (nothing-more n) h
-  patient-runs (k ∷ ds) all w x n h =
-      let taken = cond {A = ℕ} (takes_sabme k w) 1 0 in
-      same-goes _ _ (doing_all ds (doing k w)) (added taken (calls ds (doing k w)) n)
-      (patient-runs ds (All-tail (IsFullTalk service tei) k ds all) (doing k w) x.1 (taken + n) (step n k (All-head (IsFullTalk service tei) k ds all) w x.0 h))
+  abbrev pub Phase : Called → Wire → Type 0
+  Phase x v = ((x.told ≡ []) × (x.sent ≡ false) × Rs Down v) ⊎ (((length x.told == 0) ≡ false) × IsCalled x.told x.sent v)
 
-  -- ---- what was told
+  pub record Goes (x : Called) (w : Wire) : Type 0 where
+    pub v : Wire
+    pub earlier : List (List ℕ)
+    pub is : w ≡ with_before earlier v
+    pub given_up : x.given_up ≡ length earlier
+    pub phase : Phase x v
 
-  nothing-yet : (all told : List LineTold) → told ≡ [] → IsBeginningOf all told
-  nothing-yet all told e = (all, ap (λ ts. ts ++ all) e)
+  module _ (x : Called) (v : Wire) (g : List (List ℕ)) (up : x.given_up ≡ length g) where
+    near-goes : Phase x v → (act : Act) → IsFullTalkOf service tei act → IsTimelyOf act (with_before g v) → Goes x (acting act (with_before g v))
+    near-goes h act is timely = record { v = acting act v; earlier = g; is = near-before act g v; given_up = up; phase = go h }
+      where
+        go : Phase x v → Phase x (acting act v)
+        go (inl (told, sent, h)) = inl (told, sent, down-near v h act is (timely-near act g v timely))
+        go (inr (some, h)) = inr (some, near-called x.told x.sent v h act is (timely-near act g v timely))
 
-  far-told : (m : End) (past : List LineTold) (w : Wire) → R m past w → heard_in w.far ≡ past ++ map (data_told service tei) m.delivered
-  far-told m past w (inl h) = h.far.heard
-  far-told m past w (inr (inl h)) = h.far.heard
-  far-told m past w (inr (inr h)) = h.far.heard
+    far-goes : (act : Act) → Phase x (done act v) → Goes x (done act (with_before g v))
+    far-goes act h = record { v = done act v; earlier = g; is = far-before act g v; given_up = up; phase = h }
 
-  abbrev NearSoFar : Wire → Type 0
-  NearSoFar w = IsBeginningOf (all_told service tei (confirmed service tei) w.far) (heard_in w.near)
+    stirs-goes : Phase x v → (act : Act) → (act ≡ takes → ⊥) → (act ≡ gives → ⊥) → (act ≡ loses → ⊥) → IsFullTalkOf service tei act → IsTimelyOf act (turned (with_before g v))
+        → Goes x (done act (with_before g v))
+    stirs-goes h act untaken not nor is timely = far-goes act (go h)
+      where
+        go : Phase x v → Phase x (done act v)
+        go (inl (told, sent, h)) = inl (told, sent, down-far v h act untaken is)
+        go (inr (some, h)) = inr (some, far-stirs x.told x.sent v act untaken not nor is (timely-far act g v timely) h)
 
-  abbrev FarSoFar : List LineTold → Wire → Type 0
-  FarSoFar past w = IsBeginningOf (past ++ map (data_told service tei) w.near.granted) (heard_in w.far)
+    loses-goes : Phase x v → Goes x (done loses (with_before g v))
+    loses-goes h = far-goes loses (go h)
+      where
+        go : Phase x v → Phase x (done loses v)
+        go (inl (told, sent, h)) = inl (told, sent, down-far v h loses (λ e. cc e) tt)
+        go (inr (some, h)) = inr (some, far-loses x.told x.sent v h)
 
-  called-so_far : (j : ℕ) (w : Wire) → Called j w → NearSoFar w × FarSoFar (its_far j) w
-  called-so_far j w (inl h) = (
-    nothing-yet _ (heard_in w.near) (not-told service tei c d p q face back rt ru up (its_far j) refl w h),
-    none-yet service tei (its_far j) w.near.granted (heard_in w.far) (far-told up (its_far j) w h),
-  )
-  called-so_far j w (inr (inl h)) = (nothing-yet _ (heard_in w.near) h.near.heard, none-yet service tei (its_far j) w.near.granted (heard_in w.far) h.far.heard)
-  called-so_far j w (inr (inr (inl h))) = (nothing-yet _ (heard_in w.near) h.near.heard, none-yet service tei (its_far j) w.near.granted (heard_in w.far) h.far.heard)
-  called-so_far j w (inr (inr (inr h))) =
-      let there = h.loose.joined.there.delivered in
-      let other = h.loose.joined.back.delivered in (
-        so-many service tei its_near h.n.link.r w.far.granted (heard_in w.near)
-            (h.near.heard ∙ ap (λ xs. its_near ++ map (data_told service tei) xs) (other ∙ ap (take h.n.link.r) (sym h.far.granted))),
-        so-many service tei (its_far j) h.m.link.r w.near.granted (heard_in w.far)
-            (h.far.heard ∙ ap (λ xs. its_far j ++ map (data_told service tei) xs) (there ∙ ap (take h.m.link.r) (sym h.near.granted))),
-      )
+    gives-goes : Phase x v → Goes (record x { sent = x.sent || gives_information v.far }) (done gives (with_before g v))
+    gives-goes h = record { v = done gives v; earlier = g; is = far-before gives g v; given_up = up; phase = go h }
+      where
+        go : Phase x v → Phase (record x { sent = x.sent || gives_information v.far }) (done gives v)
+        go (inl (told, sent, h)) =
+            inl (
+              told,
+              (λ i. sent i || none-informed service tei d q [] (turned v) down (there v Down h) refl i),
+              down-far v h gives (λ e. cc e) tt,
+            )
+        go (inr (some, h)) = inr (some, far-gives x.told x.sent v h)
 
-  calls-are : (j : ℕ) → told_of_calls service tei (suc j) ≡ its_far j
-  unfolding told_of_calls
-  calls-are j = refl
+    abbrev taken : Called
+    taken = with_sabme service tei (length (g ++ v.far.granted)) x
 
-  pub so-far : (n : ℕ) (w : Wire) → Goes n w → NearSoFar w × FarSoFar (told_of_calls service tei n) w
-  so-far n w (inl (e, h)) = (
-    nothing-yet _ (heard_in w.near) (not-told service tei c d p q face back rt ru down [] refl w h),
-    nothing-yet _ (heard_in w.far) (far-told down [] w h),
-  )
-  so-far n w (inr (j, e, h)) =
-      let both = called-so_far j w h in
-      (both.0, subst (λ past. FarSoFar past w) (sym (ap (told_of_calls service tei) e ∙ calls-are j)) both.1)
+    by-sent : (b : Bool) (y : List (List ℕ)) → cond b (length (g ++ y)) x.given_up ≡ length (g ++ cond b y [])
+    by-sent true y = refl
+    by-sent false y = up ∙ ap length (sym (append-nil g))
 
-  -- ---- where no turn is left, and T200 runs at neither end
+    sabme-goes : TookSabme service tei c d p q face back rt ru x.told x.sent v (done takes v) → (length x.told == 0) ≡ false → Goes taken (done takes (with_before g v))
+    sabme-goes k some =
+        let more = cond x.sent v.far.granted [] in
+        record {
+          v = k.v;
+          earlier = g ++ more;
+          is = far-before takes g v ∙ ap (with_before g) k.is ∙ (λ i. record { near = k.v.near; far = record k.v.far { granted = sym (append_assoc g more k.v.far.granted) i } });
+          given_up = by-sent x.sent v.far.granted;
+          phase = inr (more-told x.told (told_of_sabme service tei x), subst (λ t. IsCalled (x.told ++ t ∷ []) false k.v) (sym told-is) (by k.far));
+        }
+      where
+        told-is : told_of_sabme service tei x ≡ cond x.sent (renewed service tei) (error_f service tei)
+        told-is = ap (λ b. cond b (indicated service tei) (cond x.sent (renewed service tei) (error_f service tei))) some
 
-  rings-run : (k : ℕ) (ws : List Rattle.model_link.specs.declared.frames.ControlFrame.ControlFrame) (way : List Parts) (w : Wire) → Held c service tei p [] w.near (end (terms c service tei) (ringing k ws) way)
-      → runs_t200 service tei w.near ≡ true
-  rings-run k ws way w h = ap (λ (l : Link). runs T200 l.running) (link-is service tei c p w.near (end (terms c service tei) (ringing k ws) way) h.stands)
+        by : Waiting (more_told service tei c d p q face back rt ru x.sent x.told) false k.v.far ⊎ Away (more_told service tei c d p q face back rt ru x.sent x.told) false k.v.far
+            → IsCalled (more_told service tei c d p q face back rt ru x.sent x.told) false k.v
+        by (inl y) = inr (inl (record { repeats = k.repeats; near = k.near; far = y }))
+        by (inr y) = inl (inl (record { repeats = k.repeats; near = k.near; far = y }))
 
-  stops : (A : Type 0) (w : Wire) → runs_t200 service tei w.near ≡ true → runs_t200 service tei w.near ≡ false → A
-  stops A w runs none = absurd (true≢false (sym runs ∙ none))
-
-  ringing-stops : (A : Type 0) (m : End) (past : List LineTold) (w : Wire) → R m past w → runs_t200 service tei w.near ≡ false → A
-  ringing-stops A m past w (inl h) none = stops A w (rings-run h.repeats [] [] w h.near) none
-  ringing-stops A m past w (inr (inl h)) none = stops A w (rings-run h.repeats (its_sabme ∷ []) [] w h.near) none
-  ringing-stops A m past w (inr (inr h)) none = stops A w (rings-run h.repeats [] (sabme (terms c service tei) ∷ []) w h.near) none
-
-  abbrev All_ : List LineTold → Wire → Type 0
-  All_ past w =
-      (heard_in w.near ≡ all_told service tei (confirmed service tei) w.far) × (heard_in w.far ≡ past ++ map (data_told service tei) w.near.granted)
-      × Rests service tei w.near × Rests service tei w.far
-
-  called-all : (j : ℕ) (w : Wire) → Called j w → IsStill w → runs_t200 service tei w.near ≡ false → runs_t200 service tei w.far ≡ false → All_ (its_far j) w
-  called-all j w (inl h) still none none' = ringing-stops (All_ (its_far j) w) up (its_far j) w h none
-  called-all j w (inr (inl h)) still none none' = stops (All_ (its_far j) w) w (rings-run h.repeats [] [] w h.near) none
-  called-all j w (inr (inr (inl h))) still none none' = stops (All_ (its_far j) w) w (rings-run h.repeats [] [] w h.near) none
-  called-all j w (inr (inr (inr h))) still none none' =
-      let other = loose-turned-up service tei c d p q its_near (its_far j) w h in
-      let turned-still : IsStill (turned w) = record { near = still.far; far = still.near; near_way = still.far_way; far_way = still.near_way } in (
-        loose-told service tei d c q p back (its_far j) its_near (turned w) other turned-still none',
-        loose-told service tei c d p q face its_near (its_far j) w h still none,
-        loose-rests service tei c d p q face its_near (its_far j) w h still none,
-        loose-rests service tei d c q p back (its_far j) its_near (turned w) other turned-still none',
-      )
-
-  pub all-heard : (n : ℕ) (w : Wire) → Goes n w → IsStill w → runs_t200 service tei w.near ≡ false → runs_t200 service tei w.far ≡ false → All_ (told_of_calls service tei n) w
-  all-heard n w (inl (e, h)) still none none' = ringing-stops (All_ (told_of_calls service tei n) w) down [] w h none
-  all-heard n w (inr (j, e, h)) still none none' =
-      subst (λ past. All_ past w) (sym (ap (told_of_calls service tei) e ∙ calls-are j)) (called-all j w h still none none')
-
-  -- both are up there
-  pub up-where : (n : ℕ) (w : Wire) → Goes n w → runs_t200 service tei w.near ≡ false → (j : ℕ) × LooseUp service tei c d p q its_near (its_far j) w
-  up-where n w (inl (e, h)) none = ringing-stops _ down [] w h none
-  up-where n w (inr (j, e, inl h)) none = ringing-stops _ up (its_far j) w h none
-  up-where n w (inr (j, e, inr (inl h))) none = stops _ w (rings-run h.repeats [] [] w h.near) none
-  up-where n w (inr (j, e, inr (inr (inl h)))) none = stops _ w (rings-run h.repeats [] [] w h.near) none
-  up-where n w (inr (j, e, inr (inr (inr h)))) none = (j, h)
-
-nothing-added : (n : ℕ) → n + 0 ≡ n
-nothing-added n = omega arith
-
-pub patient-goes : (service : Service) (c d : Config) (line other tei : ℕ) (ds : List Doing) (can : CanCall c line d other tei) → All (IsFullTalk service tei) ds
-    → let x = setting service c d line other tei can in let begun = calling service tei c line d other in StayPatient ds begun
-    → Rattle.laws_wire.proofs.UaLostRun.Goes service tei c d 0 0 x.face x.back x.near x.far (calls ds begun) (doing_all ds begun)
-patient-goes service c d line other tei ds can talk patient =
-    let x = setting service c d line other tei can in
-    let begun = calling service tei c line d other in
-    let first : Ringing service tei c d 0 0 x.face x.back x.near x.far (end (terms d service tei) fresh []) [] begun =
-    inr (inl (record { repeats = 0; near = x.near_held; far = x.far_held })) in
-    let h = patient-runs service tei c d 0 0 x.face x.back x.near x.far ds talk begun patient 0 (inl (refl, first)) in
-    subst (λ k. Rattle.laws_wire.proofs.UaLostRun.Goes service tei c d 0 0 x.face x.back x.near x.far k (doing_all ds begun)) (nothing-added (calls ds begun)) h
-
-pub lossy-calls-come-through : LossyCallsComeThrough
-lossy-calls-come-through service c d line other tei ds can talk = λ patient.
-    let x = setting service c d line other tei can in
-    let begun = calling service tei c line d other in
-    let w = doing_all ds begun in
-    let n = calls ds begun in
-    let h = patient-goes service c d line other tei ds can talk patient in
-    let so = so-far service tei c d 0 0 x.face x.back x.near x.far n w h in
-    record {
-      near_so_far = so.0;
-      far_so_far = so.1;
-      near = λ still none none'. (all-heard service tei c d 0 0 x.face x.back x.near x.far n w h still none none').0;
-      far = λ still none none'. (all-heard service tei c d 0 0 x.face x.back x.near x.far n w h still none none').1;
-      rest = λ still none none'. let all = all-heard service tei c d 0 0 x.face x.back x.near x.far n w h still none none' in (all.2, all.3);
+    first-goes : x.told ≡ [] → x.sent ≡ false → R (Waiting (indicated service tei ∷ []) false) [] [] (done takes v) → Goes taken (done takes (with_before g v))
+    first-goes told sent h = record {
+      v = done takes v;
+      earlier = g;
+      is = far-before takes g v;
+      given_up = ap (λ b. cond b (length (g ++ v.far.granted)) x.given_up) sent ∙ up;
+      phase = inr (more-told x.told (told_of_sabme service tei x), subst (λ past. IsCalled past false (done takes v)) (sym told-is) (inr (inl h)));
     }
+      where
+        told-is : x.told ++ told_of_sabme service tei x ∷ [] ≡ indicated service tei ∷ []
+        told-is = ap (λ ts. ts ++ cond (length ts == 0) (indicated service tei) (cond x.sent (renewed service tei) (error_f service tei)) ∷ []) told
+
+    abbrev After : Bool → Type 0
+    After b = Goes (cond b taken x) (done takes (with_before g v))
+
+    takes-goes : Phase x v → Goes (cond (takes_sabme v) taken x) (done takes (with_before g v))
+    takes-goes (inl (told, sent, h)) = go (down-takes v h)
+      where
+        go : ((takes_sabme v ≡ false) × Rs Down (done takes v)) ⊎ ((takes_sabme v ≡ true) × R (Waiting (indicated service tei ∷ []) false) [] [] (done takes v)) → After (takes_sabme v)
+        go (inl (e, y)) = subst After (sym e) (far-goes takes (inl (told, sent, y)))
+        go (inr (e, y)) = subst After (sym e) (first-goes told sent y)
+    takes-goes (inr (some, h)) = go (far-takes x.told x.sent v h tt)
+      where
+        go : Takes x.told x.sent v → After (takes_sabme v)
+        go (inl (e, y)) = subst After (sym e) (far-goes takes (inr (some, y)))
+        go (inr (e, y)) = subst After (sym e) (sabme-goes y some)
+
+  step : (x : Called) (k : Doing) → IsFullTalk service tei k → (w : Wire) → IsPatient k w → Goes x w → Goes (seeing service tei k w x) (doing k w)
+  step x k is w patient h = subst (λ w. IsPatient k w → Goes (seeing service tei k w x) (doing k w)) (sym h.is) (by k is) patient
+    where
+      by : (k : Doing) → IsFullTalk service tei k → IsPatient k (with_before h.earlier h.v) → Goes (seeing service tei k (with_before h.earlier h.v) x) (doing k (with_before h.earlier h.v))
+      by (at_near act) is timely = near-goes x h.v h.earlier h.given_up h.phase act is timely
+      by (at_far (requests r)) is timely = stirs-goes x h.v h.earlier h.given_up h.phase (requests r) (λ e. cc e) (λ e. cc e) (λ e. cc e) is timely
+      by (at_far (times_out timer)) is timely = stirs-goes x h.v h.earlier h.given_up h.phase (times_out timer) (λ e. cc e) (λ e. cc e) (λ e. cc e) is timely
+      by (at_far gives) is timely = gives-goes x h.v h.earlier h.given_up h.phase
+      by (at_far takes) is timely = takes-goes x h.v h.earlier h.given_up h.phase
+      by (at_far loses) is timely = loses-goes x h.v h.earlier h.given_up h.phase
+
+  pub patient-runs : (ds : List Doing) → All (IsFullTalk service tei) ds → (w : Wire) → StayPatient ds w → (x : Called) → Goes x w → Goes (seen service tei ds w x) (doing_all ds w)
+  unfolding doing_all StayPatient seen
+  patient-runs [] all w patient x h = h
+  patient-runs (k ∷ ds) all w patient x h =
+      patient-runs ds (All-tail (IsFullTalk service tei) k ds all) (doing k w) patient.1 (seeing service tei k w x) (step x k (All-head (IsFullTalk service tei) k ds all) w patient.0 h)

@@ -1,16 +1,18 @@
 -- A call in which frames are lost, UA too, and either end may be busy: what is told then.
-use Rattle.std.specs.Prelude.{◌≡◌, ◌≢◌, ℕ, zero, suc, ◌+◌, ◌==◌, Bool, false, ◌&&◌, List, [], ◌∷◌, ◌++◌, length, map, replicate, All, if◌then◌else◌}
+use Rattle.std.specs.Prelude.{◌≡◌, ℕ, ◌==◌, Bool, false, ◌&&◌, ◌||◌, List, [], ◌∷◌, ◌++◌, length, map, flat_map, drop, All, if◌then◌else◌}
+use Rattle.std.specs.List.{list_any}
 use Rattle.lapd_frame.specs.declared.notes.ErrorCode.TheVariants.{F}
-use Rattle.lapd_frame.specs.declared.notes.Note.TheVariants.{Error}
+use Rattle.lapd_frame.specs.declared.notes.Note.TheVariants.{Error, EstablishIndication}
 use Rattle.lapd_frame.specs.declared.services.Service.{Service}
 use Rattle.model_link.specs.Link.{state_number, queue_of}
+use Rattle.model_link.specs.Sound.{is_information}
 use Rattle.model_line.specs.declared.config.Config.{Config}
-use Rattle.model_line.specs.Event.{LineTold, nothing}
+use Rattle.model_line.specs.Event.{LineTold, nothing, next}
 use Rattle.model_line.specs.Request.{Request, Data, SetBusy, ClearBusy}
-use Rattle.laws_wire.specs.Wire.{Station, Wire, Act, requests, times_out, takes, turned, Doing, at_near, at_far, doing, doing_all, is_any, IsStill}
-use Rattle.laws_wire.specs.Call.{calling, CanCall, confirmed, indicated, data_told, all_told, IsBeginningOf}
+use Rattle.laws_wire.specs.Wire.{Station, frames_by, answered, Wire, Act, requests, times_out, gives, takes, turned, Doing, at_near, at_far, doing, doing_all, is_any, IsStill}
+use Rattle.laws_wire.specs.Call.{calling, CanCall, confirmed, indicated, data_told, IsBeginningOf}
 use Rattle.laws_wire.specs.Losing.{IsOfLink, heard_in}
-use Rattle.laws_wire.specs.Facing.{end_of}
+use Rattle.laws_wire.specs.Facing.{read_as, end_of}
 use Rattle.laws_wire.specs.Timely.{IsTimelyOf}
 use Rattle.laws_wire.specs.Arriving.{runs_t200}
 
@@ -30,55 +32,78 @@ abbrev pub IsFullTalk : Service → ℕ → Doing → Type 0
 IsFullTalk service tei (at_near act) = IsFullTalkOf service tei act
 IsFullTalk service tei (at_far act) = IsFullTalkOf service tei act
 
--- The end that was called waits: before the other was told anything, its layer 3 asks for nothing, and none of its timers expires.
--- Any of its frames may be lost.
-abbrev pub Waits : Act → Wire → Type 0
-Waits (requests r) w = heard_in w.near ≢ []
-Waits (times_out timer) w = heard_in w.near ≢ []
-Waits other w = Unit {0}
-
 -- T200 is long enough at both ends, and N200 is not used up.
 abbrev pub IsPatient : Doing → Wire → Type 0
 IsPatient (at_near act) w = IsTimelyOf act w
-IsPatient (at_far act) w = IsTimelyOf act (turned w) × Waits act w
+IsPatient (at_far act) w = IsTimelyOf act (turned w)
 
 unfoldable pub StayPatient : List Doing → Wire → Type 0
 StayPatient [] w = Unit {0}
 StayPatient (d ∷ ds) w = IsPatient d w × StayPatient ds (doing d w)
 
--- How often it takes SABME: what it takes before the other was told anything.
-abbrev pub takes_sabme : Doing → Wire → Bool
-takes_sabme (at_far takes) w = is_any w.near.way && length (heard_in w.near) == 0
-takes_sabme other w = false
+-- What is seen of the end that is called: what it is told of each SABME that it takes, whether an I-frame of it went since the
+-- latest, and how many of the contents that it was granted are given up.
+pub record Called : Type 0 where
+  pub told : List LineTold
+  pub sent : Bool
+  pub given_up : ℕ
 
-unfoldable pub calls : List Doing → Wire → ℕ
-calls [] w = 0
-calls (d ∷ ds) w = (if takes_sabme d w then 1 else 0) + calls ds (doing d w)
+abbrev pub uncalled : Called
+uncalled = record { told = []; sent = false; given_up = 0 }
 
--- The first is told as an establishment, and each further one as error F (Q.921 clauses 5.5.1.2, 5.5.1.3 and 5.7, appendix II).
+-- The first SABME is told as an establishment. Each further one comes as UA was lost, and is told as error F; where an I-frame went
+-- since the one before, with an establishment, and what was granted up to then is given up (Q.921 clauses 5.5.1.2, 5.5.1.3 and 5.7,
+-- appendix II).
 abbrev pub error_f : Service → ℕ → LineTold
 error_f service tei = record nothing { notes = Error service tei F ∷ [] }
 
-unfoldable pub told_of_calls : Service → ℕ → ℕ → List LineTold
-told_of_calls service tei zero = []
-told_of_calls service tei (suc again) = indicated service tei ∷ replicate again (error_f service tei)
+abbrev pub renewed : Service → ℕ → LineTold
+renewed service tei = record nothing { notes = Error service tei F ∷ EstablishIndication service tei ∷ [] }
+
+abbrev pub told_of_sabme : Service → ℕ → Called → LineTold
+told_of_sabme service tei x = if length x.told == 0 then indicated service tei else if x.sent then renewed service tei else error_f service tei
+
+abbrev pub with_sabme : Service → ℕ → ℕ → Called → Called
+with_sabme service tei granted x =
+    record { told = x.told ++ told_of_sabme service tei x ∷ []; sent = false; given_up = if x.sent then granted else x.given_up }
+
+-- It takes SABME where it takes a frame before the other was told anything.
+abbrev pub takes_sabme : Wire → Bool
+takes_sabme w = is_any w.near.way && length (heard_in w.near) == 0
+
+abbrev pub gives_information : Station → Bool
+gives_information s = list_any (λ f. is_information f.control) (flat_map (read_as s.card.config) (frames_by (answered next s)))
+
+abbrev pub seeing : Service → ℕ → Doing → Wire → Called → Called
+seeing service tei (at_far takes) w x = if takes_sabme w then with_sabme service tei (length w.far.granted) x else x
+seeing service tei (at_far gives) w x = record x { sent = x.sent || gives_information w.far }
+seeing service tei other w x = x
+
+unfoldable pub seen : Service → ℕ → List Doing → Wire → Called → Called
+seen service tei [] w x = x
+seen service tei (d ∷ ds) w x = seen service tei ds (doing d w) (seeing service tei d w x)
 
 -- A link is in state 7, and keeps nothing, as all was acknowledged.
 abbrev pub Rests : Service → ℕ → Station → Type 0
 Rests service tei s = (state_number (end_of service tei s).link.state ≡ 7) × (queue_of (end_of service tei s).link ≡ [])
 
--- Behind that each is told the data of the other, in order, each once, and nothing else: all of it where no turn is left and T200
--- runs at neither end; and then both rest.
-pub record ToldSo (service : Service) (tei : ℕ) (taken : ℕ) (w : Wire) : Type 0 where
-  pub near_so_far : IsBeginningOf (all_told service tei (confirmed service tei) w.far) (heard_in w.near)
-  pub far_so_far : IsBeginningOf (told_of_calls service tei taken ++ map (data_told service tei) w.near.granted) (heard_in w.far)
-  pub near : IsStill w → runs_t200 service tei w.near ≡ false → runs_t200 service tei w.far ≡ false →
-      heard_in w.near ≡ all_told service tei (confirmed service tei) w.far
-  pub far : IsStill w → runs_t200 service tei w.near ≡ false → runs_t200 service tei w.far ≡ false →
-      heard_in w.far ≡ told_of_calls service tei taken ++ map (data_told service tei) w.near.granted
+-- Each SABME is told at once. Then each is told the data of the other that is not given up, in order, each once, and nothing else: all
+-- of it where no turn is left and T200 runs at neither end; and then both rest.
+abbrev pub all_kept : Service → ℕ → Called → Station → List LineTold
+all_kept service tei x far = confirmed service tei ∷ map (data_told service tei) (drop x.given_up far.granted)
+
+abbrev pub all_of_calls : Service → ℕ → Called → Station → List LineTold
+all_of_calls service tei x near = x.told ++ map (data_told service tei) near.granted
+
+pub record ToldSo (service : Service) (tei : ℕ) (x : Called) (w : Wire) : Type 0 where
+  pub far_at_once : IsBeginningOf (heard_in w.far) x.told
+  pub near_so_far : IsBeginningOf (all_kept service tei x w.far) (heard_in w.near)
+  pub far_so_far : IsBeginningOf (all_of_calls service tei x w.near) (heard_in w.far)
+  pub near : IsStill w → runs_t200 service tei w.near ≡ false → runs_t200 service tei w.far ≡ false → heard_in w.near ≡ all_kept service tei x w.far
+  pub far : IsStill w → runs_t200 service tei w.near ≡ false → runs_t200 service tei w.far ≡ false → heard_in w.far ≡ all_of_calls service tei x w.near
   pub rest : IsStill w → runs_t200 service tei w.near ≡ false → runs_t200 service tei w.far ≡ false → Rests service tei w.near × Rests service tei w.far
 
 abbrev pub LossyCallsComeThrough : Type 0
 LossyCallsComeThrough =
     (service : Service) (c d : Config) (line other tei : ℕ) (ds : List Doing) → CanCall c line d other tei → All (IsFullTalk service tei) ds →
-    let begun = calling service tei c line d other in StayPatient ds begun → ToldSo service tei (calls ds begun) (doing_all ds begun)
+    let begun = calling service tei c line d other in StayPatient ds begun → ToldSo service tei (seen service tei ds begun uncalled) (doing_all ds begun)

@@ -13,10 +13,8 @@
 //! # Open
 //!
 //! What is told after an error other than F of a lost UA. Whether rest is reached after an error, with an end busy, or
-//! behind a release: that the weight which bounds the turns (`proofs/Weighing`) falls there, too, was not tried. The called end's
-//! requests and timers before its UA is heard: what is told then `specs/WorkedAnswering` shows of one run, and its timers may well
-//! be harmless, but the proof (`proofs/UaLost`) has the called link as SABME leaves it. Losses where both ends
-//! call, with other requests, links or lines, or from elsewhere than nothing. That a given T200 is long enough.
+//! behind a release: that the weight which bounds the turns (`proofs/Weighing`) falls there, too, was not tried. Losses where both
+//! ends call, with other requests, links or lines, or from elsewhere than nothing. That a given T200 is long enough.
 #![tactic(auto)]
 
 mod answering;

@@ -1,0 +1,419 @@
+-- The link of the end that is called, before its caller is up: it has received nothing but SABME.
+use Rattle.laws_wire.proofs.Vocabulary.{◌≡◌, ℕ, ◌+◌, ◌<◌, ◌≤◌, ◌==◌, Bool, true, false, cond, not, ◌||◌, IsTrue, List, [], ◌∷◌, ◌++◌, take, drop, Option, None, Some, refl, sym, ap, subst, ◌∙◌, ◌⊎◌, inl, inr, append_assoc, true≢false, eqb-true, ne_eqb, arith, flat_map, list_any, All, All-head, front_rest, Refusal, Parts, State, TeiAssigned, AwaitingEstablishment, AwaitingRelease, Established, TimerRecovery, Control, Sabme, LinkTimer, T203, ControlFrame, Terms, Link, is_multiple_frame, has_outstanding, received, requested, expired, offer, course, given, given_of, is_running, begun, frame_given, IsInRange, IsWaitingFrame, End, frame_of, frames_of, frames-append, kinds-append, has_room, Reports, still, at-first, offer-gave, Calm, Kind, enquiry, report, numbered, answer, rejection, alien, kind_of, kinds_of, tally, tally-push, one_enquiry, one_answer, one_rejection, line, most, is_recovering, Sane, IsMildRequest}
+use Rattle.lapd_frame.specs.declared.notes.ErrorCode.TheVariants as code
+use Rattle.model_link.specs.Events.{frame}
+use Rattle.model_link.specs.Events as link
+use Rattle.model_link.specs.Machine
+use Rattle.model_link.specs.Machine.{after}
+use Rattle.model_link.specs.Offers
+use Rattle.model_link.specs.Requests as requests
+use Rattle.model_link.specs.Sound.{IsSound, is_information}
+use Rattle.model_link.specs.Steps.{Course, ◌then◌}
+use Rattle.model_link.specs.Words
+use Rattle.model_link.proofs.Direction.{carried-reports, rising-reports}
+use Rattle.model_link.proofs.Facing.{AreReports, IsReport, set_busy_up, clear_busy_up}
+use Rattle.laws_link.proofs.TimedRows.{timed-after}
+use Rattle.laws_link.proofs.OfTwo.Effects.{Grown}
+use Rattle.laws_link.proofs.OfTwo.Going.{asks-went, expires-goes, RanOut}
+use Rattle.laws_link.proofs.OfTwo.HeedingEvents.{heeds-after}
+use Rattle.laws_link.proofs.OfTwo.Staying.{request-stays, timer-stays}
+use Rattle.laws_link.proofs.OfTwo.Trains.{Every, every-push, every-to, Behind, calm-rise}
+use Rattle.laws_wire.specs.Losing.{for_layer_3}
+use Rattle.laws_wire.specs.Answering.{error_f, renewed}
+use Rattle.laws_wire.proofs.Calling.{end, its_ua, sabme}
+use Rattle.laws_wire.proofs.Joint.{Goes, by-up, stays, timer-goes}
+use Rattle.laws_wire.proofs.Loose.{Loose}
+use Rattle.laws_wire.proofs.Ringing.{answered}
+use Rattle.laws_wire.proofs.Speaking.{said_by}
+use Rattle.laws_wire.proofs.TimelyFirst.{firm-first, near-ready}
+
+pub sane-after : (t : Terms) (e : link.Event) (l : Link) → Sane l → Sane (after t e l)
+sane-after t e l h = record { timed = timed-after t e l h.timed; heeds = heeds-after t e l h.heeds }
+
+-- ---- what requests and timers do to a link that is up
+
+-- At most one frame more waits: a report, or an enquiry in state 8, which is asked only where nothing is open.
+abbrev pub Grows : Type 0 → Link → Link → Type 0
+Grows Free l l' =
+    ((l'.waiting ≡ l.waiting) × (most (is_recovering l.state) ≤ most (is_recovering l'.state)))
+    ⊎ ((f : ControlFrame) × (l'.waiting ≡ l.waiting ++ f ∷ []) × (kind_of f.command f.control ≡ report) × (l'.state ≡ l.state))
+    ⊎ ((f : ControlFrame) × (l'.waiting ≡ l.waiting ++ f ∷ []) × (kind_of f.command f.control ≡ enquiry) × (l'.state ≡ TimerRecovery) × (l.state ≡ TimerRecovery → Free))
+
+pub record Stirs (Free : Type 0) (l l' : Link) : Type 0 where
+  pub up : IsTrue (is_multiple_frame l'.state)
+  pub a : l'.a ≡ l.a
+  pub s : l'.s ≡ l.s
+  pub r : l'.r ≡ l.r
+  pub rejecting : l'.rejecting ≡ l.rejecting
+  pub sane : Sane l'
+  pub reports : Reports l.r l.waiting l'.waiting
+  pub grown : Grows Free l l'
+
+same-most : (x y : State) → y ≡ x → most (is_recovering x) ≤ most (is_recovering y)
+same-most x y e = subst (λ z. most (is_recovering x) ≤ most (is_recovering z)) (sym e) (omega arith)
+
+most-one : (b : Bool) → most b ≤ 1
+most-one true = omega arith
+most-one false = omega arith
+
+module _ (t : Terms) (l : Link) (up : IsTrue (is_multiple_frame l.state)) (sane : Sane l) (Free : Type 0) where
+  -- own busy begins or ends
+  module _ (rq : link.Request) (mild : IsMildRequest rq) (g : Goes l (after t (requested rq false) l) []) where
+    pub busy-stirs : Stirs Free l (after t (requested rq false) l)
+    busy-stirs =
+        let went = asks-went t l up rq false mild in
+        record {
+          up = request-stays t l up rq false mild;
+          a = g.still;
+          s = went.s;
+          r = went.r;
+          rejecting = went.rejecting;
+          sane = sane-after t (requested rq false) l sane;
+          reports = g.reports;
+          grown = by-went went.state went.waiting;
+        }
+      where
+        by-went : (after t (requested rq false) l).state ≡ l.state → Grown l.waiting (after t (requested rq false) l).waiting report → Grows Free l (after t (requested rq false) l)
+        by-went state (inl same) = inl (same, same-most l.state _ state)
+        by-went state (inr (f, e, k)) = inr (inl (f, e, k, state))
+
+  by-refusal : (rq : link.Request) (o : Option Refusal) → Goes l (requests.granted t rq (begun l)).link [] → Goes l (elim o as (λ o. Course) [ None ↦ requests.granted t rq (begun l) | Some _ ↦ begun l ]).link []
+  by-refusal rq None g = g
+  by-refusal rq (Some why) g = stays t l
+
+  up-either : (b : Bool) (u v : Course) → IsTrue (is_multiple_frame u.link.state) → IsTrue (is_multiple_frame v.link.state) → IsTrue (is_multiple_frame (cond b u v).link.state)
+  up-either true u v x y = x
+  up-either false u v x y = y
+
+  pub busy-goes : Goes l (after t (requested link.SetBusy false) l) []
+  busy-goes =
+      by-refusal link.SetBusy (requests.refusal t l false link.SetBusy)
+      (by-up t l _ ((set_busy_up t l {S = still l.s}).leads (begun l) (at-first t l)) (up-either l.own_busy _ _ up up))
+
+  pub ready-goes : Goes l (after t (requested link.ClearBusy false) l) []
+  ready-goes =
+      by-refusal link.ClearBusy (requests.refusal t l false link.ClearBusy)
+      (by-up t l _ ((clear_busy_up t l {S = still l.s}).leads (begun l) (at-first t l)) (up-either l.own_busy _ _ up up))
+
+  -- a timer
+  module _ (timer : LinkTimer) (can : l.state ≡ TimerRecovery → is_running timer l ≡ true → l.repeats < t.n200) (free : l.state ≡ TimerRecovery → is_running timer l ≡ true → Free) where
+    pub timer-stirs : Stirs Free l (after t (expired timer) l)
+    timer-stirs =
+        let stays = timer-stays t l up timer can in
+        by (expires-goes t l up timer stays) (timer-goes t l up timer stays) stays
+      where
+        l' : Link
+        l' = after t (expired timer) l
+
+        asks : (l'.state ≡ TimerRecovery) → is_running timer l ≡ true → Grown l.waiting l'.waiting enquiry → Grows Free l l'
+        asks state run (inl same) = inl (same, subst (λ z. most (is_recovering l.state) ≤ most (is_recovering z)) (sym state) (most-one (is_recovering l.state)))
+        asks state run (inr (f, e, k)) = inr (inr (f, e, k, state, λ is. free is run))
+
+        by : RanOut t l timer (course t (expired timer) l) → Goes l l' [] → IsTrue (is_multiple_frame l'.state) → Stirs Free l l'
+        by (inl k) g stays = record {
+          up = stays;
+          a = g.still;
+          s = k.s;
+          r = k.r;
+          rejecting = k.rejecting;
+          sane = sane-after t (expired timer) l sane;
+          reports = g.reports;
+          grown = inl (k.waiting, same-most l.state _ k.state);
+        }
+        by (inr (run, a)) g stays = record {
+          up = stays;
+          a = g.still;
+          s = a.s;
+          r = a.r;
+          rejecting = a.rejecting;
+          sane = sane-after t (expired timer) l sane;
+          reports = g.reports;
+          grown = asks a.state run a.waiting;
+        }
+
+-- ---- UA waits, and this behind it: reports, and in state 8 an enquiry; no I-frame went
+
+abbrev IsIdle : Kind → Type 0
+IsIdle (numbered ns) = ⊥
+IsIdle enquiry = Unit {0}
+IsIdle (answer nr) = ⊥
+IsIdle report = Unit {0}
+IsIdle (rejection nr) = ⊥
+IsIdle alien = ⊥
+
+pub record Poised (t : Terms) (l : Link) (post : List ControlFrame) : Type 0 where
+  pub up : IsTrue (is_multiple_frame l.state)
+  pub a : l.a ≡ 0
+  pub s : l.s ≡ 0
+  pub r : l.r ≡ 0
+  pub rejecting : l.rejecting ≡ false
+  pub sane : Sane l
+  pub reports : AreReports 0 post
+  pub idle : Every IsIdle (line t [] post)
+  pub one : tally one_enquiry (line t [] post) ≤ most (is_recovering l.state)
+
+pub record PoisedOn (t : Terms) (l : Link) (first : List ControlFrame) : Type 0 where
+  pub post : List ControlFrame
+  pub waiting : l.waiting ≡ first ++ post
+  pub poised : Poised t l post
+
+are-push : (r : ℕ) (fs : List ControlFrame) (f : ControlFrame) → IsReport r f.control → AreReports r fs → AreReports r (fs ++ f ∷ [])
+are-push r [] f x h = (x, tt)
+are-push r (g ∷ fs) f x h = (h.0, are-push r fs f x h.1)
+
+one-report : (r : ℕ) (before after : List ControlFrame) (f : ControlFrame) → after ≡ before ++ f ∷ [] → Reports r before after → IsReport r f.control
+one-report r before after f e h =
+    let same : h.news ≡ f ∷ [] = sym (front_rest after before h.news h.more) ∙ front_rest after before (f ∷ []) e in
+    (subst (AreReports r) same h.are).0
+
+module _ (t : Terms) (l l' : Link) (first post : List ControlFrame) (Free : Type 0) (waits : l.waiting ≡ first ++ post) (h : Poised t l post) (x : Stirs Free l l')
+    (none : Free → tally one_enquiry (line t [] post) ≡ 0) where
+  abbrev ks : List Kind
+  ks = line t [] post
+
+  pushed : (f : ControlFrame) (k : Kind) → l'.waiting ≡ l.waiting ++ f ∷ [] → kind_of f.command f.control ≡ k → IsIdle k → tally one_enquiry ks + one_enquiry k ≤ most (is_recovering l'.state)
+      → PoisedOn t l' first
+  pushed f k e is idle few =
+      let longer : line t [] (post ++ f ∷ []) ≡ ks ++ k ∷ [] =
+      ap kinds_of (frames-append t post (f ∷ [])) ∙ kinds-append (frames_of t post) (frame_of t f ∷ []) ∙ ap (λ y. ks ++ y ∷ []) is in
+      let more : tally one_enquiry (ks ++ k ∷ []) ≡ tally one_enquiry ks + one_enquiry k = tally-push one_enquiry ks k in
+      record {
+        post = post ++ f ∷ [];
+        waiting = e ∙ ap (λ ws. ws ++ f ∷ []) waits ∙ append_assoc first post (f ∷ []);
+        poised = record {
+          up = x.up;
+          a = x.a ∙ h.a;
+          s = x.s ∙ h.s;
+          r = x.r ∙ h.r;
+          rejecting = x.rejecting ∙ h.rejecting;
+          sane = x.sane;
+          reports = are-push 0 post f (subst (λ r. IsReport r f.control) h.r (one-report l.r l.waiting l'.waiting f e x.reports)) h.reports;
+          idle = subst (Every IsIdle) (sym longer) (every-push IsIdle ks k h.idle idle);
+          one = subst (λ xs. tally one_enquiry xs ≤ most (is_recovering l'.state)) (sym longer) (omega (arith, more, few));
+        };
+      }
+
+  by-grown : Grows Free l l' → PoisedOn t l' first
+  by-grown (inl (same, le)) =
+      let one : tally one_enquiry ks ≤ most (is_recovering l.state) = h.one in
+      record {
+        post = post;
+        waiting = same ∙ waits;
+        poised = record {
+          up = x.up;
+          a = x.a ∙ h.a;
+          s = x.s ∙ h.s;
+          r = x.r ∙ h.r;
+          rejecting = x.rejecting ∙ h.rejecting;
+          sane = x.sane;
+          reports = h.reports;
+          idle = h.idle;
+          one = omega (arith, one, le);
+        };
+      }
+  by-grown (inr (inl (f, e, k, state))) =
+      let one : tally one_enquiry ks ≤ most (is_recovering l'.state) = subst (λ z. tally one_enquiry ks ≤ most (is_recovering z)) (sym state) h.one in
+      pushed f report e k tt (omega (arith, one))
+  by-grown (inr (inr (f, e, k, state, free))) =
+      pushed f enquiry e k tt
+      (subst (λ z. tally one_enquiry ks + 1 ≤ most (is_recovering z)) (sym state) (let nothing : tally one_enquiry ks ≡ 0 = open-none l.state refl in omega (arith, nothing)))
+    where
+      open-none : (here : State) → l.state ≡ here → tally one_enquiry ks ≡ 0
+      open-none TimerRecovery e = none (free e)
+      open-none Established e = let one : tally one_enquiry ks ≤ 0 = subst (λ z. tally one_enquiry ks ≤ most (is_recovering z)) e h.one in omega (arith, one)
+      open-none TeiAssigned e = let one : tally one_enquiry ks ≤ 0 = subst (λ z. tally one_enquiry ks ≤ most (is_recovering z)) e h.one in omega (arith, one)
+      open-none AwaitingEstablishment e = let one : tally one_enquiry ks ≤ 0 = subst (λ z. tally one_enquiry ks ≤ most (is_recovering z)) e h.one in omega (arith, one)
+      open-none AwaitingRelease e = let one : tally one_enquiry ks ≤ 0 = subst (λ z. tally one_enquiry ks ≤ most (is_recovering z)) e h.one in omega (arith, one)
+
+  pub poised-on : PoisedOn t l' first
+  poised-on = by-grown x.grown
+
+-- ---- as UA goes, the two ends are as those that are up
+
+no-rejection : (ks : List Kind) → Every IsIdle ks → tally one_rejection ks ≡ 0
+no-rejection [] h = refl
+no-rejection (numbered ns ∷ ks) h = absurd h.0
+no-rejection (enquiry ∷ ks) h = let none : tally one_rejection ks ≡ 0 = no-rejection ks h.1 in omega (arith, none)
+no-rejection (answer nr ∷ ks) h = absurd h.0
+no-rejection (report ∷ ks) h = let none : tally one_rejection ks ≡ 0 = no-rejection ks h.1 in omega (arith, none)
+no-rejection (rejection nr ∷ ks) h = absurd h.0
+no-rejection (alien ∷ ks) h = absurd h.0
+
+no-answers : (ks : List Kind) → Every IsIdle ks → tally one_answer ks ≡ 0
+no-answers [] h = refl
+no-answers (numbered ns ∷ ks) h = absurd h.0
+no-answers (enquiry ∷ ks) h = let none : tally one_answer ks ≡ 0 = no-answers ks h.1 in omega (arith, none)
+no-answers (answer nr ∷ ks) h = absurd h.0
+no-answers (report ∷ ks) h = let none : tally one_answer ks ≡ 0 = no-answers ks h.1 in omega (arith, none)
+no-answers (rejection nr ∷ ks) h = absurd h.0
+no-answers (alien ∷ ks) h = absurd h.0
+
+is-calm : (k : Kind) → IsIdle k → Calm k
+is-calm (numbered ns) h = h
+is-calm enquiry h = tt
+is-calm (answer nr) h = tt
+is-calm report h = tt
+is-calm (rejection nr) h = tt
+is-calm alien h = h
+
+all-calm : (ks : List Kind) → Every IsIdle ks → Every Calm ks
+all-calm ks h = every-to IsIdle Calm ks is-calm h
+
+behind-calm : (ks : List Kind) → Every Calm ks → Behind one_enquiry Calm ks
+behind-calm [] h = tt
+behind-calm (k ∷ ks) h = (λ some. h.1, behind-calm ks h.1)
+
+module _ (t u : Terms) (rt : IsInRange t) (ru : IsInRange u) (same : t.n201 ≡ u.n201) (k : ℕ) (l : Link) (post : List ControlFrame) (waits : l.waiting ≡ post) (sound : IsSound u l)
+    (h : Poised u l post) where
+  abbrev n : End
+  n = end t (answered k []) []
+
+  abbrev plain : Link
+  plain = record l { a = 0; s = 0; r = 0; rejecting = false; waiting = post }
+
+  is-plain : plain ≡ l
+  is-plain = λ i. record l { a = sym h.a i; s = sym h.s i; r = sym h.r i; rejecting = sym h.rejecting i; waiting = sym waits i }
+
+  abbrev m : End
+  m = end u plain []
+
+  abbrev kinds : List Kind
+  kinds = line u [] post
+
+  pub loose-plain : Loose n m
+  loose-plain =
+      let rejects = no-rejection kinds h.idle in
+      let answers = no-answers kinds h.idle in
+      let calm = all-calm kinds h.idle in
+      let one : tally one_enquiry kinds ≤ most (is_recovering l.state) = h.one in
+      record {
+        joined = record {
+          near_ranges = rt;
+          far_ranges = ru;
+          near_sound = (near-ready t u rt ru same k).sound;
+          far_sound = subst (IsSound u) (sym is-plain) sound;
+          near_up = refl;
+          far_up = h.up;
+          there = record { carried = omega arith; rising = rising-reports u 0 0 [] post h.reports (omega arith); delivered = refl; accepted = omega arith };
+          back = record { carried = carried-reports u l.contents (0 + u.k) 0 0 [] post h.reports (omega arith); rising = omega arith; delivered = refl; accepted = omega arith };
+        };
+        same = same;
+        there = record {
+          order = omega arith;
+          one = omega (arith, rejects);
+          rejected = λ some. absurd (omega (arith, rejects, some));
+          asked = omega (arith, answers);
+          last = λ some. absurd (omega (arith, some));
+          answered = λ some. absurd (omega (arith, answers, some));
+        };
+        back = record {
+          order = calm-rise 0 kinds calm;
+          one = omega arith;
+          rejected = λ some. absurd (omega (arith, some));
+          asked = omega (arith, one);
+          last = λ some. behind-calm kinds calm;
+          answered = λ some. absurd (omega (arith, some));
+        };
+        near_sane = (firm-first t u rt ru same k).near_sane;
+        far_sane = subst Sane (sym is-plain) h.sane;
+      }
+
+  pub loose-poised : Loose n (end u l [])
+  loose-poised = subst (λ x. Loose n (end u x [])) is-plain loose-plain
+
+-- ---- SABME comes again
+
+-- The link as SABME leaves it: UA waits, where there is room, and contents that it had sent are given up, with all others.
+abbrev pub again : Bool → List (List ℕ) → Link → Link
+again room contents l = record l {
+  state = Established;
+  contents = contents;
+  a = 0;
+  s = 0;
+  r = 0;
+  peer_busy = false;
+  own_busy = false;
+  rejecting = false;
+  pending = false;
+  running = Some T203;
+  waiting = cond room (l.waiting ++ its_ua ∷ []) l.waiting;
+}
+
+pub record Renews (t : Terms) (l : Link) (sent : Bool) (x : Course) : Type 0 where
+  pub link : x.link ≡ again (has_room t l) (cond sent [] l.contents) l
+  pub told : flat_map for_layer_3 (said_by x) ≡ cond sent (renewed t.service t.tei) (error_f t.service t.tei) ∷ []
+  pub delivered : x.delivered ≡ None
+
+module _ (t u : Terms) (l : Link) (up : IsTrue (is_multiple_frame l.state)) (zero : l.a ≡ 0) where
+  abbrev first : Course
+  first = (Words.send t (Words.response (Rattle.lapd_frame.specs.declared.controls.Control.TheVariants.Ua true)) then Words.clear_flags then Words.error t code.F) (begun l)
+
+  abbrev last : Bool → Course
+  last b = (Words.zero_numbers then Words.start T203 then Words.enter Established) (cond b ((Words.discard then Words.establish_indication t) first) first)
+
+  by-sabme : (here : State) → IsTrue (is_multiple_frame here) → Machine.frame_in here t true [] (Sabme true) (begun l) ≡ last (has_outstanding l)
+  by-sabme TeiAssigned is = absurd (true≢false (sym is))
+  by-sabme AwaitingEstablishment is = absurd (true≢false (sym is))
+  by-sabme AwaitingRelease is = absurd (true≢false (sym is))
+  by-sabme Established is = refl
+  by-sabme TimerRecovery is = refl
+
+  not-false : (b : Bool) → not b ≡ false → b ≡ true
+  not-false true e = refl
+  not-false false e = absurd (true≢false e)
+
+  by-outstanding : (b : Bool) → has_outstanding l ≡ b → Renews t l b (last b)
+  by-outstanding true e = record {
+    link = ap (λ cs. again (has_room t l) cs l) (ap (λ a. drop a (take a l.contents)) zero);
+    told = refl;
+    delivered = refl;
+  }
+  by-outstanding false e =
+      let none : l.s ≡ 0 = eqb-true l.s l.a (not-false (l.s == l.a) e) ∙ zero in
+      record { link = ap (λ s. again (has_room t l) (drop s l.contents) l) none; told = refl; delivered = refl }
+
+  pub renews : Renews t l (has_outstanding l) (course t (received (frame (sabme u))) l)
+  renews = subst (Renews t l (has_outstanding l)) (sym (by-sabme l.state up)) (by-outstanding (has_outstanding l) refl)
+
+-- ---- what it gives
+
+abbrev pub informs : List Parts → Bool
+informs fs = list_any (λ (f : Parts). is_information f.control) fs
+
+or-false : (b : Bool) → (b || false) ≡ b
+or-false true = refl
+or-false false = refl
+
+or-true : (b : Bool) → (b || true) ≡ true
+or-true true = refl
+or-true false = refl
+
+module _ (t : Terms) (l : Link) (sound : IsSound t l) where
+  abbrev Informs : Course → Type 0
+  Informs c =
+      ((informs (frame_given t (given_of t l c c.sent)) ≡ false) × (c.link.s ≡ l.s))
+      ⊎ ((informs (frame_given t (given_of t l c c.sent)) ≡ true) × (c.link.s ≡ l.s + 1))
+
+  either-informs : (b : Bool) (u v : Course) → Informs u → Informs v → Informs (cond b u v)
+  either-informs true u v x y = x
+  either-informs false u v x y = y
+
+  by-waiting : (ws : List ControlFrame) → l.waiting ≡ ws → Informs (Offers.offer_among t ws (begun l))
+  by-waiting [] e =
+      either-informs (Offers.may_send_information t l) _ _
+      (either-informs (Offers.is_awaiting_acknowledgement (Offers.with_one_sent l)) _ _ (inr (refl, refl)) (inr (refl, refl)))
+      (either-informs l.pending _ _ (inl (refl, refl)) (inl (refl, refl)))
+  by-waiting (f ∷ fs) e =
+      inl (ap (λ b. b || false) (All-head (IsWaitingFrame t) f fs (subst (All (IsWaitingFrame t)) e sound.frames)).without_contents, refl)
+
+  pub flagged : (b : Bool) → IsInRange t → b ≡ has_outstanding l → (b || informs (frame_given t (given t l))) ≡ has_outstanding (after t offer l)
+  flagged b ranges e = go (by-waiting l.waiting refl)
+    where
+      kept : (after t offer l).a ≡ l.a
+      kept = (offer-gave t ranges l sound l.waiting refl).acknowledged
+
+      go : Informs (course t offer l) → (b || informs (frame_given t (given t l))) ≡ has_outstanding (after t offer l)
+      go (inl (none, same)) = ap (λ x. b || x) none ∙ or-false b ∙ e ∙ (λ i. not (sym same i == sym kept i))
+      go (inr (some, more)) =
+          let low : l.a ≤ l.s = sound.ordered in
+          ap (λ x. b || x) some ∙ or-true b ∙ sym (ap not (ne_eqb (after t offer l).s (after t offer l).a (λ same. let same' : (after t offer l).s ≡ (after t offer l).a = same in omega (arith, low, more, kept, same'))))

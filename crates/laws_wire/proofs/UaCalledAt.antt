@@ -1,0 +1,131 @@
+-- The station of the end that is called, whose link is up: what requests, timers and calls for the next frame do there.
+use Rattle.laws_wire.proofs.Vocabulary.{◌≡◌, ℕ, Bool, true, false, ◌||◌, IsTrue, List, [], ◌∷◌, ◌++◌, length, None, refl, sym, ap, subst, ◌∙◌, ◌⊎◌, inl, inr, arith, front_rest, All, All-drop, flat_map, Service, Timer, TimerRecovery, LinkTimer, T203, Link, is_multiple_frame, has_outstanding, given, is_running, awaits_answer, no-reports, End, with_link, frame_given, Config, LineTold, expiry, request, next, Line, place_in, Request, at_requested, aim_of_request, IsMildRequest, CanRepeat, HasNo, Sane}
+use Rattle.lapd_frame.specs.declared.timers.Timer.TheVariants as timers
+use Rattle.model_link.specs.declared.timers.LinkTimer.TheVariants.{T200}
+use Rattle.model_link.specs.Events as link
+use Rattle.model_link.specs.Machine as links
+use Rattle.model_line.specs.Request.{Data, SetBusy, ClearBusy}
+use Rattle.laws_link.proofs.OfTwo.Staying.{timer-stays}
+use Rattle.laws_wire.specs.Wire.{Station, Wire, happens, times_out, contents_of}
+use Rattle.laws_wire.specs.Losing.{IsOfLink}
+use Rattle.laws_wire.specs.Facing.{read_as}
+use Rattle.laws_wire.specs.Timely.{is_poll, IsTimelyOf}
+use Rattle.laws_wire.specs.Answering.{IsAsked, gives_information}
+use Rattle.laws_wire.proofs.Acting.{ranges, sound}
+use Rattle.laws_wire.proofs.Asking.{asked-form}
+use Rattle.laws_wire.proofs.Awaited.{as-here, may-there, none-there, read-again}
+use Rattle.laws_wire.proofs.Held.{Held, Grants, held-asked}
+use Rattle.laws_wire.proofs.Joint.{Goes, only-link, timer-delivers}
+use Rattle.laws_wire.proofs.LooseUp.{Mute, busy-mute, ready-mute, for-asked, held-busy}
+use Rattle.laws_wire.proofs.LossyPhases.{Aims}
+use Rattle.laws_wire.proofs.Standing.{IsCarried, Stands, gives-frames, gives-stands}
+use Rattle.laws_wire.proofs.TimelyUp.{each-timer, timer-held, never}
+use Rattle.laws_wire.proofs.UaCalled.{sane-after, Stirs, busy-stirs, busy-goes, ready-goes, timer-stirs, informs, flagged}
+
+module _ (service : Service) (tei : ℕ) (d : Config) (q : ℕ) (past : List LineTold) (v : Wire) (M : End) (h : Held d service tei q past v.near M) where
+  abbrev s : Station
+  s = v.near
+
+  own : Stands s.card.config service tei q s M
+  own = subst (λ k. Stands k service tei q s M) (sym h.stands.config) h.stands
+
+  -- ---- the next frame is called for
+
+  gives-informs : gives_information s ≡ informs (frame_given M.terms (given M.terms M.link))
+  gives-informs =
+      let given = frame_given M.terms (given M.terms M.link) in
+      let all = All-drop (IsCarried s.card.config service tei) (length M.way) (M.way ++ given) (gives-stands service tei q s M own).carried in
+      let carried = subst (All (IsCarried s.card.config service tei)) (front_rest (M.way ++ given) M.way given refl) all in
+      ap (λ fs. informs (flat_map (read_as s.card.config) fs)) (gives-frames service tei q s M own)
+      ∙ ap informs (read-again service tei s.card.config q s M own given carried)
+
+  pub flagged-at : (b : Bool) → b ≡ has_outstanding M.link → (b || gives_information s) ≡ has_outstanding (links.after M.terms link.offer M.link)
+  flagged-at b e =
+      ap (λ x. b || x) gives-informs ∙ flagged M.terms M.link (sound service tei q past d s M h) b (ranges service tei q past d s M h) e
+
+  pub none-informed : given M.terms M.link ≡ None → gives_information s ≡ false
+  none-informed none = gives-informs ∙ ap (λ o. informs (frame_given M.terms o)) none
+
+  -- ---- requests and timers
+
+  module _ (up : IsTrue (is_multiple_frame M.link.state)) (sane : Sane M.link) where
+    abbrev pub Free : Type 0
+    Free = HasNo is_poll M
+
+    pub record StirsAt (e : link.Event) (s' : Station) : Type 0 where
+      pub left : Link
+      pub becomes : with_link e M ≡ record M { link = left }
+      pub held : Held d service tei q past s' (record M { link = left })
+      pub stirs : Stirs Free M.link left
+
+    module _ (P : Station → Type 0) (same : P s) (on : (rq : link.Request) (s' : Station) → IsMildRequest rq → StirsAt (link.requested rq false) s' → P s') where
+      asks-more : (octets : List ℕ) → P (happens (request (Data service tei octets)) s)
+      asks-more octets = go (held-asked service tei q past d s M h octets)
+        where
+          s' : Station
+          s' = happens (request (Data service tei octets)) s
+
+          go : (s' ≡ s) ⊎ Grants service tei q past d s M h octets s' → P s'
+          go (inl none) = subst P (sym none) same
+          go (inr x) =
+              on (link.Data octets) s' tt (record {
+                left = record M.link { contents = M.link.contents ++ octets ∷ [] };
+                becomes = asked-form octets M x.none;
+                held = x.held;
+                stirs = record {
+                  up = up;
+                  a = refl;
+                  s = refl;
+                  r = refl;
+                  rejecting = refl;
+                  sane = subst (λ (y : End). Sane y.link) (asked-form octets M x.none) (sane-after M.terms (link.requested (link.Data octets) false) M.link sane);
+                  reports = no-reports M.link.r M.link.waiting;
+                  grown = inl (refl, omega arith);
+                };
+              })
+
+      asks-busy : (r : Request) (rq : link.Request) → IsMildRequest rq → (aims : (l : Line) → aim_of_request r l ≡ at_requested service tei rq (place_in l tei)) → contents_of r ≡ []
+          → Mute M.link (links.course M.terms (link.requested rq false) M.link) → Goes M.link (links.after M.terms (link.requested rq false) M.link) [] → P (happens (request r) s)
+      asks-busy r rq mild aims none mute g = go (held-busy service tei d q past s M h r rq aims none mute)
+        where
+          s' : Station
+          s' = happens (request r) s
+
+          go : (s' ≡ s) ⊎ Held d service tei q past s' (with_link (link.requested rq false) M) → P s'
+          go (inl none) = subst P (sym none) same
+          go (inr x) =
+              let is = only-link M (link.requested rq false) mute.delivered in
+              on rq s' mild (record {
+                left = links.after M.terms (link.requested rq false) M.link;
+                becomes = is;
+                held = subst (Held d service tei q past s') is x;
+                stirs = busy-stirs M.terms M.link up sane Free rq mild g;
+              })
+
+      pub asked-at : (r : Request) → IsAsked service tei r → P (happens (request r) s)
+      asked-at r is =
+          for-asked service tei (λ r. P (happens (request r) s)) asks-more
+          (asks-busy (SetBusy service tei) link.SetBusy tt (λ l. refl) refl (busy-mute M.terms M.link) (busy-goes M.terms M.link up sane Free))
+          (asks-busy (ClearBusy service tei) link.ClearBusy tt (λ l. refl) refl (ready-mute M.terms M.link) (ready-goes M.terms M.link up sane Free)) r is
+
+    abbrev pub FreeAs : LinkTimer → Type 0
+    FreeAs its = M.link.state ≡ TimerRecovery → is_running its M.link ≡ true → Free
+
+    module _ (P : Station → Type 0) (on : (its : LinkTimer) (s' : Station) → CanRepeat its M → FreeAs its → StirsAt (link.expired its) s' → P s') where
+      expires-so : (timer : Timer) (its : LinkTimer) → Aims service tei timer its → CanRepeat its M → FreeAs its → P (happens (expiry timer) s)
+      expires-so timer its aims can free =
+          let is = only-link M (link.expired its) (timer-delivers M.terms M.link its) in
+          on its (happens (expiry timer) s) can free (record {
+            left = links.after M.terms (link.expired its) M.link;
+            becomes = is;
+            held = subst (Held d service tei q past (happens (expiry timer) s)) is (timer-held service tei d q past s M h up timer its aims (timer-stays M.terms M.link up its can));
+            stirs = timer-stirs M.terms M.link up sane Free its can free;
+          })
+
+      pub expired-at : (timer : Timer) → IsOfLink service tei timer → IsTimelyOf (times_out timer) v → P (happens (expiry timer) s)
+      expired-at timer is x =
+          each-timer service tei (λ timer. IsTimelyOf (times_out timer) v → P (happens (expiry timer) s))
+          (λ x. expires-so (timers.T200 service tei) T200 (λ l. refl) (λ state running. may-there service tei d q s M h.stands x.1 (ap awaits_answer state))
+          (λ state running. none-there service tei d q s M h.stands is_poll (x.0 (ap awaits_answer (as-here service tei d q s M h.stands state))).commands))
+          (λ x. expires-so (timers.T203 service tei) T203 (λ l. refl) (λ state running. absurd (never service tei d q past s M h sane.timed state running))
+          (λ state running. absurd (never service tei d q past s M h sane.timed state running))) timer is x

@@ -1,0 +1,147 @@
+-- SABME comes again to the end that is called, whose UA was lost: UA waits again, where there is room, and what it had sent is given up.
+use Rattle.laws_wire.proofs.Vocabulary.{◌≡◌, ℕ, Bool, true, false, cond, List, [], ◌∷◌, ◌++◌, map, refl, sym, ap, subst, ◌∙◌, ◌⊎◌, inl, inr, append-nil, arith, flat_map, option_to_list, Service, spelling, Terms, has_outstanding, has_room, frames_of, course, IsInRange, End, with_link, Config, LineTold, terms, Rising, Sane}
+use Rattle.std.proofs.lemmas.List.Concat.{flat_map-append}
+use Rattle.model_link.specs.Events as link
+use Rattle.model_link.specs.Steps.{Course}
+use Rattle.model_link.proofs.Direction.{line_of}
+use Rattle.laws_wire.specs.Wire.{Station, Wire, comes, with_first_of, with_first_lost, takes, acting, turned}
+use Rattle.laws_wire.specs.Call.{data_told}
+use Rattle.laws_wire.specs.Losing.{for_layer_3, heard_in}
+use Rattle.laws_wire.specs.Answering.{error_f, renewed}
+use Rattle.laws_wire.proofs.Answered.{takes-granted}
+use Rattle.laws_wire.proofs.Calling.{its_ua, sabme, end}
+use Rattle.laws_wire.proofs.Held.{Held, held-lost, taken-told, taken-stands}
+use Rattle.laws_wire.proofs.LossyPhases.{first-way}
+use Rattle.laws_wire.proofs.Ringing.{ringing}
+use Rattle.laws_wire.proofs.Speaking.{said_by}
+use Rattle.laws_wire.proofs.Standing.{IsCarried, Stands}
+use Rattle.laws_wire.proofs.Talking.{Face}
+use Rattle.laws_wire.proofs.UaCalled.{sane-after, again, Renews, renews}
+use Rattle.laws_wire.proofs.UaPhases.{IsAway, IsWaiting}
+
+-- These were granted before.
+abbrev pub before : List (List ℕ) → Station → Station
+before g s = record s { granted = g ++ s.granted }
+
+abbrev pub with_before : List (List ℕ) → Wire → Wire
+with_before g w = record w { far = before g w.far }
+
+-- what was granted does not matter to what stands for a station
+pub regranted : (k : Config) (service : Service) (tei place : ℕ) (s : Station) (n : End) (g : List (List ℕ)) → Stands k service tei place s n → Stands k service tei place (record s { granted = g }) n
+regranted k service tei place s n g h = record { config = h.config; sound = h.sound; within = h.within; speaks = h.speaks; terms = h.terms; way = h.way; carried = h.carried }
+
+split : (b : Bool) (g : List (List ℕ)) → g ≡ cond b g [] ++ cond b [] g
+split true g = sym (append-nil g)
+split false g = refl
+
+module _ (service : Service) (tei : ℕ) (c d : Config) (p q : ℕ) (face : Face c d) (back : Face d c) (rt : IsInRange (terms c service tei)) (ru : IsInRange (terms d service tei)) where
+  abbrev t : Terms
+  t = terms c service tei
+
+  abbrev u : Terms
+  u = terms d service tei
+
+  abbrev pub more_told : Bool → List LineTold → List LineTold
+  more_told b past = past ++ cond b (renewed service tei) (error_f service tei) ∷ []
+
+  -- as it took SABME
+  pub record TookSabme (past : List LineTold) (b : Bool) (w w' : Wire) : Type 0 where
+    pub v : Wire
+    pub is : w' ≡ with_before (cond b w.far.granted []) v
+    pub repeats : ℕ
+    pub near : Held c service tei p [] v.near (end t (ringing repeats []) [])
+    pub far : IsWaiting service tei c d p q face back rt ru (more_told b past) false v.far ⊎ IsAway service tei c d p q face back rt ru (more_told b past) false v.far
+
+  module _ (past : List LineTold) (w : Wire) (repeats : ℕ) (near : Held c service tei p [] w.near (end t (ringing repeats []) (sabme t ∷ []))) (bit : Bool)
+      (h : IsAway service tei c d p q face back rt ru past bit w.far) where
+    abbrev M : End
+    M = h.M
+
+    abbrev b : Bool
+    b = has_outstanding M.link
+
+    abbrev caller_end : End
+    caller_end = end t (ringing repeats []) (sabme t ∷ [])
+
+    abbrev event : link.Event
+    event = link.received (link.frame (sabme t))
+
+    abbrev x : Course
+    x = course M.terms event M.link
+
+    abbrev reached : Station
+    reached = comes (spelling c.side (sabme t)) w.far
+
+    its_way : (w.near.way ≡ spelling c.side (sabme t) ∷ []) × IsCarried c service tei (sabme t)
+    its_way = first-way service tei c p [] w.near caller_end (sabme t) [] refl near
+
+    renewal : Renews M.terms M.link b x
+    renewal = renews M.terms t M.link h.up h.a
+
+    abbrev kept : List (List ℕ)
+    kept = cond b [] M.link.contents
+
+    abbrev left : Bool → End
+    left room = record { terms = M.terms; link = again room kept M.link; way = M.way; delivered = [] }
+
+    becomes : with_link event M ≡ left (has_room M.terms M.link)
+    becomes = λ i. record M {
+      link = renewal.link i;
+      delivered = (ap (λ o. M.delivered ++ option_to_list o) renewal.delivered ∙ append-nil M.delivered ∙ h.delivered) i;
+    }
+
+    abbrev s' : Station
+    s' = record reached { granted = cond b [] w.far.granted }
+
+    heard : heard_in s' ≡ more_told b past ++ []
+    heard =
+        ap (flat_map for_layer_3) (taken-told service tei q past d w.far M h.held c back (sabme t) its_way.1)
+        ∙ flat_map-append for_layer_3 w.far.told (said_by x)
+        ∙ ap (λ ts. ts ++ flat_map for_layer_3 (said_by x)) (h.held.heard ∙ ap (λ xs. past ++ map (data_told service tei) xs) h.delivered ∙ append-nil past)
+        ∙ ap (λ ts. past ++ ts) (renewal.told ∙ ap (λ (y : Terms). cond b (renewed y.service y.tei) (error_f y.service y.tei) ∷ []) h.held.stands.terms)
+        ∙ sym (append-nil (more_told b past))
+
+    held : (room : Bool) → has_room M.terms M.link ≡ room → Held d service tei q (more_told b past) s' (left room)
+    held room e = record {
+      stands =
+          regranted d service tei q reached (left room) (cond b [] w.far.granted)
+          (subst (λ room. Stands d service tei q reached (left room)) e
+          (subst (Stands d service tei q reached) becomes (taken-stands service tei q past d w.far M h.held c back (sabme t) its_way.1)));
+      granted = ap (λ g. cond b [] g) h.held.granted;
+      heard = heard;
+    }
+
+    sane : (room : Bool) → has_room M.terms M.link ≡ room → Sane (left room).link
+    sane room e = subst (λ room. Sane (left room).link) e (subst Sane renewal.link (sane-after M.terms event M.link h.sane))
+
+    line : Rising 0 0 (line_of M)
+    line = subst (λ r. Rising 0 r (line_of M)) h.r h.rising
+
+    by-room : (room : Bool) → has_room M.terms M.link ≡ room
+        → IsWaiting service tei c d p q face back rt ru (more_told b past) false s' ⊎ IsAway service tei c d p q face back rt ru (more_told b past) false s'
+    by-room true e = inl (record {
+      M = left true;
+      old = M.link.waiting;
+      post = [];
+      held = held true e;
+      waits = sym (append-nil (M.link.waiting ++ its_ua ∷ []));
+      delivered = refl;
+      rising = subst (λ (y : Terms). Rising 0 0 (M.way ++ frames_of y M.link.waiting)) h.held.stands.terms line;
+      poised = record { up = refl; a = refl; s = refl; r = refl; rejecting = refl; sane = sane true e; reports = tt; idle = tt; one = omega arith };
+      flag = refl;
+    })
+    by-room false e = inr (record { M = left false; held = held false e; up = refl; a = refl; r = refl; delivered = refl; sane = sane false e; rising = line; flag = refl })
+
+    renewed-so : TookSabme past b w (turned (acting takes (turned w)))
+    renewed-so = record {
+      v = record { near = with_first_lost w.near; far = s' };
+      is =
+          ap (λ ways. record { near = with_first_lost w.near; far = with_first_of ways w.far }) its_way.0
+          ∙ (λ i. record { near = with_first_lost w.near; far = record reached { granted = (takes-granted (spelling c.side (sabme t)) w.far ∙ split b w.far.granted) i } });
+      repeats = repeats;
+      near = held-lost service tei p [] c w.near caller_end near;
+      far = by-room (has_room M.terms M.link) refl;
+    }
+
+    pub sabme-renews : TookSabme past bit w (turned (acting takes (turned w)))
+    sabme-renews = subst (λ b. TookSabme past b w (turned (acting takes (turned w)))) (sym h.flag) renewed-so

@@ -1,0 +1,152 @@
+-- What is told in a call in which UA may be lost, from its phases.
+use Rattle.laws_wire.proofs.Vocabulary.{◌≡◌, ℕ, Bool, true, false, List, [], ◌∷◌, ◌++◌, length, map, take, drop, refl, sym, ap, subst, ◌∙◌, inl, inr, true≢false, All, front_rest, Service, Parts, ControlFrame, Link, IsInRange, runs, End, Config, LineTold, terms}
+use Rattle.model_link.specs.declared.timers.LinkTimer.TheVariants.{T200}
+use Rattle.laws_wire.specs.Wire.{Station, Wire, turned, Doing, doing_all, IsStill}
+use Rattle.laws_wire.specs.Call.{CanCall, calling, confirmed, data_told, IsBeginningOf}
+use Rattle.laws_wire.specs.Losing.{heard_in}
+use Rattle.laws_wire.specs.Arriving.{runs_t200}
+use Rattle.laws_wire.specs.Answering.{IsFullTalk, StayPatient, Called, uncalled, seen, all_kept, ToldSo, LossyCallsComeThrough}
+use Rattle.laws_wire.proofs.Awaited.{link-is}
+use Rattle.laws_wire.proofs.Calling.{end, sabme}
+use Rattle.laws_wire.proofs.Held.{Held}
+use Rattle.laws_wire.proofs.LooseUp.{loose-turned-up, loose-told, loose-rests}
+use Rattle.laws_wire.proofs.LossyRun.{setting}
+use Rattle.laws_wire.proofs.Ringing.{ringing, its_sabme}
+use Rattle.laws_wire.proofs.Talking.{Face}
+use Rattle.laws_wire.proofs.UaLost.{not-told}
+use Rattle.laws_wire.proofs.UaLostRun.{so-many, none-yet, its_near, Away, Rs, Down, Up, IsCalled, Phase, Goes, patient-runs}
+use Rattle.laws_wire.proofs.UaPhases.{comes-none}
+use Rattle.laws_wire.proofs.UaRenewed.{with_before}
+
+module _ (service : Service) (tei : ℕ) (c d : Config) (p q : ℕ) (face : Face c d) (back : Face d c) (rt : IsInRange (terms c service tei)) (ru : IsInRange (terms d service tei)) where
+  abbrev Its : List LineTold → Bool → Wire → Type 0
+  Its past b v = IsCalled service tei c d p q face back rt ru past b v
+
+  abbrev first_near : List LineTold
+  first_near = its_near service tei c d p q face back rt ru
+
+  nothing-yet : (all told : List LineTold) → told ≡ [] → IsBeginningOf all told
+  nothing-yet all told e = (all, ap (λ ts. ts ++ all) e)
+
+  abbrev NearSoFar : Wire → Type 0
+  NearSoFar v = IsBeginningOf (first_near ++ map (data_told service tei) v.far.granted) (heard_in v.near)
+
+  abbrev FarSoFar : List LineTold → Wire → Type 0
+  FarSoFar past v = IsBeginningOf (past ++ map (data_told service tei) v.near.granted) (heard_in v.far) × IsBeginningOf (heard_in v.far) past
+
+  -- where nothing was delivered
+  far-none : (past : List LineTold) (v : Wire) (M : End) → Held d service tei q past v.far M → M.delivered ≡ [] → FarSoFar past v
+  far-none past v M h none =
+      let is = h.heard ∙ ap (λ xs. past ++ map (data_told service tei) xs) none in
+      (none-yet service tei past v.near.granted (heard_in v.far) is, ([], sym is))
+
+  away-far : (past : List LineTold) (b : Bool) (v : Wire) → Rs service tei c d p q face back rt ru (Away service tei c d p q face back rt ru past b) v → FarSoFar past v
+  away-far past b v (inl h) = far-none past v h.far.M h.far.held h.far.delivered
+  away-far past b v (inr (inl h)) = far-none past v h.far.M h.far.held h.far.delivered
+  away-far past b v (inr (inr h)) = far-none past v h.far.M h.far.held h.far.delivered
+
+  called-so-far : (past : List LineTold) (b : Bool) (v : Wire) → Its past b v → NearSoFar v × FarSoFar past v
+  called-so-far past b v (inl h) =
+      (nothing-yet _ (heard_in v.near) (not-told service tei c d p q face back rt ru (Away service tei c d p q face back rt ru past b) v h), away-far past b v h)
+  called-so-far past b v (inr (inl h)) = (nothing-yet _ (heard_in v.near) h.near.heard, far-none past v h.far.M h.far.held h.far.delivered)
+  called-so-far past b v (inr (inr (inl h))) =
+      (nothing-yet _ (heard_in v.near) h.near.heard, far-none past v _ h.far (comes-none service tei c d p q face back rt ru past b v h))
+  called-so-far past b v (inr (inr (inr h))) =
+      let there = h.loose.joined.there.delivered in
+      let other = h.loose.joined.back.delivered in (
+        so-many service tei first_near h.n.link.r v.far.granted (heard_in v.near)
+            (h.near.heard ∙ ap (λ xs. first_near ++ map (data_told service tei) xs) (other ∙ ap (take h.n.link.r) (sym h.far.granted))),
+        (
+          so-many service tei past h.m.link.r v.near.granted (heard_in v.far)
+              (h.far.heard ∙ ap (λ xs. past ++ map (data_told service tei) xs) (there ∙ ap (take h.m.link.r) (sym h.near.granted))),
+          (map (data_told service tei) h.m.delivered, sym h.far.heard),
+        ),
+      )
+
+  down-far : (v : Wire) → Rs service tei c d p q face back rt ru (Down service tei c d p q face back rt ru) v → FarSoFar [] v
+  down-far v (inl h) = far-none [] v _ h.far refl
+  down-far v (inr (inl h)) = far-none [] v _ h.far refl
+  down-far v (inr (inr h)) = far-none [] v _ h.far refl
+
+  so-far : (x : Called) (v : Wire) → Phase service tei c d p q face back rt ru x v → NearSoFar v × FarSoFar x.told v
+  so-far x v (inl (told, sent, h)) = (
+    nothing-yet _ (heard_in v.near) (not-told service tei c d p q face back rt ru (Down service tei c d p q face back rt ru) v h),
+    subst (λ past. FarSoFar past v) (sym told) (down-far v h),
+  )
+  so-far x v (inr (some, h)) = called-so-far x.told x.sent v h
+
+  -- ---- where no turn is left, and T200 runs at neither end
+
+  stops : (A : Type 0) (v : Wire) (k : ℕ) (ws : List ControlFrame) (way : List Parts) → Held c service tei p [] v.near (end (terms c service tei) (ringing k ws) way)
+      → runs_t200 service tei v.near ≡ false → A
+  stops A v k ws way h none =
+      absurd (true≢false (sym (ap (λ (l : Link). runs T200 l.running) (link-is service tei c p v.near (end (terms c service tei) (ringing k ws) way) h.stands)) ∙ none))
+
+  ringing-stops : (A : Type 0) (P : Station → Type 0) (v : Wire) → Rs service tei c d p q face back rt ru P v → runs_t200 service tei v.near ≡ false → A
+  ringing-stops A P v (inl h) none = stops A v h.repeats [] [] h.near none
+  ringing-stops A P v (inr (inl h)) none = stops A v h.repeats (its_sabme ∷ []) [] h.near none
+  ringing-stops A P v (inr (inr h)) none = stops A v h.repeats [] (sabme (terms c service tei) ∷ []) h.near none
+
+  -- both are up there
+  phase-up : (x : Called) (v : Wire) → Phase service tei c d p q face back rt ru x v → runs_t200 service tei v.near ≡ false → Up service tei c d p q face back rt ru x.told v
+  phase-up x v (inl (told, sent, h)) none = ringing-stops _ (Down service tei c d p q face back rt ru) v h none
+  phase-up x v (inr (some, inl h)) none = ringing-stops _ (Away service tei c d p q face back rt ru x.told x.sent) v h none
+  phase-up x v (inr (some, inr (inl h))) none = stops _ v h.repeats [] [] h.near none
+  phase-up x v (inr (some, inr (inr (inl h)))) none = stops _ v h.repeats [] [] h.near none
+  phase-up x v (inr (some, inr (inr (inr h)))) none = h
+
+  module _ (x : Called) (v : Wire) (g : List (List ℕ)) (given_up : x.given_up ≡ length g) (h : Phase service tei c d p q face back rt ru x v) where
+    abbrev w : Wire
+    w = with_before g v
+
+    all-is : first_near ++ map (data_told service tei) v.far.granted ≡ all_kept service tei x w.far
+    all-is =
+        ap (λ xs. confirmed service tei ∷ map (data_told service tei) xs)
+        (sym (ap (λ k. drop k (g ++ v.far.granted)) given_up ∙ front_rest (g ++ v.far.granted) g v.far.granted refl))
+
+    still-there : IsStill w → IsStill v
+    still-there still = record { near = still.near; far = still.far; near_way = still.near_way; far_way = still.far_way }
+
+    still-turned : IsStill v → IsStill (turned v)
+    still-turned still = record { near = still.far; far = still.near; near_way = still.far_way; far_way = still.near_way }
+
+    told-before : ToldSo service tei x w
+    told-before = record {
+      near_so_far = subst (λ all. IsBeginningOf all (heard_in v.near)) all-is (so-far x v h).0;
+      far_at_once = (so-far x v h).1.1;
+      far_so_far = (so-far x v h).1.0;
+      near = λ still none none'.
+          loose-told service tei d c q p back x.told first_near (turned v) (loose-turned-up service tei c d p q first_near x.told v (phase-up x v h none)) (still-turned (still-there still)) none' ∙ all-is;
+      far = λ still none none'. loose-told service tei c d p q face first_near x.told v (phase-up x v h none) (still-there still) none;
+      rest = λ still none none'. (
+        loose-rests service tei c d p q face first_near x.told v (phase-up x v h none) (still-there still) none,
+        loose-rests service tei d c q p back x.told first_near (turned v) (loose-turned-up service tei c d p q first_near x.told v (phase-up x v h none)) (still-turned (still-there still)) none',
+      );
+    }
+
+  pub told-so : (x : Called) (w : Wire) → Goes service tei c d p q face back rt ru x w → ToldSo service tei x w
+  told-so x w h = subst (ToldSo service tei x) (sym h.is) (told-before x h.v h.earlier h.given_up h.phase)
+
+  pub up-where : (x : Called) (w : Wire) (h : Goes service tei c d p q face back rt ru x w) → runs_t200 service tei w.near ≡ false → Up service tei c d p q face back rt ru x.told h.v
+  up-where x w h none = phase-up x h.v h.phase (subst (λ w. runs_t200 service tei w.near ≡ false) h.is none)
+
+pub patient-goes : (service : Service) (c d : Config) (line other tei : ℕ) (ds : List Doing) (can : CanCall c line d other tei) → All (IsFullTalk service tei) ds
+    → let x = setting service c d line other tei can in let begun = calling service tei c line d other in StayPatient ds begun
+    → Rattle.laws_wire.proofs.UaLostRun.Goes service tei c d 0 0 x.face x.back x.near x.far (seen service tei ds begun uncalled) (doing_all ds begun)
+patient-goes service c d line other tei ds can talk patient =
+    let x = setting service c d line other tei can in
+    let begun = calling service tei c line d other in
+    patient-runs service tei c d 0 0 x.face x.back x.near x.far ds talk begun patient uncalled
+    (record {
+      v = begun;
+      earlier = [];
+      is = refl;
+      given_up = refl;
+      phase = inl (refl, refl, inr (inl (record { repeats = 0; near = x.near_held; far = x.far_held })));
+    })
+
+pub lossy-calls-come-through : LossyCallsComeThrough
+lossy-calls-come-through service c d line other tei ds can talk = λ patient.
+    let x = setting service c d line other tei can in
+    let begun = calling service tei c line d other in
+    told-so service tei c d 0 0 x.face x.back x.near x.far (seen service tei ds begun uncalled) (doing_all ds begun) (patient-goes service c d line other tei ds can talk patient)

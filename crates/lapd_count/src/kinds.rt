@@ -3,6 +3,12 @@
 ghost use Rattle.std.specs.Prelude.{◌≡◌, ◌<◌};
 ghost use Rattle.lapd_count.specs.Kinds.{kind_of, asks, kind_place};
 
+use Kind::{
+    Disc as DISC, Dm as DM, Frmr as FRMR, Information as I, ReceiveNotReady as RNR,
+    ReceiveReady as RR, Reject as REJ, Sabme as SABME, Ua as UA, Ui as UI, Undefined as NO,
+    Xid as XID,
+};
+
 /// The kind of a frame, as the first octet of its control field says (Q.921 clause 3.4, table 5). It is counted whether or
 /// not the frame is otherwise well formed.
 #[derive(Clone, Copy, PartialEq, Eq, Debug)]
@@ -33,30 +39,6 @@ pub enum Kind {
     Undefined,
 }
 
-const I: Kind = Kind::Information;
-
-const RR: Kind = Kind::ReceiveReady;
-
-const RNR: Kind = Kind::ReceiveNotReady;
-
-const REJ: Kind = Kind::Reject;
-
-const SABME: Kind = Kind::Sabme;
-
-const DISC: Kind = Kind::Disc;
-
-const UI: Kind = Kind::Ui;
-
-const UA: Kind = Kind::Ua;
-
-const DM: Kind = Kind::Dm;
-
-const FRMR: Kind = Kind::Frmr;
-
-const XID: Kind = Kind::Xid;
-
-const NO: Kind = Kind::Undefined;
-
 /// The kind of each first octet of a control field. As a table it costs one load a frame, whatever the kind.
 static KINDS: [Kind; 256] = [
     I, RR, I, UI, I, RNR, I, NO, I, REJ, I, NO, I, NO, I, DM, I, NO, I, UI, I, NO, I, NO, I, NO, I,
@@ -83,17 +65,7 @@ impl Kind {
     pub(crate) fn asks(self) -> bool
         ensures { result ≡ asks self }
     {
-        match self {
-            Kind::Information | Kind::ReceiveReady | Kind::ReceiveNotReady | Kind::Reject => true,
-            Kind::Sabme
-            | Kind::Disc
-            | Kind::Ui
-            | Kind::Ua
-            | Kind::Dm
-            | Kind::Frmr
-            | Kind::Xid
-            | Kind::Undefined => false,
-        }
+        matches!(self, I | RR | RNR | REJ)
     }
 
     /// Its place among the kinds.

@@ -56,13 +56,6 @@ impl<W: io::Write> WriteTo<W> {
         }
         self.writer.flush()
     }
-
-    /// What it has handed on.
-    pub fn into_inner(self) -> W
-        ensures { W.contents result ≡ (⟦<WriteTo<W> as Target>⟧.taken self).contents }
-    {
-        self.writer
-    }
 }
 
 impl<W: io::Write> Target for WriteTo<W> {

@@ -9,6 +9,7 @@ use lapd_clock::Clock;
 use lapd_frame::{Note, Order, Service};
 use lapd_store::SlabShelf;
 use std::alloc::Global;
+use std::process::Abort;
 use std::test::Fail;
 
 /// Serves so many octets of a line: each is handed to the card, and one of the card's takes its place.
@@ -66,6 +67,14 @@ fn order(timers: &mut Clock, orders: &[Order], now: u64)
     }
 }
 
+/// The same of the only line that there is.
+fn serve_at(rt: &impl Abort, card: &mut Card<SlabShelf>, timers: &mut Clock, octet: u8, now: u64)
+    requires { now < 2 ^ 63 }
+{
+    assert!(rt; card.lines() == 1 && timers.lines() == 1);
+    let _ = turn(card, timers, octet, now);
+}
+
 /// A terminal establishes its link and falls silent: after ten seconds T203 expires, the link enquires, and T200 runs.
 #[test]
 fn timers_are_served(rt: HostRuntime) -> Result<(), Fail> {
@@ -73,12 +82,10 @@ fn timers_are_served(rt: HostRuntime) -> Result<(), Fail> {
     let mut timers = Clock::start(rt.alloc(), 1, 8)?;
     assert!(rt; card.request(0, Request::Assign(64)).is_ok());
     for octet in SABME {
-        assert!(rt; card.lines() == 1 && timers.lines() == 1);
-        let _ = turn(&mut card, &mut timers, octet, 0);
+        serve_at(&rt, &mut card, &mut timers, octet, 0);
     }
     assert!(rt; card.state(0, Service::Call, 64) == Some(7));
-    assert!(rt; card.lines() == 1 && timers.lines() == 1);
-    let _ = turn(&mut card, &mut timers, 0x7E, 10_000);
+    serve_at(&rt, &mut card, &mut timers, 0x7E, 10_000);
     assert!(rt; card.state(0, Service::Call, 64) == Some(8));
     assert!(rt; timers.next() == Some(11_000));
     Ok(())

@@ -4,6 +4,7 @@ ghost use Rattle.std.specs.Prelude.{◌≡◌, ⊤, IfOk};
 ghost use Rattle.lapd_card.specs.FrameCard.{line_count};
 
 use crate::starts::USUAL;
+use crate::texts::says;
 use lapd_card::{
     Fault, FrameCard, FrameEvent, FrameReply, FrameSink, Request, RoomTooSmall, SinkFailed,
     SinkFault,
@@ -126,6 +127,8 @@ fn events_are_answered(rt: HostRuntime) -> Result<(), Fail> {
     Ok(())
 }
 
+const TOO_SMALL: RoomTooSmall = RoomTooSmall { room: 264 };
+
 /// How many octets the next frame has that is written in so much room. Only what lies in front of the room changes.
 fn next_length(
     card: &mut FrameCard<SlabShelf>,
@@ -143,15 +146,16 @@ fn a_room_that_is_too_small(rt: HostRuntime) -> Result<(), Fail> {
     let mut sink = Expecting { at: 0, failures: 0 };
     assert!(rt; card.drive(&EVENTS[..2], &mut sink) == Ok(2));
     let mut room = [0x55u8; 264];
-    let fault = RoomTooSmall {
-        room: card.frame_room(),
-    };
-    assert!(rt; next_length(&mut card, &mut room[..263]) == Err(fault));
+    assert!(rt; card.frame_room() == 264);
+    assert!(rt; next_length(&mut card, &mut room[..263]) == Err(TOO_SMALL));
     assert!(rt; room == [0x55; 264]);
     assert!(rt; next_length(&mut card, &mut room) == Ok(Some(3)));
     assert!(rt; room[..4] == [0x00, 0x81, 0x73, 0x55]);
     assert!(rt; next_length(&mut card, &mut room) == Ok(None));
-    let shown = format!(in rt.alloc(); "{fault}")?;
-    assert!(rt; shown.as_str() == "a frame has up to 264 octets");
     Ok(())
+}
+
+#[test]
+fn a_room_fault_in_words(rt: HostRuntime) {
+    says(&rt, rt.alloc(), &TOO_SMALL, "a frame has up to 264 octets");
 }

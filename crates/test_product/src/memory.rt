@@ -1,7 +1,6 @@
 //! Starts, and runs of many events: `tests/memory` refuses their memory, and counts how often they take any.
 
 ghost use Rattle.std.specs.Prelude.{◌<◌, All};
-ghost use Rattle.lapd_card.specs.Card.{line_count};
 ghost use Rattle.lapd_card.specs.Drive.{line_of};
 
 use crate::example::SABME;
@@ -44,10 +43,16 @@ fn bring_up(rt: &impl Abort, card: &mut Card<SlabShelf>) {
     }
 }
 
-/// How many of so many events are refused; None where the sink did not keep every reply.
-fn refused(card: &mut Card<SlabShelf>, sink: &mut Kept, events: &[Event<'_>]) -> Option<usize>
-    requires { All (λ event. line_of event < line_count card.old) events.now }
+/// How many of these events at the only line are refused; None where the sink did not keep every reply.
+fn refused(
+    rt: &impl Abort,
+    card: &mut Card<SlabShelf>,
+    sink: &mut Kept,
+    events: &[Event<'_>],
+) -> Option<usize>
+    requires { All (λ event. line_of event < 1) events.now }
 {
+    assert!(rt; card.lines() == 1);
     sink.replies.clear();
     keep_replies(card, events, sink).ok()?;
     Some(sink.replies.iter().filter(is_refusal).count())
@@ -65,18 +70,21 @@ fn take(rt: &impl Abort, card: &mut Card<SlabShelf>) {
     }
 }
 
-/// Brings a link up and ends it, so many times.
+/// Brings a link up and ends it.
+fn go_round(rt: &impl Abort, card: &mut Card<SlabShelf>, sink: &mut Kept) {
+    bring_up(rt, card);
+    assert!(rt; refused(rt, card, sink, &GIVEN) == Some(1));
+    take(rt, card);
+    assert!(rt; refused(rt, card, sink, &ENDED) == Some(0));
+    take(rt, card);
+}
+
+/// The same, so many times.
 fn drive(rt: &impl Abort, alloc: Global, rounds: u32) -> Result<(), Fail> {
     let mut card = usual_card(alloc)?;
     let mut sink = Kept::start(alloc, 5)?;
     for _ in 0..rounds {
-        bring_up(rt, &mut card);
-        assert!(rt; card.lines() == 1);
-        assert!(rt; refused(&mut card, &mut sink, &GIVEN) == Some(1));
-        take(rt, &mut card);
-        assert!(rt; card.lines() == 1);
-        assert!(rt; refused(&mut card, &mut sink, &ENDED) == Some(0));
-        take(rt, &mut card);
+        go_round(rt, &mut card, &mut sink);
     }
     Ok(())
 }

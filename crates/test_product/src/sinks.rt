@@ -2,6 +2,7 @@
 
 use crate::kept::keep_replies;
 use crate::starts::usual_card;
+use crate::texts::says;
 use lapd_card::{Event, Kept, Reply, Report, Request, SinkFailed, SinkFault};
 use lapd_frame::{Refusal, Service};
 use std::alloc::Global;
@@ -126,10 +127,8 @@ fn a_sink_that_fails_ends_the_run(rt: HostRuntime) -> Result<(), Fail> {
 }
 
 #[test]
-fn a_sink_fault_in_words(rt: HostRuntime) -> Result<(), Fail> {
-    let fault = SinkFault { at: 2 };
-    let failed = SinkFailed;
-    let shown = format!(in rt.alloc(); "{fault}: {failed}")?;
-    assert!(rt; shown.as_str() == "the sink failed on the reply to event 2: the sink failed");
-    Ok(())
+fn sink_faults_in_words(rt: HostRuntime) {
+    let text = "the sink failed on the reply to event 2";
+    says(&rt, rt.alloc(), &SinkFault { at: 2 }, text);
+    says(&rt, rt.alloc(), &SinkFailed, "the sink failed");
 }

@@ -3,11 +3,10 @@
 ghost use Rattle.std.specs.Prelude.{◌≡◌, ◌≤◌, IfOk};
 ghost use Rattle.lapd_card.specs.Card.{line_count};
 
+use crate::texts::says;
 use lapd_card::{Card, CardFault, Config, Field, Side};
 use lapd_store::{Shelf, SlabShelf};
 use std::alloc::Global;
-use std::fmt::Display;
-use std::process::Abort;
 use std::test::Fail;
 
 pub const USUAL: Config = Config {
@@ -51,11 +50,6 @@ fn a_shelf_that_is_too_small(rt: HostRuntime) -> Result<(), Fail> {
     assert!(rt; shelf.put(&[]).is_some());
     assert!(rt; Card::start(rt.alloc(), USUAL, shelf).err() == Some(CardFault::ShelfTooSmall));
     Ok(())
-}
-
-fn says(rt: &impl Abort, alloc: Global, fault: &impl Display, words: &str) {
-    let shown = fault.to_string(alloc).expect(rt, "memory");
-    assert!(rt; shown.as_str() == words);
 }
 
 #[test]

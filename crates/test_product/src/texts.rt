@@ -5,7 +5,8 @@ use std::alloc::Global;
 use std::fmt::Display;
 use std::process::Abort;
 
-fn says(rt: &impl Abort, alloc: Global, fault: &impl Display, text: &str) {
+/// Whether a fault is shown so.
+pub(crate) fn says(rt: &impl Abort, alloc: Global, fault: &impl Display, text: &str) {
     let said = fault.to_string(alloc).expect(rt, "memory");
     assert!(rt; said.as_str() == text);
 }

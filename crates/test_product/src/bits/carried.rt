@@ -7,39 +7,29 @@ use std::alloc::Global;
 use std::process::Abort;
 use std::test::Fail;
 
-/// A line from a framer to a deframer.
-#[derive(Drop)]
-struct Line {
-    framer: Framer,
-    deframer: Deframer,
-}
-
-fn start(alloc: Global, n201: u16) -> Result<Line, Fail>
-    requires { n201 ≤ 1024 }
-{
-    let framer = Framer::start(alloc, n201)?;
-    let deframer = Deframer::start(alloc, n201)?;
-    Ok(Line { framer, deframer })
+/// The next octet of a line on which one frame follows the other.
+fn next_octet(framer: &mut Framer) -> u8 {
+    if !framer.busy() {
+        framer.load(&[0x00, 0x81, 0x7F], &[]);
+    }
+    framer.octet()
 }
 
 /// Carries one octet, and answers whether a frame was heard.
-fn carry(line: &mut Line) -> bool {
-    if !line.framer.busy() {
-        line.framer.load(&[0x00, 0x81, 0x7F], &[]);
-    }
-    let octet = line.framer.octet();
-    let heard = line.deframer.octet(octet);
-    matches!(heard, Heard::Frame(_))
+fn carry(framer: &mut Framer, deframer: &mut Deframer) -> bool {
+    let octet = next_octet(framer);
+    matches!(deframer.octet(octet), Heard::Frame(_))
 }
 
 /// Carries octets until so many frames of eight octets at most must have been heard.
 fn carry_frames(rt: &impl Abort, alloc: Global, n201: u16, frames: u32) -> Result<(), Fail>
     requires { n201 ≤ 1024 }
 {
-    let mut line = start(alloc, n201)?;
+    let mut framer = Framer::start(alloc, n201)?;
+    let mut deframer = Deframer::start(alloc, n201)?;
     let mut heard = 0u32;
     for _ in 0..frames.saturating_mul(8) {
-        heard = heard.saturating_add(u32::from(carry(&mut line)));
+        heard = heard.saturating_add(u32::from(carry(&mut framer, &mut deframer)));
     }
     assert!(rt; heard >= frames);
     Ok(())

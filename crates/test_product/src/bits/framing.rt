@@ -16,7 +16,19 @@ fn expect(rt: &impl Abort, framer: &mut Framer, octets: &[u8])
     }
 }
 
-// Behind a whole flag, the octets of a frame and of the idle flags after it are these.
+// The octets of a frame behind what is left, and of the idle flags after it, are these.
+fn expect_frame(rt: &impl Abort, framer: &mut Framer, head: &[u8], info: &[u8], octets: &[u8])
+    requires least { 3 ≤ length head.now + length info.now }
+    requires most { length head.now ≤ 4 }
+    requires info { length info.now ≤ framer.old.room }
+    ensures { framer.new.room ≡ framer.old.room }
+{
+    assert!(rt; !framer.busy());
+    framer.load(head, info);
+    expect(rt, framer, octets);
+}
+
+// The same behind a whole flag, from the start on.
 fn gives(rt: &impl Abort, alloc: Global, head: &[u8], info: &[u8], octets: &[u8])
     requires least { 3 ≤ length head.now + length info.now }
     requires most { length head.now ≤ 4 }
@@ -24,9 +36,7 @@ fn gives(rt: &impl Abort, alloc: Global, head: &[u8], info: &[u8], octets: &[u8]
 {
     let mut framer = Framer::start(alloc, 260).expect(rt, "memory");
     expect(rt, &mut framer, &[0x7E]);
-    assert!(rt; !framer.busy());
-    framer.load(head, info);
-    expect(rt, &mut framer, octets);
+    expect_frame(rt, &mut framer, head, info, octets);
 }
 
 #[test]
@@ -48,23 +58,10 @@ fn within_an_idle_flag(rt: HostRuntime) -> Result<(), Fail> {
     let mut framer = Framer::start(rt.alloc(), 260)?;
     assert!(rt; framer.left() == 8);
     expect(&rt, &mut framer, &[0x7E]);
-    assert!(rt; framer.left() == 0);
-    assert!(rt; !framer.busy());
-    framer.load(&[0x00, 0x81, 0x03], &[0xFF, 0xFF]);
-    assert!(rt; framer.held() == 5);
-    expect(
-        &rt,
-        &mut framer,
-        &[0x00, 0x81, 0x03, 0xDF, 0xF7, 0xF5, 0x15, 0xEE, 0xE7],
-    );
-    assert!(rt; framer.held() == 0);
-    assert!(rt; framer.left() == 4);
-    assert!(rt; !framer.busy());
-    framer.load(&[0x00, 0x81, 0x73], &[]);
-    expect(
-        &rt,
-        &mut framer,
-        &[0x07, 0x10, 0x38, 0x47, 0x2C, 0xE1, 0xE7],
-    );
+    let first = [0x00, 0x81, 0x03, 0xDF, 0xF7, 0xF5, 0x15, 0xEE, 0xE7];
+    expect_frame(&rt, &mut framer, &[0x00, 0x81, 0x03], &[0xFF, 0xFF], &first);
+    assert!(rt; framer.held() == 0 && framer.left() == 4);
+    let second = [0x07, 0x10, 0x38, 0x47, 0x2C, 0xE1, 0xE7];
+    expect_frame(&rt, &mut framer, &[0x00, 0x81, 0x73], &[], &second);
     Ok(())
 }

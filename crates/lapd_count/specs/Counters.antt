@@ -1,41 +1,24 @@
 -- The counters of a line.
 use Rattle.std.specs.Prelude.{ℕ, ◌+◌, ◌==◌, List, fold, get_or, set, min, replicate, sum_by, if◌then◌else◌}
+use denote.Enum.Declared.{tag_of}
+use Rattle.model_bits.specs.contracts.heard.Cause.{the_type as the_cause}
 use Rattle.model_bits.specs.declared.heard.Cause.{Cause}
-use Rattle.model_bits.specs.declared.heard.Cause.TheVariants.{Abort, Ragged, Short, Fcs, Extension, Sapi, Tei, Unserved}
+use Rattle.lapd_frame.specs.contracts.notes.ErrorCode.{the_type as the_code}
 use Rattle.lapd_frame.specs.declared.notes.ErrorCode.{ErrorCode}
-use Rattle.lapd_frame.specs.declared.notes.ErrorCode.TheVariants as code
+use Rattle.lapd_count.specs.contracts.counter.Counter.{the_type}
 use Rattle.lapd_count.specs.declared.counter.Counter.{Counter}
-use Rattle.lapd_count.specs.declared.counter.Counter.TheVariants.{Frames, Octets, Polls, Overlong, Dropped, Errors, EstablishIndications, EstablishConfirms, ReleaseIndications, ReleaseConfirms, Data, Units, Xids, Assigned, Removed, Doubled, Lost, Messages}
+use Rattle.lapd_count.specs.declared.counter.Counter.TheVariants.{Frames, Octets, Polls, Overlong, Dropped, Errors, Messages}
 use Rattle.lapd_count.specs.declared.counter.Way.TheVariants.{Heard, Begun}
 use Rattle.lapd_count.specs.declared.counters.Counters.{Counters}
 use Rattle.lapd_count.specs.Kinds.{kind_place}
 use Rattle.lapd_count.specs.Messages.{message_place}
 
+-- Causes, codes and names that have nothing beside them stand in the order of their declaration.
 abbrev pub cause_place : Cause → ℕ
-cause_place Abort = 0
-cause_place Ragged = 1
-cause_place Short = 2
-cause_place Fcs = 3
-cause_place Extension = 4
-cause_place Sapi = 5
-cause_place Tei = 6
-cause_place Unserved = 7
+cause_place cause = tag_of the_cause cause
 
 abbrev pub error_place : ErrorCode → ℕ
-error_place code.A = 0
-error_place code.B = 1
-error_place code.C = 2
-error_place code.D = 3
-error_place code.E = 4
-error_place code.F = 5
-error_place code.G = 6
-error_place code.H = 7
-error_place code.I = 8
-error_place code.J = 9
-error_place code.K = 10
-error_place code.L = 11
-error_place code.N = 12
-error_place code.O = 13
+error_place code = tag_of the_code code
 
 -- Where each stands: no two at one place.
 abbrev pub place : Counter → ℕ
@@ -48,19 +31,9 @@ place (Polls Begun) = 27
 place Overlong = 28
 place (Dropped cause) = 29 + cause_place cause
 place (Errors code) = 37 + error_place code
-place EstablishIndications = 51
-place EstablishConfirms = 52
-place ReleaseIndications = 53
-place ReleaseConfirms = 54
-place Data = 55
-place Units = 56
-place Xids = 57
-place Assigned = 58
-place Removed = 59
-place Doubled = 60
-place Lost = 61
 place (Messages Heard message) = 62 + message_place message
 place (Messages Begun message) = 69 + message_place message
+place other = 45 + tag_of the_type other
 
 abbrev pub count : ℕ
 count = 76

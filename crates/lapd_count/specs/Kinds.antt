@@ -1,5 +1,7 @@
 -- The kinds of frames, by the first octet of the control field (Q.921 clause 3.4, table 5).
 use Rattle.std.specs.Prelude.{ℕ, ◌%◌, ◌==◌, ◌||◌, Bool, true, false, if◌then◌else◌}
+use denote.Enum.Declared.{tag_of}
+use Rattle.lapd_count.specs.contracts.kinds.Kind.{the_type}
 use Rattle.lapd_count.specs.declared.kinds.Kind.{Kind}
 use Rattle.lapd_count.specs.declared.kinds.Kind.TheVariants.{Information, ReceiveReady, ReceiveNotReady, Reject, Sabme, Disc, Ui, Ua, Dm, Frmr, Xid, Undefined}
 
@@ -19,19 +21,9 @@ kind_of octet =
     else if octet == 0xAF || octet == 0xBF then Xid
     else Undefined
 
+-- Their order is that of their declaration.
 abbrev pub kind_place : Kind → ℕ
-kind_place Information = 0
-kind_place ReceiveReady = 1
-kind_place ReceiveNotReady = 2
-kind_place Reject = 3
-kind_place Sabme = 4
-kind_place Disc = 5
-kind_place Ui = 6
-kind_place Ua = 7
-kind_place Dm = 8
-kind_place Frmr = 9
-kind_place Xid = 10
-kind_place Undefined = 11
+kind_place kind = tag_of the_type kind
 
 -- Those whose commands with P=1 ask for an answer in states 7 and 8 (clauses 3.4.1, 3.4.2 and 3.5.1).
 abbrev pub asks : Kind → Bool

@@ -1,5 +1,7 @@
 -- The messages of TEI management, as what is counted of a line names them (Q.921 clause 5.3.1).
 use Rattle.std.specs.Prelude.{ℕ, ◌/◌, ◌==◌, ◌&&◌, ◌||◌, Bool, List, get_or, Option, Some, None, if◌then◌else◌}
+use denote.Enum.Declared.{tag_of}
+use Rattle.lapd_count.specs.contracts.messages.Message.{the_type}
 use Rattle.lapd_count.specs.declared.messages.Message.{Message}
 use Rattle.lapd_count.specs.declared.messages.Message.TheVariants.{IdentityRequest, IdentityAssigned, IdentityDenied, IdentityCheckRequest, IdentityCheckResponse, IdentityRemove, IdentityVerify}
 
@@ -15,14 +17,9 @@ message_of type =
     else if type == 7 then Some IdentityVerify
     else None
 
+-- Their order is that of their declaration.
 abbrev pub message_place : Message → ℕ
-message_place IdentityRequest = 0
-message_place IdentityAssigned = 1
-message_place IdentityDenied = 2
-message_place IdentityCheckRequest = 3
-message_place IdentityCheckResponse = 4
-message_place IdentityRemove = 5
-message_place IdentityVerify = 6
+message_place message = tag_of the_type message
 
 -- A frame that has a message: a UI frame (P/F 0 or 1) of SAPI 63 and TEI 127, whose information begins with the entity
 -- identifier of TEI management, 15. Ri follows, and then the type.

@@ -3,7 +3,6 @@ use Rattle.std.specs.Option.{option_map_or}
 use Rattle.std.specs.Prelude.{ℕ, ◌%◌, ◌/◌, ◌==◌, ◌&&◌, Bool, true, List, [], ◌∷◌, ◌++◌, length, get_or, map, Option, Some, None, if◌then◌else◌}
 use Rattle.model_bits.specs.declared.heard.Cause.{Cause}
 use Rattle.model_bits.specs.declared.heads.Head.{Head}
-use Rattle.model_bits.specs.Heads.{head_of}
 use Rattle.model_bits.specs.Stream.{Event, frame, overlong, dropped}
 use Rattle.lapd_frame.specs.declared.addresses.Side.{Side}
 use Rattle.lapd_frame.specs.declared.notes.Note.{Note}
@@ -16,7 +15,6 @@ use Rattle.lapd_count.specs.declared.counter.Way.TheVariants.{Heard, Begun}
 use Rattle.lapd_count.specs.Counters.{More}
 use Rattle.lapd_count.specs.declared.kinds.Kind.{Kind}
 use Rattle.lapd_count.specs.Kinds.{kind_of, asks}
-use Rattle.lapd_count.specs.declared.messages.Message.{Message}
 use Rattle.lapd_count.specs.Messages.{has_message, message_of, message_type}
 
 -- Who sends what a line hears, and what it begins: the line is this side's.
@@ -35,16 +33,13 @@ frame_shown side way first control second octets =
     ∷ (if is_poll side way first (kind_of control) second then (Polls way, 1) ∷ [] else [])
 
 -- A message of TEI management in it, by its type.
-abbrev pub of_message : Way → Message → List More
-of_message way message = (Messages way message, 1) ∷ []
-
 abbrev pub type_shown : Way → ℕ → List More
-type_shown way type = option_map_or (of_message way) (message_of type) []
+type_shown way type = option_map_or (λ message. (Messages way message, 1) ∷ []) (message_of type) []
 
 abbrev pub message_shown : Way → List ℕ → List More
 message_shown way octets = if has_message octets then type_shown way (message_type octets) else []
 
--- A frame by its octets; one that begins, by its head, and with its message.
+-- A frame by its octets; one that begins also by its head, apart from its message.
 abbrev pub octets_shown : Side → Way → List ℕ → List More
 octets_shown side way octets =
     frame_shown side way (get_or octets 0 0) (get_or octets 2 0) (get_or octets 3 0) (length octets) ++ message_shown way octets
@@ -53,7 +48,8 @@ abbrev pub head_shown : Side → Head → List More
 head_shown side head = frame_shown side Begun (get_or head.octets 0 0) (get_or head.octets 2 0) (get_or head.octets 3 0) head.length
 
 abbrev pub begun_shown : Side → List ℕ → List More
-begun_shown side octets = option_map_or (head_shown side) (head_of octets) [] ++ message_shown Begun octets
+begun_shown side [] = []
+begun_shown side (octet ∷ octets) = octets_shown side Begun (octet ∷ octets)
 
 -- What is heard. (What is dropped is counted by what is told of it.)
 abbrev pub heard_shown : Side → Option Event → List More

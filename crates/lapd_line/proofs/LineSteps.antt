@@ -1,5 +1,5 @@
 -- What a call on the entities of a line does to the line.
-use Rattle.lapd_line.proofs.Vocabulary.{◌≡◌, fold-append, ℕ, List, [], ◌++◌, Option, Some, None, refl, sym, ap, ◌∙◌, subst, false≢true, Cause, Timer, Owned, Store, SameLimits, Config, Event, LineTold, told, dropped, hears, expiry, aim_of_expiry, after, answer, IsSome, Counters, More, with_all, heard_shown, shown, told_in_answer, told_in_report, FrameLine, LinkLayer, BareReport, Report, Serves, aim_of_event, report_told, told_in, Leads, LeadsIfHeard, answer_if_heard, config_of, with_counted, bare_shown}
+use Rattle.lapd_line.proofs.Vocabulary.{◌≡◌, fold-append, ℕ, List, [], ◌++◌, Option, Some, None, refl, sym, ap, ◌∙◌, subst, false≢true, Cause, Timer, Owned, Store, SameLimits, Config, Event, LineTold, told, dropped, hears, expiry, aim_of_expiry, after, answer, IsSome, Counters, More, with_all, heard_shown, shown, answer_shown, told_shown, FrameLine, LinkLayer, BareReport, Report, Serves, aim_of_event, report_told, told_in, Leads, LeadsIfHeard, answer_if_heard, config_of, with_counted, bare_shown}
 use Rattle.model_bits.specs.Stream as stream
 use Rattle.lapd_count.specs.Counters.{with_more}
 use Rattle.model_line.specs.Line as machine
@@ -44,7 +44,7 @@ unfolding after
 heard_leads old None some served is = absurd (false≢true some)
 heard_leads old {o = o} (Some x) some served is =
     leads_on {event = hears x} (heard_shown (config_of old).side (Some x) ++ bare_shown o) served.config served.limits (λ others m st. served.stands others m st.layer)
-    (λ others m st. ap (λ a. heard_shown (config_of old).side (Some x) ++ told_in_answer a) (sym (heard_told old (Some x) served others m st))) is
+    (λ others m st. ap (λ a. heard_shown (config_of old).side (Some x) ++ answer_shown (config_of old).side a) (sym (heard_told old (Some x) served others m st))) is
 
 -- what is dropped leaves all as it is
 pub dropped_told : (c : Config) (cause : Cause) (m : machine.Line) (t : LineTold) → t ≡ dropped cause → told t ≡ answer c (hears (stream.dropped cause)) m
@@ -58,7 +58,7 @@ dropped_leads {old} s cause o says is = record {
   config = ap config_of is;
   limits = record { slots = refl; width = refl };
   stands = λ others m st. subst (λ l. Stands l s others m) (sym is) (recounted old (with_all old.counters (bare_shown o)) s others m st);
-  counted = λ others m st. ap (λ l. l.counters) is ∙ ap (λ t. with_all old.counters (told_in_report t)) says;
+  counted = λ others m st. ap (λ l. l.counters) is ∙ ap (λ t. with_all old.counters (told_shown t.notes t.cause t.lost)) says;
 }
 
 -- a timer has expired
@@ -72,4 +72,4 @@ pub expired : {old new : FrameLine} {s : Store} {e : LinkLayer} {t : Store} {o :
 unfolding after answer
 expired {o = o} timer served is =
     leads_on {event = expiry timer} (bare_shown o) served.config served.limits (λ others m st. served.stands others m st.layer)
-    (λ others m st. ap told_in_report (sym (served.told others m st.layer))) is
+    (λ others m st. ap (λ x. told_shown x.notes x.cause x.lost) (sym (served.told others m st.layer))) is

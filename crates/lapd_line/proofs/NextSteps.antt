@@ -1,5 +1,5 @@
 -- What a call for the next frame does to a line.
-use Rattle.lapd_line.proofs.Vocabulary.{◌≡◌, ℕ, ◌+◌, ◌≤◌, false, List, [], ◌++◌, length, take, drop, take-append_seam, Option, Some, None, IfSome, is_some, option_map, refl, sym, ap, ◌∙◌, subst, arith, option_map_or, Counters, More, with_all, begun_shown, message_shown, type_of, slice_get, listed, ShortList, Order, Owned, Store, Config, next, gave, after, answer, Taken, taken, next_of, line_of, TakesSoundly, taken_sound, given_shown, FrameLine, LinkLayer, IsNext, Loading, in_octets, Took, Takes, TakesNext, Leads, config_of, gave_in, false≢true}
+use Rattle.lapd_line.proofs.Vocabulary.{◌≡◌, ℕ, ◌+◌, ◌≤◌, false, List, [], ◌++◌, length, take, drop, take-append_seam, Option, Some, None, IfSome, is_some, option_map, refl, sym, ap, ◌∙◌, subst, arith, option_map_or, Counters, More, with_all, begun_shown, message_shown, type_of, slice_get, listed, ShortList, Order, Owned, Store, Config, next, gave, after, answer, Taken, taken, next_of, line_of, TakesSoundly, taken_sound, answer_shown, FrameLine, LinkLayer, IsNext, Loading, in_octets, Took, Takes, TakesNext, Leads, config_of, gave_in, false≢true}
 use Rattle.std.proofs.Common.{length-append}
 use Rattle.std.proofs.lemmas.Slice.{drop-append-drop}
 use Rattle.model_line.specs.Event as line_event
@@ -57,7 +57,7 @@ nothing_waits c m none = go (taken c m) none
 module _ {old : FrameLine} {s : Store} {f : Loading} {mid : FrameLine} {t : Store} {g : Loading} {given : Option (List Order)} (h : TakesNext old s f mid t g given) where
   -- and the line goes on, where what this shows is counted
   pub next_leads : (k : Counters) (all : List More) → k ≡ with_all mid.counters all
-      → ((others : List Owned) (m : machine.Line) → Stands old s others m → given_shown (config_of old) (answer (config_of old) next m) ≡ all)
+      → ((others : List Owned) (m : machine.Line) → Stands old s others m → answer_shown (config_of old).side (answer (config_of old) next m) ≡ all)
       → Leads next old s (record mid { counters = k }) t
   next_leads k all is are = record {
     config = h.config;
@@ -75,7 +75,7 @@ module _ {old : FrameLine} {s : Store} {f : Loading} {mid : FrameLine} {t : Stor
       go (Some n) is gone = absurd gone
 
   pub none_leads : given ≡ None → Leads next old s mid t
-  none_leads none = next_leads mid.counters [] refl (λ others m st. ap (given_shown (config_of old)) (gave_none none others m st).0)
+  none_leads none = next_leads mid.counters [] refl (λ others m st. ap (answer_shown (config_of old).side) (gave_none none others m st).0)
 
 -- a frame was taken: these are its octets and orders
 pub record Gave (c : Config) (m : machine.Line) (orders : List Order) (f g : Loading) : Type 0 where
@@ -98,8 +98,8 @@ gave_one {old} {f = f} {g = g} {orders = orders} h some others m st =
 
 -- what is shown of it
 pub given_is : (c : Config) (m : machine.Line) (frame : line_event.NextFrame) (octets : List ℕ) → answer c next m ≡ gave (Some frame) → frame.octets ≡ octets
-    → given_shown c (answer c next m) ≡ begun_shown c.side octets
-given_is c m frame octets is same = ap (given_shown c) is ∙ ap (begun_shown c.side) same
+    → answer_shown c.side (answer c next m) ≡ begun_shown c.side octets
+given_is c m frame octets is same = ap (answer_shown c.side) is ∙ ap (begun_shown c.side) same
 
 -- ---- into octets
 
@@ -125,7 +125,7 @@ module _ {old : FrameLine} {s : Store} {mid : FrameLine} {t : Store} {before oct
       written_in before octets one.frame.octets k one.loaded.1.0 one.loaded.1.1
 
   pub octets_shown : (others : List Owned) (m : machine.Line) → Stands old s others m
-      → given_shown (config_of old) (answer (config_of old) next m) ≡ begun_shown (config_of old).side (take k octets)
+      → answer_shown (config_of old).side (answer (config_of old) next m) ≡ begun_shown (config_of old).side (take k octets)
   octets_shown others m st =
       let one = gave_one h some others m st in
       given_is (config_of old) m one.frame (take k octets) one.is (sym (front one.frame.octets (drop k before) octets k (sym one.loaded.1.0) one.loaded.1.1))

@@ -1,5 +1,5 @@
 -- What an event does to a line and its port.
-use Rattle.lapd_line.proofs.Vocabulary.{◌≡◌, ℕ, ◌<◌, Bool, true, false, List, [], ◌∷◌, ◌++◌, length, Option, Some, None, is_some, option_map, refl, sym, ap, ◌∙◌, subst, cond, lt-ltb, option_map_or, unwrap_or, IsSome, Owned, Store, SameLimits, ShortList, Order, Timer, Cause, Config, Counters, with_all, hears, next, gave, expiry, Request, LineTold, given_shown, counted, taken, next_of, drop_costs_nothing, may_send, cause_in, BareReport, FrameLine, Leads, LeadsIfHeard, config_of, told_in, told_if, orders_taken, IsLoaded, IsSaid, PortStands, Pulls, with_frame, OctetsLead, OctetsStand, octets_config}
+use Rattle.lapd_line.proofs.Vocabulary.{◌≡◌, ℕ, ◌<◌, Bool, true, false, List, [], ◌∷◌, ◌++◌, length, Option, Some, None, is_some, option_map, refl, sym, ap, ◌∙◌, subst, cond, lt-ltb, option_map_or, unwrap_or, IsSome, Owned, Store, SameLimits, ShortList, Order, Timer, Cause, Config, Counters, with_all, hears, next, gave, expiry, Request, LineTold, answer_shown, counted, taken, next_of, drop_costs_nothing, may_send, cause_in, BareReport, FrameLine, Leads, LeadsIfHeard, config_of, told_in, told_if, orders_taken, IsLoaded, IsSaid, PortStands, Pulls, with_frame, OctetsLead, OctetsStand, octets_config}
 use Rattle.model_bits.specs.Stream as stream
 use Rattle.model_line.specs.Event as line
 use Rattle.model_line.specs.Line as lines
@@ -128,7 +128,7 @@ begins_nothing : (c : Config) (l : OctetLine) (k : Counters) (due : Bool) → fr
     → (option_map_or (λ f. line_after c f l.line) (called due) l.line ≡ l.line) × (option_map_or (λ f. counted c f l.line k) (called due) k ≡ k)
 unfolding line_answer
 begins_nothing c l k false none = (refl, refl)
-begins_nothing c l k true none = (none_next c l.line (none_taken next_of (taken c l.line) none), ap (λ a. with_all k (given_shown c a)) (none_given c l.line none))
+begins_nothing c l k true none = (none_next c l.line (none_taken next_of (taken c l.line) none), ap (λ a. with_all k (answer_shown c.side a)) (none_given c l.line none))
   where
     none_taken : {X Y : Type 0} (f : X → Y) (o : Option X) → option_map f o ≡ None → o ≡ None
     none_taken f None e = refl

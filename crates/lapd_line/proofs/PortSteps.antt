@@ -1,5 +1,5 @@
 -- What a port does.
-use Rattle.lapd_line.proofs.Vocabulary.{◌≡◌, ℕ, ◌≤◌, Bool, true, false, List, [], ◌∷◌, ◌++◌, length, take, slice_get, Option, Some, None, is_some, option_map, option_to_list, fold, fold-append, inl, inr, ◌⊎◌, refl, sym, ap, ◌∙◌, subst, append_assoc, cond, le-ltb, same_Some, option_map_or, unwrap_or, bits, low_bits, number_of, Framing, runs_low, refilled, with_idle, Item, idle, frame, line_text, bits-push, heard_in, Head, head_shown, listed, ShortList, Order, Owned, Store, next, given_shown, answer, without_octets, Cause, in_bits, Loading, TakesNext, FrameLine, Management, type_of, config_of, orders_taken, IsLoaded, IsSaid, PortStands, or_heard, or_latest, with_frame, left_is, one_item, text_of}
+use Rattle.lapd_line.proofs.Vocabulary.{◌≡◌, ℕ, ◌≤◌, Bool, true, false, List, [], ◌∷◌, ◌++◌, length, take, slice_get, Option, Some, None, is_some, option_map, option_to_list, fold, fold-append, inl, inr, ◌⊎◌, refl, sym, ap, ◌∙◌, subst, append_assoc, cond, le-ltb, same_Some, option_map_or, unwrap_or, bits, low_bits, number_of, Framing, runs_low, refilled, with_idle, Item, idle, frame, line_text, bits-push, heard_in, Head, head_shown, listed, ShortList, Order, Owned, Store, next, answer_shown, answer, without_octets, Cause, in_bits, Loading, TakesNext, FrameLine, Management, type_of, config_of, orders_taken, IsLoaded, IsSaid, PortStands, or_heard, or_latest, with_frame, left_is, one_item, text_of}
 use Rattle.lapd_bits.specs.declared.ended.Ended.{Ended}
 use Rattle.lapd_bits.specs.declared.ended.Ended.TheVariants as ended
 use Rattle.model_bits.specs.Framer as framer
@@ -101,7 +101,7 @@ module _ {old : FrameLine} {s : Store} {mid : FrameLine} {t : Store} (port : Por
   -- and what is shown of it is its head, and the message that waited first
   pub head_is : {orders : List Order} {head : Option Head} {type : Option ℕ} → given ≡ Some orders → head ≡ g.begun → type ≡ option_map type_of (slice_get old.layer.teis.waiting 0)
       → (others : List Owned) (m : lines.Line) → Stands old s others m
-      → given_shown (config_of old) (answer (config_of old) next m) ≡ option_map_or (λ x. head_shown (config_of old).side x ++ type_counted type) head []
+      → answer_shown (config_of old).side (answer (config_of old) next m) ≡ option_map_or (λ x. head_shown (config_of old).side x ++ type_counted type) head []
   head_is {head = head} {type = type} some is first others m st =
       let one = gave_one h some others m st in
       given_is (config_of old) m one.frame one.frame.octets one.is refl

@@ -1,5 +1,5 @@
 -- A request of a line: what its arms say as one refusal, and what the line makes of it.
-use Rattle.lapd_line.proofs.Vocabulary.{◌≡◌, ℕ, Bool, true, false, List, [], ◌∷◌, ◌++◌, Option, Some, None, Result, IfOk, IfErr, OnOk, refl, sym, ap, subst, ◌∙◌, cond, Refusal, Service, Owned, Store, Config, told, after, answer, unless_refused, unless_refused_told, Aim, of_aim, Row, first_that_holds, bad_tei, bad_tei_or_group, no_link, no_link_nor_group, wrong_state, too_long, queue_full, unit_queue_full, pool_full, refusal, Request, request_of, Establish, Release, Data, Unit, Assign, Remove, Check, SetBusy, ClearBusy, Deactivate, Down, aim_of_request, at_requested, LinkRequest, link_refusal, FrameLine, LinkLayer, BareReport, Report, Serves, bare_shown, report_told, told_in, told_in_answer, told_in_report, Leads, config_of}
+use Rattle.lapd_line.proofs.Vocabulary.{◌≡◌, ℕ, Bool, true, false, List, [], ◌∷◌, ◌++◌, Option, Some, None, Result, IfOk, IfErr, OnOk, refl, sym, ap, subst, ◌∙◌, cond, Refusal, Service, Owned, Store, Config, told, after, answer, unless_refused, unless_refused_told, Aim, of_aim, Row, first_that_holds, bad_tei, bad_tei_or_group, no_link, no_link_nor_group, wrong_state, too_long, queue_full, unit_queue_full, pool_full, refusal, Request, request_of, Establish, Release, Data, Unit, Assign, Remove, Check, SetBusy, ClearBusy, Deactivate, Down, aim_of_request, at_requested, LinkRequest, link_refusal, FrameLine, LinkLayer, BareReport, Report, Serves, bare_shown, report_told, told_in, answer_shown, told_shown, Leads, config_of}
 use Rattle.model_line.specs.Event as line_event
 use Rattle.model_line.specs.Line as machine
 use Rattle.model_line.specs.declared.requests.Request as asking
@@ -97,6 +97,6 @@ requested {old} {s = s} {e} {t} {o} full r granted served is =
     subst (λ why. layer.Stands e t others (of_aim c (unless_refused why (aim_of_request r m)) m).line) (sym (with_room c full r m (granted others m st.layer)))
     (served.stands others m st.layer))
     (λ others m st.
-    ap (λ why. told_in_answer (unless_refused_told why (of_aim c (unless_refused why (aim_of_request r m)) m))) (with_room c full r m (granted others m st.layer))
-    ∙ ap told_in_report (sym (served.told others m st.layer)))
+    ap (λ why. answer_shown c.side (unless_refused_told why (of_aim c (unless_refused why (aim_of_request r m)) m))) (with_room c full r m (granted others m st.layer))
+    ∙ ap (λ x. told_shown x.notes x.cause x.lost) (sym (served.told others m st.layer)))
     is

@@ -19,7 +19,7 @@ pub use Rattle.circular_buffer.proofs.Places.{slice_get-set_other, slice_get-set
 pub use Rattle.lapd_bits.specs.Ended.{without_octets}
 pub use Rattle.lapd_count.specs.Counters.{More, with_all}
 pub use Rattle.lapd_count.specs.Messages.{has_message, message_type}
-pub use Rattle.lapd_count.specs.Shown.{begun_shown, head_shown, heard_shown, message_shown, type_shown}
+pub use Rattle.lapd_count.specs.Shown.{begun_shown, head_shown, heard_shown, message_shown, told_shown, type_shown}
 pub use Rattle.lapd_count.specs.declared.counters.Counters.{Counters}
 pub use Rattle.lapd_frame.specs.Grammar.{IsFrame, Parts, parts_of, spelling}
 pub use Rattle.lapd_frame.specs.Reading.{long_reading}
@@ -105,7 +105,7 @@ pub use Rattle.model_line.proofs.TakenSound.{TakesSoundly, link_sound, taken_sou
 pub use Rattle.model_line.proofs.Ranges.{ranges_of}
 pub use Rattle.model_line.proofs.Sides.{unit_tei}
 pub use Rattle.model_line.proofs.Starts.{expiry_starts}
-pub use Rattle.model_line.specs.Counted.{counted, given_shown, shown, told_in_answer, told_in_report}
+pub use Rattle.model_line.specs.Counted.{answer_shown, counted, shown}
 pub use Rattle.model_line.specs.Counts.{may_send}
 pub use Rattle.model_line.specs.Effect.{Aim, at_link, at_management, at_no_link, at_none, at_units, of_aim, of_change, of_management, told_of_link, told_of_management, with_cleared, with_opened, without_units}
 pub use Rattle.model_line.specs.Event.{Event, LineTold, dropped, expiry, nothing, hears, next, gave, told}

@@ -43,7 +43,7 @@ pub use Rattle.model_card.specs.Drops.{IsDropWithoutCost, IsDropWithoutEffect}
 pub use Rattle.model_card.specs.Event.{Event, at}
 pub use Rattle.model_card.specs.Isolation.{answer_in, answers_at, events_at}
 pub use Rattle.model_card.specs.Machine.{answer as card_answer}
-pub use Rattle.model_card.specs.Numbered.{AreNumbered, Share}
+pub use Rattle.model_card.specs.Numbered.{IsNext, LinkName}
 pub use Rattle.model_card.specs.Promises.{IsNotRefusedForPool, IsWithinLimit}
 pub use Rattle.model_card.specs.Run.{Moment, run}
 unfoldable pub use Rattle.model_card.specs.Run.{after_all, moments}

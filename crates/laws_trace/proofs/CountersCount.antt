@@ -1,9 +1,11 @@
 -- Counters count what is seen: the law.
-use Rattle.laws_trace.proofs.Vocabulary.{◌≡◌, ℕ, ◌+◌, ◌<◌, ◌==◌, Bool, true, false, cond, List, [], ◌∷◌, ◌++◌, map, Option, Some, None, refl, sym, ap, ◌∙◌, arith, true≢false, ◌⊎◌, inl, inr, append-nil, flat_map, flat_map-append, sum_by-append, Cause, Counter, Frames, Octets, Polls, Overlong, Dropped, Errors, EstablishIndications, EstablishConfirms, ReleaseIndications, ReleaseConfirms, Units, Xids, Assigned, Lost, Messages, Heard, Begun, Kind, More, place, cause_place, amount_of, amount_in, kind_place, heard_shown, note_shown, drop_shown, lost_shown, Side, Config, shown, told_in_answer, given_shown, Answer, refused, gave, Card, all_shown, moments}
+use Rattle.laws_trace.proofs.Vocabulary.{◌≡◌, ℕ, ◌+◌, ◌<◌, ◌==◌, Bool, true, false, cond, List, [], ◌∷◌, ◌++◌, map, Option, Some, None, refl, sym, ap, ◌∙◌, arith, true≢false, ◌⊎◌, inl, inr, append-nil, flat_map, flat_map-append, sum_by-append, Cause, Counter, Frames, Octets, Polls, Overlong, Dropped, Errors, EstablishIndications, EstablishConfirms, ReleaseIndications, ReleaseConfirms, Units, Xids, Assigned, Lost, Messages, Heard, Begun, Kind, More, place, cause_place, amount_of, amount_in, kind_place, heard_shown, note_shown, drop_shown, lost_shown, Side, Config, shown, answer_shown, Answer, refused, gave, Line, Refusal, PoolFull, Card, line_at, by_room, all_shown, moments}
 use Rattle.std.proofs.Common.{eqb-true}
 use Rattle.lapd_count.specs.declared.counter.Counter.TheVariants.{Data, Removed, Doubled}
 use Rattle.model_line.specs.Event as line_event
 use Rattle.model_line.specs.Event.{told}
+use Rattle.model_line.specs.Machine as lines
+use Rattle.model_line.specs.Refusal.{refusal}
 use Rattle.model_card.specs.Card.{fresh}
 use Rattle.model_card.specs.Event.{Event}
 use Rattle.model_card.specs.Machine.{after, answer}
@@ -41,6 +43,42 @@ outside Lost other = inr (omega arith)
 outside (Messages Heard message) other = inr (omega arith)
 outside (Messages Begun message) other = inr (omega arith)
 
+-- A call for the next frame is answered with a frame or none, and any other event with what is told.
+abbrev Tells : Answer → Type 0
+Tells (told t) = Unit {0}
+Tells (refused why) = Unit {0}
+Tells (gave frame) = ⊥
+
+abbrev Answers : line_event.Event → Answer → Type 0
+Answers (line_event.hears what) a = Tells a
+Answers (line_event.expiry timer) a = Tells a
+Answers (line_event.request r) a = Tells a
+Answers line_event.next (told t) = ⊥
+Answers line_event.next (refused why) = Unit {0}
+Answers line_event.next (gave frame) = Unit {0}
+
+refused-answers : (e : line_event.Event) (why : Refusal) → Answers e (refused why)
+refused-answers (line_event.hears what) why = tt
+refused-answers (line_event.expiry timer) why = tt
+refused-answers (line_event.request r) why = tt
+refused-answers line_event.next why = tt
+
+line-answers : (c : Config) (e : line_event.Event) (l : Line) → Answers e (lines.answer c e l)
+unfolding lines.answer
+line-answers c (line_event.hears what) l = tt
+line-answers c (line_event.expiry timer) l = tt
+line-answers c (line_event.request r) l = go (refusal c false r l)
+  where
+    go : (o : Option Refusal) → Tells (lines.unless_refused_told o (lines.of_request c r l))
+    go None = tt
+    go (Some why) = tt
+line-answers c line_event.next l = tt
+
+card-answers : (e : Event) (card : Card) → Answers e.what (answer e card)
+card-answers e card =
+    by_room (λ ls a. Answers e.what a) e card (λ full. refused-answers e.what PoolFull)
+    (λ served. line-answers card.config e.what (line_at e.line card))
+
 module _ (counter : Counter) (other : is_drop counter ≡ false) where
   abbrev amount : List More → ℕ
   amount all = amount_in counter all
@@ -64,16 +102,16 @@ module _ (counter : Counter) (other : is_drop counter ≡ false) where
     abbrev Same : List More → List Seen → Type 0
     Same all t = amount all ≡ amount (flat_map (names side) t)
 
-    of-told : (a : Answer) → Same (told_in_answer a) (seen_told a)
-    of-told (told t) =
+    of-told : (a : Answer) → Tells a → Same (answer_shown side a) (seen_told a)
+    of-told (told t) tells =
         let notes = map note_shown t.notes in
         let none = none-dropped t.cause in
         let dropped : amount notes + amount (drop_shown t.cause) ≡ amount notes = omega (arith, none) in
         both (notes ++ drop_shown t.cause) (lost_shown t.lost)
         ∙ ap (λ n. n + amount (lost_shown t.lost)) (both notes (drop_shown t.cause) ∙ dropped)
         ∙ sym (both notes (lost_shown t.lost ++ []) ∙ ap (λ xs. amount notes + amount xs) (append-nil (lost_shown t.lost)))
-    of-told (refused why) = refl
-    of-told (gave frame) = refl
+    of-told (refused why) tells = refl
+    of-told (gave frame) tells = absurd tells
 
     joined : (xs ys : List More) (t u : List Seen) → Same xs t → Same ys u → Same (xs ++ ys) (t ++ u)
     joined xs ys t u one two =
@@ -83,22 +121,22 @@ module _ (counter : Counter) (other : is_drop counter ≡ false) where
     alone : (all : List More) (x : Seen) → names side x ≡ all → Same all (x ∷ [])
     alone all x is = ap amount (sym is ∙ sym (append-nil (names side x)))
 
-  of-event : (c : Config) (e : line_event.Event) (a : Answer) → Same c.side (shown c e a) (seen e a)
-  of-event c (line_event.hears what) a =
-      joined c.side (heard_shown c.side (Some what)) (told_in_answer a) (heard what ∷ []) (seen_told a)
-      (alone c.side (heard_shown c.side (Some what)) (heard what) refl) (of-told c.side a)
-  of-event c (line_event.expiry timer) a = of-told c.side a
-  of-event c (line_event.request r) (told t) = of-told c.side (told t)
-  of-event c (line_event.request r) (refused why) = refl
-  of-event c (line_event.request r) (gave frame) = refl
-  of-event c line_event.next (told t) = refl
-  of-event c line_event.next (refused why) = refl
-  of-event c line_event.next (gave None) = refl
-  of-event c line_event.next (gave (Some f)) = alone c.side (given_shown c (gave (Some f))) (begun f.octets) refl
+  of-event : (c : Config) (e : line_event.Event) (a : Answer) → Answers e a → Same c.side (shown c e a) (seen e a)
+  of-event c (line_event.hears what) a answers =
+      joined c.side (heard_shown c.side (Some what)) (answer_shown c.side a) (heard what ∷ []) (seen_told a)
+      (alone c.side (heard_shown c.side (Some what)) (heard what) refl) (of-told c.side a answers)
+  of-event c (line_event.expiry timer) a answers = of-told c.side a answers
+  of-event c (line_event.request r) (told t) answers = of-told c.side (told t) tt
+  of-event c (line_event.request r) (refused why) answers = refl
+  of-event c (line_event.request r) (gave frame) answers = absurd answers
+  of-event c line_event.next (told t) answers = absurd answers
+  of-event c line_event.next (refused why) answers = refl
+  of-event c line_event.next (gave None) answers = refl
+  of-event c line_event.next (gave (Some f)) answers = alone c.side (answer_shown c.side (gave (Some f))) (begun f.octets) refl
 
-  at-line : (c : Config) (e : line_event.Event) (a : Answer) (b : Bool) → Same c.side (cond b (shown c e a) []) (cond b (seen e a) [])
-  at-line c e a true = of-event c e a
-  at-line c e a false = refl
+  at-line : (c : Config) (e : line_event.Event) (a : Answer) (b : Bool) → Answers e a → Same c.side (cond b (shown c e a) []) (cond b (seen e a) [])
+  at-line c e a true answers = of-event c e a answers
+  at-line c e a false answers = refl
 
   run-counts : (number : ℕ) (card : Card) (events : List Event) → Same card.config.side (all_shown number (moments card events)) (trace number (moments card events))
   unfolding moments
@@ -106,7 +144,7 @@ module _ (counter : Counter) (other : is_drop counter ≡ false) where
   run-counts number card (e ∷ events) =
       joined card.config.side (cond (e.line == number) (shown card.config e.what (answer e card)) []) (all_shown number (moments (after e card) events))
       (cond (e.line == number) (seen e.what (answer e card)) []) (trace number (moments (after e card) events))
-      (at-line card.config e.what (answer e card) (e.line == number)) (run-counts number (after e card) events)
+      (at-line card.config e.what (answer e card) (e.line == number) (card-answers e card)) (run-counts number (after e card) events)
 
 pub counters-count : Always CountersCount
 counters-count c events number ranged all within counter other = run-counts counter other number (fresh c) events

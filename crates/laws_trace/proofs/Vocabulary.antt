@@ -156,7 +156,7 @@ pub use Rattle.model_line.proofs.Ranges.{ranges_of, terms_in_range}
 pub use Rattle.model_line.proofs.Sides.{side_aims}
 pub use Rattle.model_line.proofs.TakenWalk.{round_below}
 pub use Rattle.model_line.specs.Config.{first_fault, is_within}
-pub use Rattle.model_line.specs.Counted.{given_shown, shown, told_in_answer}
+pub use Rattle.model_line.specs.Counted.{answer_shown, shown}
 pub use Rattle.model_line.specs.Effect.{Aim, Effect, at_link, at_management, at_no_link, at_none, at_units, of_aim, of_change, told_of_management}
 pub use Rattle.model_line.specs.Event.{Answer, LineTold, NextFrame, dropped, expiry, gave, hears, next, refused, request}
 pub use Rattle.model_line.specs.Expiry.{aim_of_expiry, at_timer, is_running, runs_at}

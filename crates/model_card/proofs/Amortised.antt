@@ -5,7 +5,7 @@ use Rattle.model_line.specs.Counts as line
 use Rattle.model_card.proofs.Steps.{HasLines, has_lines, by_room, line_sound, after_lines, fresh_lines, one_line, count_cons}
 
 -- one event
-pub event_within : (card : Card) (e : Event) → HasLines card → IsAtLine card e
+event_within : (card : Card) (e : Event) → HasLines card → IsAtLine card e
     → let k = window card.config in
     line.one (line.is_given (answer e card)) + may_send (after e card)
     ≤ may_send card + 2 * line.one (line.hears_frame e.what) + line.one (line.is_accepted e.what (answer e card))

@@ -12,7 +12,6 @@ pub mod Fold
 pub mod Refusals
 pub mod CardSound
 pub mod Reaching
-pub mod NumberedForms
 pub mod Numbering
 pub mod Isolated
 pub mod NeverFull

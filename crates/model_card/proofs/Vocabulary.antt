@@ -14,7 +14,7 @@ pub use Rattle.lapd_frame.specs.declared.refusals.Refusal.TheVariants.{BadTei, N
 pub use Rattle.lapd_frame.specs.declared.services.Service.{Service}
 pub use Rattle.lapd_frame.specs.declared.timers.Timer.{Timer}
 pub use Rattle.model_bits.specs.declared.heard.Cause.{Cause}
-pub use Rattle.model_card.specs.ByEvent.{IsPriced, RisesBy}
+pub use Rattle.model_card.specs.ByEvent.{IsPriced}
 pub use Rattle.model_card.specs.Card.{Card, fresh, is_full, line_at, used}
 pub use Rattle.model_card.specs.Counts.{is_accepted, is_heard, is_long_heard, is_reject, is_running_expiry, is_sent, may_send, window}
 pub use Rattle.model_card.specs.Drops.{IsDropWithoutCost, IsDropWithoutEffect}
@@ -22,7 +22,7 @@ pub use Rattle.model_card.specs.Event.{Event, at}
 pub use Rattle.model_card.specs.Isolation.{answers_at, event_in, is_served_at}
 pub use Rattle.model_card.specs.Laws.{CardsStaySound, DeliveriesNumbered, DropsChangeNothing, DropsCostNothing, FramesAmortised, FramesAmortisedFromZero, FramesByEvent, LinesIsolated, PoolNeverFull, RefusedByTheTable, RejectsAreLong, RunIsMoments, StoredWithinLimit, reply_of}
 pub use Rattle.model_card.specs.Machine.{after, answer, wants_room}
-pub use Rattle.model_card.specs.Numbered.{AreNumbered, History, LinkName, Share, contents_of, deliveries_of, frames_of, history, no_share, one_more, received_by, restarts, share_of}
+pub use Rattle.model_card.specs.Numbered.{IsNext, LinkName, arrived, contents_of, delivered, one_more, received_by, restarts}
 pub use Rattle.model_card.specs.Promises.{HasLink, IsAmortised, IsNotRefusedForPool}
 pub use Rattle.model_card.specs.Reached.{IsReached}
 pub use Rattle.model_card.specs.Room.{RefusesBy, free, room}
@@ -58,7 +58,6 @@ pub use Rattle.model_line.specs.declared.config.Config.{Config}
 pub use Rattle.model_link.proofs.Delivering.{counted_on, delivery}
 pub use Rattle.model_link.specs.Deliveries.{Arrived}
 pub use Rattle.model_link.specs.Link.{Link, is_multiple_frame, queue_of}
-pub use Rattle.model_link.specs.Numbered.{Numbered}
 pub use Rattle.model_link.specs.Room.{refusal_for, room_of}
 pub use Rattle.model_link.specs.Told.{starts}
 pub use Rattle.model_link.specs.declared.rooms.Room.{Room}

@@ -1,6 +1,5 @@
 -- What is promised of a list of events, from a card on. The laws say of which cards, and of which lists.
-use Rattle.std.specs.Prelude.{◌≡◌, ℕ, ◌+◌, ◌*◌, ◌≤◌, ◌<◌, false, List, length, map, All}
-use Rattle.model_link.specs.Numbered.{Numbered}
+use Rattle.std.specs.Prelude.{◌≡◌, ℕ, ◌+◌, ◌*◌, ◌≤◌, ◌<◌, false, List, fold, map, All}
 use Rattle.model_line.specs.declared.config.Config.{Config}
 use Rattle.model_line.specs.Counts.{is_pool_full}
 use Rattle.model_line.specs.Line.{link_count}
@@ -8,7 +7,7 @@ use Rattle.model_card.specs.Card.{Card, fresh}
 use Rattle.model_card.specs.Counts.{may_send, window, sent, heard, long_heard, accepted, expired, rejected}
 use Rattle.model_card.specs.Event.{Event}
 use Rattle.model_card.specs.Isolation.{events_at, answers_at, answer_in}
-use Rattle.model_card.specs.Numbered.{LinkName, History, history, received_by, AreNumbered, frames_of, deliveries_of}
+use Rattle.model_card.specs.Numbered.{LinkName, received_by, IsNext, one_more}
 use Rattle.model_card.specs.Run.{Moment, moments, after_all}
 use Rattle.model_card.specs.Stored.{stored, limit}
 
@@ -57,21 +56,15 @@ IsNeverFull c events = c.lines * (2 * c.terminals * c.queue + c.unit_queue) ≤ 
 abbrev pub HasLink : Card → LinkName → Type 0
 HasLink card name = (name.line < card.config.lines) × (name.number < link_count card.config)
 
--- What a link has delivered since its latest establishment is numbered: the next delivery is the contents of the
--- first eligible frame that has the next number, modulo 128, and each is reported in the moment of its frame. Its V(R)
--- counts them.
-pub record IsNumberedAs (h : History) (received : ℕ) : Type 0 where
-  pub numbered : Numbered h.first (frames_of h.shares) (deliveries_of h.shares)
-  pub at_once : AreNumbered h.first h.shares
-  pub counted : received ≡ h.first + length (deliveries_of h.shares)
+-- In every moment each link delivers what has the next number, V(R), which counts the deliveries since its latest establishment.
+pub record IsNumberedAt (m : Card) (events : List Event) (name : LinkName) : Type 0 where
+  pub next : All (IsNext name) (moments m events)
+  pub counted : received_by name (after_all m events) ≡ fold (one_more name) (received_by name m) (moments m events)
 
-abbrev pub IsNumberedAt : Card → List Event → LinkName → Type 0
-IsNumberedAt m events name = IsNumberedAs (history name m (moments m events)) (received_by name (after_all m events))
-
--- So it is with each link.
 abbrev pub IsNumbered : Card → List Event → Type 0
 IsNumbered m events = (name : LinkName) → HasLink m name → IsNumberedAt m events name
 
--- From a card as it begins they are numbered from 0 on.
+-- From a card as it begins it counts from 0 on.
 abbrev pub IsNumberedFromZero : Config → List Event → Type 0
-IsNumberedFromZero c events = (name : LinkName) → HasLink (fresh c) name → (history name (fresh c) (moments (fresh c) events)).first ≡ 0
+IsNumberedFromZero c events =
+    (name : LinkName) → HasLink (fresh c) name → received_by name (after_all (fresh c) events) ≡ fold (one_more name) 0 (moments (fresh c) events)

@@ -28,7 +28,7 @@ not_started e = cc e
 not_noted : up_by_notes 0 Call 64 false [] ≡ true → ⊥
 not_noted e = cc e
 
--- `waiting_is_taken`: no call takes what waits.
+-- `takes_serve_wherever`: no call takes what waits.
 no_call : (front back : List Event) → [] ≡ front ++ at 0 next ∷ back → ⊥
 no_call [] back e = cc e
 no_call (x ∷ front) back e = cc e

@@ -1,10 +1,11 @@
 -- Worked values: cards, and moments with other answers, that would break the clauses of `Card::drive`.
-use Rattle.laws_line.specs.WorkedWords.{◌≡◌, ◌+◌, ◌*◌, ◌≤◌, List, [], ◌∷◌, map, Some, None, refl, ap, arith, frame, Fcs, Short, PoolFull, Call, reading, header_of, control_of, unnumbered_of, seq, hears, next, request, gave, Answer, told, refused, dropped, cause_in, Line, fresh_line, Assign, Data, lost_in, Card, fresh, sent, heard, accepted, expired, rejected, window, IsDropWithoutCost, IsDropWithoutEffect, at, events_at, answers_at, answer_in, Share, AreNumbered, IsWithinLimit, IsNotRefusedForPool, Moment, moments, after_all}
+use Rattle.laws_line.specs.WorkedWords.{◌≡◌, ℕ, ◌+◌, ◌*◌, ◌≤◌, List, [], ◌∷◌, map, Some, None, refl, ap, arith, frame, Fcs, Short, PoolFull, Call, reading, header_of, control_of, unnumbered_of, supervisory_of, seq, named, distance_of, hears, next, request, gave, Answer, told, refused, dropped, nothing, cause_in, Line, fresh_line, Assign, Data, lost_in, Card, fresh, sent, heard, accepted, expired, rejected, window, IsDropWithoutCost, IsDropWithoutEffect, at, events_at, answers_at, answer_in, LinkName, IsNext, IsWithinLimit, IsNotRefusedForPool, Moment, moments, after_all}
 use Rattle.model_bits.specs.Stream as stream
+use Rattle.lapd_frame.specs.declared.notes.Note.TheVariants as notes
 use Rattle.lapd_tei.specs.Events as teis
 use Rattle.model_line.specs.Event as line_event
 use Rattle.model_line.specs.Machine as lines
-use Rattle.laws_line.specs.card.Worked.{usual, on_0}
+use Rattle.laws_line.specs.card.Worked.{usual, on_0, up}
 
 abbrev moment : Card → line_event.Event → Answer → Moment
 moment card what answer = record { card = card; event = at 0 what; answer = answer }
@@ -50,10 +51,24 @@ not_alone same = let causes : Some Fcs ∷ [] ≡ Some Short ∷ [] = ap (map ca
 no_slot : IsNotRefusedForPool (moment (fresh usual) (request (Data Call 64 [])) (refused PoolFull)) → ⊥
 no_slot none = cc none
 
--- `numbered`: the I-frame with number 0 is not delivered, or later than it came.
-abbrev first_comes : Share
-first_comes = record { arrived = Some (record { ns = seq 0; contents = 0x41 ∷ [] }); delivered = None }
+-- `numbered`: I-frame 0 is not delivered, or an I-frame 1 is in its place.
+abbrev comes_first : ℕ → Answer → Moment
+comes_first ns answer = moment (after_all (fresh usual) up) (hears (frame (0x00 ∷ 0x81 ∷ ns * 2 ∷ 0x00 ∷ 0x41 ∷ []))) answer
 
-undelivered : AreNumbered 0 (first_comes ∷ []) → ⊥
-unfolding seq
-undelivered numbered = cc numbered.0
+abbrev call : LinkName
+call = record { line = 0; number = 0 }
+
+abbrev tells_data : Answer
+tells_data = told (record nothing { notes = notes.Data Call 64 ∷ []; contents = Some (0x41 ∷ []) })
+
+delivered_first : IsNext call (comes_first 0 tells_data)
+unfolding after_all lines.after lines.takes_slot reading header_of control_of unnumbered_of supervisory_of teis.course teis.refusal seq named distance_of
+delivered_first = refl
+
+undelivered : IsNext call (comes_first 0 (told nothing)) → ⊥
+unfolding after_all lines.after lines.takes_slot reading header_of control_of unnumbered_of supervisory_of teis.course teis.refusal seq named distance_of
+undelivered is_next = cc is_next
+
+too_early : IsNext call (comes_first 1 tells_data) → ⊥
+unfolding after_all lines.after lines.takes_slot reading header_of control_of unnumbered_of supervisory_of teis.course teis.refusal seq named distance_of
+too_early is_next = cc is_next

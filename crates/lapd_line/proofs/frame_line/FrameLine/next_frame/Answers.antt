@@ -1,5 +1,5 @@
 -- Hand-written answers for `FrameLine::next_frame`.
-use Rattle.lapd_line.proofs.Vocabulary.{◌≡◌, ◌≤◌, [], length, take, drop, Some, begun_shown, given_shown, ap, sym, ◌∙◌, orders_taken, gave_in, answer, next, config_of}
+use Rattle.lapd_line.proofs.Vocabulary.{◌≡◌, ◌≤◌, [], length, take, drop, Some, begun_shown, answer_shown, ap, sym, ◌∙◌, orders_taken, gave_in, answer, next, config_of}
 use Rattle.lapd_line.proofs.NextSteps.{next_leads, none_leads, gave_none, octets_shown, gave_is, is_written, ended}
 use Rattle.lapd_line.proofs.frame_line.FrameLine.next_frame.Goals as goal
 
@@ -30,6 +30,6 @@ pub returns-clause-after : goal.returns-clause-after
 returns-clause-after g c =
     next_leads c.take.ensures c.given.new.self _ c.given.ensures
     (λ others m st.
-    ended (λ out. given_shown (config_of c.args.self.now) (answer (config_of c.args.self.now) next m)
+    ended (λ out. answer_shown (config_of c.args.self.now).side (answer (config_of c.args.self.now) next m)
     ≡ begun_shown (config_of c.args.self.now).side (take c.take.new.out.length out))
     c.take.new.out.octets.now _ (octets_shown c.in_ok-orders.orders c.take.ensures (ap orders_taken c.in_ok-orders.was) others m st) (c.out-2-1.given.1.1 (sym c.take.ensures.reference)))

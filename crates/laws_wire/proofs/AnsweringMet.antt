@@ -42,28 +42,31 @@ full-early =
     let expires : IsFullTalk Call 0 (at_near (times_out (T200 Call 0))) = (refl, refl) in
     all-full (asks_early ++ rings_again) (tt, (tt, (idle, (tt, (tt, (tt, (far, (tt, (expires, (tt, (tt, (tt, (tt, (tt, (tt, (tt, (tt, (tt, (tt, (tt, (tt, tt)))))))))))))))))))))
 
--- Where frames are given and taken alone nothing is asked of it.
-abbrev are_turns : List Doing → Bool
-are_turns [] = true
-are_turns (at_near gives ∷ ds) = are_turns ds
-are_turns (at_near takes ∷ ds) = are_turns ds
-are_turns (at_far gives ∷ ds) = are_turns ds
-are_turns (at_far takes ∷ ds) = are_turns ds
-are_turns other = false
+-- Where no timer expires nothing is asked of it.
+abbrev without_timers : List Doing → Bool
+without_timers [] = true
+without_timers (at_near (times_out timer) ∷ ds) = false
+without_timers (at_far (times_out timer) ∷ ds) = false
+without_timers (d ∷ ds) = without_timers ds
 
-only-turns : (ds : List Doing) → are_turns ds ≡ true → (w : Wire) → StayPatient ds w
+only-turns : (ds : List Doing) → without_timers ds ≡ true → (w : Wire) → StayPatient ds w
 unfolding StayPatient
 only-turns [] e w = tt
+only-turns (at_near (requests r) ∷ ds) e w = (tt, only-turns ds e (doing (at_near (requests r)) w))
 only-turns (at_near gives ∷ ds) e w = (tt, only-turns ds e (doing (at_near gives) w))
 only-turns (at_near takes ∷ ds) e w = (tt, only-turns ds e (doing (at_near takes) w))
+only-turns (at_near loses ∷ ds) e w = (tt, only-turns ds e (doing (at_near loses) w))
+only-turns (at_far (requests r) ∷ ds) e w = (tt, only-turns ds e (doing (at_far (requests r)) w))
 only-turns (at_far gives ∷ ds) e w = (tt, only-turns ds e (doing (at_far gives) w))
 only-turns (at_far takes ∷ ds) e w = (tt, only-turns ds e (doing (at_far takes) w))
-only-turns (at_near (requests r) ∷ ds) e w = absurd (true≢false (sym e))
+only-turns (at_far loses ∷ ds) e w = (tt, only-turns ds e (doing (at_far loses) w))
 only-turns (at_near (times_out timer) ∷ ds) e w = absurd (true≢false (sym e))
-only-turns (at_near loses ∷ ds) e w = absurd (true≢false (sym e))
-only-turns (at_far (requests r) ∷ ds) e w = absurd (true≢false (sym e))
 only-turns (at_far (times_out timer) ∷ ds) e w = absurd (true≢false (sym e))
-only-turns (at_far loses ∷ ds) e w = absurd (true≢false (sym e))
+
+both-patient : (ds es : List Doing) (w : Wire) → StayPatient ds w → StayPatient es (doing_all ds w) → StayPatient (ds ++ es) w
+unfolding StayPatient doing_all
+both-patient [] es w h g = g
+both-patient (d ∷ ds) es w h g = (h.0, both-patient ds es (doing d w) h.1 g)
 
 -- nothing is open where nothing waits and nothing is on its way
 record IsIdle (w : Wire) : Type 0 where
@@ -84,8 +87,11 @@ rings-on w h = (
 )
 
 -- UA was lost
+abbrev ua_goes : List Doing
+ua_goes = at_near gives ∷ at_far takes ∷ at_far gives ∷ at_far loses ∷ []
+
 ua-lost : Wire
-ua-lost = doing_all (at_near gives ∷ at_far takes ∷ at_far gives ∷ at_far loses ∷ []) begins
+ua-lost = doing_all ua_goes begins
 
 lost-idle : IsIdle ua-lost
 unfolding lines.after lines.answer lines.takes_slot reading header_of control_of unnumbered_of supervisory_of teis.course teis.refusal seq distance_of named doing_all turns ua-lost
@@ -93,16 +99,21 @@ lost-idle = record { near_waiting = refl; near_way = refl; far_waiting = refl; f
 
 patient-first : StayPatient loses_ua begins
 unfolding doing_all StayPatient ua-lost
-patient-first = (tt, (tt, (tt, (tt, (rings-on ua-lost lost-idle, only-turns round refl (doing (at_near (times_out (T200 Call 0))) ua-lost))))))
+patient-first =
+    both-patient ua_goes (at_near (times_out (T200 Call 0)) ∷ round) begins (only-turns ua_goes refl begins)
+    (rings-on ua-lost lost-idle, only-turns round refl (doing (at_near (times_out (T200 Call 0))) ua-lost))
 
 -- Behind that T200 expires in state 7.
 then : Wire
 then = doing_all loses_ua begins
 
+abbrev drops_one : List Doing
+drops_one =
+    at_far (requests (SetBusy Call 0)) ∷ at_near (requests (Data Call 0 (1 ∷ []))) ∷ at_near gives ∷ at_far takes ∷ at_far gives ∷ at_far loses
+    ∷ at_far (requests (Data Call 0 (2 ∷ []))) ∷ at_far gives ∷ at_near takes ∷ at_far (requests (ClearBusy Call 0)) ∷ []
+
 expires : Wire
-expires =
-    doing_all (at_far (requests (SetBusy Call 0)) ∷ at_near (requests (Data Call 0 (1 ∷ []))) ∷ at_near gives ∷ at_far takes ∷ at_far gives ∷ at_far loses
-    ∷ at_far (requests (Data Call 0 (2 ∷ []))) ∷ at_far gives ∷ at_near takes ∷ at_far (requests (ClearBusy Call 0)) ∷ []) then
+expires = doing_all drops_one then
 
 in-7 : (end_of Call 0 expires.near).link.state ≡ Established
 unfolding lines.after lines.answer lines.takes_slot reading header_of control_of unnumbered_of supervisory_of teis.course teis.refusal seq distance_of named doing_all turns then expires
@@ -110,45 +121,11 @@ in-7 = refl
 
 patient-then : StayPatient is_busy then
 unfolding doing_all StayPatient then expires
-patient-then = (
-  tt,
-  (
-    tt,
-    (
-      tt,
-      (
-        tt,
-        (
-          tt,
-          (
-            tt,
-            (
-              tt,
-              (
-                tt,
-                (
-                  tt,
-                  (
-                    tt,
-                    (
-                      ((λ awaits. absurd (true≢false (sym awaits ∙ ap awaits_answer in-7))), free (end_of Call 0 expires.near) in-7),
-                      only-turns (round ++ round ++ round) refl (doing (at_near (times_out (T200 Call 0))) expires),
-                    ),
-                  ),
-                ),
-              ),
-            ),
-          ),
-        ),
-      ),
-    ),
-  ),
-)
-
-both-patient : (ds es : List Doing) (w : Wire) → StayPatient ds w → StayPatient es (doing_all ds w) → StayPatient (ds ++ es) w
-unfolding StayPatient doing_all
-both-patient [] es w h g = g
-both-patient (d ∷ ds) es w h g = (h.0, both-patient ds es (doing d w) h.1 g)
+patient-then =
+    both-patient drops_one (at_near (times_out (T200 Call 0)) ∷ (round ++ round ++ round)) then (only-turns drops_one refl then) (
+      ((λ awaits. absurd (true≢false (sym awaits ∙ ap awaits_answer in-7))), free (end_of Call 0 expires.near) in-7),
+      only-turns (round ++ round ++ round) refl (doing (at_near (times_out (T200 Call 0))) expires),
+    )
 
 patient : StayPatient (loses_ua ++ is_busy) begins
 unfolding then

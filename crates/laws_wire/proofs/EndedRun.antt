@@ -24,7 +24,7 @@ use Rattle.laws_wire.proofs.Talking.{Face}
 use Rattle.laws_wire.proofs.Tells.{Tells, as-end}
 use Rattle.laws_wire.proofs.LossyRun.{setting}
 use Rattle.laws_wire.proofs.TimelyUp.{IsHushed, hushed}
-use Rattle.laws_wire.proofs.UaRenewed.{with_before, regranted}
+use Rattle.laws_wire.proofs.UaBefore.{with_before, regranted}
 use Rattle.laws_wire.proofs.UaTold.{up-where, patient-goes}
 
 three-pass : (a b d : Bool) (x y z : Refusal) → a ≡ false → b ≡ false → d ≡ false → cond a (Some x) (cond b (Some y) (cond d (Some z) None)) ≡ None

@@ -48,6 +48,7 @@ pub mod Underway
 pub mod UnderwayRun
 pub mod UnderwayRounds
 pub mod LooseUp
+pub mod UaBefore
 pub mod UaCalled
 pub mod UaCalledAt
 pub mod UaLost

@@ -1,5 +1,5 @@
 -- The link of the end that is called, before its caller is up: it has received nothing but SABME.
-use Rattle.laws_wire.proofs.Vocabulary.{◌≡◌, ℕ, ◌+◌, ◌<◌, ◌≤◌, ◌==◌, Bool, true, false, cond, not, ◌||◌, IsTrue, List, [], ◌∷◌, ◌++◌, take, drop, Option, None, Some, refl, sym, ap, subst, ◌∙◌, ◌⊎◌, inl, inr, append_assoc, true≢false, eqb-true, ne_eqb, arith, flat_map, list_any, All, All-head, front_rest, Refusal, Parts, State, TeiAssigned, AwaitingEstablishment, AwaitingRelease, Established, TimerRecovery, Control, Sabme, LinkTimer, T203, ControlFrame, Terms, Link, is_multiple_frame, has_outstanding, received, requested, expired, offer, course, given, given_of, is_running, begun, frame_given, IsInRange, IsWaitingFrame, End, frame_of, frames_of, frames-append, kinds-append, has_room, Reports, still, at-first, offer-gave, Calm, Kind, enquiry, report, numbered, answer, rejection, alien, kind_of, kinds_of, tally, tally-push, one_enquiry, one_answer, one_rejection, line, most, is_recovering, Sane, IsMildRequest}
+use Rattle.laws_wire.proofs.Vocabulary.{◌≡◌, ℕ, ◌+◌, ◌<◌, ◌≤◌, ◌==◌, Bool, true, false, cond, not, ◌||◌, IsTrue, List, [], ◌∷◌, ◌++◌, take, drop, Option, None, Some, refl, sym, ap, subst, ◌∙◌, ◌⊎◌, inl, inr, append_assoc, true≢false, eqb-true, ne_eqb, arith, flat_map, list_any, All, All-head, front_rest, Refusal, Parts, State, TeiAssigned, AwaitingEstablishment, AwaitingRelease, Established, TimerRecovery, Sabme, LinkTimer, T203, ControlFrame, Terms, Link, is_multiple_frame, has_outstanding, received, requested, expired, offer, course, given, given_of, is_running, begun, frame_given, IsInRange, IsWaitingFrame, End, frame_of, frames_of, frames-append, kinds-append, has_room, Reports, still, at-first, offer-gave, Calm, Kind, enquiry, report, kind_of, kinds_of, tally, tally-push, one_enquiry, one_answer, one_rejection, line, most, is_recovering, Sane, IsMildRequest}
 use Rattle.lapd_frame.specs.declared.notes.ErrorCode.TheVariants as code
 use Rattle.model_link.specs.Events.{frame}
 use Rattle.model_link.specs.Events as link
@@ -17,7 +17,7 @@ use Rattle.laws_link.proofs.OfTwo.Effects.{Grown}
 use Rattle.laws_link.proofs.OfTwo.Going.{asks-went, expires-goes, RanOut}
 use Rattle.laws_link.proofs.OfTwo.HeedingEvents.{heeds-after}
 use Rattle.laws_link.proofs.OfTwo.Staying.{request-stays, timer-stays}
-use Rattle.laws_link.proofs.OfTwo.Trains.{Every, every-push, every-to, Behind, calm-rise}
+use Rattle.laws_link.proofs.OfTwo.Trains.{Every, every-push, Behind, calm-rise}
 use Rattle.laws_wire.specs.Losing.{for_layer_3}
 use Rattle.laws_wire.specs.Answering.{error_f, renewed}
 use Rattle.laws_wire.proofs.Calling.{end, its_ua, sabme}
@@ -134,12 +134,7 @@ module _ (t : Terms) (l : Link) (up : IsTrue (is_multiple_frame l.state)) (sane 
 -- ---- UA waits, and this behind it: reports, and in state 8 an enquiry; no I-frame went
 
 abbrev IsIdle : Kind → Type 0
-IsIdle (numbered ns) = ⊥
-IsIdle enquiry = Unit {0}
-IsIdle (answer nr) = ⊥
-IsIdle report = Unit {0}
-IsIdle (rejection nr) = ⊥
-IsIdle alien = ⊥
+IsIdle k = Calm k × (one_answer k + one_rejection k ≡ 0)
 
 pub record Poised (t : Terms) (l : Link) (post : List ControlFrame) : Type 0 where
   pub up : IsTrue (is_multiple_frame l.state)
@@ -213,9 +208,9 @@ module _ (t : Terms) (l l' : Link) (first post : List ControlFrame) (Free : Type
       }
   by-grown (inr (inl (f, e, k, state))) =
       let one : tally one_enquiry ks ≤ most (is_recovering l'.state) = subst (λ z. tally one_enquiry ks ≤ most (is_recovering z)) (sym state) h.one in
-      pushed f report e k tt (omega (arith, one))
+      pushed f report e k (tt, refl) (omega (arith, one))
   by-grown (inr (inr (f, e, k, state, free))) =
-      pushed f enquiry e k tt
+      pushed f enquiry e k (tt, refl)
       (subst (λ z. tally one_enquiry ks + 1 ≤ most (is_recovering z)) (sym state) (let nothing : tally one_enquiry ks ≡ 0 = open-none l.state refl in omega (arith, nothing)))
     where
       open-none : (here : State) → l.state ≡ here → tally one_enquiry ks ≡ 0
@@ -230,34 +225,13 @@ module _ (t : Terms) (l l' : Link) (first post : List ControlFrame) (Free : Type
 
 -- ---- as UA goes, the two ends are as those that are up
 
-no-rejection : (ks : List Kind) → Every IsIdle ks → tally one_rejection ks ≡ 0
-no-rejection [] h = refl
-no-rejection (numbered ns ∷ ks) h = absurd h.0
-no-rejection (enquiry ∷ ks) h = let none : tally one_rejection ks ≡ 0 = no-rejection ks h.1 in omega (arith, none)
-no-rejection (answer nr ∷ ks) h = absurd h.0
-no-rejection (report ∷ ks) h = let none : tally one_rejection ks ≡ 0 = no-rejection ks h.1 in omega (arith, none)
-no-rejection (rejection nr ∷ ks) h = absurd h.0
-no-rejection (alien ∷ ks) h = absurd h.0
+no-others : (xs : List Kind) → Every IsIdle xs → tally one_answer xs + tally one_rejection xs ≡ 0
+no-others [] h = refl
+no-others (x ∷ xs) h = let here = h.0.1 in let rest = no-others xs h.1 in omega (arith, here, rest)
 
-no-answers : (ks : List Kind) → Every IsIdle ks → tally one_answer ks ≡ 0
-no-answers [] h = refl
-no-answers (numbered ns ∷ ks) h = absurd h.0
-no-answers (enquiry ∷ ks) h = let none : tally one_answer ks ≡ 0 = no-answers ks h.1 in omega (arith, none)
-no-answers (answer nr ∷ ks) h = absurd h.0
-no-answers (report ∷ ks) h = let none : tally one_answer ks ≡ 0 = no-answers ks h.1 in omega (arith, none)
-no-answers (rejection nr ∷ ks) h = absurd h.0
-no-answers (alien ∷ ks) h = absurd h.0
-
-is-calm : (k : Kind) → IsIdle k → Calm k
-is-calm (numbered ns) h = h
-is-calm enquiry h = tt
-is-calm (answer nr) h = tt
-is-calm report h = tt
-is-calm (rejection nr) h = tt
-is-calm alien h = h
-
-all-calm : (ks : List Kind) → Every IsIdle ks → Every Calm ks
-all-calm ks h = every-to IsIdle Calm ks is-calm h
+all-calm : (xs : List Kind) → Every IsIdle xs → Every Calm xs
+all-calm [] h = tt
+all-calm (x ∷ xs) h = (h.0.0, all-calm xs h.1)
 
 behind-calm : (ks : List Kind) → Every Calm ks → Behind one_enquiry Calm ks
 behind-calm [] h = tt
@@ -282,8 +256,7 @@ module _ (t u : Terms) (rt : IsInRange t) (ru : IsInRange u) (same : t.n201 ≡ 
 
   pub loose-plain : Loose n m
   loose-plain =
-      let rejects = no-rejection kinds h.idle in
-      let answers = no-answers kinds h.idle in
+      let others = no-others kinds h.idle in
       let calm = all-calm kinds h.idle in
       let one : tally one_enquiry kinds ≤ most (is_recovering l.state) = h.one in
       record {
@@ -300,11 +273,11 @@ module _ (t u : Terms) (rt : IsInRange t) (ru : IsInRange u) (same : t.n201 ≡ 
         same = same;
         there = record {
           order = omega arith;
-          one = omega (arith, rejects);
-          rejected = λ some. absurd (omega (arith, rejects, some));
-          asked = omega (arith, answers);
+          one = omega (arith, others);
+          rejected = λ some. absurd (omega (arith, others, some));
+          asked = omega (arith, others);
           last = λ some. absurd (omega (arith, some));
-          answered = λ some. absurd (omega (arith, answers, some));
+          answered = λ some. absurd (omega (arith, others, some));
         };
         back = record {
           order = calm-rise 0 kinds calm;

@@ -1,12 +1,11 @@
 -- The phases of a call in which UA may be lost: one end rings, and the other is down; or it is up, and its UA waits, is on its way, or is
 -- not to come.
-use Rattle.laws_wire.proofs.Vocabulary.{◌≡◌, ℕ, ◌+◌, ◌<◌, ◌≤◌, Bool, true, false, not, List, [], ◌∷◌, ◌++◌, length, map, take, drop, refl, sym, ap, subst, ◌∙◌, ◌⊎◌, inl, inr, true≢false, arith, nat_lt, option_to_list, lt-ltb, front_rest, All, All-head, All-drop, Control, Information, ReceiveReady, ReceiveNotReady, Reject, Sabme, Disc, Ui, Ua, Dm, Frmr, Xid, Service, Parts, spelling, ControlFrame, Terms, awaits_answer, course, IsInRange, End, with_link, Config, LineTold, expiry, request, terms, Request, T203, Means, Rising, kind_of, one_enquiry, tally, line, HasNo}
+use Rattle.laws_wire.proofs.Vocabulary.{◌≡◌, ℕ, ◌+◌, ◌<◌, ◌≤◌, Bool, true, false, not, List, [], ◌∷◌, ◌++◌, length, map, take, drop, refl, sym, ap, subst, ◌∙◌, ◌⊎◌, inl, inr, true≢false, arith, nat_lt, option_to_list, lt-ltb, front_rest, All, All-head, All-drop, Control, Information, ReceiveReady, ReceiveNotReady, Reject, Sabme, Disc, Ui, Ua, Dm, Frmr, Xid, Service, Parts, spelling, ControlFrame, Terms, awaits_answer, course, IsInRange, End, with_link, Config, LineTold, expiry, request, terms, Request, Means, Rising, kind_of, one_enquiry, tally, line, HasNo}
 use Rattle.lapd_frame.specs.declared.notes.Note.TheVariants as notes
 use Rattle.lapd_frame.specs.declared.timers.Timer.TheVariants as timers
 use Rattle.model_link.specs.declared.timers.LinkTimer.TheVariants.{T200}
 use Rattle.model_link.specs.Events as link
 use Rattle.model_link.specs.Steps.{Course}
-use Rattle.model_line.specs.Request.{Data}
 use Rattle.laws_wire.specs.Wire.{Station, Wire, happens, comes, with_first_of, with_first_lost, Act, requests, times_out, gives, takes, loses, acting}
 use Rattle.laws_wire.specs.Call.{confirmed}
 use Rattle.laws_wire.specs.Losing.{heard_in}
@@ -23,7 +22,6 @@ use Rattle.laws_wire.proofs.TimelyFirst.{takes-none, loses-none, gives-nothing, 
 use Rattle.laws_wire.proofs.TimelyPhases.{silent-t203}
 use Rattle.laws_wire.proofs.TimelyUp.{each-timer}
 use Rattle.model_link.proofs.Lines.{rising-lower}
-use Rattle.laws_wire.proofs.UaCalled.{again}
 
 -- This goes before what is on the way of an end.
 abbrev pub behind : List Parts → End → End

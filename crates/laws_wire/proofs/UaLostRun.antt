@@ -1,10 +1,9 @@
 -- A whole call in which UA may be lost: what is told, and that all has come where no turn is left and T200 runs at neither end.
-use Rattle.laws_wire.proofs.Vocabulary.{◌≡◌, ℕ, suc, ◌+◌, ◌==◌, Bool, true, false, cond, ◌&&◌, ◌||◌, List, [], ◌∷◌, ◌++◌, length, map, take, drop, refl, sym, ap, subst, ◌∙◌, ◌⊎◌, inl, inr, append-nil, append_assoc, true≢false, eqb-true, arith, All, map-append, take-append-drop, All-head, All-tail, Service, Parts, ControlFrame, spelling, fresh, IsInRange, End, frames_of, Config, LineTold, T203, expiry, request, next, terms, awaits_answer}
+use Rattle.laws_wire.proofs.Vocabulary.{◌≡◌, ℕ, ◌==◌, Bool, true, false, cond, ◌&&◌, ◌||◌, List, [], ◌∷◌, ◌++◌, length, map, refl, sym, ap, subst, ◌∙◌, ◌⊎◌, inl, inr, append-nil, append_assoc, true≢false, arith, All, All-head, All-tail, Service, Parts, ControlFrame, spelling, fresh, IsInRange, End, frames_of, Config, LineTold, T203, expiry, request, terms, awaits_answer}
 use Rattle.lapd_frame.specs.declared.timers.Timer.TheVariants as timers
 use Rattle.model_link.specs.declared.timers.LinkTimer.TheVariants.{T200}
-use Rattle.model_line.specs.Event.{Event}
-use Rattle.laws_wire.specs.Wire.{Station, Wire, answered, happens, with_first_of, with_first_lost, unless_refused, contents_in, Act, requests, times_out, gives, takes, loses, acting, turned, Doing, at_near, at_far, doing, doing_all, is_any}
-use Rattle.laws_wire.specs.Call.{confirmed, indicated, data_told, IsBeginningOf}
+use Rattle.laws_wire.specs.Wire.{Station, Wire, happens, with_first_lost, Act, requests, times_out, gives, takes, loses, acting, turned, Doing, at_near, at_far, doing, doing_all, is_any}
+use Rattle.laws_wire.specs.Call.{confirmed, indicated, data_told}
 use Rattle.laws_wire.specs.Losing.{heard_in}
 use Rattle.laws_wire.specs.Timely.{is_final, IsTimelyOf}
 use Rattle.laws_wire.specs.Answering.{IsFullTalkOf, IsFullTalk, IsPatient, StayPatient, Called, error_f, renewed, told_of_sabme, with_sabme, takes_sabme, gives_information, seeing, seen}
@@ -18,88 +17,15 @@ use Rattle.laws_wire.proofs.TimelyFirst.{takes-none, gives-nothing, asks-refused
 use Rattle.laws_wire.proofs.TimelyPhases as phases
 use Rattle.laws_wire.proofs.TimelyRinging as first_ringing
 use Rattle.laws_wire.proofs.TimelyUp.{each-timer}
+use Rattle.laws_wire.proofs.UaBefore.{some-told, more-told, far-same, with_before, far-before, near-before, timely-with}
 use Rattle.laws_wire.proofs.UaCalledAt.{none-informed}
 use Rattle.laws_wire.proofs.UaLost.{behind, Rings, Ringing, ringing-takes, near-rings, near-waits}
 use Rattle.laws_wire.proofs.UaPhases.{IsAway, IsWaiting, Comes, away-loses, away-gives, away-acts, waiting-loses, waiting-gives, waiting-acts, is-awaited, comes-acts, comes-gives, comes-loses, comes-takes, comes-awaited}
-use Rattle.laws_wire.proofs.UaRenewed.{before, with_before, more_told, TookSabme, sabme-renews}
+use Rattle.laws_wire.proofs.UaRenewed.{more_told, TookSabme, sabme-renews}
 
 and-false : (b : Bool) → (b && false) ≡ false
 and-false true = refl
 and-false false = refl
-
-some-told : (t : LineTold) (ts : List LineTold) → (length (t ∷ ts) == 0) ≡ false
-some-told t ts = go (length (t ∷ ts) == 0) refl
-  where
-    go : (b : Bool) → (length (t ∷ ts) == 0) ≡ b → b ≡ false
-    go true e = let none : suc (length ts) ≡ 0 = eqb-true (length (t ∷ ts)) 0 e in absurd (omega (arith, none))
-    go false e = refl
-
-more-told : (ts : List LineTold) (t : LineTold) → (length (ts ++ t ∷ []) == 0) ≡ false
-more-told [] t = some-told t []
-more-told (s ∷ ts) t = some-told s (ts ++ t ∷ [])
-
--- ---- where more was granted before
-
-happens-before : (e : Event) (g : List (List ℕ)) (s : Station) → happens e (before g s) ≡ before g (happens e s)
-happens-before e g s = λ i. record (happens e s) { granted = append_assoc g s.granted (unless_refused (answered e s) (contents_in e)) i }
-
-first-before : (ways : List (List ℕ)) (g : List (List ℕ)) (s : Station) → with_first_of ways (before g s) ≡ before g (with_first_of ways s)
-first-before [] g s = refl
-first-before (octets ∷ more) g s = happens-before _ g s
-
-far-before : (act : Act) (g : List (List ℕ)) (w : Wire) → turned (acting act (turned (with_before g w))) ≡ with_before g (turned (acting act (turned w)))
-far-before (requests r) g w = ap (λ s. record { near = w.near; far = s }) (happens-before (request r) g w.far)
-far-before (times_out timer) g w = ap (λ s. record { near = w.near; far = s }) (happens-before (expiry timer) g w.far)
-far-before gives g w = ap (λ s. record { near = w.near; far = s }) (happens-before next g w.far)
-far-before takes g w = ap (λ s. record { near = with_first_lost w.near; far = s }) (first-before w.near.way g w.far)
-far-before loses g w = refl
-
-near-before : (act : Act) (g : List (List ℕ)) (w : Wire) → acting act (with_before g w) ≡ with_before g (acting act w)
-near-before (requests r) g w = refl
-near-before (times_out timer) g w = refl
-near-before gives g w = refl
-near-before takes g w = refl
-near-before loses g w = refl
-
--- what T200 asks does not look at it
-timely-near : (act : Act) (g : List (List ℕ)) (w : Wire) → IsTimelyOf act (with_before g w) → IsTimelyOf act w
-timely-near (requests r) g w x = x
-timely-near (times_out (timers.T200 service tei)) g w x = x
-timely-near (times_out (timers.T203 service tei)) g w x = x
-timely-near (times_out timers.T201) g w x = x
-timely-near gives g w x = x
-timely-near takes g w x = x
-timely-near loses g w x = x
-
-timely-far : (act : Act) (g : List (List ℕ)) (w : Wire) → IsTimelyOf act (turned (with_before g w)) → IsTimelyOf act (turned w)
-timely-far (requests r) g w x = x
-timely-far (times_out (timers.T200 service tei)) g w x = x
-timely-far (times_out (timers.T203 service tei)) g w x = x
-timely-far (times_out timers.T201) g w x = x
-timely-far gives g w x = x
-timely-far takes g w x = x
-timely-far loses g w x = x
-
-far-same : (act : Act) → (act ≡ takes → ⊥) → (w : Wire) → (acting act w).far ≡ w.far
-far-same (requests r) not w = refl
-far-same (times_out timer) not w = refl
-far-same gives not w = refl
-far-same takes not w = absurd (not refl)
-far-same loses not w = refl
-
-module _ (service : Service) (tei : ℕ) (past : List LineTold) where
-  -- a beginning of all, where so many contents were delivered
-  pub so-many : (r : ℕ) (granted : List (List ℕ)) (told : List LineTold) → told ≡ past ++ map (data_told service tei) (take r granted)
-      → IsBeginningOf (past ++ map (data_told service tei) granted) told
-  so-many r granted told is = (
-    map (data_told service tei) (drop r granted),
-    ap (λ ts. ts ++ map (data_told service tei) (drop r granted)) is
-        ∙ append_assoc past (map (data_told service tei) (take r granted)) (map (data_told service tei) (drop r granted))
-        ∙ ap (λ ts. past ++ ts) (sym (map-append (data_told service tei) (take r granted) (drop r granted)) ∙ ap (map (data_told service tei)) (take-append-drop r granted)),
-  )
-
-  pub none-yet : (granted : List (List ℕ)) (told : List LineTold) → told ≡ past ++ [] → IsBeginningOf (past ++ map (data_told service tei) granted) told
-  none-yet granted told is = (map (data_told service tei) granted, ap (λ ts. ts ++ map (data_told service tei) granted) (is ∙ append-nil past))
 
 module _ (service : Service) (tei : ℕ) (c d : Config) (p q : ℕ) (face : Face c d) (back : Face d c) (rt : IsInRange (terms c service tei)) (ru : IsInRange (terms d service tei)) where
   abbrev pub its_near : List LineTold
@@ -363,8 +289,8 @@ module _ (service : Service) (tei : ℕ) (c d : Config) (p q : ℕ) (face : Face
     near-goes h act is timely = record { v = acting act v; earlier = g; is = near-before act g v; given_up = up; phase = go h }
       where
         go : Phase x v → Phase x (acting act v)
-        go (inl (told, sent, h)) = inl (told, sent, down-near v h act is (timely-near act g v timely))
-        go (inr (some, h)) = inr (some, near-called x.told x.sent v h act is (timely-near act g v timely))
+        go (inl (told, sent, h)) = inl (told, sent, down-near v h act is (timely-with act v.near v.far v.near.granted (g ++ v.far.granted) timely))
+        go (inr (some, h)) = inr (some, near-called x.told x.sent v h act is (timely-with act v.near v.far v.near.granted (g ++ v.far.granted) timely))
 
     far-goes : (act : Act) → Phase x (done act v) → Goes x (done act (with_before g v))
     far-goes act h = record { v = done act v; earlier = g; is = far-before act g v; given_up = up; phase = h }
@@ -375,7 +301,7 @@ module _ (service : Service) (tei : ℕ) (c d : Config) (p q : ℕ) (face : Face
       where
         go : Phase x v → Phase x (done act v)
         go (inl (told, sent, h)) = inl (told, sent, down-far v h act untaken is)
-        go (inr (some, h)) = inr (some, far-stirs x.told x.sent v act untaken not nor is (timely-far act g v timely) h)
+        go (inr (some, h)) = inr (some, far-stirs x.told x.sent v act untaken not nor is (timely-with act v.far v.near (g ++ v.far.granted) v.near.granted timely) h)
 
     loses-goes : Phase x v → Goes x (done loses (with_before g v))
     loses-goes h = far-goes loses (go h)

@@ -1,5 +1,5 @@
 -- The end that is called, once it took SABME: its UA is not to come, waits, or is on its way behind what went before.
-use Rattle.laws_wire.proofs.Vocabulary.{◌≡◌, ℕ, ◌≤◌, Bool, true, false, not, ◌==◌, ◌||◌, IsTrue, List, [], ◌∷◌, ◌++◌, refl, sym, ap, subst, ◌∙◌, ◌⊎◌, inl, inr, append_assoc, append-nil, true≢false, arith, All, All-head, All-nil, Service, Parts, spelling, ControlFrame, LinkTimer, Terms, Link, is_multiple_frame, has_outstanding, frame_of, frames_of, course, given, IsInRange, End, with_sent, Config, LineTold, next, terms, Rising, Sane, line, HasNo, offer-gave}
+use Rattle.laws_wire.proofs.Vocabulary.{◌≡◌, ℕ, ◌≤◌, Bool, false, not, ◌==◌, ◌||◌, IsTrue, List, [], ◌∷◌, ◌++◌, refl, sym, ap, subst, ◌∙◌, ◌⊎◌, inl, inr, append_assoc, append-nil, true≢false, arith, All, All-head, All-nil, Service, Parts, spelling, ControlFrame, LinkTimer, Terms, Link, is_multiple_frame, has_outstanding, frame_of, frames_of, course, given, IsInRange, End, with_sent, Config, LineTold, next, terms, Rising, Sane, HasNo, offer-gave}
 use Rattle.model_link.specs.Events as link
 use Rattle.model_link.specs.Machine as links
 use Rattle.model_link.specs.TwoEnds as two_ends
@@ -82,9 +82,7 @@ module _ (service : Service) (tei : ℕ) (c d : Config) (p q : ℕ) (face : Face
 
     away-stirs : (e : link.Event) (s' : Station) → StirsAt service tei d q past v M h.held h.up h.sane e s' → IsAway b s'
     away-stirs e s' x =
-        let l = M.link in
-        let way = M.way in
-        let longer : Rising 0 l.r (line_of M ++ frames_of M.terms x.stirs.reports.news) = rising-reports M.terms 0 l.r (line_of M) x.stirs.reports.news x.stirs.reports.are h.rising in
+        let longer : Rising 0 M.link.r (line_of M ++ frames_of M.terms x.stirs.reports.news) = rising-reports M.terms 0 M.link.r (line_of M) x.stirs.reports.news x.stirs.reports.are h.rising in
         record {
           M = record M { link = x.left };
           held = x.held;
@@ -94,9 +92,9 @@ module _ (service : Service) (tei : ℕ) (c d : Config) (p q : ℕ) (face : Face
           delivered = h.delivered;
           sane = x.stirs.sane;
           rising =
-              subst (λ r. Rising 0 r (way ++ frames_of M.terms x.left.waiting)) (sym x.stirs.r)
-              (subst (Rising 0 l.r) (sym (line-grows M.terms way l.waiting x.left.waiting l.r x.stirs.reports)) longer);
-          flag = same-flag b l x.left x.stirs.s x.stirs.a h.flag;
+              subst (λ r. Rising 0 r (M.way ++ frames_of M.terms x.left.waiting)) (sym x.stirs.r)
+              (subst (Rising 0 M.link.r) (sym (line-grows M.terms M.way M.link.waiting x.left.waiting M.link.r x.stirs.reports)) longer);
+          flag = same-flag b M.link x.left x.stirs.s x.stirs.a h.flag;
         }
 
     pub away-loses : IsAway b (with_first_lost v.near)
@@ -200,9 +198,6 @@ module _ (service : Service) (tei : ℕ) (c d : Config) (p q : ℕ) (face : Face
     is-laid : (ws : List ControlFrame) → M'.link.waiting ≡ ws → M' ≡ laid ws
     is-laid ws e = λ i. record { terms = h.held.stands.terms i; link = record M'.link { waiting = e i }; way = M'.way; delivered = h.delivered i }
 
-    gave-flag : (b || gives_information v.near) ≡ has_outstanding (links.after M'.terms link.offer M'.link)
-    gave-flag = flagged-at service tei d q past v M' h.held b h.flag
-
     -- as it gives, the poised link stays so
     rest-poised : (f : ControlFrame) (fs : List ControlFrame) → M'.link.waiting ≡ f ∷ fs → Poised u (record M'.link { waiting = fs }) h.post
     rest-poised f fs e =
@@ -228,7 +223,7 @@ module _ (service : Service) (tei : ℕ) (c d : Config) (p q : ℕ) (face : Face
       rest-held = held-given service tei q past d v.near (laid (f ∷ fs)) (subst (Its v.near) (is-laid (f ∷ fs) e) h.held) refl
 
       pub rest-flag : (b || gives_information v.near) ≡ has_outstanding went.link
-      rest-flag = gave-flag ∙ ap (λ (x : End). has_outstanding (links.after x.terms link.offer x.link)) (is-laid (f ∷ fs) e)
+      rest-flag = flagged-at service tei d q past v M' h.held b h.flag ∙ ap (λ (x : End). has_outstanding (links.after x.terms link.offer x.link)) (is-laid (f ∷ fs) e)
 
       -- it is a frame of before
       pub rest-waiting : (others : List ControlFrame) → h.old ≡ f ∷ others → fs ≡ (others ++ its_ua ∷ []) ++ h.post → IsWaiting (b || gives_information v.near) (happens next v.near)
@@ -329,9 +324,8 @@ module _ (service : Service) (tei : ℕ) (c d : Config) (p q : ℕ) (face : Face
         let kept = (offer-gave h.m.terms h.loose.joined.far_ranges h.m.link h.loose.joined.far_sound h.m.link.waiting refl).same in
         let given = two_ends.frame_given h.m.terms (given h.m.terms h.m.link) in
         let is : with_sent whole ≡ behind before (with_sent h.m) = (λ i. record (with_sent h.m) { way = append_assoc before h.m.way given i }) in
-        let s' = happens next w.far in
-        with-far (record w { far = s' }) h.near (with_sent h.m) (b || gives_information w.far)
-        (subst (Its s') is (held-given service tei q past d w.far whole h.far kept))
+        with-far (record w { far = happens next w.far }) h.near (with_sent h.m) (b || gives_information w.far)
+        (subst (Its (happens next w.far)) is (held-given service tei q past d w.far whole h.far kept))
         (loose-turned (with_sent h.m) n (loose-after h.m n (loose-turned n h.m h.loose) two_ends.sends tt))
         (flagged-at service tei d q past (turned w) whole h.far b h.flag)
 
@@ -358,13 +352,12 @@ module _ (service : Service) (tei : ℕ) (c d : Config) (p q : ℕ) (face : Face
             inl (record { repeats = h.repeats; near = h.near; m = h.m; stale = fs; far = far; rising = rising-lower rising.0 0 0 fs (omega arith) rising.3; loose = h.loose; flag = h.flag })
         go [] rising far =
             let low : h.m.link.a ≤ 0 = h.loose.joined.back.rising in
-            let below = not-beyond in
             inr (record {
               M = h.m;
               held = far;
               up = up-there;
               a = omega (arith, low);
-              r = omega (arith, below);
+              r = omega (arith, not-beyond);
               delivered = comes-none;
               sane = sane-there;
               rising = h.loose.joined.there.rising;

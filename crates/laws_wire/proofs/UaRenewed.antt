@@ -16,23 +16,9 @@ use Rattle.laws_wire.proofs.Ringing.{ringing}
 use Rattle.laws_wire.proofs.Speaking.{said_by}
 use Rattle.laws_wire.proofs.Standing.{IsCarried, Stands}
 use Rattle.laws_wire.proofs.Talking.{Face}
+use Rattle.laws_wire.proofs.UaBefore.{with_before, regranted, split}
 use Rattle.laws_wire.proofs.UaCalled.{sane-after, again, Renews, renews}
 use Rattle.laws_wire.proofs.UaPhases.{IsAway, IsWaiting}
-
--- These were granted before.
-abbrev pub before : List (List ℕ) → Station → Station
-before g s = record s { granted = g ++ s.granted }
-
-abbrev pub with_before : List (List ℕ) → Wire → Wire
-with_before g w = record w { far = before g w.far }
-
--- what was granted does not matter to what stands for a station
-pub regranted : (k : Config) (service : Service) (tei place : ℕ) (s : Station) (n : End) (g : List (List ℕ)) → Stands k service tei place s n → Stands k service tei place (record s { granted = g }) n
-regranted k service tei place s n g h = record { config = h.config; sound = h.sound; within = h.within; speaks = h.speaks; terms = h.terms; way = h.way; carried = h.carried }
-
-split : (b : Bool) (g : List (List ℕ)) → g ≡ cond b g [] ++ cond b [] g
-split true g = sym (append-nil g)
-split false g = refl
 
 module _ (service : Service) (tei : ℕ) (c d : Config) (p q : ℕ) (face : Face c d) (back : Face d c) (rt : IsInRange (terms c service tei)) (ru : IsInRange (terms d service tei)) where
   abbrev t : Terms

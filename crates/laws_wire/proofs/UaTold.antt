@@ -1,5 +1,5 @@
 -- What is told in a call in which UA may be lost, from its phases.
-use Rattle.laws_wire.proofs.Vocabulary.{◌≡◌, ℕ, Bool, true, false, List, [], ◌∷◌, ◌++◌, length, map, take, drop, refl, sym, ap, subst, ◌∙◌, inl, inr, true≢false, All, front_rest, Service, Parts, ControlFrame, Link, IsInRange, runs, End, Config, LineTold, terms}
+use Rattle.laws_wire.proofs.Vocabulary.{◌≡◌, ℕ, Bool, false, List, [], ◌∷◌, ◌++◌, length, map, take, drop, refl, sym, ap, append-nil, append_assoc, map-append, take-append-drop, subst, ◌∙◌, inl, inr, true≢false, All, front_rest, Service, Parts, ControlFrame, Link, IsInRange, runs, End, Config, LineTold, terms}
 use Rattle.model_link.specs.declared.timers.LinkTimer.TheVariants.{T200}
 use Rattle.laws_wire.specs.Wire.{Station, Wire, turned, Doing, doing_all, IsStill}
 use Rattle.laws_wire.specs.Call.{CanCall, calling, confirmed, data_told, IsBeginningOf}
@@ -14,9 +14,23 @@ use Rattle.laws_wire.proofs.LossyRun.{setting}
 use Rattle.laws_wire.proofs.Ringing.{ringing, its_sabme}
 use Rattle.laws_wire.proofs.Talking.{Face}
 use Rattle.laws_wire.proofs.UaLost.{not-told}
-use Rattle.laws_wire.proofs.UaLostRun.{so-many, none-yet, its_near, Away, Rs, Down, Up, IsCalled, Phase, Goes, patient-runs}
+use Rattle.laws_wire.proofs.UaLostRun.{its_near, Away, Rs, Down, Up, IsCalled, Phase, Goes, patient-runs}
 use Rattle.laws_wire.proofs.UaPhases.{comes-none}
-use Rattle.laws_wire.proofs.UaRenewed.{with_before}
+use Rattle.laws_wire.proofs.UaBefore.{with_before}
+
+module _ (service : Service) (tei : ℕ) (past : List LineTold) where
+  -- a beginning of all, where so many contents were delivered
+  so-many : (r : ℕ) (granted : List (List ℕ)) (told : List LineTold) → told ≡ past ++ map (data_told service tei) (take r granted)
+      → IsBeginningOf (past ++ map (data_told service tei) granted) told
+  so-many r granted told is = (
+    map (data_told service tei) (drop r granted),
+    ap (λ ts. ts ++ map (data_told service tei) (drop r granted)) is
+        ∙ append_assoc past (map (data_told service tei) (take r granted)) (map (data_told service tei) (drop r granted))
+        ∙ ap (λ ts. past ++ ts) (sym (map-append (data_told service tei) (take r granted) (drop r granted)) ∙ ap (map (data_told service tei)) (take-append-drop r granted)),
+  )
+
+  none-yet : (granted : List (List ℕ)) (told : List LineTold) → told ≡ past ++ [] → IsBeginningOf (past ++ map (data_told service tei) granted) told
+  none-yet granted told is = (map (data_told service tei) granted, ap (λ ts. ts ++ map (data_told service tei) granted) (is ∙ append-nil past))
 
 module _ (service : Service) (tei : ℕ) (c d : Config) (p q : ℕ) (face : Face c d) (back : Face d c) (rt : IsInRange (terms c service tei)) (ru : IsInRange (terms d service tei)) where
   abbrev Its : List LineTold → Bool → Wire → Type 0

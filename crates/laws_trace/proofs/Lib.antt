@@ -13,6 +13,8 @@ pub mod Observed
 pub mod ObservedRun
 pub mod ObservedFacts
 pub mod ObservedLaws
+pub mod ObservedExpiries
+pub mod TimersOrdered
 pub mod ObservedStanding
 pub mod ObservedTold
 pub mod ObservedCount
@@ -82,8 +84,6 @@ pub mod TimersOfLine
 pub mod TimersOfEvent
 pub mod TimersStarted
 pub mod TimersAreTimely
-pub mod OrdersHaveReasons
-pub mod OrdersInRuns
 pub mod MovesOfLink
 pub mod LinkLed
 pub mod LinksMove

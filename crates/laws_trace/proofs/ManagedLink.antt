@@ -1,6 +1,6 @@
 -- What an event of TEI management is to the link of a service with a TEI: it stays as it is, or its TEI comes or
--- leaves; and none of its timers is started.
-use Rattle.laws_trace.proofs.Vocabulary.{◌≡◌, ℕ, ◌==◌, Bool, true, false, List, ◌++◌, Option, Some, None, refl, sym, ap, ◌∙◌, eq-eqb, true≢false, ◌⊎◌, inl, inr, is_some, none-some, Service, Order, Call, Packet, Management, IsSoundTable, Change, Gained, Left, t201_follows, Link, Config, told_of_management, of_change, Line, has_tei, link_in, link_of, terms, some-same, is-off, has-no-place}
+-- leaves; and it orders what stops the timer of a link whose TEI leaves.
+use Rattle.laws_trace.proofs.Vocabulary.{◌≡◌, ℕ, ◌==◌, Bool, true, false, List, ◌++◌, Option, Some, None, refl, sym, ap, ◌∙◌, eq-eqb, true≢false, ◌⊎◌, inl, inr, is_some, none-some, Service, Order, Call, Packet, Management, IsSoundTable, Change, Gained, Left, t201_follows, Link, Config, told_of_management, of_change, Line, has_tei, link_in, link_of, terms, some-same, is-off, has-no-place, [], ◌&&◌, append-nil, arith, get_or, set, get_or-set_other, option_map_or, filter-append, same_service, is_on-at, place_of-is, has-place, place_in, link_number, orders_for, Terms, subst}
 use Rattle.std.proofs.Common.{eqb-true}
 use Rattle.lapd_tei.specs.Events as teis
 use Rattle.lapd_tei.specs.Laws as tei_laws
@@ -12,7 +12,8 @@ use Rattle.model_line.specs.Effect.{of_link}
 use Rattle.model_line.specs.Machine.{after}
 use Rattle.model_line.specs.Sound.{IsSound}
 use Rattle.laws_line.proofs.Readings as read
-use Rattle.laws_trace.proofs.OrdersOfLink.{StartNone, two-start-none, management-starts-none, cleared-starts-none}
+use Rattle.laws_trace.specs.TimersAreTimely.{is_order_of}
+use Rattle.laws_trace.proofs.OrdersOfLink.{its_orders, its-own, of-event, none-ordered, management-orders-none}
 
 module _ (c : Config) (l : Line) (s : IsSound c l) (service : Service) (tei : ℕ) where
   abbrev itself : Link → Link
@@ -42,27 +43,37 @@ module _ (c : Config) (l : Line) (s : IsSound c l) (service : Service) (tei : �
     abbrev Stays : Option Change → Type 0
     Stays o = Remains (next o)
 
+    gained-elsewhere : (by place : ℕ) → tei_laws.HasJoined l.management.places m.places by place → (by == tei) ≡ false → link_of service tei (next (Some (Gained by place))) ≡ link_of service tei l
+    gained-elsewhere by place joined other =
+        read.elsewhere fresh itself refl c l s m table place (Some by) joined.is_there joined.within service tei
+        (λ same. true≢false (sym (eq-eqb by tei (some-same by tei same)) ∙ other)) (λ at. none-some tei (sym joined.was_free ∙ at))
+
+    left-elsewhere : (by place : ℕ) → tei_laws.HasLeft l.management.places m.places by place → (by == tei) ≡ false → link_of service tei (next (Some (Left by place))) ≡ link_of service tei l
+    left-elsewhere by place gone other =
+        read.elsewhere fresh itself refl c l s m table place None gone.is_free gone.within service tei (λ same. none-some tei same)
+        (λ at. true≢false (sym (eq-eqb by tei (some-same by tei (sym gone.was_there ∙ at))) ∙ other))
+
+    left-fresh : (by place : ℕ) → tei_laws.HasLeft l.management.places m.places by place → (by == tei) ≡ true → link_of service tei (next (Some (Left by place))) ≡ fresh
+    left-fresh by place gone same =
+        read.emptied-read fresh itself refl c l s m table place None gone.is_free gone.within service tei refl (gone.was_there ∙ ap Some (eqb-true by tei same))
+
     comes : (by place : ℕ) → tei_laws.HasJoined l.management.places m.places by place → (b : Bool) → (by == tei) ≡ b → Stays (Some (Gained by place))
     comes by place joined true same =
         inr (
           read.filled-read fresh itself refl c l s m table place (Some by) joined.is_there joined.within service tei (ap Some (eqb-true by tei same)),
           λ was there. true≢false (sym was ∙ ap (λ n. has_tei n l) (sym (eqb-true by tei same)) ∙ joined.was_off),
         )
-    comes by place joined false other =
-        inl (read.elsewhere fresh itself refl c l s m table place (Some by) joined.is_there joined.within service tei
-        (λ same. true≢false (sym (eq-eqb by tei (some-same by tei same)) ∙ other)) (λ at. none-some tei (sym joined.was_free ∙ at)))
+    comes by place joined false other = inl (gained-elsewhere by place joined other)
 
     leaves : (by place : ℕ) → tei_laws.HasLeft l.management.places m.places by place → (b : Bool) → (by == tei) ≡ b → Stays (Some (Left by place))
     leaves by place gone true same =
         let was-there = gone.was_there ∙ ap Some (eqb-true by tei same) in
         inr (
-          read.emptied-read fresh itself refl c l s m table place None gone.is_free gone.within service tei refl was-there,
+          left-fresh by place gone same,
           λ was there. true≢false (sym there
               ∙ is-off m.places tei (has-no-place m.places tei (read.emptied fresh itself refl c l s m table place None gone.is_free gone.within tei refl was-there))),
         )
-    leaves by place gone false other =
-        inl (read.elsewhere fresh itself refl c l s m table place None gone.is_free gone.within service tei (λ same. none-some tei same)
-        (λ at. true≢false (sym (eq-eqb by tei (some-same by tei (sym gone.was_there ∙ at))) ∙ other)))
+    leaves by place gone false other = inl (left-elsewhere by place gone other)
 
     by-change : (o : Option Change) → tei_laws.Moves l.management.places o m.places → Stays o
     by-change None moves = inl (alike l (next None) moves refl)
@@ -72,21 +83,108 @@ module _ (c : Config) (l : Line) (s : IsSound c l) (service : Service) (tei : �
     abbrev own_orders : List Order
     own_orders = (teis.told me l.management).orders
 
-    own-start-none : StartNone service tei own_orders
-    own-start-none = management-starts-none service tei (is_some l.management.check) own_orders (is_some m.check) (t201_follows me l.management)
+    own-orders-none : its_orders service tei own_orders ≡ []
+    own-orders-none = management-orders-none service tei (is_some l.management.check) own_orders (is_some m.check) (t201_follows me l.management)
 
-    pub starts-none : (o : Option Change) → StartNone service tei (of_change c o (told_of_management (teis.told me l.management)) (record l { management = m })).told.orders
-    starts-none None = own-start-none
-    starts-none (Some (Gained by place)) = own-start-none
-    starts-none (Some (Left by place)) =
-        let at = record l { management = m } in
-        let call = of_link c Call by place link.cleared at in
-        let x = link_in at Call place in
-        let y = link_in call.line Packet place in
-        let first = (links.told (terms c Call by) link.cleared x).orders in
-        let second = (links.told (terms c Packet by) link.cleared y).orders in
-        two-start-none service tei (first ++ second) own_orders
-        (two-start-none service tei first second (cleared-starts-none (terms c Call by) x service tei) (cleared-starts-none (terms c Packet by) y service tei)) own-start-none
+    abbrev its : Terms
+    its = terms c service tei
+
+    abbrev Ordered : Option Change → Type 0
+    Ordered o =
+        its_orders service tei (of_change c o (told_of_management (teis.told me l.management)) (record l { management = m })).told.orders
+        ≡ orders_for its (link_of service tei l).running None (link_of service tei (next o)).running
+
+    -- of a link that stays as it is none,
+    as-before : (o : Option Change) → link_of service tei (next o) ≡ link_of service tei l → [] ≡ orders_for its (link_of service tei l).running None (link_of service tei (next o)).running
+    as-before o same = sym (ap (λ (x : Link). orders_for its (link_of service tei l).running None x.running) same ∙ none-ordered its (link_of service tei l).running)
+
+    -- and of one that comes none, as it had none,
+    fresh-off : has_tei tei l ≡ false → link_of service tei l ≡ fresh
+    fresh-off off = go (place_in l tei) refl
+      where
+        go : (p : Option ℕ) → place_in l tei ≡ p → link_of service tei l ≡ fresh
+        go None none = ap (λ o. option_map_or (link_in l service) o fresh) none
+        go (Some place) on = absurd (true≢false (sym (is_on-at l.management.places place tei (place_of-is l.management.places tei place on).1) ∙ off))
+
+    comes-ordered : (by place : ℕ) → tei_laws.HasJoined l.management.places m.places by place → (b : Bool) → (by == tei) ≡ b → Ordered (Some (Gained by place))
+    comes-ordered by place joined false other = own-orders-none ∙ as-before (Some (Gained by place)) (gained-elsewhere by place joined other)
+    comes-ordered by place joined true same = own-orders-none ∙ go (comes by place joined true same)
+      where
+        off : has_tei tei l ≡ false
+        off = ap (λ n. has_tei n l) (sym (eqb-true by tei same)) ∙ joined.was_off
+
+        go : Stays (Some (Gained by place)) → [] ≡ orders_for its (link_of service tei l).running None (link_of service tei (next (Some (Gained by place)))).running
+        go (inl kept) = as-before (Some (Gained by place)) kept
+        go (inr anew) =
+            sym (ap (λ (x : Link). orders_for its (link_of service tei l).running None x.running) (anew.0)
+            ∙ ap (λ (x : Link). orders_for its x.running None None) (fresh-off off))
+
+    -- but where the TEI leaves, that its timer stops.
+    module _ (place : ℕ) where
+      abbrev second_link : Link
+      second_link = get_or (set l.links (link_number place Call) fresh) (link_number place Packet) fresh
+
+      abbrev of_both : ℕ → List Order
+      of_both n =
+          (orders_for (terms c Call n) (link_in l Call place).running None None ++ orders_for (terms c Packet n) second_link.running None None) ++ own_orders
+
+      split : (n : ℕ) → its_orders service tei (of_both n)
+          ≡ its_orders service tei (orders_for (terms c Call n) (link_in l Call place).running None None)
+          ++ its_orders service tei (orders_for (terms c Packet n) second_link.running None None)
+      split n =
+          let first = orders_for (terms c Call n) (link_in l Call place).running None None in
+          let second = orders_for (terms c Packet n) second_link.running None None in
+          filter-append (is_order_of service tei) (first ++ second) own_orders ∙ ap (λ xs. its_orders service tei (first ++ second) ++ xs) own-orders-none
+          ∙ append-nil (its_orders service tei (first ++ second)) ∙ filter-append (is_order_of service tei) first second
+
+      others-left : (n : ℕ) → (n == tei) ≡ false → its_orders service tei (of_both n) ≡ []
+      others-left n other =
+          split n
+          ∙ ap (λ xs. xs ++ its_orders service tei (orders_for (terms c Packet n) second_link.running None None))
+          (of-event (terms c Call n) service tei false (away (same_service Call service)) (link_in l Call place).running None None)
+          ∙ of-event (terms c Packet n) service tei false (away (same_service Packet service)) second_link.running None None
+        where
+          away : (b : Bool) → (b && n == tei) ≡ false
+          away true = other
+          away false = refl
+
+      second-is : second_link ≡ link_in l Packet place
+      second-is = get_or-set_other l.links (link_number place Call) (link_number place Packet) fresh fresh (λ e. omega (arith, e))
+
+      its-left : (z : Service) → service ≡ z → its_orders service tei (of_both tei) ≡ orders_for its (link_in l service place).running None None
+      its-left Call is =
+          split tei
+          ∙ ap (λ xs. xs ++ its_orders service tei (orders_for (terms c Packet tei) second_link.running None None))
+          (of-event (terms c Call tei) service tei true (ap (λ z. same_service Call z && tei == tei) is ∙ its-own Call tei) (link_in l Call place).running None None)
+          ∙ ap (λ xs. orders_for (terms c Call tei) (link_in l Call place).running None None ++ xs)
+          (of-event (terms c Packet tei) service tei false (ap (λ z. same_service Packet z && tei == tei) is) second_link.running None None)
+          ∙ append-nil (orders_for (terms c Call tei) (link_in l Call place).running None None)
+          ∙ ap (λ z. orders_for (terms c z tei) (link_in l z place).running None None) (sym is)
+      its-left Packet is =
+          split tei
+          ∙ ap (λ xs. xs ++ its_orders service tei (orders_for (terms c Packet tei) second_link.running None None))
+          (of-event (terms c Call tei) service tei false (ap (λ z. same_service Call z && tei == tei) is) (link_in l Call place).running None None)
+          ∙ of-event (terms c Packet tei) service tei true (ap (λ z. same_service Packet z && tei == tei) is ∙ its-own Packet tei) second_link.running None None
+          ∙ ap (λ (x : Link). orders_for (terms c Packet tei) x.running None None) second-is
+          ∙ ap (λ z. orders_for (terms c z tei) (link_in l z place).running None None) (sym is)
+
+    leaves-ordered : (by place : ℕ) → tei_laws.HasLeft l.management.places m.places by place → (b : Bool) → (by == tei) ≡ b → Ordered (Some (Left by place))
+    leaves-ordered by place gone false other = others-left place by other ∙ as-before (Some (Left by place)) (left-elsewhere by place gone other)
+    leaves-ordered by place gone true same =
+        ap (λ n. its_orders service tei (of_both place n)) (eqb-true by tei same) ∙ its-left place service refl
+        ∙ ap (λ (x : Link). orders_for its x.running None None) (sym there)
+        ∙ sym (ap (λ (x : Link). orders_for its (link_of service tei l).running None x.running) (left-fresh by place gone same))
+      where
+        there : link_of service tei l ≡ link_in l service place
+        there = ap (λ o. option_map_or (link_in l service) o fresh) (has-place l.management.places tei place s.management.table (gone.was_there ∙ ap Some (eqb-true by tei same)))
+
+    pub management-ordered : Ordered (teis.told me l.management).change
+    management-ordered = go (teis.told me l.management).change (tei_lemmas.changes_are_told me l.management fits s.management)
+      where
+        go : (o : Option Change) → tei_laws.Moves l.management.places o m.places → Ordered o
+        go None moves = own-orders-none ∙ as-before None (alike l (next None) moves refl)
+        go (Some (Gained by place)) joined = comes-ordered by place joined (by == tei) refl
+        go (Some (Left by place)) gone = leaves-ordered by place gone (by == tei) refl
 
     pub managed : Stays (teis.told me l.management).change
     managed = by-change (teis.told me l.management).change (tei_lemmas.changes_are_told me l.management fits s.management)

@@ -11,7 +11,7 @@ use Rattle.laws_trace.specs.LinksMove.{LinksMove}
 use Rattle.laws_trace.specs.Managing.{is_on}
 use Rattle.laws_trace.specs.News.{NewsIsTold}
 use Rattle.laws_trace.specs.Observer.{Observed, View, is_outstanding, awaits, view_of, moment_of, view_behind}
-use Rattle.laws_trace.specs.TimersAreTimely.{TimersRun, TimersAreStarted}
+use Rattle.laws_trace.specs.TimersAreTimely.{TimersRun}
 use Rattle.laws_trace.specs.Trace.{Seen, seen, Always}
 use Rattle.laws_trace.proofs.MovesWatched.{repeated}
 use Rattle.laws_trace.proofs.NewsWatched.{Owing, none_owed, owing}
@@ -28,6 +28,10 @@ use Rattle.laws_trace.proofs.News as old_news
 use Rattle.laws_trace.proofs.NewsWatched as news
 use Rattle.laws_trace.proofs.TimersAreTimely as old
 use Rattle.laws_trace.proofs.TimersWatched as known
+
+-- The link moves to another state, or the frame that comes starts its timer anew.
+abbrev pub moved_or_renewed : Config → Service → ℕ → LinkTimer → Observed → Observed → line_event.Event → Bool
+moved_or_renewed c service tei timer was now what = not (was.state == now.state) || (was.state == 7 && now_news.brings (timely.renews timer was.acknowledged was.busy) c service tei what)
 
 -- The laws.
 module _ (c : Config) (events : List Event) (number : ℕ) (ranged : IsInRange c) (all : AreAtLines (fresh c) events) (within : number < c.lines) (service : Service) (tei : ℕ) where
@@ -145,7 +149,7 @@ module _ (c : Config) (before : List Event) (number : ℕ) (ranged : IsInRange c
   abbrev old_anew : LinkTimer → List Seen → Bool
   old_anew timer t = known.is_anew c service tei timer its_numbers from to t
 
-  pub anew-is : (timer : LinkTimer) → timely.is_anew c service tei timer was now what ≡ old_anew timer (seen what its_moment.answer)
+  pub anew-is : (timer : LinkTimer) → moved_or_renewed c service tei timer was now what ≡ old_anew timer (seen what its_moment.answer)
   anew-is timer =
       ap (λ b. b || (was.state == 7 && now_news.brings (timely.renews timer was.acknowledged was.busy) c service tei what)) (moves-so c before number ranged all within service tei what)
       ∙ ap (λ b. differ from to || (b && now_news.brings (timely.renews timer was.acknowledged was.busy) c service tei what)) (state-is from its_numbers its_asked its_owed its_count was 7 refl is-before)
@@ -194,15 +198,20 @@ module _ (c : Config) (before : List Event) (number : ℕ) (ranged : IsInRange c
       ∙ ap (λ b. news.due service tei errors its_asked (list_any (known.brings now_news.is_xid c service tei) (seen what its_moment.answer)) b (now_news.releases service tei what its_moment.answer) its_owed was.state (unwrap_or to 4))
       (sym (brings-is c service tei now_news.is_sabme what its_moment.answer))
 
-pub timers-are-started-so : Always TimersAreStarted
-timers-are-started-so c events number ranged all within service tei timer before what behind is =
-    let front = front-at (fresh c) before (at number what) behind (subst (AreAtLines (fresh c)) is all) in
+-- when a timer is started
+pub started-so : (c : Config) (before : List Event) (number : ℕ) (ranged : IsInRange c) (all : AreAtLines (fresh c) before) (within : number < c.lines) (service : Service) (tei : ℕ) (timer : LinkTimer) (what : line_event.Event) →
+    let its = timer_of service tei timer in
+    let orders = orders_in (moment_of c before number what).answer in
+    let ran = left_by what its (runs_at_callers number its false (moments (fresh c) before)) in
+    obeyed its false orders ≡ (obeyed its ran orders
+    && (not ran || moved_or_renewed c service tei timer (view_of c service tei number before).link (view_behind c service tei number before what).link what))
+started-so c before number ranged all within service tei timer what =
     let its = timer_of service tei timer in
     let m = moment_of c before number what in
     let ran = left_by what its (runs_at_callers number its false (moments (fresh c) before)) in
-    old.timers-are-started c events number ranged all within service tei timer before what behind is
-    ∙ ap (λ b. obeyed its ran (orders_in m.answer) && (not ran || b))
-    (ap (λ b. old_anew c before number ranged front within service tei what timer (cond b (seen what m.answer) [])) (itself number) ∙ sym (anew-is c before number ranged front within service tei what timer))
+    let here : number < (after_all (fresh c) before).config.lines = subst (λ (c : Config). number < c.lines) (sym (old.config-now c before number ranged all within service tei)) within in
+    old.started-law c before number ranged all within service tei what timer here
+    ∙ ap (λ b. obeyed its ran (orders_in m.answer) && (not ran || b)) (sym (anew-is c before number ranged all within service tei what timer))
 
 module _ (c : Config) (events : List Event) (number : ℕ) (ranged : IsInRange c) (all : AreAtLines (fresh c) events) (within : number < c.lines) (service : Service) (tei : ℕ)
     (before : List Event) (what : line_event.Event) (behind : List Event) (is : events ≡ before ++ at number what ∷ behind) where

@@ -1,6 +1,6 @@
 -- What an event of a line is to the link of a service with a TEI, at whatever place the TEI is: one event of this link,
 -- its deactivation, or none.
-use Rattle.laws_trace.proofs.Vocabulary.{◌≡◌, ℕ, ◌==◌, ◌&&◌, Bool, true, false, List, [], ◌∷◌, map, slice_get, Option, Some, None, IfSome, option_map, refl, sym, ap, ◌∙◌, subst, ◌⊎◌, inl, inr, ⊎_elim, All, option_to_list, option_or, option_map_or, All-nil, All-cons, none-some, Refusal, Service, Order, same_service, IsAt, Message, Terms, Link, Sent, Given, Config, hears, expiry, request, next, Answer, gave, Aim, at_none, at_link, at_management, at_units, of_aim, aim_of_expiry, orders_in, Line, UnitData, link_number, service_at, place_at, place_in, has_tei, link_at, link_in, link_of, terms, with_link, aim_of, unless_refused, unless_refused_told, aim_of_heard, Taken, taken, with_unit, unit_frame, with_given_frame, first_taken, round, next_of, line_of, aim_of_request, IsProper, heard_proper, expiry_proper, request_proper, round_below, lost_in, notes_of, contents_in, IsBy, IsDeactivated, IsOf, by-or-down, OfLink, of-links, services-equal, both-true, has-place, Ties, heard-ties, expiry-ties, request-ties, number-is, at_no_link}
+use Rattle.laws_trace.proofs.Vocabulary.{◌≡◌, ℕ, ◌==◌, ◌&&◌, Bool, true, false, List, [], ◌∷◌, map, slice_get, Option, Some, None, IfSome, option_map, refl, sym, ap, ◌∙◌, subst, ◌⊎◌, inl, inr, ⊎_elim, All, option_to_list, option_or, option_map_or, All-nil, All-cons, none-some, Refusal, Service, Order, same_service, IsAt, Message, Terms, Link, Sent, Given, Config, hears, expiry, request, next, Answer, gave, Aim, at_none, at_link, at_management, at_units, of_aim, aim_of_expiry, orders_in, Line, UnitData, link_number, service_at, place_at, place_in, has_tei, link_at, link_in, link_of, terms, with_link, aim_of, unless_refused, unless_refused_told, aim_of_heard, Taken, taken, with_unit, unit_frame, with_given_frame, first_taken, round, next_of, line_of, aim_of_request, IsProper, heard_proper, expiry_proper, request_proper, round_below, lost_in, notes_of, contents_in, IsBy, IsDeactivated, IsOf, by-or-down, OfLink, of-links, services-equal, both-true, has-place, Ties, heard-ties, expiry-ties, request-ties, number-is, at_no_link, orders_for}
 use Rattle.std.proofs.Common.{eqb-true}
 use Rattle.lapd_tei.specs.Events as teis
 use Rattle.lapd_tei.specs.Messages.{frame_of as message_frame}
@@ -17,9 +17,9 @@ use Rattle.laws_trace.specs.Trace.{frame_in}
 use Rattle.laws_trace.proofs.ClearedTells.{none-delivered, none-lost}
 pub use Rattle.laws_trace.proofs.FramesGiven.{frames_given}
 use Rattle.laws_trace.proofs.FramesGiven.{Silent, heard-silent, expiry-silent, request-silent}
-use Rattle.laws_trace.proofs.ManagedLink.{alike, Remains, managed, starts-none}
+use Rattle.laws_trace.proofs.ManagedLink.{alike, Remains, managed, management-ordered}
 use Rattle.laws_trace.proofs.OfferTells.{offer-tells_nothing}
-use Rattle.laws_trace.proofs.OrdersOfLink.{StartNone, none-ordered, stop-starts-none, other-starts-none}
+use Rattle.laws_trace.proofs.OrdersOfLink.{its_orders, none-ordered, stop-orders-none, other-ordered}
 use Rattle.laws_line.proofs.Downs.{given_up, by-down}
 
 -- Whether an event of the line is one at this link.
@@ -48,13 +48,13 @@ IsForeign c service tei frame =
     ((message : Message) × (frame ≡ message_frame c.side message)) ⊎ ((unit : UnitData) × (frame ≡ unit_frame c unit))
     ⊎ ((t : Terms) × (g : Given) × (frame ≡ frame_of c t g) × ((same_service t.service service && t.tei == tei) ≡ false))
 
--- No event of the link: it stays as it is, or its TEI comes or leaves, and it is as one that begins; and none of its timers is
--- started.
+-- No event of the link: it stays as it is, or its TEI comes or leaves, and it is as one that begins; and its timer is stopped
+-- where it runs no more.
 pub record HasNone (c : Config) (service : Service) (tei : ℕ) (e : Event) (before after : Line) (a : Answer) : Type 0 where
   pub is : (link_of service tei after ≡ link_of service tei before) ⊎ (link_of service tei after ≡ fresh)
   pub stays : has_tei tei before ≡ true → has_tei tei after ≡ true → link_of service tei after ≡ link_of service tei before
   pub aims : is_at_link service tei (aim_of c e before) ≡ false
-  pub orders : StartNone service tei (orders_in a)
+  pub orders : its_orders service tei (orders_in a) ≡ orders_for (terms c service tei) (link_of service tei before).running None (link_of service tei after).running
   pub begins : All (IsForeign c service tei) (frame_in a)
 
 -- The link is deactivated: it is as one that begins, and tells what one tells whose TEI leaves the line.
@@ -94,21 +94,30 @@ module _ (c : Config) (l : Line) (s : IsSound c l) (service : Service) (tei : �
     own-after : link_of its by (with_link (link_number place its) y l) ≡ links.after (terms c its by) event (link_of its by l)
     own-after = read.own-after fresh itself c l s its by place at y ∙ ap (links.after (terms c its by) event) (sym own-before)
 
+  -- Nothing is ordered of a link that stays as it is.
+  quiet : (new : Line) → link_of service tei new ≡ link_of service tei l → (orders : List Order) → its_orders service tei orders ≡ []
+      → its_orders service tei orders ≡ orders_for (terms c service tei) (link_of service tei l).running None (link_of service tei new).running
+  quiet new same orders none =
+      none
+      ∙ sym (ap (λ (x : Link). orders_for (terms c service tei) (link_of service tei l).running None x.running) same
+      ∙ none-ordered (terms c service tei) (link_of service tei l).running)
+
   -- What an aim comes to.
   module _ (e : Event) (a : Answer) (none_begins : frame_in a ≡ []) where
     no-frame : All (IsForeign c service tei) (frame_in a)
     no-frame = subst (All (IsForeign c service tei)) (sym none_begins) (All-nil (IsForeign c service tei))
 
-    stays : (aim : Aim) → aim_of c e l ≡ aim → is_at_link service tei aim ≡ false → StartNone service tei (orders_in a) → (new : Line) → Remains c l s service tei new
+    stays : (aim : Aim) → aim_of c e l ≡ aim → is_at_link service tei aim ≡ false → (new : Line)
+        → its_orders service tei (orders_in a) ≡ orders_for (terms c service tei) (link_of service tei l).running None (link_of service tei new).running → Remains c l s service tei new
         → Goes c service tei e l new a
-    stays aim is none starts new (inl same) =
-        inl (record { is = inl same; stays = λ was there. same; aims = ap (is_at_link service tei) is ∙ none; orders = starts; begins = no-frame })
-    stays aim is none starts new (inr anew) =
+    stays aim is none new ordered (inl same) =
+        inl (record { is = inl same; stays = λ was there. same; aims = ap (is_at_link service tei) is ∙ none; orders = ordered; begins = no-frame })
+    stays aim is none new ordered (inr anew) =
         inl (record {
           is = inr anew.0;
           stays = λ was there. absurd (anew.1 was there);
           aims = ap (is_at_link service tei) is ∙ none;
-          orders = starts;
+          orders = ordered;
           begins = no-frame;
         })
 
@@ -117,19 +126,17 @@ module _ (c : Config) (l : Line) (s : IsSound c l) (service : Service) (tei : �
         (notes_of a ≡ (of_aim c aim l).told.notes) × (contents_in a ≡ (of_aim c aim l).told.contents) × (lost_in a ≡ (of_aim c aim l).told.lost)
         × (orders_in a ≡ (of_aim c aim l).told.orders)
 
-    -- orders that start none
-    none-started : (aim : Aim) → Tells aim → StartNone service tei (of_aim c aim l).told.orders → StartNone service tei (orders_in a)
-    none-started aim tells h = subst (StartNone service tei) (sym tells.3) h
+    kept : (aim : Aim) → aim_of c e l ≡ aim → is_at_link service tei aim ≡ false → Tells aim → its_orders service tei (of_aim c aim l).told.orders ≡ [] → (new : Line)
+        → link_of service tei new ≡ link_of service tei l → Goes c service tei e l new a
+    kept aim is none tells silent new same = stays aim is none new (quiet new same (orders_in a) (ap (its_orders service tei) tells.3 ∙ silent)) (inl same)
 
     at-one : (its : Service) (by place : ℕ) (event : link.Event) → aim_of c e l ≡ at_link its by place event → IsAt l.management.places place by
         → IsOf c e a its by event → Tells (at_link its by place event) → frames_given c (terms c its by) event (link_of its by l) ≡ []
         → (b : Bool) → (same_service its service && by == tei) ≡ b → Goes c service tei e l (of_aim c (at_link its by place event) l).line a
     at-one its by place event is at ties tells silent false other =
-        stays (at_link its by place event) is other
-        (none-started (at_link its by place event) tells (other-starts-none (terms c its by) event (x its by place event at) service tei other))
-        (of_aim c (at_link its by place event) l).line
-        (inl (alike c l s service tei (with_link (link_number place its) (y its by place event at) l) (of_aim c (at_link its by place event) l).line refl refl
-        ∙ other-stays its by place event at other))
+        kept (at_link its by place event) is other tells (other-ordered (terms c its by) event (x its by place event at) service tei other) (of_aim c (at_link its by place event) l).line
+        (alike c l s service tei (with_link (link_number place its) (y its by place event at) l) (of_aim c (at_link its by place event) l).line refl refl
+        ∙ other-stays its by place event at other)
     at-one its by place event is at ties tells silent true same =
         let parts = both-true (same_service its service) (by == tei) same in
         subst (λ z. Goes c z tei e l (of_aim c (at_link its by place event) l).line a) (services-equal its service parts.0)
@@ -181,18 +188,14 @@ module _ (c : Config) (l : Line) (s : IsSound c l) (service : Service) (tei : �
     aim-goes : (aim : Aim) → aim_of c e l ≡ aim → IsProper c l aim → Ties c e a aim → Tells e a none_begins aim → Silent c l aim
         → Goes c service tei e l (to-be aim) a
     aim-goes (at_none what) is proper ties tells silent =
-        stays e a none_begins (at_none what) is refl (none-started e a none_begins (at_none what) tells (subst (StartNone service tei) (sym silent) (none-ordered service tei))) (to-be (at_none what))
-        (inl (alike c l s service tei l (to-be (at_none what)) refl refl))
+        kept e a none_begins (at_none what) is refl tells (ap (its_orders service tei) silent) (to-be (at_none what)) (alike c l s service tei l (to-be (at_none what)) refl refl)
     aim-goes (at_units unit) is proper ties tells silent =
-        stays e a none_begins (at_units unit) is refl (none-started e a none_begins (at_units unit) tells (none-ordered service tei)) (to-be (at_units unit))
-        (inl (alike c l s service tei l (to-be (at_units unit)) refl refl))
+        kept e a none_begins (at_units unit) is refl tells refl (to-be (at_units unit)) (alike c l s service tei l (to-be (at_units unit)) refl refl)
     aim-goes at_no_link is proper ties tells silent =
-        stays e a none_begins at_no_link is refl
-        (none-started e a none_begins at_no_link tells (by-down c l (λ f. StartNone service tei f.told.orders) (stop-starts-none service tei l.management.check))) (to-be at_no_link)
-        (inl (by-down c l (λ f. link_of service tei f.line ≡ link_of service tei l) (alike c l s service tei l (given_up l).line refl refl)))
+        kept e a none_begins at_no_link is refl tells (by-down c l (λ f. its_orders service tei f.told.orders ≡ []) (stop-orders-none service tei l.management.check)) (to-be at_no_link)
+        (by-down c l (λ f. link_of service tei f.line ≡ link_of service tei l) (alike c l s service tei l (given_up l).line refl refl))
     aim-goes (at_management me) is proper ties tells silent =
-        stays e a none_begins (at_management me) is refl
-        (none-started e a none_begins (at_management me) tells (starts-none c l s service tei me proper (teis.told me l.management).change)) (to-be (at_management me))
+        stays e a none_begins (at_management me) is refl (to-be (at_management me)) (ap (its_orders service tei) tells.3 ∙ management-ordered c l s service tei me proper)
         (managed c l s service tei me proper)
     aim-goes (at_link its by place event) is proper ties tells silent =
         at-one e a none_begins its by place event is proper ties tells silent (same_service its service && by == tei) refl
@@ -209,7 +212,7 @@ module _ (c : Config) (l : Line) (s : IsSound c l) (service : Service) (tei : �
     begins : t.frame ∷ [] ≡ frames_given c Own link.offer (link_of service tei l)
 
   abbrev Took : Taken → Type 0
-  Took t = ((link_of service tei t.line ≡ link_of service tei l) × IsForeign c service tei t.frame × StartNone service tei t.orders) ⊎ Takes t
+  Took t = ((link_of service tei t.line ≡ link_of service tei l) × IsForeign c service tei t.frame × (its_orders service tei t.orders ≡ [])) ⊎ Takes t
 
   -- what a link gives, it orders as well
   pub given-orders : (t : Terms) (x : Link) (g : Given) → links.given t x ≡ Some g → g.orders ≡ (links.told t link.offer x).orders
@@ -229,8 +232,8 @@ module _ (c : Config) (l : Line) (s : IsSound c l) (service : Service) (tei : �
       inl (
         alike c l s service tei (with_link (link_number place its) (y its by place link.offer at) l) t.line refl refl ∙ other-stays its by place link.offer at other,
         inr (inr (terms c its by, g, refl, other)),
-        subst (StartNone service tei) (sym (given-orders (terms c its by) (link_in l its place) g given))
-            (other-starts-none (terms c its by) link.offer (link_in l its place) service tei other),
+        ap (its_orders service tei) (given-orders (terms c its by) (link_in l its place) g given)
+            ∙ other-ordered (terms c its by) link.offer (link_in l its place) service tei other,
       )
   took-link its by place g at given true same =
       let parts = both-true (same_service its service) (by == tei) same in
@@ -266,19 +269,19 @@ module _ (c : Config) (l : Line) (s : IsSound c l) (service : Service) (tei : �
 
   took-any : (m : Option Message) (u : Option UnitData)
       → IfSome (option_or (option_map (with_message l) (option_map (message_frame c.side) m)) (option_or (option_map (with_unit c l) u) (first_taken c l (round c l)))) Took
-  took-any (Some message) u = inl (alike c l s service tei l (with_message l (message_frame c.side message)).line refl refl, inl (message, refl), none-ordered service tei)
-  took-any None (Some unit) = inl (alike c l s service tei l (with_unit c l unit).line refl refl, inr (inl (unit, refl)), none-ordered service tei)
+  took-any (Some message) u = inl (alike c l s service tei l (with_message l (message_frame c.side message)).line refl refl, inl (message, refl), refl)
+  took-any None (Some unit) = inl (alike c l s service tei l (with_unit c l unit).line refl refl, inr (inl (unit, refl)), refl)
   took-any None None = took-first (first_taken c l (round c l)) (of-links c l s (round c l) (round_below c l))
 
   -- A call for the next frame.
   abbrev Gave : Line → List (List ℕ) → List Order → Type 0
   Gave new frames orders =
-      ((link_of service tei new ≡ link_of service tei l) × All (IsForeign c service tei) frames × StartNone service tei orders)
+      ((link_of service tei new ≡ link_of service tei l) × All (IsForeign c service tei) frames × (its_orders service tei orders ≡ []))
       ⊎ ((place : ℕ) × (place_in l tei ≡ Some place) × (link_of service tei new ≡ links.after Own link.offer (link_of service tei l))
       × (frames ≡ frames_given c Own link.offer (link_of service tei l)) × (orders ≡ (links.told Own link.offer (link_of service tei l)).orders))
 
   gave-it : (o : Option Taken) → IfSome o Took → let a = gave (option_map next_of o) in Gave (option_map_or line_of o l) (frame_in a) (orders_in a)
-  gave-it None h = inl (refl, All-nil (IsForeign c service tei), none-ordered service tei)
+  gave-it None h = inl (refl, All-nil (IsForeign c service tei), refl)
   gave-it (Some t) (inl x) = inl (x.0, All-cons (IsForeign c service tei) t.frame [] x.1 (All-nil (IsForeign c service tei)), x.2)
   gave-it (Some t) (inr x) = inr (x.place, x.placed, x.is, x.begins, x.orders)
 
@@ -288,7 +291,14 @@ module _ (c : Config) (l : Line) (s : IsSound c l) (service : Service) (tei : �
     where
       go : let a = gave (option_map next_of (taken c l)) in Gave (option_map_or line_of (taken c l) l) (frame_in a) (orders_in a)
           → Goes c service tei next l (option_map_or line_of (taken c l) l) (gave (option_map next_of (taken c l)))
-      go (inl x) = inl (record { is = inl x.0; stays = λ was there. x.0; aims = refl; orders = x.2; begins = x.1 })
+      go (inl x) =
+          inl (record {
+            is = inl x.0;
+            stays = λ was there. x.0;
+            aims = refl;
+            orders = quiet (option_map_or line_of (taken c l) l) x.0 (orders_in (gave (option_map next_of (taken c l)))) x.2;
+            begins = x.1;
+          })
       go (inr x) =
           let q = offer-tells_nothing Own (link_of service tei l) in
           inr (inl (record {
@@ -329,7 +339,7 @@ event-goes c (request r) l service tei s = go (refusal c false r l) refl
           is = inl refl;
           stays = λ was there. refl;
           aims = ap (λ o. is_at_link service tei (unless_refused o (aim_of_request r l))) some;
-          orders = none-ordered service tei;
+          orders = sym (none-ordered (terms c service tei) (link_of service tei l).running);
           begins = All-nil (IsForeign c service tei);
         })
 event-goes c next l service tei s = next-goes c l s service tei

@@ -1,6 +1,7 @@
 -- When the timers of links run, and when they are started: the law.
-use Rattle.laws_trace.proofs.Vocabulary.{◌≡◌, ℕ, ◌+◌, ◌%◌, ◌==◌, ◌&&◌, ◌||◌, ◌<◌, ◌≤◌, not, Bool, true, false, cond, List, [], ◌∷◌, ◌++◌, get_or, set, Option, Some, None, refl, sym, ap, ◌∙◌, subst, arith, eq-eqb, true≢false, fold, option_map_or, and_parts, get_or-set_same, get_or-replicate, All-nil, All-cons, All-head, All-tail, PoolFull, Service, HasItsTimer, needed_in, State, TeiAssigned, AwaitingEstablishment, AwaitingRelease, Established, TimerRecovery, LinkTimer, Link, obeyed, runs, Config, refused, orders_in, Line, fresh_line, link_of, link_in, link_number, place_in, state_of, terms, IsInRange, sound_in, terms_in_range, place_of-is, Card, line_at, is_full, at, moments, fresh_is_sound, after_is_sound, has_lines, by_room, line_sound, runs_at_callers, AllHaveTheirTimers, needed-run, needs-none, timely-all, timely-after, begins-timely-card, timer_of, is_needed, left_by, HaveTheirTimers, nowhere}
+use Rattle.laws_trace.proofs.Vocabulary.{◌≡◌, ℕ, ◌+◌, ◌%◌, ◌==◌, ◌&&◌, ◌||◌, ◌<◌, ◌≤◌, not, Bool, true, false, cond, List, [], ◌∷◌, ◌++◌, get_or, set, Option, Some, None, refl, sym, ap, ◌∙◌, subst, arith, eq-eqb, true≢false, fold, option_map_or, and_parts, get_or-set_same, get_or-replicate, All-nil, All-cons, All-head, All-tail, PoolFull, Service, HasItsTimer, needed_in, State, TeiAssigned, AwaitingEstablishment, AwaitingRelease, Established, TimerRecovery, LinkTimer, Link, obeyed, runs, Config, refused, orders_in, Line, fresh_line, link_of, link_in, link_number, place_in, state_of, terms, IsInRange, sound_in, terms_in_range, place_of-is, Card, line_at, is_full, at, moments, fresh_is_sound, after_is_sound, has_lines, by_room, line_sound, runs_at_callers, AllHaveTheirTimers, needed-run, needs-none, timely-all, timely-after, begins-timely-card, timer_of, is_needed, left_by, HaveTheirTimers, nowhere, Timer}
 use Rattle.std.proofs.Common.{eqb-true}
+use Rattle.lapd_frame.specs.declared.timers.Timer.TheVariants as timers
 use Rattle.model_link.specs.declared.timers.LinkTimer.TheVariants.{T200, T203}
 use Rattle.model_link.specs.Link.{fresh as fresh_link}
 use Rattle.model_link.specs.Sound as link_sound
@@ -11,14 +12,15 @@ use Rattle.model_card.specs.Event.{Event}
 use Rattle.model_card.specs.Machine.{after, answer}
 use Rattle.model_card.specs.Run.{Moment, after_all, IsAtLine, AreAtLines}
 use Rattle.model_card.specs.Sound.{IsSound}
-use Rattle.laws_trace.proofs.TimersWatched.{Known, nothing_yet, learned, watch, awaits, is_anew, TimersRun, TimersAreStarted}
+use Rattle.laws_trace.proofs.TimersWatched.{Known, nothing_yet, learned, watch, awaits, is_anew, TimersRun}
 use Rattle.laws_trace.proofs.States.{is_state}
 use Rattle.laws_trace.specs.Trace.{seen, Always}
 use Rattle.laws_trace.proofs.CallRuns.{apart}
 use Rattle.laws_trace.proofs.Runs.{nothing-seen}
 use Rattle.laws_trace.proofs.TimerClaims.{Agrees, told_state}
 use Rattle.laws_trace.proofs.TimersOfEvent.{IsTrueOf, state-on, off-fresh, off-state, needed-is, event-known}
-use Rattle.laws_trace.proofs.TimersStarted.{event-started}
+use Rattle.laws_trace.proofs.TimersStarted.{event-started, event-ordered}
+use Rattle.laws_trace.proofs.OrdersOfLink.{its_orders, order_by}
 
 module _ (service : Service) (tei number : ℕ) where
   -- Where the pool is full, nothing is seen, and nothing changes.
@@ -88,6 +90,29 @@ module _ (service : Service) (tei number : ℕ) where
             let same = apart card e number (λ same. true≢false (sym (eq-eqb e.line number (sym same)) ∙ other)) in
             subst (λ x. IsTrueOf service tei (learned card.config service tei (state_of service tei (line_at number card)) (state_of service tei x) k []) x) (sym same)
             (subst (λ k. IsTrueOf service tei k (line_at number card)) (sym (none-learned card.config (line_at number card) k h)) h)
+
+    -- what is ordered of the timers of the link
+    idle : (needs : Bool) (its : Timer) → order_by false needs needs its ≡ []
+    idle true its = refl
+    idle false its = refl
+
+    abbrev pub Ordered : Line → line_event.Answer → Type 0
+    Ordered x a =
+        let one = timers.T200 service tei in
+        let other = timers.T203 service tei in
+        its_orders service tei (orders_in a)
+        ≡ order_by (obeyed one false (orders_in a)) (is_needed one l) (is_needed one x) one ++ order_by (obeyed other false (orders_in a)) (is_needed other l) (is_needed other x) other
+
+    pub own-ordered : (k : Known) → IsTrueOf service tei k l → Ordered (line_at e.line (after e card)) (answer e card)
+    own-ordered k h =
+        by_room (λ ls a. Ordered (get_or ls e.line (fresh_line card.config)) a) e card
+        (λ full.
+        sym (ap (λ xs. xs ++ order_by false (is_needed (timers.T203 service tei) l) (is_needed (timers.T203 service tei) l) (timers.T203 service tei))
+        (idle (is_needed (timers.T200 service tei) l) (timers.T200 service tei))
+        ∙ idle (is_needed (timers.T203 service tei) l) (timers.T203 service tei)))
+        (λ room.
+        subst (λ x. Ordered x (lines.answer card.config e.what l)) (sym now)
+        (event-ordered card.config s.config l (line_sound card e.line (has_lines card s) here) (timely.lines e.line here) service tei k h e.what))
 
     -- a request that finds the pool full orders nothing
     pub own-started : (k : Known) → IsTrueOf service tei k l → (timer : LinkTimer) → let its = timer_of service tei timer in
@@ -301,18 +326,3 @@ front-at m (x ∷ before) e behind all =
 
 pub itself : (n : ℕ) → (n == n) ≡ true
 itself n = eq-eqb n n refl
-
-pub timers-are-started : Always TimersAreStarted
-timers-are-started c events number ranged all within service tei timer before what behind is =
-    let whole = subst (AreAtLines (fresh c)) is all in
-    let front = front-at (fresh c) before (at number what) behind whole in
-    let card = after_all (fresh c) before in
-    let e = at number what in
-    let its = timer_of service tei timer in
-    let k = fold (watch c service tei number) nothing_yet (moments (fresh c) before) in
-    let ran = left_by what its (runs_at_callers number its false (moments (fresh c) before)) in
-    let here : number < card.config.lines = subst (λ (c : Config). number < c.lines) (sym (config-now c before number ranged front within service tei)) within in
-    subst (λ b. obeyed its false (orders_in (answer e card)) ≡ (obeyed its ran (orders_in (answer e card))
-    && (not ran || is_anew c service tei timer k (state_of service tei (line_at number card)) (state_of service tei (line_at number (after e card)))
-    (cond b (seen what (answer e card)) [])))) (sym (itself number))
-    (started-law c before number ranged front within service tei what timer here)

@@ -1,6 +1,7 @@
 -- The timers of a link are started as they are due: each event of a line.
-use Rattle.laws_trace.proofs.Vocabulary.{◌≡◌, ℕ, ◌&&◌, ◌||◌, not, Bool, true, false, cond, Option, Some, None, refl, sym, ap, ◌∙◌, subst, true≢false, inl, inr, option_map_or, Service, Timer, place_of-is, is_on-at, HasItsTimer, State, TeiAssigned, AwaitingEstablishment, AwaitingRelease, Established, TimerRecovery, Terms, LinkTimer, Link, is_same, obeyed, runs, timer_at, Config, hears, expiry, request, next, Answer, orders_in, Line, link_of, place_in, has_tei, state_of, terms, IsInRange, timer_of, is_needed, left_by, HaveTheirTimers, followed, timely-line}
+use Rattle.laws_trace.proofs.Vocabulary.{◌≡◌, ℕ, ◌&&◌, ◌||◌, not, Bool, true, false, cond, Option, Some, None, refl, sym, ap, ◌∙◌, subst, true≢false, inl, inr, option_map_or, Service, Timer, place_of-is, is_on-at, HasItsTimer, State, TeiAssigned, AwaitingEstablishment, AwaitingRelease, Established, TimerRecovery, Terms, LinkTimer, Link, is_same, obeyed, runs, timer_at, Config, hears, expiry, request, next, Answer, orders_in, Line, link_of, place_in, has_tei, state_of, terms, IsInRange, timer_of, is_needed, left_by, HaveTheirTimers, followed, timely-line, List, [], ◌∷◌, ◌++◌, Order, Start, Stop, order_for, orders_for}
 use Rattle.lapd_frame.specs.declared.controls.Control.{Control}
+use Rattle.lapd_frame.specs.declared.timers.Timer.TheVariants as timers
 use Rattle.model_link.specs.declared.timers.LinkTimer.TheVariants.{T200, T203}
 use Rattle.model_link.specs.Events as link
 use Rattle.model_link.specs.Machine as links
@@ -16,11 +17,11 @@ use Rattle.laws_trace.proofs.OneLink.{HasOne, HasNone, Goes, event-goes}
 use Rattle.laws_trace.proofs.TimerActs.{timing}
 use Rattle.laws_trace.proofs.TimerClaims.{told_state, anew_by}
 use Rattle.laws_trace.proofs.TimerEvents.{control_of, event-good}
-use Rattle.laws_trace.proofs.TimerOffers.{Offered, given_sent, told-starts}
+use Rattle.laws_trace.proofs.TimerOffers.{Offered, given_sent}
 use Rattle.laws_trace.proofs.TimersOfLine.{seen-brings}
 use Rattle.laws_trace.proofs.TimersOfEvent.{IsTrueOf, state-on, off-fresh, needed-is}
 use Rattle.laws_trace.proofs.TimersOfEvent as events
-use Rattle.laws_trace.proofs.OrdersOfLink.{cleared-starts-none}
+use Rattle.laws_trace.proofs.OrdersOfLink.{its_orders, own-ordered, obeys-its, starts-own, order_by}
 
 and-true : (b : Bool) → (b && true) ≡ b
 and-true true = refl
@@ -117,12 +118,25 @@ module _ (c : Config) (ranged : IsInRange c) (l : Line) (s : IsSound c l) (timed
     abbrev Started : Type 0
     Started = was ≡ true → is_needed its (after c e l) ≡ true → obeyed its false (orders_in a) ≡ is_due
 
+    at-own : timer_of service tei timer ≡ timer_at t timer
+    at-own = go timer
+      where
+        go : (timer : LinkTimer) → timer_of service tei timer ≡ timer_at t timer
+        go T200 = refl
+        go T203 = refl
+
+    starts-by : (before started later : Option LinkTimer) → obeyed its false (orders_for t before started later) ≡ (runs timer started && runs timer later)
+    starts-by before started later = ap (λ u. obeyed u false (orders_for t before started later)) at-own ∙ starts-own t timer before started later
+
+    none-starts : HasNone c service tei e l (after c e l) a → obeyed its false (orders_in a) ≡ false
+    none-starts x = obeys-its service tei timer false (orders_in a) ∙ ap (obeyed its false) x.orders ∙ starts-by own.running None new.running
+
     none-started : HasNone c service tei e l (after c e l) a → Started
     none-started x ran runs_on =
         let here = placed-if l timed (ran-needed e (is_needed its l) ran) in
         let there = placed-if (after c e l) next_timed runs_on in
         let same = x.stays (on-line l here.0 here.1) (on-line (after c e l) there.0 there.1) in
-        x.orders timer ∙ sym (none-due here.0 there.0 here.1 there.1 (ap (λ (y : Link). y.state) same) (events.no-control c ranged l s timed service tei k agrees e x here.0 here.1))
+        none-starts x ∙ sym (none-due here.0 there.0 here.1 there.1 (ap (λ (y : Link). y.state) same) (events.no-control c ranged l s timed service tei k agrees e x here.0 here.1))
 
     one-started : HasOne c service tei e l (after c e l) a → Started
     one-started x ran runs_on =
@@ -131,7 +145,7 @@ module _ (c : Config) (ranged : IsInRange c) (l : Line) (s : IsSound c l) (timed
         let runs_later : runs timer (links.after t x.event own).running ≡ true =
         ap (λ (y : Link). runs timer y.running) (sym x.is) ∙ sym (needed-is service tei (after c e l) next_timed timer) ∙ runs_on in
         let starts : obeyed its false (orders_in a) ≡ runs timer (links.course t x.event own).started =
-        ap (obeyed its false) x.orders ∙ ap (λ u. obeyed u false (links.told t x.event own).orders) (at-own timer) ∙ told-starts t x.event own timer
+        ap (obeyed its false) x.orders ∙ starts-by own.running (links.course t x.event own).started (links.course t x.event own).link.running
         ∙ ap (λ b. runs timer (links.course t x.event own).started && b) runs_later ∙ and-true (runs timer (links.course t x.event own).started) in
         starts ∙ events.either c ranged l s timed service tei k agrees e x
         (λ o.
@@ -144,10 +158,6 @@ module _ (c : Config) (ranged : IsInRange c) (l : Line) (s : IsSound c l) (timed
         ∙ (offers x).quiet timer own_ran (ap (λ event. runs timer (links.after t event own).running) (sym offered) ∙ runs_later)
         ∙ sym (none-due x.place there.0 x.placed there.1 (ap (λ (y : Link). y.state) (x.is ∙ ap (λ event. links.after t event own) offered) ∙ (offers x).state)
         (ap (λ e. control_in service tei (frame_by c e)) is)))
-      where
-        at-own : (timer : LinkTimer) → timer_of service tei timer ≡ timer_at t timer
-        at-own T200 = refl
-        at-own T203 = refl
 
     started : Started
     started = go (event-goes c e l service tei s)
@@ -162,15 +172,11 @@ module _ (c : Config) (ranged : IsInRange c) (l : Line) (s : IsSound c l) (timed
     never-started : was ≡ true → is_needed its (after c e l) ≡ false → obeyed its false (orders_in a) ≡ false
     never-started ran off = go (event-goes c e l service tei s)
       where
-        at-own : (timer : LinkTimer) → timer_of service tei timer ≡ timer_at t timer
-        at-own T200 = refl
-        at-own T203 = refl
-
         go : Goes c service tei e l (after c e l) a → obeyed its false (orders_in a) ≡ false
-        go (inl x) = x.orders timer
-        go (inr (inr x)) = ap (obeyed its false) x.orders ∙ cleared-starts-none t own service tei timer
+        go (inl x) = none-starts x
+        go (inr (inr x)) = ap (obeyed its false) x.orders ∙ starts-by own.running None None
         go (inr (inl x)) =
-            ap (obeyed its false) x.orders ∙ ap (λ u. obeyed u false (links.told t x.event own).orders) (at-own timer) ∙ told-starts t x.event own timer
+            ap (obeyed its false) x.orders ∙ starts-by own.running (links.course t x.event own).started (links.course t x.event own).link.running
             ∙ ap (λ b. runs timer (links.course t x.event own).started && b)
             (ap (λ (y : Link). runs timer y.running) (sym x.is) ∙ sym (needed-is service tei (after c e l) next_timed timer) ∙ off)
             ∙ and-false (runs timer (links.course t x.event own).started)
@@ -189,3 +195,36 @@ module _ (c : Config) (ranged : IsInRange c) (l : Line) (s : IsSound c l) (timed
         go true is true on =
             let post : obeyed its was (orders_in a) ≡ true = followed c e l its ranged s timed ∙ on in
             started is on ∙ sym (ap (λ b. b && (not was || is_due)) post ∙ ap (λ b. not b || is_due) is)
+
+  -- What is ordered of the timers of the link: one is started as its orders start it, and stopped where it runs no more.
+  rebuild : (its : Timer) (p q r p' q' r' : Bool) → p ≡ p' → q ≡ q' → r ≡ r' → order_by p q r its ≡ order_by p' q' r' its
+  rebuild its p q r p' q' r' starts ran runs =
+      ap (λ x. order_by x q r its) starts ∙ ap (λ x. order_by p' x r its) ran ∙ ap (λ x. order_by p' q' x its) runs
+
+  exact : Goes c service tei e l (after c e l) a → (started : Option LinkTimer) × (its_orders service tei (orders_in a) ≡ orders_for t own.running started new.running)
+  exact (inl x) = (None, x.orders)
+  exact (inr (inl x)) =
+      let k = links.course t x.event own in
+      (k.started, ap (its_orders service tei) x.orders ∙ own-ordered t own.running k.started k.link.running ∙ ap (λ (y : Link). orders_for t own.running k.started y.running) (sym x.is))
+  exact (inr (inr x)) =
+      (None, ap (its_orders service tei) x.orders ∙ own-ordered t own.running None None ∙ ap (λ (y : Link). orders_for t own.running None y.running) (sym x.is))
+
+  abbrev ordered_of : LinkTimer → List Order
+  ordered_of timer =
+      let its = timer_of service tei timer in order_by (obeyed its false (orders_in a)) (is_needed its l) (is_needed its (after c e l)) its
+
+  pub event-ordered : its_orders service tei (orders_in a) ≡ ordered_of T200 ++ ordered_of T203
+  event-ordered =
+      x.1 ∙ ap (λ xs. xs ++ order_for t T203 own.running x.0 new.running) (one T200 (timers.T200 service tei) refl)
+      ∙ ap (λ xs. ordered_of T200 ++ xs) (one T203 (timers.T203 service tei) refl)
+    where
+      x : (started : Option LinkTimer) × (its_orders service tei (orders_in a) ≡ orders_for t own.running started new.running)
+      x = exact (event-goes c e l service tei s)
+
+      one : (timer : LinkTimer) (its : Timer) → timer_of service tei timer ≡ its
+          → order_by (runs timer x.0 && runs timer new.running) (runs timer own.running) (runs timer new.running) its
+          ≡ order_by (obeyed (timer_of service tei timer) false (orders_in a)) (is_needed (timer_of service tei timer) l) (is_needed (timer_of service tei timer) (after c e l)) its
+      one timer its is =
+          rebuild its _ _ _ _ _ _
+          (sym (obeys-its service tei timer false (orders_in a) ∙ ap (obeyed (timer_of service tei timer) false) x.1 ∙ starts-by timer own.running x.0 new.running))
+          (sym (needed-is service tei l timed timer)) (sym (needed-is service tei (after c e l) next_timed timer))

@@ -99,18 +99,3 @@ brings is c service tei other = false
 
 abbrev pub is_anew : Config → Service → ℕ → LinkTimer → Known → Option ℕ → Option ℕ → List Seen → Bool
 is_anew c service tei timer k before after now = differ before after || (is_state 7 before && list_any (brings (renews timer k) c service tei) now)
-
--- So the answer to an event at the line orders that a timer of a link is started exactly where the timer runs
--- afterwards, and either did not run, or had just expired, or is started anew by one of these causes.
-abbrev pub TimersAreStarted : Config → List Event → ℕ → Type 0
-TimersAreStarted c events number =
-    (service : Service) (tei : ℕ) (timer : LinkTimer) (before : List Event) (what : line_event.Event) (behind : List Event) →
-    events ≡ before ++ at number what ∷ behind →
-    let ms = moments (fresh c) before in
-    let card = after_all (fresh c) before in
-    let m : Moment = record { card = card; event = at number what; answer = answer (at number what) card } in
-    let k = fold (watch c service tei number) nothing_yet ms in
-    let its = timer_of service tei timer in
-    let ran = left_by what its (runs_at_callers number its false ms) in
-    let anew = is_anew c service tei timer k (state_before service tei number m) (state_after service tei number m) (seen_in number m) in
-    obeyed its false (orders_in m.answer) ≡ (obeyed its ran (orders_in m.answer) && (not ran || anew))

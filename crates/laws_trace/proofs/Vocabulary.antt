@@ -74,7 +74,7 @@ pub use Rattle.laws_line.proofs.Hearing.{addressed-is, read-aim, read-event, sam
 pub use Rattle.laws_line.proofs.InRounds.{comes-first}
 pub use Rattle.laws_line.proofs.Leaving.{next-moves}
 pub use Rattle.laws_line.proofs.LinkMoves.{IsOne, OfLink, of-links, taken-one}
-pub use Rattle.laws_line.proofs.Obeyed.{both-true, obeyed-append, service-same, services-equal, t201-leaves}
+pub use Rattle.laws_line.proofs.Obeyed.{both-true, obeyed-append, service-same, services-equal}
 pub use Rattle.laws_line.proofs.OfCard.Meanwhile.{card-drains, card-idles, card-waits, line-sound}
 pub use Rattle.laws_line.proofs.OfCard.Spelling.{head}
 pub use Rattle.laws_line.proofs.OfCard.TimersRun.{begins-timely-card, needed-run, needs-none, timely-after, timely-all}
@@ -83,7 +83,7 @@ pub use Rattle.laws_line.proofs.Places.{has-no-place, has-place, is-off}
 pub use Rattle.laws_line.proofs.Serving.{served, turn-stays, units-wait}
 pub use Rattle.laws_line.proofs.TeiNotes.{ByChange, noted}
 pub use Rattle.laws_line.proofs.Tied.{Ties, expiry-ties, heard-ties, request-ties}
-pub use Rattle.laws_line.proofs.TimersFollow.{followed, needed-runs, nowhere, number-is, timely-line}
+pub use Rattle.laws_line.proofs.TimersFollow.{followed, nowhere, number-is, timely-line}
 pub use Rattle.laws_line.proofs.ToldOnce.{told-once}
 pub use Rattle.laws_line.specs.Drains.{control_text, frames_to_go, most_frames, way_round}
 pub use Rattle.laws_line.specs.Frames.{lost_in}
@@ -102,7 +102,6 @@ pub use Rattle.laws_link.proofs.Counted.{kept-after}
 pub use Rattle.laws_link.proofs.Follows.{event-follows}
 pub use Rattle.laws_link.proofs.InOrder.{given-in-order}
 pub use Rattle.laws_link.proofs.Keeping.{event-done, event-unit}
-pub use Rattle.laws_link.proofs.Obeying.{leaves-others}
 pub use Rattle.laws_link.proofs.OfTwo.Waiting.{nothing-given, silent-stays}
 pub use Rattle.laws_link.proofs.Offering.{given-is-offered}
 pub use Rattle.laws_link.proofs.Once.{data-is, within-is}
@@ -159,7 +158,7 @@ pub use Rattle.model_line.specs.Config.{first_fault, is_within}
 pub use Rattle.model_line.specs.Counted.{answer_shown, shown}
 pub use Rattle.model_line.specs.Effect.{Aim, Effect, at_link, at_management, at_no_link, at_none, at_units, of_aim, of_change, told_of_management}
 pub use Rattle.model_line.specs.Event.{Answer, LineTold, NextFrame, dropped, expiry, gave, hears, next, refused, request}
-pub use Rattle.model_line.specs.Expiry.{aim_of_expiry, at_timer, is_running, runs_at}
+pub use Rattle.model_line.specs.Expiry.{aim_of_expiry, at_timer}
 pub use Rattle.model_line.specs.Heard.{addressed, aim_of_heard, aim_of_long, aim_of_reading, at_place, drop_for, group_tei, heard_side, management_sapi, message_of, to_service, unless_at_link}
 pub use Rattle.model_line.specs.Laws.{orders_in}
 pub use Rattle.model_line.specs.Line.{Line, UnitData, fresh_line, has_tei, link_at, link_count, link_in, link_number, link_of, place_at, place_in, service_at, state_in, state_of, tei_at, terms, window, with_link}

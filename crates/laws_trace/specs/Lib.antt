@@ -14,8 +14,6 @@ pub mod Managing
 pub mod TeisAreManaged
 pub mod NoLossInVain
 pub mod TimersAreTimely
-pub mod OrdersHaveReasons
-pub mod WorkedOrders
 pub mod LinksMove
 pub mod News
 pub mod Outgoing

@@ -11,9 +11,8 @@ ghost use Rattle.laws_trace.specs.LinksMove.{LinksMove};
 ghost use Rattle.laws_trace.specs.News.{NewsIsTold};
 ghost use Rattle.laws_trace.specs.NoLossInVain.{NoLossInVain};
 ghost use Rattle.laws_trace.specs.RoomsAreTold.{RoomsAreTold};
-ghost use Rattle.laws_trace.specs.OrdersHaveReasons.{OrdersHaveReasons};
 ghost use Rattle.laws_trace.specs.TeisAreManaged.{TeisAreManaged};
-ghost use Rattle.laws_trace.specs.TimersAreTimely.{TimersRun, TimersAreStarted};
+ghost use Rattle.laws_trace.specs.TimersAreTimely.{TimersAreTimely, TimersRun};
 ghost use Rattle.laws_trace.specs.TurnsMeanwhile.{LinksTakeTurnsMeanwhile};
 ghost use Rattle.laws_trace.specs.UnitsGoOut.{UnitsGoOut, AllUnitsGoOut};
 
@@ -126,22 +125,25 @@ pub fn teis_are_managed()
     ensures { Always TeisAreManaged }
 {}
 
-/// Timers are timely. At a caller's that obeys the orders T200 of a link runs exactly where an answer is awaited: in
-/// states 5, 6 and 8, and in state 7 where an I-frame is outstanding, or the terminal is busy. Outstanding are those
+/// Timers are timely. After whatever happened to a card, the orders of the timers of a link in the answer to an event of
+/// its line are exactly those that are due, T200's first: one is started where it runs then, and it did not run, or is
+/// started anew; and it is stopped where it ran, up to its expiry, and runs no more. T200 runs where an answer is awaited:
+/// in states 5, 6 and 8, and in state 7 where an I-frame is outstanding, or the terminal is busy. Outstanding are those
 /// that went and are not acknowledged, except those that are to go again, since REJ or the end of a recovery. T203 runs
-/// exactly where none is, in state 7; and neither in state 4, nor where the TEI is not on the line (`run`). An answer
-/// orders that one is started exactly where it runs then, and it did not run, or had just expired, or is started anew:
-/// because the link moves to another state, or, in state 7, because of a frame. For T200 this is RNR, and RR, or I
-/// while the terminal is not busy, whose N(R) acknowledges an I-frame; for T203 it is RR, REJ, I or SABME (`started`).
-/// So T200 runs on from an earlier I-frame or enquiry when further I-frames go (clause 5.6.1), when a frame
-/// acknowledges nothing, and in state 8 until the enquiry is answered (clause 5.6.7); and no UI, XID, UA, request for
-/// data or call for a frame starts a timer anew that runs. And each timer is stopped only where it ran before the event
-/// (`ordered`; of T201 [`teis_are_managed`] says all; Q.921 clauses 5.5.1, 5.5.3, 5.6.1 to 5.6.7, 5.9.1, 5.9.8 and
-/// 5.10.3).
+/// where none is, in state 7; and neither in state 4, nor where the TEI is not on the line. One is started anew where the
+/// link moves to another state, or T200 expires and leaves it in its own, and, in state 7, because of a frame. For T200
+/// this is RNR, and RR, or I while the terminal is not busy, whose N(R) acknowledges an I-frame; for T203 it is RR, REJ, I
+/// or SABME. So T200 runs on from an earlier I-frame or enquiry when further I-frames go (clause 5.6.1), when a frame
+/// acknowledges nothing, and in state 8 until the enquiry is answered (clause 5.6.7); and no UI, XID, UA, request for data
+/// or call for a frame starts a timer anew that runs (Q.921 clauses 5.5.1, 5.5.3, 5.6.1 to 5.6.7, 5.9.1, 5.9.8 and 5.10.3).
 pub fn timers_are_timely()
-    ensures run { Always TimersRun }
-    ensures started { Always TimersAreStarted }
-    ensures ordered { Always OrdersHaveReasons }
+    ensures { Always TimersAreTimely }
+{}
+
+/// Timers run where they are due. At a caller's that obeys the orders T200 and T203 of a link run exactly where
+/// [`timers_are_timely`] has it, after every list of events (Q.921 clauses 5.9.1, 5.9.8 and 5.10.3).
+pub fn timers_run()
+    ensures { Always TimersRun }
 {}
 
 /// Links move as the procedures lead them. After every list of events `Card::state` tells of a link the state in which

@@ -1,0 +1,275 @@
+-- What is ordered of the timers of a link is what is due: the law.
+use Rattle.laws_trace.proofs.Vocabulary.{◌≡◌, ℕ, ◌+◌, ◌<◌, ◌==◌, ◌&&◌, ◌||◌, not, Bool, true, false, cond, List, [], ◌∷◌, ◌++◌, refl, sym, ap, ◌∙◌, subst, ⊎_elim, eq-eqb, true≢false, and_parts, is_some, fold, fold-append, nat_lt, All-nil, All-cons, All-append, Service, Order, Timer, LinkTimer, obeyed, Config, hears, expiry, request, next, Answer, orders_in, state_of, IsInRange, timer_of, is_needed, left_by, Card, line_at, at, moments, runs_at_callers}
+use Rattle.std.proofs.Common.{eqb-true}
+use Rattle.lapd_frame.specs.declared.timers.Timer.TheVariants as timers
+use Rattle.model_link.specs.declared.timers.LinkTimer.TheVariants.{T200, T203}
+use Rattle.model_line.specs.Event as line_event
+use Rattle.model_card.specs.Card.{fresh}
+use Rattle.model_card.specs.Event.{Event}
+use Rattle.model_card.specs.Machine.{after, answer}
+use Rattle.model_card.specs.Run.{Moment, after_all, IsAtLine, AreAtLines}
+use Rattle.laws_line.specs.Timers.{runs_then}
+use Rattle.laws_line.specs.card.Timers.{one_more}
+use Rattle.laws_trace.specs.Managing.{Managed, is_on, due}
+use Rattle.laws_trace.specs.News.{brings}
+use Rattle.laws_trace.specs.Observer.{Observed, View, in_state, at_first, anew, awaits, enquires, enters, by_t200, by_event, views, view_of, moment_of, view_behind}
+use Rattle.laws_trace.specs.TimersAreTimely as timely
+use Rattle.laws_trace.specs.TimersAreTimely.{TimersAreTimely}
+use Rattle.laws_trace.specs.Trace.{is_own, Always}
+use Rattle.laws_trace.proofs.ObservedExpiries.{IsNoMore, same, zero, either, no-more, enquired, t200-enters}
+use Rattle.laws_trace.proofs.ObservedLaws.{known-now, on-line-now, timers-run-so, started-so, moved_or_renewed}
+use Rattle.laws_trace.proofs.OrdersOfLink.{its_orders, order_by}
+use Rattle.laws_trace.proofs.TimersAreTimely.{config-now, sound-now, timely-now, true-now, callers-run, own-ordered}
+use Rattle.laws_trace.proofs.WaitedBegins.{moments-both, after-both}
+
+or-none : (b : Bool) → (b || false) ≡ b
+or-none true = refl
+or-none false = refl
+
+-- Whether a timer is started, by whether it ran, the link moves, T200 was counted, or a frame starts it anew.
+plain : (w d x r : Bool) → x ≡ false → (not w || (d || r)) ≡ (not w || ((d || x) || r))
+plain w d x r none = ap (λ b. not w || (b || r)) (sym (or-none d)) ∙ ap (λ x. not w || ((d || x) || r)) (sym none)
+
+ended : (w d x r : Bool) → (w ≡ true → (d || x) ≡ true) → true ≡ (not w || ((d || x) || r))
+ended false d x r leads = refl
+ended true d x r leads = sym (ap (λ b. b || r) (leads refl))
+
+module _ (c : Config) (events : List Event) (number : ℕ) (ranged : IsInRange c) (all : AreAtLines (fresh c) events) (within : number < c.lines) (service : Service) (tei : ℕ) (what : line_event.Event) where
+  abbrev card : Card
+  card = after_all (fresh c) events
+
+  abbrev m : Moment
+  m = moment_of c events number what
+
+  abbrev v : View
+  v = view_of c service tei number events
+
+  abbrev o : Observed
+  o = (view_of c service tei number events).link
+
+  abbrev q : Observed
+  q = (view_behind c service tei number events what).link
+
+  abbrev longer : List Event
+  longer = events ++ at number what ∷ []
+
+  all-then : AreAtLines (fresh c) longer
+  all-then = All-append (IsAtLine (fresh c)) events (at number what ∷ []) all (All-cons (IsAtLine (fresh c)) (at number what) [] within (All-nil (IsAtLine (fresh c))))
+
+  line-then : line_at number (after_all (fresh c) longer) ≡ line_at number (after (at number what) card)
+  unfolding after_all
+  line-then = ap (line_at number) (after-both (fresh c) events (at number what ∷ []))
+
+  view-then : view_of c service tei number longer ≡ view_behind c service tei number events what
+  unfolding moments
+  view-then =
+      ap (fold (views c service tei number) at_first) (moments-both (fresh c) events (at number what ∷ []))
+      ∙ fold-append (views c service tei number) at_first (moments (fresh c) events) (m ∷ [])
+
+  -- Which of its timers run at a caller's, before and then.
+  its-run : (timer : LinkTimer) → runs_at_callers number (timer_of service tei timer) false (moments (fresh c) events) ≡ timely.runs timer o
+  its-run T200 = (timers-run-so c events number ranged all within service tei).0
+  its-run T203 = (timers-run-so c events number ranged all within service tei).1
+
+  its-run-then : (timer : LinkTimer) → runs_at_callers number (timer_of service tei timer) false (moments (fresh c) longer) ≡ timely.runs timer q
+  its-run-then T200 = (timers-run-so c longer number ranged all-then within service tei).0 ∙ ap (λ (v : View). timely.runs T200 v.link) view-then
+  its-run-then T203 = (timers-run-so c longer number ranged all-then within service tei).1 ∙ ap (λ (v : View). timely.runs T203 v.link) view-then
+
+  module _ (timer : LinkTimer) where
+    abbrev its : Timer
+    its = timer_of service tei timer
+
+    abbrev ran : Bool
+    ran = runs_at_callers number its false (moments (fresh c) events)
+
+    needs : is_needed its (line_at number card) ≡ timely.runs timer o
+    needs = sym (callers-run c events number ranged all within service tei timer) ∙ its-run timer
+
+    needs-then : is_needed its (line_at number (after (at number what) card)) ≡ timely.runs timer q
+    needs-then = ap (is_needed its) (sym line-then) ∙ sym (callers-run c longer number ranged all-then within service tei timer) ∙ its-run-then timer
+
+    obeys-then : obeyed its (left_by what its ran) (orders_in m.answer) ≡ timely.runs timer q
+    unfolding moments
+    obeys-then =
+        sym (ap (fold (one_more number its) false) (moments-both (fresh c) events (at number what ∷ []))
+        ∙ fold-append (one_more number its) false (moments (fresh c) events) (m ∷ [])
+        ∙ ap (λ b. cond b (runs_then its ran what m.answer) ran) (eq-eqb number number refl))
+        ∙ its-run-then timer
+
+  -- What is known then, where the event is one of the link.
+  abbrev then-on : Bool
+  then-on = is_on tei (view_behind c service tei number events what).teis
+
+  no-rise : IsNoMore o (by_event c service tei what m.answer o) → IsNoMore o q
+  no-rise h =
+      either o (not then-on) (in_state 1) (cond (is_on tei v.teis) (cond (number == number) (by_event c service tei what m.answer o) o) (in_state 4)) (zero o)
+      (either o (is_on tei v.teis) (cond (number == number) (by_event c service tei what m.answer o) o) (in_state 4)
+      (either o (number == number) (by_event c service tei what m.answer o) o h (same o)) (zero o))
+
+  stays-on : is_on tei v.teis ≡ true → then-on ≡ true → q ≡ by_event c service tei what m.answer o
+  stays-on before then =
+      ap (λ b. cond (not b) (in_state 1) (cond (is_on tei v.teis) (cond (number == number) (by_event c service tei what m.answer o) o) (in_state 4))) then
+      ∙ ap (λ b. cond b (cond (number == number) (by_event c service tei what m.answer o) o) (in_state 4)) before
+      ∙ ap (λ b. cond b (by_event c service tei what m.answer o) o) (eq-eqb number number refl)
+
+  -- a timer runs only of a TEI on the line
+  there : (timer : LinkTimer) → timely.runs timer o ≡ true → is_on tei v.teis ≡ true
+  there timer runs =
+      ⊎_elim (λ y. absurd (true≢false (sym runs ∙ ap (timely.runs timer) y.2 ∙ off timer)))
+      (λ y. on-line-now c events number ranged all within service tei ∙ ap is_some y.1) (known-now c events number ranged all within service tei)
+    where
+      off : (timer : LinkTimer) → timely.runs timer (in_state 1) ≡ false
+      off T200 = refl
+      off T203 = refl
+
+-- Whether one is started, by the event.
+module _ (c : Config) (events : List Event) (number : ℕ) (ranged : IsInRange c) (all : AreAtLines (fresh c) events) (within : number < c.lines) (service : Service) (tei : ℕ) where
+  abbrev Due : LinkTimer → line_event.Event → Type 0
+  Due timer what =
+      let o = (view_of c service tei number events).link in
+      let q = (view_behind c service tei number events what).link in
+      (not (left_by what (timer_of service tei timer) (timely.runs timer o)) || moved_or_renewed c service tei timer o q what)
+      ≡ (not (timely.runs timer o) || timely.is_anew c service tei timer o q what)
+
+  abbrev was : Observed
+  was = (view_of c service tei number events).link
+
+  by-plain : (timer : LinkTimer) (what : line_event.Event) → IsNoMore was (view_behind c service tei number events what).link
+      → let q = (view_behind c service tei number events what).link in
+      (not (timely.runs timer was) || moved_or_renewed c service tei timer was q what) ≡ (not (timely.runs timer was) || timely.is_anew c service tei timer was q what)
+  by-plain timer what none =
+      let q = (view_behind c service tei number events what).link in
+      plain (timely.runs timer was) (not (was.state == q.state)) (nat_lt was.expiries q.expiries) (was.state == 7 && brings (timely.renews timer was.acknowledged was.busy) c service tei what) none
+
+  other-event : (what : line_event.Event) → ((of : Service) (by : ℕ) → what ≡ expiry (timers.T200 of by) → is_own service tei of by ≡ false) → IsNoMore was (view_behind c service tei number events what).link
+  other-event what other =
+      no-rise c events number ranged all within service tei what (no-more was c service tei what (moment_of c events number what).answer other)
+
+  abbrev then_of : line_event.Event → Observed
+  then_of what = (view_behind c service tei number events what).link
+
+  -- what a timer that ran leads to as one of the link expires
+  on-then : (timer : LinkTimer) (what : line_event.Event) → ((w : Managed) → is_on tei (due c what w) ≡ is_on tei w) → timely.runs timer was ≡ true
+      → then_of what ≡ by_event c service tei what (moment_of c events number what).answer was
+  on-then timer what keeps runs =
+      let on = there c events number ranged all within service tei what timer runs in
+      let teis = (view_of c service tei number events).teis in
+      stays-on c events number ranged all within service tei what on
+      (ap (λ b. is_on tei (cond b (due c what teis) teis)) (eq-eqb number number refl) ∙ keeps teis ∙ on)
+
+  abbrev renewed : LinkTimer → line_event.Event → Bool
+  renewed timer what = was.state == 7 && brings (timely.renews timer was.acknowledged was.busy) c service tei what
+
+  -- T200 that expires is counted, or the link leads on.
+  other-t200 : (of : Service) (by : ℕ) → is_own service tei of by ≡ false → IsNoMore was (then_of (expiry (timers.T200 of by)))
+  other-t200 of by other =
+      no-rise c events number ranged all within service tei (expiry (timers.T200 of by))
+      (subst (λ b. IsNoMore was (cond b (by_t200 c.n200 was) was)) (sym other) (same was))
+
+  t200-of : (of : Service) (by : ℕ) (b : Bool) → is_own service tei of by ≡ b → Due T200 (expiry (timers.T200 of by))
+  t200-of of by false other =
+      let what = expiry (timers.T200 of by) in
+      ap (λ b. not (cond b false (awaits was)) || moved_or_renewed c service tei T200 was (then_of what) what) other ∙ by-plain T200 what (other-t200 of by other)
+  t200-of of by true own =
+      let what = expiry (timers.T200 of by) in
+      ap (λ b. not (cond b false (awaits was)) || moved_or_renewed c service tei T200 was (then_of what) what) own
+      ∙ ended (awaits was) (not (was.state == (then_of what).state)) (nat_lt was.expiries (then_of what).expiries) (renewed T200 what)
+      (λ waits. ap (enters was) (on-then T200 what (λ w. refl) waits ∙ ap (λ b. cond b (by_t200 c.n200 was) was) own) ∙ t200-enters was c.n200 waits)
+
+  -- T203 that expires leads on.
+  not-t200 : (what : line_event.Event) (timer : LinkTimer) → ((of : Service) (by : ℕ) → what ≡ expiry (timers.T200 of by) → ⊥) → IsNoMore was (then_of what)
+  not-t200 what timer never = other-event what (λ of by is. absurd (never of by is))
+
+  t203-of : (of : Service) (by : ℕ) (b : Bool) → is_own service tei of by ≡ b → Due T203 (expiry (timers.T203 of by))
+  t203-of of by false other =
+      let what = expiry (timers.T203 of by) in
+      ap (λ b. not (cond b false (timely.runs T203 was)) || moved_or_renewed c service tei T203 was (then_of what) what) other
+      ∙ by-plain T203 what (not-t200 what T203 (λ of by is. cc is))
+  t203-of of by true own =
+      let what = expiry (timers.T203 of by) in
+      ap (λ b. not (cond b false (timely.runs T203 was)) || moved_or_renewed c service tei T203 was (then_of what) what) own
+      ∙ ended (timely.runs T203 was) (not (was.state == (then_of what).state)) (nat_lt was.expiries (then_of what).expiries) (renewed T203 what)
+      (λ runs.
+      ap (enters was) (on-then T203 what (λ w. refl) runs ∙ ap (λ b. cond (b && timely.runs T203 was) (enquires was) was) own ∙ ap (λ b. cond b (enquires was) was) runs)
+      ∙ enquired was (eqb-true was.state 7 (and_parts (was.state == 7) (not (awaits was)) runs).0))
+
+  -- While T203 runs an expiry of T200 does nothing.
+  no-wait : (b : Bool) → not b ≡ true → b ≡ false
+  no-wait true is = absurd (true≢false (sym is))
+  no-wait false is = refl
+
+  idle-then : (of : Service) (by : ℕ) → is_own service tei of by ≡ true → timely.runs T203 was ≡ true → then_of (expiry (timers.T200 of by)) ≡ was
+  idle-then of by own runs =
+      let parts = and_parts (was.state == 7) (not (awaits was)) runs in
+      let last = cond (nat_lt was.expiries c.n200) (record was { expiries = was.expiries + 1 }) (cond (was.state == 8) (anew was) (in_state 4)) in
+      on-then T203 (expiry (timers.T200 of by)) (λ w. refl) runs ∙ ap (λ b. cond b (by_t200 c.n200 was) was) own
+      ∙ ap (λ b. cond b (cond (awaits was) (enquires was) was) (cond (not (awaits was)) was last)) parts.0
+      ∙ ap (λ b. cond b (enquires was) was) (no-wait (awaits was) parts.1)
+
+  t203-by-t200 : (of : Service) (by : ℕ) (b : Bool) → is_own service tei of by ≡ b → Due T203 (expiry (timers.T200 of by))
+  t203-by-t200 of by false other = by-plain T203 (expiry (timers.T200 of by)) (other-t200 of by other)
+  t203-by-t200 of by true own = go (timely.runs T203 was) refl
+    where
+      go : (w : Bool) → timely.runs T203 was ≡ w → Due T203 (expiry (timers.T200 of by))
+      go true runs = by-plain T203 (expiry (timers.T200 of by)) (subst (IsNoMore was) (sym (idle-then of by own runs)) (same was))
+      go false rests =
+          let what = expiry (timers.T200 of by) in
+          ap (λ w. not w || moved_or_renewed c service tei T203 was (then_of what) what) rests
+          ∙ sym (ap (λ w. not w || timely.is_anew c service tei T203 was (then_of what) what) rests)
+
+  due-so : (timer : LinkTimer) (what : line_event.Event) → Due timer what
+  due-so timer (hears e) = by-plain timer (hears e) (not-t200 (hears e) timer (λ of by is. cc is))
+  due-so timer (request r) = by-plain timer (request r) (not-t200 (request r) timer (λ of by is. cc is))
+  due-so timer next = by-plain timer next (not-t200 next timer (λ of by is. cc is))
+  due-so T200 (expiry timers.T201) = by-plain T200 (expiry timers.T201) (not-t200 (expiry timers.T201) T200 (λ of by is. cc is))
+  due-so T203 (expiry timers.T201) = by-plain T203 (expiry timers.T201) (not-t200 (expiry timers.T201) T203 (λ of by is. cc is))
+  due-so T200 (expiry (timers.T200 of by)) = t200-of of by (is_own service tei of by) refl
+  due-so T203 (expiry (timers.T200 of by)) = t203-by-t200 of by (is_own service tei of by) refl
+  due-so T200 (expiry (timers.T203 of by)) = by-plain T200 (expiry (timers.T203 of by)) (not-t200 (expiry (timers.T203 of by)) T200 (λ of by is. cc is))
+  due-so T203 (expiry (timers.T203 of by)) = t203-of of by (is_own service tei of by) refl
+
+  -- So what is ordered of one is what is due.
+  module _ (what : line_event.Event) (timer : LinkTimer) where
+    abbrev its_timer : Timer
+    its_timer = timer_of service tei timer
+
+    abbrev now : Observed
+    now = (view_behind c service tei number events what).link
+
+    abbrev moves : Bool
+    moves = moved_or_renewed c service tei timer was (view_behind c service tei number events what).link what
+
+    abbrev due_of : Bool
+    due_of = timely.runs timer now && (not (timely.runs timer was) || timely.is_anew c service tei timer was now what)
+
+    started : obeyed its_timer false (orders_in (moment_of c events number what).answer) ≡ due_of
+    started =
+        started-so c events number ranged all within service tei timer what
+        ∙ ap (λ b. b && (not (left_by what its_timer (runs_at_callers number its_timer false (moments (fresh c) events))) || moves))
+        (obeys-then c events number ranged all within service tei what timer)
+        ∙ ap (λ r. timely.runs timer now && (not (left_by what its_timer r) || moves)) (its-run c events number ranged all within service tei what timer)
+        ∙ ap (λ b. timely.runs timer now && b) (due-so timer what)
+
+    ordered : order_by (obeyed its_timer false (orders_in (moment_of c events number what).answer)) (is_needed its_timer (line_at number (after_all (fresh c) events)))
+        (is_needed its_timer (line_at number (after (at number what) (after_all (fresh c) events)))) its_timer
+        ≡ order_by due_of (timely.runs timer was) (timely.runs timer now) its_timer
+    ordered =
+        let line = line_at number (after_all (fresh c) events) in
+        let later = line_at number (after (at number what) (after_all (fresh c) events)) in
+        ap (λ b. order_by b (is_needed its_timer line) (is_needed its_timer later) its_timer) started
+        ∙ ap (λ b. order_by due_of b (is_needed its_timer later) its_timer) (needs c events number ranged all within service tei what timer)
+        ∙ ap (λ b. order_by due_of (timely.runs timer was) b its_timer) (needs-then c events number ranged all within service tei what timer)
+
+pub timers-are-timely : Always TimersAreTimely
+timers-are-timely c events number ranged all within service tei what =
+    let card = after_all (fresh c) events in
+    let a = (moment_of c events number what).answer in
+    let here : number < card.config.lines = subst (λ (c : Config). number < c.lines) (sym (config-now c events number ranged all within service tei)) within in
+    let by : LinkTimer → List Order =
+    λ timer. let its = timer_of service tei timer in
+    order_by (obeyed its false (orders_in a)) (is_needed its (line_at number card)) (is_needed its (line_at number (after (at number what) card))) its in
+    own-ordered service tei number card (sound-now c events number ranged all within service tei) (timely-now c events number ranged all within service tei) (at number what) here _
+    (true-now c events number ranged all within service tei)
+    ∙ ap (λ xs. xs ++ by T203) (ordered c events number ranged all within service tei what T200)
+    ∙ ap (λ xs. timely.order_due c service tei (view_of c service tei number events).link (view_behind c service tei number events what).link what T200 (timers.T200 service tei) ++ xs)
+    (ordered c events number ranged all within service tei what T203)

@@ -356,10 +356,6 @@ module _ (on : List ℕ) (m : Management) (h : AreOn on m.places) (order : IfSom
 
     pub serve-leads : (info : List ℕ) → Leads (by_message c w info) (rows.serve (heard_in info) (begun m))
     serve-leads [] = none-due
-    serve-leads (a ∷ []) = none-due
-    serve-leads (a ∷ high ∷ []) = none-due
-    serve-leads (a ∷ high ∷ low ∷ []) = none-due
-    serve-leads (a ∷ high ∷ low ∷ type ∷ []) = none-due
     serve-leads (a ∷ high ∷ low ∷ type ∷ last ∷ []) =
         otherwise (λ d o. Leads d (rows.serve o (begun m))) (a == 0x0F && last % 2 == 1) _ _ _ _ (by-type-leads type (256 * high + low) (last / 2)) none-due
-    serve-leads (a ∷ high ∷ low ∷ type ∷ last ∷ sixth ∷ more) = none-due
+    serve-leads other = none-due

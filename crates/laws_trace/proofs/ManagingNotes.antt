@@ -1,8 +1,7 @@
 -- Which aims of a line are none of TEI management, and that what a line tells behind what TEI management tells changes nothing.
-use Rattle.laws_trace.proofs.Vocabulary.{◌≡◌, ℕ, ◌==◌, ◌&&◌, Bool, true, false, cond, List, [], ◌∷◌, ◌++◌, Option, Some, None, refl, sym, ap, ◌∙◌, subst, append-nil, append_assoc, option_map_or, true≢false, ◌⊎◌, inl, inr, All, filter, not, Result, Ok, Err, All-nil, All-cons, All-head, All-tail, All-append, filter-append, Tei, Unserved, Address, Side, Network, User, Information, ReceiveReady, ReceiveNotReady, Reject, Sabme, Disc, Ui, Ua, Dm, Frmr, ReadFault, BadExtension, Undefined, WrongSize, Short, Note, Long, Service, Start, Stop, Call, Packet, Parts, reading, long_reading, service_of, TeiTold, Change, Gained, Left, Link, runs, timer_at, order_for, orders_for, LinkTimer, Terms, notes-own, Config, Aim, at_none, at_link, at_management, at_units, told_of_management, of_change, Line, link_in, terms, place_in, management_sapi, group_tei, drop_for, at_place, to_service, addressed, message_of, aim_of_reading, unless_at_link, aim_of_long, aim_of_heard, heard_side, managed_at, at_side, has_management, at_no_link}
+use Rattle.laws_trace.proofs.Vocabulary.{◌≡◌, ℕ, ◌==◌, ◌&&◌, Bool, true, false, cond, List, [], ◌∷◌, ◌++◌, Option, Some, None, refl, sym, ap, ◌∙◌, subst, append-nil, append_assoc, option_map_or, true≢false, ◌⊎◌, inl, inr, All, filter, not, Result, Ok, Err, All-nil, All-cons, All-head, All-tail, All-append, filter-append, Tei, Unserved, Address, Side, Network, User, Ui, ReadFault, BadExtension, Undefined, WrongSize, Short, Note, Long, Service, Start, Stop, Call, Packet, Parts, reading, long_reading, service_of, TeiTold, Change, Gained, Left, Link, runs, timer_at, order_for, orders_for, LinkTimer, Terms, notes-own, Config, Aim, at_none, at_link, at_management, at_units, told_of_management, of_change, Line, link_in, terms, place_in, management_sapi, group_tei, drop_for, at_place, to_service, addressed, message_of, aim_of_reading, unless_at_link, aim_of_long, aim_of_heard, heard_side, managed_at, at_side, has_management, at_no_link}
 use Rattle.model_bits.specs.Stream as stream
 use Rattle.lapd_frame.specs.declared.controls.Control.{Control}
-use Rattle.lapd_frame.specs.declared.controls.Control.TheVariants.{Xid}
 use Rattle.lapd_frame.specs.declared.notes.Note.TheVariants as notes
 use Rattle.lapd_frame.specs.declared.overlong.Long.TheVariants as long
 use Rattle.lapd_tei.specs.Events as teis
@@ -22,17 +21,10 @@ abbrev pub IsOther : Note → Type 0
 IsOther n = is_of_teis n ≡ false
 
 own-other : (t : Terms) (n : Note) → IsOwn t n → IsOther n
-own-other t (notes.EstablishIndication s n) own = refl
-own-other t (notes.EstablishConfirm s n) own = refl
-own-other t (notes.ReleaseIndication s n) own = refl
-own-other t (notes.ReleaseConfirm s n) own = refl
-own-other t (notes.Data s n) own = refl
-own-other t (notes.Unit s n) own = refl
-own-other t (notes.Error s n k) own = refl
 own-other t (notes.Assigned n) own = absurd own
 own-other t (notes.Removed n) own = absurd own
 own-other t (notes.Doubled n) own = absurd own
-own-other t (notes.Xid s n) own = refl
+own-other t other own = refl
 
 others-own : (t : Terms) (ns : List Note) → All (IsOwn t) ns → All IsOther ns
 others-own t [] h = All-nil IsOther
@@ -155,16 +147,7 @@ module _ (c : Config) (l : Line) where
 
   by-control : (control : Control) (info : List ℕ) → Cases (message_of control info) (cond (is_ui control) (Some info) None)
   by-control (Ui p) info = inl (record { info = info; aim_is = refl; said_is = refl })
-  by-control (Information ns nr p) info = inr (record { aim_is = refl; said_is = refl })
-  by-control (ReceiveReady nr p) info = inr (record { aim_is = refl; said_is = refl })
-  by-control (ReceiveNotReady nr p) info = inr (record { aim_is = refl; said_is = refl })
-  by-control (Reject nr p) info = inr (record { aim_is = refl; said_is = refl })
-  by-control (Sabme p) info = inr (record { aim_is = refl; said_is = refl })
-  by-control (Disc p) info = inr (record { aim_is = refl; said_is = refl })
-  by-control (Ua p) info = inr (record { aim_is = refl; said_is = refl })
-  by-control (Dm p) info = inr (record { aim_is = refl; said_is = refl })
-  by-control (Frmr p) info = inr (record { aim_is = refl; said_is = refl })
-  by-control (Xid p) info = inr (record { aim_is = refl; said_is = refl })
+  by-control other info = inr (record { aim_is = refl; said_is = refl })
 
   -- On the user's side none is served.
   at-side : (f : Parts) (b : Bool) (said : Option (List ℕ)) (aim : Aim) → Cases aim (cond b said None) → Cases (at_side c f aim) (cond (has_management c.side && b) said None)
@@ -201,11 +184,9 @@ module _ (c : Config) (l : Line) where
   by-reading (Err Short) = inr (record { aim_is = refl; said_is = refl })
 
   not-linked : (aim : Aim) → is_management aim ≡ false → is_management (unless_at_link aim) ≡ false
-  not-linked (at_none told) none = refl
-  not-linked (at_link service tei place event) none = refl
   not-linked (at_management event) none = absurd (true≢false none)
-  not-linked (at_units unit) none = refl
   not-linked at_no_link none = refl
+  not-linked other none = refl
 
   by-long : (r : Result Long ReadFault) → is_management (aim_of_long l r) ≡ false
   by-long (Ok (long.Information address)) = no-message address link.overlong (drop_for Unserved) refl

@@ -77,24 +77,16 @@ module _ (c : Config) (l : Line) where
   request-none (Establish its by) = asked-none its by link.Establish (place_in l by)
   request-none (Release its by) = asked-none its by link.Release (place_in l by)
   request-none (Data its by contents) = asked-none its by (link.Data contents) (place_in l by)
-  request-none (Request.Unit its by contents) = tt
-  request-none (Assign by) = tt
-  request-none (Remove by) = tt
-  request-none (Checking by) = tt
   request-none (SetBusy its by) = asked-none its by link.SetBusy (place_in l by)
   request-none (ClearBusy its by) = asked-none its by link.ClearBusy (place_in l by)
   request-none (Deactivate its by) = deactivated-none its by (place_in l by)
-  request-none Down = tt
+  request-none other = tt
 
 no-next : (c : Config) (e : Event) (a : Answer) (service : Service) (tei : ℕ) (le : link.Event) → (e ≡ next → ⊥) → IsBy c e a service tei le → IsNoOther le
 no-next c e a service tei (link.received (link.frame f)) other by = tt
-no-next c e a service tei (link.received link.undefined) other by = tt
-no-next c e a service tei (link.received link.wrong_size) other by = tt
-no-next c e a service tei (link.received link.overlong) other by = tt
-no-next c e a service tei (link.expired timer) other by = tt
-no-next c e a service tei (link.requested r full) other by = tt
 no-next c e a service tei link.offer other by = absurd (other by)
 no-next c e a service tei link.cleared other by = absurd by
+no-next c e a service tei another other by = tt
 
 -- A link that stays on the line loses so many by an event.
 abbrev Puts : Service → ℕ → ℕ → Bool → Bool → Config → Line → Event → Answer → Line → List ControlFrame

@@ -144,10 +144,7 @@ module _ (c : Config) (e : Event) (l : Line) (s : IsSound c l) (ranged : IsInRan
   accepted-octets t x (link.requested link.Release full) by = none-accepted (link_requests.refusal t x full link.Release)
   accepted-octets t x (link.requested link.SetBusy full) by = none-accepted (link_requests.refusal t x full link.SetBusy)
   accepted-octets t x (link.requested link.ClearBusy full) by = none-accepted (link_requests.refusal t x full link.ClearBusy)
-  accepted-octets t x (link.received what) by = All-nil AreOctets
-  accepted-octets t x (link.expired timer) by = All-nil AreOctets
-  accepted-octets t x link.offer by = All-nil AreOctets
-  accepted-octets t x link.cleared by = All-nil AreOctets
+  accepted-octets t x other by = All-nil AreOctets
 
   left-octets : (b : Bool) (n : ℕ) (kept more : List (List ℕ)) → All AreOctets kept → All AreOctets more → All AreOctets (cond b [] (drop n kept ++ more))
   left-octets true n kept more h i = All-nil AreOctets
@@ -176,17 +173,8 @@ module _ (c : Config) (e : Event) (l : Line) (s : IsSound c l) (ranged : IsInRan
 
 -- The unit data that waits then.
 asked-exact : (r : Request) → AreOctets (contents_given r) → All IsUnit (unit_asked r)
-asked-exact (asked.Establish service tei) h = All-nil IsUnit
-asked-exact (asked.Release service tei) h = All-nil IsUnit
-asked-exact (asked.Data service tei contents) h = All-nil IsUnit
 asked-exact (asked.Unit service tei contents) h = All-cons IsUnit (record { service = service; tei = tei; contents = contents }) [] h (All-nil IsUnit)
-asked-exact (asked.Assign tei) h = All-nil IsUnit
-asked-exact (asked.Remove tei) h = All-nil IsUnit
-asked-exact (asked.Check tei) h = All-nil IsUnit
-asked-exact (asked.SetBusy service tei) h = All-nil IsUnit
-asked-exact (asked.ClearBusy service tei) h = All-nil IsUnit
-asked-exact (asked.Deactivate service tei) h = All-nil IsUnit
-asked-exact asked.Down h = All-nil IsUnit
+asked-exact other h = All-nil IsUnit
 
 by-grant : (r : Request) (a : Answer) → All GivesOctets (traces.seen_granted r a ++ seen_told a) → All IsUnit (units_asked (request r) a)
 by-grant r (told t) h = asked-exact r (granted-seen r (told t) refl h)

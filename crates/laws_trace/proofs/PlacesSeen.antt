@@ -1,9 +1,9 @@
 -- What an event shows of the places of a link: data that is granted, and that layer 3 learns of a loss.
-use Rattle.laws_trace.proofs.Vocabulary.{◌≡◌, ℕ, Bool, true, false, cond, List, [], ◌++◌, ◌∷◌, ◌&&◌, ◌||◌, map, Some, None, refl, sym, ap, ◌∙◌, append-nil, flat_map, list_any, Service, Timer, is_release, Answer, hears, expiry, request, next, refused, gave, Assign, Remove, Deactivate, Down, deactivates, notes_of, is_loss_of, is_granted}
+use Rattle.laws_trace.proofs.Vocabulary.{◌≡◌, ℕ, Bool, true, false, cond, List, [], ◌++◌, ◌∷◌, ◌&&◌, ◌||◌, map, Some, None, refl, sym, ap, ◌∙◌, append-nil, flat_map, list_any, Service, Timer, is_release, Answer, hears, expiry, request, next, refused, gave, Deactivate, deactivates, notes_of, is_loss_of, is_granted}
 use Rattle.model_bits.specs.Stream as stream
 use Rattle.model_link.specs.Events as link
 use Rattle.model_line.specs.Event.{Event, LineTold, told}
-use Rattle.model_line.specs.Request.{Request, Establish, Release, Data, Check, SetBusy, ClearBusy}
+use Rattle.model_line.specs.Request.{Request, Release, Data}
 use Rattle.laws_line.specs.Requests.{of_link}
 use Rattle.laws_trace.specs.News.{releases}
 use Rattle.laws_trace.specs.Outgoing as outgoing
@@ -76,38 +76,17 @@ module _ (service : Service) (tei : ℕ) where
   asked-loses r (gave frame) = refl
 
   pub own-release : (what : link.Request) → is_release_of service tei (of_link service tei what) ≡ is_release what
-  own-release link.Establish = refl
   own-release link.Release = own-is service tei
-  own-release (link.Data contents) = refl
-  own-release link.SetBusy = refl
-  own-release link.ClearBusy = refl
+  own-release other = refl
 
   -- So it is by the event and its answer.
   granted-is : (r : Request) (t : LineTold) → data_asked service tei r ≡ outgoing.data_granted service tei (request r) (told t)
   granted-is (Data of by contents) t = refl
-  granted-is (Establish of by) t = refl
-  granted-is (Release of by) t = refl
-  granted-is (Request.Unit of by contents) t = refl
-  granted-is (Assign by) t = refl
-  granted-is (Remove by) t = refl
-  granted-is (Check by) t = refl
-  granted-is (SetBusy of by) t = refl
-  granted-is (ClearBusy of by) t = refl
-  granted-is (Deactivate of by) t = refl
-  granted-is Down t = refl
+  granted-is other t = refl
 
   none-granted : (r : Request) (a : Answer) → is_granted a ≡ false → outgoing.data_granted service tei (request r) a ≡ []
   none-granted (Data of by contents) a none = ap (λ b. cond (b && is_own service tei of by) (contents ∷ []) []) none
-  none-granted (Establish of by) a none = refl
-  none-granted (Release of by) a none = refl
-  none-granted (Request.Unit of by contents) a none = refl
-  none-granted (Assign by) a none = refl
-  none-granted (Remove by) a none = refl
-  none-granted (Check by) a none = refl
-  none-granted (SetBusy of by) a none = refl
-  none-granted (ClearBusy of by) a none = refl
-  none-granted (Deactivate of by) a none = refl
-  none-granted Down a none = refl
+  none-granted other a none = refl
 
   pub granted-so : (what : Event) (a : Answer) → granted_in (seen what a) ≡ outgoing.data_granted service tei what a
   granted-so (hears e) a = told-grants a
@@ -132,28 +111,11 @@ module _ (service : Service) (tei : ℕ) where
   released-is : (r : Request) (t : LineTold) → is_release_of service tei r ≡ (releases service tei (request r) (told t) || (deactivates service tei (request r) && true))
   released-is (Release of by) t = sym (or-none (is_own service tei of by))
   released-is (Deactivate of by) t = sym (and-all (is_own service tei of by))
-  released-is (Data of by contents) t = refl
-  released-is (Establish of by) t = refl
-  released-is (Request.Unit of by contents) t = refl
-  released-is (Assign by) t = refl
-  released-is (Remove by) t = refl
-  released-is (Check by) t = refl
-  released-is (SetBusy of by) t = refl
-  released-is (ClearBusy of by) t = refl
-  released-is Down t = refl
+  released-is other t = refl
 
   none-released : (r : Request) (a : Answer) → is_granted a ≡ false → releases service tei (request r) a ≡ false
   none-released (Release of by) a none = ap (λ b. b && is_own service tei of by) none
-  none-released (Deactivate of by) a none = refl
-  none-released (Data of by contents) a none = refl
-  none-released (Establish of by) a none = refl
-  none-released (Request.Unit of by contents) a none = refl
-  none-released (Assign by) a none = refl
-  none-released (Remove by) a none = refl
-  none-released (Check by) a none = refl
-  none-released (SetBusy of by) a none = refl
-  none-released (ClearBusy of by) a none = refl
-  none-released Down a none = refl
+  none-released other a none = refl
 
   group : (a b d : Bool) → ((a || b) || d) ≡ (a || b || d)
   group true b d = refl

@@ -24,18 +24,13 @@ use Rattle.laws_trace.proofs.TimersWatched.{Known, nothing_yet, watch}
 -- States 7 and 8 are those of multiple-frame operation.
 pub up-number : (state : State) → is_up (state_number state) ≡ is_multiple_frame state
 up-number TeiAssigned = refl
-up-number AwaitingEstablishment = refl
-up-number AwaitingRelease = refl
-up-number Established = refl
-up-number TimerRecovery = refl
+up-number other = refl
 
 -- In these it is known how far a link is.
 pub known-up : (state : State) (k : Known) (a s : ℕ) (busy : Bool) → is_multiple_frame state ≡ true → Agrees state k a s busy → IsKnown k a s busy
-known-up TeiAssigned k a s busy up h = absurd (true≢false (sym up))
-known-up AwaitingEstablishment k a s busy up h = absurd (true≢false (sym up))
-known-up AwaitingRelease k a s busy up h = absurd (true≢false (sym up))
 known-up Established k a s busy up h = h
 known-up TimerRecovery k a s busy up h = h
+known-up other k a s busy up h = absurd (true≢false (sym up))
 
 pub record IsSeenAs (k : Link) (o : Observed) : Type 0 where
   pub state_is : o.state ≡ state_number k.state

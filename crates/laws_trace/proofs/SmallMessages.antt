@@ -76,16 +76,12 @@ of-type type ri action c small h =
 
 served : (info : List ℕ) (c : Course) → AreOctets info → AreSmall c → AreSmall (rows.serve (heard_in info) c)
 served [] c octets h = h
-served (a ∷ []) c octets h = h
-served (a ∷ high ∷ []) c octets h = h
-served (a ∷ high ∷ low ∷ []) c octets h = h
-served (a ∷ high ∷ low ∷ type ∷ []) c octets h = h
 served (a ∷ high ∷ low ∷ type ∷ last ∷ []) c octets h =
     let behind = All-tail (λ octet. octet < 256) a (high ∷ low ∷ type ∷ last ∷ []) octets in
     let first : high < 256 = All-head (λ octet. octet < 256) high (low ∷ type ∷ last ∷ []) behind in
     let second : low < 256 = All-head (λ octet. octet < 256) low (type ∷ last ∷ []) (All-tail (λ octet. octet < 256) high (low ∷ type ∷ last ∷ []) behind) in
     either-served (λ o. rows.serve o c) (a == 0x0F && last % 2 == 1) _ _ (of-type type (256 * high + low) (last / 2) c (omega (arith, first, second)) h) h
-served (a ∷ high ∷ low ∷ type ∷ last ∷ sixth ∷ more) c octets h = h
+served other c octets h = h
 
 expire-small : (o : Option Check) (c : Course) → AreSmall c → AreSmall (rows.expire_check o c)
 expire-small None c h = h

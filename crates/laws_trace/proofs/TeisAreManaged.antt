@@ -1,5 +1,5 @@
 -- TEIs are managed as the procedures say: runs of a card, and the law.
-use Rattle.laws_trace.proofs.Vocabulary.{◌≡◌, ℕ, ◌<◌, ◌==◌, Bool, true, false, cond, List, [], ◌∷◌, get_or, refl, sym, ◌∙◌, subst, arith, eq-eqb, true≢false, inl, fold, and_parts, get_or-replicate, get_or-set_same, All-head, All-tail, PoolFull, Config, Answer, refused, Line, fresh_line, Assign, Remove, Deactivate, IsInRange, Card, line_at, is_full, at, after_is_sound, fresh_is_sound, has_lines, by_room, config-stays}
+use Rattle.laws_trace.proofs.Vocabulary.{◌≡◌, ℕ, ◌<◌, ◌==◌, Bool, true, false, cond, List, [], ◌∷◌, get_or, refl, sym, ◌∙◌, subst, arith, eq-eqb, true≢false, inl, fold, and_parts, get_or-replicate, get_or-set_same, All-head, All-tail, PoolFull, Config, Answer, refused, Line, fresh_line, IsInRange, Card, line_at, is_full, at, after_is_sound, fresh_is_sound, has_lines, by_room, config-stays}
 use Rattle.std.proofs.Common.{eqb-true}
 use Rattle.model_line.specs.Event as line_event
 use Rattle.model_line.specs.Request as request
@@ -27,20 +27,9 @@ Answers c l w e a new = Shows c l e (due c e w) a new.management
 
 refused-shows : (c : Config) (e : line_event.Event) (l : Line) (w : Managed) → lines.takes_slot c e l ≡ true → Follows w l.management → Answers c l w e (refused PoolFull) l
 unfolding lines.takes_slot
-refused-shows c (line_event.hears what) l w takes h = absurd (true≢false (sym takes))
-refused-shows c (line_event.expiry timer) l w takes h = absurd (true≢false (sym takes))
-refused-shows c line_event.next l w takes h = absurd (true≢false (sym takes))
 refused-shows c (line_event.request (Data service tei contents)) l w takes h = record { as_due = record { notes = refl; orders = refl; begins = refl; granted = none-granted (nothing_due w) refl false }; lost = inl refl; follows = record { is = h.is; on = h.on; order = h.order } }
 refused-shows c (line_event.request (request.Unit service tei contents)) l w takes h = record { as_due = record { notes = refl; orders = refl; begins = refl; granted = none-granted (nothing_due w) refl false }; lost = inl refl; follows = record { is = h.is; on = h.on; order = h.order } }
-refused-shows c (line_event.request (Establish service tei)) l w takes h = absurd (true≢false (sym takes))
-refused-shows c (line_event.request (Release service tei)) l w takes h = absurd (true≢false (sym takes))
-refused-shows c (line_event.request (SetBusy service tei)) l w takes h = absurd (true≢false (sym takes))
-refused-shows c (line_event.request (ClearBusy service tei)) l w takes h = absurd (true≢false (sym takes))
-refused-shows c (line_event.request (Deactivate service tei)) l w takes h = absurd (true≢false (sym takes))
-refused-shows c (line_event.request (Assign tei)) l w takes h = absurd (true≢false (sym takes))
-refused-shows c (line_event.request (Remove tei)) l w takes h = absurd (true≢false (sym takes))
-refused-shows c (line_event.request (Check tei)) l w takes h = absurd (true≢false (sym takes))
-refused-shows c (line_event.request request.Down) l w takes h = absurd (true≢false (sym takes))
+refused-shows c other l w takes h = absurd (true≢false (sym takes))
 
 pub own-shows : (k : Card) (e : Event) (w : Managed) → card_sound.IsSound k → IsAtLine k e → Follows w (line_at e.line k).management
     → Answers k.config (line_at e.line k) w e.what (answer e k) (line_at e.line (after e k))

@@ -1,5 +1,5 @@
 -- Unit data goes out in the order in which it was granted, over runs.
-use Rattle.laws_trace.proofs.Vocabulary.{◌≡◌, ℕ, ◌<◌, ◌≤◌, ◌==◌, ◌&&◌, Bool, true, false, cond, List, [], ◌∷◌, ◌++◌, drop, map, slice_get, Option, Some, None, option_map, refl, sym, ap, ◌∙◌, subst, inl, inr, append_assoc, append-nil, All, not, filter, flat_map-append, get_or-replicate, map-append, All-nil, All-head, filter-append, Ui, sapi_of, IsInOrder, Link, ControlFrame, Config, hears, expiry, request, next, NextFrame, Answer, refused, gave, Line, UnitData, link_count, link_at, service_at, terms, fresh_line, management_sapi, Taken, taken, unit_frame, next_of, IsInRange, IsUnitData, IsOfLink, IsOwed, IsIdle, contents_of, units_asked, unit_asked, event-follows, event-happens, served, units-wait, fold}
+use Rattle.laws_trace.proofs.Vocabulary.{◌≡◌, ℕ, ◌<◌, ◌≤◌, ◌==◌, ◌&&◌, Bool, true, false, cond, List, [], ◌∷◌, ◌++◌, drop, map, slice_get, Option, Some, None, option_map, refl, sym, ap, ◌∙◌, subst, inl, inr, append-nil, All, not, filter, get_or-replicate, map-append, All-nil, All-head, Ui, sapi_of, IsInOrder, Link, ControlFrame, Config, hears, expiry, request, next, NextFrame, Answer, refused, gave, Line, UnitData, link_count, link_at, service_at, terms, fresh_line, management_sapi, Taken, taken, unit_frame, next_of, IsInRange, IsUnitData, IsOfLink, IsOwed, IsIdle, contents_of, units_asked, unit_asked, event-follows, event-happens, served, units-wait, fold}
 use Rattle.lapd_tei.specs.Messages.{information_of}
 use Rattle.model_link.specs.Link.{fresh}
 use Rattle.model_line.specs.Event.{Event, told}
@@ -52,11 +52,9 @@ abbrev pub left_by : Config → Request → List (List ℕ) → List (List ℕ)
 left_by c r waiting = cond (is_down r) [] (waiting ++ units.unit_asked c r)
 
 abbrev pub Step : Config → List (List ℕ) → Seen → List (List ℕ) → Type 0
-Step c waiting (traces.heard e) left = left ≡ waiting
 Step c waiting (traces.begun octets) left = Begun (is_unit c.side octets) waiting octets left
-Step c waiting (traces.noted notes contents) left = left ≡ waiting
 Step c waiting (traces.granted r) left = left ≡ left_by c r waiting
-Step c waiting (traces.lost n) left = left ≡ waiting
+Step c waiting other left = left ≡ waiting
 
 unfoldable pub Goes : Config → List (List ℕ) → List Seen → List (List ℕ) → Type 0
 Goes c waiting [] left = left ≡ waiting
@@ -90,17 +88,9 @@ none-requested r (gave given) = refl
 
 -- what a request that is granted leaves of them
 left-is : (c : Config) (r : Request) (us : List UnitData) → map (unit_frame c) (units_behind r us ++ unit_asked r) ≡ left_by c r (map (unit_frame c) us)
-left-is c (asked.Establish service tei) us = map-append (unit_frame c) us []
-left-is c (asked.Release service tei) us = map-append (unit_frame c) us []
-left-is c (asked.Data service tei contents) us = map-append (unit_frame c) us []
 left-is c (asked.Unit service tei contents) us = map-append (unit_frame c) us (record { service = service; tei = tei; contents = contents } ∷ [])
-left-is c (asked.Assign tei) us = map-append (unit_frame c) us []
-left-is c (asked.Remove tei) us = map-append (unit_frame c) us []
-left-is c (asked.Check tei) us = map-append (unit_frame c) us []
-left-is c (asked.SetBusy service tei) us = map-append (unit_frame c) us []
-left-is c (asked.ClearBusy service tei) us = map-append (unit_frame c) us []
-left-is c (asked.Deactivate service tei) us = map-append (unit_frame c) us []
 left-is c asked.Down us = refl
+left-is c other us = map-append (unit_frame c) us []
 
 told-goes : (c : Config) (waiting left : List (List ℕ)) (a : Answer) → left ≡ waiting → Goes c waiting (seen_told a) left
 unfolding Goes
@@ -190,28 +180,18 @@ left-is-waiting c [] waiting left same = sym same
 left-is-waiting c (s ∷ t) waiting left (kept, step, more) = ap (λ ws. fold (waits c) ws t) (one s step) ∙ left-is-waiting c t kept left more
   where
     asks : (r : Request) → waits c waiting (traces.granted r) ≡ left_by c r waiting
-    asks (asked.Establish service tei) = sym (append-nil waiting)
-    asks (asked.Release service tei) = sym (append-nil waiting)
-    asks (asked.Data service tei contents) = sym (append-nil waiting)
     asks (asked.Unit service tei contents) = refl
-    asks (asked.Assign tei) = sym (append-nil waiting)
-    asks (asked.Remove tei) = sym (append-nil waiting)
-    asks (asked.Check tei) = sym (append-nil waiting)
-    asks (asked.SetBusy service tei) = sym (append-nil waiting)
-    asks (asked.ClearBusy service tei) = sym (append-nil waiting)
-    asks (asked.Deactivate service tei) = sym (append-nil waiting)
     asks asked.Down = refl
+    asks other = sym (append-nil waiting)
 
     goes : (octets : List ℕ) (b : Bool) → Begun b waiting octets kept → cond b (drop 1 waiting) waiting ≡ kept
     goes octets true is = ap (drop 1) is
     goes octets false is = sym is
 
     one : (s : Seen) → Step c waiting s kept → waits c waiting s ≡ kept
-    one (traces.heard e) is = sym is
     one (traces.begun octets) is = goes octets (is_unit c.side octets) is
-    one (traces.noted ns x) is = sym is
     one (traces.granted r) is = asks r ∙ sym is
-    one (traces.lost n) is = sym is
+    one other is = sym is
 
 -- and of what begins the unit data is the first of them.
 pub begun-first : (c : Config) (fs : List (List ℕ)) (waiting left : List (List ℕ)) → Goes c waiting (map traces.begun fs) left → IsFront (filter (is_unit c.side) fs) waiting

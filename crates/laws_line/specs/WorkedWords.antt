@@ -37,6 +37,7 @@ pub use Rattle.model_line.specs.Refusal.{refusal}
 pub use Rattle.model_line.specs.Request.{Assign, Check, Data, Deactivate, Down, Establish, Release, Remove, Request, SetBusy, Unit}
 pub use Rattle.model_line.specs.Taken.{Taken, taken}
 pub use Rattle.model_line.specs.declared.config.Config.{Config}
+pub use Rattle.model_card.specs.ByEvent.{IsPriced}
 pub use Rattle.model_card.specs.Card.{Card, fresh, state}
 pub use Rattle.model_card.specs.Counts.{accepted, expired, heard, rejected, sent, window}
 pub use Rattle.model_card.specs.Drops.{IsDropWithoutCost, IsDropWithoutEffect}

@@ -1,5 +1,5 @@
 -- The words with which the proofs of this crate speak, from where they are defined.
-pub use Rattle.std.proofs.Common.{Bool, Err, IsSome, List, None, Ok, Option, Some, [], ap, append-nil, append_assoc, arith, cond, eq-eqb, eqb-true, false, get_or, inl, inr, is_some, length, length-set, nat_le, nat_lt, not, refl, set, subst, suc, sym, true, true≢false, zero, ℕ, ◌%◌, ◌&&◌, ◌*◌, ◌++◌, ◌+◌, ◌-◌, ◌<◌, ◌==◌, ◌↔◌, ◌∙◌, ◌∷◌, ◌≡◌, ◌≢◌, ◌≤◌}
+pub use Rattle.std.proofs.Common.{Bool, Err, IsSome, List, None, Ok, Option, Some, [], ap, append-nil, append_assoc, arith, cond, eq-eqb, eqb-true, false, get_or, inl, inr, is_some, length, length-set, nat_le, nat_lt, not, refl, set, subst, suc, sym, true, true≢false, zero, ℕ, ◌&&◌, ◌*◌, ◌++◌, ◌+◌, ◌-◌, ◌<◌, ◌==◌, ◌↔◌, ◌∙◌, ◌∷◌, ◌≡◌, ◌≢◌, ◌≤◌}
 pub use Rattle.std.proofs.Math.Dec.{eqb-suc-zero}
 pub use Rattle.std.proofs.Math.Nat.{mul-le-mul_left, sub-eq-zero_of_le}
 pub use Rattle.std.proofs.lemmas.Bool.{and_parts, false≢true, le-ltb, leb-false, leb-true, lt-leb}
@@ -33,7 +33,7 @@ pub use Rattle.model_card.specs.Stored.{limit, limit_in, stored}
 pub use Rattle.model_line.proofs.AimsRise.{fresh_may_send}
 pub use Rattle.model_line.proofs.Drops.{heard_leaves, named_cause}
 pub use Rattle.model_line.proofs.EventsRise.{event_rises}
-pub use Rattle.model_line.proofs.EventsReject.{event_rejects, expiry_none, request_none}
+pub use Rattle.model_line.proofs.EventsReject.{event_rejects}
 pub use Rattle.model_line.proofs.LineSound.{after_sound, fresh_sound}
 pub use Rattle.model_line.proofs.NotPool.{line_not_pool}
 pub use Rattle.model_line.proofs.Numbered.{Part, brings_none, none_at}

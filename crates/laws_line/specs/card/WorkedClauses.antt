@@ -1,5 +1,5 @@
 -- Worked values: cards, and moments with other answers, that would break the clauses of `Card::drive`.
-use Rattle.laws_line.specs.WorkedWords.{◌≡◌, ℕ, ◌+◌, ◌*◌, ◌≤◌, List, [], ◌∷◌, map, Some, None, refl, ap, arith, frame, Fcs, Short, PoolFull, Call, reading, header_of, control_of, unnumbered_of, supervisory_of, seq, named, distance_of, hears, next, request, gave, Answer, told, refused, dropped, nothing, cause_in, Line, fresh_line, Assign, Data, lost_in, Card, fresh, sent, heard, accepted, expired, rejected, window, IsDropWithoutCost, IsDropWithoutEffect, at, events_at, answers_at, answer_in, LinkName, IsNext, IsWithinLimit, IsNotRefusedForPool, Moment, moments, after_all}
+use Rattle.laws_line.specs.WorkedWords.{◌≡◌, ℕ, ◌+◌, ◌*◌, ◌≤◌, List, [], ◌∷◌, map, Some, None, refl, ap, arith, frame, Fcs, Short, PoolFull, Call, reading, header_of, control_of, unnumbered_of, supervisory_of, seq, named, distance_of, hears, next, request, gave, Answer, told, refused, dropped, nothing, cause_in, Line, fresh_line, Assign, Data, lost_in, Card, fresh, sent, heard, accepted, expired, rejected, window, IsPriced, IsDropWithoutCost, IsDropWithoutEffect, at, events_at, answers_at, answer_in, LinkName, IsNext, IsWithinLimit, IsNotRefusedForPool, Moment, moments, after_all}
 use Rattle.model_bits.specs.Stream as stream
 use Rattle.lapd_frame.specs.declared.notes.Note.TheVariants as notes
 use Rattle.lapd_tei.specs.Events as teis
@@ -38,6 +38,11 @@ out_of_nothing = moment (fresh usual) next (gave (Some (record { octets = 0x02 �
 
 unpaid : sent out_of_nothing ≤ 2 * heard out_of_nothing + accepted out_of_nothing + (window usual + 1) * expired out_of_nothing + window usual * rejected out_of_nothing → ⊥
 unpaid few = let one : 1 ≤ 0 = few in omega (arith, one)
+
+-- `by_event`: unit data goes, and the answer gives no frame.
+goes_untold : IsPriced (moment (record { config = usual; lines = with_unit ∷ [] }) next (gave None)) → ⊥
+unfolding lines.after lines.takes_slot
+goes_untold priced = let few : 1 ≤ 0 = priced.falls refl in omega (arith, few)
 
 -- `isolated`: a line that answers what it hears as it would not on a card of its own; and `never_full`: a request that finds
 -- no slot.

@@ -1,18 +1,12 @@
 -- Other lines stay as an event of one goes by, and no UI waits on a link.
-use Rattle.laws_trace.proofs.Vocabulary.{◌≡◌, ◌≢◌, ℕ, ◌<◌, ◌==◌, Bool, true, false, cond, List, [], ◌∷◌, ◌++◌, get_or, refl, sym, ◌∙◌, subst, arith, eq-eqb, true≢false, All, and_parts, flat_map-append, get_or-set_same, get_or-set_other, get_or-replicate, All-head, All-tail, All-cons, All-nil, Config, next, Line, fresh_line, Card, line_at, is_full, moments, after_is_sound, fresh_is_sound, has_lines, by_room, line_sound, AreTakesAt, all-left, all-right, config-stays}
-use Rattle.std.proofs.Common.{eqb-true}
+use Rattle.laws_trace.proofs.Vocabulary.{◌≡◌, ◌≢◌, ℕ, [], ◌∷◌, get_or, refl, get_or-set_other, All-cons, All-nil, fresh_line, Card, line_at, by_room}
 use Rattle.model_line.specs.Machine as lines
-use Rattle.model_line.specs.Sound as line
-use Rattle.model_card.specs.Card.{fresh}
 use Rattle.model_card.specs.Event.{Event}
-use Rattle.model_card.specs.Machine.{after, answer}
-use Rattle.model_card.specs.Run.{after_all, IsAtLine, AreAtLines}
+use Rattle.model_card.specs.Machine.{after}
+use Rattle.model_card.specs.Run.{after_all, IsAtLine}
 use Rattle.model_card.specs.Sound.{IsSound}
-use Rattle.model_card.proofs.CardSound.{always_sound}
-use Rattle.laws_trace.specs.Trace as traces
-use Rattle.laws_trace.specs.Trace.{seen, trace, frames_begun}
 use Rattle.laws_trace.proofs.Runs.{run-shows}
-use Rattle.laws_trace.proofs.Units.{NoneWaits, fresh-none, Passes, rests, joins, steps}
+use Rattle.laws_trace.proofs.Units.{NoneWaits, Passes, rests, joins, steps}
 
 pub apart : (card : Card) (e : Event) (other : ℕ) → other ≢ e.line → line_at other (after e card) ≡ line_at other card
 apart card e other away =

@@ -1,11 +1,10 @@
 -- Frames of a link, and their names.
-use Rattle.laws_trace.proofs.Vocabulary.{◌≡◌, ℕ, ◌==◌, ◌&&◌, ◌||◌, not, Bool, true, false, cond, List, [], ◌∷◌, ◌++◌, map, filter, list_any, Option, Some, None, Ok, refl, sym, ap, ◌∙◌, subst, eq-eqb, true≢false, option_map_or, and_parts, map-append, filter-append, All, All-head, All-tail, All-append, Parts, Service, reading-again, sapi_of, Config}
+use Rattle.laws_trace.proofs.Vocabulary.{◌≡◌, ℕ, ◌==◌, ◌&&◌, ◌||◌, not, Bool, true, false, cond, List, [], ◌∷◌, ◌++◌, map, filter, list_any, Some, None, refl, sym, ap, ◌∙◌, eq-eqb, true≢false, option_map_or, and_parts, map-append, filter-append, All, All-head, All-tail, Parts, Service, reading-again, sapi_of, Config}
 use Rattle.std.proofs.Common.{eqb-true}
 use Rattle.std.specs.Result.{result_ok}
 use Rattle.laws_trace.specs.FramesAreRead.{IsSpelled}
 use Rattle.laws_trace.specs.LinkFrames.{its_frame, is_frame_of}
 use Rattle.laws_trace.proofs.LinkNames.{LinkName, named_in, is_of_a_link}
-use Rattle.laws_trace.specs.Trace.{IsAmong}
 use Rattle.laws_trace.specs.Units.{is_ui}
 use Rattle.laws_trace.proofs.Turns.{name-is}
 

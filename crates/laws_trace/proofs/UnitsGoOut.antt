@@ -1,5 +1,5 @@
 -- Unit data goes out: the laws.
-use Rattle.laws_trace.proofs.Vocabulary.{◌≡◌, ℕ, ◌<◌, ◌≤◌, List, [], ◌++◌, map, sym, ap, ◌∙◌, subst, append-nil, get_or-replicate, Config, Line, fresh_line, unit_frame, most_frames, line_at, fresh_is_sound, AreTakesAt, takes_at, refl, arith, true, false, not, ◌||◌, true≢false, Option, Some, None, option_map, list_any, inl, inr, Service, Call, Packet, sapi_of, next, next_of, gave, Taken, taken, IsIdle, IsOwed, contents_of, served, at, config-stays, Bool, filter, Parts}
+use Rattle.laws_trace.proofs.Vocabulary.{◌≡◌, ℕ, ◌<◌, ◌≤◌, List, [], ◌++◌, map, sym, ap, ◌∙◌, subst, get_or-replicate, Config, Line, fresh_line, unit_frame, most_frames, line_at, fresh_is_sound, AreTakesAt, takes_at, refl, arith, true, false, not, ◌||◌, true≢false, Option, Some, None, option_map, list_any, inl, inr, Service, Call, Packet, sapi_of, next, next_of, gave, Taken, taken, IsIdle, IsOwed, contents_of, served, at, config-stays, Bool, filter, Parts}
 use Rattle.model_line.specs.Sound as line
 use Rattle.model_card.specs.Card.{fresh}
 use Rattle.model_card.specs.Event.{Event}

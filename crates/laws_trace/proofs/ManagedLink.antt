@@ -1,14 +1,11 @@
 -- What an event of TEI management is to the link of a service with a TEI: it stays as it is, or its TEI comes or
 -- leaves; and it orders what stops the timer of a link whose TEI leaves.
-use Rattle.laws_trace.proofs.Vocabulary.{◌≡◌, ℕ, ◌==◌, Bool, true, false, List, ◌++◌, Option, Some, None, refl, sym, ap, ◌∙◌, eq-eqb, true≢false, ◌⊎◌, inl, inr, is_some, none-some, Service, Order, Call, Packet, Management, IsSoundTable, Change, Gained, Left, t201_follows, Link, Config, told_of_management, of_change, Line, has_tei, link_in, link_of, terms, some-same, is-off, has-no-place, [], ◌&&◌, append-nil, arith, get_or, set, get_or-set_other, option_map_or, filter-append, same_service, is_on-at, place_of-is, has-place, place_in, link_number, orders_for, Terms, subst}
+use Rattle.laws_trace.proofs.Vocabulary.{◌≡◌, ℕ, ◌==◌, Bool, true, false, List, ◌++◌, Option, Some, None, refl, sym, ap, ◌∙◌, eq-eqb, true≢false, ◌⊎◌, inl, inr, is_some, none-some, Service, Order, Call, Packet, Management, IsSoundTable, Change, Gained, Left, t201_follows, Link, Config, told_of_management, of_change, Line, has_tei, link_in, link_of, terms, some-same, is-off, has-no-place, [], ◌&&◌, append-nil, arith, get_or, set, get_or-set_other, option_map_or, filter-append, same_service, is_on-at, place_of-is, has-place, place_in, link_number, orders_for, Terms}
 use Rattle.std.proofs.Common.{eqb-true}
 use Rattle.lapd_tei.specs.Events as teis
 use Rattle.lapd_tei.specs.Laws as tei_laws
 use Rattle.lapd_tei.proofs.LawLemmas as tei_lemmas
-use Rattle.model_link.specs.Events as link
 use Rattle.model_link.specs.Link.{fresh}
-use Rattle.model_link.specs.Machine as links
-use Rattle.model_line.specs.Effect.{of_link}
 use Rattle.model_line.specs.Machine.{after}
 use Rattle.model_line.specs.Sound.{IsSound}
 use Rattle.laws_line.proofs.Readings as read

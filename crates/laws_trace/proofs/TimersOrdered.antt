@@ -1,12 +1,12 @@
 -- What is ordered of the timers of a link is what is due: the law.
-use Rattle.laws_trace.proofs.Vocabulary.{◌≡◌, ℕ, ◌+◌, ◌<◌, ◌==◌, ◌&&◌, ◌||◌, not, Bool, true, false, cond, List, [], ◌∷◌, ◌++◌, refl, sym, ap, ◌∙◌, subst, ⊎_elim, eq-eqb, true≢false, and_parts, is_some, fold, fold-append, nat_lt, All-nil, All-cons, All-append, Service, Order, Timer, LinkTimer, obeyed, Config, hears, expiry, request, next, Answer, orders_in, state_of, IsInRange, timer_of, is_needed, left_by, Card, line_at, at, moments, runs_at_callers}
+use Rattle.laws_trace.proofs.Vocabulary.{◌≡◌, ℕ, ◌+◌, ◌<◌, ◌==◌, ◌&&◌, ◌||◌, not, Bool, true, false, cond, List, [], ◌∷◌, ◌++◌, refl, sym, ap, ◌∙◌, subst, ⊎_elim, eq-eqb, true≢false, and_parts, is_some, fold, fold-append, nat_lt, All-nil, All-cons, All-append, Service, Order, Timer, LinkTimer, obeyed, Config, hears, expiry, request, next, orders_in, IsInRange, timer_of, is_needed, left_by, Card, line_at, at, moments, runs_at_callers}
 use Rattle.std.proofs.Common.{eqb-true}
 use Rattle.lapd_frame.specs.declared.timers.Timer.TheVariants as timers
 use Rattle.model_link.specs.declared.timers.LinkTimer.TheVariants.{T200, T203}
 use Rattle.model_line.specs.Event as line_event
 use Rattle.model_card.specs.Card.{fresh}
 use Rattle.model_card.specs.Event.{Event}
-use Rattle.model_card.specs.Machine.{after, answer}
+use Rattle.model_card.specs.Machine.{after}
 use Rattle.model_card.specs.Run.{Moment, after_all, IsAtLine, AreAtLines}
 use Rattle.laws_line.specs.Timers.{runs_then}
 use Rattle.laws_line.specs.card.Timers.{one_more}
@@ -18,7 +18,7 @@ use Rattle.laws_trace.specs.TimersAreTimely.{TimersAreTimely}
 use Rattle.laws_trace.specs.Trace.{is_own, Always}
 use Rattle.laws_trace.proofs.ObservedExpiries.{IsNoMore, same, zero, either, no-more, enquired, t200-enters}
 use Rattle.laws_trace.proofs.ObservedLaws.{known-now, on-line-now, timers-run-so, started-so, moved_or_renewed}
-use Rattle.laws_trace.proofs.OrdersOfLink.{its_orders, order_by}
+use Rattle.laws_trace.proofs.OrdersOfLink.{order_by}
 use Rattle.laws_trace.proofs.TimersAreTimely.{config-now, sound-now, timely-now, true-now, callers-run, own-ordered}
 use Rattle.laws_trace.proofs.WaitedBegins.{moments-both, after-both}
 

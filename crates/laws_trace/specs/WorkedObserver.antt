@@ -1,16 +1,20 @@
 -- Worked values: what an observer knows of a link, which timers run, and when they are started; and what breaks the laws.
-use Rattle.std.specs.Prelude.{◌≡◌, ℕ, ◌*◌, ◌&&◌, ◌||◌, not, Bool, true, false, List, [], ◌∷◌, ◌++◌, refl}
+use Rattle.std.specs.Prelude.{◌≡◌, ℕ, ◌*◌, Bool, true, false, List, [], ◌∷◌, ◌++◌, refl}
 use Rattle.model_bits.specs.Stream as stream
 use Rattle.lapd_frame.specs.declared.services.Service.TheVariants.{Call}
+use Rattle.lapd_frame.specs.declared.timers.Order.{Order}
+use Rattle.lapd_frame.specs.declared.timers.Order.TheVariants.{Start, Stop}
+use Rattle.lapd_frame.specs.declared.timers.Timer.{Timer}
 use Rattle.lapd_frame.specs.declared.timers.Timer.TheVariants as timers
 use Rattle.lapd_frame.specs.Reading.{reading, header_of, control_of, unnumbered_of, supervisory_of}
 use Rattle.lapd_seq.specs.Circle.{named, distance_of}
 use Rattle.lapd_seq.specs.Numbers.{seq}
 use Rattle.lapd_tei.specs.Events as teis
+use Rattle.model_link.specs.declared.timers.LinkTimer.{LinkTimer}
 use Rattle.model_link.specs.declared.timers.LinkTimer.TheVariants.{T200, T203}
 use Rattle.laws_link.specs.Timed.{obeyed}
 use Rattle.model_line.specs.Event as line_event
-use Rattle.model_line.specs.Event.{hears, expiry}
+use Rattle.model_line.specs.Event.{hears, expiry, request}
 use Rattle.model_line.specs.Laws.{orders_in}
 use Rattle.model_line.specs.Machine as lines
 use Rattle.model_line.specs.Request.{Assign, Remove, Establish, Data, Deactivate}
@@ -22,7 +26,7 @@ use Rattle.laws_line.specs.card.Timers.{runs_at_callers}
 use Rattle.laws_line.specs.card.Worked.{usual, on_0, up}
 use Rattle.laws_trace.specs.FramesAreDue.{may_go}
 use Rattle.laws_trace.specs.Observer.{Observed, in_state, awaits, by_heard, by_t200, by_expiry, view_of}
-use Rattle.laws_trace.specs.TimersAreTimely.{is_anew}
+use Rattle.laws_trace.specs.TimersAreTimely.{order_due}
 use Rattle.laws_trace.specs.WorkedUnits.{calls, comes}
 
 abbrev pub link_after : List Event → Observed
@@ -126,17 +130,30 @@ rr number = hears (stream.frame (0x02 ∷ 0x81 ∷ 0x01 ∷ 2 * number ∷ []))
 abbrev unit_data : line_event.Event
 unit_data = hears (stream.frame (0x00 ∷ 0x81 ∷ 0x03 ∷ 0xAB ∷ []))
 
-forgotten : false ≡ (true && (not true || is_anew usual Call 64 T200 two_out two_out (rr 1))) → ⊥
+abbrev due_of : LinkTimer → Timer → Observed → line_event.Event → List Order
+due_of timer its o what = order_due usual Call 64 o o what timer its
+
+forgotten : [] ≡ due_of T200 (timers.T200 Call 64) two_out (rr 1) → ⊥
 unfolding seq reading header_of control_of unnumbered_of supervisory_of
 forgotten e = cc e
 
-by_unit_data : true ≡ (true && (not true || is_anew usual Call 64 T203 (in_state 7) (in_state 7) unit_data)) → ⊥
+by_unit_data : Start (timers.T203 Call 64) ∷ [] ≡ due_of T203 (timers.T203 Call 64) (in_state 7) unit_data → ⊥
 unfolding seq reading header_of control_of unnumbered_of supervisory_of
 by_unit_data e = cc e
 
-by_nothing_new : true ≡ (true && (not true || is_anew usual Call 64 T200 two_out two_out (rr 0))) → ⊥
+by_nothing_new : Start (timers.T200 Call 64) ∷ [] ≡ due_of T200 (timers.T200 Call 64) two_out (rr 0) → ⊥
 unfolding seq reading header_of control_of unnumbered_of supervisory_of
 by_nothing_new e = cc e
+
+-- As layer 3 establishes a link T200 is started, and T203, which did not run, is not stopped; and as it is deactivated T200 is.
+establishing : order_due usual Call 64 (in_state 4) (in_state 5) (request (Establish Call 64)) T200 (timers.T200 Call 64) ≡ Start (timers.T200 Call 64) ∷ []
+establishing = refl
+
+in_vain : Stop (timers.T203 Call 64) ∷ [] ≡ order_due usual Call 64 (in_state 4) (in_state 5) (request (Establish Call 64)) T203 (timers.T203 Call 64) → ⊥
+in_vain e = cc e
+
+deactivated : order_due usual Call 64 (in_state 5) (in_state 4) (request (Deactivate Call 64)) T200 (timers.T200 Call 64) ≡ Stop (timers.T200 Call 64) ∷ []
+deactivated = refl
 
 -- Where no answer ordered T200, though two I-frames are not acknowledged, that the timers run is broken.
 never_started : runs_at_callers 0 (timers.T200 Call 64) false [] ≡ awaits two_out → ⊥

@@ -1,5 +1,5 @@
 -- What each event makes of the contents of a link, of V(A) and of V(S).
-use Rattle.laws_link.proofs.Vocabulary.{◌≡◌, ℕ, ◌+◌, ◌≤◌, Bool, true, false, cond, List, [], ◌∷◌, ◌++◌, length, take, drop, Option, Some, None, is_some, refl, ◌⊎◌, inl, inr, sym, ap, ◌∙◌, subst, true≢false, arith, length-take-le, append-nil, drop-drop, add-zero, ⊎_elim, All, nat_lt, nat_le, option_map_or, drop_all, drop-append-le, All-head, Control, Ui, ErrorCode, Refusal, WrongState, State, TeiAssigned, AwaitingEstablishment, AwaitingRelease, Established, TimerRecovery, LinkTimer, T200, T203, ControlFrame, Terms, Link, is_multiple_frame, IsSettledIn, IsSound, IsWaitingFrame, Course, begun, Step, ◌then◌, nothing, changed, Leads, nothing_leads, number_of, acknowledged_by, contents_of, is_release, tells_loss, Share, share, left_by, with_share, in_ui_frame, within, unit_due, one, is_i_frame, i_frames, begin_anew, deliver_unit, leave_unserved, pending_is, start, unit_data, give_information, give_waiting, is_awaiting_acknowledgement, may_send_information, offer_among, send_acknowledgement, with_one_sent, course, expired_in, expired_step, frame_in, frame_step, given_of, is_running, malformed_in, told_of_clearing}
+use Rattle.laws_link.proofs.Vocabulary.{◌≡◌, ℕ, ◌+◌, ◌≤◌, Bool, true, false, cond, List, [], ◌∷◌, ◌++◌, length, take, drop, Option, Some, None, is_some, refl, ◌⊎◌, inl, inr, sym, ap, ◌∙◌, subst, true≢false, arith, length-take-le, append-nil, drop-drop, add-zero, ⊎_elim, All, nat_lt, nat_le, option_map_or, drop_all, drop-append-le, All-head, Control, Ui, ErrorCode, Refusal, WrongState, State, TeiAssigned, AwaitingEstablishment, AwaitingRelease, Established, TimerRecovery, LinkTimer, T200, T203, ControlFrame, Terms, Link, is_multiple_frame, IsSettledIn, IsSound, IsWaitingFrame, Course, begun, Step, ◌then◌, nothing, changed, Leads, nothing_leads, number_of, acknowledged_by, contents_of, is_release, tells_loss, Share, share, left_by, with_share, in_ui_frame, within, unit_due, one, is_i_frame, i_frames, begin_anew, deliver_unit, leave_unserved, pending_is, start, unit_data, give_information, give_waiting, is_awaiting_acknowledgement, may_send_information, offer_among, send_acknowledgement, with_one_sent, course, expired_in, expired_step, frame_in, frame_step, given_of, is_running, malformed_in, told_of_clearing, both_ways}
 use Rattle.model_link.specs.Events
 use Rattle.model_link.specs.Requests
 use Rattle.laws_link.proofs.Queueing.{On, words}
@@ -221,10 +221,6 @@ module _ (t : Terms) (l : Link) (h : IsSound t l) where
       → Led (row c.zeroed (tells_loss c.notes) 0) n c
   gives c n e e' e'' q on = record { comes = leaves c.link.contents c.link.a (tells_loss c.notes) c.zeroed e e' q on; follows = inl e'' }
 
-  choose : (Q : Course → Type 0) (b : Bool) (u v : Course) → Q u → Q v → Q (cond b u v)
-  choose Q true u v x y = x
-  choose Q false u v x y = y
-
   abbrev Gives : Course → Type 0
   Gives c = Led (row c.zeroed (tells_loss c.notes) 0) (given-in c) c
 
@@ -234,9 +230,9 @@ module _ (t : Terms) (l : Link) (h : IsSound t l) where
       subst (λ b. Led (row false false 0) (one b) (give_waiting f fs (begun l))) (sym bare) (gives (give_waiting f fs (begun l)) 0 refl refl (sym (add-zero l.s)) refl refl)
   offers [] frames =
       let one_more = (give_information then changed with_one_sent then pending_is false) (begun l) in
-      choose Gives (may_send_information t l) _ _
-      (choose Gives (is_awaiting_acknowledgement one_more.link) one_more (start T200 one_more) (gives one_more 1 refl refl refl refl refl) (gives (start T200 one_more) 1 refl refl refl refl refl))
-      (choose Gives l.pending _ _ (gives (send_acknowledgement (begun l)) 0 refl refl (sym (add-zero l.s)) refl refl) (gives (begun l) 0 refl refl (sym (add-zero l.s)) refl refl))
+      both_ways Gives (may_send_information t l) _ _
+      (both_ways Gives (is_awaiting_acknowledgement one_more.link) one_more (start T200 one_more) (gives one_more 1 refl refl refl refl refl) (gives (start T200 one_more) 1 refl refl refl refl refl))
+      (both_ways Gives l.pending _ _ (gives (send_acknowledgement (begun l)) 0 refl refl (sym (add-zero l.s)) refl refl) (gives (begun l) 0 refl refl (sym (add-zero l.s)) refl refl))
 
   -- The TEI leaves the line.
   clears : (here : State) → let c = begin_anew (told_of_clearing here t (begun l)) in
@@ -246,7 +242,7 @@ module _ (t : Terms) (l : Link) (h : IsSound t l) where
 
   -- A UI, in every state.
   unit-led : (octets : List ℕ) → let c = unit_data t octets (begun l) in Led (row c.zeroed (tells_loss c.notes) 0) 0 c
-  unit-led octets = choose (λ c. Led (row c.zeroed (tells_loss c.notes) 0) 0 c) (nat_lt t.n201 (length octets)) _ _
+  unit-led octets = both_ways (λ c. Led (row c.zeroed (tells_loss c.notes) 0) 0 c) (nat_lt t.n201 (length octets)) _ _
       (gives (leave_unserved (begun l)) 0 refl refl (sym (add-zero l.s)) refl refl)
       (gives (deliver_unit t octets (begun l)) 0 refl refl (sym (add-zero l.s)) refl refl)
 
@@ -325,9 +321,9 @@ module _ (t : Terms) (l : Link) (h : IsSound t l) where
   unit-offered (f ∷ fs) = refl
   unit-offered [] =
       let one_more = (give_information then changed with_one_sent then pending_is false) (begun l) in
-      choose (λ c. c.unit ≡ None) (may_send_information t l) _ _
-      (choose (λ c. c.unit ≡ None) (is_awaiting_acknowledgement one_more.link) one_more (start T200 one_more) refl refl)
-      (choose (λ c. c.unit ≡ None) l.pending _ _ refl refl)
+      both_ways (λ c. c.unit ≡ None) (may_send_information t l) _ _
+      (both_ways (λ c. c.unit ≡ None) (is_awaiting_acknowledgement one_more.link) one_more (start T200 one_more) refl refl)
+      (both_ways (λ c. c.unit ≡ None) l.pending _ _ refl refl)
 
   unit-cleared : (here : State) → (told_of_clearing here t (begun l)).unit ≡ None
   unit-cleared TeiAssigned = refl

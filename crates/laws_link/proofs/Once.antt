@@ -1,5 +1,5 @@
 -- What is due is delivered, and is noted once.
-use Rattle.laws_link.proofs.Vocabulary.{◌≡◌, ℕ, ◌≤◌, Bool, true, false, cond, ◌||◌, List, [], ◌∷◌, length, Option, Some, None, is_some, option_to_list, refl, sym, ap, ◌∙◌, subst, inl, inr, arith, count_by, nat_lt, nat_le, list_any, or_parts, sum_by-cons, sum_by_push, none-some, Seq, named, Control, Information, Ui, Note, State, TeiAssigned, Established, TimerRecovery, Terms, Arrived, information_of, eligible_of, eligible, MayEstablish, restarts, Link, is_peer_busy, is_rejecting, is_data, is_unit, IsSound, Course, begun, Step, ◌then◌, delivery, event-delivers, event-tells, in_i_frame, in_ui_frame, contents_heard, unit_heard, within, in_sequence, data_due, IsNotedOnce, ErrorCode, acknowledged_by_information_in_7, is_all_sent, is_beyond_acknowledged, Event, frame, received, course, frame_in, frame_step, told, acknowledge, by_number, error, re_establish}
+use Rattle.laws_link.proofs.Vocabulary.{◌≡◌, ℕ, ◌≤◌, Bool, true, false, cond, ◌||◌, List, [], ◌∷◌, length, Option, Some, None, is_some, option_to_list, refl, sym, ap, ◌∙◌, subst, inl, inr, arith, count_by, nat_lt, nat_le, list_any, or_parts, sum_by-cons, sum_by_push, none-some, Seq, named, Control, Information, Ui, Note, State, TeiAssigned, Established, TimerRecovery, Terms, Arrived, information_of, eligible_of, eligible, MayEstablish, restarts, Link, is_peer_busy, is_rejecting, is_data, is_unit, IsSound, Course, begun, Step, ◌then◌, delivery, event-delivers, event-tells, in_i_frame, in_ui_frame, contents_heard, unit_heard, within, in_sequence, data_due, IsNotedOnce, ErrorCode, acknowledged_by_information_in_7, is_all_sent, is_beyond_acknowledged, Event, frame, received, course, frame_in, frame_step, told, acknowledge, by_number, error, re_establish, both_ways}
 use Rattle.model_link.specs.MultipleFrame
 use Rattle.laws_link.proofs.Restarts.{establishes}
 use Rattle.laws_link.proofs.Delivered.{delivered-was-heard}
@@ -64,10 +64,6 @@ module _ (t : Terms) (l : Link) where
   abbrev AtMostOne : Course → Type 0
   AtMostOne c = count_by is_data c.notes ≤ 1
 
-  choose : (Q : Course → Type 0) (b : Bool) (u v : Course) → Q u → Q v → Q (cond b u v)
-  choose Q true u v x y = x
-  choose Q false u v x y = y
-
   by-number : (nr : Seq) (f : ℕ → Step) → ((n : ℕ) (c : Course) → (f n c).notes ≡ c.notes) → (c : Course) → AtMostOne c → AtMostOne (by_number t nr f c)
   by-number nr f keeps c few = go (named c.link.a c.link.s nr)
     where
@@ -77,19 +73,19 @@ module _ (t : Terms) (l : Link) where
 
   contents : (ns : Seq) (p : Bool) (octets : List ℕ) → AtMostOne (MultipleFrame.contents_in_7_8 t ns p octets (begun l))
   contents ns p octets =
-      choose AtMostOne l.own_busy _ _ (choose AtMostOne p _ _ (omega arith) (omega arith))
-      (choose AtMostOne (MultipleFrame.is_next ns l) _ _ (choose AtMostOne p _ _ (omega arith) (omega arith))
-      (choose AtMostOne (is_rejecting l) _ _ (choose AtMostOne p _ _ (omega arith) (omega arith)) (omega arith)))
+      both_ways AtMostOne l.own_busy _ _ (both_ways AtMostOne p _ _ (omega arith) (omega arith))
+      (both_ways AtMostOne (MultipleFrame.is_next ns l) _ _ (both_ways AtMostOne p _ _ (omega arith) (omega arith))
+      (both_ways AtMostOne (is_rejecting l) _ _ (both_ways AtMostOne p _ _ (omega arith) (omega arith)) (omega arith)))
 
   information : (ns nr : Seq) (p : Bool) (octets : List ℕ) (f : ℕ → Step) → ((n : ℕ) (c : Course) → (f n c).notes ≡ c.notes)
       → AtMostOne (MultipleFrame.information_in_7_8 t ns nr p octets f (begun l))
   information ns nr p octets f keeps =
-      choose AtMostOne (nat_lt t.n201 (length octets)) _ _ (omega arith) (by-number nr f keeps (MultipleFrame.contents_in_7_8 t ns p octets (begun l)) (contents ns p octets))
+      both_ways AtMostOne (nat_lt t.n201 (length octets)) _ _ (omega arith) (by-number nr f keeps (MultipleFrame.contents_in_7_8 t ns p octets (begun l)) (contents ns p octets))
 
   keeps-in-7 : (n : ℕ) (c : Course) → (acknowledged_by_information_in_7 n c).notes ≡ c.notes
   keeps-in-7 n c =
-      choose (λ d. d.notes ≡ c.notes) (is_peer_busy c.link) _ _ refl
-      (choose (λ d. d.notes ≡ c.notes) (is_all_sent n c.link) _ _ refl (choose (λ d. d.notes ≡ c.notes) (is_beyond_acknowledged n c.link) _ _ refl refl))
+      both_ways (λ d. d.notes ≡ c.notes) (is_peer_busy c.link) _ _ refl
+      (both_ways (λ d. d.notes ≡ c.notes) (is_all_sent n c.link) _ _ refl (both_ways (λ d. d.notes ≡ c.notes) (is_beyond_acknowledged n c.link) _ _ refl refl))
 
   i-frame : (here : State) (b : Bool) (octets : List ℕ) (ns nr : Seq) (p : Bool) → AtMostOne (frame_in here t b octets (Information ns nr p) (begun l))
   i-frame Established b octets ns nr p = information ns nr p octets acknowledged_by_information_in_7 keeps-in-7
@@ -108,8 +104,8 @@ module _ (t : Terms) (l : Link) where
   OneUnit c = count_by is_unit c.notes ≤ 1
 
   ui-frame : (here : State) (b : Bool) (octets : List ℕ) (p : Bool) → OneUnit (frame_in here t b octets (Ui p) (begun l))
-  ui-frame TeiAssigned b octets p = choose OneUnit (nat_lt t.n201 (length octets)) _ _ (omega arith) (omega arith)
-  ui-frame other b octets p = choose OneUnit (nat_lt t.n201 (length octets)) _ _ (omega arith) (omega arith)
+  ui-frame TeiAssigned b octets p = both_ways OneUnit (nat_lt t.n201 (length octets)) _ _ (omega arith) (omega arith)
+  ui-frame other b octets p = both_ways OneUnit (nat_lt t.n201 (length octets)) _ _ (omega arith) (omega arith)
 
   unit-frame : (b : Bool) (octets : List ℕ) (control : Control) (contents : List ℕ) → in_ui_frame control octets ≡ Some contents → OneUnit (frame_step t b octets control (begun l))
   unit-frame b octets (Ui p) contents h = ui-frame l.state b octets p

@@ -1,5 +1,5 @@
 -- What each row of the tables makes of the contents of a link, of V(A) and of V(S).
-use Rattle.laws_link.proofs.Vocabulary.{◌≡◌, ℕ, ◌-◌, ◌≤◌, Bool, true, false, cond, not, ◌==◌, List, [], length, take, drop, length-take-le, Option, Some, None, IsTrue, true≢false, refl, ◌⊎◌, inl, inr, sym, ap, ◌∙◌, arith, nat_lt, option_map_or, ltb-false, drop_all, take_all, Seq, named, Control, Information, ReceiveReady, ReceiveNotReady, Reject, Sabme, Disc, Ui, Ua, Dm, Frmr, Xid, ErrorCode, Established, LinkTimer, T200, T203, Terms, Link, has_outstanding, is_peer_busy, Course, begun, Step, ◌then◌, by_bit, frame_in_4, release_in_4, establish_in_4, Leads, keeping_then, depending_leads, bit_leads, tested_leads, from_more, eqb-true, beyond, number_of, acknowledge, by_number, clear_flags, command, discard, enquire, enter, error, establish_confirm, establish_indication, repeated, response, send, start, zero_numbers, clear_busy_in_7_8, contents_in_7_8, failed, set_busy_in_7_8}
+use Rattle.laws_link.proofs.Vocabulary.{◌≡◌, ℕ, ◌-◌, ◌≤◌, Bool, true, false, cond, not, ◌==◌, List, [], length, take, drop, length-take-le, Option, Some, None, IsTrue, true≢false, refl, ◌⊎◌, inl, inr, sym, ap, ◌∙◌, arith, nat_lt, option_map_or, ltb-false, drop_all, take_all, Seq, named, Control, Information, ReceiveReady, ReceiveNotReady, Reject, Sabme, Disc, Ui, Ua, Dm, Frmr, Xid, ErrorCode, Established, LinkTimer, T200, T203, Terms, Link, has_outstanding, is_peer_busy, Course, begun, Step, ◌then◌, by_bit, frame_in_4, release_in_4, establish_in_4, Leads, keeping_then, depending_leads, bit_leads, tested_leads, from_more, eqb-true, beyond, number_of, acknowledge, by_number, clear_flags, command, discard, enquire, enter, error, establish_confirm, establish_indication, repeated, response, send, start, zero_numbers, clear_busy_in_7_8, contents_in_7_8, failed, set_busy_in_7_8, both_ways}
 use Rattle.model_link.specs.AwaitingEstablishment
 use Rattle.model_link.specs.AwaitingRelease
 use Rattle.model_link.specs.Established
@@ -29,10 +29,6 @@ module _ (t : Terms) (l : Link) (ordered : l.a ≤ l.s) (most : l.s ≤ length l
 
   pub still : (f : Step) → Leads (On Stay) f (On Stay) → On (Move 0) (f (begun l))
   still f x = stays l.contents l.a l.s ordered most (f (begun l)) (x.leads (begun l) begins)
-
-  either : {n : ℕ} (b : Bool) (u v : Course) → On (Move n) u → On (Move n) v → On (Move n) (cond b u v)
-  either true u v x y = x
-  either false u v x y = y
 
   -- Nothing is kept where as many contents are acknowledged as there are.
   none-left : length l.contents ≡ l.a → drop l.s l.contents ≡ []
@@ -91,7 +87,7 @@ module _ (t : Terms) (l : Link) (ordered : l.a ≤ l.s) (most : l.s ≤ length l
   pub t200_in_5 : On (Move 0) (AwaitingEstablishment.t200_in_5 t (begun l))
   t200_in_5 =
       let again : Leads (On Stay) (send t (command (Sabme true)) then repeated then start T200) (On Stay) = search words in
-      either (nat_lt l.repeats t.n200) _ _ (still (send t (command (Sabme true)) then repeated then start T200) again)
+      both_ways (On (Move 0)) (nat_lt l.repeats t.n200) _ _ (still (send t (command (Sabme true)) then repeated then start T200) again)
       (inr (inl (record { contents = refl; acknowledged = refl; sent = refl; told = refl; goes_on = refl; no_unit = refl })))
 
   -- State 6.
@@ -106,7 +102,7 @@ module _ (t : Terms) (l : Link) (ordered : l.a ≤ l.s) (most : l.s ≤ length l
   pub t200_in_6 : length l.contents ≡ l.a → On (Move 0) (AwaitingRelease.t200_in_6 t (begun l))
   t200_in_6 none =
       let again : Leads (On Stay) (send t (command (Disc true)) then repeated then start T200) (On Stay) = search words in
-      either (nat_lt l.repeats t.n200) _ _ (still (send t (command (Disc true)) then repeated then start T200) again)
+      both_ways (On (Move 0)) (nat_lt l.repeats t.n200) _ _ (still (send t (command (Disc true)) then repeated then start T200) again)
       (inr (inl (record { contents = all-taken none; acknowledged = refl; sent = omega (arith, ordered, most, none); told = refl; goes_on = refl; no_unit = refl })))
 
   -- States 7 and 8.
@@ -215,7 +211,7 @@ module _ (t : Terms) (l : Link) (ordered : l.a ≤ l.s) (most : l.s ≤ length l
   pub t200_in_8 : On (Move 0) (TimerRecovery.t200_in_8 t (begun l))
   t200_in_8 =
       let again : Leads (On Stay) (enquire t then repeated then start T200) (On Stay) = search words in
-      either (nat_lt l.repeats t.n200) _ _ (still (enquire t then repeated then start T200) again) (failed_moves ErrorCode.I)
+      both_ways (On (Move 0)) (nat_lt l.repeats t.n200) _ _ (still (enquire t then repeated then start T200) again) (failed_moves ErrorCode.I)
 
   -- Requests of layer 3.
   pub set_busy : On (Move 0) (set_busy_in_7_8 t (begun l))

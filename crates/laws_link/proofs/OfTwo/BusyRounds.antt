@@ -265,14 +265,4 @@ pub paired-shapes : (n m : End) (a s a' s' : ℕ) (busy p : Bool) (running runni
     → a' ≤ n.link.r → n.link.r ≤ s' → All (λ octets. length octets ≤ n.terms.n201) m.link.contents
     → Paired busy n.link.r n.delivered n.link.contents m.link.contents (in_7_with true false n [] a s false running n.delivered) (in_7_with false busy m [] a' s' p running' ds)
 paired-shapes n m a s a' s' busy p running running' ds rn rm sn sm at there owed sizes low high sizes' =
-    record {
-      itself = record { ranges = rn; sound = sn; state = refl; peer_busy = refl; own_busy = refl; waiting = refl; way = refl };
-      other = record { ranges = rm; sound = sm; state = refl; own_busy = refl; waiting = refl; way = refl };
-      taken = record { received = at; delivered = there ∙ ap (λ i. take i n.link.contents) (sym at); owed = owed; sizes = sizes };
-      dropped = record { low = low; high = high; sizes = sizes' };
-      taken_for = refl;
-      received = refl;
-      delivered = refl;
-      kept_n = refl;
-      kept_m = refl;
-    }
+    search (there ∙ ap (λ i. take i n.link.contents) (sym at)) parts 3

@@ -3,38 +3,11 @@
 use Rattle.laws_link.proofs.Vocabulary.{◌≡◌, Bool, true, ◌&&◌, List, [], ◌∷◌, refl, arith, and_parts, seq, distance_of, named, supervisory_of, unnumbered_of, control_of, header_of, reading, fresh, is_multiple_frame, offer, after_all, IsInRange, Ends, Doing, doing, Begins, StayUp, sound-fresh, sound-all, usual, sabme, both, mended}
 
 in-range : IsInRange usual
-in-range =
-    record {
-      tei = omega arith;
-      k_low = omega arith;
-      k_high = omega arith;
-      n201_low = omega arith;
-      n201_high = omega arith;
-      n200 = omega arith;
-      queue_low = omega arith;
-      queue_high = omega arith;
-      control_low = omega arith;
-      control_high = omega arith;
-    }
+in-range = search arith
 
 pub begins : Begins both.near
 unfolding seq distance_of named reading header_of control_of unnumbered_of supervisory_of after_all
-begins =
-    record {
-      ranges = in-range;
-      sound = sound-all usual in-range (sabme ∷ offer ∷ []) fresh (sound-fresh usual in-range);
-      state = refl;
-      a = refl;
-      s = refl;
-      r = refl;
-      peer_busy = refl;
-      own_busy = refl;
-      rejecting = refl;
-      pending = refl;
-      waiting = refl;
-      way = refl;
-      delivered = refl;
-    }
+begins = search (in-range, sound-all usual in-range (sabme ∷ offer ∷ []) fresh (sound-fresh usual in-range))
 
 are_up : Ends → Bool
 are_up e = is_multiple_frame e.near.link.state && is_multiple_frame e.far.link.state

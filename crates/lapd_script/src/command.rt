@@ -5,7 +5,7 @@ use lapd_transcript::CounterGroup;
 use model_line::{Config, Fault};
 
 /// What layer 3 asks for, in a line that names a card's line and a TEI.
-#[derive(Clone, Copy, PartialEq, Eq, Debug)]
+#[derive(Clone, Copy)]
 pub enum Asked {
     /// `assign`: puts the TEI on the line.
     Assign,
@@ -30,7 +30,7 @@ pub enum Asked {
 }
 
 /// What goes between a card and its lines.
-#[derive(Clone, Copy, PartialEq, Eq, Debug)]
+#[derive(Clone, Copy, PartialEq)]
 pub enum CardKind {
     /// `card`: octets, one after the other.
     Octets,
@@ -39,7 +39,7 @@ pub enum CardKind {
 }
 
 /// What a line of a script says. A line of the card is its number, from 0.
-#[derive(Clone, Copy, PartialEq, Eq, Debug)]
+#[derive(Clone, Copy)]
 pub enum Command {
     /// Nothing: the line is empty, or begins with `#`.
     Skip,

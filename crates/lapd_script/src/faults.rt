@@ -7,7 +7,7 @@ ghost use Rattle.lapd_script.specs.declared.faults.PlayFault.TheVariants as play
 
 use crate::kind::FaultKind;
 use lapd_transcript::WriteFailed;
-use std::alloc::{AllocError, AllocFailed};
+use std::alloc::AllocError;
 use thiserror::Error;
 
 /// Why a script was not played to its end.
@@ -36,7 +36,7 @@ impl From<AllocError> for PlayFault {
 }
 
 /// What stopped a line.
-#[derive(Clone, Copy, PartialEq, Eq, Debug)]
+#[derive(Clone, Copy)]
 pub enum LineFault {
     /// The line is faulty.
     Faulty(FaultKind),
@@ -74,14 +74,6 @@ impl From<WriteFailed> for LineFault {
 
     fn from(_error: WriteFailed) -> LineFault {
         LineFault::Write
-    }
-}
-
-impl<T: Drop> From<AllocFailed<T>> for LineFault {
-    ghost from_gives = { λ _ fault. fault ≡ line.OutOfMemory };
-
-    fn from(_error: AllocFailed<T>) -> LineFault {
-        LineFault::OutOfMemory
     }
 }
 

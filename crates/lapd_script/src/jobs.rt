@@ -4,7 +4,7 @@ ghost use Rattle.std.specs.Prelude.{◌≡◌, ◌≤◌};
 ghost use Rattle.lapd_script.specs.Bound.{bound};
 
 /// The numbers of `limits`, in the ranges that a card line has for them.
-#[derive(Clone, Copy, PartialEq, Eq, Debug)]
+#[derive(Clone, Copy)]
 pub struct Limits {
     /// The lines of the card.
     pub lines: u32,
@@ -24,7 +24,7 @@ pub struct Limits {
 }
 
 /// What the program is to do.
-#[derive(Clone, Copy, PartialEq, Eq, Debug)]
+#[derive(Clone, Copy)]
 pub enum Job<'a> {
     /// `run`: play a script.
     Run,

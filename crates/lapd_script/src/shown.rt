@@ -17,7 +17,7 @@ use lapd_transcript::{
 use std::alloc::{AllocError, Global};
 
 /// Why a frame is not shown.
-#[derive(Clone, Copy, PartialEq, Eq, Debug)]
+#[derive(Clone, Copy)]
 pub enum FrameFault {
     /// The word is no even number of hexadecimal digits.
     BadOctets,

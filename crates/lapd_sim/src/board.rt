@@ -8,7 +8,7 @@ ghost use Rattle.lapd_sim.specs.machine.Steps.{held, is_on_line};
 ghost use Rattle.lapd_count.specs.Counters.{none_counted};
 ghost use Rattle.lapd_line.specs.Reports.{report_told};
 
-use lapd_card::{Card, CardFault, Config, Counters, FrameCard, Report, Request};
+use lapd_card::{Card, Config, Counters, FrameCard, Report, Request};
 use lapd_frame::{Refusal, Service, Timer};
 use lapd_script::{CardKind, FaultKind, LineFault};
 use lapd_store::RawShelf;
@@ -47,12 +47,10 @@ impl Board {
         match plan.kind {
             CardKind::Octets => match Card::start(alloc, config, shelf) {
                 Ok(card) => Ok(Board::Octets(card)),
-                Err(CardFault::BadConfig(_)) => Err(LineFault::Faulty(FaultKind::BadCard)),
                 Err(_) => Err(LineFault::OutOfMemory),
             },
             CardKind::Frames => match FrameCard::start(alloc, config, shelf) {
                 Ok(card) => Ok(Board::Frames(card)),
-                Err(CardFault::BadConfig(_)) => Err(LineFault::Faulty(FaultKind::BadCard)),
                 Err(_) => Err(LineFault::OutOfMemory),
             },
         }

@@ -20,7 +20,7 @@ use lapd_frame::ErrorCode;
 use model_bits::Cause;
 
 /// Which counters of a line are shown.
-#[derive(Clone, Copy, PartialEq, Eq, Debug)]
+#[derive(Clone, Copy)]
 pub enum CounterGroup {
     /// All but those of messages.
     Line,

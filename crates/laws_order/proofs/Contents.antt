@@ -1,11 +1,8 @@
 -- An event that leaves a link in state 7 or 8 leaves its contents, and behind them those that it accepts.
-use Rattle.laws_order.proofs.Vocabulary.{◌≡◌, ℕ, Bool, cond, IsTrue, List, [], ◌++◌, Option, Some, None, is_some, refl, sym, ◌∙◌, true≢false, append-nil, Refusal, Parts, State, TeiAssigned, AwaitingEstablishment, AwaitingRelease, Established, TimerRecovery, LinkTimer, Terms, Release, SetBusy, ClearBusy, received, expired, requested, offer, Link, is_multiple_frame, course, Course, event-delivers, Up, still, set_busy_up, clear_busy_up, at-first, Means, offer-gave, frame-taken, none-delivered, accepted}
+use Rattle.laws_order.proofs.Vocabulary.{◌≡◌, ℕ, Bool, cond, IsTrue, List, [], ◌++◌, Option, Some, None, is_some, refl, sym, ◌∙◌, true≢false, append-nil, Refusal, Parts, State, Established, TimerRecovery, LinkTimer, Terms, Release, SetBusy, ClearBusy, received, expired, requested, offer, Link, is_multiple_frame, course, Course, event-delivers, Up, still, set_busy_up, clear_busy_up, at-first, Means, offer-gave, frame-taken, none-delivered, accepted, after, begun, contents_of}
 use Rattle.model_link.specs.Events.{Request, Establish, Data, frame}
-use Rattle.model_link.specs.Machine.{after}
 use Rattle.model_link.specs.Requests
 use Rattle.model_link.specs.Sound.{IsInRange, IsSound}
-use Rattle.model_link.specs.Steps.{begun}
-use Rattle.laws_link.specs.Accepted.{contents_of}
 use Rattle.laws_wire.proofs.Joint as joint
 
 module _ (t : Terms) (l : Link) where
@@ -17,11 +14,9 @@ module _ (t : Terms) (l : Link) where
 
   -- a request
   released : (here : State) → IsTrue (is_multiple_frame here) → IsTrue (is_multiple_frame (Requests.release_in here t (begun l)).link.state) → ⊥
-  released TeiAssigned was up = true≢false (sym was)
-  released AwaitingEstablishment was up = true≢false (sym was)
-  released AwaitingRelease was up = true≢false (sym was)
   released Established was up = true≢false (sym up)
   released TimerRecovery was up = true≢false (sym up)
+  released other was up = true≢false (sym was)
 
   granted : IsTrue (is_multiple_frame l.state) → (request : Request) → IsTrue (is_multiple_frame (Requests.granted t request (begun l)).link.state)
       → Grows (contents_of request) (Requests.granted t request (begun l))
@@ -48,9 +43,6 @@ module _ (t : Terms) (l : Link) where
   pub timer-same : IsTrue (is_multiple_frame l.state) → (timer : LinkTimer) → IsTrue (is_multiple_frame (after t (expired timer) l).state)
       → ((after t (expired timer) l).contents ≡ l.contents) × ((after t (expired timer) l).r ≡ l.r)
   timer-same was timer up = let x = joint.timer-goes t l was timer up in (x.same ∙ append-nil l.contents, x.received)
-
-  pub timer-delivers : (timer : LinkTimer) → (course t (expired timer) l).delivered ≡ None
-  timer-delivers timer = none-delivered t l (course t (expired timer) l) (event-delivers t l (expired timer))
 
   -- an offer
   pub offer-same : IsInRange t → IsSound t l → ((after t offer l).contents ≡ l.contents) × ((after t offer l).r ≡ l.r)

@@ -1,17 +1,14 @@
 -- What an event of a line is to the link of a service with a TEI that is in state 7 or 8.
-use Rattle.laws_order.proofs.Vocabulary.{◌≡◌, ℕ, ◌==◌, ◌&&◌, ◌||◌, not, Bool, true, false, cond, IsTrue, List, [], ◌∷◌, ◌++◌, Option, Some, None, Ok, refl, sym, ap, ◌∙◌, subst, eq-eqb, true≢false, ◌⊎◌, inl, inr, All, fold, is_some, option_to_list, unwrap_or, list_any, option_or, option_map_or, All-head, All-tail, Ui, Note, Service, Parts, reading, sapi_of, information_of, State, TeiAssigned, AwaitingEstablishment, AwaitingRelease, Established, TimerRecovery, Terms, Link, is_multiple_frame, address_at, Config, hears, expiry, request, next, Answer, heard_side, Line, link_in, link_of, place_in, terms, aim_of, refusal, accepted, is_up, is_up_in, notes_of, contents_in, up_by_note, link_is_up, is_up_of, of_link, is_granted, IsBy, timer_of, link-grants, not-refused, same-sapi, sapi-is, known-up, data_asked, is_for, frame_in, is_own, seen, is_ui, unless, granted-data, elsewhere, data-noted, no-data, frames_given, is_at_link, HasOne, IsForeign, HasNone, Goes, event-goes, read-again, frames_by}
+use Rattle.laws_order.proofs.Vocabulary.{◌≡◌, ℕ, ◌==◌, ◌&&◌, ◌||◌, not, Bool, true, false, cond, IsTrue, List, [], ◌∷◌, ◌++◌, Option, Some, None, Ok, refl, sym, ap, ◌∙◌, subst, eq-eqb, true≢false, ◌⊎◌, inl, inr, All, fold, is_some, option_to_list, unwrap_or, list_any, option_or, option_map_or, All-head, All-tail, Ui, Note, Service, Parts, reading, sapi_of, information_of, State, Established, TimerRecovery, Terms, Link, is_multiple_frame, address_at, Config, hears, expiry, request, next, Answer, heard_side, Line, link_in, link_of, place_in, terms, aim_of, refusal, accepted, is_up, is_up_in, notes_of, contents_in, up_by_note, link_is_up, is_up_of, of_link, is_granted, IsBy, timer_of, link-grants, not-refused, same-sapi, sapi-is, known-up, data_asked, is_for, frame_in, is_own, seen, is_ui, unless, granted-data, data-noted, no-data, frames_given, is_at_link, HasOne, IsForeign, HasNone, event-goes, read-again, frames_by, fresh, Event, is_of_link, of_link_in, data_noted, data_granted, ends_by_note, ends_by, of_link_on}
+use Rattle.laws_trace.proofs.DataAsked.{elsewhere}
 use Rattle.model_bits.specs.Stream as stream
 use Rattle.lapd_frame.specs.declared.notes.Note.TheVariants as notes
 use Rattle.model_link.specs.Events as link
-use Rattle.model_link.specs.Link.{fresh}
 use Rattle.model_link.specs.Machine as links
 use Rattle.model_link.specs.Requests as requests
-use Rattle.model_line.specs.Event.{Event}
 use Rattle.model_line.specs.Machine as lines
 use Rattle.model_line.specs.Request.{Data}
 use Rattle.model_line.specs.Sound as line_sound
-use Rattle.laws_order.specs.Happenings.{is_of_link, of_link_in}
-use Rattle.laws_order.specs.Order.{data_noted, data_granted, ends_by_note, ends_by, of_link_on}
 use Rattle.laws_order.proofs.LinkEnds.{or-true, Ended, own, Leaves, IsNoRelease, event-leaves, Fallen, undefined-falls, wrong-size-falls, overlong-falls, release-falls, unit-data-stays}
 use Rattle.laws_order.proofs.Shown.{fits, same-frames, noted-is, asked_in, granted-is, ends-is, request-ends}
 
@@ -47,11 +44,9 @@ module _ (service : Service) (tei : ℕ) where
 
   -- a link in state 7 or 8 is up, and one that begins is not
   state-up : (state : State) (k : Link) → is_multiple_frame state ≡ true → is_up_in state k ≡ true
-  state-up TeiAssigned k up = absurd (true≢false (sym up))
-  state-up AwaitingEstablishment k up = absurd (true≢false (sym up))
-  state-up AwaitingRelease k up = absurd (true≢false (sym up))
   state-up Established k up = refl
   state-up TimerRecovery k up = refl
+  state-up other k up = absurd (true≢false (sym up))
 
   was-up : (l : Line) (o : Option ℕ) → is_multiple_frame (option_map_or (link_in l service) o fresh).state ≡ true → option_map_or (link_is_up service l) o false ≡ true
   was-up l None up = absurd (true≢false (sym up))
@@ -103,11 +98,10 @@ module _ (c : Config) (service : Service) (tei : ℕ) where
   abbrev pub IsKind : Event → link.Event → Type 0
   IsKind e (link.received (link.frame f)) =
       (octets : List ℕ) × (e ≡ hears (stream.frame octets)) × (reading (heard_side c) octets ≡ Ok f) × (is_of_link service tei f ≡ true)
-  IsKind e (link.received other) = ⊥
   IsKind e (link.expired timer) = e ≡ expiry (timer_of service tei timer)
   IsKind e (link.requested asked full) = e ≡ request (of_link service tei asked)
   IsKind e link.offer = e ≡ next
-  IsKind e link.cleared = ⊥
+  IsKind e other = ⊥
 
   pub record Has (k k' : Link) (e : Event) (a : Answer) : Type 0 where
     pub event : link.Event
@@ -152,13 +146,10 @@ module _ (c : Config) (service : Service) (tei : ℕ) where
   comes-as e a (link.received link.wrong_size) by = is_malformed (inr (inl refl))
   comes-as e a (link.received link.overlong) by = is_malformed (inr (inr refl))
   comes-as e a (link.expired timer) by = is_plain by tt
-  comes-as e a (link.requested link.Establish full) by = is_plain by.0 tt
   comes-as e a (link.requested link.Release full) by = is_release full refl by.0 by.1
-  comes-as e a (link.requested (link.Data contents) full) by = is_plain by.0 tt
-  comes-as e a (link.requested link.SetBusy full) by = is_plain by.0 tt
-  comes-as e a (link.requested link.ClearBusy full) by = is_plain by.0 tt
   comes-as e a link.offer by = is_plain by tt
   comes-as e a link.cleared by = absurd by
+  comes-as e a other by = is_plain by.0 tt
 
   -- what is delivered is told
   by-delivered : (d u o : Option (List ℕ)) → o ≡ option_or d u → cond (is_some d) (option_to_list o) [] ≡ option_to_list d
@@ -177,14 +168,12 @@ module _ (c : Config) (service : Service) (tei : ℕ) where
 
     -- no event of the link
     asked-none : (e : Event) → is_at_link service tei (aim_of c e l) ≡ false → asked_in service tei e (lines.answer c e l) ≡ []
-    asked-none (hears what) away = refl
-    asked-none (expiry timer) away = refl
     asked-none (request r) away = go (is_granted (lines.answer c (request r) l)) refl
       where
         go : (b : Bool) → is_granted (lines.answer c (request r) l) ≡ b → cond b (data_asked service tei r) [] ≡ []
         go true g = elsewhere c l service tei r g away
         go false g = refl
-    asked-none next away = refl
+    asked-none other away = refl
 
     ended-does : k' ≡ fresh → Does k k' e a
     ended-does new = inl (
@@ -226,12 +215,8 @@ module _ (c : Config) (service : Service) (tei : ℕ) where
 
       granted-one : (ev : link.Event) → IsBy c e a service tei ev → IsKind e ev → asked_in service tei e a ≡ accepted Own ev k
       granted-one (link.received (link.frame f)) by kind = ap (λ e'. asked_in service tei e' a) kind.1
-      granted-one (link.received link.undefined) by kind = absurd kind
-      granted-one (link.received link.wrong_size) by kind = absurd kind
-      granted-one (link.received link.overlong) by kind = absurd kind
       granted-one (link.expired timer) by kind = ap (λ e'. asked_in service tei e' a) kind
       granted-one link.offer by kind = ap (λ e'. asked_in service tei e' a) kind
-      granted-one link.cleared by kind = absurd kind
       granted-one (link.requested asked full) by kind =
           ap (λ e'. asked_in service tei e' a) kind
           ∙ ap (λ b. cond b (data_asked service tei (of_link service tei asked)) []) by.1
@@ -247,6 +232,7 @@ module _ (c : Config) (service : Service) (tei : ℕ) where
               not-refused c (Data service tei contents) l (subst (λ e'. is_granted (lines.answer c e' l) ≡ true) named by.1) in
               ap (λ b. requests.refusal Own k b (link.Data contents)) by.2 ∙ ap (λ y. requests.refusal Own y false (link.Data contents)) its
               ∙ link-grants c service tei x.place contents l x.placed none
+      granted-one other by kind = absurd kind
 
       malformed-one : (x.event ≡ link.received link.undefined) ⊎ (x.event ≡ link.received link.wrong_size) ⊎ (x.event ≡ link.received link.overlong) → Does k k' e a
       malformed-one (inl is) = fallen-one (link.received link.undefined) is (undefined-falls Own k up)
@@ -293,9 +279,4 @@ module _ (c : Config) (service : Service) (tei : ℕ) where
       one-does (is_plain kind may) = plain-one kind (event-leaves Own k up x.event may)
 
     pub line-does : Does k k' e a
-    line-does = go (event-goes c e l service tei s)
-      where
-        go : Goes c service tei e l (lines.after c e l) a → Does k k' e a
-        go (inl x) = none-does x
-        go (inr (inl x)) = one-does x (comes-as e a x.event x.by)
-        go (inr (inr x)) = ended-does x.is
+    line-does = elim (event-goes c e l service tei s) [ inl x ↦ none-does x | inr (inl x) ↦ one-does x (comes-as e a x.event x.by) | inr (inr x) ↦ ended-does x.is ]

@@ -1,7 +1,6 @@
 -- A link in states 4 to 6 stays there, whatever happens, as long as it hears I-frames, supervisory frames and unit data.
-use Rattle.laws_order.proofs.Vocabulary.{◌≡◌, ◌&&◌, Bool, true, false, cond, ap, ◌∙◌, refl, true≢false, Control, Information, ReceiveReady, ReceiveNotReady, Reject, Ui, Parts, State, TeiAssigned, AwaitingEstablishment, AwaitingRelease, Established, TimerRecovery, LinkTimer, T200, T203, Terms, received, undefined, wrong_size, overlong, Release, SetBusy, ClearBusy, expired, requested, offer, cleared, Link, is_multiple_frame, may_repeat, runs, is_overlong, is_faulty, by_frame, by_received, by_expiry, by_request, event-follows}
+use Rattle.laws_order.proofs.Vocabulary.{◌≡◌, ◌&&◌, Bool, true, false, cond, ap, ◌∙◌, refl, true≢false, Control, Information, ReceiveReady, ReceiveNotReady, Reject, Ui, Parts, State, TeiAssigned, AwaitingEstablishment, AwaitingRelease, Established, TimerRecovery, LinkTimer, T200, T203, Terms, received, overlong, Release, SetBusy, ClearBusy, expired, requested, offer, cleared, Link, is_multiple_frame, may_repeat, runs, is_overlong, is_faulty, by_frame, by_received, by_expiry, by_request, event-follows, after}
 use Rattle.model_link.specs.Events.{Event, frame, Request, Establish, Data}
-use Rattle.model_link.specs.Machine.{after}
 
 -- I-frames and supervisory frames; and what leaves such a link where it is.
 abbrev pub Speaks : Control → Type 0
@@ -29,21 +28,11 @@ Stays to = is_multiple_frame to ≡ false
 by-control : (here : State) → Stays here → (command : Bool) (control : Control) → Unheeded control → Stays (by_frame here command control)
 by-control Established down command control h = absurd (true≢false down)
 by-control TimerRecovery down command control h = absurd (true≢false down)
-by-control TeiAssigned down command (Information ns nr p) h = refl
-by-control TeiAssigned down command (ReceiveReady nr pf) h = refl
-by-control TeiAssigned down command (ReceiveNotReady nr pf) h = refl
-by-control TeiAssigned down command (Reject nr pf) h = refl
-by-control TeiAssigned down command (Ui p) h = refl
-by-control AwaitingEstablishment down command (Information ns nr p) h = refl
-by-control AwaitingEstablishment down command (ReceiveReady nr pf) h = refl
-by-control AwaitingEstablishment down command (ReceiveNotReady nr pf) h = refl
-by-control AwaitingEstablishment down command (Reject nr pf) h = refl
-by-control AwaitingEstablishment down command (Ui p) h = refl
-by-control AwaitingRelease down command (Information ns nr p) h = refl
-by-control AwaitingRelease down command (ReceiveReady nr pf) h = refl
-by-control AwaitingRelease down command (ReceiveNotReady nr pf) h = refl
-by-control AwaitingRelease down command (Reject nr pf) h = refl
-by-control AwaitingRelease down command (Ui p) h = refl
+by-control other down command (Information ns nr p) h = refl
+by-control other down command (ReceiveReady nr pf) h = refl
+by-control other down command (ReceiveNotReady nr pf) h = refl
+by-control other down command (Reject nr pf) h = refl
+by-control other down command (Ui p) h = refl
 by-control here down command other h = absurd h
 
 either : (b : Bool) (to from : State) → Stays to → Stays from → Stays (cond b to from)
@@ -63,12 +52,9 @@ by-timer AwaitingRelease down T200 true = refl
 by-timer AwaitingRelease down T200 false = refl
 by-timer AwaitingRelease down T203 true = refl
 by-timer AwaitingRelease down T203 false = refl
-by-timer Established down timer again = absurd (true≢false down)
-by-timer TimerRecovery down timer again = absurd (true≢false down)
+by-timer other down timer again = absurd (true≢false down)
 
 asked : (here : State) → Stays here → (request : Request) → Stays (by_request here request)
-asked Established down request = absurd (true≢false down)
-asked TimerRecovery down request = absurd (true≢false down)
 asked TeiAssigned down Establish = refl
 asked TeiAssigned down Release = refl
 asked TeiAssigned down (Data contents) = refl
@@ -84,6 +70,7 @@ asked AwaitingRelease down Release = refl
 asked AwaitingRelease down (Data contents) = refl
 asked AwaitingRelease down SetBusy = refl
 asked AwaitingRelease down ClearBusy = refl
+asked other down request = absurd (true≢false down)
 
 module _ (t : Terms) (l : Link) (down : Stays l.state) where
   heard : (f : Parts) (long : Bool) → Unheeded f.control
@@ -93,12 +80,10 @@ module _ (t : Terms) (l : Link) (down : Stays l.state) where
 
   pub stays-down : (e : Event) → UnheededAt e → Stays (after t e l).state
   stays-down (received (frame f)) h = ap is_multiple_frame (event-follows t (received (frame f)) l).leaves.state ∙ heard f (is_overlong t f.control f.info) h
-  stays-down (received undefined) h = ap is_multiple_frame (event-follows t (received undefined) l).leaves.state ∙ faulty (is_multiple_frame l.state) true l.state down down
-  stays-down (received wrong_size) h = ap is_multiple_frame (event-follows t (received wrong_size) l).leaves.state ∙ faulty (is_multiple_frame l.state) true l.state down down
-  stays-down (received overlong) h = ap is_multiple_frame (event-follows t (received overlong) l).leaves.state ∙ faulty (is_multiple_frame l.state) true l.state down down
   stays-down (expired timer) h =
       ap is_multiple_frame (event-follows t (expired timer) l).leaves.state
       ∙ either (runs timer l.running) (by_expiry l.state timer (may_repeat t l)) l.state (by-timer l.state down timer (may_repeat t l)) down
   stays-down (requested request full) h = ap is_multiple_frame (event-follows t (requested request full) l).leaves.state ∙ asked l.state down request
   stays-down offer h = ap is_multiple_frame (event-follows t offer l).leaves.state ∙ down
   stays-down cleared h = ap is_multiple_frame (event-follows t cleared l).leaves.state
+  stays-down other h = ap is_multiple_frame (event-follows t other l).leaves.state ∙ faulty (is_multiple_frame l.state) true l.state down down

@@ -1,12 +1,5 @@
 -- A release is told in the end: to the end that releases, whose RC counts the expiries of T200, and to the other before that.
-use Rattle.laws_order.proofs.Vocabulary.{◌≡◌, ℕ, ◌≤◌, Bool, true, false, List, [], ◌∷◌, ◌++◌, refl, sym, ap, ◌∙◌, arith, append-nil, true≢false, ◌⊎◌, inl, inr, All, list_any, All-nil, All-cons, All-head, All-tail, Service, other_side, AwaitingRelease, Link, is_multiple_frame, came, hears, expiry, request, next, Line, has_tei, terms, deactivates, Seen, Station, Wire, requests, times_out, gives, takes, loses, turned}
-use Rattle.model_line.specs.Event.{Event}
-use Rattle.model_card.specs.Event.{at}
-use Rattle.laws_wire.specs.Facing.{line_of}
-use Rattle.laws_order.specs.Happenings.{Deed, acts, disturbed, elsewhere, befalling, Happening, by_near, by_far, IsPossible, IsPossibleAt, happening, happening_all, events_here, seen_by, seen_at_near, seen_near, seen_far}
-use Rattle.laws_order.specs.InTheEnd.{t200s, IsToldAtLast, ReleasesAreTold, StaysThere, IsNotDeactivated, BothAreTold}
-use Rattle.laws_order.specs.Order.{ends_by, StaysEstablished, link_here}
-use Rattle.laws_order.specs.Release.{news, IsToldOfRelease}
+use Rattle.laws_order.proofs.Vocabulary.{◌≡◌, ℕ, ◌≤◌, Bool, true, false, List, [], ◌∷◌, ◌++◌, refl, sym, ap, ◌∙◌, arith, append-nil, true≢false, ◌⊎◌, inl, inr, All, list_any, All-nil, All-cons, All-head, All-tail, Service, other_side, AwaitingRelease, Link, is_multiple_frame, came, hears, expiry, request, next, Line, has_tei, terms, deactivates, Seen, Station, Wire, requests, times_out, gives, takes, turned, Event, at, line_of, Deed, acts, disturbed, befalling, Happening, by_near, by_far, IsPossible, IsPossibleAt, happening, happening_all, events_here, seen_by, seen_at_near, seen_near, seen_far, t200s, IsToldAtLast, ReleasesAreTold, StaysThere, IsNotDeactivated, BothAreTold, ends_by, StaysEstablished, link_here, news, IsToldOfRelease}
 use Rattle.laws_order.proofs.Down.{Speaks}
 use Rattle.laws_order.proofs.Leading.{NotHeard, near-led, not-heard}
 use Rattle.laws_order.proofs.NearOver.{Lasts, near-goes, none-heard, first-speaks}
@@ -58,14 +51,12 @@ module _ (service : Service) (tei : ℕ) where
   near-reaches deed w is (inr (over, down)) = let x = near-on deed w is over in inr (x.1 (x.0 down), x.0 down)
 
   far-reaches : (deed : Deed) (w : Wire) → IsPossibleAt service tei w.far deed → StaysEstablished service tei (seen_by deed (turned w)) → Reached w → Reached (turned (befalling deed (turned w)))
-  far-reaches deed w is stays (inl (dn, dm, h)) = go (near-led service tei deed (turned w) dm dn is (turned-pair service tei w dn dm h))
-    where
-      v : Wire
-      v = turned w
-
-      go : Falls service tei (befalling deed v) (seen_by deed v) ⊎ Led service tei v (befalling deed v) dm dn (seen_by deed v) → Reached (turned (befalling deed v))
-      go (inl fallen) = absurd (true≢false (sym fallen.0 ∙ stays))
-      go (inr x) = inl (dn, _, turned-pair service tei (befalling deed v) _ dn x.pair)
+  far-reaches deed w is stays (inl (dn, dm, h)) =
+      let v : Wire = turned w in
+      elim (near-led service tei deed (turned w) dm dn is (turned-pair service tei w dn dm h)) [
+        | inl fallen ↦ absurd (true≢false (sym fallen.0 ∙ stays))
+        | inr x ↦ inl (dn, _, turned-pair service tei (befalling deed v) _ dn x.pair)
+      ]
   far-reaches deed w is stays (inr (over, down)) = inr (far-on deed w is stays over, ap (λ (y : Link). is_multiple_frame y.state) (other-link service tei deed (turned w)) ∙ down)
 
   reaches : (hs : List Happening) (w : Wire) → All (IsOpen w) hs → StaysEstablished service tei (seen_far hs w) → Reached w → Reached (happening_all hs w)
@@ -106,9 +97,8 @@ module _ (service : Service) (tei : ℕ) where
     deed-confirmless (acts (times_out timer)) is active h = one (expiry timer) (λ octets e. cc e) refl
     deed-confirmless (acts gives) is active h = one next (λ octets e. cc e) refl
     deed-confirmless (acts takes) is active (contents, a, k, small, dm, h) = first-confirmless w.near w.far w.far.way l h.sides h.speech on
-    deed-confirmless (acts loses) is active h = All-nil P
     deed-confirmless (disturbed what) is active h = one (hears what) (not-heard service tei w.near.card.config what is) refl
-    deed-confirmless (elsewhere e) is active h = All-nil P
+    deed-confirmless other is active h = All-nil P
 
     all-confirmless : (h : Happening) → IsOpen w h → IsNotDeactivated service tei h → Over w → All P (events_at service tei h w)
     all-confirmless (by_near deed) is active over = deed-confirmless deed is active over

@@ -88,16 +88,12 @@ module _ (contents : List (List ℕ)) (high : ℕ) where
   brings-lower : (r r' top : ℕ) (octets : List ℕ) (control : Control) → r' ≤ r → Brings contents high r top octets control → Brings contents high r' top octets control
   brings-lower r r' top octets (Information ns nr p) le h =
       record { number = h.number; is_seq = h.is_seq; near = omega (arith, h.near); below = h.below; same = h.same; next = h.next }
-  brings-lower r r' top octets (ReceiveReady nr pf) le h = tt
-  brings-lower r r' top octets (ReceiveNotReady nr pf) le h = tt
-  brings-lower r r' top octets (Reject nr pf) le h = tt
-  brings-lower r r' top octets (Sabme p) le h = tt
-  brings-lower r r' top octets (Disc p) le h = tt
   brings-lower r r' top octets (Ui p) le h = absurd h
   brings-lower r r' top octets (Ua f) le h = absurd h
   brings-lower r r' top octets (Dm f) le h = absurd h
   brings-lower r r' top octets (Frmr f) le h = absurd h
   brings-lower r r' top octets (Xid pf) le h = absurd h
+  brings-lower r r' top octets other le h = tt
 
   pub brought-lower : (r r' : ℕ) (fs : List Parts) → r' ≤ r → Brought contents high r fs → Brought contents high r' fs
   brought-lower r r' [] le h = tt

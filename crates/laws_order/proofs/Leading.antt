@@ -1,14 +1,12 @@
 -- Two cards whose links face each other: where anything that happens at one of them leads.
-use Rattle.laws_order.proofs.Vocabulary.{◌≡◌, ℕ, Bool, true, false, cond, List, [], ◌∷◌, ◌++◌, drop, get_or, Result, Ok, Err, refl, sym, ap, ◌∙◌, subst, append-nil, ◌⊎◌, inl, inr, get_or-set_other, ReadFault, Service, Parts, other_side, reading, Link, End, Joined, joined-turned, done-at, came, Config, hears, expiry, request, next, heard_side, fresh_line, link_of, line_at, after_is_sound, by_room, Seen, seen, Station, Wire, requests, times_out, gives, takes, loses, answered, happens, comes, with_first_lost}
+use Rattle.laws_order.proofs.Vocabulary.{◌≡◌, ℕ, Bool, true, false, cond, List, [], ◌∷◌, ◌++◌, drop, get_or, Result, Ok, Err, refl, sym, ap, ◌∙◌, subst, append-nil, ◌⊎◌, inl, inr, get_or-set_other, ReadFault, Service, Parts, other_side, reading, Link, End, Joined, joined-turned, done-at, came, Config, hears, expiry, request, next, heard_side, fresh_line, link_of, line_at, after_is_sound, by_room, Seen, seen, Station, Wire, requests, times_out, gives, takes, loses, answered, happens, with_first_lost, Event, is_of_link, of_link_in, of_link_at, Deed, acts, disturbed, elsewhere, IsNotOf, IsElsewhere, IsPossibleAt, elsewhere_on, befalling, seen_by, data_noted, data_granted, of_link_on, link_here}
+use Rattle.laws_wire.specs.Wire.{comes}
 use Rattle.model_bits.specs.Stream as stream
 use Rattle.model_link.specs.Events as link
 use Rattle.model_link.specs.TwoEnds as two
-use Rattle.model_line.specs.Event.{Event}
 use Rattle.model_line.specs.Machine as lines
 use Rattle.model_card.specs.Event as card
 use Rattle.model_card.specs.Machine.{after}
-use Rattle.laws_order.specs.Happenings.{is_of_link, of_link_in, of_link_at, Deed, acts, disturbed, elsewhere, IsNotOf, IsElsewhere, IsPossibleAt, elsewhere_on, befalling, seen_by}
-use Rattle.laws_order.specs.Order.{data_noted, data_granted, of_link_on, link_here}
 use Rattle.laws_order.proofs.Contents.{frame-same}
 use Rattle.laws_order.proofs.Does.{Has, Does, IsKind}
 use Rattle.laws_order.proofs.Pairs.{whole-is, facing, Pair, Led, Falls, happens-well, station-does, leaves-still, leaves-granted, linked, granted-by, up-by, expired-still, asked-still, offer-still}
@@ -50,13 +48,10 @@ module _ (service : Service) (tei : ℕ) where
         ap (of_link_in service tei) kind.2 ∙ ap (λ b. cond {A = List Parts} b (f ∷ []) []) kind.3 in
         let wrong : [] ≡ f ∷ [] = sym (none kind.0 kind.1) ∙ read in
         absurd (cc wrong)
-    by-kind x none (link.received link.undefined) is kind = absurd kind
-    by-kind x none (link.received link.wrong_size) is kind = absurd kind
-    by-kind x none (link.received link.overlong) is kind = absurd kind
     by-kind x none (link.expired timer) is kind = led (expired-still service tei s h.near h.joined.near_up e x dn m h.joined timer is)
     by-kind x none (link.requested asked full) is kind = led (asked-still service tei s h.near h.joined.near_up e x dn m h.joined asked full is)
     by-kind x none link.offer is kind = led (offer-still service tei s h.near h.joined.near_up e x dn m h.joined is)
-    by-kind x none link.cleared is kind = absurd kind
+    by-kind x none other is kind = absurd kind
 
     pub event-led : NotHeard s.card.config e → Falls service tei w' t ⊎ Led service tei w w' dn dm t
     event-led none = go (station-does service tei s h.near h.joined.near_up e)
@@ -166,26 +161,22 @@ module _ (service : Service) (tei : ℕ) where
           let read-so : reading far.card.config.side octets ≡ Ok f =
           ap (λ side. reading side octets) h.sides ∙ ap (reading (other_side near.card.config.side)) (sym same) ∙ kind.2 in
           taken-so x f is (ap (of_link_in service tei) read-so ∙ ap (λ b. cond {A = List Parts} b (f ∷ []) []) kind.3)
-      by-it x (link.received link.undefined) is kind = absurd kind
-      by-it x (link.received link.wrong_size) is kind = absurd kind
-      by-it x (link.received link.overlong) is kind = absurd kind
       by-it x (link.expired timer) is kind = cc kind
       by-it x (link.requested asked full) is kind = cc kind
       by-it x link.offer is kind = cc kind
-      by-it x link.cleared is kind = absurd kind
+      by-it x other is kind = absurd kind
 
       pub frame-led : Falls service tei later shown ⊎ Led service tei before later dn dm shown
-      frame-led = go (station-does service tei near h.near h.joined.near_up heard)
-        where
-          go : Does near.card.config service tei (link_here service tei near) (link_here service tei (comes octets near)) heard (answered heard near)
-              → Falls service tei later shown ⊎ Led service tei before later dn dm shown
-          go (inl ended) = inl ended
-          go (inr (inl x)) =
-              inr (arrives (
-                leaves-still service tei near h.near h.joined.near_up heard dn now x (gone (facing service tei near dn) far dm octets rest h.joined),
-                leaves-granted service tei near h.near h.joined.near_up heard x,
-              ))
-          go (inr (inr x)) = inr (by-it x x.event refl x.kind)
+      frame-led =
+          elim (station-does service tei near h.near h.joined.near_up heard) [
+            | inl ended ↦ inl ended
+            | inr (inl x) ↦
+                inr (arrives (
+                  leaves-still service tei near h.near h.joined.near_up heard dn now x (gone (facing service tei near dn) far dm octets rest h.joined),
+                  leaves-granted service tei near h.near h.joined.near_up heard x,
+                ))
+            | inr (inr x) ↦ inr (by-it x x.event refl x.kind)
+          ]
 
   -- Nothing happens to the end, or a frame of its way is lost, or something happens at another line.
   unchanged : (w : Wire) (dn dm : List (List ℕ)) → Pair service tei w dn dm → Led service tei w w dn dm []
@@ -249,8 +240,7 @@ module _ (service : Service) (tei : ℕ) where
   -- Whatever happens at the near end.
   pub not-heard : (c : Config) (what : stream.Event) → IsNotOf service tei c what → NotHeard c (hears what)
   not-heard c (stream.frame heard) is octets e = let same : heard ≡ octets = cc e in ap (of_link_at service tei (heard_side c)) (sym same) ∙ is
-  not-heard c (stream.overlong head) is octets e = cc e
-  not-heard c (stream.dropped cause) is octets e = cc e
+  not-heard c other is octets e = cc e
 
   pub near-led : (deed : Deed) (w : Wire) (dn dm : List (List ℕ)) → IsPossibleAt service tei w.near deed → Pair service tei w dn dm
       → let t = seen_by deed w in Falls service tei (befalling deed w) t ⊎ Led service tei w (befalling deed w) dn dm t

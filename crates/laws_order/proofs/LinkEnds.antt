@@ -1,12 +1,9 @@
 -- An event of a link in state 7 or 8 leaves it there, or a note ends the establishment or renews it.
-use Rattle.laws_order.proofs.Vocabulary.{◌≡◌, ℕ, ◌==◌, ◌&&◌, ◌||◌, not, Bool, true, false, cond, IsTrue, List, [], ◌∷◌, ◌++◌, length, Some, None, refl, sym, ap, ◌∙◌, subst, eq-eqb, true≢false, ◌⊎◌, inl, inr, nat_lt, list_any, list_any-append, Control, Information, ReceiveReady, ReceiveNotReady, Reject, Sabme, Disc, Ui, Ua, Dm, Frmr, Xid, ErrorCode, Note, Parts, Seq, State, TeiAssigned, AwaitingEstablishment, AwaitingRelease, Established, TimerRecovery, LinkTimer, T200, T203, Terms, Link, is_multiple_frame, may_repeat, Received, received, undefined, wrong_size, overlong, expired, requested, offer, cleared, Release, SetBusy, ClearBusy, Course, runs, takes_contents, as_heard, is_overlong, is_invalid, receipt_of, is_faulty, by_frame, by_received, by_expiry, by_request, state_after, is_anew, error, establish_indication, numbered_as, final_as, told_by, told_by_frame, told_malformed, told_expired, told_cleared, event-follows, service-same, is_own, is_ui}
+use Rattle.laws_order.proofs.Vocabulary.{◌≡◌, ℕ, ◌==◌, ◌&&◌, ◌||◌, not, Bool, true, false, cond, IsTrue, List, [], ◌∷◌, ◌++◌, length, Some, None, refl, sym, ap, ◌∙◌, subst, eq-eqb, true≢false, ◌⊎◌, inl, inr, nat_lt, list_any, list_any-append, Control, Information, ReceiveReady, ReceiveNotReady, Reject, Sabme, Disc, Ui, Dm, Frmr, ErrorCode, Note, Parts, Seq, State, TeiAssigned, AwaitingEstablishment, AwaitingRelease, Established, TimerRecovery, LinkTimer, T200, T203, Terms, Link, is_multiple_frame, may_repeat, Received, received, undefined, wrong_size, overlong, expired, requested, offer, cleared, Release, Course, runs, takes_contents, as_heard, is_overlong, is_invalid, receipt_of, is_faulty, by_frame, by_received, by_expiry, by_request, state_after, is_anew, error, establish_indication, numbered_as, final_as, told_by, told_by_frame, told_malformed, told_expired, told_cleared, event-follows, service-same, is_own, is_ui, after, told, begun, ends_by_note}
 use Rattle.lapd_frame.specs.declared.notes.ErrorCode.TheVariants as code
 use Rattle.lapd_frame.specs.declared.notes.Note.TheVariants as notes
-use Rattle.model_link.specs.Events.{Event, frame, Request, Establish, Data}
+use Rattle.model_link.specs.Events.{Event, frame, Request}
 use Rattle.model_link.specs.Machine
-use Rattle.model_link.specs.Machine.{after, told}
-use Rattle.model_link.specs.Steps.{begun}
-use Rattle.laws_order.specs.Order.{ends_by_note}
 
 pub or-true : (b : Bool) → (b || true) ≡ true
 or-true true = refl
@@ -61,12 +58,10 @@ module _ (t : Terms) where
     in-7 command (Reject nr pf) = numbered (final_as t false (not command && pf)) Established (is_invalid l (Some nr)) refl
     in-7 command (Sabme p) = inl (before (error t code.F) indicated (error-ends code.F refl))
     in-7 command (Disc p) = inl (one-ends (notes.ReleaseIndication t.service t.tei) own)
-    in-7 command (Ui p) = inr refl
-    in-7 command (Ua f) = inr refl
     in-7 command (Dm true) = inl (error-ends code.B refl)
     in-7 command (Dm false) = inl (error-ends code.E refl)
     in-7 command (Frmr f) = inl (error-ends code.K refl)
-    in-7 command (Xid pf) = inr refl
+    in-7 command other = inr refl
 
     -- in state 8 a response with F=1 leads back to state 7
     information-up : (command : Bool) (ns nr : Seq) (p : Bool) → IsTrue (is_multiple_frame (by_frame TimerRecovery command (Information ns nr p)))
@@ -101,35 +96,23 @@ module _ (t : Terms) where
         numbered (final_as t true (not command && pf)) (by_frame TimerRecovery command (Reject nr pf)) (is_invalid l (Some nr)) (reject-up command pf nr)
     in-8 command (Sabme p) = inl (before (error t code.F) indicated (error-ends code.F refl))
     in-8 command (Disc p) = inl (one-ends (notes.ReleaseIndication t.service t.tei) own)
-    in-8 true (Ui p) = inr refl
-    in-8 false (Ui p) = inr refl
-    in-8 true (Ua f) = inr refl
-    in-8 false (Ua f) = inr refl
     in-8 command (Dm true) = inl (error-ends code.B refl)
     in-8 command (Dm false) = inl (error-ends code.E refl)
     in-8 command (Frmr f) = inl (error-ends code.K refl)
-    in-8 true (Xid pf) = inr refl
-    in-8 false (Xid pf) = inr refl
+    in-8 b other = inr refl
 
     in-state : (here : State) → IsTrue (is_multiple_frame here) → (command : Bool) (control : Control) → By here command control
-    in-state TeiAssigned up command control = absurd (true≢false (sym up))
-    in-state AwaitingEstablishment up command control = absurd (true≢false (sym up))
-    in-state AwaitingRelease up command control = absurd (true≢false (sym up))
     in-state Established up command control = in-7 command control
     in-state TimerRecovery up command control = in-8 command control
+    in-state other up command control = absurd (true≢false (sym up))
 
   malformed : (here : State) → IsTrue (is_multiple_frame here) → (why : ErrorCode) → is_anew why ≡ true → Ended (told_malformed here t why)
-  malformed TeiAssigned up why anew = absurd (true≢false (sym up))
-  malformed AwaitingEstablishment up why anew = absurd (true≢false (sym up))
-  malformed AwaitingRelease up why anew = absurd (true≢false (sym up))
   malformed Established up why anew = error-ends why anew
   malformed TimerRecovery up why anew = error-ends why anew
+  malformed other up why anew = absurd (true≢false (sym up))
 
   expires : (here : State) → IsTrue (is_multiple_frame here) → (timer : LinkTimer) (again ran : Bool)
       → let now = cond ran (by_expiry here timer again) here in Leaves (told_expired here t now) now
-  expires TeiAssigned up timer again ran = absurd (true≢false (sym up))
-  expires AwaitingEstablishment up timer again ran = absurd (true≢false (sym up))
-  expires AwaitingRelease up timer again ran = absurd (true≢false (sym up))
   expires Established up timer again true = inr refl
   expires Established up timer again false = inr refl
   expires TimerRecovery up T200 true true = inr refl
@@ -137,6 +120,7 @@ module _ (t : Terms) where
   expires TimerRecovery up T203 true true = inr refl
   expires TimerRecovery up T203 false true = inr refl
   expires TimerRecovery up timer again false = inr refl
+  expires other up timer again ran = absurd (true≢false (sym up))
 
   abbrev pub IsNoRelease : Event → Type 0
   IsNoRelease (requested Release full) = ⊥
@@ -147,23 +131,13 @@ module _ (t : Terms) where
   asked TeiAssigned up request full other = absurd (true≢false (sym up))
   asked AwaitingEstablishment up request full other = absurd (true≢false (sym up))
   asked AwaitingRelease up request full other = absurd (true≢false (sym up))
-  asked Established up Establish full other = refl
-  asked Established up Release full other = absurd other
-  asked Established up (Data contents) full other = refl
-  asked Established up SetBusy full other = refl
-  asked Established up ClearBusy full other = refl
-  asked TimerRecovery up Establish full other = refl
-  asked TimerRecovery up Release full other = absurd other
-  asked TimerRecovery up (Data contents) full other = refl
-  asked TimerRecovery up SetBusy full other = refl
-  asked TimerRecovery up ClearBusy full other = refl
+  asked any up Release full other = absurd other
+  asked any up rest full other = refl
 
   clears : (here : State) → IsTrue (is_multiple_frame here) → Ended (told_cleared here t)
-  clears TeiAssigned up = absurd (true≢false (sym up))
-  clears AwaitingEstablishment up = absurd (true≢false (sym up))
-  clears AwaitingRelease up = absurd (true≢false (sym up))
   clears Established up = one-ends (notes.ReleaseIndication t.service t.tei) own
   clears TimerRecovery up = one-ends (notes.ReleaseIndication t.service t.tei) own
+  clears other up = absurd (true≢false (sym up))
 
   -- An event ends it, and leaves it in state 4, 5 or 6.
   abbrev pub Fallen : Event → Link → Type 0
@@ -219,9 +193,7 @@ module _ (t : Terms) where
         → Ended (told_by_frame here t command octets (Sabme p) taken l to)
     by-sabme Established up command octets p taken to = before (error t code.F) (cond (l.s == l.a) [] (establish_indication t)) (error-ends code.F refl)
     by-sabme TimerRecovery up command octets p taken to = before (error t code.F) (cond (l.s == l.a) [] (establish_indication t)) (error-ends code.F refl)
-    by-sabme TeiAssigned up command octets p taken to = absurd (true≢false (sym up))
-    by-sabme AwaitingEstablishment up command octets p taken to = absurd (true≢false (sym up))
-    by-sabme AwaitingRelease up command octets p taken to = absurd (true≢false (sym up))
+    by-sabme other up command octets p taken to = absurd (true≢false (sym up))
 
     pub sabme-ends : (f : Parts) (p : Bool) → Ended (told t (received (frame (record f { control = Sabme p }))) l).notes
     sabme-ends f p =
@@ -232,9 +204,7 @@ module _ (t : Terms) where
         → Ended (told_by_frame here t command octets (Disc p) taken l to)
     by-disc Established up command octets p taken to = one-ends (notes.ReleaseIndication t.service t.tei) own
     by-disc TimerRecovery up command octets p taken to = one-ends (notes.ReleaseIndication t.service t.tei) own
-    by-disc TeiAssigned up command octets p taken to = absurd (true≢false (sym up))
-    by-disc AwaitingEstablishment up command octets p taken to = absurd (true≢false (sym up))
-    by-disc AwaitingRelease up command octets p taken to = absurd (true≢false (sym up))
+    by-disc other up command octets p taken to = absurd (true≢false (sym up))
 
     pub disc-ends : (f : Parts) (p : Bool) → Ended (told t (received (frame (record f { control = Disc p }))) l).notes
     disc-ends f p =
@@ -246,10 +216,7 @@ module _ (t : Terms) where
       where
         by-state : (here : State) → IsTrue (is_multiple_frame here) → is_multiple_frame (by_request here Release) ≡ false
         by-state Established up = refl
-        by-state TimerRecovery up = refl
-        by-state TeiAssigned up = refl
-        by-state AwaitingEstablishment up = refl
-        by-state AwaitingRelease up = refl
+        by-state other up = refl
 
   -- UI leaves a link as it was, and delivers no contents of an I-frame.
   module _ (l : Link) where
@@ -262,23 +229,11 @@ module _ (t : Terms) where
 
     ui-stays : (here : State) (b : Bool) (octets : List ℕ) (p : Bool) → Same (Machine.frame_in here t b octets (Ui p) (begun l))
     ui-stays TeiAssigned b octets p = either (nat_lt t.n201 (length octets)) _ _ (refl, refl) (refl, refl)
-    ui-stays AwaitingEstablishment b octets p = either (nat_lt t.n201 (length octets)) _ _ (refl, refl) (refl, refl)
-    ui-stays AwaitingRelease b octets p = either (nat_lt t.n201 (length octets)) _ _ (refl, refl) (refl, refl)
-    ui-stays Established b octets p = either (nat_lt t.n201 (length octets)) _ _ (refl, refl) (refl, refl)
-    ui-stays TimerRecovery b octets p = either (nat_lt t.n201 (length octets)) _ _ (refl, refl) (refl, refl)
+    ui-stays other b octets p = either (nat_lt t.n201 (length octets)) _ _ (refl, refl) (refl, refl)
 
     ui-only : (here : State) (b : Bool) (octets : List ℕ) (control : Control) → is_ui control ≡ true → Same (Machine.frame_in here t b octets control (begun l))
     ui-only here b octets (Ui p) is = ui-stays here b octets p
-    ui-only here b octets (Information ns nr p) is = absurd (true≢false (sym is))
-    ui-only here b octets (ReceiveReady nr pf) is = absurd (true≢false (sym is))
-    ui-only here b octets (ReceiveNotReady nr pf) is = absurd (true≢false (sym is))
-    ui-only here b octets (Reject nr pf) is = absurd (true≢false (sym is))
-    ui-only here b octets (Sabme p) is = absurd (true≢false (sym is))
-    ui-only here b octets (Disc p) is = absurd (true≢false (sym is))
-    ui-only here b octets (Ua f) is = absurd (true≢false (sym is))
-    ui-only here b octets (Dm f) is = absurd (true≢false (sym is))
-    ui-only here b octets (Frmr f) is = absurd (true≢false (sym is))
-    ui-only here b octets (Xid pf) is = absurd (true≢false (sym is))
+    ui-only here b octets other is = absurd (true≢false (sym is))
 
     pub unit-data-stays : (f : Parts) → is_ui f.control ≡ true → Same (Machine.course t (received (frame f)) l)
     unit-data-stays f is = ui-only l.state f.address.command f.info f.control is

@@ -1,10 +1,8 @@
 -- What each event tells of a link in state 6, and in state 4.
-use Rattle.laws_order.proofs.Vocabulary.{◌≡◌, ℕ, ◌||◌, Bool, true, false, cond, List, [], ◌∷◌, refl, sym, ap, ◌∙◌, subst, ◌⊎◌, inl, inr, filter, nat_lt, length, list_any, Control, Information, ReceiveReady, ReceiveNotReady, Reject, Sabme, Disc, Ui, Ua, Dm, Frmr, Xid, Note, State, TeiAssigned, AwaitingRelease, LinkTimer, T200, T203, Terms, received, undefined, wrong_size, overlong, Release, SetBusy, ClearBusy, expired, requested, offer, cleared, Link, may_repeat, runs, as_heard, is_overlong, by_frame, by_expiry, by_request, state_after, told_in_4, told_in_6, unasked, told_by, told_expired, told_requested, event-follows, is_data_of, own-is}
+use Rattle.laws_order.proofs.Vocabulary.{◌≡◌, ℕ, ◌||◌, Bool, true, false, cond, List, [], ◌∷◌, refl, sym, ap, ◌∙◌, subst, ◌⊎◌, inl, inr, filter, nat_lt, length, list_any, Control, Sabme, Ui, Ua, Dm, Xid, Note, State, TeiAssigned, AwaitingRelease, LinkTimer, T200, T203, Terms, received, overlong, Release, expired, requested, offer, cleared, Link, may_repeat, runs, as_heard, is_overlong, by_frame, by_expiry, by_request, state_after, told_in_4, told_in_6, unasked, told_by, told_expired, told_requested, event-follows, is_data_of, own-is, after, told, is_news, begins_by_note}
 use Rattle.lapd_frame.specs.declared.notes.ErrorCode.TheVariants as code
 use Rattle.lapd_frame.specs.declared.notes.Note.TheVariants as notes
-use Rattle.model_link.specs.Events.{Event, frame, Request, Establish, Data}
-use Rattle.model_link.specs.Machine.{after, told}
-use Rattle.laws_order.specs.Release.{is_news, begins_by_note}
+use Rattle.model_link.specs.Events.{Event, frame, Request, Establish}
 
 -- What confirms a release: UA and DM with F=1, and that the link is as one that begins.
 abbrev pub Confirms : Control → Type 0
@@ -66,16 +64,9 @@ module _ (t : Terms) where
   frame-6 command octets (Ua true) = inr (refl, inl (confirms, tt))
   frame-6 command octets (Ua false) = inl (refl, unasked-silent false)
   frame-6 command octets (Dm true) = inr (refl, inl (confirms, tt))
-  frame-6 command octets (Dm false) = inl (refl, silent)
   frame-6 command octets (Ui p) = inl (refl, unit-silent (nat_lt t.n201 (length octets)))
   frame-6 command octets (Xid pf) = inl (refl, xid-silent)
-  frame-6 command octets (Information ns nr p) = inl (refl, silent)
-  frame-6 command octets (ReceiveReady nr pf) = inl (refl, silent)
-  frame-6 command octets (ReceiveNotReady nr pf) = inl (refl, silent)
-  frame-6 command octets (Reject nr pf) = inl (refl, silent)
-  frame-6 command octets (Sabme p) = inl (refl, silent)
-  frame-6 command octets (Disc p) = inl (refl, silent)
-  frame-6 command octets (Frmr f) = inl (refl, silent)
+  frame-6 command octets other = inl (refl, silent)
 
   frame-4 : (command : Bool) (octets : List ℕ) (control : Control) → Begins (told_in_4 t octets control) ⊎ In4 (told_in_4 t octets control) (by_frame TeiAssigned command control)
   frame-4 command octets (Sabme p) = inl (ap (λ b. b || false) (own-is t.service t.tei))
@@ -93,10 +84,7 @@ module _ (t : Terms) where
 
   asked-6 : (request : Request) → In6 ⊥ (told_requested AwaitingRelease t request) (by_request AwaitingRelease request)
   asked-6 Establish = inl (refl, silent)
-  asked-6 Release = inl (refl, silent)
-  asked-6 (Data contents) = inl (refl, silent)
-  asked-6 SetBusy = inl (refl, silent)
-  asked-6 ClearBusy = inl (refl, silent)
+  asked-6 other = inl (refl, silent)
 
   expired-4 : (timer : LinkTimer) (again ran : Bool) → let to = cond ran (by_expiry TeiAssigned timer again) TeiAssigned in In4 (told_expired TeiAssigned t to) to
   expired-4 timer again true = (refl, silent)
@@ -110,9 +98,7 @@ module _ (t : Terms) where
   asked-4 : (request : Request) (full : Bool) → AsksNothing (requested request full) → In4 (told_requested TeiAssigned t request) (by_request TeiAssigned request)
   asked-4 Establish full none = absurd none
   asked-4 Release full none = absurd none
-  asked-4 (Data contents) full none = (refl, silent)
-  asked-4 SetBusy full none = (refl, silent)
-  asked-4 ClearBusy full none = (refl, silent)
+  asked-4 other full none = (refl, silent)
 
   module _ (l : Link) where
     abbrev Now : Event → List Note
@@ -138,13 +124,11 @@ module _ (t : Terms) where
         go : (long : Bool) → let e = received (cond long overlong (frame f)) in In6 (Confirms f.control) (told_by t e x (state_after t e x)) (state_after t e x)
         go true = rw is (inl (refl, silent))
         go false = rw is (frame-6 f.address.command f.info f.control)
-    known-6 x is (received undefined) = rw is (inl (refl, silent))
-    known-6 x is (received wrong_size) = rw is (inl (refl, silent))
-    known-6 x is (received overlong) = rw is (inl (refl, silent))
     known-6 x is (expired timer) = rw is (expired-6 timer (may_repeat t x) (runs timer x.running))
     known-6 x is (requested request full) = rw is (asked-6 request)
     known-6 x is offer = inl (is, silent)
     known-6 x is cleared = rw is (inr (refl, inl (confirms, tt)))
+    known-6 x is other = rw is (inl (refl, silent))
 
     known-4 : (x : Link) → x.state ≡ TeiAssigned → (e : Event) → AsksNothing e → Begins (Told x e (To x e)) ⊎ In4 (Told x e (To x e)) (To x e)
     known-4 x is (received (frame f)) none = go (is_overlong t f.control f.info)
@@ -153,13 +137,10 @@ module _ (t : Terms) where
             Begins (told_by t e x (state_after t e x)) ⊎ In4 (told_by t e x (state_after t e x)) (state_after t e x)
         go true = rw is (inr (refl, silent))
         go false = rw is (frame-4 f.address.command f.info f.control)
-    known-4 x is (received undefined) none = rw is (inr (refl, silent))
-    known-4 x is (received wrong_size) none = rw is (inr (refl, silent))
-    known-4 x is (received overlong) none = rw is (inr (refl, silent))
     known-4 x is (expired timer) none = rw is (inr (expired-4 timer (may_repeat t x) (runs timer x.running)))
     known-4 x is (requested request full) none = rw is (inr (asked-4 request full none))
     known-4 x is offer none = inr (is, silent)
-    known-4 x is cleared none = rw is (inr (refl, silent))
+    known-4 x is other none = rw is (inr (refl, silent))
 
     pub in-6 : l.state ≡ AwaitingRelease → (e : Event) → In6 (ConfirmsAt e) (Now e) (after t e l).state
     in-6 is e =

@@ -1,13 +1,10 @@
 -- The far end lasts in its establishment, and that of the near end is over: what happens at the far end.
-use Rattle.laws_order.proofs.Vocabulary.{◌≡◌, ℕ, ◌+◌, ◌≤◌, cond, IsTrue, List, [], ◌∷◌, ◌++◌, length, take, Option, None, refl, sym, ap, ◌∙◌, subst, append-nil, true≢false, inl, inr, arith, option_to_list, Seq, seq, is_seq, Control, Information, ReceiveReady, ReceiveNotReady, Reject, Sabme, Disc, Service, Parts, other_side, State, TeiAssigned, AwaitingEstablishment, AwaitingRelease, Established, TimerRecovery, Terms, Link, is_multiple_frame, frames_of, Means, frame-taken, came, hears, expiry, request, next, link_of, terms, after_is_sound, Seen, seen, offer-tells_nothing, frames_given, Station, Wire, requests, times_out, gives, takes, loses, answered, happens, frames_by, turned, twice-other}
-use Rattle.std.proofs.lemmas.List.Concat.{flat_map-append}
+use Rattle.laws_order.proofs.Vocabulary.{◌≡◌, ℕ, ◌+◌, ◌≤◌, cond, IsTrue, List, [], ◌∷◌, ◌++◌, length, take, Option, None, refl, sym, ap, ◌∙◌, subst, append-nil, true≢false, inl, inr, arith, option_to_list, Seq, seq, is_seq, Control, Information, ReceiveReady, ReceiveNotReady, Reject, Sabme, Disc, Service, Parts, other_side, State, AwaitingEstablishment, AwaitingRelease, Terms, Link, is_multiple_frame, frames_of, Means, frame-taken, came, hears, expiry, request, next, link_of, terms, after_is_sound, Seen, seen, offer-tells_nothing, frames_given, Station, Wire, requests, times_out, gives, takes, loses, answered, happens, frames_by, turned, twice-other, flat_map-append, Event, of_link_in, of_link_at, Deed, acts, disturbed, elsewhere, IsElsewhere, IsPossibleAt, elsewhere_on, befalling, seen_by, data_noted, StaysEstablished, of_link_on, link_here}
 use Rattle.model_link.specs.Events as link
 use Rattle.model_link.specs.Machine as links
-use Rattle.model_line.specs.Event.{Event}
 use Rattle.model_card.specs.Event as card
-use Rattle.laws_order.specs.Happenings.{of_link_in, of_link_at, Deed, acts, disturbed, elsewhere, IsElsewhere, IsPossibleAt, elsewhere_on, befalling, seen_by}
-use Rattle.laws_order.specs.Order.{data_noted, StaysEstablished, of_link_on, link_here}
-use Rattle.laws_order.proofs.Contents.{request-grows, request-delivers, timer-same, timer-delivers, offer-same}
+use Rattle.laws_order.proofs.Contents.{request-grows, request-delivers, timer-same, offer-same}
+use Rattle.laws_wire.proofs.Joint.{timer-delivers}
 use Rattle.laws_order.proofs.Does.{Has, LeavesIt, Does, IsKind}
 use Rattle.laws_order.proofs.Down.{Speaks}
 use Rattle.laws_order.proofs.Lasting.{speaks-report, speaks-plain, speaks-answered, Brings, Brought, brought-lower, brought-tail, Takes, kept-so, takes-so}
@@ -19,11 +16,9 @@ use Rattle.laws_order.proofs.Putting.{Each, AnsweredAt, Awaited, each-back, each
 use Rattle.laws_order.proofs.Saying.{NotUi, each-as, event-grows, on_line}
 
 none-awaited : (to : State) → IsTrue (is_multiple_frame to) → Awaited Speaks to
-none-awaited Established up = tt
-none-awaited TimerRecovery up = tt
-none-awaited TeiAssigned up = tt
 none-awaited AwaitingEstablishment up = absurd (true≢false (sym up))
 none-awaited AwaitingRelease up = absurd (true≢false (sym up))
+none-awaited other up = tt
 
 -- Each N(R) means its value.
 its-value : (nr : Seq) → nr ≡ seq nr.value
@@ -156,9 +151,6 @@ module _ (service : Service) (tei : ℕ) where
           by-kind : First → Brought contents (a + k) l.r (line_of (record near { way = way })) → (ev : link.Event) → x.event ≡ ev → IsKind far.card.config service tei e ev
               → Last w' (dm ++ data_noted service tei t)
           by-kind first line (link.received (link.frame f)) is kind = let y = first f kind in by-control f f.control refl is y.0 y.1 y.2 y.3
-          by-kind first line (link.received link.undefined) is kind = absurd kind
-          by-kind first line (link.received link.wrong_size) is kind = absurd kind
-          by-kind first line (link.received link.overlong) is kind = absurd kind
           by-kind first line (link.expired timer) is kind =
               let ev = link.expired timer in
               then-lasts None (still line (received-then ev is l.r (timer-same Own l h.up timer (up-then ev is)).1)) x.up (speech-then ev is (λ e. cc e) tt) (noted-then ev is None (timer-delivers Own l timer))
@@ -170,7 +162,7 @@ module _ (service : Service) (tei : ℕ) where
               let p = proper service tei far h.far h.up in
               then-lasts None (still line (received-then link.offer is l.r (offer-same Own l p.ranges p.sound).1)) x.up (speech-then link.offer is (λ e. cc e) tt)
               (noted-then link.offer is None (offer-tells_nothing Own l).1)
-          by-kind first line link.cleared is kind = absurd kind
+          by-kind first line other is kind = absurd kind
 
         by-far : ((f : Parts) → IsKind far.card.config service tei e (link.received (link.frame f))
             → (top : ℕ) × (l.r ≤ top) × Brings contents (a + k) l.r top f.info f.control × Brought contents (a + k) top (line_of (record near { way = way })))

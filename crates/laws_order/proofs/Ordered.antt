@@ -1,9 +1,7 @@
 -- Whole runs of two cards whose links face each other.
-use Rattle.laws_order.proofs.Vocabulary.{◌≡◌, ℕ, zero, suc, ◌+◌, ◌<◌, ◌≤◌, ◌||◌, Bool, true, false, List, [], ◌∷◌, ◌++◌, map, take, drop, refl, sym, ap, ◌∙◌, subst, append-nil, append_assoc, true≢false, ◌⊎◌, inl, inr, All, list_any, All-nil, All-cons, All-head, All-tail, list_any-append, arith, Control, Information, ReceiveReady, ReceiveNotReady, Reject, Service, Parts, other_side, ControlFrame, Terms, Link, is_multiple_frame, frame_of, Direction, frames_of, joined-turned, Carried, Means, Piece, Rising, rising-low, Config, terms, Seen, IsFront, Station, Wire, requests, times_out, gives, takes, loses, turned, with_first_of, twice-other}
-use Rattle.std.proofs.lemmas.List.Concat.{flat_map-append}
+use Rattle.laws_order.proofs.Vocabulary.{◌≡◌, ℕ, suc, ◌+◌, ◌<◌, ◌≤◌, false, List, [], ◌∷◌, ◌++◌, map, take, drop, refl, sym, ap, ◌∙◌, subst, append-nil, append_assoc, true≢false, ◌⊎◌, inl, inr, All, list_any, All-nil, All-cons, All-head, All-tail, list_any-append, arith, Control, Information, ReceiveReady, ReceiveNotReady, Reject, Service, Parts, other_side, ControlFrame, Terms, Link, is_multiple_frame, frame_of, Direction, frames_of, joined-turned, Carried, Means, Piece, Rising, rising-low, Config, terms, Seen, IsFront, Station, Wire, requests, times_out, gives, takes, loses, turned, twice-other, flat_map-append, Deed, acts, disturbed, elsewhere, IsNotOf, IsPossibleAt, befalling, Happening, by_near, by_far, IsPossible, seen_by, seen_near, seen_far, noted_in, granted_in, data_noted, data_granted, ends_by, StaysEstablished, link_here, IsInStep, IsOfStep, AreOfStep, of_link_on, HasReceivedOf, FaceInStep, kept_by, DeliveredInOrder, or_parts}
+use Rattle.laws_wire.specs.Wire.{with_first_of}
 use Rattle.model_link.proofs.Direction.{line_of}
-use Rattle.laws_order.specs.Happenings.{Deed, acts, disturbed, elsewhere, IsNotOf, IsPossibleAt, befalling, Happening, by_near, by_far, IsPossible, seen_by, seen_near, seen_far}
-use Rattle.laws_order.specs.Order.{noted_in, granted_in, data_noted, data_granted, ends_by, StaysEstablished, link_here, IsInStep, IsOfStep, AreOfStep, of_link_on, HasReceivedOf, FaceInStep, kept_by, DeliveredInOrder}
 use Rattle.laws_order.proofs.Leading.{near-led}
 use Rattle.laws_order.proofs.Lasting.{carried-brought, rising-speaks}
 use Rattle.laws_order.proofs.NearOver.{Lasts, near-goes}
@@ -41,13 +39,8 @@ far-place (disturbed what) w = same-place w.far
 far-place (elsewhere e) w = same-place w.far
 
 both-parts : (n : ℕ) (xs : List (List ℕ)) → xs ≡ take n xs ++ drop n xs
-both-parts zero xs = refl
-both-parts (suc n) [] = refl
 both-parts (suc n) (x ∷ xs) = ap (λ ys. x ∷ ys) (both-parts n xs)
-
-pub or-parts : (a b : Bool) → (a || b) ≡ false → (a ≡ false) × (b ≡ false)
-or-parts true b e = absurd (true≢false e)
-or-parts false b e = (refl, e)
+both-parts other any = refl
 
 module _ (service : Service) (tei : ℕ) where
   possible-at : (s s' : Station) → StaysAt s s' → (deed : Deed) → IsPossibleAt service tei s deed → IsPossibleAt service tei s' deed
@@ -93,7 +86,7 @@ module _ (service : Service) (tei : ℕ) where
       let is : dn ≡ take r cs = h.joined.back.delivered in
       record { rest = drop r cs; whole_is = append-nil cs ∙ both-parts r cs ∙ ap (λ ds. ds ++ drop r cs) (sym (append-nil dn ∙ is)) }
 
-  noted-append : (t u : List Seen) → data_noted service tei (t ++ u) ≡ data_noted service tei t ++ data_noted service tei u
+  pub noted-append : (t u : List Seen) → data_noted service tei (t ++ u) ≡ data_noted service tei t ++ data_noted service tei u
   noted-append t u = flat_map-append (noted_in service tei) t u
 
   granted-append : (t u : List Seen) → data_granted service tei (t ++ u) ≡ data_granted service tei t ++ data_granted service tei u
@@ -112,7 +105,7 @@ module _ (service : Service) (tei : ℕ) where
   }
 
   pub both-stay : (t u : List Seen) → StaysEstablished service tei (t ++ u) → StaysEstablished service tei t × StaysEstablished service tei u
-  both-stay t u h = or-parts (list_any (ends_by service tei) t) (list_any (ends_by service tei) u) (sym (list_any-append (ends_by service tei) t u) ∙ h)
+  both-stay t u h = or_parts (list_any (ends_by service tei) t) (list_any (ends_by service tei) u) (sym (list_any-append (ends_by service tei) t u) ∙ h)
 
   unmoved : (s s' : Station) → link_here service tei s' ≡ link_here service tei s → contents_at s' ≡ contents_at s ++ []
   unmoved s s' same = ap (λ (y : Link). y.contents) same ∙ sym (append-nil (contents_at s))
@@ -120,12 +113,7 @@ module _ (service : Service) (tei : ℕ) where
   -- What happens at one end leaves the link at the other.
   pub other-link : (deed : Deed) (w : Wire) → link_here service tei (befalling deed w).far ≡ link_here service tei w.far
   other-link (acts (requests r)) w = refl
-  other-link (acts (times_out timer)) w = refl
-  other-link (acts gives) w = refl
-  other-link (acts takes) w = refl
-  other-link (acts loses) w = refl
-  other-link (disturbed what) w = refl
-  other-link (elsewhere e) w = refl
+  other-link other w = refl
 
   -- where the near end's establishment is over
   module _ (contents : List (List ℕ)) (a k : ℕ) (small : k ≤ 127) where

@@ -1,22 +1,16 @@
 -- Two cards whose links face each other: what each thing that happens makes of the two ends.
-use Rattle.laws_order.proofs.Vocabulary.{◌≡◌, ℕ, ◌+◌, ◌<◌, ◌==◌, ◌&&◌, not, Bool, true, false, cond, IsTrue, List, [], ◌∷◌, ◌++◌, map, length, take, get_or, set, Option, Some, None, IfSome, refl, sym, ap, ◌∙◌, subst, arith, append-nil, eq-eqb, true≢false, inl, inr, All, option_to_list, unwrap_or, nat_lt, list_any, option_map_or, get_or-set_same, All-nil, All-cons, All-head, Control, Information, ReceiveReady, ReceiveNotReady, Reject, Sabme, Disc, Ui, Ua, Dm, Frmr, Xid, PoolFull, Service, Parts, other_side, sapi_of, reading-again, place_of-is, Terms, LinkTimer, Link, is_multiple_frame, frame_of, Given, End, with_link, with_sent, frame_given, frames_of, given_is_frame, Joined, done-at, Means, Rising, came, is_too_short, Config, Line, fresh_line, link_in, link_of, place_in, terms, sound_in, terms_in_range, line_at, after_is_sound, has_lines, by_room, accepted, Seen, seen, is_ui, offer-tells_nothing, frames_given, Station, Wire, answered, happens, frames_by}
-use Rattle.std.proofs.lemmas.List.Concat.{flat_map-append}
+use Rattle.laws_order.proofs.Vocabulary.{◌≡◌, ℕ, ◌+◌, ◌<◌, ◌==◌, ◌&&◌, not, Bool, true, false, cond, IsTrue, List, [], ◌∷◌, ◌++◌, map, length, take, get_or, set, Option, Some, None, IfSome, refl, sym, ap, ◌∙◌, subst, arith, append-nil, eq-eqb, true≢false, inl, inr, All, option_to_list, unwrap_or, nat_lt, list_any, option_map_or, get_or-set_same, All-nil, All-cons, All-head, Control, Information, ReceiveReady, ReceiveNotReady, Reject, PoolFull, Service, Parts, other_side, sapi_of, reading-again, place_of-is, Terms, LinkTimer, Link, is_multiple_frame, frame_of, Given, End, with_link, with_sent, frame_given, frames_of, given_is_frame, Joined, done-at, Means, Rising, came, is_too_short, Config, Line, fresh_line, link_in, link_of, place_in, terms, sound_in, terms_in_range, line_at, after_is_sound, has_lines, by_room, accepted, Seen, seen, is_ui, offer-tells_nothing, frames_given, Station, Wire, answered, happens, frames_by, flat_map-append, fresh, Event, at, is_of_link, of_link_in, of_link_at, data_noted, data_granted, ends_by, of_link_on, link_here}
 use Rattle.model_bits.specs.Stream as stream
 use Rattle.model_bits.specs.declared.heard.Cause.TheVariants as cause
 use Rattle.model_link.specs.Events as link
-use Rattle.model_link.specs.Link.{fresh}
 use Rattle.model_link.specs.Machine as links
 use Rattle.model_link.specs.Sound as link_sound
 use Rattle.model_link.specs.TwoEnds as two
-use Rattle.model_line.specs.Event.{Event}
 use Rattle.model_line.specs.Machine as lines
 use Rattle.model_line.specs.Sound as line_sound
 use Rattle.model_line.specs.Taken as taken
-use Rattle.model_card.specs.Event.{at}
 use Rattle.model_card.specs.Sound as card_sound
 use Rattle.model_card.proofs.Steps.{line_sound as line_sound_at}
-use Rattle.laws_order.specs.Happenings.{is_of_link, of_link_in, of_link_at}
-use Rattle.laws_order.specs.Order.{data_noted, data_granted, ends_by, of_link_on, link_here}
 use Rattle.laws_order.proofs.Contents.{request-grows, timer-same, offer-same}
 use Rattle.laws_order.proofs.Does.{Has, LeavesIt, Does, line-does}
 use Rattle.laws_order.proofs.Shown.{none-noted, none-granted}
@@ -39,13 +33,7 @@ means-plain m (Information ns nr p) h = refl
 means-plain m (ReceiveReady nr pf) h = refl
 means-plain m (ReceiveNotReady nr pf) h = refl
 means-plain m (Reject nr pf) h = refl
-means-plain m (Sabme p) h = absurd h
-means-plain m (Disc p) h = absurd h
-means-plain m (Ui p) h = absurd h
-means-plain m (Ua f) h = absurd h
-means-plain m (Dm f) h = absurd h
-means-plain m (Frmr f) h = absurd h
-means-plain m (Xid pf) h = absurd h
+means-plain m other h = absurd h
 
 amid : (xs ys zs : List Parts) (a r : ℕ) → Rising a r ((xs ++ ys) ++ zs) → All IsPlain ys
 amid [] [] zs a r h = All-nil IsPlain

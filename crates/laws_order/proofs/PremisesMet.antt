@@ -1,14 +1,10 @@
 -- The premises of the law are met by the worked run.
-use Rattle.laws_order.proofs.Vocabulary.{◌≡◌, ℕ, ◌<◌, true, false, IsTrue, List, [], ◌∷◌, ◌++◌, refl, sym, ap, ◌∙◌, subst, arith, All, list_any, leb-true, All-nil, All-cons, User, Network, Service, Call, Packet, other_side, reading, header_of, control_of, unnumbered_of, supervisory_of, distance_of, named, seq, ReceiveNotReady, Parts, Terms, Link, is_multiple_frame, Config, terms, Assign, came, hears, expiry, request, next, fresh_is_sound, IsFront, station, assigned, calling, Station, Wire, Act, requests, times_out, gives, takes, loses, turned, acting, Doing, at_near, at_far, doing, doing_all, with_first_of}
+use Rattle.laws_order.proofs.Vocabulary.{◌≡◌, ℕ, ◌<◌, true, false, IsTrue, List, [], ◌∷◌, ◌++◌, refl, sym, ap, ◌∙◌, subst, arith, All, list_any, leb-true, All-nil, All-cons, User, Network, Service, Call, Packet, other_side, reading, header_of, control_of, unnumbered_of, supervisory_of, distance_of, named, seq, ReceiveNotReady, Parts, Terms, Link, is_multiple_frame, Config, terms, Assign, came, hears, expiry, request, next, fresh_is_sound, IsFront, station, assigned, calling, Station, Wire, Act, requests, times_out, gives, takes, loses, turned, Doing, at, acts, IsElsewhere, Happening, by_near, by_far, IsPossible, happening_all, seen_near, seen_far, t200s, IsToldAtLast, IsNotDeactivated, data_noted, data_granted, ends_by, link_here, said_by, AreOfStep, HasReceivedOf, FaceInStep, kept_by, StaysEstablished, IsToldOfRelease, news}
+use Rattle.laws_wire.specs.Wire.{acting, at_near, at_far, doing, doing_all, with_first_of}
 use Rattle.lapd_tei.specs.Events as teis
 use Rattle.model_line.specs.Machine as lines
 use Rattle.model_line.specs.Request.{Establish, SetBusy}
-use Rattle.model_card.specs.Event.{at}
-use Rattle.laws_order.specs.Happenings.{acts, disturbed, elsewhere, IsElsewhere, Happening, by_near, by_far, IsPossible, happening_all, seen_near, seen_far}
-use Rattle.laws_order.specs.InTheEnd.{t200s, IsToldAtLast, IsNotDeactivated}
-use Rattle.laws_order.specs.Order.{data_noted, data_granted, ends_by, link_here, said_by, AreOfStep, HasReceivedOf, FaceInStep, kept_by, StaysEstablished}
 use Rattle.laws_order.specs.Worked.{network, user, faces, calls_both, others_speak, both_send, is_busy, busy_run, call_far as far_stays, owes, sends_one, sends_more, more_far_stays, busy_waits, clears, cleared_stays, early, loses_first, early_stays}
-use Rattle.laws_order.specs.Release.{IsToldOfRelease, news}
 use Rattle.laws_order.specs.WorkedRelease.{releases, released, takes_two, far_lasts, awaits, both_release, both_begin_nothing}
 use Rattle.laws_order.specs.WorkedInTheEnd.{runs_on, gives_up, four_expire, gives_up_quietly, comes, comes_quietly, comes_there, comes_confirmed}
 use Rattle.laws_order.proofs.InTheEnd.{releases-are-told, both-are-told}
@@ -149,19 +145,13 @@ unfolding happening_all
 all-happened [] only w h = h
 all-happened (by_near (acts act) ∷ hs) only w h = all-happened hs only (acting act w) (acted act w h)
 all-happened (by_far (acts act) ∷ hs) only w h = all-happened hs only (doing (at_far act) w) (done (at_far act) w h)
-all-happened (by_near (disturbed what) ∷ hs) only w h = absurd only
-all-happened (by_near (elsewhere e) ∷ hs) only w h = absurd only
-all-happened (by_far (disturbed what) ∷ hs) only w h = absurd only
-all-happened (by_far (elsewhere e) ∷ hs) only w h = absurd only
+all-happened other only w h = absurd only
 
 acts-possible : (w : Wire) (hs : List Happening) → OnlyActs hs → All (IsOpen w) hs
 acts-possible w [] only = All-nil (IsOpen w)
 acts-possible w (by_near (acts act) ∷ hs) only = All-cons (IsOpen w) (by_near (acts act)) hs tt (acts-possible w hs only)
 acts-possible w (by_far (acts act) ∷ hs) only = All-cons (IsOpen w) (by_far (acts act)) hs tt (acts-possible w hs only)
-acts-possible w (by_near (disturbed what) ∷ hs) only = absurd only
-acts-possible w (by_near (elsewhere e) ∷ hs) only = absurd only
-acts-possible w (by_far (disturbed what) ∷ hs) only = absurd only
-acts-possible w (by_far (elsewhere e) ∷ hs) only = absurd only
+acts-possible w other only = absurd only
 
 -- and where something is received that is not acknowledged
 sent-well : AreWell owes

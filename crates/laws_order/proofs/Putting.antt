@@ -1,11 +1,10 @@
 -- What an event of a link puts behind the control frames that wait, and what an offer gives: of each frame a predicate holds that holds of
 -- supervisory frames, of the answers to what is heard, and of the command that the state awaits the answer to.
-use Rattle.laws_order.proofs.Vocabulary.{◌≡◌, ℕ, zero, suc, ◌+◌, ◌&&◌, ◌||◌, not, Bool, true, false, cond, IsTrue, List, [], ◌∷◌, ◌++◌, take, refl, sym, ap, ◌∙◌, append-nil, append_assoc, true≢false, slice_get, unwrap_or, nat_lt, length, Seq, seq, Control, Information, ReceiveReady, ReceiveNotReady, Reject, Sabme, Disc, Ui, Ua, Dm, Frmr, Xid, Parts, State, TeiAssigned, AwaitingEstablishment, AwaitingRelease, Established, TimerRecovery, ControlFrame, Terms, received, undefined, wrong_size, overlong, expired, requested, offer, cleared, Release, SetBusy, ClearBusy, Link, is_multiple_frame, frame_of, outstanding, course, given_of, Course, frame_given, frames_of, is_overlong, as_heard, moves, receipt_as, is_next, is_taken, to_information, to_sabme, to_disc, answers_up, answers_to, answers, is_time, command_in, commands, put, room, event-follows}
-use Rattle.model_link.specs.Events.{Event, frame, Establish, Data}
-use Rattle.model_link.specs.Machine.{after}
+use Rattle.laws_order.proofs.Vocabulary.{◌≡◌, ℕ, suc, ◌+◌, ◌&&◌, ◌||◌, not, Bool, true, false, cond, IsTrue, List, [], ◌∷◌, ◌++◌, take, refl, sym, ap, ◌∙◌, append-nil, append_assoc, true≢false, slice_get, unwrap_or, nat_lt, length, Seq, seq, Control, Information, ReceiveReady, ReceiveNotReady, Reject, Sabme, Disc, Ua, Dm, Parts, State, TeiAssigned, AwaitingEstablishment, AwaitingRelease, Established, TimerRecovery, ControlFrame, Terms, received, undefined, wrong_size, overlong, expired, requested, offer, cleared, SetBusy, ClearBusy, Link, is_multiple_frame, frame_of, outstanding, course, given_of, Course, frame_given, frames_of, is_overlong, as_heard, moves, receipt_as, is_next, is_taken, to_information, to_sabme, to_disc, answers_up, answers_to, answers, is_time, command_in, commands, put, room, event-follows, after, begun}
+use Rattle.model_link.specs.Events.{Event, frame}
 use Rattle.model_link.specs.Offers
-use Rattle.model_link.specs.Steps.{begun}
 use Rattle.model_link.specs.Words
+use Rattle.laws_wire.proofs.Replying.{at-end}
 
 -- Each of some frames, and each of some that wait.
 abbrev pub Each : (Control → Type 0) → List Parts → Type 0
@@ -58,9 +57,8 @@ module _ (P : Control → Type 0) where
   waits-append (x ∷ xs) ys h k = (h.0, waits-append xs ys h.1 k)
 
   waits-take : (n : ℕ) (ws : List ControlFrame) → EachWaits P ws → EachWaits P (take n ws)
-  waits-take zero ws h = tt
-  waits-take (suc n) [] h = tt
   waits-take (suc n) (w ∷ ws) h = (h.0, waits-take n ws h.1)
+  waits-take other any h = tt
 
   either : (b : Bool) (xs ys : List ControlFrame) → EachWaits P xs → EachWaits P ys → EachWaits P (cond b xs ys)
   either true xs ys x y = x
@@ -88,17 +86,12 @@ module _ (P : Control → Type 0) where
 
     by-sabme : (here : State) (p : Bool) → P (Ua p) × P (Dm p) → P (to_sabme here p)
     by-sabme AwaitingRelease p h = h.1
-    by-sabme TeiAssigned p h = h.0
-    by-sabme AwaitingEstablishment p h = h.0
-    by-sabme Established p h = h.0
-    by-sabme TimerRecovery p h = h.0
+    by-sabme other p h = h.0
 
     by-disc : (here : State) (p : Bool) → P (Ua p) × P (Dm p) → P (to_disc here p)
     by-disc TeiAssigned p h = h.1
     by-disc AwaitingEstablishment p h = h.1
-    by-disc AwaitingRelease p h = h.0
-    by-disc Established p h = h.0
-    by-disc TimerRecovery p h = h.0
+    by-disc other p h = h.0
 
     when-up : (command : Bool) (control : Control) → EachWaits P (cond (is_multiple_frame l.state) (answers_up command control l) [])
     when-up command control = either (is_multiple_frame l.state) _ _ (answers-up command control) tt
@@ -106,36 +99,19 @@ module _ (P : Control → Type 0) where
     answers-to : (command : Bool) (control : Control) → Answered P control → EachWaits P (answers_to command control l)
     answers-to command (Sabme p) h = (by-sabme l.state p h, tt)
     answers-to command (Disc p) h = (by-disc l.state p h, tt)
-    answers-to command (Information ns nr p) h = when-up command (Information ns nr p)
-    answers-to command (ReceiveReady nr p) h = when-up command (ReceiveReady nr p)
-    answers-to command (ReceiveNotReady nr p) h = when-up command (ReceiveNotReady nr p)
-    answers-to command (Reject nr p) h = when-up command (Reject nr p)
-    answers-to command (Ui p) h = when-up command (Ui p)
-    answers-to command (Ua f) h = when-up command (Ua f)
-    answers-to command (Dm f) h = when-up command (Dm f)
-    answers-to command (Frmr f) h = when-up command (Frmr f)
-    answers-to command (Xid pf) h = when-up command (Xid pf)
+    answers-to command other h = when-up command other
 
     its-answers : (e : Event) → AnsweredAt P e → EachWaits P (answers e l)
     its-answers (received (frame f)) h = answers-to f.address.command f.control h
-    its-answers (received undefined) h = tt
-    its-answers (received wrong_size) h = tt
-    its-answers (received overlong) h = tt
-    its-answers (requested Establish full) h = tt
-    its-answers (requested Release full) h = tt
-    its-answers (requested (Data contents) full) h = tt
     its-answers (requested SetBusy full) h = either (is_multiple_frame l.state && not l.own_busy) _ _ (receipt true l.r false, tt) tt
     its-answers (requested ClearBusy full) h = either (is_multiple_frame l.state && l.own_busy) _ _ (receipt false l.r false, tt) tt
-    its-answers (expired timer) h = tt
-    its-answers offer h = tt
-    its-answers cleared h = tt
+    its-answers other h = tt
 
     its-command : (to : State) → Awaited P to → EachWaits P (command_in to l)
-    its-command TeiAssigned h = tt
     its-command AwaitingEstablishment h = (h, tt)
     its-command AwaitingRelease h = (h, tt)
-    its-command Established h = tt
     its-command TimerRecovery h = (receipt l.own_busy l.r true, tt)
+    its-command other h = tt
 
     is-put : (e : Event) (to : State) → AnsweredAt P e → Awaited P to → EachWaits P (put e l to)
     is-put e to h a = waits-append (answers e l) (commands e l to) (its-answers e h) (either (moves l.state to || is_time e l) (command_in to l) [] (its-command to a) tt)
@@ -168,8 +144,7 @@ module _ (P : Control → Type 0) where
       waits-more (received overlong) is h a = grows (received overlong) _ _ (event-follows t (received overlong) l).leaves.waiting tt a
       waits-more (expired timer) is h a = grows (expired timer) _ _ (event-follows t (expired timer) l).leaves.waiting tt a
       waits-more (requested request full) is h a = grows (requested request full) _ _ (event-follows t (requested request full) l).leaves.waiting tt a
-      waits-more offer is h a = absurd is
-      waits-more cleared is h a = absurd is
+      waits-more other is h a = absurd is
 
       -- What an offer gives comes from what waits, or it is an I-frame, of a link in state 7, or RR.
       pub record Gives (c : Course) : Type 0 where
@@ -181,14 +156,10 @@ module _ (P : Control → Type 0) where
       by-two true u v x y = x refl
       by-two false u v x y = y
 
-      alone : (way : List Parts) (f : Parts) (ws : List ControlFrame) → ws ≡ [] → (way ++ f ∷ []) ++ frames_of t ws ≡ (way ++ frames_of t ws) ++ f ∷ []
-      alone way f [] e = append-nil (way ++ f ∷ []) ∙ sym (ap (λ xs. xs ++ f ∷ []) (append-nil way))
-      alone way f (w ∷ ws) e = absurd (cc e)
-
       one : (c : Course) (f : Parts) → P f.control → l.waiting ≡ [] → c.link.waiting ≡ l.waiting → frame_given t (given_of t l c c.sent) ≡ f ∷ [] → Gives c
       one c f is e waits gives = record {
         news = f ∷ [];
-        line = λ way. ap (λ xs. (way ++ xs) ++ frames_of t c.link.waiting) gives ∙ ap (λ ws. (way ++ f ∷ []) ++ frames_of t ws) waits ∙ alone way f l.waiting e;
+        line = λ way. ap (λ xs. (way ++ xs) ++ frames_of t c.link.waiting) gives ∙ ap (λ ws. (way ++ f ∷ []) ++ frames_of t ws) waits ∙ at-end t l way f l.waiting e;
         are = (is, tt);
       }
 
@@ -202,9 +173,7 @@ module _ (P : Control → Type 0) where
       is-up : (here : State) (a b d : Bool) → (((Offers.is_established here && a) && b) && d) ≡ true → IsTrue (is_multiple_frame here)
       is-up Established a b d e = refl
       is-up TimerRecovery a b d e = refl
-      is-up TeiAssigned a b d e = absurd (true≢false (sym e))
-      is-up AwaitingEstablishment a b d e = absurd (true≢false (sym e))
-      is-up AwaitingRelease a b d e = absurd (true≢false (sym e))
+      is-up other a b d e = absurd (true≢false (sym e))
 
       abbrev information : Parts
       information = record (frame_of t (Offers.next_information l)) { info = unwrap_or (slice_get l.contents l.s) [] }

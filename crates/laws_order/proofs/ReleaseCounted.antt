@@ -1,27 +1,18 @@
 -- An end that releases its link counts in RC the expiries of T200, until it is told.
-use Rattle.laws_order.proofs.Vocabulary.{◌≡◌, ℕ, ◌+◌, ◌≤◌, Bool, true, false, cond, List, [], ◌∷◌, ◌++◌, get_or, set, Option, Some, None, refl, sym, ap, ◌∙◌, subst, arith, true≢false, ◌⊎◌, inl, inr, All, filter, length, nat_lt, ltb-true, get_or-set_same, All-head, Note, Service, TeiAssigned, AwaitingRelease, Terms, LinkTimer, T200, T203, Link, runs, Config, hears, expiry, request, next, Line, fresh_line, link_of, place_in, terms, line_at, wants_room, has_lines, by_room, repeats_left, as_heard, is_clearing, moves, by_expiry, IsTimedIn, is_time, event-follows, timed-after, IsBy, Seen, is_own, none-ticks, own-is, Goes, event-goes, expired_of, off-fresh, nothing_yet, Station, Wire, happens}
+use Rattle.laws_order.proofs.Vocabulary.{◌≡◌, ℕ, ◌+◌, ◌≤◌, Bool, true, false, cond, List, [], ◌∷◌, ◌++◌, get_or, set, Option, Some, None, refl, sym, ap, ◌∙◌, subst, arith, true≢false, ◌⊎◌, inl, inr, All, filter, length, nat_lt, ltb-true, get_or-set_same, All-head, Note, Service, TeiAssigned, AwaitingRelease, Terms, LinkTimer, T200, T203, Link, runs, Config, hears, expiry, Line, fresh_line, link_of, place_in, terms, line_at, wants_room, has_lines, by_room, repeats_left, as_heard, is_clearing, moves, by_expiry, IsTimedIn, is_time, event-follows, timed-after, IsBy, Seen, is_own, none-ticks, own-is, Goes, event-goes, expired_of, off-fresh, nothing_yet, Station, Wire, happens, fresh, Event, at, line_of, Happening, by_near, by_far, IsPossible, happening, seen_at_near, seen_near, is_t200, t200_by, t200s, link_here, news}
 use Rattle.model_bits.specs.Stream as stream
 use Rattle.lapd_frame.specs.declared.timers.Timer.TheVariants as timers
 use Rattle.model_link.specs.Events as link
-use Rattle.model_link.specs.Link.{fresh}
 use Rattle.model_link.specs.Machine as links
-use Rattle.model_line.specs.Event.{Event}
 use Rattle.model_line.specs.Machine as lines
 use Rattle.model_line.specs.Sound as line_sound
-use Rattle.model_card.specs.Event.{at}
 use Rattle.model_card.proofs.Steps.{line_sound as sound_line}
-use Rattle.laws_wire.specs.Facing.{line_of}
-use Rattle.laws_order.specs.Happenings.{Happening, by_near, by_far, IsPossible, happening, seen_at_near, seen_near}
-use Rattle.laws_order.specs.InTheEnd.{is_t200, t200_by, t200s}
-use Rattle.laws_order.specs.Order.{link_here}
-use Rattle.laws_order.specs.Release.{news}
 use Rattle.laws_order.proofs.Pairs.{IsWell}
 use Rattle.laws_order.proofs.Released.{Occurs, nothing_there, one_there, then-well, news-append, step-six, StepSix, events_at, occurs, later}
 
 pub runs-so : (o : Option LinkTimer) → runs T200 o ≡ true → o ≡ Some T200
-runs-so None e = absurd (true≢false (sym e))
 runs-so (Some T200) e = refl
-runs-so (Some T203) e = absurd (true≢false (sym e))
+runs-so other e = absurd (true≢false (sym e))
 
 -- A link in state 6 that stays there runs T200, and RC counts its expiries, up to N200.
 pub record Counted (t : Terms) (l l' : Link) (n : ℕ) : Type 0 where
@@ -112,10 +103,7 @@ module _ (service : Service) (tei : ℕ) where
   t200-is : (e : Event) → is_t200 service tei e ≡ its-t200 (expired_of service tei e)
   t200-is (expiry (timers.T200 of by)) = by-own (is_own service tei of by)
   t200-is (expiry (timers.T203 of by)) = by-other (is_own service tei of by)
-  t200-is (expiry timers.T201) = refl
-  t200-is (hears what) = refl
-  t200-is (request r) = refl
-  t200-is next = refl
+  t200-is other = refl
 
   none-counted : (e : Event) → expired_of service tei e ≡ None → count_of e ≡ 0
   none-counted e none = ap (λ b. length (cond {A = List Event} b (e ∷ []) [])) (t200-is e ∙ ap its-t200 none)
@@ -137,14 +125,12 @@ module _ (service : Service) (tei : ℕ) where
 
     count-is : (ev : link.Event) → IsBy c e (lines.answer c e l) service tei ev → count_of e ≡ times ev
     count-is (link.received (link.frame f)) by = ap count_of by.by
-    count-is (link.received link.undefined) by = faulty by.octets _ _ by.by
-    count-is (link.received link.wrong_size) by = faulty by.octets _ _ by.by
-    count-is (link.received link.overlong) by = faulty by.octets _ _ by.by
     count-is (link.expired T200) by = ap count_of by ∙ ap (λ b. length (cond {A = List Event} b (expiry (timers.T200 service tei) ∷ []) [])) (own-is service tei)
     count-is (link.expired T203) by = ap count_of by
     count-is (link.requested asked full) by = ap count_of by.0
     count-is link.offer by = ap count_of by
     count-is link.cleared by = absurd by
+    count-is other by = faulty by.octets _ _ by.by
 
     line-counts : k.state ≡ AwaitingRelease → k.running ≡ Some T200 → k'.state ≡ AwaitingRelease → Counted Own k k' (count_of e)
     line-counts is runs-on stays = go (event-goes c e l service tei s)
@@ -181,10 +167,8 @@ module _ (service : Service) (tei : ℕ) where
     -- what finds the pool full is no expiry
     full-none : (e : Event) → wants_room (at s.line e) s.card ≡ true → count_of e ≡ 0
     unfolding lines.takes_slot
-    full-none (hears what) full = refl
     full-none (expiry timer) full = absurd (true≢false (sym full))
-    full-none (request r) full = refl
-    full-none next full = refl
+    full-none other full = refl
 
     abbrev Then : Line → Type 0
     Then x = (link_of service tei x).state ≡ AwaitingRelease → Counted (terms conf service tei) Was (link_of service tei x) (count_of e)

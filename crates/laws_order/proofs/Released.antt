@@ -1,14 +1,7 @@
 -- What an end is told of its link in state 6, and in state 4, whatever happens at it and at the other end.
-use Rattle.laws_order.proofs.Vocabulary.{◌≡◌, ℕ, List, [], ◌∷◌, ◌++◌, refl, sym, ap, ◌∙◌, subst, append-nil, ◌⊎◌, inl, inr, All, list_any, All-head, All-tail, list_any-append, Note, Service, State, TeiAssigned, AwaitingRelease, Link, came, hears, expiry, request, next, link_of, after_is_sound, Seen, seen, Station, Wire, requests, times_out, gives, takes, loses, answered, happens, turned}
-use Rattle.std.proofs.lemmas.List.Concat.{flat_map-append}
-use Rattle.model_line.specs.Event.{Event}
-use Rattle.model_card.specs.Event.{at}
-use Rattle.laws_wire.specs.Facing.{line_of}
-use Rattle.laws_order.specs.Happenings.{Deed, acts, disturbed, elsewhere, befalling, Happening, by_near, by_far, IsPossible, happening, IsPossibleAt, events_here, seen_by, seen_at_near, seen_near}
-use Rattle.laws_order.specs.Order.{noted_in, data_noted, link_here}
-use Rattle.laws_order.specs.Release.{news_in, news, begins_by, BeginsNothing, IsToldOfRelease, ReleasesEnd, ReleasedIsOver}
+use Rattle.laws_order.proofs.Vocabulary.{◌≡◌, ℕ, List, [], ◌∷◌, ◌++◌, refl, sym, ap, ◌∙◌, subst, append-nil, ◌⊎◌, inl, inr, All, list_any, All-head, All-tail, list_any-append, Note, Service, State, TeiAssigned, AwaitingRelease, Link, came, hears, expiry, request, next, link_of, after_is_sound, Seen, seen, Station, Wire, requests, times_out, gives, takes, loses, answered, happens, turned, flat_map-append, Event, at, line_of, Deed, acts, disturbed, elsewhere, befalling, Happening, by_near, by_far, IsPossible, happening, IsPossibleAt, events_here, seen_by, seen_at_near, seen_near, data_noted, link_here, news_in, news, begins_by, BeginsNothing, IsToldOfRelease, ReleasesEnd, ReleasedIsOver, or_parts}
 use Rattle.laws_order.proofs.Leading.{other-line}
-use Rattle.laws_order.proofs.Ordered.{or-parts, near-place, far-place, all-possible}
+use Rattle.laws_order.proofs.Ordered.{noted-append, near-place, far-place, all-possible}
 use Rattle.laws_order.proofs.Pairs.{IsWell, happens-well}
 use Rattle.laws_order.proofs.ReleasedAt.{Confirm, GivenUp, Confirmless, SixAt, station-six, station-four}
 
@@ -56,11 +49,8 @@ module _ (service : Service) (tei : ℕ) where
   pub news-append : (t u : List Seen) → news service tei (t ++ u) ≡ news service tei t ++ news service tei u
   news-append t u = flat_map-append (news_in service tei) t u
 
-  noted-append : (t u : List Seen) → data_noted service tei (t ++ u) ≡ data_noted service tei t ++ data_noted service tei u
-  noted-append t u = flat_map-append (noted_in service tei) t u
-
   pub both-quiet : (t u : List Seen) → BeginsNothing service tei (t ++ u) → BeginsNothing service tei t × BeginsNothing service tei u
-  both-quiet t u h = or-parts (list_any (begins_by service tei) t) (list_any (begins_by service tei) u) (sym (list_any-append (begins_by service tei) t u) ∙ h)
+  both-quiet t u h = or_parts (list_any (begins_by service tei) t) (list_any (begins_by service tei) u) (sym (list_any-append (begins_by service tei) t u) ∙ h)
 
   abbrev pub Is : List Seen → List Note → Type 0
   Is t ns = (news service tei t ≡ ns) × (data_noted service tei t ≡ [])
@@ -68,7 +58,7 @@ module _ (service : Service) (tei : ℕ) where
   pub joins : (t u : List Seen) (ns ms : List Note) → Is t ns → Is u ms → Is (t ++ u) (ns ++ ms)
   joins t u ns ms x y = (
     news-append t u ∙ ap (λ a. a ++ news service tei u) x.0 ∙ ap (λ b. ns ++ b) y.0,
-    noted-append t u ∙ ap (λ a. a ++ data_noted service tei u) x.1 ∙ y.1,
+    noted-append service tei t u ∙ ap (λ a. a ++ data_noted service tei u) x.1 ∙ y.1,
   )
 
   none-is : (t : List Seen) → t ≡ [] → Is t []
@@ -153,7 +143,7 @@ module _ (service : Service) (tei : ℕ) where
   behind-none : (t u : List Seen) → Is t [] → Released u → Released (t ++ u)
   behind-none t u x y = (
     subst (IsToldOfRelease service tei) (sym (news-append t u ∙ ap (λ a. a ++ news service tei u) x.0)) y.0,
-    noted-append t u ∙ ap (λ a. a ++ data_noted service tei u) x.1 ∙ y.1,
+    noted-append service tei t u ∙ ap (λ a. a ++ data_noted service tei u) x.1 ∙ y.1,
   )
 
   run-six : (hs : List Happening) (w : Wire) → IsWell w.near → (link_here service tei w.near).state ≡ AwaitingRelease → All (IsOpen w) hs

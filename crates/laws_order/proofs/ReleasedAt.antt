@@ -1,19 +1,13 @@
 -- What one event at an end tells of its link in state 6, and in state 4.
-use Rattle.laws_order.proofs.Vocabulary.{◌≡◌, ℕ, ◌&&◌, ◌||◌, not, Bool, true, false, cond, List, [], ◌∷◌, get_or, set, Option, Some, None, refl, sym, ap, ◌∙◌, subst, arith, append-nil, true≢false, ◌⊎◌, inl, inr, filter, option_to_list, list_any, get_or-set_same, Control, Ua, Dm, H, Note, Refusal, PoolFull, Service, TeiAssigned, AwaitingRelease, Terms, Link, state_number, Config, hears, expiry, request, next, Answer, refused, gave, Line, fresh_line, has_tei, link_of, place_in, terms, line_at, has_lines, by_room, notes_of, contents_in, is_data_of, of_link, deactivates, is_granted, IsBy, is-off, seen, is_ui, unless, no-data, on-line, own-is, leaving-due, none-filtered, others-silent, due, HasOne, HasNone, IsGivenUp, Goes, event-goes, off-fresh, Station, answered, happens}
+use Rattle.laws_order.proofs.Vocabulary.{◌≡◌, ℕ, ◌&&◌, ◌||◌, not, Bool, true, false, cond, List, [], ◌∷◌, get_or, set, Option, Some, None, refl, sym, ap, ◌∙◌, subst, arith, append-nil, true≢false, ◌⊎◌, inl, inr, filter, option_to_list, list_any, get_or-set_same, Control, Ua, Dm, H, Note, Refusal, PoolFull, Service, TeiAssigned, AwaitingRelease, Terms, Link, state_number, Config, hears, request, next, Answer, refused, gave, Line, fresh_line, has_tei, link_of, place_in, terms, line_at, has_lines, by_room, notes_of, contents_in, is_data_of, of_link, deactivates, is_granted, IsBy, is-off, seen, is_ui, unless, no-data, on-line, own-is, leaving-due, none-filtered, others-silent, due, HasOne, HasNone, IsGivenUp, event-goes, off-fresh, Station, answered, happens, fresh, Request, at, line_of, data_noted, link_here, is_unasked, is_news, news, begins_by_note, begins_by_request, begins_by, BeginsNothing}
 use Rattle.lapd_frame.specs.declared.notes.Note.TheVariants as notes
 use Rattle.model_link.specs.Events as link
-use Rattle.model_link.specs.Link.{fresh}
 use Rattle.model_link.specs.Machine as links
 use Rattle.model_line.specs.Event.{Event, told}
 use Rattle.model_line.specs.Machine as lines
-use Rattle.model_line.specs.Request.{Request}
 use Rattle.model_line.specs.Sound as line_sound
-use Rattle.model_card.specs.Event.{at}
 use Rattle.model_card.proofs.Steps.{line_sound as sound_line}
 use Rattle.laws_trace.specs.News as trace
-use Rattle.laws_wire.specs.Facing.{line_of}
-use Rattle.laws_order.specs.Order.{data_noted, link_here}
-use Rattle.laws_order.specs.Release.{is_unasked, is_news, news, begins_by_note, begins_by_request, begins_by, BeginsNothing}
 use Rattle.laws_order.proofs.Down.{Speaks}
 use Rattle.laws_order.proofs.LinkReleased.{Tells, In6, In4, Begins, AsksNothing, Confirms, ConfirmsAt, in-6, in-4}
 use Rattle.laws_order.proofs.LinkEnds.{or-true}
@@ -46,12 +40,7 @@ module _ (service : Service) (tei : ℕ) where
   fewer (notes.ReleaseIndication of by) h = h
   fewer (notes.ReleaseConfirm of by) h = h
   fewer (notes.Error of by why) h = ap (λ b. b && not (is_unasked why)) h
-  fewer (notes.Data of by) h = refl
-  fewer (notes.Unit of by) h = refl
-  fewer (notes.Assigned by) h = refl
-  fewer (notes.Removed by) h = refl
-  fewer (notes.Doubled by) h = refl
-  fewer (notes.Xid of by) h = refl
+  fewer other h = refl
 
   of-news : (ns : List Note) → News ns ≡ News (filter (trace.is_news service tei) ns)
   of-news [] = refl
@@ -87,38 +76,26 @@ module _ (service : Service) (tei : ℕ) where
 
   -- What is seen of an answer.
   news-is : (e : Event) (a : Answer) → Fits e a → news service tei (seen e a) ≡ News (notes_of a)
-  news-is (hears what) (told t) f = append-nil (News t.notes)
-  news-is (hears what) (refused why) f = refl
-  news-is (hears what) (gave frame) f = refl
-  news-is (expiry timer) (told t) f = append-nil (News t.notes)
-  news-is (expiry timer) (refused why) f = refl
-  news-is (expiry timer) (gave frame) f = refl
-  news-is (request r) (told t) f = append-nil (News t.notes)
-  news-is (request r) (refused why) f = refl
-  news-is (request r) (gave frame) f = refl
   news-is next (told t) f = absurd f
   news-is next (refused why) f = absurd f
   news-is next (gave None) f = refl
   news-is next (gave (Some frame)) f = refl
+  news-is other (told t) f = append-nil (News t.notes)
+  news-is other any f = refl
 
   none-news : (e : Event) (why : Refusal) → news service tei (seen e (refused why)) ≡ []
   none-news (hears what) why = refl
-  none-news (expiry timer) why = refl
-  none-news (request r) why = refl
-  none-news next why = refl
+  none-news other why = refl
 
   asked-begins : (r : Request) (a : Answer) → is_granted a ≡ true → begins_by_request service tei r ≡ true → list_any (begins_by service tei) (seen (request r) a) ≡ true
   asked-begins r (told t) g h = ap (λ b. b || (list_any (begins_by_note service tei) t.notes || false)) h
-  asked-begins r (refused why) g h = absurd (true≢false (sym g))
-  asked-begins r (gave frame) g h = absurd (true≢false (sym g))
+  asked-begins r other g h = absurd (true≢false (sym g))
 
   noted-begins : (e : Event) (a : Answer) → Fits e a → list_any (begins_by_note service tei) (notes_of a) ≡ true → list_any (begins_by service tei) (seen e a) ≡ true
-  noted-begins (hears what) (told t) f h = ap (λ b. b || false) h
-  noted-begins (expiry timer) (told t) f h = ap (λ b. b || false) h
   noted-begins (request r) (told t) f h = ap (λ b. begins_by_request service tei r || (b || false)) h ∙ or-true (begins_by_request service tei r)
   noted-begins next (told t) f h = absurd f
-  noted-begins e (refused why) f h = absurd (true≢false (sym h))
-  noted-begins e (gave frame) f h = absurd (true≢false (sym h))
+  noted-begins other (told t) f h = ap (λ b. b || false) h
+  noted-begins e other f h = absurd (true≢false (sym h))
 
   -- One event of a line.
   module _ (c : Config) (ranged : line_sound.IsInRange c) (l : Line) (s : line_sound.IsSound c l) (e : Event) where
@@ -215,13 +192,8 @@ module _ (service : Service) (tei : ℕ) where
 
       unconfirmed : (ev : link.Event) → IsBy c e a service tei ev → ConfirmsAt ev → Cause
       unconfirmed (link.received (link.frame f)) by h = λ none. by-ui c service tei ranged l s e Speaks Unconfirming ui-unconfirming speaks-unconfirming none.heard f by h
-      unconfirmed (link.received link.undefined) by h = absurd h
-      unconfirmed (link.received link.wrong_size) by h = absurd h
-      unconfirmed (link.received link.overlong) by h = absurd h
-      unconfirmed (link.expired timer) by h = absurd h
-      unconfirmed (link.requested asked full) by h = absurd h
-      unconfirmed link.offer by h = absurd h
       unconfirmed link.cleared by h = absurd by
+      unconfirmed other by h = absurd h
 
       one-six : k.state ≡ AwaitingRelease → Six Cause k' a
       one-six is = go (in-6 Own k is x.event)
@@ -240,13 +212,7 @@ module _ (service : Service) (tei : ℕ) where
         where
           begun : (r : Request) → e ≡ request r → is_granted a ≡ true → begins_by_request service tei r ≡ true → ⊥
           begun r is g own = true≢false (sym (asked-begins r a g own) ∙ sym (ap (λ e. list_any (begins_by service tei) (seen e a)) is) ∙ quiet)
-      asks-nothing quiet (link.requested (link.Data contents) full) by = tt
-      asks-nothing quiet (link.requested link.SetBusy full) by = tt
-      asks-nothing quiet (link.requested link.ClearBusy full) by = tt
-      asks-nothing quiet (link.received what) by = tt
-      asks-nothing quiet (link.expired timer) by = tt
-      asks-nothing quiet link.offer by = tt
-      asks-nothing quiet link.cleared by = tt
+      asks-nothing quiet other by = tt
 
       one-four : Quietly → k.state ≡ TeiAssigned → Four k' a
       one-four quiet is = go (in-4 Own k is x.event (asks-nothing quiet x.event x.by))
@@ -279,20 +245,10 @@ module _ (service : Service) (tei : ℕ) where
           go (inr y) = (ended-state, by-notes _ [] x.notes y.1)
 
     pub line-six : k.state ≡ AwaitingRelease → Six Cause k' a
-    line-six is = go (event-goes c e l service tei s)
-      where
-        go : Goes c service tei e l l' a → Six Cause k' a
-        go (inl x) = none-six x is
-        go (inr (inl x)) = one-six x is
-        go (inr (inr x)) = ended-six x is
+    line-six is = elim (event-goes c e l service tei s) [ inl x ↦ none-six x is | inr (inl x) ↦ one-six x is | inr (inr x) ↦ ended-six x is ]
 
     pub line-four : Quietly → k.state ≡ TeiAssigned → Four k' a
-    line-four quiet is = go (event-goes c e l service tei s)
-      where
-        go : Goes c service tei e l l' a → Four k' a
-        go (inl x) = none-four x is
-        go (inr (inl x)) = one-four x quiet is
-        go (inr (inr x)) = ended-four x quiet is
+    line-four quiet is = elim (event-goes c e l service tei s) [ inl x ↦ none-four x is | inr (inl x) ↦ one-four x quiet is | inr (inr x) ↦ ended-four x quiet is ]
 
   -- At a station.
   module _ (s : Station) (well : IsWell s) (e : Event) where

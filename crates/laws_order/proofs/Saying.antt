@@ -1,19 +1,13 @@
 -- The line from a station: the frames of the link that are on their way, and then those that wait; and what an event adds to it, in any
 -- state of the link.
-use Rattle.laws_order.proofs.Vocabulary.{◌≡◌, ℕ, ◌==◌, ◌&&◌, not, Bool, true, false, cond, IsTrue, List, [], ◌∷◌, ◌++◌, get_or, set, refl, sym, ap, ◌∙◌, subst, arith, append-nil, append_assoc, eq-eqb, true≢false, ◌⊎◌, inl, inr, All, option_map_or, get_or-set_same, All-nil, All-cons, Seq, Control, Information, ReceiveReady, ReceiveNotReady, Reject, Sabme, Disc, Ui, Service, Parts, sapi_of, place_of-is, Terms, Link, is_multiple_frame, frame_given, frames_of, frames-append, given_is_frame, Config, hears, Answer, heard_side, Line, fresh_line, link_in, link_of, terms, sound_in, terms_in_range, line_at, has_lines, by_room, event-follows, IsBy, sapi-is, is_for, is_ui, frames_given, Goes, event-goes, Station, answered, happens, frames_by}
-use Rattle.std.proofs.lemmas.List.Concat.{flat_map-append}
+use Rattle.laws_order.proofs.Vocabulary.{◌≡◌, ℕ, ◌==◌, ◌&&◌, not, Bool, true, false, cond, IsTrue, List, [], ◌∷◌, ◌++◌, get_or, set, refl, sym, ap, ◌∙◌, subst, arith, append-nil, append_assoc, eq-eqb, true≢false, ◌⊎◌, inl, inr, All, option_map_or, get_or-set_same, All-nil, All-cons, Seq, Control, Information, ReceiveReady, ReceiveNotReady, Reject, Sabme, Disc, Ui, Service, Parts, sapi_of, place_of-is, Terms, Link, is_multiple_frame, frame_given, frames_of, frames-append, given_is_frame, Config, hears, Answer, heard_side, Line, fresh_line, link_in, link_of, terms, sound_in, terms_in_range, line_at, has_lines, by_room, event-follows, IsBy, sapi-is, is_for, is_ui, frames_given, Goes, event-goes, Station, answered, happens, frames_by, flat_map-append, fresh, Event, at, is_of_link, of_link_in, of_link_at, of_link_on, link_here}
 use Rattle.model_bits.specs.Stream as stream
 use Rattle.model_link.specs.Events as link
-use Rattle.model_link.specs.Link.{fresh}
 use Rattle.model_link.specs.Machine as links
 use Rattle.model_link.specs.Sound as link_sound
-use Rattle.model_line.specs.Event.{Event}
 use Rattle.model_line.specs.Machine as lines
 use Rattle.model_line.specs.Sound as line_sound
-use Rattle.model_card.specs.Event.{at}
 use Rattle.model_card.proofs.Steps.{line_sound as sound_line}
-use Rattle.laws_order.specs.Happenings.{is_of_link, of_link_in, of_link_at}
-use Rattle.laws_order.specs.Order.{of_link_on, link_here}
 use Rattle.laws_order.proofs.Does.{all-foreign}
 use Rattle.laws_order.proofs.Down.{Unheeded, UnheededAt, stays-down}
 use Rattle.laws_order.proofs.Pairs.{IsPlain, IsWell, given-again, way_here}
@@ -104,12 +98,10 @@ module _ (c : Config) (service : Service) (tei : ℕ) where
       pub event-grows : (ev : link.Event) → (ev ≡ link.cleared → ⊥) → k' ≡ links.after Own ev k → frames ≡ frames_given c Own ev k
           → link_sound.IsInRange Own → link_sound.IsSound Own k → AnsweredAt P ev → Awaited P k'.state
           → (IsTrue (is_multiple_frame k'.state) → (ns nr : Seq) (p : Bool) → P (Information ns nr p)) → Each NotUi (frames_of Own k.waiting) → Grows
-      event-grows (link.received what) other is given ranges sound answer await says waits = put-grows (link.received what) is given tt answer await
-      event-grows (link.expired timer) other is given ranges sound answer await says waits = put-grows (link.expired timer) is given tt answer await
-      event-grows (link.requested asked full) other is given ranges sound answer await says waits = put-grows (link.requested asked full) is given tt answer await
       event-grows link.offer other is given ranges sound answer await says waits =
           offer-grows ranges sound is given (λ up. says (ap is_multiple_frame (ap (λ (y : Link). y.state) is ∙ offer-stays Own k) ∙ up)) waits
       event-grows link.cleared other is given ranges sound answer await says waits = absurd (other refl)
+      event-grows any other is given ranges sound answer await says waits = put-grows any is given tt answer await
 
   -- Any event of the line.
   module _ (ranged : line_sound.IsInRange c) (l : Line) (s : line_sound.IsSound c l) (e : Event) where
@@ -139,20 +131,11 @@ module _ (c : Config) (service : Service) (tei : ℕ) where
 
     unheeded : HeardIs Unheeded e → (ev : link.Event) → IsBy c e a service tei ev → UnheededAt ev
     unheeded heard (link.received (link.frame f)) by = by-ui Unheeded Unheeded ui-unheeded (itself Unheeded) heard f by
-    unheeded heard (link.received link.undefined) by = tt
-    unheeded heard (link.received link.wrong_size) by = tt
-    unheeded heard (link.received link.overlong) by = tt
-    unheeded heard (link.expired timer) by = tt
-    unheeded heard (link.requested asked full) by = tt
-    unheeded heard link.offer by = tt
-    unheeded heard link.cleared by = tt
+    unheeded heard other by = tt
 
     is-down : is_multiple_frame k.state ≡ false → HeardIs Unheeded e → Goes c service tei e l (lines.after c e l) a → is_multiple_frame k'.state ≡ false
-    is-down down heard (inl x) = go x.is
-      where
-        go : (k' ≡ k) ⊎ (k' ≡ fresh) → is_multiple_frame k'.state ≡ false
-        go (inl same) = ap (λ (y : Link). is_multiple_frame y.state) same ∙ down
-        go (inr new) = ap (λ (y : Link). is_multiple_frame y.state) new
+    is-down down heard (inl x) =
+        elim (x.is) [ inl same ↦ ap (λ (y : Link). is_multiple_frame y.state) same ∙ down | inr new ↦ ap (λ (y : Link). is_multiple_frame y.state) new ]
     is-down down heard (inr (inl x)) = ap (λ (y : Link). is_multiple_frame y.state) x.is ∙ stays-down Own k down x.event (unheeded heard x.event x.by)
     is-down down heard (inr (inr x)) = ap (λ (y : Link). is_multiple_frame y.state) x.is
 
@@ -165,13 +148,7 @@ module _ (c : Config) (service : Service) (tei : ℕ) where
 
       answers : HeardIs (Answered P) e → (ev : link.Event) → IsBy c e a service tei ev → AnsweredAt P ev
       answers heard (link.received (link.frame f)) by = by-ui (Answered P) (Answered P) (ui-answered P) (itself (Answered P)) heard f by
-      answers heard (link.received link.undefined) by = tt
-      answers heard (link.received link.wrong_size) by = tt
-      answers heard (link.received link.overlong) by = tt
-      answers heard (link.expired timer) by = tt
-      answers heard (link.requested asked full) by = tt
-      answers heard link.offer by = tt
-      answers heard link.cleared by = tt
+      answers heard other by = tt
 
       none-cleared : (ev : link.Event) → IsBy c e a service tei ev → ev ≡ link.cleared → ⊥
       none-cleared ev by is = subst (IsBy c e a service tei) is by

@@ -1,26 +1,19 @@
 -- What is seen of an event with its answer, of the link of a service with a TEI.
-use Rattle.laws_order.proofs.Vocabulary.{◌≡◌, ℕ, ◌||◌, Bool, true, false, cond, List, [], Some, None, refl, sym, ap, ◌∙◌, true≢false, append-nil, option_to_list, list_any, Refusal, Service, Config, hears, expiry, request, next, Answer, refused, gave, Line, notes_of, contents_in, is_data_of, is_granted, data_asked, frame_in, seen, frames_by}
+use Rattle.laws_order.proofs.Vocabulary.{◌≡◌, ℕ, ◌||◌, Bool, true, false, cond, List, [], Some, None, refl, sym, ap, ◌∙◌, true≢false, append-nil, option_to_list, list_any, Refusal, Service, Config, hears, expiry, request, next, Answer, refused, gave, Line, notes_of, contents_in, is_data_of, is_granted, data_asked, frame_in, seen, frames_by, Request, data_noted, data_granted, ends_by_note, ends_by_request, ends_by}
 use Rattle.model_line.specs.Event.{Event, told}
 use Rattle.model_line.specs.Machine as lines
-use Rattle.model_line.specs.Request.{Request}
-use Rattle.laws_order.specs.Order.{data_noted, data_granted, ends_by_note, ends_by_request, ends_by}
 use Rattle.laws_order.proofs.LinkEnds.{or-true}
 
 -- A call for the next frame, and nothing else, is answered with one.
 abbrev pub Fits : Event → Answer → Type 0
 Fits next (told t) = ⊥
 Fits next (refused why) = ⊥
-Fits next (gave frame) = Unit {0}
-Fits (hears what) a = Unit {0}
-Fits (expiry timer) a = Unit {0}
-Fits (request r) a = Unit {0}
+Fits other any = Unit {0}
 
 pub fits : (c : Config) (e : Event) (l : Line) → Fits e (lines.answer c e l)
 unfolding lines.answer
 fits c (hears what) l = tt
-fits c (expiry timer) l = tt
-fits c (request r) l = tt
-fits c next l = tt
+fits c other l = tt
 
 pub same-frames : (a : Answer) → frames_by a ≡ frame_in a
 same-frames (told t) = refl
@@ -33,19 +26,12 @@ module _ (service : Service) (tei : ℕ) where
   noted_by a = cond (list_any (is_data_of service tei) (notes_of a)) (option_to_list (contents_in a)) []
 
   pub noted-is : (e : Event) (a : Answer) → Fits e a → data_noted service tei (seen e a) ≡ noted_by a
-  noted-is (hears what) (told t) f = append-nil (noted_by (told t))
-  noted-is (hears what) (refused why) f = refl
-  noted-is (hears what) (gave frame) f = refl
-  noted-is (expiry timer) (told t) f = append-nil (noted_by (told t))
-  noted-is (expiry timer) (refused why) f = refl
-  noted-is (expiry timer) (gave frame) f = refl
-  noted-is (request r) (told t) f = append-nil (noted_by (told t))
-  noted-is (request r) (refused why) f = refl
-  noted-is (request r) (gave frame) f = refl
   noted-is next (told t) f = absurd f
   noted-is next (refused why) f = absurd f
   noted-is next (gave None) f = refl
   noted-is next (gave (Some frame)) f = refl
+  noted-is other (told t) f = append-nil (noted_by (told t))
+  noted-is other any f = refl
 
   abbrev pub asked_in : Event → Answer → List (List ℕ)
   asked_in (request r) a = cond (is_granted a) (data_asked service tei r) []
@@ -70,27 +56,20 @@ module _ (service : Service) (tei : ℕ) where
   Notes a = list_any (ends_by_note service tei) (notes_of a)
 
   pub ends-is : (e : Event) (a : Answer) → Fits e a → Notes a ≡ true → list_any (ends_by service tei) (seen e a) ≡ true
-  ends-is (hears what) (told t) f h = ap (λ b. b || false) h
-  ends-is (expiry timer) (told t) f h = ap (λ b. b || false) h
   ends-is (request r) (told t) f h = ap (λ b. ends_by_request service tei r || (b || false)) h ∙ or-true (ends_by_request service tei r)
   ends-is next (told t) f h = absurd f
-  ends-is e (refused why) f h = absurd (true≢false (sym h))
-  ends-is e (gave frame) f h = absurd (true≢false (sym h))
+  ends-is other (told t) f h = ap (λ b. b || false) h
+  ends-is e other f h = absurd (true≢false (sym h))
 
   pub request-ends : (r : Request) (a : Answer) → is_granted a ≡ true → ends_by_request service tei r ≡ true → list_any (ends_by service tei) (seen (request r) a) ≡ true
   request-ends r (told t) g h = ap (λ b. b || (Notes (told t) || false)) h
-  request-ends r (refused why) g h = absurd (true≢false (sym g))
-  request-ends r (gave frame) g h = absurd (true≢false (sym g))
+  request-ends r other g h = absurd (true≢false (sym g))
 
   -- of a request that finds the pool full nothing is seen
   pub none-noted : (e : Event) (why : Refusal) → data_noted service tei (seen e (refused why)) ≡ []
   none-noted (hears what) why = refl
-  none-noted (expiry timer) why = refl
-  none-noted (request r) why = refl
-  none-noted next why = refl
+  none-noted other why = refl
 
   pub none-granted : (e : Event) (why : Refusal) → data_granted service tei (seen e (refused why)) ≡ []
   none-granted (hears what) why = refl
-  none-granted (expiry timer) why = refl
-  none-granted (request r) why = refl
-  none-granted next why = refl
+  none-granted other why = refl

@@ -1,6 +1,6 @@
--- The words of std and of the crates below with which the proofs of this crate speak, from where they are defined.
+-- The words of std, of the crates below and of the statements of this crate with which its proofs speak, from where they are defined.
 pub use Rattle.std.proofs.Common.{Bool, Err, IfSome, IsTrue, List, None, Ok, Option, Result, Some, [], ap, append-nil, append_assoc, arith, cond, drop, eq-eqb, eqb-true, false, get_or, inl, inr, is_some, length, length-append, length-drop, map, nat_eq, nat_lt, not, option_and_then, option_map, option_to_list, refl, reverse, set, slice_index, subst, suc, sym, take, true, true≢false, zero, ℕ, ◌%◌, ◌&&◌, ◌*◌, ◌++◌, ◌+◌, ◌-◌, ◌<◌, ◌==◌, ◌||◌, ◌∙◌, ◌∷◌, ◌≡◌, ◌≤◌, ◌⊎◌}
-pub use Rattle.std.proofs.lemmas.Bool.{and_left, and_parts, le-ltb, leb-true, ltb-false, ltb-true, ne_eqb, or_from}
+pub use Rattle.std.proofs.lemmas.Bool.{and_left, and_parts, le-ltb, leb-true, ltb-false, ltb-true, ne_eqb, or_from, or_parts}
 pub use Rattle.std.proofs.lemmas.List.{append_cancel_left, get_or-set_other, get_or-set_same, length-map, length-take-le, map-append}
 pub use Rattle.std.proofs.lemmas.List.Elements.{All-append, All-cons, All-head, All-nil, All-tail}
 pub use Rattle.std.proofs.lemmas.List.Folds.{list_any-append}
@@ -43,7 +43,7 @@ pub use Rattle.laws_line.specs.Share.{is_granted}
 pub use Rattle.laws_line.specs.Steady.{IsBy, timer_of}
 pub use Rattle.laws_link.proofs.Follows.{event-follows}
 pub use Rattle.laws_link.proofs.TimedRows.{timed-after}
-pub use Rattle.laws_link.specs.Accepted.{accepted}
+pub use Rattle.laws_link.specs.Accepted.{accepted, contents_of}
 pub use Rattle.laws_link.specs.Flags.{repeats_left, takes_contents}
 pub use Rattle.laws_link.specs.Known.{is_up, is_up_in}
 pub use Rattle.laws_link.specs.States.{as_heard, by_expiry, by_frame, by_received, by_request, is_clearing, is_faulty, is_invalid, is_overlong, moves, receipt_of, state_after}
@@ -53,7 +53,7 @@ pub use Rattle.laws_link.specs.Timed.{IsTimedIn}
 pub use Rattle.laws_link.specs.Waiting.{answers, answers_to, answers_up, command_in, commands, is_next, is_taken, is_time, put, receipt_as, room, to_disc, to_information, to_sabme}
 pub use Rattle.laws_link.specs.two.Rounds.{IsReady, IsTaken}
 pub use Rattle.laws_trace.proofs.Begins.{unless}
-pub use Rattle.laws_trace.proofs.DataAsked.{elsewhere, granted-data}
+pub use Rattle.laws_trace.proofs.DataAsked.{granted-data}
 pub use Rattle.laws_trace.proofs.DeliveriesRun.{data-noted, no-data}
 pub use Rattle.laws_trace.proofs.LinkLed.{none-ticks, on-line, own-is}
 pub use Rattle.laws_trace.proofs.NewsOfLeaving.{leaving-due}
@@ -75,10 +75,9 @@ pub use Rattle.laws_wire.proofs.Delivering.{calls-face}
 pub use Rattle.laws_wire.proofs.RestedRounds.{doing-append}
 pub use Rattle.laws_wire.proofs.Run.{calls-come-through}
 pub use Rattle.laws_wire.proofs.Spelled.{twice-other}
-pub use Rattle.laws_wire.specs.Call.{CanCall, assigned, calling, confirmed, data_told, station, told_first}
-pub use Rattle.laws_wire.specs.Facing.{Face, end_of}
-pub use Rattle.laws_wire.specs.Wire.{Act, Doing, IsStill, Station, Wire, acting, answered, at_far, at_near, comes, doing, frames_by, gives, happens, is_any, loses, requests, takes, times_out, turned, with_first_lost, with_first_of}
-unfoldable pub use Rattle.laws_wire.specs.Wire.{doing_all}
+pub use Rattle.laws_wire.specs.Call.{CanCall, IsCall, IsCallOf, assigned, calling, confirmed, data_told, station, told_first}
+pub use Rattle.laws_wire.specs.Facing.{Face, end_of, line_of}
+pub use Rattle.laws_wire.specs.Wire.{Act, Doing, IsStill, Station, Wire, answered, frames_by, gives, happens, is_any, loses, requests, takes, times_out, turned, with_first_lost}
 pub use Rattle.laws_wire.specs.Worked.{network, user}
 pub use Rattle.model_bits.specs.Bits.{bits}
 unfoldable pub use Rattle.model_bits.specs.Bits.{low_bits}
@@ -117,12 +116,12 @@ pub use Rattle.model_line.proofs.NotShort.{IsNotShort}
 pub use Rattle.model_line.proofs.Ranges.{terms_in_range}
 pub use Rattle.model_line.specs.Came.{came, is_too_short}
 pub use Rattle.model_line.specs.Effect.{Effect}
-pub use Rattle.model_line.specs.Event.{Answer, LineTold, NextFrame, expiry, gave, hears, next, nothing, refused, request}
+pub use Rattle.model_line.specs.Event.{Answer, Event, LineTold, NextFrame, expiry, gave, hears, next, nothing, refused, request}
 pub use Rattle.model_line.specs.Heard.{heard_side}
 pub use Rattle.model_line.specs.Line.{Line, fresh_line, has_tei, link_in, link_of, place_in, terms}
 pub use Rattle.model_line.specs.Machine.{aim_of}
 pub use Rattle.model_line.specs.Refusal.{refusal}
-pub use Rattle.model_line.specs.Request.{Assign}
+pub use Rattle.model_line.specs.Request.{Assign, Request}
 pub use Rattle.model_line.specs.Taken.{next_of, taken}
 pub use Rattle.model_line.specs.declared.config.Config.{Config}
 pub use Rattle.model_link.proofs.Delivering.{event-delivers}
@@ -135,9 +134,9 @@ pub use Rattle.model_link.proofs.Lines.{Carried, Carries, Means, Piece, Rising, 
 pub use Rattle.model_link.proofs.Sending.{offer-gave}
 pub use Rattle.model_link.proofs.Taking.{Advance, HasNumber, frame-taken, none-delivered}
 pub use Rattle.model_link.specs.Events.{ClearBusy, Received, Release, SetBusy, cleared, expired, offer, overlong, received, requested, undefined, wrong_size}
-pub use Rattle.model_link.specs.Link.{Link, address_at, frame_of, is_multiple_frame, may_repeat, outstanding, state_number}
-pub use Rattle.model_link.specs.Machine.{course, given_of}
-pub use Rattle.model_link.specs.Steps.{Course}
+pub use Rattle.model_link.specs.Link.{Link, address_at, frame_of, fresh, is_multiple_frame, may_repeat, outstanding, state_number}
+pub use Rattle.model_link.specs.Machine.{after, course, given_of, told}
+pub use Rattle.model_link.specs.Steps.{Course, begun}
 pub use Rattle.model_link.specs.Told.{Given, runs}
 pub use Rattle.model_link.specs.TwoEnds.{End, frame_given, with_link, with_sent}
 pub use Rattle.model_link.specs.declared.frames.ControlFrame.{ControlFrame}
@@ -146,3 +145,20 @@ pub use Rattle.model_link.specs.declared.states.State.TheVariants.{AwaitingEstab
 pub use Rattle.model_link.specs.declared.terms.Terms.{Terms}
 pub use Rattle.model_link.specs.declared.timers.LinkTimer.{LinkTimer}
 pub use Rattle.model_link.specs.declared.timers.LinkTimer.TheVariants.{T200, T203}
+pub use Rattle.laws_order.specs.Happenings.{Deed, Happening, IsElsewhere, IsNotOf, IsPossible, IsPossibleAt, acts, befalling, by_far, by_near, disturbed, elsewhere, elsewhere_on, events_here, happening, is_of_link, of_link_at, of_link_in, seen_at_near, seen_by}
+unfoldable pub use Rattle.laws_order.specs.Happenings.{happening_all, seen_far, seen_near}
+pub use Rattle.laws_order.specs.InTheEnd.{BothAreTold, IsNotDeactivated, IsToldAtLast, ReleasesAreTold, is_t200, t200_by}
+unfoldable pub use Rattle.laws_order.specs.InTheEnd.{StaysThere, t200s}
+pub use Rattle.laws_order.specs.Order.{AreOfStep, DeliveredInOrder, FaceInStep, HasReceivedOf, IsInStep, IsOfStep, StaysEstablished, data_granted, data_noted, ends_by, ends_by_note, ends_by_request, granted_in, kept_by, link_here, noted_in, of_link_on, said_by}
+pub use Rattle.laws_order.specs.Release.{BeginsNothing, IsToldOfRelease, ReleasedIsOver, ReleasesEnd, begins_by, begins_by_note, begins_by_request, is_news, is_unasked, news, news_in}
+pub use Rattle.laws_order.specs.circuit.Beats.{AllIsToldInBeats, beat, enough_beats, granted_of, longest}
+unfoldable pub use Rattle.laws_order.specs.circuit.Beats.{beats}
+pub use Rattle.laws_order.specs.circuit.Circuit.{Circuit, OctetAct, OctetDoing, Termination, asks, at_far, at_near, port_of}
+unfoldable pub use Rattle.laws_order.specs.circuit.Circuit.{doing_all}
+pub use Rattle.laws_order.specs.circuit.Mixed.{DeliveredBetweenKinds, Mixed}
+pub use Rattle.laws_order.specs.circuit.Through.{HasAllGone, IsAsked, IsTalk, IsTalkOf, IsToldAll}
+unfoldable pub use Rattle.laws_order.specs.circuit.Through.{both_call}
+pub use Rattle.laws_order.specs.circuit.WorkedCall.{begins, establishes, goes_on, sends}
+pub use Rattle.model_card.specs.Event.{at}
+pub use Rattle.model_line.specs.Sound.{IsInRange}
+pub use Rattle.std.proofs.lemmas.List.Concat.{flat_map-append}

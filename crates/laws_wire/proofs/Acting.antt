@@ -1,15 +1,10 @@
 -- What happens at one end of a wire whose link is up, where frames are lost and timers expire.
-use Rattle.laws_wire.proofs.Vocabulary.{◌≡◌, ℕ, IsTrue, List, [], ◌∷◌, ◌++◌, drop, refl, sym, ap, subst, ◌∙◌, ◌⊎◌, inl, inr, append-nil, Service, Timer, Parts, spelling, ControlFrame, LinkTimer, is_multiple_frame, course, IsInRange, End, with_link, with_sent, frames_of, Config, LineTold, expiry, request, next, at_timer, aim_of_expiry, Line, place_in, event-follows}
+use Rattle.laws_wire.proofs.Vocabulary.{◌≡◌, ℕ, IsTrue, List, [], ◌∷◌, ◌++◌, drop, refl, sym, ap, subst, ◌∙◌, ◌⊎◌, inl, inr, append-nil, Service, Timer, Parts, spelling, ControlFrame, LinkTimer, is_multiple_frame, course, IsInRange, End, with_link, with_sent, frames_of, Config, LineTold, expiry, request, next, at_timer, aim_of_expiry, Line, place_in, event-follows, IsSound, Course, line_of, Data, Station, happens, with_first_lost, comes}
 use Rattle.model_link.specs.Events as link
-use Rattle.model_link.specs.Sound.{IsSound}
-use Rattle.model_link.specs.Steps.{Course}
 use Rattle.model_link.specs.TwoEnds as two_ends
-use Rattle.model_link.proofs.Direction.{line_of}
-use Rattle.model_line.specs.Request.{Data}
-use Rattle.laws_wire.specs.Wire.{Station, happens, with_first_lost, comes}
 use Rattle.laws_wire.proofs.Asking.{with_more}
-use Rattle.laws_wire.proofs.Fair.{HasError, Fine, frame-fair, timer-fair}
-use Rattle.laws_wire.proofs.Held.{Held, TellsIt, Erred, now-erred, held-given, held-lost, taken-told, held-taken, expired-told, held-expired, Grants, held-asked}
+use Rattle.laws_wire.proofs.Fair.{Fine, frame-fair, timer-fair}
+use Rattle.laws_wire.proofs.Held.{Held, TellsIt, Erred, now-erred, held-given, held-lost, taken-told, held-taken, expired-told, held-expired, held-asked}
 use Rattle.laws_wire.proofs.Joint.{Joint, turned-joint, IsMeant, since, line-on, loses-first, Goes, waits-more, goes-on, only-link, accepts, timer-goes, timer-delivers, GivesOn, gives-on, first-means, HearsOn, hears-on}
 use Rattle.laws_wire.proofs.Standing.{IsCarried, Stands, link-sound, link-ranges}
 use Rattle.laws_wire.proofs.Talking.{Face}
@@ -66,58 +61,49 @@ module _ (service : Service) (tei place : ℕ) (past : List LineTold) (c : Confi
 
     -- it is asked to send more
     pub up-asks : (octets : List ℕ) → Acted (happens (request (Data service tei octets)) s) m first far
-    up-asks octets = go (held-asked service tei place past c s n h.held octets)
-      where
-        s' : Station
-        s' = happens (request (Data service tei octets)) s
-
-        go : (s' ≡ s) ⊎ Grants service tei place past c s n h.held octets s' → Acted s' m first far
-        go (inl same) = record { n = n; near = near; at = subst (λ x. UpAt x n m first near far) (sym same) h }
-        go (inr x) =
-            let l' = (with_more octets n).link in
-            let g : Goes n.link l' (octets ∷ []) = accepts octets n.link in
-            record {
-              n = with_more octets n;
-              near = near ++ frames_of n.terms (since ws l'.waiting);
-              at = record {
-                held = x.held;
-                up = h.up;
-                line = line-on n.terms n.way first near ws l'.waiting (since ws l'.waiting) h.line (waits-more n.link l' (octets ∷ []) g);
-                joint = goes-on n m l' (octets ∷ []) near far g h.joint;
-              };
-            }
+    up-asks octets =
+        elim (held-asked service tei place past c s n h.held octets) [
+          | inl same ↦ record { n = n; near = near; at = subst (λ x. UpAt x n m first near far) (sym same) h }
+          | inr x ↦
+              let l' = (with_more octets n).link in
+              let g : Goes n.link l' (octets ∷ []) = accepts octets n.link in
+              record {
+                n = with_more octets n;
+                near = near ++ frames_of n.terms (since ws l'.waiting);
+                at = record {
+                  held = x.held;
+                  up = h.up;
+                  line = line-on n.terms n.way first near ws l'.waiting (since ws l'.waiting) h.line (waits-more n.link l' (octets ∷ []) g);
+                  joint = goes-on n m l' (octets ∷ []) near far g h.joint;
+                };
+              }
+        ]
 
     -- a timer expires
     pub up-expires : (timer : Timer) (its : LinkTimer) → ((l : Line) → aim_of_expiry timer l ≡ at_timer service tei its (place_in l tei))
         → Acted (happens (expiry timer) s) m first far ⊎ Erred (happens (expiry timer) s)
-    up-expires timer its aims = go (timer-fair n.terms n.link h.up its).fair
-      where
-        e : link.Event
-        e = link.expired its
-
-        x : Course
-        x = course n.terms e n.link
-
-        s' : Station
-        s' = happens (expiry timer) s
-
-        go : HasError x.notes ⊎ Fine n.terms x.link.state x.notes x.delivered x.unit → Acted s' m first far ⊎ Erred s'
-        go (inl error) = inr (now-erred s s' x (expired-told service tei place past c s n h.held timer its aims) error)
-        go (inr fine) =
-            let g : Goes n.link x.link [] = timer-goes n.terms n.link h.up its fine.up in
-            let news = since ws x.link.waiting in
-            let is = only-link n e (timer-delivers n.terms n.link its) in
-            let kept : x.link.contents ≡ n.link.contents = g.same ∙ append-nil n.link.contents in
-            inl (record {
-              n = with_link e n;
-              near = near ++ frames_of n.terms news;
-              at = record {
-                held = held-expired service tei place past c s n h.held timer its aims (tells x fine) kept;
-                up = fine.up;
-                line = line-on n.terms n.way first near ws x.link.waiting news h.line (waits-more n.link x.link [] g);
-                joint = subst (λ y. Joint y m (near ++ frames_of n.terms news) far) (sym is) (goes-on n m x.link [] near far g h.joint);
-              };
-            })
+    up-expires timer its aims =
+        let e : link.Event = link.expired its in
+        let x : Course = course n.terms e n.link in
+        let s' : Station = happens (expiry timer) s in
+        elim (timer-fair n.terms n.link h.up its).fair [
+          | inl error ↦ inr (now-erred s s' x (expired-told service tei place past c s n h.held timer its aims) error)
+          | inr fine ↦
+              let g : Goes n.link x.link [] = timer-goes n.terms n.link h.up its fine.up in
+              let news = since ws x.link.waiting in
+              let is = only-link n e (timer-delivers n.terms n.link its) in
+              let kept : x.link.contents ≡ n.link.contents = g.same ∙ append-nil n.link.contents in
+              inl (record {
+                n = with_link e n;
+                near = near ++ frames_of n.terms news;
+                at = record {
+                  held = held-expired service tei place past c s n h.held timer its aims (tells x fine) kept;
+                  up = fine.up;
+                  line = line-on n.terms n.way first near ws x.link.waiting news h.line (waits-more n.link x.link [] g);
+                  joint = subst (λ y. Joint y m (near ++ frames_of n.terms news) far) (sym is) (goes-on n m x.link [] near far g h.joint);
+                };
+              })
+        ]
 
     -- it gives
     pub up-gives : Acted (happens next s) m first far
@@ -173,32 +159,24 @@ module _ (service : Service) (tei place : ℕ) (past : List LineTold) (c : Confi
   pub up-hears : (d : Config) → Face c d → (s : Station) (n m : End) (f : Parts) (first near far : List Parts) → UpAt s n m first near (f ∷ far) → IsCarried d service tei f
       → IsInRange m.terms
       → Acted (comes (spelling d.side f) s) (two_ends.with_first_lost m) first far ⊎ Erred (comes (spelling d.side f) s)
-  up-hears d face s n m f first near far h from far-ranges = go (frame-fair n.terms n.link h.up f meant.number meant.means).fair
-    where
-      meant : IsMeant f
-      meant = first-means n m f near far h.joint
-
-      e : link.Event
-      e = link.received (link.frame f)
-
-      x : Course
-      x = course n.terms e n.link
-
-      s' : Station
-      s' = comes (spelling d.side f) s
-
-      go : HasError x.notes ⊎ Fine n.terms x.link.state x.notes x.delivered x.unit → Acted s' (two_ends.with_first_lost m) first far ⊎ Erred s'
-      go (inl error) = inr (now-erred s s' x (taken-told service tei place past c s n h.held d face f from) error)
-      go (inr fine) =
-          let y : HearsOn n m f near far = hears-on n m f near far (ranges s n h.held) far-ranges (sound s n h.held) h.up fine.up h.joint in
-          let news = since n.link.waiting x.link.waiting in
-          inl (record {
-            n = with_link e n;
-            near = near ++ frames_of n.terms news;
-            at = record {
-              held = held-taken service tei place past c s n h.held d face f from (record { its_notes = fine.its_notes; no_unit = fine.no_unit }) y.contents;
-              up = fine.up;
-              line = line-on n.terms n.way first near n.link.waiting x.link.waiting news h.line y.waits;
-              joint = record { there = y.joint.there; back = y.joint.back };
-            };
-          })
+  up-hears d face s n m f first near far h from far-ranges =
+      let meant : IsMeant f = first-means n m f near far h.joint in
+      let e : link.Event = link.received (link.frame f) in
+      let x : Course = course n.terms e n.link in
+      let s' : Station = comes (spelling d.side f) s in
+      elim (frame-fair n.terms n.link h.up f meant.number meant.means).fair [
+        | inl error ↦ inr (now-erred s s' x (taken-told service tei place past c s n h.held d face f from) error)
+        | inr fine ↦
+            let y : HearsOn n m f near far = hears-on n m f near far (ranges s n h.held) far-ranges (sound s n h.held) h.up fine.up h.joint in
+            let news = since n.link.waiting x.link.waiting in
+            inl (record {
+              n = with_link e n;
+              near = near ++ frames_of n.terms news;
+              at = record {
+                held = held-taken service tei place past c s n h.held d face f from (record { its_notes = fine.its_notes; no_unit = fine.no_unit }) y.contents;
+                up = fine.up;
+                line = line-on n.terms n.way first near n.link.waiting x.link.waiting news h.line y.waits;
+                joint = record { there = y.joint.there; back = y.joint.back };
+              };
+            })
+      ]

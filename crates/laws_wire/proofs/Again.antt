@@ -1,7 +1,6 @@
 -- Where no turn is left the two cards face each other again.
-use Rattle.laws_wire.proofs.Vocabulary.{◌≡◌, ℕ, ◌<◌, [], length, flat_map, sym, ap, subst, ◌∙◌, arith, option_map_or, Service, other_side, fresh, End, Config, link_in, link_at, terms, terms_at, IsReady, IsTaken, HasArrived, Steady, nothing-given}
-use Rattle.laws_link.proofs.OfTwo.AnyOrder.{Direction}
-use Rattle.laws_wire.specs.Wire.{Station, Wire, IsStill}
+use Rattle.laws_wire.proofs.Vocabulary.{◌≡◌, ℕ, ◌<◌, [], length, flat_map, sym, ap, subst, ◌∙◌, arith, option_map_or, Service, other_side, fresh, End, Config, link_in, link_at, terms, terms_at, IsReady, IsTaken, Steady, nothing-given, Direction, Station, Wire, IsStill}
+use Rattle.laws_link.specs.two.Rounds.{HasArrived}
 use Rattle.laws_wire.specs.Facing as facing
 use Rattle.laws_wire.specs.Facing.{line_of, data_of, read_as, end_of}
 use Rattle.laws_wire.proofs.Run.{arrived, none-given, way-empty}

@@ -1,6 +1,5 @@
 -- What an event leaves as it was at a station.
-use Rattle.laws_wire.proofs.Vocabulary.{◌≡◌, Bool, true, false, cond, ℕ, List, [], ◌++◌, Option, None, Some, option_map, refl, ap, ◌∙◌, append-nil, Refusal, PoolFull, Timer, came, hears, expiry, request, next, Answer, refused, gave, unless_refused_told, of_request, Request, taken, next_of, line_at, at, wants_room}
-use Rattle.model_line.specs.Event.{Event, told}
+use Rattle.laws_wire.proofs.Vocabulary.{◌≡◌, Bool, true, false, cond, ℕ, List, [], ◌++◌, Option, None, Some, option_map, refl, ap, ◌∙◌, append-nil, Refusal, PoolFull, Timer, came, hears, expiry, request, next, Answer, refused, gave, unless_refused_told, of_request, Request, taken, next_of, line_at, at, wants_room, Event, told, drop, Wire, acting, takes, with_first_of, with_first_lost, sym}
 use Rattle.model_line.specs.Machine as lines
 use Rattle.model_line.specs.Refusal.{refusal}
 use Rattle.laws_wire.specs.Wire.{Station, answered, happens, comes, frames_by, unless_refused, contents_in}
@@ -36,8 +35,7 @@ asks-way r s = by-answer (wants_room (at s.line (request r)) s.card) (refusal s.
 -- What asks for nothing is granted nothing.
 none-granted : (a : Answer) → unless_refused a [] ≡ []
 none-granted (told t) = refl
-none-granted (refused why) = refl
-none-granted (gave o) = refl
+none-granted other = refl
 
 pub same-granted : (e : Event) (s : Station) → contents_in e ≡ [] → (happens e s).granted ≡ s.granted
 same-granted e s none =
@@ -48,3 +46,10 @@ gives-granted s = same-granted next s refl
 
 pub takes-granted : (octets : List ℕ) (s : Station) → (comes octets s).granted ≡ s.granted
 takes-granted octets s = same-granted (hears (came s.card.config.n201 octets)) s refl
+
+-- where none is on its way none is taken, and none is lost
+pub lost-none : (s : Station) → s.way ≡ [] → with_first_lost s ≡ s
+lost-none s e = λ i. record s { way = (ap (drop 1) e ∙ sym e) i }
+
+pub takes-none : (w : Wire) → w.far.way ≡ [] → acting takes w ≡ w
+takes-none w e = λ i. record { near = ap (λ way. with_first_of way w.near) e i; far = lost-none w.far e i }

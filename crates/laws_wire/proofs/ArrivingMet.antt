@@ -1,17 +1,8 @@
 -- The premises of the law on what arrives under traffic are met by the worked call.
-use Rattle.laws_wire.proofs.Vocabulary.{◌≡◌, ℕ, List, [], ◌∷◌, ◌++◌, refl, sym, ap, ◌∙◌, inl, true≢false, All, leb-true, All-nil, All-cons, Call, reading, header_of, control_of, unnumbered_of, supervisory_of, distance_of, named, seq, Established, awaits_answer}
+use Rattle.laws_wire.proofs.Vocabulary.{◌≡◌, ℕ, List, [], ◌∷◌, ◌++◌, refl, sym, ap, ◌∙◌, inl, true≢false, All, leb-true, All-nil, All-cons, Call, reading, header_of, control_of, unnumbered_of, supervisory_of, distance_of, named, seq, Established, awaits_answer, Data, Wire, requests, times_out, gives, takes, loses, Doing, at_near, at_far, doing_all, turns, confirmed, indicated, all_told, heard_in, IsRoughTalk, end_of, round, StayTimely, LosesNothing, HasCome, user, network, begins}
 use Rattle.lapd_frame.specs.declared.timers.Timer.TheVariants.{T200}
 use Rattle.lapd_tei.specs.Events as teis
 use Rattle.model_line.specs.Machine as lines
-use Rattle.model_line.specs.Request.{Data}
-use Rattle.laws_wire.specs.Wire.{Wire, requests, times_out, gives, takes, loses, Doing, at_near, at_far, doing_all, turns}
-use Rattle.laws_wire.specs.Call.{confirmed, indicated, all_told}
-use Rattle.laws_wire.specs.Losing.{heard_in, IsRoughTalk}
-use Rattle.laws_wire.specs.Facing.{end_of}
-use Rattle.laws_wire.specs.Recovering.{round}
-use Rattle.laws_wire.specs.Timely.{StayTimely}
-use Rattle.laws_wire.specs.Arriving.{LosesNothing, HasCome}
-use Rattle.laws_wire.specs.Worked.{user, network, begins}
 use Rattle.laws_wire.specs.WorkedArriving.{loses_two, goes_on, lossy, over, lossy_near, near_asked, over_still}
 use Rattle.laws_wire.proofs.PremisesMet.{can, all-rough}
 use Rattle.laws_wire.proofs.RecoveryMet.{heard-it, free}

@@ -1,11 +1,6 @@
 -- Two ends in state 7: layer 3 of one asks to send more contents, and the request is granted.
-use Rattle.laws_wire.proofs.Vocabulary.{◌≡◌, ℕ, zero, suc, ◌+◌, ◌-◌, ◌*◌, ◌<◌, ◌≤◌, Bool, false, List, [], ◌∷◌, ◌++◌, length, take, Option, None, Some, refl, sym, ap, subst, ◌∙◌, inl, inr, append-nil, arith, length-append, slice_get, All-nil, All-cons, All-append, Refusal, Parts, Terms, Link, requested, granted, begun, End, with_link, sound-after, load, weight_at, Informs, Lane, lane-order, Steady}
-use Rattle.std.specs.Prelude.{unwrap_or}
+use Rattle.laws_wire.proofs.Vocabulary.{◌≡◌, ℕ, zero, suc, ◌+◌, ◌-◌, ◌*◌, ◌<◌, ◌≤◌, Bool, false, List, [], ◌∷◌, ◌++◌, length, take, Option, None, Some, refl, sym, ap, subst, ◌∙◌, inl, inr, append-nil, arith, length-append, slice_get, All-nil, All-cons, All-append, Refusal, Parts, Terms, Link, requested, granted, begun, End, with_link, sound-after, load, weight_at, Informs, Lane, lane-order, Steady, unwrap_or, refusal, Course, IsSound, Direction}
 use Rattle.model_link.specs.Events.{Data}
-use Rattle.model_link.specs.Requests.{refusal}
-use Rattle.model_link.specs.Steps.{Course}
-use Rattle.model_link.specs.Sound.{IsSound}
-use Rattle.laws_link.proofs.OfTwo.AnyOrder.{Direction}
 
 -- contents at a place below what was there stay
 pub get-front : (xs ys : List (List ℕ)) (i : ℕ) → i < length xs → slice_get (xs ++ ys) i ≡ slice_get xs i
@@ -14,10 +9,9 @@ get-front (x ∷ xs) ys zero h = refl
 get-front (x ∷ xs) ys (suc i) h = get-front xs ys i (omega (arith, h))
 
 pub take-front : (xs ys : List (List ℕ)) (i : ℕ) → i ≤ length xs → take i (xs ++ ys) ≡ take i xs
-take-front [] ys zero h = refl
 take-front [] ys (suc i) h = absurd (omega (arith, h))
-take-front (x ∷ xs) ys zero h = refl
 take-front (x ∷ xs) ys (suc i) h = ap (λ zs. x ∷ zs) (take-front xs ys i (omega (arith, h)))
+take-front other ys zero h = refl
 
 -- so what is on its way stays what it is
 module _ (t : Terms) (cs more : List (List ℕ)) where

@@ -1,25 +1,16 @@
 -- What is awaited at a station is awaited at the end for which it stands: there a T200 that is long enough is timely.
-use Rattle.laws_wire.proofs.Vocabulary.{◌≡◌, ℕ, ◌<◌, Bool, true, false, List, [], ◌∷◌, ◌++◌, map, refl, sym, ap, subst, ◌∙◌, true≢false, All, flat_map, option_map_or, All-head, All-tail, All-weaker, Control, Information, ReceiveReady, ReceiveNotReady, Reject, Sabme, Disc, Ui, Ua, Dm, Frmr, Xid, Service, Parts, spelling, State, ControlFrame, fresh, End, Config, link_in, terms, awaits_answer, is_enquiry, is_answer, supervisory_bit, HasNo}
+use Rattle.laws_wire.proofs.Vocabulary.{◌≡◌, ℕ, ◌<◌, Bool, true, false, List, [], ◌∷◌, ◌++◌, map, refl, sym, ap, subst, ◌∙◌, true≢false, All, flat_map, option_map_or, All-head, All-tail, All-weaker, Control, ReceiveReady, ReceiveNotReady, Reject, Service, Parts, spelling, State, ControlFrame, fresh, End, Config, link_in, terms, awaits_answer, is_enquiry, is_answer, supervisory_bit, HasNo, Station, bit_of, is_poll, is_final, IsNoneOpen, MayRepeat}
 use Rattle.laws_link.specs.two.Timely as two_links
-use Rattle.laws_wire.specs.Wire.{Station}
 use Rattle.laws_wire.specs.Facing.{line_of, read_as, parts_of, end_of}
-use Rattle.laws_wire.specs.Timely.{bit_of, is_poll, is_final, IsNoneOpen, MayRepeat}
 use Rattle.laws_wire.proofs.Standing.{IsCarried, Stands}
 
 -- ---- of two links less is asked
 
 no-bit : (control : Control) → bit_of control ≡ false → supervisory_bit control ≡ false
-no-bit (Information ns nr p) e = refl
 no-bit (ReceiveReady nr pf) e = e
 no-bit (ReceiveNotReady nr pf) e = e
 no-bit (Reject nr pf) e = e
-no-bit (Sabme p) e = refl
-no-bit (Disc p) e = refl
-no-bit (Ui p) e = refl
-no-bit (Ua f) e = refl
-no-bit (Dm f) e = refl
-no-bit (Frmr f) e = refl
-no-bit (Xid pf) e = refl
+no-bit other e = refl
 
 no-enquiry : (command : Bool) (control : Control) → is_poll command control ≡ false → is_enquiry command control ≡ false
 no-enquiry true control e = no-bit control e

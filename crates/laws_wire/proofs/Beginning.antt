@@ -1,23 +1,20 @@
 -- Two cards that have just begun: each has the TEI assigned, and one is asked to establish.
-use Rattle.laws_wire.proofs.Vocabulary.{◌≡◌, ℕ, zero, suc, ◌<◌, ◌≤◌, Bool, true, false, not, cond, List, [], ◌∷◌, ◌++◌, length, get_or, set, replicate, Option, Some, None, is_some, refl, sym, ap, subst, ◌∙◌, append-nil, arith, nat_lt, option_map_or, le-ltb, lt-ltb, get_or-set_same, length-replicate, All-nil, Refusal, BadTei, NoLink, WrongState, TeiTaken, TableFull, Service, Call, Packet, empty, Places, is_on, free_place, join_at, put_on, join, is_on-at, place_of-is, table-put, table-empty, Link, fresh, serves, End, with_link, Config, Effect, at_management, of_aim, of_change, told_of_management, request, Line, fresh_line, link_number, terms, terms_at, link_at, link_of, link_in, link_count, has_tei, unless_refused, unless_refused_told, Assign, fresh_gives_nothing, ranges_of, Card, line_at, wants_room, after_is_sound, fresh_is_sound, by-two, has-place}
+use Rattle.laws_wire.proofs.Vocabulary.{◌≡◌, ℕ, zero, suc, ◌<◌, ◌≤◌, true, false, not, cond, List, [], ◌∷◌, ◌++◌, length, get_or, set, replicate, Option, Some, None, is_some, refl, sym, ap, subst, ◌∙◌, append-nil, arith, nat_lt, option_map_or, le-ltb, lt-ltb, get_or-set_same, length-replicate, All-nil, BadTei, NoLink, WrongState, TeiTaken, TableFull, Service, Call, Packet, empty, Places, is_on, free_place, join_at, put_on, join, is_on-at, place_of-is, table-put, table-empty, Link, fresh, serves, End, with_link, Config, Effect, at_management, of_aim, of_change, told_of_management, request, Line, fresh_line, link_number, terms, terms_at, link_at, link_of, link_in, link_count, has_tei, unless_refused, unless_refused_told, Assign, fresh_gives_nothing, ranges_of, Card, line_at, wants_room, after_is_sound, fresh_is_sound, by-two, has-place, Event, nothing, told, Establish, Station, answered, happens, told_by, station, assigned}
 use Rattle.lapd_tei.specs.Events as teis
 use Rattle.lapd_tei.specs.Words.{Course, begun as tei_begun}
 use Rattle.model_link.specs.Events as link
 use Rattle.model_link.specs.Machine as links
-use Rattle.model_line.specs.Event.{Event, nothing, told}
 use Rattle.model_line.specs.Machine as lines
 use Rattle.model_line.specs.Refusal.{refusal}
-use Rattle.model_line.specs.Request.{Establish}
 use Rattle.model_line.specs.Sound as line_sound
 use Rattle.model_card.specs.Card as cards
 use Rattle.model_card.specs.Event.{at as event_at}
-use Rattle.laws_wire.specs.Wire.{Station, answered, happens, told_by}
-use Rattle.laws_wire.specs.Call.{station, assigned}
 use Rattle.laws_wire.proofs.Answered.{asks-way, same-granted}
 use Rattle.laws_wire.proofs.Calling.{asked, asks-establish, told-of-establish, end}
 use Rattle.laws_wire.proofs.LineSpeaks.{Speaks}
 use Rattle.laws_wire.proofs.Standing.{IsCarried, Stands, asks-granted, link-ranges}
 use Rattle.laws_wire.proofs.Talking.{unheard, Holds, none-told}
+use Rattle.laws_wire.proofs.BothAsking.{three-pass}
 
 -- tables and lists of nothing
 none-on : (tei n : ℕ) → is_on tei (replicate n None) ≡ false
@@ -25,21 +22,18 @@ none-on tei zero = refl
 none-on tei (suc n) = none-on tei n
 
 all-fresh : (n i : ℕ) → get_or (replicate n fresh) i fresh ≡ fresh
-all-fresh zero i = refl
-all-fresh (suc n) zero = refl
 all-fresh (suc n) (suc i) = all-fresh n i
+all-fresh other any = refl
 
 set-fresh : (xs : List Link) (i j : ℕ) → ((k : ℕ) → get_or xs k fresh ≡ fresh) → get_or (set xs i fresh) j fresh ≡ fresh
-set-fresh [] i j h = refl
-set-fresh (x ∷ xs) zero zero h = refl
 set-fresh (x ∷ xs) zero (suc j) h = h (suc j)
 set-fresh (x ∷ xs) (suc i) zero h = h 0
 set-fresh (x ∷ xs) (suc i) (suc j) h = set-fresh xs i j (λ k. h (suc k))
+set-fresh other any rest h = refl
 
 all-fresh_lines : (c : Config) (n i : ℕ) → get_or (replicate n (fresh_line c)) i (fresh_line c) ≡ fresh_line c
-all-fresh_lines c zero i = refl
-all-fresh_lines c (suc n) zero = refl
 all-fresh_lines c (suc n) (suc i) = all-fresh_lines c n i
+all-fresh_lines c other any = refl
 
 -- A TEI comes to a table of free places: it is at the first.
 abbrev frees : ℕ → Places
@@ -48,9 +42,6 @@ frees n = replicate n None
 free-is : (n : ℕ) → 1 ≤ n → free_place (frees n) ≡ Some 0
 free-is zero some = absurd (omega (arith, some))
 free-is (suc k) some = ap (λ b. cond {A = Option ℕ} b (Some 0) None) (lt-ltb 0 (length (frees (suc k))) (omega arith))
-
-three-pass : (a b d : Bool) (x y z : Refusal) → a ≡ false → b ≡ false → d ≡ false → cond a (Some x) (cond b (Some y) (cond d (Some z) None)) ≡ None
-three-pass a b d x y z e e' e'' = rw (e, e', e'') refl
 
 module _ (tei n : ℕ) (some : 1 ≤ n) where
   joined : teis.course (teis.assign tei) (empty n) ≡ join tei 0 (tei_begun (empty n))

@@ -1,15 +1,10 @@
 -- What is done in a call. Layer 3 asks for the establishment of the link: in state 4 it is granted, and in any other state it is
 -- refused, which changes nothing.
-use Rattle.laws_wire.proofs.Vocabulary.{◌≡◌, ℕ, ◌≤◌, Bool, true, false, true≢false, not, cond, List, [], ◌∷◌, ◌++◌, Option, None, Some, refl, sym, ap, subst, ◌∙◌, ◌⊎◌, inl, inr, append-nil, nat_lt, option_map_or, le-ltb, Refusal, BadTei, NoLink, WrongState, Service, is_on-at, place_of-is, not_not, Terms, Link, fresh, is_down, End, with_link, Config, request, Line, link_in, link_of, has_tei, terms, unless_refused_told, of_request, bad_tei, no_link, wrong_state, Request, line_at, wants_room, is_granted, passed}
+use Rattle.laws_wire.proofs.Vocabulary.{◌≡◌, ℕ, ◌≤◌, Bool, true, false, true≢false, not, cond, List, [], ◌∷◌, ◌++◌, Option, None, Some, refl, sym, ap, subst, ◌∙◌, ◌⊎◌, inl, inr, append-nil, nat_lt, option_map_or, le-ltb, Refusal, BadTei, NoLink, WrongState, Service, is_on-at, place_of-is, not_not, Terms, Link, fresh, is_down, End, with_link, Config, request, Line, link_in, link_of, has_tei, terms, unless_refused_told, of_request, bad_tei, no_link, wrong_state, Request, line_at, wants_room, is_granted, passed, Event, Establish, Data, Station, Wire, happens, answered, requests, times_out, gives, takes, loses, Doing, at_near, at_far, IsTalkOf, IsTalk, IsCall, IsCallOf, calls_back}
 use Rattle.model_link.specs.Events as link
-use Rattle.model_line.specs.Event.{Event}
 use Rattle.model_line.specs.Machine as lines
 use Rattle.model_line.specs.Refusal.{refusal}
-use Rattle.model_line.specs.Request as asked_for
-use Rattle.model_line.specs.Request.{Establish, Data}
 use Rattle.model_card.specs.Event.{at as event_at}
-use Rattle.laws_wire.specs.Wire.{Station, Wire, happens, answered, requests, times_out, gives, takes, loses, Doing, at_near, at_far}
-use Rattle.laws_wire.specs.Call.{IsTalkOf, IsTalk, IsCall, IsCallOf, calls_back}
 use Rattle.laws_wire.proofs.Calling.{asked, asks-establish, told-of-establish, end}
 use Rattle.laws_wire.proofs.Standing.{Stands, Granted, asks-granted, asks-stands, link-ranges}
 use Rattle.laws_wire.proofs.Talking.{Past, Holds}
@@ -25,15 +20,7 @@ module _ (service : Service) (tei : ℕ) where
   asks-so : (P : Request → Type 0) → P (Establish service tei) → ((s : Service) (x : ℕ) (octets : List ℕ) → (s ≡ service) × (x ≡ tei) → P (Data s x octets)) → (r : Request) → IsCallOf service tei (requests r) → P r
   asks-so P establish contents (Establish s x) is = subst (λ s'. P (Establish s' x)) (sym is.0) (subst (λ x'. P (Establish service x')) (sym is.1) establish)
   asks-so P establish contents (Data s x octets) is = contents s x octets is
-  asks-so P establish contents (asked_for.Release s x) is = absurd is
-  asks-so P establish contents (asked_for.Unit s x octets) is = absurd is
-  asks-so P establish contents (asked_for.Assign x) is = absurd is
-  asks-so P establish contents (asked_for.Remove x) is = absurd is
-  asks-so P establish contents (asked_for.Check x) is = absurd is
-  asks-so P establish contents (asked_for.SetBusy s x) is = absurd is
-  asks-so P establish contents (asked_for.ClearBusy s x) is = absurd is
-  asks-so P establish contents (asked_for.Deactivate s x) is = absurd is
-  asks-so P establish contents asked_for.Down is = absurd is
+  asks-so P establish contents other is = absurd is
 
   pub kind : (k : Doing) → IsCall service tei k → Kind k
   kind (at_near (requests r)) is = asks-so (λ r. Kind (at_near (requests r))) (near_calls refl) (λ s x octets same. talks same) r is
@@ -50,16 +37,7 @@ module _ (service : Service) (tei : ℕ) where
   -- talk calls nobody
   data-calls_not : (r : Request) → IsTalkOf service tei (requests r) → (w : Wire) → calls_back (at_far (requests r)) w ≡ false
   data-calls_not (Data s x octets) is w = refl
-  data-calls_not (Establish s x) is w = absurd is
-  data-calls_not (asked_for.Release s x) is w = absurd is
-  data-calls_not (asked_for.Unit s x octets) is w = absurd is
-  data-calls_not (asked_for.Assign x) is w = absurd is
-  data-calls_not (asked_for.Remove x) is w = absurd is
-  data-calls_not (asked_for.Check x) is w = absurd is
-  data-calls_not (asked_for.SetBusy s x) is w = absurd is
-  data-calls_not (asked_for.ClearBusy s x) is w = absurd is
-  data-calls_not (asked_for.Deactivate s x) is w = absurd is
-  data-calls_not asked_for.Down is w = absurd is
+  data-calls_not other is w = absurd is
 
   pub talk-calls_not : (k : Doing) → IsTalk service tei k → (w : Wire) → calls_back k w ≡ false
   talk-calls_not (at_near act) is w = refl
@@ -71,7 +49,7 @@ module _ (service : Service) (tei : ℕ) where
 
 -- ---- the link is asked for
 
-three-pass : (a b d : Bool) (x y z : Refusal) → a ≡ false → b ≡ false → d ≡ false → cond a (Some x) (cond b (Some y) (cond d (Some z) None)) ≡ None
+pub three-pass : (a b d : Bool) (x y z : Refusal) → a ≡ false → b ≡ false → d ≡ false → cond a (Some x) (cond b (Some y) (cond d (Some z) None)) ≡ None
 three-pass a b d x y z e e' e'' = rw (e, e', e'') refl
 
 pub record Refuses (service : Service) (tei : ℕ) (s : Station) : Type 0 where

@@ -1,12 +1,7 @@
 -- Both ends call, and SABMEs cross: how far each call has come, and what each step does.
-use Rattle.laws_wire.proofs.Vocabulary.{◌≡◌, ℕ, ◌+◌, ◌*◌, ◌<◌, ◌≤◌, true, false, cond, List, [], ◌∷◌, ◌++◌, length, map, None, refl, sym, ap, subst, ◌∙◌, ◌⊎◌, inl, inr, append-nil, arith, nat_lt, if◌then◌else◌, lt-ltb, All-nil, Service, Parts, spelling, ControlFrame, Terms, received, course, given, IsInRange, begun, End, with_link, with_sent, Config, terms, Request, next, Pair}
+use Rattle.laws_wire.proofs.Vocabulary.{◌≡◌, ℕ, ◌+◌, ◌*◌, ◌<◌, ◌≤◌, true, false, cond, List, [], ◌∷◌, ◌++◌, length, map, None, refl, sym, ap, subst, ◌∙◌, ◌⊎◌, inl, inr, append-nil, arith, nat_lt, if◌then◌else◌, lt-ltb, All-nil, Service, Parts, spelling, ControlFrame, Terms, received, course, given, IsInRange, begun, End, with_link, with_sent, Config, terms, Request, next, Pair, frame, after, refusal, Station, Wire, happens, frames_by, with_first_of, with_first_lost, Act, requests, gives, takes, acting, turned, is_turn_of, answered, comes, IsTalkOf, confirmed}
 use Rattle.model_link.specs.Events as link
-use Rattle.model_link.specs.Events.{frame}
-use Rattle.model_link.specs.Machine.{after}
-use Rattle.model_link.specs.Requests.{refusal}
 use Rattle.model_link.specs.TwoEnds as two_ends
-use Rattle.laws_wire.specs.Wire.{Station, Wire, happens, frames_by, with_first_of, with_first_lost, Act, requests, times_out, gives, takes, loses, acting, turned, is_turn_of, answered, comes}
-use Rattle.laws_wire.specs.Call.{IsTalkOf, confirmed}
 use Rattle.laws_wire.proofs.Answered.{takes-granted}
 use Rattle.laws_wire.proofs.BothHalf as half
 use Rattle.laws_wire.proofs.BothHalf.{lower}
@@ -28,27 +23,19 @@ pub data Place : Type 0 where
 -- What of its own call an end holds, and what of the other's.
 abbrev own_ring : Place → List ControlFrame
 own_ring waits = its_sabme ∷ []
-own_ring under_way = []
-own_ring answered_there = []
-own_ring returns = []
+own_ring other = []
 
 abbrev other_ring : Place → List ControlFrame
-other_ring waits = []
-other_ring under_way = []
 other_ring answered_there = its_ua ∷ []
-other_ring returns = []
+other_ring other = []
 
 abbrev own_way : Terms → Place → List Parts
-own_way t waits = []
 own_way t under_way = sabme t ∷ []
-own_way t answered_there = []
-own_way t returns = []
+own_way t other = []
 
 abbrev other_way : Terms → Place → List Parts
-other_way t waits = []
-other_way t under_way = []
-other_way t answered_there = []
 other_way t returns = ua t ∷ []
+other_way t other = []
 
 abbrev pub crossing : Terms → Place → Place → End
 crossing t own other = end t (ringing 0 (own_ring own ++ other_ring other)) (own_way t own ++ other_way t other)
@@ -56,39 +43,24 @@ crossing t own other = end t (ringing 0 (own_ring own ++ other_ring other)) (own
 -- Of one end what waits goes in order: its SABME goes before its UA.
 abbrev NotWaiting : Place → Type 0
 NotWaiting waits = ⊥
-NotWaiting under_way = Unit {0}
-NotWaiting answered_there = Unit {0}
-NotWaiting returns = Unit {0}
+NotWaiting other = Unit {0}
 
 abbrev NotReturning : Place → Type 0
-NotReturning waits = Unit {0}
-NotReturning under_way = Unit {0}
-NotReturning answered_there = Unit {0}
 NotReturning returns = ⊥
+NotReturning other = Unit {0}
 
 abbrev pub InOrder : Place → Place → Type 0
 InOrder waits other = NotReturning other
-InOrder under_way other = Unit {0}
-InOrder answered_there other = Unit {0}
 InOrder returns other = NotWaiting other
+InOrder any other = Unit {0}
 
 pub turned-order : (own other : Place) → InOrder own other → InOrder other own
-turned-order waits waits h = tt
-turned-order waits under_way h = tt
-turned-order waits answered_there h = tt
 turned-order waits returns h = h
-turned-order under_way waits h = tt
-turned-order under_way under_way h = tt
-turned-order under_way answered_there h = tt
-turned-order under_way returns h = tt
-turned-order answered_there waits h = tt
-turned-order answered_there under_way h = tt
-turned-order answered_there answered_there h = tt
-turned-order answered_there returns h = tt
 turned-order returns waits h = h
-turned-order returns under_way h = tt
-turned-order returns answered_there h = tt
-turned-order returns returns h = tt
+turned-order other under_way h = tt
+turned-order other answered_there h = tt
+turned-order other waits h = tt
+turned-order other returns h = tt
 
 abbrev pub turns_left : Place → ℕ
 turns_left waits = 4
@@ -112,9 +84,7 @@ module _ (t : Terms) (ranges : IsInRange t) (u : Terms) where
 
 few-own : (own : Place) → length (own_ring own ++ []) < 2
 few-own waits = omega arith
-few-own under_way = omega arith
-few-own answered_there = omega arith
-few-own returns = omega arith
+few-own other = omega arith
 
 module _ (service : Service) (tei : ℕ) (c d : Config) (p q : ℕ) (face : Face c d) (back : Face d c) (rt : IsInRange (terms c service tei)) (ru : IsInRange (terms d service tei)) where
   abbrev t : Terms
@@ -277,19 +247,12 @@ module _ (service : Service) (tei : ℕ) (c d : Config) (p q : ℕ) (face : Face
   gives-step w weight waits waits order both is = gives-on w weight waits waits order both is under_way waits tt refl refl refl
   gives-step w weight waits under_way order both is = gives-on w weight waits under_way order both is under_way under_way tt refl refl refl
   gives-step w weight waits answered_there order both is = gives-on w weight waits answered_there order both is under_way answered_there tt refl refl refl
-  gives-step w weight waits returns order both is = absurd order
-  gives-step w weight under_way waits order both is = gives-none w weight under_way waits order both is refl
-  gives-step w weight under_way under_way order both is = gives-none w weight under_way under_way order both is refl
   gives-step w weight under_way answered_there order both is = gives-on w weight under_way answered_there order both is under_way returns tt refl refl refl
-  gives-step w weight under_way returns order both is = gives-none w weight under_way returns order both is refl
-  gives-step w weight answered_there waits order both is = gives-none w weight answered_there waits order both is refl
-  gives-step w weight answered_there under_way order both is = gives-none w weight answered_there under_way order both is refl
   gives-step w weight answered_there answered_there order both is = gives-on w weight answered_there answered_there order both is answered_there returns tt refl refl refl
-  gives-step w weight answered_there returns order both is = gives-none w weight answered_there returns order both is refl
-  gives-step w weight returns waits order both is = absurd order
-  gives-step w weight returns under_way order both is = gives-none w weight returns under_way order both is refl
   gives-step w weight returns answered_there order both is = gives-on w weight returns answered_there order both is returns returns tt refl refl refl
-  gives-step w weight returns returns order both is = gives-none w weight returns returns order both is refl
+  gives-step w weight waits returns order both is = absurd order
+  gives-step w weight returns waits order both is = absurd order
+  gives-step w weight own other order both is = gives-none w weight own other order both is refl
 
   -- SABME is heard, whatever has become of the own one
   hears-crossing : (own : Place) → with_link (received (frame (sabme u))) (crossing t own under_way) ≡ end t (ringing 0 ((own_ring own ++ []) ++ its_ua ∷ [])) (own_way t own ++ [])
@@ -297,22 +260,12 @@ module _ (service : Service) (tei : ℕ) (c d : Config) (p q : ℕ) (face : Face
 
   takes-step : (w : Wire) (weight : ℕ) (own other : Place) → InOrder own other → Both service tei c d p q unheard unheard w (crossing t own other) (crossing u other own) → weight ≡ turns_left own + turns_left other
       → Crossed w (acting takes w) weight (turn_of w.far.way)
-  takes-step w weight waits waits order both is = takes-none w weight waits waits order both is refl
   takes-step w weight waits under_way order both is =
       takes-sabme w weight waits under_way order both is waits answered_there tt [] refl (hears-crossing waits) (told-of-crossing t rt u (own_ring waits ++ []) (few-own waits)) refl refl
-  takes-step w weight waits answered_there order both is = takes-none w weight waits answered_there order both is refl
-  takes-step w weight waits returns order both is = absurd order
-  takes-step w weight under_way waits order both is = takes-none w weight under_way waits order both is refl
   takes-step w weight under_way under_way order both is =
       takes-sabme w weight under_way under_way order both is under_way answered_there tt [] refl (hears-crossing under_way) (told-of-crossing t rt u (own_ring under_way ++ []) (few-own under_way)) refl refl
-  takes-step w weight under_way answered_there order both is = takes-none w weight under_way answered_there order both is refl
-  takes-step w weight under_way returns order both is = takes-none w weight under_way returns order both is refl
-  takes-step w weight answered_there waits order both is = takes-none w weight answered_there waits order both is refl
   takes-step w weight answered_there under_way order both is =
       takes-sabme w weight answered_there under_way order both is answered_there answered_there tt [] refl (hears-crossing answered_there) (told-of-crossing t rt u (own_ring answered_there ++ []) (few-own answered_there)) refl refl
-  takes-step w weight answered_there answered_there order both is = takes-none w weight answered_there answered_there order both is refl
-  takes-step w weight answered_there returns order both is = takes-none w weight answered_there returns order both is refl
-  takes-step w weight returns waits order both is = absurd order
   takes-step w weight returns under_way order both is =
       takes-sabme w weight returns under_way order both is returns answered_there tt (ua u ∷ []) refl (hears-crossing returns) (told-of-crossing t rt u (own_ring returns ++ []) (few-own returns)) refl refl
   takes-step w weight returns answered_there order both is =
@@ -321,11 +274,13 @@ module _ (service : Service) (tei : ℕ) (c d : Config) (p q : ℕ) (face : Face
   takes-step w weight returns returns order both is =
       takes-ua w weight returns returns order both is 1 refl refl (with_ua_first (end t caller [])) refl refl refl refl
       (λ far near. inr (inl (record { m = end t caller []; both = record { near = far; far = near }; pair = first-pair; is = refl }))) refl
+  takes-step w weight waits returns order both is = absurd order
+  takes-step w weight returns waits order both is = absurd order
+  takes-step w weight own other order both is = takes-none w weight own other order both is refl
 
   -- so each thing that is done at the near end is a step of the call
   pub near-step : (act : Act) → IsTalkOf service tei act → (w : Wire) (weight : ℕ) → IsCrossing w weight → Crossed w (acting act w) weight (if is_turn_of act w then 1 else 0)
   near-step (requests r) talk w weight h = asks w weight h.own h.other h.order h.both h.is r talk
   near-step gives talk w weight h = gives-step w weight h.own h.other h.order h.both h.is
   near-step takes talk w weight h = takes-step w weight h.own h.other h.order h.both h.is
-  near-step (times_out timer) talk w weight h = absurd talk
-  near-step loses talk w weight h = absurd talk
+  near-step other talk w weight h = absurd talk

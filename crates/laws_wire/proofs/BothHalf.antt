@@ -1,10 +1,6 @@
 -- A call of which one end is up, and its UA waits or is on its way; and then both are up.
-use Rattle.laws_wire.proofs.Vocabulary.{◌≡◌, ℕ, ◌+◌, ◌*◌, ◌≤◌, false, List, [], ◌++◌, length, None, refl, sym, ap, subst, ◌∙◌, ◌⊎◌, inl, inr, arith, if◌then◌else◌, Service, spelling, Terms, course, is_down, IsInRange, End, with_sent, Config, terms, LineTold, request, next, weight_at, Pair}
+use Rattle.laws_wire.proofs.Vocabulary.{◌≡◌, ℕ, ◌+◌, ◌*◌, ◌≤◌, false, List, [], ◌++◌, length, None, refl, sym, ap, subst, ◌∙◌, ◌⊎◌, inl, inr, arith, if◌then◌else◌, Service, spelling, Terms, course, is_down, IsInRange, End, with_sent, Config, terms, LineTold, request, next, weight_at, Pair, refusal, Data, Station, Wire, happens, frames_by, with_first_of, Act, requests, gives, takes, Doing, at_near, at_far, acting, turned, doing, is_turn_of, is_turn, answered, comes, IsTalkOf, IsTalk, confirmed}
 use Rattle.model_link.specs.Events as link
-use Rattle.model_link.specs.Requests.{refusal}
-use Rattle.model_line.specs.Request.{Data}
-use Rattle.laws_wire.specs.Wire.{Station, Wire, happens, frames_by, with_first_of, Act, requests, times_out, gives, takes, loses, Doing, at_near, at_far, acting, turned, doing, is_turn_of, is_turn, answered, comes}
-use Rattle.laws_wire.specs.Call.{IsTalkOf, IsTalk, confirmed}
 use Rattle.laws_wire.proofs.Answered.{gives-granted, takes-granted}
 use Rattle.laws_wire.proofs.Asking.{with_more}
 use Rattle.laws_wire.proofs.BothAsking.{Refuses, refuses}
@@ -74,8 +70,7 @@ module _ (service : Service) (tei : ℕ) where
     from-answered-near takes is w weight h =
         let x = quiet-takes service tei c d p q unheard second w (end t awaiting []) (with_ua_waiting h.m) h.both h.none in
         stayed w (acting takes w) weight _ x.none x.granted (inl (record { m = h.m; none = h.none; both = x.both; pair = h.pair; is = h.is }))
-    from-answered-near (times_out timer) is w weight h = absurd is
-    from-answered-near loses is w weight h = absurd is
+    from-answered-near other is w weight h = absurd is
 
     -- contents that are granted at one of a pair
     abbrev made : Wire → Station → Wire
@@ -97,19 +92,16 @@ module _ (service : Service) (tei : ℕ) where
 
       far-asks : (octets : List ℕ)
           → (happens (request (Data service tei octets)) w.far ≡ w.far) ⊎ Asks octets (happens (request (Data service tei octets)) w.far)
-      far-asks octets = go (holds-asked service tei q second d w.far (waits m) octets holds)
-        where
-          s' : Station
-          s' = happens (request (Data service tei octets)) w.far
-
-          go : (s' ≡ w.far) ⊎ More service tei q second d w.far s' (waits m) octets → (s' ≡ w.far) ⊎ Asks octets s'
-          go (inl same) = inl same
-          go (inr x) =
-              let none : refusal m.terms m.link false (link.Data octets) ≡ None = sym (same-refusal octets) ∙ x.none in
-              let own : m.terms.n201 ≡ t.n201 = ap (λ y. y.n201) (sym same-terms ∙ holds.stands.terms) ∙ back.n201 in
-              let small : length octets ≤ t.n201 = subst (λ k. length octets ≤ k) own (fits service tei q second m.terms m.link octets none) in
-              let y = more-pair octets m (end t caller []) (turned-pair (end t caller []) m up) small none in
-              inr (record { more = x; pair = turned-pair (with_more octets m) (end t caller []) y.pair; heavier = up-more (weight_at (end t caller [])) (weight_at m) (weight_at (with_more octets m)) y.heavier })
+      far-asks octets =
+          elim (holds-asked service tei q second d w.far (waits m) octets holds) [
+            | inl same ↦ inl same
+            | inr x ↦
+                let none : refusal m.terms m.link false (link.Data octets) ≡ None = sym (same-refusal octets) ∙ x.none in
+                let own : m.terms.n201 ≡ t.n201 = ap (λ y. y.n201) (sym same-terms ∙ holds.stands.terms) ∙ back.n201 in
+                let small : length octets ≤ t.n201 = subst (λ k. length octets ≤ k) own (fits service tei q second m.terms m.link octets none) in
+                let y = more-pair octets m (end t caller []) (turned-pair (end t caller []) m up) small none in
+                inr (record { more = x; pair = turned-pair (with_more octets m) (end t caller []) y.pair; heavier = up-more (weight_at (end t caller [])) (weight_at m) (weight_at (with_more octets m)) y.heavier })
+          ]
 
     answered-asks : (w : Wire) (weight : ℕ) → IsAnswered w weight → (octets : List ℕ) → Stepped w (made w (happens (request (Data service tei octets)) w.far)) weight 0
     answered-asks w weight h octets = go (far-asks w h.m h.pair with_ua_waiting refl (λ octets. refl) h.both.far octets)
@@ -155,8 +147,7 @@ module _ (service : Service) (tei : ℕ) where
         let x = quiet-takes service tei d c q p second unheard (turned w) (with_ua_waiting h.m) (end t awaiting []) (turned-both service tei c d p q unheard second w _ _ h.both) refl in
         stayed w (turned (acting takes (turned w))) weight _ x.none (turned-count w (turned (acting takes (turned w))) x.granted)
         (inl (record { m = h.m; none = h.none; both = turned-both service tei d c q p second unheard (acting takes (turned w)) (with_ua_waiting h.m) (end t awaiting []) x.both; pair = h.pair; is = h.is }))
-    from-answered-far (times_out timer) is w weight h = absurd is
-    from-answered-far loses is w weight h = absurd is
+    from-answered-far other is w weight h = absurd is
 
     -- UA is on its way, and I-frames may be behind it
     confirms : (w : Wire) (weight : ℕ) → IsAwaited w weight → Stepped w (acting takes w) weight (turn_of w.far.way)
@@ -199,8 +190,7 @@ module _ (service : Service) (tei : ℕ) where
         let x = quiet-gives service tei c d p q unheard second w (end t awaiting []) (with_ua_first h.m) h.both refl in
         stayed w (acting gives w) weight _ x.none x.granted (inr (inl (record { m = h.m; both = x.both; pair = h.pair; is = h.is })))
     from-awaited-near takes is w weight h = confirms w weight h
-    from-awaited-near (times_out timer) is w weight h = absurd is
-    from-awaited-near loses is w weight h = absurd is
+    from-awaited-near other is w weight h = absurd is
 
     awaited-asks : (w : Wire) (weight : ℕ) → IsAwaited w weight → (octets : List ℕ) → Stepped w (made w (happens (request (Data service tei octets)) w.far)) weight 0
     awaited-asks w weight h octets = go (far-asks w h.m h.pair with_ua_first refl (λ octets. refl) h.both.far octets)
@@ -252,8 +242,7 @@ module _ (service : Service) (tei : ℕ) where
         let x = quiet-takes service tei d c q p second unheard (turned w) (with_ua_first h.m) (end t awaiting []) (turned-both service tei c d p q unheard second w _ _ h.both) refl in
         stayed w (turned (acting takes (turned w))) weight _ x.none (turned-count w (turned (acting takes (turned w))) x.granted)
         (inr (inl (record { m = h.m; both = turned-both service tei d c q p second unheard (acting takes (turned w)) (with_ua_first h.m) (end t awaiting []) x.both; pair = h.pair; is = h.is })))
-    from-awaited-far (times_out timer) is w weight h = absurd is
-    from-awaited-far loses is w weight h = absurd is
+    from-awaited-far other is w weight h = absurd is
 
     -- both are up
     from-up : (k : Doing) → IsTalk service tei k → (w : Wire) (weight : ℕ) → IsUp w weight → Stepped w (doing k w) weight (if is_turn k w then 1 else 0)
@@ -269,10 +258,9 @@ module _ (service : Service) (tei : ℕ) where
     pub step : (k : Doing) → IsTalk service tei k → (w : Wire) (weight : ℕ) → Half w weight → Stepped w (doing k w) weight (if is_turn k w then 1 else 0)
     step (at_near act) is w weight (inl h) = from-answered-near act is w weight h
     step (at_near act) is w weight (inr (inl h)) = from-awaited-near act is w weight h
-    step (at_near act) is w weight (inr (inr h)) = from-up (at_near act) is w weight h
     step (at_far act) is w weight (inl h) = from-answered-far act is w weight h
     step (at_far act) is w weight (inr (inl h)) = from-awaited-far act is w weight h
-    step (at_far act) is w weight (inr (inr h)) = from-up (at_far act) is w weight h
+    step other is w weight (inr (inr h)) = from-up other is w weight h
 
     -- neither end is granted an establishment then
     pub near-refuses : (w : Wire) (weight : ℕ) → Half w weight → Refuses service tei w.near

@@ -1,9 +1,6 @@
 -- A call from its beginning: the near end calls, and the far one may call back before SABME comes; each step of it.
-use Rattle.laws_wire.proofs.Vocabulary.{◌≡◌, ℕ, ◌+◌, ◌*◌, ◌≤◌, Bool, true, false, cond, ◌||◌, [], ◌∷◌, ◌++◌, length, refl, sym, ap, subst, ◌∙◌, ◌⊎◌, inl, inr, arith, if◌then◌else◌, Service, spelling, Terms, fresh, course, IsInRange, with_link, Config, terms, next}
+use Rattle.laws_wire.proofs.Vocabulary.{◌≡◌, ℕ, ◌+◌, ◌*◌, ◌≤◌, Bool, true, false, cond, ◌||◌, [], ◌∷◌, ◌++◌, length, refl, sym, ap, subst, ◌∙◌, ◌⊎◌, inl, inr, arith, if◌then◌else◌, Service, spelling, Terms, fresh, course, IsInRange, with_link, Config, terms, next, Establish, Station, Wire, frames_by, with_first_of, Act, requests, gives, takes, Doing, at_near, at_far, acting, turned, doing, is_turn_of, is_turn, answered, comes, IsTalkOf, IsTalk, IsCall, calls_back, confirmed, indicated, told_first}
 use Rattle.model_link.specs.Events as link
-use Rattle.model_line.specs.Request.{Establish}
-use Rattle.laws_wire.specs.Wire.{Station, Wire, frames_by, with_first_of, Act, requests, times_out, gives, takes, loses, Doing, at_near, at_far, acting, turned, doing, is_turn_of, is_turn, answered, comes}
-use Rattle.laws_wire.specs.Call.{IsTalkOf, IsTalk, IsCall, calls_back, confirmed, indicated, told_first}
 use Rattle.laws_wire.proofs.Answered.{takes-granted}
 use Rattle.laws_wire.proofs.BothAsking.{Kind, talks, near_calls, far_calls, kind, talk-calls_not, Refuses, refuses, calls}
 use Rattle.laws_wire.proofs.BothHalf as half
@@ -71,8 +68,7 @@ module _ (service : Service) (tei : ℕ) where
     from-waiting-near takes is w weight h =
         let x = quiet-takes service tei c d p q unheard unheard w (end t asked []) (end u fresh []) h.both refl in
         stayed false w (acting takes w) weight _ x.none x.granted (inl (record { both = x.both; is = h.is }))
-    from-waiting-near (times_out timer) is w weight h = absurd is
-    from-waiting-near loses is w weight h = absurd is
+    from-waiting-near other is w weight h = absurd is
 
     from-waiting-far : (act : Act) → IsTalkOf service tei act → (w : Wire) (weight : ℕ) → IsWaiting w weight → Went false w (turned (acting act (turned w))) weight (if is_turn_of act (turned w) then 1 else 0)
     from-waiting-far (requests r) is w weight h =
@@ -84,8 +80,7 @@ module _ (service : Service) (tei : ℕ) where
     from-waiting-far takes is w weight h =
         let x = quiet-takes service tei d c q p unheard unheard (turned w) (end u fresh []) (end t asked []) (turned-both service tei c d p q unheard unheard w _ _ h.both) refl in
         stayed false w (turned (acting takes (turned w))) weight _ x.none (turned-count w (turned (acting takes (turned w))) x.granted) (inl (record { both = turned-both service tei d c q p unheard unheard (acting takes (turned w)) (end u fresh []) (end t asked []) x.both; is = h.is }))
-    from-waiting-far (times_out timer) is w weight h = absurd is
-    from-waiting-far loses is w weight h = absurd is
+    from-waiting-far other is w weight h = absurd is
 
     -- ---- SABME is on its way
 
@@ -99,8 +94,7 @@ module _ (service : Service) (tei : ℕ) where
     from-called-near takes is w weight h =
         let x = quiet-takes service tei c d p q unheard unheard w (end t awaiting (sabme t ∷ [])) (end u fresh []) h.both refl in
         stayed false w (acting takes w) weight _ x.none x.granted (inr (inl (record { both = x.both; is = h.is })))
-    from-called-near (times_out timer) is w weight h = absurd is
-    from-called-near loses is w weight h = absurd is
+    from-called-near other is w weight h = absurd is
 
     answers : (w : Wire) (weight : ℕ) → IsCalled w weight → Went false w (turned (acting takes (turned w))) weight (turn_of w.near.way)
     answers w weight h =
@@ -144,8 +138,7 @@ module _ (service : Service) (tei : ℕ) where
         let x = quiet-gives service tei d c q p unheard unheard (turned w) (end u fresh []) (end t awaiting (sabme t ∷ [])) (turned-both service tei c d p q unheard unheard w _ _ h.both) refl in
         stayed false w (turned (acting gives (turned w))) weight _ x.none (turned-count w (turned (acting gives (turned w))) x.granted) (inr (inl (record { both = turned-both service tei d c q p unheard unheard (acting gives (turned w)) (end u fresh []) (end t awaiting (sabme t ∷ [])) x.both; is = h.is })))
     from-called-far takes is w weight h = answers w weight h
-    from-called-far (times_out timer) is w weight h = absurd is
-    from-called-far loses is w weight h = absurd is
+    from-called-far other is w weight h = absurd is
 
     -- ---- one end is up, or both
 
@@ -244,15 +237,13 @@ module _ (service : Service) (tei : ℕ) where
     talk-step : (both : Bool) (k : Doing) → IsTalk service tei k → (w : Wire) (weight : ℕ) → Goes both w weight → Went both w (doing k w) weight (if is_turn k w then 1 else 0)
     talk-step false (at_near act) is w weight (inl h) = from-waiting-near act is w weight h
     talk-step false (at_near act) is w weight (inr (inl h)) = from-called-near act is w weight h
-    talk-step false (at_near act) is w weight (inr (inr h)) = as-half false w _ weight _ (half.step service tei (indicated service tei) c d p q face back rt (at_near act) is w weight h)
     talk-step false (at_far act) is w weight (inl h) = from-waiting-far act is w weight h
     talk-step false (at_far act) is w weight (inr (inl h)) = from-called-far act is w weight h
-    talk-step false (at_far act) is w weight (inr (inr h)) = as-half false w _ weight _ (half.step service tei (indicated service tei) c d p q face back rt (at_far act) is w weight h)
+    talk-step false other is w weight (inr (inr h)) = as-half false w _ weight _ (half.step service tei (indicated service tei) c d p q face back rt other is w weight h)
     talk-step true (at_near act) is w weight (inl h) = crossed-near act is w weight h
-    talk-step true (at_near act) is w weight (inr (inl h)) = as-half true w _ weight _ (half.step service tei (confirmed service tei) c d p q face back rt (at_near act) is w weight h)
     talk-step true (at_near act) is w weight (inr (inr h)) = first-near act is w weight h
     talk-step true (at_far act) is w weight (inl h) = crossed-far act is w weight h
-    talk-step true (at_far act) is w weight (inr (inl h)) = as-half true w _ weight _ (half.step service tei (confirmed service tei) c d p q face back rt (at_far act) is w weight h)
+    talk-step true other is w weight (inr (inl h)) = as-half true w _ weight _ (half.step service tei (confirmed service tei) c d p q face back rt other is w weight h)
     talk-step true (at_far act) is w weight (inr (inr h)) = first-far act is w weight h
 
     -- ---- the link is asked for

@@ -1,12 +1,7 @@
 -- An establishment between two links, before both are up: SABME waits and goes, then UA; behind it I-frames may be on their way.
-use Rattle.laws_wire.proofs.Vocabulary.{◌≡◌, ℕ, ◌≤◌, true, false, cond, List, [], ◌∷◌, ◌++◌, length, None, Some, refl, sym, ap, subst, ◌∙◌, arith, nat_lt, lt-ltb, All-nil, Sabme, Ua, Parts, T203, ControlFrame, Terms, Link, fresh, frame_of, received, requested, offer, course, IsInRange, begun, End, with_sent, command, response, sound-after, sound-fresh, Steady, Pair}
+use Rattle.laws_wire.proofs.Vocabulary.{◌≡◌, ℕ, ◌≤◌, true, false, cond, List, [], ◌∷◌, ◌++◌, length, None, Some, refl, sym, ap, subst, ◌∙◌, arith, nat_lt, lt-ltb, All-nil, Sabme, Ua, Parts, T203, ControlFrame, Terms, Link, fresh, frame_of, received, requested, offer, course, IsInRange, begun, End, with_sent, command, response, sound-after, sound-fresh, Steady, Pair, T200, after, refusal, IsSound, confirmed, indicated}
 use Rattle.model_link.specs.declared.states.State.TheVariants as state
-use Rattle.model_link.specs.declared.timers.LinkTimer.TheVariants.{T200}
 use Rattle.model_link.specs.Events.{frame, Establish, Data}
-use Rattle.model_link.specs.Machine.{after}
-use Rattle.model_link.specs.Requests.{refusal}
-use Rattle.model_link.specs.Sound.{IsSound}
-use Rattle.laws_wire.specs.Call.{confirmed, indicated}
 use Rattle.laws_wire.proofs.Speaking.{said_by}
 
 abbrev pub sabme : Terms → Parts

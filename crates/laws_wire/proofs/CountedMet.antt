@@ -1,15 +1,7 @@
 -- The premises of the law on counted expiries are met, by the worked call that recovers from its losses.
-use Rattle.laws_wire.proofs.Vocabulary.{◌≡◌, refl, arith, Call, reading, header_of, control_of, unnumbered_of, supervisory_of, distance_of, named, seq}
+use Rattle.laws_wire.proofs.Vocabulary.{◌≡◌, refl, arith, Call, reading, header_of, control_of, unnumbered_of, supervisory_of, distance_of, named, seq, gives, loses, at_near, doing, doing_all, turns, confirmed, heard_in, end_of, StayTimely, Counts, counting, IsBelow, StayCounted, user, network, begins, loses_three, lost}
 use Rattle.lapd_tei.specs.Events as teis
 use Rattle.model_line.specs.Machine as lines
-use Rattle.laws_wire.specs.Wire.{gives, loses, at_near, doing, doing_all, turns}
-use Rattle.laws_wire.specs.Call.{confirmed}
-use Rattle.laws_wire.specs.Losing.{heard_in}
-use Rattle.laws_wire.specs.Facing.{end_of}
-use Rattle.laws_wire.specs.Timely.{StayTimely}
-use Rattle.laws_wire.specs.Counted.{Counts, counting, IsBelow, StayCounted}
-use Rattle.laws_wire.specs.Worked.{user, network, begins}
-use Rattle.laws_wire.specs.WorkedRecovering.{loses_three, lost}
 use Rattle.laws_wire.proofs.Counting.{expiries-are-counted}
 use Rattle.laws_wire.proofs.PremisesMet.{can}
 use Rattle.laws_wire.proofs.RecoveryMet.{silent, silent-open, silent-repeats, fewer, heard-it, lost-near, rough}

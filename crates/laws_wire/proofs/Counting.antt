@@ -1,19 +1,11 @@
 -- RC is never above the number of expiries of T200 since a link was last in state 7.
-use Rattle.laws_wire.proofs.Vocabulary.{◌≡◌, ℕ, ◌+◌, ◌<◌, ◌≤◌, Bool, true, false, cond, not, ◌==◌, List, [], ◌∷◌, map, refl, sym, ap, subst, ◌∙◌, ◌⊎◌, inl, inr, true≢false, eqb-true, arith, All, All-head, All-tail, Service, Parts, spelling, State, TeiAssigned, AwaitingEstablishment, AwaitingRelease, Established, TimerRecovery, Terms, T203, Link, state_number, IsInRange, End, Config, LineTold, request, terms, awaits_answer, repeats_left, as_heard, moves, is_clearing, is_time, event-follows}
+use Rattle.laws_wire.proofs.Vocabulary.{◌≡◌, ℕ, ◌+◌, ◌<◌, ◌≤◌, Bool, true, false, cond, not, ◌==◌, List, [], ◌∷◌, map, refl, sym, ap, subst, ◌∙◌, inl, inr, true≢false, eqb-true, arith, All, All-head, All-tail, Service, Parts, spelling, State, TeiAssigned, AwaitingEstablishment, AwaitingRelease, Established, TimerRecovery, Terms, T203, Link, state_number, IsInRange, End, Config, LineTold, request, terms, awaits_answer, repeats_left, as_heard, is_clearing, is_time, event-follows, T200, after, Data, Station, Wire, happens, with_first_of, Act, requests, times_out, gives, takes, loses, Doing, at_near, at_far, acting, turned, doing, calling, IsRoughTalkOf, IsRoughTalk, end_of, IsTimelyOf, IsTimely, StayTimely, Counts, is_in_7, counted, counting, IsCountedOf, IsCounted, StayCounted, ExpiriesAreCounted}
+use Rattle.laws_link.specs.States.{moves}
 use Rattle.lapd_frame.specs.declared.timers.Timer.TheVariants as timers
-use Rattle.model_link.specs.declared.timers.LinkTimer.TheVariants.{T200}
 use Rattle.model_link.specs.Events as link
 use Rattle.model_link.specs.Events.{Event}
-use Rattle.model_link.specs.Machine.{after}
-use Rattle.model_line.specs.Request.{Data}
-use Rattle.laws_wire.specs.Wire.{Station, Wire, happens, with_first_of, Act, requests, times_out, gives, takes, loses, Doing, at_near, at_far, acting, turned, doing}
-use Rattle.laws_wire.specs.Call.{calling}
-use Rattle.laws_wire.specs.Losing.{IsRoughTalkOf, IsRoughTalk}
-use Rattle.laws_wire.specs.Facing.{end_of}
-use Rattle.laws_wire.specs.Timely.{IsTimelyOf, IsTimely, StayTimely}
-use Rattle.laws_wire.specs.Counted.{Counts, is_in_7, counted, counting, IsCountedOf, IsCounted, StayCounted, ExpiriesAreCounted}
 use Rattle.laws_wire.proofs.Awaited.{link-is}
-use Rattle.laws_wire.proofs.Held.{Held, taken-stands, Grants, held-asked}
+use Rattle.laws_wire.proofs.Held.{Held, taken-stands, held-asked}
 use Rattle.laws_wire.proofs.LossyPhases.{for-data}
 use Rattle.laws_wire.proofs.Standing.{IsCarried, Stands, gives-stands, expires-stands}
 use Rattle.laws_wire.proofs.Talking.{Face}
@@ -29,10 +21,7 @@ from i = cond (i == 4) TeiAssigned (cond (i == 5) AwaitingEstablishment (cond (i
 
 from-number : (x : State) → from (state_number x) ≡ x
 from-number TeiAssigned = refl
-from-number AwaitingEstablishment = refl
-from-number AwaitingRelease = refl
-from-number Established = refl
-from-number TimerRecovery = refl
+from-number other = refl
 
 not-false : (b : Bool) → not b ≡ false → b ≡ true
 not-false true e = refl
@@ -43,11 +32,8 @@ unmoved x y e =
     sym (from-number x) ∙ ap from (eqb-true (state_number x) (state_number y) (not-false (state_number x == state_number y) e)) ∙ from-number y
 
 not-7 : (x : State) → awaits_answer x ≡ true → (state_number x == 7) ≡ false
-not-7 TeiAssigned e = refl
-not-7 AwaitingEstablishment e = refl
-not-7 AwaitingRelease e = refl
 not-7 Established e = absurd (true≢false (sym e))
-not-7 TimerRecovery e = refl
+not-7 other e = refl
 
 -- ---- an event of a link
 
@@ -128,14 +114,12 @@ module _ (service : Service) (tei : ℕ) where
     same = as-before w.near n near.stands refl refl
 
     near-asks : (octets : List ℕ) → Below (happens (request (Data service tei octets)) w.near) (cond in_7 0 k)
-    near-asks octets = go (held-asked service tei p past c w.near n near octets)
-      where
-        s' : Station
-        s' = happens (request (Data service tei octets)) w.near
-
-        go : (s' ≡ w.near) ⊎ Grants service tei p past c w.near n near octets s' → Below s' (cond in_7 0 k)
-        go (inl e) = subst (λ s. Below s (cond in_7 0 k)) (sym e) same
-        go (inr x) = as-before s' _ x.held.stands refl refl
+    near-asks octets =
+        let s' : Station = happens (request (Data service tei octets)) w.near in
+        elim (held-asked service tei p past c w.near n near octets) [
+          | inl e ↦ subst (λ s. Below s (cond in_7 0 k)) (sym e) same
+          | inr x ↦ as-before s' _ x.held.stands refl refl
+        ]
 
     near-t200 : Below (acting (times_out (timers.T200 service tei)) w).near (cond in_7 0 (k + 1))
     near-t200 =
@@ -173,23 +157,17 @@ module _ (service : Service) (tei : ℕ) where
   -- what an end does leaves RC of the other
   far-same : (act : Act) (w : Wire) (k : ℕ) → Below w.far k → Below (acting act w).far k
   far-same (requests r) w k h = h
-  far-same (times_out timer) w k h = h
-  far-same gives w k h = h
-  far-same takes w k h = h
-  far-same loses w k h = h
+  far-same other w k h = h
 
   few : (r k i : ℕ) → r ≤ k → k < i → r < i
   few r k i h h' = omega (arith, h, h')
 
   of-act : (act : Act) → IsRoughTalkOf service tei act → (w : Wire) (k : ℕ) → Below w.near k → IsCountedOf act k w → IsTimelyOf act w
-  of-act (requests r) is w k below x = tt
   of-act (times_out timer) is w k below x =
       let n = end_of service tei w.near in
       each-timer service tei (λ timer. IsCountedOf (times_out timer) k w → IsTimelyOf (times_out timer) w)
       (λ x. (x.0, λ awaits. few n.link.repeats k n.terms.n200 (below awaits) (x.1 awaits))) (λ x. tt) timer is x
-  of-act gives is w k below x = tt
-  of-act takes is w k below x = tt
-  of-act loses is w k below x = tt
+  of-act other is w k below x = tt
 
   -- ---- the run
 

@@ -1,9 +1,7 @@
 -- Two cards that face each other deliver what layer 3 hands over.
-use Rattle.laws_wire.proofs.Vocabulary.{◌≡◌, ℕ, ◌+◌, ◌*◌, ◌≤◌, ◌==◌, ◌&&◌, ◌||◌, Bool, true, false, cond, List, [], ◌∷◌, ◌++◌, map, flat_map, refl, sym, ap, subst, ◌∙◌, append-nil, arith, eq-eqb, All, option_map_or, All-nil, Service, spelling, other_side, fresh, End, Ends, Config, LineTold, link_in, service-same, AreTurns, weight_at, IsReady, IsTaken, Pair, all-turns, nothing-to_send}
+use Rattle.laws_wire.proofs.Vocabulary.{◌≡◌, ℕ, ◌+◌, ◌*◌, ◌≤◌, ◌==◌, ◌&&◌, ◌||◌, Bool, true, false, cond, List, [], ◌∷◌, ◌++◌, map, flat_map, refl, sym, ap, subst, ◌∙◌, append-nil, arith, eq-eqb, All, option_map_or, All-nil, Service, spelling, other_side, fresh, End, Ends, Config, LineTold, link_in, service-same, AreTurns, weight_at, IsReady, IsTaken, Pair, all-turns, nothing-to_send, Station, Wire, Doing, doing_all, turns, IsStill, calling, IsTalk, confirmed, data_told, told_first, both_call}
 use Rattle.std.proofs.lemmas.Grind.{flat_map-append}
 use Rattle.model_link.specs.TwoEnds as two_ends
-use Rattle.laws_wire.specs.Wire.{Station, Wire, Doing, doing_all, turns, IsStill}
-use Rattle.laws_wire.specs.Call.{calling, IsTalk, confirmed, data_told, told_first, both_call}
 use Rattle.laws_wire.specs.Facing as facing
 use Rattle.laws_wire.specs.Facing.{line_of, data_in, data_of, read_as, end_of, granted_of, Delivers, CardsDeliver, CallsFace}
 use Rattle.laws_wire.proofs.Again.{faces-again}

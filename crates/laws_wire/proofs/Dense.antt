@@ -13,10 +13,6 @@ Dense lo hi (alien ∷ xs) = Dense lo hi xs
 
 pub dense-push : (lo hi : ℕ) (xs : List Kind) (y : Kind) → Calm y → Dense lo hi xs → Dense lo hi (xs ++ y ∷ [])
 dense-push lo hi [] (numbered ns) calm h = absurd calm
-dense-push lo hi [] enquiry calm h = h
-dense-push lo hi [] (answer nr) calm h = h
-dense-push lo hi [] report calm h = h
-dense-push lo hi [] (rejection nr) calm h = h
 dense-push lo hi [] alien calm h = absurd calm
 dense-push lo hi (numbered ns ∷ xs) y calm h = (h.0, dense-push (lo + 1) hi xs y calm h.1)
 dense-push lo hi (enquiry ∷ xs) y calm h = dense-push lo hi xs y calm h
@@ -24,6 +20,7 @@ dense-push lo hi (answer nr ∷ xs) y calm h = dense-push lo hi xs y calm h
 dense-push lo hi (report ∷ xs) y calm h = dense-push lo hi xs y calm h
 dense-push lo hi (rejection nr ∷ xs) y calm h = dense-push lo hi xs y calm h
 dense-push lo hi (alien ∷ xs) y calm h = dense-push lo hi xs y calm h
+dense-push lo hi [] other calm h = h
 
 pub dense-next : (lo hi : ℕ) (xs : List Kind) → Dense lo hi xs → Dense lo (hi + 1) (xs ++ numbered (seq hi) ∷ [])
 dense-next lo hi [] h = (ap seq (sym h), ap (λ x. x + 1) h)

@@ -1,13 +1,7 @@
 -- Two stations of which one releases the link where both rest: what each thing that is done makes of them.
-use Rattle.laws_wire.proofs.Vocabulary.{◌≡◌, ℕ, ◌+◌, ◌<◌, Bool, true, false, List, [], ◌∷◌, ◌++◌, cond, refl, sym, ap, subst, ◌∙◌, ◌⊎◌, inl, inr, append-nil, arith, All, nat_lt, flat_map, lt-ltb, All-head, All-tail, Service, Timer, Parts, spelling, Established, ControlFrame, Terms, LinkTimer, T203, Link, frame_of, course, End, with_link, response, Ua, Dm, IsInRange, begun, Config, LineTold, expiry, next, terms, HasNothingToSend, awaits_answer}
+use Rattle.laws_wire.proofs.Vocabulary.{◌≡◌, ℕ, ◌+◌, ◌<◌, Bool, true, false, List, [], ◌∷◌, ◌++◌, cond, refl, sym, ap, subst, ◌∙◌, ◌⊎◌, inl, inr, append-nil, arith, All, nat_lt, flat_map, lt-ltb, All-head, All-tail, Service, Timer, Parts, spelling, Established, ControlFrame, Terms, LinkTimer, T203, Link, frame_of, course, End, with_link, response, Ua, Dm, IsInRange, begun, Config, LineTold, expiry, next, terms, HasNothingToSend, awaits_answer, T200, Station, Wire, happens, comes, with_first_of, Act, requests, times_out, gives, takes, loses, acting, turned, Doing, at_near, at_far, doing, doing_all, end_of, is_poll, is_final, IsNoneOpen, IsTimelyOf, for_layer_3, IsLeaving, IsTimelyThere, StayTimelyThere, release_confirmed, release_indicated}
 use Rattle.lapd_frame.specs.declared.timers.Timer.TheVariants as timers
-use Rattle.model_link.specs.declared.timers.LinkTimer.TheVariants.{T200}
 use Rattle.model_link.specs.Events as link
-use Rattle.laws_wire.specs.Wire.{Station, Wire, happens, comes, with_first_of, Act, requests, times_out, gives, takes, loses, acting, turned, Doing, at_near, at_far, doing, doing_all}
-use Rattle.laws_wire.specs.Facing.{end_of}
-use Rattle.laws_wire.specs.Timely.{is_poll, is_final, IsNoneOpen, IsTimelyOf}
-use Rattle.laws_wire.specs.Losing.{for_layer_3}
-use Rattle.laws_wire.specs.Ending.{IsLeaving, IsTimelyThere, StayTimelyThere, release_confirmed, release_indicated}
 use Rattle.laws_wire.proofs.Awaited.{as-here, may-there, open-there, waits-first, goes-first}
 use Rattle.laws_wire.proofs.Leaving.{its_disc, disc, leaving, left, gone, hears-disc, told-disc, repeats-disc, repeats-untold, hears-again, told-again}
 use Rattle.laws_wire.proofs.LossyPhases.{for-timer, Aims}
@@ -229,8 +223,6 @@ module _ (service : Service) (tei : ℕ) where
 
     first-far : (k : ℕ) (w : Wire) → Are (N k (its_disc ∷ []) []) M hn hm w ⊎ Are (N k [] (disc t ∷ [])) M hn hm w ⊎ Are (N k [] []) M hn hm w
         → (act : Act) → IsLeaving service tei (at_far act) → Phase (turned (acting act (turned w)))
-    first-far k w h (requests r) is = absurd is
-    first-far k w h (times_out timer) is = absurd is
     first-far k w (inl h) gives is = inl (k, inl (far-silent (N k (its_disc ∷ []) []) M hn hm w h quiet))
     first-far k w (inl h) takes is = inl (k, inl (far-takes-none (N k (its_disc ∷ []) []) M hn hm w h refl))
     first-far k w (inl h) loses is = inl (k, inl (far-loses-none (N k (its_disc ∷ []) []) M hn hm w h refl))
@@ -240,6 +232,7 @@ module _ (service : Service) (tei : ℕ) where
     first-far k w (inr (inr h)) gives is = inl (k, inr (inr (far-silent (N k [] []) M hn hm w h quiet)))
     first-far k w (inr (inr h)) takes is = inl (k, inr (inr (far-takes-none (N k [] []) M hn hm w h refl)))
     first-far k w (inr (inr h)) loses is = inl (k, inr (inr (far-loses-none (N k [] []) M hn hm w h refl)))
+    first-far k w h other is = absurd is
 
     abbrev I : List LineTold
     I = indicated_then
@@ -289,8 +282,6 @@ module _ (service : Service) (tei : ℕ) where
         → Are (N k [] []) (G (reply b ∷ []) []) hn I w ⊎ Are (N k [] []) (G [] (frame_of u (reply b) ∷ [])) hn I w ⊎ Are (N k [] []) (G [] []) hn I w
         ⊎ Are (N k (its_disc ∷ []) []) (G [] []) hn I w ⊎ Are (N k [] (disc t ∷ [])) (G [] []) hn I w
         → (act : Act) → IsLeaving service tei (at_far act) → Told (turned (acting act (turned w)))
-    told-far k b w h (requests r) is = absurd is
-    told-far k b w h (times_out timer) is = absurd is
     told-far k b w (inl h) gives is = (k, b, inr (inl (gives-reply k w b h)))
     told-far k b w (inl h) takes is = (k, b, inl (far-takes-none (N k [] []) (G (reply b ∷ []) []) hn I w h refl))
     told-far k b w (inl h) loses is = (k, b, inl (far-loses-none (N k [] []) (G (reply b ∷ []) []) hn I w h refl))
@@ -306,6 +297,7 @@ module _ (service : Service) (tei : ℕ) where
     told-far k b w (inr (inr (inr (inr h)))) gives is = (k, b, inr (inr (inr (inr (far-silent (N k [] (disc t ∷ [])) (G [] []) hn I w h gone-quiet)))))
     told-far k b w (inr (inr (inr (inr h)))) takes is = (k, false, inl (takes-again k w h))
     told-far k b w (inr (inr (inr (inr h)))) loses is = (k, b, inr (inr (inr (inr (far-loses-none (N k [] (disc t ∷ [])) (G [] []) hn I w h refl)))))
+    told-far k b w h other is = absurd is
 
     last-near : (w : Wire) → Last w → (act : Act) → IsLeaving service tei (at_near act) → Last (acting act w)
     last-near w (k, h) (requests r) is = absurd is
@@ -320,11 +312,10 @@ module _ (service : Service) (tei : ℕ) where
     last-near w (k, h) loses is = (k, near-loses-none (N4 k) (G [] []) confirmed_then I w h refl)
 
     last-far : (w : Wire) → Last w → (act : Act) → IsLeaving service tei (at_far act) → Last (turned (acting act (turned w)))
-    last-far w (k, h) (requests r) is = absurd is
-    last-far w (k, h) (times_out timer) is = absurd is
     last-far w (k, h) gives is = (k, far-silent (N4 k) (G [] []) confirmed_then I w h gone-quiet)
     last-far w (k, h) takes is = (k, far-takes-none (N4 k) (G [] []) confirmed_then I w h refl)
     last-far w (k, h) loses is = (k, far-loses-none (N4 k) (G [] []) confirmed_then I w h refl)
+    last-far w (k, h) other is = absurd is
 
     pub step : (x : Doing) → IsLeaving service tei x → (w : Wire) → IsTimelyThere x w → Phase w → Phase (doing x w)
     step (at_near act) is w timely (inl (k, h)) = inl (first-near k w h act is timely)

@@ -1,15 +1,8 @@
 -- The premises of the law on a call that ends are met by the worked call.
-use Rattle.laws_wire.proofs.Vocabulary.{◌≡◌, ℕ, ◌<◌, List, [], ◌∷◌, ◌++◌, refl, inl, arith, All, All-nil, All-cons, Call, reading, header_of, control_of, unnumbered_of, supervisory_of, distance_of, named, seq}
+use Rattle.laws_wire.proofs.Vocabulary.{◌≡◌, ℕ, ◌<◌, List, [], ◌∷◌, ◌++◌, refl, inl, arith, All, All-nil, All-cons, Call, reading, header_of, control_of, unnumbered_of, supervisory_of, distance_of, named, seq, Wire, times_out, gives, loses, Doing, at_near, doing_all, turns, heard_in, end_of, is_poll, is_final, IsNoneOpen, MayRepeat, IsFullTalk, StayPatient, IsLeaving, StayTimelyThere, release_confirmed, EndsSo, user, network, begins, establishes}
 use Rattle.lapd_frame.specs.declared.timers.Timer.TheVariants.{T200}
 use Rattle.lapd_tei.specs.Events as teis
 use Rattle.model_line.specs.Machine as lines
-use Rattle.laws_wire.specs.Wire.{Wire, times_out, gives, loses, Doing, at_near, doing_all, turns}
-use Rattle.laws_wire.specs.Losing.{heard_in}
-use Rattle.laws_wire.specs.Facing.{end_of}
-use Rattle.laws_wire.specs.Timely.{is_poll, is_final, IsNoneOpen, MayRepeat}
-use Rattle.laws_wire.specs.Answering.{IsFullTalk, StayPatient}
-use Rattle.laws_wire.specs.Ending.{IsLeaving, StayTimelyThere, release_confirmed, EndsSo}
-use Rattle.laws_wire.specs.Worked.{user, network, begins, establishes}
 use Rattle.laws_wire.specs.WorkedEnding.{established, rests, still, released, loses_disc, loses_both, ended, ended_still, ended_rests}
 use Rattle.laws_wire.proofs.EndedRun.{calls-end}
 use Rattle.laws_wire.proofs.PremisesMet.{can}

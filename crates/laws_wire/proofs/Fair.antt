@@ -1,21 +1,17 @@
 -- An event of a link in states 7 and 8 tells an error; or it leaves the link there, tells what it delivers, and nothing else.
-use Rattle.laws_wire.proofs.Vocabulary.{◌≡◌, ℕ, Bool, true, false, cond, ◌||◌, IsTrue, List, [], ◌∷◌, ◌++◌, length, map, Option, None, Some, refl, sym, ap, subst, ◌∙◌, ◌⊎◌, inl, inr, true≢false, nat_lt, option_to_list, list_any, list_any-append, Seq, named, Control, Information, ReceiveReady, ReceiveNotReady, Reject, Sabme, Disc, Ui, Ua, Dm, Frmr, Xid, ErrorCode, Note, Parts, State, TeiAssigned, AwaitingEstablishment, AwaitingRelease, Established, TimerRecovery, LinkTimer, T203, Terms, Link, is_multiple_frame, has_outstanding, received, expired, begun, Step, ◌then◌, by_bit, Leads, keeping_then, nothing_leads, depending_leads, bit_leads, Means}
+use Rattle.laws_wire.proofs.Vocabulary.{◌≡◌, ℕ, Bool, true, false, cond, ◌||◌, IsTrue, List, [], ◌∷◌, ◌++◌, length, map, Option, None, Some, refl, sym, ap, subst, ◌∙◌, ◌⊎◌, inl, inr, true≢false, nat_lt, option_to_list, list_any, list_any-append, Seq, named, Control, Information, ReceiveReady, ReceiveNotReady, Reject, Sabme, Ua, ErrorCode, Note, Parts, State, Established, TimerRecovery, LinkTimer, T203, Terms, Link, is_multiple_frame, has_outstanding, received, expired, begun, Step, ◌then◌, by_bit, Leads, keeping_then, nothing_leads, depending_leads, bit_leads, Means, T200, frame, Course, is_error}
 use Rattle.lapd_frame.specs.declared.notes.ErrorCode.TheVariants as code
 use Rattle.lapd_frame.specs.declared.notes.Note.TheVariants as notes
-use Rattle.model_link.specs.declared.timers.LinkTimer.TheVariants.{T200}
-use Rattle.model_link.specs.Events.{frame}
-use Rattle.model_link.specs.Steps.{Course}
 use Rattle.model_link.specs.Words
 use Rattle.model_link.specs.MultipleFrame
 use Rattle.model_link.specs.Established
 use Rattle.model_link.specs.TimerRecovery
 use Rattle.model_link.specs.Machine
-use Rattle.laws_wire.specs.Losing.{is_error}
 
 abbrev pub HasError : List Note → Type 0
 HasError ns = list_any is_error ns ≡ true
 
-or-true : (b : Bool) → (b || true) ≡ true
+pub or-true : (b : Bool) → (b || true) ≡ true
 or-true true = refl
 or-true false = refl
 
@@ -155,46 +151,30 @@ module _ (t : Terms) where
     frames-7 b octets m (ReceiveReady nr pf) e = (supervised (Established.particulars_in_7 t) false b pf nr (Established.particulars_in_7 t).by_rr unsolicited_fair (λ final n. in_7 n)).leads (begun l) at-first
     frames-7 b octets m (ReceiveNotReady nr pf) e = (supervised (Established.particulars_in_7 t) true b pf nr (Established.particulars_in_7 t).by_rnr unsolicited_fair (λ final n. rnr_7 n)).leads (begun l) at-first
     frames-7 b octets m (Reject nr pf) e = (supervised (Established.particulars_in_7 t) false b pf nr (Established.particulars_in_7 t).by_rej unsolicited_fair (λ final n. rej_7 n)).leads (begun l) at-first
-    frames-7 b octets m (Sabme p) e = absurd e
-    frames-7 b octets m (Disc p) e = absurd e
-    frames-7 b octets m (Ui p) e = absurd e
-    frames-7 b octets m (Ua f) e = absurd e
-    frames-7 b octets m (Dm f) e = absurd e
-    frames-7 b octets m (Frmr f) e = absurd e
-    frames-7 b octets m (Xid pf) e = absurd e
+    frames-7 b octets m other e = absurd e
 
     frames-8 : (b : Bool) (octets : List ℕ) (m : ℕ) (control : Control) → Means m control → Fair t (TimerRecovery.frame_in_8 t b octets control (begun l))
     frames-8 b octets m (Information ns nr p) e = information ns nr p octets Words.acknowledge (acknowledge_fair t)
     frames-8 b octets m (ReceiveReady nr pf) e = (supervised (TimerRecovery.particulars_in_8 t) false b pf nr (TimerRecovery.particulars_in_8 t).by_rr (λ final. nothing_leads) (in_8 T203)).leads (begun l) at-first
     frames-8 b octets m (ReceiveNotReady nr pf) e = (supervised (TimerRecovery.particulars_in_8 t) true b pf nr (TimerRecovery.particulars_in_8 t).by_rnr (λ final. nothing_leads) (in_8 T200)).leads (begun l) at-first
     frames-8 b octets m (Reject nr pf) e = (supervised (TimerRecovery.particulars_in_8 t) false b pf nr (TimerRecovery.particulars_in_8 t).by_rej (λ final. nothing_leads) (in_8 T203)).leads (begun l) at-first
-    frames-8 b octets m (Sabme p) e = absurd e
-    frames-8 b octets m (Disc p) e = absurd e
-    frames-8 b octets m (Ui p) e = absurd e
-    frames-8 b octets m (Ua f) e = absurd e
-    frames-8 b octets m (Dm f) e = absurd e
-    frames-8 b octets m (Frmr f) e = absurd e
-    frames-8 b octets m (Xid pf) e = absurd e
+    frames-8 b octets m other e = absurd e
 
     frames-in : (here : State) → IsTrue (is_multiple_frame here) → (b : Bool) (octets : List ℕ) (m : ℕ) (control : Control) → Means m control
         → Fair t (Machine.frame_in here t b octets control (begun l))
-    frames-in TeiAssigned is b octets m control e = absurd (true≢false (sym is))
-    frames-in AwaitingEstablishment is b octets m control e = absurd (true≢false (sym is))
-    frames-in AwaitingRelease is b octets m control e = absurd (true≢false (sym is))
     frames-in Established is b octets m control e = frames-7 b octets m control e
     frames-in TimerRecovery is b octets m control e = frames-8 b octets m control e
+    frames-in other is b octets m control e = absurd (true≢false (sym is))
 
     pub frame-fair : (f : Parts) (m : ℕ) → Means m f.control → Fair t (Machine.course t (received (frame f)) l)
     frame-fair f m e = frames-in l.state up f.address.command f.info m f.control e
 
     -- timers
     expired-in : (here : State) → IsTrue (is_multiple_frame here) → (timer : LinkTimer) → Fair t (Machine.expired_in here timer t (begun l))
-    expired-in TeiAssigned is timer = absurd (true≢false (sym is))
-    expired-in AwaitingEstablishment is timer = absurd (true≢false (sym is))
-    expired-in AwaitingRelease is timer = absurd (true≢false (sym is))
     expired-in Established is timer = timer_7.leads (begun l) at-first
     expired-in TimerRecovery is T200 = t200_8.leads (begun l) at-first
     expired-in TimerRecovery is T203 = at-first
+    expired-in other is timer = absurd (true≢false (sym is))
 
     pub timer-fair : (timer : LinkTimer) → Fair t (Machine.course t (expired timer) l)
     timer-fair timer = either (Machine.is_running timer l) _ _ (expired-in l.state up timer) at-first
@@ -212,8 +192,6 @@ module _ (t : Terms) where
         by-outstanding false = refl
 
         sabme-in : (here : State) → IsTrue (is_multiple_frame here) → HasError (Machine.frame_in here t f.address.command f.info (Sabme p) (begun l)).notes
-        sabme-in TeiAssigned is = absurd (true≢false (sym is))
-        sabme-in AwaitingEstablishment is = absurd (true≢false (sym is))
-        sabme-in AwaitingRelease is = absurd (true≢false (sym is))
         sabme-in Established is = by-outstanding (has_outstanding first.link)
         sabme-in TimerRecovery is = by-outstanding (has_outstanding first.link)
+        sabme-in other is = absurd (true≢false (sym is))

@@ -1,44 +1,37 @@
 -- Two ends that are up, and whose T200 is timely: they stay so, and no frame that one takes makes it tell an error.
-use Rattle.laws_wire.proofs.Vocabulary.{◌≡◌, ℕ, ◌≤◌, Bool, true, false, cond, not, ◌&&◌, IsTrue, List, [], ◌∷◌, ◌++◌, refl, sym, ap, subst, ◌∙◌, ◌⊎◌, inl, inr, true≢false, list_any, Seq, Control, Information, ReceiveReady, ReceiveNotReady, Reject, Sabme, Disc, Ui, Ua, Dm, Frmr, Xid, Note, Parts, State, TeiAssigned, AwaitingEstablishment, AwaitingRelease, Established, TimerRecovery, LinkTimer, Terms, Link, is_multiple_frame, received, expired, requested, offer, course, End, Ends, Act, asks, expires, sends, receives, loses, at_near, with_link, with_sent, with_first_of, with_first_lost, acting, IsUp, frames_of, Joined, joined-turned, done-at, Rising, frame-taken, busy_asked, flag_left, takes_contents, as_heard, is_overlong, state_after, numbered_as, final_as, told_up, told_by_frame, told_expired, told_by, event-follows, CanRepeat, IsMildAct, IsTimely, IsTimelyAct, is_recovering, Flow, flow-low, no-answer, line, NoAlien, is-no-alien, Sane, sane-doing, Flows, acted-flows, done-up, same-after, Kind, numbered, enquiry, answer, report, rejection, alien, kind_of, kind_of_ready, kind_of_reject}
+use Rattle.laws_wire.proofs.Vocabulary.{◌≡◌, ℕ, ◌≤◌, Bool, true, false, cond, not, ◌&&◌, IsTrue, List, [], ◌∷◌, ◌++◌, refl, sym, ap, subst, ◌∙◌, ◌⊎◌, inl, inr, true≢false, list_any, Seq, Control, Information, ReceiveReady, ReceiveNotReady, Reject, Note, Parts, State, TeiAssigned, AwaitingEstablishment, AwaitingRelease, Established, TimerRecovery, LinkTimer, Terms, Link, is_multiple_frame, received, expired, requested, offer, course, End, Ends, asks, expires, sends, receives, with_link, with_sent, IsUp, frames_of, Joined, joined-turned, done-at, Rising, frame-taken, busy_asked, flag_left, takes_contents, as_heard, is_overlong, state_after, numbered_as, final_as, told_up, told_by_frame, told_expired, event-follows, CanRepeat, IsMildAct, IsTimelyAct, is_recovering, Flow, flow-low, no-answer, line, NoAlien, is-no-alien, Sane, sane-doing, Flows, acted-flows, done-up, same-after, Kind, answer, alien, kind_of, kind_of_ready, kind_of_reject, after, is_error}
+use Rattle.model_link.specs.TwoEnds.{Act, loses, at_near, with_first_of, with_first_lost, acting}
+use Rattle.laws_link.specs.Telling.{told_by}
+use Rattle.laws_link.specs.two.Timely.{IsTimely}
 use Rattle.lapd_frame.specs.declared.notes.Note.TheVariants as notes
 use Rattle.model_link.specs.Events.{Event, frame, overlong, Data}
-use Rattle.model_link.specs.Machine.{after}
-use Rattle.laws_wire.specs.Losing.{is_error}
 use Rattle.laws_wire.proofs.Fair.{HasError, Fine, frame-fair}
-use Rattle.laws_wire.proofs.Tame.{Tame, tame-asks, tame-expires, tame-sends, tame-loses, tame-takes}
+use Rattle.laws_wire.proofs.Tame.{Tame, tame-asks, tame-expires, tame-sends, tame-loses, tame-takes, off}
 
 -- ---- what is told of a frame
 
 abbrev pub IsQuiet : Bool → Kind → Type 0
-IsQuiet b (numbered ns) = Unit {0}
-IsQuiet b enquiry = Unit {0}
 IsQuiet b (answer nr) = b ≡ true
-IsQuiet b report = Unit {0}
-IsQuiet b (rejection nr) = Unit {0}
 IsQuiet b alien = ⊥
+IsQuiet b other = Unit {0}
 
 ready-final : (b command pf : Bool) (nr : Seq) → IsQuiet b (kind_of_ready command pf nr) → (not command && pf) ≡ true → b ≡ true
-ready-final b true pf nr h e = absurd (true≢false (sym e))
 ready-final b false true nr h e = h
-ready-final b false false nr h e = absurd (true≢false (sym e))
+ready-final b other any nr h e = absurd (true≢false (sym e))
 
 reject-final : (b command pf : Bool) (nr : Seq) → IsQuiet b (kind_of_reject command pf nr) → (not command && pf) ≡ true → b ≡ true
-reject-final b true pf nr h e = absurd h
-reject-final b false true nr h e = absurd h
 reject-final b false false nr h e = absurd (true≢false (sym e))
+reject-final b other any nr h e = absurd h
 
 module _ (t : Terms) where
   numbered-none : (to : State) → IsTrue (is_multiple_frame to) → numbered_as t to ≡ []
-  numbered-none TeiAssigned up = absurd (true≢false (sym up))
-  numbered-none AwaitingEstablishment up = absurd (true≢false (sym up))
-  numbered-none AwaitingRelease up = absurd (true≢false (sym up))
   numbered-none Established up = refl
   numbered-none TimerRecovery up = refl
+  numbered-none other up = absurd (true≢false (sym up))
 
   final-none : (b final : Bool) → (final ≡ true → b ≡ true) → final_as t b final ≡ []
-  final-none true final h = refl
-  final-none false false h = refl
   final-none false true h = absurd (true≢false (sym (h refl)))
+  final-none b other h = refl
 
   data-alone : (b : Bool) → list_any is_error (cond {A = List Note} b (notes.Data t.service t.tei ∷ []) [] ++ []) ≡ false
   data-alone true = refl
@@ -54,21 +47,13 @@ module _ (t : Terms) where
     up-quiet (ReceiveReady nr pf) h = final-quiet (not command && pf) (ready-final b command pf nr h)
     up-quiet (ReceiveNotReady nr pf) h = final-quiet (not command && pf) (ready-final b command pf nr h)
     up-quiet (Reject nr pf) h = final-quiet (not command && pf) (reject-final b command pf nr h)
-    up-quiet (Sabme p) h = absurd h
-    up-quiet (Disc p) h = absurd h
-    up-quiet (Ui p) h = absurd h
-    up-quiet (Ua f) h = absurd h
-    up-quiet (Dm f) h = absurd h
-    up-quiet (Frmr f) h = absurd h
-    up-quiet (Xid pf) h = absurd h
+    up-quiet other h = absurd h
 
   frame-quiet : (here : State) → IsTrue (is_multiple_frame here) → (command : Bool) (octets : List ℕ) (control : Control) (taken : Bool) (l : Link) (to : State)
       → IsTrue (is_multiple_frame to) → IsQuiet (is_recovering here) (kind_of command control) → list_any is_error (told_by_frame here t command octets control taken l to) ≡ false
-  frame-quiet TeiAssigned is command octets control taken l to up h = absurd (true≢false (sym is))
-  frame-quiet AwaitingEstablishment is command octets control taken l to up h = absurd (true≢false (sym is))
-  frame-quiet AwaitingRelease is command octets control taken l to up h = absurd (true≢false (sym is))
   frame-quiet Established is command octets control taken l to up h = up-quiet false command octets taken l to up control h
   frame-quiet TimerRecovery is command octets control taken l to up h = up-quiet true command octets taken l to up control h
+  frame-quiet other is command octets control taken l to up h = absurd (true≢false (sym is))
 
   -- an I-frame over N201 would lead the link out
   pub no-error : (l : Link) (f : Parts) → IsTrue (is_multiple_frame l.state) → IsTrue (is_multiple_frame (after t (received (frame f)) l).state)
@@ -92,12 +77,8 @@ module _ (t : Terms) where
   expired-quiet TeiAssigned to is up = absurd (true≢false (sym is))
   expired-quiet AwaitingEstablishment to is up = absurd (true≢false (sym is))
   expired-quiet AwaitingRelease to is up = absurd (true≢false (sym is))
-  expired-quiet Established to is up = refl
-  expired-quiet TimerRecovery TeiAssigned is up = refl
   expired-quiet TimerRecovery AwaitingEstablishment is up = absurd (true≢false (sym up))
-  expired-quiet TimerRecovery AwaitingRelease is up = refl
-  expired-quiet TimerRecovery Established is up = refl
-  expired-quiet TimerRecovery TimerRecovery is up = refl
+  expired-quiet other any is up = refl
 
   pub timer-quiet : (l : Link) (timer : LinkTimer) → IsTrue (is_multiple_frame l.state) → IsTrue (is_multiple_frame (after t (expired timer) l).state)
       → HasError (course t (expired timer) l).notes → ⊥
@@ -106,11 +87,6 @@ module _ (t : Terms) where
       true≢false (sym error ∙ ap (list_any is_error) tells ∙ expired-quiet l.state (after t (expired timer) l).state is up)
 
 -- ---- own busy stays off
-
-off : (b c x : Bool) → x ≡ false → cond b false (cond c x false) ≡ false
-off true c x e = refl
-off false true x e = e
-off false false x e = refl
 
 free : (t : Terms) (e : Event) (l : Link) → busy_asked (as_heard t e) false ≡ false → l.own_busy ≡ false → (after t e l).own_busy ≡ false
 free t e l asked is =
@@ -148,12 +124,57 @@ firm-turned n m h = record {
 pub not-behind : (n m : End) → Flows n m → m.link.r ≤ n.link.s
 not-behind n m h = flow-low n.link.s m.link.r (is_recovering n.link.state) m.link.rejecting (line n.terms n.way n.link.waiting) (line m.terms m.way m.link.waiting) h
 
-mild : (act : Act) (n m : End) → IsTimelyAct act n m → IsMildAct act n
-mild (asks request full) n m x = x
-mild (expires timer) n m x = x.0
-mild sends n m x = tt
-mild receives n m x = tt
-mild loses n m x = tt
+-- Two ends that are up: they stay so, and what an end takes leaves its contents, and is told as it is delivered.
+module _ (n m : End) (joined : Joined n m) (same : n.terms.n201 ≡ m.terms.n201) (there : Flows n m) (back : Flows m n) where
+  mild : (act : Act) → IsTimelyAct act n m → IsMildAct act n
+  mild (asks request full) x = x
+  mild (expires timer) x = x.0
+  mild other x = tt
+
+  pub up-after : (act : Act) → IsTimelyAct act n m → IsUp (acting act (record { near = n; far = m }))
+  up-after act x = done-up (at_near act) (record { near = n; far = m }) joined same (not-behind n m there, not-behind m n back) (mild act x)
+
+  module _ (f : Parts) (fs : List Parts) (first : m.way ≡ f ∷ fs) where
+    abbrev rest : List Kind
+    rest = line m.terms fs m.link.waiting
+
+    abbrev own_line : List Kind
+    own_line = line n.terms n.way n.link.waiting
+
+    abbrev x : Kind
+    x = kind_of f.address.command f.control
+
+    quiet-kind : (x : Kind) (b : Bool) → NoAlien x → Flow n.link.s m.link.r b m.link.rejecting own_line (x ∷ rest) → IsQuiet b x
+    quiet-kind (answer nr) true known flow = refl
+    quiet-kind (answer nr) false known flow = absurd (no-answer n.link.s m.link.r m.link.rejecting nr own_line rest flow)
+    quiet-kind alien b known flow = absurd known
+    quiet-kind other b known flow = tt
+
+    quiet : IsQuiet (is_recovering n.link.state) x
+    quiet =
+        let there' : Flow n.link.s m.link.r (is_recovering n.link.state) m.link.rejecting own_line (x ∷ rest) =
+        subst (λ way. Flow n.link.s m.link.r (is_recovering n.link.state) m.link.rejecting own_line (line m.terms way m.link.waiting)) first there in
+        let back' : Flow m.link.s n.link.r (is_recovering m.link.state) n.link.rejecting (x ∷ rest) own_line =
+        subst (λ way. Flow m.link.s n.link.r (is_recovering m.link.state) n.link.rejecting (line m.terms way m.link.waiting) own_line) first back in
+        quiet-kind x (is_recovering n.link.state) (is-no-alien m.link.s n.link.r (is_recovering m.link.state) n.link.rejecting x rest own_line back') there'
+
+    rising : Rising n.link.a m.link.r (f ∷ fs ++ frames_of m.terms m.link.waiting)
+    rising = subst (λ way. Rising n.link.a m.link.r (way ++ frames_of m.terms m.link.waiting)) first joined.there.rising
+
+    up : IsTrue (is_multiple_frame (after n.terms (received (frame f)) n.link).state)
+    up = subst (λ way. IsTrue (is_multiple_frame (with_first_of way n).link.state)) first (up-after receives tt).0
+
+    pub takes-fine : let c = course n.terms (received (frame f)) n.link in Fine n.terms c.link.state c.notes c.delivered c.unit
+    takes-fine =
+        let c = course n.terms (received (frame f)) n.link in
+        go (frame-fair n.terms n.link joined.near_up f rising.0 rising.2).fair
+      where
+        go : let c = course n.terms (received (frame f)) n.link in HasError c.notes ⊎ Fine n.terms c.link.state c.notes c.delivered c.unit → Fine n.terms c.link.state c.notes c.delivered c.unit
+        go (inl error) = absurd (true≢false (sym error ∙ no-error n.terms n.link f joined.near_up up quiet))
+        go (inr fine) = fine
+
+    pub takes-kept : (with_link (received (frame f)) n).link.contents ≡ n.link.contents
+    takes-kept = ((frame-taken n.terms n.link joined.near_up f.address.command f.info rising.0 f.control rising.2).took.by.stay up).2.same
 
 module _ (n m : End) (h : Firm n m) where
   abbrev e : Ends
@@ -161,18 +182,15 @@ module _ (n m : End) (h : Firm n m) where
 
   far-same : (act : Act) → (acting act e).far.link.own_busy ≡ m.link.own_busy
   far-same (asks request full) = refl
-  far-same (expires timer) = refl
-  far-same sends = refl
-  far-same receives = refl
-  far-same loses = refl
+  far-same other = refl
 
-  up-after : (act : Act) → IsTimelyAct act n m → IsUp (acting act e)
-  up-after act x = done-up (at_near act) e h.joined h.same (not-behind n m h.there, not-behind m n h.back) (mild act n m x)
+  up-then : (act : Act) → IsTimelyAct act n m → IsUp (acting act e)
+  up-then act x = up-after n m h.joined h.same h.there h.back act x
 
   firm-after : (act : Act) → IsTimelyAct act n m → (acting act e).near.link.own_busy ≡ false → Tame (acting act e).near → Tame (acting act e).far
       → Firm (acting act e).near (acting act e).far
   firm-after act x own tame tame' =
-      let up : IsUp (acting act e) = up-after act x in
+      let up : IsUp (acting act e) = up-then act x in
       let flows = acted-flows n m h.joined h.there h.back act x up in
       let sane = sane-doing (at_near act) e (h.near_sane, h.far_sane) in
       record {
@@ -189,7 +207,7 @@ module _ (n m : End) (h : Firm n m) where
       }
 
   pub firm-sends : Firm (with_sent n) m
-  firm-sends = firm-after sends tt (free n.terms offer n.link refl h.near_free) (tame-sends n h.near_tame h.near_free (up-after sends tt).0) h.far_tame
+  firm-sends = firm-after sends tt (free n.terms offer n.link refl h.near_free) (tame-sends n h.near_tame h.near_free (up-then sends tt).0) h.far_tame
 
   pub firm-loses : Firm (with_first_lost n) m
   firm-loses = firm-after loses tt h.near_free (tame-loses n h.near_tame h.near_free) h.far_tame
@@ -197,16 +215,16 @@ module _ (n m : End) (h : Firm n m) where
   pub firm-asks : (octets : List ℕ) → Firm (with_link (requested (Data octets) false) n) m
   firm-asks octets =
       firm-after (asks (Data octets) false) tt (free n.terms (requested (Data octets) false) n.link refl h.near_free)
-      (tame-asks n h.near_tame h.near_free octets (up-after (asks (Data octets) false) tt).0) h.far_tame
+      (tame-asks n h.near_tame h.near_free octets (up-then (asks (Data octets) false) tt).0) h.far_tame
 
   pub firm-expires : (timer : LinkTimer) → CanRepeat timer n → IsTimely timer n m → Firm (with_link (expired timer) n) m
   firm-expires timer can timely =
       firm-after (expires timer) (can, timely) (free n.terms (expired timer) n.link refl h.near_free)
-      (tame-expires n h.near_tame h.near_free timer (up-after (expires timer) (can, timely)).0) h.far_tame
+      (tame-expires n h.near_tame h.near_free timer (up-then (expires timer) (can, timely)).0) h.far_tame
 
   pub firm-takes : Firm (with_first_of m.way n) (with_first_lost m)
   firm-takes =
-      firm-after receives tt (own m.way) (tame-takes n h.near_tame h.near_free m.way h.far_tame.way known (up-after receives tt).0) (tame-loses m h.far_tame h.far_free)
+      firm-after receives tt (own m.way) (tame-takes n h.near_tame h.near_free m.way h.far_tame.way known (up-then receives tt).0) (tame-loses m h.far_tame h.far_free)
     where
       known : (f : Parts) (fs : List Parts) → m.way ≡ f ∷ fs → NoAlien (kind_of f.address.command f.control)
       known f fs first =
@@ -218,49 +236,3 @@ module _ (n m : End) (h : Firm n m) where
       own : (way : List Parts) → (with_first_of way n).link.own_busy ≡ false
       own [] = h.near_free
       own (f ∷ fs) = free n.terms (received (frame f)) n.link refl h.near_free
-
-  -- what it takes leaves its contents, and is told as it is delivered
-  module _ (f : Parts) (fs : List Parts) (first : m.way ≡ f ∷ fs) where
-    abbrev rest : List Kind
-    rest = line m.terms fs m.link.waiting
-
-    abbrev own_line : List Kind
-    own_line = line n.terms n.way n.link.waiting
-
-    abbrev x : Kind
-    x = kind_of f.address.command f.control
-
-    quiet-kind : (x : Kind) (b : Bool) → NoAlien x → Flow n.link.s m.link.r b m.link.rejecting own_line (x ∷ rest) → IsQuiet b x
-    quiet-kind (numbered ns) b known flow = tt
-    quiet-kind enquiry b known flow = tt
-    quiet-kind (answer nr) true known flow = refl
-    quiet-kind (answer nr) false known flow = absurd (no-answer n.link.s m.link.r m.link.rejecting nr own_line rest flow)
-    quiet-kind report b known flow = tt
-    quiet-kind (rejection nr) b known flow = tt
-    quiet-kind alien b known flow = absurd known
-
-    quiet : IsQuiet (is_recovering n.link.state) x
-    quiet =
-        let there : Flow n.link.s m.link.r (is_recovering n.link.state) m.link.rejecting own_line (x ∷ rest) =
-        subst (λ way. Flow n.link.s m.link.r (is_recovering n.link.state) m.link.rejecting own_line (line m.terms way m.link.waiting)) first h.there in
-        let back : Flow m.link.s n.link.r (is_recovering m.link.state) n.link.rejecting (x ∷ rest) own_line =
-        subst (λ way. Flow m.link.s n.link.r (is_recovering m.link.state) n.link.rejecting (line m.terms way m.link.waiting) own_line) first h.back in
-        quiet-kind x (is_recovering n.link.state) (is-no-alien m.link.s n.link.r (is_recovering m.link.state) n.link.rejecting x rest own_line back) there
-
-    up : IsTrue (is_multiple_frame (after n.terms (received (frame f)) n.link).state)
-    up = subst (λ way. IsTrue (is_multiple_frame (with_first_of way n).link.state)) first firm-takes.joined.near_up
-
-    rising : Rising n.link.a m.link.r (f ∷ fs ++ frames_of m.terms m.link.waiting)
-    rising = subst (λ way. Rising n.link.a m.link.r (way ++ frames_of m.terms m.link.waiting)) first h.joined.there.rising
-
-    pub takes-fine : let c = course n.terms (received (frame f)) n.link in Fine n.terms c.link.state c.notes c.delivered c.unit
-    takes-fine =
-        let c = course n.terms (received (frame f)) n.link in
-        go (frame-fair n.terms n.link h.joined.near_up f rising.0 rising.2).fair
-      where
-        go : let c = course n.terms (received (frame f)) n.link in HasError c.notes ⊎ Fine n.terms c.link.state c.notes c.delivered c.unit → Fine n.terms c.link.state c.notes c.delivered c.unit
-        go (inl error) = absurd (true≢false (sym error ∙ no-error n.terms n.link f h.joined.near_up up quiet))
-        go (inr fine) = fine
-
-    pub takes-kept : (with_link (received (frame f)) n).link.contents ≡ n.link.contents
-    takes-kept = ((frame-taken n.terms n.link h.joined.near_up f.address.command f.info rising.0 f.control rising.2).took.by.stay up).2.same

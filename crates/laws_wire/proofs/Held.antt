@@ -1,21 +1,14 @@
 -- A station in a call in which frames are lost and timers expire: what its layer 3 was granted is what its link accepted, and
 -- layer 3 heard what its link delivered.
-use Rattle.laws_wire.proofs.Vocabulary.{◌≡◌, ℕ, Bool, true, false, cond, not, ◌&&◌, ◌||◌, ◌==◌, suc, List, [], ◌∷◌, ◌++◌, length, map, Option, Some, None, is_some, refl, sym, ap, subst, ◌∙◌, ◌⊎◌, inl, inr, append-nil, append_assoc, eqb-true, arith, option_to_list, flat_map, list_any, option_or, and_parts, false≢true, map-append, list_any-append, list_any_none, Note, Service, Timer, Parts, spelling, LinkTimer, End, with_link, with_sent, Config, LineTold, expiry, request, next, at_timer, aim_of_expiry, Line, place_in}
-use Rattle.std.proofs.lemmas.List.Concat.{flat_map-append}
+use Rattle.laws_wire.proofs.Vocabulary.{◌≡◌, ℕ, Bool, true, false, cond, not, ◌&&◌, ◌||◌, ◌==◌, suc, List, [], ◌∷◌, ◌++◌, length, map, Option, Some, None, is_some, refl, sym, ap, subst, ◌∙◌, ◌⊎◌, inl, inr, append-nil, append_assoc, eqb-true, arith, option_to_list, flat_map, list_any, option_or, and_parts, false≢true, map-append, list_any-append, list_any_none, Note, Service, Timer, Parts, spelling, LinkTimer, End, with_link, with_sent, Config, LineTold, expiry, request, next, at_timer, aim_of_expiry, Line, place_in, flat_map-append, Course, nothing, Data, Station, happens, with_first_lost, tells_nothing, comes, data_told, for_layer_3, heard_in, is_error, HasNoError}
 use Rattle.lapd_frame.specs.declared.notes.Note.TheVariants as notes
 use Rattle.model_link.specs.Events as link
 use Rattle.model_link.specs.Machine as links
 use Rattle.model_link.specs.Requests as requests
-use Rattle.model_link.specs.Steps.{Course}
 use Rattle.model_link.specs.TwoEnds as two_ends
-use Rattle.model_line.specs.Event.{nothing}
-use Rattle.model_line.specs.Request.{Data}
-use Rattle.laws_wire.specs.Wire.{Station, happens, with_first_lost, tells_nothing, comes}
-use Rattle.laws_wire.specs.Call.{data_told}
-use Rattle.laws_wire.specs.Losing.{for_layer_3, heard_in, is_error, HasNoError}
 use Rattle.laws_wire.proofs.Answered.{gives-told, same-granted, takes-granted}
 use Rattle.laws_wire.proofs.Asking.{with_more}
-use Rattle.laws_wire.proofs.Fair.{HasError}
+use Rattle.laws_wire.proofs.Fair.{HasError, or-true}
 use Rattle.laws_wire.proofs.Speaking.{heard_by, said_by}
 use Rattle.laws_wire.proofs.Standing.{IsCarried, Stands, expires-stands, expires-said}
 use Rattle.laws_wire.proofs.Talking.{Face, unheard, Holds, holds-given, holds-lost, holds-asked, More, Took, takes as takes_frame}
@@ -78,14 +71,10 @@ error-said c h = go (tells_nothing (heard_by c)) refl
         absurd (some-notes c.notes h none)
     go false e = ap (λ b. b || false) h
 
-or-right : (b : Bool) → (b || true) ≡ true
-or-right true = refl
-or-right false = refl
-
 pub now-erred : (s s' : Station) (c : Course) → s'.told ≡ s.told ++ said_by c → HasError c.notes → Erred s'
 now-erred s s' c told h =
     ap (list_any tells_error) told ∙ list_any-append tells_error s.told (said_by c) ∙ ap (λ b. list_any tells_error s.told || b) (error-said c h)
-    ∙ or-right (list_any tells_error s.told)
+    ∙ or-true (list_any tells_error s.told)
 
 pub erred-stays : (s s' : Station) (more : List LineTold) → s'.told ≡ s.told ++ more → Erred s → Erred s'
 erred-stays s s' more told h =

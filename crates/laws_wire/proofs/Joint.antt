@@ -1,11 +1,6 @@
 -- Two ends whose links are up, by what is on the line from each to the other: first what is on its way, and then what waits.
-use Rattle.laws_wire.proofs.Vocabulary.{◌≡◌, ℕ, ◌+◌, ◌≤◌, Bool, true, false, cond, IsTrue, List, [], ◌∷◌, ◌++◌, length, take, drop, None, refl, sym, ap, subst, ◌∙◌, append_assoc, append-nil, true≢false, arith, option_to_list, All-nil, front_rest, Parts, State, TeiAssigned, AwaitingEstablishment, AwaitingRelease, Established, TimerRecovery, LinkTimer, T203, ControlFrame, Terms, received, expired, offer, Link, is_multiple_frame, course, IsInRange, IsSettledIn, IsWaitingFrame, begun, End, with_link, with_sent, event-delivers, frames_of, frames-append, sender-goes, receiver-goes, sender-loses, receiver-loses, Reports, Up, no-reports, any_number, still, timer_7_up, t200_8_up, at-first, sender-hears, receiver-hears, Carried, Means, Rising, Gave, offer-gave, frame-taken, none-delivered}
-use Rattle.model_link.specs.declared.timers.LinkTimer.TheVariants.{T200}
-use Rattle.model_link.specs.Events.{frame}
+use Rattle.laws_wire.proofs.Vocabulary.{◌≡◌, ℕ, ◌+◌, ◌≤◌, Bool, true, false, cond, IsTrue, List, [], ◌∷◌, ◌++◌, length, take, drop, None, refl, sym, ap, subst, ◌∙◌, append_assoc, append-nil, true≢false, arith, option_to_list, All-nil, front_rest, Parts, State, TeiAssigned, Established, TimerRecovery, LinkTimer, T203, ControlFrame, Terms, received, expired, offer, Link, is_multiple_frame, course, IsInRange, IsSettledIn, IsWaitingFrame, begun, End, with_link, with_sent, event-delivers, frames_of, frames-append, sender-goes, receiver-goes, sender-loses, receiver-loses, Reports, Up, no-reports, any_number, still, timer_7_up, t200_8_up, at-first, sender-hears, receiver-hears, Carried, Means, Rising, Gave, offer-gave, frame-taken, none-delivered, T200, frame, after, IsSound, Course}
 use Rattle.model_link.specs.Machine
-use Rattle.model_link.specs.Machine.{after}
-use Rattle.model_link.specs.Sound.{IsSound}
-use Rattle.model_link.specs.Steps.{Course}
 use Rattle.model_link.proofs.Direction.{Direction, line_of}
 
 -- An end with this on its line.
@@ -99,12 +94,10 @@ module _ (t : Terms) (l : Link) where
 
   expired-goes : (here : State) → IsTrue (is_multiple_frame here) → (timer : LinkTimer) → IsTrue (is_multiple_frame (Machine.expired_in here timer t (begun l)).link.state)
       → Goes l (Machine.expired_in here timer t (begun l)).link []
-  expired-goes TeiAssigned before timer up = absurd (true≢false (sym before))
-  expired-goes AwaitingEstablishment before timer up = absurd (true≢false (sym before))
-  expired-goes AwaitingRelease before timer up = absurd (true≢false (sym before))
   expired-goes Established before timer up = by-up _ ((timer_7_up t l {S = still l.s}).leads (begun l) (at-first t l)) up
   expired-goes TimerRecovery before T200 up = by-up _ ((t200_8_up t l {S = still l.s}).leads (begun l) (at-first t l)) up
   expired-goes TimerRecovery before T203 up = stays
+  expired-goes other before timer up = absurd (true≢false (sym before))
 
   either : (b : Bool) (u v : Course) → (IsTrue (is_multiple_frame u.link.state) → Goes l u.link []) → (IsTrue (is_multiple_frame v.link.state) → Goes l v.link [])
       → IsTrue (is_multiple_frame (cond b u v).link.state) → Goes l (cond b u v).link []
@@ -159,10 +152,7 @@ gives-on n m first near far ranges sound e h =
 -- soundness does not need what waits
 settled-bare : (state : State) (l : Link) → IsSettledIn state l → IsSettledIn state (bare l)
 settled-bare TeiAssigned l h = h
-settled-bare AwaitingEstablishment l h = h
-settled-bare AwaitingRelease l h = h
-settled-bare Established l h = h
-settled-bare TimerRecovery l h = h
+settled-bare other l h = h
 
 sound-bare : (t : Terms) (l : Link) → IsSound t l → IsSound t (bare l)
 sound-bare t l h = record {

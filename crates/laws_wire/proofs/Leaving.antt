@@ -1,12 +1,8 @@
 -- A link that is released, and the one that is told of it: what each event makes of them.
-use Rattle.laws_wire.proofs.Vocabulary.{◌≡◌, ℕ, ◌+◌, ◌<◌, Bool, true, false, cond, List, [], ◌∷◌, ◌++◌, take, None, Some, sym, ap, ◌∙◌, nat_lt, lt-ltb, Disc, Ua, Dm, Parts, TeiAssigned, AwaitingRelease, Established, ControlFrame, Terms, received, expired, requested, Link, frame_of, course, begun, ◌then◌, command, response}
+use Rattle.laws_wire.proofs.Vocabulary.{◌≡◌, ℕ, ◌+◌, ◌<◌, Bool, true, false, cond, List, [], ◌∷◌, ◌++◌, take, None, Some, sym, ap, ◌∙◌, nat_lt, lt-ltb, Disc, Ua, Dm, Parts, TeiAssigned, AwaitingRelease, Established, ControlFrame, Terms, received, expired, requested, Link, frame_of, course, begun, ◌then◌, command, response, T200, after, Course, release_indicated}
 use Rattle.lapd_frame.specs.declared.notes.ErrorCode.TheVariants as code
-use Rattle.model_link.specs.declared.timers.LinkTimer.TheVariants.{T200}
 use Rattle.model_link.specs.Events.{frame, Release}
-use Rattle.model_link.specs.Machine.{after}
-use Rattle.model_link.specs.Steps.{Course}
 use Rattle.model_link.specs.Words
-use Rattle.laws_wire.specs.Ending.{release_indicated}
 use Rattle.laws_wire.proofs.Speaking.{said_by}
 
 abbrev pub its_disc : ControlFrame

@@ -1,17 +1,11 @@
 -- How many turns and losses there are at most where both ends are up, by what waits, what is on its way, and what is still to be told.
-use Rattle.laws_wire.proofs.Vocabulary.{◌≡◌, ℕ, suc, ◌+◌, ◌-◌, ◌*◌, ◌≤◌, Bool, true, false, ◌&&◌, IsTrue, List, [], ◌∷◌, ◌++◌, length, map, take, sym, ap, subst, ◌∙◌, arith, true≢false, length-map, length-take-le, Service, Parts, spelling, Control, Information, ReceiveReady, ReceiveNotReady, Reject, Sabme, Disc, Ui, Ua, Dm, Frmr, Xid, State, TeiAssigned, AwaitingEstablishment, AwaitingRelease, Established, TimerRecovery, ControlFrame, Link, unsent, is_multiple_frame, End, Config, LineTold}
-use Rattle.model_link.proofs.Lines.{carried-high}
-use Rattle.laws_wire.specs.Wire.{Station, Wire}
-use Rattle.laws_wire.specs.Call.{confirmed, indicated, data_told, all_told}
-use Rattle.laws_wire.specs.Losing.{heard_in}
-use Rattle.laws_wire.specs.Resting.{most_frames}
-use Rattle.laws_wire.specs.Arriving.{frames_left, notes_left, most_left}
+use Rattle.laws_wire.proofs.Vocabulary.{◌≡◌, ℕ, suc, ◌+◌, ◌-◌, ◌*◌, ◌≤◌, Bool, true, false, ◌&&◌, IsTrue, List, [], ◌∷◌, ◌++◌, length, map, take, sym, ap, subst, ◌∙◌, arith, true≢false, length-map, length-take-le, Service, Parts, spelling, Control, Information, ReceiveReady, ReceiveNotReady, Reject, State, Established, TimerRecovery, ControlFrame, Link, unsent, is_multiple_frame, End, Config, LineTold, carried-high, Station, Wire, confirmed, indicated, data_told, all_told, heard_in, most_frames, frames_left, notes_left, most_left}
 use Rattle.laws_wire.proofs.Acting.{sound}
 use Rattle.laws_wire.proofs.Awaited.{link-is}
 use Rattle.laws_wire.proofs.Held.{Held}
 use Rattle.laws_wire.proofs.Loads.{answer_to, brings, load_waiting, load_way, owes, may_reject, back, load}
 use Rattle.laws_wire.proofs.LossyPhases.{IsUp}
-use Rattle.laws_wire.proofs.Weighing.{undelivered, weigh}
+use Rattle.laws_wire.proofs.Weighing.{undelivered, weigh, times-suc}
 
 -- ---- a link
 
@@ -24,19 +18,10 @@ brings-most v command (Information ns nr p) = let x = answer-most p in omega (ar
 brings-most v command (ReceiveReady nr pf) = let x = answer-most (command && pf) in omega (arith, x)
 brings-most v command (ReceiveNotReady nr pf) = let x = answer-most (command && pf) in omega (arith, x)
 brings-most v command (Reject nr pf) = let x = answer-most (command && pf) in omega (arith, x)
-brings-most v command (Sabme p) = omega arith
-brings-most v command (Disc p) = omega arith
-brings-most v command (Ui p) = omega arith
-brings-most v command (Ua f) = omega arith
-brings-most v command (Dm f) = omega arith
-brings-most v command (Frmr f) = omega arith
-brings-most v command (Xid pf) = omega arith
-
-one-more : (d x : ℕ) → d * (x + 1) ≡ d * x + d
-one-more d x = omega arith
+brings-most v command other = omega arith
 
 grows : (v here rest n low : ℕ) → low ≤ 2 → here ≤ v + 2 → rest ≤ (v + 4) * n → low + here + rest ≤ (v + 4) * (n + 1)
-grows v here rest n low few first more = let e : (v + 4) * (n + 1) ≡ (v + 4) * n + (v + 4) = one-more (v + 4) n in omega (arith, few, first, more, e)
+grows v here rest n low few first more = let e : (v + 4) * (n + 1) ≡ (v + 4) * n + (v + 4) = times-suc (v + 4) n in omega (arith, few, first, more, e)
 
 as-suc : (v n x : ℕ) → x ≤ (v + 4) * (n + 1) → x ≤ (v + 4) * suc n
 as-suc v n x h = subst (λ m. x ≤ (v + 4) * m) (omega arith) h
@@ -64,9 +49,7 @@ reject-most v false = omega arith
 back-most : (v : ℕ) (here : State) → IsTrue (is_multiple_frame here) → back v here ≤ v
 back-most v Established up = omega arith
 back-most v TimerRecovery up = omega arith
-back-most v TeiAssigned up = absurd (true≢false (sym up))
-back-most v AwaitingEstablishment up = absurd (true≢false (sym up))
-back-most v AwaitingRelease up = absurd (true≢false (sym up))
+back-most v other up = absurd (true≢false (sym up))
 
 unsent-most : (len s a r window k : ℕ) → a ≤ s → r ≤ a + window → window ≤ k → len - s ≤ (len - r) + k
 unsent-most len s a r window k low high small = omega (arith, low, high, small)

@@ -1,8 +1,7 @@
 -- What a link has to send, in turns, where w turns go again at most: what waits, what is unsent, an acknowledgement that is owed,
 -- a REJ that may still be sent, and in state 8 what the answer may bring back.
-use Rattle.laws_wire.proofs.Vocabulary.{◌≡◌, ℕ, ◌+◌, ◌-◌, ◌*◌, ◌<◌, ◌≤◌, Bool, true, false, cond, not, ◌&&◌, List, [], ◌∷◌, ◌++◌, length, refl, ap, arith, nat_lt, and_parts, ltb-true, Control, Information, ReceiveReady, ReceiveNotReady, Reject, Sabme, Disc, Ui, Ua, Dm, Frmr, Xid, Parts, seq, State, TeiAssigned, AwaitingEstablishment, AwaitingRelease, Established, TimerRecovery, ControlFrame, Terms, Link, unsent, offer, course, given_of, begun, frame_given}
+use Rattle.laws_wire.proofs.Vocabulary.{◌≡◌, ℕ, ◌+◌, ◌-◌, ◌*◌, ◌<◌, ◌≤◌, Bool, true, false, cond, not, ◌&&◌, List, [], ◌∷◌, ◌++◌, length, refl, ap, arith, nat_lt, and_parts, ltb-true, Control, Information, ReceiveReady, ReceiveNotReady, Reject, Parts, seq, State, TeiAssigned, TimerRecovery, ControlFrame, Terms, Link, unsent, offer, course, given_of, begun, frame_given, Course}
 use Rattle.model_link.specs.Offers
-use Rattle.model_link.specs.Steps.{Course}
 use Rattle.model_link.specs.Words
 
 -- what a frame brings about, beyond itself
@@ -14,13 +13,7 @@ brings w command (Information ns nr p) = answer_to p
 brings w command (ReceiveReady nr pf) = answer_to (command && pf)
 brings w command (ReceiveNotReady nr pf) = answer_to (command && pf)
 brings w command (Reject nr pf) = w + answer_to (command && pf)
-brings w command (Sabme p) = 0
-brings w command (Disc p) = 0
-brings w command (Ui p) = 0
-brings w command (Ua f) = 0
-brings w command (Dm f) = 0
-brings w command (Frmr f) = 0
-brings w command (Xid pf) = 0
+brings w command other = 0
 
 -- a frame that waits is still to be given and taken, one on its way to be taken
 abbrev pub load_waiting : ℕ → List ControlFrame → ℕ
@@ -33,10 +26,8 @@ load_way w (f ∷ fs) = 1 + brings w f.address.command f.control + load_way w fs
 
 abbrev pub back : ℕ → State → ℕ
 back w TeiAssigned = 2
-back w AwaitingEstablishment = 0
-back w AwaitingRelease = 0
-back w Established = 0
 back w TimerRecovery = w
+back w other = 0
 
 abbrev pub owes : Bool → ℕ
 owes pending = cond {A = ℕ} pending 2 0

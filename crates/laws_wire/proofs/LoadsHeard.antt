@@ -1,11 +1,8 @@
 -- A frame that is heard in states 7 and 8 brings no more to send than it weighs, and than the contents that it delivers
 -- allow.
-use Rattle.laws_wire.proofs.Vocabulary.{◌≡◌, ℕ, ◌+◌, ◌-◌, ◌*◌, ◌≤◌, Bool, true, false, cond, ◌&&◌, IsTrue, List, length, Option, Some, None, refl, sym, ap, subst, ◌∙◌, ◌⊎◌, inl, inr, true≢false, arith, nat_lt, Seq, seq, named, Control, Information, ReceiveReady, ReceiveNotReady, Reject, Sabme, Disc, Ui, Ua, Dm, Frmr, Xid, Parts, State, TeiAssigned, AwaitingEstablishment, AwaitingRelease, Established, TimerRecovery, LinkTimer, T203, Terms, Link, is_multiple_frame, received, course, begun, Step, ◌then◌, by_bit, Means, named-within}
+use Rattle.laws_wire.proofs.Vocabulary.{◌≡◌, ℕ, ◌+◌, ◌-◌, ◌*◌, ◌≤◌, Bool, true, false, cond, ◌&&◌, IsTrue, List, length, Option, Some, None, refl, sym, ap, subst, ◌∙◌, ◌⊎◌, inl, inr, true≢false, arith, nat_lt, Seq, seq, named, Control, Information, ReceiveReady, ReceiveNotReady, Reject, Parts, State, Established, TimerRecovery, LinkTimer, T203, Terms, Link, is_multiple_frame, received, course, begun, Step, ◌then◌, by_bit, Means, named-within, T200, frame, IsSound}
 use Rattle.lapd_frame.specs.declared.notes.ErrorCode.TheVariants as code
-use Rattle.model_link.specs.declared.timers.LinkTimer.TheVariants.{T200}
-use Rattle.model_link.specs.Events.{frame}
 use Rattle.model_link.specs.Machine
-use Rattle.model_link.specs.Sound.{IsSound}
 use Rattle.model_link.specs.Steps.{Course, nothing}
 use Rattle.model_link.specs.Words
 use Rattle.model_link.specs.MultipleFrame
@@ -219,13 +216,7 @@ module _ (w : ℕ) (t : Terms) (l : Link) (sound : IsSound t l) (wide : 2 * t.k 
       within _ _ _ (omega arith) (hears-0 _ _ (supervised (Established.particulars_in_7 t) true b pf nr (Established.particulars_in_7 t).by_rnr 0 unsolicited_costs (λ final n b. unchanged n b (Established.acknowledged_by_rnr_in_7 n) (rnr_7 n b))))
   frames-7 b octets m (Reject nr pf) e =
       within _ _ _ (omega arith) (hears-0 _ _ (supervised (Established.particulars_in_7 t) false b pf nr (Established.particulars_in_7 t).by_rej w unsolicited_costs (λ final n b. rej_7 n b)))
-  frames-7 b octets m (Sabme p) e = absurd e
-  frames-7 b octets m (Disc p) e = absurd e
-  frames-7 b octets m (Ui p) e = absurd e
-  frames-7 b octets m (Ua f) e = absurd e
-  frames-7 b octets m (Dm f) e = absurd e
-  frames-7 b octets m (Frmr f) e = absurd e
-  frames-7 b octets m (Xid pf) e = absurd e
+  frames-7 b octets m other e = absurd e
 
   solicited_costs : (final : Bool) (g b : ℕ) (c : Course) → Costs g b c → Costs g b (TimerRecovery.solicited final c)
   solicited_costs final g b c h = h
@@ -242,21 +233,13 @@ module _ (w : ℕ) (t : Terms) (l : Link) (sound : IsSound t l) (wide : 2 * t.k 
   frames-8 here b octets m (Reject nr pf) e =
       within _ _ _ (omega arith) (hears-0 _ _ (supervised (TimerRecovery.particulars_in_8 t) false b pf nr (TimerRecovery.particulars_in_8 t).by_rej w solicited_costs
       (λ final n b. looser n b (b + w) (TimerRecovery.acknowledged_in_8 T203 final n) (omega arith) (in_8 here T203 final n b))))
-  frames-8 here b octets m (Sabme p) e = absurd e
-  frames-8 here b octets m (Disc p) e = absurd e
-  frames-8 here b octets m (Ui p) e = absurd e
-  frames-8 here b octets m (Ua f) e = absurd e
-  frames-8 here b octets m (Dm f) e = absurd e
-  frames-8 here b octets m (Frmr f) e = absurd e
-  frames-8 here b octets m (Xid pf) e = absurd e
+  frames-8 here b octets m other e = absurd e
 
   frames-in : (here : State) → l.state ≡ here → IsTrue (is_multiple_frame here) → (b : Bool) (octets : List ℕ) (m : ℕ) (control : Control) → Means m control
       → Hears (load w l + brings w b control) (Machine.frame_in here t b octets control (begun l))
-  frames-in TeiAssigned at is b octets m control e = absurd (true≢false (sym is))
-  frames-in AwaitingEstablishment at is b octets m control e = absurd (true≢false (sym is))
-  frames-in AwaitingRelease at is b octets m control e = absurd (true≢false (sym is))
   frames-in Established at is b octets m control e = frames-7 b octets m control e
   frames-in TimerRecovery at is b octets m control e = frames-8 at b octets m control e
+  frames-in other at is b octets m control e = absurd (true≢false (sym is))
 
   pub frame-hears : IsTrue (is_multiple_frame l.state) → (f : Parts) (m : ℕ) → Means m f.control → Hears (load w l + brings w f.address.command f.control) (course t (received (frame f)) l)
   frame-hears up f m e = frames-in l.state refl up f.address.command f.info m f.control e

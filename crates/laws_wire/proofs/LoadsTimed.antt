@@ -1,8 +1,6 @@
 -- A timer that expires lets a link send w turns more, and an enquiry and its answer; or an error is told.
-use Rattle.laws_wire.proofs.Vocabulary.{◌≡◌, ℕ, ◌+◌, ◌≤◌, Bool, true, false, cond, refl, ap, ◌⊎◌, inl, inr, arith, Sabme, Disc, State, TeiAssigned, AwaitingEstablishment, AwaitingRelease, Established, TimerRecovery, LinkTimer, T203, Terms, Link, may_repeat, expired, course, begun}
-use Rattle.model_link.specs.declared.timers.LinkTimer.TheVariants.{T200}
+use Rattle.laws_wire.proofs.Vocabulary.{◌≡◌, ℕ, ◌+◌, ◌≤◌, Bool, true, false, cond, refl, ap, ◌⊎◌, inl, inr, arith, Sabme, Disc, State, AwaitingEstablishment, AwaitingRelease, Established, TimerRecovery, LinkTimer, Terms, Link, may_repeat, expired, course, begun, T200, Course}
 use Rattle.model_link.specs.Machine
-use Rattle.model_link.specs.Steps.{Course}
 use Rattle.model_link.specs.Words
 use Rattle.laws_wire.proofs.Fair.{HasError}
 use Rattle.laws_wire.proofs.Loads.{load, back, one-waits, ready-brings}
@@ -24,15 +22,12 @@ module _ (w : ℕ) (t : Terms) (l : Link) where
   idle = record { contents = refl; received = refl; within = omega arith }
 
   by-state : (here : State) → l.state ≡ here → (timer : LinkTimer) → Fair (Machine.expired_in here timer t (begun l))
-  by-state TeiAssigned at timer = inr idle
   by-state AwaitingEstablishment at T200 =
       let one = one-waits w (Words.has_room t l) l.waiting (Words.command (Sabme true)) 0 refl in
       either (may_repeat t l) _ _ (inr (record { contents = refl; received = refl; within = omega (arith, one) })) (inl refl)
-  by-state AwaitingEstablishment at T203 = inr idle
   by-state AwaitingRelease at T200 =
       let one = one-waits w (Words.has_room t l) l.waiting (Words.command (Disc true)) 0 refl in
       either (may_repeat t l) _ _ (inr (record { contents = refl; received = refl; within = omega (arith, one) })) (inl refl)
-  by-state AwaitingRelease at T203 = inr idle
   by-state Established at timer =
       let l' = Words.with_repeats 0 l in
       let one = one-waits w (Words.has_room t l') l.waiting (Words.command (Words.ready_to_receive true l')) 2 (ready-brings w true l.own_busy l' refl) in
@@ -41,7 +36,7 @@ module _ (w : ℕ) (t : Terms) (l : Link) where
       let one = one-waits w (Words.has_room t l) l.waiting (Words.command (Words.ready_to_receive true l)) 2 (ready-brings w true l.own_busy l refl) in
       let pays : back w l.state ≡ w = ap (back w) at in
       either (may_repeat t l) _ _ (inr (record { contents = refl; received = refl; within = omega (arith, one, pays) })) (inl refl)
-  by-state TimerRecovery at T203 = inr idle
+  by-state other at any = inr idle
 
   pub timer-expires : (timer : LinkTimer) → Fair (course t (expired timer) l)
   timer-expires timer = either (Machine.is_running timer l) _ _ (by-state l.state refl timer) (inr idle)

@@ -1,29 +1,18 @@
 -- Two stations that are up, either of which may be busy, where each timer is timely: both stay up, whatever is lost.
-use Rattle.laws_wire.proofs.Vocabulary.{◌≡◌, ℕ, Bool, true, false, cond, List, [], ◌∷◌, ◌++◌, length, drop, map, Option, None, Some, refl, sym, ap, subst, ◌∙◌, ◌⊎◌, inl, inr, append-nil, All, All-head, Refusal, Service, Timer, Parts, spelling, TimerRecovery, Terms, LinkTimer, T203, Link, state_number, queue_of, course, begun, End, with_link, with_sent, offer-gave, Config, LineTold, request, Line, place_in, Request, at_requested, aim_of_request, awaits_answer, IsMildRequest, CanRepeat, HasNothingToSend, nothing-given, runs}
+use Rattle.laws_wire.proofs.Vocabulary.{◌≡◌, ℕ, Bool, true, false, cond, List, [], ◌∷◌, ◌++◌, length, drop, map, Option, None, Some, refl, sym, ap, subst, ◌∙◌, ◌⊎◌, inl, inr, append-nil, Refusal, Service, Timer, TimerRecovery, Terms, LinkTimer, T203, Link, state_number, queue_of, course, begun, End, with_link, with_sent, offer-gave, Config, LineTold, request, Line, place_in, Request, at_requested, aim_of_request, awaits_answer, IsMildRequest, CanRepeat, HasNothingToSend, nothing-given, runs, T200, Course, Data, SetBusy, ClearBusy, Station, Wire, happens, Act, requests, times_out, gives, takes, loses, acting, turned, IsStill, contents_of, data_told, heard_in, end_of, IsTimelyOf, runs_t200, IsAsked, IsFullTalkOf, Rests}
 use Rattle.lapd_frame.specs.declared.timers.Timer.TheVariants as timers
-use Rattle.model_link.specs.declared.timers.LinkTimer.TheVariants.{T200}
 use Rattle.model_link.specs.Events as link
 use Rattle.model_link.specs.Requests as requests
-use Rattle.model_link.specs.Steps.{Course}
 use Rattle.model_link.specs.TwoEnds as two_ends
-use Rattle.model_line.specs.Request.{Data, SetBusy, ClearBusy}
-use Rattle.model_line.specs.Request as asked
 use Rattle.laws_link.specs.two.Timely as two_links_timely
-use Rattle.laws_wire.specs.Wire.{Station, Wire, happens, with_first_of, Act, requests, times_out, gives, takes, loses, acting, turned, IsStill, contents_of}
-use Rattle.laws_wire.specs.Call.{data_told}
-use Rattle.laws_wire.specs.Losing.{heard_in}
-use Rattle.laws_wire.specs.Facing.{end_of}
-use Rattle.laws_wire.specs.Timely.{IsTimelyOf}
-use Rattle.laws_wire.specs.Arriving.{runs_t200}
-use Rattle.laws_wire.specs.Answering.{IsAsked, IsFullTalkOf, Rests}
 use Rattle.laws_wire.proofs.Asking.{with_more, asked-form}
 use Rattle.laws_wire.proofs.Awaited.{closed, link-is, as-here, may-there, open-there}
-use Rattle.laws_wire.proofs.Held.{TellsIt, Held, heard-then, held-given, held-lost, held-taken, Grants, held-asked}
-use Rattle.laws_wire.proofs.Loose.{Loose, loose-turned, loose-after, loose-fine, loose-kept, HasAll, loose-came}
+use Rattle.laws_wire.proofs.Held.{TellsIt, Held, heard-then, held-given, held-lost, Grants, held-asked}
+use Rattle.laws_wire.proofs.Loose.{Loose, loose-turned, loose-after, HasAll, loose-came}
 use Rattle.laws_wire.proofs.LossyPhases.{Aims}
-use Rattle.laws_wire.proofs.Standing.{IsCarried, Stands, Granted, asks-stands}
+use Rattle.laws_wire.proofs.Standing.{Stands, Granted, asks-stands}
 use Rattle.laws_wire.proofs.Talking.{Face}
-use Rattle.laws_wire.proofs.TimelyUp.{each-timer, hushed, timer-held, never}
+use Rattle.laws_wire.proofs.TimelyUp.{took-held, each-timer, hushed, timer-held, never}
 
 -- what own busy asks for is told nobody, and leaves the contents
 pub record Mute (l : Link) (c : Course) : Type 0 where
@@ -66,14 +55,7 @@ module _ (service : Service) (tei : ℕ) where
   for-asked P own busy ready (Data s t octets) is = subst (λ s'. P (Data s' t octets)) (sym is.0) (subst (λ t'. P (Data service t' octets)) (sym is.1) (own octets))
   for-asked P own busy ready (SetBusy s t) is = subst (λ s'. P (SetBusy s' t)) (sym is.0) (subst (λ t'. P (SetBusy service t')) (sym is.1) busy)
   for-asked P own busy ready (ClearBusy s t) is = subst (λ s'. P (ClearBusy s' t)) (sym is.0) (subst (λ t'. P (ClearBusy service t')) (sym is.1) ready)
-  for-asked P own busy ready (asked.Establish s t) is = absurd is
-  for-asked P own busy ready (asked.Release s t) is = absurd is
-  for-asked P own busy ready (asked.Unit s t octets) is = absurd is
-  for-asked P own busy ready (asked.Assign t) is = absurd is
-  for-asked P own busy ready (asked.Remove t) is = absurd is
-  for-asked P own busy ready (asked.Check t) is = absurd is
-  for-asked P own busy ready (asked.Deactivate s t) is = absurd is
-  for-asked P own busy ready asked.Down is = absurd is
+  for-asked P own busy ready other is = absurd is
 
   pub record LooseUp (c d : Config) (p q : ℕ) (past other : List LineTold) (w : Wire) : Type 0 where
     pub n : End
@@ -146,17 +128,10 @@ module _ (service : Service) (tei : ℕ) where
     loose-takes = record {
       n = two_ends.with_first_of m.way n;
       m = two_ends.with_first_lost m;
-      near = subst (λ ways. Held c service tei p past (with_first_of ways w.near) (two_ends.with_first_of m.way n)) (sym h.far.stands.way) (taken m.way refl);
+      near = took-held service tei c d p q face past other w.near w.far n m h.near h.far h.loose.joined h.loose.same h.loose.there h.loose.back;
       far = held-lost service tei q other d w.far m h.far;
       loose = loose-after n m h.loose two_ends.receives tt;
     }
-      where
-        taken : (way : List Parts) → m.way ≡ way → Held c service tei p past (with_first_of (map (spelling d.side) way) w.near) (two_ends.with_first_of way n)
-        taken [] e = h.near
-        taken (f ∷ fs) e =
-            let from : IsCarried d service tei f = All-head (IsCarried d service tei) f fs (subst (All (IsCarried d service tei)) e h.far.stands.carried) in
-            let fine = loose-fine n m h.loose f fs e in
-            held-taken service tei p past c w.near n h.near d face f from (record { its_notes = fine.its_notes; no_unit = fine.no_unit }) (loose-kept n m h.loose f fs e)
 
     loose-asks : (octets : List ℕ) → Now (acting (requests (Data service tei octets)) w)
     loose-asks octets = go (held-asked service tei p past c w.near n h.near octets)
@@ -176,14 +151,11 @@ module _ (service : Service) (tei : ℕ) where
 
     by-busy : (r : Request) (rq : link.Request) → IsMildRequest rq → (aims : (l : Line) → aim_of_request r l ≡ at_requested service tei rq (place_in l tei)) → contents_of r ≡ []
         → Mute n.link (course n.terms (link.requested rq false) n.link) → Now (acting (requests r) w)
-    by-busy r rq is aims none mute = go (held-busy c p past w.near n h.near r rq aims none mute)
-      where
-        s' : Station
-        s' = happens (request r) w.near
-
-        go : (s' ≡ w.near) ⊎ Held c service tei p past s' (with_link (link.requested rq false) n) → Now (record w { near = s' })
-        go (inl same) = record { n = n; m = m; near = subst (λ s. Held c service tei p past s n) (sym same) h.near; far = h.far; loose = h.loose }
-        go (inr x) = record { n = with_link (link.requested rq false) n; m = m; near = x; far = h.far; loose = loose-after n m h.loose (two_ends.asks rq false) is }
+    by-busy r rq is aims none mute =
+        elim (held-busy c p past w.near n h.near r rq aims none mute) [
+          | inl same ↦ record { n = n; m = m; near = subst (λ s. Held c service tei p past s n) (sym same) h.near; far = h.far; loose = h.loose }
+          | inr x ↦ record { n = with_link (link.requested rq false) n; m = m; near = x; far = h.far; loose = loose-after n m h.loose (two_ends.asks rq false) is }
+        ]
 
     loose-expires : (timer : Timer) (its : LinkTimer) → Aims service tei timer its → CanRepeat its n → two_links_timely.IsTimely its n m → Now (acting (times_out timer) w)
     loose-expires timer its aims can timely =

@@ -1,9 +1,6 @@
 -- The second phase of such a call: one end still rings, and the other is up.
-use Rattle.laws_wire.proofs.Vocabulary.{◌≡◌, ℕ, true, List, [], ◌∷◌, ◌++◌, map, refl, sym, ap, subst, ◌∙◌, ◌⊎◌, inl, inr, append-nil, option_to_list, All-head, Service, Parts, spelling, Terms, course, IsInRange, End, with_link, frames_of, Config, LineTold, terms}
+use Rattle.laws_wire.proofs.Vocabulary.{◌≡◌, ℕ, true, List, [], ◌∷◌, ◌++◌, map, refl, sym, ap, subst, ◌∙◌, ◌⊎◌, inl, inr, append-nil, option_to_list, All-head, Service, Parts, spelling, Terms, course, IsInRange, End, with_link, frames_of, Config, terms, Station, Wire, with_first_of, with_first_lost, Act, requests, times_out, gives, takes, loses, acting, turned, comes, confirmed, indicated, IsRoughTalkOf}
 use Rattle.model_link.specs.Events as link
-use Rattle.laws_wire.specs.Wire.{Station, Wire, with_first_of, with_first_lost, Act, requests, times_out, gives, takes, loses, acting, turned, comes}
-use Rattle.laws_wire.specs.Call.{confirmed, indicated}
-use Rattle.laws_wire.specs.Losing.{IsRoughTalkOf}
 use Rattle.laws_wire.proofs.Answered.{takes-granted}
 use Rattle.laws_wire.proofs.Acting.{Acted, up-asks, up-expires, up-gives, up-loses}
 use Rattle.laws_wire.proofs.Calling.{sabme, ua, end, caller}
@@ -22,12 +19,6 @@ module _ (service : Service) (tei : ℕ) (c d : Config) (p q : ℕ) (face : Face
   abbrev u : Terms
   u = terms d service tei
 
-  abbrev first_near : List LineTold
-  first_near = confirmed service tei ∷ []
-
-  abbrev first_far : List LineTold
-  first_far = indicated service tei ∷ []
-
   abbrev Leads : Wire → Type 0
   Leads w = Went service tei c d p q w
 
@@ -43,15 +34,15 @@ module _ (service : Service) (tei : ℕ) (c d : Config) (p q : ℕ) (face : Face
     abbrev caller_end : End
     caller_end = end t (ringing h.repeats h.waiting) h.way
 
-    acted-half : (w' : Wire) (first : List Parts) → UaOrNone service tei c d p q first → Held c service tei p [] w'.near caller_end → Acted service tei q first_far d w'.far (end t caller []) first [] → Leads w'
+    acted-half : (w' : Wire) (first : List Parts) → UaOrNone service tei c d p q first → Held c service tei p [] w'.near caller_end → Acted service tei q (indicated service tei ∷ []) d w'.far (end t caller []) first [] → Leads w'
     acted-half w' first is near x =
         as-half service tei c d p q w' (record { repeats = h.repeats; waiting = h.waiting; way = h.way; near = near; sabmes = h.sabmes; m = x.n; first = first; line = x.near; is_ua = is; far = x.at })
 
     -- the first frame on the way of the other, where it is not UA
-    unheard-by : (f : Parts) (fs : List Parts) → h.m.way ≡ f ∷ fs → IsMeant f → h.first ≡ [] → Acted service tei q first_far d (with_first_lost w.far) (end t caller []) h.first []
+    unheard-by : (f : Parts) (fs : List Parts) → h.m.way ≡ f ∷ fs → IsMeant f → h.first ≡ [] → Acted service tei q (indicated service tei ∷ []) d (with_first_lost w.far) (end t caller []) h.first []
         → Leads (acting takes w)
     unheard-by f fs e meant none x =
-        let way = first-way service tei d q first_far w.far h.m f fs e h.far.held in
+        let way = first-way service tei d q _ w.far h.m f fs e h.far.held in
         let i : Ignores t h.repeats h.waiting f = ignores t h.repeats h.waiting f meant.number meant.means in
         let s' = comes (spelling d.side f) w.near in
         let event = link.received (link.frame f) in
@@ -67,10 +58,10 @@ module _ (service : Service) (tei : ℕ) (c d : Config) (p q : ℕ) (face : Face
         (acted-half (record { near = s'; far = with_first_lost w.far }) h.first h.is_ua near x)
 
     -- UA comes
-    confirms : (fs : List Parts) → h.m.way ≡ ua u ∷ fs → Acted service tei q first_far d (with_first_lost w.far) (end t caller []) [] [] → Leads (acting takes w)
+    confirms : (fs : List Parts) → h.m.way ≡ ua u ∷ fs → Acted service tei q (indicated service tei ∷ []) d (with_first_lost w.far) (end t caller []) [] [] → Leads (acting takes w)
     confirms fs e x =
         let f = ua u in
-        let way = first-way service tei d q first_far w.far h.m f fs e h.far.held in
+        let way = first-way service tei d q _ w.far h.m f fs e h.far.held in
         let s' = comes (spelling d.side f) w.near in
         let n' = end t (answered h.repeats h.waiting) h.way in
         let there : Joint x.n n' x.near [] =
@@ -78,7 +69,7 @@ module _ (service : Service) (tei : ℕ) (c d : Config) (p q : ℕ) (face : Face
           there = record { carried = x.at.joint.there.carried; rising = x.at.joint.there.rising; delivered = x.at.joint.there.delivered; accepted = x.at.joint.there.accepted };
           back = record { carried = x.at.joint.back.carried; rising = x.at.joint.back.rising; delivered = x.at.joint.back.delivered; accepted = x.at.joint.back.accepted };
         } in
-        let held : Held c service tei p first_near s' n' =
+        let held : Held c service tei p (confirmed service tei ∷ []) s' n' =
         held-first service tei p [] c w.near caller_end h.near (confirmed service tei) s' n' (course t (link.received (link.frame f)) caller_end.link) refl refl refl
         (taken-stands service tei p [] c w.near caller_end h.near d face f way.1) (takes-granted (spelling d.side f) w.near) refl
         (taken-told service tei p [] c w.near caller_end h.near d face f way.1) refl refl in
@@ -91,7 +82,7 @@ module _ (service : Service) (tei : ℕ) (c d : Config) (p q : ℕ) (face : Face
           here = x.near;
           sabmes = h.sabmes;
           near = record { held = held; up = refl; line = sym (append-nil (h.way ++ frames_of t h.waiting)); joint = turned-joint x.n n' x.near [] there };
-          far = reface service tei c d p q first_far d q (with_first_lost w.far) x.n (end t caller []) n' [] x.near [] x.at there;
+          far = reface service tei c d p q (indicated service tei ∷ []) d q (with_first_lost w.far) x.n (end t caller []) n' [] x.near [] x.at there;
         }))
 
     -- what was before the line
@@ -103,15 +94,15 @@ module _ (service : Service) (tei : ℕ) (c d : Config) (p q : ℕ) (face : Face
         go (inr is) = let same : f ∷ others ≡ ua u ∷ [] = sym e ∙ is in let head : f ≡ ua u = cc in let tail : others ≡ [] = cc in (head, tail)
 
     half-takes : (way : List Parts) → h.m.way ≡ way → Leads (acting takes w)
-    half-takes [] e = no-take service tei c d p q w (empty service tei d q first_far w.far h.m h.far.held e) (as-half service tei c d p q w h)
-    half-takes (f ∷ fs) e = go (up-loses service tei q first_far d w.far h.m (end t caller []) h.first h.line [] h.far f fs e).lost
+    half-takes [] e = no-take service tei c d p q w (empty service tei d q _ w.far h.m h.far.held e) (as-half service tei c d p q w h)
+    half-takes (f ∷ fs) e = go (up-loses service tei q _ d w.far h.m (end t caller []) h.first h.line [] h.far f fs e).lost
       where
-        go : ((h.first ≡ []) × IsMeant f × Acted service tei q first_far d (with_first_lost w.far) (end t caller []) h.first [])
-            ⊎ ((others : List Parts) × (h.first ≡ f ∷ others) × Acted service tei q first_far d (with_first_lost w.far) (end t caller []) others []) → Leads (acting takes w)
+        go : ((h.first ≡ []) × IsMeant f × Acted service tei q (indicated service tei ∷ []) d (with_first_lost w.far) (end t caller []) h.first [])
+            ⊎ ((others : List Parts) × (h.first ≡ f ∷ others) × Acted service tei q (indicated service tei ∷ []) d (with_first_lost w.far) (end t caller []) others []) → Leads (acting takes w)
         go (inl (none, meant, x)) = unheard-by f fs e meant none x
         go (inr (others, is, x)) =
             let only = only-ua f others is in
-            confirms fs (e ∙ ap (λ y. y ∷ fs) only.0) (subst (λ first. Acted service tei q first_far d (with_first_lost w.far) (end t caller []) first []) only.1 x)
+            confirms fs (e ∙ ap (λ y. y ∷ fs) only.0) (subst (λ first. Acted service tei q (indicated service tei ∷ []) d (with_first_lost w.far) (end t caller []) first []) only.1 x)
 
     pub half-near : (act : Act) → IsRoughTalkOf service tei act → Leads (acting act w)
     half-near (requests r) is =
@@ -123,19 +114,19 @@ module _ (service : Service) (tei : ℕ) (c d : Config) (p q : ℕ) (face : Face
     half-near loses is = half-with _ (rings-loses service tei c p w.near h.repeats h.waiting h.way h.near h.sabmes)
 
     -- the other end
-    half-made : (s : Station) → Acted service tei q first_far d s (end t caller []) h.first [] → Leads (made w s)
+    half-made : (s : Station) → Acted service tei q (indicated service tei ∷ []) d s (end t caller []) h.first [] → Leads (made w s)
     half-made s x = acted-half (made w s) h.first h.is_ua h.near x
 
-    half-made_or : (s : Station) → Acted service tei q first_far d s (end t caller []) h.first [] ⊎ Erred s → Leads (made w s)
+    half-made_or : (s : Station) → Acted service tei q (indicated service tei ∷ []) d s (end t caller []) h.first [] ⊎ Erred s → Leads (made w s)
     half-made_or s (inl x) = half-made s x
     half-made_or s (inr e) = inr (inr e)
 
     half-loses : (way : List Parts) → h.m.way ≡ way → Leads (turned (acting loses (turned w)))
-    half-loses [] e = no-loss_far service tei c d p q w (empty service tei d q first_far w.far h.m h.far.held e) (as-half service tei c d p q w h)
-    half-loses (f ∷ fs) e = go (up-loses service tei q first_far d w.far h.m (end t caller []) h.first h.line [] h.far f fs e).lost
+    half-loses [] e = no-loss_far service tei c d p q w (empty service tei d q _ w.far h.m h.far.held e) (as-half service tei c d p q w h)
+    half-loses (f ∷ fs) e = go (up-loses service tei q _ d w.far h.m (end t caller []) h.first h.line [] h.far f fs e).lost
       where
-        go : ((h.first ≡ []) × IsMeant f × Acted service tei q first_far d (with_first_lost w.far) (end t caller []) h.first [])
-            ⊎ ((others : List Parts) × (h.first ≡ f ∷ others) × Acted service tei q first_far d (with_first_lost w.far) (end t caller []) others [])
+        go : ((h.first ≡ []) × IsMeant f × Acted service tei q (indicated service tei ∷ []) d (with_first_lost w.far) (end t caller []) h.first [])
+            ⊎ ((others : List Parts) × (h.first ≡ f ∷ others) × Acted service tei q (indicated service tei ∷ []) d (with_first_lost w.far) (end t caller []) others [])
             → Leads (made w (with_first_lost w.far))
         go (inl (none, meant, x)) = half-made (with_first_lost w.far) x
         go (inr (others, is, x)) = acted-half (made w (with_first_lost w.far)) others (inl (only-ua f others is).1) h.near x
@@ -150,15 +141,15 @@ module _ (service : Service) (tei : ℕ) (c d : Config) (p q : ℕ) (face : Face
         let x = course h.m.terms (link.received (link.frame f)) h.m.link in
         let error : HasError x.notes = sabme-error h.m.terms h.m.link h.far.up f true (ap (λ y. y.control) is) in
         subst (λ ways. Leads (record { near = with_first_lost w.near; far = with_first_of ways w.far })) (sym way.0)
-        (inr (inr (now-erred w.far s' x (taken-told service tei q first_far d w.far h.m h.far.held c back f way.1) error)))
+        (inr (inr (now-erred w.far s' x (taken-told service tei q _ d w.far h.m h.far.held c back f way.1) error)))
 
     pub half-far : (act : Act) → IsRoughTalkOf service tei act → Leads (turned (acting act (turned w)))
     half-far (requests r) is =
         for-data service tei (λ r. Leads (turned (acting (requests r) (turned w))))
-        (λ octets. half-made _ (up-asks service tei q first_far d w.far h.m (end t caller []) h.first h.line [] h.far octets)) r is
+        (λ octets. half-made _ (up-asks service tei q _ d w.far h.m (end t caller []) h.first h.line [] h.far octets)) r is
     half-far (times_out timer) is =
         for-timer service tei (λ timer. Leads (turned (acting (times_out timer) (turned w))))
-        (λ timer its aims. half-made_or _ (up-expires service tei q first_far d w.far h.m (end t caller []) h.first h.line [] h.far timer its aims)) timer is
-    half-far gives is = half-made _ (up-gives service tei q first_far d w.far h.m (end t caller []) h.first h.line [] h.far)
+        (λ timer its aims. half-made_or _ (up-expires service tei q _ d w.far h.m (end t caller []) h.first h.line [] h.far timer its aims)) timer is
+    half-far gives is = half-made _ (up-gives service tei q _ d w.far h.m (end t caller []) h.first h.line [] h.far)
     half-far takes is = half-hears h.way refl
     half-far loses is = half-loses h.m.way refl

@@ -1,19 +1,15 @@
 -- A call in which frames are lost and timers expire: SABME goes as often as T200 expires; then the other end is up, and UA may be on
 -- its way, or lost; and then both are up, and SABME may still be on its way. Or an error was told.
-use Rattle.laws_wire.proofs.Vocabulary.{◌≡◌, ℕ, List, [], ◌∷◌, map, drop, refl, sym, ap, subst, ◌∙◌, ◌⊎◌, inl, inr, All, All-head, Service, Timer, Parts, spelling, ControlFrame, Terms, LinkTimer, fresh, End, Config, LineTold, at_timer, aim_of_expiry, Line, place_in, terms, Request}
+use Rattle.laws_wire.proofs.Vocabulary.{◌≡◌, ℕ, List, [], ◌∷◌, map, refl, sym, ap, subst, ◌∙◌, ◌⊎◌, inl, inr, All, All-head, Service, Timer, Parts, spelling, ControlFrame, Terms, LinkTimer, fresh, End, Config, LineTold, at_timer, aim_of_expiry, Line, place_in, terms, Request, Data, Station, Wire, requests, takes, loses, acting, turned, confirmed, indicated, IsOfLink, IsRoughTalkOf}
 use Rattle.lapd_frame.specs.declared.timers.Timer.TheVariants as timers
 use Rattle.model_link.specs.declared.timers.LinkTimer.TheVariants as link_timer
-use Rattle.model_line.specs.Request as asked
-use Rattle.model_line.specs.Request.{Data}
-use Rattle.laws_wire.specs.Wire.{Station, Wire, with_first_of, with_first_lost, requests, takes, loses, acting, turned}
-use Rattle.laws_wire.specs.Call.{confirmed, indicated}
-use Rattle.laws_wire.specs.Losing.{IsOfLink, IsRoughTalkOf}
 use Rattle.laws_wire.proofs.Acting.{UpAt}
 use Rattle.laws_wire.proofs.Calling.{ua, end, caller}
 use Rattle.laws_wire.proofs.Held.{Held, Erred}
 use Rattle.laws_wire.proofs.Joint.{Joint}
 use Rattle.laws_wire.proofs.Ringing.{ringing, IsSabme, AreSabmes}
 use Rattle.laws_wire.proofs.Standing.{IsCarried}
+use Rattle.laws_wire.proofs.Answered.{lost-none, takes-none}
 
 abbrev pub made : Wire → Station → Wire
 made w s = record { near = w.near; far = s }
@@ -22,16 +18,7 @@ module _ (service : Service) (tei : ℕ) where
   -- the requests and timers of a call
   pub for-data : (P : Request → Type 0) → ((octets : List ℕ) → P (Data service tei octets)) → (r : Request) → IsRoughTalkOf service tei (requests r) → P r
   for-data P own (Data s t octets) is = subst (λ s'. P (Data s' t octets)) (sym is.0) (subst (λ t'. P (Data service t' octets)) (sym is.1) (own octets))
-  for-data P own (asked.Establish s t) is = absurd is
-  for-data P own (asked.Release s t) is = absurd is
-  for-data P own (asked.Unit s t octets) is = absurd is
-  for-data P own (asked.Assign t) is = absurd is
-  for-data P own (asked.Remove t) is = absurd is
-  for-data P own (asked.Check t) is = absurd is
-  for-data P own (asked.SetBusy s t) is = absurd is
-  for-data P own (asked.ClearBusy s t) is = absurd is
-  for-data P own (asked.Deactivate s t) is = absurd is
-  for-data P own asked.Down is = absurd is
+  for-data P own other is = absurd is
 
   abbrev pub Aims : Timer → LinkTimer → Type 0
   Aims timer its = (l : Line) → aim_of_expiry timer l ≡ at_timer service tei its (place_in l tei)
@@ -61,12 +48,6 @@ module _ (service : Service) (tei : ℕ) where
     abbrev u : Terms
     u = terms d service tei
 
-    abbrev first_near : List LineTold
-    first_near = confirmed service tei ∷ []
-
-    abbrev first_far : List LineTold
-    first_far = indicated service tei ∷ []
-
     -- ---- the phases
 
     pub record IsRinging (w : Wire) : Type 0 where
@@ -90,7 +71,7 @@ module _ (service : Service) (tei : ℕ) where
       pub first : List Parts
       pub line : List Parts
       pub is_ua : UaOrNone first
-      pub far : UpAt service tei q first_far d w.far m (end t caller []) first line []
+      pub far : UpAt service tei q (indicated service tei ∷ []) d w.far m (end t caller []) first line []
 
     pub record IsUp (w : Wire) : Type 0 where
       pub n : End
@@ -99,8 +80,8 @@ module _ (service : Service) (tei : ℕ) where
       pub there : List Parts
       pub here : List Parts
       pub sabmes : All (IsSabme t) first
-      pub near : UpAt service tei p first_near c w.near n m first there here
-      pub far : UpAt service tei q first_far d w.far m n [] here there
+      pub near : UpAt service tei p (confirmed service tei ∷ []) c w.near n m first there here
+      pub far : UpAt service tei q (indicated service tei ∷ []) d w.far m n [] here there
 
     abbrev pub Goes : Wire → Type 0
     Goes w = IsRinging w ⊎ IsHalf w ⊎ IsUp w
@@ -118,12 +99,6 @@ module _ (service : Service) (tei : ℕ) where
     as-up w h = inl (inr (inr h))
 
     -- where none is on its way none is taken, and none is lost
-    lost-none : (s : Station) → s.way ≡ [] → with_first_lost s ≡ s
-    lost-none s e = λ i. record s { way = (ap (drop 1) e ∙ sym e) i }
-
-    takes-none : (w : Wire) → w.far.way ≡ [] → acting takes w ≡ w
-    takes-none w e = λ i. record { near = ap (λ way. with_first_of way w.near) e i; far = lost-none w.far e i }
-
     pub no-take : (w : Wire) → w.far.way ≡ [] → Went w → Went (acting takes w)
     no-take w e h = subst Went (sym (takes-none w e)) h
 

@@ -1,14 +1,9 @@
 -- The first phase of such a call: one end rings, and the other is down.
-use Rattle.laws_wire.proofs.Vocabulary.{◌≡◌, ℕ, false, List, [], ◌∷◌, ◌++◌, map, drop, None, refl, sym, ap, subst, ◌∙◌, ◌⊎◌, inl, inr, arith, All-head, Service, Parts, spelling, Terms, fresh, course, IsInRange, with_link, frames_of, Config, LineTold, request, terms}
+use Rattle.laws_wire.proofs.Vocabulary.{◌≡◌, ℕ, false, List, [], ◌∷◌, ◌++◌, map, drop, None, refl, sym, ap, subst, ◌∙◌, ◌⊎◌, inl, inr, arith, All-head, Service, Parts, spelling, Terms, fresh, course, IsInRange, with_link, frames_of, Config, request, terms, refusal, Data, Station, Wire, happens, with_first_of, with_first_lost, Act, requests, times_out, gives, takes, loses, acting, turned, comes, indicated, IsRoughTalkOf}
 use Rattle.model_link.specs.Events as link
-use Rattle.model_link.specs.Requests.{refusal}
-use Rattle.model_line.specs.Request.{Data}
-use Rattle.laws_wire.specs.Wire.{Station, Wire, happens, with_first_of, with_first_lost, Act, requests, times_out, gives, takes, loses, acting, turned, comes}
-use Rattle.laws_wire.specs.Call.{indicated}
-use Rattle.laws_wire.specs.Losing.{IsRoughTalkOf}
 use Rattle.laws_wire.proofs.Answered.{takes-granted}
 use Rattle.laws_wire.proofs.Calling.{sabme, ua, end, caller, answering, takes-sabme, told-of-sabme}
-use Rattle.laws_wire.proofs.Held.{Held, Erred, held-given, held-lost, held-first, taken-told, taken-stands, held-expired, Grants, held-asked}
+use Rattle.laws_wire.proofs.Held.{Held, Erred, held-given, held-lost, held-first, taken-told, taken-stands, held-expired, held-asked}
 use Rattle.laws_wire.proofs.Joint.{Joint}
 use Rattle.laws_wire.proofs.LossyPhases.{made, for-data, for-timer, first-way, empty, IsRinging, Went, as-half, no-take, no-take_far}
 use Rattle.laws_wire.proofs.Ringing.{ringing, IsSabme, AreSabmes, one-sabme_less}
@@ -22,9 +17,6 @@ module _ (service : Service) (tei : ℕ) (c d : Config) (p q : ℕ) (face : Face
 
   abbrev u : Terms
   u = terms d service tei
-
-  abbrev first_far : List LineTold
-  first_far = indicated service tei ∷ []
 
   abbrev Leads : Wire → Type 0
   Leads w = Went service tei c d p q w
@@ -51,14 +43,11 @@ module _ (service : Service) (tei : ℕ) (c d : Config) (p q : ℕ) (face : Face
     down-with s x = inl (inl (record { repeats = h.repeats; waiting = h.waiting; way = h.way; near = h.near; far = x; sabmes = h.sabmes }))
 
     down-asks : (octets : List ℕ) → Leads (made w (happens (request (Data service tei octets)) w.far))
-    down-asks octets = go (held-asked service tei q [] d w.far (end u fresh []) h.far octets)
-      where
-        s' : Station
-        s' = happens (request (Data service tei octets)) w.far
-
-        go : (s' ≡ w.far) ⊎ Grants service tei q [] d w.far (end u fresh []) h.far octets s' → Leads (made w s')
-        go (inl same) = subst (λ s. Leads (made w s)) (sym same) (inl (inl h))
-        go (inr x) = let none : refusal u fresh false (link.Data octets) ≡ None = x.none in absurd (cc)
+    down-asks octets =
+        elim (held-asked service tei q [] d w.far (end u fresh []) h.far octets) [
+          | inl same ↦ subst (λ s. Leads (made w s)) (sym same) (inl (inl h))
+          | inr x ↦ let none : refusal u fresh false (link.Data octets) ≡ None = x.none in absurd (cc)
+        ]
 
     -- SABME comes
     module _ (fs : List Parts) (e : h.way ≡ sabme t ∷ fs) where
@@ -74,7 +63,7 @@ module _ (service : Service) (tei : ℕ) (c d : Config) (p q : ℕ) (face : Face
       becomes : with_link (link.received (link.frame call)) (end u fresh []) ≡ end u answering []
       becomes = ap (λ y. end u y []) (takes-sabme u ru t)
 
-      answered_by : Held d service tei q first_far reached (end u answering [])
+      answered_by : Held d service tei q (indicated service tei ∷ []) reached (end u answering [])
       answered_by =
           held-first service tei q [] d w.far (end u fresh []) h.far (indicated service tei) reached (end u answering []) (course u (link.received (link.frame call)) fresh) refl refl refl
           (subst (Stands d service tei q reached) becomes (taken-stands service tei q [] d w.far (end u fresh []) h.far c back call its_way.1)) (takes-granted (spelling c.side call) w.far) refl

@@ -1,8 +1,5 @@
 -- A whole call in which frames are lost and timers expire: what layer 3 of each was told, as long as no error was.
-use Rattle.laws_wire.proofs.Vocabulary.{◌≡◌, ℕ, List, [], ◌∷◌, ◌++◌, map, take, refl, sym, ap, ◌∙◌, inl, inr, append-nil, All, flat_map, All-nil, All-cons, All-head, All-tail, Service, other_side, fresh, IsInRange, End, Config, LineTold, terms, terms_in_range}
-use Rattle.laws_wire.specs.Wire.{Station, Wire, with_first_of, Act, requests, times_out, gives, takes, loses, Doing, at_near, at_far, acting, turned, doing, doing_all}
-use Rattle.laws_wire.specs.Call.{calling, CanCall, confirmed, indicated, data_told, IsBeginningOf}
-use Rattle.laws_wire.specs.Losing.{for_layer_3, heard_in, HasNoError, IsRoughTalk, CallsAreToldInOrder}
+use Rattle.laws_wire.proofs.Vocabulary.{◌≡◌, ℕ, List, [], ◌∷◌, ◌++◌, map, take, refl, sym, ap, ◌∙◌, inl, inr, append-nil, All, flat_map, All-nil, All-cons, All-head, All-tail, Service, other_side, fresh, IsInRange, End, Config, LineTold, terms, terms_in_range, Station, Wire, with_first_of, Act, requests, takes, loses, Doing, at_near, at_far, acting, turned, doing, doing_all, calling, CanCall, confirmed, indicated, data_told, IsBeginningOf, for_layer_3, heard_in, HasNoError, IsRoughTalk, CallsAreToldInOrder}
 use Rattle.laws_wire.proofs.Beginning.{calls, answers}
 use Rattle.laws_wire.proofs.Calling.{asked, sabme, end}
 use Rattle.laws_wire.proofs.Held.{Held, Erred, erred-stays, not-erred}
@@ -25,18 +22,13 @@ taken-more [] s = record { more = []; told = sym (append-nil s.told) }
 taken-more (octets ∷ way) s = record { more = _; told = refl }
 
 pub near-more : (act : Act) (w : Wire) → More w.near (acting act w).near
-near-more (requests r) w = record { more = _; told = refl }
-near-more (times_out timer) w = record { more = _; told = refl }
-near-more gives w = record { more = _; told = refl }
 near-more takes w = taken-more w.far.way w.near
 near-more loses w = record { more = []; told = sym (append-nil w.near.told) }
+near-more other w = record { more = _; told = refl }
 
 pub far-more : (act : Act) (w : Wire) → More w.far (acting act w).far
 far-more (requests r) w = record { more = []; told = sym (append-nil w.far.told) }
-far-more (times_out timer) w = record { more = []; told = sym (append-nil w.far.told) }
-far-more gives w = record { more = []; told = sym (append-nil w.far.told) }
-far-more takes w = record { more = []; told = sym (append-nil w.far.told) }
-far-more loses w = record { more = []; told = sym (append-nil w.far.told) }
+far-more other w = record { more = []; told = sym (append-nil w.far.told) }
 
 still-errs : (s s' : Station) → More s s' → Erred s → Erred s'
 still-errs s s' x h = erred-stays s s' x.more x.told h

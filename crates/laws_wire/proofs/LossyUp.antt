@@ -1,11 +1,8 @@
 -- The third phase of such a call: both ends are up.
-use Rattle.laws_wire.proofs.Vocabulary.{◌≡◌, ℕ, true, List, [], ◌∷◌, ◌++◌, drop, refl, sym, ap, subst, ◌∙◌, ◌⊎◌, inl, inr, All, All-nil, All-head, All-tail, Service, Parts, spelling, Terms, course, IsInRange, End, frames_of, Config, LineTold, terms}
+use Rattle.laws_wire.proofs.Vocabulary.{◌≡◌, ℕ, true, List, [], ◌∷◌, ◌++◌, drop, refl, sym, ap, subst, ◌∙◌, ◌⊎◌, inl, inr, All, All-nil, All-head, All-tail, Service, Parts, spelling, Terms, course, IsInRange, End, frames_of, Config, terms, Station, Wire, with_first_of, with_first_lost, Act, requests, times_out, gives, takes, loses, acting, turned, comes, confirmed, indicated, IsRoughTalkOf}
 use Rattle.model_link.specs.Events as link
 use Rattle.model_link.specs.TwoEnds as two_ends
-use Rattle.laws_wire.specs.Wire.{Station, Wire, with_first_of, with_first_lost, Act, requests, times_out, gives, takes, loses, acting, turned, comes}
-use Rattle.laws_wire.specs.Call.{confirmed, indicated}
-use Rattle.laws_wire.specs.Losing.{IsRoughTalkOf}
-use Rattle.laws_wire.proofs.Acting.{First, Before, which, UpAt, Acted, ranges, up-asks, up-expires, up-gives, up-loses, up-hears}
+use Rattle.laws_wire.proofs.Acting.{which, UpAt, Acted, ranges, up-asks, up-expires, up-gives, up-loses, up-hears}
 use Rattle.laws_wire.proofs.Calling.{sabme}
 use Rattle.laws_wire.proofs.Fair.{HasError, sabme-error}
 use Rattle.laws_wire.proofs.Held.{Erred, now-erred, held-lost, taken-told}
@@ -18,17 +15,11 @@ module _ (service : Service) (tei : ℕ) (c d : Config) (p q : ℕ) (face : Face
   abbrev t : Terms
   t = terms c service tei
 
-  abbrev first_near : List LineTold
-  first_near = confirmed service tei ∷ []
-
-  abbrev first_far : List LineTold
-  first_far = indicated service tei ∷ []
-
   abbrev Leads : Wire → Type 0
   Leads w = Went service tei c d p q w
 
   -- one end went on, and the other stays where it is
-  up-near : (w : Wire) (h : IsUp service tei c d p q w) (s : Station) (first : List Parts) → All (IsSabme t) first → Acted service tei p first_near c s h.m first h.here → Leads (record w { near = s })
+  up-near : (w : Wire) (h : IsUp service tei c d p q w) (s : Station) (first : List Parts) → All (IsSabme t) first → Acted service tei p (confirmed service tei ∷ []) c s h.m first h.here → Leads (record w { near = s })
   up-near w h s first all x =
       as-up service tei c d p q (record w { near = s }) (record {
         n = x.n;
@@ -41,11 +32,11 @@ module _ (service : Service) (tei : ℕ) (c d : Config) (p q : ℕ) (face : Face
         far = record { held = h.far.held; up = h.far.up; line = h.far.line; joint = turned-joint x.n h.m x.near h.here x.at.joint };
       })
 
-  up-near_or : (w : Wire) (h : IsUp service tei c d p q w) (s : Station) → Acted service tei p first_near c s h.m h.first h.here ⊎ Erred s → Leads (record w { near = s })
+  up-near_or : (w : Wire) (h : IsUp service tei c d p q w) (s : Station) → Acted service tei p (confirmed service tei ∷ []) c s h.m h.first h.here ⊎ Erred s → Leads (record w { near = s })
   up-near_or w h s (inl x) = up-near w h s h.first h.sabmes x
   up-near_or w h s (inr e) = inr (inl e)
 
-  up-far : (w : Wire) (h : IsUp service tei c d p q w) (s : Station) → Acted service tei q first_far d s h.n [] h.there → Leads (made w s)
+  up-far : (w : Wire) (h : IsUp service tei c d p q w) (s : Station) → Acted service tei q (indicated service tei ∷ []) d s h.n [] h.there → Leads (made w s)
   up-far w h s x =
       as-up service tei c d p q (made w s) (record {
         n = h.n;
@@ -58,7 +49,7 @@ module _ (service : Service) (tei : ℕ) (c d : Config) (p q : ℕ) (face : Face
         far = x.at;
       })
 
-  up-far_or : (w : Wire) (h : IsUp service tei c d p q w) (s : Station) → Acted service tei q first_far d s h.n [] h.there ⊎ Erred s → Leads (made w s)
+  up-far_or : (w : Wire) (h : IsUp service tei c d p q w) (s : Station) → Acted service tei q (indicated service tei ∷ []) d s h.n [] h.there ⊎ Erred s → Leads (made w s)
   up-far_or w h s (inl x) = up-far w h s x
   up-far_or w h s (inr e) = inr (inr e)
 
@@ -66,16 +57,16 @@ module _ (service : Service) (tei : ℕ) (c d : Config) (p q : ℕ) (face : Face
   module _ (w : Wire) (h : IsUp service tei c d p q w) where
     near-hears : (f : Parts) (fs : List Parts) → h.m.way ≡ f ∷ fs → (here : List Parts) → h.here ≡ f ∷ here → fs ++ frames_of h.m.terms h.m.link.waiting ≡ here → Leads (acting takes w)
     near-hears f fs e here is rest =
-        let way = first-way service tei d q first_far w.far h.m f fs e h.far.held in
+        let way = first-way service tei d q _ w.far h.m f fs e h.far.held in
         let s' = comes (spelling d.side f) w.near in
-        let at : UpAt service tei p first_near c w.near h.n h.m h.first h.there (f ∷ here) = subst (λ xs. UpAt service tei p first_near c w.near h.n h.m h.first h.there xs) is h.near in
+        let at : UpAt service tei p (confirmed service tei ∷ []) c w.near h.n h.m h.first h.there (f ∷ here) = subst (λ xs. UpAt service tei p (confirmed service tei ∷ []) c w.near h.n h.m h.first h.there xs) is h.near in
         subst (λ ways. Leads (record { near = with_first_of ways w.near; far = with_first_lost w.far })) (sym way.0)
-        (go s' (up-hears service tei p first_near c d face w.near h.n h.m f h.first h.there here at way.1 (ranges service tei q first_far d w.far h.m h.far.held)))
+        (go s' (up-hears service tei p _ c d face w.near h.n h.m f h.first h.there here at way.1 (ranges service tei q _ d w.far h.m h.far.held)))
       where
         m' : End
         m' = two_ends.with_first_lost h.m
 
-        go : (s' : Station) → Acted service tei p first_near c s' m' h.first here ⊎ Erred s' → Leads (record { near = s'; far = with_first_lost w.far })
+        go : (s' : Station) → Acted service tei p (confirmed service tei ∷ []) c s' m' h.first here ⊎ Erred s' → Leads (record { near = s'; far = with_first_lost w.far })
         go s' (inr e') = inr (inl e')
         go s' (inl x) =
             as-up service tei c d p q (record { near = s'; far = with_first_lost w.far }) (record {
@@ -87,7 +78,7 @@ module _ (service : Service) (tei : ℕ) (c d : Config) (p q : ℕ) (face : Face
               sabmes = h.sabmes;
               near = x.at;
               far = record {
-                held = held-lost service tei q first_far d w.far h.m h.far.held;
+                held = held-lost service tei q _ d w.far h.m h.far.held;
                 up = h.far.up;
                 line = ap (λ way. drop 1 way ++ frames_of h.m.terms h.m.link.waiting) e ∙ rest;
                 joint = turned-joint x.n m' x.near here x.at.joint;
@@ -97,16 +88,16 @@ module _ (service : Service) (tei : ℕ) (c d : Config) (p q : ℕ) (face : Face
     far-hears : (f : Parts) (fs : List Parts) → h.n.way ≡ f ∷ fs → h.first ≡ [] → (there : List Parts) → h.there ≡ f ∷ there → fs ++ frames_of h.n.terms h.n.link.waiting ≡ there
         → Leads (turned (acting takes (turned w)))
     far-hears f fs e none there is rest =
-        let way = first-way service tei c p first_near w.near h.n f fs e h.near.held in
+        let way = first-way service tei c p _ w.near h.n f fs e h.near.held in
         let s' = comes (spelling c.side f) w.far in
-        let at : UpAt service tei q first_far d w.far h.m h.n [] h.here (f ∷ there) = subst (λ xs. UpAt service tei q first_far d w.far h.m h.n [] h.here xs) is h.far in
+        let at : UpAt service tei q (indicated service tei ∷ []) d w.far h.m h.n [] h.here (f ∷ there) = subst (λ xs. UpAt service tei q (indicated service tei ∷ []) d w.far h.m h.n [] h.here xs) is h.far in
         subst (λ ways. Leads (record { near = with_first_lost w.near; far = with_first_of ways w.far })) (sym way.0)
-        (go s' (up-hears service tei q first_far d c back w.far h.m h.n f [] h.here there at way.1 (ranges service tei p first_near c w.near h.n h.near.held)))
+        (go s' (up-hears service tei q _ d c back w.far h.m h.n f [] h.here there at way.1 (ranges service tei p _ c w.near h.n h.near.held)))
       where
         n' : End
         n' = two_ends.with_first_lost h.n
 
-        go : (s' : Station) → Acted service tei q first_far d s' n' [] there ⊎ Erred s' → Leads (record { near = with_first_lost w.near; far = s' })
+        go : (s' : Station) → Acted service tei q (indicated service tei ∷ []) d s' n' [] there ⊎ Erred s' → Leads (record { near = with_first_lost w.near; far = s' })
         go s' (inr e') = inr (inr e')
         go s' (inl x) =
             as-up service tei c d p q (record { near = with_first_lost w.near; far = s' }) (record {
@@ -117,7 +108,7 @@ module _ (service : Service) (tei : ℕ) (c d : Config) (p q : ℕ) (face : Face
               here = x.near;
               sabmes = All-nil (IsSabme t);
               near = record {
-                held = held-lost service tei p first_near c w.near h.n h.near.held;
+                held = held-lost service tei p _ c w.near h.n h.near.held;
                 up = h.near.up;
                 line = ap (λ way. drop 1 way ++ frames_of h.n.terms h.n.link.waiting) e ∙ rest;
                 joint = turned-joint x.n n' x.near there x.at.joint;
@@ -128,65 +119,63 @@ module _ (service : Service) (tei : ℕ) (c d : Config) (p q : ℕ) (face : Face
     -- SABME comes again
     far-errs : (f : Parts) (fs : List Parts) → h.n.way ≡ f ∷ fs → f ≡ sabme t → Leads (turned (acting takes (turned w)))
     far-errs f fs e is =
-        let way = first-way service tei c p first_near w.near h.n f fs e h.near.held in
+        let way = first-way service tei c p _ w.near h.n f fs e h.near.held in
         let s' = comes (spelling c.side f) w.far in
         let x = course h.m.terms (link.received (link.frame f)) h.m.link in
         let error : HasError x.notes = sabme-error h.m.terms h.m.link h.far.up f true (ap (λ y. y.control) is) in
         subst (λ ways. Leads (record { near = with_first_lost w.near; far = with_first_of ways w.far })) (sym way.0)
-        (inr (inr (now-erred w.far s' x (taken-told service tei q first_far d w.far h.m h.far.held c back f way.1) error)))
+        (inr (inr (now-erred w.far s' x (taken-told service tei q _ d w.far h.m h.far.held c back f way.1) error)))
 
     near-takes : (way : List Parts) → h.m.way ≡ way → Leads (acting takes w)
-    near-takes [] e = no-take service tei c d p q w (empty service tei d q first_far w.far h.m h.far.held e) (as-up service tei c d p q w h)
+    near-takes [] e = no-take service tei c d p q w (empty service tei d q _ w.far h.m h.far.held e) (as-up service tei c d p q w h)
     near-takes (f ∷ fs) e = near-hears f fs e (fs ++ frames_of h.m.terms h.m.link.waiting) (sym h.far.line ∙ ap (λ way. way ++ frames_of h.m.terms h.m.link.waiting) e) refl
 
     far-takes : (way : List Parts) → h.n.way ≡ way → Leads (turned (acting takes (turned w)))
-    far-takes [] e = no-take_far service tei c d p q w (empty service tei c p first_near w.near h.n h.near.held e) (as-up service tei c d p q w h)
-    far-takes (f ∷ fs) e = go (which f rest h.first h.there (sym (ap (λ way. way ++ frames_of h.n.terms h.n.link.waiting) e) ∙ h.near.line))
-      where
-        rest : List Parts
-        rest = fs ++ frames_of h.n.terms h.n.link.waiting
-
-        go : First f rest h.first h.there ⊎ Before f rest h.first h.there → Leads (turned (acting takes (turned w)))
-        go (inl x) = far-hears f fs e x.none rest x.is refl
-        go (inr x) = far-errs f fs e (All-head (IsSabme t) f x.others (subst (All (IsSabme t)) x.is h.sabmes))
+    far-takes [] e = no-take_far service tei c d p q w (empty service tei c p _ w.near h.n h.near.held e) (as-up service tei c d p q w h)
+    far-takes (f ∷ fs) e =
+        let rest : List Parts = fs ++ frames_of h.n.terms h.n.link.waiting in
+        elim (which f rest h.first h.there (sym (ap (λ way. way ++ frames_of h.n.terms h.n.link.waiting) e) ∙ h.near.line)) [
+          | inl x ↦ far-hears f fs e x.none rest x.is refl
+          | inr x ↦ far-errs f fs e (All-head (IsSabme t) f x.others (subst (All (IsSabme t)) x.is h.sabmes))
+        ]
 
     near-loses : (way : List Parts) → h.n.way ≡ way → Leads (acting loses w)
-    near-loses [] e = no-loss service tei c d p q w (empty service tei c p first_near w.near h.n h.near.held e) (as-up service tei c d p q w h)
-    near-loses (f ∷ fs) e = go (up-loses service tei p first_near c w.near h.n h.m h.first h.there h.here h.near f fs e).lost
+    near-loses [] e = no-loss service tei c d p q w (empty service tei c p _ w.near h.n h.near.held e) (as-up service tei c d p q w h)
+    near-loses (f ∷ fs) e = go (up-loses service tei p _ c w.near h.n h.m h.first h.there h.here h.near f fs e).lost
       where
-        go : ((h.first ≡ []) × IsMeant f × Acted service tei p first_near c (with_first_lost w.near) h.m h.first h.here)
-            ⊎ ((others : List Parts) × (h.first ≡ f ∷ others) × Acted service tei p first_near c (with_first_lost w.near) h.m others h.here) → Leads (acting loses w)
+        go : ((h.first ≡ []) × IsMeant f × Acted service tei p (confirmed service tei ∷ []) c (with_first_lost w.near) h.m h.first h.here)
+            ⊎ ((others : List Parts) × (h.first ≡ f ∷ others) × Acted service tei p (confirmed service tei ∷ []) c (with_first_lost w.near) h.m others h.here) → Leads (acting loses w)
         go (inl (none, meant, x)) = up-near w h (with_first_lost w.near) h.first h.sabmes x
         go (inr (others, is, x)) = up-near w h (with_first_lost w.near) others (All-tail (IsSabme t) f others (subst (All (IsSabme t)) is h.sabmes)) x
 
     far-loses : (way : List Parts) → h.m.way ≡ way → Leads (turned (acting loses (turned w)))
-    far-loses [] e = no-loss_far service tei c d p q w (empty service tei d q first_far w.far h.m h.far.held e) (as-up service tei c d p q w h)
-    far-loses (f ∷ fs) e = up-far w h (with_first_lost w.far) (go [] refl (up-loses service tei q first_far d w.far h.m h.n [] h.here h.there h.far f fs e).lost)
+    far-loses [] e = no-loss_far service tei c d p q w (empty service tei d q _ w.far h.m h.far.held e) (as-up service tei c d p q w h)
+    far-loses (f ∷ fs) e = up-far w h (with_first_lost w.far) (go [] refl (up-loses service tei q _ d w.far h.m h.n [] h.here h.there h.far f fs e).lost)
       where
-        go : (first : List Parts) → first ≡ [] → ((first ≡ []) × IsMeant f × Acted service tei q first_far d (with_first_lost w.far) h.n first h.there)
-            ⊎ ((others : List Parts) × (first ≡ f ∷ others) × Acted service tei q first_far d (with_first_lost w.far) h.n others h.there)
-            → Acted service tei q first_far d (with_first_lost w.far) h.n [] h.there
-        go first none (inl (same, meant, x)) = subst (λ xs. Acted service tei q first_far d (with_first_lost w.far) h.n xs h.there) none x
+        go : (first : List Parts) → first ≡ [] → ((first ≡ []) × IsMeant f × Acted service tei q (indicated service tei ∷ []) d (with_first_lost w.far) h.n first h.there)
+            ⊎ ((others : List Parts) × (first ≡ f ∷ others) × Acted service tei q (indicated service tei ∷ []) d (with_first_lost w.far) h.n others h.there)
+            → Acted service tei q (indicated service tei ∷ []) d (with_first_lost w.far) h.n [] h.there
+        go first none (inl (same, meant, x)) = subst (λ xs. Acted service tei q (indicated service tei ∷ []) d (with_first_lost w.far) h.n xs h.there) none x
         go first none (inr (others, is, x)) = let wrong : [] ≡ f ∷ others = sym none ∙ is in absurd (cc)
 
     pub up-near_acts : (act : Act) → IsRoughTalkOf service tei act → Leads (acting act w)
     up-near_acts (requests r) is =
         for-data service tei (λ r. Leads (acting (requests r) w))
-        (λ octets. up-near w h _ h.first h.sabmes (up-asks service tei p first_near c w.near h.n h.m h.first h.there h.here h.near octets)) r is
+        (λ octets. up-near w h _ h.first h.sabmes (up-asks service tei p _ c w.near h.n h.m h.first h.there h.here h.near octets)) r is
     up-near_acts (times_out timer) is =
         for-timer service tei (λ timer. Leads (acting (times_out timer) w))
-        (λ timer its aims. up-near_or w h _ (up-expires service tei p first_near c w.near h.n h.m h.first h.there h.here h.near timer its aims)) timer is
-    up-near_acts gives is = up-near w h _ h.first h.sabmes (up-gives service tei p first_near c w.near h.n h.m h.first h.there h.here h.near)
+        (λ timer its aims. up-near_or w h _ (up-expires service tei p _ c w.near h.n h.m h.first h.there h.here h.near timer its aims)) timer is
+    up-near_acts gives is = up-near w h _ h.first h.sabmes (up-gives service tei p _ c w.near h.n h.m h.first h.there h.here h.near)
     up-near_acts takes is = near-takes h.m.way refl
     up-near_acts loses is = near-loses h.n.way refl
 
     pub up-far_acts : (act : Act) → IsRoughTalkOf service tei act → Leads (turned (acting act (turned w)))
     up-far_acts (requests r) is =
         for-data service tei (λ r. Leads (turned (acting (requests r) (turned w))))
-        (λ octets. up-far w h _ (up-asks service tei q first_far d w.far h.m h.n [] h.here h.there h.far octets)) r is
+        (λ octets. up-far w h _ (up-asks service tei q _ d w.far h.m h.n [] h.here h.there h.far octets)) r is
     up-far_acts (times_out timer) is =
         for-timer service tei (λ timer. Leads (turned (acting (times_out timer) (turned w))))
-        (λ timer its aims. up-far_or w h _ (up-expires service tei q first_far d w.far h.m h.n [] h.here h.there h.far timer its aims)) timer is
-    up-far_acts gives is = up-far w h _ (up-gives service tei q first_far d w.far h.m h.n [] h.here h.there h.far)
+        (λ timer its aims. up-far_or w h _ (up-expires service tei q _ d w.far h.m h.n [] h.here h.there h.far timer its aims)) timer is
+    up-far_acts gives is = up-far w h _ (up-gives service tei q _ d w.far h.m h.n [] h.here h.there h.far)
     up-far_acts takes is = far-takes h.n.way refl
     up-far_acts loses is = far-loses h.m.way refl

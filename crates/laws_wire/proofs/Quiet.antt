@@ -1,12 +1,7 @@
 -- What changes nothing at a station: a call for a frame where none waits, taking a frame where none is on its way, and data that is refused.
-use Rattle.laws_wire.proofs.Vocabulary.{◌≡◌, ℕ, ◌+◌, ◌≤◌, false, List, [], ◌∷◌, length, map, drop, None, refl, sym, ap, subst, ◌∙◌, ◌⊎◌, inl, inr, arith, All, All-head, Service, Parts, spelling, given, End, frame_given, Config, Request, Assign, Remove, Check, Deactivate, request, next}
+use Rattle.laws_wire.proofs.Vocabulary.{◌≡◌, ℕ, ◌+◌, ◌≤◌, false, List, [], ◌∷◌, length, map, drop, None, refl, sym, ap, subst, ◌∙◌, ◌⊎◌, inl, inr, arith, All, All-head, Service, Parts, spelling, given, End, frame_given, Config, Request, request, next, refusal, Data, Station, Wire, happens, frames_by, with_first_of, with_first_lost, requests, gives, takes, acting, turned, answered, IsTalkOf}
 use Rattle.model_link.specs.Events as link
-use Rattle.model_link.specs.Requests.{refusal}
 use Rattle.model_link.specs.TwoEnds as two_ends
-use Rattle.model_line.specs.Request as asked
-use Rattle.model_line.specs.Request.{Establish, Release, Data, SetBusy, ClearBusy}
-use Rattle.laws_wire.specs.Wire.{Station, Wire, happens, frames_by, with_first_of, with_first_lost, requests, gives, takes, acting, turned, answered}
-use Rattle.laws_wire.specs.Call.{IsTalkOf}
 use Rattle.laws_wire.proofs.Answered.{gives-granted}
 use Rattle.laws_wire.proofs.Standing.{IsCarried, Stands, gives-frames}
 use Rattle.laws_wire.proofs.Talking.{Past, Holds, holds-given, holds-lost, More, holds-asked}
@@ -90,16 +85,7 @@ module _ (service : Service) (tei : ℕ) where
     pub for-data : (P : Request → Type 0) → ((octets : List ℕ) → P (Data service tei octets)) → (r : Request) → IsTalkOf service tei (requests r) → P r
     for-data P own (Data s t octets) is =
         subst (λ s'. P (Data s' t octets)) (sym is.0) (subst (λ t'. P (Data service t' octets)) (sym is.1) (own octets))
-    for-data P own (Establish s t) is = absurd is
-    for-data P own (Release s t) is = absurd is
-    for-data P own (asked.Unit s t octets) is = absurd is
-    for-data P own (Assign t) is = absurd is
-    for-data P own (Remove t) is = absurd is
-    for-data P own (Check t) is = absurd is
-    for-data P own (SetBusy s t) is = absurd is
-    for-data P own (ClearBusy s t) is = absurd is
-    for-data P own (Deactivate s t) is = absurd is
-    for-data P own asked.Down is = absurd is
+    for-data P own other is = absurd is
 
     pub quiet-requests : ((octets : List ℕ) → refusal n.terms n.link false (link.Data octets) ≡ None → ⊥) → (r : Request) → IsTalkOf service tei (requests r) → Quiet (acting (requests r) w) 0
     quiet-requests never r is = for-data (λ r. Quiet (acting (requests r) w) 0) (quiet-asks never) r is

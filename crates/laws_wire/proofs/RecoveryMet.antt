@@ -1,18 +1,8 @@
 -- The premises of the law on what is lost are met: by the worked call in which SABME is lost, and then an I-frame of each end.
-use Rattle.laws_wire.proofs.Vocabulary.{◌≡◌, ◌≢◌, ℕ, ◌+◌, ◌<◌, ◌≤◌, false, List, [], ◌∷◌, length, map, refl, sym, ap, subst, ◌∙◌, true≢false, arith, All, All-nil, All-cons, list_any, Call, reading, header_of, control_of, unnumbered_of, supervisory_of, distance_of, named, seq, Established, End, LineTold, awaits_answer}
+use Rattle.laws_wire.proofs.Vocabulary.{◌≡◌, ◌≢◌, ℕ, ◌+◌, ◌<◌, ◌≤◌, false, List, [], ◌∷◌, length, map, refl, sym, ap, subst, ◌∙◌, true≢false, arith, All, All-nil, All-cons, list_any, Call, reading, header_of, control_of, unnumbered_of, supervisory_of, distance_of, named, seq, Established, End, LineTold, awaits_answer, Data, Wire, requests, times_out, gives, loses, at_near, at_far, acting, doing_all, turns, IsStill, confirmed, indicated, data_told, heard_in, is_error, IsRoughTalk, end_of, is_poll, is_final, IsNoneOpen, MayRepeat, StayTimely, with_t200_expired, HasNoErrors, BothMayRepeat, HasMissing, HasArrived, StayStill, user, network, begins, loses_three, lost, recovered}
 use Rattle.lapd_frame.specs.declared.timers.Timer.TheVariants.{T200}
 use Rattle.lapd_tei.specs.Events as teis
 use Rattle.model_line.specs.Machine as lines
-use Rattle.model_line.specs.Request.{Data}
-use Rattle.laws_wire.specs.Wire.{Wire, requests, times_out, gives, loses, at_near, at_far, acting, doing_all, turns, IsStill}
-use Rattle.laws_wire.specs.Call.{confirmed, indicated, data_told}
-use Rattle.laws_wire.specs.Losing.{heard_in, is_error, IsRoughTalk}
-use Rattle.laws_wire.specs.Facing.{end_of}
-use Rattle.laws_wire.specs.Timely.{is_poll, is_final, IsNoneOpen, MayRepeat, StayTimely}
-use Rattle.laws_wire.specs.Recovering.{with_t200_expired, HasNoErrors, BothMayRepeat, HasMissing, HasArrived}
-use Rattle.laws_wire.specs.StillTimely.{StayStill}
-use Rattle.laws_wire.specs.Worked.{user, network, begins}
-use Rattle.laws_wire.specs.WorkedRecovering.{loses_three, lost, recovered}
 use Rattle.laws_wire.proofs.PremisesMet.{can, all-rough}
 use Rattle.laws_wire.proofs.StillIsTimely.{still-is-enough}
 use Rattle.laws_wire.proofs.TimelyRun.{what-is-lost-arrives}

@@ -1,9 +1,6 @@
 -- What an end that was never busy answers, puts and gives: which N(R) it has, and what is owed.
-use Rattle.laws_wire.proofs.Vocabulary.{◌≡◌, ℕ, ◌+◌, Bool, true, false, cond, ◌&&◌, IsTrue, List, [], ◌∷◌, ◌++◌, length, Option, None, Some, refl, sym, ap, subst, ◌∙◌, append_assoc, append-nil, ◌⊎◌, inl, inr, true≢false, nat_lt, slice_get, Seq, seq, named, Information, ReceiveReady, ReceiveNotReady, Reject, Parts, State, TeiAssigned, AwaitingEstablishment, AwaitingRelease, Established, TimerRecovery, LinkTimer, T203, ControlFrame, Terms, Link, is_multiple_frame, frame_of, may_repeat, expired, offer, Step, begun, frame_given, frames_of, frames-append, Means, c-7, c-8, enquiry, kind_of}
-use Rattle.std.specs.Prelude.{unwrap_or}
+use Rattle.laws_wire.proofs.Vocabulary.{◌≡◌, ℕ, ◌+◌, Bool, true, false, cond, ◌&&◌, IsTrue, List, [], ◌∷◌, ◌++◌, length, Option, None, Some, refl, sym, ap, subst, ◌∙◌, append_assoc, append-nil, ◌⊎◌, inl, inr, true≢false, nat_lt, slice_get, Seq, seq, named, Information, ReceiveReady, ReceiveNotReady, Reject, Parts, State, Established, TimerRecovery, LinkTimer, T203, ControlFrame, Terms, Link, is_multiple_frame, frame_of, may_repeat, expired, offer, Step, begun, frame_given, frames_of, frames-append, Means, c-7, c-8, enquiry, kind_of, unwrap_or, T200, Course}
 use Rattle.lapd_frame.specs.declared.notes.ErrorCode.TheVariants as code
-use Rattle.model_link.specs.declared.timers.LinkTimer.TheVariants.{T200}
-use Rattle.model_link.specs.Steps.{Course}
 use Rattle.model_link.specs.Words
 use Rattle.model_link.specs.MultipleFrame
 use Rattle.model_link.specs.Established
@@ -67,12 +64,10 @@ module _ (t : Terms) (l : Link) where
 
   expires-in : Words.has_room t l ≡ true → (here : State) → l.state ≡ here → IsTrue (is_multiple_frame here) → (timer : LinkTimer)
       → IsUpIn (Machine.expired_in here timer t (begun l)) → Expired (Machine.expired_in here timer t (begun l)).link
-  expires-in room TeiAssigned e before timer up = absurd (true≢false (sym before))
-  expires-in room AwaitingEstablishment e before timer up = absurd (true≢false (sym before))
-  expires-in room AwaitingRelease e before timer up = absurd (true≢false (sym before))
   expires-in room Established e before timer up = inr (enquires _ room refl refl refl refl refl)
   expires-in room TimerRecovery e before T200 up = again room e (may_repeat t l) up
   expires-in room TimerRecovery e before T203 up = inl refl
+  expires-in room other e before timer up = absurd (true≢false (sym before))
 
   pub expires-so : IsTrue (is_multiple_frame l.state) → (timer : LinkTimer) → (Machine.is_running timer l ≡ true → Words.has_room t l ≡ true)
       → IsUpIn (Machine.course t (expired timer) l) → Expired (Machine.after t (expired timer) l)
@@ -86,9 +81,6 @@ module _ (t : Terms) (l : Link) where
   -- where it runs in state 7, or T200 in 8, it is so
   asks-in : Words.has_room t l ≡ true → (here : State) → l.state ≡ here → IsTrue (is_multiple_frame here) → IsUpIn (Machine.expired_in here T200 t (begun l))
       → Enquired t l (Machine.expired_in here T200 t (begun l)).link
-  asks-in room TeiAssigned e before up = absurd (true≢false (sym before))
-  asks-in room AwaitingEstablishment e before up = absurd (true≢false (sym before))
-  asks-in room AwaitingRelease e before up = absurd (true≢false (sym before))
   asks-in room Established e before up = enquires _ room refl refl refl refl refl
   asks-in room TimerRecovery e before up = go (may_repeat t l) up
     where
@@ -96,6 +88,7 @@ module _ (t : Terms) (l : Link) where
           → Enquired t l (cond b (Words.start T200 (Words.repeated (Words.enquire t (begun l)))) (MultipleFrame.failed t code.I (begun l))).link
       go true up = enquires _ room e refl refl refl refl
       go false up = absurd (true≢false (sym up))
+  asks-in room other e before up = absurd (true≢false (sym before))
 
   pub asks-so : IsTrue (is_multiple_frame l.state) → Machine.is_running T200 l ≡ true → Words.has_room t l ≡ true
       → IsUpIn (Machine.course t (expired T200) l) → Enquired t l (Machine.after t (expired T200) l)
@@ -110,7 +103,7 @@ module _ (t : Terms) (l : Link) where
   Says c = (way : List Parts) → Replies l.r l.pending c.link.pending (way ++ frames_of t l.waiting)
       ((way ++ frame_given t (Machine.given_of t l c c.sent)) ++ frames_of t c.link.waiting)
 
-  at-end : (way : List Parts) (f : Parts) (ws : List ControlFrame) → ws ≡ [] → (way ++ f ∷ []) ++ frames_of t ws ≡ (way ++ frames_of t ws) ++ f ∷ []
+  pub at-end : (way : List Parts) (f : Parts) (ws : List ControlFrame) → ws ≡ [] → (way ++ f ∷ []) ++ frames_of t ws ≡ (way ++ frames_of t ws) ++ f ∷ []
   at-end way f [] e = append-nil (way ++ f ∷ []) ∙ sym (ap (λ xs. xs ++ f ∷ []) (append-nil way))
   at-end way f (w ∷ ws) e = absurd (cc)
 
@@ -167,9 +160,7 @@ module _ (t : Terms) (l : Link) where
 
   same-8 : (busy b pf : Bool) → (b && pf) ≡ false → Same (c-8 t l busy b pf).link
   same-8 busy true true e = absurd (true≢false e)
-  same-8 busy true false e = record { pending = refl; r = refl; waiting = refl }
-  same-8 busy false true e = record { pending = refl; r = refl; waiting = refl }
-  same-8 busy false false e = record { pending = refl; r = refl; waiting = refl }
+  same-8 busy b other e = record { pending = refl; r = refl; waiting = refl }
 
   in-8 : (timer : LinkTimer) (final : Bool) (c : Course) → Same c.link → (n : ℕ) → Same (TimerRecovery.acknowledged_in_8 timer final n c).link
   in-8 timer true c h n = record { pending = h.pending; r = h.r; waiting = h.waiting }
@@ -182,13 +173,11 @@ module _ (t : Terms) (l : Link) where
     where
       go : (here : State) → IsTrue (is_multiple_frame here) → IsUpIn (Machine.frame_in here t b octets (ReceiveReady nr pf) (begun l))
           → Same (Machine.frame_in here t b octets (ReceiveReady nr pf) (begun l)).link
-      go TeiAssigned before up = absurd (true≢false (sym before))
-      go AwaitingEstablishment before up = absurd (true≢false (sym before))
-      go AwaitingRelease before up = absurd (true≢false (sym before))
       go Established before up = by-number Same nr Established.acknowledged_in_7 (c-7 t l false b pf) (in-7 (c-7 t l false b pf) (same-7 false b pf e)) up
       go TimerRecovery before up =
           by-number Same nr (TimerRecovery.acknowledged_in_8 T203 (MultipleFrame.is_final b pf)) (c-8 t l false b pf)
           (in-8 T203 (MultipleFrame.is_final b pf) (c-8 t l false b pf) (same-8 false b pf e)) up
+      go other before up = absurd (true≢false (sym before))
 
   pub reject-same : IsTrue (is_multiple_frame l.state) → (nr : Seq) (octets : List ℕ)
       → IsUpIn (Machine.frame_step t false octets (Reject nr false) (begun l)) → Same (Machine.frame_step t false octets (Reject nr false) (begun l)).link
@@ -196,13 +185,11 @@ module _ (t : Terms) (l : Link) where
     where
       go : (here : State) → IsTrue (is_multiple_frame here) → IsUpIn (Machine.frame_in here t false octets (Reject nr false) (begun l))
           → Same (Machine.frame_in here t false octets (Reject nr false) (begun l)).link
-      go TeiAssigned before up = absurd (true≢false (sym before))
-      go AwaitingEstablishment before up = absurd (true≢false (sym before))
-      go AwaitingRelease before up = absurd (true≢false (sym before))
       go Established before up =
           by-number Same nr Established.acknowledged_by_rej_in_7 (c-7 t l false false false) (λ n. record { pending = refl; r = refl; waiting = refl }) up
       go TimerRecovery before up =
           by-number Same nr (TimerRecovery.acknowledged_in_8 T203 false) (c-8 t l false false false) (λ n. record { pending = refl; r = refl; waiting = refl }) up
+      go other before up = absurd (true≢false (sym before))
 
   -- an enquiry is answered
   abbrev its_answer : ControlFrame
@@ -224,9 +211,6 @@ module _ (t : Terms) (l : Link) where
     where
       go : (here : State) → IsTrue (is_multiple_frame here) → IsUpIn (Machine.frame_in here t true octets (ReceiveReady nr true) (begun l))
           → Answers (Machine.frame_in here t true octets (ReceiveReady nr true) (begun l)).link
-      go TeiAssigned before up = absurd (true≢false (sym before))
-      go AwaitingEstablishment before up = absurd (true≢false (sym before))
-      go AwaitingRelease before up = absurd (true≢false (sym before))
       go Established before up =
           let c = c-7 t l false true true in
           by-number Answers nr Established.acknowledged_in_7 c
@@ -234,6 +218,7 @@ module _ (t : Terms) (l : Link) where
           (either Answers (Established.is_beyond_acknowledged n c.link) _ _ (answered room _ refl refl) (answered room _ refl refl))) up
       go TimerRecovery before up =
           by-number Answers nr (TimerRecovery.acknowledged_in_8 T203 false) (c-8 t l false true true) (λ n. answered room _ refl refl) up
+      go other before up = absurd (true≢false (sym before))
 
   -- the next I-frame is taken
   pub record Next (l' : Link) : Type 0 where
@@ -272,8 +257,6 @@ module _ (t : Terms) (l : Link) where
       where
         go : (here : State) → IsTrue (is_multiple_frame here) → IsUpIn (Machine.frame_in here t b octets (Information ns nr false) (begun l))
             → Next (Machine.frame_in here t b octets (Information ns nr false) (begun l)).link
-        go TeiAssigned before up = absurd (true≢false (sym before))
-        go AwaitingEstablishment before up = absurd (true≢false (sym before))
-        go AwaitingRelease before up = absurd (true≢false (sym before))
         go Established before up = next-by Established.acknowledged_by_information_in_7 next-7 up
         go TimerRecovery before up = next-by Words.acknowledge (λ n. record { r = taken.r; pending = taken.pending }) up
+        go other before up = absurd (true≢false (sym before))

@@ -1,12 +1,6 @@
 -- Rounds in which no error is told lead to where no turn is left.
-use Rattle.laws_wire.proofs.Vocabulary.{◌≡◌, ℕ, zero, suc, ◌+◌, ◌*◌, ◌<◌, ◌≤◌, Bool, true, false, cond, List, [], ◌∷◌, ◌++◌, length, Option, None, Some, option_map, refl, sym, ap, subst, ◌∙◌, arith, All, All-nil, All-cons, All-append, Service, Config, next, NextFrame, gave, terms, line_at, taken, next_of}
+use Rattle.laws_wire.proofs.Vocabulary.{◌≡◌, ℕ, zero, suc, ◌+◌, ◌*◌, ◌<◌, ◌≤◌, Bool, true, false, cond, List, [], ◌∷◌, ◌++◌, length, Option, None, Some, option_map, refl, sym, ap, subst, ◌∙◌, arith, All, All-nil, All-cons, All-append, Service, Config, next, NextFrame, gave, terms, line_at, taken, next_of, Station, Wire, with_first_of, frames_by, is_any, Doing, at_near, at_far, acting, turned, doing, doing_all, IsStill, answered, calling, CanCall, granted_of, IsRoughTalk, round, rounds, HasNoErrors, is_move, moves, expiries, most_frames, RoundsComeToRest}
 use Rattle.laws_wire.specs.Wire as wire
-use Rattle.laws_wire.specs.Wire.{Station, Wire, with_first_of, frames_by, is_any, Doing, at_near, at_far, acting, turned, doing, doing_all, IsStill, answered}
-use Rattle.laws_wire.specs.Call.{calling, CanCall}
-use Rattle.laws_wire.specs.Facing.{granted_of}
-use Rattle.laws_wire.specs.Losing.{IsRoughTalk}
-use Rattle.laws_wire.specs.Recovering.{round, rounds, HasNoErrors}
-use Rattle.laws_wire.specs.Resting.{is_move, moves, expiries, most_frames, RoundsComeToRest}
 use Rattle.laws_wire.proofs.Answered.{gives-taken, gives-granted, takes-granted}
 use Rattle.laws_wire.proofs.RestedRun.{moves-come-to-an-end}
 

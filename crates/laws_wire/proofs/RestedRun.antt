@@ -1,21 +1,15 @@
 -- A whole call in which frames are lost and timers expire: its moves are at most what there was to do, and what was asked for since.
-use Rattle.laws_wire.proofs.Vocabulary.{◌≡◌, ℕ, ◌+◌, ◌*◌, ◌≤◌, true, cond, List, [], ◌∷◌, ◌++◌, length, refl, sym, ap, subst, ◌∙◌, ◌⊎◌, inl, inr, arith, All, All-head, All-tail, Service, Parts, ControlFrame, Terms, Link, fresh, course, IsInRange, End, frames_of, Config, LineTold, terms}
+use Rattle.laws_wire.proofs.Vocabulary.{◌≡◌, ℕ, ◌+◌, ◌*◌, ◌≤◌, true, cond, List, [], ◌∷◌, ◌++◌, length, refl, sym, ap, subst, ◌∙◌, ◌⊎◌, inl, inr, arith, All, All-head, All-tail, Service, Parts, ControlFrame, Terms, Link, fresh, course, IsInRange, End, frames_of, Config, LineTold, terms, after, Station, Wire, Doing, at_near, at_far, turned, doing, doing_all, calling, confirmed, indicated, granted_of, HasNoError, IsRoughTalk, is_move, moves, expiries_in, expiries, most_frames, MovesComeToAnEnd}
 use Rattle.model_link.specs.Events as link
-use Rattle.model_link.specs.Machine.{after}
-use Rattle.laws_wire.specs.Wire.{Station, Wire, Doing, at_near, at_far, acting, turned, doing, doing_all}
-use Rattle.laws_wire.specs.Call.{calling, confirmed, indicated}
-use Rattle.laws_wire.specs.Facing.{granted_of}
-use Rattle.laws_wire.specs.Losing.{HasNoError, IsRoughTalk}
-use Rattle.laws_wire.specs.Resting.{is_move, moves, expiries_in, expiries, most_frames, MovesComeToAnEnd}
 use Rattle.laws_wire.proofs.Acting.{First, Before, which, UpAt, ranges, sound}
 use Rattle.laws_wire.proofs.Calling.{asked, sabme, ua, end, caller, takes-sabme}
-use Rattle.laws_wire.proofs.Fair.{HasError, Fine, frame-fair, sabme-error}
-use Rattle.laws_wire.proofs.Held.{Held, Erred, not-erred}
+use Rattle.laws_wire.proofs.Fair.{HasError, frame-fair, sabme-error}
+use Rattle.laws_wire.proofs.Held.{Held, not-erred}
 use Rattle.laws_wire.proofs.Joint.{Joint, turned-joint, IsMeant, first-means, hears-on}
 use Rattle.laws_wire.proofs.LoadsHeard.{frame-hears}
 use Rattle.laws_wire.proofs.LossyPhases.{IsRinging, IsHalf, IsUp, UaOrNone, Goes, HasErred, Went}
 use Rattle.laws_wire.proofs.LossyRun.{goes, errs, setting, rings}
-use Rattle.laws_wire.proofs.Rested.{TakesWell, Then, then-acts}
+use Rattle.laws_wire.proofs.Rested.{TakesWell, then-acts}
 use Rattle.laws_wire.proofs.Ringing.{ringing, IsSabme, AreSabmes, ignores}
 use Rattle.laws_wire.proofs.Standing.{Stands}
 use Rattle.laws_wire.proofs.Talking.{Face}
@@ -34,24 +28,17 @@ module _ (service : Service) (tei v : ℕ) where
   -- a link that is up
   well-up : (k : Config) (place : ℕ) (past : List LineTold) (s : Station) (n m : End) (f : Parts) (first near far : List Parts) → UpAt service tei place past k s n m first near (f ∷ far)
       → IsInRange m.terms → 2 * (terms k service tei).k ≤ v → Well n m f
-  well-up k place past s n m f first near far h far-ranges wide = go (frame-fair n.terms n.link h.up f meant.number meant.means).fair
-    where
-      meant : IsMeant f
-      meant = first-means n m f near far h.joint
-
-      wide-here : 2 * n.terms.k ≤ v
-      wide-here = subst (λ t. 2 * t.k ≤ v) (sym h.held.stands.terms) wide
-
-      go : HasError (course n.terms (link.received (link.frame f)) n.link).notes
-          ⊎ Fine n.terms (course n.terms (link.received (link.frame f)) n.link).link.state (course n.terms (link.received (link.frame f)) n.link).notes
-          (course n.terms (link.received (link.frame f)) n.link).delivered (course n.terms (link.received (link.frame f)) n.link).unit
-          → Well n m f
-      go (inl error) = inl error
-      go (inr fine) =
-          let its-sound = sound service tei place past k s n h.held in
-          let y = hears-on n m f near far (ranges service tei place past k s n h.held) far-ranges its-sound h.up fine.up h.joint in
-          let x = (frame-hears v n.terms n.link its-sound wide-here h.up f meant.number meant.means).hears fine.up in
-          inr (record { contents = x.0; falls = x.1 }, y.joint.back.accepted)
+  well-up k place past s n m f first near far h far-ranges wide =
+      let meant : IsMeant f = first-means n m f near far h.joint in
+      let wide-here : 2 * n.terms.k ≤ v = subst (λ t. 2 * t.k ≤ v) (sym h.held.stands.terms) wide in
+      elim (frame-fair n.terms n.link h.up f meant.number meant.means).fair [
+        | inl error ↦ inl error
+        | inr fine ↦
+            let its-sound = sound service tei place past k s n h.held in
+            let y = hears-on n m f near far (ranges service tei place past k s n h.held) far-ranges its-sound h.up fine.up h.joint in
+            let x = (frame-hears v n.terms n.link its-sound wide-here h.up f meant.number meant.means).hears fine.up in
+            inr (record { contents = x.0; falls = x.1 }, y.joint.back.accepted)
+      ]
 
 module _ (service : Service) (tei : ℕ) (c d : Config) (p q : ℕ) (face : Face c d) (back : Face d c) (rt : IsInRange (terms c service tei)) (ru : IsInRange (terms d service tei)) (v : ℕ)
     (wide_c : 2 * (terms c service tei).k ≤ v) (wide_d : 2 * (terms d service tei).k ≤ v) where
@@ -60,12 +47,6 @@ module _ (service : Service) (tei : ℕ) (c d : Config) (p q : ℕ) (face : Face
 
   abbrev u : Terms
   u = terms d service tei
-
-  abbrev first_near : List LineTold
-  first_near = confirmed service tei ∷ []
-
-  abbrev first_far : List LineTold
-  first_far = indicated service tei ∷ []
 
   -- the two ends of a call, whatever its phase
   record Seen (w : Wire) : Type 0 where
@@ -86,7 +67,7 @@ module _ (service : Service) (tei : ℕ) (c d : Config) (p q : ℕ) (face : Face
         n = end t (ringing h.repeats h.waiting) h.way;
         m = h.m;
         past_n = [];
-        past_m = first_far;
+        past_m = indicated service tei ∷ [];
         near = h.near;
         far = h.far.held;
         there = h.far.joint.back.accepted;
@@ -96,8 +77,8 @@ module _ (service : Service) (tei : ℕ) (c d : Config) (p q : ℕ) (face : Face
       record {
         n = h.n;
         m = h.m;
-        past_n = first_near;
-        past_m = first_far;
+        past_n = confirmed service tei ∷ [];
+        past_m = indicated service tei ∷ [];
         near = h.near.held;
         far = h.far.held;
         there = h.near.joint.there.accepted;
@@ -136,9 +117,9 @@ module _ (service : Service) (tei : ℕ) (c d : Config) (p q : ℕ) (face : Face
   near-well w (inr (inr h)) f fs e =
       let rest = fs ++ frames_of h.m.terms h.m.link.waiting in
       let is : h.here ≡ f ∷ rest = sym h.far.line ∙ ap (λ way. way ++ frames_of h.m.terms h.m.link.waiting) e in
-      well-up service tei v c p first_near w.near h.n h.m f h.first h.there rest
-      (subst (λ xs. UpAt service tei p first_near c w.near h.n h.m h.first h.there xs) is h.near)
-      (ranges service tei q first_far d w.far h.m h.far.held) wide_c
+      well-up service tei v c p (confirmed service tei ∷ []) w.near h.n h.m f h.first h.there rest
+      (subst (λ xs. UpAt service tei p (confirmed service tei ∷ []) c w.near h.n h.m h.first h.there xs) is h.near)
+      (ranges service tei q _ d w.far h.m h.far.held) wide_c
 
   -- ---- what the far end takes
 
@@ -155,18 +136,16 @@ module _ (service : Service) (tei : ℕ) (c d : Config) (p q : ℕ) (face : Face
   far-well w (inl h) f fs e = called (end t (ringing h.repeats h.waiting) h.way) f (sabme-first h.way h.waiting f fs e h.sabmes)
   far-well w (inr (inl h)) f fs e =
       inl (sabme-error h.m.terms h.m.link h.far.up f true (ap (λ y. y.control) (sabme-first h.way h.waiting f fs e h.sabmes)))
-  far-well w (inr (inr h)) f fs e = go (which f rest h.first h.there (sym (ap (λ way. way ++ frames_of h.n.terms h.n.link.waiting) e) ∙ h.near.line))
-    where
-      rest : List Parts
-      rest = fs ++ frames_of h.n.terms h.n.link.waiting
-
-      go : First f rest h.first h.there ⊎ Before f rest h.first h.there → Well service tei v h.m h.n f
-      go (inl x) =
-          well-up service tei v d q first_far w.far h.m h.n f [] h.here rest (subst (λ xs. UpAt service tei q first_far d w.far h.m h.n [] h.here xs) x.is h.far)
-          (ranges service tei p first_near c w.near h.n h.near.held) wide_d
-      go (inr x) =
-          let is : f ≡ sabme t = All-head (IsSabme t) f x.others (subst (All (IsSabme t)) x.is h.sabmes) in
-          inl (sabme-error h.m.terms h.m.link h.far.up f true (ap (λ y. y.control) is))
+  far-well w (inr (inr h)) f fs e =
+      let rest : List Parts = fs ++ frames_of h.n.terms h.n.link.waiting in
+      elim (which f rest h.first h.there (sym (ap (λ way. way ++ frames_of h.n.terms h.n.link.waiting) e) ∙ h.near.line)) [
+        | inl x ↦
+            well-up service tei v d q (indicated service tei ∷ []) w.far h.m h.n f [] h.here rest (subst (λ xs. UpAt service tei q (indicated service tei ∷ []) d w.far h.m h.n [] h.here xs) x.is h.far)
+            (ranges service tei p _ c w.near h.n h.near.held) wide_d
+        | inr x ↦
+            let is : f ≡ sabme t = All-head (IsSabme t) f x.others (subst (All (IsSabme t)) x.is h.sabmes) in
+            inl (sabme-error h.m.terms h.m.link h.far.up f true (ap (λ y. y.control) is))
+      ]
 
   -- ---- one step
 
@@ -182,33 +161,25 @@ module _ (service : Service) (tei : ℕ) (c d : Config) (p q : ℕ) (face : Face
 
   step : (k : Doing) → IsRoughTalk service tei k → (w : Wire) (h : Goes service tei c d p q w)
       → Next (doing k w) (cond {A = ℕ} (is_move k w) 1 0) (expiries_in k) (seen w h).n (seen w h).m ⊎ Errs (doing k w)
-  step (at_near act) is w h = go (then-acts service tei c d p q x.past_n x.past_m face v w x.n x.m x.near x.far x.there act is (near-well w h))
-    where
-      x : Seen w
-      x = seen w h
-
-      go : Then service tei c d p q x.past_n x.past_m face v w x.n x.m x.near x.far x.there (acting act w) (cond {A = ℕ} (is_move (at_near act) w) 1 0) (expiries_in (at_near act))
-          ⊎ Erred (acting act w).near
-          → Next (acting act w) (cond {A = ℕ} (is_move (at_near act) w) 1 0) (expiries_in (at_near act)) x.n x.m ⊎ Errs (acting act w)
-      go (inl y) = inl (record { n' = y.n'; m' = y.m'; near = y.near'; far = y.far'; fell = y.fell })
-      go (inr e) = inr (inl e)
-  step (at_far act) is w h = go (then-acts service tei d c q p x.past_m x.past_n back v (turned w) x.m x.n x.far x.near x.here act is (far-well w h))
-    where
-      x : Seen w
-      x = seen w h
-
-      go : Then service tei d c q p x.past_m x.past_n back v (turned w) x.m x.n x.far x.near x.here (acting act (turned w)) (cond {A = ℕ} (is_move (at_far act) w) 1 0) (expiries_in (at_far act))
-          ⊎ Erred (acting act (turned w)).near
-          → Next (turned (acting act (turned w))) (cond {A = ℕ} (is_move (at_far act) w) 1 0) (expiries_in (at_far act)) x.n x.m ⊎ Errs (turned (acting act (turned w)))
-      go (inl y) =
-          inl (record {
-            n' = y.m';
-            m' = y.n';
-            near = y.far';
-            far = y.near';
-            fell = fell-turned v (cond {A = ℕ} (is_move (at_far act) w) 1 0) (expiries_in (at_far act)) x.m x.n y.n' y.m' y.fell;
-          })
-      go (inr e) = inr (inr e)
+  step (at_near act) is w h =
+      let x : Seen w = seen w h in
+      elim (then-acts service tei c d p q x.past_n x.past_m face v w x.n x.m x.near x.far x.there act is (near-well w h)) [
+        | inl y ↦ inl (record { n' = y.n'; m' = y.m'; near = y.near'; far = y.far'; fell = y.fell })
+        | inr e ↦ inr (inl e)
+      ]
+  step (at_far act) is w h =
+      let x : Seen w = seen w h in
+      elim (then-acts service tei d c q p x.past_m x.past_n back v (turned w) x.m x.n x.far x.near x.here act is (far-well w h)) [
+        | inl y ↦
+            inl (record {
+              n' = y.m';
+              m' = y.n';
+              near = y.far';
+              far = y.near';
+              fell = fell-turned v (cond {A = ℕ} (is_move (at_far act) w) 1 0) (expiries_in (at_far act)) x.m x.n y.n' y.m' y.fell;
+            })
+        | inr e ↦ inr (inr e)
+      ]
 
   -- ---- all of them
 

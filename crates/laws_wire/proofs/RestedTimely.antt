@@ -1,12 +1,5 @@
 -- Rounds after a call in which T200 is long enough tell no error, so they lead to where no turn is left.
-use Rattle.laws_wire.proofs.Vocabulary.{ℕ, zero, suc, ◌+◌, ◌*◌, List, [], ◌∷◌, ◌++◌, subst, ◌∙◌, All, All-append, Service, Config}
-use Rattle.laws_wire.specs.Wire.{Wire, Doing, doing, doing_all}
-use Rattle.laws_wire.specs.Call.{calling, CanCall}
-use Rattle.laws_wire.specs.Facing.{granted_of}
-use Rattle.laws_wire.specs.Losing.{IsRoughTalk}
-use Rattle.laws_wire.specs.Recovering.{rounds, HasNoErrors}
-use Rattle.laws_wire.specs.Timely.{StayTimely}
-use Rattle.laws_wire.specs.Resting.{expiries, most_frames, TimelyRoundsComeToRest}
+use Rattle.laws_wire.proofs.Vocabulary.{ℕ, zero, suc, ◌+◌, ◌*◌, List, [], ◌∷◌, ◌++◌, subst, ◌∙◌, All, All-append, Service, Config, Wire, Doing, doing, doing_all, calling, CanCall, granted_of, IsRoughTalk, rounds, HasNoErrors, StayTimely, expiries, most_frames, TimelyRoundsComeToRest}
 use Rattle.laws_wire.proofs.RestedRounds.{doing-append, many, many-rounds, all-rough, rounds-come-to-rest}
 use Rattle.laws_wire.proofs.TimelyRun.{what-is-lost-arrives}
 

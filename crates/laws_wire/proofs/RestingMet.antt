@@ -1,16 +1,7 @@
 -- The premises of the laws on how turns come to an end are met, by worked calls.
-use Rattle.laws_wire.proofs.Vocabulary.{◌≡◌, ◌≤◌, ℕ, ◌*◌, false, List, [], ◌∷◌, ◌++◌, refl, sym, subst, arith, All, list_any, All-nil, All-cons, Call, reading, header_of, control_of, unnumbered_of, supervisory_of, distance_of, named, seq, LineTold}
+use Rattle.laws_wire.proofs.Vocabulary.{◌≡◌, ◌≤◌, ℕ, ◌*◌, false, List, [], ◌∷◌, ◌++◌, refl, sym, subst, arith, All, list_any, All-nil, All-cons, Call, reading, header_of, control_of, unnumbered_of, supervisory_of, distance_of, named, seq, LineTold, Data, requests, Doing, at_near, doing_all, IsStill, confirmed, indicated, data_told, granted_of, is_error, HasNoError, rounds, moves, expiries, most_frames, StayTimely, user, network, begins, establishes}
 use Rattle.lapd_tei.specs.Events as teis
 use Rattle.model_line.specs.Machine as lines
-use Rattle.model_line.specs.Request.{Data}
-use Rattle.laws_wire.specs.Wire.{requests, Doing, at_near, doing_all, IsStill}
-use Rattle.laws_wire.specs.Call.{confirmed, indicated, data_told}
-use Rattle.laws_wire.specs.Facing.{granted_of}
-use Rattle.laws_wire.specs.Losing.{is_error, HasNoError}
-use Rattle.laws_wire.specs.Recovering.{rounds}
-use Rattle.laws_wire.specs.Resting.{moves, expiries, most_frames}
-use Rattle.laws_wire.specs.Timely.{StayTimely}
-use Rattle.laws_wire.specs.Worked.{user, network, begins, establishes}
 use Rattle.laws_wire.specs.WorkedResting.{rejects_one, two_accepted}
 use Rattle.laws_wire.proofs.PremisesMet.{can, all-rough}
 use Rattle.laws_wire.proofs.RestedRun.{moves-come-to-an-end}

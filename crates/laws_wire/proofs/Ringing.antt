@@ -1,13 +1,8 @@
 -- A link that awaits its establishment, as often as SABME was repeated and whatever waits; and what comes of it.
-use Rattle.laws_wire.proofs.Vocabulary.{◌≡◌, ℕ, ◌+◌, ◌<◌, Bool, true, false, cond, List, [], ◌∷◌, ◌++◌, length, drop, None, Some, refl, sym, ap, subst, ◌∙◌, ◌⊎◌, inl, inr, append-nil, append_assoc, All, nat_lt, list_any, lt-ltb, All-nil, All-cons, All-tail, All-append, Control, Information, ReceiveReady, ReceiveNotReady, Reject, Sabme, Disc, Ui, Ua, Dm, Frmr, Xid, Parts, T203, ControlFrame, Terms, Link, fresh, frame_of, received, expired, course, begun, ◌then◌, with_sent, command, frames_of, frames-append, Means}
+use Rattle.laws_wire.proofs.Vocabulary.{◌≡◌, ℕ, ◌+◌, ◌<◌, Bool, true, false, cond, List, [], ◌∷◌, ◌++◌, length, drop, None, Some, refl, sym, ap, subst, ◌∙◌, ◌⊎◌, inl, inr, append-nil, append_assoc, All, nat_lt, list_any, lt-ltb, All-nil, All-cons, All-tail, All-append, Control, Information, ReceiveReady, ReceiveNotReady, Reject, Sabme, Parts, T203, ControlFrame, Terms, Link, fresh, frame_of, received, expired, course, begun, ◌then◌, with_sent, command, frames_of, frames-append, Means, T200, frame, after, Course, is_error}
 use Rattle.lapd_frame.specs.declared.notes.ErrorCode.TheVariants as code
 use Rattle.model_link.specs.declared.states.State.TheVariants as state
-use Rattle.model_link.specs.declared.timers.LinkTimer.TheVariants.{T200}
-use Rattle.model_link.specs.Events.{frame}
-use Rattle.model_link.specs.Machine.{after}
-use Rattle.model_link.specs.Steps.{Course}
 use Rattle.model_link.specs.Words
-use Rattle.laws_wire.specs.Losing.{is_error}
 use Rattle.laws_wire.proofs.Calling.{sabme, end}
 use Rattle.laws_wire.proofs.Fair.{HasError}
 
@@ -91,13 +86,7 @@ module _ (t : Terms) (k : ℕ) (ws : List ControlFrame) where
       go (ReceiveReady nr pf) is e = by (ReceiveReady nr pf) is refl
       go (ReceiveNotReady nr pf) is e = by (ReceiveNotReady nr pf) is refl
       go (Reject nr pf) is e = by (Reject nr pf) is refl
-      go (Sabme p) is e = absurd e
-      go (Disc p) is e = absurd e
-      go (Ui p) is e = absurd e
-      go (Ua x) is e = absurd e
-      go (Dm x) is e = absurd e
-      go (Frmr x) is e = absurd e
-      go (Xid pf) is e = absurd e
+      go other is e = absurd e
 
 -- where nothing waits, and there is room, SABME waits again
 module _ (t : Terms) (k : ℕ) (room : nat_lt 0 t.control ≡ true) where

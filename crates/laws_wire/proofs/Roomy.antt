@@ -1,5 +1,5 @@
 -- There is room for each enquiry and each answer of two ends of which neither was ever busy, where three control frames may wait.
-use Rattle.laws_wire.proofs.Vocabulary.{◌≡◌, ℕ, ◌+◌, ◌≤◌, Bool, true, false, List, [], ◌∷◌, ◌++◌, length, refl, ap, ◌∙◌, arith, true≢false, All, lt-ltb, All-head, All-tail, Control, Information, ReceiveReady, ReceiveNotReady, Reject, Sabme, Disc, Ui, Ua, Dm, Frmr, Xid, Parts, ControlFrame, Terms, End, has_room, frames_of, is_enquiry, HasNo, line, Kind, kind_of, kinds_of, kinds-append, tally, one_enquiry, one_answer, one_rejection}
+use Rattle.laws_wire.proofs.Vocabulary.{◌≡◌, ℕ, ◌+◌, ◌≤◌, Bool, true, false, List, [], ◌∷◌, ◌++◌, length, refl, ap, ◌∙◌, arith, true≢false, All, lt-ltb, All-head, All-tail, Control, Information, ReceiveReady, ReceiveNotReady, Reject, Parts, ControlFrame, Terms, End, has_room, frames_of, is_enquiry, HasNo, line, Kind, kind_of, kinds_of, kinds-append, tally, one_enquiry, one_answer, one_rejection}
 use Rattle.laws_wire.proofs.Firm.{Firm}
 use Rattle.laws_wire.proofs.Tame.{WaitsSo}
 
@@ -41,23 +41,15 @@ not-enquiry : (b : Bool) (control : Control) → is_enquiry b control ≡ false 
 not-enquiry b (Information ns nr true) e = refl
 not-enquiry b (Information ns nr false) e = refl
 not-enquiry true (ReceiveReady nr true) e = absurd (true≢false e)
-not-enquiry true (ReceiveReady nr false) e = refl
 not-enquiry false (ReceiveReady nr true) e = refl
-not-enquiry false (ReceiveReady nr false) e = refl
+not-enquiry b (ReceiveReady nr false) e = refl
 not-enquiry true (ReceiveNotReady nr true) e = absurd (true≢false e)
-not-enquiry true (ReceiveNotReady nr false) e = refl
 not-enquiry false (ReceiveNotReady nr true) e = refl
-not-enquiry false (ReceiveNotReady nr false) e = refl
+not-enquiry b (ReceiveNotReady nr false) e = refl
 not-enquiry true (Reject nr pf) e = refl
 not-enquiry false (Reject nr true) e = refl
 not-enquiry false (Reject nr false) e = refl
-not-enquiry b (Sabme p) e = refl
-not-enquiry b (Disc p) e = refl
-not-enquiry b (Ui p) e = refl
-not-enquiry b (Ua f) e = refl
-not-enquiry b (Dm f) e = refl
-not-enquiry b (Frmr f) e = refl
-not-enquiry b (Xid pf) e = refl
+not-enquiry b other e = refl
 
 none-waits : (t : Terms) (ws : List ControlFrame) → All (λ f. is_enquiry f.command f.control ≡ false) ws → tally one_enquiry (kinds_of (frames_of t ws)) ≡ 0
 none-waits t [] h = refl

@@ -1,8 +1,7 @@
 -- A whole call: how many turns there are, what layer 3 was told so far, and what it was told where no turn is left.
-use Rattle.laws_wire.proofs.Vocabulary.{◌≡◌, ℕ, ◌+◌, ◌*◌, ◌≤◌, Bool, true, false, ◌||◌, List, [], ◌∷◌, map, take, None, refl, sym, ap, subst, ◌∙◌, inl, inr, arith, All, if◌then◌else◌, All-head, All-tail, Service, Parts, spelling, other_side, fresh, given, IsInRange, End, Config, LineTold, next, gave, terms, terms_in_range, HasArrived, Pair, all-there, nothing-given}
-use Rattle.laws_wire.specs.Wire.{Station, Wire, Doing, turned, doing, is_turn, IsStill, answered}
+use Rattle.laws_wire.proofs.Vocabulary.{◌≡◌, ℕ, ◌+◌, ◌*◌, ◌≤◌, Bool, true, false, ◌||◌, List, [], ◌∷◌, map, take, None, refl, sym, ap, subst, ◌∙◌, inl, inr, arith, All, if◌then◌else◌, All-head, All-tail, Service, spelling, other_side, fresh, given, IsInRange, End, Config, LineTold, next, gave, terms, terms_in_range, Pair, all-there, nothing-given, Station, Wire, Doing, turned, doing, is_turn, IsStill, answered, calling, IsCall, calls_back, confirmed, data_told, told_first, IsBeginningOf, CanCall, ComesThrough, CallsComeThrough}
+use Rattle.laws_link.specs.two.Rounds.{HasArrived}
 unfoldable use Rattle.laws_wire.specs.Wire.{doing_all, turns}
-use Rattle.laws_wire.specs.Call.{calling, IsCall, calls_back, confirmed, data_told, told_first, IsBeginningOf, CanCall, ComesThrough, CallsComeThrough}
 unfoldable use Rattle.laws_wire.specs.Call.{both_call}
 use Rattle.laws_wire.proofs.Beginning.{calls, answers}
 use Rattle.laws_wire.proofs.BothCrossing as crossed
@@ -13,7 +12,7 @@ use Rattle.laws_wire.proofs.Calling.{asked, caller, end, with_ua_waiting, with_u
 use Rattle.laws_wire.proofs.Spelled.{twice-other}
 use Rattle.laws_wire.proofs.SoFar.{at-first, then-data}
 use Rattle.laws_wire.proofs.Standing.{Stands, still-gives-none}
-use Rattle.laws_wire.proofs.Talking.{Face, Past, unheard, after_note, Holds, all-told, none-told}
+use Rattle.laws_wire.proofs.Talking.{Face, Past, unheard, after_note, Holds, all-told, none-told, no-way}
 use Rattle.laws_wire.proofs.Up.{pair_of, Talk, turned-talk, granted_of}
 use Rattle.laws_wire.proofs.Quiet.{Both}
 
@@ -24,13 +23,9 @@ or-none : (both : Bool) → both ≡ (both || false)
 or-none true = refl
 or-none false = refl
 
-or-both : (a b c : Bool) → ((a || b) || c) ≡ (a || (b || c))
+pub or-both : (a b c : Bool) → ((a || b) || c) ≡ (a || (b || c))
 or-both true b c = refl
 or-both false b c = refl
-
-no-way : (f : Parts → List ℕ) (way : List Parts) → map f way ≡ [] → way ≡ []
-no-way f [] e = refl
-no-way f (x ∷ xs) e = absurd (cc)
 
 -- where two ends that are up are still, all has arrived
 pub arrived : (n m : End) → Pair (pair_of n m) → given n.terms n.link ≡ None → given m.terms m.link ≡ None → n.way ≡ [] → m.way ≡ []
@@ -139,16 +134,14 @@ module _ (service : Service) (tei : ℕ) where
 
     -- where SABMEs cross a turn is left
     crossing-moves : (own other : crossed.Place) (w : Wire) → Both service tei c d p q unheard unheard w (crossed.crossing (terms c service tei) own other) (crossed.crossing (terms d service tei) other own) → IsStill w → ⊥
-    crossing-moves waits other w h still = let no = none-given c p unheard w.near _ h.near still.near in cc
     crossing-moves under_way other w h still = let no = way-empty c p unheard w.near _ h.near still.near_way in cc
     crossing-moves answered_there waits w h still = let no = none-given d q unheard w.far _ h.far still.far in cc
     crossing-moves answered_there under_way w h still = let no = way-empty d q unheard w.far _ h.far still.far_way in cc
-    crossing-moves answered_there answered_there w h still = let no = none-given c p unheard w.near _ h.near still.near in cc
     crossing-moves answered_there returns w h still = let no = way-empty c p unheard w.near _ h.near still.near_way in cc
     crossing-moves returns waits w h still = let no = none-given d q unheard w.far _ h.far still.far in cc
     crossing-moves returns under_way w h still = let no = way-empty d q unheard w.far _ h.far still.far_way in cc
-    crossing-moves returns answered_there w h still = let no = none-given c p unheard w.near _ h.near still.near in cc
     crossing-moves returns returns w h still = let no = way-empty c p unheard w.near _ h.near still.near_way in cc
+    crossing-moves other any w h still = let no = none-given c p unheard w.near _ h.near still.near in cc
 
     turned-still : (w : Wire) → IsStill w → IsStill (turned w)
     turned-still w h = record { near = h.far; far = h.near; near_way = h.far_way; far_way = h.near_way }

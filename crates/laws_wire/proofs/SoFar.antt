@@ -1,6 +1,5 @@
 -- What layer 3 was told is a beginning of what it is to be told in the end.
-use Rattle.laws_wire.proofs.Vocabulary.{◌≡◌, ℕ, List, [], ◌∷◌, ◌++◌, map, take, drop, sym, ap, ◌∙◌, map-append, take-append-drop, Service, LineTold}
-use Rattle.laws_wire.specs.Call.{data_told, IsBeginningOf}
+use Rattle.laws_wire.proofs.Vocabulary.{◌≡◌, ℕ, List, [], ◌∷◌, ◌++◌, map, take, drop, sym, ap, ◌∙◌, map-append, take-append-drop, Service, LineTold, data_told, IsBeginningOf}
 
 module _ (service : Service) (tei : ℕ) (first : LineTold) where
   -- nothing yet

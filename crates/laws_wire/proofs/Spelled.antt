@@ -14,7 +14,7 @@ by-length n rest (inl long) =
 by-length n rest (inr h) =
     ap (λ n. nat_lt n 3 || (nat_eq n 3 && not (nat_eq rest 3))) h.0 ∙ ap (λ r. not (nat_eq r 3)) h.1
 
-came-whole : (n201 : ℕ) (octets : List ℕ) → IsNotShort octets → length octets ≤ n201 + 4 → came n201 octets ≡ frame octets
+pub came-whole : (n201 : ℕ) (octets : List ℕ) → IsNotShort octets → length octets ≤ n201 + 4 → came n201 octets ≡ frame octets
 came-whole n201 octets not-short few =
     ap (λ b. cond b (dropped cause.Short) (cond (nat_lt (n201 + 4) (length octets)) (overlong (take 4 octets)) (frame octets)))
     (by-length (length octets) (slice_index octets 2 % 4) not-short)

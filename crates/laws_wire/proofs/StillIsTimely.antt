@@ -1,5 +1,5 @@
 -- Where T200 expires only as no turn is left it is long enough: the law with this premise follows.
-use Rattle.laws_wire.proofs.Vocabulary.{◌≡◌, ℕ, ◌<◌, Bool, true, false, cond, IsTrue, List, [], ◌∷◌, refl, sym, ap, ◌∙◌, inl, inr, true≢false, All, nat_lt, list_any, ltb-true, All-head, All-tail, Service, State, TeiAssigned, AwaitingEstablishment, AwaitingRelease, Established, TimerRecovery, Terms, Link, fresh, is_multiple_frame, course, is_running, begun, ◌then◌, IsInRange, End, Config, LineTold, expiry, terms, awaits_answer, IsTimed}
+use Rattle.laws_wire.proofs.Vocabulary.{◌≡◌, ℕ, ◌<◌, Bool, true, false, cond, IsTrue, List, [], ◌∷◌, refl, sym, ap, ◌∙◌, inl, inr, true≢false, All, nat_lt, list_any, ltb-true, All-head, All-tail, Service, State, Established, TimerRecovery, Terms, Link, fresh, is_multiple_frame, course, is_running, begun, ◌then◌, IsInRange, End, Config, LineTold, expiry, terms, awaits_answer, IsTimed, Station, Wire, happens, Act, times_out, loses, Doing, at_near, at_far, turned, doing, doing_all, IsStill, calling, is_error, HasNoError, IsRoughTalkOf, IsRoughTalk, end_of, IsNoneOpen, MayRepeat, IsTimelyOf, IsSpared, IsTimely, StayTimely, IsStillOf, IsSparedStill, IsStillDoing, StayStill, WhatIsLostArrivesFromRest}
 use Rattle.lapd_frame.specs.declared.notes.ErrorCode.TheVariants as code
 use Rattle.lapd_frame.specs.declared.timers.Timer.TheVariants.{T200}
 use Rattle.model_link.specs.declared.timers.LinkTimer.TheVariants as timer
@@ -8,12 +8,6 @@ use Rattle.model_link.specs.Machine
 use Rattle.model_link.specs.MultipleFrame
 use Rattle.model_link.specs.Told.{runs as timer_runs}
 use Rattle.model_link.specs.Words
-use Rattle.laws_wire.specs.Wire.{Station, Wire, happens, Act, requests, times_out, gives, takes, loses, Doing, at_near, at_far, turned, doing, doing_all, IsStill}
-use Rattle.laws_wire.specs.Call.{calling}
-use Rattle.laws_wire.specs.Losing.{is_error, HasNoError, IsRoughTalkOf, IsRoughTalk}
-use Rattle.laws_wire.specs.Facing.{end_of}
-use Rattle.laws_wire.specs.Timely.{IsNoneOpen, MayRepeat, IsTimelyOf, IsSpared, IsTimely, StayTimely}
-use Rattle.laws_wire.specs.StillTimely.{IsStillOf, IsSparedStill, IsStillDoing, StayStill, WhatIsLostArrivesFromRest}
 use Rattle.laws_wire.proofs.Awaited.{open-here, may-here}
 use Rattle.laws_wire.proofs.Calling.{end}
 use Rattle.laws_wire.proofs.Fair.{HasError}
@@ -35,11 +29,9 @@ ran-out t l state ran over =
     ∙ ap (λ b. list_any is_error (cond b ((Words.enquire t then Words.repeated then Words.start timer.T200) (begun l)) (MultipleFrame.failed t code.I (begun l))).notes) over
 
 up-asks : (x : State) → IsTrue (is_multiple_frame x) → awaits_answer x ≡ true → x ≡ TimerRecovery
-up-asks TeiAssigned up awaits = absurd (true≢false (sym up))
-up-asks AwaitingEstablishment up awaits = absurd (true≢false (sym up))
-up-asks AwaitingRelease up awaits = absurd (true≢false (sym up))
 up-asks Established up awaits = absurd (true≢false (sym awaits))
 up-asks TimerRecovery up awaits = refl
+up-asks other up awaits = absurd (true≢false (sym up))
 
 -- so where none is told as T200 expires the command may be repeated
 module _ (service : Service) (tei : ℕ) (k : Config) (place : ℕ) (past : List LineTold) (s : Station) (n : End) (h : Held k service tei place past s n) (fair : HasNoError (happens (expiry (T200 service tei)) s)) where
@@ -118,20 +110,15 @@ module _ (service : Service) (tei : ℕ) (c d : Config) (p q : ℕ) (face : Face
 
   near-timely : (act : Act) → IsRoughTalkOf service tei act → (w : Wire) → (IsStill w → IsNoneOpen (end_of service tei w.near) (end_of service tei w.far)) → (IsStill w → NearFair w → MayRepeat (end_of service tei w.near)) → IsStillOf act w
       → IsTimelyOf act w
-  near-timely (requests r) is w open_ may x = tt
   near-timely (times_out timer) is w open_ may x =
       each-timer service tei (λ timer. IsStillOf (times_out timer) w → IsTimelyOf (times_out timer) w) (λ x. (λ awaits. open_ x.0, may x.0 x.1.0)) (λ x. tt) timer is x
-  near-timely gives is w open_ may x = tt
-  near-timely takes is w open_ may x = tt
-  near-timely loses is w open_ may x = tt
+  near-timely other is w open_ may x = tt
 
   spared : (act : Act) → IsRoughTalkOf service tei act → (w : Wire) → IsSparedStill act w → IsSpared act w
-  spared (requests r) is w x = tt
   spared (times_out timer) is w x =
       each-timer service tei (λ timer. IsSpared (times_out timer) w) (λ none. absurd (x none)) (λ none. absurd (x none)) timer is
-  spared gives is w x = tt
-  spared takes is w x = tt
   spared loses is w x = x
+  spared other is w x = tt
 
   one : (k : Doing) → IsRoughTalk service tei k → (w : Wire) → On w → IsStillDoing k w → IsTimely k w
   one (at_near act) is w h x = near-timely act is w (λ still. (both-open w h still).0) (λ still fair. near-may w h still fair) x

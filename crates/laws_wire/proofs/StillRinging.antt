@@ -1,14 +1,10 @@
 -- An end that rings, whatever the other does.
-use Rattle.laws_wire.proofs.Vocabulary.{◌≡◌, ℕ, false, List, [], map, drop, None, sym, ap, subst, ◌∙◌, ◌⊎◌, inl, inr, All, option_to_list, Service, Timer, Parts, ControlFrame, Terms, LinkTimer, course, End, with_link, with_sent, Config, terms, expiry, request, next}
+use Rattle.laws_wire.proofs.Vocabulary.{◌≡◌, ℕ, false, List, [], map, drop, None, sym, ap, subst, ◌∙◌, ◌⊎◌, inl, inr, All, option_to_list, Service, Timer, Parts, ControlFrame, Terms, LinkTimer, course, End, with_link, with_sent, Config, terms, expiry, request, next, refusal, Course, Data, Station, happens, with_first_lost}
 use Rattle.model_link.specs.declared.timers.LinkTimer.TheVariants as link_timer
 use Rattle.model_link.specs.Events as link
-use Rattle.model_link.specs.Requests.{refusal}
-use Rattle.model_link.specs.Steps.{Course}
-use Rattle.model_line.specs.Request.{Data}
-use Rattle.laws_wire.specs.Wire.{Station, happens, with_first_lost}
 use Rattle.laws_wire.proofs.Calling.{end}
 use Rattle.laws_wire.proofs.Fair.{HasError}
-use Rattle.laws_wire.proofs.Held.{Held, TellsIt, Erred, now-erred, held-given, held-lost, expired-told, held-expired, Grants, held-asked}
+use Rattle.laws_wire.proofs.Held.{Held, TellsIt, Erred, now-erred, held-given, held-lost, expired-told, held-expired, held-asked}
 use Rattle.laws_wire.proofs.LossyPhases.{Aims}
 use Rattle.laws_wire.proofs.Ringing.{ringing, IsSabme, AreSabmes, Rings, t200-rings, t203-rings, RingsOn, gives-sabme, one-sabme_more, one-sabme_less}
 
@@ -28,14 +24,11 @@ module _ (service : Service) (tei : ℕ) (c : Config) (p : ℕ) where
     rung = end t (ringing k ws) way
 
     pub rings-asks : (octets : List ℕ) → StillRings (happens (request (Data service tei octets)) s)
-    rings-asks octets = go (held-asked service tei p [] c s rung h octets)
-      where
-        s' : Station
-        s' = happens (request (Data service tei octets)) s
-
-        go : (s' ≡ s) ⊎ Grants service tei p [] c s rung h octets s' → StillRings s'
-        go (inl same) = record { repeats = k; waiting = ws; way = way; held = subst (λ x. Held c service tei p [] x rung) (sym same) h; sabmes = sabmes }
-        go (inr x) = let none : refusal t (ringing k ws) false (link.Data octets) ≡ None = x.none in absurd (cc)
+    rings-asks octets =
+        elim (held-asked service tei p [] c s rung h octets) [
+          | inl same ↦ record { repeats = k; waiting = ws; way = way; held = subst (λ x. Held c service tei p [] x rung) (sym same) h; sabmes = sabmes }
+          | inr x ↦ let none : refusal t (ringing k ws) false (link.Data octets) ≡ None = x.none in absurd (cc)
+        ]
 
     pub rings-expires : (timer : Timer) (its : LinkTimer) → Aims service tei timer its → StillRings (happens (expiry timer) s) ⊎ Erred (happens (expiry timer) s)
     rings-expires timer its aims = go (by its)

@@ -1,11 +1,7 @@
 -- What an end sends arrives for sure once it has asked, where nothing more is lost: it awaits the answer, or nothing that it sent is
 -- missing. What it does itself leaves that so.
-use Rattle.laws_wire.proofs.Vocabulary.{◌≡◌, ℕ, ◌+◌, ◌≤◌, Bool, true, false, IsTrue, List, [], ◌∷◌, ◌++◌, Some, refl, sym, ap, subst, ◌∙◌, ◌⊎◌, inl, inr, true≢false, arith, Control, Information, ReceiveReady, ReceiveNotReady, Reject, Sabme, Disc, Ui, Ua, Dm, Frmr, Xid, Parts, Seq, seq, named, State, TeiAssigned, AwaitingEstablishment, AwaitingRelease, Established, TimerRecovery, LinkTimer, received, expired, offer, Link, is_multiple_frame, course, is_running, given_of, End, with_link, with_sent, frame_given, has_room, frames_of, named-means, Means, Rising, rising-low, offer-gave, named-within, frame-taken, named-is_seq, IsTimely, is_recovering, Takes, Heard, Flow, most, answer-says, no-answer, offer-goes, Gives, named-number, heard, line, Longer, line-longer, NoAlien, is-no-alien, Kind, numbered, enquiry, answer, report, rejection, alien, kind_of, kinds_of, kinds-append, tally, tally-push, one_enquiry, one_answer, Calm}
-use Rattle.model_link.specs.declared.timers.LinkTimer.TheVariants.{T200}
-use Rattle.model_link.specs.Events.{frame}
-use Rattle.model_link.specs.Machine.{after}
-use Rattle.model_link.specs.Steps.{Course}
-use Rattle.model_link.proofs.Direction.{line_of}
+use Rattle.laws_wire.proofs.Vocabulary.{◌≡◌, ℕ, ◌+◌, ◌≤◌, Bool, true, false, IsTrue, List, [], ◌∷◌, ◌++◌, Some, refl, sym, ap, subst, ◌∙◌, ◌⊎◌, inl, inr, true≢false, arith, Control, Information, ReceiveReady, ReceiveNotReady, Reject, Parts, Seq, seq, named, State, Established, TimerRecovery, LinkTimer, received, expired, offer, Link, is_multiple_frame, course, is_running, given_of, End, with_link, with_sent, frame_given, has_room, frames_of, named-means, Means, Rising, rising-low, offer-gave, named-within, frame-taken, named-is_seq, is_recovering, Takes, Heard, Flow, most, answer-says, no-answer, offer-goes, Gives, named-number, heard, line, Longer, line-longer, NoAlien, is-no-alien, Kind, numbered, enquiry, answer, report, rejection, alien, kind_of, kinds_of, kinds-append, tally, tally-push, one_enquiry, one_answer, Calm, T200, frame, after, Course, line_of}
+use Rattle.laws_link.specs.two.Timely.{IsTimely}
 use Rattle.laws_wire.proofs.Asking.{with_more}
 use Rattle.laws_wire.proofs.Dense.{Dense, dense-push, dense-next, calm-dense, dense-beyond, Reaches, reaches-low, reaches-flat, Owed}
 use Rattle.laws_wire.proofs.Firm.{Firm, not-behind}
@@ -43,23 +39,15 @@ answer-means : (b : Bool) (control : Control) (nr : Seq) (r : ℕ) → kind_of b
 answer-means b (Information ns n true) nr r e is = absurd (cc e)
 answer-means b (Information ns n false) nr r e is = absurd (cc e)
 answer-means true (ReceiveReady n true) nr r e is = absurd (cc e)
-answer-means true (ReceiveReady n false) nr r e is = absurd (cc e)
 answer-means false (ReceiveReady n true) nr r e is = let same : n ≡ nr = cc e in same ∙ is
-answer-means false (ReceiveReady n false) nr r e is = absurd (cc e)
+answer-means b (ReceiveReady n false) nr r e is = absurd (cc e)
 answer-means true (ReceiveNotReady n true) nr r e is = absurd (cc e)
-answer-means true (ReceiveNotReady n false) nr r e is = absurd (cc e)
 answer-means false (ReceiveNotReady n true) nr r e is = let same : n ≡ nr = cc e in same ∙ is
-answer-means false (ReceiveNotReady n false) nr r e is = absurd (cc e)
+answer-means b (ReceiveNotReady n false) nr r e is = absurd (cc e)
 answer-means true (Reject n pf) nr r e is = absurd (cc e)
 answer-means false (Reject n true) nr r e is = absurd (cc e)
 answer-means false (Reject n false) nr r e is = absurd (cc e)
-answer-means b (Sabme p) nr r e is = absurd (cc e)
-answer-means b (Disc p) nr r e is = absurd (cc e)
-answer-means b (Ui p) nr r e is = absurd (cc e)
-answer-means b (Ua f) nr r e is = absurd (cc e)
-answer-means b (Dm f) nr r e is = absurd (cc e)
-answer-means b (Frmr f) nr r e is = absurd (cc e)
-answer-means b (Xid pf) nr r e is = absurd (cc e)
+answer-means b other nr r e is = absurd (cc e)
 
 one-number : (x y : ℕ) → Some x ≡ Some y → x ≡ y
 one-number x y e = cc e
@@ -86,11 +74,9 @@ module _ (n m : End) (h : Firm n m) (wide : 3 ≤ n.terms.control) where
   none-open timer timely running = go n.link.state refl h.joined.near_up
     where
       go : (here : State) → n.link.state ≡ here → IsTrue (is_multiple_frame here) → tally one_enquiry (kinds n) ≡ 0
-      go TeiAssigned e up = absurd (true≢false (sym up))
-      go AwaitingEstablishment e up = absurd (true≢false (sym up))
-      go AwaitingRelease e up = absurd (true≢false (sym up))
       go Established e up = none-in-7 e
       go TimerRecovery e up = none-asked n (timely e running).enquiries
+      go other e up = absurd (true≢false (sym up))
 
   -- an enquiry waits
   asks-now : (l' : Link) → Enquired n.terms n.link l' → 1 ≤ tally one_enquiry (line n.terms n.way l'.waiting)
@@ -124,17 +110,13 @@ module _ (n m : End) (h : Firm n m) (wide : 3 ≤ n.terms.control) where
   told-more ds (inr x) = inr (record { state = x.state; dense = x.dense; owed = x.owed })
 
   pub sure-expires : (timer : LinkTimer) → IsTimely timer n m → IsUpBy timer → Sure n m → Sure (with_link (expired timer) n) m
-  sure-expires timer timely up s = go (expires-so n.terms n.link h.joined.near_up timer (λ running. room-for (none-open timer timely running)) up)
-    where
-      l' : Link
-      l' = after n.terms (expired timer) n.link
-
-      ds : List (List ℕ)
-      ds = (with_link (expired timer) n).delivered
-
-      go : (l' ≡ n.link) ⊎ Enquired n.terms n.link l' → Sure (with_link (expired timer) n) m
-      go (inl e) = subst (λ l. Sure (record n { link = l; delivered = ds }) m) (sym e) (told-more ds s)
-      go (inr q) = asking l' ds q
+  sure-expires timer timely up s =
+      let l' : Link = after n.terms (expired timer) n.link in
+      let ds : List (List ℕ) = (with_link (expired timer) n).delivered in
+      elim (expires-so n.terms n.link h.joined.near_up timer (λ running. room-for (none-open timer timely running)) up) [
+        | inl e ↦ subst (λ l. Sure (record n { link = l; delivered = ds }) m) (sym e) (told-more ds s)
+        | inr q ↦ asking l' ds q
+      ]
 
   -- it gives a frame
   gives-asking : (c : Course) → let way = n.way ++ frame_given n.terms (given_of n.terms n.link c c.sent) in
@@ -200,10 +182,10 @@ module _ (n m : End) (h : Firm n m) (p : Parts) (fs : List Parts) (first : m.way
   there : Flow n.link.s m.link.r (is_recovering n.link.state) m.link.rejecting (kinds n) (x ∷ rest)
   there = subst (λ way. Flow n.link.s m.link.r (is_recovering n.link.state) m.link.rejecting (kinds n) (line m.terms way m.link.waiting)) first h.there
 
-  back : Flow m.link.s n.link.r (is_recovering m.link.state) n.link.rejecting (x ∷ rest) (kinds n)
+  pub back : Flow m.link.s n.link.r (is_recovering m.link.state) n.link.rejecting (x ∷ rest) (kinds n)
   back = subst (λ way. Flow m.link.s n.link.r (is_recovering m.link.state) n.link.rejecting (line m.terms way m.link.waiting) (kinds n)) first h.back
 
-  known : NoAlien x
+  pub known : NoAlien x
   known = is-no-alien m.link.s n.link.r (is_recovering m.link.state) n.link.rejecting x rest (kinds n) back
 
   high : m.link.r ≤ n.link.s

@@ -1,15 +1,13 @@
 -- What the other end does leaves what an end sends as sure as it was, where nothing more is lost.
-use Rattle.laws_wire.proofs.Vocabulary.{◌≡◌, ℕ, ◌+◌, ◌≤◌, ◌==◌, Bool, true, false, cond, IsTrue, List, [], ◌∷◌, ◌++◌, refl, sym, ap, subst, ◌∙◌, ◌⊎◌, inl, inr, true≢false, eq-eqb, arith, Control, Information, ReceiveReady, ReceiveNotReady, Reject, Sabme, Disc, Ui, Ua, Dm, Frmr, Xid, Parts, Seq, seq, LinkTimer, Terms, received, expired, Link, is_multiple_frame, frame_of, frame_step, begun, End, with_link, with_sent, has_room, ready_to_receive, response, frames_of, Rising, IsTimely, is_recovering, Takes, Heard, Flow, most, offer-goes, heard, line, Longer, line-longer, NoAlien, is-no-alien, Kind, numbered, enquiry, answer, report, rejection, alien, kind_of, kinds_of, kinds-append, tally, tally-push, one_enquiry, one_answer}
-use Rattle.model_link.specs.Events.{frame}
-use Rattle.model_link.specs.Machine.{after}
+use Rattle.laws_wire.proofs.Vocabulary.{◌≡◌, ℕ, ◌+◌, ◌≤◌, ◌==◌, Bool, true, false, cond, IsTrue, List, [], ◌∷◌, ◌++◌, refl, sym, ap, subst, ◌∙◌, inl, inr, true≢false, eq-eqb, arith, Control, Information, ReceiveReady, ReceiveNotReady, Reject, Sabme, Disc, Ui, Ua, Dm, Frmr, Xid, Parts, Seq, seq, LinkTimer, Terms, received, expired, Link, is_multiple_frame, frame_of, frame_step, begun, End, with_link, with_sent, has_room, ready_to_receive, response, frames_of, Rising, is_recovering, Takes, Heard, most, offer-goes, heard, line, Longer, line-longer, NoAlien, Kind, numbered, enquiry, answer, report, rejection, alien, kind_of, kinds_of, kinds-append, tally, tally-push, one_enquiry, one_answer, frame, after, line_of}
+use Rattle.laws_link.specs.two.Timely.{IsTimely}
 use Rattle.model_link.specs.MultipleFrame.{is_next}
-use Rattle.model_link.proofs.Direction.{line_of}
 use Rattle.laws_wire.proofs.Asking.{with_more}
 use Rattle.laws_wire.proofs.Dense.{Dense, Owed, Replies, owed-after}
 use Rattle.laws_wire.proofs.Firm.{Firm}
-use Rattle.laws_wire.proofs.Replying.{Enquired, line-push, expires-so, offer-says, Same, ready-same, reject-same, Answers, enquiry-answered, Next, next-taken}
+use Rattle.laws_wire.proofs.Replying.{line-push, expires-so, offer-says, Same, ready-same, reject-same, Answers, enquiry-answered, Next, next-taken}
 use Rattle.laws_wire.proofs.Roomy.{kinds, roomy}
-use Rattle.laws_wire.proofs.Sure.{Asking, Steady, Sure, one-at-most, longer-tally, room-for, none-open}
+use Rattle.laws_wire.proofs.Sure.{Asking, Steady, Sure, one-at-most, longer-tally, room-for, none-open, back, known}
 use Rattle.laws_wire.proofs.Tame.{IsFree}
 
 replied-tally : (r : ℕ) (owes owes' : Bool) (fs fs' : List Parts) → Replies r owes owes' fs fs' → tally one_answer (kinds_of fs) ≤ tally one_answer (kinds_of fs')
@@ -45,28 +43,22 @@ module _ (n m : End) (h : Firm n m) (wide : 3 ≤ n.terms.control) where
   other-sends s = sure-replied n m h.joined.back.rising (with_sent n).link (with_sent n).way n.delivered (offer-goes n.terms n.link).r (offer-says n.terms n.link n.way) s
 
   pub other-expires : (timer : LinkTimer) → IsTimely timer n m → IsTrue (is_multiple_frame (after n.terms (expired timer) n.link).state) → Sure m n → Sure m (with_link (expired timer) n)
-  other-expires timer timely up s = go (expires-so n.terms n.link h.joined.near_up timer (λ running. room-for n m h wide (none-open n m h wide timer timely running)) up)
-    where
-      l' : Link
-      l' = after n.terms (expired timer) n.link
-
-      ds : List (List ℕ)
-      ds = (with_link (expired timer) n).delivered
-
-      go : (l' ≡ n.link) ⊎ Enquired n.terms n.link l' → Sure m (with_link (expired timer) n)
-      go (inl e) = subst (λ l. Sure m (record n { link = l; delivered = ds })) (sym e) (sure-replied n m h.joined.back.rising n.link n.way ds refl (inl (refl, refl)) s)
-      go (inr q) = sure-replied n m h.joined.back.rising l' n.way ds q.r (inr (frame_of n.terms q.frame, line-push n.terms n.way n.link.waiting l'.waiting q.frame q.waits, q.means)) s
+  other-expires timer timely up s =
+      let l' : Link = after n.terms (expired timer) n.link in
+      let ds : List (List ℕ) = (with_link (expired timer) n).delivered in
+      elim (expires-so n.terms n.link h.joined.near_up timer (λ running. room-for n m h wide (none-open n m h wide timer timely running)) up) [
+        | inl e ↦ subst (λ l. Sure m (record n { link = l; delivered = ds })) (sym e) (sure-replied n m h.joined.back.rising n.link n.way ds refl (inl (refl, refl)) s)
+        | inr q ↦ sure-replied n m h.joined.back.rising l' n.way ds q.r (inr (frame_of n.terms q.frame, line-push n.terms n.way n.link.waiting l'.waiting q.frame q.waits, q.means)) s
+      ]
 
 -- ---- it hears a frame
 
 -- one that asks nothing and carries nothing
 abbrev IsMere : Kind → Type 0
-IsMere (numbered ns) = ⊥
-IsMere enquiry = ⊥
 IsMere (answer nr) = Unit {0}
 IsMere report = Unit {0}
 IsMere (rejection nr) = Unit {0}
-IsMere alien = ⊥
+IsMere other = ⊥
 
 module _ (t : Terms) (l : Link) (before : IsTrue (is_multiple_frame l.state)) (octets : List ℕ) where
   abbrev IsUpBy : Bool → Control → Type 0
@@ -82,13 +74,7 @@ module _ (t : Terms) (l : Link) (before : IsTrue (is_multiple_frame l.state)) (o
   mere-same true (Reject nr pf) is free up = absurd is
   mere-same false (Reject nr true) is free up = absurd is
   mere-same false (Reject nr false) is free up = reject-same t l before nr octets up
-  mere-same b (Sabme p) is free up = absurd is
-  mere-same b (Disc p) is free up = absurd is
-  mere-same b (Ui p) is free up = absurd is
-  mere-same b (Ua f) is free up = absurd is
-  mere-same b (Dm f) is free up = absurd is
-  mere-same b (Frmr f) is free up = absurd is
-  mere-same b (Xid pf) is free up = absurd is
+  mere-same b other is free up = absurd is
 
   -- an enquiry
   asked-answers : has_room t l ≡ true → (b : Bool) (control : Control) → kind_of b control ≡ enquiry → IsFree control → IsUpBy b control
@@ -96,20 +82,13 @@ module _ (t : Terms) (l : Link) (before : IsTrue (is_multiple_frame l.state)) (o
   asked-answers room b (Information ns nr true) e free up = absurd (cc e)
   asked-answers room b (Information ns nr false) e free up = absurd (cc e)
   asked-answers room true (ReceiveReady nr true) e free up = enquiry-answered t l before room nr octets up
-  asked-answers room true (ReceiveReady nr false) e free up = absurd (cc e)
   asked-answers room false (ReceiveReady nr true) e free up = absurd (cc e)
-  asked-answers room false (ReceiveReady nr false) e free up = absurd (cc e)
+  asked-answers room b (ReceiveReady nr false) e free up = absurd (cc e)
   asked-answers room b (ReceiveNotReady nr pf) e free up = absurd (true≢false free)
   asked-answers room true (Reject nr pf) e free up = absurd (cc e)
   asked-answers room false (Reject nr true) e free up = absurd (cc e)
   asked-answers room false (Reject nr false) e free up = absurd (cc e)
-  asked-answers room b (Sabme p) e free up = absurd (cc e)
-  asked-answers room b (Disc p) e free up = absurd (cc e)
-  asked-answers room b (Ui p) e free up = absurd (cc e)
-  asked-answers room b (Ua f) e free up = absurd (cc e)
-  asked-answers room b (Dm f) e free up = absurd (cc e)
-  asked-answers room b (Frmr f) e free up = absurd (cc e)
-  asked-answers room b (Xid pf) e free up = absurd (cc e)
+  asked-answers room b other e free up = absurd (cc e)
 
   -- the next I-frame
   numbered-taken : l.own_busy ≡ false → (b : Bool) (control : Control) → kind_of b control ≡ numbered (seq l.r) → IsUpBy b control
@@ -158,12 +137,6 @@ module _ (n m : End) (h : Firm n m) (wide : 3 ≤ n.terms.control) (p : Parts) (
 
   abbrev rest : List Kind
   rest = line m.terms fs m.link.waiting
-
-  back : Flow m.link.s n.link.r (is_recovering m.link.state) n.link.rejecting (x ∷ rest) (kinds n)
-  back = subst (λ way. Flow m.link.s n.link.r (is_recovering m.link.state) n.link.rejecting (line m.terms way m.link.waiting) (kinds n)) first h.back
-
-  known : NoAlien x
-  known = is-no-alien m.link.s n.link.r (is_recovering m.link.state) n.link.rejecting x rest (kinds n) back
 
   -- the sender has one frame less on its way, of which none was an enquiry
   less : (y : Kind) → x ≡ y → one_enquiry y ≡ 0 → Asking m n → Asking m' n
@@ -218,7 +191,7 @@ module _ (n m : End) (h : Firm n m) (wide : 3 ≤ n.terms.control) (p : Parts) (
       omega (arith, all, one, own, other)
 
   back-as : x ≡ enquiry → (1 + tally one_enquiry rest) + tally one_answer (kinds n) ≤ most (is_recovering m.link.state)
-  back-as e = subst (λ y. (one_enquiry y + tally one_enquiry rest) + tally one_answer (kinds n) ≤ most (is_recovering m.link.state)) e back.asked
+  back-as e = subst (λ y. (one_enquiry y + tally one_enquiry rest) + tally one_answer (kinds n) ≤ most (is_recovering m.link.state)) e (back n m h p fs first).asked
 
   by-enquiry : x ≡ enquiry → Sure m n → Sure m' n'
   by-enquiry e (inl q) =
@@ -238,10 +211,8 @@ module _ (n m : End) (h : Firm n m) (wide : 3 ≤ n.terms.control) (p : Parts) (
   by-kind : (y : Kind) → x ≡ y → NoAlien y → Heard y (is_recovering n.link.state) n.link l' → Sure m n → Sure m' n'
   by-kind (numbered ns) e known_ k s = by-numbered ns e k.takes s
   by-kind enquiry e known_ k s = by-enquiry e s
-  by-kind (answer nr) e known_ k s = by-mere (answer nr) e tt refl (λ d. d) s
-  by-kind report e known_ k s = by-mere report e tt refl (λ d. d) s
-  by-kind (rejection nr) e known_ k s = by-mere (rejection nr) e tt refl (λ d. d) s
   by-kind alien e known_ k s = absurd known_
+  by-kind other e known_ k s = by-mere other e tt refl (λ d. d) s
 
   pub other-hears : Sure m n → Sure m' n'
-  other-hears s = by-kind x refl known (heard n.terms n.link h.joined.near_up p.address.command p.info p.control up') s
+  other-hears s = by-kind x refl (known n m h p fs first) (heard n.terms n.link h.joined.near_up p.address.command p.info p.control up') s

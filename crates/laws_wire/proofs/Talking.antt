@@ -1,13 +1,10 @@
 -- A station in a call: what its layer 3 was granted is what its link accepted, and it was told what its link delivered.
-use Rattle.laws_wire.proofs.Vocabulary.{◌≡◌, ℕ, ◌≤◌, Bool, true, false, cond, List, [], ◌∷◌, ◌++◌, length, map, drop, Option, Some, None, Ok, refl, sym, ap, subst, ◌∙◌, ◌⊎◌, inl, inr, append-nil, append_assoc, All, option_to_list, nat_lt, ltb-false, All-tail, Refusal, WrongState, TooLong, Service, Parts, spelling, other_side, Terms, Link, End, with_link, with_sent, Config, came, LineTold, request, next, link_in, terms, heard_side, line_at, link-grants}
+use Rattle.laws_wire.proofs.Vocabulary.{◌≡◌, ℕ, ◌≤◌, Bool, true, false, cond, List, [], ◌∷◌, ◌++◌, length, map, drop, Option, Some, None, Ok, refl, sym, ap, subst, ◌∙◌, ◌⊎◌, inl, inr, append-nil, append_assoc, All, option_to_list, nat_lt, ltb-false, All-tail, Refusal, WrongState, TooLong, Service, Parts, spelling, other_side, Terms, Link, End, with_link, with_sent, Config, came, LineTold, request, next, link_in, terms, heard_side, line_at, link-grants, Data, Station, happens, with_first_lost, comes, data_told}
 use Rattle.model_bits.specs.Stream.{frame}
 use Rattle.model_link.specs.Events as link
 use Rattle.model_link.specs.Machine as links
 use Rattle.model_link.specs.Requests as requests
 use Rattle.model_link.specs.TwoEnds as two_ends
-use Rattle.model_line.specs.Request.{Data}
-use Rattle.laws_wire.specs.Wire.{Station, happens, with_first_lost, comes}
-use Rattle.laws_wire.specs.Call.{data_told}
 use Rattle.laws_wire.proofs.Answered.{gives-told, gives-granted, takes-granted}
 use Rattle.laws_wire.proofs.Asking.{with_more, asked-form}
 use Rattle.laws_wire.proofs.Speaking.{said_by, TellsData, told-so-far}
@@ -35,6 +32,11 @@ pub record Holds (c : Config) (service : Service) (tei place : ℕ) (past : Past
   pub since : List (List ℕ)
   pub told : s.told ≡ past.told ++ map (data_told service tei) since
   pub delivered : n.delivered ≡ past.had ++ since
+
+-- what is spelled as nothing is nothing
+pub no-way : (f : Parts → List ℕ) (way : List Parts) → map f way ≡ [] → way ≡ []
+no-way f [] e = refl
+no-way f (x ∷ xs) e = absurd (cc)
 
 -- where nothing was delivered before
 module _ (c : Config) (service : Service) (tei place : ℕ) (before : List LineTold) (s : Station) (n : End) (h : Holds c service tei place (record { told = before; had = [] }) s n) where
@@ -127,9 +129,8 @@ module _ (service : Service) (tei place : ℕ) (first : Past) where
 
   -- contents that are granted are not refused by the link, and have at most N201 octets
   short-enough : (serves long : Bool) (why : Refusal) (rest : Option Refusal) → cond serves (cond long (Some TooLong) rest) (Some why) ≡ None → long ≡ false
-  short-enough true true why rest e = absurd (cc)
   short-enough true false why rest e = refl
-  short-enough false long why rest e = absurd (cc)
+  short-enough b other why rest e = absurd (cc)
 
   pub fits : (t : Terms) (l : Link) (octets : List ℕ) → requests.refusal t l false (link.Data octets) ≡ None → length octets ≤ t.n201
   fits t l octets e =

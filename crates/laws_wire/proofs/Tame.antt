@@ -1,9 +1,9 @@
 -- Two ends of which neither was ever busy: no RNR is on their ways, and what waits at either is enquiries, answers and REJ.
-use Rattle.laws_wire.proofs.Vocabulary.{◌≡◌, ℕ, ◌+◌, Bool, true, false, cond, not, ◌&&◌, ◌||◌, IsTrue, List, [], ◌∷◌, ◌++◌, take, refl, sym, ap, subst, ◌∙◌, true≢false, All, All-nil, All-cons, All-head, All-append, All-take, All-drop, seq, Control, Information, ReceiveReady, ReceiveNotReady, Reject, Sabme, Disc, Ui, Ua, Dm, Frmr, Xid, Parts, State, TeiAssigned, AwaitingEstablishment, AwaitingRelease, Established, TimerRecovery, LinkTimer, ControlFrame, Terms, Link, is_multiple_frame, undefined, wrong_size, received, expired, requested, offer, cleared, given_of, begun, End, with_link, with_sent, with_first_of, with_first_lost, frame_given, busy_by, busy_heard, flag_left, as_heard, is_overlong, moves, receipt_as, as_response, answers_to, command_in, is_time, room, waiting_left, event-follows, NoAlien, Kind, kind_of, one_enquiry, one_answer, one_rejection}
-use Rattle.model_link.specs.Events.{Event, frame, overlong, Establish, Release, Data, SetBusy, ClearBusy}
-use Rattle.model_link.specs.Machine.{after}
+use Rattle.laws_wire.proofs.Vocabulary.{◌≡◌, ℕ, ◌+◌, Bool, true, false, cond, not, ◌&&◌, ◌||◌, IsTrue, List, [], ◌∷◌, ◌++◌, take, refl, sym, ap, subst, ◌∙◌, true≢false, All, All-nil, All-cons, All-head, All-append, All-take, All-drop, seq, Control, Information, ReceiveReady, ReceiveNotReady, Reject, Parts, State, AwaitingEstablishment, AwaitingRelease, TimerRecovery, LinkTimer, ControlFrame, Terms, Link, is_multiple_frame, undefined, wrong_size, received, expired, requested, offer, cleared, given_of, begun, End, with_link, with_sent, frame_given, busy_by, busy_heard, flag_left, as_heard, is_overlong, receipt_as, as_response, answers_to, command_in, is_time, room, waiting_left, event-follows, NoAlien, Kind, kind_of, one_enquiry, one_answer, one_rejection, after, Course}
+use Rattle.model_link.specs.TwoEnds.{with_first_of, with_first_lost}
+use Rattle.laws_link.specs.States.{moves}
+use Rattle.model_link.specs.Events.{Event, frame, overlong, Data}
 use Rattle.model_link.specs.Offers
-use Rattle.model_link.specs.Steps.{Course}
 use Rattle.laws_link.specs.Waiting.{is_next}
 
 abbrev pub IsFree : Control → Type 0
@@ -34,10 +34,9 @@ Few (requested other full) = ⊥
 Few offer = Unit {0}
 Few cleared = Unit {0}
 
-off : (b c x : Bool) → x ≡ false → cond b false (cond c x false) ≡ false
-off true c x e = refl
+pub off : (b c x : Bool) → x ≡ false → cond b false (cond c x false) ≡ false
 off false true x e = e
-off false false x e = refl
+off b other x e = refl
 
 module _ (t : Terms) (l : Link) (own : l.own_busy ≡ false) where
   either : (b : Bool) (xs ys : List ControlFrame) → All WaitsSo xs → All WaitsSo ys → All WaitsSo (cond b xs ys)
@@ -57,31 +56,22 @@ module _ (t : Terms) (l : Link) (own : l.own_busy ≡ false) where
 
   -- what a frame is answered by
   answers-so : (b : Bool) (control : Control) → NoAlien (kind_of b control) → All WaitsSo (answers_to b control l)
-  answers-so b (Information ns nr true) h = absurd h
   answers-so b (Information ns nr false) h =
       either (is_multiple_frame l.state) _ _ (either (not l.own_busy && (not (is_next ns l) && not l.rejecting)) _ _ rejects none) none
   answers-so true (ReceiveReady nr pf) h = either (is_multiple_frame l.state) _ _ (either pf _ _ (answered l.r) none) none
   answers-so false (ReceiveReady nr pf) h = either (is_multiple_frame l.state) _ _ none none
   answers-so true (ReceiveNotReady nr pf) h = either (is_multiple_frame l.state) _ _ (either pf _ _ (answered l.r) none) none
   answers-so false (ReceiveNotReady nr pf) h = either (is_multiple_frame l.state) _ _ none none
-  answers-so true (Reject nr pf) h = absurd h
   answers-so false (Reject nr pf) h = either (is_multiple_frame l.state) _ _ none none
-  answers-so b (Sabme p) h = absurd h
-  answers-so b (Disc p) h = absurd h
-  answers-so b (Ui p) h = absurd h
-  answers-so b (Ua f) h = absurd h
-  answers-so b (Dm f) h = absurd h
-  answers-so b (Frmr f) h = absurd h
-  answers-so b (Xid pf) h = absurd h
+  answers-so b other h = absurd h
 
   commands-so : (to : State) → IsTrue (is_multiple_frame to) → All WaitsSo (command_in to l)
-  commands-so TeiAssigned up = none
   commands-so AwaitingEstablishment up = absurd (true≢false (sym up))
   commands-so AwaitingRelease up = absurd (true≢false (sym up))
-  commands-so Established up = none
   commands-so TimerRecovery up =
       subst (λ b. All WaitsSo (record { command = true; control = receipt_as b l.r true } ∷ [])) (sym own)
       (All-cons WaitsSo (record { command = true; control = ReceiveReady (seq l.r) true }) [] (record { free = refl; one = refl }) none)
+  commands-so other up = none
 
   module _ (waits : All WaitsSo l.waiting) (to : State) (up : IsTrue (is_multiple_frame to)) where
     behind-so : (frames : List ControlFrame) (b : Bool) → All WaitsSo frames
@@ -97,13 +87,10 @@ module _ (t : Terms) (l : Link) (own : l.own_busy ≡ false) where
     left-so (received wrong_size) may = behind-so [] (moves l.state to || false) none
     left-so (received overlong) may = behind-so [] (moves l.state to || false) none
     left-so (expired timer) may = behind-so [] (moves l.state to || is_time (expired timer) l) none
-    left-so (requested Establish full) may = absurd may
-    left-so (requested Release full) may = absurd may
     left-so (requested (Data octets) full) may = behind-so [] (moves l.state to || false) none
-    left-so (requested SetBusy full) may = absurd may
-    left-so (requested ClearBusy full) may = absurd may
     left-so offer may = All-drop WaitsSo 1 l.waiting waits
     left-so cleared may = none
+    left-so other may = absurd may
 
     heard-so : (b : Bool) (f : Parts) → Few (received (frame f)) → All WaitsSo (waiting_left t (received (cond b overlong (frame f))) l to)
     heard-so true f may = left-so (received overlong) tt
@@ -111,13 +98,8 @@ module _ (t : Terms) (l : Link) (own : l.own_busy ≡ false) where
 
     by-event : (e : Event) → Few e → All WaitsSo (waiting_left t (as_heard t e) l to)
     by-event (received (frame f)) may = heard-so (is_overlong t f.control f.info) f may
-    by-event (received undefined) may = left-so (received undefined) tt
-    by-event (received wrong_size) may = left-so (received wrong_size) tt
-    by-event (received overlong) may = left-so (received overlong) tt
-    by-event (expired timer) may = left-so (expired timer) tt
     by-event (requested request full) may = left-so (requested request full) may
-    by-event offer may = left-so offer tt
-    by-event cleared may = left-so cleared tt
+    by-event other may = left-so other tt
 
   waits-after : (e : Event) → Few e → All WaitsSo l.waiting → IsTrue (is_multiple_frame (after t e l).state) → All WaitsSo (after t e l).waiting
   waits-after e may waits up = subst (All WaitsSo) (sym (event-follows t e l).leaves.waiting) (by-event waits (after t e l).state up e may)
@@ -129,13 +111,7 @@ module _ (t : Terms) (l : Link) (own : l.own_busy ≡ false) where
       by : (b : Bool) → busy_heard (received (cond b overlong (frame f))) false ≡ false
       by true = refl
       by false = may.1
-  unheard (received undefined) may = refl
-  unheard (received wrong_size) may = refl
-  unheard (received overlong) may = refl
-  unheard (expired timer) may = refl
-  unheard (requested request full) may = refl
-  unheard offer may = refl
-  unheard cleared may = refl
+  unheard other may = refl
 
   free-after : (e : Event) → Few e → l.peer_busy ≡ false → (after t e l).peer_busy ≡ false
   free-after e may is =

@@ -1,22 +1,14 @@
 -- The next phases of such a call: the other end is up, and its UA waits, or is on its way before all else.
-use Rattle.laws_wire.proofs.Vocabulary.{◌≡◌, ℕ, false, List, [], ◌∷◌, ◌++◌, None, refl, sym, ap, subst, ◌∙◌, ◌⊎◌, inl, inr, All-tail, Service, Timer, Parts, spelling, Terms, TimerRecovery, LinkTimer, T203, course, given, IsInRange, End, with_link, with_sent, offer-gave, Config, LineTold, expiry, request, next, terms, awaits_answer, CanRepeat}
+use Rattle.laws_wire.proofs.Vocabulary.{◌≡◌, ℕ, false, List, [], ◌∷◌, ◌++◌, None, refl, sym, ap, subst, ◌∙◌, ◌⊎◌, inl, inr, All-tail, Service, Timer, Parts, spelling, Terms, TimerRecovery, LinkTimer, T203, course, given, IsInRange, End, with_link, with_sent, offer-gave, Config, expiry, request, next, terms, awaits_answer, CanRepeat, T200, refusal, Data, Station, Wire, happens, with_first_of, Act, requests, times_out, gives, takes, loses, acting, turned, IsStill, comes, confirmed, indicated, IsRoughTalkOf, end_of, is_final, IsLongEnough, IsTimelyOf, IsSpared}
 use Rattle.lapd_frame.specs.declared.timers.Timer.TheVariants as timers
-use Rattle.model_link.specs.declared.timers.LinkTimer.TheVariants.{T200}
 use Rattle.model_link.specs.Events as link
-use Rattle.model_link.specs.Requests.{refusal}
-use Rattle.model_line.specs.Request.{Data}
-use Rattle.laws_wire.specs.Wire.{Station, Wire, happens, with_first_of, Act, requests, times_out, gives, takes, loses, acting, turned, IsStill, comes}
-use Rattle.laws_wire.specs.Call.{confirmed, indicated}
-use Rattle.laws_wire.specs.Losing.{IsRoughTalkOf}
-use Rattle.laws_wire.specs.Facing.{end_of}
-use Rattle.laws_wire.specs.Timely.{is_final, IsLongEnough, IsTimelyOf, IsSpared}
 use Rattle.laws_link.specs.two.Timely as two_links_timely
 use Rattle.laws_wire.proofs.Answered.{takes-granted}
 use Rattle.laws_wire.proofs.Awaited.{closed, link-is, as-here, may-there, open-there, waits-first, goes-first}
 use Rattle.laws_wire.proofs.Asking.{with_more, asked-form}
 use Rattle.laws_wire.proofs.Calling.{its_ua, ua, end, with_ua_waiting, with_ua_first}
 use Rattle.laws_wire.proofs.Firm.{Firm, firm-turned, firm-sends, firm-asks, firm-expires}
-use Rattle.laws_wire.proofs.Held.{Held, held-given, held-lost, held-first, taken-told, taken-stands, Grants, held-asked}
+use Rattle.laws_wire.proofs.Held.{Held, held-given, held-lost, held-first, taken-told, taken-stands, held-asked}
 use Rattle.laws_wire.proofs.LossyPhases.{made, for-data, Aims, first-way, empty}
 use Rattle.laws_wire.proofs.Ringing.{ringing, answered}
 use Rattle.laws_wire.proofs.Talking.{Face}
@@ -34,12 +26,6 @@ module _ (service : Service) (tei : ℕ) (c d : Config) (p q : ℕ) (face : Face
   abbrev t : Terms
   t = terms c service tei
 
-  abbrev first_near : List LineTold
-  first_near = confirmed service tei ∷ []
-
-  abbrev first_far : List LineTold
-  first_far = indicated service tei ∷ []
-
   abbrev UaWaits : End → Wire → Type 0
   UaWaits m w = phases.UaWaits service tei c d p q m w
 
@@ -55,31 +41,29 @@ module _ (service : Service) (tei : ℕ) (c d : Config) (p q : ℕ) (face : Face
   as-comes : {w : Wire} (m : End) → UaGoes m w → Goes w
   as-comes m h = inr (inr (inr (inr (inl (record { m = m; is = h })))))
 
-  as-up : {w : Wire} → AreUp service tei c d p q first_near first_far w → Goes w
+  as-up : {w : Wire} → AreUp service tei c d p q (confirmed service tei ∷ []) (indicated service tei ∷ []) w → Goes w
   as-up h = inr (inr (inr (inr (inr h))))
 
   -- it is asked to send more
   module _ (k : ℕ) (m : End) (its : End → End) (form : (octets : List ℕ) → with_more octets (its m) ≡ its (with_more octets m))
       (same : (octets : List ℕ) → refusal m.terms m.link false (link.Data octets) ≡ refusal (its m).terms (its m).link false (link.Data octets))
-      (w : Wire) (held : Held d service tei q first_far w.far (its m)) (firm : Firm (end t (answered k []) []) m) (octets : List ℕ) where
+      (w : Wire) (held : Held d service tei q (indicated service tei ∷ []) w.far (its m)) (firm : Firm (end t (answered k []) []) m) (octets : List ℕ) where
     record More (s' : Station) : Type 0 where
-      held' : Held d service tei q first_far s' (its (with_more octets m))
+      held' : Held d service tei q (indicated service tei ∷ []) s' (its (with_more octets m))
       firm' : Firm (end t (answered k []) []) (with_more octets m)
 
     asks-more : (happens (request (Data service tei octets)) w.far ≡ w.far) ⊎ More (happens (request (Data service tei octets)) w.far)
-    asks-more = go (held-asked service tei q first_far d w.far (its m) held octets)
-      where
-        s' : Station
-        s' = happens (request (Data service tei octets)) w.far
-
-        go : (s' ≡ w.far) ⊎ Grants service tei q first_far d w.far (its m) held octets s' → (s' ≡ w.far) ⊎ More s'
-        go (inl e) = inl e
-        go (inr x) =
-            let near = end t (answered k []) [] in
-            inr (record {
-              held' = subst (Held d service tei q first_far s') (form octets) x.held;
-              firm' = firm-turned (with_more octets m) near (subst (λ y. Firm y near) (asked-form octets m (same octets ∙ x.none)) (firm-asks m near (firm-turned near m firm) octets));
-            })
+    asks-more =
+        let s' : Station = happens (request (Data service tei octets)) w.far in
+        elim (held-asked service tei q _ d w.far (its m) held octets) [
+          | inl e ↦ inl e
+          | inr x ↦
+              let near = end t (answered k []) [] in
+              inr (record {
+                held' = subst (Held d service tei q (indicated service tei ∷ []) s') (form octets) x.held;
+                firm' = firm-turned (with_more octets m) near (subst (λ y. Firm y near) (asked-form octets m (same octets ∙ x.none)) (firm-asks m near (firm-turned near m firm) octets));
+              })
+        ]
 
   module _ (w : Wire) (m : End) (h : UaWaits m w) where
     abbrev waits_end : End
@@ -89,17 +73,17 @@ module _ (service : Service) (tei : ℕ) (c d : Config) (p q : ℕ) (face : Face
     still-waits s x = record { repeats = h.repeats; waiting = h.waiting; way = h.way; near = x; far = h.far; firm = h.firm }
 
     pub waits-still : IsStill w → ⊥
-    waits-still still = let no : given m.terms (with_ua_waiting m).link ≡ None = (hushed service tei d q first_far w.far (with_ua_waiting m) h.far still.far still.far_way).given in cc no
+    waits-still still = let no : given m.terms (with_ua_waiting m).link ≡ None = (hushed service tei d q _ w.far (with_ua_waiting m) h.far still.far still.far_way).given in cc no
 
     pub waits-near : (act : Act) → IsRoughTalkOf service tei act → IsTimelyOf act w → Goes (acting act w)
     waits-near (requests r) is x =
         for-data service tei (λ r. Goes (acting (requests r) w))
         (λ octets. as-waits m (subst (λ s. UaWaits m (record w { near = s })) (sym (asks-refused service tei c p [] w.near waits_end h.near (λ octets none. cc none) octets)) h)) r is
     waits-near (times_out timer) is x =
-        each-timer service tei (λ timer. IsTimelyOf (times_out timer) w → Goes (acting (times_out timer) w)) (λ x. absurd (waits-first is_final (with_ua_waiting m) its_ua [] refl refl (ringing-open service tei c d p q h.repeats [] [] w (with_ua_waiting m) first_far h.near h.far x.0).responses))
+        each-timer service tei (λ timer. IsTimelyOf (times_out timer) w → Goes (acting (times_out timer) w)) (λ x. absurd (waits-first is_final (with_ua_waiting m) its_ua [] refl refl (ringing-open service tei c d p q h.repeats [] [] w (with_ua_waiting m) (indicated service tei ∷ []) h.near h.far x.0).responses))
         (λ x. as-waits m (still-waits (happens (expiry (timers.T203 service tei)) w.near) (silent-t203 service tei c d p q h.repeats [] [] w.near h.near))) timer is x
     waits-near gives is x = as-waits m (still-waits (happens next w.near) (gives-nothing service tei c p [] w.near waits_end h.near refl))
-    waits-near takes is x = as-waits m (subst (UaWaits m) (sym (takes-none w (empty service tei d q first_far w.far (with_ua_waiting m) h.far h.way))) h)
+    waits-near takes is x = as-waits m (subst (UaWaits m) (sym (takes-none w (empty service tei d q _ w.far (with_ua_waiting m) h.far h.way))) h)
     waits-near loses is x = as-waits m (subst (UaWaits m) (sym (loses-none w (empty service tei c p [] w.near waits_end h.near refl))) h)
 
     pub gives-ua : UaGoes m (turned (acting gives (turned w)))
@@ -109,19 +93,16 @@ module _ (service : Service) (tei : ℕ) (c d : Config) (p q : ℕ) (face : Face
         record {
           repeats = h.repeats;
           near = h.near;
-          far = subst (Held d service tei q first_far s') form (held-given service tei q first_far d w.far (with_ua_waiting m) h.far (ap (λ (x : End). x.link.contents) form));
+          far = subst (Held d service tei q (indicated service tei ∷ []) s') form (held-given service tei q _ d w.far (with_ua_waiting m) h.far (ap (λ (x : End). x.link.contents) form));
           firm = h.firm;
         }
 
     waits-asks : (octets : List ℕ) → Goes (made w (happens (request (Data service tei octets)) w.far))
-    waits-asks octets = go (asks-more h.repeats m with_ua_waiting (λ octets. refl) (λ octets. refl) w h.far h.firm octets)
-      where
-        s' : Station
-        s' = happens (request (Data service tei octets)) w.far
-
-        go : (s' ≡ w.far) ⊎ More h.repeats m with_ua_waiting (λ octets. refl) (λ octets. refl) w h.far h.firm octets s' → Goes (made w s')
-        go (inl e) = as-waits m (subst (λ s. UaWaits m (made w s)) (sym e) h)
-        go (inr x) = as-waits (with_more octets m) (record { repeats = h.repeats; waiting = h.waiting; way = h.way; near = h.near; far = x.held'; firm = x.firm' })
+    waits-asks octets =
+        elim (asks-more h.repeats m with_ua_waiting (λ octets. refl) (λ octets. refl) w h.far h.firm octets) [
+          | inl e ↦ as-waits m (subst (λ s. UaWaits m (made w s)) (sym e) h)
+          | inr x ↦ as-waits (with_more octets m) (record { repeats = h.repeats; waiting = h.waiting; way = h.way; near = h.near; far = x.held'; firm = x.firm' })
+        ]
 
     pub waits-far : (act : Act) → IsRoughTalkOf service tei act → IsSpared act w → Goes (turned (acting act (turned w)))
     waits-far (requests r) is y = for-data service tei (λ r. Goes (turned (acting (requests r) (turned w)))) waits-asks r is
@@ -138,21 +119,21 @@ module _ (service : Service) (tei : ℕ) (c d : Config) (p q : ℕ) (face : Face
     comes_end = end t (ringing h.repeats []) []
 
     pub comes-still : IsStill w → ⊥
-    comes-still still = let no : ua m.terms ∷ m.way ≡ [] = (hushed service tei d q first_far w.far (with_ua_first m) h.far still.far still.far_way).way in cc no
+    comes-still still = let no : ua m.terms ∷ m.way ≡ [] = (hushed service tei d q _ w.far (with_ua_first m) h.far still.far still.far_way).way in cc no
 
-    pub confirms : BothUp service tei c d p q first_near first_far (acting takes w) (end t (answered h.repeats []) []) m
+    pub confirms : BothUp service tei c d p q (confirmed service tei ∷ []) (indicated service tei ∷ []) (acting takes w) (end t (answered h.repeats []) []) m
     confirms =
         let f = ua m.terms in
-        let way = first-way service tei d q first_far w.far (with_ua_first m) f m.way refl h.far in
+        let way = first-way service tei d q _ w.far (with_ua_first m) f m.way refl h.far in
         let s' = comes (spelling d.side f) w.near in
         let n' = end t (answered h.repeats []) [] in
-        let held : Held c service tei p first_near s' n' =
+        let held : Held c service tei p (confirmed service tei ∷ []) s' n' =
         held-first service tei p [] c w.near comes_end h.near (confirmed service tei) s' n' (course t (link.received (link.frame f)) comes_end.link) refl refl refl
         (taken-stands service tei p [] c w.near comes_end h.near d face f way.1) (takes-granted (spelling d.side f) w.near) refl
         (taken-told service tei p [] c w.near comes_end h.near d face f way.1) refl refl in
         record {
-          near = subst (λ ways. Held c service tei p first_near (with_first_of ways w.near) n') (sym way.0) held;
-          far = held-lost service tei q first_far d w.far (with_ua_first m) h.far;
+          near = subst (λ ways. Held c service tei p (confirmed service tei ∷ []) (with_first_of ways w.near) n') (sym way.0) held;
+          far = held-lost service tei q _ d w.far (with_ua_first m) h.far;
           firm = h.firm;
         }
 
@@ -161,21 +142,18 @@ module _ (service : Service) (tei : ℕ) (c d : Config) (p q : ℕ) (face : Face
         for-data service tei (λ r. Goes (acting (requests r) w))
         (λ octets. as-comes m (subst (λ s. UaGoes m (record w { near = s })) (sym (asks-refused service tei c p [] w.near comes_end h.near (λ octets none. cc none) octets)) h)) r is
     comes-near (times_out timer) is x =
-        each-timer service tei (λ timer. IsTimelyOf (times_out timer) w → Goes (acting (times_out timer) w)) (λ x. absurd (goes-first is_final (with_ua_first m) (ua m.terms) m.way refl refl (ringing-open service tei c d p q h.repeats [] [] w (with_ua_first m) first_far h.near h.far x.0).responses))
+        each-timer service tei (λ timer. IsTimelyOf (times_out timer) w → Goes (acting (times_out timer) w)) (λ x. absurd (goes-first is_final (with_ua_first m) (ua m.terms) m.way refl refl (ringing-open service tei c d p q h.repeats [] [] w (with_ua_first m) (indicated service tei ∷ []) h.near h.far x.0).responses))
         (λ x. as-comes m (record { repeats = h.repeats; near = silent-t203 service tei c d p q h.repeats [] [] w.near h.near; far = h.far; firm = h.firm })) timer is x
     comes-near gives is x = as-comes m (record { repeats = h.repeats; near = gives-nothing service tei c p [] w.near comes_end h.near refl; far = h.far; firm = h.firm })
     comes-near takes is x = as-up (record { n = end t (answered h.repeats []) []; m = m; up = confirms })
     comes-near loses is x = as-comes m (subst (UaGoes m) (sym (loses-none w (empty service tei c p [] w.near comes_end h.near refl))) h)
 
     comes-asks : (octets : List ℕ) → Goes (made w (happens (request (Data service tei octets)) w.far))
-    comes-asks octets = go (asks-more h.repeats m with_ua_first (λ octets. refl) (λ octets. refl) w h.far h.firm octets)
-      where
-        s' : Station
-        s' = happens (request (Data service tei octets)) w.far
-
-        go : (s' ≡ w.far) ⊎ More h.repeats m with_ua_first (λ octets. refl) (λ octets. refl) w h.far h.firm octets s' → Goes (made w s')
-        go (inl e) = as-comes m (subst (λ s. UaGoes m (made w s)) (sym e) h)
-        go (inr x) = as-comes (with_more octets m) (record { repeats = h.repeats; near = h.near; far = x.held'; firm = x.firm' })
+    comes-asks octets =
+        elim (asks-more h.repeats m with_ua_first (λ octets. refl) (λ octets. refl) w h.far h.firm octets) [
+          | inl e ↦ as-comes m (subst (λ s. UaGoes m (made w s)) (sym e) h)
+          | inr x ↦ as-comes (with_more octets m) (record { repeats = h.repeats; near = h.near; far = x.held'; firm = x.firm' })
+        ]
 
     comes-gives : UaGoes (with_sent m) (turned (acting gives (turned w)))
     comes-gives =
@@ -184,7 +162,7 @@ module _ (service : Service) (tei : ℕ) (c d : Config) (p q : ℕ) (face : Face
         record {
           repeats = h.repeats;
           near = h.near;
-          far = held-given service tei q first_far d w.far (with_ua_first m) h.far (offer-gave m.terms j.far_ranges m.link j.far_sound m.link.waiting refl).same;
+          far = held-given service tei q _ d w.far (with_ua_first m) h.far (offer-gave m.terms j.far_ranges m.link j.far_sound m.link.waiting refl).same;
           firm = firm-turned (with_sent m) near (firm-sends m near (firm-turned near m h.firm));
         }
 
@@ -197,7 +175,7 @@ module _ (service : Service) (tei : ℕ) (c d : Config) (p q : ℕ) (face : Face
         as-comes (with_link (link.expired its) m) (record {
           repeats = h.repeats;
           near = h.near;
-          far = timer-held service tei d q first_far w.far (with_ua_first m) h.far h.firm.joined.far_up timer its aims firm.joined.near_up;
+          far = timer-held service tei d q _ w.far (with_ua_first m) h.far h.firm.joined.far_up timer its aims firm.joined.near_up;
           firm = firm-turned (with_link (link.expired its) m) near firm;
         })
 
@@ -218,7 +196,7 @@ module _ (service : Service) (tei : ℕ) (c d : Config) (p q : ℕ) (face : Face
 
     comes-t203 : Goes (turned (acting (times_out (timers.T203 service tei)) (turned w)))
     comes-t203 =
-        let not-there = λ (state : m.link.state ≡ TimerRecovery). never service tei d q first_far w.far (with_ua_first m) h.far h.firm.far_sane.timed state in
+        let not-there = λ (state : m.link.state ≡ TimerRecovery). never service tei d q _ w.far (with_ua_first m) h.far h.firm.far_sane.timed state in
         comes-expires (timers.T203 service tei) T203 (λ l. refl) (λ state running. absurd (not-there state running)) (λ state running. absurd (not-there state running))
 
     pub comes-far : (act : Act) → IsRoughTalkOf service tei act → IsTimelyOf act (turned w) → IsSpared act w → Goes (turned (acting act (turned w)))

@@ -1,16 +1,9 @@
 -- Where both ends are up and no turn is left: once T200 expires, so many rounds are enough for all that is missing.
-use Rattle.laws_wire.proofs.Vocabulary.{◌≡◌, ℕ, suc, ◌+◌, ◌<◌, ◌≤◌, false, List, [], ◌∷◌, ◌++◌, length, map, take, None, refl, sym, ap, subst, ◌∙◌, ◌⊎◌, inl, inr, arith, All, length-map, length-take-le, All-nil, All-cons, Service, Timer, spelling, ControlFrame, TimerRecovery, given, End, Ends, with_link, rising-low, Config, LineTold, next, gave, IsCutOff, HasNo, Asking, Resting, expires-one, all-recovered, enquiry_with, nothing-to_send, awaits_answer}
+use Rattle.laws_wire.proofs.Vocabulary.{◌≡◌, ℕ, suc, ◌+◌, ◌<◌, ◌≤◌, false, List, [], ◌∷◌, ◌++◌, length, map, take, None, refl, sym, ap, subst, ◌∙◌, ◌⊎◌, inl, inr, arith, All, length-map, length-take-le, All-nil, All-cons, Service, Timer, spelling, ControlFrame, TimerRecovery, given, End, Ends, with_link, rising-low, Config, LineTold, next, gave, IsCutOff, HasNo, Asking, Resting, expires-one, all-recovered, enquiry_with, nothing-to_send, awaits_answer, T200, line_of, Station, Wire, times_out, acting, turned, IsStill, answered, confirmed, indicated, data_told, heard_in, is_poll, is_final, IsNoneOpen, StayTimely, both_expire, rounds, HasMissing, HasArrived, with_t200_expired, BothMayRepeat}
 use Rattle.lapd_frame.specs.declared.timers.Timer.TheVariants as timers
-use Rattle.model_link.specs.declared.timers.LinkTimer.TheVariants.{T200}
 use Rattle.model_link.specs.Events as link
-use Rattle.model_link.proofs.Direction.{line_of}
 use Rattle.laws_link.specs.two.CutOff as cut_off
 use Rattle.laws_link.specs.two.Rounds as two_links
-use Rattle.laws_wire.specs.Wire.{Station, Wire, times_out, acting, turned, IsStill, answered}
-use Rattle.laws_wire.specs.Call.{confirmed, indicated, data_told}
-use Rattle.laws_wire.specs.Losing.{heard_in}
-use Rattle.laws_wire.specs.Timely.{is_poll, is_final, IsNoneOpen, StayTimely}
-use Rattle.laws_wire.specs.Recovering.{both_expire, rounds, HasMissing, HasArrived, with_t200_expired, BothMayRepeat}
 use Rattle.laws_wire.proofs.Awaited.{closed, link-is, may-there, open-here}
 use Rattle.laws_wire.proofs.Firm.{Firm, not-behind}
 use Rattle.laws_wire.proofs.Held.{Held}
@@ -69,14 +62,8 @@ module _ (service : Service) (tei : ℕ) where
       (subst (λ ts. length (first ∷ map (data_told service tei) granted) ≤ length ts + u) here h)
 
   module _ (c d : Config) (p q : ℕ) (face : Face c d) (back : Face d c) where
-    abbrev first_near : List LineTold
-    first_near = confirmed service tei ∷ []
-
-    abbrev first_far : List LineTold
-    first_far = indicated service tei ∷ []
-
     abbrev Up : Wire → End → End → Type 0
-    Up w n m = BothUp service tei c d p q first_near first_far w n m
+    Up w n m = BothUp service tei c d p q (confirmed service tei ∷ []) (indicated service tei ∷ []) w n m
 
     nothing-said : (k : Config) (place : ℕ) (past : List LineTold) (s : Station) (n : End) → Held k service tei place past s n → given n.terms n.link ≡ None
         → answered next s ≡ gave None
@@ -86,11 +73,11 @@ module _ (service : Service) (tei : ℕ) where
     pub arrived : (before w : Wire) (e : Ends) (cn cm : List (List ℕ)) → Up w e.near e.far → two_links.HasArrived cn e.near e.far → two_links.HasArrived cm e.far e.near
         → before.near.granted ≡ cn → before.far.granted ≡ cm → HasArrived service tei before w
     arrived before w e cn cm h x y near far = record {
-      near = h.near.heard ∙ ap (λ xs. first_near ++ map (data_told service tei) xs) (y.delivered ∙ sym far);
-      far = h.far.heard ∙ ap (λ xs. first_far ++ map (data_told service tei) xs) (x.delivered ∙ sym near);
+      near = h.near.heard ∙ ap (λ xs. (confirmed service tei ∷ []) ++ map (data_told service tei) xs) (y.delivered ∙ sym far);
+      far = h.far.heard ∙ ap (λ xs. (indicated service tei ∷ []) ++ map (data_told service tei) xs) (x.delivered ∙ sym near);
       still = record {
-        near = nothing-said c p first_near w.near e.near h.near (nothing-to_send e.near.terms e.near.link x.nothing);
-        far = nothing-said d q first_far w.far e.far h.far (nothing-to_send e.far.terms e.far.link y.nothing);
+        near = nothing-said c p (confirmed service tei ∷ []) w.near e.near h.near (nothing-to_send e.near.terms e.near.link x.nothing);
+        far = nothing-said d q (indicated service tei ∷ []) w.far e.far h.far (nothing-to_send e.far.terms e.far.link y.nothing);
         near_way = h.near.stands.way ∙ ap (map (spelling c.side)) x.way;
         far_way = h.far.stands.way ∙ ap (map (spelling d.side)) y.way;
       };
@@ -110,13 +97,13 @@ module _ (service : Service) (tei : ℕ) where
       m' = with_link (link.expired T200) m
 
       near-hushed : IsHushed service tei n
-      near-hushed = hushed service tei c p first_near w.near n h.near still.near still.near_way
+      near-hushed = hushed service tei c p _ w.near n h.near still.near still.near_way
 
       far-hushed : IsHushed service tei m
-      far-hushed = hushed service tei d q first_far w.far m h.far still.far still.far_way
+      far-hushed = hushed service tei d q _ w.far m h.far still.far still.far_way
 
-      other : BothUp service tei d c q p first_far first_near (turned w) m n
-      other = turned-up service tei c d p q first_near first_far w n m h
+      other : BothUp service tei d c q p (indicated service tei ∷ []) (confirmed service tei ∷ []) (turned w) m n
+      other = turned-up service tei c d p q (confirmed service tei ∷ []) (indicated service tei ∷ []) w n m h
 
       near-cut : IsCutOff n m
       near-cut =
@@ -134,7 +121,7 @@ module _ (service : Service) (tei : ℕ) where
 
       near-expired : Up w' n' m
       near-expired =
-          up-expires service tei c d p q face first_near first_far w n m h timer T200 (λ l. refl) (λ state running. near-cut.repeats state)
+          up-expires service tei c d p q face (confirmed service tei ∷ []) (indicated service tei ∷ []) w n m h timer T200 (λ l. refl) (λ state running. near-cut.repeats state)
           (λ state running. closed n m (none-open service tei n m near-hushed far-hushed))
 
       far-open : IsNoneOpen m n'
@@ -142,8 +129,8 @@ module _ (service : Service) (tei : ℕ) where
 
       both-expired : Up (with_t200_expired service tei w) n' m'
       both-expired =
-          turned-up service tei d c q p first_far first_near (acting (times_out timer) (turned w')) m' n'
-          (up-expires service tei d c q p back first_far first_near (turned w') m n' (turned-up service tei c d p q first_near first_far w' n' m near-expired) timer T200 (λ l. refl) (λ state running. far-cut.repeats state) (λ state running. closed m n' far-open))
+          turned-up service tei d c q p (indicated service tei ∷ []) (confirmed service tei ∷ []) (acting (times_out timer) (turned w')) m' n'
+          (up-expires service tei d c q p back (indicated service tei ∷ []) (confirmed service tei ∷ []) (turned w') m n' (turned-up service tei c d p q (confirmed service tei ∷ []) (indicated service tei ∷ []) w' n' m near-expired) timer T200 (λ l. refl) (λ state running. far-cut.repeats state) (λ state running. closed m n' far-open))
 
       -- so both are timely
       pub up-goes_on : StayTimely (both_expire service tei) w
@@ -162,7 +149,7 @@ module _ (service : Service) (tei : ℕ) where
       pub up-arrives : (u : ℕ) → HasMissing service tei u w → HasArrived service tei w (rounds (u + 3) (with_t200_expired service tei w))
       up-arrives u few =
           let e' = cut_off.with_t200_expired e in
-          let last = rounds-up service tei c d p q face back first_near first_far (u + 3) (with_t200_expired service tei w) e' both-expired in
+          let last = rounds-up service tei c d p q face back (confirmed service tei ∷ []) (indicated service tei ∷ []) (u + 3) (with_t200_expired service tei w) e' both-expired in
           let there : cut_off.HasMissing u n m =
           missing (indicated service tei) m.link.r u n.link.contents m.delivered (heard_in w.far) h.firm.joined.there.accepted h.firm.joined.there.delivered h.far.heard
           (subst (λ xs. length (indicated service tei ∷ map (data_told service tei) xs) ≤ length (heard_in w.far) + u) h.near.granted few.far) in

@@ -1,18 +1,15 @@
 -- The ends as an establishment leaves them, and what changes nothing at a station or on a wire.
-use Rattle.laws_wire.proofs.Vocabulary.{◌≡◌, ℕ, ◌≤◌, false, not, List, [], ◌∷◌, length, drop, None, refl, sym, ap, subst, ◌∙◌, ◌⊎◌, inl, inr, true≢false, arith, option_map_or, All-nil, Service, Terms, Link, fresh, given, serves, IsInRange, End, Begins, joined-first, Config, LineTold, request, next, Line, link_in, link_of, place_in, bad_tei, no_link, wrong_state, first_that_holds, Request, aim_of_request, at_requested, line_at, passed, IsReady, IsTaken, Flow}
+use Rattle.laws_wire.proofs.Vocabulary.{◌≡◌, ℕ, ◌≤◌, false, not, List, [], ◌∷◌, length, None, refl, sym, ap, subst, ◌∙◌, inl, inr, true≢false, arith, option_map_or, All-nil, Service, Terms, Link, fresh, given, serves, IsInRange, End, Begins, joined-first, Config, LineTold, request, next, Line, link_in, link_of, place_in, bad_tei, no_link, wrong_state, first_that_holds, Request, aim_of_request, at_requested, line_at, passed, IsReady, IsTaken, Flow, refusal, IsSound, Data, SetBusy, ClearBusy, Station, Wire, happens, loses, acting}
 use Rattle.model_link.specs.Events as link
-use Rattle.model_link.specs.Requests.{refusal}
-use Rattle.model_link.specs.Sound.{IsSound}
 use Rattle.model_line.specs.Refusal.{refusal as refusal_on}
-use Rattle.model_line.specs.Request.{Data, SetBusy, ClearBusy}
-use Rattle.laws_wire.specs.Wire.{Station, Wire, happens, with_first_of, with_first_lost, takes, loses, acting}
 use Rattle.laws_wire.proofs.Calling.{end, called, sound-caller, sound-called}
 use Rattle.laws_wire.proofs.Tame.{WaitsSo, IsFreeFrame}
 use Rattle.laws_wire.proofs.Firm.{Firm}
-use Rattle.laws_wire.proofs.Held.{Held, held-given, Grants, held-asked}
+use Rattle.laws_wire.proofs.Held.{Held, held-given, held-asked}
 use Rattle.laws_wire.proofs.Ringing.{answered}
-use Rattle.laws_wire.proofs.Standing.{Stands, Granted, asks-stands}
+use Rattle.laws_wire.proofs.Standing.{Stands, asks-stands}
 use Rattle.laws_wire.proofs.Up.{stays}
+pub use Rattle.laws_wire.proofs.Answered.{lost-none, takes-none}
 
 -- ---- the ends
 
@@ -110,13 +107,6 @@ module _ (t u : Terms) (rt : IsInRange t) (ru : IsInRange u) (same : t.n201 ≡ 
 
 -- ---- what changes nothing
 
--- where none is on its way none is taken, and none is lost
-lost-none : (s : Station) → s.way ≡ [] → with_first_lost s ≡ s
-lost-none s e = λ i. record s { way = (ap (drop 1) e ∙ sym e) i }
-
-pub takes-none : (w : Wire) → w.far.way ≡ [] → acting takes w ≡ w
-takes-none w e = λ i. record { near = ap (λ way. with_first_of way w.near) e i; far = lost-none w.far e i }
-
 pub loses-none : (w : Wire) → w.near.way ≡ [] → acting loses w ≡ w
 loses-none w e = λ i. record w { near = lost-none w.near e i }
 
@@ -130,35 +120,24 @@ module _ (service : Service) (tei : ℕ) (k : Config) (place : ℕ) (past : List
   -- data that the link refuses
   pub asks-refused : ((octets : List ℕ) → refusal n.terms n.link false (link.Data octets) ≡ None → ⊥) → (octets : List ℕ)
       → happens (request (Data service tei octets)) s ≡ s
-  asks-refused never octets = go (held-asked service tei place past k s n h octets)
-    where
-      s' : Station
-      s' = happens (request (Data service tei octets)) s
-
-      go : (s' ≡ s) ⊎ Grants service tei place past k s n h octets s' → s' ≡ s
-      go (inl same) = same
-      go (inr x) = absurd (never octets x.none)
+  asks-refused never octets = elim (held-asked service tei place past k s n h octets) [ inl same ↦ same | inr x ↦ absurd (never octets x.none) ]
 
   -- nor is own busy heeded where the state does not serve it
   module _ (r : Request) (asked : link.Request) (aims : (l : Line) → aim_of_request r l ≡ at_requested service tei asked (place_in l tei))
       (looks : (c : Config) (l : Line) → refusal_on c false r l ≡ first_that_holds (bad_tei tei ∷ no_link tei l ∷ wrong_state service tei asked l ∷ [])) where
     unserved : serves n.link.state asked ≡ false → happens (request r) s ≡ s
-    unserved none = go (asks-stands service tei place s n own r asked aims)
-      where
-        own : Stands s.card.config service tei place s n
-        own = subst (λ k. Stands k service tei place s n) (sym h.stands.config) h.stands
-
-        l : Line
-        l = line_at s.line s.card
-
-        go : (happens (request r) s ≡ s) ⊎ Granted service tei place s n own r asked aims (happens (request r) s) → happens (request r) s ≡ s
-        go (inl same) = same
-        go (inr x) =
-            let bad = passed (bad_tei tei) (no_link tei l ∷ wrong_state service tei asked l ∷ []) (sym (looks s.card.config l) ∙ x.none) in
-            let unknown = passed (no_link tei l) (wrong_state service tei asked l ∷ []) bad.1 in
-            let state = passed (wrong_state service tei asked l) [] unknown.1 in
-            let its : (link_of service tei l).state ≡ n.link.state = ap (λ (x : Link). x.state) (ap (λ o. option_map_or (link_in l service) o fresh) own.speaks.placed ∙ own.speaks.link) in
-            absurd (true≢false (sym (ap (λ b. not b) (ap (λ s. serves s asked) its ∙ none)) ∙ state.0))
+    unserved none =
+        let own : Stands s.card.config service tei place s n = subst (λ k. Stands k service tei place s n) (sym h.stands.config) h.stands in
+        let l : Line = line_at s.line s.card in
+        elim (asks-stands service tei place s n own r asked aims) [
+          | inl same ↦ same
+          | inr x ↦
+              let bad = passed (bad_tei tei) (no_link tei l ∷ wrong_state service tei asked l ∷ []) (sym (looks s.card.config l) ∙ x.none) in
+              let unknown = passed (no_link tei l) (wrong_state service tei asked l ∷ []) bad.1 in
+              let state = passed (wrong_state service tei asked l) [] unknown.1 in
+              let its : (link_of service tei l).state ≡ n.link.state = ap (λ (x : Link). x.state) (ap (λ o. option_map_or (link_in l service) o fresh) own.speaks.placed ∙ own.speaks.link) in
+              absurd (true≢false (sym (ap (λ b. not b) (ap (λ s. serves s asked) its ∙ none)) ∙ state.0))
+        ]
 
   pub busy-refused : serves n.link.state link.SetBusy ≡ false → happens (request (SetBusy service tei)) s ≡ s
   busy-refused = unserved (SetBusy service tei) link.SetBusy (λ l. refl) (λ c l. refl)

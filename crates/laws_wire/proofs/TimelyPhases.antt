@@ -1,10 +1,6 @@
 -- A call in which T200 is timely: SABME waits, is on its way, or was lost; then UA waits, and is on its way; then both ends are up.
-use Rattle.laws_wire.proofs.Vocabulary.{◌≡◌, ℕ, List, [], ◌∷◌, refl, ap, ◌⊎◌, Service, Parts, ControlFrame, Terms, T203, fresh, End, Config, LineTold, expiry, terms, awaits_answer}
+use Rattle.laws_wire.proofs.Vocabulary.{◌≡◌, ℕ, List, [], ◌∷◌, refl, ap, ◌⊎◌, Service, Parts, ControlFrame, Terms, T203, fresh, End, Config, LineTold, expiry, terms, awaits_answer, Station, Wire, happens, confirmed, indicated, end_of, IsLongEnough, IsNoneOpen}
 use Rattle.lapd_frame.specs.declared.timers.Timer.TheVariants as timers
-use Rattle.laws_wire.specs.Wire.{Station, Wire, happens}
-use Rattle.laws_wire.specs.Call.{confirmed, indicated}
-use Rattle.laws_wire.specs.Facing.{end_of}
-use Rattle.laws_wire.specs.Timely.{IsLongEnough, IsNoneOpen}
 use Rattle.laws_wire.proofs.Awaited.{as-here, open-there}
 use Rattle.laws_wire.proofs.Calling.{sabme, end, with_ua_waiting, with_ua_first}
 use Rattle.laws_wire.proofs.Firm.{Firm}
@@ -19,12 +15,6 @@ module _ (service : Service) (tei : ℕ) (c d : Config) (p q : ℕ) where
   abbrev u : Terms
   u = terms d service tei
 
-  abbrev first_near : List LineTold
-  first_near = confirmed service tei ∷ []
-
-  abbrev first_far : List LineTold
-  first_far = indicated service tei ∷ []
-
   -- one end rings, with this waiting and this on its way, and the other is down
   pub record Rings (ws : List ControlFrame) (way : List Parts) (w : Wire) : Type 0 where
     pub repeats : ℕ
@@ -37,13 +27,13 @@ module _ (service : Service) (tei : ℕ) (c d : Config) (p q : ℕ) where
     pub waiting : m.link.waiting ≡ []
     pub way : m.way ≡ []
     pub near : Held c service tei p [] w.near (end t (ringing repeats []) [])
-    pub far : Held d service tei q first_far w.far (with_ua_waiting m)
+    pub far : Held d service tei q (indicated service tei ∷ []) w.far (with_ua_waiting m)
     pub firm : Firm (end t (answered repeats []) []) m
 
   pub record UaGoes (m : End) (w : Wire) : Type 0 where
     pub repeats : ℕ
     pub near : Held c service tei p [] w.near (end t (ringing repeats []) [])
-    pub far : Held d service tei q first_far w.far (with_ua_first m)
+    pub far : Held d service tei q (indicated service tei ∷ []) w.far (with_ua_first m)
     pub firm : Firm (end t (answered repeats []) []) m
 
   pub record Waits (w : Wire) : Type 0 where
@@ -55,7 +45,7 @@ module _ (service : Service) (tei : ℕ) (c d : Config) (p q : ℕ) where
     pub is : UaGoes m w
 
   abbrev pub Goes : Wire → Type 0
-  Goes w = Rings [] [] w ⊎ Rings (its_sabme ∷ []) [] w ⊎ Rings [] (sabme t ∷ []) w ⊎ Waits w ⊎ Comes w ⊎ AreUp service tei c d p q first_near first_far w
+  Goes w = Rings [] [] w ⊎ Rings (its_sabme ∷ []) [] w ⊎ Rings [] (sabme t ∷ []) w ⊎ Waits w ⊎ Comes w ⊎ AreUp service tei c d p q (confirmed service tei ∷ []) (indicated service tei ∷ []) w
 
   -- while it rings no answer is to come as T200 expires
   pub ringing-open : (k : ℕ) (ws : List ControlFrame) (way : List Parts) (w : Wire) (m : End) (past : List LineTold) → Held c service tei p [] w.near (end t (ringing k ws) way) → Held d service tei q past w.far m

@@ -1,16 +1,8 @@
 -- The first phases of such a call: one end rings, and the other is down.
-use Rattle.laws_wire.proofs.Vocabulary.{◌≡◌, ℕ, ◌+◌, ◌<◌, true, List, [], ◌∷◌, map, None, refl, sym, ap, subst, ◌∙◌, inl, inr, arith, nat_lt, option_to_list, lt-ltb, Service, Timer, Parts, spelling, ControlFrame, Terms, LinkTimer, fresh, course, given, IsInRange, End, with_link, Config, LineTold, expiry, terms}
+use Rattle.laws_wire.proofs.Vocabulary.{◌≡◌, ℕ, ◌+◌, ◌<◌, true, List, [], ◌∷◌, map, None, refl, sym, ap, subst, ◌∙◌, inl, inr, arith, nat_lt, option_to_list, lt-ltb, Service, Timer, Parts, spelling, ControlFrame, Terms, LinkTimer, fresh, course, given, IsInRange, End, with_link, Config, expiry, terms, T200, Course, Data, Wire, happens, with_first_of, Act, requests, times_out, gives, takes, loses, acting, turned, IsStill, comes, indicated, IsRoughTalkOf, is_poll, MayRepeat, IsTimelyOf, end_of}
 use Rattle.lapd_frame.specs.declared.notes.Note.TheVariants as notes
 use Rattle.lapd_frame.specs.declared.timers.Timer.TheVariants as timers
-use Rattle.model_link.specs.declared.timers.LinkTimer.TheVariants.{T200}
 use Rattle.model_link.specs.Events as link
-use Rattle.model_link.specs.Steps.{Course}
-use Rattle.model_line.specs.Request.{Data}
-use Rattle.laws_wire.specs.Wire.{Wire, happens, with_first_of, Act, requests, times_out, gives, takes, loses, acting, turned, IsStill, comes}
-use Rattle.laws_wire.specs.Call.{indicated}
-use Rattle.laws_wire.specs.Losing.{IsRoughTalkOf}
-use Rattle.laws_wire.specs.Timely.{is_poll, MayRepeat, IsTimelyOf}
-use Rattle.laws_wire.specs.Facing.{end_of}
 use Rattle.laws_wire.proofs.Answered.{takes-granted}
 use Rattle.laws_wire.proofs.Awaited.{may-there, waits-first, goes-first}
 use Rattle.laws_wire.proofs.Calling.{sabme, end, answering, called, takes-sabme, told-of-sabme}
@@ -30,9 +22,6 @@ module _ (service : Service) (tei : ℕ) (c d : Config) (p q : ℕ) (face : Face
 
   abbrev u : Terms
   u = terms d service tei
-
-  abbrev first_far : List LineTold
-  first_far = indicated service tei ∷ []
 
   abbrev Rings : List ControlFrame → List Parts → Wire → Type 0
   Rings ws way w = phases.Rings service tei c d p q ws way w
@@ -175,7 +164,7 @@ module _ (service : Service) (tei : ℕ) (c d : Config) (p q : ℕ) (face : Face
         let way = first-way service tei c p [] w.near caller_end f [] refl h.near in
         let reached = comes (spelling c.side f) w.far in
         let becomes : with_link (link.received (link.frame f)) (end u fresh []) ≡ end u answering [] = ap (λ y. end u y []) (takes-sabme u ru t) in
-        let held : Held d service tei q first_far reached (end u answering []) =
+        let held : Held d service tei q (indicated service tei ∷ []) reached (end u answering []) =
         held-first service tei q [] d w.far (end u fresh []) h.far (indicated service tei) reached (end u answering []) (course u (link.received (link.frame f)) fresh) refl refl refl
         (subst (Stands d service tei q reached) becomes (taken-stands service tei q [] d w.far (end u fresh []) h.far c back f way.1)) (takes-granted (spelling c.side f) w.far) refl
         (taken-told service tei q [] d w.far (end u fresh []) h.far c back f way.1) (told-of-sabme u ru t) refl in
@@ -184,7 +173,7 @@ module _ (service : Service) (tei : ℕ) (c d : Config) (p q : ℕ) (face : Face
           waiting = refl;
           way = refl;
           near = held-lost service tei p [] c w.near caller_end h.near;
-          far = subst (λ ways. Held d service tei q first_far (with_first_of ways w.far) (end u answering [])) (sym way.0) held;
+          far = subst (λ ways. Held d service tei q (indicated service tei ∷ []) (with_first_of ways w.far) (end u answering [])) (sym way.0) held;
           firm = firm-first t u rt ru face.n201 h.repeats;
         }
 

@@ -1,14 +1,7 @@
 -- A whole call in which timers are timely: both ends stay up, and what was lost arrives.
-use Rattle.laws_wire.proofs.Vocabulary.{◌≡◌, ℕ, suc, ◌+◌, ◌<◌, Bool, true, false, cond, not, ◌&&◌, ◌||◌, ◌==◌, List, [], ◌∷◌, ◌++◌, length, map, is_some, refl, sym, ap, subst, ◌∙◌, inl, inr, eqb-true, arith, All, flat_map, list_any, and_parts, or_parts, All-nil, All-cons, All-head, All-tail, list_any-append, Note, Service, Timer, Parts, ControlFrame, fresh, IsInRange, Ends, Config, LineTold, terms, all-arrived}
+use Rattle.laws_wire.proofs.Vocabulary.{◌≡◌, ℕ, suc, ◌+◌, ◌<◌, Bool, true, false, cond, not, ◌&&◌, ◌||◌, ◌==◌, List, [], ◌∷◌, ◌++◌, length, map, is_some, refl, sym, ap, subst, ◌∙◌, inl, inr, eqb-true, arith, All, flat_map, list_any, and_parts, or_parts, All-nil, All-cons, All-head, All-tail, list_any-append, Note, Service, Timer, Parts, ControlFrame, fresh, IsInRange, Ends, Config, LineTold, terms, all-arrived, T200, nothing, Station, Wire, Act, gives, takes, times_out, Doing, at_near, at_far, acting, turned, doing, doing_all, IsStill, calling, confirmed, indicated, data_told, for_layer_3, heard_in, is_error, HasNoError, IsRoughTalkOf, IsRoughTalk, is_poll, is_final, IsNoneOpen, IsTimelyOf, IsSpared, IsTimely, StayTimely, both_expire, round, rounds, HasNoErrors, BothMayRepeat, HasMissing, HasArrived, with_t200_expired, WhatIsLostArrives}
 use Rattle.lapd_frame.specs.declared.timers.Timer.TheVariants as timers
-use Rattle.model_link.specs.declared.timers.LinkTimer.TheVariants.{T200}
-use Rattle.model_line.specs.Event.{nothing}
 use Rattle.laws_link.specs.two.Rounds as two_links
-use Rattle.laws_wire.specs.Wire.{Station, Wire, Act, gives, takes, times_out, Doing, at_near, at_far, acting, turned, doing, doing_all, IsStill}
-use Rattle.laws_wire.specs.Call.{calling, confirmed, indicated, data_told}
-use Rattle.laws_wire.specs.Losing.{for_layer_3, heard_in, is_error, HasNoError, IsRoughTalkOf, IsRoughTalk}
-use Rattle.laws_wire.specs.Timely.{is_poll, is_final, IsNoneOpen, IsTimelyOf, IsSpared, IsTimely, StayTimely}
-use Rattle.laws_wire.specs.Recovering.{both_expire, round, rounds, HasNoErrors, BothMayRepeat, HasMissing, HasArrived, with_t200_expired, WhatIsLostArrives}
 use Rattle.laws_wire.proofs.Awaited.{link-is, open-here}
 use Rattle.laws_wire.proofs.Calling.{end, called}
 use Rattle.laws_wire.proofs.LossyRun.{Setting, setting}
@@ -70,17 +63,11 @@ same-count : (u : ℕ) → u + 3 ≡ suc ((u + 1) + 1)
 same-count u = omega arith
 
 module _ (service : Service) (tei : ℕ) (c d : Config) (p q : ℕ) (face : Face c d) (back : Face d c) (rt : IsInRange (terms c service tei)) (ru : IsInRange (terms d service tei)) where
-  abbrev first_near : List LineTold
-  first_near = confirmed service tei ∷ []
-
-  abbrev first_far : List LineTold
-  first_far = indicated service tei ∷ []
-
   abbrev On : Wire → Type 0
   On w = Goes service tei c d p q w
 
   abbrev Up : Wire → Type 0
-  Up w = AreUp service tei c d p q first_near first_far w
+  Up w = AreUp service tei c d p q (confirmed service tei ∷ []) (indicated service tei ∷ []) w
 
   as-up : (w : Wire) → Up w → On w
   as-up w h = inr (inr (inr (inr (inr h))))
@@ -92,7 +79,7 @@ module _ (service : Service) (tei : ℕ) (c d : Config) (p q : ℕ) (face : Face
   near-goes act is w x (inr (inr (inl h))) = called-near service tei c d p q face back rt ru w h act is x
   near-goes act is w x (inr (inr (inr (inl h)))) = waits-near service tei c d p q face back rt ru w h.m h.is act is x
   near-goes act is w x (inr (inr (inr (inr (inl h))))) = comes-near service tei c d p q face back rt ru w h.m h.is act is x
-  near-goes act is w x (inr (inr (inr (inr (inr h))))) = as-up (acting act w) (up-acts service tei c d p q face first_near first_far w h.n h.m h.up act is x)
+  near-goes act is w x (inr (inr (inr (inr (inr h))))) = as-up (acting act w) (up-acts service tei c d p q face (confirmed service tei ∷ []) (indicated service tei ∷ []) w h.n h.m h.up act is x)
 
   far-goes : (act : Act) → IsRoughTalkOf service tei act → (w : Wire) → IsTimelyOf act (turned w) → IsSpared act w → On w → On (turned (acting act (turned w)))
   far-goes act is w x y (inl h) = inl (down-acts service tei c d p q face back rt ru [] [] w h refl act is)
@@ -101,9 +88,9 @@ module _ (service : Service) (tei : ℕ) (c d : Config) (p q : ℕ) (face : Face
   far-goes act is w x y (inr (inr (inr (inl h)))) = waits-far service tei c d p q face back rt ru w h.m h.is act is y
   far-goes act is w x y (inr (inr (inr (inr (inl h))))) = comes-far service tei c d p q face back rt ru w h.m h.is act is x y
   far-goes act is w x y (inr (inr (inr (inr (inr h))))) =
-      let other = turned-are service tei c d p q first_near first_far w h in
+      let other = turned-are service tei c d p q (confirmed service tei ∷ []) (indicated service tei ∷ []) w h in
       as-up (turned (acting act (turned w)))
-      (turned-are service tei d c q p first_far first_near (acting act (turned w)) (up-acts service tei d c q p back first_far first_near (turned w) other.n other.m other.up act is x))
+      (turned-are service tei d c q p (indicated service tei ∷ []) (confirmed service tei ∷ []) (acting act (turned w)) (up-acts service tei d c q p back (indicated service tei ∷ []) (confirmed service tei ∷ []) (turned w) other.n other.m other.up act is x))
 
   pub step : (k : Doing) → IsRoughTalk service tei k → (w : Wire) → IsTimely k w → On w → On (doing k w)
   step (at_near act) is w x h = near-goes act is w x h
@@ -149,7 +136,7 @@ module _ (service : Service) (tei : ℕ) (c d : Config) (p q : ℕ) (face : Face
     -- the first round
     record First (w' : Wire) : Type 0 where
       repeats : ℕ
-      up : BothUp service tei c d p q first_near first_far w' (end (terms c service tei) (answered repeats []) []) (end (terms d service tei) called [])
+      up : BothUp service tei c d p q (confirmed service tei ∷ []) (indicated service tei ∷ []) w' (end (terms c service tei) (answered repeats []) []) (end (terms d service tei) called [])
 
     first : First (doing_all round expired)
     unfolding doing_all
@@ -173,7 +160,7 @@ module _ (service : Service) (tei : ℕ) (c d : Config) (p q : ℕ) (face : Face
         let e : Ends = record { near = n; far = m } in
         let w' = doing_all round expired in
         let j = (u + 1) + 1 in
-        let last = rounds-up service tei c d p q face back first_near first_far j w' e first.up in
+        let last = rounds-up service tei c d p q face back (confirmed service tei ∷ []) (indicated service tei ∷ []) j w' e first.up in
         let all = all-arrived (u + 1) e (near-ready t v rt ru face.n201 k) (far-ready t v rt ru face.n201 k) (there-taken t v rt ru face.n201 k) (back-taken t v rt ru face.n201 k) (omega arith) (omega arith) in
         subst (HasArrived service tei w) (sym (one-round (u + 3) j (same-count u) expired))
         (arrived service tei c d p q face back w (rounds j w') (two_links.rounds j e) [] [] last all.0 all.1 h.near.granted h.far.granted)

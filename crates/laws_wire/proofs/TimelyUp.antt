@@ -1,16 +1,10 @@
 -- Two stations whose links are up, where each timer is timely: both stay up, whatever is lost.
-use Rattle.laws_wire.proofs.Vocabulary.{◌≡◌, ℕ, zero, suc, Bool, true, false, IsTrue, List, [], ◌∷◌, map, Some, None, refl, sym, ap, subst, ◌∙◌, ◌⊎◌, inl, inr, append-nil, true≢false, All, All-nil, All-head, Control, Service, Timer, Parts, spelling, ControlFrame, TimerRecovery, LinkTimer, T203, is_multiple_frame, course, given, is_running, awaits_answer, IsTimed, IsTimedIn, runs, End, Ends, with_link, with_sent, offer-gave, Config, LineTold, expiry, request, next, gave, CanRepeat, nothing-given}
+use Rattle.laws_wire.proofs.Vocabulary.{◌≡◌, ℕ, zero, suc, Bool, true, false, IsTrue, List, [], ◌∷◌, map, Some, None, refl, sym, ap, subst, ◌∙◌, ◌⊎◌, inl, inr, append-nil, true≢false, All, All-nil, All-head, Control, Service, Timer, Parts, spelling, ControlFrame, TimerRecovery, LinkTimer, T203, is_multiple_frame, course, given, is_running, awaits_answer, IsTimed, IsTimedIn, runs, End, Ends, with_link, with_sent, offer-gave, Config, LineTold, expiry, request, next, gave, CanRepeat, nothing-given, T200, Data, Station, Wire, happens, with_first_of, Act, requests, times_out, gives, takes, loses, acting, turned, doing_all, answered, IsOfLink, IsRoughTalkOf, is_poll, is_final, IsNoneOpen, IsTimelyOf, round, rounds, Joined, Flows}
 use Rattle.lapd_frame.specs.declared.timers.Timer.TheVariants as timers
-use Rattle.model_link.specs.declared.timers.LinkTimer.TheVariants.{T200}
 use Rattle.model_link.specs.Events as link
 use Rattle.model_link.specs.TwoEnds as two_ends
-use Rattle.model_line.specs.Request.{Data}
 use Rattle.laws_link.specs.two.Rounds as two_links
 use Rattle.laws_link.specs.two.Timely as two_links_timely
-use Rattle.laws_wire.specs.Wire.{Station, Wire, happens, with_first_of, Act, requests, times_out, gives, takes, loses, acting, turned, doing_all, answered}
-use Rattle.laws_wire.specs.Losing.{IsOfLink, IsRoughTalkOf}
-use Rattle.laws_wire.specs.Timely.{is_poll, is_final, IsNoneOpen, IsTimelyOf}
-use Rattle.laws_wire.specs.Recovering.{round, rounds}
 use Rattle.laws_wire.proofs.Asking.{with_more, asked-form}
 use Rattle.laws_wire.proofs.Awaited.{closed, as-here, may-there, open-there}
 use Rattle.laws_wire.proofs.Fair.{HasError, Fine, timer-fair}
@@ -19,11 +13,7 @@ use Rattle.laws_wire.proofs.Held.{Held, held-given, held-lost, held-taken, held-
 use Rattle.laws_wire.proofs.Joint.{timer-goes}
 use Rattle.laws_wire.proofs.LossyPhases.{for-data, Aims}
 use Rattle.laws_wire.proofs.Standing.{IsCarried, Stands, still-gives-none}
-use Rattle.laws_wire.proofs.Talking.{Face}
-
-no-way : (f : Parts → List ℕ) (way : List Parts) → map f way ≡ [] → way ≡ []
-no-way f [] e = refl
-no-way f (x ∷ xs) e = absurd (cc)
+use Rattle.laws_wire.proofs.Talking.{Face, no-way}
 
 module _ (service : Service) (tei : ℕ) where
   -- the timers of a call
@@ -84,6 +74,18 @@ module _ (service : Service) (tei : ℕ) where
     pub never : IsTimed n.link → n.link.state ≡ TimerRecovery → is_running T203 n.link ≡ true → ⊥
     never timed state running = true≢false (sym running ∙ ap (runs T203) (timed-8 timed state))
 
+  -- it takes what the other gave
+  pub took-held : (c d : Config) (p q : ℕ) → Face c d → (past other : List LineTold) (s o : Station) (n m : End) → Held c service tei p past s n → Held d service tei q other o m
+      → Joined n m → n.terms.n201 ≡ m.terms.n201 → Flows n m → Flows m n → Held c service tei p past (with_first_of o.way s) (two_ends.with_first_of m.way n)
+  took-held c d p q face past other s o n m h g joined same there back = subst (λ ways. Held c service tei p past (with_first_of ways s) (two_ends.with_first_of m.way n)) (sym g.stands.way) (taken m.way refl)
+    where
+      taken : (way : List Parts) → m.way ≡ way → Held c service tei p past (with_first_of (map (spelling d.side) way) s) (two_ends.with_first_of way n)
+      taken [] e = h
+      taken (f ∷ fs) e =
+          let from : IsCarried d service tei f = All-head (IsCarried d service tei) f fs (subst (All (IsCarried d service tei)) e g.stands.carried) in
+          let fine = takes-fine n m joined same there back f fs e in
+          held-taken service tei p past c s n h d face f from (record { its_notes = fine.its_notes; no_unit = fine.no_unit }) (takes-kept n m joined same there back f fs e)
+
   pub record BothUp (c d : Config) (p q : ℕ) (past other : List LineTold) (w : Wire) (n m : End) : Type 0 where
     pub near : Held c service tei p past w.near n
     pub far : Held d service tei q other w.far m
@@ -114,17 +116,10 @@ module _ (service : Service) (tei : ℕ) where
 
     pub up-takes : Now (acting takes w) (two_ends.with_first_of m.way n) (two_ends.with_first_lost m)
     up-takes = record {
-      near = subst (λ ways. Held c service tei p past (with_first_of ways w.near) (two_ends.with_first_of m.way n)) (sym h.far.stands.way) (taken m.way refl);
+      near = took-held c d p q face past other w.near w.far n m h.near h.far h.firm.joined h.firm.same h.firm.there h.firm.back;
       far = held-lost service tei q other d w.far m h.far;
       firm = firm-takes n m h.firm;
     }
-      where
-        taken : (way : List Parts) → m.way ≡ way → Held c service tei p past (with_first_of (map (spelling d.side) way) w.near) (two_ends.with_first_of way n)
-        taken [] e = h.near
-        taken (f ∷ fs) e =
-            let from : IsCarried d service tei f = All-head (IsCarried d service tei) f fs (subst (All (IsCarried d service tei)) e h.far.stands.carried) in
-            let fine = takes-fine n m h.firm f fs e in
-            held-taken service tei p past c w.near n h.near d face f from (record { its_notes = fine.its_notes; no_unit = fine.no_unit }) (takes-kept n m h.firm f fs e)
 
     pub up-asks : (octets : List ℕ) → AreUp c d p q past other (acting (requests (Data service tei octets)) w)
     up-asks octets = go (held-asked service tei p past c w.near n h.near octets)

@@ -1,23 +1,15 @@
 -- Two stations that are up, nothing is lost, and T200 expires at either: what is then sure to arrive, and that it has, where no turn is left.
-use Rattle.laws_wire.proofs.Vocabulary.{◌≡◌, ℕ, ◌-◌, ◌≤◌, Bool, true, false, not, ◌&&◌, ◌||◌, IsTrue, List, [], ◌∷◌, ◌++◌, length, map, drop, refl, sym, ap, subst, ◌∙◌, ◌⊎◌, inl, inr, true≢false, arith, All, nat_lt, lt-ltb, ltb-false, take_all, All-head, All-tail, Service, Timer, Parts, Established, TimerRecovery, LinkTimer, T203, Link, is_multiple_frame, is_running, is_established, runs, End, with_link, with_sent, frames_of, Config, LineTold, request, awaits_answer, CanRepeat, HasNothingToSend, line, tally, one_enquiry, one_answer, nothing-given}
+use Rattle.laws_wire.proofs.Vocabulary.{◌≡◌, ℕ, ◌≤◌, Bool, true, false, ◌&&◌, ◌||◌, IsTrue, List, [], ◌∷◌, ◌++◌, length, map, drop, refl, sym, ap, subst, ◌∙◌, ◌⊎◌, inl, inr, true≢false, arith, All, take_all, All-head, All-tail, Service, Timer, Parts, TimerRecovery, LinkTimer, T203, Link, is_multiple_frame, is_running, runs, End, with_link, with_sent, frames_of, Config, LineTold, request, awaits_answer, CanRepeat, HasNothingToSend, line, tally, one_enquiry, one_answer, nothing-given, T200, line_of, Data, Station, Wire, happens, Act, requests, times_out, gives, takes, loses, acting, turned, Doing, at_near, at_far, doing, doing_all, IsStill, confirmed, indicated, data_told, heard_in, IsRoughTalkOf, IsRoughTalk, IsTimelyOf, IsTimely, StayTimely, LosesNothing, runs_t200, is_t200, near_asks, far_asks, ever}
 use Rattle.lapd_frame.specs.declared.timers.Timer.TheVariants as timers
-use Rattle.model_link.specs.declared.timers.LinkTimer.TheVariants.{T200}
 use Rattle.model_link.specs.Events as link
 use Rattle.model_link.specs.TwoEnds as two_ends
-use Rattle.model_link.proofs.Direction.{line_of}
-use Rattle.model_line.specs.Request.{Data}
 use Rattle.laws_link.specs.two.Timely as two_links
-use Rattle.laws_wire.specs.Wire.{Station, Wire, happens, Act, requests, times_out, gives, takes, loses, acting, turned, Doing, at_near, at_far, doing, doing_all, IsStill}
-use Rattle.laws_wire.specs.Call.{confirmed, indicated, data_told}
-use Rattle.laws_wire.specs.Losing.{heard_in, IsRoughTalkOf, IsRoughTalk}
-use Rattle.laws_wire.specs.Timely.{IsTimelyOf, IsTimely, StayTimely}
-use Rattle.laws_wire.specs.Arriving.{LosesNothing, runs_t200, is_t200, near_asks, far_asks, ever}
 use Rattle.laws_wire.proofs.Asking.{with_more, asked-form}
 use Rattle.laws_wire.proofs.Awaited.{closed, link-is, as-here, may-there, open-there}
-use Rattle.laws_wire.proofs.Dense.{Dense, Reaches, Owed}
+use Rattle.laws_wire.proofs.Dense.{Dense, Reaches}
 use Rattle.laws_wire.proofs.Firm.{Firm, firm-asks, firm-takes}
 use Rattle.laws_wire.proofs.Held.{Held, Grants, held-asked}
-use Rattle.laws_wire.proofs.Loose.{as-loose, loose-came}
+use Rattle.laws_wire.proofs.Loose.{as-loose, sent-all, loose-came}
 use Rattle.laws_wire.proofs.LossyPhases.{for-data, Aims}
 use Rattle.laws_wire.proofs.Roomy.{kinds}
 use Rattle.laws_wire.proofs.Sure.{Sure, sure-begins, sure-asks, sure-expires, sure-sends, sure-hears}
@@ -29,25 +21,6 @@ use Rattle.laws_wire.proofs.TimelyUp.{each-timer, IsHushed, hushed, never, BothU
 -- ---- where no turn is left
 
 module _ (n m : End) (h : Firm n m) (quiet : HasNothingToSend n.terms n.link) (way : n.way ≡ []) where
-  -- all is sent that is not beyond the window
-  sent-all : n.link.state ≡ Established → n.link.s ≤ n.link.a → n.link.s ≡ length n.link.contents
-  sent-all state none = go (nat_lt n.link.s (length n.link.contents)) refl
-    where
-      low : 1 ≤ n.terms.k
-      low = h.joined.near_ranges.k_low
-
-      first : (is_established n.link.state && not n.link.peer_busy && nat_lt (n.link.s - n.link.a) n.terms.k) ≡ true
-      first =
-          (λ i. is_established (state i) && not (h.near_tame.peer_free i) && nat_lt (n.link.s - n.link.a) n.terms.k)
-          ∙ lt-ltb (n.link.s - n.link.a) n.terms.k (omega (arith, none, low))
-
-      go : (b : Bool) → nat_lt n.link.s (length n.link.contents) ≡ b → n.link.s ≡ length n.link.contents
-      go true is = absurd (true≢false (sym ((λ i. first i && is i)) ∙ quiet.information))
-      go false is =
-          let high : length n.link.contents ≤ n.link.s = ltb-false n.link.s (length n.link.contents) is in
-          let most : n.link.s ≤ length n.link.contents = h.joined.near_sound.accepted in
-          omega (arith, high, most)
-
   abbrev HasAll : Type 0
   HasAll = m.delivered ≡ n.link.contents
 
@@ -63,19 +36,15 @@ module _ (n m : End) (h : Firm n m) (quiet : HasNothingToSend n.terms n.link) (w
       let none' : tally one_answer (kinds m) ≡ 0 = ap (tally one_answer) (no-kinds m other.waiting away) in
       let some = q.open_ in
       absurd (omega (arith, none, none', some))
-  sure-came other away (inr q) = go q.owed
-    where
-      all : m.link.r ≡ n.link.s
-      all = subst (Dense m.link.r n.link.s) (no-kinds n quiet.waiting way) q.dense
-
-      empty : line_of m ≡ []
-      empty = λ i. away i ++ frames_of m.terms (other.waiting i)
-
-      go : Owed n.link.a m.link.r m.link.pending (line_of m) → HasAll
-      go (inl due) = absurd (true≢false (sym due ∙ other.pending))
-      go (inr reaches) =
-          let same : n.link.a ≡ m.link.r = subst (Reaches n.link.a m.link.r) empty reaches in
-          all-received (all ∙ sent-all q.state (omega (arith, same, all)))
+  sure-came other away (inr q) =
+      let all : m.link.r ≡ n.link.s = subst (Dense m.link.r n.link.s) (no-kinds n quiet.waiting way) q.dense in
+      let empty : line_of m ≡ [] = λ i. away i ++ frames_of m.terms (other.waiting i) in
+      elim (q.owed) [
+        | inl due ↦ absurd (true≢false (sym due ∙ other.pending))
+        | inr reaches ↦
+            let same : n.link.a ≡ m.link.r = subst (Reaches n.link.a m.link.r) empty reaches in
+            all-received (all ∙ sent-all n m (as-loose n m h) quiet h.near_tame.peer_free q.state (omega (arith, same, all)))
+      ]
 
 -- ---- while turns come
 
@@ -215,36 +184,27 @@ module _ (service : Service) (tei : ℕ) where
   -- ---- and all of them
 
   module _ (c d : Config) (p q : ℕ) (face : Face c d) (back : Face d c) (wide_c : 3 ≤ c.control) (wide_d : 3 ≤ d.control) where
-    abbrev first_near : List LineTold
-    first_near = confirmed service tei ∷ []
-
-    abbrev first_far : List LineTold
-    first_far = indicated service tei ∷ []
-
     abbrev pub Up : Type 0 → Type 0 → Wire → Type 0
-    Up A B w = SureUp c d p q first_near first_far A B w
+    Up A B w = SureUp c d p q (confirmed service tei ∷ []) (indicated service tei ∷ []) A B w
 
     kept-far : (act : Act) → LosesNothing (at_far act) → LosesNothing (at_near act)
     kept-far loses h = h
-    kept-far (requests r) h = tt
-    kept-far (times_out timer) h = tt
-    kept-far gives h = tt
-    kept-far takes h = tt
+    kept-far other h = tt
 
     step : (A B : Type 0) (k : Doing) (w : Wire) → IsRoughTalk service tei k → LosesNothing k → IsTimely k w → Up A B w
         → Up (A ⊎ (near_asks service tei k w ≡ true)) (B ⊎ (far_asks service tei k w ≡ true)) (doing k w)
     step A B (at_near act) w is kept x h =
-        sure-by c d p q first_near first_far (A ⊎ ((is_t200 act && runs_t200 service tei w.near) ≡ true)) B _ _ (acting act w) (λ a. a) no
-        (sure-acts c d p q face first_near first_far A B wide_c w h act is kept x)
+        sure-by c d p q (confirmed service tei ∷ []) (indicated service tei ∷ []) (A ⊎ ((is_t200 act && runs_t200 service tei w.near) ≡ true)) B _ _ (acting act w) (λ a. a) no
+        (sure-acts c d p q face (confirmed service tei ∷ []) (indicated service tei ∷ []) A B wide_c w h act is kept x)
       where
         no : B ⊎ (false ≡ true) → B
         no (inl b) = b
         no (inr e) = absurd (true≢false (sym e))
     step A B (at_far act) w is kept x h =
         let v = turned w in
-        let h' = sure-acts d c q p back first_far first_near B A wide_d v (sure-turned c d p q first_near first_far A B w h) act is (kept-far act kept) x.0 in
-        sure-by c d p q first_near first_far A (B ⊎ ((is_t200 act && runs_t200 service tei w.far) ≡ true)) _ _ (turned (acting act v)) no (λ b. b)
-        (sure-turned d c q p first_far first_near (B ⊎ ((is_t200 act && runs_t200 service tei w.far) ≡ true)) A (acting act v) h')
+        let h' = sure-acts d c q p back (indicated service tei ∷ []) (confirmed service tei ∷ []) B A wide_d v (sure-turned c d p q (confirmed service tei ∷ []) (indicated service tei ∷ []) A B w h) act is (kept-far act kept) x.0 in
+        sure-by c d p q (confirmed service tei ∷ []) (indicated service tei ∷ []) A (B ⊎ ((is_t200 act && runs_t200 service tei w.far) ≡ true)) _ _ (turned (acting act v)) no (λ b. b)
+        (sure-turned d c q p (indicated service tei ∷ []) (confirmed service tei ∷ []) (B ⊎ ((is_t200 act && runs_t200 service tei w.far) ≡ true)) A (acting act v) h')
       where
         no : A ⊎ (false ≡ true) → A
         no (inl a) = a
@@ -258,7 +218,7 @@ module _ (service : Service) (tei : ℕ) where
     pub sure-runs : (A B : Type 0) (ds : List Doing) (w : Wire) → All (IsRoughTalk service tei) ds → All LosesNothing ds → StayTimely ds w → Up A B w
         → Up (A ⊎ (ever (near_asks service tei) ds w ≡ true)) (B ⊎ (ever (far_asks service tei) ds w ≡ true)) (doing_all ds w)
     unfolding doing_all StayTimely ever
-    sure-runs A B [] w all kept x h = sure-by c d p q first_near first_far A B _ _ w (no A) (no B) h
+    sure-runs A B [] w all kept x h = sure-by c d p q (confirmed service tei ∷ []) (indicated service tei ∷ []) A B _ _ w (no A) (no B) h
       where
         no : (X : Type 0) → X ⊎ (false ≡ true) → X
         no X (inl a) = a
@@ -268,7 +228,7 @@ module _ (service : Service) (tei : ℕ) where
         let asks' = far_asks service tei k w in
         let w' = doing k w in
         let now = step A B k w (All-head (IsRoughTalk service tei) k ds all) (All-head LosesNothing k ds kept) x.0 h in
-        sure-by c d p q first_near first_far _ _ _ _ (doing_all ds w')
+        sure-by c d p q (confirmed service tei ∷ []) (indicated service tei ∷ []) _ _ _ _ (doing_all ds w')
         (first-or A asks (ever (near_asks service tei) ds w')) (first-or B asks' (ever (far_asks service tei) ds w'))
         (sure-runs (A ⊎ (asks ≡ true)) (B ⊎ (asks' ≡ true)) ds w' (All-tail (IsRoughTalk service tei) k ds all) (All-tail LosesNothing k ds kept) x.1 now)
 

@@ -1,14 +1,5 @@
 -- Rounds lead to where all has arrived whose T200 has expired.
-use Rattle.laws_wire.proofs.Vocabulary.{◌≡◌, ℕ, zero, suc, ◌+◌, ◌*◌, ◌<◌, ◌≤◌, Bool, true, false, ◌||◌, List, [], ◌∷◌, ◌++◌, refl, sym, ap, subst, ◌∙◌, ◌⊎◌, inl, inr, arith, nat_lt, ltb-true, ltb-false, true≢false, flat_map, All, All-nil, All-cons, All-append, Service, Config, LineTold, terms}
-use Rattle.std.proofs.lemmas.List.Concat.{flat_map-append}
-use Rattle.laws_wire.specs.Wire.{Station, Wire, gives, takes, Doing, at_near, at_far, acting, turned, doing, doing_all, IsStill}
-use Rattle.laws_wire.specs.Call.{calling, CanCall}
-use Rattle.laws_wire.specs.Facing.{granted_of}
-use Rattle.laws_wire.specs.Losing.{for_layer_3, heard_in, HasNoError, IsRoughTalk}
-use Rattle.laws_wire.specs.Recovering.{rounds, HasNoErrors}
-use Rattle.laws_wire.specs.Resting.{moves, expiries, most_frames}
-use Rattle.laws_wire.specs.Timely.{StayTimely}
-use Rattle.laws_wire.specs.Arriving.{LosesNothing, near_asks, far_asks, ever, HasCome, most_left, ArrivesInRounds}
+use Rattle.laws_wire.proofs.Vocabulary.{◌≡◌, ℕ, zero, suc, ◌+◌, ◌*◌, ◌<◌, ◌≤◌, Bool, true, false, ◌||◌, List, [], ◌∷◌, ◌++◌, refl, sym, ap, subst, ◌∙◌, ◌⊎◌, inl, inr, arith, nat_lt, ltb-true, ltb-false, true≢false, flat_map, All, All-nil, All-cons, All-append, Service, Config, LineTold, terms, flat_map-append, Station, Wire, gives, takes, Doing, at_near, at_far, acting, turned, doing, doing_all, IsStill, calling, CanCall, granted_of, for_layer_3, heard_in, HasNoError, IsRoughTalk, rounds, HasNoErrors, moves, expiries, most_frames, StayTimely, LosesNothing, near_asks, far_asks, ever, HasCome, most_left, ArrivesInRounds}
 use Rattle.laws_wire.proofs.LeftToDo.{weighs-left}
 use Rattle.laws_wire.proofs.LossyPhases.{IsUp, Goes as Phases}
 use Rattle.laws_wire.proofs.LossyRun.{More, near-more, far-more, Setting, setting, fair-goes}

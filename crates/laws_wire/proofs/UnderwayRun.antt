@@ -1,9 +1,5 @@
 -- A call from nothing, in which nothing is lost any more from some time on.
-use Rattle.laws_wire.proofs.Vocabulary.{◌≡◌, ℕ, true, false, List, [], ◌∷◌, ◌⊎◌, inl, inr, ◌≢◌, Service, Config, LineTold}
-use Rattle.laws_wire.specs.Wire.{Wire, turned, doing_all, IsStill}
-use Rattle.laws_wire.specs.Call.{calling, confirmed, indicated, all_told}
-use Rattle.laws_wire.specs.Losing.{heard_in}
-use Rattle.laws_wire.specs.Arriving.{runs_t200, near_asks, far_asks, ever, ArrivesUnderTraffic}
+use Rattle.laws_wire.proofs.Vocabulary.{◌≡◌, ℕ, true, false, [], ◌∷◌, ◌⊎◌, inl, inr, ◌≢◌, Service, Config, Wire, turned, doing_all, IsStill, calling, confirmed, indicated, all_told, heard_in, runs_t200, near_asks, far_asks, ever, ArrivesUnderTraffic}
 use Rattle.laws_wire.proofs.TimelyPhases.{Goes}
 use Rattle.laws_wire.proofs.LossyRun.{setting}
 use Rattle.laws_wire.proofs.TimelyRun.{starts, runs}
@@ -20,16 +16,10 @@ module _ (service : Service) (tei : ℕ) (c d : Config) (p q : ℕ) where
   are-up w (inr (inr (inr (inr (inl h))))) told = absurd (told h.is.near.heard)
   are-up w (inr (inr (inr (inr (inr h))))) told = h
 
-  abbrev first_near : List LineTold
-  first_near = confirmed service tei ∷ []
-
-  abbrev first_far : List LineTold
-  first_far = indicated service tei ∷ []
-
   abbrev Up : Type 0 → Type 0 → Wire → Type 0
-  Up A B w = SureUp service tei c d p q first_near first_far A B w
+  Up A B w = SureUp service tei c d p q (confirmed service tei ∷ []) (indicated service tei ∷ []) A B w
 
-  begins : (w : Wire) → AreUp service tei c d p q first_near first_far w → Up ⊥ ⊥ w
+  begins : (w : Wire) → AreUp service tei c d p q (confirmed service tei ∷ []) (indicated service tei ∷ []) w → Up ⊥ ⊥ w
   begins w h = record { n = h.n; m = h.m; up = h.up; there = λ no. absurd no; back = λ no. absurd no }
 
   abbrev Asked : Type 0 → Type 0
@@ -41,18 +31,18 @@ module _ (service : Service) (tei : ℕ) (c d : Config) (p q : ℕ) where
   comes A B last h still = (near, far)
     where
       near : A ⊎ (runs_t200 service tei last.near ≡ false) → heard_in last.far ≡ all_told service tei (indicated service tei) last.near
-      near (inl a) = has-come service tei c d p q first_near first_far last h.n h.m h.up still (inl (h.there (inr a)))
-      near (inr none) = has-come service tei c d p q first_near first_far last h.n h.m h.up still (inr none)
+      near (inl a) = has-come service tei c d p q (confirmed service tei ∷ []) (indicated service tei ∷ []) last h.n h.m h.up still (inl (h.there (inr a)))
+      near (inr none) = has-come service tei c d p q (confirmed service tei ∷ []) (indicated service tei ∷ []) last h.n h.m h.up still (inr none)
 
-      up' : BothUp service tei d c q p first_far first_near (turned last) h.m h.n
+      up' : BothUp service tei d c q p (indicated service tei ∷ []) (confirmed service tei ∷ []) (turned last) h.m h.n
       up' = turned-up service tei c d p q (confirmed service tei ∷ []) (indicated service tei ∷ []) last h.n h.m h.up
 
       still' : IsStill (turned last)
       still' = record { near = still.far; far = still.near; near_way = still.far_way; far_way = still.near_way }
 
       far : B ⊎ (runs_t200 service tei last.far ≡ false) → heard_in last.near ≡ all_told service tei (confirmed service tei) last.far
-      far (inl b) = has-come service tei d c q p first_far first_near (turned last) h.m h.n up' still' (inl (h.back (inr b)))
-      far (inr none) = has-come service tei d c q p first_far first_near (turned last) h.m h.n up' still' (inr none)
+      far (inl b) = has-come service tei d c q p (indicated service tei ∷ []) (confirmed service tei ∷ []) (turned last) h.m h.n up' still' (inl (h.back (inr b)))
+      far (inr none) = has-come service tei d c q p (indicated service tei ∷ []) (confirmed service tei ∷ []) (turned last) h.m h.n up' still' (inr none)
 
 pub arrives-under-traffic : ArrivesUnderTraffic
 arrives-under-traffic service c d line other tei before since can wide_c wide_d talk talk' kept = λ timely timely' told still.

@@ -1,13 +1,8 @@
 -- Two stations whose links are up: each turn lowers their weight, and each request that is granted raises it by four.
-use Rattle.laws_wire.proofs.Vocabulary.{◌≡◌, ℕ, ◌+◌, ◌*◌, ◌≤◌, false, List, [], ◌∷◌, ◌++◌, length, map, drop, Option, Some, None, refl, sym, ap, subst, ◌∙◌, ◌⊎◌, inl, inr, append-nil, length-append, arith, All, if◌then◌else◌, All-head, All-tail, Service, Parts, spelling, Terms, Link, given, Given, End, Ends, with_link, with_sent, frame_given, Config, Request, Assign, Remove, Check, Deactivate, request, next, weight_at, HasNothingToSend, takes-first, Pair, nothing-given, nothing-to_send, silent-stays}
+use Rattle.laws_wire.proofs.Vocabulary.{◌≡◌, ℕ, ◌+◌, ◌*◌, ◌≤◌, false, List, [], ◌∷◌, ◌++◌, length, map, drop, Option, Some, None, refl, sym, ap, subst, ◌∙◌, ◌⊎◌, inl, inr, append-nil, length-append, arith, All, if◌then◌else◌, All-head, All-tail, Service, Parts, spelling, Terms, Link, given, Given, End, Ends, with_link, with_sent, frame_given, Config, Request, request, next, weight_at, HasNothingToSend, takes-first, Pair, nothing-given, nothing-to_send, silent-stays, refusal, Data, Station, Wire, happens, frames_by, with_first_of, with_first_lost, Act, requests, gives, takes, Doing, at_near, at_far, acting, turned, doing, doing_all, is_any, is_turn_of, is_turn, turns, answered, comes, IsTalkOf, IsTalk}
 use Rattle.model_link.specs.Events as link
-use Rattle.model_link.specs.Requests.{refusal}
 use Rattle.model_link.specs.TwoEnds as two_ends
-use Rattle.model_line.specs.Request as asked
-use Rattle.model_line.specs.Request.{Establish, Release, Data, SetBusy, ClearBusy}
 use Rattle.laws_link.proofs.OfTwo.AnyOrder as any_order
-use Rattle.laws_wire.specs.Wire.{Station, Wire, happens, frames_by, with_first_of, with_first_lost, Act, requests, times_out, gives, takes, loses, Doing, at_near, at_far, acting, turned, doing, doing_all, is_any, is_turn_of, is_turn, turns, answered, comes}
-use Rattle.laws_wire.specs.Call.{IsTalkOf, IsTalk}
 use Rattle.laws_wire.proofs.Answered.{gives-granted, takes-granted}
 use Rattle.laws_wire.proofs.Asking.{with_more, asked-form, asks-more, Asked}
 use Rattle.laws_wire.proofs.Speaking.{tells-data}
@@ -214,23 +209,13 @@ module _ (service : Service) (tei : ℕ) where
       acts-request (Data s t octets) is =
           subst (λ s'. Acted w (acting (requests (Data s' t octets)) w) n m 0) (sym is.0)
           (subst (λ t'. Acted w (acting (requests (Data service t' octets)) w) n m 0) (sym is.1) (acts-asks octets))
-      acts-request (Establish s t) is = absurd is
-      acts-request (Release s t) is = absurd is
-      acts-request (asked.Unit s t octets) is = absurd is
-      acts-request (Assign t) is = absurd is
-      acts-request (Remove t) is = absurd is
-      acts-request (Check t) is = absurd is
-      acts-request (SetBusy s t) is = absurd is
-      acts-request (ClearBusy s t) is = absurd is
-      acts-request (Deactivate s t) is = absurd is
-      acts-request asked.Down is = absurd is
+      acts-request other is = absurd is
 
       pub acts : (act : Act) → IsTalkOf service tei act → Acted w (acting act w) n m (if is_turn_of act w then 1 else 0)
       acts (requests r) is = acts-request r is
-      acts (times_out timer) is = absurd is
       acts gives is = acts-gives
       acts takes is = acts-takes
-      acts loses is = absurd is
+      acts other is = absurd is
 
   swapped : (b x y x' y' g h g' h' : ℕ) → b + (y' + x') + 4 * (h + g) ≤ (y + x) + 4 * (h' + g') → b + (x' + y') + 4 * (g + h) ≤ (x + y) + 4 * (g' + h')
   swapped b x y x' y' g h g' h' p = omega (arith, p)

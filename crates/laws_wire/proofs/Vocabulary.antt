@@ -1,4 +1,4 @@
--- The words of std and of the crates below with which the proofs of this crate speak, from where they are defined.
+-- The words of std, of the crates below and of the statements of this crate with which its proofs speak, from where they are defined.
 pub use Rattle.std.proofs.Common.{Bool, IfSome, IsTrue, List, None, Ok, Option, Some, [], ap, append-nil, append_assoc, arith, cond, drop, eq-eqb, eqb-true, false, flat_map, get_or, if◌then◌else◌, inl, inr, is_some, length, length-append, map, nat_eq, nat_lt, not, option_map, refl, replicate, set, slice_get, slice_index, subst, suc, sym, take, true, true≢false, zero, ℕ, ⊎_elim, ◌%◌, ◌&&◌, ◌*◌, ◌++◌, ◌+◌, ◌-◌, ◌<◌, ◌==◌, ◌||◌, ◌∙◌, ◌∷◌, ◌≡◌, ◌≢◌, ◌≤◌, ◌⊎◌}
 pub use Rattle.std.proofs.lemmas.Bool.{and_parts, cases_eq, false≢true, le-ltb, leb-true, lt-ltb, ltb-false, ltb-true, ne_eqb, or_parts}
 pub use Rattle.std.proofs.lemmas.List.{get_or-set_other, get_or-set_same, length-map, length-replicate, length-take-le, map-append, set-get_or, take-append-drop, take_all}
@@ -7,7 +7,7 @@ pub use Rattle.std.proofs.lemmas.List.Folds.{list_any-append, list_any_none}
 pub use Rattle.std.proofs.lemmas.List.Prefix.{front_rest}
 pub use Rattle.std.specs.List.{list_any}
 pub use Rattle.std.specs.Option.{option_map_or, option_or}
-pub use Rattle.std.specs.Prelude.{All, option_to_list}
+pub use Rattle.std.specs.Prelude.{All, option_to_list, unwrap_or}
 pub use Rattle.lapd_frame.proofs.Spelling.{reading-again}
 pub use Rattle.lapd_frame.specs.Grammar.{IsFrame, Parts, other_side, spelling}
 unfoldable pub use Rattle.lapd_frame.specs.Reading.{control_of, header_of, reading, supervisory_of, unnumbered_of}
@@ -45,7 +45,7 @@ pub use Rattle.laws_line.proofs.Silence.{sends-none}
 pub use Rattle.laws_line.specs.Served.{IsSilent}
 pub use Rattle.laws_line.specs.Share.{is_granted}
 pub use Rattle.laws_link.proofs.Follows.{event-follows}
-pub use Rattle.laws_link.proofs.OfTwo.AnyOrder.{Informs, Lane, Notes, Steady, is-steady, lane-low, lane-order, takes-first}
+pub use Rattle.laws_link.proofs.OfTwo.AnyOrder.{Direction, Informs, Lane, Notes, Steady, is-steady, lane-low, lane-order, takes-first}
 pub use Rattle.laws_link.proofs.OfTwo.AnyOrderRuns.{Pair, all-there, all-turns}
 pub use Rattle.laws_link.proofs.OfTwo.Arriving.{all-arrived}
 pub use Rattle.laws_link.proofs.OfTwo.BusyMoves.{acked, noted}
@@ -66,8 +66,8 @@ pub use Rattle.laws_link.proofs.OfTwo.Together.{done-up, same-after}
 pub use Rattle.laws_link.proofs.OfTwo.Trains.{Beyond, Calm, Every, Kind, alien, answer, enquiry, kind_of, kind_of_ready, kind_of_reject, kinds-append, kinds_of, numbered, one_answer, one_enquiry, one_rejection, rejection, report, tally, tally-push}
 pub use Rattle.laws_link.proofs.OfTwo.Waiting.{nothing-given, nothing-to_send, silent-stays}
 pub use Rattle.laws_link.specs.Flags.{awaits_answer, busy_asked, busy_by, busy_heard, flag_left, repeats_left, takes_contents}
-pub use Rattle.laws_link.specs.States.{as_heard, is_clearing, is_overlong, moves, state_after}
-pub use Rattle.laws_link.specs.Telling.{final_as, numbered_as, told_by, told_by_frame, told_expired, told_up}
+pub use Rattle.laws_link.specs.States.{as_heard, is_clearing, is_overlong, state_after}
+pub use Rattle.laws_link.specs.Telling.{final_as, numbered_as, told_by_frame, told_expired, told_up}
 pub use Rattle.laws_link.specs.Timed.{IsTimed, IsTimedIn}
 pub use Rattle.laws_link.specs.Waiting.{answers_to, as_response, command_in, is_time, receipt_as, room, waiting_left}
 pub use Rattle.laws_link.specs.two.Ahead.{CanRepeat, IsMildAct, IsMildRequest}
@@ -75,8 +75,8 @@ pub use Rattle.laws_link.specs.two.AnyOrder.{load, weight_at}
 unfoldable pub use Rattle.laws_link.specs.two.AnyOrder.{AreTurns}
 pub use Rattle.laws_link.specs.two.CutOff.{IsCutOff}
 pub use Rattle.laws_link.specs.two.Heeds.{HeedsIn}
-pub use Rattle.laws_link.specs.two.Rounds.{HasArrived, IsReady, IsTaken}
-pub use Rattle.laws_link.specs.two.Timely.{HasNo, IsTimely, IsTimelyAct, is_answer, is_enquiry, supervisory_bit}
+pub use Rattle.laws_link.specs.two.Rounds.{IsReady, IsTaken}
+pub use Rattle.laws_link.specs.two.Timely.{HasNo, IsTimelyAct, is_answer, is_enquiry, supervisory_bit}
 pub use Rattle.laws_link.specs.two.Waits.{HasNothingToSend}
 pub use Rattle.model_bits.specs.Stream.{dropped}
 pub use Rattle.model_card.proofs.CardSound.{after_is_sound, fresh_is_sound}
@@ -91,44 +91,69 @@ pub use Rattle.model_line.proofs.Ranges.{ranges_of, terms_in_range}
 pub use Rattle.model_line.proofs.TakenSound.{round_below}
 pub use Rattle.model_line.specs.Came.{came}
 pub use Rattle.model_line.specs.Effect.{Aim, Effect, at_link, at_management, of_aim, of_change, told_of_link, told_of_management, unserved_cause}
-pub use Rattle.model_line.specs.Event.{Answer, LineTold, NextFrame, expiry, gave, hears, next, refused, request}
+pub use Rattle.model_line.specs.Event.{Answer, Event, LineTold, NextFrame, expiry, gave, hears, next, nothing, refused, request, told}
 pub use Rattle.model_line.specs.Expiry.{aim_of_expiry, at_timer}
 pub use Rattle.model_line.specs.Heard.{addressed, aim_of_heard, aim_of_reading, at_place, drop_for, group_tei, heard_side, management_sapi, message_of, to_service}
 pub use Rattle.model_line.specs.Line.{Line, fresh_line, has_tei, link_at, link_count, link_in, link_number, link_of, place_at, place_in, service_at, tei_at, terms, terms_at}
 pub use Rattle.model_line.specs.Machine.{of_heard, of_request, unless_refused, unless_refused_told}
 pub use Rattle.model_line.specs.Refusal.{bad_tei, first_that_holds, no_link, wrong_state}
-pub use Rattle.model_line.specs.Request.{Assign, Check, Deactivate, Remove, Request}
+pub use Rattle.model_line.specs.Request.{Assign, Check, ClearBusy, Data, Deactivate, Establish, Release, Remove, Request, SetBusy}
 pub use Rattle.model_line.specs.Requested.{aim_of_request, at_requested}
 pub use Rattle.model_line.specs.Sides.{at_side}
 pub use Rattle.model_line.specs.Sound.{IsSoundAt}
-pub use Rattle.model_line.specs.Taken.{Taken, first_taken, link_taken, next_of, round, taken, unit_taken, with_given_frame, with_message, with_unit}
+pub use Rattle.model_line.specs.Taken.{Taken, first_taken, link_taken, next_of, taken, unit_taken, with_given_frame, with_message, with_unit}
 pub use Rattle.model_line.specs.declared.config.Config.{Config}
 pub use Rattle.model_link.proofs.Delivering.{event-delivers}
-pub use Rattle.model_link.proofs.Direction.{frames-append, frames_of, named-means, receiver-goes, receiver-loses, sender-goes, sender-loses}
+pub use Rattle.model_link.proofs.Direction.{frames-append, frames_of, line_of, named-means, receiver-goes, receiver-loses, sender-goes, sender-loses}
 pub use Rattle.model_link.proofs.Facing.{Reports, Up, any_number, no-reports, still, t200_8_up, timer_7_up}
 pub use Rattle.model_link.proofs.FacingInformation.{at-first}
 pub use Rattle.model_link.proofs.Giving.{given_is_frame}
 pub use Rattle.model_link.proofs.Hearing.{receiver-hears, sender-hears}
 pub use Rattle.model_link.proofs.Joined.{Joined, done-at, joined-first, joined-turned}
 pub use Rattle.model_link.proofs.Leads.{Leads, bit_leads, depending_leads, keeping_then, nothing_leads}
-pub use Rattle.model_link.proofs.Lines.{Carried, Means, Rising, rising-low}
+pub use Rattle.model_link.proofs.Lines.{Carried, Means, Rising, carried-high, rising-low}
 pub use Rattle.model_link.proofs.Sending.{Gave, offer-gave}
 pub use Rattle.model_link.proofs.SoundEvents.{sound-after, sound-fresh}
 pub use Rattle.model_link.proofs.SoundRows.{named-within}
 pub use Rattle.model_link.proofs.Taking.{frame-taken, named-is_seq, none-delivered}
-pub use Rattle.model_link.specs.Events.{cleared, expired, offer, received, requested, undefined, wrong_size}
+pub use Rattle.model_link.specs.Events.{cleared, expired, frame, offer, received, requested, undefined, wrong_size}
 pub use Rattle.model_link.specs.Link.{Link, frame_of, fresh, has_outstanding, is_multiple_frame, may_repeat, queue_of, state_number, unsent}
-pub use Rattle.model_link.specs.Machine.{course, frame_step, given, given_of, is_running}
+pub use Rattle.model_link.specs.Machine.{after, course, frame_step, given, given_of, is_running}
 pub use Rattle.model_link.specs.Offers.{is_established}
-pub use Rattle.model_link.specs.Requests.{granted, is_down, serves}
-pub use Rattle.model_link.specs.Sound.{IsInRange, IsSettledIn, IsWaitingFrame}
-pub use Rattle.model_link.specs.Steps.{Step, begun, by_bit, ◌then◌}
+pub use Rattle.model_link.specs.Requests.{granted, is_down, refusal, serves}
+pub use Rattle.model_link.specs.Sound.{IsInRange, IsSettledIn, IsSound, IsWaitingFrame}
+pub use Rattle.model_link.specs.Steps.{Course, Step, begun, by_bit, ◌then◌}
 pub use Rattle.model_link.specs.Told.{Given, runs}
-pub use Rattle.model_link.specs.TwoEnds.{Act, Begins, End, Ends, IsUp, acting, asks, at_near, expires, frame_given, loses, receives, sends, with_first_lost, with_first_of, with_link, with_sent}
+pub use Rattle.model_link.specs.TwoEnds.{Begins, End, Ends, IsUp, asks, expires, frame_given, receives, sends, with_link, with_sent}
 pub use Rattle.model_link.specs.Words.{command, has_room, ready_to_receive, response}
 pub use Rattle.model_link.specs.declared.frames.ControlFrame.{ControlFrame}
 pub use Rattle.model_link.specs.declared.states.State.{State}
 pub use Rattle.model_link.specs.declared.states.State.TheVariants.{AwaitingEstablishment, AwaitingRelease, Established, TeiAssigned, TimerRecovery}
 pub use Rattle.model_link.specs.declared.terms.Terms.{Terms}
 pub use Rattle.model_link.specs.declared.timers.LinkTimer.{LinkTimer}
-pub use Rattle.model_link.specs.declared.timers.LinkTimer.TheVariants.{T203}
+pub use Rattle.model_link.specs.declared.timers.LinkTimer.TheVariants.{T200, T203}
+pub use Rattle.laws_wire.specs.Answering.{IsAsked, IsFullTalk, IsFullTalkOf, Rests, calls, error_f}
+unfoldable pub use Rattle.laws_wire.specs.Answering.{StayPatient}
+pub use Rattle.laws_wire.specs.Arriving.{ArrivesInRounds, ArrivesUnderTraffic, HasCome, LosesNothing, far_asks, frames_left, is_t200, most_left, near_asks, notes_left, runs_t200}
+unfoldable pub use Rattle.laws_wire.specs.Arriving.{ever}
+pub use Rattle.laws_wire.specs.Call.{CallsComeThrough, CanCall, ComesThrough, IsBeginningOf, IsCall, IsCallOf, IsTalk, IsTalkOf, all_told, assigned, calling, calls_back, confirmed, data_told, indicated, station, told_first}
+unfoldable pub use Rattle.laws_wire.specs.Call.{both_call}
+pub use Rattle.laws_wire.specs.Counted.{Counts, ExpiriesAreCounted, IsBelow, IsCounted, IsCountedOf, counted, counting, is_in_7}
+unfoldable pub use Rattle.laws_wire.specs.Counted.{StayCounted}
+pub use Rattle.laws_wire.specs.Ending.{CallsEnd, EndsSo, IsLeaving, IsTimelyThere, release_confirmed, release_indicated}
+unfoldable pub use Rattle.laws_wire.specs.Ending.{StayTimelyThere}
+pub use Rattle.laws_wire.specs.Facing.{Face, end_of, granted_of}
+pub use Rattle.laws_wire.specs.Losing.{CallsAreToldInOrder, HasNoError, IsOfLink, IsRoughTalk, IsRoughTalkOf, for_layer_3, heard_in, is_error}
+pub use Rattle.laws_wire.specs.Recovering.{BothMayRepeat, HasArrived, HasMissing, HasNoErrors, WhatIsLostArrives, both_expire, round, with_t200_expired}
+unfoldable pub use Rattle.laws_wire.specs.Recovering.{rounds}
+pub use Rattle.laws_wire.specs.Resting.{MovesComeToAnEnd, RoundsComeToRest, TimelyRoundsComeToRest, expiries_in, expiries_of, is_move, is_move_of, most_frames}
+unfoldable pub use Rattle.laws_wire.specs.Resting.{expiries, moves}
+pub use Rattle.laws_wire.specs.StillTimely.{IsSparedStill, IsStillDoing, IsStillOf, WhatIsLostArrivesFromRest}
+unfoldable pub use Rattle.laws_wire.specs.StillTimely.{StayStill}
+pub use Rattle.laws_wire.specs.Timely.{IsLongEnough, IsNoneOpen, IsSpared, IsTimely, IsTimelyOf, MayRepeat, bit_of, is_final, is_poll}
+unfoldable pub use Rattle.laws_wire.specs.Timely.{StayTimely}
+pub use Rattle.laws_wire.specs.Wire.{Act, Doing, IsStill, Station, Wire, acting, answered, at_far, at_near, comes, contents_of, doing, frames_by, gives, happens, is_any, is_turn, is_turn_of, loses, requests, takes, tells_nothing, times_out, told_by, turned, with_first_lost, with_first_of}
+unfoldable pub use Rattle.laws_wire.specs.Wire.{doing_all, turns}
+pub use Rattle.laws_wire.specs.Worked.{begins, establishes, network, talks, user}
+pub use Rattle.laws_wire.specs.WorkedRecovering.{loses_three, lost, recovered}
+pub use Rattle.std.proofs.lemmas.List.Concat.{flat_map-append}

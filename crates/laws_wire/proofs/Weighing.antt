@@ -1,7 +1,6 @@
 -- What two ends still have to do, where v turns go again at most: what their links have to send, what is on their ways, and for
 -- each contents that are not delivered yet a REJ, v turns, and an acknowledgement.
-use Rattle.laws_wire.proofs.Vocabulary.{◌≡◌, ℕ, ◌+◌, ◌-◌, ◌*◌, ◌≤◌, List, [], ◌∷◌, length, map, refl, sym, ap, subst, ◌∙◌, arith, All, All-head, All-tail, Service, Parts, spelling, reading, Link, End, Config}
-use Rattle.laws_wire.specs.Wire.{Station}
+use Rattle.laws_wire.proofs.Vocabulary.{◌≡◌, ℕ, ◌+◌, ◌-◌, ◌*◌, ◌≤◌, List, [], ◌∷◌, length, map, refl, sym, ap, subst, ◌∙◌, arith, All, All-head, All-tail, Service, Parts, spelling, reading, Link, End, Config, Station}
 use Rattle.laws_wire.proofs.Loads.{load, load_way}
 use Rattle.laws_wire.proofs.Standing.{IsCarried, Stands}
 
@@ -10,8 +9,6 @@ use Rattle.laws_wire.proofs.Standing.{IsCarried, Stands}
 module _ (service : Service) (tei : ℕ) (c : Config) where
   spelled-same : (xs ys : List Parts) → All (IsCarried c service tei) xs → All (IsCarried c service tei) ys → map (spelling c.side) xs ≡ map (spelling c.side) ys → xs ≡ ys
   spelled-same [] [] h g e = refl
-  spelled-same [] (y ∷ ys) h g e = absurd (cc)
-  spelled-same (x ∷ xs) [] h g e = absurd (cc)
   spelled-same (x ∷ xs) (y ∷ ys) h g e =
       let first : spelling c.side x ≡ spelling c.side y = cc in
       let rest : map (spelling c.side) xs ≡ map (spelling c.side) ys = cc in
@@ -21,6 +18,7 @@ module _ (service : Service) (tei : ℕ) (c : Config) where
       let same : x ≡ y = cc in
       let others = spelled-same xs ys (All-tail (IsCarried c service tei) x xs h) (All-tail (IsCarried c service tei) y ys g) rest in
       λ i. same i ∷ others i
+  spelled-same other any h g e = absurd (cc)
 
   module _ (place : ℕ) (s : Station) (n n' : End) (h : Stands c service tei place s n) (g : Stands c service tei place s n') where
     pub same-link : n.link ≡ n'.link
@@ -62,7 +60,7 @@ fell-turned v moved expired n m n' m' h = record {
 -- ---- what becomes of the weight of one end, while the other stays
 
 -- a product grows with what is accepted, and falls with what is delivered
-times-suc : (d x : ℕ) → d * (x + 1) ≡ d * x + d
+pub times-suc : (d x : ℕ) → d * (x + 1) ≡ d * x + d
 times-suc d x = omega arith
 
 pub accepts-more : (d len r : ℕ) → r ≤ len → d * (len + 1 - r) ≡ d * (len - r) + d
@@ -70,6 +68,9 @@ accepts-more d len r low = let e : len + 1 - r ≡ (len - r) + 1 = omega (arith,
 
 pub delivers-one : (d len r : ℕ) → r + 1 ≤ len → d * (len - (r + 1)) + d ≡ d * (len - r)
 delivers-one d len r low = let e : len - r ≡ (len - (r + 1)) + 1 = omega (arith, low) in sym (ap (λ x. d * x) e ∙ times-suc d (len - (r + 1)))
+
+sum : (a b c d : ℕ) → a ≡ c → b ≡ d → a + b ≡ c + d + 0
+sum a b c d e f = omega (arith, e, f)
 
 module _ (v : ℕ) (n m n' m' : End) (same : n'.link.contents ≡ n.link.contents) (kept : m'.link ≡ m.link) where
   -- nothing is accepted or delivered
@@ -89,9 +90,6 @@ module _ (v : ℕ) (n m n' m' : End) (same : n'.link.contents ≡ n.link.content
         ((v + 4) * undelivered n.link m.link + (v + 4) * undelivered m.link n.link) ((v + 4) * expired) ((v + 6) * 0) (there e) less;
   }
     where
-      sum : (a b c d : ℕ) → a ≡ c → b ≡ d → a + b ≡ c + d + 0
-      sum a b c d e f = omega (arith, e, f)
-
       lighter : (moved x y z x' y' z' a b : ℕ) → z ≡ z' → moved + x + y ≤ x' + y' + a → moved + ((x + y) + z) ≤ ((x' + y') + z') + a + b
       lighter moved x y z x' y' z' a b e less = omega (arith, e, less)
 
@@ -105,9 +103,6 @@ module _ (v : ℕ) (n m n' m' : End) (same : n'.link.contents ≡ n.link.content
         ((v + 4) * undelivered m.link n.link) v ((v + 4) * 0) ((v + 6) * 0) one-way other-way less;
   }
     where
-      sum : (a b c d : ℕ) → a ≡ c → b ≡ d → a + b ≡ c + d + 0
-      sum a b c d e f = omega (arith, e, f)
-
       one-way : (v + 4) * undelivered n'.link m'.link ≡ (v + 4) * undelivered n.link m.link
       one-way = λ i. (v + 4) * (length (same i) - (kept i).r)
 

@@ -1,10 +1,9 @@
 -- What happens at an end of a circuit, as the card of frames inside has it.
-use Rattle.laws_order.proofs.Vocabulary.{◌≡◌, ℕ, Bool, true, false, cond, List, [], ◌++◌, Option, None, Some, option_map, refl, sym, ap, ◌∙◌, append-nil, option_map_or, Refusal, PoolFull, Effect, LineTold, nothing, refusal, Card, line_at, answer_to, card_after, answer_of, gained, is_due, Station}
+use Rattle.laws_order.proofs.Vocabulary.{◌≡◌, ℕ, Bool, true, false, cond, List, [], ◌++◌, Option, None, Some, option_map, refl, sym, ap, ◌∙◌, append-nil, option_map_or, Refusal, PoolFull, Effect, LineTold, nothing, refusal, Card, line_at, answer_to, card_after, answer_of, gained, is_due, Station, Request}
 use Rattle.model_bits.specs.Stream as stream
 use Rattle.model_line.specs.Event as line
 use Rattle.model_line.specs.Machine as lines
 unfoldable use Rattle.model_line.specs.Machine.{answer as line_answer, takes_slot}
-use Rattle.model_line.specs.Request.{Request}
 use Rattle.model_card.specs.Event as frames
 use Rattle.model_card.specs.Machine as machine
 unfoldable use Rattle.model_card.specs.ports.Card.{after, answer, meant}
@@ -38,13 +37,11 @@ with_fields card number way granted told = record { card = card; line = number; 
 -- what is told and granted by an answer
 same-told : (a : line.Answer) → told_by (answer_of a) ≡ wire.told_by a
 same-told (line.told t) = refl
-same-told (line.refused why) = refl
-same-told (line.gave given) = refl
+same-told other = refl
 
 none-granted : (a : line.Answer) → unless_refused (answer_of a) [] ≡ wire.unless_refused a []
 none-granted (line.told t) = refl
-none-granted (line.refused why) = refl
-none-granted (line.gave given) = refl
+none-granted other = refl
 
 pub heard-as : (value : ℕ) (s : Termination) (way : List (List ℕ)) → as_station way (happens (port.octet value) s) ≡ if_meant (meaning (port.octet value) s) (as_station way s)
 unfolding after answer meant line_answer takes_slot

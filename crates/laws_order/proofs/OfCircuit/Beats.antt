@@ -1,10 +1,9 @@
 -- So many beats are enough.
-use Rattle.laws_order.proofs.Vocabulary.{◌≡◌, ℕ, zero, suc, ◌+◌, ◌*◌, ◌-◌, ◌≤◌, ◌<◌, Bool, true, false, ◌||◌, List, [], ◌∷◌, ◌++◌, length, map, refl, sym, ap, ◌∙◌, subst, arith, append-nil, append_assoc, All, if◌then◌else◌, append_cancel_left, All-append, All-head, All-tail, Service, Config, LineTold, Assign, CanCall, confirmed, told_first, data_told, Wire, IsStill, asks-way, doing-append}
+use Rattle.laws_order.proofs.Vocabulary.{◌≡◌, ℕ, zero, suc, ◌+◌, ◌*◌, ◌-◌, ◌≤◌, ◌<◌, Bool, true, false, ◌||◌, List, [], ◌∷◌, ◌++◌, length, map, refl, sym, ap, ◌∙◌, subst, arith, append-nil, append_assoc, All, if◌then◌else◌, append_cancel_left, All-append, All-head, All-tail, Service, Config, LineTold, Assign, CanCall, confirmed, told_first, data_told, Wire, IsStill, asks-way, doing-append, beats, enough_beats, granted_of, AllIsToldInBeats}
 use Rattle.model_line.specs.Request.{Establish}
 use Rattle.laws_wire.specs.Call as call
 use Rattle.laws_wire.specs.Wire as wire
 unfoldable use Rattle.laws_wire.specs.Wire.{doing_all as frames_done}
-use Rattle.laws_order.specs.circuit.Beats.{beats, enough_beats, granted_of, AllIsToldInBeats}
 use Rattle.laws_order.specs.circuit.Circuit.{Circuit, asks, pulls, hears, OctetDoing, at_near, at_far, doing}
 unfoldable use Rattle.laws_order.specs.circuit.Circuit.{doing_all}
 use Rattle.laws_order.specs.circuit.Through.{calling, IsTalk, calls_back, all_told, IsToldAll}
@@ -17,6 +16,8 @@ unfoldable use Rattle.laws_order.proofs.OfCircuit.Projected.{doings_meant}
 use Rattle.laws_order.proofs.OfCircuit.Mute.{IsMute, all-talk}
 use Rattle.laws_order.proofs.OfCircuit.Takings.{takings, takings-append, on_ways, all-paid}
 use Rattle.laws_order.proofs.OfCircuit.Through as through
+use Rattle.laws_order.proofs.OfCircuit.WhoCalls.{or-none}
+use Rattle.laws_wire.proofs.Run.{or-both}
 
 module _ (n201 way : ℕ) (service : Service) (tei : ℕ) (c d : Config) (fits : Fits n201 c) (fits_far : Fits n201 d) where
   abbrev pub size_of : ℕ
@@ -95,14 +96,6 @@ front-is-all all told now more rest same grown beginning =
     no-front (x ∷ xs) ys e = absurd (cc e)
 
 -- ---- a call
-
-or-none : (b : Bool) → (b || false) ≡ b
-or-none true = refl
-or-none false = refl
-
-or-both : (a b c : Bool) → ((a || b) || c) ≡ (a || (b || c))
-or-both true b c = refl
-or-both false b c = refl
 
 both-append : (ds es : List OctetDoing) (w : Circuit) → both_call (ds ++ es) w ≡ (both_call ds w || both_call es (doing_all ds w))
 unfolding both_call doing_all

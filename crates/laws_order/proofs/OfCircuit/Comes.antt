@@ -1,9 +1,7 @@
 -- Where no frame comes in so many beats, no turn was left before them.
-use Rattle.laws_order.proofs.Vocabulary.{◌≡◌, ℕ, ◌+◌, ◌*◌, ◌≤◌, ◌<◌, ◌⊎◌, inl, inr, Bool, true, false, List, [], ◌∷◌, ◌++◌, length, Option, None, Some, option_map, refl, sym, ap, ◌∙◌, subst, arith, append-nil, length-append, Service, heard_in, Item, Config, NextFrame, gave, taken, next_of, line_at, frames_among, left_of, longest_text, Wire, IsStill, gives-taken}
+use Rattle.laws_order.proofs.Vocabulary.{◌≡◌, ℕ, ◌+◌, ◌*◌, ◌≤◌, ◌<◌, ◌⊎◌, inl, inr, Bool, true, false, List, [], ◌∷◌, ◌++◌, length, Option, None, Some, option_map, refl, sym, ap, ◌∙◌, subst, arith, append-nil, length-append, Service, heard_in, Item, Config, NextFrame, gave, taken, next_of, line_at, frames_among, left_of, longest_text, Wire, IsStill, gives-taken, longest, Termination, port_of, Circuit, doing_all}
 use Rattle.model_bits.specs.Stream as stream
 use Rattle.laws_wire.specs.Wire as wire
-use Rattle.laws_order.specs.circuit.Beats.{longest}
-use Rattle.laws_order.specs.circuit.Circuit.{Termination, port_of, Circuit, doing_all}
 use Rattle.laws_order.proofs.OfCircuit.AsFrames.{as_station}
 use Rattle.laws_order.proofs.OfCircuit.Coming.{Kept, from-near, from-far, frames_of, Puts, putting, GoesOn, going, all-out, Hears, hearing, length-framed, IsBehind}
 use Rattle.laws_order.proofs.OfCircuit.AtPort.{next_of_card}

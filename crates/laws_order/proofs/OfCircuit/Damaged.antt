@@ -1,5 +1,5 @@
 -- What happens on a circuit on which octets are damaged is, at the cards of frames inside, what happens on a wire of frames.
-use Rattle.laws_order.proofs.Vocabulary.{◌≡◌, ℕ, Bool, true, false, cond, List, [], ◌∷◌, ◌++◌, drop, Option, None, Some, option_map, option_to_list, refl, sym, ap, ◌∙◌, subst, append-nil, All, flat_map, option_map_or, All-nil, All-cons, All-head, Service, LineTold, Card, port_at, answer_to, card_after, gained, is_due, Seen, IsFront, Station, Wire, frames_by}
+use Rattle.laws_order.proofs.Vocabulary.{◌≡◌, ℕ, Bool, true, false, cond, List, [], ◌∷◌, ◌++◌, drop, Option, None, Some, option_map, option_to_list, refl, sym, ap, ◌∙◌, subst, append-nil, All, flat_map, option_map_or, All-nil, All-cons, All-head, Service, LineTold, Card, port_at, answer_to, card_after, gained, is_due, Seen, IsFront, Station, Wire, frames_by, FaceInStep, StaysEstablished, data_noted, data_granted, kept_by}
 use Rattle.model_bits.specs.Stream as stream
 use Rattle.model_line.specs.Event as line
 use Rattle.model_card.specs.Event as frames
@@ -10,7 +10,6 @@ use Rattle.model_card.specs.ports.Port as port
 use Rattle.laws_wire.specs.Wire as wire
 use Rattle.laws_order.specs.Happenings as order
 unfoldable use Rattle.laws_order.specs.Happenings.{seen_near as frames_near, seen_far as frames_far}
-use Rattle.laws_order.specs.Order.{FaceInStep, StaysEstablished, data_noted, data_granted, kept_by}
 use Rattle.laws_order.proofs.Ordered.{StaysAt, near-place, far-place, still-possible, delivered-in-order}
 use Rattle.laws_order.specs.circuit.Damaged.{Socket, Noisy, Deed, happens, completes, elsewhere, loses, meaning, IsOther, IsFirst, IsPossibleAt, with_deed, left_by, befalling, turned, Happening, by_near, by_far, seen_of, seen_by, as_wire, DeliveredThoughDamaged}
 unfoldable use Rattle.laws_order.specs.circuit.Damaged.{ArePossible, seen_near, seen_far}
@@ -56,9 +55,8 @@ due-comes n201 false = tt
 
 pub meaning-comes : (n201 : ℕ) (what : port.Event) (p : port.Port) → Comes n201 (port.meant n201 what p)
 meaning-comes n201 (port.octet value) p = heard-comes n201 (gained n201 p.received value) (gained-whole n201 p.received value)
-meaning-comes n201 (port.expiry timer) p = tt
-meaning-comes n201 (port.request r) p = tt
 meaning-comes n201 port.pull p = due-comes n201 (is_due p)
+meaning-comes n201 other p = tt
 
 -- What one deed of an end is on the wire of frames, where this is the other end.
 pub record Done (service : Service) (tei : ℕ) (s s' : Socket) (y : Station) (way : List (List ℕ)) (g : List (List ℕ)) (t : List LineTold) (seen : List Seen) : Type 0 where
@@ -142,12 +140,7 @@ module _ (service : Service) (tei : ℕ) (s : Socket) (y : Station) (g : List (L
             ∙ ap (λ e. flat_map (order.shown_by (station g t s)) (line.hears e ∷ [])) whole;
         can = tt;
       }
-  come None whole first = absurd first
-  come (Some (line.hears (stream.overlong octets))) whole first = absurd first
-  come (Some (line.hears (stream.dropped cause))) whole first = absurd first
-  come (Some (line.expiry timer)) whole first = absurd first
-  come (Some (line.request r)) whole first = absurd first
-  come (Some line.next) whole first = absurd first
+  come other whole first = absurd first
 
   by-event : (what : port.Event) → IsPossibleAt service tei (happens what) s y.way → Done service tei s (with_deed (happens what) s) y y.way g t (seen_by (happens what) s)
   unfolding after meant

@@ -1,5 +1,5 @@
 -- The premises of the law on damaged octets are met by the worked run.
-use Rattle.laws_order.proofs.Vocabulary.{◌≡◌, ℕ, ◌<◌, ◌&&◌, ◌==◌, Bool, true, false, IsTrue, List, [], ◌∷◌, ◌++◌, Option, None, Some, eqb-true, refl, arith, sym, ap, ◌∙◌, subst, and_parts, Call, Parts, other_side, reading, header_of, control_of, unnumbered_of, supervisory_of, distance_of, named, seq, low_bits, is_multiple_frame, Config, terms, heard_side, IsFront, user, network, Station}
+use Rattle.laws_order.proofs.Vocabulary.{◌≡◌, ℕ, ◌<◌, ◌&&◌, ◌==◌, Bool, true, false, IsTrue, List, [], ◌∷◌, ◌++◌, Option, Some, eqb-true, refl, arith, sym, ap, ◌∙◌, subst, and_parts, Call, Parts, other_side, reading, header_of, control_of, unnumbered_of, supervisory_of, distance_of, named, seq, low_bits, is_multiple_frame, Config, terms, heard_side, IsFront, user, network, Station, of_link_at, data_noted, data_granted, link_here, said_by, AreOfStep, HasReceivedOf, FaceInStep, kept_by, Circuit, doing_all, Mixed, establishes}
 use Rattle.lapd_tei.specs.Events as teis
 use Rattle.model_bits.specs.Stream as stream
 use Rattle.model_line.specs.Event as line
@@ -7,17 +7,12 @@ use Rattle.model_line.specs.Machine as lines
 use Rattle.model_card.specs.ports.Card as ports
 use Rattle.model_card.specs.ports.Port as port
 use Rattle.laws_order.specs.Happenings as order
-use Rattle.laws_order.specs.Happenings.{of_link_at}
-use Rattle.laws_order.specs.Order.{data_noted, data_granted, link_here, said_by, AreOfStep, HasReceivedOf, FaceInStep, kept_by}
-use Rattle.laws_order.specs.circuit.Circuit.{Circuit, doing_all}
 use Rattle.laws_order.specs.circuit.Damaged.{Socket, Noisy, Deed, happens, completes, elsewhere, loses, meaning, IsOther, IsFirst, IsPossibleAt, Happening, by_near, by_far, happening, as_station, as_wire, seen_near, seen_far}
 unfoldable use Rattle.laws_order.specs.circuit.Damaged.{ArePossible}
 use Rattle.laws_order.specs.circuit.Mixed as mixed
-use Rattle.laws_order.specs.circuit.Mixed.{Mixed}
 unfoldable use Rattle.laws_order.specs.circuit.Mixed.{ArePossible as mixed_possible}
 use Rattle.laws_order.specs.circuit.WorkedMixed as worked
 use Rattle.laws_order.specs.circuit.WorkedCall as call
-use Rattle.laws_order.specs.circuit.WorkedCall.{establishes}
 use Rattle.laws_order.specs.circuit.WorkedDamaged.{begins, goes_again, far_stays}
 use Rattle.laws_order.proofs.OfCircuit.Damaged.{delivered-though-damaged}
 use Rattle.laws_order.proofs.OfCircuit.Mixed.{delivered-between-kinds}
@@ -30,19 +25,17 @@ use Rattle.laws_order.proofs.OfCircuit.Through as through
 
 abbrev same_octets : List ℕ → List ℕ → Bool
 same_octets [] [] = true
-same_octets [] (y ∷ ys) = false
-same_octets (x ∷ xs) [] = false
 same_octets (x ∷ xs) (y ∷ ys) = (x == y) && same_octets xs ys
+same_octets other any = false
 
 same-octets : (xs ys : List ℕ) → same_octets xs ys ≡ true → xs ≡ ys
 same-octets [] [] e = refl
-same-octets [] (y ∷ ys) e = absurd (cc e)
-same-octets (x ∷ xs) [] e = absurd (cc e)
 same-octets (x ∷ xs) (y ∷ ys) e =
     let both = and_parts (x == y) (same_octets xs ys) e in
     let first : x ≡ y = eqb-true x y both.0 in
     let others : xs ≡ ys = same-octets xs ys both.1 in
     λ i. first i ∷ others i
+same-octets other any e = absurd (cc e)
 
 abbrev is_none : List Parts → Bool
 is_none [] = true
@@ -79,26 +72,16 @@ none-so [] e = refl
 none-so (f ∷ fs) e = absurd (cc e)
 
 other-so : (c : Config) (o : Option line.Event) → is_other c o ≡ true → IsOther Call 0 c o
-other-so c None e = tt
 other-so c (Some (line.hears (stream.frame octets))) e = none-so (of_link_at Call 0 (heard_side c) octets) e
-other-so c (Some (line.hears (stream.overlong octets))) e = tt
-other-so c (Some (line.hears (stream.dropped cause))) e = tt
-other-so c (Some (line.expiry timer)) e = tt
-other-so c (Some (line.request r)) e = tt
-other-so c (Some line.next) e = tt
+other-so c other e = tt
 
 head-so : (octets : List ℕ) (way : List (List ℕ)) → is_head octets way ≡ true → (rest : List (List ℕ)) × (way ≡ octets ∷ rest)
 head-so octets [] e = absurd (cc e)
 head-so octets (f ∷ fs) e = (fs, ap (λ x. x ∷ fs) (same-octets f octets e))
 
 first-so : (o : Option line.Event) (way : List (List ℕ)) → is_first o way ≡ true → IsFirst o way
-first-so None way e = absurd (cc e)
 first-so (Some (line.hears (stream.frame octets))) way e = head-so octets way e
-first-so (Some (line.hears (stream.overlong octets))) way e = absurd (cc e)
-first-so (Some (line.hears (stream.dropped cause))) way e = absurd (cc e)
-first-so (Some (line.expiry timer)) way e = absurd (cc e)
-first-so (Some (line.request r)) way e = absurd (cc e)
-first-so (Some line.next) way e = absurd (cc e)
+first-so other way e = absurd (cc e)
 
 pub at-so : (deed : Deed) (s : Socket) (way : List (List ℕ)) → is_possible_at deed s way ≡ true → IsPossibleAt Call 0 deed s way
 at-so (happens what) s way e = other-so s.card.card.config (meaning what s) e
@@ -186,8 +169,7 @@ are_mixed (mixed.by_octets deed ∷ hs) w = is_possible_at deed w.far w.near.way
 
 act-so : (deed : order.Deed) (s : Station) → is_act deed ≡ true → order.IsPossibleAt Call 0 s deed
 act-so (order.acts act) s e = tt
-act-so (order.disturbed what) s e = absurd (cc e)
-act-so (order.elsewhere other) s e = absurd (cc e)
+act-so other s e = absurd (cc e)
 
 mixed-so : (hs : List mixed.Happening) (w : Mixed) → are_mixed hs w ≡ true → mixed.ArePossible Call 0 hs w
 unfolding mixed_possible are_mixed

@@ -5,8 +5,7 @@ use Rattle.model_bits.specs.Stream as stream
 module _ (n201 : ℕ) where
   abbrev pub HasCome : stream.Event → Type 0
   HasCome (stream.frame octets) = came n201 octets ≡ stream.frame octets
-  HasCome (stream.overlong octets) = Unit {0}
-  HasCome (stream.dropped cause) = Unit {0}
+  HasCome other = Unit {0}
 
   -- ---- between two flags
 

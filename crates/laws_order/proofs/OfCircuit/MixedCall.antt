@@ -1,5 +1,5 @@
 -- What is done between a card of frames and one for octets is, at the card of frames inside, done on a wire of frames.
-use Rattle.laws_order.proofs.Vocabulary.{◌≡◌, ℕ, Bool, true, false, cond, List, [], ◌∷◌, ◌++◌, drop, flat_map, Option, None, Some, option_map, option_to_list, refl, sym, ap, ◌∙◌, subst, append-nil, All, All-nil, All-cons, All-head, All-tail, All-append, Service, other_side, Config, answer_to, is_due, Station, Wire, CanCall, calling, calls-come-through, twice-other, doing-append}
+use Rattle.laws_order.proofs.Vocabulary.{◌≡◌, ℕ, Bool, true, false, cond, List, [], ◌∷◌, ◌++◌, drop, flat_map, Option, None, Some, option_map, option_to_list, refl, sym, ap, ◌∙◌, subst, append-nil, All, All-nil, All-cons, All-head, All-tail, All-append, Service, other_side, Config, answer_to, is_due, Station, Wire, CanCall, calling, calls-come-through, twice-other, doing-append, IsCall}
 use Rattle.model_bits.specs.Stream as stream
 use Rattle.model_line.specs.Event as line
 use Rattle.model_line.specs.Request.{Establish, Assign}
@@ -7,7 +7,6 @@ use Rattle.model_card.specs.Event as frame_events
 unfoldable use Rattle.model_card.specs.ports.Card.{meant}
 use Rattle.model_card.specs.ports.Port as port
 use Rattle.laws_wire.specs.Call as call
-use Rattle.laws_wire.specs.Call.{IsCallOf, IsCall}
 use Rattle.laws_wire.specs.Wire as frames
 unfoldable use Rattle.laws_wire.specs.Wire.{doing_all as frames_done}
 use Rattle.laws_order.specs.circuit.Circuit.{Termination, port_of, happens}
@@ -36,10 +35,7 @@ module _ (service : Service) (tei : ℕ) where
 
   frames-led : (act : frames.Act) (w : Pair) → frames.acting act (as_wire w) ≡ as_wire (doing (by_frames act) w)
   frames-led (frames.requests r) w = refl
-  frames-led (frames.times_out timer) w = refl
-  frames-led frames.gives w = refl
-  frames-led frames.takes w = refl
-  frames-led frames.loses w = refl
+  frames-led other w = refl
 
   -- ---- at the card for octets
 
@@ -87,11 +83,7 @@ module _ (service : Service) (tei : ℕ) where
           one-led (as_wire w) (as_wire (doing (hears value) w)) (frames.at_far frames.takes) tt
           (ap (λ fs. ends (record w.near { way = drop 1 w.near.way }) (frames.with_first_of fs x)) whole.1
           ∙ ap (λ h. ends (record w.near { way = drop 1 w.near.way }) (frames.happens (line.hears h) x)) same ∙ sym (there (Some f) e))
-      go (Some (line.hears (stream.overlong octets))) e whole comes = absurd whole
-      go (Some (line.hears (stream.dropped cause))) e whole comes = absurd whole
-      go (Some (line.expiry timer)) e whole comes = absurd whole
-      go (Some (line.request r)) e whole comes = absurd whole
-      go (Some line.next) e whole comes = absurd whole
+      go other e whole comes = absurd whole
 
   -- ---- one thing, and all
 

@@ -1,26 +1,22 @@
 -- Pulls and hearings alone: how often each is done at either end, and that they are what is done in a call.
-use Rattle.laws_order.proofs.Vocabulary.{ℕ, ◌+◌, List, [], ◌∷◌, All, All-cons, All-head, All-nil, All-tail, Service}
+use Rattle.laws_order.proofs.Vocabulary.{ℕ, ◌+◌, List, [], ◌∷◌, All, All-cons, All-head, All-nil, All-tail, Service, IsTalkOf, IsTalk}
 use Rattle.laws_order.specs.circuit.Circuit.{OctetAct, asks, pulls, hears, OctetDoing, at_near, at_far}
-use Rattle.laws_order.specs.circuit.Through.{IsTalkOf, IsTalk}
 
 abbrev pub IsMuteOf : OctetAct → Type 0
 IsMuteOf (asks r) = ⊥
-IsMuteOf pulls = Unit {0}
-IsMuteOf hears = Unit {0}
+IsMuteOf other = Unit {0}
 
 abbrev pub IsMute : OctetDoing → Type 0
 IsMute (at_near act) = IsMuteOf act
 IsMute (at_far act) = IsMuteOf act
 
 abbrev pub one_pull : OctetAct → ℕ
-one_pull (asks r) = 0
 one_pull pulls = 1
-one_pull hears = 0
+one_pull other = 0
 
 abbrev pub one_hearing : OctetAct → ℕ
-one_hearing (asks r) = 0
-one_hearing pulls = 0
 one_hearing hears = 1
+one_hearing other = 0
 
 -- how often something is done at either end
 abbrev pub count_near : (OctetAct → ℕ) → List OctetDoing → ℕ
@@ -35,8 +31,7 @@ count_far one (at_far act ∷ ds) = one act + count_far one ds
 
 mute-talk-of : (service : Service) (tei : ℕ) (act : OctetAct) → IsMuteOf act → IsTalkOf service tei act
 mute-talk-of service tei (asks r) h = absurd h
-mute-talk-of service tei pulls h = tt
-mute-talk-of service tei hears h = tt
+mute-talk-of service tei other h = tt
 
 pub mute-talk : (service : Service) (tei : ℕ) (x : OctetDoing) → IsMute x → IsTalk service tei x
 mute-talk service tei (at_near act) h = mute-talk-of service tei act h

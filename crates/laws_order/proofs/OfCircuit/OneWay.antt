@@ -1,26 +1,13 @@
 -- One direction of a circuit: the octets that an end gave, those of them that the other has heard, and the frames on their way.
-use Rattle.laws_order.proofs.Vocabulary.{◌≡◌, ℕ, ◌+◌, ◌≤◌, ◌⊎◌, ◌%◌, ◌&&◌, ◌||◌, inl, inr, false, cond, not, nat_eq, nat_lt, List, [], ◌∷◌, ◌++◌, length, map, take, slice_index, None, Some, option_to_list, refl, sym, ap, ◌∙◌, subst, arith, append-nil, append_assoc, All, le-ltb, ne_eqb, append_cancel_left, map-append, All-append, All-cons, All-head, All-nil, All-tail, item_octets, Item, idle, heard_in, AreOctets, came, IsNotShort, frames_among, GoOut, Port, gained, left_of, IsSoundPort, sent, same_text, frames_sent, cut_sent, heard_whole, all_exact, heard_with, IsLongItem, IsOnItsWay, go_out, all_out, all-right}
+use Rattle.laws_order.proofs.Vocabulary.{◌≡◌, ℕ, ◌+◌, ◌≤◌, List, [], ◌∷◌, ◌++◌, map, None, Some, option_to_list, refl, sym, ap, ◌∙◌, subst, append-nil, append_assoc, All, append_cancel_left, map-append, All-append, All-cons, All-head, All-nil, All-tail, item_octets, Item, idle, heard_in, AreOctets, came, frames_among, GoOut, Port, gained, left_of, IsSoundPort, sent, same_text, frames_sent, cut_sent, heard_whole, all_exact, heard_with, IsLongItem, IsOnItsWay, go_out, all_out, all-right}
 use Rattle.model_bits.specs.Sent.{frame}
+use Rattle.laws_wire.proofs.Spelled.{came-whole}
 use Rattle.model_bits.specs.Stream as stream
-use Rattle.model_bits.specs.declared.heard.Cause.TheVariants as cause
 
 -- ---- a frame comes as it is
 
-not-three : (n : ℕ) → 4 ≤ n → nat_eq n 3 ≡ false
-not-three n h = ne_eqb n 3 (λ e. absurd (omega (arith, e, h)))
-
-by-length : (n rest : ℕ) → (4 ≤ n) ⊎ ((n ≡ 3) × (rest ≡ 3)) → (nat_lt n 3 || (nat_eq n 3 && not (nat_eq rest 3))) ≡ false
-by-length n rest (inl long) = ap (λ b. b || (nat_eq n 3 && not (nat_eq rest 3))) (le-ltb n 3 (omega (arith, long))) ∙ ap (λ b. b && not (nat_eq rest 3)) (not-three n long)
-by-length n rest (inr h) = ap (λ n. nat_lt n 3 || (nat_eq n 3 && not (nat_eq rest 3))) h.0 ∙ ap (λ r. not (nat_eq r 3)) h.1
-
 abbrev IsWhole : ℕ → List ℕ → Type 0
 IsWhole n201 octets = came n201 octets ≡ stream.frame octets
-
-came-whole : (n201 : ℕ) (octets : List ℕ) → IsNotShort octets → length octets ≤ n201 + 4 → IsWhole n201 octets
-came-whole n201 octets long few =
-    ap (λ b. cond b (stream.dropped cause.Short) (cond (nat_lt (n201 + 4) (length octets)) (stream.overlong (take 4 octets)) (stream.frame octets)))
-    (by-length (length octets) (slice_index octets 2 % 4) long)
-    ∙ ap (λ b. cond b (stream.overlong (take 4 octets)) (stream.frame octets)) (le-ltb (n201 + 4) (length octets) few)
 
 all-whole : (n201 : ℕ) (items : List Item) → All IsLongItem items → All (λ item. item_octets item ≤ n201 + 4) items → All (IsWhole n201) (frames_among items)
 all-whole n201 [] long short = All-nil (IsWhole n201)
@@ -37,8 +24,7 @@ framed frames = map (λ octets. stream.frame octets) frames
 
 abbrev IsWholeEvent : ℕ → stream.Event → Type 0
 IsWholeEvent n201 (stream.frame octets) = IsWhole n201 octets
-IsWholeEvent n201 (stream.overlong octets) = Unit {0}
-IsWholeEvent n201 (stream.dropped cause) = Unit {0}
+IsWholeEvent n201 other = Unit {0}
 
 whole-framed : (n201 : ℕ) (frames : List (List ℕ)) → All (IsWhole n201) frames → All (IsWholeEvent n201) (framed frames)
 whole-framed n201 [] h = All-nil (IsWholeEvent n201)

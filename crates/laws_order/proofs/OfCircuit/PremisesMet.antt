@@ -1,5 +1,5 @@
 -- The premises of the laws are met by the worked call: all has gone behind it, so layer 3 of each was told all.
-use Rattle.laws_order.proofs.Vocabulary.{◌≡◌, Bool, true, false, List, [], ◌∷◌, ◌++◌, ◌&&◌, ◌<◌, None, refl, ap, arith, All, and_parts, All-append, All-cons, All-nil, Call, reading, header_of, control_of, unnumbered_of, supervisory_of, distance_of, named, seq, low_bits, Item, idle, AreOctets, next, gave, CanCall, user, network}
+use Rattle.laws_order.proofs.Vocabulary.{◌≡◌, Bool, true, false, List, [], ◌∷◌, ◌++◌, ◌&&◌, ◌<◌, None, refl, ap, arith, All, and_parts, All-append, All-cons, All-nil, Call, reading, header_of, control_of, unnumbered_of, supervisory_of, distance_of, named, seq, low_bits, Item, idle, AreOctets, next, gave, CanCall, user, network, IsCall, calling, Circuit, OctetAct, asks, OctetDoing, at_near, at_far, doing_all, port_of, IsTalkOf, IsTalk, both_call, HasAllGone, IsToldAll, begins, establishes, goes_on, sends}
 use Rattle.lapd_tei.specs.Events as teis
 use Rattle.model_bits.specs.Sent.{frame}
 use Rattle.model_line.specs.Machine as lines
@@ -7,15 +7,11 @@ use Rattle.model_line.specs.Request.{Data}
 use Rattle.model_card.specs.Event as frames
 use Rattle.model_card.specs.Machine as machine
 use Rattle.model_card.specs.ports.Card as ports
-use Rattle.laws_wire.specs.Call.{IsCall, calling}
 use Rattle.laws_wire.specs.Wire as wire
 use Rattle.laws_order.specs.circuit.MixedCall as mixed
 use Rattle.laws_order.specs.circuit.MixedCall.{IsThrough}
 use Rattle.laws_order.specs.circuit.WorkedMixed.{call_begins, talks, are_talk}
 use Rattle.laws_order.proofs.OfCircuit.MixedCall.{calls-are-of-frames, calls-come-through-between-kinds}
-use Rattle.laws_order.specs.circuit.Circuit.{Circuit, OctetAct, asks, pulls, hears, OctetDoing, at_near, at_far, doing_all, port_of}
-use Rattle.laws_order.specs.circuit.Through.{IsTalkOf, IsTalk, both_call, HasAllGone, IsToldAll}
-use Rattle.laws_order.specs.circuit.WorkedCall.{begins, establishes, goes_on, sends}
 use Rattle.laws_order.proofs.OfCircuit.Through.{calls-come-through-in-octets}
 
 pub can : CanCall user 0 network 0 0
@@ -80,8 +76,7 @@ gone =
 -- what is done in it
 abbrev mute : OctetAct → Bool
 mute (asks r) = false
-mute pulls = true
-mute hears = true
+mute other = true
 
 abbrev are_mute : List OctetDoing → Bool
 are_mute [] = true
@@ -90,8 +85,7 @@ are_mute (at_far act ∷ ds) = mute act && are_mute ds
 
 mute-talk : (act : OctetAct) → mute act ≡ true → IsTalkOf Call 0 act
 mute-talk (asks r) e = absurd (cc e)
-mute-talk pulls e = tt
-mute-talk hears e = tt
+mute-talk other e = tt
 
 pub by-mutes : (ds : List OctetDoing) → are_mute ds ≡ true → All (IsTalk Call 0) ds
 by-mutes [] e = All-nil (IsTalk Call 0)

@@ -1,11 +1,9 @@
 -- What is done on a circuit of octets is, at the cards of frames inside, done on a wire of frames.
-use Rattle.laws_order.proofs.Vocabulary.{◌≡◌, ℕ, ◌<◌, Bool, true, false, cond, List, [], ◌∷◌, ◌++◌, length, drop, Option, None, Some, is_some, option_map, option_to_list, refl, sym, ap, ◌∙◌, subst, append-nil, All, option_map_or, get_or-set_same, All-append, All-cons, All-head, All-nil, All-tail, Service, AreOctets, Config, came, NextFrame, said, answer_to, frames_among, octet_pulled, Port, fresh_port, answer_of, gained, given_in, is_due, item_of, next_octet, with_item, with_octet, IsSoundPort, contents_given, Station, Wire, doing-append}
+use Rattle.laws_order.proofs.Vocabulary.{◌≡◌, ℕ, ◌<◌, Bool, true, false, cond, List, [], ◌∷◌, ◌++◌, length, drop, Option, None, Some, is_some, option_map, option_to_list, refl, sym, ap, ◌∙◌, subst, append-nil, All, option_map_or, get_or-set_same, All-append, All-cons, All-head, All-nil, All-tail, Service, AreOctets, Config, came, NextFrame, said, answer_to, frames_among, octet_pulled, Port, fresh_port, answer_of, gained, given_in, is_due, item_of, next_octet, with_item, with_octet, IsSoundPort, contents_given, Station, Wire, doing-append, Request, IsInRange, IsTalkOf, IsTalk, IsAsked}
 use Rattle.model_bits.specs.Stream as stream
 use Rattle.model_line.specs.Event as line
 unfoldable use Rattle.model_line.specs.Machine.{answer as line_answer, takes_slot}
 use Rattle.model_line.specs.Request as asked
-use Rattle.model_line.specs.Request.{Request}
-use Rattle.model_line.specs.Sound.{IsInRange}
 use Rattle.model_card.specs.Event as frames
 use Rattle.model_card.specs.Machine as machine
 unfoldable use Rattle.model_card.specs.ports.Card.{after, answer, meant}
@@ -16,7 +14,6 @@ use Rattle.laws_wire.specs.Wire as wire
 unfoldable use Rattle.laws_wire.specs.Wire.{doing_all as frames_done}
 use Rattle.laws_order.specs.circuit.Circuit.{Termination, port_of, happens, with_first_of, Circuit, OctetAct, asks, pulls, hears, OctetDoing, at_near, at_far, acting, turned, doing}
 unfoldable use Rattle.laws_order.specs.circuit.Circuit.{doing_all}
-use Rattle.laws_order.specs.circuit.Through.{IsTalkOf, IsTalk, IsAsked}
 use Rattle.laws_order.proofs.OfCircuit.AsFrames.{as_station, meaning, if_meant, heard-as, asked-as, pulled-as}
 use Rattle.laws_order.proofs.OfCircuit.OneWay.{Carries, one-given, one-put, none-heard, one-heard}
 use Rattle.laws_order.proofs.OfCircuit.Ran.{Ran, goes-on, on-way, config, within-ports, sound-port, on-line, gives-octets}
@@ -81,28 +78,12 @@ same-received (Some a) p = refl
 asked-octets : (service : Service) (tei : ℕ) (r : Request) → IsAsked service tei r → AreOctets (contents_given r)
 asked-octets service tei (asked.Data s t contents) is = is.2
 asked-octets service tei (asked.Establish s t) is = All-nil (λ octet. octet < 256)
-asked-octets service tei (asked.Release s t) is = absurd is
-asked-octets service tei (asked.Unit s t contents) is = absurd is
-asked-octets service tei (asked.Assign t) is = absurd is
-asked-octets service tei (asked.Remove t) is = absurd is
-asked-octets service tei (asked.Check t) is = absurd is
-asked-octets service tei (asked.SetBusy s t) is = absurd is
-asked-octets service tei (asked.ClearBusy s t) is = absurd is
-asked-octets service tei (asked.Deactivate s t) is = absurd is
-asked-octets service tei asked.Down is = absurd is
+asked-octets service tei other is = absurd is
 
 asked-there : (service : Service) (tei : ℕ) (r : Request) → IsAsked service tei r → call.IsCallOf service tei (wire.requests r)
 asked-there service tei (asked.Data s t contents) is = (is.0, is.1)
 asked-there service tei (asked.Establish s t) is = is
-asked-there service tei (asked.Release s t) is = absurd is
-asked-there service tei (asked.Unit s t contents) is = absurd is
-asked-there service tei (asked.Assign t) is = absurd is
-asked-there service tei (asked.Remove t) is = absurd is
-asked-there service tei (asked.Check t) is = absurd is
-asked-there service tei (asked.SetBusy s t) is = absurd is
-asked-there service tei (asked.ClearBusy s t) is = absurd is
-asked-there service tei (asked.Deactivate s t) is = absurd is
-asked-there service tei asked.Down is = absurd is
+asked-there service tei other is = absurd is
 
 abbrev AreTalks : Service → ℕ → List wire.Act → Type 0
 AreTalks service tei acts = All (call.IsCallOf service tei) acts

@@ -1,10 +1,9 @@
 -- What a run keeps at one end of a circuit.
-use Rattle.laws_order.proofs.Vocabulary.{◌≡◌, ℕ, ◌<◌, ◌≤◌, ◌==◌, Bool, true, false, cond, List, [], ◌∷◌, ◌++◌, length, append_assoc, Option, None, Some, option_map, option_to_list, refl, sym, ap, ◌∙◌, subst, arith, append-nil, eq-eqb, All, All-append, All-cons, All-head, All-nil, AreOctets, Config, NextFrame, OctetCard, port_at, gained, is_due, left_of, longest_text, IsAtLine, AreAtLines, IsSoundPort, meant_at_lines, refined_card, on_its_way, heard_frames_are_octets, IsOnItsWay, pulls_are_takes, always_sound, fresh_octets_sound, port_sound, config_stays, moments-append, all-right, contents_given, HasOctets, GivesOctets, seen, seen_told, trace, trace_of, frames_begun, frames-are-octets}
+use Rattle.laws_order.proofs.Vocabulary.{◌≡◌, ℕ, ◌<◌, ◌≤◌, ◌==◌, Bool, true, false, cond, List, [], ◌∷◌, ◌++◌, length, append_assoc, Option, None, Some, option_map, option_to_list, refl, sym, ap, ◌∙◌, subst, arith, append-nil, eq-eqb, All, All-append, All-cons, All-head, All-nil, AreOctets, Config, NextFrame, OctetCard, port_at, gained, is_due, left_of, longest_text, IsAtLine, AreAtLines, IsSoundPort, meant_at_lines, refined_card, on_its_way, heard_frames_are_octets, IsOnItsWay, pulls_are_takes, always_sound, fresh_octets_sound, port_sound, config_stays, moments-append, all-right, contents_given, HasOctets, GivesOctets, seen, seen_told, trace, trace_of, frames_begun, frames-are-octets, IsInRange}
 use Rattle.std.proofs.lemmas.Grind.{flat_map-append}
 use Rattle.model_bits.specs.Stream as stream
 use Rattle.model_line.specs.Event as line
 use Rattle.model_line.specs.Request as asked
-use Rattle.model_line.specs.Sound.{IsInRange}
 use Rattle.model_card.specs.Card as cards
 use Rattle.model_card.specs.Event as frames
 use Rattle.model_card.specs.Machine as machine
@@ -45,21 +44,17 @@ trace-more c fs gs number =
 
 -- What layer 3 asks to send are octets; and what a line hears, too.
 abbrev pub AsksOctets : port.Event → Type 0
-AsksOctets (port.octet value) = Unit {0}
-AsksOctets (port.expiry timer) = Unit {0}
 AsksOctets (port.request r) = AreOctets (contents_given r)
-AsksOctets port.pull = Unit {0}
+AsksOctets other = Unit {0}
 
 abbrev IsExact : line.Event → Type 0
 IsExact (line.hears e) = HasOctets e
-IsExact (line.expiry timer) = Unit {0}
 IsExact (line.request r) = AreOctets (contents_given r)
-IsExact line.next = Unit {0}
+IsExact other = Unit {0}
 
 same-octets : (e : stream.Event) → ports.HasOctets e → HasOctets e
 same-octets (stream.frame octets) h = h
-same-octets (stream.overlong octets) h = tt
-same-octets (stream.dropped cause) h = tt
+same-octets other h = tt
 
 heard-exact : (number : ℕ) (o : Option stream.Event) → All (λ (e : frames.Event). ports.HearsOctets e.what) (option_to_list (option_map (frames.at number) (option_map line.hears o)) ++ [])
     → All IsExact (option_to_list (option_map line.hears o))
@@ -81,19 +76,15 @@ meaning-exact m number port.pull h = next-exact (is_due (port_at number m))
 
 told-exact : (a : line.Answer) → All GivesOctets (seen_told a)
 told-exact (line.told t) = All-cons GivesOctets (traces.noted t.notes t.contents) (traces.lost t.lost ∷ []) tt (All-cons GivesOctets (traces.lost t.lost) [] tt (All-nil GivesOctets))
-told-exact (line.refused why) = All-nil GivesOctets
-told-exact (line.gave given) = All-nil GivesOctets
+told-exact other = All-nil GivesOctets
 
 granted-exact : (r : asked.Request) (a : line.Answer) → AreOctets (contents_given r) → All GivesOctets (traces.seen_granted r a)
 granted-exact r (line.told t) h = All-cons GivesOctets (traces.granted r) [] h (All-nil GivesOctets)
-granted-exact r (line.refused why) h = All-nil GivesOctets
-granted-exact r (line.gave given) h = All-nil GivesOctets
+granted-exact r other h = All-nil GivesOctets
 
 begun-exact : (a : line.Answer) → All GivesOctets (seen line.next a)
-begun-exact (line.told t) = All-nil GivesOctets
-begun-exact (line.refused why) = All-nil GivesOctets
-begun-exact (line.gave None) = All-nil GivesOctets
 begun-exact (line.gave (Some f)) = All-cons GivesOctets (begun f.octets) [] tt (All-nil GivesOctets)
+begun-exact other = All-nil GivesOctets
 
 seen-exact : (f : line.Event) (a : line.Answer) → IsExact f → All GivesOctets (seen f a)
 seen-exact (line.hears e) a h = All-cons GivesOctets (traces.heard e) (seen_told a) h (told-exact a)

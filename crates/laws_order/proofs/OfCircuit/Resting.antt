@@ -1,9 +1,6 @@
 -- Two cards that face each other as a call leaves them are at rest.
-use Rattle.laws_order.proofs.Vocabulary.{◌≡◌, ℕ, List, [], ◌++◌, map, refl, sym, ap, subst, arith, All, Service, frame_of, is_multiple_frame, Config, terms, IsReady, IsTaken, CanCall, Face, end_of, Station, IsStill, calls-face}
-use Rattle.laws_order.specs.Order.{of_link_on, link_here, said_by, AreOfStep, HasReceivedOf}
-use Rattle.laws_order.specs.circuit.Circuit.{Circuit, OctetDoing}
+use Rattle.laws_order.proofs.Vocabulary.{◌≡◌, ℕ, List, [], ◌++◌, map, refl, sym, ap, subst, arith, All, Service, frame_of, is_multiple_frame, Config, terms, IsReady, IsTaken, CanCall, Face, end_of, Station, IsStill, calls-face, of_link_on, link_here, said_by, AreOfStep, HasReceivedOf, Circuit, OctetDoing, IsTalk, HasAllGone}
 use Rattle.laws_order.specs.circuit.Resting.{CallsComeToRest}
-use Rattle.laws_order.specs.circuit.Through.{IsTalk, HasAllGone}
 use Rattle.laws_order.proofs.OfCircuit.AsFrames.{as_station}
 use Rattle.laws_order.proofs.OfCircuit.Projected.{as_wire, doings_meant}
 use Rattle.laws_order.proofs.OfCircuit.Through as through

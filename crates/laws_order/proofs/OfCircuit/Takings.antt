@@ -7,10 +7,7 @@ unfoldable use Rattle.laws_wire.specs.Wire.{doing_all, turns}
 
 abbrev pub is_taking_of : Act → Wire → Bool
 is_taking_of wire.takes f = is_any f.far.way
-is_taking_of (wire.requests r) f = false
-is_taking_of (wire.times_out timer) f = false
-is_taking_of wire.gives f = false
-is_taking_of wire.loses f = false
+is_taking_of other f = false
 
 abbrev pub is_taking : Doing → Wire → Bool
 is_taking (wire.at_near act) f = is_taking_of act f
@@ -58,8 +55,7 @@ module _ (service : Service) (tei : ℕ) where
       let few = one-frame a in
       record { paid = omega (arith, sum, few) }
   act-paid wire.takes is f = let same = ap length (first-way f.far.way f.near) in let less = one-less f.far.way in record { paid = omega (arith, same, less) }
-  act-paid (wire.times_out timer) is f = absurd is
-  act-paid wire.loses is f = absurd is
+  act-paid other is f = absurd is
 
   swapped : (t k x y x' y' : ℕ) → 2 * t + (y' + x') ≤ k + (y + x) → 2 * t + (x' + y') ≤ k + (x + y)
   swapped t k x y x' y' h = omega (arith, h)

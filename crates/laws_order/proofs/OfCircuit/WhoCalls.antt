@@ -1,8 +1,7 @@
 -- Who calls on a circuit, calls on the wire of frames.
-use Rattle.laws_order.proofs.Vocabulary.{◌≡◌, ℕ, Bool, true, false, ◌||◌, cond, List, [], ◌∷◌, ◌++◌, Option, None, Some, is_some, option_map, option_to_list, refl, sym, ap, ◌∙◌, All, All-head, All-tail, Service, Config, gained, is_due, Wire}
+use Rattle.laws_order.proofs.Vocabulary.{◌≡◌, ℕ, Bool, true, false, ◌||◌, cond, List, [], ◌∷◌, ◌++◌, Option, None, Some, is_some, option_map, option_to_list, refl, sym, ap, ◌∙◌, All, All-head, All-tail, Service, Config, gained, is_due, Wire, Request}
 use Rattle.model_line.specs.Event as line
 use Rattle.model_line.specs.Request as asked
-use Rattle.model_line.specs.Request.{Request}
 use Rattle.model_card.specs.ports.Port as port
 use Rattle.laws_line.specs.Share as share
 use Rattle.laws_wire.specs.Call as call
@@ -15,23 +14,15 @@ unfoldable use Rattle.laws_order.specs.circuit.Through.{both_call}
 use Rattle.laws_order.proofs.OfCircuit.AsFrames.{granted-as}
 use Rattle.laws_order.proofs.OfCircuit.Projected.{as_wire, hearing_means, act_meant, doing_meant, Fits, Follows, one-done}
 unfoldable use Rattle.laws_order.proofs.OfCircuit.Projected.{doings_meant}
+use Rattle.laws_wire.proofs.Run.{or-both}
 
-or-none : (b : Bool) → (b || false) ≡ b
+pub or-none : (b : Bool) → (b || false) ≡ b
 or-none true = refl
 or-none false = refl
 
 none-far : (r : Request) (w : Circuit) (f : Wire) → is_granted (answered (port.request r) w.far) ≡ share.is_granted (wire.answered (line.request r) f.far) → call.calls_back (wire.at_far (wire.requests r)) f ≡ calls_back (at_far (asks r)) w
 none-far (asked.Establish s t) w f same = sym same
-none-far (asked.Data s t contents) w f same = refl
-none-far (asked.Release s t) w f same = refl
-none-far (asked.Unit s t contents) w f same = refl
-none-far (asked.Assign t) w f same = refl
-none-far (asked.Remove t) w f same = refl
-none-far (asked.Check t) w f same = refl
-none-far (asked.SetBusy s t) w f same = refl
-none-far (asked.ClearBusy s t) w f same = refl
-none-far (asked.Deactivate s t) w f same = refl
-none-far asked.Down w f same = refl
+none-far other w f same = refl
 
 one-near : (o : Option wire.Act) (f : Wire) → call.both_call (option_to_list (option_map wire.at_near o)) f ≡ false
 unfolding frames_both
@@ -59,10 +50,6 @@ one-calls (at_near act) w there back = one-near (act_meant act w) (as_wire there
 one-calls (at_far (asks r)) w there back = or-none (call.calls_back (wire.at_far (wire.requests r)) (as_wire there back w)) ∙ none-far r w (as_wire there back w) (granted-as r w.far back)
 one-calls (at_far pulls) w there back = pulls-far (is_due (port_of w.far)) (as_wire there back w)
 one-calls (at_far hears) w there back = hears-far w.near.way w.far (as_wire there back w)
-
-or-both : (a b c : Bool) → ((a || b) || c) ≡ (a || (b || c))
-or-both true b c = refl
-or-both false b c = refl
 
 both-append : (ds es : List wire.Doing) (f : Wire) → call.both_call (ds ++ es) f ≡ (call.both_call ds f || call.both_call es (wire.doing_all ds f))
 unfolding frames_both frames_done

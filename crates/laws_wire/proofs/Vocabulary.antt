@@ -132,7 +132,7 @@ pub use Rattle.model_link.specs.declared.states.State.TheVariants.{AwaitingEstab
 pub use Rattle.model_link.specs.declared.terms.Terms.{Terms}
 pub use Rattle.model_link.specs.declared.timers.LinkTimer.{LinkTimer}
 pub use Rattle.model_link.specs.declared.timers.LinkTimer.TheVariants.{T200, T203}
-pub use Rattle.laws_wire.specs.Answering.{IsAsked, IsFullTalk, IsFullTalkOf, Rests, calls, error_f}
+pub use Rattle.laws_wire.specs.Answering.{IsAsked, IsFullTalk, IsFullTalkOf, Rests, error_f}
 unfoldable pub use Rattle.laws_wire.specs.Answering.{StayPatient}
 pub use Rattle.laws_wire.specs.Arriving.{ArrivesInRounds, ArrivesUnderTraffic, HasCome, LosesNothing, far_asks, frames_left, is_t200, most_left, near_asks, notes_left, runs_t200}
 unfoldable pub use Rattle.laws_wire.specs.Arriving.{ever}

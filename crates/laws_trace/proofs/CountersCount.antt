@@ -1,7 +1,6 @@
 -- Counters count what is seen: the law.
-use Rattle.laws_trace.proofs.Vocabulary.{◌≡◌, ℕ, ◌+◌, ◌<◌, ◌==◌, Bool, true, false, cond, List, [], ◌∷◌, ◌++◌, map, Option, Some, None, refl, sym, ap, ◌∙◌, arith, true≢false, ◌⊎◌, inl, inr, append-nil, flat_map, flat_map-append, sum_by-append, Cause, Counter, Frames, Octets, Polls, Overlong, Dropped, Errors, EstablishIndications, EstablishConfirms, ReleaseIndications, ReleaseConfirms, Units, Xids, Assigned, Lost, Messages, Heard, Begun, Kind, More, place, cause_place, amount_of, amount_in, kind_place, heard_shown, note_shown, drop_shown, lost_shown, Side, Config, shown, told_in_answer, given_shown, Answer, refused, gave, Card, all_shown, moments}
+use Rattle.laws_trace.proofs.Vocabulary.{◌≡◌, ℕ, ◌+◌, ◌<◌, ◌==◌, Bool, true, false, cond, List, [], ◌∷◌, ◌++◌, map, Option, Some, None, refl, sym, ap, ◌∙◌, arith, true≢false, ◌⊎◌, inl, inr, append-nil, flat_map, flat_map-append, sum_by-append, Cause, Counter, Frames, Octets, Polls, Overlong, Dropped, Messages, Heard, Begun, Kind, More, place, cause_place, amount_of, amount_in, kind_place, heard_shown, note_shown, drop_shown, lost_shown, Side, Config, shown, told_in_answer, given_shown, Answer, gave, Card, all_shown, moments}
 use Rattle.std.proofs.Common.{eqb-true}
-use Rattle.lapd_count.specs.declared.counter.Counter.TheVariants.{Data, Removed, Doubled}
 use Rattle.model_line.specs.Event as line_event
 use Rattle.model_line.specs.Event.{told}
 use Rattle.model_card.specs.Card.{fresh}
@@ -26,20 +25,9 @@ outside (Polls Heard) other = inl (omega arith)
 outside (Polls Begun) other = inl (omega arith)
 outside Overlong other = inl (omega arith)
 outside (Dropped cause) other = absurd (true≢false other)
-outside (Errors code) other = inr (omega arith)
-outside EstablishIndications other = inr (omega arith)
-outside EstablishConfirms other = inr (omega arith)
-outside ReleaseIndications other = inr (omega arith)
-outside ReleaseConfirms other = inr (omega arith)
-outside Data other = inr (omega arith)
-outside Units other = inr (omega arith)
-outside Xids other = inr (omega arith)
-outside Assigned other = inr (omega arith)
-outside Removed other = inr (omega arith)
-outside Doubled other = inr (omega arith)
-outside Lost other = inr (omega arith)
 outside (Messages Heard message) other = inr (omega arith)
 outside (Messages Begun message) other = inr (omega arith)
+outside any other = inr (omega arith)
 
 module _ (counter : Counter) (other : is_drop counter ≡ false) where
   abbrev amount : List More → ℕ
@@ -72,8 +60,7 @@ module _ (counter : Counter) (other : is_drop counter ≡ false) where
         both (notes ++ drop_shown t.cause) (lost_shown t.lost)
         ∙ ap (λ n. n + amount (lost_shown t.lost)) (both notes (drop_shown t.cause) ∙ dropped)
         ∙ sym (both notes (lost_shown t.lost ++ []) ∙ ap (λ xs. amount notes + amount xs) (append-nil (lost_shown t.lost)))
-    of-told (refused why) = refl
-    of-told (gave frame) = refl
+    of-told other = refl
 
     joined : (xs ys : List More) (t u : List Seen) → Same xs t → Same ys u → Same (xs ++ ys) (t ++ u)
     joined xs ys t u one two =
@@ -89,12 +76,8 @@ module _ (counter : Counter) (other : is_drop counter ≡ false) where
       (alone c.side (heard_shown c.side (Some what)) (heard what) refl) (of-told c.side a)
   of-event c (line_event.expiry timer) a = of-told c.side a
   of-event c (line_event.request r) (told t) = of-told c.side (told t)
-  of-event c (line_event.request r) (refused why) = refl
-  of-event c (line_event.request r) (gave frame) = refl
-  of-event c line_event.next (told t) = refl
-  of-event c line_event.next (refused why) = refl
-  of-event c line_event.next (gave None) = refl
   of-event c line_event.next (gave (Some f)) = alone c.side (given_shown c (gave (Some f))) (begun f.octets) refl
+  of-event c other any = refl
 
   at-line : (c : Config) (e : line_event.Event) (a : Answer) (b : Bool) → Same c.side (cond b (shown c e a) []) (cond b (seen e a) [])
   at-line c e a true = of-event c e a

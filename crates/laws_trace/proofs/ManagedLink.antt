@@ -76,8 +76,6 @@ module _ (c : Config) (l : Line) (s : IsSound c l) (service : Service) (tei : â„
     own-start-none = management-starts-none service tei (is_some l.management.check) own_orders (is_some m.check) (t201_follows me l.management)
 
     pub starts-none : (o : Option Change) â†’ StartNone service tei (of_change c o (told_of_management (teis.told me l.management)) (record l { management = m })).told.orders
-    starts-none None = own-start-none
-    starts-none (Some (Gained by place)) = own-start-none
     starts-none (Some (Left by place)) =
         let at = record l { management = m } in
         let call = of_link c Call by place link.cleared at in
@@ -87,6 +85,7 @@ module _ (c : Config) (l : Line) (s : IsSound c l) (service : Service) (tei : â„
         let second = (links.told (terms c Packet by) link.cleared y).orders in
         two-start-none service tei (first ++ second) own_orders
         (two-start-none service tei first second (cleared-starts-none (terms c Call by) x service tei) (cleared-starts-none (terms c Packet by) y service tei)) own-start-none
+    starts-none other = own-start-none
 
     pub managed : Stays (teis.told me l.management).change
     managed = by-change (teis.told me l.management).change (tei_lemmas.changes_are_told me l.management fits s.management)

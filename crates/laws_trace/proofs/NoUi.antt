@@ -1,8 +1,7 @@
 -- No UI waits on a link: what a link gives is no unit data.
-use Rattle.laws_trace.proofs.Vocabulary.{◌≡◌, ℕ, ◌+◌, ◌&&◌, ◌||◌, Bool, true, false, cond, List, [], ◌∷◌, take, refl, All, not, All-nil, All-cons, All-append, All-take, All-drop, Information, ReceiveReady, ReceiveNotReady, Reject, Sabme, Disc, Ui, Ua, Dm, Frmr, State, TeiAssigned, AwaitingEstablishment, AwaitingRelease, Established, TimerRecovery, ControlFrame, Terms, Link, is_multiple_frame, undefined, wrong_size, overlong, received, expired, requested, offer, cleared, moves, receipt_as, is_next, is_taken, to_information, to_supervisory, to_sabme, to_disc, answers_up, answers_to, answers, command_in, is_time, commands, put, behind, waiting_left}
+use Rattle.laws_trace.proofs.Vocabulary.{◌≡◌, ℕ, ◌+◌, ◌&&◌, ◌||◌, Bool, true, false, cond, List, [], ◌∷◌, take, refl, All, not, All-nil, All-cons, All-append, All-take, All-drop, Information, ReceiveReady, ReceiveNotReady, Reject, Sabme, Disc, State, TeiAssigned, AwaitingEstablishment, AwaitingRelease, TimerRecovery, ControlFrame, Terms, Link, is_multiple_frame, received, expired, requested, offer, cleared, moves, receipt_as, is_next, is_taken, to_information, to_supervisory, to_sabme, to_disc, answers_up, answers_to, answers, command_in, is_time, commands, put, behind, waiting_left}
 use Rattle.lapd_frame.specs.declared.controls.Control.{Control}
-use Rattle.lapd_frame.specs.declared.controls.Control.TheVariants.{Xid}
-use Rattle.model_link.specs.Events.{Event, frame, Establish, Release, Data, SetBusy, ClearBusy}
+use Rattle.model_link.specs.Events.{Event, frame, SetBusy, ClearBusy}
 use Rattle.laws_link.specs.Waiting.{room}
 use Rattle.laws_trace.specs.Units.{is_ui}
 
@@ -39,27 +38,15 @@ up command (Information ns nr p) l = information (is_next ns l) p l
 up command (ReceiveReady nr p) l = supervisory command p l
 up command (ReceiveNotReady nr p) l = supervisory command p l
 up command (Reject nr p) l = supervisory command p l
-up command (Sabme p) l = none
-up command (Disc p) l = none
-up command (Ui p) l = none
-up command (Ua f) l = none
-up command (Dm f) l = none
-up command (Frmr f) l = none
-up command (Xid f) l = none
+up command other l = none
 
 for-sabme : (state : State) (p : Bool) → IsPlain (record { command = false; control = to_sabme state p })
 for-sabme TeiAssigned p = refl
-for-sabme AwaitingEstablishment p = refl
-for-sabme AwaitingRelease p = refl
-for-sabme Established p = refl
-for-sabme TimerRecovery p = refl
+for-sabme other p = refl
 
 for-disc : (state : State) (p : Bool) → IsPlain (record { command = false; control = to_disc state p })
 for-disc TeiAssigned p = refl
-for-disc AwaitingEstablishment p = refl
-for-disc AwaitingRelease p = refl
-for-disc Established p = refl
-for-disc TimerRecovery p = refl
+for-disc other p = refl
 
 to-frame : (command : Bool) (c : Control) (l : Link) → ArePlain (answers_to command c l)
 to-frame command (Sabme p) l = one _ (for-sabme l.state p)
@@ -68,32 +55,19 @@ to-frame command (Information ns nr p) l = either (is_multiple_frame l.state) _ 
 to-frame command (ReceiveReady nr p) l = either (is_multiple_frame l.state) _ [] (up command (ReceiveReady nr p) l) none
 to-frame command (ReceiveNotReady nr p) l = either (is_multiple_frame l.state) _ [] (up command (ReceiveNotReady nr p) l) none
 to-frame command (Reject nr p) l = either (is_multiple_frame l.state) _ [] (up command (Reject nr p) l) none
-to-frame command (Ui p) l = either (is_multiple_frame l.state) [] [] none none
-to-frame command (Ua f) l = either (is_multiple_frame l.state) [] [] none none
-to-frame command (Dm f) l = either (is_multiple_frame l.state) [] [] none none
-to-frame command (Frmr f) l = either (is_multiple_frame l.state) [] [] none none
-to-frame command (Xid f) l = either (is_multiple_frame l.state) [] [] none none
+to-frame command other l = either (is_multiple_frame l.state) [] [] none none
 
 all-answers : (e : Event) (l : Link) → ArePlain (answers e l)
 all-answers (received (frame f)) l = to-frame f.address.command f.control l
-all-answers (received undefined) l = none
-all-answers (received wrong_size) l = none
-all-answers (received overlong) l = none
-all-answers (expired timer) l = none
-all-answers (requested Establish full) l = none
-all-answers (requested Release full) l = none
-all-answers (requested (Data contents) full) l = none
 all-answers (requested SetBusy full) l = either (is_multiple_frame l.state && not l.own_busy) _ [] (one _ refl) none
 all-answers (requested ClearBusy full) l = either (is_multiple_frame l.state && l.own_busy) _ [] (one _ refl) none
-all-answers offer l = none
-all-answers cleared l = none
+all-answers other l = none
 
 command-in : (state : State) (l : Link) → ArePlain (command_in state l)
-command-in TeiAssigned l = none
 command-in AwaitingEstablishment l = one _ refl
 command-in AwaitingRelease l = one _ refl
-command-in Established l = none
 command-in TimerRecovery l = one _ (receipt true l.own_busy l.r true)
+command-in other l = none
 
 all-put : (e : Event) (l : Link) (to : State) → ArePlain (put e l to)
 all-put e l to =

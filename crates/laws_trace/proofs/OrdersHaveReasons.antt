@@ -125,8 +125,7 @@ module _ (c : Config) (l : Line) (s : IsSound c l) (ran : Timer → Bool) (same 
         → All R (cond starts (Start (timer_at t k) ∷ []) (cond (before && not after) (Stop (timer_at t k) ∷ []) []))
     of-timer k true before after h = All-cons R (Start (timer_at t k)) [] tt (All-nil R)
     of-timer k false true false h = All-cons R (Stop (timer_at t k)) [] (h refl) (All-nil R)
-    of-timer k false true true h = All-nil R
-    of-timer k false false after h = All-nil R
+    of-timer k false b other h = All-nil R
 
     pub link-due : (e : link.Event) → All R (links.told t e (link_in l service place)).orders
     link-due e =

@@ -1,7 +1,6 @@
 -- All that waits on a link are control frames: neither I-frames nor UI.
-use Rattle.laws_trace.proofs.Vocabulary.{◌≡◌, ℕ, ◌<◌, Bool, true, false, List, [], ◌∷◌, Some, refl, sym, ap, subst, arith, true≢false, All, option_map_or, get_or-replicate, All-nil, All-cons, All-head, All-tail, Information, ReceiveReady, ReceiveNotReady, Reject, Sabme, Disc, Ui, Ua, Dm, Frmr, Service, place_of-is, at-within, ControlFrame, Link, Config, Line, fresh_line, link_in, link_number, link_of, place_in, terms, number_within, IsInRange, line_at, fresh_is_sound}
+use Rattle.laws_trace.proofs.Vocabulary.{◌≡◌, ℕ, ◌<◌, Bool, true, false, List, [], ◌∷◌, Some, refl, sym, ap, subst, arith, true≢false, All, option_map_or, get_or-replicate, All-nil, All-cons, All-head, All-tail, Information, Ui, Service, place_of-is, at-within, ControlFrame, Link, Config, Line, fresh_line, link_in, link_number, link_of, place_in, terms, number_within, IsInRange, line_at, fresh_is_sound}
 use Rattle.lapd_frame.specs.declared.controls.Control.{Control}
-use Rattle.lapd_frame.specs.declared.controls.Control.TheVariants.{Xid}
 use Rattle.model_link.specs.Link.{fresh as fresh_link}
 use Rattle.model_link.specs.Sound as link_sound
 use Rattle.model_card.specs.Card.{fresh}
@@ -23,15 +22,7 @@ pub control-of : (command : Bool) (control : Control) → is_ui control ≡ fals
     → control_in command control ≡ record { command = command; control = control } ∷ []
 control-of command (Information ns nr p) plain bare = no (sym bare)
 control-of command (Ui p) plain bare = no (sym plain)
-control-of command (ReceiveReady nr pf) plain bare = refl
-control-of command (ReceiveNotReady nr pf) plain bare = refl
-control-of command (Reject nr pf) plain bare = refl
-control-of command (Sabme p) plain bare = refl
-control-of command (Disc p) plain bare = refl
-control-of command (Ua f) plain bare = refl
-control-of command (Dm f) plain bare = refl
-control-of command (Frmr f) plain bare = refl
-control-of command (Xid pf) plain bare = refl
+control-of command other plain bare = refl
 
 module _ (c : Config) (events : List Event) (number : ℕ) (ranged : IsInRange c) (all : AreAtLines (fresh c) events) (within : number < c.lines) (service : Service) (tei place : ℕ)
     (on : place_in (line_at number (after_all (fresh c) events)) tei ≡ Some place) where

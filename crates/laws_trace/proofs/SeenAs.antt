@@ -1,5 +1,5 @@
 -- What an observer knows of a link of a TEI on the line: its state, and in states 7 and 8 V(A).
-use Rattle.laws_trace.proofs.Vocabulary.{◌≡◌, ℕ, ◌%◌, ◌<◌, ◌==◌, Bool, true, false, List, Some, refl, sym, ap, ◌∙◌, subst, true≢false, fold, Service, State, TeiAssigned, AwaitingEstablishment, AwaitingRelease, Established, TimerRecovery, Link, is_multiple_frame, state_number, Config, Line, has_tei, link_of, place_in, IsInRange, line_at, at, moments}
+use Rattle.laws_trace.proofs.Vocabulary.{◌≡◌, ℕ, ◌%◌, ◌<◌, ◌==◌, Bool, true, false, List, Some, refl, sym, ap, ◌∙◌, subst, true≢false, fold, Service, State, TeiAssigned, AwaitingEstablishment, Established, TimerRecovery, Link, is_multiple_frame, state_number, Config, Line, has_tei, link_of, place_in, IsInRange, line_at, at, moments}
 use Rattle.model_line.specs.Event as line_event
 use Rattle.model_card.specs.Card.{fresh}
 use Rattle.model_card.specs.Event.{Event}
@@ -24,18 +24,13 @@ use Rattle.laws_trace.proofs.TimersWatched.{Known, nothing_yet, watch}
 -- States 7 and 8 are those of multiple-frame operation.
 pub up-number : (state : State) → is_up (state_number state) ≡ is_multiple_frame state
 up-number TeiAssigned = refl
-up-number AwaitingEstablishment = refl
-up-number AwaitingRelease = refl
-up-number Established = refl
-up-number TimerRecovery = refl
+up-number other = refl
 
 -- In these it is known how far a link is.
 pub known-up : (state : State) (k : Known) (a s : ℕ) (busy : Bool) → is_multiple_frame state ≡ true → Agrees state k a s busy → IsKnown k a s busy
-known-up TeiAssigned k a s busy up h = absurd (true≢false (sym up))
-known-up AwaitingEstablishment k a s busy up h = absurd (true≢false (sym up))
-known-up AwaitingRelease k a s busy up h = absurd (true≢false (sym up))
 known-up Established k a s busy up h = h
 known-up TimerRecovery k a s busy up h = h
+known-up other k a s busy up h = absurd (true≢false (sym up))
 
 pub record IsSeenAs (k : Link) (o : Observed) : Type 0 where
   pub state_is : o.state ≡ state_number k.state
@@ -55,10 +50,7 @@ seen-as service tei k asked owed n l v h asks place on =
   where
     by-state : (here : State) (its : Bool) → When (state_number here == 5) (v.link.asked ≡ asked) → Asks here asked its → (state_number here == 5) ≡ true → v.link.asked ≡ its
     by-state AwaitingEstablishment its was is five = was ∙ is
-    by-state TeiAssigned its was is five = absurd (true≢false (sym five))
-    by-state AwaitingRelease its was is five = absurd (true≢false (sym five))
-    by-state Established its was is five = absurd (true≢false (sym five))
-    by-state TimerRecovery its was is five = absurd (true≢false (sym five))
+    by-state other its was is five = absurd (true≢false (sym five))
 
 -- After a list of events, and behind one more.
 module _ (c : Config) (events : List Event) (number : ℕ) (ranged : IsInRange c) (all : AreAtLines (fresh c) events) (within : number < c.lines) (service : Service) (tei : ℕ) where

@@ -10,8 +10,7 @@ use Rattle.lapd_tei.specs.Words.{Course, begun, with_message}
 abbrev pub ri_of : Message → ℕ
 ri_of (IdentityAssigned ri tei) = ri
 ri_of (IdentityDenied ri) = ri
-ri_of (IdentityCheckRequest tei) = 0
-ri_of (IdentityRemove tei) = 0
+ri_of other = 0
 
 abbrev pub IsSmall : Message → Type 0
 IsSmall m = ri_of m < 65536
@@ -32,9 +31,7 @@ request-small ri c small h = go (no_room c.now.waiting)
   where
     new : (place tei : Option ℕ) → AreSmall (rows.assign_new ri place tei c)
     new (Some place) (Some tei) = sent (IdentityAssigned ri tei) c.now.waiting small h
-    new (Some place) None = sent (IdentityDenied ri) c.now.waiting small h
-    new None (Some tei) = sent (IdentityDenied ri) c.now.waiting small h
-    new None None = sent (IdentityDenied ri) c.now.waiting small h
+    new other any = sent (IdentityDenied ri) c.now.waiting small h
 
     known : (o : Option ℕ) → AreSmall (rows.assign ri o c)
     known (Some tei) = sent (IdentityAssigned ri tei) c.now.waiting small h
@@ -60,8 +57,7 @@ respond-small tei (Some check) c h = go (check.tei == tei) (nat_le 2 (rows.respo
   where
     go : (own second : Bool) → AreSmall ((cond own (cond second (rows.doubled tei) (words.check_is (Some (rows.counted check)))) words.unserved) c)
     go true true = sent (IdentityRemove tei) c.now.waiting none h
-    go true false = h
-    go false second = h
+    go b other = h
 
 -- A message that is served, and what octets say.
 either-served : {X : Type 0} (f : X → Course) (b : Bool) (u v : X) → AreSmall (f u) → AreSmall (f v) → AreSmall (f (cond b u v))
@@ -75,17 +71,12 @@ of-type type ri action c small h =
     (either-served (λ o. rows.serve o c) (type == 7) _ _ (verify-small action c h) h))
 
 served : (info : List ℕ) (c : Course) → AreOctets info → AreSmall c → AreSmall (rows.serve (heard_in info) c)
-served [] c octets h = h
-served (a ∷ []) c octets h = h
-served (a ∷ high ∷ []) c octets h = h
-served (a ∷ high ∷ low ∷ []) c octets h = h
-served (a ∷ high ∷ low ∷ type ∷ []) c octets h = h
 served (a ∷ high ∷ low ∷ type ∷ last ∷ []) c octets h =
     let behind = All-tail (λ octet. octet < 256) a (high ∷ low ∷ type ∷ last ∷ []) octets in
     let first : high < 256 = All-head (λ octet. octet < 256) high (low ∷ type ∷ last ∷ []) behind in
     let second : low < 256 = All-head (λ octet. octet < 256) low (type ∷ last ∷ []) (All-tail (λ octet. octet < 256) high (low ∷ type ∷ last ∷ []) behind) in
     either-served (λ o. rows.serve o c) (a == 0x0F && last % 2 == 1) _ _ (of-type type (256 * high + low) (last / 2) c (omega (arith, first, second)) h) h
-served (a ∷ high ∷ low ∷ type ∷ last ∷ sixth ∷ more) c octets h = h
+served other c octets h = h
 
 expire-small : (o : Option Check) (c : Course) → AreSmall c → AreSmall (rows.expire_check o c)
 expire-small None c h = h

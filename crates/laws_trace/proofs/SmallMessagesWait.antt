@@ -1,5 +1,5 @@
 -- The messages of TEI management that wait stay small: what it hears are octets.
-use Rattle.laws_trace.proofs.Vocabulary.{◌≡◌, ℕ, ◌<◌, ◌==◌, Bool, true, false, cond, List, [], ◌∷◌, ◌++◌, length, drop, Option, Some, None, IfSome, refl, sym, subst, inl, inr, Result, Ok, Err, All, option_map_or, All-drop, All-head, AreOctets, Tei, Unserved, Address, ReadFault, BadExtension, Undefined, WrongSize, Short, Long, Refusal, Service, Timer, Parts, reading, long_reading, service_of, reading-found, Change, Gained, Left, Config, Aim, at_none, at_link, at_management, at_units, told_of_management, of_change, of_aim, LineTold, hears, expiry, request, next, Answer, aim_of_expiry, at_timer, Line, place_in, unless_refused, management_sapi, group_tei, drop_for, at_place, to_service, addressed, message_of, aim_of_reading, unless_at_link, aim_of_long, aim_of_heard, heard_side, Taken, taken, line_of, aim_of_request, at_requested, at_deactivated, side_aims, IsOne, taken-one, at_no_link, All-nil}
+use Rattle.laws_trace.proofs.Vocabulary.{◌≡◌, ℕ, ◌<◌, ◌==◌, Bool, true, false, cond, List, [], ◌∷◌, ◌++◌, length, drop, Option, Some, None, IfSome, refl, sym, subst, inl, inr, Result, Ok, Err, All, option_map_or, All-drop, All-head, AreOctets, Tei, Unserved, Address, ReadFault, Undefined, WrongSize, Long, Refusal, Service, Timer, Parts, reading, long_reading, service_of, reading-found, Change, Gained, Left, Config, Aim, at_management, told_of_management, of_change, of_aim, LineTold, hears, expiry, request, next, Answer, aim_of_expiry, at_timer, Line, place_in, unless_refused, management_sapi, group_tei, drop_for, at_place, to_service, addressed, message_of, aim_of_reading, unless_at_link, aim_of_long, aim_of_heard, heard_side, Taken, taken, line_of, aim_of_request, at_requested, at_deactivated, side_aims, IsOne, taken-one, at_no_link, All-nil}
 use Rattle.model_bits.specs.Stream as stream
 use Rattle.lapd_frame.specs.declared.controls.Control.{Control}
 use Rattle.lapd_frame.specs.declared.controls.Control.TheVariants as control
@@ -24,10 +24,7 @@ use Rattle.laws_line.proofs.Downs.{by-down}
 -- What TEI management hears are octets.
 abbrev IsOfOctetsAt : Aim → Type 0
 IsOfOctetsAt (at_management e) = IsOfOctets e
-IsOfOctetsAt (at_none what) = Unit {0}
-IsOfOctetsAt (at_link service tei place e) = Unit {0}
-IsOfOctetsAt (at_units unit) = Unit {0}
-IsOfOctetsAt at_no_link = Unit {0}
+IsOfOctetsAt other = Unit {0}
 
 module _ (c : Config) (l : Line) where
   place-aims : (service : Service) (tei : ℕ) (what : link.Received) (o : Option ℕ) → IsOfOctetsAt (at_place service tei what o)
@@ -47,17 +44,8 @@ module _ (c : Config) (l : Line) where
       go false group = service-aims address.tei what (service_of address.sapi)
 
   message-aims : (k : Control) (info : List ℕ) → AreOctets info → IsOfOctetsAt (message_of k info)
-  message-aims (control.Information ns nr p) info h = tt
-  message-aims (control.ReceiveReady nr pf) info h = tt
-  message-aims (control.ReceiveNotReady nr pf) info h = tt
-  message-aims (control.Reject nr pf) info h = tt
-  message-aims (control.Sabme p) info h = tt
-  message-aims (control.Disc p) info h = tt
   message-aims (control.Ui p) info h = h
-  message-aims (control.Ua f) info h = tt
-  message-aims (control.Dm f) info h = tt
-  message-aims (control.Frmr f) info h = tt
-  message-aims (control.Xid pf) info h = tt
+  message-aims other info h = tt
 
   info-octets : (octets : List ℕ) (parts : Parts) → AreOctets octets → reading (heard_side c) octets ≡ Ok parts → AreOctets parts.info
   info-octets octets parts h is =
@@ -73,25 +61,20 @@ module _ (c : Config) (l : Line) where
   reading-aims octets h (Ok parts) is =
       side_aims c parts IsOfOctetsAt tt (λ service to. tt) (addressed l parts.address (link.frame parts) (message_of parts.control parts.info))
       (addressed-aims parts.address (link.frame parts) (message_of parts.control parts.info) (message-aims parts.control parts.info (info-octets octets parts h is)))
-  reading-aims octets h (Err BadExtension) is = tt
   reading-aims octets h (Err (Undefined address)) is = addressed-aims address link.undefined (drop_for Unserved) tt
   reading-aims octets h (Err (WrongSize address)) is = addressed-aims address link.wrong_size (drop_for Unserved) tt
-  reading-aims octets h (Err Short) is = tt
+  reading-aims octets h other is = tt
 
   unless-aims : (aim : Aim) → IsOfOctetsAt aim → IsOfOctetsAt (unless_at_link aim)
-  unless-aims (at_none what) h = tt
-  unless-aims (at_link service tei place event) h = tt
   unless-aims (at_management event) h = h
-  unless-aims (at_units unit) h = tt
-  unless-aims at_no_link h = tt
+  unless-aims other h = tt
 
   long-aims : (r : Result Long ReadFault) → IsOfOctetsAt (aim_of_long l r)
   long-aims (Ok (long.Information address)) = addressed-aims address link.overlong (drop_for Unserved) tt
   long-aims (Ok (long.Unnumbered address)) = unless-aims (addressed l address link.overlong (drop_for Unserved)) (addressed-aims address link.overlong (drop_for Unserved) tt)
-  long-aims (Err BadExtension) = tt
   long-aims (Err (Undefined address)) = addressed-aims address link.undefined (drop_for Unserved) tt
   long-aims (Err (WrongSize address)) = addressed-aims address link.wrong_size (drop_for Unserved) tt
-  long-aims (Err Short) = tt
+  long-aims other = tt
 
   heard-aims : (e : stream.Event) → HasOctets e → IsOfOctetsAt (aim_of_heard c l e)
   heard-aims (stream.frame octets) h = reading-aims octets h (reading (heard_side c) octets) refl
@@ -123,14 +106,10 @@ asked-aims : (l : Line) (r : Request) → IsOfOctetsAt (aim_of_request r l)
 asked-aims l (asked.Establish service tei) = at-asked service tei link.Establish (place_in l tei)
 asked-aims l (asked.Release service tei) = at-asked service tei link.Release (place_in l tei)
 asked-aims l (asked.Data service tei contents) = at-asked service tei (link.Data contents) (place_in l tei)
-asked-aims l (asked.Unit service tei contents) = tt
-asked-aims l (asked.Assign tei) = tt
-asked-aims l (asked.Remove tei) = tt
-asked-aims l (asked.Check tei) = tt
 asked-aims l (asked.SetBusy service tei) = at-asked service tei link.SetBusy (place_in l tei)
 asked-aims l (asked.ClearBusy service tei) = at-asked service tei link.ClearBusy (place_in l tei)
 asked-aims l (asked.Deactivate service tei) = at-down service tei (place_in l tei)
-asked-aims l asked.Down = tt
+asked-aims l other = tt
 
 request-aims : (l : Line) (r : Request) (o : Option Refusal) → IsOfOctetsAt (unless_refused o (aim_of_request r l))
 request-aims l r None = asked-aims l r
@@ -143,13 +122,11 @@ changed-small c (Some (Gained tei place)) t l h = h
 changed-small c (Some (Left tei place)) t l h = h
 
 aim-small : (c : Config) (aim : Aim) (l : Line) → IsOfOctetsAt aim → All IsSmall l.management.waiting → All IsSmall (of_aim c aim l).line.management.waiting
-aim-small c (at_none what) l fits h = h
-aim-small c (at_link service tei place e) l fits h = h
 aim-small c (at_management e) l fits h =
     changed-small c (teis.told e l.management).change (told_of_management (teis.told e l.management)) (record l { management = teis.after e l.management })
     (after-small e l.management fits h)
-aim-small c (at_units unit) l fits h = h
 aim-small c at_no_link l fits h = by-down c l (λ f. All IsSmall f.line.management.waiting) (All-nil IsSmall)
+aim-small c other l fits h = h
 
 next-small : (c : Config) (l : Line) → IsSound c l → All IsSmall l.management.waiting → All IsSmall (option_map_or line_of (taken c l) l).management.waiting
 next-small c l s h = go (taken c l) (taken-one c l s)

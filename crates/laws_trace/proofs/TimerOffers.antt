@@ -1,5 +1,5 @@
 -- What is known of a link, and its timers, over an offer; and what its orders start.
-use Rattle.laws_trace.proofs.Vocabulary.{◌≡◌, ℕ, ◌+◌, ◌%◌, ◌&&◌, ◌||◌, Bool, true, false, cond, List, [], ◌∷◌, ◌++◌, Option, Some, None, refl, sym, ap, ◌∙◌, subst, arith, eq-eqb, true≢false, All, ◌==◌, not, nat_lt, length, option_map_or, All-head, Service, Call, Packet, Start, Stop, Timer, same_service, seq, ControlFrame, State, TeiAssigned, AwaitingEstablishment, AwaitingRelease, Established, TimerRecovery, Terms, LinkTimer, Link, outstanding, is_established, IsWaitingFrame, is_same, obeyed, Given, runs, timer_at}
+use Rattle.laws_trace.proofs.Vocabulary.{◌≡◌, ℕ, ◌+◌, ◌%◌, ◌&&◌, ◌||◌, Bool, true, false, cond, List, [], ◌∷◌, ◌++◌, Option, Some, None, refl, sym, ap, ◌∙◌, subst, arith, eq-eqb, true≢false, All, ◌==◌, not, nat_lt, length, option_map_or, All-head, Service, Call, Packet, Start, Stop, Timer, same_service, seq, ControlFrame, State, AwaitingEstablishment, Established, TimerRecovery, Terms, LinkTimer, Link, outstanding, is_established, IsWaitingFrame, is_same, obeyed, Given, runs, timer_at}
 use Rattle.std.specs.Option.{unwrap_or}
 use Rattle.model_link.specs.declared.timers.LinkTimer.TheVariants.{T200, T203}
 use Rattle.model_link.specs.Events as link
@@ -29,34 +29,23 @@ abbrev pub given_sent : Given → Option Sent
 given_sent g = sent_by g.frame.control (unwrap_or g.contents [])
 
 same-kept : (here : State) (x : Timing) → Kept here x x
-same-kept TeiAssigned x = tt
 same-kept AwaitingEstablishment x = (refl, refl)
-same-kept AwaitingRelease x = tt
-same-kept Established x = tt
-same-kept TimerRecovery x = tt
+same-kept other x = tt
 
 up-kept : (here : State) → is_established here ≡ true → (x y : Timing) → Kept here x y
-up-kept TeiAssigned up x y = tt
 up-kept AwaitingEstablishment up x y = absurd (true≢false (sym up))
-up-kept AwaitingRelease up x y = tt
-up-kept Established up x y = tt
-up-kept TimerRecovery up x y = tt
+up-kept other up x y = tt
 
 pub same-known : (here : State) (k : Known) (a s : ℕ) (busy : Bool) → Agrees here k a s busy → Agrees here (sent_known here k None) a s busy
-same-known TeiAssigned k a s busy h = refl
-same-known AwaitingEstablishment k a s busy h = refl
-same-known AwaitingRelease k a s busy h = refl
 same-known Established k a s busy h = h
 same-known TimerRecovery k a s busy h = h
+same-known other k a s busy h = refl
 
 one-more : (here : State) (k : Known) (a s : ℕ) (busy : Bool) (sent : Sent) → is_established here ≡ true → sent.ns ≡ s % 128 → Agrees here k a s busy
     → Agrees here (sent_known here k (Some sent)) a (s + 1) busy
-one-more TeiAssigned k a s busy sent up ns h = absurd (true≢false (sym up))
-one-more AwaitingEstablishment k a s busy sent up ns h = absurd (true≢false (sym up))
-one-more AwaitingRelease k a s busy sent up ns h = absurd (true≢false (sym up))
-one-more TimerRecovery k a s busy sent up ns h = absurd (true≢false (sym up))
 one-more Established k a s busy sent up ns h =
     record { acknowledged = h.acknowledged; next = ap (λ n. (n + 1) % 128) ns ∙ (let e : (s % 128 + 1) % 128 ≡ (s + 1) % 128 = omega arith in e); busy_is = h.busy_is }
+one-more other k a s busy sent up ns h = absurd (true≢false (sym up))
 
 first-of : (a b c d : Bool) → (a && b && c && d) ≡ true → a ≡ true
 first-of true b c d e = refl
@@ -109,26 +98,20 @@ module _ (t : Terms) (k : Known) (l : Link) (s : IsSound t l) (agrees : Agrees l
 -- The orders of an event of a link start what the event started, if it runs.
 module _ (own other : Timer) (same : is_same own own ≡ true) (differs : is_same other own ≡ false) where
   first : (p q x y : Bool) → obeyed own false (cond p (Start own ∷ []) (cond q (Stop own ∷ []) []) ++ cond x (Start other ∷ []) (cond y (Stop other ∷ []) [])) ≡ p
-  first true q true y = rw (differs, same) refl
-  first true q false true = rw (differs, same) refl
   first true q false false = rw same refl
-  first false true true y = rw (differs, same) refl
-  first false true false true = rw (differs, same) refl
   first false true false false = rw same refl
   first false false true y = rw differs refl
   first false false false true = rw differs refl
   first false false false false = refl
+  first b other any rest = rw (differs, same) refl
 
   last : (p q x y : Bool) → obeyed own false (cond x (Start other ∷ []) (cond y (Stop other ∷ []) []) ++ cond p (Start own ∷ []) (cond q (Stop own ∷ []) [])) ≡ p
-  last true q true y = rw (differs, same) refl
-  last true q false true = rw (differs, same) refl
   last true q false false = rw same refl
-  last false true true y = rw (differs, same) refl
-  last false true false true = rw (differs, same) refl
   last false true false false = rw same refl
   last false false true y = rw differs refl
   last false false false true = rw differs refl
   last false false false false = refl
+  last b other any rest = rw (differs, same) refl
 
 its-own : (service : Service) (tei : ℕ) → (same_service service service && (tei == tei)) ≡ true
 its-own Call tei = eq-eqb tei tei refl

@@ -1,5 +1,5 @@
 -- When the timers of links run, and when they are started: the law.
-use Rattle.laws_trace.proofs.Vocabulary.{◌≡◌, ℕ, ◌+◌, ◌%◌, ◌==◌, ◌&&◌, ◌||◌, ◌<◌, ◌≤◌, not, Bool, true, false, cond, List, [], ◌∷◌, ◌++◌, get_or, set, Option, Some, None, refl, sym, ap, ◌∙◌, subst, arith, eq-eqb, true≢false, fold, option_map_or, and_parts, get_or-set_same, get_or-replicate, All-nil, All-cons, All-head, All-tail, PoolFull, Service, HasItsTimer, needed_in, State, TeiAssigned, AwaitingEstablishment, AwaitingRelease, Established, TimerRecovery, LinkTimer, Link, obeyed, runs, Config, refused, orders_in, Line, fresh_line, link_of, link_in, link_number, place_in, state_of, terms, IsInRange, sound_in, terms_in_range, place_of-is, Card, line_at, is_full, at, moments, fresh_is_sound, after_is_sound, has_lines, by_room, line_sound, runs_at_callers, AllHaveTheirTimers, needed-run, needs-none, timely-all, timely-after, begins-timely-card, timer_of, is_needed, left_by, HaveTheirTimers, nowhere}
+use Rattle.laws_trace.proofs.Vocabulary.{◌≡◌, ℕ, ◌+◌, ◌%◌, ◌==◌, ◌&&◌, ◌||◌, ◌<◌, ◌≤◌, not, Bool, true, false, cond, List, [], ◌∷◌, ◌++◌, get_or, set, Option, Some, None, refl, sym, ap, ◌∙◌, subst, arith, eq-eqb, true≢false, fold, option_map_or, and_parts, get_or-set_same, get_or-replicate, All-nil, All-cons, All-head, All-tail, PoolFull, Service, HasItsTimer, needed_in, State, TeiAssigned, Established, TimerRecovery, LinkTimer, Link, obeyed, runs, Config, refused, orders_in, Line, fresh_line, link_of, link_in, link_number, place_in, state_of, terms, IsInRange, sound_in, terms_in_range, place_of-is, Card, line_at, is_full, at, moments, fresh_is_sound, after_is_sound, has_lines, by_room, line_sound, runs_at_callers, AllHaveTheirTimers, needed-run, needs-none, timely-all, timely-after, begins-timely-card, timer_of, is_needed, left_by, HaveTheirTimers, nowhere}
 use Rattle.std.proofs.Common.{eqb-true}
 use Rattle.model_link.specs.declared.timers.LinkTimer.TheVariants.{T200, T203}
 use Rattle.model_link.specs.Link.{fresh as fresh_link}
@@ -24,11 +24,9 @@ module _ (service : Service) (tei number : ℕ) where
   -- Where the pool is full, nothing is seen, and nothing changes.
   same-state : (state : State) (k : Known) (a s : ℕ) (busy : Bool) → Agrees state k a s busy
       → cond (is_state 7 (told_state state) || is_state 8 (told_state state)) k nothing_yet ≡ k
-  same-state TeiAssigned k a s busy h = sym h
-  same-state AwaitingEstablishment k a s busy h = sym h
-  same-state AwaitingRelease k a s busy h = sym h
   same-state Established k a s busy h = refl
   same-state TimerRecovery k a s busy h = refl
+  same-state other k a s busy h = sym h
 
   pub none-learned : (c : Config) (l : Line) (k : Known) → IsTrueOf service tei k l → learned c service tei (state_of service tei l) (state_of service tei l) k [] ≡ k
   none-learned c l k h = go (place_in l tei) refl
@@ -114,10 +112,7 @@ module _ (service : Service) (tei number : ℕ) where
           where
             by-state : (state : State) → is_anew card.config service tei timer k (told_state state) (told_state state) [] ≡ false
             by-state TeiAssigned = refl
-            by-state AwaitingEstablishment = refl
-            by-state AwaitingRelease = refl
-            by-state Established = refl
-            by-state TimerRecovery = refl
+            by-state other = refl
 
             by-place : (o : Option ℕ) → place_in l tei ≡ o → is_anew card.config service tei timer k (state_of service tei l) (state_of service tei l) [] ≡ false
             by-place None off = ap (λ o. is_anew card.config service tei timer k o o []) (off-state service tei l off)
@@ -199,10 +194,6 @@ module _ (service : Service) (tei : ℕ) (k : Known) where
           absurd (true≢false (sym (eq-eqb s a same) ∙ other))
 
   pub by-state : (state : State) (l : Link) → Agrees state k l.a l.s l.peer_busy → l.a ≤ l.s → l.s ≤ l.a + 127 → Run (told_state state) (needed_in state l)
-  by-state TeiAssigned l h ordered within = (refl, refl)
-  by-state AwaitingEstablishment l h ordered within = (refl, refl)
-  by-state AwaitingRelease l h ordered within = (refl, refl)
-  by-state TimerRecovery l h ordered within = (refl, refl)
   by-state Established l h ordered within =
       subst (λ b. (runs T200 (cond b (Some T200) (Some T203)) ≡ (k.busy || not (k.next == k.acknowledged)))
       × (runs T203 (cond b (Some T200) (Some T203)) ≡ not (k.busy || not (k.next == k.acknowledged)))) same (either (k.busy || not (k.next == k.acknowledged)))
@@ -222,6 +213,7 @@ module _ (service : Service) (tei : ℕ) (k : Known) where
       either : (b : Bool) → (runs T200 (cond b (Some T200) (Some T203)) ≡ b) × (runs T203 (cond b (Some T200) (Some T203)) ≡ not b)
       either true = (refl, refl)
       either false = (refl, refl)
+  by-state other l h ordered within = (refl, refl)
 
 -- The law: a module once more, so that its parts have names.
 module _ (c : Config) (events : List Event) (number : ℕ) (ranged : IsInRange c) (all : AreAtLines (fresh c) events) (within : number < c.lines) (service : Service) (tei : ℕ) where

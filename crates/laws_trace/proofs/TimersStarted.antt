@@ -1,5 +1,5 @@
 -- The timers of a link are started as they are due: each event of a line.
-use Rattle.laws_trace.proofs.Vocabulary.{◌≡◌, ℕ, ◌&&◌, ◌||◌, not, Bool, true, false, cond, Option, Some, None, refl, sym, ap, ◌∙◌, subst, true≢false, inl, inr, option_map_or, Service, Timer, place_of-is, is_on-at, HasItsTimer, State, TeiAssigned, AwaitingEstablishment, AwaitingRelease, Established, TimerRecovery, Terms, LinkTimer, Link, is_same, obeyed, runs, timer_at, Config, hears, expiry, request, next, Answer, orders_in, Line, link_of, place_in, has_tei, state_of, terms, IsInRange, timer_of, is_needed, left_by, HaveTheirTimers, followed, timely-line}
+use Rattle.laws_trace.proofs.Vocabulary.{◌≡◌, ℕ, ◌&&◌, ◌||◌, not, Bool, true, false, cond, Option, Some, None, refl, sym, ap, ◌∙◌, subst, true≢false, inl, inr, option_map_or, Service, Timer, place_of-is, is_on-at, HasItsTimer, State, TeiAssigned, Terms, LinkTimer, Link, is_same, obeyed, runs, timer_at, Config, expiry, Answer, orders_in, Line, link_of, place_in, has_tei, state_of, terms, IsInRange, timer_of, is_needed, left_by, HaveTheirTimers, followed, timely-line}
 use Rattle.lapd_frame.specs.declared.controls.Control.{Control}
 use Rattle.model_link.specs.declared.timers.LinkTimer.TheVariants.{T200, T203}
 use Rattle.model_link.specs.Events as link
@@ -86,16 +86,11 @@ module _ (c : Config) (ranged : IsInRange c) (l : Line) (s : IsSound c l) (timed
         go : (same : Bool) → cond same false b ≡ true → b ≡ true
         go true h = absurd (true≢false (sym h))
         go false h = h
-    ran-needed (hears what) b h = h
-    ran-needed (request r) b h = h
-    ran-needed next b h = h
+    ran-needed other b h = h
 
     differ-same : (state : State) → differ (told_state state) (told_state state) ≡ false
     differ-same TeiAssigned = refl
-    differ-same AwaitingEstablishment = refl
-    differ-same AwaitingRelease = refl
-    differ-same Established = refl
-    differ-same TimerRecovery = refl
+    differ-same other = refl
 
     and-false : (b : Bool) → (b && false) ≡ false
     and-false true = refl

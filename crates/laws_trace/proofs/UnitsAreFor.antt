@@ -1,5 +1,5 @@
 -- Unit data is told of TEIs on the line, or of the group.
-use Rattle.laws_trace.proofs.Vocabulary.{◌≡◌, ℕ, ◌<◌, ◌==◌, ◌&&◌, ◌||◌, not, Bool, true, false, cond, length, List, ◌∷◌, ◌++◌, Option, Some, None, is_some, refl, sym, ap, ◌∙◌, subst, eq-eqb, true≢false, ◌⊎◌, inl, inr, nat_le, Result, Ok, Err, list_any, option_map_or, and_parts, leb-true, Side, User, Network, ReadFault, Service, Parts, reading, same_service, Config, Answer, hears, expiry, request, next, group_tei, heard_side, Line, has_tei, state_of, has_management, IsInRange, line_at, at, has_lines, by_room, line_sound, notes_of, is_unit_of}
+use Rattle.laws_trace.proofs.Vocabulary.{◌≡◌, ℕ, ◌<◌, ◌==◌, ◌&&◌, ◌||◌, not, Bool, true, false, cond, length, List, ◌∷◌, ◌++◌, Option, Some, None, is_some, refl, sym, ap, ◌∙◌, subst, eq-eqb, true≢false, ◌⊎◌, inl, inr, nat_le, Result, Ok, Err, list_any, option_map_or, and_parts, leb-true, Side, User, Network, ReadFault, Service, Parts, reading, same_service, Config, Answer, hears, group_tei, heard_side, Line, has_tei, state_of, has_management, IsInRange, line_at, at, has_lines, by_room, line_sound, notes_of, is_unit_of}
 use Rattle.std.proofs.Common.{eqb-true}
 use Rattle.model_bits.specs.Stream as stream
 use Rattle.model_line.specs.Event as line_event
@@ -126,11 +126,8 @@ module _ (c : Config) (events : List Event) (number : ℕ) (ranged : IsInRange c
 
   by-heard : (e : stream.Event) (behind : List Event) → events ≡ before ++ at number (hears e) ∷ behind → Comes (its_frame service tei (frame_of c e)) → Told (hears e)
   by-heard (stream.frame octets) behind split some = by-frame octets behind split (reading (heard_side c) octets) refl some
-  by-heard (stream.overlong head) behind split some = absurd (true≢false (sym some))
-  by-heard (stream.dropped cause) behind split some = absurd (true≢false (sym some))
+  by-heard other behind split some = absurd (true≢false (sym some))
 
   pub units-are : (what : line_event.Event) (behind : List Event) → events ≡ before ++ at number what ∷ behind → Comes (brought c service tei what) → Told what
   units-are (hears e) behind split some = by-heard e behind split some
-  units-are (expiry timer) behind split some = absurd (true≢false (sym some))
-  units-are (request r) behind split some = absurd (true≢false (sym some))
-  units-are next behind split some = absurd (true≢false (sym some))
+  units-are other behind split some = absurd (true≢false (sym some))

@@ -1,10 +1,9 @@
 -- Unit data that is heard is told: the law.
 use Rattle.model_card.specs.Machine.{answer}
-use Rattle.laws_trace.proofs.Vocabulary.{◌≡◌, ℕ, ◌≤◌, ◌==◌, ◌&&◌, ◌||◌, Bool, true, false, cond, List, length, Option, Some, None, refl, sym, ap, ◌∙◌, subst, true≢false, ◌⊎◌, inl, inr, Ok, is_some, ◌∷◌, ◌++◌, list_any, option_or, option_map_or, le-leb, none-some, User, Information, ReceiveReady, ReceiveNotReady, Reject, Sabme, Disc, Ui, Ua, Dm, Frmr, Service, Call, Packet, Parts, reading, sapi_of, service_of, place_of-is, in_ui_frame, in_sequence, within, event-unit, data-is, Terms, eligible_of, Link, notes-own, event-tells, Config, hears, Answer, heard_side, Line, link_in, link_of, place_in, state_of, terms, IsToGroup, IsInRange, sound_in, line_at, at, notes_of, contents_in, is_unit_of, group-read, own-all, service-same, both-true, IsBy}
+use Rattle.laws_trace.proofs.Vocabulary.{◌≡◌, ℕ, ◌≤◌, ◌==◌, ◌&&◌, ◌||◌, Bool, true, false, cond, List, length, Option, Some, None, refl, sym, ap, ◌∙◌, subst, true≢false, ◌⊎◌, inl, inr, Ok, is_some, ◌∷◌, ◌++◌, list_any, option_or, option_map_or, le-leb, none-some, User, Ui, Service, Call, Packet, Parts, reading, sapi_of, service_of, place_of-is, in_ui_frame, in_sequence, within, event-unit, data-is, Terms, eligible_of, Link, notes-own, event-tells, Config, hears, Answer, heard_side, Line, link_in, link_of, place_in, state_of, terms, IsToGroup, IsInRange, sound_in, line_at, at, notes_of, contents_in, is_unit_of, group-read, own-all, service-same, both-true, IsBy}
 use Rattle.std.proofs.Common.{eqb-true}
 use Rattle.model_bits.specs.Stream as stream
 use Rattle.lapd_frame.specs.declared.controls.Control.{Control}
-use Rattle.lapd_frame.specs.declared.controls.Control.TheVariants.{Xid}
 use Rattle.model_link.specs.Deliveries.{information_of}
 use Rattle.model_link.specs.Events as link
 use Rattle.model_link.specs.Link.{fresh as fresh_link}
@@ -30,16 +29,7 @@ use Rattle.laws_trace.proofs.TimersOfEvent.{off-state}
 -- A UI is one.
 which-ui : (control : Control) → is_ui control ≡ true → (p : Bool) × (control ≡ Ui p)
 which-ui (Ui p) is = (p, refl)
-which-ui (Information ns nr p) is = absurd (true≢false (sym is))
-which-ui (ReceiveReady nr pf) is = absurd (true≢false (sym is))
-which-ui (ReceiveNotReady nr pf) is = absurd (true≢false (sym is))
-which-ui (Reject nr pf) is = absurd (true≢false (sym is))
-which-ui (Sabme p) is = absurd (true≢false (sym is))
-which-ui (Disc p) is = absurd (true≢false (sym is))
-which-ui (Ua p) is = absurd (true≢false (sym is))
-which-ui (Dm p) is = absurd (true≢false (sym is))
-which-ui (Frmr p) is = absurd (true≢false (sym is))
-which-ui (Xid p) is = absurd (true≢false (sym is))
+which-ui other is = absurd (true≢false (sym is))
 
 its-service : (service : Service) → service_of (sapi_of service) ≡ Some service
 its-service Call = refl
@@ -54,10 +44,9 @@ is-frame c e a service tei f is (link.received (link.frame g)) by =
 is-frame c e a service tei f is (link.received link.undefined) by = absurd (none-some f (sym (brings-none c e a service tei link.undefined by) ∙ is))
 is-frame c e a service tei f is (link.received link.wrong_size) by = absurd (none-some f (sym (brings-none c e a service tei link.wrong_size by) ∙ is))
 is-frame c e a service tei f is (link.received link.overlong) by = absurd (none-some f (sym (brings-none c e a service tei link.overlong by) ∙ is))
-is-frame c e a service tei f is (link.expired timer) by = absurd (none-some f (sym (ap (λ e. frame_by c e) by) ∙ is))
 is-frame c e a service tei f is (link.requested asked full) by = absurd (none-some f (sym (ap (λ e. frame_by c e) by.0) ∙ is))
-is-frame c e a service tei f is link.offer by = absurd (none-some f (sym (ap (λ e. frame_by c e) by) ∙ is))
 is-frame c e a service tei f is link.cleared by = absurd by
+is-frame c e a service tei f is other by = absurd (none-some f (sym (ap (λ e. frame_by c e) by) ∙ is))
 
 abbrev Tells : Service → ℕ → List ℕ → Answer → Type 0
 Tells service tei info a = (list_any (is_unit_of service tei) (notes_of a) ≡ true) × (contents_in a ≡ Some info)

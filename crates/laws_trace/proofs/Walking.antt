@@ -33,10 +33,9 @@ module _ (c : Config) where
 
   -- One link has one name.
   by-sapi : (b d : Bool) → sapi_of (cond b Call Packet) ≡ sapi_of (cond d Call Packet) → b ≡ d
-  by-sapi true true e = refl
   by-sapi true false e = absurd (omega (arith, e))
   by-sapi false true e = absurd (omega (arith, e))
-  by-sapi false false e = refl
+  by-sapi b other e = refl
 
   same-half : (n m : ℕ) (b : Bool) → (n % 2 == 0) ≡ b → (m % 2 == 0) ≡ b → n / 2 ≡ m / 2 → n ≡ m
   same-half n m true e f half = let x = eqb-true (n % 2) 0 e in let y = eqb-true (m % 2) 0 f in omega (arith, x, y, half)

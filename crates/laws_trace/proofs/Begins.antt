@@ -1,5 +1,5 @@
 -- When the numbers of a link begin, by what is heard and noted.
-use Rattle.laws_trace.proofs.Vocabulary.{◌≡◌, ◌==◌, Bool, true, false, cond, [], ◌∷◌, refl, sym, ap, ◌∙◌, subst, true≢false, not, if◌then◌else◌, list_any, Parts, Information, ReceiveReady, ReceiveNotReady, Reject, Sabme, Disc, Ui, Ua, Dm, Frmr, EstablishIndication, EstablishConfirm, State, TeiAssigned, AwaitingEstablishment, AwaitingRelease, Established, TimerRecovery, LinkTimer, Terms, restarts, Received, received, undefined, wrong_size, overlong, expired, requested, offer, cleared, Link, is_multiple_frame, may_repeat, runs, Leaves, as_heard, by_frame, by_received, by_expiry, by_request, state_after, numbers_begin, told_by, establishes, event-follows}
+use Rattle.laws_trace.proofs.Vocabulary.{◌≡◌, ◌==◌, Bool, true, false, cond, [], ◌∷◌, refl, sym, ap, ◌∙◌, subst, true≢false, not, if◌then◌else◌, list_any, Parts, Information, ReceiveReady, ReceiveNotReady, Reject, Sabme, Disc, Ui, Ua, Dm, Frmr, EstablishIndication, EstablishConfirm, State, TeiAssigned, AwaitingEstablishment, AwaitingRelease, LinkTimer, Terms, restarts, Received, received, expired, requested, offer, cleared, Link, is_multiple_frame, may_repeat, runs, Leaves, as_heard, by_frame, by_received, by_expiry, by_request, state_after, numbers_begin, told_by, establishes, event-follows}
 use Rattle.lapd_frame.specs.declared.controls.Control.{Control}
 use Rattle.lapd_frame.specs.declared.controls.Control.TheVariants.{Xid}
 use Rattle.model_link.specs.declared.timers.LinkTimer.TheVariants.{T200, T203}
@@ -27,10 +27,7 @@ module _ (t : Terms) (f : Parts) where
 
   sabme : (p : Bool) (here : State) (l : Link) → IsSame (Sabme p) (record l { state = here })
   sabme p TeiAssigned l = refl
-  sabme p AwaitingEstablishment l = refl
-  sabme p AwaitingRelease l = refl
-  sabme p Established l = refl
-  sabme p TimerRecovery l = refl
+  sabme p other l = refl
 
   -- by whether layer 3 asked for the establishment, and whether contents are outstanding
   agreed : (asked none : Bool)
@@ -40,11 +37,8 @@ module _ (t : Terms) (f : Parts) where
   agreed false false = refl
 
   ua : (here : State) (l : Link) → IsSame (Ua true) (record l { state = here })
-  ua TeiAssigned l = refl
   ua AwaitingEstablishment l = agreed l.asked (l.s == l.a)
-  ua AwaitingRelease l = refl
-  ua Established l = refl
-  ua TimerRecovery l = refl
+  ua other l = refl
 
   -- What is heard and noted says whether the numbers begin.
   abbrev Says : Control → Link → Type 0
@@ -86,8 +80,6 @@ abbrev ComesUp : State → Event → State → Type 0
 ComesUp from e to = IsUp to → numbers_begin e from to ≡ false → IsUp from
 
 by-frame : (from : State) (f : Parts) (control : Control) → let e = received (frame (record f { control = control })) in ComesUp from e (by_frame from f.address.command control)
-by-frame Established f control up none = refl
-by-frame TimerRecovery f control up none = refl
 by-frame TeiAssigned f (Sabme p) up none = absurd (true≢false none)
 by-frame TeiAssigned f (Information ns nr p) up none = up
 by-frame TeiAssigned f (ReceiveReady nr p) up none = up
@@ -125,16 +117,13 @@ by-frame AwaitingRelease f (Disc p) up none = up
 by-frame AwaitingRelease f (Ui p) up none = up
 by-frame AwaitingRelease f (Frmr p) up none = up
 by-frame AwaitingRelease f (Xid p) up none = up
+by-frame other f control up none = refl
 
 by-received : (from : State) (r : Received) → ComesUp from (received r) (by_received from r)
 by-received from (frame f) = by-frame from f f.control
-by-received from undefined = λ up none. up
-by-received from wrong_size = λ up none. up
-by-received from overlong = λ up none. up
+by-received from other = λ up none. up
 
 by-expiry : (from : State) (timer : LinkTimer) (again : Bool) → IsUp (by_expiry from timer again) → IsUp from
-by-expiry Established timer again up = refl
-by-expiry TimerRecovery timer again up = refl
 by-expiry TeiAssigned timer again up = up
 by-expiry AwaitingEstablishment T200 true up = up
 by-expiry AwaitingEstablishment T200 false up = up
@@ -142,10 +131,9 @@ by-expiry AwaitingEstablishment T203 again up = up
 by-expiry AwaitingRelease T200 true up = up
 by-expiry AwaitingRelease T200 false up = up
 by-expiry AwaitingRelease T203 again up = up
+by-expiry other timer again up = refl
 
 by-request : (from : State) (request : Request) → IsUp (by_request from request) → IsUp from
-by-request Established request up = refl
-by-request TimerRecovery request up = refl
 by-request TeiAssigned Establish up = up
 by-request TeiAssigned Release up = up
 by-request TeiAssigned (Data octets) up = up
@@ -161,6 +149,7 @@ by-request AwaitingRelease Release up = up
 by-request AwaitingRelease (Data octets) up = up
 by-request AwaitingRelease SetBusy up = up
 by-request AwaitingRelease ClearBusy up = up
+by-request other request up = refl
 
 either : (from : State) (e : Event) (b : Bool) (one other : State) → ComesUp from e one → ComesUp from e other → ComesUp from e (cond b one other)
 either from e true one other h k = h

@@ -1,5 +1,5 @@
 -- What a link tells that is cleared, as its TEI leaves the line or it is deactivated.
-use Rattle.laws_trace.proofs.Vocabulary.{◌≡◌, ℕ, Bool, false, ◌||◌, None, refl, ap, list_any, option_or, Note, ReleaseIndication, ReleaseConfirm, Service, State, TeiAssigned, AwaitingEstablishment, AwaitingRelease, Established, TimerRecovery, Terms, Link, ◌then◌, begin_anew}
+use Rattle.laws_trace.proofs.Vocabulary.{◌≡◌, ℕ, Bool, false, ◌||◌, None, refl, ap, list_any, option_or, Note, ReleaseIndication, ReleaseConfirm, Service, State, TeiAssigned, AwaitingRelease, Terms, Link, ◌then◌, begin_anew}
 use Rattle.model_link.specs.Events as link
 use Rattle.model_link.specs.Machine as links
 use Rattle.model_link.specs.Steps.{begun}
@@ -10,20 +10,14 @@ none-delivered t x = by-state x.state
   where
     by-state : (here : State) → let c = (links.told_of_clearing here t then begin_anew) (begun x) in option_or c.delivered c.unit ≡ None
     by-state TeiAssigned = refl
-    by-state AwaitingEstablishment = refl
-    by-state AwaitingRelease = refl
-    by-state Established = refl
-    by-state TimerRecovery = refl
+    by-state other = refl
 
 pub none-lost : (t : Terms) (x : Link) → (links.told t link.cleared x).lost ≡ 0
 none-lost t x = by-state x.state
   where
     by-state : (here : State) → ((links.told_of_clearing here t then begin_anew) (begun x)).lost ≡ 0
     by-state TeiAssigned = refl
-    by-state AwaitingEstablishment = refl
-    by-state AwaitingRelease = refl
-    by-state Established = refl
-    by-state TimerRecovery = refl
+    by-state other = refl
 
 -- It notes no more than the end of the link.
 pub ends-alone : (q : Note → Bool) → ((s : Service) (n : ℕ) → q (ReleaseIndication s n) ≡ false) → ((s : Service) (n : ℕ) → q (ReleaseConfirm s n) ≡ false)
@@ -32,7 +26,5 @@ ends-alone q indication confirm t x = by-state x.state
   where
     by-state : (here : State) → list_any q ((links.told_of_clearing here t then begin_anew) (begun x)).notes ≡ false
     by-state TeiAssigned = refl
-    by-state AwaitingEstablishment = ap (λ b. b || false) (indication t.service t.tei)
     by-state AwaitingRelease = ap (λ b. b || false) (confirm t.service t.tei)
-    by-state Established = ap (λ b. b || false) (indication t.service t.tei)
-    by-state TimerRecovery = ap (λ b. b || false) (indication t.service t.tei)
+    by-state other = ap (λ b. b || false) (indication t.service t.tei)

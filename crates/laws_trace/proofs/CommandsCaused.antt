@@ -1,8 +1,7 @@
 -- What puts an enquiry: nothing but the expiry of a timer leads a link to state 8.
-use Rattle.laws_trace.proofs.Vocabulary.{◌≡◌, ◌&&◌, ◌||◌, Bool, true, false, cond, refl, Information, ReceiveReady, ReceiveNotReady, Reject, Sabme, Disc, Ui, Ua, Dm, Frmr, Service, Call, Packet, same_service, State, TeiAssigned, AwaitingEstablishment, AwaitingRelease, Established, TimerRecovery, Terms, Link, is_multiple_frame, Received, undefined, wrong_size, overlong, received, expired, requested, offer, cleared, moves, by_frame, by_request, is_invalid, receipt_of, state_after}
+use Rattle.laws_trace.proofs.Vocabulary.{◌≡◌, ◌&&◌, ◌||◌, Bool, true, false, cond, refl, ReceiveReady, ReceiveNotReady, Reject, Sabme, Disc, Ua, Dm, Frmr, Service, Call, Packet, same_service, State, TeiAssigned, AwaitingEstablishment, AwaitingRelease, Established, TimerRecovery, Terms, Link, is_multiple_frame, Received, received, requested, offer, cleared, moves, by_frame, by_request, is_invalid, receipt_of, state_after}
 use Rattle.lapd_frame.specs.declared.controls.Control.{Control}
-use Rattle.lapd_frame.specs.declared.controls.Control.TheVariants.{Xid}
-use Rattle.model_link.specs.Events.{Event, Request, frame, Establish, Release, Data, SetBusy, ClearBusy}
+use Rattle.model_link.specs.Events.{Event, Request, frame, Establish, Release}
 
 pub same-itself : (s : Service) → same_service s s ≡ true
 same-itself Call = refl
@@ -19,60 +18,23 @@ Still s to = (moves s to || false) ≡ true → enquires to ≡ true → ⊥
 -- A frame, by the state.
 in-4 : (command : Bool) (control : Control) → Still TeiAssigned (by_frame TeiAssigned command control)
 in-4 command (Sabme p) m h = absurd (cc h)
-in-4 command (Information ns nr p) m h = absurd (cc m)
-in-4 command (ReceiveReady nr p) m h = absurd (cc m)
-in-4 command (ReceiveNotReady nr p) m h = absurd (cc m)
-in-4 command (Reject nr p) m h = absurd (cc m)
-in-4 command (Disc p) m h = absurd (cc m)
-in-4 command (Ui p) m h = absurd (cc m)
-in-4 command (Ua f) m h = absurd (cc m)
-in-4 command (Dm f) m h = absurd (cc m)
-in-4 command (Frmr f) m h = absurd (cc m)
-in-4 command (Xid f) m h = absurd (cc m)
+in-4 command other m h = absurd (cc m)
 
 in-5 : (command : Bool) (control : Control) → Still AwaitingEstablishment (by_frame AwaitingEstablishment command control)
 in-5 command (Ua true) m h = absurd (cc h)
-in-5 command (Ua false) m h = absurd (cc m)
 in-5 command (Dm true) m h = absurd (cc h)
-in-5 command (Dm false) m h = absurd (cc m)
-in-5 command (Sabme p) m h = absurd (cc m)
-in-5 command (Information ns nr p) m h = absurd (cc m)
-in-5 command (ReceiveReady nr p) m h = absurd (cc m)
-in-5 command (ReceiveNotReady nr p) m h = absurd (cc m)
-in-5 command (Reject nr p) m h = absurd (cc m)
-in-5 command (Disc p) m h = absurd (cc m)
-in-5 command (Ui p) m h = absurd (cc m)
-in-5 command (Frmr f) m h = absurd (cc m)
-in-5 command (Xid f) m h = absurd (cc m)
+in-5 command other m h = absurd (cc m)
 
 in-6 : (command : Bool) (control : Control) → Still AwaitingRelease (by_frame AwaitingRelease command control)
 in-6 command (Ua true) m h = absurd (cc h)
-in-6 command (Ua false) m h = absurd (cc m)
 in-6 command (Dm true) m h = absurd (cc h)
-in-6 command (Dm false) m h = absurd (cc m)
-in-6 command (Sabme p) m h = absurd (cc m)
-in-6 command (Information ns nr p) m h = absurd (cc m)
-in-6 command (ReceiveReady nr p) m h = absurd (cc m)
-in-6 command (ReceiveNotReady nr p) m h = absurd (cc m)
-in-6 command (Reject nr p) m h = absurd (cc m)
-in-6 command (Disc p) m h = absurd (cc m)
-in-6 command (Ui p) m h = absurd (cc m)
-in-6 command (Frmr f) m h = absurd (cc m)
-in-6 command (Xid f) m h = absurd (cc m)
+in-6 command other m h = absurd (cc m)
 
 in-7 : (command : Bool) (control : Control) → Still Established (by_frame Established command control)
 in-7 command (Disc p) m h = absurd (cc h)
-in-7 command (Dm true) m h = absurd (cc m)
 in-7 command (Dm false) m h = absurd (cc h)
 in-7 command (Frmr f) m h = absurd (cc h)
-in-7 command (Sabme p) m h = absurd (cc m)
-in-7 command (Information ns nr p) m h = absurd (cc m)
-in-7 command (ReceiveReady nr p) m h = absurd (cc m)
-in-7 command (ReceiveNotReady nr p) m h = absurd (cc m)
-in-7 command (Reject nr p) m h = absurd (cc m)
-in-7 command (Ui p) m h = absurd (cc m)
-in-7 command (Ua f) m h = absurd (cc m)
-in-7 command (Xid f) m h = absurd (cc m)
+in-7 command other m h = absurd (cc m)
 
 in-8 : (command : Bool) (control : Control) → Still TimerRecovery (by_frame TimerRecovery command control)
 in-8 command (Sabme p) m h = absurd (cc h)
@@ -80,19 +42,10 @@ in-8 command (Disc p) m h = absurd (cc h)
 in-8 command (Dm true) m h = absurd (cc h)
 in-8 command (Dm false) m h = absurd (cc h)
 in-8 command (Frmr f) m h = absurd (cc h)
-in-8 true (ReceiveReady nr p) m h = absurd (cc m)
 in-8 false (ReceiveReady nr true) m h = absurd (cc h)
-in-8 false (ReceiveReady nr false) m h = absurd (cc m)
-in-8 true (ReceiveNotReady nr p) m h = absurd (cc m)
 in-8 false (ReceiveNotReady nr true) m h = absurd (cc h)
-in-8 false (ReceiveNotReady nr false) m h = absurd (cc m)
-in-8 true (Reject nr p) m h = absurd (cc m)
 in-8 false (Reject nr true) m h = absurd (cc h)
-in-8 false (Reject nr false) m h = absurd (cc m)
-in-8 command (Information ns nr p) m h = absurd (cc m)
-in-8 command (Ui p) m h = absurd (cc m)
-in-8 command (Ua f) m h = absurd (cc m)
-in-8 command (Xid f) m h = absurd (cc m)
+in-8 b other m h = absurd (cc m)
 
 -- An N(R) that is invalid leads to state 5.
 or-invalid : (s to : State) (b : Bool) → Still s to → Still s (cond b AwaitingEstablishment to)
@@ -108,54 +61,27 @@ by-state TimerRecovery command control = in-8 command control
 
 -- What the grammar does not have.
 malformed : (s : State) → Still s (cond (is_multiple_frame s && true) AwaitingEstablishment s)
-malformed TeiAssigned m h = absurd (cc m)
-malformed AwaitingEstablishment m h = absurd (cc m)
-malformed AwaitingRelease m h = absurd (cc m)
 malformed Established m h = absurd (cc h)
 malformed TimerRecovery m h = absurd (cc h)
+malformed other m h = absurd (cc m)
 
 -- Requests.
 by-asked : (s : State) (r : Request) → Still s (by_request s r)
 by-asked TeiAssigned Establish m h = absurd (cc h)
-by-asked AwaitingEstablishment Establish m h = absurd (cc m)
-by-asked AwaitingRelease Establish m h = absurd (cc m)
-by-asked Established Establish m h = absurd (cc m)
-by-asked TimerRecovery Establish m h = absurd (cc m)
-by-asked TeiAssigned Release m h = absurd (cc m)
-by-asked AwaitingEstablishment Release m h = absurd (cc m)
-by-asked AwaitingRelease Release m h = absurd (cc m)
 by-asked Established Release m h = absurd (cc h)
 by-asked TimerRecovery Release m h = absurd (cc h)
-by-asked TeiAssigned (Data contents) m h = absurd (cc m)
-by-asked AwaitingEstablishment (Data contents) m h = absurd (cc m)
-by-asked AwaitingRelease (Data contents) m h = absurd (cc m)
-by-asked Established (Data contents) m h = absurd (cc m)
-by-asked TimerRecovery (Data contents) m h = absurd (cc m)
-by-asked TeiAssigned SetBusy m h = absurd (cc m)
-by-asked AwaitingEstablishment SetBusy m h = absurd (cc m)
-by-asked AwaitingRelease SetBusy m h = absurd (cc m)
-by-asked Established SetBusy m h = absurd (cc m)
-by-asked TimerRecovery SetBusy m h = absurd (cc m)
-by-asked TeiAssigned ClearBusy m h = absurd (cc m)
-by-asked AwaitingEstablishment ClearBusy m h = absurd (cc m)
-by-asked AwaitingRelease ClearBusy m h = absurd (cc m)
-by-asked Established ClearBusy m h = absurd (cc m)
-by-asked TimerRecovery ClearBusy m h = absurd (cc m)
+by-asked other any m h = absurd (cc m)
 
 abbrev pub IsNoOther : Event → Type 0
 IsNoOther offer = ⊥
 IsNoOther cleared = ⊥
-IsNoOther (received what) = Unit {0}
-IsNoOther (expired timer) = Unit {0}
-IsNoOther (requested r full) = Unit {0}
+IsNoOther other = Unit {0}
 
 -- So no frame and no request leads there.
 pub none-heard : (t : Terms) (what : Received) (l : Link) → Still l.state (state_after t (received what) l)
 none-heard t (frame f) l =
     or-invalid l.state (by_frame l.state f.address.command f.control) (is_multiple_frame l.state && is_invalid l (receipt_of f.control)) (by-state l.state f.address.command f.control)
-none-heard t undefined l = malformed l.state
-none-heard t wrong_size l = malformed l.state
-none-heard t overlong l = malformed l.state
+none-heard t other l = malformed l.state
 
 pub none-asked : (t : Terms) (r : Request) (full : Bool) (l : Link) → Still l.state (state_after t (requested r full) l)
 none-asked t r full l = by-asked l.state r

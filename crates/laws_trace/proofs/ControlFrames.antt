@@ -1,9 +1,8 @@
 -- The control frames of a link that wait are those that were due, and have not begun: a moment of a card.
-use Rattle.laws_trace.proofs.Vocabulary.{◌≡◌, ℕ, ◌==◌, ◌&&◌, ◌||◌, Bool, true, false, cond, List, [], ◌++◌, get_or, length, take, ◌-◌, Option, Some, None, refl, sym, ap, ◌∙◌, subst, arith, eq-eqb, true≢false, append-nil, option_map_or, and_parts, get_or-set_same, Service, ControlFrame, Config, Line, fresh_line, link_of, state_of, Assign, Remove, Deactivate, Down, lost_in, deactivates, Card, line_at, is_full, has_lines, by_room, line_sound, AllHaveTheirTimers}
+use Rattle.laws_trace.proofs.Vocabulary.{◌≡◌, ℕ, ◌==◌, ◌&&◌, ◌||◌, Bool, true, false, cond, List, [], ◌++◌, get_or, length, take, ◌-◌, Option, Some, None, refl, sym, ap, ◌∙◌, subst, arith, eq-eqb, true≢false, append-nil, option_map_or, and_parts, get_or-set_same, Service, ControlFrame, Config, Line, fresh_line, link_of, state_of, Deactivate, lost_in, deactivates, Card, line_at, is_full, has_lines, by_room, line_sound, AllHaveTheirTimers}
 use Rattle.std.proofs.Common.{eqb-true}
 use Rattle.model_line.specs.Event as line_event
 use Rattle.model_line.specs.Machine as lines
-use Rattle.model_line.specs.Request.{Request, Establish, Release, Data, Check, SetBusy, ClearBusy}
 use Rattle.model_card.specs.Event as card
 use Rattle.model_card.specs.Machine as cards
 use Rattle.model_card.specs.Run.{IsAtLine}
@@ -31,20 +30,8 @@ as-calm w quiet = ap (λ o. record { told = record { frame = o; count = w.told.c
 -- a request that takes a slot deactivates nothing
 none-ended : (service : Service) (tei : ℕ) (c : Config) (e : line_event.Event) (l : Line) → lines.takes_slot c e l ≡ true → deactivates service tei e ≡ false
 unfolding lines.takes_slot
-none-ended service tei c (line_event.hears what) l takes = refl
-none-ended service tei c (line_event.expiry timer) l takes = refl
-none-ended service tei c line_event.next l takes = refl
-none-ended service tei c (line_event.request (Establish its by)) l takes = refl
-none-ended service tei c (line_event.request (Release its by)) l takes = refl
-none-ended service tei c (line_event.request (Data its by contents)) l takes = refl
-none-ended service tei c (line_event.request (Request.Unit its by contents)) l takes = refl
-none-ended service tei c (line_event.request (Assign by)) l takes = refl
-none-ended service tei c (line_event.request (Remove by)) l takes = refl
-none-ended service tei c (line_event.request (Check by)) l takes = refl
-none-ended service tei c (line_event.request (SetBusy its by)) l takes = refl
-none-ended service tei c (line_event.request (ClearBusy its by)) l takes = refl
-none-ended service tei c (line_event.request Down) l takes = refl
 none-ended service tei c (line_event.request (Deactivate its by)) l takes = absurd (true≢false (sym takes))
+none-ended service tei c other l takes = refl
 
 module _ (service : Service) (tei : ℕ) where
   -- What a moment is to the control frames of a link, and how the link stands behind it.

@@ -1,5 +1,5 @@
 -- The control frames of a link that wait and go: one event of a line.
-use Rattle.laws_trace.proofs.Vocabulary.{◌≡◌, ℕ, ◌+◌, ◌-◌, ◌≤◌, ◌==◌, ◌&&◌, ◌||◌, Bool, true, false, cond, List, [], ◌++◌, drop, length, map, take, zero, suc, Some, None, refl, sym, ap, ◌∙◌, subst, inl, inr, append-nil, true≢false, flat_map, not, option_to_list, is_some, list_any, option_map_or, le-ltb, BadTei, NoLink, Service, same_service, place_of-is, takes_contents, as_heard, moves, as_response, event-follows, HasItsTimer, State, TeiAssigned, AwaitingEstablishment, AwaitingRelease, Established, TimerRecovery, ControlFrame, Terms, restarts, eligible, Link, is_multiple_frame, state_number, delivery, event-delivers, Config, next, Answer, Assign, Remove, Deactivate, Down, at_deactivated, Line, link_in, link_number, link_of, place_in, has_tei, state_of, terms, aim_of, unless_refused, IsInRange, sound_in, terms_in_range, lost_in, notes_of, is_data_of, deactivates, is_deactivation, both-true, IsBy, HaveTheirTimers}
+use Rattle.laws_trace.proofs.Vocabulary.{◌≡◌, ℕ, ◌+◌, ◌-◌, ◌≤◌, ◌==◌, ◌&&◌, ◌||◌, Bool, true, false, cond, List, [], ◌++◌, drop, length, map, take, zero, suc, Some, None, refl, sym, ap, ◌∙◌, subst, inl, inr, append-nil, true≢false, flat_map, not, option_to_list, is_some, list_any, option_map_or, le-ltb, BadTei, NoLink, Service, same_service, place_of-is, takes_contents, as_heard, moves, as_response, event-follows, HasItsTimer, State, TeiAssigned, ControlFrame, Terms, restarts, eligible, Link, is_multiple_frame, state_number, delivery, event-delivers, Config, next, Answer, Deactivate, at_deactivated, Line, link_in, link_number, link_of, place_in, has_tei, state_of, terms, aim_of, unless_refused, IsInRange, sound_in, terms_in_range, lost_in, notes_of, is_data_of, deactivates, is_deactivation, both-true, IsBy, HaveTheirTimers}
 use Rattle.std.proofs.Common.{eqb-true}
 use Rattle.model_link.specs.Events as link
 use Rattle.model_link.specs.Link.{fresh}
@@ -8,7 +8,7 @@ use Rattle.model_link.specs.Sound as link_sound
 use Rattle.model_line.specs.Event as line_event
 use Rattle.model_line.specs.Event.{Event}
 use Rattle.model_line.specs.Refusal.{refusal}
-use Rattle.model_line.specs.Request.{Request, Establish, Release, Data, Check, SetBusy, ClearBusy}
+use Rattle.model_line.specs.Request.{Request}
 use Rattle.model_line.specs.Machine.{after, answer}
 use Rattle.model_line.specs.Taken.{frame_of}
 use Rattle.model_line.specs.Sound.{IsSound}
@@ -36,10 +36,7 @@ use Rattle.laws_trace.proofs.TimersOfEvent.{state-on}
 
 unmoved : (state : State) → moves state state ≡ false
 unmoved TeiAssigned = refl
-unmoved AwaitingEstablishment = refl
-unmoved AwaitingRelease = refl
-unmoved Established = refl
-unmoved TimerRecovery = refl
+unmoved other = refl
 
 as-busy : (b : Bool) (frames : List ControlFrame) → cond (cond b (not b) b) frames [] ≡ []
 as-busy true frames = refl
@@ -183,16 +180,7 @@ module _ (service : Service) (tei : ℕ) where
                       ap (λ e. is_at_link service tei (aim_of c e l)) is ∙ ap (λ o. is_at_link service tei (unless_refused o (at_deactivated its by (place_in l by)))) none
                       ∙ ap (λ o. is_at_link service tei (at_deactivated its by o)) (ap (place_in l) same ∙ here.1) ∙ own in
                       absurd (true≢false (sym aimed ∙ x.aims))
-              by-request (Establish its by) is = refl
-              by-request (Release its by) is = refl
-              by-request (Data its by contents) is = refl
-              by-request (Request.Unit its by contents) is = refl
-              by-request (Assign by) is = refl
-              by-request (Remove by) is = refl
-              by-request (Check by) is = refl
-              by-request (SetBusy its by) is = refl
-              by-request (ClearBusy its by) is = refl
-              by-request Down is = refl
+              by-request other is = refl
 
       none-exact : has_tei tei l ≡ true → has_tei tei new ≡ true → waits new ≡ cond (deactivates service tei e) [] (drop (length begins) (waits l) ++ Due)
       none-exact was-on is-on =
@@ -204,20 +192,16 @@ module _ (service : Service) (tei : ℕ) where
     module _ (x : HasOne c service tei e l new a) where
       never-down : (asked : link.Request) → is_deactivation service tei (of_link service tei asked) ≡ false
       never-down link.Establish = refl
-      never-down link.Release = refl
-      never-down (link.Data contents) = refl
-      never-down link.SetBusy = refl
-      never-down link.ClearBusy = refl
+      never-down other = refl
 
       not-ended : (event : link.Event) → IsBy c e a service tei event → deactivates service tei e ≡ false
       not-ended (link.received (link.frame f)) by = ap (deactivates service tei) by.by
       not-ended (link.received link.undefined) by = ap (deactivates service tei) (heard-by c e a service tei link.undefined by).1
       not-ended (link.received link.wrong_size) by = ap (deactivates service tei) (heard-by c e a service tei link.wrong_size by).1
       not-ended (link.received link.overlong) by = ap (deactivates service tei) (heard-by c e a service tei link.overlong by).1
-      not-ended (link.expired timer) by = ap (deactivates service tei) by
       not-ended (link.requested asked full) by = ap (deactivates service tei) by.0 ∙ never-down asked
-      not-ended link.offer by = ap (deactivates service tei) by
       not-ended link.cleared by = absurd by
+      not-ended other by = ap (deactivates service tei) by
 
       abbrev t : Terms
       t = terms c service tei
@@ -325,11 +309,9 @@ module _ (service : Service) (tei : ℕ) where
           range = terms_in_range c ranged service tei (s.management.table.range x.place tei (place_of-is l.management.places tei x.place x.placed).1)
 
       by-event : (event : link.Event) → x.event ≡ event → IsBy c e a service tei event → Here
-      by-event (link.received what) is by = quiet (subst IsNoOther (sym is) tt) (ap (λ e. frames_given c t e own) is)
-      by-event (link.expired timer) is by = quiet (subst IsNoOther (sym is) tt) (ap (λ e. frames_given c t e own) is)
-      by-event (link.requested asked full) is by = quiet (subst IsNoOther (sym is) tt) (ap (λ e. frames_given c t e own) is)
       by-event link.offer is by = given-here is by
       by-event link.cleared is by = absurd by
+      by-event other is by = quiet (subst IsNoOther (sym is) tt) (ap (λ e. frames_given c t e own) is)
 
     -- Its deactivation.
     module _ (x : IsGivenUp c service tei e l new a) where

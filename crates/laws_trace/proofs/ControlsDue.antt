@@ -1,7 +1,6 @@
 -- What an event of a link makes due are control frames.
-use Rattle.laws_trace.proofs.Vocabulary.{◌≡◌, ℕ, ◌==◌, ◌&&◌, ◌||◌, Bool, true, false, cond, List, [], ◌∷◌, ◌++◌, Some, refl, ap, ◌∙◌, not, flat_map, All, nat_lt, length, All-nil, All-cons, All-append, All-head, All-tail, Information, ReceiveReady, ReceiveNotReady, Reject, Sabme, Disc, Ui, Ua, Dm, Frmr, seq, State, TeiAssigned, AwaitingEstablishment, AwaitingRelease, Established, TimerRecovery, ControlFrame, undefined, wrong_size, overlong, received, expired, requested, offer, cleared, state_number, moves, as_response}
+use Rattle.laws_trace.proofs.Vocabulary.{◌≡◌, ℕ, ◌==◌, ◌&&◌, ◌||◌, Bool, true, false, cond, List, [], ◌∷◌, ◌++◌, Some, refl, ap, ◌∙◌, not, flat_map, All, nat_lt, length, All-nil, All-cons, All-append, All-head, All-tail, Information, ReceiveReady, ReceiveNotReady, Reject, Sabme, Disc, Ua, Dm, seq, State, AwaitingEstablishment, AwaitingRelease, TimerRecovery, ControlFrame, received, requested, state_number, moves, as_response}
 use Rattle.lapd_frame.specs.declared.controls.Control.{Control}
-use Rattle.lapd_frame.specs.declared.controls.Control.TheVariants.{Xid}
 use Rattle.model_link.specs.Events.{Event, frame}
 use Rattle.laws_trace.proofs.ControlsWatched.{control_in, receipt, polled, to_information, while_up, answer_to, changed, command_of}
 use Rattle.laws_trace.proofs.DeliveriesWatched.{Standing}
@@ -44,37 +43,26 @@ all-up state xs h = if-all _ xs [] h none-at-all
 all-answers : (was now : Standing) (state : ℕ) (command too_long : Bool) (control : Control) → All IsControl (answer_to was now state command too_long control)
 all-answers was now state command too_long (Sabme p) = if-one false (state == 6) (Dm p) (Ua p) refl refl
 all-answers was now state command too_long (Disc p) = if-one false (state == 4 || state == 5) (Dm p) (Ua p) refl refl
-all-answers was now state command true (Information ns nr p) = none-at-all
 all-answers was now state command false (Information ns nr p) =
     all-up state (to_information p was now) (if-all (now.rejected && not was.rejected) (as_response (Reject (seq now.told.count) p)) (polled now p) (one _ refl) (all-polled now p))
 all-answers was now state command too_long (ReceiveReady nr p) = all-up state (polled now (command && p)) (all-polled now (command && p))
 all-answers was now state command too_long (ReceiveNotReady nr p) = all-up state (polled now (command && p)) (all-polled now (command && p))
 all-answers was now state command too_long (Reject nr p) = all-up state (polled now (command && p)) (all-polled now (command && p))
-all-answers was now state command too_long (Ui p) = none-at-all
-all-answers was now state command too_long (Ua p) = none-at-all
-all-answers was now state command too_long (Dm p) = none-at-all
-all-answers was now state command too_long (Frmr p) = none-at-all
-all-answers was now state command too_long (Xid p) = none-at-all
+all-answers was now state command b other = none-at-all
 
 all-changed : (was now : Standing) → All IsControl (changed was now)
 all-changed was now = if-all (cond was.busy (not now.busy) now.busy) (as_response (receipt now false)) [] (if-one false now.busy _ _ refl refl) none-at-all
 
 all-answers-of : (n201 : ℕ) (was now : Standing) (state : ℕ) (e : Event) → All IsControl (answers_of n201 was now state e)
 all-answers-of n201 was now state (received (frame f)) = all-answers was now state f.address.command (nat_lt n201 (length f.info)) f.control
-all-answers-of n201 was now state (received undefined) = none-at-all
-all-answers-of n201 was now state (received wrong_size) = none-at-all
-all-answers-of n201 was now state (received overlong) = none-at-all
-all-answers-of n201 was now state (expired timer) = none-at-all
 all-answers-of n201 was now state (requested r full) = all-up state (changed was now) (all-changed was now)
-all-answers-of n201 was now state offer = none-at-all
-all-answers-of n201 was now state cleared = none-at-all
+all-answers-of n201 was now state other = none-at-all
 
 all-commands : (now : Standing) (to : State) → All IsControl (command_of now (Some (state_number to)))
-all-commands now TeiAssigned = none-at-all
 all-commands now AwaitingEstablishment = one _ refl
 all-commands now AwaitingRelease = one _ refl
-all-commands now Established = none-at-all
 all-commands now TimerRecovery = if-one true now.busy _ _ refl refl
+all-commands now other = none-at-all
 
 -- What an event puts.
 abbrev pub put_by : ℕ → Standing → Standing → Event → State → State → List ControlFrame

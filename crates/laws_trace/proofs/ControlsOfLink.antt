@@ -1,8 +1,7 @@
 -- What an event of a link puts is what it makes due.
-use Rattle.laws_trace.proofs.Vocabulary.{◌≡◌, ℕ, ◌+◌, ◌-◌, ◌≤◌, ◌==◌, ◌&&◌, ◌||◌, Bool, true, false, cond, List, [], ◌∷◌, ◌++◌, length, take, drop, zero, suc, Some, refl, sym, ap, ◌∙◌, subst, arith, true≢false, not, nat_lt, flat_map-append, All-take, Information, ReceiveReady, ReceiveNotReady, Reject, Sabme, Disc, Ui, Ua, Dm, Frmr, Parts, seq, HasItsTimer, needed_in, State, TeiAssigned, AwaitingEstablishment, AwaitingRelease, Established, TimerRecovery, ControlFrame, Terms, LinkTimer, restarts, undefined, wrong_size, overlong, received, expired, requested, offer, cleared, Received, Link, is_multiple_frame, may_repeat, state_number, runs, establishes, busy_asked, takes_contents, as_heard, moves, by_expiry, state_after, is_overlong, receipt_as, as_response, as_command, is_next, to_supervisory, to_sabme, to_disc, answers, command_in, commands, put, behind, waiting_left, event-follows, Seq}
+use Rattle.laws_trace.proofs.Vocabulary.{◌≡◌, ℕ, ◌+◌, ◌-◌, ◌≤◌, ◌==◌, ◌&&◌, ◌||◌, Bool, true, false, cond, List, [], ◌∷◌, ◌++◌, length, take, drop, zero, suc, Some, refl, sym, ap, ◌∙◌, subst, arith, true≢false, not, nat_lt, flat_map-append, All-take, Information, ReceiveReady, ReceiveNotReady, Reject, Sabme, Disc, Ua, Dm, Parts, seq, HasItsTimer, needed_in, State, TeiAssigned, AwaitingEstablishment, AwaitingRelease, Established, TimerRecovery, ControlFrame, Terms, LinkTimer, restarts, undefined, wrong_size, overlong, received, expired, requested, offer, cleared, Received, Link, is_multiple_frame, may_repeat, state_number, runs, establishes, busy_asked, takes_contents, as_heard, moves, by_expiry, state_after, is_overlong, receipt_as, as_response, as_command, is_next, to_supervisory, to_sabme, to_disc, answers, command_in, commands, put, behind, waiting_left, event-follows, Seq}
 use Rattle.std.proofs.lemmas.List.{length-drop}
 use Rattle.lapd_frame.specs.declared.controls.Control.{Control}
-use Rattle.lapd_frame.specs.declared.controls.Control.TheVariants.{Xid}
 use Rattle.model_link.specs.declared.timers.LinkTimer.TheVariants.{T200, T203}
 use Rattle.model_link.specs.Events.{Event, frame, Request, Establish, Release, Data, SetBusy, ClearBusy}
 use Rattle.model_link.specs.Machine as links
@@ -53,17 +52,11 @@ by-none false rejected r = refl
 -- SABME and DISC.
 by-sabme : (s : State) (p : Bool) → to_sabme s p ≡ cond (state_number s == 6) (Dm p) (Ua p)
 by-sabme TeiAssigned p = refl
-by-sabme AwaitingEstablishment p = refl
-by-sabme AwaitingRelease p = refl
-by-sabme Established p = refl
-by-sabme TimerRecovery p = refl
+by-sabme other p = refl
 
 by-disc : (s : State) (p : Bool) → to_disc s p ≡ cond (state_number s == 4 || state_number s == 5) (Dm p) (Ua p)
 by-disc TeiAssigned p = refl
-by-disc AwaitingEstablishment p = refl
-by-disc AwaitingRelease p = refl
-by-disc Established p = refl
-by-disc TimerRecovery p = refl
+by-disc other p = refl
 
 either-none : (b : Bool) → cond {A = List ControlFrame} b [] [] ≡ []
 either-none true = refl
@@ -75,11 +68,9 @@ if-both false b xs = refl
 
 -- States 7 and 8 are those of multiple-frame operation.
 pub both-up : (s : State) (xs ys : List ControlFrame) → (is_multiple_frame s ≡ true → xs ≡ ys) → cond (is_multiple_frame s) xs [] ≡ while_up (state_number s) ys
-both-up TeiAssigned xs ys h = refl
-both-up AwaitingEstablishment xs ys h = refl
-both-up AwaitingRelease xs ys h = refl
 both-up Established xs ys h = h refl
 both-up TimerRecovery xs ys h = h refl
+both-up other xs ys h = refl
 
 module _ (t : Terms) (l : Link) (m : ℕ) (busy rejected : Bool) (n : ℕ) (busy_now rejected_now : Bool) where
   abbrev Seen : Event → Type 0
@@ -147,11 +138,7 @@ module _ (t : Terms) (l : Link) (m : ℕ) (busy rejected : Bool) (n : ℕ) (busy
       both-up l.state _ _ (λ up. as-seen e (λ was now. polled now (f.address.command && p)) (to_supervisory f.address.command p l) h up (goes-on e (λ is. (establishes t l e is).by)) refl)
   by-frame f (Sabme p) h = ap as_response (by-sabme l.state p)
   by-frame f (Disc p) h = ap as_response (by-disc l.state p)
-  by-frame f (Ui p) h = either-none (is_multiple_frame l.state)
-  by-frame f (Ua p) h = either-none (is_multiple_frame l.state)
-  by-frame f (Dm p) h = either-none (is_multiple_frame l.state)
-  by-frame f (Frmr p) h = either-none (is_multiple_frame l.state)
-  by-frame f (Xid p) h = either-none (is_multiple_frame l.state)
+  by-frame f other h = either-none (is_multiple_frame l.state)
 
   by-request : (r : Request) (full : Bool) → let e = requested r full in
       (xs : List ControlFrame) → Seen e → xs ≡ changed (calm l.r l.own_busy l.rejecting) (calm l.r (busy_asked e l.own_busy) l.rejecting)
@@ -162,10 +149,6 @@ module _ (t : Terms) (l : Link) (m : ℕ) (busy rejected : Bool) (n : ℕ) (busy
 
   answers-are : (e : Event) → IsNoOther e → Seen e → answers (as_heard t e) l ≡ Answers e
   answers-are (received (frame f)) other h = by-frame f f.control h
-  answers-are (received undefined) other h = refl
-  answers-are (received wrong_size) other h = refl
-  answers-are (received overlong) other h = refl
-  answers-are (expired timer) other h = refl
   answers-are (requested Establish full) other h = sym (either-none (is_multiple_frame l.state)) ∙ by-request Establish full [] h (by-none l.own_busy l.rejecting l.r)
   answers-are (requested Release full) other h = sym (either-none (is_multiple_frame l.state)) ∙ by-request Release full [] h (by-none l.own_busy l.rejecting l.r)
   answers-are (requested (Data contents) full) other h = sym (either-none (is_multiple_frame l.state)) ∙ by-request (Data contents) full [] h (by-none l.own_busy l.rejecting l.r)
@@ -177,18 +160,16 @@ module _ (t : Terms) (l : Link) (m : ℕ) (busy rejected : Bool) (n : ℕ) (busy
       ∙ by-request ClearBusy full (cond l.own_busy (as_response (receipt_as false l.r false)) []) h (by-clear l.own_busy l.rejecting l.r)
   answers-are offer other h = absurd other
   answers-are cleared other h = absurd other
+  answers-are any other h = refl
 
   -- Commands: those of a state that awaits an answer, where T200 expires, or the link comes there.
   never-other : (e : Event) → IsNoOther e → let to = state_after t e l in (moves l.state to || waiting.is_time e l) ≡ true → enquires to ≡ true → (timer : LinkTimer) × (e ≡ expired timer)
   never-other (expired timer) other move lead = (timer, refl)
   never-other (received what) other move lead = absurd (none-heard t what l move lead)
   never-other (requested r full) other move lead = absurd (none-asked t r full l move lead)
-  never-other offer other move lead = absurd other
-  never-other cleared other move lead = absurd other
+  never-other any other move lead = absurd other
 
   by-expiry-up : (s : State) (timer : LinkTimer) (ran again : Bool) → enquires (cond ran (by_expiry s timer again) s) ≡ true → is_multiple_frame s ≡ true
-  by-expiry-up Established timer ran again up = refl
-  by-expiry-up TimerRecovery timer ran again up = refl
   by-expiry-up TeiAssigned timer true again up = absurd (true≢false (sym up))
   by-expiry-up TeiAssigned timer false again up = absurd (true≢false (sym up))
   by-expiry-up AwaitingEstablishment T200 true true up = absurd (true≢false (sym up))
@@ -199,13 +180,11 @@ module _ (t : Terms) (l : Link) (m : ℕ) (busy rejected : Bool) (n : ℕ) (busy
   by-expiry-up AwaitingRelease T200 true false up = absurd (true≢false (sym up))
   by-expiry-up AwaitingRelease T203 true again up = absurd (true≢false (sym up))
   by-expiry-up AwaitingRelease timer false again up = absurd (true≢false (sym up))
+  by-expiry-up other timer ran again up = refl
 
   command-is : (to : State) → (enquires to ≡ true → as_command (receipt_as l.own_busy l.r true) ≡ as_command (receipt now true)) → command_in to l ≡ command_of now (Some (state_number to))
-  command-is TeiAssigned h = refl
-  command-is AwaitingEstablishment h = refl
-  command-is AwaitingRelease h = refl
-  command-is Established h = refl
   command-is TimerRecovery h = h refl
+  command-is other h = refl
 
   enquired : (e : Event) (timer : LinkTimer) → e ≡ expired timer → Seen e → enquires (state_after t e l) ≡ true
       → as_command (receipt_as l.own_busy l.r true) ≡ as_command (receipt now true)
@@ -246,30 +225,16 @@ module _ (t : Terms) (l : Link) (m : ℕ) (busy rejected : Bool) (n : ℕ) (busy
   heard-times (received overlong) other h = received-times overlong
   heard-times (expired timer) other h = commands-are (expired timer) tt h
   heard-times (requested r full) other h = commands-are (requested r full) tt h
-  heard-times offer other h = absurd other
-  heard-times cleared other h = absurd other
+  heard-times any other h = absurd other
 
   same-ticks : (e : Event) → ticks (as_heard t e) ≡ ticks e
   same-ticks (received (frame f)) = refl
-  same-ticks (received undefined) = refl
-  same-ticks (received wrong_size) = refl
-  same-ticks (received overlong) = refl
-  same-ticks (expired timer) = refl
-  same-ticks (requested r full) = refl
-  same-ticks offer = refl
-  same-ticks cleared = refl
+  same-ticks other = refl
 
   -- Where a command is due by the timer, T200 runs.
   again : (e : Event) → l.running ≡ Some T200 → waiting.is_time e l ≡ (ticks e == 1)
   again (expired T200) is = ap (runs T200) is
-  again (expired T203) is = refl
-  again (received (frame f)) is = refl
-  again (received undefined) is = refl
-  again (received wrong_size) is = refl
-  again (received overlong) is = refl
-  again (requested asked full) is = refl
-  again offer is = refl
-  again cleared is = refl
+  again other is = refl
 
   if-same : (b d : Bool) → cond {A = List ControlFrame} b [] [] ≡ cond d [] []
   if-same b d = either-none b ∙ sym (either-none d)
@@ -285,21 +250,10 @@ module _ (t : Terms) (l : Link) (m : ℕ) (busy rejected : Bool) (n : ℕ) (busy
   whenever : (e : Event) (from to : State) → l.running ≡ needed_in from l → Whenever e from to
   whenever e from TeiAssigned is = if-same (moves from TeiAssigned || waiting.is_time e l) (moves from TeiAssigned || ticks e == 1)
   whenever e from Established is = if-same (moves from Established || waiting.is_time e l) (moves from Established || ticks e == 1)
-  whenever e TeiAssigned AwaitingEstablishment is = refl
   whenever e AwaitingEstablishment AwaitingEstablishment is = while-there e AwaitingEstablishment is
-  whenever e AwaitingRelease AwaitingEstablishment is = refl
-  whenever e Established AwaitingEstablishment is = refl
-  whenever e TimerRecovery AwaitingEstablishment is = refl
-  whenever e TeiAssigned AwaitingRelease is = refl
-  whenever e AwaitingEstablishment AwaitingRelease is = refl
   whenever e AwaitingRelease AwaitingRelease is = while-there e AwaitingRelease is
-  whenever e Established AwaitingRelease is = refl
-  whenever e TimerRecovery AwaitingRelease is = refl
-  whenever e TeiAssigned TimerRecovery is = refl
-  whenever e AwaitingEstablishment TimerRecovery is = refl
-  whenever e AwaitingRelease TimerRecovery is = refl
-  whenever e Established TimerRecovery is = refl
   whenever e TimerRecovery TimerRecovery is = while-there e TimerRecovery is
+  whenever e other any is = refl
 
   pub put-is : (e : Event) → IsNoOther e → HasItsTimer l → Seen e → let to = state_after t (as_heard t e) l in put (as_heard t e) l to ≡ put_by t.n201 was now e l.state to
   put-is e other timed h =
@@ -359,13 +313,9 @@ puts t e l m busy rejected n busy_now rejected_now other timed h =
 
     others : (e : Event) → IsNoOther e → waiting_left t (as_heard t e) l to ≡ behind t l (put (as_heard t e) l to)
     others (received (frame f)) other = refl
-    others (received undefined) other = refl
-    others (received wrong_size) other = refl
-    others (received overlong) other = refl
-    others (expired timer) other = refl
-    others (requested r full) other = refl
     others offer other = absurd other
     others cleared other = absurd other
+    others any other = refl
 
     waits : (links.after t e l).waiting ≡ l.waiting ++ take (room t l) due
     waits = (event-follows t e l).leaves.waiting ∙ others e other ∙ ap (λ fs. l.waiting ++ take (room t l) fs) is

@@ -1,5 +1,5 @@
 -- What is seen of the control frames of a link, and which are due by it.
-use Rattle.laws_trace.proofs.Vocabulary.{◌≡◌, ℕ, zero, suc, ◌==◌, ◌&&◌, Bool, true, false, cond, List, [], ◌∷◌, ◌++◌, map, drop, Option, Some, None, refl, sym, ap, ◌∙◌, ◌⊎◌, inl, inr, eq-eqb, append-nil, true≢false, Result, Ok, Err, All, IfSome, flat_map, option_to_list, nat_lt, length, All-head, All-tail, Ui, ReadFault, Service, Parts, reading, sapi_of, reading-again, event-follows, ControlFrame, Terms, Link, address_at, IsGiven, Given, orders_for, given_is_frame, Config, Effect, hears, expiry, request, next, Answer, refused, gave, Line, place_in, terms, aim_of, of_request, unless_refused_told, heard_side, message_of, aim_of_reading, aim_of_heard, at_side, IsMalformed, IsTooLong, is_granted, IsBy, Brings, BringsMalformed, sapi-is, same-sapi, both-true, Refusal}
+use Rattle.laws_trace.proofs.Vocabulary.{◌≡◌, ℕ, zero, suc, ◌==◌, ◌&&◌, Bool, true, false, cond, List, [], ◌∷◌, ◌++◌, map, drop, Option, Some, None, refl, sym, ap, ◌∙◌, ◌⊎◌, inl, inr, eq-eqb, append-nil, true≢false, Result, Ok, Err, All, IfSome, flat_map, option_to_list, nat_lt, length, All-head, All-tail, Ui, ReadFault, Service, Parts, reading, sapi_of, reading-again, event-follows, ControlFrame, Terms, Link, address_at, IsGiven, Given, orders_for, given_is_frame, Config, Effect, hears, expiry, request, next, Answer, Line, place_in, terms, aim_of, of_request, unless_refused_told, heard_side, message_of, aim_of_reading, aim_of_heard, at_side, IsMalformed, IsTooLong, is_granted, IsBy, Brings, BringsMalformed, sapi-is, same-sapi, both-true, Refusal}
 use Rattle.std.proofs.Common.{eqb-true}
 use Rattle.std.specs.Option.{unwrap_or}
 use Rattle.model_bits.specs.Stream as stream
@@ -43,8 +43,7 @@ module _ (c : Config) (service : Service) (tei : ℕ) where
   -- What is seen to go are the frames that begin.
   none-told : (a : Answer) → controls_begun (seen_told a) ≡ []
   none-told (told t) = refl
-  none-told (refused why) = refl
-  none-told (gave given) = refl
+  none-told other = refl
 
   none-given : (o : Option Refusal) (x : Effect) → [] ≡ flat_map begun_of (frame_in (unless_refused_told o x))
   none-given None x = refl
@@ -52,8 +51,7 @@ module _ (c : Config) (service : Service) (tei : ℕ) where
 
   none-granted : (r : Request) (a : Answer) → controls_begun (seen_granted r a ++ seen_told a) ≡ []
   none-granted r (told t) = refl
-  none-granted r (refused why) = refl
-  none-granted r (gave given) = refl
+  none-granted r other = refl
 
   by-begun : (frames : List (List ℕ)) → controls_begun (map traces.begun frames) ≡ flat_map begun_of frames
   by-begun [] = refl
@@ -145,8 +143,7 @@ module _ (c : Config) (service : Service) (tei : ℕ) where
 
     pub told-none : (a : Answer) → answers_seen (seen_told a) ≡ []
     told-none (told t) = refl
-    told-none (refused why) = refl
-    told-none (gave given) = refl
+    told-none other = refl
 
     pub begun-none : (frames : List (List ℕ)) → answers_seen (map traces.begun frames) ≡ []
     begun-none [] = refl
@@ -173,10 +170,9 @@ module _ (c : Config) (service : Service) (tei : ℕ) where
     malformed-answers e a what b = by-end b.by
       where
         by-fault : (octets : List ℕ) (what : link.Received) → IsMalformed c b.address octets what → To (reading (heard_side c) octets) ≡ []
-        by-fault octets link.undefined is = ap To is
-        by-fault octets link.wrong_size is = ap To is
         by-fault octets link.overlong is = absurd is
         by-fault octets (link.frame frame) is = absurd is
+        by-fault octets other is = ap To is
 
         by-end : ((e ≡ hears (stream.frame b.octets)) × IsMalformed c b.address b.octets what) ⊎ ((e ≡ hears (stream.overlong b.octets)) × IsTooLong c b.address b.octets what)
             → answers_seen (seen e a) ≡ []
@@ -185,8 +181,7 @@ module _ (c : Config) (service : Service) (tei : ℕ) where
 
     pub asked-answers : (r : Request) (a : Answer) → is_granted a ≡ true → answers_seen (seen_granted r a ++ seen_told a) ≡ while_up state (changed was now)
     asked-answers r (told t) is = append-nil (while_up state (changed was now))
-    asked-answers r (refused why) is = absurd (true≢false (sym is))
-    asked-answers r (gave given) is = absurd (true≢false (sym is))
+    asked-answers r other is = absurd (true≢false (sym is))
 
     pub event-answers : (e : Event) (a : Answer) (event : link.Event) → IsBy c e a service tei event → answers_seen (seen e a) ≡ answers_of c.n201 was now state event
     event-answers e a (link.received (link.frame frame)) x = frame-answers e a frame x
@@ -218,13 +213,11 @@ module _ (c : Config) (service : Service) (tei : ℕ) where
 
       heard-none : (e : stream.Event) → is_at_link service tei (aim_of_heard c l e) ≡ false → answers_at c service tei was now state (heard e) ≡ []
       heard-none (stream.frame octets) aims = read-none (reading (heard_side c) octets) aims
-      heard-none (stream.overlong head) aims = refl
-      heard-none (stream.dropped cause) aims = refl
+      heard-none other aims = refl
 
       request-none : (r : Request) (a : Answer) → while_up state (changed was now) ≡ [] → answers_seen (seen_granted r a ++ seen_told a) ≡ []
       request-none r (told t) same = append-nil (while_up state (changed was now)) ∙ same
-      request-none r (refused why) same = refl
-      request-none r (gave given) same = refl
+      request-none r other same = refl
 
       pub none-answered : (e : Event) (a : Answer) → while_up state (changed was now) ≡ [] → is_at_link service tei (aim_of c e l) ≡ false → answers_seen (seen e a) ≡ []
       none-answered (hears what) a same aims = heard-answers (hears what) a what refl ∙ heard-none what aims

@@ -1,8 +1,7 @@
 -- I-frames of a link that go out, as they are read.
-use Rattle.laws_trace.proofs.Vocabulary.{◌≡◌, ℕ, ◌==◌, ◌&&◌, Bool, true, false, cond, List, [], Option, Some, None, refl, ap, ◌∙◌, subst, eq-eqb, inl, inr, true≢false, IfSome, option_map_or, Information, ReceiveReady, ReceiveNotReady, Reject, Sabme, Disc, Ui, Ua, Dm, Frmr, Service, Parts, reading, sapi_of, reading-again, Link, address_at, is_information, Given, given_is_frame, Config, NextFrame, terms, same-sapi}
+use Rattle.laws_trace.proofs.Vocabulary.{◌≡◌, ℕ, ◌==◌, ◌&&◌, Bool, true, false, cond, List, [], Option, Some, None, refl, ap, ◌∙◌, subst, eq-eqb, inl, inr, true≢false, IfSome, option_map_or, Information, Ui, Service, Parts, reading, sapi_of, reading-again, Link, address_at, is_information, Given, given_is_frame, Config, NextFrame, terms, same-sapi}
 use Rattle.std.specs.Prelude.{unwrap_or}
 use Rattle.lapd_frame.specs.declared.controls.Control.{Control}
-use Rattle.lapd_frame.specs.declared.controls.Control.TheVariants.{Xid}
 use Rattle.lapd_tei.specs.Messages.{information_of}
 use Rattle.model_link.specs.Machine as links
 use Rattle.model_link.specs.Sound as link_sound
@@ -13,16 +12,7 @@ use Rattle.laws_trace.proofs.ReadAgain.{read-again}
 
 pub none-sent : (control : Control) (info : List ℕ) → is_information control ≡ false → sent_by control info ≡ None
 none-sent (Information ns nr p) info e = absurd (true≢false e)
-none-sent (ReceiveReady nr pf) info e = refl
-none-sent (ReceiveNotReady nr pf) info e = refl
-none-sent (Reject nr pf) info e = refl
-none-sent (Sabme p) info e = refl
-none-sent (Disc p) info e = refl
-none-sent (Ui p) info e = refl
-none-sent (Ua f) info e = refl
-none-sent (Dm f) info e = refl
-none-sent (Frmr f) info e = refl
-none-sent (Xid pf) info e = refl
+none-sent other info e = refl
 
 -- Frames of others, and what a link gives.
 module _ (c : Config) (service : Service) (tei : ℕ) where

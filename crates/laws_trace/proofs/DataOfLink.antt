@@ -1,5 +1,5 @@
 -- What an event of a link is to the contents that it keeps: what is acknowledged of them, and what is accepted.
-use Rattle.laws_trace.proofs.Vocabulary.{◌≡◌, ℕ, ◌+◌, ◌≤◌, Bool, true, false, cond, List, [], ◌∷◌, Option, Some, None, refl, ap, arith, is_some, option_map_or, Seq, named, WrongState, Terms, received, expired, requested, offer, cleared, Link, is_multiple_frame, refusal_for_room, named-within, acknowledged_by, accepted, beyond, number_received}
+use Rattle.laws_trace.proofs.Vocabulary.{◌≡◌, ℕ, ◌+◌, ◌≤◌, Bool, true, false, cond, List, [], ◌∷◌, Option, Some, None, refl, ap, arith, is_some, option_map_or, Seq, named, WrongState, Terms, received, requested, Link, is_multiple_frame, refusal_for_room, named-within, acknowledged_by, accepted, beyond, number_received}
 use Rattle.model_link.specs.Events.{Event, Request, Establish, Release, Data, SetBusy, ClearBusy}
 use Rattle.model_link.specs.Requests.{refusal}
 use Rattle.laws_link.specs.Accepted.{acknowledged}
@@ -10,20 +10,16 @@ acknowledged-number l ordered None = omega (arith, ordered)
 acknowledged-number l ordered (Some nr) = go (is_multiple_frame l.state) (named l.a l.s nr) refl
   where
     go : (up : Bool) (o : Option ℕ) → named l.a l.s nr ≡ o → l.a + cond up (option_map_or (beyond l.a) o 0) 0 ≤ l.s
-    go false o e = omega (arith, ordered)
-    go true None e = omega (arith, ordered)
     go true (Some m) e =
         let between = named-within l.a l.s m nr e in
         let low : l.a ≤ m = between.0 in
         let high : m ≤ l.s = between.1 in
         omega (arith, low, high)
+    go b other e = omega (arith, ordered)
 
 pub acknowledged-went : (t : Terms) (e : Event) (l : Link) → l.a ≤ l.s → l.a + acknowledged t e l ≤ l.s
 acknowledged-went t (received r) l ordered = acknowledged-number l ordered (number_received t r)
-acknowledged-went t (expired timer) l ordered = omega (arith, ordered)
-acknowledged-went t (requested request full) l ordered = omega (arith, ordered)
-acknowledged-went t offer l ordered = omega (arith, ordered)
-acknowledged-went t cleared l ordered = omega (arith, ordered)
+acknowledged-went t other l ordered = omega (arith, ordered)
 
 -- No data is accepted but in states 7 and 8.
 either-none : (b : Bool) → cond {A = List (List ℕ)} b [] [] ≡ []
@@ -39,8 +35,5 @@ none-asked t SetBusy full l down = either-none (is_some (refusal t l full SetBus
 none-asked t ClearBusy full l down = either-none (is_some (refusal t l full ClearBusy))
 
 pub none-accepted : (t : Terms) (e : Event) (l : Link) → is_multiple_frame l.state ≡ false → accepted t e l ≡ []
-none-accepted t (received r) l down = refl
-none-accepted t (expired timer) l down = refl
 none-accepted t (requested request full) l down = none-asked t request full l down
-none-accepted t offer l down = refl
-none-accepted t cleared l down = refl
+none-accepted t other l down = refl

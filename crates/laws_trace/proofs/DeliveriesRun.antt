@@ -1,5 +1,5 @@
 -- What is told is what was heard: over runs.
-use Rattle.laws_trace.proofs.Vocabulary.{length, nat_le, le-leb, within, ◌≡◌, ℕ, ◌+◌, ◌%◌, ◌&&◌, ◌||◌, Bool, true, false, cond, List, Option, Some, None, refl, sym, ap, ◌∙◌, subst, eq-eqb, ◌==◌, Result, Ok, Err, true≢false, ◌⊎◌, inl, inr, is_some, Note, list_any, option_or, option_map_or, none-some, ReadFault, reading, sapi_of, same_service, Service, Parts, Terms, restarts, Link, is_multiple_frame, event-delivers, delivered-at_once, notes-own, event-tells, unit_heard, event-unit, within-is, place_of-is, Config, hears, expiry, request, next, Answer, Line, place_in, link_in, link_of, terms, aim_of, aim_of_heard, aim_of_reading, message_of, heard_side, group_tei, IsInRange, sound_in, at_side, notes_of, contents_in, is_data_of, is_unit_of, own-all, addressed-is, sapi-is, same-sapi, service-same, both-true, told-once}
+use Rattle.laws_trace.proofs.Vocabulary.{length, nat_le, le-leb, within, ◌≡◌, ℕ, ◌+◌, ◌%◌, ◌&&◌, ◌||◌, Bool, true, false, cond, List, Option, Some, None, refl, sym, ap, ◌∙◌, subst, eq-eqb, ◌==◌, Result, Ok, Err, true≢false, ◌⊎◌, inl, inr, is_some, Note, list_any, option_or, option_map_or, none-some, ReadFault, reading, sapi_of, same_service, Service, Parts, Terms, restarts, Link, is_multiple_frame, event-delivers, delivered-at_once, notes-own, event-tells, unit_heard, event-unit, within-is, place_of-is, Config, hears, Answer, Line, place_in, link_in, link_of, terms, aim_of, aim_of_heard, aim_of_reading, message_of, heard_side, group_tei, IsInRange, sound_in, at_side, notes_of, contents_in, is_data_of, is_unit_of, own-all, addressed-is, sapi-is, same-sapi, service-same, both-true, told-once}
 use Rattle.std.proofs.Common.{eqb-true}
 use Rattle.lapd_frame.specs.declared.notes.Note.TheVariants as notes
 use Rattle.model_bits.specs.Stream as stream
@@ -51,15 +51,12 @@ its-aim c l service tei place on (Ok g) f is for =
 pub heard-aims-at : (c : Config) (l : Line) (service : Service) (tei place : ℕ) → place_in l tei ≡ Some place → (e : stream.Event) (f : Parts)
     → frame_of c e ≡ Some f → is_for service tei f.address ≡ true → is_at_link service tei (aim_of_heard c l e) ≡ true
 heard-aims-at c l service tei place on (stream.frame octets) f is for = its-aim c l service tei place on (reading (heard_side c) octets) f is for
-heard-aims-at c l service tei place on (stream.overlong head) f is for = absurd (none-some f is)
-heard-aims-at c l service tei place on (stream.dropped cause) f is for = absurd (none-some f is)
+heard-aims-at c l service tei place on other f is for = absurd (none-some f is)
 
 pub event-aims : (c : Config) (l : Line) (service : Service) (tei place : ℕ) → place_in l tei ≡ Some place → (e : Event) (f : Parts) → frame_by c e ≡ Some f
     → is_for service tei f.address ≡ true → is_at_link service tei (aim_of c e l) ≡ true
 event-aims c l service tei place on (hears what) f is for = heard-aims-at c l service tei place on what f is for
-event-aims c l service tei place on (expiry timer) f is for = absurd (none-some f is)
-event-aims c l service tei place on (request r) f is for = absurd (none-some f is)
-event-aims c l service tei place on next f is for = absurd (none-some f is)
+event-aims c l service tei place on other f is for = absurd (none-some f is)
 
 and-false : (a b : Bool) → (a ≡ true → ⊥) → (a && b) ≡ false
 and-false true b h = absurd (h refl)

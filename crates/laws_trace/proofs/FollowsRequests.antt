@@ -50,9 +50,8 @@ low-test tei = go (nat_le tei 126) refl (nat_lt 126 tei) refl
   where
     go : (a : Bool) → nat_le tei 126 ≡ a → (b : Bool) → nat_lt 126 tei ≡ b → a ≡ not b
     go true low true high = let x = leb-true tei 126 low in let y = ltb-true 126 tei high in absurd (omega (arith, x, y))
-    go true low false high = refl
-    go false low true high = refl
     go false low false high = let x = leb-false tei 126 low in let y = ltb-false 126 tei high in absurd (omega (arith, x, y))
+    go b low other high = refl
 
 module _ (c : Config) (l : Line) (s : IsSound c l) (on : List ℕ) (h : AreOn on l.management.places) (order : IfSome l.management.check InOrder) where
   abbrev m : Management

@@ -1,29 +1,24 @@
 -- Which events of a line give a frame: of a link, only an offer.
-use Rattle.laws_trace.proofs.Vocabulary.{◌≡◌, ℕ, List, [], map, Option, Some, None, refl, option_to_list, Service, Timer, Terms, Link, LinkTimer, Config, Aim, at_none, at_link, at_management, at_units, at_timer, aim_of_expiry, Line, place_in, link_of, terms, aim_of_heard, Assign, Remove, Deactivate, at_requested, at_deactivated, aim_of_request, heard_aims, at_no_link, Down}
+use Rattle.laws_trace.proofs.Vocabulary.{◌≡◌, ℕ, List, [], map, Option, Some, None, refl, option_to_list, Service, Timer, Terms, Link, LinkTimer, Config, Aim, at_none, at_link, at_timer, aim_of_expiry, Line, place_in, link_of, terms, aim_of_heard, Deactivate, at_requested, at_deactivated, aim_of_request, heard_aims}
 use Rattle.model_bits.specs.Stream as stream
 use Rattle.lapd_frame.specs.declared.timers.Timer.TheVariants as timers
 use Rattle.model_link.specs.Events as link
 use Rattle.model_link.specs.Machine as links
 use Rattle.model_link.specs.declared.timers.LinkTimer.TheVariants as link_timer
 use Rattle.model_line.specs.Taken.{frame_of}
-use Rattle.model_line.specs.Request.{Request, Establish, Release, Data, Check, SetBusy, ClearBusy}
+use Rattle.model_line.specs.Request.{Request, Establish, Release, Data, SetBusy, ClearBusy}
 
 -- The frame that an offer of a link gives; no other event gives one.
 abbrev pub frames_given : Config → Terms → link.Event → Link → List (List ℕ)
 frames_given c t link.offer x = map (frame_of c t) (option_to_list (links.given t x))
-frames_given c t (link.received what) x = []
-frames_given c t (link.expired timer) x = []
-frames_given c t (link.requested asked full) x = []
-frames_given c t link.cleared x = []
+frames_given c t other x = []
 
 -- No other event gives a frame; and what concerns no part orders nothing.
 module _ (c : Config) (l : Line) where
   abbrev pub Silent : Aim → Type 0
   Silent (at_link its by place event) = frames_given c (terms c its by) event (link_of its by l) ≡ []
   Silent (at_none what) = what.orders ≡ []
-  Silent (at_management me) = Unit {0}
-  Silent (at_units unit) = Unit {0}
-  Silent at_no_link = Unit {0}
+  Silent other = Unit {0}
 
   pub heard-silent : (what : stream.Event) → Silent (aim_of_heard c l what)
   heard-silent what = heard_aims c l Silent (λ cause. refl) (λ its by place what at. refl) (λ info. tt) (λ parts service to. refl) what
@@ -49,11 +44,7 @@ module _ (c : Config) (l : Line) where
   request-silent (Establish its by) = asked-silent its by link.Establish (place_in l by)
   request-silent (Release its by) = asked-silent its by link.Release (place_in l by)
   request-silent (Data its by contents) = asked-silent its by (link.Data contents) (place_in l by)
-  request-silent (Request.Unit its by contents) = tt
-  request-silent (Assign by) = tt
-  request-silent (Remove by) = tt
-  request-silent (Check by) = tt
   request-silent (SetBusy its by) = asked-silent its by link.SetBusy (place_in l by)
   request-silent (ClearBusy its by) = asked-silent its by link.ClearBusy (place_in l by)
   request-silent (Deactivate its by) = deactivated-silent its by (place_in l by)
-  request-silent Down = tt
+  request-silent other = tt

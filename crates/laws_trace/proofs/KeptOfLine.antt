@@ -1,5 +1,5 @@
 -- What an event of a line leaves of the contents that a link keeps.
-use Rattle.laws_trace.proofs.Vocabulary.{◌≡◌, ℕ, ◌%◌, Bool, true, false, cond, not, List, [], ◌∷◌, ◌++◌, ◌&&◌, ◌||◌, drop, Some, None, refl, sym, ap, ◌∙◌, subst, ◌⊎◌, inl, inr, arith, append-nil, All, is_some, list_any, option_map_or, All-head, All-tail, none-some, Note, WrongState, Service, place_of-is, is_on-at, not_not, accepted, ends, is_release, tells_loss, empties, Terms, Link, is_multiple_frame, queue_of, state_number, notes-own, Config, at_link, Answer, hears, expiry, request, next, Line, has_tei, link_in, link_of, place_in, terms, aim_of, unless_refused, bad_tei, no_link, wrong_state, Assign, Remove, Deactivate, at_requested, at_deactivated, aim_of_request, IsInRange, terms_in_range, notes_of, is_loss_of, is_granted, IsBy, link-grants, passed, not-refused, Down}
+use Rattle.laws_trace.proofs.Vocabulary.{◌≡◌, ℕ, ◌%◌, Bool, true, false, cond, not, List, [], ◌∷◌, ◌++◌, ◌&&◌, ◌||◌, drop, Some, None, refl, sym, ap, ◌∙◌, subst, ◌⊎◌, inl, inr, arith, append-nil, All, is_some, list_any, option_map_or, All-head, All-tail, none-some, Note, WrongState, Service, place_of-is, is_on-at, not_not, accepted, ends, is_release, tells_loss, empties, Terms, Link, is_multiple_frame, queue_of, state_number, notes-own, Config, at_link, Answer, hears, expiry, request, next, Line, has_tei, link_in, link_of, place_in, terms, aim_of, unless_refused, bad_tei, no_link, wrong_state, Deactivate, at_requested, at_deactivated, aim_of_request, IsInRange, terms_in_range, notes_of, is_loss_of, is_granted, IsBy, link-grants, passed, not-refused}
 use Rattle.lapd_frame.specs.declared.notes.Note.TheVariants as notes
 use Rattle.model_link.specs.Events as link
 use Rattle.model_link.specs.Link.{fresh as fresh_link}
@@ -9,7 +9,7 @@ use Rattle.model_link.specs.Sound as link_sound
 use Rattle.model_line.specs.Event as line_event
 use Rattle.model_line.specs.Machine as lines
 use Rattle.model_line.specs.Refusal.{refusal}
-use Rattle.model_line.specs.Request.{Request, Establish, Release, Data, Check, SetBusy, ClearBusy}
+use Rattle.model_line.specs.Request.{Request, Release, Data}
 use Rattle.model_line.specs.Sound.{IsSound}
 use Rattle.laws_line.specs.Requests.{of_link}
 use Rattle.laws_trace.specs.News.{brings, is_news, is_sabme}
@@ -95,11 +95,9 @@ module _ (c : Config) (ranged : IsInRange c) (l : Line) (s : IsSound c l) (servi
           ∙ link-grants c service tei x.place contents l x.placed none
 
   no-end : (e : line_event.Event) → ((r : Request) → e ≡ request r → ⊥) → (le : link.Event) → IsBy c e (lines.answer c e l) service tei le → ends own_terms le own ≡ false
-  no-end e never (link.received r) by = refl
-  no-end e never (link.expired timer) by = refl
   no-end e never (link.requested what full) by = absurd (never (of_link service tei what) by.0)
-  no-end e never link.offer by = refl
   no-end e never link.cleared by = absurd by
+  no-end e never other by = refl
 
   noted : (e : line_event.Event) → (x : One e) → list_any (is_loss_of service tei) (notes_of (lines.answer c e l)) ≡ tells_loss (links.told own_terms x.event own).notes
   noted e x =
@@ -160,15 +158,7 @@ module _ (c : Config) (ranged : IsInRange c) (l : Line) (s : IsSound c l) (servi
     none-asked : (r : Request) → is_at_link service tei (aim_of_request r l) ≡ false → is_release_of service tei r ≡ false
     none-asked (Release its by) aims = elsewhere c service tei known.nothing_yet l place on its by (link.requested link.Release false) (at_requested its by link.Release) (λ p. refl) aims
     none-asked (Deactivate its by) aims = elsewhere c service tei known.nothing_yet l place on its by link.cleared (at_deactivated its by) (λ p. refl) aims
-    none-asked (Establish its by) aims = refl
-    none-asked (Data its by contents) aims = refl
-    none-asked (Request.Unit its by contents) aims = refl
-    none-asked (Assign by) aims = refl
-    none-asked (Remove by) aims = refl
-    none-asked (Check by) aims = refl
-    none-asked Down aims = refl
-    none-asked (SetBusy its by) aims = refl
-    none-asked (ClearBusy its by) aims = refl
+    none-asked other aims = refl
 
     no-note : (ns : List Note) → All (λ n. is_news service tei n ≡ false) ns → list_any (is_loss_of service tei) ns ≡ false
     no-note [] all = refl
@@ -180,14 +170,7 @@ module _ (c : Config) (ranged : IsInRange c) (l : Line) (s : IsSound c l) (servi
         no-loss (notes.EstablishIndication of by) none = none
         no-loss (notes.ReleaseIndication of by) none = none
         no-loss (notes.ReleaseConfirm of by) none = none
-        no-loss (notes.EstablishConfirm of by) none = refl
-        no-loss (notes.Data of by) none = refl
-        no-loss (notes.Unit of by) none = refl
-        no-loss (notes.Error of by code) none = refl
-        no-loss (notes.Assigned by) none = refl
-        no-loss (notes.Removed by) none = refl
-        no-loss (notes.Doubled by) none = refl
-        no-loss (notes.Xid of by) none = refl
+        no-loss other none = refl
 
     pub none-lost : (e : line_event.Event) → is_at_link service tei (aim_of c e l) ≡ false → has_tei tei (lines.after c e l) ≡ true → lost_in service tei (seen e (lines.answer c e l)) ≡ false
     none-lost e aims there = go e aims (no-note (notes_of (lines.answer c e l)) (others-silent service tei c e l s aims (inr there)))

@@ -1,7 +1,6 @@
 -- What an event of a link leaves of the contents that it keeps, and how far V(A) goes on.
-use Rattle.laws_trace.proofs.Vocabulary.{◌≡◌, ℕ, ◌+◌, ◌-◌, ◌%◌, ◌≤◌, Bool, true, false, cond, not, List, [], ◌∷◌, ◌++◌, ◌&&◌, ◌||◌, ◌==◌, length, drop, Option, Some, None, is_some, refl, sym, ap, ◌∙◌, subst, arith, eq-eqb, true≢false, All, nat_lt, list_any, option_map_or, All-head, All-tail, none-some, Information, ReceiveReady, ReceiveNotReady, Reject, Sabme, Disc, Ui, Ua, Dm, Frmr, Note, Service, Parts, same_service, Seq, named, State, TeiAssigned, AwaitingEstablishment, AwaitingRelease, Established, TimerRecovery, Terms, restarts, MayEstablish, received, undefined, wrong_size, overlong, expired, requested, offer, cleared, Link, is_multiple_frame, queue_of, state_number, frame_in, accepted, acknowledged_by, beyond, number_of, number_received, ends, empties, is_loss, tells_loss, with_share, as_heard, by_frame, is_faulty, is_invalid, is_overlong, receipt_of, state_after, event-follows, event-done, establishes, is_loss_of, service-same}
+use Rattle.laws_trace.proofs.Vocabulary.{◌≡◌, ℕ, ◌+◌, ◌-◌, ◌%◌, ◌≤◌, Bool, true, false, cond, not, List, [], ◌∷◌, ◌++◌, ◌&&◌, ◌||◌, ◌==◌, length, drop, Option, Some, None, is_some, refl, sym, ap, ◌∙◌, subst, arith, eq-eqb, true≢false, All, nat_lt, list_any, option_map_or, All-head, All-tail, none-some, Information, ReceiveReady, ReceiveNotReady, Reject, Sabme, Ua, Note, Service, Parts, same_service, Seq, named, State, TeiAssigned, AwaitingEstablishment, AwaitingRelease, Established, TimerRecovery, Terms, restarts, MayEstablish, received, undefined, wrong_size, overlong, expired, requested, offer, cleared, Link, is_multiple_frame, queue_of, state_number, frame_in, accepted, acknowledged_by, beyond, number_of, number_received, ends, empties, is_loss, tells_loss, with_share, as_heard, by_frame, is_faulty, is_invalid, is_overlong, receipt_of, state_after, event-follows, event-done, establishes, is_loss_of, service-same}
 use Rattle.lapd_frame.specs.declared.controls.Control.{Control}
-use Rattle.lapd_frame.specs.declared.controls.Control.TheVariants.{Xid}
 use Rattle.lapd_frame.specs.declared.notes.Note.TheVariants as notes
 use Rattle.model_link.specs.Events.{Event, frame}
 use Rattle.model_link.specs.Machine.{after, told}
@@ -35,22 +34,14 @@ keeps-up TimerRecovery false (ReceiveNotReady n false) nr is up = refl
 keeps-up TimerRecovery true (Reject n pf) nr is up = refl
 keeps-up TimerRecovery false (Reject n true) nr is up = refl
 keeps-up TimerRecovery false (Reject n false) nr is up = refl
-keeps-up here command (Sabme p) nr is up = absurd (none-some nr is)
-keeps-up here command (Disc p) nr is up = absurd (none-some nr is)
-keeps-up here command (Ui p) nr is up = absurd (none-some nr is)
-keeps-up here command (Ua f) nr is up = absurd (none-some nr is)
-keeps-up here command (Dm f) nr is up = absurd (none-some nr is)
-keeps-up here command (Frmr f) nr is up = absurd (none-some nr is)
-keeps-up here command (Xid pf) nr is up = absurd (none-some nr is)
+keeps-up here command other nr is up = absurd (none-some nr is)
 
 ua-goes-on : (t : Terms) (k : Link) (here : State) → is_multiple_frame here ≡ true → (command f : Bool) (info : List ℕ) → (frame_in here t command info (Ua f) (begun k)).zeroed ≡ true → ⊥
 ua-goes-on t k Established up command true info e = true≢false (sym e)
 ua-goes-on t k Established up command false info e = true≢false (sym e)
 ua-goes-on t k TimerRecovery up command true info e = true≢false (sym e)
 ua-goes-on t k TimerRecovery up command false info e = true≢false (sym e)
-ua-goes-on t k TeiAssigned up command f info e = true≢false (sym up)
-ua-goes-on t k AwaitingEstablishment up command f info e = true≢false (sym up)
-ua-goes-on t k AwaitingRelease up command f info e = true≢false (sym up)
+ua-goes-on t k other up command f info e = true≢false (sym up)
 
 module _ (t : Terms) (k : Link) where
   -- where the link was down
@@ -60,10 +51,7 @@ module _ (t : Terms) (k : Link) where
       go : (o : Option Seq) → acknowledged_by o k ≡ 0
       go None = refl
       go (Some nr) = ap (λ b. cond b (option_map_or (beyond k.a) (named k.a k.s nr) 0) 0) down
-  down-acked (expired timer) down = refl
-  down-acked (requested request full) down = refl
-  down-acked offer down = refl
-  down-acked cleared down = refl
+  down-acked other down = refl
 
   -- where it goes down
   module _ (f : Parts) (goes : is_multiple_frame (after t (received (frame f)) k).state ≡ false) where
@@ -98,40 +86,22 @@ module _ (t : Terms) (k : Link) where
     frame-acked (ReceiveReady nr pf) is = supervised (ReceiveReady nr pf) is refl nr refl
     frame-acked (ReceiveNotReady nr pf) is = supervised (ReceiveNotReady nr pf) is refl nr refl
     frame-acked (Reject nr pf) is = supervised (Reject nr pf) is refl nr refl
-    frame-acked (Sabme p) is = refl
-    frame-acked (Disc p) is = refl
-    frame-acked (Ui p) is = refl
-    frame-acked (Ua b) is = refl
-    frame-acked (Dm b) is = refl
-    frame-acked (Frmr b) is = refl
-    frame-acked (Xid pf) is = refl
+    frame-acked other is = refl
 
   going-acked : (e : Event) → is_multiple_frame (after t e k).state ≡ false → acknowledged t e k ≡ 0
   going-acked (received (frame f)) goes = frame-acked f goes f.control refl
-  going-acked (received undefined) goes = refl
-  going-acked (received wrong_size) goes = refl
-  going-acked (received overlong) goes = refl
-  going-acked (expired timer) goes = refl
-  going-acked (requested request full) goes = refl
-  going-acked offer goes = refl
-  going-acked cleared goes = refl
+  going-acked other goes = refl
 
   -- by SABME
   anew-acked : (e : Event) → sabme_of e ≡ true → acknowledged t e k ≡ 0
   anew-acked (received (frame f)) anew = go f.control anew
     where
       go : (ct : Control) → is_sabme ct ≡ true → acknowledged_by (number_of t ct f.info) k ≡ 0
-      go (Sabme p) is = refl
       go (Information ns nr p) is = absurd (true≢false (sym is))
       go (ReceiveReady nr pf) is = absurd (true≢false (sym is))
       go (ReceiveNotReady nr pf) is = absurd (true≢false (sym is))
       go (Reject nr pf) is = absurd (true≢false (sym is))
-      go (Disc p) is = refl
-      go (Ui p) is = refl
-      go (Ua b) is = refl
-      go (Dm b) is = refl
-      go (Frmr b) is = refl
-      go (Xid pf) is = refl
+      go other is = refl
   anew-acked (received undefined) anew = refl
   anew-acked (received wrong_size) anew = refl
   anew-acked (received overlong) anew = refl
@@ -145,15 +115,7 @@ module _ (t : Terms) (k : Link) where
   frame-goes-on f (Sabme p) is up none anew = true≢false none
   frame-goes-on f (Ua b) is up none anew =
       ua-goes-on t k k.state up f.address.command b f.info (subst (λ ct. (frame_in k.state t f.address.command f.info ct (begun k)).zeroed ≡ true) is anew)
-  frame-goes-on f (Information ns nr p) is up none anew = subst MayEstablish is (establishes t k (received (frame f)) anew).by
-  frame-goes-on f (ReceiveReady nr pf) is up none anew = subst MayEstablish is (establishes t k (received (frame f)) anew).by
-  frame-goes-on f (ReceiveNotReady nr pf) is up none anew = subst MayEstablish is (establishes t k (received (frame f)) anew).by
-  frame-goes-on f (Reject nr pf) is up none anew = subst MayEstablish is (establishes t k (received (frame f)) anew).by
-  frame-goes-on f (Disc p) is up none anew = subst MayEstablish is (establishes t k (received (frame f)) anew).by
-  frame-goes-on f (Ui p) is up none anew = subst MayEstablish is (establishes t k (received (frame f)) anew).by
-  frame-goes-on f (Dm b) is up none anew = subst MayEstablish is (establishes t k (received (frame f)) anew).by
-  frame-goes-on f (Frmr b) is up none anew = subst MayEstablish is (establishes t k (received (frame f)) anew).by
-  frame-goes-on f (Xid pf) is up none anew = subst MayEstablish is (establishes t k (received (frame f)) anew).by
+  frame-goes-on f other is up none anew = subst MayEstablish is (establishes t k (received (frame f)) anew).by
 
   goes-on : (e : Event) → is_multiple_frame k.state ≡ true → sabme_of e ≡ false → ends t e k ≡ false → restarts t e k ≡ true → ⊥
   goes-on (received (frame f)) up none stays anew = frame-goes-on f f.control refl up none anew
@@ -230,14 +192,7 @@ module _ (t : Terms) where
   own-loss (notes.EstablishIndication service tei) own = its-own service tei own.0 own.1
   own-loss (notes.ReleaseIndication service tei) own = its-own service tei own.0 own.1
   own-loss (notes.ReleaseConfirm service tei) own = its-own service tei own.0 own.1
-  own-loss (notes.EstablishConfirm service tei) own = refl
-  own-loss (notes.Data service tei) own = refl
-  own-loss (notes.Unit service tei) own = refl
-  own-loss (notes.Error service tei code) own = refl
-  own-loss (notes.Assigned tei) own = refl
-  own-loss (notes.Removed tei) own = refl
-  own-loss (notes.Doubled tei) own = refl
-  own-loss (notes.Xid service tei) own = refl
+  own-loss other own = refl
 
   pub own-losses : (ns : List Note) → All (IsOwn t) ns → list_any is_loss ns ≡ list_any (is_loss_of t.service t.tei) ns
   own-losses [] all = refl

@@ -1,5 +1,5 @@
 -- Which state a link moves to: one event of a line, by what is seen of it.
-use Rattle.laws_trace.proofs.Vocabulary.{◌≡◌, ℕ, ◌==◌, ◌&&◌, Bool, true, false, cond, List, [], ◌∷◌, ◌++◌, length, map, Option, Some, None, Result, Ok, Err, refl, sym, ap, ◌∙◌, eq-eqb, true≢false, ◌⊎◌, inl, inr, fold, is_some, nat_lt, option_map_or, Unserved, Address, ReadFault, BadExtension, Undefined, WrongSize, Short, ErrorCode, L, N, O, Long, Refusal, Service, Timer, Parts, reading, long_reading, sapi_of, service_of, same_service, place_of-is, is_on-at, LinkTimer, Config, Aim, Effect, at_link, hears, expiry, request, next, Answer, refused, gave, aim_of_expiry, at_timer, Line, has_tei, place_in, terms, aim_of, unless_refused, unless_refused_told, of_request, heard_side, addressed, aim_of_heard, aim_of_reading, aim_of_long, drop_for, message_of, Assign, Remove, Deactivate, aim_of_request, at_requested, at_deactivated, at_side, IsMalformed, IsTooLong, is_granted, IsBy, BringsMalformed, timer_of, IsDeactivated, addressed-is, sapi-is, service-same, both-true, Down}
+use Rattle.laws_trace.proofs.Vocabulary.{◌≡◌, ℕ, ◌==◌, ◌&&◌, Bool, true, false, cond, List, [], ◌∷◌, ◌++◌, length, map, Option, Some, None, Result, Ok, Err, refl, sym, ap, ◌∙◌, eq-eqb, true≢false, ◌⊎◌, inl, inr, fold, is_some, nat_lt, option_map_or, Unserved, Address, ReadFault, Undefined, WrongSize, ErrorCode, L, N, O, Long, Refusal, Service, Timer, Parts, reading, long_reading, sapi_of, service_of, same_service, place_of-is, is_on-at, LinkTimer, Config, Aim, Effect, at_link, hears, expiry, request, next, Answer, aim_of_expiry, at_timer, Line, has_tei, place_in, terms, aim_of, unless_refused, unless_refused_told, of_request, heard_side, addressed, aim_of_heard, aim_of_reading, aim_of_long, drop_for, message_of, Deactivate, aim_of_request, at_requested, at_deactivated, at_side, IsMalformed, IsTooLong, is_granted, IsBy, BringsMalformed, timer_of, IsDeactivated, addressed-is, sapi-is, service-same, both-true}
 use Rattle.std.proofs.Common.{eqb-true}
 use Rattle.model_bits.specs.Stream as stream
 use Rattle.lapd_frame.specs.declared.overlong.Long.TheVariants as long
@@ -9,7 +9,7 @@ use Rattle.model_link.specs.Events as link
 use Rattle.model_line.specs.Event.{Event, told}
 use Rattle.model_line.specs.Machine.{answer}
 use Rattle.model_line.specs.Refusal.{refusal}
-use Rattle.model_line.specs.Request.{Request, Establish, Release, Data, Check, SetBusy, ClearBusy}
+use Rattle.model_line.specs.Request.{Request, Establish, Release}
 use Rattle.laws_line.specs.Requests as requests
 use Rattle.std.specs.Option.{option_and_then}
 use Rattle.std.specs.Result.{result_ok, result_err}
@@ -56,18 +56,15 @@ module _ (c : Config) (service : Service) (tei : ℕ) (k : Known) where
 
   told-leads : (x : ℕ) (a : Answer) → by_all x (seen_told a) ≡ x
   told-leads x (told t) = refl
-  told-leads x (refused why) = refl
-  told-leads x (gave given) = refl
+  told-leads x other = refl
 
   granted-leads : (x : ℕ) (r : Request) (a : Answer) → is_granted a ≡ true → by_all x (seen_granted r a ++ seen_told a) ≡ by_request service tei x r
   granted-leads x r (told t) e = refl
-  granted-leads x r (refused why) e = absurd (true≢false (sym e))
-  granted-leads x r (gave given) e = absurd (true≢false (sym e))
+  granted-leads x r other e = absurd (true≢false (sym e))
 
   refused-leads : (x : ℕ) (r : Request) (a : Answer) → is_granted a ≡ false → by_all x (seen_granted r a ++ seen_told a) ≡ x
   refused-leads x r (told t) e = absurd (true≢false e)
-  refused-leads x r (refused why) e = refl
-  refused-leads x r (gave given) e = refl
+  refused-leads x r other e = refl
 
   begun-leads : (x : ℕ) (frames : List (List ℕ)) → by_all x (map traces.begun frames) ≡ x
   begun-leads x [] = refl
@@ -103,8 +100,6 @@ module _ (c : Config) (service : Service) (tei : ℕ) (k : Known) where
             absurd (true≢false (sym (own-is service tei) ∙ sym (ap (is_at_link service tei) is) ∙ aims))
 
     read-none : (x : ℕ) (r : Result Parts ReadFault) → is_at_link service tei (aim_of_reading c l r) ≡ false → by_reading x r ≡ x
-    read-none x (Err BadExtension) aims = no-fault x x false L refl
-    read-none x (Err Short) aims = no-fault x x false L refl
     read-none x (Err (Undefined address)) aims = no-fault x x (is_for service tei address) L (addressed-none address link.undefined (drop_for Unserved) aims)
     read-none x (Err (WrongSize address)) aims = no-fault x x (is_for service tei address) N (addressed-none address link.wrong_size (drop_for Unserved) aims)
     read-none x (Ok f) aims =
@@ -117,14 +112,13 @@ module _ (c : Config) (service : Service) (tei : ℕ) (k : Known) where
             let parts = both-true (f.address.sapi == sapi_of service) (f.address.tei == tei) for in
             let is = addressed-is l f.address service tei place (link.frame f) (message_of f.control f.info) (eqb-true f.address.sapi (sapi_of service) parts.0) (eqb-true f.address.tei tei parts.1) on in
             absurd (true≢false (sym (own-is service tei) ∙ sym (ap (λ aim. is_at_link service tei (at_side c f aim)) is) ∙ aims))
+    read-none x other aims = no-fault x x false L refl
 
     long-none : (x : ℕ) (r : Result Long ReadFault) → is_at_link service tei (aim_of_long l r) ≡ false → by_long x r ≡ x
-    long-none x (Err BadExtension) aims = no-fault x x false L refl
-    long-none x (Err Short) aims = no-fault x x false L refl
     long-none x (Err (Undefined address)) aims = no-fault x x (is_for service tei address) L (addressed-none address link.undefined (drop_for Unserved) aims)
     long-none x (Err (WrongSize address)) aims = no-fault x x (is_for service tei address) N (addressed-none address link.wrong_size (drop_for Unserved) aims)
     long-none x (Ok (long.Information address)) aims = no-fault x x (is_for service tei address) O (addressed-none address link.overlong (drop_for Unserved) aims)
-    long-none x (Ok (long.Unnumbered address)) aims = no-fault x x false L refl
+    long-none x other aims = no-fault x x false L refl
 
     heard-none : (x : ℕ) (e : stream.Event) → is_at_link service tei (aim_of_heard c l e) ≡ false → by_heard x e ≡ x
     heard-none x (stream.frame octets) aims = read-none x (reading (heard_side c) octets) aims
@@ -154,22 +148,13 @@ module _ (c : Config) (service : Service) (tei : ℕ) (k : Known) where
         ap (λ b. cond (b && x == 4) 5 x) (elsewhere its by (link.requested link.Establish false) (at_requested its by link.Establish) (λ p. refl) aims)
     none-asked x (Release its by) aims =
         ap (λ b. cond (b && is_up x) 6 x) (elsewhere its by (link.requested link.Release false) (at_requested its by link.Release) (λ p. refl) aims)
-    none-asked x (Data its by contents) aims = refl
-    none-asked x (Request.Unit its by contents) aims = refl
-    none-asked x (Assign by) aims = refl
-    none-asked x (Remove by) aims = refl
-    none-asked x (Check by) aims = refl
-    none-asked x Down aims = refl
-    none-asked x (SetBusy its by) aims = refl
-    none-asked x (ClearBusy its by) aims = refl
     none-asked x (Deactivate its by) aims =
         ap (λ b. cond b 4 x) (elsewhere its by link.cleared (at_deactivated its by) (λ p. refl) aims)
+    none-asked x other aims = refl
 
     pub none-ticks : (e : Event) → is_at_link service tei (aim_of c e l) ≡ false → expired_of service tei e ≡ None
-    none-ticks (hears what) aims = refl
     none-ticks (expiry timer) aims = none-expired timer aims
-    none-ticks (request r) aims = refl
-    none-ticks next aims = refl
+    none-ticks other aims = refl
 
     pub none-led : (n x : ℕ) (e : Event) → is_at_link service tei (aim_of c e l) ≡ false → led c service tei k n e (seen e (answer c e l)) x ≡ x
     none-led n x (hears what) aims = told-leads (by_heard x what) (answer c (hears what) l) ∙ heard-none x what aims
@@ -205,8 +190,7 @@ module _ (c : Config) (service : Service) (tei : ℕ) (k : Known) where
         go : (what : link.Received) → IsMalformed c address octets what → by_reading x (reading (heard_side c) octets) ≡ cond (is_up x) 5 x
         go link.undefined is = ap (by_reading x) is ∙ a-fault x x (is_for service tei address) L for
         go link.wrong_size is = ap (by_reading x) is ∙ a-fault x x (is_for service tei address) N for
-        go link.overlong is = absurd is
-        go (link.frame f) is = absurd is
+        go other is = absurd is
     malformed-leads n x e address octets what for (inr y) =
         ap (λ e. led c service tei k n e (seen e a) x) y.0 ∙ told-leads (by_heard x (stream.overlong octets)) a ∙ go what y.1
       where
@@ -225,16 +209,11 @@ module _ (c : Config) (service : Service) (tei : ℕ) (k : Known) where
     asked-leads : (x : ℕ) (asked : link.Request) → by_request service tei x (requests.of_link service tei asked) ≡ expected (terms c service tei) k 0 (link.requested asked false) x
     asked-leads x link.Establish = ap (λ b. cond (b && x == 4) 5 x) (own-is service tei)
     asked-leads x link.Release = ap (λ b. cond (b && is_up x) 6 x) (own-is service tei)
-    asked-leads x (link.Data contents) = refl
-    asked-leads x link.SetBusy = refl
-    asked-leads x link.ClearBusy = refl
+    asked-leads x other = refl
 
     full-or-not : (n x : ℕ) (asked : link.Request) (full : Bool) → expected (terms c service tei) k 0 (link.requested asked false) x ≡ expected (terms c service tei) k n (link.requested asked full) x
     full-or-not n x link.Establish full = refl
-    full-or-not n x link.Release full = refl
-    full-or-not n x (link.Data contents) full = refl
-    full-or-not n x link.SetBusy full = refl
-    full-or-not n x link.ClearBusy full = refl
+    full-or-not n x other full = refl
 
     ticked : (timer : LinkTimer) → expired_of service tei (expiry (timer_of service tei timer)) ≡ Some timer
     ticked T200 = ap (λ b. cond b (Some T200) None) (own-is service tei)

@@ -1,5 +1,5 @@
 -- Which state a link moves to: the law.
-use Rattle.laws_trace.proofs.Vocabulary.{◌≡◌, ℕ, ◌+◌, ◌<◌, ◌≤◌, ◌==◌, not, Bool, true, false, cond, List, [], get_or, set, Option, Some, None, refl, sym, ap, ◌∙◌, subst, arith, eq-eqb, true≢false, ◌⊎◌, inl, inr, IfSome, option_map_or, and_parts, get_or-set_same, get_or-replicate, none-some, PoolFull, Service, State, TeiAssigned, AwaitingEstablishment, AwaitingRelease, Established, TimerRecovery, Terms, Link, state_number, Config, Answer, refused, Line, fresh_line, link_of, link_in, place_in, state_of, terms, IsInRange, Card, line_at, is_full, has_lines, by_room, line_sound, AllHaveTheirTimers, IsBy, HaveTheirTimers, nowhere, moves}
+use Rattle.laws_trace.proofs.Vocabulary.{◌≡◌, ℕ, ◌+◌, ◌<◌, ◌≤◌, ◌==◌, not, Bool, true, false, cond, List, [], get_or, set, Option, Some, None, refl, sym, ap, ◌∙◌, subst, arith, eq-eqb, true≢false, ◌⊎◌, inl, inr, IfSome, option_map_or, and_parts, get_or-set_same, get_or-replicate, none-some, PoolFull, Service, State, TeiAssigned, Terms, Link, state_number, Config, Answer, refused, Line, fresh_line, link_of, link_in, place_in, state_of, terms, IsInRange, Card, line_at, is_full, has_lines, by_room, line_sound, AllHaveTheirTimers, IsBy, HaveTheirTimers, nowhere, moves}
 use Rattle.std.proofs.Common.{eqb-true}
 use Rattle.model_link.specs.Events as link
 use Rattle.model_link.specs.Link.{fresh as fresh_link}
@@ -30,11 +30,8 @@ abbrev pub IsCountOf : Service → ℕ → ℕ → Line → Type 0
 IsCountOf service tei n l = let x = link_of service tei l in Counts x.state n x.repeats
 
 pub no-event : (event : link.Event) (c : Config) (e : line_event.Event) (a : Answer) (service : Service) (tei : ℕ) → IsBy c e a service tei event → event ≡ link.cleared → ⊥
-no-event (link.received what) c e a service tei by same = cc same
-no-event (link.expired timer) c e a service tei by same = cc same
-no-event (link.requested asked full) c e a service tei by same = cc same
-no-event link.offer c e a service tei by same = cc same
 no-event link.cleared c e a service tei by same = by
+no-event other c e a service tei by same = cc same
 
 no-more : (n m : ℕ) → m ≡ 0 → n + m ≡ n
 no-more n m none = omega (arith, none)
@@ -67,10 +64,7 @@ module _ (c : Config) (ranged : IsInRange c) (l : Line) (s : IsSound c l) (timed
 
   same-state : (state : State) → moves state state ≡ false
   same-state TeiAssigned = refl
-  same-state AwaitingEstablishment = refl
-  same-state AwaitingRelease = refl
-  same-state Established = refl
-  same-state TimerRecovery = refl
+  same-state other = refl
 
   abbrev counted : Option ℕ → Option ℕ → ℕ
   counted from to = cond (differ from to) 0 (n + option_map_or one_more (expired_of service tei e) 0)
@@ -179,10 +173,8 @@ module _ (c : Config) (ranged : IsInRange c) (l : Line) (s : IsSound c l) (timed
 -- A request that finds the pool full.
 pub none-expires : (c : Config) (service : Service) (tei : ℕ) (e : line_event.Event) (l : Line) → lines.takes_slot c e l ≡ true → expired_of service tei e ≡ None
 unfolding lines.takes_slot
-none-expires c service tei (line_event.hears what) l takes = refl
 none-expires c service tei (line_event.expiry timer) l takes = absurd (true≢false (sym takes))
-none-expires c service tei (line_event.request r) l takes = refl
-none-expires c service tei line_event.next l takes = refl
+none-expires c service tei other l takes = refl
 
 pub differ-self : (o : Option ℕ) → differ o o ≡ false
 differ-self None = refl

@@ -76,13 +76,11 @@ module _ (service : Service) (tei : ℕ) (c : Config) (ranged : IsInRange c) (e 
           (numbered service tei c ranged e l s timed m busy rejected count stands x)))
 
   by-event : (x : HasOne c service tei e l new a) → (event : link.Event) → x.event ≡ event → IsBy c e a service tei event → has_tei tei new ≡ true → is_empty Put ≡ false → Exact
-  by-event x (link.received what) is by on some = one-loses x (subst IsNoOther (sym is) tt) on
-  by-event x (link.expired timer) is by on some = one-loses x (subst IsNoOther (sym is) tt) on
-  by-event x (link.requested asked full) is by on some = one-loses x (subst IsNoOther (sym is) tt) on
   by-event x link.offer is by on some =
       let there = at-some-place new tei on in
       some-put (none-due service tei c ranged e l s timed m busy rejected count stands x is there.0 there.1) some
   by-event x link.cleared is by on some = absurd by
+  by-event x other is by on some = one-loses x (subst IsNoOther (sym is) tt) on
 
   pub event-loses : has_tei tei l ≡ true → has_tei tei new ≡ true → deactivates service tei e ≡ false → is_empty Put ≡ false → Exact
   event-loses was-on is-on stays some = go (event-goes c e l service tei s)

@@ -18,11 +18,6 @@ module _ (m : Management) (P : Course → Type 0) (requested : (ri : ℕ) → P 
       (pick (λ o. P (rows.serve o (begun m))) (type == 7) _ _ (verified action) unserved))
 
   pub served-by : (info : List ℕ) → P (rows.serve (heard_in info) (begun m))
-  served-by [] = unserved
-  served-by (a ∷ []) = unserved
-  served-by (a ∷ high ∷ []) = unserved
-  served-by (a ∷ high ∷ low ∷ []) = unserved
-  served-by (a ∷ high ∷ low ∷ type ∷ []) = unserved
   served-by (a ∷ high ∷ low ∷ type ∷ last ∷ []) =
       pick (λ o. P (rows.serve o (begun m))) (a == 0x0F && last % 2 == 1) _ _ (by-type type (256 * high + low) (last / 2)) unserved
-  served-by (a ∷ high ∷ low ∷ type ∷ last ∷ sixth ∷ more) = unserved
+  served-by other = unserved

@@ -25,8 +25,6 @@ compared : (a d s gap : ℕ) → a + gap ≡ s → not (nat_le (a + d) s) ≡ na
 compared a d s gap whole = go (nat_le (a + d) s) refl (nat_lt gap d) refl
   where
     go : (b : Bool) → nat_le (a + d) s ≡ b → (beyond : Bool) → nat_lt gap d ≡ beyond → not b ≡ beyond
-    go true le false lt = refl
-    go false le true lt = refl
     go true le true lt =
         let near : a + d ≤ s = leb-true (a + d) s le in
         let far : gap < d = ltb-true gap d lt in
@@ -35,6 +33,7 @@ compared a d s gap whole = go (nat_le (a + d) s) refl (nat_lt gap d) refl
         let far : s < a + d = leb-false (a + d) s le in
         let near : d ≤ gap = ltb-false gap d lt in
         absurd (omega (arith, whole, near, far))
+    go b le other lt = refl
 
 module _ (k : Known) (a s : ℕ) (busy : Bool) (known : IsKnown k a s busy) (ordered : a ≤ s) (within : s ≤ a + 127) where
   plain : a + (128 + s % 128 - a % 128) % 128 ≡ s
@@ -53,30 +52,23 @@ module _ (k : Known) (a s : ℕ) (busy : Bool) (known : IsKnown k a s busy) (ord
 -- How often T200 has expired in states 5, 6 and 8 is RC.
 abbrev pub Counts : State → ℕ → ℕ → Type 0
 Counts TeiAssigned n repeats = Unit {0}
-Counts AwaitingEstablishment n repeats = n ≡ repeats
-Counts AwaitingRelease n repeats = n ≡ repeats
 Counts Established n repeats = Unit {0}
-Counts TimerRecovery n repeats = n ≡ repeats
+Counts other n repeats = n ≡ repeats
 
 abbrev pub ticks : Event → ℕ
 ticks (expired timer) = one_more timer
-ticks (received what) = 0
-ticks (requested asked full) = 0
-ticks offer = 0
-ticks cleared = 0
+ticks other = 0
 
 -- What an observer says that an event leads to.
 abbrev pub expected : Terms → Known → ℕ → Event → ℕ → ℕ
 expected t k n (received (frame f)) state = by_frame k state f.address.command (nat_lt t.n201 (length f.info)) f.control
-expected t k n (received undefined) state = cond (is_up state) 5 state
-expected t k n (received wrong_size) state = cond (is_up state) 5 state
-expected t k n (received overlong) state = cond (is_up state) 5 state
 expected t k n (expired timer) state = by_expiry t.n200 k n state timer
 expected t k n (requested Establish full) state = cond (state == 4) 5 state
 expected t k n (requested Release full) state = cond (is_up state) 6 state
 expected t k n (requested other full) state = state
 expected t k n offer state = state
 expected t k n cleared state = state
+expected t k n other state = cond (is_up state) 5 state
 
 module _ (t : Terms) (k : Known) (l : Link) (n : ℕ) (ordered : l.a ≤ l.s) (within : l.s ≤ l.a + 127) where
   abbrev Is : State → Event → Type 0
@@ -110,26 +102,20 @@ module _ (t : Terms) (k : Known) (l : Link) (n : ℕ) (ordered : l.a ≤ l.s) (w
   ready-8 : IsKnown k l.a l.s l.peer_busy → (command f : Bool) (nr : Seq)
       → state_number (cond (not (is_some (named l.a l.s nr))) AwaitingEstablishment (states.by_frame TimerRecovery command (ReceiveReady nr f)))
       ≡ by_frame k 8 command false (ReceiveReady nr f)
-  ready-8 known true true nr = numbered known nr TimerRecovery 8 refl
-  ready-8 known true false nr = numbered known nr TimerRecovery 8 refl
   ready-8 known false true nr = numbered known nr Established 7 refl
-  ready-8 known false false nr = numbered known nr TimerRecovery 8 refl
+  ready-8 known b other nr = numbered known nr TimerRecovery 8 refl
 
   not-ready-8 : IsKnown k l.a l.s l.peer_busy → (command f : Bool) (nr : Seq)
       → state_number (cond (not (is_some (named l.a l.s nr))) AwaitingEstablishment (states.by_frame TimerRecovery command (ReceiveNotReady nr f)))
       ≡ by_frame k 8 command false (ReceiveNotReady nr f)
-  not-ready-8 known true true nr = numbered known nr TimerRecovery 8 refl
-  not-ready-8 known true false nr = numbered known nr TimerRecovery 8 refl
   not-ready-8 known false true nr = numbered known nr Established 7 refl
-  not-ready-8 known false false nr = numbered known nr TimerRecovery 8 refl
+  not-ready-8 known b other nr = numbered known nr TimerRecovery 8 refl
 
   reject-8 : IsKnown k l.a l.s l.peer_busy → (command f : Bool) (nr : Seq)
       → state_number (cond (not (is_some (named l.a l.s nr))) AwaitingEstablishment (states.by_frame TimerRecovery command (Reject nr f)))
       ≡ by_frame k 8 command false (Reject nr f)
-  reject-8 known true true nr = numbered known nr TimerRecovery 8 refl
-  reject-8 known true false nr = numbered known nr TimerRecovery 8 refl
   reject-8 known false true nr = numbered known nr Established 7 refl
-  reject-8 known false false nr = numbered known nr TimerRecovery 8 refl
+  reject-8 known b other nr = numbered known nr TimerRecovery 8 refl
 
   abbrev Heard : State → Address → Control → List ℕ → Type 0
   Heard here address control info = Is here (received (frame (record { address = address; control = control; info = info })))
@@ -313,43 +299,22 @@ module _ (t : Terms) (l : Link) (n : ℕ) (e : Event) (some : e ≡ cleared → 
   left-is : (e : Event) → (e ≡ cleared → ⊥) → (to : State)
       → repeats_left (as_heard t e) l to ≡ cond (not (awaits_answer to)) l.repeats (cond (moves l.state to) 0 (cond (is_time (as_heard t e) l) (l.repeats + 1) l.repeats))
   left-is (received (frame f)) some to = refl
-  left-is (received undefined) some to = refl
-  left-is (received wrong_size) some to = refl
-  left-is (received overlong) some to = refl
-  left-is (expired timer) some to = refl
-  left-is (requested r full) some to = refl
-  left-is offer some to = refl
   left-is cleared some to = absurd (some refl)
+  left-is other some to = refl
 
   ticked : (e : Event) → l.running ≡ Some T200 → n ≡ l.repeats → n + ticks e ≡ cond (is_time (as_heard t e) l) (l.repeats + 1) l.repeats
   ticked (expired T200) is counts = ap (λ m. m + 1) counts ∙ ap (λ r. cond (runs T200 r) (l.repeats + 1) l.repeats) (sym is)
   ticked (expired T203) is counts = let h : n ≡ l.repeats = counts in omega (arith, h)
   ticked (received (frame f)) is counts = let h : n ≡ l.repeats = counts in omega (arith, h)
-  ticked (received undefined) is counts = let h : n ≡ l.repeats = counts in omega (arith, h)
-  ticked (received wrong_size) is counts = let h : n ≡ l.repeats = counts in omega (arith, h)
-  ticked (received overlong) is counts = let h : n ≡ l.repeats = counts in omega (arith, h)
-  ticked (requested r full) is counts = let h : n ≡ l.repeats = counts in omega (arith, h)
-  ticked offer is counts = let h : n ≡ l.repeats = counts in omega (arith, h)
-  ticked cleared is counts = let h : n ≡ l.repeats = counts in omega (arith, h)
+  ticked other is counts = let h : n ≡ l.repeats = counts in omega (arith, h)
 
   counted : (from to : State) → l.running ≡ needed_in from l → Counts from n l.repeats → Counts to (cond (moves from to) 0 (n + ticks e)) (left from to)
   counted from TeiAssigned is counts = tt
   counted from Established is counts = tt
-  counted TeiAssigned AwaitingEstablishment is counts = refl
   counted AwaitingEstablishment AwaitingEstablishment is counts = ticked e is counts
-  counted AwaitingRelease AwaitingEstablishment is counts = refl
-  counted Established AwaitingEstablishment is counts = refl
-  counted TimerRecovery AwaitingEstablishment is counts = refl
-  counted TeiAssigned AwaitingRelease is counts = refl
-  counted AwaitingEstablishment AwaitingRelease is counts = refl
   counted AwaitingRelease AwaitingRelease is counts = ticked e is counts
-  counted Established AwaitingRelease is counts = refl
-  counted TimerRecovery AwaitingRelease is counts = refl
-  counted TeiAssigned TimerRecovery is counts = refl
-  counted AwaitingEstablishment TimerRecovery is counts = refl
-  counted AwaitingRelease TimerRecovery is counts = refl
-  counted Established TimerRecovery is counts = refl
   counted TimerRecovery TimerRecovery is counts = ticked e is counts
+  counted other any is counts = refl
 
   pub event-counted : HasItsTimer l → Counts l.state n l.repeats → let y = links.after t e l in Counts y.state (cond (moves l.state y.state) 0 (n + ticks e)) y.repeats
   event-counted timed counts =

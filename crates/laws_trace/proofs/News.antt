@@ -1,11 +1,11 @@
 -- What layer 3 is told of establishments and releases: the law.
-use Rattle.laws_trace.proofs.Vocabulary.{◌≡◌, ℕ, ◌<◌, ◌==◌, ◌&&◌, not, Bool, true, false, cond, List, [], ◌∷◌, get_or, set, Option, Some, None, refl, sym, ap, ◌∙◌, subst, arith, eq-eqb, true≢false, fold, filter, list_any, option_map_or, and_parts, get_or-set_same, get_or-replicate, All-head, All-tail, PoolFull, Service, Link, Config, hears, expiry, request, next, Answer, refused, Line, fresh_line, link_of, link_in, state_of, IsInRange, Assign, Remove, Deactivate, Card, line_at, is_full, at, moments, fresh_is_sound, after_is_sound, has_lines, by_room, line_sound, AllHaveTheirTimers, timely-after, begins-timely-card, notes_of, nowhere, Down}
+use Rattle.laws_trace.proofs.Vocabulary.{◌≡◌, ℕ, ◌<◌, ◌==◌, ◌&&◌, not, Bool, true, false, cond, List, [], ◌∷◌, get_or, set, Option, Some, None, refl, sym, ap, ◌∙◌, subst, arith, eq-eqb, true≢false, fold, filter, list_any, option_map_or, and_parts, get_or-set_same, get_or-replicate, All-head, All-tail, PoolFull, Service, Link, Config, hears, expiry, request, next, Answer, refused, Line, fresh_line, link_of, link_in, state_of, IsInRange, Card, line_at, is_full, at, moments, fresh_is_sound, after_is_sound, has_lines, by_room, line_sound, AllHaveTheirTimers, timely-after, begins-timely-card, notes_of, nowhere}
 use Rattle.std.proofs.Common.{eqb-true}
 use Rattle.std.specs.Option.{unwrap_or}
 use Rattle.model_link.specs.Link.{fresh as fresh_link}
 use Rattle.model_line.specs.Event as line_event
 use Rattle.model_line.specs.Machine as lines
-use Rattle.model_line.specs.Request.{Request, Establish, Release, Data, Check, SetBusy, ClearBusy}
+use Rattle.model_line.specs.Request.{Request, Establish}
 use Rattle.model_card.specs.Card.{fresh}
 use Rattle.model_card.specs.Event.{Event}
 use Rattle.model_card.specs.Machine.{after, answer}
@@ -73,16 +73,7 @@ module _ (service : Service) (tei number : ℕ) where
       where
         no-release : (r : Request) → releases service tei (request r) (refused PoolFull) ≡ false
         no-release (Establish its by) = refl
-        no-release (Release its by) = refl
-        no-release (Data its by contents) = refl
-        no-release (Request.Unit its by contents) = refl
-        no-release (Assign by) = refl
-        no-release (Remove by) = refl
-        no-release (Check by) = refl
-        no-release (SetBusy its by) = refl
-        no-release (ClearBusy its by) = refl
-        no-release (Deactivate its by) = refl
-        no-release Down = refl
+        no-release other = refl
 
         nothing-due : (n : ℕ) → due service tei [] was false false false outstanding n n ≡ []
         nothing-due n = go (n == 7) refl (n == 4) refl

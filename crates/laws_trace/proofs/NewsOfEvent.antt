@@ -1,5 +1,5 @@
 -- What layer 3 is told of the establishment and release of a link: one event of its line.
-use Rattle.laws_trace.proofs.Vocabulary.{◌≡◌, ℕ, ◌==◌, ◌&&◌, Bool, true, false, cond, List, [], Option, Some, None, refl, sym, ap, ◌∙◌, subst, true≢false, ◌⊎◌, inl, inr, filter, list_any, option_map_or, none-some, ErrorCode, Service, State, TeiAssigned, AwaitingEstablishment, AwaitingRelease, Established, TimerRecovery, Terms, Link, state_number, Config, Answer, Line, has_tei, link_of, place_in, state_of, terms, notes_of, is-off, moves}
+use Rattle.laws_trace.proofs.Vocabulary.{◌≡◌, ℕ, ◌==◌, ◌&&◌, Bool, true, false, cond, List, [], Option, Some, None, refl, sym, ap, ◌∙◌, subst, true≢false, ◌⊎◌, inl, inr, filter, list_any, option_map_or, none-some, ErrorCode, Service, State, TeiAssigned, AwaitingEstablishment, Terms, Link, state_number, Config, Answer, Line, has_tei, link_of, place_in, state_of, terms, notes_of, is-off, moves}
 use Rattle.std.specs.Option.{unwrap_or}
 use Rattle.lapd_frame.specs.declared.controls.Control.{Control}
 use Rattle.model_link.specs.Events as link
@@ -50,17 +50,11 @@ module _ (c : Config) (l : Line) (s : IsSound c l) (service : Service) (tei : �
   -- nothing is due where the link stays in its state
   unmoved : (state : State) (outstanding : Bool) → due service tei [] was false false false outstanding (state_number state) (state_number state) ≡ []
   unmoved TeiAssigned outstanding = refl
-  unmoved AwaitingEstablishment outstanding = refl
-  unmoved AwaitingRelease outstanding = refl
-  unmoved Established outstanding = refl
-  unmoved TimerRecovery outstanding = refl
+  unmoved other outstanding = refl
 
   same-state : (state : State) → moves state state ≡ false
   same-state TeiAssigned = refl
-  same-state AwaitingEstablishment = refl
-  same-state AwaitingRelease = refl
-  same-state Established = refl
-  same-state TimerRecovery = refl
+  same-state other = refl
 
   abbrev then_asked : Option ℕ → Option ℕ → Bool
   then_asked from to = cond (is_state 5 to && differ from to) (establishes service tei e a) was
@@ -126,10 +120,7 @@ module _ (c : Config) (l : Line) (s : IsSound c l) (service : Service) (tei : �
       asked-now : (state : State) → Asks state was own.asked → (errors : List ErrorCode) (xid sabme released outstanding : Bool) (to : ℕ)
           → due service tei errors own.asked xid sabme released outstanding (state_number state) to ≡ due service tei errors was xid sabme released outstanding (state_number state) to
       asked-now AwaitingEstablishment is errors xid sabme released outstanding to = ap (λ b. due service tei errors b xid sabme released outstanding 5 to) (sym is)
-      asked-now TeiAssigned is errors xid sabme released outstanding to = refl
-      asked-now AwaitingRelease is errors xid sabme released outstanding to = refl
-      asked-now Established is errors xid sabme released outstanding to = refl
-      asked-now TimerRecovery is errors xid sabme released outstanding to = refl
+      asked-now other is errors xid sabme released outstanding to = refl
 
       one-due : Due (state_number own.state) (state_number next.state) (state_number next.state)
       one-due =

@@ -1,5 +1,5 @@
 -- Where the TEI of a link leaves its line, what is told of the link is what the end of the TEI tells.
-use Rattle.laws_trace.proofs.Vocabulary.{◌≡◌, ℕ, ◌==◌, ◌&&◌, ◌||◌, not, Bool, true, false, List, [], ◌++◌, Option, Some, None, refl, sym, ap, ◌∙◌, subst, arith, eq-eqb, true≢false, ◌⊎◌, inl, inr, append-nil, filter, option_map_or, get_or-set_other, filter-append, Note, Refusal, Service, Call, Packet, Timer, T201, same_service, Management, is_on, Change, Gained, Left, place_of-is, is_on-at, event-follows, told_cleared, State, TeiAssigned, AwaitingEstablishment, AwaitingRelease, Established, TimerRecovery, Terms, LinkTimer, Link, state_number, Config, Aim, at_none, at_link, at_management, of_aim, of_change, told_of_management, Answer, hears, expiry, request, next, dropped, at_timer, aim_of_expiry, Line, has_tei, link_in, link_of, link_number, place_in, terms, aim_of, unless_refused, unless_refused_told, aim_of_heard, Assign, Remove, Deactivate, at_requested, at_deactivated, aim_of_request, group_told, IsProper, heard_aims, request_proper, notes_of, has-place, ByChange, noted, Down, at_no_link}
+use Rattle.laws_trace.proofs.Vocabulary.{◌≡◌, ℕ, ◌==◌, ◌&&◌, ◌||◌, not, Bool, true, false, List, [], ◌++◌, Option, Some, None, refl, sym, ap, ◌∙◌, subst, arith, eq-eqb, true≢false, ◌⊎◌, inl, inr, append-nil, filter, option_map_or, get_or-set_other, filter-append, Note, Refusal, Service, Call, Packet, Timer, T201, same_service, Management, is_on, Change, Gained, Left, place_of-is, is_on-at, event-follows, told_cleared, State, TeiAssigned, Terms, LinkTimer, Link, state_number, Config, Aim, at_none, at_link, at_management, of_aim, of_change, told_of_management, Answer, hears, expiry, request, next, dropped, at_timer, aim_of_expiry, Line, has_tei, link_in, link_of, link_number, place_in, terms, aim_of, unless_refused, unless_refused_told, aim_of_heard, Assign, Remove, Deactivate, at_requested, at_deactivated, aim_of_request, group_told, IsProper, heard_aims, request_proper, notes_of, has-place, ByChange, noted, Down, at_no_link}
 use Rattle.std.proofs.Common.{eqb-true}
 use Rattle.model_bits.specs.Stream as stream
 use Rattle.lapd_frame.specs.declared.timers.Timer.TheVariants.{T200, T203}
@@ -31,10 +31,7 @@ cleared-due t l was outstanding = ap (filter (is_news t.service t.tei)) (event-f
   where
     by-state : (here : State) → filter (is_news t.service t.tei) (told_cleared here t) ≡ due t.service t.tei [] was false false false outstanding (state_number here) 4
     by-state TeiAssigned = refl
-    by-state AwaitingEstablishment = rw (own-is t.service t.tei) refl
-    by-state AwaitingRelease = rw (own-is t.service t.tei) refl
-    by-state Established = rw (own-is t.service t.tei) refl
-    by-state TimerRecovery = rw (own-is t.service t.tei) refl
+    by-state other = rw (own-is t.service t.tei) refl
 
 module _ (service : Service) (tei : ℕ) (c : Config) (l : Line) (s : IsSound c l) (place : ℕ) (on : place_in l tei ≡ Some place) where
   abbrev own : Link
@@ -225,7 +222,5 @@ one-stays service tei c e l s on place event (inl is) = subst (λ e. has_tei tei
 one-stays service tei c e l s on place event (inr aimed) = by-event e aimed
   where
     by-event : (e : Event) → aim_of c e l ≡ at_link service tei place event → has_tei tei (after c e l) ≡ true
-    by-event (hears what) aimed = ap (λ aim. has_tei tei (of_aim c aim l).line) aimed ∙ on
-    by-event (expiry timer) aimed = ap (λ aim. has_tei tei (of_aim c aim l).line) aimed ∙ on
-    by-event (request r) aimed = ap (λ aim. has_tei tei (of_aim c aim l).line) aimed ∙ on
     by-event next aimed = next-keeps tei c l s on
+    by-event other aimed = ap (λ aim. has_tei tei (of_aim c aim l).line) aimed ∙ on

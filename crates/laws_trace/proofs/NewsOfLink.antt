@@ -122,11 +122,8 @@ module _ (t : Terms) (l : Link) where
 
 -- Who asked for the establishment that is awaited.
 abbrev pub Asks : State → Bool → Bool → Type 0
-Asks TeiAssigned was asked = Unit {0}
 Asks AwaitingEstablishment was asked = was ≡ asked
-Asks AwaitingRelease was asked = Unit {0}
-Asks Established was asked = Unit {0}
-Asks TimerRecovery was asked = Unit {0}
+Asks other was asked = Unit {0}
 
 module _ (t : Terms) (l : Link) (was : Bool) where
   abbrev left : State → Event → State → Bool
@@ -134,41 +131,17 @@ module _ (t : Terms) (l : Link) (was : Bool) where
 
   left-is : (e : Event) → (e ≡ cleared → ⊥) → (to : State) → asked_left (as_heard t e) l to ≡ left l.state e to
   left-is (received (frame f)) some to = refl
-  left-is (received undefined) some to = refl
-  left-is (received wrong_size) some to = refl
-  left-is (received overlong) some to = refl
-  left-is (expired timer) some to = refl
-  left-is (requested r full) some to = refl
-  left-is offer some to = refl
   left-is cleared some to = absurd (some refl)
+  left-is other some to = refl
 
   asking : (e : Event) (from to : State) → Asks from was l.asked
       → Asks to (cond ((state_number to == 5) && moves from to) (asks_establishment e) was) (left from e to)
-  asking e TeiAssigned TeiAssigned asks = tt
   asking e TeiAssigned AwaitingEstablishment asks = refl
-  asking e TeiAssigned AwaitingRelease asks = tt
-  asking e TeiAssigned Established asks = tt
-  asking e TeiAssigned TimerRecovery asks = tt
-  asking e AwaitingEstablishment TeiAssigned asks = tt
   asking e AwaitingEstablishment AwaitingEstablishment asks = asks
-  asking e AwaitingEstablishment AwaitingRelease asks = tt
-  asking e AwaitingEstablishment Established asks = tt
-  asking e AwaitingEstablishment TimerRecovery asks = tt
-  asking e AwaitingRelease TeiAssigned asks = tt
   asking e AwaitingRelease AwaitingEstablishment asks = refl
-  asking e AwaitingRelease AwaitingRelease asks = tt
-  asking e AwaitingRelease Established asks = tt
-  asking e AwaitingRelease TimerRecovery asks = tt
-  asking e Established TeiAssigned asks = tt
   asking e Established AwaitingEstablishment asks = refl
-  asking e Established AwaitingRelease asks = tt
-  asking e Established Established asks = tt
-  asking e Established TimerRecovery asks = tt
-  asking e TimerRecovery TeiAssigned asks = tt
   asking e TimerRecovery AwaitingEstablishment asks = refl
-  asking e TimerRecovery AwaitingRelease asks = tt
-  asking e TimerRecovery Established asks = tt
-  asking e TimerRecovery TimerRecovery asks = tt
+  asking e other any asks = tt
 
   pub event-asking : (e : Event) → (e ≡ cleared → ⊥) → Asks l.state was l.asked
       → let y = links.after t e l in Asks y.state (cond ((state_number y.state == 5) && moves l.state y.state) (asks_establishment e) was) y.asked

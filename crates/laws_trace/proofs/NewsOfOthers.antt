@@ -41,13 +41,9 @@ module _ (service : Service) (tei : ℕ) where
   other-note t other (notes.EstablishConfirm s n) own = away t other s n own
   other-note t other (notes.ReleaseIndication s n) own = away t other s n own
   other-note t other (notes.ReleaseConfirm s n) own = away t other s n own
-  other-note t other (notes.Data s n) own = refl
-  other-note t other (notes.Unit s n) own = refl
   other-note t other (notes.Error s n k) own = away t other s n own
-  other-note t other (notes.Assigned n) own = refl
-  other-note t other (notes.Removed n) own = refl
-  other-note t other (notes.Doubled n) own = refl
   other-note t other (notes.Xid s n) own = away t other s n own
+  other-note t other any own = refl
 
   pub other-link : (t : Terms) → is_own service tei t.service t.tei ≡ false → (what : link.Event) (x : Link) → All No (links.told t what x).notes
   other-link t other what x = All-weaker (IsOwn t) No (other-note t other) (links.told t what x).notes (notes-own t what x)
@@ -55,17 +51,12 @@ module _ (service : Service) (tei : ℕ) where
   pub tei-note : (e : teis.Event) (o : Option Change) (ns : List Note) → ByChange e o ns → All No ns
   tei-note e None ns is = subst (All No) (sym is) (All-nil No)
   tei-note (teis.message octets) (Some (Gained by place)) ns is = subst (All No) (sym is) (All-cons No (notes.Assigned by) [] refl (All-nil No))
-  tei-note teis.expiry (Some (Gained by place)) ns is = absurd is
   tei-note (teis.assign asked) (Some (Gained by place)) ns is = subst (All No) (sym is.1) (All-nil No)
-  tei-note (teis.remove asked) (Some (Gained by place)) ns is = absurd is
-  tei-note (teis.check asked) (Some (Gained by place)) ns is = absurd is
-  tei-note teis.down (Some (Gained by place)) ns is = absurd is
+  tei-note other (Some (Gained by place)) ns is = absurd is
   tei-note (teis.message octets) (Some (Left by place)) ns is = subst (All No) (sym is) (All-cons No (notes.Doubled by) [] refl (All-nil No))
   tei-note teis.expiry (Some (Left by place)) ns is = subst (All No) (sym is) (All-cons No (notes.Removed by) [] refl (All-nil No))
-  tei-note (teis.assign asked) (Some (Left by place)) ns is = absurd is
   tei-note (teis.remove asked) (Some (Left by place)) ns is = subst (All No) (sym is.1) (All-nil No)
-  tei-note (teis.check asked) (Some (Left by place)) ns is = absurd is
-  tei-note teis.down (Some (Left by place)) ns is = absurd is
+  tei-note other (Some (Left by place)) ns is = absurd is
 
   module _ (c : Config) (l : Line) (s : IsSound c l) where
     -- its TEI was not on the line, or stays on it

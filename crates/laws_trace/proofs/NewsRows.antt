@@ -1,5 +1,5 @@
 -- What a link tells of establishments, releases and errors, by each frame that it hears.
-use Rattle.laws_trace.proofs.Vocabulary.{◌≡◌, ℕ, ◌==◌, ◌&&◌, not, Bool, true, false, cond, List, [], ◌∷◌, ◌++◌, length, refl, sym, ap, ◌∙◌, All, filter, nat_lt, is_some, All-head, All-tail, Address, Information, ReceiveReady, ReceiveNotReady, Reject, Sabme, Disc, Ui, Ua, Dm, Frmr, ErrorCode, Note, Service, Seq, named, State, TeiAssigned, AwaitingEstablishment, AwaitingRelease, Established, TimerRecovery, Terms, undefined, wrong_size, overlong, received, expired, requested, offer, cleared, Link, state_number, takes_contents, as_heard, state_after, by_frame, told_by, numbered_as, final_as}
+use Rattle.laws_trace.proofs.Vocabulary.{◌≡◌, ℕ, ◌==◌, ◌&&◌, not, Bool, true, false, cond, List, [], ◌∷◌, ◌++◌, length, refl, sym, ap, ◌∙◌, All, filter, nat_lt, is_some, All-head, All-tail, Address, Information, ReceiveReady, ReceiveNotReady, Reject, Sabme, Disc, Ui, Ua, Dm, Frmr, ErrorCode, Note, Service, Seq, named, State, TeiAssigned, AwaitingEstablishment, AwaitingRelease, Established, TimerRecovery, Terms, undefined, wrong_size, overlong, received, expired, requested, Link, state_number, takes_contents, as_heard, state_after, by_frame, told_by, numbered_as, final_as}
 use Rattle.lapd_frame.specs.declared.controls.Control.{Control}
 use Rattle.lapd_frame.specs.declared.controls.Control.TheVariants.{Xid}
 use Rattle.lapd_frame.specs.declared.notes.ErrorCode.TheVariants as code
@@ -30,13 +30,9 @@ own-news t (notes.EstablishIndication s n) own = its t s n own
 own-news t (notes.EstablishConfirm s n) own = its t s n own
 own-news t (notes.ReleaseIndication s n) own = its t s n own
 own-news t (notes.ReleaseConfirm s n) own = its t s n own
-own-news t (notes.Data s n) own = refl
-own-news t (notes.Unit s n) own = refl
 own-news t (notes.Error s n k) own = its t s n own
-own-news t (notes.Assigned n) own = refl
-own-news t (notes.Removed n) own = refl
-own-news t (notes.Doubled n) own = refl
 own-news t (notes.Xid s n) own = its t s n own
+own-news t other own = refl
 
 pub all-news : (t : Terms) (ns : List Note) → All (IsOwn t) ns → filter (is_news t.service t.tei) ns ≡ filter is_kind ns
 all-news t [] all = refl
@@ -61,9 +57,7 @@ errors_of t (received undefined) from to = cond (is_up from) (code.L ∷ []) []
 errors_of t (received wrong_size) from to = cond (is_up from) (code.N ∷ []) []
 errors_of t (received overlong) from to = cond (is_up from) (code.O ∷ []) []
 errors_of t (expired timer) from to = given_up from to
-errors_of t (requested request full) from to = []
-errors_of t offer from to = []
-errors_of t cleared from to = []
+errors_of t other from to = []
 
 abbrev pub released_of : Event → Bool
 released_of (requested Release full) = true
@@ -76,10 +70,7 @@ module _ (t : Terms) (l : Link) where
 
   stays : (here : State) (outstanding : Bool) → due t.service t.tei [] l.asked false false false outstanding (state_number here) (state_number here) ≡ []
   stays TeiAssigned outstanding = refl
-  stays AwaitingEstablishment outstanding = refl
-  stays AwaitingRelease outstanding = refl
-  stays Established outstanding = refl
-  stays TimerRecovery outstanding = refl
+  stays other outstanding = refl
 
   pub nothing-fits : (here : State) (ns : List Note) → filter is_kind ns ≡ [] → Fits [] false false false here here ns
   nothing-fits here ns none = none ∙ sym (stays here (not (l.s == l.a)))

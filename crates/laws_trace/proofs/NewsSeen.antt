@@ -1,11 +1,11 @@
 -- What is seen of a link: SABME, and requests that are granted.
-use Rattle.laws_trace.proofs.Vocabulary.{◌≡◌, ℕ, ◌&&◌, Bool, true, false, cond, Option, Some, None, refl, sym, ap, ◌∙◌, true≢false, list_any, option_map_or, Service, Config, hears, expiry, request, next, Answer, Line, place_in, Assign, Remove, Deactivate, at_requested, aim_of_request, is_granted, IsBy, asks_establishment, Parts, Down}
+use Rattle.laws_trace.proofs.Vocabulary.{◌≡◌, ℕ, ◌&&◌, Bool, true, false, cond, Option, Some, None, refl, sym, ap, ◌∙◌, true≢false, list_any, option_map_or, Service, Config, request, Answer, Line, place_in, at_requested, aim_of_request, is_granted, IsBy, asks_establishment, Parts}
 use Rattle.lapd_frame.specs.declared.controls.Control.{Control}
 use Rattle.model_link.specs.declared.timers.LinkTimer.TheVariants.{T200, T203}
 use Rattle.model_link.specs.Events as link
 use Rattle.model_line.specs.Event as line_event
 use Rattle.model_line.specs.Machine as lines
-use Rattle.model_line.specs.Request.{Request, Establish, Release, Data, Check, SetBusy, ClearBusy}
+use Rattle.model_line.specs.Request.{Request, Release}
 use Rattle.laws_trace.specs.LinkFrames.{is_for}
 use Rattle.laws_trace.proofs.NewsWatched.{establishes}
 use Rattle.laws_trace.specs.News.{releases}
@@ -34,10 +34,9 @@ module _ (c : Config) (service : Service) (tei : ℕ) (which : Control → Bool)
         go (link.received link.undefined) by = none-brought (brings-none c e a service tei link.undefined by)
         go (link.received link.wrong_size) by = none-brought (brings-none c e a service tei link.wrong_size by)
         go (link.received link.overlong) by = none-brought (brings-none c e a service tei link.overlong by)
-        go (link.expired timer) by = none-brought (ap (λ e. frame_by c e) by)
         go (link.requested what full) by = none-brought (ap (λ e. frame_by c e) by.0)
-        go link.offer by = none-brought (ap (λ e. frame_by c e) by)
         go link.cleared by = absurd by
+        go other by = none-brought (ap (λ e. frame_by c e) by)
 
     pub one-releases : (event : link.Event) → IsBy c e a service tei event → releases service tei e a ≡ released_of event
     one-releases (link.received (link.frame f)) by = ap (λ e. releases service tei e a) by.by
@@ -46,13 +45,10 @@ module _ (c : Config) (service : Service) (tei : ℕ) (which : Control → Bool)
     one-releases (link.received link.overlong) by = ap (λ e. releases service tei e a) (heard-by c e a service tei link.overlong by).1
     one-releases (link.expired T200) by = ap (λ e. releases service tei e a) by
     one-releases (link.expired T203) by = ap (λ e. releases service tei e a) by
-    one-releases (link.requested link.Establish full) by = ap (λ e. releases service tei e a) by.0
     one-releases (link.requested link.Release full) by = ap (λ e. releases service tei e a) by.0 ∙ ap (λ b. b && is_own service tei service tei) by.1 ∙ own-is service tei
-    one-releases (link.requested (link.Data octets) full) by = ap (λ e. releases service tei e a) by.0
-    one-releases (link.requested link.SetBusy full) by = ap (λ e. releases service tei e a) by.0
-    one-releases (link.requested link.ClearBusy full) by = ap (λ e. releases service tei e a) by.0
     one-releases link.offer by = ap (λ e. releases service tei e a) by
     one-releases link.cleared by = absurd by
+    one-releases other by = ap (λ e. releases service tei e a) by.0
 
     pub one-establishes : (event : link.Event) → IsBy c e a service tei event → establishes service tei e a ≡ asks_establishment event
     one-establishes (link.received (link.frame f)) by = ap (λ e. establishes service tei e a) by.by
@@ -62,12 +58,9 @@ module _ (c : Config) (service : Service) (tei : ℕ) (which : Control → Bool)
     one-establishes (link.expired T200) by = ap (λ e. establishes service tei e a) by
     one-establishes (link.expired T203) by = ap (λ e. establishes service tei e a) by
     one-establishes (link.requested link.Establish full) by = ap (λ e. establishes service tei e a) by.0 ∙ ap (λ b. b && is_own service tei service tei) by.1 ∙ own-is service tei
-    one-establishes (link.requested link.Release full) by = ap (λ e. establishes service tei e a) by.0
-    one-establishes (link.requested (link.Data octets) full) by = ap (λ e. establishes service tei e a) by.0
-    one-establishes (link.requested link.SetBusy full) by = ap (λ e. establishes service tei e a) by.0
-    one-establishes (link.requested link.ClearBusy full) by = ap (λ e. establishes service tei e a) by.0
     one-establishes link.offer by = ap (λ e. establishes service tei e a) by
     one-establishes link.cleared by = absurd by
+    one-establishes other by = ap (λ e. establishes service tei e a) by.0
 
   -- and none
   module _ (l : Line) (place : ℕ) (on : place_in l tei ≡ Some place) where
@@ -87,36 +80,15 @@ module _ (c : Config) (service : Service) (tei : ℕ) (which : Control → Bool)
     no-bit false = refl
 
     not-granted : (r : Request) (a : Answer) → is_granted a ≡ false → releases service tei (request r) a ≡ false
-    not-granted (Establish its by) a none = refl
     not-granted (Release its by) a none = ap (λ d. d && is_own service tei its by) none
-    not-granted (Data its by contents) a none = refl
-    not-granted (Request.Unit its by contents) a none = refl
-    not-granted (Assign by) a none = refl
-    not-granted (Remove by) a none = refl
-    not-granted (Check by) a none = refl
-    not-granted (SetBusy its by) a none = refl
-    not-granted (ClearBusy its by) a none = refl
-    not-granted (Deactivate its by) a none = refl
-    not-granted Down a none = refl
+    not-granted other a none = refl
 
     not-own : (r : Request) (a : Answer) → is_at_link service tei (aim_of_request r l) ≡ false → releases service tei (request r) a ≡ false
-    not-own (Establish its by) a aims = refl
     not-own (Release its by) a aims =
         ap (λ d. is_granted a && d) (elsewhere c service tei nothing_yet l place on its by (link.requested link.Release false) (at_requested its by link.Release) (λ p. refl) aims) ∙ no-bit (is_granted a)
-    not-own (Data its by contents) a aims = refl
-    not-own (Request.Unit its by contents) a aims = refl
-    not-own (Assign by) a aims = refl
-    not-own (Remove by) a aims = refl
-    not-own (Check by) a aims = refl
-    not-own (SetBusy its by) a aims = refl
-    not-own (ClearBusy its by) a aims = refl
-    not-own (Deactivate its by) a aims = refl
-    not-own Down a aims = refl
+    not-own other a aims = refl
 
     pub none-releases : (e : line_event.Event) → is_at_link service tei (lines.aim_of c e l) ≡ false → releases service tei e (lines.answer c e l) ≡ false
-    none-releases (hears what) aims = refl
-    none-releases (expiry timer) aims = refl
-    none-releases next aims = refl
     none-releases (request r) aims = go (is_granted (lines.answer c (request r) l)) refl
       where
         go : (b : Bool) → is_granted (lines.answer c (request r) l) ≡ b → releases service tei (request r) (lines.answer c (request r) l) ≡ false
@@ -124,3 +96,4 @@ module _ (c : Config) (service : Service) (tei : ℕ) (which : Control → Bool)
         go true some =
             not-own r (lines.answer c (request r) l)
             (ap (λ o. is_at_link service tei (lines.unless_refused o (aim_of_request r l))) (sym (none-refused c r l some)) ∙ aims)
+    none-releases other aims = refl

@@ -1,5 +1,5 @@
 -- What an observer knows of a link is what follows its parts: over runs.
-use Rattle.laws_trace.proofs.Vocabulary.{◌≡◌, ℕ, ◌+◌, ◌==◌, ◌&&◌, ◌||◌, not, Bool, true, false, cond, Option, Some, None, is_some, refl, sym, ap, ◌∙◌, subst, arith, eq-eqb, true≢false, fold, nat_lt, IfSome, option_map_or, Service, State, TeiAssigned, AwaitingEstablishment, AwaitingRelease, Established, TimerRecovery, LinkTimer, state_number, Config, hears, expiry, request, Answer}
+use Rattle.laws_trace.proofs.Vocabulary.{◌≡◌, ℕ, ◌+◌, ◌==◌, ◌&&◌, ◌||◌, not, Bool, true, false, cond, Option, Some, None, is_some, refl, sym, ap, ◌∙◌, subst, arith, eq-eqb, true≢false, fold, nat_lt, IfSome, option_map_or, Service, State, TeiAssigned, AwaitingEstablishment, AwaitingRelease, TimerRecovery, LinkTimer, state_number, Config, expiry, Answer}
 use Rattle.std.proofs.Common.{eqb-true}
 use Rattle.lapd_frame.specs.declared.timers.Timer.TheVariants as timers
 use Rattle.model_link.specs.declared.timers.LinkTimer.TheVariants.{T200, T203}
@@ -84,15 +84,11 @@ module _ (c : Config) (service : Service) (tei : ℕ) where
 
   count-counts : (k : Known) (x : State) (n m : ℕ) → When (is_counted (state_number x)) (m ≡ n) → (timer : Option LinkTimer) → let s = state_number x in
       option_map_or (moves.by_expiry c.n200 k n s) timer s ≡ option_map_or (moves.by_expiry c.n200 k m s) timer s
-  count-counts k TeiAssigned n m h None = refl
   count-counts k TeiAssigned n m h (Some T200) = either-4 (nat_lt n c.n200) (nat_lt m c.n200)
-  count-counts k TeiAssigned n m h (Some T203) = refl
   count-counts k AwaitingEstablishment n m h timer = ap (λ n. option_map_or (moves.by_expiry c.n200 k n 5) timer 5) (sym h)
   count-counts k AwaitingRelease n m h timer = ap (λ n. option_map_or (moves.by_expiry c.n200 k n 6) timer 6) (sym h)
-  count-counts k Established n m h None = refl
-  count-counts k Established n m h (Some T200) = refl
-  count-counts k Established n m h (Some T203) = refl
   count-counts k TimerRecovery n m h timer = ap (λ n. option_map_or (moves.by_expiry c.n200 k n 8) timer 8) (sym h)
+  count-counts k other n m h any = refl
 
   abbrev pub counted_by : line_event.Event → ℕ
   counted_by what = option_map_or states.one_more (states.expired_of service tei what) 0
@@ -101,10 +97,6 @@ module _ (c : Config) (service : Service) (tei : ℕ) where
   nothing-more n = omega arith
 
   grown-is : (what : line_event.Event) (n : ℕ) → grown c service tei what n ≡ n + counted_by what
-  grown-is (hears e) n = nothing-more n
-  grown-is (request r) n = nothing-more n
-  grown-is line_event.next n = nothing-more n
-  grown-is (expiry timers.T201) n = nothing-more n
   grown-is (expiry (timers.T200 of by)) n = go (is_own service tei of by)
     where
       go : (b : Bool) → cond b one_more none_more n ≡ n + option_map_or states.one_more (cond b (Some T200) None) 0
@@ -115,6 +107,7 @@ module _ (c : Config) (service : Service) (tei : ℕ) where
       go : (b : Bool) → n ≡ n + option_map_or states.one_more (cond b (Some T203) None) 0
       go true = nothing-more n
       go false = nothing-more n
+  grown-is other n = nothing-more n
 
   -- An event of the line, where the TEI is on it before and behind.
   module _ (x : State) (k : Known) (shape : Shape x k) (asked owed : Bool) (n : ℕ) (o : Observed) (h : IsObserved (state_number x) k asked owed n o) (what : line_event.Event) (a : Answer) where

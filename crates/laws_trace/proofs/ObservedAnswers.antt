@@ -1,8 +1,7 @@
 -- How the observer's link stands behind a frame that is answered in states 7 and 8, whatever state it leads to.
-use Rattle.laws_trace.proofs.Vocabulary.{◌≡◌, ℕ, ◌+◌, ◌==◌, ◌&&◌, ◌||◌, not, Bool, true, false, cond, length, Some, None, refl, sym, ap, ◌∙◌, subst, true≢false, nat_lt, is_some, Result, Ok, Err, list_any, option_map_or, and_parts, none-some, Information, ReceiveReady, ReceiveNotReady, Reject, Sabme, Disc, Ui, Ua, Dm, Frmr, ReadFault, Service, Parts, reading, State, state_number, Config, hears, Answer, heard_side, Line, link_of, place_in, IsInRange, notes_of, is_data_of, Card, line_at, is_full, at, has_lines, by_room, line_sound}
+use Rattle.laws_trace.proofs.Vocabulary.{◌≡◌, ℕ, ◌+◌, ◌==◌, ◌&&◌, ◌||◌, not, Bool, true, false, cond, length, Some, None, refl, sym, ap, ◌∙◌, subst, true≢false, nat_lt, is_some, Result, Ok, Err, list_any, option_map_or, and_parts, none-some, Information, ReceiveReady, ReceiveNotReady, Reject, ReadFault, Service, Parts, reading, State, state_number, Config, hears, Answer, heard_side, Line, link_of, place_in, IsInRange, notes_of, is_data_of, Card, line_at, is_full, at, has_lines, by_room, line_sound}
 use Rattle.model_bits.specs.Stream as stream
 use Rattle.lapd_frame.specs.declared.controls.Control.{Control}
-use Rattle.lapd_frame.specs.declared.controls.Control.TheVariants.{Xid}
 use Rattle.model_line.specs.Machine as lines
 use Rattle.model_line.specs.Sound.{IsSound}
 use Rattle.model_card.specs.Machine.{answer}
@@ -53,7 +52,6 @@ informed taken false ack o r h = record { count_is = h.count_is; busy_is = h.bus
 
 frame-stays : (long command : Bool) (control : Control) (o : Observed) → is_answered long control ≡ true
     → Stays (not long && brings_next o control) (is_information control) o (while_up long command control o)
-frame-stays true command (Information ns nr p) o is = absurd (true≢false (sym is))
 frame-stays false command (Information ns nr p) o is =
     informed (is_next o ns) (is_invalid (takes ns o) nr) nr.value o (takes ns o) (record { count_is = refl; busy_is = refl; rejected_is = refl })
 frame-stays long command (ReceiveReady nr f) o is =
@@ -62,13 +60,7 @@ frame-stays long command (ReceiveNotReady nr f) o is =
     received long false true (not command && f) o (is_invalid o nr) (o.state == 8 && (not command && f)) nr.value (cond (false && o.state == 7) nr.value o.next)
 frame-stays long command (Reject nr f) o is =
     received long true false (not command && f) o (is_invalid o nr) (o.state == 8 && (not command && f)) nr.value (cond (true && o.state == 7) nr.value o.next)
-frame-stays long command (Sabme p) o is = absurd (true≢false (sym is))
-frame-stays long command (Disc p) o is = absurd (true≢false (sym is))
-frame-stays long command (Ui p) o is = absurd (true≢false (sym is))
-frame-stays long command (Ua f) o is = absurd (true≢false (sym is))
-frame-stays long command (Dm f) o is = absurd (true≢false (sym is))
-frame-stays long command (Frmr f) o is = absurd (true≢false (sym is))
-frame-stays long command (Xid f) o is = absurd (true≢false (sym is))
+frame-stays b command other o is = absurd (true≢false (sym is))
 
 -- By none of them the numbers begin.
 goes-on : (s : ℕ) (long : Bool) (control : Control) → is_answered long control ≡ true → begun_by s control ≡ false
@@ -76,13 +68,7 @@ goes-on s long (Information ns nr p) is = refl
 goes-on s long (ReceiveReady nr f) is = refl
 goes-on s long (ReceiveNotReady nr f) is = refl
 goes-on s long (Reject nr f) is = refl
-goes-on s long (Sabme p) is = absurd (true≢false (sym is))
-goes-on s long (Disc p) is = absurd (true≢false (sym is))
-goes-on s long (Ui p) is = absurd (true≢false (sym is))
-goes-on s long (Ua f) is = absurd (true≢false (sym is))
-goes-on s long (Dm f) is = absurd (true≢false (sym is))
-goes-on s long (Frmr f) is = absurd (true≢false (sym is))
-goes-on s long (Xid f) is = absurd (true≢false (sym is))
+goes-on s long other is = absurd (true≢false (sym is))
 
 module _ (c : Config) (service : Service) (tei : ℕ) where
   -- a frame of the link is not malformed
@@ -92,8 +78,7 @@ module _ (c : Config) (service : Service) (tei : ℕ) where
       go : (r : Result Parts ReadFault) → its_frame service tei (result_ok r) ≡ Some f → option_and_then (fault_of service tei) (result_err r) ≡ None
       go (Ok g) is = refl
       go (Err fault) is = absurd (none-some f is)
-  clean (stream.overlong head) f is = absurd (none-some f is)
-  clean (stream.dropped cause) f is = absurd (none-some f is)
+  clean other f is = absurd (none-some f is)
 
   and-none : (b : Bool) → (b && false) ≡ false
   and-none true = refl

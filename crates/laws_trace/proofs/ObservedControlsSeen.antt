@@ -1,5 +1,5 @@
 -- What is seen of the control frames of a link in a moment, by what the observer knows.
-use Rattle.laws_trace.proofs.Vocabulary.{◌≡◌, ℕ, ◌==◌, ◌&&◌, Bool, true, false, cond, List, [], Option, Some, None, refl, sym, ap, ◌∙◌, true≢false, option_map_or, none-some, Service, Call, Packet, Parts, sapi_of, ControlFrame, State, TeiAssigned, AwaitingEstablishment, AwaitingRelease, Established, TimerRecovery, state_number, Config, hears, request, Answer, refused, gave, management_sapi, has_management, is_granted}
+use Rattle.laws_trace.proofs.Vocabulary.{◌≡◌, ℕ, ◌==◌, ◌&&◌, Bool, true, false, cond, List, [], Option, Some, None, refl, sym, ap, ◌∙◌, true≢false, option_map_or, none-some, Service, Call, Packet, Parts, sapi_of, ControlFrame, State, TeiAssigned, state_number, Config, hears, request, Answer, management_sapi, has_management, is_granted}
 use Rattle.std.proofs.Common.{eqb-true}
 use Rattle.model_bits.specs.Stream as stream
 use Rattle.model_line.specs.Event.{told}
@@ -21,10 +21,7 @@ none-mapped (Some s) xs none = none
 
 pub not-one : (x : State) → (state_number x == 1) ≡ false
 not-one TeiAssigned = refl
-not-one AwaitingEstablishment = refl
-not-one AwaitingRelease = refl
-not-one Established = refl
-not-one TimerRecovery = refl
+not-one other = refl
 
 and-none : (b : Bool) → (b && false) ≡ false
 and-none true = refl
@@ -58,8 +55,7 @@ module _ (c : Config) (service : Service) (tei : ℕ) where
 
   pub granted-busy : (r : Request) (a : Answer) (n : ℕ) (busy rejected : Bool) → is_granted a ≡ true → (standing service tei c (calm n busy rejected) (seen (request r) a)).busy ≡ busy_asked service tei busy r
   granted-busy r (told t) n busy rejected granted = refl
-  granted-busy r (refused why) n busy rejected granted = absurd (true≢false (sym granted))
-  granted-busy r (gave given) n busy rejected granted = absurd (true≢false (sym granted))
+  granted-busy r other n busy rejected granted = absurd (true≢false (sym granted))
 
   pub asked-moves : (r : Request) (a : Answer) (o : Observed) → is_up o.state ≡ false → is_up (by_event c service tei (request r) a o).state ≡ false
   asked-moves r a o down = go (is_granted a)

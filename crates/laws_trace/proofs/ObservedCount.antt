@@ -1,5 +1,5 @@
 -- What an observer knows of this side of a link is how the link stands by what is heard and noted: over runs.
-use Rattle.laws_trace.proofs.Vocabulary.{◌≡◌, ℕ, ◌+◌, ◌&&◌, ◌||◌, not, Bool, true, false, cond, Some, refl, sym, ap, ◌∙◌, subst, true≢false, list_any, Service, State, TeiAssigned, AwaitingEstablishment, AwaitingRelease, Established, TimerRecovery, is_multiple_frame, state_number, Config, hears, expiry, request, next, Answer, Line, link_of, place_in, IsInRange, notes_of, is_data_of}
+use Rattle.laws_trace.proofs.Vocabulary.{◌≡◌, ℕ, ◌+◌, ◌&&◌, ◌||◌, not, Bool, true, false, cond, Some, refl, sym, ap, ◌∙◌, subst, true≢false, list_any, Service, State, TeiAssigned, is_multiple_frame, state_number, Config, hears, Answer, Line, link_of, place_in, IsInRange, notes_of, is_data_of}
 use Rattle.model_line.specs.Event.{Event}
 use Rattle.model_line.specs.Machine as lines
 use Rattle.model_line.specs.Sound.{IsSound}
@@ -50,10 +50,7 @@ module _ (service : Service) (tei : ℕ) (c : Config) (ranged : IsInRange c) (l 
     where
       number-up : (x : State) → is_up (state_number x) ≡ is_multiple_frame x
       number-up TeiAssigned = refl
-      number-up AwaitingEstablishment = refl
-      number-up AwaitingRelease = refl
-      number-up Established = refl
-      number-up TimerRecovery = refl
+      number-up other = refl
 
   abbrev B : Bool
   B = begins service tei (frame_by c e) (notes_of a)
@@ -82,9 +79,7 @@ module _ (service : Service) (tei : ℕ) (c : Config) (ranged : IsInRange c) (l 
 
   still-busy : (e : Event) (b : Bool) → (brings_information service tei (frame_by c e) && not (asked_busy service tei e a b)) ≡ (brings_information service tei (frame_by c e) && not b)
   still-busy (hears what) b = refl
-  still-busy (expiry timer) b = refl
-  still-busy (request r) b = refl
-  still-busy next b = refl
+  still-busy other b = refl
 
   pub stands-behind : is_up q.state ≡ true → Same q now.told.count now.busy now.rejected
   stands-behind up = go (is_up (state_number its)) refl

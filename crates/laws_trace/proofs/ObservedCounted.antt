@@ -28,10 +28,8 @@ use Rattle.laws_trace.proofs.ObservedFacts.{Facts, facts}
 -- A request that finds the pool full moves nothing.
 pub still : (c : Config) (service : Service) (tei : ℕ) (e : line_event.Event) (l : Line) (o : Observed) → lines.takes_slot c e l ≡ true → by_event c service tei e (refused PoolFull) o ≡ o
 unfolding lines.takes_slot
-still c service tei (line_event.hears what) l o takes = absurd (true≢false (sym takes))
-still c service tei (line_event.expiry timer) l o takes = absurd (true≢false (sym takes))
 still c service tei (line_event.request r) l o takes = refl
-still c service tei line_event.next l o takes = absurd (true≢false (sym takes))
+still c service tei other l o takes = absurd (true≢false (sym takes))
 
 module _ (service : Service) (tei number : ℕ) where
   abbrev pub Stands : ℕ → Bool → Bool → Line → Type 0
@@ -71,8 +69,6 @@ module _ (service : Service) (tei number : ℕ) where
     before = facts service tei k asked w.outstanding m (line_at number card) v h
 
     by-line : (b : Bool) → (e.line == number) ≡ b → (is was : Bool) → was ≡ is_some (state_of service tei (line_at number card)) → Next b is was
-    by-line b eq false was on = λ up. absurd (true≢false (sym up))
-    by-line b eq true false on = λ up. absurd (true≢false (sym up))
     by-line false eq true true on = agree
     by-line true eq true true on = go (place_in (line_at number card) tei) refl before
       where
@@ -87,6 +83,7 @@ module _ (service : Service) (tei number : ℕ) where
             let is : v.link.state ≡ state_number l.state = y.2.state_is ∙ inner in
             own-behind card s e here n busy rejected (subst (λ i. Stands n busy rejected (line_at i card)) same stands) place (subst (λ i. place_in (line_at i card) tei ≡ Some place) same at) v.link
             (subst (λ i. v.link.state ≡ state_number (link_of service tei (line_at i card)).state) same is) agree
+    by-line b eq other any on = λ up. absurd (true≢false (sym up))
 
     pub agrees-then : Agree (views c service tei number v its).link (standing service tei c (calm n busy rejected) (seen_in number its))
     agrees-then =

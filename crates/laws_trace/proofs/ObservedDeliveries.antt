@@ -1,5 +1,5 @@
 -- What layer 3 is told of what is heard, by what the observer knows of the link.
-use Rattle.laws_trace.proofs.Vocabulary.{List, nat_le, ◌&&◌, ◌≡◌, ℕ, ◌<◌, ◌||◌, Bool, true, false, cond, Option, Some, None, option_map, refl, sym, ap, ◌∙◌, subst, true≢false, inl, inr, fold, count_by, length, option_to_list, list_any, option_map_or, and_parts, none-some, PoolFull, Service, Parts, State, TeiAssigned, AwaitingEstablishment, AwaitingRelease, Established, TimerRecovery, is_multiple_frame, state_number, Config, hears, expiry, request, next, Answer, refused, Line, link_of, place_in, state_of, IsInRange, notes_of, contents_in, is_data_of, is_unit_of, tells_contents, line_at, is_full, at, has_lines, by_room, line_sound}
+use Rattle.laws_trace.proofs.Vocabulary.{List, nat_le, ◌&&◌, ◌≡◌, ℕ, ◌<◌, ◌||◌, Bool, true, false, cond, Option, Some, None, option_map, refl, sym, ap, ◌∙◌, subst, true≢false, inl, inr, fold, count_by, length, option_to_list, list_any, option_map_or, and_parts, none-some, PoolFull, Service, Parts, State, TeiAssigned, is_multiple_frame, state_number, Config, hears, request, Answer, refused, Line, link_of, place_in, state_of, IsInRange, notes_of, contents_in, is_data_of, is_unit_of, tells_contents, line_at, is_full, at, has_lines, by_room, line_sound}
 use Rattle.model_line.specs.Event as line_event
 use Rattle.model_line.specs.Machine as lines
 use Rattle.model_line.specs.Sound.{IsSound}
@@ -31,10 +31,7 @@ use Rattle.laws_trace.proofs.UnitsAreFor.{unit-is, units-are}
 
 number-up : (x : State) → is_up (state_number x) ≡ is_multiple_frame x
 number-up TeiAssigned = refl
-number-up AwaitingEstablishment = refl
-number-up AwaitingRelease = refl
-number-up Established = refl
-number-up TimerRecovery = refl
+number-up other = refl
 
 -- All but to whom unit data is told.
 record Told (c : Config) (service : Service) (tei : ℕ) (o : Observed) (frame : Option Parts) (a : Answer) : Type 0 where
@@ -53,9 +50,7 @@ module _ (service : Service) (tei : ℕ) (c : Config) (ranged : IsInRange c) (l 
 
   brought-is : (e : line_event.Event) (f : Parts) → frame_by c e ≡ Some f → is_for service tei f.address ≡ true → brought c service tei e ≡ Some f
   brought-is (hears what) f is for = ap (its_frame service tei) is ∙ ap (λ b. cond b (Some f) None) for
-  brought-is (expiry timer) f is for = absurd (none-some f is)
-  brought-is (request r) f is for = absurd (none-some f is)
-  brought-is next f is for = absurd (none-some f is)
+  brought-is other f is for = absurd (none-some f is)
 
   heard : IsHeard service tei (record { frame = frame_by c e; count = n }) (notes_of a) (contents_in a)
   heard = (event-told c ranged l s e service tei n count).0
@@ -115,11 +110,9 @@ module _ (service : Service) (tei : ℕ) (c : Config) (ranged : IsInRange c) (l 
 -- A request that finds the pool full tells nothing.
 none-told : (c : Config) (service : Service) (tei : ℕ) (o : Observed) (e : line_event.Event) (l : Line) → lines.takes_slot c e l ≡ true → Told c service tei o (brought c service tei e) (refused PoolFull)
 unfolding lines.takes_slot
-none-told c service tei o (hears what) l takes = absurd (true≢false (sym takes))
-none-told c service tei o (expiry timer) l takes = absurd (true≢false (sym takes))
 none-told c service tei o (request r) l takes =
     record { data_is = refl; unit_is = λ some. absurd (true≢false (sym some)); contents_are = λ some. absurd (true≢false (sym some)); once = refl; small = λ some. absurd (true≢false (sym some)) }
-none-told c service tei o next l takes = absurd (true≢false (sym takes))
+none-told c service tei o other l takes = absurd (true≢false (sym takes))
 
 -- A UI of which unit data is told, with its contents, is taken.
 taken-so : (c : Config) (tei : ℕ) (w : Managed) (frame : Option Parts) (contents : Option (List ℕ)) → option_map_or (is_unit_for c tei w) frame false ≡ true

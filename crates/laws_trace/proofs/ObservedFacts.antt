@@ -1,5 +1,5 @@
 -- What an observer knows of a link, by whether its TEI is on the line, and what follows for the words of the laws.
-use Rattle.laws_trace.proofs.Vocabulary.{◌≡◌, ℕ, ◌==◌, ◌&&◌, ◌||◌, ◌⊎◌, inl, inr, not, Bool, true, false, cond, Option, Some, None, is_some, refl, sym, ap, ◌∙◌, subst, nat_le, list_any, option_map_or, Service, Parts, State, TeiAssigned, AwaitingEstablishment, AwaitingRelease, Established, TimerRecovery, state_number, Config, hears, expiry, request, next, Line, state_of}
+use Rattle.laws_trace.proofs.Vocabulary.{◌≡◌, ℕ, ◌==◌, ◌&&◌, ◌||◌, ◌⊎◌, inl, inr, not, Bool, true, false, cond, Option, Some, None, is_some, refl, sym, ap, ◌∙◌, subst, nat_le, list_any, option_map_or, Service, Parts, State, TeiAssigned, state_number, Config, hears, Line, state_of}
 use Rattle.std.specs.Option.{unwrap_or}
 use Rattle.lapd_frame.specs.declared.controls.Control.{Control}
 use Rattle.model_line.specs.Event as line_event
@@ -21,17 +21,11 @@ use Rattle.laws_trace.proofs.TimersWatched as known
 -- The numbers of the states.
 not-one : (x : State) → (1 == state_number x) ≡ false
 not-one TeiAssigned = refl
-not-one AwaitingEstablishment = refl
-not-one AwaitingRelease = refl
-not-one Established = refl
-not-one TimerRecovery = refl
+not-one other = refl
 
 at-most-4 : (x : State) → nat_le (state_number x) 4 ≡ (state_number x == 4)
 at-most-4 TeiAssigned = refl
-at-most-4 AwaitingEstablishment = refl
-at-most-4 AwaitingRelease = refl
-at-most-4 Established = refl
-at-most-4 TimerRecovery = refl
+at-most-4 other = refl
 
 -- What is known, by whether the TEI is on the line.
 abbrev pub Facts : Option ℕ → Known → Bool → Bool → ℕ → Observed → Type 0
@@ -120,6 +114,4 @@ brings-is c service tei is what a = seen-brings c service tei is what a ∙ by-e
 
     by-event : (what : line_event.Event) → option_map_or is (known.control_in service tei (frame_by c what)) false ≡ now_news.brings is c service tei what
     by-event (hears e) = by-frame (frame_of c e)
-    by-event (expiry timer) = refl
-    by-event (request r) = refl
-    by-event line_event.next = refl
+    by-event other = refl

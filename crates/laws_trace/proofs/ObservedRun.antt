@@ -1,5 +1,5 @@
 -- What an observer knows of a link after a list of events.
-use Rattle.laws_trace.proofs.Vocabulary.{◌≡◌, ℕ, ◌+◌, ◌<◌, ◌==◌, ◌&&◌, ◌⊎◌, inl, inr, not, Bool, true, false, cond, List, [], ◌∷◌, Option, Some, None, is_some, refl, sym, ap, ◌∙◌, subst, eq-eqb, true≢false, fold, IfSome, option_map_or, get_or-replicate, All-head, All-tail, Service, State, TeiAssigned, AwaitingEstablishment, AwaitingRelease, Established, TimerRecovery, Link, state_number, Config, Line, fresh_line, link_of, place_in, state_of, has_tei, IsInRange, is-off, nowhere, Card, line_at, at, moments, fresh_is_sound, after_is_sound, AllHaveTheirTimers, timely-after, begins-timely-card}
+use Rattle.laws_trace.proofs.Vocabulary.{◌≡◌, ℕ, ◌+◌, ◌<◌, ◌==◌, ◌&&◌, ◌⊎◌, inl, inr, not, Bool, true, false, cond, List, [], ◌∷◌, Option, Some, None, is_some, refl, sym, ap, ◌∙◌, subst, eq-eqb, true≢false, fold, IfSome, option_map_or, get_or-replicate, All-head, All-tail, Service, State, Established, TimerRecovery, Link, state_number, Config, Line, fresh_line, link_of, place_in, state_of, has_tei, IsInRange, is-off, nowhere, Card, line_at, at, moments, fresh_is_sound, after_is_sound, AllHaveTheirTimers, timely-after, begins-timely-card}
 use Rattle.std.proofs.Common.{eqb-true}
 use Rattle.model_link.specs.Link.{fresh as fresh_link}
 use Rattle.model_line.specs.Event as line_event
@@ -31,11 +31,9 @@ use Rattle.laws_trace.proofs.NewsWatched as news
 
 -- A state is told where the TEI is on the line.
 shape-of : (x : State) (k : Known) (a s : ℕ) (busy : Bool) → Agrees x k a s busy → Shape x k
-shape-of TeiAssigned k a s busy h = h
-shape-of AwaitingEstablishment k a s busy h = h
-shape-of AwaitingRelease k a s busy h = h
 shape-of Established k a s busy h = tt
 shape-of TimerRecovery k a s busy h = tt
+shape-of other k a s busy h = h
 
 abbrev pub IsFrom : Option ℕ → Known → Type 0
 IsFrom from k = ((from ≡ None) × (k ≡ nothing_yet)) ⊎ ((x : State) × (from ≡ Some (state_number x)) × Shape x k)

@@ -1,5 +1,5 @@
 -- What an observer knows of a link in a state, and what of it moves.
-use Rattle.laws_trace.proofs.Vocabulary.{◌≡◌, ℕ, ◌+◌, ◌==◌, ◌||◌, not, Bool, true, false, cond, State, TeiAssigned, AwaitingEstablishment, AwaitingRelease, Established, TimerRecovery}
+use Rattle.laws_trace.proofs.Vocabulary.{◌≡◌, ℕ, ◌+◌, ◌==◌, ◌||◌, not, Bool, true, false, cond, State, Established, TimerRecovery}
 use Rattle.laws_trace.specs.Observer.{Observed}
 use Rattle.laws_trace.proofs.TimersWatched.{Known, nothing_yet}
 
@@ -16,11 +16,9 @@ abbrev pub at_state : ℕ → Known → Observed → Observed
 at_state s k o = record o { state = s; acknowledged = k.acknowledged; next = k.next; busy = k.busy }
 
 abbrev pub Shape : State → Known → Type 0
-Shape TeiAssigned k = k ≡ nothing_yet
-Shape AwaitingEstablishment k = k ≡ nothing_yet
-Shape AwaitingRelease k = k ≡ nothing_yet
 Shape Established k = Unit {0}
 Shape TimerRecovery k = Unit {0}
+Shape other k = k ≡ nothing_yet
 
 -- From one state to another, with numbers, whether layer 3 asked for the establishment, and what an expiry adds.
 pub record Moved (s to : ℕ) (k : Known) (new : Bool) (more : ℕ → ℕ) (o p : Observed) : Type 0 where

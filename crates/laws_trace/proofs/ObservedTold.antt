@@ -1,5 +1,5 @@
 -- What an event of a line tells of data, by what an observer knows of the link; and when the numbers begin.
-use Rattle.laws_trace.proofs.Vocabulary.{◌≡◌, ℕ, ◌%◌, ◌==◌, ◌&&◌, ◌≤◌, ◌<◌, not, Bool, true, false, cond, List, length, Option, Some, None, refl, sym, ap, ◌∙◌, arith, inl, inr, true≢false, nat_lt, nat_le, is_some, list_any, option_map_or, leb-true, leb-false, none-some, Information, ReceiveReady, ReceiveNotReady, Reject, Sabme, Disc, Ui, Ua, Dm, Frmr, Service, Parts, Seq, State, TeiAssigned, AwaitingEstablishment, AwaitingRelease, Established, TimerRecovery, Terms, restarts, eligible, eligible_of, Link, is_multiple_frame, state_number, in_sequence, as_heard, state_after, numbers_begin, event-follows, data-is, establishes, Config, hears, expiry, request, next, Answer, Line, link_of, place_in, terms, IsInRange, notes_of, is_data_of, IsBy}
+use Rattle.laws_trace.proofs.Vocabulary.{◌≡◌, ℕ, ◌%◌, ◌==◌, ◌&&◌, ◌≤◌, ◌<◌, not, Bool, true, false, cond, List, length, Option, Some, None, refl, sym, ap, ◌∙◌, arith, inl, inr, true≢false, nat_lt, nat_le, is_some, list_any, option_map_or, leb-true, leb-false, none-some, Information, ReceiveReady, ReceiveNotReady, Reject, Sabme, Disc, Ui, Ua, Dm, Frmr, Service, Parts, Seq, State, TeiAssigned, Terms, restarts, eligible, eligible_of, Link, is_multiple_frame, state_number, in_sequence, as_heard, state_after, numbers_begin, event-follows, data-is, establishes, Config, hears, Answer, Line, link_of, place_in, terms, IsInRange, notes_of, is_data_of, IsBy}
 use Rattle.std.proofs.Common.{ltb-true, ltb-false}
 use Rattle.lapd_frame.specs.declared.controls.Control.{Control}
 use Rattle.lapd_frame.specs.declared.controls.Control.TheVariants.{Xid}
@@ -33,17 +33,11 @@ module _ (t : Terms) (f : Parts) where
 
   by-sabme : (p : Bool) (here : State) (l : Link) → Numbers (Sabme p) (record l { state = here })
   by-sabme p TeiAssigned l = refl
-  by-sabme p AwaitingEstablishment l = refl
-  by-sabme p AwaitingRelease l = refl
-  by-sabme p Established l = refl
-  by-sabme p TimerRecovery l = refl
+  by-sabme p other l = refl
 
   by-ua : (here : State) (l : Link) → Numbers (Ua true) (record l { state = here })
   by-ua TeiAssigned l = refl
-  by-ua AwaitingEstablishment l = refl
-  by-ua AwaitingRelease l = refl
-  by-ua Established l = refl
-  by-ua TimerRecovery l = refl
+  by-ua other l = refl
 
   followed : (control : Control) (l : Link) → let e = link.received (link.frame (record f { control = control })) in as_heard t e ≡ e → Numbers control l → Restarts control l
   followed control l heard is =
@@ -74,19 +68,15 @@ size-fits : (n m : ℕ) → nat_le n m ≡ not (nat_lt m n)
 size-fits n m = go (nat_le n m) refl (nat_lt m n) refl
   where
     go : (b : Bool) → nat_le n m ≡ b → (d : Bool) → nat_lt m n ≡ d → b ≡ not d
-    go true le false lt = refl
-    go false le true lt = refl
     go true le true lt = let a : n ≤ m = leb-true n m le in let b : m < n = ltb-true m n lt in absurd (omega (arith, a, b))
     go false le false lt = let a : m < n = leb-false n m le in let b : n ≤ m = ltb-false m n lt in absurd (omega (arith, a, b))
+    go b le other lt = refl
 
 module _ (t : Terms) (own : Link) (p : Observed) (is : p.state ≡ state_number own.state) (count_is : is_multiple_frame own.state ≡ true → own.r ≡ p.count)
     (busy_is : is_multiple_frame own.state ≡ true → own.own_busy ≡ p.own_busy) where
   up-so : (x : State) → is_up (state_number x) ≡ is_multiple_frame x
   up-so TeiAssigned = refl
-  up-so AwaitingEstablishment = refl
-  up-so AwaitingRelease = refl
-  up-so Established = refl
-  up-so TimerRecovery = refl
+  up-so other = refl
 
   by-bits : (ns : Seq) (info : List ℕ) (n : ℕ) (fit up busy : Bool) → is_some (in_sequence n (cond (fit && up && not busy) (Some (record { ns = ns; contents = info })) None))
       ≡ (up && (fit && (not busy && ns.value == n % 128)))
@@ -120,16 +110,7 @@ module _ (t : Terms) (own : Link) (p : Observed) (is : p.state ≡ state_number 
       ∙ by-up (is_multiple_frame own.state) refl ns (nat_le (length info) t.n201)
       ∙ ap (λ b. is_multiple_frame own.state && (b && (not p.own_busy && ns.value == p.count % 128))) (size-fits (length info) t.n201)
       ∙ ap (λ b. b && (not (nat_lt t.n201 (length info)) && (not p.own_busy && ns.value == p.count % 128))) (sym (up-so own.state) ∙ ap is_up (sym is))
-  due-so (ReceiveReady nr f) info = sym (and-none (is_up p.state) (not (nat_lt t.n201 (length info))))
-  due-so (ReceiveNotReady nr f) info = sym (and-none (is_up p.state) (not (nat_lt t.n201 (length info))))
-  due-so (Reject nr f) info = sym (and-none (is_up p.state) (not (nat_lt t.n201 (length info))))
-  due-so (Sabme f) info = sym (and-none (is_up p.state) (not (nat_lt t.n201 (length info))))
-  due-so (Disc f) info = sym (and-none (is_up p.state) (not (nat_lt t.n201 (length info))))
-  due-so (Ui f) info = sym (and-none (is_up p.state) (not (nat_lt t.n201 (length info))))
-  due-so (Ua f) info = sym (and-none (is_up p.state) (not (nat_lt t.n201 (length info))))
-  due-so (Dm f) info = sym (and-none (is_up p.state) (not (nat_lt t.n201 (length info))))
-  due-so (Frmr f) info = sym (and-none (is_up p.state) (not (nat_lt t.n201 (length info))))
-  due-so (Xid f) info = sym (and-none (is_up p.state) (not (nat_lt t.n201 (length info))))
+  due-so other info = sym (and-none (is_up p.state) (not (nat_lt t.n201 (length info))))
 
 -- One event of a line, where the TEI is on it.
 module _ (c : Config) (ranged : IsInRange c) (l : Line) (s : IsSound c l) (e : Event) (service : Service) (tei place : ℕ) (on : place_in l tei ≡ Some place) where
@@ -147,15 +128,11 @@ module _ (c : Config) (ranged : IsInRange c) (l : Line) (s : IsSound c l) (e : E
 
   brought-is : (e : Event) (f : Parts) → frame_by c e ≡ Some f → is_for service tei f.address ≡ true → brought c service tei e ≡ Some f
   brought-is (hears what) f is for = ap (its_frame service tei) is ∙ ap (λ b. cond b (Some f) None) for
-  brought-is (expiry timer) f is for = absurd (none-some f is)
-  brought-is (request r) f is for = absurd (none-some f is)
-  brought-is next f is for = absurd (none-some f is)
+  brought-is other f is for = absurd (none-some f is)
 
   none-brought : (e : Event) → frame_by c e ≡ None → brought c service tei e ≡ None
   none-brought (hears what) is = ap (its_frame service tei) is
-  none-brought (expiry timer) is = refl
-  none-brought (request r) is = refl
-  none-brought next is = refl
+  none-brought other is = refl
 
   not-for : HasNone c service tei e l (lines.after c e l) a → (f : Parts) → frame_by c e ≡ Some f → (b : Bool) → is_for service tei f.address ≡ b → is_for service tei f.address ≡ false
   not-for x f is false other = other
@@ -167,9 +144,7 @@ module _ (c : Config) (ranged : IsInRange c) (l : Line) (s : IsSound c l) (e : E
     where
       by-frame : (e' : Event) → frame_by c e' ≡ Some f → brought c service tei e' ≡ None
       by-frame (hears what) is' = ap (its_frame service tei) is' ∙ ap (λ b. cond b (Some f) None) (not-for x f is (is_for service tei f.address) refl)
-      by-frame (expiry timer) is' = refl
-      by-frame (request r) is' = refl
-      by-frame next is' = refl
+      by-frame other is' = refl
 
   -- when the numbers begin
   abbrev Begins : Type 0
@@ -216,9 +191,7 @@ module _ (c : Config) (ranged : IsInRange c) (l : Line) (s : IsSound c l) (e : E
 
       by-event : (e : Event) → brings_information service tei (frame_by c e) ≡ informs c service tei (brought c service tei e)
       by-event (hears what) = by-frame (frame_of c what)
-      by-event (expiry timer) = refl
-      by-event (request r) = refl
-      by-event next = refl
+      by-event other = refl
 
   -- what is told of data
   module _ (p : Observed) (n : ℕ) (count : IsCount own n) (is : p.state ≡ state_number own.state) (count_is : is_multiple_frame own.state ≡ true → own.r ≡ p.count)

@@ -124,8 +124,7 @@ event-exact c ranged next l s k = subst (All AreOctets) (sym (given-frames (opti
 -- What a link keeps, where what is granted are octets.
 granted-seen : (r : Request) (a : Answer) → is_granted a ≡ true → All GivesOctets (traces.seen_granted r a ++ seen_told a) → AreOctets (contents_given r)
 granted-seen r (told t) is h = All-head GivesOctets (granted r) (seen_told (told t)) h
-granted-seen r (refused why) is h = absurd (cc is)
-granted-seen r (gave given) is h = absurd (cc is)
+granted-seen r other is h = absurd (cc is)
 
 module _ (c : Config) (e : Event) (l : Line) (s : IsSound c l) (ranged : IsInRange c) (k : AreKept l) (gives : All GivesOctets (seen e (answer c e l))) (service : Service) (tei : ℕ) where
   by-refusal : (o : Option Refusal) (contents : List ℕ) → AreOctets contents → All AreOctets (cond (is_some o) [] (contents ∷ []))
@@ -178,24 +177,14 @@ asked-exact other h = All-nil IsUnit
 
 by-grant : (r : Request) (a : Answer) → All GivesOctets (traces.seen_granted r a ++ seen_told a) → All IsUnit (units_asked (request r) a)
 by-grant r (told t) h = asked-exact r (granted-seen r (told t) refl h)
-by-grant r (refused why) h = All-nil IsUnit
-by-grant r (gave given) h = All-nil IsUnit
+by-grant r other h = All-nil IsUnit
 
 left-exact : (r : Request) (a : Answer) (us : List UnitData) → All IsUnit us → All IsUnit (units_left r a us)
 left-exact r (told t) us h = behind r
   where
     behind : (r : Request) → All IsUnit (units_behind r us)
-    behind (asked.Establish service tei) = h
-    behind (asked.Release service tei) = h
-    behind (asked.Data service tei contents) = h
-    behind (asked.Unit service tei contents) = h
-    behind (asked.Assign tei) = h
-    behind (asked.Remove tei) = h
-    behind (asked.Check tei) = h
-    behind (asked.SetBusy service tei) = h
-    behind (asked.ClearBusy service tei) = h
-    behind (asked.Deactivate service tei) = h
     behind asked.Down = All-nil IsUnit
+    behind other = h
 left-exact r (refused why) us h = h
 left-exact r (gave given) us h = h
 
@@ -257,9 +246,8 @@ fresh-kept c = record { messages = All-nil IsSmall; units = All-nil IsUnit; link
         subst (λ (x : Link). All AreOctets (queue_of x)) (sym (all-fresh (link_count c) (link_number place service))) (All-nil AreOctets)
       where
         all-fresh : (n i : ℕ) → get_or (replicate n fresh_link) i fresh_link ≡ fresh_link
-        all-fresh zero i = refl
-        all-fresh (suc n) zero = refl
         all-fresh (suc n) (suc i) = all-fresh n i
+        all-fresh other any = refl
 
 pub frames-are-octets : Always FramesAreOctets
 frames-are-octets c events number ranged all within gives =

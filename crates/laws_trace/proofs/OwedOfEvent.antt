@@ -1,5 +1,5 @@
 -- Whether I-frames are outstanding, as an observer knows it: one event of a line.
-use Rattle.laws_trace.proofs.Vocabulary.{◌≡◌, ℕ, ◌+◌, ◌%◌, ◌≤◌, ◌==◌, not, Bool, true, false, length, Option, Some, None, refl, sym, ap, ◌∙◌, subst, arith, eq-eqb, true≢false, ◌⊎◌, inl, inr, option_map_or, Service, place_of-is, State, TeiAssigned, AwaitingEstablishment, AwaitingRelease, Established, TimerRecovery, Link, Config, Line, link_in, link_of, place_in, state_of, terms, IsInRange, sound_in, terms_in_range, HaveTheirTimers}
+use Rattle.laws_trace.proofs.Vocabulary.{◌≡◌, ℕ, ◌+◌, ◌%◌, ◌≤◌, ◌==◌, not, Bool, true, false, length, Option, Some, None, refl, sym, ap, ◌∙◌, subst, arith, eq-eqb, true≢false, ◌⊎◌, inl, inr, option_map_or, Service, place_of-is, State, TeiAssigned, AwaitingEstablishment, Established, TimerRecovery, Link, Config, Line, link_in, link_of, place_in, state_of, terms, IsInRange, sound_in, terms_in_range, HaveTheirTimers}
 use Rattle.model_link.specs.Events as link
 use Rattle.model_link.specs.Link.{fresh}
 use Rattle.model_link.specs.Machine as links
@@ -39,11 +39,10 @@ module _ (c : Config) (ranged : IsInRange c) (l : Line) (s : IsSound c l) (servi
 
   by-state : (here : State) → is_state 5 (told_state here) ≡ false → Agrees here k own.a own.s own.peer_busy → link_sound.IsSettledIn here own
       → link_sound.IsSound (terms c service tei) own → own.s ≤ own.a + 127 → not (k.next == k.acknowledged) ≡ not (own.s == own.a)
-  by-state TeiAssigned off known rest sound within = none-owed known (settled sound rest)
   by-state AwaitingEstablishment off known rest sound within = absurd (true≢false off)
-  by-state AwaitingRelease off known rest sound within = none-owed known (settled sound rest)
   by-state Established off known rest sound within = while-known sound.ordered within known
   by-state TimerRecovery off known rest sound within = while-known sound.ordered within known
+  by-state other off known rest sound within = none-owed known (settled sound rest)
 
   pub known-owes : is_state 5 (state_of service tei l) ≡ false → IsOwed service tei (not (k.next == k.acknowledged)) l
   known-owes off = go (place_in l tei) refl
@@ -75,18 +74,12 @@ module _ (c : Config) (ranged : IsInRange c) (l : Line) (s : IsSound c l) (timed
   by-kept y in_5 kept = go y.state in_5 kept
     where
       go : (here : State) → is_state 5 (told_state here) ≡ true → Kept here (timing (steps.begun was)) (record (timing (steps.begun was)) { a = y.a; s = y.s }) → Same y
-      go TeiAssigned is kept = absurd (true≢false (sym is))
       go AwaitingEstablishment is kept = ap (λ n. not (n == y.a)) kept.1 ∙ ap (λ n. not (was.s == n)) kept.0
-      go AwaitingRelease is kept = absurd (true≢false (sym is))
-      go Established is kept = absurd (true≢false (sym is))
-      go TimerRecovery is kept = absurd (true≢false (sym is))
+      go other is kept = absurd (true≢false (sym is))
 
   shape : (here : State) (y : Timing) → Kept here (timing (steps.begun was)) y → Kept here (timing (steps.begun was)) (record (timing (steps.begun was)) { a = y.a; s = y.s })
-  shape TeiAssigned y kept = tt
   shape AwaitingEstablishment y kept = kept
-  shape AwaitingRelease y kept = tt
-  shape Established y kept = tt
-  shape TimerRecovery y kept = tt
+  shape other y kept = tt
 
   pub five-owes : (outstanding : Bool) → IsOwed service tei outstanding l → is_state 5 (state_of service tei (after c e l)) ≡ true → IsOwed service tei outstanding (after c e l)
   five-owes outstanding owes in_5 = go (place_in (after c e l) tei) refl

@@ -1,7 +1,6 @@
 -- Whether a link owes an acknowledgement behind one of its events.
-use Rattle.laws_trace.proofs.Vocabulary.{◌≡◌, ◌&&◌, ◌||◌, Bool, true, false, cond, List, [], ◌∷◌, refl, sym, ap, ◌∙◌, true≢false, inl, inr, is_some, Information, ReceiveReady, ReceiveNotReady, Reject, Sabme, Disc, Ui, Ua, Dm, Frmr, Parts, flag_left, takes_contents, unless_put, owed_in, pending_left, as_heard, is_overlong, numbers_begin, state_after, put, event-follows, State, TeiAssigned, AwaitingEstablishment, AwaitingRelease, Established, TimerRecovery, ControlFrame, Terms, restarts, eligible, undefined, wrong_size, overlong, received, expired, requested, offer, cleared, Link, is_multiple_frame, delivery, event-delivers}
+use Rattle.laws_trace.proofs.Vocabulary.{◌≡◌, ◌&&◌, ◌||◌, Bool, true, false, cond, List, [], ◌∷◌, refl, sym, ap, ◌∙◌, true≢false, inl, inr, is_some, Sabme, Ua, Parts, flag_left, takes_contents, unless_put, owed_in, pending_left, as_heard, is_overlong, numbers_begin, state_after, put, event-follows, State, AwaitingEstablishment, Established, TimerRecovery, ControlFrame, Terms, restarts, eligible, overlong, received, offer, cleared, Link, is_multiple_frame, delivery, event-delivers}
 use Rattle.lapd_frame.specs.declared.controls.Control.{Control}
-use Rattle.lapd_frame.specs.declared.controls.Control.TheVariants.{Xid}
 use Rattle.model_link.specs.Events.{Event, frame}
 use Rattle.model_link.specs.Machine as links
 use Rattle.laws_trace.specs.Outgoing.{is_empty}
@@ -19,25 +18,14 @@ module _ (t : Terms) where
   Puts e l = is_multiple_frame l.state ≡ true → numbers_begin e l.state (state_after t e l) ≡ true → is_empty (put e l (state_after t e l)) ≡ false
 
   puts-ua : (f : Parts) (here : State) (l : Link) → Puts (received (frame (record f { control = Ua true }))) (record l { state = here })
-  puts-ua f TeiAssigned l up is = no up
-  puts-ua f AwaitingEstablishment l up is = no up
-  puts-ua f AwaitingRelease l up is = no up
   puts-ua f Established l up is = no is
   puts-ua f TimerRecovery l up is = no is
+  puts-ua f other l up is = no up
 
   puts-frame : (f : Parts) (control : Control) (l : Link) → Puts (received (frame (record f { control = control }))) l
   puts-frame f (Sabme p) l = λ up is. refl
   puts-frame f (Ua true) l = in-state (Puts (received (frame (record f { control = Ua true })))) l (λ here. puts-ua f here l)
-  puts-frame f (Ua false) l = λ up is. no is
-  puts-frame f (Information ns nr p) l = λ up is. no is
-  puts-frame f (ReceiveReady nr p) l = λ up is. no is
-  puts-frame f (ReceiveNotReady nr p) l = λ up is. no is
-  puts-frame f (Reject nr p) l = λ up is. no is
-  puts-frame f (Disc p) l = λ up is. no is
-  puts-frame f (Ui p) l = λ up is. no is
-  puts-frame f (Dm p) l = λ up is. no is
-  puts-frame f (Frmr p) l = λ up is. no is
-  puts-frame f (Xid p) l = λ up is. no is
+  puts-frame f other l = λ up is. no is
 
   puts-begun : (e : Event) (l : Link) → IsNoOther e → Puts (as_heard t e) l
   puts-begun (received (frame f)) l other = go (is_overlong t f.control f.info)
@@ -45,20 +33,13 @@ module _ (t : Terms) where
       go : (long : Bool) → Puts (received (cond long overlong (frame f))) l
       go true = λ up is. no is
       go false = puts-frame f f.control l
-  puts-begun (received undefined) l other = λ up is. no is
-  puts-begun (received wrong_size) l other = λ up is. no is
-  puts-begun (received overlong) l other = λ up is. no is
-  puts-begun (expired timer) l other = λ up is. no is
-  puts-begun (requested r full) l other = λ up is. no is
   puts-begun offer l other = absurd other
   puts-begun cleared l other = absurd other
+  puts-begun any l other = λ up is. no is
 
 awaiting-down : (s : State) → is_awaiting s ≡ true → is_multiple_frame s ≡ false
 awaiting-down AwaitingEstablishment is = refl
-awaiting-down TeiAssigned is = no is
-awaiting-down AwaitingRelease is = no is
-awaiting-down Established is = no is
-awaiting-down TimerRecovery is = no is
+awaiting-down other is = no is
 
 unless-empty : (frames : List ControlFrame) (owed : Bool) → unless_put frames owed ≡ (is_empty frames && owed)
 unless-empty [] owed = refl
@@ -94,13 +75,9 @@ module _ (t : Terms) (e : Event) (l : Link) (other : IsNoOther e) (owed : PendsU
 
   left-so : (e : Event) (to : State) → IsNoOther e → let h = as_heard t e in pending_left h l to ≡ flag_left h l to (owed_in to (unless_put (put h l to) (takes_contents h l || l.pending))) l.pending
   left-so (received (frame f)) to other = refl
-  left-so (received undefined) to other = refl
-  left-so (received wrong_size) to other = refl
-  left-so (received overlong) to other = refl
-  left-so (expired timer) to other = refl
-  left-so (requested r full) to other = refl
   left-so offer to other = absurd other
   left-so cleared to other = absurd other
+  left-so any to other = refl
 
   left-is : next.pending ≡ flag_left heard l to (owed_in to owes) l.pending
   left-is = (event-follows t e l).leaves.pending ∙ ap (pending_left heard l) state-is ∙ left-so e to other

@@ -1,8 +1,7 @@
 -- V(R) of a link behind an event, and when an acknowledgement is owed.
-use Rattle.laws_trace.proofs.Vocabulary.{◌≡◌, ℕ, ◌%◌, ◌==◌, ◌&&◌, ◌||◌, Bool, true, false, cond, List, [], ◌∷◌, length, Some, None, refl, sym, ap, ◌∙◌, arith, true≢false, is_some, nat_le, nat_lt, not, leb-true, leb-false, Information, ReceiveReady, ReceiveNotReady, Reject, Sabme, Disc, Ui, Ua, Dm, Frmr, Parts, Seq, seq, ControlFrame, State, Terms, Arrived, eligible, undefined, wrong_size, overlong, received, expired, requested, offer, cleared, Link, is_multiple_frame, delivery, takes_contents, owed_in, owed_behind, unless_put, pending_left, as_heard, is_anew, state_after, put, event-follows}
+use Rattle.laws_trace.proofs.Vocabulary.{◌≡◌, ℕ, ◌%◌, ◌==◌, ◌&&◌, ◌||◌, Bool, true, false, cond, List, [], ◌∷◌, length, Some, None, refl, sym, ap, ◌∙◌, arith, true≢false, is_some, nat_le, nat_lt, not, leb-true, leb-false, Information, Parts, Seq, seq, ControlFrame, State, Terms, Arrived, eligible, overlong, received, expired, requested, offer, cleared, Link, is_multiple_frame, delivery, takes_contents, owed_in, owed_behind, unless_put, pending_left, as_heard, is_anew, state_after, put, event-follows}
 use Rattle.std.proofs.lemmas.Bool.{ltb-true, ltb-false}
 use Rattle.lapd_frame.specs.declared.controls.Control.{Control}
-use Rattle.lapd_frame.specs.declared.controls.Control.TheVariants.{Xid}
 use Rattle.model_link.specs.Events.{Event, frame}
 use Rattle.model_link.specs.Machine as links
 
@@ -47,26 +46,11 @@ module _ (t : Terms) (l : Link) (up : is_multiple_frame l.state ≡ true) where
 
   by-control : (f : Parts) (control : Control) → Taken (received (frame (record f { control = control })))
   by-control f (Information ns nr p) = by-size f ns nr p (nat_lt t.n201 (length f.info)) refl
-  by-control f (ReceiveReady nr p) = refl
-  by-control f (ReceiveNotReady nr p) = refl
-  by-control f (Reject nr p) = refl
-  by-control f (Sabme p) = refl
-  by-control f (Disc p) = refl
-  by-control f (Ui p) = refl
-  by-control f (Ua p) = refl
-  by-control f (Dm p) = refl
-  by-control f (Frmr p) = refl
-  by-control f (Xid p) = refl
+  by-control f other = refl
 
   pub taken-is : (e : Event) → Taken e
   taken-is (received (frame f)) = by-control f f.control
-  taken-is (received undefined) = refl
-  taken-is (received wrong_size) = refl
-  taken-is (received overlong) = refl
-  taken-is (expired timer) = refl
-  taken-is (requested r full) = refl
-  taken-is offer = refl
-  taken-is cleared = refl
+  taken-is other = refl
 
 -- An acknowledgement is owed in states 7 and 8 alone.
 abbrev pub PendsUp : Link → Type 0

@@ -13,10 +13,8 @@ use Rattle.laws_trace.specs.Trace.{Seen, seen, trace}
 -- A request that finds the pool full shows nothing, and no other event does find it.
 pub nothing-seen : (c : Config) (e : line_event.Event) (l : Line) → lines.takes_slot c e l ≡ true → seen e (refused PoolFull) ≡ []
 unfolding lines.takes_slot
-nothing-seen c (line_event.hears what) l takes = absurd (true≢false (sym takes))
-nothing-seen c (line_event.expiry timer) l takes = absurd (true≢false (sym takes))
 nothing-seen c (line_event.request r) l takes = refl
-nothing-seen c line_event.next l takes = absurd (true≢false (sym takes))
+nothing-seen c other l takes = absurd (true≢false (sym takes))
 
 -- An invariant of lines, and what a trace is to the line before it and the one after it.
 module _ (Stands : Config → Line → Type 0) (Shows : Config → Line → List Seen → Line → Type 0)

@@ -1,5 +1,5 @@
 -- What an observer knows of a link of a TEI on the line: its state, and in states 7 and 8 V(A).
-use Rattle.laws_trace.proofs.Vocabulary.{◌≡◌, ℕ, ◌%◌, ◌<◌, ◌==◌, Bool, true, false, List, Some, refl, sym, ap, ◌∙◌, subst, true≢false, fold, Service, State, TeiAssigned, AwaitingEstablishment, AwaitingRelease, Established, TimerRecovery, Link, is_multiple_frame, state_number, Config, Line, has_tei, link_of, place_in, IsInRange, line_at, at, moments}
+use Rattle.laws_trace.proofs.Vocabulary.{◌≡◌, ℕ, ◌%◌, ◌<◌, ◌==◌, Bool, true, false, List, Some, refl, sym, ap, ◌∙◌, subst, true≢false, fold, Service, State, TeiAssigned, AwaitingEstablishment, Established, TimerRecovery, Link, is_multiple_frame, state_number, Config, Line, has_tei, link_of, place_in, IsInRange, line_at, at, moments}
 use Rattle.model_line.specs.Event as line_event
 use Rattle.model_card.specs.Card.{fresh}
 use Rattle.model_card.specs.Event.{Event}
@@ -50,10 +50,7 @@ seen-as service tei k asked owed n l v h asks place on =
   where
     by-state : (here : State) (its : Bool) → When (state_number here == 5) (v.link.asked ≡ asked) → Asks here asked its → (state_number here == 5) ≡ true → v.link.asked ≡ its
     by-state AwaitingEstablishment its was is five = was ∙ is
-    by-state TeiAssigned its was is five = absurd (true≢false (sym five))
-    by-state AwaitingRelease its was is five = absurd (true≢false (sym five))
-    by-state Established its was is five = absurd (true≢false (sym five))
-    by-state TimerRecovery its was is five = absurd (true≢false (sym five))
+    by-state other its was is five = absurd (true≢false (sym five))
 
 -- After a list of events, and behind one more.
 module _ (c : Config) (events : List Event) (number : ℕ) (ranged : IsInRange c) (all : AreAtLines (fresh c) events) (within : number < c.lines) (service : Service) (tei : ℕ) where

@@ -1,5 +1,5 @@
 -- How a link stands, to whoever watches it: over runs.
-use Rattle.laws_trace.proofs.Vocabulary.{◌≡◌, ℕ, ◌==◌, ◌&&◌, ◌||◌, Bool, true, false, cond, List, [], ◌∷◌, ◌++◌, map, Option, Some, None, refl, sym, ap, ◌∙◌, subst, eq-eqb, ◌⊎◌, inl, inr, true≢false, fold, not, is_some, list_any, option_map_or, and_parts, Service, Parts, same_service, Terms, restarts, Link, is_multiple_frame, Config, hears, expiry, request, next, Answer, LineTold, refused, gave, Line, place_in, link_in, link_of, terms, aim_of, unless_refused, of_heard, Assign, Remove, Deactivate, at_requested, IsInRange, notes_of, is_data_of, is_granted, IsBy, not-refused, Down}
+use Rattle.laws_trace.proofs.Vocabulary.{◌≡◌, ℕ, ◌==◌, ◌&&◌, ◌||◌, Bool, true, false, cond, List, [], ◌∷◌, ◌++◌, map, Option, Some, None, refl, sym, ap, ◌∙◌, subst, eq-eqb, ◌⊎◌, inl, inr, true≢false, fold, not, is_some, list_any, option_map_or, and_parts, Service, Parts, same_service, Terms, restarts, Link, is_multiple_frame, Config, hears, expiry, request, next, Answer, LineTold, refused, gave, Line, place_in, link_in, link_of, terms, aim_of, unless_refused, of_heard, at_requested, IsInRange, notes_of, is_data_of, is_granted, IsBy, not-refused}
 use Rattle.std.proofs.Common.{eqb-true}
 use Rattle.model_bits.specs.Stream as stream
 use Rattle.laws_link.specs.Flags as flags
@@ -8,7 +8,7 @@ use Rattle.model_link.specs.Link.{fresh}
 use Rattle.model_link.specs.Machine as links
 use Rattle.model_line.specs.Event.{Event, told}
 use Rattle.model_line.specs.Machine.{after, answer}
-use Rattle.model_line.specs.Request.{Request, Establish, Release, Data, Check, SetBusy, ClearBusy}
+use Rattle.model_line.specs.Request.{Request, SetBusy, ClearBusy}
 use Rattle.model_line.specs.Sound.{IsSound}
 use Rattle.laws_line.specs.Requests.{of_link}
 use Rattle.laws_trace.specs.Trace as traces
@@ -28,14 +28,11 @@ no e = absurd (true≢false (sym e))
 module _ (service : Service) (tei : ℕ) where
   abbrev pub granted_busy : Request → Answer → Bool → Bool
   granted_busy r (told t) busy = busy_asked service tei busy r
-  granted_busy r (refused why) busy = busy
-  granted_busy r (gave given) busy = busy
+  granted_busy r other busy = busy
 
   abbrev pub asked_busy : Event → Answer → Bool → Bool
-  asked_busy (hears what) a busy = busy
-  asked_busy (expiry timer) a busy = busy
   asked_busy (request r) a busy = granted_busy r a busy
-  asked_busy next a busy = busy
+  asked_busy other a busy = busy
 
   -- How it stands behind an event.
   abbrev pub behind : Config → Event → Line → Answer → ℕ → Bool → Bool → Standing
@@ -72,14 +69,12 @@ module _ (service : Service) (tei : ℕ) where
 
     told-stand : (m : ℕ) (busy rejected : Bool) (a : Answer) → standing (calm m busy rejected) (seen_told a) ≡ ByNotes busy m rejected a
     told-stand m busy rejected (told t) = refl
-    told-stand m busy rejected (refused why) = refl
-    told-stand m busy rejected (gave given) = refl
+    told-stand m busy rejected other = refl
 
     asked-stand : (r : Request) (m : ℕ) (busy rejected : Bool) (a : Answer)
         → standing (calm m busy rejected) (seen_granted r a ++ seen_told a) ≡ ByNotes (granted_busy r a busy) m rejected a
     asked-stand r m busy rejected (told t) = refl
-    asked-stand r m busy rejected (refused why) = refl
-    asked-stand r m busy rejected (gave given) = refl
+    asked-stand r m busy rejected other = refl
 
     pub begun-stand : (frames : List (List ℕ)) (m : ℕ) (busy rejected : Bool) → standing (calm m busy rejected) (map traces.begun frames) ≡ calm m busy rejected
     begun-stand [] m busy rejected = refl
@@ -105,17 +100,14 @@ module _ (service : Service) (tei : ℕ) where
     brings-is (link.received link.undefined) by = ap (brings_information service tei) (brings-none c e a service tei link.undefined by)
     brings-is (link.received link.wrong_size) by = ap (brings_information service tei) (brings-none c e a service tei link.wrong_size by)
     brings-is (link.received link.overlong) by = ap (brings_information service tei) (brings-none c e a service tei link.overlong by)
-    brings-is (link.expired timer) by = ap (λ e. brings_information service tei (frame_by c e)) by
     brings-is (link.requested asked full) by = ap (λ e. brings_information service tei (frame_by c e)) by.0
-    brings-is link.offer by = ap (λ e. brings_information service tei (frame_by c e)) by
     brings-is link.cleared by = absurd by
+    brings-is other by = ap (λ e. brings_information service tei (frame_by c e)) by
 
     asked-by : (what : link.Request) (full : Bool) (a : Answer) (busy : Bool) → is_granted a ≡ true → granted_busy (of_link service tei what) a busy ≡ flags.busy_asked (link.requested what full) busy
-    asked-by link.Establish full (told t) busy g = refl
-    asked-by link.Release full (told t) busy g = refl
-    asked-by (link.Data contents) full (told t) busy g = refl
     asked-by link.SetBusy full (told t) busy g = ap (λ b. b || busy) own-true
     asked-by link.ClearBusy full (told t) busy g = ap (λ b. not b && busy) own-true
+    asked-by other full (told t) busy g = refl
     asked-by what full (refused why) busy g = no g
     asked-by what full (gave given) busy g = no g
 
@@ -124,10 +116,9 @@ module _ (service : Service) (tei : ℕ) where
     asked-is (link.received link.undefined) busy by = ap (λ e. asked_busy e a busy) (heard-by c e a service tei link.undefined by).1
     asked-is (link.received link.wrong_size) busy by = ap (λ e. asked_busy e a busy) (heard-by c e a service tei link.wrong_size by).1
     asked-is (link.received link.overlong) busy by = ap (λ e. asked_busy e a busy) (heard-by c e a service tei link.overlong by).1
-    asked-is (link.expired timer) busy by = ap (λ e. asked_busy e a busy) by
     asked-is (link.requested what full) busy by = ap (λ e. asked_busy e a busy) by.0 ∙ asked-by what full a busy by.1
-    asked-is link.offer busy by = ap (λ e. asked_busy e a busy) by
     asked-is link.cleared busy by = absurd by
+    asked-is other busy by = ap (λ e. asked_busy e a busy) by
 
   -- A request for a link that is on the line is an event of this link.
   module _ (c : Config) (l : Line) (place : ℕ) (on : place_in l tei ≡ Some place) where
@@ -143,21 +134,13 @@ module _ (service : Service) (tei : ℕ) where
             ap (λ o. is_at_link service tei (at_requested its by what o)) (sym here) ∙ ap (is_at_link service tei) is ∙ away
 
     busy-elsewhere : (r : Request) (busy : Bool) → is_granted (answer c (request r) l) ≡ true → is_at_link service tei (aim_of c (request r) l) ≡ false → busy_asked service tei busy r ≡ busy
-    busy-elsewhere (Establish its by) busy g away = refl
-    busy-elsewhere (Release its by) busy g away = refl
-    busy-elsewhere (Data its by contents) busy g away = refl
-    busy-elsewhere (Request.Unit its by contents) busy g away = refl
-    busy-elsewhere (Assign by) busy g away = refl
-    busy-elsewhere (Remove by) busy g away = refl
-    busy-elsewhere (Check by) busy g away = refl
-    busy-elsewhere Down busy g away = refl
-    busy-elsewhere (Deactivate its by) busy g away = refl
     busy-elsewhere (SetBusy its by) busy g away =
         ap (λ b. b || busy)
         (aimed (SetBusy its by) its by link.SetBusy (ap (λ o. unless_refused o (at_requested its by link.SetBusy (place_in l by))) (sym (not-refused c (SetBusy its by) l g))) away)
     busy-elsewhere (ClearBusy its by) busy g away =
         ap (λ b. not b && busy)
         (aimed (ClearBusy its by) its by link.ClearBusy (ap (λ o. unless_refused o (at_requested its by link.ClearBusy (place_in l by))) (sym (not-refused c (ClearBusy its by) l g))) away)
+    busy-elsewhere other busy g away = refl
 
     asked-elsewhere : (e : Event) (busy : Bool) → is_at_link service tei (aim_of c e l) ≡ false → asked_busy e (answer c e l) busy ≡ busy
     asked-elsewhere (hears what) busy away = refl
@@ -167,8 +150,7 @@ module _ (service : Service) (tei : ℕ) where
       where
         go : (a : Answer) → answer c (request r) l ≡ a → granted_busy r a busy ≡ busy
         go (told t) is = busy-elsewhere r busy (ap is_granted is) away
-        go (refused why) is = refl
-        go (gave given) is = refl
+        go other is = refl
 
   -- One event of a line.
   module _ (c : Config) (ranged : IsInRange c) (l : Line) (s : IsSound c l) (e : Event) (m : ℕ) (count : IsCount (link_of service tei l) m)

@@ -1,7 +1,6 @@
 -- How a link stands behind an event: own busy, and whether REJ stands.
-use Rattle.laws_trace.proofs.Vocabulary.{◌≡◌, ℕ, ◌&&◌, ◌||◌, Bool, true, false, cond, List, [], ◌∷◌, ◌++◌, length, Option, Some, None, refl, sym, ap, ◌∙◌, true≢false, inl, inr, not, is_some, nat_lt, nat_le, and_parts, and_right, or_parts, or_from, or_right, none-some, Seq, Information, ReceiveReady, ReceiveNotReady, Reject, Sabme, Disc, Ui, Ua, Dm, Frmr, Parts, State, TeiAssigned, AwaitingEstablishment, AwaitingRelease, Established, TimerRecovery, ControlFrame, Terms, Arrived, information_in, is_eligible, eligible_of, restarts, eligible, Received, undefined, wrong_size, overlong, received, expired, requested, offer, cleared, Link, is_multiple_frame, delivery, event-delivers, delivered-at_once, flag_left, busy_asked, own_busy_left, rejecting_heard, takes_contents, unless_put, owed_in, owed_behind, pending_left, as_heard, is_anew, is_clearing, leads_by_sabme, leads_by_agreement, comes_to, moves, numbers_begin, state_after, is_next, as_response, receipt_as, commands, put, event-follows}
+use Rattle.laws_trace.proofs.Vocabulary.{◌≡◌, ℕ, ◌&&◌, ◌||◌, Bool, true, false, cond, List, [], ◌∷◌, ◌++◌, length, Option, Some, None, refl, sym, ap, ◌∙◌, true≢false, inl, inr, not, is_some, nat_lt, nat_le, and_parts, and_right, or_parts, or_from, or_right, none-some, Seq, Information, Sabme, Ua, Parts, State, TeiAssigned, AwaitingEstablishment, AwaitingRelease, Established, TimerRecovery, ControlFrame, Terms, Arrived, information_in, is_eligible, eligible_of, restarts, eligible, Received, undefined, wrong_size, overlong, received, expired, requested, offer, cleared, Link, is_multiple_frame, delivery, event-delivers, delivered-at_once, flag_left, busy_asked, own_busy_left, rejecting_heard, takes_contents, unless_put, owed_in, owed_behind, pending_left, as_heard, is_anew, is_clearing, leads_by_sabme, leads_by_agreement, comes_to, moves, numbers_begin, state_after, is_next, as_response, receipt_as, commands, put, event-follows}
 use Rattle.lapd_frame.specs.declared.controls.Control.{Control}
-use Rattle.lapd_frame.specs.declared.controls.Control.TheVariants.{Xid}
 use Rattle.model_link.specs.Events.{Event, frame, Establish, Release, Data, SetBusy, ClearBusy}
 use Rattle.model_link.specs.Machine as links
 use Rattle.laws_trace.proofs.Counting.{Watched}
@@ -18,11 +17,8 @@ calm m busy rejected = record { told = quiet m; busy = busy; rejected = rejected
 
 -- State 5 is led to with both flags off.
 abbrev pub is_awaiting : State → Bool
-is_awaiting TeiAssigned = false
 is_awaiting AwaitingEstablishment = true
-is_awaiting AwaitingRelease = false
-is_awaiting Established = false
-is_awaiting TimerRecovery = false
+is_awaiting other = false
 
 no : {A : Type 0} → false ≡ true → A
 no e = absurd (true≢false (sym e))
@@ -34,42 +30,23 @@ module _ (t : Terms) (x flag : Bool) where
       numbers_begin e l.state (state_after t e l) ≡ true → (is_awaiting l.state ≡ true → flag ≡ false) → flag_left e l (state_after t e l) x flag ≡ false
 
   off-sabme : (f : Parts) (p : Bool) (here : State) (l : Link) → Off (received (frame (record f { control = Sabme p }))) (record l { state = here })
-  off-sabme f p TeiAssigned l is h = refl
   off-sabme f p AwaitingEstablishment l is h = no is
   off-sabme f p AwaitingRelease l is h = no is
-  off-sabme f p Established l is h = refl
-  off-sabme f p TimerRecovery l is h = refl
+  off-sabme f p other l is h = refl
 
   off-ua : (f : Parts) (here : State) (l : Link) → Off (received (frame (record f { control = Ua true }))) (record l { state = here })
-  off-ua f TeiAssigned l is h = no is
   off-ua f AwaitingEstablishment l is h = h refl
-  off-ua f AwaitingRelease l is h = no is
-  off-ua f Established l is h = no is
-  off-ua f TimerRecovery l is h = no is
+  off-ua f other l is h = no is
 
   off-frame : (f : Parts) (control : Control) (l : Link) → Off (received (frame (record f { control = control }))) l
   off-frame f (Sabme p) l = in-state (Off (received (frame (record f { control = Sabme p })))) l (λ here. off-sabme f p here l)
   off-frame f (Ua true) l = in-state (Off (received (frame (record f { control = Ua true })))) l (λ here. off-ua f here l)
-  off-frame f (Ua false) l = λ is h. no is
-  off-frame f (Information ns nr p) l = λ is h. no is
-  off-frame f (ReceiveReady nr p) l = λ is h. no is
-  off-frame f (ReceiveNotReady nr p) l = λ is h. no is
-  off-frame f (Reject nr p) l = λ is h. no is
-  off-frame f (Disc p) l = λ is h. no is
-  off-frame f (Ui p) l = λ is h. no is
-  off-frame f (Dm p) l = λ is h. no is
-  off-frame f (Frmr p) l = λ is h. no is
-  off-frame f (Xid p) l = λ is h. no is
+  off-frame f other l = λ is h. no is
 
   pub off-where-begun : (e : Event) (l : Link) → Off e l
   off-where-begun (received (frame f)) l is h = off-frame f f.control l is h
-  off-where-begun (received undefined) l is h = no is
-  off-where-begun (received wrong_size) l is h = no is
-  off-where-begun (received overlong) l is h = no is
-  off-where-begun (expired timer) l is h = no is
-  off-where-begun (requested r full) l is h = no is
-  off-where-begun offer l is h = no is
   off-where-begun cleared l is h = ap (λ b. cond b false (cond (is_multiple_frame l.state) x flag)) (or_right (comes_to 5 l.state TeiAssigned) true refl)
+  off-where-begun other l is h = no is
 
   -- and so it is in state 5;
   either-off : (b : Bool) → flag ≡ false → cond b false flag ≡ false
@@ -77,11 +54,8 @@ module _ (t : Terms) (x flag : Bool) where
   either-off false off = off
 
   off-awaiting : (e : Event) (from to : State) (l : Link) → is_awaiting to ≡ true → (is_awaiting from ≡ true → flag ≡ false) → flag_left e (record l { state = from }) to x flag ≡ false
-  off-awaiting e TeiAssigned AwaitingEstablishment l is h = refl
   off-awaiting e AwaitingEstablishment AwaitingEstablishment l is h = either-off (leads_by_sabme e AwaitingEstablishment || is_clearing e) (h refl)
-  off-awaiting e AwaitingRelease AwaitingEstablishment l is h = refl
-  off-awaiting e Established AwaitingEstablishment l is h = refl
-  off-awaiting e TimerRecovery AwaitingEstablishment l is h = refl
+  off-awaiting e other AwaitingEstablishment l is h = refl
   off-awaiting e from TeiAssigned l is h = no is
   off-awaiting e from AwaitingRelease l is h = no is
   off-awaiting e from Established l is h = no is
@@ -89,11 +63,9 @@ module _ (t : Terms) (x flag : Bool) where
 
   -- while the link stays up, it is as the event leaves it.
   not-five : (from to : State) → is_multiple_frame to ≡ true → comes_to 5 from to ≡ false
-  not-five from TeiAssigned up = no up
-  not-five from AwaitingEstablishment up = no up
-  not-five from AwaitingRelease up = no up
   not-five from Established up = and_right (moves from Established) false refl
   not-five from TimerRecovery up = and_right (moves from TimerRecovery) false refl
+  not-five from other up = no up
 
   not-anew : (e : Event) (from to : State) → is_multiple_frame to ≡ true → numbers_begin e from to ≡ false → is_anew e from to ≡ false
   not-anew e from to up on =
@@ -121,16 +93,7 @@ taken-free (frame f) l is = by f.control is
 
     by : (control : Control) → takes_contents (received (frame (record f { control = control }))) l ≡ true → l.own_busy ≡ false
     by (Information ns nr p) is = off l.own_busy (is_next ns l) is
-    by (ReceiveReady nr p) is = no is
-    by (ReceiveNotReady nr p) is = no is
-    by (Reject nr p) is = no is
-    by (Sabme p) is = no is
-    by (Disc p) is = no is
-    by (Ui p) is = no is
-    by (Ua p) is = no is
-    by (Dm p) is = no is
-    by (Frmr p) is = no is
-    by (Xid p) is = no is
+    by other is = no is
 taken-free undefined l is = no is
 taken-free wrong_size l is = no is
 taken-free overlong l is = no is
@@ -219,13 +182,7 @@ rejected_behind anew delivers e busy rejected = cond (anew || delivers) false (c
 
 as-asked : (t : Terms) (e : Event) (busy : Bool) → busy_asked (as_heard t e) busy ≡ busy_asked e busy
 as-asked t (received (frame f)) busy = refl
-as-asked t (received undefined) busy = refl
-as-asked t (received wrong_size) busy = refl
-as-asked t (received overlong) busy = refl
-as-asked t (expired timer) busy = refl
-as-asked t (requested r full) busy = refl
-as-asked t offer busy = refl
-as-asked t cleared busy = refl
+as-asked t other busy = refl
 
 -- REJ stands from an I-frame out of sequence on.
 module _ (t : Terms) (l : Link) (up : is_multiple_frame l.state ≡ true) where
@@ -247,26 +204,11 @@ module _ (t : Terms) (l : Link) (up : is_multiple_frame l.state ≡ true) where
 
   by-control : (f : Parts) (control : Control) → Same (received (frame (record f { control = control })))
   by-control f (Information ns nr p) = by-size f ns nr p (nat_lt t.n201 (length f.info))
-  by-control f (ReceiveReady nr p) = λ stays. refl
-  by-control f (ReceiveNotReady nr p) = λ stays. refl
-  by-control f (Reject nr p) = λ stays. refl
-  by-control f (Sabme p) = λ stays. refl
-  by-control f (Disc p) = λ stays. refl
-  by-control f (Ui p) = λ stays. refl
-  by-control f (Ua p) = λ stays. refl
-  by-control f (Dm p) = λ stays. refl
-  by-control f (Frmr p) = λ stays. refl
-  by-control f (Xid p) = λ stays. refl
+  by-control f other = λ stays. refl
 
   rejecting-same : (e : Event) → Same e
   rejecting-same (received (frame f)) = by-control f f.control
-  rejecting-same (received undefined) = λ stays. refl
-  rejecting-same (received wrong_size) = λ stays. refl
-  rejecting-same (received overlong) = λ stays. refl
-  rejecting-same (expired timer) = λ stays. refl
-  rejecting-same (requested r full) = λ stays. refl
-  rejecting-same offer = λ stays. refl
-  rejecting-same cleared = λ stays. refl
+  rejecting-same other = λ stays. refl
 
 module _ (t : Terms) (e : Event) (l : Link) (busy rejected : Bool) (stands : IsStanding l busy rejected) where
   abbrev next : Link
@@ -349,10 +291,7 @@ module _ (t : Terms) (l : Link) (busy : Bool) where
 
   by-event : (e : Event) (i : Arrived) → eligible t e l ≡ Some i → Free e
   by-event (received r) i is = let x = eligible-free (information_in (received r)) i is in (x.0, x.1, refl)
-  by-event (expired timer) i is = absurd (none-some i is)
-  by-event (requested r full) i is = absurd (none-some i is)
-  by-event offer i is = absurd (none-some i is)
-  by-event cleared i is = absurd (none-some i is)
+  by-event other i is = absurd (none-some i is)
 
   pub delivers-free : (e : Event) (contents : List ℕ) → (links.told t e l).delivered ≡ Some contents → Free e
   delivers-free e contents is = let x = delivered-at_once t e l contents is in by-event e x.0 x.1

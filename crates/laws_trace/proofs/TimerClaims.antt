@@ -15,11 +15,9 @@ pub record IsKnown (k : Known) (a s : ℕ) (busy : Bool) : Type 0 where
   pub busy_is : k.busy ≡ busy
 
 abbrev pub Agrees : State → Known → ℕ → ℕ → Bool → Type 0
-Agrees TeiAssigned k a s busy = k ≡ nothing_yet
-Agrees AwaitingEstablishment k a s busy = k ≡ nothing_yet
-Agrees AwaitingRelease k a s busy = k ≡ nothing_yet
 Agrees Established k a s busy = IsKnown k a s busy
 Agrees TimerRecovery k a s busy = IsKnown k a s busy
+Agrees other k a s busy = k ≡ nothing_yet
 
 abbrev pub told_state : State → Option ℕ
 told_state state = Some (state_number state)
@@ -36,10 +34,7 @@ anew_by timer from to k o = differ (told_state from) (told_state to) || (is_stat
 -- In state 5 V(A) and V(S) are as they were where the link came there.
 abbrev pub Kept : State → Timing → Timing → Type 0
 Kept AwaitingEstablishment x y = (y.a ≡ x.a) × (y.s ≡ x.s)
-Kept TeiAssigned x y = Unit {0}
-Kept AwaitingRelease x y = Unit {0}
-Kept Established x y = Unit {0}
-Kept TimerRecovery x y = Unit {0}
+Kept other x y = Unit {0}
 
 -- A timer that ran, which had not just expired, and that runs afterwards, is started exactly where one of the causes is there.
 pub record Good (k : Known) (ran : LinkTimer → Bool) (x y : Timing) (o : Option Control) : Type 0 where

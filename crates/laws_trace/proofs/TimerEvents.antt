@@ -22,10 +22,7 @@ use Rattle.laws_trace.proofs.TimerRows as rows
 -- The timers that ran, and had not just expired.
 abbrev pub ran_before : Event → Option LinkTimer → LinkTimer → Bool
 ran_before (expired other) r timer = if is_timer other timer then false else runs timer r
-ran_before (received what) r timer = runs timer r
-ran_before (requested asked full) r timer = runs timer r
-ran_before offer r timer = runs timer r
-ran_before cleared r timer = runs timer r
+ran_before other r timer = runs timer r
 
 abbrev pub control_of : Event → Option Control
 control_of (received (frame f)) = Some f.control
@@ -69,24 +66,16 @@ module _ (t : Terms) (k : Known) (l : Link) where
 
   asked : (ran : LinkTimer → Bool) (asks : Events.Request) (full : Bool) (here : State) → Facts ran here → Row ran here (Requests.request_step t asks full) None
   asked ran Events.Establish full TeiAssigned facts = claims.asked-4 k ran l.a l.s l.peer_busy l.running facts
-  asked ran Events.Establish full AwaitingEstablishment facts = refused ran AwaitingEstablishment facts
-  asked ran Events.Establish full AwaitingRelease facts = refused ran AwaitingRelease facts
   asked ran Events.Establish full Established facts = refused ran Established facts
   asked ran Events.Establish full TimerRecovery facts = refused ran TimerRecovery facts
-  asked ran Events.Release full TeiAssigned facts = refused ran TeiAssigned facts
-  asked ran Events.Release full AwaitingEstablishment facts = refused ran AwaitingEstablishment facts
-  asked ran Events.Release full AwaitingRelease facts = refused ran AwaitingRelease facts
   asked ran Events.Release full Established facts = claims.released-7 k ran l.a l.s l.peer_busy l.running
   asked ran Events.Release full TimerRecovery facts = claims.released-8 k ran l.a l.s l.peer_busy l.running
   asked ran (Events.Data octets) full here facts = content ran octets full here facts
-  asked ran Events.SetBusy full TeiAssigned facts = refused ran TeiAssigned facts
-  asked ran Events.SetBusy full AwaitingEstablishment facts = refused ran AwaitingEstablishment facts
-  asked ran Events.SetBusy full AwaitingRelease facts = refused ran AwaitingRelease facts
   asked ran Events.SetBusy full Established facts = rows.unchanged t k ran l Established facts (MultipleFrame.set_busy_in_7_8 t) sets-busy
   asked ran Events.SetBusy full TimerRecovery facts = rows.unchanged t k ran l TimerRecovery facts (MultipleFrame.set_busy_in_7_8 t) sets-busy
-  asked ran Events.ClearBusy full TeiAssigned facts = refused ran TeiAssigned facts
-  asked ran Events.ClearBusy full AwaitingEstablishment facts = refused ran AwaitingEstablishment facts
-  asked ran Events.ClearBusy full AwaitingRelease facts = refused ran AwaitingRelease facts
+  asked ran other full TeiAssigned facts = refused ran TeiAssigned facts
+  asked ran other full AwaitingEstablishment facts = refused ran AwaitingEstablishment facts
+  asked ran other full AwaitingRelease facts = refused ran AwaitingRelease facts
   asked ran Events.ClearBusy full Established facts = rows.unchanged t k ran l Established facts (MultipleFrame.clear_busy_in_7_8 t) clears-busy
   asked ran Events.ClearBusy full TimerRecovery facts = rows.unchanged t k ran l TimerRecovery facts (MultipleFrame.clear_busy_in_7_8 t) clears-busy
 
@@ -175,8 +164,7 @@ module _ (t : Terms) (k : Known) (l : Link) (s : IsSound t l) (small : t.k ≤ 1
       go : (none : Bool) → (l.s == l.a) ≡ none → (busy : Bool) → l.peer_busy ≡ busy → runs T203 (cond (not none || busy) (Some T200) (Some T203)) ≡ true
           → (l.s ≡ l.a) × (l.peer_busy ≡ false)
       go true same false free now = (eqb-true l.s l.a same, free)
-      go true same true free now = absurd (true≢false (sym now))
-      go false same busy free now = absurd (true≢false (sym now))
+      go b same other free now = absurd (true≢false (sym now))
 
   facts-in : (here : State) → l.running ≡ needed_in here l → IsCalmIn here l → Agrees here k l.a l.s l.peer_busy → rows.Facts t k (ran_with l.running) l here
   facts-in TeiAssigned is calm known = λ timer. ap (runs timer) is

@@ -1,5 +1,5 @@
 -- What is known of a link stays true: each event of a line.
-use Rattle.laws_trace.proofs.Vocabulary.{◌≡◌, ℕ, ◌==◌, ◌&&◌, ◌||◌, Bool, true, false, cond, List, [], ◌∷◌, map, Option, Some, None, option_map, refl, sym, ap, ◌∙◌, subst, eq-eqb, true≢false, ◌⊎◌, inl, inr, All, option_to_list, option_map_or, All-head, Service, Call, Packet, same_service, Parts, place_of-is, HasItsTimer, needed, State, Terms, LinkTimer, Link, is_same, Given, runs, is_timer, Config, hears, expiry, request, next, Answer, NextFrame, gave, Line, link_in, link_of, link_number, place_in, state_of, state_in, terms, taken, next_of, IsInRange, sound_in, terms_in_range, IsBy, timer_of, is_needed, left_by, HaveTheirTimers}
+use Rattle.laws_trace.proofs.Vocabulary.{◌≡◌, ℕ, ◌==◌, ◌&&◌, ◌||◌, Bool, true, false, cond, List, [], ◌∷◌, map, Option, Some, None, option_map, refl, sym, ap, ◌∙◌, subst, eq-eqb, true≢false, ◌⊎◌, inl, inr, All, option_to_list, option_map_or, All-head, Service, Call, Packet, same_service, Parts, place_of-is, HasItsTimer, needed, State, Terms, LinkTimer, Link, is_same, Given, runs, is_timer, Config, hears, next, Answer, NextFrame, gave, Line, link_in, link_of, link_number, place_in, state_of, state_in, terms, taken, next_of, IsInRange, sound_in, terms_in_range, IsBy, timer_of, is_needed, left_by, HaveTheirTimers}
 use Rattle.model_bits.specs.Stream as stream
 use Rattle.model_link.specs.declared.timers.LinkTimer.TheVariants.{T200, T203}
 use Rattle.model_link.specs.Events as link
@@ -66,10 +66,9 @@ own-timer Call tei = eq-eqb tei tei refl
 own-timer Packet tei = eq-eqb tei tei refl
 
 same-timer : (service : Service) (tei : ℕ) (one other : LinkTimer) → is_same (timer_of service tei one) (timer_of service tei other) ≡ is_timer one other
-same-timer service tei T200 T200 = own-timer service tei
-same-timer service tei T203 T203 = own-timer service tei
 same-timer service tei T200 T203 = refl
 same-timer service tei T203 T200 = refl
+same-timer service tei other any = own-timer service tei
 
 module _ (c : Config) (ranged : IsInRange c) (l : Line) (s : IsSound c l) (timed : HaveTheirTimers l) (service : Service) (tei : ℕ) (k : Known)
     (agrees : IsTrueOf service tei k l) (e : Event) where
@@ -142,14 +141,12 @@ module _ (c : Config) (ranged : IsInRange c) (l : Line) (s : IsSound c l) (timed
 
     none-goes : (e : Event) → All (IsForeign c service tei) (frame_in (answer c e l)) → sent_at c service tei k e l ≡ None
     unfolding answer
-    none-goes (hears what) h = refl
-    none-goes (expiry timer) h = refl
-    none-goes (request r) h = refl
     none-goes next h = go (option_map next_of (taken c l)) h
       where
         go : (o : Option NextFrame) → All (IsForeign c service tei) (frame_in (gave o)) → sent_with c service tei o ≡ None
         go None h = refl
         go (Some f) h = foreign c service tei f.octets (All-head (IsForeign c service tei) f.octets [] h)
+    none-goes other h = refl
 
     stays-known : (place : ℕ) → place_in l tei ≡ Some place → (after_place : ℕ) → place_in (after c e l) tei ≡ Some after_place → new ≡ own
         → IsTrueOf service tei now_known (after c e l)
@@ -305,11 +302,9 @@ module _ (c : Config) (ranged : IsInRange c) (l : Line) (s : IsSound c l) (timed
     either {X = X} one two = go x.event x.by (λ not_offer. one (other x.event not_offer x.by)) two
       where
         go : (event : link.Event) → IsBy c e a service tei event → ((event ≡ link.offer → ⊥) → X) → (e ≡ next → event ≡ link.offer → X) → X
-        go (link.received what) by one two = one (λ same. cc same)
-        go (link.expired timer) by one two = one (λ same. cc same)
-        go (link.requested asked full) by one two = one (λ same. cc same)
         go link.offer by one two = two by refl
         go link.cleared by one two = absurd by
+        go other by one two = one (λ same. cc same)
 
     one-known : IsTrueOf service tei now_known (after c e l)
     one-known = go (place_in (after c e l) tei) refl

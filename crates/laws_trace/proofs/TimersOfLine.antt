@@ -1,5 +1,5 @@
 -- What is known of a link, and what is heard of it: one event of a line.
-use Rattle.laws_trace.proofs.Vocabulary.{◌≡◌, List, [], ◌∷◌, ℕ, ◌||◌, Bool, true, false, ◌++◌, map, Option, Some, None, option_map, refl, ap, ◌∙◌, fold, list_any, option_map_or, Service, Config, hears, expiry, request, next, NextFrame, Answer, refused, gave, Line, taken, next_of}
+use Rattle.laws_trace.proofs.Vocabulary.{◌≡◌, List, [], ◌∷◌, ℕ, ◌||◌, Bool, true, false, ◌++◌, map, Option, Some, None, option_map, refl, ap, ◌∙◌, fold, list_any, option_map_or, Service, Config, hears, expiry, request, next, NextFrame, Answer, gave, Line, taken, next_of}
 use Rattle.lapd_frame.specs.declared.controls.Control.{Control}
 use Rattle.model_line.specs.Event.{Event, told}
 use Rattle.model_line.specs.Machine.{answer}
@@ -16,13 +16,11 @@ use Rattle.laws_trace.specs.Trace as traces
 module _ (c : Config) (service : Service) (tei : ℕ) (k : Known) where
   told-learns : (r i : Bool) (k : Known) (a : Answer) → fold (learns c service tei r i) k (seen_told a) ≡ k
   told-learns r i k (told t) = refl
-  told-learns r i k (refused why) = refl
-  told-learns r i k (gave given) = refl
+  told-learns r i k other = refl
 
   asked-learns : (r i : Bool) (asked : Request) (a : Answer) → fold (learns c service tei r i) k (seen_granted asked a ++ seen_told a) ≡ k
   asked-learns r i asked (told t) = refl
-  asked-learns r i asked (refused why) = refl
-  asked-learns r i asked (gave given) = refl
+  asked-learns r i asked other = refl
 
   next-learns : (r i : Bool) (o : Option NextFrame)
       → fold (learns c service tei r i) k (map traces.begun (frame_in (gave o))) ≡ option_map_or (sends k) (sent_with c service tei o) k
@@ -31,9 +29,7 @@ module _ (c : Config) (service : Service) (tei : ℕ) (k : Known) where
 
   abbrev pub sent_at : Event → Line → Option Sent
   sent_at next l = sent_with c service tei (option_map next_of (taken c l))
-  sent_at (hears what) l = None
-  sent_at (expiry timer) l = None
-  sent_at (request r) l = None
+  sent_at other l = None
 
   pub seen-learns : (e : Event) (l : Line) (r i : Bool)
       → fold (learns c service tei r i) k (seen e (answer c e l))
@@ -48,8 +44,7 @@ module _ (c : Config) (service : Service) (tei : ℕ) (k : Known) where
 module _ (c : Config) (service : Service) (tei : ℕ) (which : Control → Bool) where
   told-brings : (a : Answer) → list_any (brings which c service tei) (seen_told a) ≡ false
   told-brings (told t) = refl
-  told-brings (refused why) = refl
-  told-brings (gave given) = refl
+  told-brings other = refl
 
   or-false : (b : Bool) → (b || false) ≡ b
   or-false true = refl
@@ -57,8 +52,7 @@ module _ (c : Config) (service : Service) (tei : ℕ) (which : Control → Bool)
 
   asked-brings : (asked : Request) (a : Answer) → list_any (brings which c service tei) (seen_granted asked a ++ seen_told a) ≡ false
   asked-brings asked (told t) = refl
-  asked-brings asked (refused why) = refl
-  asked-brings asked (gave given) = refl
+  asked-brings asked other = refl
 
   begun-brings : (frames : List (List ℕ)) → list_any (brings which c service tei) (map traces.begun frames) ≡ false
   begun-brings [] = refl

@@ -126,8 +126,7 @@ module _ (c : Config) (events : List Event) (number : ℕ) (ranged : IsInRange c
 
   by-heard : (e : stream.Event) (behind : List Event) → events ≡ before ++ at number (hears e) ∷ behind → Comes (its_frame service tei (frame_of c e)) → Told (hears e)
   by-heard (stream.frame octets) behind split some = by-frame octets behind split (reading (heard_side c) octets) refl some
-  by-heard (stream.overlong head) behind split some = absurd (true≢false (sym some))
-  by-heard (stream.dropped cause) behind split some = absurd (true≢false (sym some))
+  by-heard other behind split some = absurd (true≢false (sym some))
 
   pub units-are : (what : line_event.Event) (behind : List Event) → events ≡ before ++ at number what ∷ behind → Comes (brought c service tei what) → Told what
   units-are (hears e) behind split some = by-heard e behind split some

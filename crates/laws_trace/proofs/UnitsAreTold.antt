@@ -44,10 +44,9 @@ is-frame c e a service tei f is (link.received (link.frame g)) by =
 is-frame c e a service tei f is (link.received link.undefined) by = absurd (none-some f (sym (brings-none c e a service tei link.undefined by) ∙ is))
 is-frame c e a service tei f is (link.received link.wrong_size) by = absurd (none-some f (sym (brings-none c e a service tei link.wrong_size by) ∙ is))
 is-frame c e a service tei f is (link.received link.overlong) by = absurd (none-some f (sym (brings-none c e a service tei link.overlong by) ∙ is))
-is-frame c e a service tei f is (link.expired timer) by = absurd (none-some f (sym (ap (λ e. frame_by c e) by) ∙ is))
 is-frame c e a service tei f is (link.requested asked full) by = absurd (none-some f (sym (ap (λ e. frame_by c e) by.0) ∙ is))
-is-frame c e a service tei f is link.offer by = absurd (none-some f (sym (ap (λ e. frame_by c e) by) ∙ is))
 is-frame c e a service tei f is link.cleared by = absurd by
+is-frame c e a service tei f is other by = absurd (none-some f (sym (ap (λ e. frame_by c e) by) ∙ is))
 
 abbrev Tells : Service → ℕ → List ℕ → Answer → Type 0
 Tells service tei info a = (list_any (is_unit_of service tei) (notes_of a) ≡ true) × (contents_in a ≡ Some info)

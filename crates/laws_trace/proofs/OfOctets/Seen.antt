@@ -26,10 +26,9 @@ use Rattle.laws_trace.specs.octets.Granted.{if_granted, request_granted, request
 -- ---- the frames that begin are those that the card of frames gives
 
 by_call : (a : line.Answer) → frames_begun (map traces.begun (frame_in a)) ≡ option_to_list (option_map codec.octets_of (given_in a))
-by_call (line.told t) = refl
-by_call (line.refused why) = refl
 by_call (line.gave None) = refl
 by_call (line.gave (Some next)) = refl
+by_call other = refl
 
 by_none : (t : List Seen) (a : line.Answer) → frames_begun t ≡ [] → given_in a ≡ None → frames_begun t ≡ option_to_list (option_map codec.octets_of (given_in a))
 by_none t a none given = none ∙ ap (λ o. option_to_list (option_map codec.octets_of o)) (sym given)
@@ -81,8 +80,7 @@ in_trace number (m ∷ ms) = flat_map-append request_seen (seen_in number m) (tr
 
 none_asked : (a : line.Answer) → requests_seen (seen_told a) ≡ []
 none_asked (line.told t) = refl
-none_asked (line.refused why) = refl
-none_asked (line.gave next) = refl
+none_asked other = refl
 
 none_called : (given : List (List ℕ)) → requests_seen (map traces.begun given) ≡ []
 none_called [] = refl
@@ -152,19 +150,16 @@ HearsIn other = Unit {0}
 
 same_word : (e : stream.Event) → comes.HasOctets e → read.HasOctets e
 same_word (stream.frame octets) h = h
-same_word (stream.overlong head) h = tt
-same_word (stream.dropped cause) h = tt
+same_word other h = tt
 
 told_hears : (a : line.Answer) → All HearsIn (seen_told a)
 told_hears (line.told t) =
     All-cons HearsIn (traces.noted t.notes t.contents) (traces.lost t.lost ∷ []) tt (All-cons HearsIn (traces.lost t.lost) [] tt (All-nil HearsIn))
-told_hears (line.refused why) = All-nil HearsIn
-told_hears (line.gave next) = All-nil HearsIn
+told_hears other = All-nil HearsIn
 
 granted_hears : (r : Request) (a : line.Answer) → All HearsIn (seen_granted r a)
 granted_hears r (line.told t) = All-cons HearsIn (traces.granted r) [] tt (All-nil HearsIn)
-granted_hears r (line.refused why) = All-nil HearsIn
-granted_hears r (line.gave next) = All-nil HearsIn
+granted_hears r other = All-nil HearsIn
 
 begun_hears : (given : List (List ℕ)) → All HearsIn (map traces.begun given)
 begun_hears [] = All-nil HearsIn

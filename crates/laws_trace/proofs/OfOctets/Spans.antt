@@ -49,9 +49,6 @@ module _ (c : Config) where
 
   step : (begun waiting left : List (List ℕ)) (asked : Asked) (s : Seen) → Step c waiting s left → Spans begun waiting asked
       → Spans (begun ++ units_begun c (s ∷ [])) left (asked_by asked (s ∷ []))
-  step begun waiting left asked (traces.heard e) is x = same begun waiting left asked is x
-  step begun waiting left asked (traces.noted notes contents) is x = same begun waiting left asked is x
-  step begun waiting left asked (traces.lost n) is x = same begun waiting left asked is x
   step begun waiting left asked (traces.begun octets) is x = go (is_unit c.side octets) is
     where
       go : (b : Bool) → Begun b waiting octets left → Spans (begun ++ cond b (octets ∷ []) []) left asked
@@ -82,6 +79,7 @@ module _ (c : Config) where
             (more_fronts x.before x.since asked.earlier asked.since x.fronts (record { rest = waiting; whole_is = sym x.waits }));
         waits = none;
       }
+  step begun waiting left asked other is x = same begun waiting left asked is x
 
   pub spans : (t : List Seen) (begun waiting left : List (List ℕ)) (asked : Asked) → Goes c waiting t left → Spans begun waiting asked
       → Spans (begun ++ units_begun c t) left (asked_by asked t)
@@ -101,7 +99,4 @@ module _ (c : Config) where
 
       rest : (s : Seen) → asked_by asked (s ∷ t) ≡ asked_by (asked_by asked (s ∷ [])) t
       rest (traces.heard e) = refl
-      rest (traces.begun octets) = refl
-      rest (traces.noted notes contents) = refl
-      rest (traces.granted r) = refl
-      rest (traces.lost n) = refl
+      rest other = refl

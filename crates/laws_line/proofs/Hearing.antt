@@ -97,10 +97,9 @@ malformed-event c l service tei place address octets what f is =
     (by-fault what is ∙ addressed-is l address service tei place what (drop_for Unserved) f.sapi f.tei_is f.on_line)
   where
     by-fault : (what : link.Received) → IsMalformed c address octets what → aim_of_reading c l (reading (heard_side c) octets) ≡ addressed l address what (drop_for Unserved)
-    by-fault link.undefined is = ap (aim_of_reading c l) is
-    by-fault link.wrong_size is = ap (aim_of_reading c l) is
     by-fault link.overlong is = absurd is
     by-fault (link.frame parts) is = absurd is
+    by-fault other is = ap (aim_of_reading c l) is
 
 -- A frame that was too long to keep.
 pub overlong-event : (c : Config) (l : Line) (service : Service) (tei place : ℕ) (address : Address) (head : List ℕ) (what : link.Received)
@@ -111,10 +110,8 @@ overlong-event c l service tei place address head what f is =
     (by-head what is ∙ addressed-is l address service tei place what (drop_for Unserved) f.sapi f.tei_is f.on_line)
   where
     by-head : (what : link.Received) → IsTooLong c address head what → aim_of_long l (long_reading (heard_side c) head) ≡ addressed l address what (drop_for Unserved)
-    by-head link.undefined is = ap (aim_of_long l) is
-    by-head link.wrong_size is = ap (aim_of_long l) is
-    by-head link.overlong is = ap (aim_of_long l) is
     by-head (link.frame parts) is = absurd is
+    by-head other is = ap (aim_of_long l) is
 
 -- What was dropped in place of a frame.
 pub dropped-stretch : (c : Config) (l : Line) (cause : Cause)

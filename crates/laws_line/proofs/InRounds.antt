@@ -66,9 +66,8 @@ module _ (count turn : ℕ) (low : turn ≤ count) where
           → j < cond b (number - turn) (count - turn + number)
           → cond b' (number - (other + 1)) (count - (other + 1) + number) + 1 ≤ cond b (number - turn) (count - turn + number)
       go true e true e' (inl at) less = let le = leb-true turn number e in omega (arith, le, at.0, at.1, less)
-      go true e true e' (inr at) less = let le = leb-true turn number e in omega (arith, le, at.0, at.1, less, few)
       go true e false e' (inl at) less = let le = leb-true turn number e in let gt : number < other + 1 = leb-false (other + 1) number e' in omega (arith, le, gt, at.0, at.1, less)
-      go true e false e' (inr at) less = let le = leb-true turn number e in omega (arith, le, at.0, at.1, less, few)
+      go true e b e' (inr at) less = let le = leb-true turn number e in omega (arith, le, at.0, at.1, less, few)
       go false e true e' (inl at) less =
           let gt : number < turn = leb-false turn number e in let le : other + 1 ≤ number = leb-true (other + 1) number e' in omega (arith, gt, le, at.0, at.1)
       go false e true e' (inr at) less = let gt : number < turn = leb-false turn number e in omega (arith, gt, at.0, at.1, less, low)

@@ -55,17 +55,12 @@ module _ (c : Config) (l : Line) (s : IsSound c l) (service : Service) (tei plac
 tei-note : (service : Service) (tei : ℕ) (up : Bool) (e : teis.Event) (o : Option Change) (ns : List Note) → ByChange e o ns → fold (up_by_note service tei) up ns ≡ up
 tei-note service tei up e None ns is = ap (λ xs. fold (up_by_note service tei) up xs) is
 tei-note service tei up (teis.message octets) (Some (Gained by place)) ns is = ap (λ xs. fold (up_by_note service tei) up xs) is
-tei-note service tei up teis.expiry (Some (Gained by place)) ns is = absurd is
 tei-note service tei up (teis.assign asked) (Some (Gained by place)) ns is = ap (λ xs. fold (up_by_note service tei) up xs) is.1
-tei-note service tei up (teis.remove asked) (Some (Gained by place)) ns is = absurd is
-tei-note service tei up (teis.check asked) (Some (Gained by place)) ns is = absurd is
-tei-note service tei up teis.down (Some (Gained by place)) ns is = absurd is
+tei-note service tei up other (Some (Gained by place)) ns is = absurd is
 tei-note service tei up (teis.message octets) (Some (Left by place)) ns is = ap (λ xs. fold (up_by_note service tei) up xs) is
 tei-note service tei up teis.expiry (Some (Left by place)) ns is = ap (λ xs. fold (up_by_note service tei) up xs) is
-tei-note service tei up (teis.assign asked) (Some (Left by place)) ns is = absurd is
 tei-note service tei up (teis.remove asked) (Some (Left by place)) ns is = ap (λ xs. fold (up_by_note service tei) up xs) is.1
-tei-note service tei up (teis.check asked) (Some (Left by place)) ns is = absurd is
-tei-note service tei up teis.down (Some (Left by place)) ns is = absurd is
+tei-note service tei up other (Some (Left by place)) ns is = absurd is
 
 -- An event of TEI management.
 module _ (c : Config) (l : Line) (s : IsSound c l) (e : teis.Event) (fits : tei_laws.IsInRange e) where

@@ -73,8 +73,7 @@ module _ (ri : ℕ) (m : Management) (s : IsSound m) (few : length m.places < 63
 
   assigns-new : no_room m.waiting ≡ false → tei_for ri m.remembered ≡ None → (place tei : Option ℕ) → free_place m.places ≡ place → free_tei m.places ≡ tei
       → Answers (rows.assign_new ri place tei (begun m))
-  assigns-new room unknown None None at free = denies _ room unknown at refl
-  assigns-new room unknown None (Some tei) at free = denies _ room unknown at refl
+  assigns-new room unknown None other at free = denies _ room unknown at refl
   assigns-new room unknown (Some place) None at free = absurd (none-is-some (free_tei m.places) free (one_is_free m.places 64 63 few))
     where
       none-is-some : (o : Option ℕ) → o ≡ None → IsSome o → ⊥

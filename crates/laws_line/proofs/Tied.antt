@@ -5,7 +5,6 @@ use Rattle.model_link.specs.Events as link
 
 abbrev pub Ties : Config → Event → Answer → Aim → Type 0
 Ties c e answer (at_link service tei place event) = IsOf c e answer service tei event
-Ties c e answer at_no_link = Unit {0}
 Ties c e answer other = Unit {0}
 
 module _ (c : Config) (l : Line) (e : Event) (answer : Answer) where

@@ -44,10 +44,7 @@ cleared-none t l = go l.state
   where
     go : (here : State) → count_by tells_contents (links.told_of_clearing here t (begun l)).notes ≡ 0
     go TeiAssigned = refl
-    go AwaitingEstablishment = refl
-    go AwaitingRelease = refl
-    go Established = refl
-    go TimerRecovery = refl
+    go other = refl
 
 -- TEI management's: none is of contents.
 is-none : (ns : List Note) (known : List Note) → ns ≡ known → count_by tells_contents known ≡ 0 → count_by tells_contents ns ≡ 0
@@ -56,17 +53,12 @@ is-none ns known e none = ap (count_by tells_contents) e ∙ none
 management-none : (e : teis.Event) (o : Option Change) (ns : List Note) → ByChange e o ns → count_by tells_contents ns ≡ 0
 management-none e None ns by = is-none ns [] by refl
 management-none (teis.message octets) (Some (Gained tei place)) ns by = is-none ns (Note.Assigned tei ∷ []) by refl
-management-none teis.expiry (Some (Gained tei place)) ns by = absurd by
 management-none (teis.assign asked) (Some (Gained tei place)) ns by = is-none ns [] by.1 refl
-management-none (teis.remove asked) (Some (Gained tei place)) ns by = absurd by
-management-none (teis.check asked) (Some (Gained tei place)) ns by = absurd by
-management-none teis.down (Some (Gained tei place)) ns by = absurd by
+management-none other (Some (Gained tei place)) ns by = absurd by
 management-none (teis.message octets) (Some (Left tei place)) ns by = is-none ns (Note.Doubled tei ∷ []) by refl
 management-none teis.expiry (Some (Left tei place)) ns by = is-none ns (Note.Removed tei ∷ []) by refl
-management-none (teis.assign asked) (Some (Left tei place)) ns by = absurd by
 management-none (teis.remove asked) (Some (Left tei place)) ns by = is-none ns [] by.1 refl
-management-none (teis.check asked) (Some (Left tei place)) ns by = absurd by
-management-none teis.down (Some (Left tei place)) ns by = absurd by
+management-none other (Some (Left tei place)) ns by = absurd by
 
 three-none : (a b c : List Note) → count_by tells_contents a ≡ 0 → count_by tells_contents b ≡ 0 → count_by tells_contents c ≡ 0
     → count_by tells_contents (a ++ b ++ c) ≡ 0

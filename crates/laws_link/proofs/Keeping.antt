@@ -162,12 +162,10 @@ module _ (t : Terms) (l : Link) (h : IsSound t l) where
   unfolding Moved
   expired-in TeiAssigned e timer = unmoved
   expired-in AwaitingEstablishment e T200 = t200_in_5 t l h.ordered h.accepted
-  expired-in AwaitingEstablishment e T203 = unmoved
   expired-in AwaitingRelease e T200 = t200_in_6 t l h.ordered h.accepted (settled AwaitingRelease e)
-  expired-in AwaitingRelease e T203 = unmoved
   expired-in Established e timer = timer_in_7 t l h.ordered h.accepted
   expired-in TimerRecovery e T200 = t200_in_8 t l h.ordered h.accepted
-  expired-in TimerRecovery e T203 = unmoved
+  expired-in other e T203 = unmoved
 
   expires : (b : Bool) (timer : LinkTimer) → Moved 0 (cond b (expired_in l.state timer t (begun l)) (begun l))
   expires true timer = expired-in l.state refl timer
@@ -304,10 +302,7 @@ module _ (t : Terms) (l : Link) (h : IsSound t l) where
     where
       by-release : (here : State) → (Requests.release_in here t (begun l)).unit ≡ None
       by-release TeiAssigned = refl
-      by-release AwaitingEstablishment = refl
-      by-release AwaitingRelease = refl
-      by-release Established = refl
-      by-release TimerRecovery = refl
+      by-release other = refl
   unit-requested Events.SetBusy o e = no-unit 0 _ set-busy
   unit-requested Events.ClearBusy o e = no-unit 0 _ clear-busy
   unit-requested other o e = refl

@@ -123,12 +123,10 @@ anew : (t : Terms) (here : State) (l : Link) (timer : LinkTimer) → IsTimedIn h
     → Anew (expired_in here timer t (begun l)).started (expired_in here timer t (begun l)).link.running
 anew t TeiAssigned l timer h e = absurd (true≢false (sym (clash timer l.running None e h)))
 anew t AwaitingEstablishment l T200 h e = (anew_in_5 t).leads (begun l) tt
-anew t AwaitingEstablishment l T203 h e = absurd (true≢false (sym (clash T203 l.running (Some T200) e h)))
 anew t AwaitingRelease l T200 h e = (anew_in_6 t).leads (begun l) tt
-anew t AwaitingRelease l T203 h e = absurd (true≢false (sym (clash T203 l.running (Some T200) e h)))
 anew t Established l timer h e = record { is = refl }
 anew t TimerRecovery l T200 h e = (anew_in_8 t).leads (begun l) tt
-anew t TimerRecovery l T203 h e = absurd (true≢false (sym (clash T203 l.running (Some T200) e h)))
+anew t other l T203 h e = absurd (true≢false (sym (clash T203 l.running (Some T200) e h)))
 
 -- so its order says how it is after the event
 not-anew : (started after : Bool) → started ≡ after → (started && after) ≡ false → false ≡ after

@@ -38,11 +38,8 @@ module _ (t : Terms) (l : Link) where
   by-ua : (here : State) (b f : Bool) (octets : List ℕ) → (frame_in here t b octets (Ua f) (begun l)).zeroed ≡ true
       → IsEstablished (Ua f) (frame_in here t b octets (Ua f) (begun l)).link
   by-ua here b false octets e = goes-on here b octets (Ua false) tt e
-  by-ua TeiAssigned b true octets e = absurd (true≢false (sym e))
   by-ua AwaitingEstablishment b true octets e = record { by = tt; state = refl; a = refl; s = refl; r = refl }
-  by-ua AwaitingRelease b true octets e = absurd (true≢false (sym e))
-  by-ua Established b true octets e = absurd (true≢false (sym e))
-  by-ua TimerRecovery b true octets e = absurd (true≢false (sym e))
+  by-ua other b true octets e = absurd (true≢false (sym e))
 
   frames : (b : Bool) (octets : List ℕ) (control : Control) → (frame_step t b octets control (begun l)).zeroed ≡ true
       → IsEstablished control (frame_step t b octets control (begun l)).link

@@ -92,12 +92,9 @@ module _ (Asks : ℕ → Type 0) (t : Terms) (l : Link) where
       same-a false false = refl
   frames_in_7 b octets (Sabme p) asks = sabme-again p (has_outstanding l)
   frames_in_7 b octets (Disc p) asks = record { sent = inr (inr (inl (refl, refl))); busy = inl refl; loss = λ some. tt }
-  frames_in_7 b octets (Ua f) asks = still Asks _ t l (frame_in_7 t b octets (Ua f)) (search words)
-  frames_in_7 b octets (Dm true) asks = still Asks _ t l (frame_in_7 t b octets (Dm true)) (search words)
   frames_in_7 b octets (Dm false) asks = fails Asks _ t l ErrorCode.E refl
   frames_in_7 b octets (Frmr f) asks = fails Asks _ t l ErrorCode.K refl
-  frames_in_7 b octets (Ui p) asks = still Asks _ t l (frame_in_7 t b octets (Ui p)) (search words)
-  frames_in_7 b octets (Xid pf) asks = still Asks _ t l (frame_in_7 t b octets (Xid pf)) (search words)
+  frames_in_7 b octets other asks = still Asks _ t l (frame_in_7 t b octets other) (search words)
 
   -- the answer to an enquiry, and other supervisory frames of state 8
   recovering : (busy : Bool) (timer : LinkTimer) (nr : Seq) → ((n : ℕ) → named l.a l.s nr ≡ Some n → Asks n) → (Ends : Type 0)
@@ -111,9 +108,6 @@ module _ (Asks : ℕ → Type 0) (t : Terms) (l : Link) where
       → ((nr : Seq) (n : ℕ) → asked_from TimerRecovery b control ≡ Some nr → named l.a l.s nr ≡ Some n → Asks n)
       → Row Asks (MayEndBy control) l (frame_in_8 t b octets control (begun l))
   frames_in_8 b octets (Information ns nr p) asks = still Asks _ t l (frame_in_8 t b octets (Information ns nr p)) (search words depth 20 fits 20000)
-  frames_in_8 true octets (ReceiveReady nr pf) asks = still Asks _ t l (frame_in_8 t true octets (ReceiveReady nr pf)) (search words depth 20 fits 20000)
-  frames_in_8 true octets (ReceiveNotReady nr pf) asks = still Asks _ t l (frame_in_8 t true octets (ReceiveNotReady nr pf)) (search words depth 20 fits 20000)
-  frames_in_8 true octets (Reject nr pf) asks = still Asks _ t l (frame_in_8 t true octets (Reject nr pf)) (search words depth 20 fits 20000)
   frames_in_8 false octets (ReceiveReady nr true) asks = recovering false T203 nr (λ n. asks nr n refl) _
   frames_in_8 false octets (ReceiveNotReady nr true) asks = recovering true T200 nr (λ n. asks nr n refl) _
   frames_in_8 false octets (Reject nr true) asks = recovering false T203 nr (λ n. asks nr n refl) _
@@ -128,6 +122,7 @@ module _ (Asks : ℕ → Type 0) (t : Terms) (l : Link) where
   frames_in_8 b octets (Frmr f) asks = fails Asks _ t l ErrorCode.K refl
   frames_in_8 b octets (Ui p) asks = still Asks _ t l (frame_in_8 t b octets (Ui p)) (search words)
   frames_in_8 b octets (Xid pf) asks = still Asks _ t l (frame_in_8 t b octets (Xid pf)) (search words)
+  frames_in_8 true octets other asks = still Asks _ t l (frame_in_8 t true octets other) (search words depth 20 fits 20000)
 
   frames : (here : State) → l.state ≡ here → (b : Bool) (octets : List ℕ) (control : Control)
       → ((nr : Seq) (n : ℕ) → asked_from here b control ≡ Some nr → named l.a l.s nr ≡ Some n → Asks n)

@@ -73,9 +73,8 @@ goes_on running a s true e (inl h) = inl h
 goes_on running a s true e (inr h) = absurd (clash running e h.0)
   where
     clash : (running : Option LinkTimer) → runs T200 running ≡ true → running ≡ Some T203 → ⊥
-    clash None e h = true≢false (sym e)
     clash (Some T200) e h = cc
-    clash (Some T203) e h = true≢false (sym e)
+    clash other e h = true≢false (sym e)
 
 gone : Link → Course
 gone l = pending_is false (changed with_one_sent (give_information (begun l)))

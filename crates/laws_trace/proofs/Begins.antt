@@ -81,16 +81,7 @@ ComesUp from e to = IsUp to → numbers_begin e from to ≡ false → IsUp from
 
 by-frame : (from : State) (f : Parts) (control : Control) → let e = received (frame (record f { control = control })) in ComesUp from e (by_frame from f.address.command control)
 by-frame TeiAssigned f (Sabme p) up none = absurd (true≢false none)
-by-frame TeiAssigned f (Information ns nr p) up none = up
-by-frame TeiAssigned f (ReceiveReady nr p) up none = up
-by-frame TeiAssigned f (ReceiveNotReady nr p) up none = up
-by-frame TeiAssigned f (Reject nr p) up none = up
-by-frame TeiAssigned f (Disc p) up none = up
-by-frame TeiAssigned f (Ui p) up none = up
-by-frame TeiAssigned f (Ua p) up none = up
-by-frame TeiAssigned f (Dm p) up none = up
-by-frame TeiAssigned f (Frmr p) up none = up
-by-frame TeiAssigned f (Xid p) up none = up
+by-frame TeiAssigned f other up none = up
 by-frame AwaitingEstablishment f (Ua true) up none = absurd (true≢false none)
 by-frame AwaitingEstablishment f (Ua false) up none = up
 by-frame AwaitingEstablishment f (Dm true) up none = up

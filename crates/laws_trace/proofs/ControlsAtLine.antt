@@ -161,9 +161,6 @@ module _ (service : Service) (tei : ℕ) where
           low = s.management.table.range here.0 tei (place_of-is l.management.places tei here.0 here.1).1
 
           go : (e' : Event) → e ≡ e' → deactivates service tei e' ≡ false
-          go (line_event.hears what) is = refl
-          go (line_event.expiry timer) is = refl
-          go next is = refl
           go (line_event.request r) is = by-request r is
             where
               by-request : (r : Request) → e ≡ line_event.request r → is_deactivation service tei r ≡ false
@@ -181,6 +178,7 @@ module _ (service : Service) (tei : ℕ) where
                       ∙ ap (λ o. is_at_link service tei (at_deactivated its by o)) (ap (place_in l) same ∙ here.1) ∙ own in
                       absurd (true≢false (sym aimed ∙ x.aims))
               by-request other is = refl
+          go other is = refl
 
       none-exact : has_tei tei l ≡ true → has_tei tei new ≡ true → waits new ≡ cond (deactivates service tei e) [] (drop (length begins) (waits l) ++ Due)
       none-exact was-on is-on =

@@ -38,15 +38,7 @@ drop-none (suc n) = refl
 single : (command : Bool) (control : Control) → is_information control ≡ false → is_ui control ≡ false → length (control_in command control) ≡ 1
 single command (Information ns nr p) bare plain = absurd (true≢false bare)
 single command (Ui p) bare plain = absurd (true≢false plain)
-single command (ReceiveReady nr p) bare plain = refl
-single command (ReceiveNotReady nr p) bare plain = refl
-single command (Reject nr p) bare plain = refl
-single command (Sabme p) bare plain = refl
-single command (Disc p) bare plain = refl
-single command (Ua p) bare plain = refl
-single command (Dm p) bare plain = refl
-single command (Frmr p) bare plain = refl
-single command (Xid p) bare plain = refl
+single command other bare plain = refl
 
 some-of : {X : Type 0} (P : X → Type 0) (o : Option X) (x : X) → o ≡ Some x → IfSome o P → P x
 some-of P o x is h = subst (λ o. IfSome o P) is h
@@ -120,20 +112,17 @@ module _ (c : Config) (events : List Event) (number : ℕ) (ranged : IsInRange c
 
   any-leaves : (what : line_event.Event) → Leaves (frame_in (lines.answer c what line))
   unfolding lines.answer
-  any-leaves (hears e) = refl
-  any-leaves (expiry timer) = refl
   any-leaves (request r) = subst Leaves (sym (none-given (refusal c false r line) (of_request c r line))) refl
   any-leaves next = line-leaves
+  any-leaves other = refl
 
   line-begun : (what : line_event.Event) → Begun what (lines.answer c what line)
   line-begun what = any-leaves what ∙ ap (λ xs. drop (length xs) (waits service tei line)) (sym (begun-is c service tei what line))
 
   full-begun : (what : line_event.Event) → lines.takes_slot c what line ≡ true → Begun what (line_event.refused PoolFull)
   unfolding lines.takes_slot
-  full-begun (hears e) takes = absurd (true≢false (sym takes))
-  full-begun (expiry timer) takes = absurd (true≢false (sym takes))
   full-begun (request r) takes = refl
-  full-begun next takes = absurd (true≢false (sym takes))
+  full-begun other takes = absurd (true≢false (sym takes))
 
   pub begun-leaves : (what : line_event.Event) → Begun what (answer (at number what) card)
   begun-leaves what =

@@ -59,10 +59,9 @@ module _ (c : Config) (service : Service) (tei : ℕ) where
 
   pub begun-is : (e : Event) (l : Line) → controls_begun (seen e (answer c e l)) ≡ flat_map begun_of (frame_in (answer c e l))
   unfolding answer
-  begun-is (hears what) l = none-told (answer c (hears what) l)
-  begun-is (expiry timer) l = none-told (answer c (expiry timer) l)
   begun-is (request r) l = none-granted r (answer c (request r) l) ∙ none-given (refusal c false r l) (of_request c r l)
   begun-is next l = by-begun (frame_in (answer c next l))
+  begun-is other l = none-told (answer c other l)
 
   -- Frames of others are no control frames of this link.
   foreign : (frame : List ℕ) → IsForeign c service tei frame → begun_of frame ≡ []

@@ -28,51 +28,33 @@ outside (Polls Heard) other = inl (omega arith)
 outside (Polls Begun) other = inl (omega arith)
 outside Overlong other = inl (omega arith)
 outside (Dropped cause) other = absurd (true≢false other)
-outside (Errors code) other = inr (omega arith)
-outside EstablishIndications other = inr (omega arith)
-outside EstablishConfirms other = inr (omega arith)
-outside ReleaseIndications other = inr (omega arith)
-outside ReleaseConfirms other = inr (omega arith)
-outside Data other = inr (omega arith)
-outside Units other = inr (omega arith)
-outside Xids other = inr (omega arith)
-outside Assigned other = inr (omega arith)
-outside Removed other = inr (omega arith)
-outside Doubled other = inr (omega arith)
-outside Lost other = inr (omega arith)
 outside (Messages Heard message) other = inr (omega arith)
 outside (Messages Begun message) other = inr (omega arith)
+outside any other = inr (omega arith)
 
 -- A call for the next frame is answered with a frame or none, and any other event with what is told.
 abbrev Tells : Answer → Type 0
-Tells (told t) = Unit {0}
-Tells (refused why) = Unit {0}
 Tells (gave frame) = ⊥
+Tells other = Unit {0}
 
 abbrev Answers : line_event.Event → Answer → Type 0
-Answers (line_event.hears what) a = Tells a
-Answers (line_event.expiry timer) a = Tells a
-Answers (line_event.request r) a = Tells a
 Answers line_event.next (told t) = ⊥
 Answers line_event.next (refused why) = Unit {0}
 Answers line_event.next (gave frame) = Unit {0}
+Answers other a = Tells a
 
 refused-answers : (e : line_event.Event) (why : Refusal) → Answers e (refused why)
 refused-answers (line_event.hears what) why = tt
-refused-answers (line_event.expiry timer) why = tt
-refused-answers (line_event.request r) why = tt
-refused-answers line_event.next why = tt
+refused-answers other why = tt
 
 line-answers : (c : Config) (e : line_event.Event) (l : Line) → Answers e (lines.answer c e l)
 unfolding lines.answer
-line-answers c (line_event.hears what) l = tt
-line-answers c (line_event.expiry timer) l = tt
 line-answers c (line_event.request r) l = go (refusal c false r l)
   where
     go : (o : Option Refusal) → Tells (lines.unless_refused_told o (lines.of_request c r l))
     go None = tt
     go (Some why) = tt
-line-answers c line_event.next l = tt
+line-answers c other l = tt
 
 card-answers : (e : Event) (card : Card) → Answers e.what (answer e card)
 card-answers e card =
@@ -127,10 +109,9 @@ module _ (counter : Counter) (other : is_drop counter ≡ false) where
       (alone c.side (heard_shown c.side (Some what)) (heard what) refl) (of-told c.side a answers)
   of-event c (line_event.expiry timer) a answers = of-told c.side a answers
   of-event c (line_event.request r) (told t) answers = of-told c.side (told t) tt
-  of-event c (line_event.request r) (refused why) answers = refl
   of-event c (line_event.request r) (gave frame) answers = absurd answers
   of-event c line_event.next (told t) answers = absurd answers
-  of-event c line_event.next (refused why) answers = refl
+  of-event c other (refused why) answers = refl
   of-event c line_event.next (gave None) answers = refl
   of-event c line_event.next (gave (Some f)) answers = alone c.side (answer_shown c.side (gave (Some f))) (begun f.octets) refl
 

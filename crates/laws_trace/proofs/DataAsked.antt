@@ -49,13 +49,10 @@ either-none false = refl
 pub granted-data : (service : Service) (tei : ℕ) (t : Terms) (k : Link) (full : Bool) (what : link.Request)
     → ((contents : List ℕ) → what ≡ link.Data contents → requests.refusal t k full (link.Data contents) ≡ None)
     → accepted t (link.requested what full) k ≡ data_asked service tei (of_link service tei what)
-granted-data service tei t k full link.Establish h = either-none (is_some (requests.refusal t k full link.Establish))
-granted-data service tei t k full link.Release h = either-none (is_some (requests.refusal t k full link.Release))
 granted-data service tei t k full (link.Data contents) h =
     ap (λ o. cond {A = List (List ℕ)} (is_some o) [] (contents ∷ [])) (h contents refl)
     ∙ sym (ap (λ b. cond {A = List (List ℕ)} b (contents ∷ []) []) (ap (λ b. b && tei == tei) (service-same service) ∙ eq-eqb tei tei refl))
-granted-data service tei t k full link.SetBusy h = either-none (is_some (requests.refusal t k full link.SetBusy))
-granted-data service tei t k full link.ClearBusy h = either-none (is_some (requests.refusal t k full link.ClearBusy))
+granted-data service tei t k full other h = either-none (is_some (requests.refusal t k full other))
 
 -- and data for another link is none for this one.
 module _ (c : Config) (l : Line) (service : Service) (tei : ℕ) where

@@ -27,12 +27,9 @@ either-none true = refl
 either-none false = refl
 
 none-asked : (t : Terms) (request : Request) (full : Bool) (l : Link) → is_multiple_frame l.state ≡ false → accepted t (requested request full) l ≡ []
-none-asked t Establish full l down = either-none (is_some (refusal t l full Establish))
-none-asked t Release full l down = either-none (is_some (refusal t l full Release))
 none-asked t (Data octets) full l down =
     ap (λ b. cond {A = List (List ℕ)} (is_some (cond b (refusal_for_room t l full (Data octets)) (Some WrongState))) [] (octets ∷ [])) down
-none-asked t SetBusy full l down = either-none (is_some (refusal t l full SetBusy))
-none-asked t ClearBusy full l down = either-none (is_some (refusal t l full ClearBusy))
+none-asked t other full l down = either-none (is_some (refusal t l full other))
 
 pub none-accepted : (t : Terms) (e : Event) (l : Link) → is_multiple_frame l.state ≡ false → accepted t e l ≡ []
 none-accepted t (requested request full) l down = none-asked t request full l down

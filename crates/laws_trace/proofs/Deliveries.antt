@@ -23,9 +23,7 @@ use Rattle.laws_trace.proofs.OneLink.{is_at_link}
 -- The frame that an event brings, as the grammar reads it.
 abbrev pub frame_by : Config → Event → Option Parts
 frame_by c (hears what) = frame_of c what
-frame_by c (expiry timer) = None
-frame_by c (request r) = None
-frame_by c next = None
+frame_by c other = None
 
 -- What is noted of contents is counted, and what a link notes is its own.
 any-counted : (p q : Note → Bool) → ((n : Note) → p n ≡ true → q n ≡ true) → (ns : List Note) → list_any p ns ≡ true → 1 ≤ count_by q ns
@@ -48,30 +46,12 @@ some-own t q P h (n ∷ ns) own e = go (q n) refl e (λ any. some-own t q P h ns
 
 module _ (service : Service) (tei : ℕ) where
   pub data-tells : (n : Note) → is_data_of service tei n ≡ true → tells_contents n ≡ true
-  data-tells (notes.EstablishIndication s n) e = absurd (true≢false (sym e))
-  data-tells (notes.EstablishConfirm s n) e = absurd (true≢false (sym e))
-  data-tells (notes.ReleaseIndication s n) e = absurd (true≢false (sym e))
-  data-tells (notes.ReleaseConfirm s n) e = absurd (true≢false (sym e))
   data-tells (notes.Data s n) e = refl
-  data-tells (notes.Unit s n) e = absurd (true≢false (sym e))
-  data-tells (notes.Error s n k) e = absurd (true≢false (sym e))
-  data-tells (notes.Assigned n) e = absurd (true≢false (sym e))
-  data-tells (notes.Removed n) e = absurd (true≢false (sym e))
-  data-tells (notes.Doubled n) e = absurd (true≢false (sym e))
-  data-tells (notes.Xid s n) e = absurd (true≢false (sym e))
+  data-tells other e = absurd (true≢false (sym e))
 
   pub unit-tells : (n : Note) → is_unit_of service tei n ≡ true → tells_contents n ≡ true
-  unit-tells (notes.EstablishIndication s n) e = absurd (true≢false (sym e))
-  unit-tells (notes.EstablishConfirm s n) e = absurd (true≢false (sym e))
-  unit-tells (notes.ReleaseIndication s n) e = absurd (true≢false (sym e))
-  unit-tells (notes.ReleaseConfirm s n) e = absurd (true≢false (sym e))
-  unit-tells (notes.Data s n) e = absurd (true≢false (sym e))
   unit-tells (notes.Unit s n) e = refl
-  unit-tells (notes.Error s n k) e = absurd (true≢false (sym e))
-  unit-tells (notes.Assigned n) e = absurd (true≢false (sym e))
-  unit-tells (notes.Removed n) e = absurd (true≢false (sym e))
-  unit-tells (notes.Doubled n) e = absurd (true≢false (sym e))
-  unit-tells (notes.Xid s n) e = absurd (true≢false (sym e))
+  unit-tells other e = absurd (true≢false (sym e))
 
   module _ (t : Terms) where
     abbrev pub IsIts : Type 0
@@ -81,30 +61,12 @@ module _ (service : Service) (tei : ℕ) where
     its s n own e = ap (λ z. same_service z service && t.tei == tei) (sym own.0) ∙ ap (λ m. same_service s service && m == tei) (sym own.1) ∙ e
 
     pub data-own : (n : Note) → IsOwn t n → is_data_of service tei n ≡ true → IsIts
-    data-own (notes.EstablishIndication s n) own e = absurd (true≢false (sym e))
-    data-own (notes.EstablishConfirm s n) own e = absurd (true≢false (sym e))
-    data-own (notes.ReleaseIndication s n) own e = absurd (true≢false (sym e))
-    data-own (notes.ReleaseConfirm s n) own e = absurd (true≢false (sym e))
     data-own (notes.Data s n) own e = its s n own e
-    data-own (notes.Unit s n) own e = absurd (true≢false (sym e))
-    data-own (notes.Error s n k) own e = absurd (true≢false (sym e))
-    data-own (notes.Assigned n) own e = absurd (true≢false (sym e))
-    data-own (notes.Removed n) own e = absurd (true≢false (sym e))
-    data-own (notes.Doubled n) own e = absurd (true≢false (sym e))
-    data-own (notes.Xid s n) own e = absurd (true≢false (sym e))
+    data-own other own e = absurd (true≢false (sym e))
 
     pub unit-own : (n : Note) → IsOwn t n → is_unit_of service tei n ≡ true → IsIts
-    unit-own (notes.EstablishIndication s n) own e = absurd (true≢false (sym e))
-    unit-own (notes.EstablishConfirm s n) own e = absurd (true≢false (sym e))
-    unit-own (notes.ReleaseIndication s n) own e = absurd (true≢false (sym e))
-    unit-own (notes.ReleaseConfirm s n) own e = absurd (true≢false (sym e))
-    unit-own (notes.Data s n) own e = absurd (true≢false (sym e))
     unit-own (notes.Unit s n) own e = its s n own e
-    unit-own (notes.Error s n k) own e = absurd (true≢false (sym e))
-    unit-own (notes.Assigned n) own e = absurd (true≢false (sym e))
-    unit-own (notes.Removed n) own e = absurd (true≢false (sym e))
-    unit-own (notes.Doubled n) own e = absurd (true≢false (sym e))
-    unit-own (notes.Xid s n) own e = absurd (true≢false (sym e))
+    unit-own other own e = absurd (true≢false (sym e))
 
 -- An event that is none of the link notes no contents of it.
 module _ (c : Config) (ranged : IsInRange c) (l : Line) (s : IsSound c l) (e : Event) (service : Service) (tei : ℕ) where
@@ -161,10 +123,9 @@ module _ (c : Config) (e : Event) (a : Answer) (service : Service) (tei : ℕ) w
   brings-frame f x = (ap (frame_by c) x.by ∙ ap result_ok x.read, its-address f x.sapi x.tei_is)
 
   is-fault : (address : Address) (octets : List ℕ) (what : link.Received) → IsMalformed c address octets what → result_ok (reading (heard_side c) octets) ≡ None
-  is-fault address octets link.undefined is = ap result_ok is
-  is-fault address octets link.wrong_size is = ap result_ok is
   is-fault address octets link.overlong is = absurd is
   is-fault address octets (link.frame parts) is = absurd is
+  is-fault address octets other is = ap result_ok is
 
   pub brings-none : (what : link.Received) → BringsMalformed c e service tei what → frame_by c e ≡ None
   brings-none what x = go x.by
@@ -197,10 +158,9 @@ module _ (c : Config) (e : Event) (a : Answer) (service : Service) (tei : ℕ) w
   one-begins (link.received link.undefined) by k = none-begins (link.received link.undefined) k (establishes (terms c service tei) k (link.received link.undefined)) (links.told (terms c service tei) (link.received link.undefined) k).notes (brings-none link.undefined by)
   one-begins (link.received link.wrong_size) by k = none-begins (link.received link.wrong_size) k (establishes (terms c service tei) k (link.received link.wrong_size)) (links.told (terms c service tei) (link.received link.wrong_size) k).notes (brings-none link.wrong_size by)
   one-begins (link.received link.overlong) by k = none-begins (link.received link.overlong) k (establishes (terms c service tei) k (link.received link.overlong)) (links.told (terms c service tei) (link.received link.overlong) k).notes (brings-none link.overlong by)
-  one-begins (link.expired timer) by k = none-begins (link.expired timer) k (establishes (terms c service tei) k (link.expired timer)) (links.told (terms c service tei) (link.expired timer) k).notes (ap (frame_by c) by)
   one-begins (link.requested asked full) by k = none-begins (link.requested asked full) k (establishes (terms c service tei) k (link.requested asked full)) (links.told (terms c service tei) (link.requested asked full) k).notes (ap (frame_by c) by.0)
-  one-begins link.offer by k = none-begins link.offer k (establishes (terms c service tei) k link.offer) (links.told (terms c service tei) link.offer k).notes (ap (frame_by c) by)
   one-begins link.cleared by k = absurd by
+  one-begins other by k = none-begins other k (establishes (terms c service tei) k other) (links.told (terms c service tei) other k).notes (ap (frame_by c) by)
 
   -- an I-frame that is delivered
   record Carried (t : Terms) (k : Link) (ct : Control) (octets : List ℕ) (i : Arrived) : Type 0 where
@@ -231,16 +191,7 @@ module _ (c : Config) (e : Event) (a : Answer) (service : Service) (tei : ℕ) w
                 (and_parts (nat_le (length octets) t.n201 && is_multiple_frame k.state) (not k.own_busy) fits).0).1;
           }
       go false fits e = absurd (none-some i e)
-  carried t k (control.ReceiveReady nr pf) octets i h = absurd (none-some i h)
-  carried t k (control.ReceiveNotReady nr pf) octets i h = absurd (none-some i h)
-  carried t k (control.Reject nr pf) octets i h = absurd (none-some i h)
-  carried t k (control.Sabme p) octets i h = absurd (none-some i h)
-  carried t k (control.Disc p) octets i h = absurd (none-some i h)
-  carried t k (control.Ui p) octets i h = absurd (none-some i h)
-  carried t k (control.Ua f) octets i h = absurd (none-some i h)
-  carried t k (control.Dm f) octets i h = absurd (none-some i h)
-  carried t k (control.Frmr f) octets i h = absurd (none-some i h)
-  carried t k (control.Xid pf) octets i h = absurd (none-some i h)
+  carried t k other octets i h = absurd (none-some i h)
 
   pub data-of : (le : link.Event) → IsBy c e a service tei le → (k : Link) (n : ℕ) → (is_multiple_frame k.state ≡ true → k.r ≡ n) → (contents : List ℕ)
       → (i : Arrived) → eligible (terms c service tei) le k ≡ Some i → i.contents ≡ contents → i.ns.value ≡ k.r % 128
@@ -255,28 +206,13 @@ module _ (c : Config) (e : Event) (a : Answer) (service : Service) (tei : ℕ) w
         control = ap number_in y.is ∙ ap (λ (s : Seq). Some s.value) (sym y.number) ∙ ap (λ m. Some m) (number ∙ ap (λ m. m % 128) (up y.up));
         told = ap (λ o. Some o) (sym same ∙ y.contents);
       }
-  data-of (link.received link.undefined) by k n up contents i h same number = absurd (none-some i h)
-  data-of (link.received link.wrong_size) by k n up contents i h same number = absurd (none-some i h)
-  data-of (link.received link.overlong) by k n up contents i h same number = absurd (none-some i h)
-  data-of (link.expired timer) by k n up contents i h same number = absurd (none-some i h)
-  data-of (link.requested asked full) by k n up contents i h same number = absurd (none-some i h)
-  data-of link.offer by k n up contents i h same number = absurd (none-some i h)
-  data-of link.cleared by k n up contents i h same number = absurd (none-some i h)
+  data-of other by k n up contents i h same number = absurd (none-some i h)
 
   -- a UI that is told
   ui-of : (f : Parts) (contents : List ℕ) → (ct : Control) → f.control ≡ ct → in_ui_frame ct f.info ≡ Some contents
       → (p : Bool) × (f.control ≡ control.Ui p) × (Some contents ≡ Some f.info)
   ui-of f contents (control.Ui p) is h = (p, is, sym h)
-  ui-of f contents (control.Information ns nr p) is h = absurd (none-some contents h)
-  ui-of f contents (control.ReceiveReady nr pf) is h = absurd (none-some contents h)
-  ui-of f contents (control.ReceiveNotReady nr pf) is h = absurd (none-some contents h)
-  ui-of f contents (control.Reject nr pf) is h = absurd (none-some contents h)
-  ui-of f contents (control.Sabme p) is h = absurd (none-some contents h)
-  ui-of f contents (control.Disc p) is h = absurd (none-some contents h)
-  ui-of f contents (control.Ua b) is h = absurd (none-some contents h)
-  ui-of f contents (control.Dm b) is h = absurd (none-some contents h)
-  ui-of f contents (control.Frmr b) is h = absurd (none-some contents h)
-  ui-of f contents (control.Xid pf) is h = absurd (none-some contents h)
+  ui-of f contents other is h = absurd (none-some contents h)
 
   pub unit-of : (le : link.Event) → IsBy c e a service tei le → (n : ℕ) (contents : List ℕ) → unit_heard le ≡ Some contents
       → IsOfFrame service tei (record { frame = frame_by c e; count = n }) (λ control. is_ui control ≡ true) (Some contents)
@@ -284,10 +220,4 @@ module _ (c : Config) (e : Event) (a : Answer) (service : Service) (tei : ℕ) w
       let x = brings-frame f by in
       let y = ui-of f contents f.control refl h in
       record { frame = f; heard = x.0; whose = x.1; control = ap is_ui y.1; told = y.2 }
-  unit-of (link.received link.undefined) by n contents h = absurd (none-some contents h)
-  unit-of (link.received link.wrong_size) by n contents h = absurd (none-some contents h)
-  unit-of (link.received link.overlong) by n contents h = absurd (none-some contents h)
-  unit-of (link.expired timer) by n contents h = absurd (none-some contents h)
-  unit-of (link.requested asked full) by n contents h = absurd (none-some contents h)
-  unit-of link.offer by n contents h = absurd (none-some contents h)
-  unit-of link.cleared by n contents h = absurd (none-some contents h)
+  unit-of other by n contents h = absurd (none-some contents h)

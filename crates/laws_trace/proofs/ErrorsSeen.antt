@@ -52,19 +52,15 @@ module _ (c : Config) (service : Service) (tei : ℕ) where
   -- no event of the link
   module _ (l : Line) (place : ℕ) (on : place_in l tei ≡ Some place) where
     no-fault : (r : Result Parts ReadFault) → is_at_link service tei (aim_of_reading c l r) ≡ false → option_and_then (fault_of service tei) (result_err r) ≡ None
-    no-fault (Err BadExtension) aims = refl
-    no-fault (Err Short) aims = refl
     no-fault (Err (Undefined address)) aims = no-letter (is_for service tei address) code.L (addressed-none c service tei nothing_yet l place on address link.undefined (drop_for Unserved) aims)
     no-fault (Err (WrongSize address)) aims = no-letter (is_for service tei address) code.N (addressed-none c service tei nothing_yet l place on address link.wrong_size (drop_for Unserved) aims)
-    no-fault (Ok f) aims = refl
+    no-fault other aims = refl
 
     no-long : (r : Result Long ReadFault) → is_at_link service tei (aim_of_long l r) ≡ false → faulty_long service tei r ≡ None
-    no-long (Err BadExtension) aims = refl
-    no-long (Err Short) aims = refl
     no-long (Err (Undefined address)) aims = no-letter (is_for service tei address) code.L (addressed-none c service tei nothing_yet l place on address link.undefined (drop_for Unserved) aims)
     no-long (Err (WrongSize address)) aims = no-letter (is_for service tei address) code.N (addressed-none c service tei nothing_yet l place on address link.wrong_size (drop_for Unserved) aims)
     no-long (Ok (long.Information address)) aims = no-letter (is_for service tei address) code.O (addressed-none c service tei nothing_yet l place on address link.overlong (drop_for Unserved) aims)
-    no-long (Ok (long.Unnumbered address)) aims = refl
+    no-long other aims = refl
 
     none-malformed : (e : stream.Event) → is_at_link service tei (aim_of_heard c l e) ≡ false → malformed c service tei e ≡ None
     none-malformed (stream.frame octets) aims = no-fault (reading (heard_side c) octets) aims
@@ -91,8 +87,7 @@ module _ (c : Config) (service : Service) (tei : ℕ) where
         ap (λ o. cond (is_up n) (option_to_list o) [] ++ option_map_or (wrong_parts c n m) (its_frame service tei (frame_of c e)) []) (none-malformed e aims)
         ∙ ap (λ o. cond (is_up n) [] [] ++ option_map_or (wrong_parts c n m) o []) (none-its e aims) ∙ ap (λ xs. xs ++ []) (bare (is_up n))
     none-wrong (expiry timer) aims n m stays = none-given-up n m stays
-    none-wrong (request r) aims n m stays = refl
-    none-wrong next aims n m stays = refl
+    none-wrong other aims n m stays = refl
 
   -- one event of it
   module _ (e : Event) (a : Answer) (from to : ℕ) where
@@ -115,8 +110,7 @@ module _ (c : Config) (service : Service) (tei : ℕ) where
         go : (what : link.Received) → IsMalformed c address octets what → By-reading (reading (heard_side c) octets) ≡ errors_of (terms c service tei) (link.received what) from to
         go link.undefined is = ap By-reading is ∙ by-letter (is_for service tei address) code.L for
         go link.wrong_size is = ap By-reading is ∙ by-letter (is_for service tei address) code.N for
-        go link.overlong is = absurd is
-        go (link.frame f) is = absurd is
+        go other is = absurd is
     wrong-malformed address octets what for (inr y) = ap (λ e. wrong c service tei e from to) y.0 ∙ go what y.1
       where
         go : (what : link.Received) → IsTooLong c address octets what → By-long (long_reading (heard_side c) octets) ≡ errors_of (terms c service tei) (link.received what) from to
@@ -141,7 +135,6 @@ module _ (c : Config) (service : Service) (tei : ℕ) where
     one-wrong (link.received link.undefined) y = brings-malformed link.undefined y
     one-wrong (link.received link.wrong_size) y = brings-malformed link.wrong_size y
     one-wrong (link.received link.overlong) y = brings-malformed link.overlong y
-    one-wrong (link.expired timer) y = ap (λ e. wrong c service tei e from to) y
     one-wrong (link.requested asked full) y = ap (λ e. wrong c service tei e from to) y.0
-    one-wrong link.offer y = ap (λ e. wrong c service tei e from to) y
     one-wrong link.cleared y = absurd y
+    one-wrong other y = ap (λ e. wrong c service tei e from to) y

@@ -59,12 +59,6 @@ module _ (c : Config) (ranged : IsInRange c) (l : Line) (s : IsSound c l) (servi
   One e = HasOne c service tei e l (lines.after c e l) (lines.answer c e l)
 
   pub accepted-asked : (e : line_event.Event) → (x : One e) → accepted own_terms x.event own ≡ granted_in service tei (seen e (lines.answer c e l))
-  accepted-asked (hears what) x =
-      (no-data c (hears what) (lines.answer c (hears what) l) service tei own_terms own (λ r same. cc same) (λ same. cc same) x.event x.by).0
-      ∙ sym (told-grants service tei (lines.answer c (hears what) l))
-  accepted-asked (expiry timer) x =
-      (no-data c (expiry timer) (lines.answer c (expiry timer) l) service tei own_terms own (λ r same. cc same) (λ same. cc same) x.event x.by).0
-      ∙ sym (told-grants service tei (lines.answer c (expiry timer) l))
   accepted-asked next x =
       ap (λ le. accepted own_terms le own) (only-offered c (lines.answer c next l) service tei x.event x.by) ∙ sym (begun-grants service tei (lines.answer c next l))
   accepted-asked (request r) x =
@@ -93,6 +87,9 @@ module _ (c : Config) (ranged : IsInRange c) (l : Line) (s : IsSound c l) (servi
           let its : own ≡ link_in l service x.place = ap (λ o. option_map_or (link_in l service) o fresh_link) x.placed in
           ap (λ b. requests.refusal own_terms own b (link.Data contents)) full_is ∙ ap (λ own. requests.refusal own_terms own false (link.Data contents)) its
           ∙ link-grants c service tei x.place contents l x.placed none
+  accepted-asked other x =
+      (no-data c other (lines.answer c other l) service tei own_terms own (λ r same. cc same) (λ same. cc same) x.event x.by).0
+      ∙ sym (told-grants service tei (lines.answer c other l))
 
   no-end : (e : line_event.Event) → ((r : Request) → e ≡ request r → ⊥) → (le : link.Event) → IsBy c e (lines.answer c e l) service tei le → ends own_terms le own ≡ false
   no-end e never (link.requested what full) by = absurd (never (of_link service tei what) by.0)
@@ -118,10 +115,7 @@ module _ (c : Config) (ranged : IsInRange c) (l : Line) (s : IsSound c l) (servi
   released : (what : link.Request) (full : Bool) → (what ≡ link.Release → requests.refusal own_terms own full link.Release ≡ None)
       → is_release what ≡ ends own_terms (link.requested what full) own
   released link.Release full h = sym (ap (λ o. cond (is_some o) false true) (h refl))
-  released link.Establish full h = sym (either-false (is_some (requests.refusal own_terms own full link.Establish)))
-  released (link.Data contents) full h = sym (either-false (is_some (requests.refusal own_terms own full (link.Data contents))))
-  released link.SetBusy full h = sym (either-false (is_some (requests.refusal own_terms own full link.SetBusy)))
-  released link.ClearBusy full h = sym (either-false (is_some (requests.refusal own_terms own full link.ClearBusy)))
+  released other full h = sym (either-false (is_some (requests.refusal own_terms own full other)))
 
   pub lost-is : (e : line_event.Event) → (x : One e) → lost_in service tei (seen e (lines.answer c e l)) ≡ empties own_terms x.event own
   lost-is (hears what) x =
@@ -144,14 +138,13 @@ module _ (c : Config) (ranged : IsInRange c) (l : Line) (s : IsSound c l) (servi
 
   -- No event of the link grants it data.
   pub none-granted : (e : line_event.Event) → HasNone c service tei e l (lines.after c e l) (lines.answer c e l) → granted_in service tei (seen e (lines.answer c e l)) ≡ []
-  none-granted (hears what) x = told-grants service tei (lines.answer c (hears what) l)
-  none-granted (expiry timer) x = told-grants service tei (lines.answer c (expiry timer) l)
   none-granted next x = begun-grants service tei (lines.answer c next l)
   none-granted (request r) x = asked-grants service tei r (lines.answer c (request r) l) ∙ go (is_granted (lines.answer c (request r) l)) refl
     where
       go : (b : Bool) → is_granted (lines.answer c (request r) l) ≡ b → cond {A = List (List ℕ)} b (data_asked service tei r) [] ≡ []
       go true g = asks.elsewhere c l service tei r g x.aims
       go false g = refl
+  none-granted other x = told-grants service tei (lines.answer c other l)
 
   -- and none loses what it keeps, while its TEI stays
   module _ (place : ℕ) (on : place_in l tei ≡ Some place) where

@@ -20,11 +20,10 @@ keeps-up : (here : State) (command : Bool) (ct : Control) (nr : Seq) → receipt
 keeps-up TeiAssigned command ct nr is up = absurd (true≢false (sym up))
 keeps-up AwaitingEstablishment command ct nr is up = absurd (true≢false (sym up))
 keeps-up AwaitingRelease command ct nr is up = absurd (true≢false (sym up))
-keeps-up Established command (Information ns n p) nr is up = refl
 keeps-up Established command (ReceiveReady n pf) nr is up = refl
 keeps-up Established command (ReceiveNotReady n pf) nr is up = refl
 keeps-up Established command (Reject n pf) nr is up = refl
-keeps-up TimerRecovery command (Information ns n p) nr is up = refl
+keeps-up other command (Information ns n p) nr is up = refl
 keeps-up TimerRecovery true (ReceiveReady n pf) nr is up = refl
 keeps-up TimerRecovery false (ReceiveReady n true) nr is up = refl
 keeps-up TimerRecovery false (ReceiveReady n false) nr is up = refl
@@ -102,13 +101,7 @@ module _ (t : Terms) (k : Link) where
       go (ReceiveNotReady nr pf) is = absurd (true≢false (sym is))
       go (Reject nr pf) is = absurd (true≢false (sym is))
       go other is = refl
-  anew-acked (received undefined) anew = refl
-  anew-acked (received wrong_size) anew = refl
-  anew-acked (received overlong) anew = refl
-  anew-acked (expired timer) anew = refl
-  anew-acked (requested request full) anew = refl
-  anew-acked offer anew = refl
-  anew-acked cleared anew = refl
+  anew-acked other anew = refl
 
   -- and in states 7 and 8 the numbers begin anew by SABME alone
   frame-goes-on : (f : Parts) (ct : Control) → f.control ≡ ct → is_multiple_frame k.state ≡ true → is_sabme ct ≡ false → restarts t (received (frame f)) k ≡ true → ⊥
@@ -119,13 +112,8 @@ module _ (t : Terms) (k : Link) where
 
   goes-on : (e : Event) → is_multiple_frame k.state ≡ true → sabme_of e ≡ false → ends t e k ≡ false → restarts t e k ≡ true → ⊥
   goes-on (received (frame f)) up none stays anew = frame-goes-on f f.control refl up none anew
-  goes-on (received undefined) up none stays anew = establishes t k (received undefined) anew
-  goes-on (received wrong_size) up none stays anew = establishes t k (received wrong_size) anew
-  goes-on (received overlong) up none stays anew = establishes t k (received overlong) anew
-  goes-on (expired timer) up none stays anew = establishes t k (expired timer) anew
-  goes-on (requested request full) up none stays anew = establishes t k (requested request full) anew
-  goes-on offer up none stays anew = establishes t k offer anew
   goes-on cleared up none stays anew = true≢false stays
+  goes-on other up none stays anew = establishes t k other anew
 
 -- V(A) goes on by what is acknowledged.
 abbrev pub went_by : Bool → Link → Link → ℕ

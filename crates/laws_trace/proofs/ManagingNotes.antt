@@ -68,8 +68,6 @@ module _ (c : Config) (t : TeiTold) (l : Line) where
     pub stays : (of_change c o (told_of_management t) l).line.management ≡ l.management
 
   pub behind : (o : Option Change) → Behind o
-  behind None = record { others = []; are = All-nil IsOther; notes = sym (append-nil t.notes); orders = refl; lost = refl; stays = refl }
-  behind (Some (Gained tei place)) = record { others = []; are = All-nil IsOther; notes = sym (append-nil t.notes); orders = refl; lost = refl; stays = refl }
   behind (Some (Left tei place)) =
       let call = of_link c Call tei place link.cleared l in
       let packet = of_link c Packet tei place link.cleared call.line in
@@ -88,6 +86,7 @@ module _ (c : Config) (t : TeiTold) (l : Line) where
         lost = refl;
         stays = refl;
       }
+  behind other = record { others = []; are = All-nil IsOther; notes = sym (append-nil t.notes); orders = refl; lost = refl; stays = refl }
 
 -- Which aims are of TEI management.
 abbrev pub is_management : Aim → Bool
@@ -159,11 +158,8 @@ module _ (c : Config) (l : Line) where
   at-side f b said aim (inr x) = inr (record { aim_is = by-aim aim x.aim_is; said_is = none (has_management c.side) })
     where
       by-aim : (aim : Aim) → is_management aim ≡ false → is_management (at_side c f aim) ≡ false
-      by-aim (at_none told) other = refl
-      by-aim (at_link service tei place event) other = refl
       by-aim (at_management event) other = absurd (true≢false other)
-      by-aim (at_units unit) other = refl
-      by-aim at_no_link other = refl
+      by-aim any other = refl
 
       none : (h : Bool) → cond (h && b) said None ≡ None
       none true = x.said_is
@@ -178,23 +174,20 @@ module _ (c : Config) (l : Line) where
       go true true = by-control f.control f.info
       go true false = inr (record { aim_is = refl; said_is = refl })
       go false b = inr (record { aim_is = no-service f.address.tei (link.frame f) (service_of f.address.sapi); said_is = refl })
-  by-reading (Err BadExtension) = inr (record { aim_is = refl; said_is = refl })
   by-reading (Err (Undefined address)) = inr (record { aim_is = no-message address link.undefined (drop_for Unserved) refl; said_is = refl })
   by-reading (Err (WrongSize address)) = inr (record { aim_is = no-message address link.wrong_size (drop_for Unserved) refl; said_is = refl })
-  by-reading (Err Short) = inr (record { aim_is = refl; said_is = refl })
+  by-reading other = inr (record { aim_is = refl; said_is = refl })
 
   not-linked : (aim : Aim) → is_management aim ≡ false → is_management (unless_at_link aim) ≡ false
   not-linked (at_management event) none = absurd (true≢false none)
-  not-linked at_no_link none = refl
   not-linked other none = refl
 
   by-long : (r : Result Long ReadFault) → is_management (aim_of_long l r) ≡ false
   by-long (Ok (long.Information address)) = no-message address link.overlong (drop_for Unserved) refl
   by-long (Ok (long.Unnumbered address)) = not-linked (addressed l address link.overlong (drop_for Unserved)) (no-message address link.overlong (drop_for Unserved) refl)
-  by-long (Err BadExtension) = refl
   by-long (Err (Undefined address)) = no-message address link.undefined (drop_for Unserved) refl
   by-long (Err (WrongSize address)) = no-message address link.wrong_size (drop_for Unserved) refl
-  by-long (Err Short) = refl
+  by-long other = refl
 
   pub heard-cases : (e : stream.Event) → Cases (aim_of_heard c l e) (message_in c e)
   heard-cases (stream.frame octets) = by-reading (reading (heard_side c) octets)

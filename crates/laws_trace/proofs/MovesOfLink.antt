@@ -259,22 +259,18 @@ module _ (t : Terms) (k : Known) (l : Link) (n : ℕ) (ordered : l.a ≤ l.s) (w
   expires AwaitingEstablishment is known counts T200 =
       ap (λ r. state_number (cond (runs T200 r) (states.by_expiry AwaitingEstablishment T200 (nat_lt l.repeats t.n200)) AwaitingEstablishment)) is
       ∙ gives-up-5 (nat_lt l.repeats t.n200) ∙ ap (λ m. cond (nat_lt m t.n200) 5 4) (sym counts)
-  expires AwaitingEstablishment is known counts T203 =
-      ap (λ r. state_number (cond (runs T203 r) (states.by_expiry AwaitingEstablishment T203 (nat_lt l.repeats t.n200)) AwaitingEstablishment)) is
   expires AwaitingRelease is known counts T200 =
       ap (λ r. state_number (cond (runs T200 r) (states.by_expiry AwaitingRelease T200 (nat_lt l.repeats t.n200)) AwaitingRelease)) is
       ∙ gives-up-6 (nat_lt l.repeats t.n200) ∙ ap (λ m. cond (nat_lt m t.n200) 6 4) (sym counts)
-  expires AwaitingRelease is known counts T203 =
-      ap (λ r. state_number (cond (runs T203 r) (states.by_expiry AwaitingRelease T203 (nat_lt l.repeats t.n200)) AwaitingRelease)) is
   expires TimerRecovery is known counts T200 =
       ap (λ r. state_number (cond (runs T200 r) (states.by_expiry TimerRecovery T200 (nat_lt l.repeats t.n200)) TimerRecovery)) is
       ∙ gives-up-8 (nat_lt l.repeats t.n200) ∙ ap (λ m. cond (nat_lt m t.n200) 8 5) (sym counts)
-  expires TimerRecovery is known counts T203 =
-      ap (λ r. state_number (cond (runs T203 r) (states.by_expiry TimerRecovery T203 (nat_lt l.repeats t.n200)) TimerRecovery)) is
   expires Established is known counts T200 =
       ap (λ b. state_number (cond b TimerRecovery Established)) (ap (runs T200) is ∙ (by-state Call 0 k Established l known ordered within).0) ∙ enquires (awaits k (Some 7))
   expires Established is known counts T203 =
       ap (λ b. state_number (cond b TimerRecovery Established)) (ap (runs T203) is ∙ (by-state Call 0 k Established l known ordered within).1) ∙ enquires (not (awaits k (Some 7)))
+  expires other is known counts T203 =
+      ap (λ r. state_number (cond (runs T203 r) (states.by_expiry other T203 (nat_lt l.repeats t.n200)) other)) is
 
   -- Any event but the end of the TEI.
   pub event-leads : HasItsTimer l → Agrees l.state k l.a l.s l.peer_busy → Counts l.state n l.repeats → (e : Event) → (e ≡ cleared → ⊥)

@@ -66,8 +66,6 @@ module _ (service : Service) (tei number : ℕ) where
     refused-due : (what : line_event.Event) → lines.takes_slot card.config what l ≡ true → (from to seen_to : ℕ) → from ≡ to
         → [] ≡ due service tei (wrong card.config service tei what from seen_to) was (list_any (brings is_xid card.config service tei) (seen what (refused PoolFull))) (list_any (brings is_sabme card.config service tei) (seen what (refused PoolFull))) (releases service tei what (refused PoolFull)) outstanding from to
     unfolding lines.takes_slot
-    refused-due (hears what) takes from to seen_to same = absurd (true≢false (sym takes))
-    refused-due (expiry timer) takes from to seen_to same = absurd (true≢false (sym takes))
     refused-due (request r) takes from to seen_to same =
         sym (ap (λ b. due service tei [] was false false b outstanding from to) (no-release r) ∙ ap (λ n. due service tei [] was false false false outstanding n to) same ∙ nothing-due to)
       where
@@ -82,7 +80,7 @@ module _ (service : Service) (tei number : ℕ) where
             go true is y other = subst (λ n. due service tei [] was false false false outstanding n n ≡ []) (sym (eqb-true n 7 is)) refl
             go false is true other = subst (λ n. due service tei [] was false false false outstanding n n ≡ []) (sym (eqb-true n 4 other)) refl
             go false is false other = rw (is, other) refl
-    refused-due next takes from to seen_to same = absurd (true≢false (sym takes))
+    refused-due other takes from to seen_to same = absurd (true≢false (sym takes))
 
     pub own-due : IsDue (line_at e.line (after e card)) (answer e card)
     own-due =

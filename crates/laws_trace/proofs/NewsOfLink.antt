@@ -136,11 +136,8 @@ module _ (t : Terms) (l : Link) (was : Bool) where
 
   asking : (e : Event) (from to : State) → Asks from was l.asked
       → Asks to (cond ((state_number to == 5) && moves from to) (asks_establishment e) was) (left from e to)
-  asking e TeiAssigned AwaitingEstablishment asks = refl
   asking e AwaitingEstablishment AwaitingEstablishment asks = asks
-  asking e AwaitingRelease AwaitingEstablishment asks = refl
-  asking e Established AwaitingEstablishment asks = refl
-  asking e TimerRecovery AwaitingEstablishment asks = refl
+  asking e other AwaitingEstablishment asks = refl
   asking e other any asks = tt
 
   pub event-asking : (e : Event) → (e ≡ cleared → ⊥) → Asks l.state was l.asked

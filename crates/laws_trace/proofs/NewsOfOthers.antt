@@ -102,8 +102,6 @@ module _ (service : Service) (tei : ℕ) where
 
       changed : (o : Option Change) → tei_laws.Moves l.management.places o m.places → ByChange me o ns
           → Stays (of_change c o (told_of_management (teis.told me l.management)) at).line → All No (of_change c o (told_of_management (teis.told me l.management)) at).told.notes
-      changed None moves is there = tei-note me None ns is
-      changed (Some (Gained by place)) moves is there = tei-note me (Some (Gained by place)) ns is
       changed (Some (Left by place)) gone is there =
           let call = of_link c Call by place link.cleared at in
           let packet = of_link c Packet by place link.cleared call.line in
@@ -112,6 +110,7 @@ module _ (service : Service) (tei : ℕ) where
           (All-append No ns call.told.notes (tei-note me (Some (Left by place)) ns is)
           (other-link (terms c Call by) (and-none (same_service Call service) (by == tei) other) link.cleared (link_in at Call place)))
           (other-link (terms c Packet by) (and-none (same_service Packet service) (by == tei) other) link.cleared (link_in call.line Packet place))
+      changed other moves is there = tei-note me other ns is
 
       managed : Silent (at_management me)
       managed aims there =

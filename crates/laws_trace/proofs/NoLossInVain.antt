@@ -83,10 +83,9 @@ module _ (c : Config) (l : Line) where
   request-none other = tt
 
 no-next : (c : Config) (e : Event) (a : Answer) (service : Service) (tei : ℕ) (le : link.Event) → (e ≡ next → ⊥) → IsBy c e a service tei le → IsNoOther le
-no-next c e a service tei (link.received (link.frame f)) other by = tt
 no-next c e a service tei link.offer other by = absurd (other by)
 no-next c e a service tei link.cleared other by = absurd by
-no-next c e a service tei another other by = tt
+no-next c e a service tei any other by = tt
 
 -- A link that stays on the line loses so many by an event.
 abbrev Puts : Service → ℕ → ℕ → Bool → Bool → Config → Line → Event → Answer → Line → List ControlFrame
@@ -218,19 +217,7 @@ down-none c service tei o (request (Deactivate its by)) a m is down =
     go : (g : Bool) → let q = cond g (cond (is_own service tei its by) (in_state 4) o) o in now_due.changed o q ++ cond (enters o q) (now_due.command_of q) [] ≡ []
     go true = ap (λ b. let q = cond b (in_state 4) o in now_due.changed o q ++ cond (enters o q) (now_due.command_of q) []) down ∙ either (enters o (in_state 4))
     go false = ap (λ xs. xs ++ cond (enters o o) (now_due.command_of o) []) (unchanged o o (λ up. refl)) ∙ ap (λ b. cond b (now_due.command_of o) []) stays
-down-none c service tei o (hears e) a m is down = absurd (true≢false (sym down))
-down-none c service tei o (expiry timer) a m is down = absurd (true≢false (sym down))
-down-none c service tei o next a m is down = absurd (true≢false (sym down))
-down-none c service tei o (request (Establish its by)) a m is down = absurd (true≢false (sym down))
-down-none c service tei o (request (Release its by)) a m is down = absurd (true≢false (sym down))
-down-none c service tei o (request (Data its by contents)) a m is down = absurd (true≢false (sym down))
-down-none c service tei o (request (Request.Unit its by contents)) a m is down = absurd (true≢false (sym down))
-down-none c service tei o (request (Assign by)) a m is down = absurd (true≢false (sym down))
-down-none c service tei o (request (Remove by)) a m is down = absurd (true≢false (sym down))
-down-none c service tei o (request (Checking by)) a m is down = absurd (true≢false (sym down))
-down-none c service tei o (request (SetBusy its by)) a m is down = absurd (true≢false (sym down))
-down-none c service tei o (request (ClearBusy its by)) a m is down = absurd (true≢false (sym down))
-down-none c service tei o (request Down) a m is down = absurd (true≢false (sym down))
+down-none c service tei o other a m is down = absurd (true≢false (sym down))
 
 module _ (c : Config) (events : List card_event.Event) (number : ℕ) (ranged : IsInRange c) (all : AreAtLines (cards.fresh c) events) (within : number < c.lines) (what : Event) where
   abbrev k : Card

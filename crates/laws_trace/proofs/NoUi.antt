@@ -61,16 +61,13 @@ all-answers : (e : Event) (l : Link) → ArePlain (answers e l)
 all-answers (received (frame f)) l = to-frame f.address.command f.control l
 all-answers (requested SetBusy full) l = either (is_multiple_frame l.state && not l.own_busy) _ [] (one _ refl) none
 all-answers (requested ClearBusy full) l = either (is_multiple_frame l.state && l.own_busy) _ [] (one _ refl) none
-all-answers offer l = none
-all-answers cleared l = none
 all-answers other l = none
 
 command-in : (state : State) (l : Link) → ArePlain (command_in state l)
-command-in TeiAssigned l = none
 command-in AwaitingEstablishment l = one _ refl
 command-in AwaitingRelease l = one _ refl
-command-in Established l = none
 command-in TimerRecovery l = one _ (receipt true l.own_busy l.r true)
+command-in other l = none
 
 all-put : (e : Event) (l : Link) (to : State) → ArePlain (put e l to)
 all-put e l to =
@@ -83,8 +80,6 @@ all-behind t e l to h =
 
 -- What an event leaves of those that wait.
 pub all-left : (t : Terms) (e : Event) (l : Link) (to : State) → ArePlain l.waiting → ArePlain (waiting_left t e l to)
-all-left t (received what) l to h = all-behind t (received what) l to h
-all-left t (expired timer) l to h = all-behind t (expired timer) l to h
-all-left t (requested asked full) l to h = all-behind t (requested asked full) l to h
 all-left t offer l to h = All-drop IsPlain 1 l.waiting h
 all-left t cleared l to h = none
+all-left t other l to h = all-behind t other l to h

@@ -76,11 +76,7 @@ module _ (c : Config) (service : Service) (tei : ℕ) (o q : Observed) (w u : St
   by-control f (Reject nr p) behind = received (f.address.command && p) (is_up o.state) (λ up. behind up refl)
   by-control f (Sabme p) behind = refl
   by-control f (Disc p) behind = refl
-  by-control f (Ui p) behind = sym (either-none (is_up o.state))
-  by-control f (Ua p) behind = sym (either-none (is_up o.state))
-  by-control f (Dm p) behind = sym (either-none (is_up o.state))
-  by-control f (Frmr p) behind = sym (either-none (is_up o.state))
-  by-control f (Xid p) behind = sym (either-none (is_up o.state))
+  by-control f other behind = sym (either-none (is_up o.state))
 
   -- A frame that comes.
   abbrev Behind : stream.Event → Type 0
@@ -109,15 +105,12 @@ module _ (c : Config) (service : Service) (tei : ℕ) (o q : Observed) (w u : St
 
   pub by-heard : (e : stream.Event) → Behind e → Answers e
   by-heard (stream.frame octets) behind = by-frame octets behind
-  by-heard (stream.overlong head) behind = refl
-  by-heard (stream.dropped cause) behind = refl
+  by-heard other behind = refl
 
   -- A request.
   pub asked-answers-is : (r : Request) (a : Answer) → (is_up q.state ≡ true → Same q u.told.count u.busy u.rejected) → (is_up o.state ≡ false → is_up q.state ≡ false)
       → (is_granted a ≡ true → is_up o.state ≡ true → is_up q.state ≡ false → old.changed w u ≡ [])
       → answers_seen c service tei w u o.state (seen_granted r a ++ seen_told a) ≡ cond (is_granted a) (now_due.changed o q) []
-  asked-answers-is r (refused why) behind down as_before = refl
-  asked-answers-is r (gave given) behind down as_before = refl
   asked-answers-is r (told t) behind down as_before = asked-answers c service tei w u o.state r (told t) refl ∙ go (is_up o.state) refl (is_up q.state) refl
     where
       go : (b : Bool) → is_up o.state ≡ b → (d : Bool) → is_up q.state ≡ d
@@ -126,6 +119,7 @@ module _ (c : Config) (service : Service) (tei : ℕ) (o q : Observed) (w u : St
       go true was false is = as_before refl was is
       go false was true is = absurd (true≢false (sym is ∙ down was))
       go false was false is = refl
+  asked-answers-is r other behind down as_before = refl
 
 -- What is kept while layer 3 asks for something else.
 module _ (service : Service) (tei : ℕ) where
@@ -155,12 +149,7 @@ module _ (service : Service) (tei : ℕ) where
       go : (b : Bool) → is_up (cond b (record o { own_busy = false }) o).state ≡ false
       go true = down
       go false = down
-  stays-down (Data of by contents) o down = down
-  stays-down (Request.Unit of by contents) o down = down
-  stays-down (Assign by) o down = down
-  stays-down (Remove by) o down = down
-  stays-down (Check by) o down = down
-  stays-down Down o down = down
+  stays-down other o down = down
 
   -- layer 3 is as busy as before, unless it says so
   abbrev pub busies : Request → Bool
@@ -171,28 +160,12 @@ module _ (service : Service) (tei : ℕ) where
   pub still-busy : (r : Request) (busy : Bool) → busies r ≡ false → busy_asked service tei busy r ≡ busy
   still-busy (SetBusy of by) busy is = absurd (true≢false is)
   still-busy (ClearBusy of by) busy is = absurd (true≢false is)
-  still-busy (Establish of by) busy is = refl
-  still-busy (Release of by) busy is = refl
-  still-busy (Deactivate of by) busy is = refl
-  still-busy (Data of by contents) busy is = refl
-  still-busy (Request.Unit of by contents) busy is = refl
-  still-busy (Assign by) busy is = refl
-  still-busy (Remove by) busy is = refl
-  still-busy (Check by) busy is = refl
-  still-busy Down busy is = refl
+  still-busy other busy is = refl
 
   pub none-led : (c : Config) (r : Request) (w : Managed) → busies r ≡ true → (due c (request r) w).on ≡ w.on
   none-led c (SetBusy of by) w is = refl
   none-led c (ClearBusy of by) w is = refl
-  none-led c (Establish of by) w is = absurd (true≢false (sym is))
-  none-led c (Release of by) w is = absurd (true≢false (sym is))
-  none-led c (Deactivate of by) w is = absurd (true≢false (sym is))
-  none-led c (Data of by contents) w is = absurd (true≢false (sym is))
-  none-led c (Request.Unit of by contents) w is = absurd (true≢false (sym is))
-  none-led c (Assign by) w is = absurd (true≢false (sym is))
-  none-led c (Remove by) w is = absurd (true≢false (sym is))
-  none-led c (Check by) w is = absurd (true≢false (sym is))
-  none-led c Down w is = absurd (true≢false (sym is))
+  none-led c other w is = absurd (true≢false (sym is))
 
   -- where it says so, the link stays up
   pub stays-up : (r : Request) (o : Observed) → busies r ≡ true → (by_request service tei r o).state ≡ o.state
@@ -206,15 +179,7 @@ module _ (service : Service) (tei : ℕ) where
       go : (b : Bool) → (cond b (record o { own_busy = false }) o).state ≡ o.state
       go true = refl
       go false = refl
-  stays-up (Establish of by) o is = absurd (true≢false (sym is))
-  stays-up (Release of by) o is = absurd (true≢false (sym is))
-  stays-up (Deactivate of by) o is = absurd (true≢false (sym is))
-  stays-up (Data of by contents) o is = absurd (true≢false (sym is))
-  stays-up (Request.Unit of by contents) o is = absurd (true≢false (sym is))
-  stays-up (Assign by) o is = absurd (true≢false (sym is))
-  stays-up (Remove by) o is = absurd (true≢false (sym is))
-  stays-up (Check by) o is = absurd (true≢false (sym is))
-  stays-up Down o is = absurd (true≢false (sym is))
+  stays-up other o is = absurd (true≢false (sym is))
 
 -- Where no frame comes, and nothing is granted, layer 3 is as busy as before.
 abbrev pub AsBusy : Observed → Observed → Type 0
@@ -257,16 +222,7 @@ module _ (c : Config) (service : Service) (tei : ℕ) (o : Observed) where
     where
       by-control : (control : Control) → AsBusy o (sends o control)
       by-control (Information ns nr p) = either-so o (is_up o.state) (record o { next = (ns.value + 1) % 128 }) o (λ up. refl) (λ up. refl)
-      by-control (ReceiveReady nr p) = λ up. refl
-      by-control (ReceiveNotReady nr p) = λ up. refl
-      by-control (Reject nr p) = λ up. refl
-      by-control (Sabme p) = λ up. refl
-      by-control (Disc p) = λ up. refl
-      by-control (Ui p) = λ up. refl
-      by-control (Ua p) = λ up. refl
-      by-control (Dm p) = λ up. refl
-      by-control (Frmr p) = λ up. refl
-      by-control (Xid p) = λ up. refl
+      by-control other = λ up. refl
 
   pub as-busy-before : (what : line_event.Event) (a : Answer) → brought c service tei what ≡ None → ((r : Request) → what ≡ request r → is_granted a ≡ false)
       → AsBusy o (by_event c service tei what a o)
@@ -275,7 +231,5 @@ module _ (c : Config) (service : Service) (tei : ℕ) (o : Observed) where
       (either-so o (is_up o.state && is_some (malformed c service tei e)) (anew o) o (λ up. refl) (λ up. refl))
   as-busy-before (expiry timer) a none idle = ran-out timer
   as-busy-before (request r) a none idle = subst (λ b. AsBusy o (cond b (by_request service tei r o) o)) (sym (idle r refl)) (λ up. refl)
-  as-busy-before next (told t) none idle = λ up. refl
-  as-busy-before next (refused why) none idle = λ up. refl
-  as-busy-before next (gave None) none idle = λ up. refl
   as-busy-before next (gave (Some f)) none idle = sent-so (its_frame service tei (result_ok (reading c.side f.octets)))
+  as-busy-before next other none idle = λ up. refl

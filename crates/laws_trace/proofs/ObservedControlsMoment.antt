@@ -255,9 +255,8 @@ module _ (service : Service) (tei number : ℕ) where
       again = option_map_or one_more (expired_of service tei e.what) 0
 
       more-is : (n : ℕ) (timer : Option LinkTimer) → nat_lt n (n + option_map_or one_more timer 0) ≡ (option_map_or one_more timer 0 == 1)
-      more-is n None = le-ltb n (n + 0) (omega arith)
       more-is n (Some T200) = lt-ltb n (n + 1) (omega arith)
-      more-is n (Some T203) = le-ltb n (n + 0) (omega arith)
+      more-is n other = le-ltb n (n + 0) (omega arith)
 
       abbrev C : List ControlFrame
       C = now_due.command_of q
@@ -295,11 +294,10 @@ module _ (service : Service) (tei number : ℕ) where
       command_at s = cond (s == 5) (as_command (Sabme true)) (cond (s == 6) (as_command (Disc true)) (cond (s == 8) (as_command (now_due.receipt q true)) []))
 
       by-state : (y : State) → IsObserved (state_number y) l' asks' owes' m' q → Commands
-      by-state TeiAssigned i = silent (ap command_at i.state_is)
-      by-state Established i = silent (ap command_at i.state_is)
       by-state AwaitingEstablishment i = counted 5 i.state_is refl i.counts
       by-state AwaitingRelease i = counted 6 i.state_is refl i.counts
       by-state TimerRecovery i = counted 8 i.state_is refl i.counts
+      by-state other i = silent (ap command_at i.state_is)
 
       commands-so : Facts to l' asks' owes' m' q → Commands
       commands-so (inl y) = silent (ap command_at (ap (λ (p : Observed). p.state) y.2))

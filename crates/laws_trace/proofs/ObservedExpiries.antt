@@ -37,10 +37,7 @@ module _ (o : Observed) where
       later = record o { acknowledged = nr.value; next = cond (again && o.state == 7) nr.value o.next; busy = busy }
 
   up : (long command : Bool) (control : Control) → IsNoMore o (while_up long command control o)
-  up long command (Sabme p) = zero o
-  up long command (Disc p) = zero o
   up long command (Dm f) = either o (o.state == 8 || not f) (anew o) o (zero o) (same o)
-  up long command (Frmr f) = zero o
   up long command (Information ns nr p) =
       either o long (anew o) (numbered nr (takes ns o)) (zero o)
       (either o (is_invalid (takes ns o) nr) (anew (takes ns o)) (record (takes ns o) { acknowledged = nr.value }) (zero o) (same o))
@@ -50,32 +47,17 @@ module _ (o : Observed) where
   up long command (Ui p) = same o
   up long command (Ua f) = same o
   up long command (Xid p) = same o
+  up long command other = zero o
 
   down : (control : Control) → IsNoMore o (while_down control o)
   down (Sabme p) = either o (o.state == 4) (in_state 7) o (zero o) (same o)
   down (Ua f) = either o (f && o.state == 5) (in_state 7) (cond (f && o.state == 6) (in_state 4) o) (zero o) (either o (f && o.state == 6) (in_state 4) o (zero o) (same o))
   down (Dm f) = either o (f && (o.state == 5 || o.state == 6)) (in_state 4) o (zero o) (same o)
-  down (Information ns nr p) = same o
-  down (ReceiveReady nr pf) = same o
-  down (ReceiveNotReady nr pf) = same o
-  down (Reject nr pf) = same o
-  down (Disc p) = same o
-  down (Frmr f) = same o
-  down (Ui p) = same o
-  down (Xid p) = same o
+  down other = same o
 
   sent : (control : Control) → IsNoMore o (sends o control)
   sent (Information ns nr p) = either o (is_up o.state) (record o { next = (ns.value + 1) % 128 }) o (same o) (same o)
-  sent (ReceiveReady nr pf) = same o
-  sent (ReceiveNotReady nr pf) = same o
-  sent (Reject nr pf) = same o
-  sent (Sabme p) = same o
-  sent (Disc p) = same o
-  sent (Ui p) = same o
-  sent (Ua f) = same o
-  sent (Dm f) = same o
-  sent (Frmr f) = same o
-  sent (Xid p) = same o
+  sent other = same o
 
   module _ (c : Config) (service : Service) (tei : ℕ) where
     framed : (f : Option Parts) → IsNoMore o (option_map_or (by_frame c o) f o)
@@ -94,12 +76,7 @@ module _ (o : Observed) where
     asked (Deactivate of by) = either o (is_own service tei of by) (in_state 4) o (zero o) (same o)
     asked (SetBusy of by) = either o (is_own service tei of by) (record o { own_busy = true }) o (same o) (same o)
     asked (ClearBusy of by) = either o (is_own service tei of by) (record o { own_busy = false }) o (same o) (same o)
-    asked (Data of by contents) = same o
-    asked (Request.Unit of by contents) = same o
-    asked (Assign by) = same o
-    asked (Remove by) = same o
-    asked (Check by) = same o
-    asked Down = same o
+    asked other = same o
 
     -- by another event than an expiry of T200
     pub no-more : (what : Event) (a : Answer) → ((of : Service) (by : ℕ) → what ≡ expiry (timers.T200 of by) → is_own service tei of by ≡ false) → IsNoMore o (by_event c service tei what a o)

@@ -29,51 +29,23 @@ Frame x k long command control =
 
 -- In state 4.
 in_4 : (long command : Bool) (control : Control) → Frame TeiAssigned nothing_yet long command control
-in_4 long command (Information ns nr p) o = record { state_is = refl; known_is = refl; asks = tt; owes = tt; counts = tt }
-in_4 long command (ReceiveReady nr f) o = record { state_is = refl; known_is = refl; asks = tt; owes = tt; counts = tt }
-in_4 long command (ReceiveNotReady nr f) o = record { state_is = refl; known_is = refl; asks = tt; owes = tt; counts = tt }
-in_4 long command (Reject nr f) o = record { state_is = refl; known_is = refl; asks = tt; owes = tt; counts = tt }
-in_4 long command (Sabme p) o = record { state_is = refl; known_is = refl; asks = tt; owes = tt; counts = tt }
-in_4 long command (Disc p) o = record { state_is = refl; known_is = refl; asks = tt; owes = tt; counts = tt }
-in_4 long command (Ui p) o = record { state_is = refl; known_is = refl; asks = tt; owes = tt; counts = tt }
-in_4 long command (Xid p) o = record { state_is = refl; known_is = refl; asks = tt; owes = tt; counts = tt }
-in_4 long command (Frmr f) o = record { state_is = refl; known_is = refl; asks = tt; owes = tt; counts = tt }
 in_4 long command (Ua true) o = record { state_is = refl; known_is = refl; asks = tt; owes = tt; counts = tt }
 in_4 long command (Dm true) o = record { state_is = refl; known_is = refl; asks = tt; owes = tt; counts = tt }
 in_4 long command (Ua false) o = record { state_is = refl; known_is = refl; asks = tt; owes = tt; counts = tt }
 in_4 long command (Dm false) o = record { state_is = refl; known_is = refl; asks = tt; owes = tt; counts = tt }
+in_4 long command other o = record { state_is = refl; known_is = refl; asks = tt; owes = tt; counts = tt }
 
 -- In state 5.
 in_5 : (long command : Bool) (control : Control) → Frame AwaitingEstablishment nothing_yet long command control
-in_5 long command (Information ns nr p) o = record { state_is = refl; known_is = refl; asks = refl; owes = refl; counts = refl }
-in_5 long command (ReceiveReady nr f) o = record { state_is = refl; known_is = refl; asks = refl; owes = refl; counts = refl }
-in_5 long command (ReceiveNotReady nr f) o = record { state_is = refl; known_is = refl; asks = refl; owes = refl; counts = refl }
-in_5 long command (Reject nr f) o = record { state_is = refl; known_is = refl; asks = refl; owes = refl; counts = refl }
-in_5 long command (Sabme p) o = record { state_is = refl; known_is = refl; asks = refl; owes = refl; counts = refl }
-in_5 long command (Disc p) o = record { state_is = refl; known_is = refl; asks = refl; owes = refl; counts = refl }
-in_5 long command (Ui p) o = record { state_is = refl; known_is = refl; asks = refl; owes = refl; counts = refl }
-in_5 long command (Xid p) o = record { state_is = refl; known_is = refl; asks = refl; owes = refl; counts = refl }
-in_5 long command (Frmr f) o = record { state_is = refl; known_is = refl; asks = refl; owes = refl; counts = refl }
 in_5 long command (Ua true) o = record { state_is = refl; known_is = refl; asks = tt; owes = tt; counts = tt }
 in_5 long command (Dm true) o = record { state_is = refl; known_is = refl; asks = tt; owes = tt; counts = tt }
-in_5 long command (Ua false) o = record { state_is = refl; known_is = refl; asks = refl; owes = refl; counts = refl }
-in_5 long command (Dm false) o = record { state_is = refl; known_is = refl; asks = refl; owes = refl; counts = refl }
+in_5 long command other o = record { state_is = refl; known_is = refl; asks = refl; owes = refl; counts = refl }
 
 -- In state 6.
 in_6 : (long command : Bool) (control : Control) → Frame AwaitingRelease nothing_yet long command control
-in_6 long command (Information ns nr p) o = record { state_is = refl; known_is = refl; asks = tt; owes = tt; counts = refl }
-in_6 long command (ReceiveReady nr f) o = record { state_is = refl; known_is = refl; asks = tt; owes = tt; counts = refl }
-in_6 long command (ReceiveNotReady nr f) o = record { state_is = refl; known_is = refl; asks = tt; owes = tt; counts = refl }
-in_6 long command (Reject nr f) o = record { state_is = refl; known_is = refl; asks = tt; owes = tt; counts = refl }
-in_6 long command (Sabme p) o = record { state_is = refl; known_is = refl; asks = tt; owes = tt; counts = refl }
-in_6 long command (Disc p) o = record { state_is = refl; known_is = refl; asks = tt; owes = tt; counts = refl }
-in_6 long command (Ui p) o = record { state_is = refl; known_is = refl; asks = tt; owes = tt; counts = refl }
-in_6 long command (Xid p) o = record { state_is = refl; known_is = refl; asks = tt; owes = tt; counts = refl }
-in_6 long command (Frmr f) o = record { state_is = refl; known_is = refl; asks = tt; owes = tt; counts = refl }
 in_6 long command (Ua true) o = record { state_is = refl; known_is = refl; asks = tt; owes = tt; counts = tt }
 in_6 long command (Dm true) o = record { state_is = refl; known_is = refl; asks = tt; owes = tt; counts = tt }
-in_6 long command (Ua false) o = record { state_is = refl; known_is = refl; asks = tt; owes = tt; counts = refl }
-in_6 long command (Dm false) o = record { state_is = refl; known_is = refl; asks = tt; owes = tt; counts = refl }
+in_6 long command other o = record { state_is = refl; known_is = refl; asks = tt; owes = tt; counts = refl }
 
 module _ (k : Known) where
   -- An N(R) in state 7 or 8, by whether it is invalid.
@@ -141,15 +113,12 @@ module _ (k : Known) where
   in_7 long command (ReceiveReady nr f) o = receiveready_7 nr f (moves.is_invalid k nr) (not command && f) o
   in_7 long command (ReceiveNotReady nr f) o = receivenotready_7 nr f (moves.is_invalid k nr) (not command && f) o
   in_7 long command (Reject nr f) o = reject_7 nr f (moves.is_invalid k nr) (not command && f) o
-  in_7 long command (Sabme p) o = record { state_is = refl; known_is = refl; asks = tt; owes = tt; counts = tt }
-  in_7 long command (Disc p) o = record { state_is = refl; known_is = refl; asks = tt; owes = tt; counts = tt }
-  in_7 long command (Ui p) o = record { state_is = refl; known_is = refl; asks = tt; owes = tt; counts = tt }
-  in_7 long command (Xid p) o = record { state_is = refl; known_is = refl; asks = tt; owes = tt; counts = tt }
   in_7 long command (Frmr f) o = record { state_is = refl; known_is = refl; asks = refl; owes = refl; counts = refl }
   in_7 long command (Ua true) o = record { state_is = refl; known_is = refl; asks = tt; owes = tt; counts = tt }
   in_7 long command (Ua false) o = record { state_is = refl; known_is = refl; asks = tt; owes = tt; counts = tt }
   in_7 long command (Dm true) o = record { state_is = refl; known_is = refl; asks = tt; owes = tt; counts = tt }
   in_7 long command (Dm false) o = record { state_is = refl; known_is = refl; asks = refl; owes = refl; counts = refl }
+  in_7 long command other o = record { state_is = refl; known_is = refl; asks = tt; owes = tt; counts = tt }
 
   -- In state 8.
   in_8 : (long command : Bool) (control : Control) → Frame TimerRecovery k long command control
@@ -158,8 +127,6 @@ module _ (k : Known) where
   in_8 long command (ReceiveReady nr f) o = receiveready_8 nr f (moves.is_invalid k nr) (not command && f) o
   in_8 long command (ReceiveNotReady nr f) o = receivenotready_8 nr f (moves.is_invalid k nr) (not command && f) o
   in_8 long command (Reject nr f) o = reject_8 nr f (moves.is_invalid k nr) (not command && f) o
-  in_8 long command (Sabme p) o = record { state_is = refl; known_is = refl; asks = tt; owes = tt; counts = tt }
-  in_8 long command (Disc p) o = record { state_is = refl; known_is = refl; asks = tt; owes = tt; counts = tt }
   in_8 long command (Ui p) o = record { state_is = refl; known_is = refl; asks = tt; owes = tt; counts = refl }
   in_8 long command (Xid p) o = record { state_is = refl; known_is = refl; asks = tt; owes = tt; counts = refl }
   in_8 long command (Frmr f) o = record { state_is = refl; known_is = refl; asks = refl; owes = refl; counts = refl }
@@ -167,6 +134,7 @@ module _ (k : Known) where
   in_8 long command (Ua false) o = record { state_is = refl; known_is = refl; asks = tt; owes = tt; counts = refl }
   in_8 long command (Dm true) o = record { state_is = refl; known_is = refl; asks = refl; owes = refl; counts = refl }
   in_8 long command (Dm false) o = record { state_is = refl; known_is = refl; asks = refl; owes = refl; counts = refl }
+  in_8 long command other o = record { state_is = refl; known_is = refl; asks = tt; owes = tt; counts = tt }
 
 pub frame-moves : (x : State) (k : Known) → Shape x k → (long command : Bool) (control : Control) → Frame x k long command control
 frame-moves TeiAssigned k shape long command control = subst (λ k. Frame TeiAssigned k long command control) (sym shape) (in_4 long command control)
@@ -208,13 +176,11 @@ module _ (c : Config) (service : Service) (tei : ℕ) where
   parts x k shape o (Some f) = of-frame x k shape o f (is_for service tei f.address)
 
   heard-moves : (x : State) (k : Known) → Shape x k → (o : Observed) (m : Bool) (f : Option Parts) → Heard x k o m f
-  heard-moves TeiAssigned k shape o m f = parts TeiAssigned k shape o f
-  heard-moves AwaitingEstablishment k shape o m f = parts AwaitingEstablishment k shape o f
-  heard-moves AwaitingRelease k shape o m f = parts AwaitingRelease k shape o f
   heard-moves Established k shape o true f = record { state_is = refl; known_is = refl; asks = refl; owes = refl; counts = refl }
   heard-moves Established k shape o false f = parts Established k shape o f
   heard-moves TimerRecovery k shape o true f = record { state_is = refl; known_is = refl; asks = refl; owes = refl; counts = refl }
   heard-moves TimerRecovery k shape o false f = parts TimerRecovery k shape o f
+  heard-moves other k shape o m f = parts other k shape o f
 
   -- What runs out.
   abbrev Expires : LinkTimer → State → Known → (ℕ → ℕ) → Observed → Observed → Type 0
@@ -225,7 +191,6 @@ module _ (c : Config) (service : Service) (tei : ℕ) where
       let to = cond {A = ℕ} again s (cond {A = ℕ} (s == 8) 5 4) in
       When (s == 5 || (s == 6 || s == 8)) (Moved s to (cond (to == 7 || to == 8) k nothing_yet) false one_more p
       (cond again (record p { expiries = p.expiries + 1 }) (cond (s == 8) (anew p) (in_state 4))))
-  repeated TeiAssigned k shape o again = tt
   repeated AwaitingEstablishment k shape o true =
       subst (λ k. let p = at_state 5 k o in Moved 5 5 (cond (5 == 7 || 5 == 8) k nothing_yet) false one_more p (record p { expiries = p.expiries + 1 })) (sym shape) (record { state_is = refl; known_is = refl; asks = refl; owes = refl; counts = refl })
   repeated AwaitingEstablishment k shape o false =
@@ -234,9 +199,9 @@ module _ (c : Config) (service : Service) (tei : ℕ) where
       subst (λ k. let p = at_state 6 k o in Moved 6 6 (cond (6 == 7 || 6 == 8) k nothing_yet) false one_more p (record p { expiries = p.expiries + 1 })) (sym shape) (record { state_is = refl; known_is = refl; asks = tt; owes = tt; counts = refl })
   repeated AwaitingRelease k shape o false =
       subst (λ k. let p = at_state 6 k o in Moved 6 4 (cond (4 == 7 || 4 == 8) k nothing_yet) false one_more p (in_state 4)) (sym shape) (record { state_is = refl; known_is = refl; asks = tt; owes = tt; counts = tt })
-  repeated Established k shape o again = tt
   repeated TimerRecovery k shape o true = record { state_is = refl; known_is = refl; asks = tt; owes = tt; counts = refl }
   repeated TimerRecovery k shape o false = record { state_is = refl; known_is = refl; asks = refl; owes = refl; counts = refl }
+  repeated other k shape o again = tt
 
   not_counted : (k : Known) → k ≡ nothing_yet → (o : Observed) (again : Bool) → let p = at_state 4 k o in let to = cond {A = ℕ} again 4 4 in
       Moved 4 to (cond (to == 7 || to == 8) k nothing_yet) false one_more p p
@@ -250,18 +215,13 @@ module _ (c : Config) (service : Service) (tei : ℕ) where
 
   t200-moves : (x : State) (k : Known) → Shape x k → (o : Observed) → let p = at_state (state_number x) k o in Expires T200 x k one_more p (by_t200 c.n200 p)
   t200-moves TeiAssigned k shape o = not_counted k shape o (nat_lt o.expiries c.n200)
-  t200-moves AwaitingEstablishment k shape o = repeated AwaitingEstablishment k shape o (nat_lt o.expiries c.n200)
-  t200-moves AwaitingRelease k shape o = repeated AwaitingRelease k shape o (nat_lt o.expiries c.n200)
   t200-moves Established k shape o = enquiry k o one_more (known.awaits k (Some 7))
-  t200-moves TimerRecovery k shape o = repeated TimerRecovery k shape o (nat_lt o.expiries c.n200)
+  t200-moves other k shape o = repeated other k shape o (nat_lt o.expiries c.n200)
 
   t203-moves : (x : State) (k : Known) → Shape x k → (o : Observed) → let p = at_state (state_number x) k o in
       Expires T203 x k none_more p (cond (p.state == 7 && not (awaits p)) (enquires p) p)
-  t203-moves TeiAssigned k shape o = stays TeiAssigned k shape false o
-  t203-moves AwaitingEstablishment k shape o = stays AwaitingEstablishment k shape false o
-  t203-moves AwaitingRelease k shape o = stays AwaitingRelease k shape false o
   t203-moves Established k shape o = enquiry k o none_more (not (known.awaits k (Some 7)))
-  t203-moves TimerRecovery k shape o = stays TimerRecovery k shape false o
+  t203-moves other k shape o = stays other k shape false o
 
   abbrev pub grown : Event → ℕ → ℕ
   grown (expiry (timers.T200 of by)) = cond (is_own service tei of by) one_more none_more
@@ -303,19 +263,14 @@ module _ (c : Config) (service : Service) (tei : ℕ) where
   establish x k shape o false = stays x k shape false o
   establish TeiAssigned k shape o true =
       subst (λ k. let p = at_state 4 k o in Moved 4 5 nothing_yet true none_more p (record (in_state 5) { asked = true })) (sym shape) (record { state_is = refl; known_is = refl; asks = refl; owes = refl; counts = refl })
-  establish AwaitingEstablishment k shape o true = stays AwaitingEstablishment k shape true o
-  establish AwaitingRelease k shape o true = stays AwaitingRelease k shape true o
-  establish Established k shape o true = stays Established k shape true o
-  establish TimerRecovery k shape o true = stays TimerRecovery k shape true o
+  establish other k shape o true = stays other k shape true o
 
   release : (x : State) (k : Known) → Shape x k → (o : Observed) (b : Bool) → let s = state_number x in let p = at_state s k o in
       Asked x k false (cond {A = ℕ} (b && is_up s) 6 s) p (cond (b && is_up p.state) (in_state 6) p)
   release x k shape o false = stays x k shape false o
-  release TeiAssigned k shape o true = stays TeiAssigned k shape false o
-  release AwaitingEstablishment k shape o true = stays AwaitingEstablishment k shape false o
-  release AwaitingRelease k shape o true = stays AwaitingRelease k shape false o
   release Established k shape o true = record { state_is = refl; known_is = refl; asks = tt; owes = tt; counts = refl }
   release TimerRecovery k shape o true = record { state_is = refl; known_is = refl; asks = tt; owes = tt; counts = refl }
+  release other k shape o true = stays other k shape false o
 
   deactivate : (x : State) (k : Known) → Shape x k → (o : Observed) (b : Bool) → let s = state_number x in let p = at_state s k o in
       Asked x k false (cond {A = ℕ} b 4 s) p (cond b (in_state 4) p)
@@ -333,12 +288,7 @@ module _ (c : Config) (service : Service) (tei : ℕ) where
   asked-moves x k shape o (Deactivate of by) t = deactivate x k shape o (is_own service tei of by)
   asked-moves x k shape o (SetBusy of by) t = busy x k shape o true (is_own service tei of by)
   asked-moves x k shape o (ClearBusy of by) t = busy x k shape o false (is_own service tei of by)
-  asked-moves x k shape o (Data of by contents) t = stays x k shape false o
-  asked-moves x k shape o (Request.Unit of by contents) t = stays x k shape false o
-  asked-moves x k shape o (Assign by) t = stays x k shape false o
-  asked-moves x k shape o (Remove by) t = stays x k shape false o
-  asked-moves x k shape o (Check by) t = stays x k shape false o
-  asked-moves x k shape o Down t = stays x k shape false o
+  asked-moves x k shape o other t = stays x k shape false o
 
   -- What is sent.
   abbrev Sends : State → Known → Observed → Option Sent → Observed → Type 0
@@ -346,25 +296,14 @@ module _ (c : Config) (service : Service) (tei : ℕ) where
 
   information-moves : (x : State) (k : Known) → Shape x k → (o : Observed) (ns nr : Seq) (pf : Bool) → let p = at_state (state_number x) k o in
       Sends x k p (Some (record { ns = ns.value })) (sends p (Information ns nr pf))
-  information-moves TeiAssigned k shape o ns nr pf = stays TeiAssigned k shape false o
-  information-moves AwaitingEstablishment k shape o ns nr pf = stays AwaitingEstablishment k shape false o
-  information-moves AwaitingRelease k shape o ns nr pf = stays AwaitingRelease k shape false o
   information-moves Established k shape o ns nr pf = record { state_is = refl; known_is = refl; asks = tt; owes = tt; counts = tt }
   information-moves TimerRecovery k shape o ns nr pf = record { state_is = refl; known_is = refl; asks = tt; owes = tt; counts = refl }
+  information-moves other k shape o ns nr pf = stays other k shape false o
 
   control-moves : (x : State) (k : Known) → Shape x k → (o : Observed) (control : Control) (info : List ℕ) → let p = at_state (state_number x) k o in
       Sends x k p (sent_by control info) (sends p control)
   control-moves x k shape o (Information ns nr pf) info = information-moves x k shape o ns nr pf
-  control-moves x k shape o (ReceiveReady nr pf) info = stays x k shape false o
-  control-moves x k shape o (ReceiveNotReady nr pf) info = stays x k shape false o
-  control-moves x k shape o (Reject nr pf) info = stays x k shape false o
-  control-moves x k shape o (Sabme pf) info = stays x k shape false o
-  control-moves x k shape o (Disc pf) info = stays x k shape false o
-  control-moves x k shape o (Ui pf) info = stays x k shape false o
-  control-moves x k shape o (Ua pf) info = stays x k shape false o
-  control-moves x k shape o (Dm pf) info = stays x k shape false o
-  control-moves x k shape o (Frmr pf) info = stays x k shape false o
-  control-moves x k shape o (Xid pf) info = stays x k shape false o
+  control-moves x k shape o other info = stays x k shape false o
 
   sent-moves : (x : State) (k : Known) → Shape x k → (o : Observed) (r : Result Parts ReadFault) → let p = at_state (state_number x) k o in
       Sends x k p (sent_in service tei r) (option_map_or (λ (f : Parts). sends p f.control) (its_frame service tei (result_ok r)) p)

@@ -37,49 +37,26 @@ Frame x long command control =
     When (is_up q.state) (Stood (is_up s) (begun_by s control) (is_up s && (not long && brings_next p control)) (is_information control) p.own_busy p q)
 
 in_4 : (long command : Bool) (control : Control) → Frame TeiAssigned long command control
-in_4 long command (Information ns nr p) o = tt
-in_4 long command (ReceiveReady nr f) o = tt
-in_4 long command (ReceiveNotReady nr f) o = tt
-in_4 long command (Reject nr f) o = tt
 in_4 long command (Sabme p) o = record { before = refl; count_is = refl; busy_is = refl; rejected_is = refl }
-in_4 long command (Disc p) o = tt
-in_4 long command (Ui p) o = tt
-in_4 long command (Xid p) o = tt
-in_4 long command (Frmr f) o = tt
 in_4 long command (Ua true) o = tt
 in_4 long command (Ua false) o = tt
 in_4 long command (Dm true) o = tt
 in_4 long command (Dm false) o = tt
+in_4 long command other o = tt
 
 in_5 : (long command : Bool) (control : Control) → Frame AwaitingEstablishment long command control
-in_5 long command (Information ns nr p) o = tt
-in_5 long command (ReceiveReady nr f) o = tt
-in_5 long command (ReceiveNotReady nr f) o = tt
-in_5 long command (Reject nr f) o = tt
-in_5 long command (Sabme p) o = tt
-in_5 long command (Disc p) o = tt
-in_5 long command (Ui p) o = tt
-in_5 long command (Xid p) o = tt
-in_5 long command (Frmr f) o = tt
 in_5 long command (Ua true) o = record { before = refl; count_is = refl; busy_is = refl; rejected_is = refl }
 in_5 long command (Ua false) o = tt
 in_5 long command (Dm true) o = tt
 in_5 long command (Dm false) o = tt
+in_5 long command other o = tt
 
 in_6 : (long command : Bool) (control : Control) → Frame AwaitingRelease long command control
-in_6 long command (Information ns nr p) o = tt
-in_6 long command (ReceiveReady nr f) o = tt
-in_6 long command (ReceiveNotReady nr f) o = tt
-in_6 long command (Reject nr f) o = tt
-in_6 long command (Sabme p) o = tt
-in_6 long command (Disc p) o = tt
-in_6 long command (Ui p) o = tt
-in_6 long command (Xid p) o = tt
-in_6 long command (Frmr f) o = tt
 in_6 long command (Ua true) o = tt
 in_6 long command (Ua false) o = tt
 in_6 long command (Dm true) o = tt
 in_6 long command (Dm false) o = tt
+in_6 long command other o = tt
 
 when-so : {P : Type 0} → (b : Bool) → P → When b P
 when-so true x = x
@@ -108,12 +85,10 @@ in_7 false command (ReceiveNotReady nr f) o = receipt-so 7 refl true (is_invalid
 in_7 true command (Reject nr f) o = receipt-so 7 refl false (is_invalid (in_number 7 o) nr) (7 == 8 && (not command && f)) nr.value (cond (true && 7 == 7) nr.value o.next) (in_number 7 o)
 in_7 false command (Reject nr f) o = receipt-so 7 refl false (is_invalid (in_number 7 o) nr) (7 == 8 && (not command && f)) nr.value (cond (true && 7 == 7) nr.value o.next) (in_number 7 o)
 in_7 long command (Sabme p) o = record { before = refl; count_is = refl; busy_is = refl; rejected_is = refl }
-in_7 long command (Disc p) o = tt
 in_7 true command (Ui p) o = record { before = refl; count_is = refl; busy_is = refl; rejected_is = refl }
 in_7 false command (Ui p) o = record { before = refl; count_is = refl; busy_is = refl; rejected_is = refl }
 in_7 true command (Xid p) o = record { before = refl; count_is = refl; busy_is = refl; rejected_is = refl }
 in_7 false command (Xid p) o = record { before = refl; count_is = refl; busy_is = refl; rejected_is = refl }
-in_7 long command (Frmr f) o = tt
 in_7 true command (Ua true) o = record { before = refl; count_is = refl; busy_is = refl; rejected_is = refl }
 in_7 false command (Ua true) o = record { before = refl; count_is = refl; busy_is = refl; rejected_is = refl }
 in_7 true command (Ua false) o = record { before = refl; count_is = refl; busy_is = refl; rejected_is = refl }
@@ -121,6 +96,7 @@ in_7 false command (Ua false) o = record { before = refl; count_is = refl; busy_
 in_7 true command (Dm true) o = record { before = refl; count_is = refl; busy_is = refl; rejected_is = refl }
 in_7 false command (Dm true) o = record { before = refl; count_is = refl; busy_is = refl; rejected_is = refl }
 in_7 long command (Dm false) o = tt
+in_7 long command other o = tt
 
 in_8 : (long command : Bool) (control : Control) → Frame TimerRecovery long command control
 in_8 true command (Information ns nr p) o = tt
@@ -132,18 +108,15 @@ in_8 false command (ReceiveNotReady nr f) o = receipt-so 8 refl true (is_invalid
 in_8 true command (Reject nr f) o = receipt-so 8 refl false (is_invalid (in_number 8 o) nr) (8 == 8 && (not command && f)) nr.value (cond (true && 8 == 7) nr.value o.next) (in_number 8 o)
 in_8 false command (Reject nr f) o = receipt-so 8 refl false (is_invalid (in_number 8 o) nr) (8 == 8 && (not command && f)) nr.value (cond (true && 8 == 7) nr.value o.next) (in_number 8 o)
 in_8 long command (Sabme p) o = record { before = refl; count_is = refl; busy_is = refl; rejected_is = refl }
-in_8 long command (Disc p) o = tt
 in_8 true command (Ui p) o = record { before = refl; count_is = refl; busy_is = refl; rejected_is = refl }
 in_8 false command (Ui p) o = record { before = refl; count_is = refl; busy_is = refl; rejected_is = refl }
 in_8 true command (Xid p) o = record { before = refl; count_is = refl; busy_is = refl; rejected_is = refl }
 in_8 false command (Xid p) o = record { before = refl; count_is = refl; busy_is = refl; rejected_is = refl }
-in_8 long command (Frmr f) o = tt
 in_8 true command (Ua true) o = record { before = refl; count_is = refl; busy_is = refl; rejected_is = refl }
 in_8 false command (Ua true) o = record { before = refl; count_is = refl; busy_is = refl; rejected_is = refl }
 in_8 true command (Ua false) o = record { before = refl; count_is = refl; busy_is = refl; rejected_is = refl }
 in_8 false command (Ua false) o = record { before = refl; count_is = refl; busy_is = refl; rejected_is = refl }
-in_8 long command (Dm true) o = tt
-in_8 long command (Dm false) o = tt
+in_8 long command other o = tt
 
 pub frame-stands : (x : State) (long command : Bool) (control : Control) → Frame x long command control
 frame-stands TeiAssigned = in_4
@@ -154,11 +127,9 @@ frame-stands TimerRecovery = in_8
 
 -- Nothing moves.
 rests : (x : State) (o : Observed) → let p = in_number (state_number x) o in When (is_up (state_number x)) (Stood (is_up (state_number x)) false false false p.own_busy p p)
-rests TeiAssigned o = tt
-rests AwaitingEstablishment o = tt
-rests AwaitingRelease o = tt
 rests Established o = record { before = refl; count_is = refl; busy_is = refl; rejected_is = refl }
 rests TimerRecovery o = record { before = refl; count_is = refl; busy_is = refl; rejected_is = refl }
+rests other o = tt
 
 module _ (c : Config) (service : Service) (tei : ℕ) where
   abbrev pub begins_by : State → Option Parts → Bool
@@ -182,13 +153,11 @@ module _ (c : Config) (service : Service) (tei : ℕ) where
   parts x o (Some f) = frame-stands x (nat_lt c.n201 (length f.info)) f.address.command f.control o
 
   heard-stands : (x : State) (o : Observed) (m : Bool) (f : Option Parts) → Heard x o m f
-  heard-stands TeiAssigned o m f = parts TeiAssigned o f
-  heard-stands AwaitingEstablishment o m f = parts AwaitingEstablishment o f
-  heard-stands AwaitingRelease o m f = parts AwaitingRelease o f
   heard-stands Established o true f = tt
   heard-stands Established o false f = parts Established o f
   heard-stands TimerRecovery o true f = tt
   heard-stands TimerRecovery o false f = parts TimerRecovery o f
+  heard-stands other o m f = parts other o f
 
   abbrev Quiet : State → Observed → Observed → Type 0
   Quiet x o q = let p = in_number (state_number x) o in When (is_up q.state) (Stood (is_up (state_number x)) false false false p.own_busy p q)
@@ -213,18 +182,14 @@ module _ (c : Config) (service : Service) (tei : ℕ) where
   t200 : (x : State) (o : Observed) (b : Bool) → let p = in_number (state_number x) o in Quiet x o (cond b (by_t200 c.n200 p) p)
   t200 x o false = rests x o
   t200 TeiAssigned o true = tt
-  t200 AwaitingEstablishment o true = again AwaitingEstablishment o (nat_lt o.expiries c.n200)
-  t200 AwaitingRelease o true = again AwaitingRelease o (nat_lt o.expiries c.n200)
   t200 Established o true = enquiry o (awaits (in_number 7 o))
-  t200 TimerRecovery o true = again TimerRecovery o (nat_lt o.expiries c.n200)
+  t200 other o true = again other o (nat_lt o.expiries c.n200)
 
   t203 : (x : State) (o : Observed) (b : Bool) → let p = in_number (state_number x) o in Quiet x o (cond (b && (p.state == 7 && not (awaits p))) (enquires p) p)
   t203 x o false = rests x o
-  t203 TeiAssigned o true = tt
-  t203 AwaitingEstablishment o true = tt
-  t203 AwaitingRelease o true = tt
   t203 Established o true = enquiry o (not (awaits (in_number 7 o)))
   t203 TimerRecovery o true = rests TimerRecovery o
+  t203 other o true = tt
 
   timer-stands : (x : State) (o : Observed) (timer : Timer) → Quiet x o (by_expiry c service tei timer (in_number (state_number x) o))
   timer-stands x o (timers.T200 of by) = t200 x o (is_own service tei of by)
@@ -233,19 +198,14 @@ module _ (c : Config) (service : Service) (tei : ℕ) where
 
   establish : (x : State) (o : Observed) (b : Bool) → let p = in_number (state_number x) o in Quiet x o (cond (b && p.state == 4) (record (in_state 5) { asked = true }) p)
   establish x o false = rests x o
-  establish TeiAssigned o true = tt
-  establish AwaitingEstablishment o true = tt
-  establish AwaitingRelease o true = tt
   establish Established o true = record { before = refl; count_is = refl; busy_is = refl; rejected_is = refl }
   establish TimerRecovery o true = record { before = refl; count_is = refl; busy_is = refl; rejected_is = refl }
+  establish other o true = tt
 
   release : (x : State) (o : Observed) (b : Bool) → let p = in_number (state_number x) o in Quiet x o (cond (b && is_up p.state) (in_state 6) p)
   release x o false = rests x o
   release TeiAssigned o true = tt
-  release AwaitingEstablishment o true = tt
-  release AwaitingRelease o true = tt
-  release Established o true = tt
-  release TimerRecovery o true = tt
+  release other o true = tt
 
   deactivate : (x : State) (o : Observed) (b : Bool) → let p = in_number (state_number x) o in Quiet x o (cond b (in_state 4) p)
   deactivate x o false = rests x o
@@ -256,19 +216,15 @@ module _ (c : Config) (service : Service) (tei : ℕ) where
 
   comes-busy : (x : State) (o : Observed) (b : Bool) → let p = in_number (state_number x) o in Busied x o (b || p.own_busy) (cond b (record p { own_busy = true }) p)
   comes-busy x o false = rests x o
-  comes-busy TeiAssigned o true = tt
-  comes-busy AwaitingEstablishment o true = tt
-  comes-busy AwaitingRelease o true = tt
   comes-busy Established o true = record { before = refl; count_is = refl; busy_is = refl; rejected_is = refl }
   comes-busy TimerRecovery o true = record { before = refl; count_is = refl; busy_is = refl; rejected_is = refl }
+  comes-busy other o true = tt
 
   ends-busy : (x : State) (o : Observed) (b : Bool) → let p = in_number (state_number x) o in Busied x o (not b && p.own_busy) (cond b (record p { own_busy = false }) p)
   ends-busy x o false = rests x o
-  ends-busy TeiAssigned o true = tt
-  ends-busy AwaitingEstablishment o true = tt
-  ends-busy AwaitingRelease o true = tt
   ends-busy Established o true = record { before = refl; count_is = refl; busy_is = refl; rejected_is = refl }
   ends-busy TimerRecovery o true = record { before = refl; count_is = refl; busy_is = refl; rejected_is = refl }
+  ends-busy other o true = tt
 
   -- An event of the line.
   abbrev pub EventStands : State → Observed → Event → Answer → Type 0
@@ -282,12 +238,7 @@ module _ (c : Config) (service : Service) (tei : ℕ) where
   asked-stands x o (Deactivate of by) t = deactivate x o (is_own service tei of by)
   asked-stands x o (SetBusy of by) t = comes-busy x o (is_own service tei of by)
   asked-stands x o (ClearBusy of by) t = ends-busy x o (is_own service tei of by)
-  asked-stands x o (Data of by contents) t = rests x o
-  asked-stands x o (Request.Unit of by contents) t = rests x o
-  asked-stands x o (Assign by) t = rests x o
-  asked-stands x o (Remove by) t = rests x o
-  asked-stands x o (Check by) t = rests x o
-  asked-stands x o Down t = rests x o
+  asked-stands x o other t = rests x o
 
   control-stands : (x : State) (o : Observed) (control : Control) → Quiet x o (sends (in_number (state_number x) o) control)
   control-stands TeiAssigned o (Information ns nr pf) = tt
@@ -295,16 +246,7 @@ module _ (c : Config) (service : Service) (tei : ℕ) where
   control-stands AwaitingRelease o (Information ns nr pf) = tt
   control-stands Established o (Information ns nr pf) = record { before = refl; count_is = refl; busy_is = refl; rejected_is = refl }
   control-stands TimerRecovery o (Information ns nr pf) = record { before = refl; count_is = refl; busy_is = refl; rejected_is = refl }
-  control-stands x o (ReceiveReady nr pf) = rests x o
-  control-stands x o (ReceiveNotReady nr pf) = rests x o
-  control-stands x o (Reject nr pf) = rests x o
-  control-stands x o (Sabme pf) = rests x o
-  control-stands x o (Disc pf) = rests x o
-  control-stands x o (Ui pf) = rests x o
-  control-stands x o (Ua pf) = rests x o
-  control-stands x o (Dm pf) = rests x o
-  control-stands x o (Frmr pf) = rests x o
-  control-stands x o (Xid pf) = rests x o
+  control-stands x o other = rests x o
 
   sent-stands : (x : State) (o : Observed) (f : Option Parts) → let p = in_number (state_number x) o in Quiet x o (option_map_or (λ (f : Parts). sends p f.control) f p)
   sent-stands x o None = rests x o
@@ -314,9 +256,6 @@ module _ (c : Config) (service : Service) (tei : ℕ) where
   event-stands-so x o (hears e) a = heard-stands x o (is_some (malformed c service tei e)) (its_frame service tei (frame_of c e))
   event-stands-so x o (expiry timer) a = timer-stands x o timer
   event-stands-so x o (request r) (told t) = asked-stands x o r t
-  event-stands-so x o (request r) (refused why) = rests x o
-  event-stands-so x o (request r) (gave given) = rests x o
-  event-stands-so x o next (told t) = rests x o
-  event-stands-so x o next (refused why) = rests x o
-  event-stands-so x o next (gave None) = rests x o
+  event-stands-so x o (request r) other = rests x o
   event-stands-so x o next (gave (Some frame)) = sent-stands x o (its_frame service tei (result_ok (reading c.side frame.octets)))
+  event-stands-so x o next other = rests x o

@@ -164,10 +164,9 @@ module _ (c : Config) (ranged : IsInRange c) (l : Line) (s : IsSound c l) (e : E
   one-restarts (link.received link.undefined) by = no-restart (link.received link.undefined) (λ is. establishes t own (link.received link.undefined) is) (brings-none c e a service tei link.undefined by)
   one-restarts (link.received link.wrong_size) by = no-restart (link.received link.wrong_size) (λ is. establishes t own (link.received link.wrong_size) is) (brings-none c e a service tei link.wrong_size by)
   one-restarts (link.received link.overlong) by = no-restart (link.received link.overlong) (λ is. establishes t own (link.received link.overlong) is) (brings-none c e a service tei link.overlong by)
-  one-restarts (link.expired timer) by = no-restart (link.expired timer) (λ is. establishes t own (link.expired timer) is) (ap (frame_by c) by)
   one-restarts (link.requested asked full) by = no-restart (link.requested asked full) (λ is. establishes t own (link.requested asked full) is) (ap (frame_by c) by.0)
-  one-restarts link.offer by = no-restart link.offer (λ is. establishes t own link.offer is) (ap (frame_by c) by)
   one-restarts link.cleared by = absurd by
+  one-restarts other by = no-restart other (λ is. establishes t own other is) (ap (frame_by c) by)
 
   pub begins-so : Begins
   begins-so = go (event-goes c e l service tei s)
@@ -213,10 +212,9 @@ module _ (c : Config) (ranged : IsInRange c) (l : Line) (s : IsSound c l) (e : E
     one-due (link.received link.undefined) by = no-due (link.received link.undefined) refl (brings-none c e a service tei link.undefined by)
     one-due (link.received link.wrong_size) by = no-due (link.received link.wrong_size) refl (brings-none c e a service tei link.wrong_size by)
     one-due (link.received link.overlong) by = no-due (link.received link.overlong) refl (brings-none c e a service tei link.overlong by)
-    one-due (link.expired timer) by = no-due (link.expired timer) refl (ap (frame_by c) by)
     one-due (link.requested asked full) by = no-due (link.requested asked full) refl (ap (frame_by c) by.0)
-    one-due link.offer by = no-due link.offer refl (ap (frame_by c) by)
     one-due link.cleared by = absurd by
+    one-due other by = no-due other refl (ap (frame_by c) by)
 
     pub data-so : Told
     data-so = go (event-goes c e l service tei s)

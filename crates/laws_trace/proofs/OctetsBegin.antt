@@ -116,10 +116,9 @@ by-next (Some t) h = All-cons AreOctets t.frame [] h (All-nil AreOctets)
 
 event-exact : (c : Config) → IsInRange c → (e : Event) (l : Line) → IsSound c l → AreKept l → All AreOctets (frames_begun (seen e (answer c e l)))
 unfolding answer
-event-exact c ranged (hears what) l s k = subst (All AreOctets) (sym (none-told (answer c (hears what) l))) (All-nil AreOctets)
-event-exact c ranged (expiry timer) l s k = subst (All AreOctets) (sym (none-told (answer c (expiry timer) l))) (All-nil AreOctets)
 event-exact c ranged (request r) l s k = subst (All AreOctets) (sym (none-requested r (answer c (request r) l))) (All-nil AreOctets)
 event-exact c ranged next l s k = subst (All AreOctets) (sym (given-frames (option_map next_of (taken c l)))) (by-next (taken c l) (taken-exact c ranged l s k))
+event-exact c ranged other l s k = subst (All AreOctets) (sym (none-told (answer c other l))) (All-nil AreOctets)
 
 -- What a link keeps, where what is granted are octets.
 granted-seen : (r : Request) (a : Answer) → is_granted a ≡ true → All GivesOctets (traces.seen_granted r a ++ seen_told a) → AreOctets (contents_given r)
@@ -185,8 +184,7 @@ left-exact r (told t) us h = behind r
     behind : (r : Request) → All IsUnit (units_behind r us)
     behind asked.Down = All-nil IsUnit
     behind other = h
-left-exact r (refused why) us h = h
-left-exact r (gave given) us h = h
+left-exact r other us h = h
 
 next-units : (c : Config) (l : Line) → IsSound c l → All IsUnit l.units → All IsUnit (option_map_or line_of (taken c l) l).units
 next-units c l s h = go (taken c l) (taken-one c l s)
@@ -202,11 +200,10 @@ next-units c l s h = go (taken c l) (taken-one c l s)
 
 units-after : (c : Config) (e : Event) (l : Line) → IsSound c l → All GivesOctets (seen e (answer c e l)) → All IsUnit l.units → All IsUnit (after c e l).units
 unfolding after
-units-after c (hears what) l s gives h = subst (All IsUnit) (sym (units-wait c (hears what) l)) h
-units-after c (expiry timer) l s gives h = subst (All IsUnit) (sym (units-wait c (expiry timer) l)) h
 units-after c (request r) l s gives h =
     subst (All IsUnit) (sym (units-wait c (request r) l)) (All-append IsUnit (units_left r (answer c (request r) l) l.units) (units_asked (request r) (answer c (request r) l)) (left-exact r (answer c (request r) l) l.units h) (by-grant r (answer c (request r) l) gives))
 units-after c next l s gives h = next-units c l s h
+units-after c other l s gives h = subst (All IsUnit) (sym (units-wait c other l)) h
 
 -- Of a trace.
 abbrev AreExact : Config → Line → List Seen → Line → Type 0

@@ -104,16 +104,7 @@ some-of P o x is h = subst (λ o. IfSome o P) is h
 
 none-numbered : (control : Control) → link_sound.is_information control ≡ false → number_sent control ≡ None
 none-numbered (Information ns nr p) e = absurd (true≢false e)
-none-numbered (ReceiveReady nr pf) e = refl
-none-numbered (ReceiveNotReady nr pf) e = refl
-none-numbered (Reject nr pf) e = refl
-none-numbered (Sabme p) e = refl
-none-numbered (Disc p) e = refl
-none-numbered (Ui p) e = refl
-none-numbered (Ua f) e = refl
-none-numbered (Dm f) e = refl
-none-numbered (Frmr f) e = refl
-none-numbered (Xid pf) e = refl
+none-numbered other e = refl
 
 bare-contents : (all : List (List ℕ)) (j : ℕ) (f : ControlFrame) (contents : Option (List ℕ)) → link_sound.is_information f.control ≡ false → IsOffered all j f contents → contents ≡ None
 bare-contents all j f contents bare offered =
@@ -121,10 +112,7 @@ bare-contents all j f contents bare offered =
 
 seven : (s : State) → (state_number s == 7) ≡ true → s ≡ Established
 seven Established is = refl
-seven TeiAssigned is = absurd (true≢false (sym is))
-seven AwaitingEstablishment is = absurd (true≢false (sym is))
-seven AwaitingRelease is = absurd (true≢false (sym is))
-seven TimerRecovery is = absurd (true≢false (sym is))
+seven other is = absurd (true≢false (sym is))
 
 module _ (c : Config) (events : List Event) (number : ℕ) (ranged : IsInRange c) (all : AreAtLines (fresh c) events) (within : number < c.lines) (service : Service) (tei place : ℕ)
     (on : place_in (line_at number (after_all (fresh c) events)) tei ≡ Some place) where

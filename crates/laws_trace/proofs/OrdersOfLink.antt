@@ -20,11 +20,9 @@ one-order t service tei T203 = refl
 
 of-one : (t : Terms) (service : Service) (tei : ℕ) (timer : LinkTimer) (d : Bool) → is_timer_of service tei (timer_at t timer) ≡ d → (p q : Bool) →
     let orders = cond p (Start (timer_at t timer) ∷ []) (cond q (Stop (timer_at t timer) ∷ []) []) in its_orders service tei orders ≡ cond d orders []
-of-one t service tei timer true is true q = ap (λ b. cond b (Start (timer_at t timer) ∷ []) []) is
-of-one t service tei timer true is false true = ap (λ b. cond b (Stop (timer_at t timer) ∷ []) []) is
 of-one t service tei timer true is false false = refl
-of-one t service tei timer false is true q = ap (λ b. cond b (Start (timer_at t timer) ∷ []) []) is
-of-one t service tei timer false is false true = ap (λ b. cond b (Stop (timer_at t timer) ∷ []) []) is
+of-one t service tei timer other is true q = ap (λ b. cond b (Start (timer_at t timer) ∷ []) []) is
+of-one t service tei timer other is false true = ap (λ b. cond b (Stop (timer_at t timer) ∷ []) []) is
 of-one t service tei timer false is false false = refl
 
 -- Those of an event of a link are its own, or of another one.
@@ -68,21 +66,14 @@ pub management-orders-none : (service : Service) (tei : ℕ) (before : Bool) (or
 management-orders-none service tei before [] after h = refl
 management-orders-none service tei before (Start timers.T201 ∷ []) after h = refl
 management-orders-none service tei before (Stop timers.T201 ∷ []) after h = refl
-management-orders-none service tei before (Start (timers.T200 of by) ∷ more) after h = absurd h
-management-orders-none service tei before (Start (timers.T203 of by) ∷ more) after h = absurd h
-management-orders-none service tei before (Start timers.T201 ∷ (another ∷ more)) after h = absurd h
-management-orders-none service tei before (Stop (timers.T200 of by) ∷ more) after h = absurd h
-management-orders-none service tei before (Stop (timers.T203 of by) ∷ more) after h = absurd h
-management-orders-none service tei before (Stop timers.T201 ∷ (another ∷ more)) after h = absurd h
+management-orders-none service tei before other after h = absurd h
 
 -- A caller's timer of the link obeys these alone.
 same-timer : (service : Service) (tei : ℕ) (timer : LinkTimer) (other : Timer) → is_timer_of service tei other ≡ false → is_same other (timer_of service tei timer) ≡ false
 same-timer service tei T200 (timers.T200 of by) is = is
 same-timer service tei T203 (timers.T203 of by) is = is
-same-timer service tei T200 (timers.T203 of by) is = refl
-same-timer service tei T203 (timers.T200 of by) is = refl
-same-timer service tei T200 timers.T201 is = refl
-same-timer service tei T203 timers.T201 is = refl
+same-timer service tei T200 other is = refl
+same-timer service tei T203 other is = refl
 
 pub obeys-its : (service : Service) (tei : ℕ) (timer : LinkTimer) (running : Bool) (orders : List Order)
     → obeyed (timer_of service tei timer) running orders ≡ obeyed (timer_of service tei timer) running (its_orders service tei orders)

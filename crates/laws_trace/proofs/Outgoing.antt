@@ -95,9 +95,7 @@ module _ (lost anew : Bool) (k x : Link) (o p : Observed) (was : IsSeenAs k o) (
 next-quiet : (card : Card) (number : ℕ) (what : line_event.Event) → what ≡ line_event.next → notes_of (answer (at number what) card) ≡ []
 unfolding lines.answer lines.takes_slot
 next-quiet card number line_event.next is = refl
-next-quiet card number (line_event.hears e) is = cc is
-next-quiet card number (line_event.expiry timer) is = cc is
-next-quiet card number (line_event.request r) is = cc is
+next-quiet card number other is = cc is
 
 -- What is known of the link is what the observer of it knows.
 pub same-view : (c : Config) (service : Service) (tei number : ℕ) (ms : List Moment) (o : Outgoing)

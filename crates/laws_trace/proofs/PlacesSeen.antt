@@ -35,19 +35,16 @@ module _ (service : Service) (tei : ℕ) where
 
   pub told-grants : (a : Answer) → granted_in (seen_told a) ≡ []
   told-grants (told t) = refl
-  told-grants (refused why) = refl
-  told-grants (gave frame) = refl
+  told-grants other = refl
 
   pub begun-grants : (a : Answer) → granted_in (map traces.begun (frame_in a)) ≡ []
-  begun-grants (told t) = refl
-  begun-grants (refused why) = refl
   begun-grants (gave None) = refl
   begun-grants (gave (Some f)) = refl
+  begun-grants other = refl
 
   pub asked-grants : (r : Request) (a : Answer) → granted_in (seen_granted r a ++ seen_told a) ≡ cond (is_granted a) (data_asked service tei r) []
   asked-grants r (told t) = append-nil (data_asked service tei r)
-  asked-grants r (refused why) = refl
-  asked-grants r (gave frame) = refl
+  asked-grants r other = refl
 
   -- A note of a loss is seen, and so is a release that is granted.
   alone : (b : Bool) → (b || (false || false)) ≡ b
@@ -56,24 +53,20 @@ module _ (service : Service) (tei : ℕ) where
 
   pub heard-loses : (what : stream.Event) (a : Answer) → lost_in (seen (hears what) a) ≡ list_any (is_loss_of service tei) (notes_of a)
   heard-loses what (told t) = alone (list_any (is_loss_of service tei) t.notes)
-  heard-loses what (refused why) = refl
-  heard-loses what (gave frame) = refl
+  heard-loses what other = refl
 
   pub expiry-loses : (timer : Timer) (a : Answer) → lost_in (seen (expiry timer) a) ≡ list_any (is_loss_of service tei) (notes_of a)
   expiry-loses timer (told t) = alone (list_any (is_loss_of service tei) t.notes)
-  expiry-loses timer (refused why) = refl
-  expiry-loses timer (gave frame) = refl
+  expiry-loses timer other = refl
 
   pub begun-loses : (a : Answer) → lost_in (seen next a) ≡ false
-  begun-loses (told t) = refl
-  begun-loses (refused why) = refl
   begun-loses (gave None) = refl
   begun-loses (gave (Some f)) = refl
+  begun-loses other = refl
 
   pub asked-loses : (r : Request) (a : Answer) → lost_in (seen (request r) a) ≡ cond (is_granted a) (is_release_of service tei r || list_any (is_loss_of service tei) (notes_of a)) false
   asked-loses r (told t) = ap (λ b. is_release_of service tei r || b) (alone (list_any (is_loss_of service tei) t.notes))
-  asked-loses r (refused why) = refl
-  asked-loses r (gave frame) = refl
+  asked-loses r other = refl
 
   pub own-release : (what : link.Request) → is_release_of service tei (of_link service tei what) ≡ is_release what
   own-release link.Release = own-is service tei
@@ -89,12 +82,11 @@ module _ (service : Service) (tei : ℕ) where
   none-granted other a none = refl
 
   pub granted-so : (what : Event) (a : Answer) → granted_in (seen what a) ≡ outgoing.data_granted service tei what a
-  granted-so (hears e) a = told-grants a
-  granted-so (expiry timer) a = told-grants a
   granted-so next a = begun-grants a
   granted-so (request r) (told t) = asked-grants r (told t) ∙ granted-is r t
   granted-so (request r) (refused why) = asked-grants r (refused why) ∙ sym (none-granted r (refused why) refl)
   granted-so (request r) (gave frame) = asked-grants r (gave frame) ∙ sym (none-granted r (gave frame) refl)
+  granted-so other a = told-grants a
 
   or-none : (b : Bool) → (b || false) ≡ b
   or-none true = refl
@@ -134,5 +126,4 @@ module _ (service : Service) (tei : ℕ) where
   lost-so (request r) (told t) quiet =
       asked-loses r (told t) ∙ ap (λ b. b || list_any (is_loss_of service tei) t.notes) (released-is r t)
       ∙ group (releases service tei (request r) (told t)) (deactivates service tei (request r) && true) (list_any (is_loss_of service tei) t.notes)
-  lost-so (request r) (refused why) quiet = sym (untold r (refused why) refl refl)
-  lost-so (request r) (gave frame) quiet = sym (untold r (gave frame) refl refl)
+  lost-so (request r) other quiet = sym (untold r other refl refl)

@@ -72,18 +72,9 @@ owed-is (f ∷ frames) owed is = is
 
 left-up : (t : Terms) (e : Event) (l : Link) → PendsUp l → pending_left e l (state_after t e l) ≡ true → is_multiple_frame (state_after t e l) ≡ true
 left-up t offer l h is = h (owed-is l.waiting l.pending is)
-left-up t (received r) l h is =
-    let to = state_after t (received r) l in
-    flag-up (is_anew (received r) l.state to) (is_multiple_frame l.state) to (unless_put (put (received r) l to) (takes_contents (received r) l || l.pending)) l.pending h is
-left-up t (expired timer) l h is =
-    let to = state_after t (expired timer) l in
-    flag-up (is_anew (expired timer) l.state to) (is_multiple_frame l.state) to (unless_put (put (expired timer) l to) (takes_contents (expired timer) l || l.pending)) l.pending h is
-left-up t (requested r full) l h is =
-    let to = state_after t (requested r full) l in
-    flag-up (is_anew (requested r full) l.state to) (is_multiple_frame l.state) to (unless_put (put (requested r full) l to) (takes_contents (requested r full) l || l.pending)) l.pending h is
-left-up t cleared l h is =
-    let to = state_after t cleared l in
-    flag-up (is_anew cleared l.state to) (is_multiple_frame l.state) to (unless_put (put cleared l to) (takes_contents cleared l || l.pending)) l.pending h is
+left-up t other l h is =
+    let to = state_after t other l in
+    flag-up (is_anew other l.state to) (is_multiple_frame l.state) to (unless_put (put other l to) (takes_contents other l || l.pending)) l.pending h is
 
 pub pends-up : (t : Terms) (e : Event) (l : Link) → PendsUp l → PendsUp (links.after t e l)
 pends-up t e l h is =

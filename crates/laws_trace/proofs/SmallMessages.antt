@@ -10,8 +10,7 @@ use Rattle.lapd_tei.specs.Words.{Course, begun, with_message}
 abbrev pub ri_of : Message → ℕ
 ri_of (IdentityAssigned ri tei) = ri
 ri_of (IdentityDenied ri) = ri
-ri_of (IdentityCheckRequest tei) = 0
-ri_of (IdentityRemove tei) = 0
+ri_of other = 0
 
 abbrev pub IsSmall : Message → Type 0
 IsSmall m = ri_of m < 65536

@@ -24,7 +24,6 @@ use Rattle.laws_line.proofs.Downs.{by-down}
 -- What TEI management hears are octets.
 abbrev IsOfOctetsAt : Aim → Type 0
 IsOfOctetsAt (at_management e) = IsOfOctets e
-IsOfOctetsAt at_no_link = Unit {0}
 IsOfOctetsAt other = Unit {0}
 
 module _ (c : Config) (l : Line) where
@@ -62,23 +61,20 @@ module _ (c : Config) (l : Line) where
   reading-aims octets h (Ok parts) is =
       side_aims c parts IsOfOctetsAt tt (λ service to. tt) (addressed l parts.address (link.frame parts) (message_of parts.control parts.info))
       (addressed-aims parts.address (link.frame parts) (message_of parts.control parts.info) (message-aims parts.control parts.info (info-octets octets parts h is)))
-  reading-aims octets h (Err BadExtension) is = tt
   reading-aims octets h (Err (Undefined address)) is = addressed-aims address link.undefined (drop_for Unserved) tt
   reading-aims octets h (Err (WrongSize address)) is = addressed-aims address link.wrong_size (drop_for Unserved) tt
-  reading-aims octets h (Err Short) is = tt
+  reading-aims octets h other is = tt
 
   unless-aims : (aim : Aim) → IsOfOctetsAt aim → IsOfOctetsAt (unless_at_link aim)
   unless-aims (at_management event) h = h
-  unless-aims at_no_link h = tt
   unless-aims other h = tt
 
   long-aims : (r : Result Long ReadFault) → IsOfOctetsAt (aim_of_long l r)
   long-aims (Ok (long.Information address)) = addressed-aims address link.overlong (drop_for Unserved) tt
   long-aims (Ok (long.Unnumbered address)) = unless-aims (addressed l address link.overlong (drop_for Unserved)) (addressed-aims address link.overlong (drop_for Unserved) tt)
-  long-aims (Err BadExtension) = tt
   long-aims (Err (Undefined address)) = addressed-aims address link.undefined (drop_for Unserved) tt
   long-aims (Err (WrongSize address)) = addressed-aims address link.wrong_size (drop_for Unserved) tt
-  long-aims (Err Short) = tt
+  long-aims other = tt
 
   heard-aims : (e : stream.Event) → HasOctets e → IsOfOctetsAt (aim_of_heard c l e)
   heard-aims (stream.frame octets) h = reading-aims octets h (reading (heard_side c) octets) refl

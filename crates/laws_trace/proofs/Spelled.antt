@@ -95,10 +95,9 @@ by-next c (Some t) h = All-cons (IsSpelled c) t.frame [] h (All-nil (IsSpelled c
 
 event-spelled : (c : Config) → IsInRange c → (e : Event) (l : Line) → IsSound c l → AreSpelled c l (seen e (answer c e l)) (after c e l)
 unfolding answer
-event-spelled c ranged (hears what) l s = subst (All (IsSpelled c)) (sym (none-told (answer c (hears what) l))) (All-nil (IsSpelled c))
-event-spelled c ranged (expiry timer) l s = subst (All (IsSpelled c)) (sym (none-told (answer c (expiry timer) l))) (All-nil (IsSpelled c))
 event-spelled c ranged (request r) l s = subst (All (IsSpelled c)) (sym (none-requested r (answer c (request r) l))) (All-nil (IsSpelled c))
 event-spelled c ranged next l s = subst (All (IsSpelled c)) (sym (given-frames (option_map next_of (taken c l)))) (by-next c (taken c l) (taken-spelled c ranged l s))
+event-spelled c ranged other l s = subst (All (IsSpelled c)) (sym (none-told (answer c other l))) (All-nil (IsSpelled c))
 
 -- Nothing has to hold of a line.
 abbrev pub Anything : Config → Line → Type 0

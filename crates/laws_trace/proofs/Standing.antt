@@ -108,8 +108,7 @@ module _ (service : Service) (tei : ℕ) where
     asked-by link.SetBusy full (told t) busy g = ap (λ b. b || busy) own-true
     asked-by link.ClearBusy full (told t) busy g = ap (λ b. not b && busy) own-true
     asked-by other full (told t) busy g = refl
-    asked-by what full (refused why) busy g = no g
-    asked-by what full (gave given) busy g = no g
+    asked-by what full other busy g = no g
 
     asked-is : (le : link.Event) (busy : Bool) → IsBy c e a service tei le → asked_busy e a busy ≡ flags.busy_asked le busy
     asked-is (link.received (link.frame f)) busy by = ap (λ e. asked_busy e a busy) by.by
@@ -143,14 +142,12 @@ module _ (service : Service) (tei : ℕ) where
     busy-elsewhere other busy g away = refl
 
     asked-elsewhere : (e : Event) (busy : Bool) → is_at_link service tei (aim_of c e l) ≡ false → asked_busy e (answer c e l) busy ≡ busy
-    asked-elsewhere (hears what) busy away = refl
-    asked-elsewhere (expiry timer) busy away = refl
-    asked-elsewhere next busy away = refl
     asked-elsewhere (request r) busy away = go (answer c (request r) l) refl
       where
         go : (a : Answer) → answer c (request r) l ≡ a → granted_busy r a busy ≡ busy
         go (told t) is = busy-elsewhere r busy (ap is_granted is) away
         go other is = refl
+    asked-elsewhere other busy away = refl
 
   -- One event of a line.
   module _ (c : Config) (ranged : IsInRange c) (l : Line) (s : IsSound c l) (e : Event) (m : ℕ) (count : IsCount (link_of service tei l) m)

@@ -56,10 +56,7 @@ module _ (t : Terms) (x flag : Bool) where
   off-awaiting : (e : Event) (from to : State) (l : Link) → is_awaiting to ≡ true → (is_awaiting from ≡ true → flag ≡ false) → flag_left e (record l { state = from }) to x flag ≡ false
   off-awaiting e AwaitingEstablishment AwaitingEstablishment l is h = either-off (leads_by_sabme e AwaitingEstablishment || is_clearing e) (h refl)
   off-awaiting e other AwaitingEstablishment l is h = refl
-  off-awaiting e from TeiAssigned l is h = no is
-  off-awaiting e from AwaitingRelease l is h = no is
-  off-awaiting e from Established l is h = no is
-  off-awaiting e from TimerRecovery l is h = no is
+  off-awaiting e from other l is h = no is
 
   -- while the link stays up, it is as the event leaves it.
   not-five : (from to : State) → is_multiple_frame to ≡ true → comes_to 5 from to ≡ false
@@ -94,9 +91,7 @@ taken-free (frame f) l is = by f.control is
     by : (control : Control) → takes_contents (received (frame (record f { control = control }))) l ≡ true → l.own_busy ≡ false
     by (Information ns nr p) is = off l.own_busy (is_next ns l) is
     by other is = no is
-taken-free undefined l is = no is
-taken-free wrong_size l is = no is
-taken-free overlong l is = no is
+taken-free other l is = no is
 
 module _ (t : Terms) (l : Link) (to : State) (pends : l.pending ≡ true → l.own_busy ≡ false) where
   abbrev Owed : Event → Bool

@@ -48,15 +48,13 @@ module _ (t : Terms) (k : Known) (l : Link) where
   data-acts octets (Some why) c = refl
 
   content : (ran : LinkTimer → Bool) (octets : List ℕ) (full : Bool) (here : State) → Facts ran here → Row ran here (Requests.request_step t (Events.Data octets) full) None
-  content ran octets full TeiAssigned facts = refused ran TeiAssigned facts
-  content ran octets full AwaitingEstablishment facts = refused ran AwaitingEstablishment facts
-  content ran octets full AwaitingRelease facts = refused ran AwaitingRelease facts
   content ran octets full Established facts =
       subst (λ y. Good k ran (timing (begun (in_state Established l))) y None)
       (sym (data-acts octets (Requests.refusal_of_contents t (in_state Established l) full octets) (begun (in_state Established l)))) (refused ran Established facts)
   content ran octets full TimerRecovery facts =
       subst (λ y. Good k ran (timing (begun (in_state TimerRecovery l))) y None)
       (sym (data-acts octets (Requests.refusal_of_contents t (in_state TimerRecovery l) full octets) (begun (in_state TimerRecovery l)))) (refused ran TimerRecovery facts)
+  content ran octets full other facts = refused ran other facts
 
   sets-busy : Acts (MultipleFrame.set_busy_in_7_8 t) itself
   sets-busy = whichever is_own_busy nothing _ itself (record { acts = λ c. refl }) (record { acts = λ c. refl })
@@ -73,11 +71,9 @@ module _ (t : Terms) (k : Known) (l : Link) where
   asked ran (Events.Data octets) full here facts = content ran octets full here facts
   asked ran Events.SetBusy full Established facts = rows.unchanged t k ran l Established facts (MultipleFrame.set_busy_in_7_8 t) sets-busy
   asked ran Events.SetBusy full TimerRecovery facts = rows.unchanged t k ran l TimerRecovery facts (MultipleFrame.set_busy_in_7_8 t) sets-busy
-  asked ran other full TeiAssigned facts = refused ran TeiAssigned facts
-  asked ran other full AwaitingEstablishment facts = refused ran AwaitingEstablishment facts
-  asked ran other full AwaitingRelease facts = refused ran AwaitingRelease facts
   asked ran Events.ClearBusy full Established facts = rows.unchanged t k ran l Established facts (MultipleFrame.clear_busy_in_7_8 t) clears-busy
   asked ran Events.ClearBusy full TimerRecovery facts = rows.unchanged t k ran l TimerRecovery facts (MultipleFrame.clear_busy_in_7_8 t) clears-busy
+  asked ran other full any facts = refused ran any facts
 
   -- Expiries, by the timer that runs.
   abbrev with_running : State → Option LinkTimer → Link

@@ -29,34 +29,23 @@ abbrev pub given_sent : Given → Option Sent
 given_sent g = sent_by g.frame.control (unwrap_or g.contents [])
 
 same-kept : (here : State) (x : Timing) → Kept here x x
-same-kept TeiAssigned x = tt
 same-kept AwaitingEstablishment x = (refl, refl)
-same-kept AwaitingRelease x = tt
-same-kept Established x = tt
-same-kept TimerRecovery x = tt
+same-kept other x = tt
 
 up-kept : (here : State) → is_established here ≡ true → (x y : Timing) → Kept here x y
-up-kept TeiAssigned up x y = tt
 up-kept AwaitingEstablishment up x y = absurd (true≢false (sym up))
-up-kept AwaitingRelease up x y = tt
-up-kept Established up x y = tt
-up-kept TimerRecovery up x y = tt
+up-kept other up x y = tt
 
 pub same-known : (here : State) (k : Known) (a s : ℕ) (busy : Bool) → Agrees here k a s busy → Agrees here (sent_known here k None) a s busy
-same-known TeiAssigned k a s busy h = refl
-same-known AwaitingEstablishment k a s busy h = refl
-same-known AwaitingRelease k a s busy h = refl
 same-known Established k a s busy h = h
 same-known TimerRecovery k a s busy h = h
+same-known other k a s busy h = refl
 
 one-more : (here : State) (k : Known) (a s : ℕ) (busy : Bool) (sent : Sent) → is_established here ≡ true → sent.ns ≡ s % 128 → Agrees here k a s busy
     → Agrees here (sent_known here k (Some sent)) a (s + 1) busy
-one-more TeiAssigned k a s busy sent up ns h = absurd (true≢false (sym up))
-one-more AwaitingEstablishment k a s busy sent up ns h = absurd (true≢false (sym up))
-one-more AwaitingRelease k a s busy sent up ns h = absurd (true≢false (sym up))
-one-more TimerRecovery k a s busy sent up ns h = absurd (true≢false (sym up))
 one-more Established k a s busy sent up ns h =
     record { acknowledged = h.acknowledged; next = ap (λ n. (n + 1) % 128) ns ∙ (let e : (s % 128 + 1) % 128 ≡ (s + 1) % 128 = omega arith in e); busy_is = h.busy_is }
+one-more other k a s busy sent up ns h = absurd (true≢false (sym up))
 
 first-of : (a b c d : Bool) → (a && b && c && d) ≡ true → a ≡ true
 first-of true b c d e = refl

@@ -52,17 +52,10 @@ module _ (t : Terms) (k : Known) (ran : LinkTimer → Bool) (l : Link) where
 
   in-4 : ((timer : LinkTimer) → ran timer ≡ false) → (b : Bool) (octets : List ℕ) (control : Control) → Row TeiAssigned (Machine.frame_in TeiAssigned t b octets control) (Some control)
   in-4 none b octets (Sabme p) = claims.sabme-4 k ran l.a l.s l.peer_busy l.running none p
-  in-4 none b octets (Disc p) = same-4 none (Some (Disc p))
   in-4 none b octets (Ua true) = same-4 none (Some (Ua true))
   in-4 none b octets (Ua false) = same-4 none (Some (Ua false))
   in-4 none b octets (Ui p) = moved TeiAssigned (Some (Ui p)) (Words.unit_data t octets) itself (unit-acts t octets) (same-4 none (Some (Ui p)))
-  in-4 none b octets (Xid p) = same-4 none (Some (Xid p))
-  in-4 none b octets (Dm p) = same-4 none (Some (Dm p))
-  in-4 none b octets (Frmr p) = same-4 none (Some (Frmr p))
-  in-4 none b octets (Information ns nr p) = same-4 none (Some (Information ns nr p))
-  in-4 none b octets (ReceiveReady nr p) = same-4 none (Some (ReceiveReady nr p))
-  in-4 none b octets (ReceiveNotReady nr p) = same-4 none (Some (ReceiveNotReady nr p))
-  in-4 none b octets (Reject nr p) = same-4 none (Some (Reject nr p))
+  in-4 none b octets other = same-4 none (Some other)
 
   -- State 5.
   same-5 : ran T203 ≡ false → (o : Option Control) → Good k ran (at AwaitingEstablishment) (at AwaitingEstablishment) o
@@ -70,40 +63,22 @@ module _ (t : Terms) (k : Known) (ran : LinkTimer → Bool) (l : Link) where
 
   in-5 : Facts AwaitingEstablishment → (b : Bool) (octets : List ℕ) (control : Control)
       → Row AwaitingEstablishment (Machine.frame_in AwaitingEstablishment t b octets control) (Some control)
-  in-5 facts b octets (Sabme p) = same-5 facts.0 (Some (Sabme p))
-  in-5 facts b octets (Disc p) = same-5 facts.0 (Some (Disc p))
   in-5 facts b octets (Ua true) =
       moved AwaitingEstablishment (Some (Ua true)) (Machine.frame_in AwaitingEstablishment t b octets (Ua true)) acts.begins (record { acts = (acts.agreed-acts t).acts })
       (claims.agreed-5 k ran l.a l.s l.peer_busy l.running facts.0 facts.1 facts.2)
-  in-5 facts b octets (Ua false) = same-5 facts.0 (Some (Ua false))
   in-5 facts b octets (Dm true) = claims.ended k ran l.a l.s l.peer_busy l.running AwaitingEstablishment (Some (Dm true))
-  in-5 facts b octets (Dm false) = same-5 facts.0 (Some (Dm false))
   in-5 facts b octets (Ui p) = moved AwaitingEstablishment (Some (Ui p)) (Words.unit_data t octets) itself (unit-acts t octets) (same-5 facts.0 (Some (Ui p)))
-  in-5 facts b octets (Xid p) = same-5 facts.0 (Some (Xid p))
-  in-5 facts b octets (Frmr p) = same-5 facts.0 (Some (Frmr p))
-  in-5 facts b octets (Information ns nr p) = same-5 facts.0 (Some (Information ns nr p))
-  in-5 facts b octets (ReceiveReady nr p) = same-5 facts.0 (Some (ReceiveReady nr p))
-  in-5 facts b octets (ReceiveNotReady nr p) = same-5 facts.0 (Some (ReceiveNotReady nr p))
-  in-5 facts b octets (Reject nr p) = same-5 facts.0 (Some (Reject nr p))
+  in-5 facts b octets other = same-5 facts.0 (Some other)
 
   -- State 6.
   same-6 : ran T203 ≡ false → (o : Option Control) → Good k ran (at AwaitingRelease) (at AwaitingRelease) o
   same-6 only o = claims.same-6 k ran l.a l.s l.peer_busy l.running only o
 
   in-6 : ran T203 ≡ false → (b : Bool) (octets : List ℕ) (control : Control) → Row AwaitingRelease (Machine.frame_in AwaitingRelease t b octets control) (Some control)
-  in-6 only b octets (Sabme p) = same-6 only (Some (Sabme p))
-  in-6 only b octets (Disc p) = same-6 only (Some (Disc p))
   in-6 only b octets (Ua true) = claims.stopped k ran l.a l.s l.peer_busy l.running AwaitingRelease (Some (Ua true))
-  in-6 only b octets (Ua false) = same-6 only (Some (Ua false))
   in-6 only b octets (Dm true) = claims.stopped k ran l.a l.s l.peer_busy l.running AwaitingRelease (Some (Dm true))
-  in-6 only b octets (Dm false) = same-6 only (Some (Dm false))
   in-6 only b octets (Ui p) = moved AwaitingRelease (Some (Ui p)) (Words.unit_data t octets) itself (unit-acts t octets) (same-6 only (Some (Ui p)))
-  in-6 only b octets (Xid p) = same-6 only (Some (Xid p))
-  in-6 only b octets (Frmr p) = same-6 only (Some (Frmr p))
-  in-6 only b octets (Information ns nr p) = same-6 only (Some (Information ns nr p))
-  in-6 only b octets (ReceiveReady nr p) = same-6 only (Some (ReceiveReady nr p))
-  in-6 only b octets (ReceiveNotReady nr p) = same-6 only (Some (ReceiveNotReady nr p))
-  in-6 only b octets (Reject nr p) = same-6 only (Some (Reject nr p))
+  in-6 only b octets other = same-6 only (Some other)
 
   -- State 7.
   module _ (facts : Facts Established) where
@@ -145,11 +120,10 @@ module _ (t : Terms) (k : Known) (ran : LinkTimer → Bool) (l : Link) where
     in-7 b octets (Ua f) =
         moved Established (Some (Ua f)) (MultipleFrame.ua_in_7_8 t f) itself
         (either-bit f (Words.error t code.C) (Words.error t code.D) itself (record { acts = λ c. refl }) (record { acts = λ c. refl })) (same-7 (Some (Ua f)) refl refl refl)
-    in-7 b octets (Dm true) = same-7 (Some (Dm true)) refl refl refl
     in-7 b octets (Dm false) = failed-7 (Some (Dm false))
     in-7 b octets (Frmr f) = failed-7 (Some (Frmr f))
     in-7 b octets (Ui p) = moved Established (Some (Ui p)) (Words.unit_data t octets) itself (unit-acts t octets) (same-7 (Some (Ui p)) refl refl refl)
-    in-7 b octets (Xid p) = same-7 (Some (Xid p)) refl refl refl
+    in-7 b octets other = same-7 (Some other) refl refl refl
 
   -- State 8.
   module _ (facts : Facts TimerRecovery) where

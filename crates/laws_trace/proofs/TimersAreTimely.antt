@@ -26,11 +26,9 @@ module _ (service : Service) (tei number : ℕ) where
   -- Where the pool is full, nothing is seen, and nothing changes.
   same-state : (state : State) (k : Known) (a s : ℕ) (busy : Bool) → Agrees state k a s busy
       → cond (is_state 7 (told_state state) || is_state 8 (told_state state)) k nothing_yet ≡ k
-  same-state TeiAssigned k a s busy h = sym h
-  same-state AwaitingEstablishment k a s busy h = sym h
-  same-state AwaitingRelease k a s busy h = sym h
   same-state Established k a s busy h = refl
   same-state TimerRecovery k a s busy h = refl
+  same-state other k a s busy h = sym h
 
   pub none-learned : (c : Config) (l : Line) (k : Known) → IsTrueOf service tei k l → learned c service tei (state_of service tei l) (state_of service tei l) k [] ≡ k
   none-learned c l k h = go (place_in l tei) refl
@@ -139,10 +137,7 @@ module _ (service : Service) (tei number : ℕ) where
           where
             by-state : (state : State) → is_anew card.config service tei timer k (told_state state) (told_state state) [] ≡ false
             by-state TeiAssigned = refl
-            by-state AwaitingEstablishment = refl
-            by-state AwaitingRelease = refl
-            by-state Established = refl
-            by-state TimerRecovery = refl
+            by-state other = refl
 
             by-place : (o : Option ℕ) → place_in l tei ≡ o → is_anew card.config service tei timer k (state_of service tei l) (state_of service tei l) [] ≡ false
             by-place None off = ap (λ o. is_anew card.config service tei timer k o o []) (off-state service tei l off)
@@ -224,10 +219,6 @@ module _ (service : Service) (tei : ℕ) (k : Known) where
           absurd (true≢false (sym (eq-eqb s a same) ∙ other))
 
   pub by-state : (state : State) (l : Link) → Agrees state k l.a l.s l.peer_busy → l.a ≤ l.s → l.s ≤ l.a + 127 → Run (told_state state) (needed_in state l)
-  by-state TeiAssigned l h ordered within = (refl, refl)
-  by-state AwaitingEstablishment l h ordered within = (refl, refl)
-  by-state AwaitingRelease l h ordered within = (refl, refl)
-  by-state TimerRecovery l h ordered within = (refl, refl)
   by-state Established l h ordered within =
       subst (λ b. (runs T200 (cond b (Some T200) (Some T203)) ≡ (k.busy || not (k.next == k.acknowledged)))
       × (runs T203 (cond b (Some T200) (Some T203)) ≡ not (k.busy || not (k.next == k.acknowledged)))) same (either (k.busy || not (k.next == k.acknowledged)))
@@ -247,6 +238,7 @@ module _ (service : Service) (tei : ℕ) (k : Known) where
       either : (b : Bool) → (runs T200 (cond b (Some T200) (Some T203)) ≡ b) × (runs T203 (cond b (Some T200) (Some T203)) ≡ not b)
       either true = (refl, refl)
       either false = (refl, refl)
+  by-state other l h ordered within = (refl, refl)
 
 -- The law: a module once more, so that its parts have names.
 module _ (c : Config) (events : List Event) (number : ℕ) (ranged : IsInRange c) (all : AreAtLines (fresh c) events) (within : number < c.lines) (service : Service) (tei : ℕ) where

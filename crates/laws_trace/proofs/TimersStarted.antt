@@ -87,16 +87,11 @@ module _ (c : Config) (ranged : IsInRange c) (l : Line) (s : IsSound c l) (timed
         go : (same : Bool) → cond same false b ≡ true → b ≡ true
         go true h = absurd (true≢false (sym h))
         go false h = h
-    ran-needed (hears what) b h = h
-    ran-needed (request r) b h = h
-    ran-needed next b h = h
+    ran-needed other b h = h
 
     differ-same : (state : State) → differ (told_state state) (told_state state) ≡ false
     differ-same TeiAssigned = refl
-    differ-same AwaitingEstablishment = refl
-    differ-same AwaitingRelease = refl
-    differ-same Established = refl
-    differ-same TimerRecovery = refl
+    differ-same other = refl
 
     and-false : (b : Bool) → (b && false) ≡ false
     and-false true = refl

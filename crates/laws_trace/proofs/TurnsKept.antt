@@ -37,8 +37,6 @@ module _ (c : Config) (ranged : IsInRange c) (l : Line) (s : IsSound c l) (p tei
           ∙ clear-same tei l.management.places place gone.within (λ j also. s.management.table.once j place tei also there))
 
   by-aim : (aim : Aim) → IsProper c l aim → Keeps (of_aim c aim l).line
-  by-aim (at_none what) proper on = at
-  by-aim (at_link service its place e) proper on = at
   by-aim (at_management me) fits on = go (teis.told me l.management).change (tei_lemmas.changes_are_told me l.management fits s.management) on
     where
       go : (o : Option Change) → tei_laws.Moves l.management.places o (teis.after me l.management).places
@@ -46,8 +44,8 @@ module _ (c : Config) (ranged : IsInRange c) (l : Line) (s : IsSound c l) (p tei
       go None m on = by-change None (teis.after me l.management).places m on
       go (Some (Gained by place)) m on = by-change (Some (Gained by place)) (teis.after me l.management).places m on
       go (Some (Left by place)) m on = by-change (Some (Left by place)) (teis.after me l.management).places m on
-  by-aim (at_units unit) proper on = at
   by-aim at_no_link proper on = by-down c l (λ y. Keeps y.line) (λ on. at) on
+  by-aim other proper on = at
 
   pub keeps : (e : line_event.Event) → Keeps (lines.after c e l)
   unfolding lines.after

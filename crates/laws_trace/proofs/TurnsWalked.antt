@@ -157,14 +157,12 @@ module _ (c : Config) (one tei other its : ℕ) where
 
     event-walks : (e : line_event.Event) (names : List LinkName) → Walk (lines.after c e l) names → Walk l (links_begun c (seen e (lines.answer c e l)) ++ names)
     unfolding lines.answer
-    event-walks (hears what) names walk =
-        none-begins (hears what) (lines.answer c (hears what) l) names (none-told (lines.answer c (hears what) l)) (turn-stays c (hears what) l) walk
-    event-walks (expiry timer) names walk =
-        none-begins (expiry timer) (lines.answer c (expiry timer) l) names (none-told (lines.answer c (expiry timer) l)) (turn-stays c (expiry timer) l) walk
     event-walks (request r) names walk =
         none-begins (request r) (lines.answer c (request r) l) names (none-requested r (lines.answer c (request r) l)) (turn-stays c (request r) l) walk
     event-walks next names walk =
         subst (λ fs. Walk l (names-in fs ++ names)) (sym (given-frames (option_map next_of (taken c l)))) (by-next (taken c l) (served c l h.sound) names walk)
+    event-walks other names walk =
+        none-begins other (lines.answer c other l) names (none-told (lines.answer c other l)) (turn-stays c other l) walk
 
 pub names-both : (c : Config) (t u : List Seen) → links_begun c (t ++ u) ≡ links_begun c t ++ links_begun c u
 names-both c t u =

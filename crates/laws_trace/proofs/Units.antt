@@ -78,13 +78,11 @@ joins c k l m t u h i = behind c (frames c k) (frames c l) (frames c m) t u h i
 -- Events but calls begin nothing, and what is granted waits.
 pub none-told : (a : Answer) → frames_begun (seen_told a) ≡ []
 none-told (told t) = refl
-none-told (refused why) = refl
-none-told (gave given) = refl
+none-told other = refl
 
 pub none-requested : (r : Request) (a : Answer) → frames_begun (seen_granted r a ++ seen_told a) ≡ []
 none-requested r (told t) = refl
-none-requested r (refused why) = refl
-none-requested r (gave given) = refl
+none-requested r other = refl
 
 -- what a request that is granted leaves of them
 left-is : (c : Config) (r : Request) (us : List UnitData) → map (unit_frame c) (units_behind r us ++ unit_asked r) ≡ left_by c r (map (unit_frame c) us)
@@ -95,16 +93,14 @@ left-is c other us = map-append (unit_frame c) us []
 told-goes : (c : Config) (waiting left : List (List ℕ)) (a : Answer) → left ≡ waiting → Goes c waiting (seen_told a) left
 unfolding Goes
 told-goes c waiting left (told t) same = (waiting, refl, (waiting, refl, same))
-told-goes c waiting left (refused why) same = same
-told-goes c waiting left (gave given) same = same
+told-goes c waiting left other same = same
 
 request-goes : (c : Config) (before after : Line) (r : Request) (a : Answer) → after.units ≡ units_left r a before.units ++ units_asked (request r) a
     → Passes c before (seen_granted r a ++ seen_told a) after
 unfolding Goes
 request-goes c before after r (told t) is =
     (frames c after, ap (map (unit_frame c)) is ∙ left-is c r before.units, (frames c after, refl, (frames c after, refl, refl)))
-request-goes c before after r (refused why) is = ap (map (unit_frame c)) (is ∙ append-nil before.units)
-request-goes c before after r (gave given) is = ap (map (unit_frame c)) (is ∙ append-nil before.units)
+request-goes c before after r other is = ap (map (unit_frame c)) (is ∙ append-nil before.units)
 
 -- A call begins the oldest unit data, or a frame that is none.
 pub given-frames : (o : Option NextFrame) → frames_begun (map traces.begun (frame_in (gave o))) ≡ frame_in (gave o)

@@ -204,19 +204,14 @@ module _ (t : Terms) (l : Link) (h : Awaits l.state l.running l.peer_busy l.a l.
 
   expiries : (here : State) → l.state ≡ here → (timer : LinkTimer) → Awaiting (expired_in here timer t (begun l))
   expiries TeiAssigned e timer = before
-  expiries AwaitingEstablishment e T200 =
-      both_ways Awaiting (nat_lt l.repeats t.n200) _ _ (record { holds = stays-elsewhere AwaitingEstablishment refl l.state e _ _ _ _ })
-      (record { holds = elsewhere TeiAssigned refl _ _ _ _ })
-  expiries AwaitingEstablishment e T203 = before
-  expiries AwaitingRelease e T200 =
-      both_ways Awaiting (nat_lt l.repeats t.n200) _ _ (record { holds = stays-elsewhere AwaitingRelease refl l.state e _ _ _ _ })
-      (record { holds = elsewhere TeiAssigned refl _ _ _ _ })
-  expiries AwaitingRelease e T203 = before
   expiries Established e timer = record { holds = elsewhere TimerRecovery refl _ _ _ _ }
   expiries TimerRecovery e T200 =
       both_ways Awaiting (nat_lt l.repeats t.n200) _ _ (record { holds = stays-elsewhere TimerRecovery refl l.state e _ _ _ _ })
       ((failed-ends t {P = Any} ErrorCode.I).leads (begun l) tt)
-  expiries TimerRecovery e T203 = before
+  expiries other e T200 =
+      both_ways Awaiting (nat_lt l.repeats t.n200) _ _ (record { holds = stays-elsewhere other refl l.state e _ _ _ _ })
+      (record { holds = elsewhere TeiAssigned refl _ _ _ _ })
+  expiries other e T203 = before
 
   releases : (here : State) → Awaiting (release_in here t (begun l))
   releases TeiAssigned = record { holds = h }

@@ -85,13 +85,9 @@ module _ (t : Terms) (n : ℕ) where
 
   expiries : (here : State) (timer : LinkTimer) → Leads (Few n) (expired_in here timer t) (Few n)
   expiries TeiAssigned timer = nothing_leads
-  expiries AwaitingEstablishment T200 = search rows depth 12 fits 4000
-  expiries AwaitingEstablishment T203 = nothing_leads
-  expiries AwaitingRelease T200 = search rows depth 12 fits 4000
-  expiries AwaitingRelease T203 = nothing_leads
   expiries Established timer = search rows depth 12 fits 4000
-  expiries TimerRecovery T200 = search rows depth 12 fits 4000
-  expiries TimerRecovery T203 = nothing_leads
+  expiries other T200 = search rows depth 12 fits 4000
+  expiries other T203 = nothing_leads
 
   releases : (here : State) → Leads (Few n) (release_in here t) (Few n)
   releases Established = search rows depth 12 fits 4000

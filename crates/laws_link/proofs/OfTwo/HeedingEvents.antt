@@ -45,12 +45,10 @@ module _ (t : Terms) (l : Link) where
   expiries : (here : State) → l.state ≡ here → HeedsIn here l.peer_busy l.running → (timer : LinkTimer) → Ends (expired_in here timer t (begun l))
   expiries TeiAssigned e h timer = idle TeiAssigned e h
   expiries AwaitingEstablishment e h T200 = (Heeding.t200_5 t).leads (begun l) (at-5 e h)
-  expiries AwaitingEstablishment e h T203 = idle AwaitingEstablishment e h
   expiries AwaitingRelease e h T200 = (Heeding.t200_6 t).leads (begun l) (at-6 e)
-  expiries AwaitingRelease e h T203 = idle AwaitingRelease e h
   expiries Established e h timer = (Heeding.timer_7 t).leads (begun l) (at-7 e h)
   expiries TimerRecovery e h T200 = (Heeding.t200_8 t).leads (begun l) (at-8 e h)
-  expiries TimerRecovery e h T203 = idle TimerRecovery e h
+  expiries other e h T203 = idle other e h
 
   releases : (here : State) → l.state ≡ here → HeedsIn here l.peer_busy l.running → Ends (release_in here t (begun l))
   releases TeiAssigned e h = (Heeding.releases_4 t).leads (begun l) (at-4 e)

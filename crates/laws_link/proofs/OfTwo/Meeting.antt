@@ -145,9 +145,7 @@ module _ (t : Terms) (way : List Parts) (l l' : Link) where
       → Flow s l.r b l.rejecting (x ∷ there) own → Flow s l'.r b l'.rejecting there own'
   receiver-hears s b (numbered ns) there c near k h = receiver-informed s b ns there near k.takes h
   receiver-hears s b enquiry there c near k h = receiver-asked s b there k (line-longer t way l.waiting l'.waiting (answer (seq l.r)) k.waiting) h
-  receiver-hears s b (answer nr) there true near k h = receiver-kept s b there k.r k.rejecting k.waiting (there-tail s l.r b l.rejecting (answer nr) there own h)
-  receiver-hears s b (answer nr) there false near k h = receiver-kept s b there k.r k.rejecting k.waiting (there-tail s l.r b l.rejecting (answer nr) there own h)
   receiver-hears s b report there c near k h = receiver-kept s b there k.r k.rejecting k.waiting (there-tail s l.r b l.rejecting report there own h)
-  receiver-hears s b (rejection nr) there true near k h = receiver-kept s b there k.r k.rejecting k.waiting (there-tail s l.r b l.rejecting (rejection nr) there own h)
-  receiver-hears s b (rejection nr) there false near k h = receiver-kept s b there k.r k.rejecting k.waiting (there-tail s l.r b l.rejecting (rejection nr) there own h)
   receiver-hears s b alien there c near k h = absurd (no-alien s l.r b l.rejecting there own h)
+  receiver-hears s b other there false near k h = receiver-kept s b there k.r k.rejecting k.waiting (there-tail s l.r b l.rejecting other there own h)
+  receiver-hears s b other there true near k h = receiver-kept s b there k.r k.rejecting k.waiting (there-tail s l.r b l.rejecting other there own h)

@@ -11,13 +11,11 @@ use Rattle.laws_link.proofs.OfTwo.Going.{Asked, Gives, Offered, asks-went, RanOu
 not-enquiry : (b : Bool) (control : Control) → is_enquiry b control ≡ false → one_enquiry (kind_of b control) ≡ 0
 not-enquiry b (Information ns nr true) e = refl
 not-enquiry true (ReceiveReady nr true) e = absurd (true≢false e)
-not-enquiry true (ReceiveReady nr false) e = refl
 not-enquiry false (ReceiveReady nr true) e = refl
-not-enquiry false (ReceiveReady nr false) e = refl
+not-enquiry b (ReceiveReady nr false) e = refl
 not-enquiry true (ReceiveNotReady nr true) e = absurd (true≢false e)
-not-enquiry true (ReceiveNotReady nr false) e = refl
 not-enquiry false (ReceiveNotReady nr true) e = refl
-not-enquiry false (ReceiveNotReady nr false) e = refl
+not-enquiry b (ReceiveNotReady nr false) e = refl
 not-enquiry true (Reject nr pf) e = refl
 not-enquiry false (Reject nr true) e = refl
 not-enquiry false (Reject nr false) e = refl
@@ -26,13 +24,11 @@ not-enquiry b other e = refl
 not-answer : (b : Bool) (control : Control) → is_answer b control ≡ false → one_answer (kind_of b control) ≡ 0
 not-answer b (Information ns nr true) e = refl
 not-answer true (ReceiveReady nr true) e = refl
-not-answer true (ReceiveReady nr false) e = refl
 not-answer false (ReceiveReady nr true) e = absurd (true≢false e)
-not-answer false (ReceiveReady nr false) e = refl
+not-answer b (ReceiveReady nr false) e = refl
 not-answer true (ReceiveNotReady nr true) e = refl
-not-answer true (ReceiveNotReady nr false) e = refl
 not-answer false (ReceiveNotReady nr true) e = absurd (true≢false e)
-not-answer false (ReceiveNotReady nr false) e = refl
+not-answer b (ReceiveNotReady nr false) e = refl
 not-answer true (Reject nr pf) e = refl
 not-answer false (Reject nr true) e = refl
 not-answer false (Reject nr false) e = refl

@@ -15,9 +15,8 @@ pub data Kind : Type 0 where
 
 abbrev pub kind_of_ready : Bool → Bool → Seq → Kind
 kind_of_ready true true nr = enquiry
-kind_of_ready true false nr = report
 kind_of_ready false true nr = answer nr
-kind_of_ready false false nr = report
+kind_of_ready b false nr = report
 
 abbrev pub kind_of_reject : Bool → Bool → Seq → Kind
 kind_of_reject true pf nr = alien

@@ -2,7 +2,10 @@
 
 ghost use Rattle.std.specs.Prelude.{◌≡◌, ◌≢◌, ◌+◌, ◌≤◌, ◌<◌, true, length, Some, None, IfSome, IfOk, IfErr};
 ghost use Rattle.model_card.specs.Card as machine;
+ghost use Rattle.model_card.specs.Counted.{moment_counted, moment_of};
 ghost use Rattle.model_card.specs.Machine.{after, answer};
+ghost use Rattle.lapd_card.specs.Counted.{counters_in};
+ghost use Rattle.lapd_card.specs.FrameCard.{line_count};
 ghost use Rattle.lapd_card.specs.Waiting.{has_next};
 ghost use Rattle.lapd_c.specs.Answers.{ShowsAnswer};
 ghost use Rattle.lapd_c.specs.Faults.{fault_in};
@@ -11,7 +14,7 @@ ghost use Rattle.lapd_c.specs.Reports.{ShowsPull};
 ghost use Rattle.lapd_c.specs.Statuses as status;
 ghost use Rattle.lapd_c.specs.Cards.{card_of, kind_in, marks_at, IsHandle, FramesStand};
 ghost use Rattle.lapd_c.specs.Counted.{Counts, counters_at};
-ghost use Rattle.lapd_c.specs.Kinds.{for_octets};
+ghost use Rattle.lapd_c.specs.Kinds.{for_octets, FrameCardStands};
 ghost use Rattle.lapd_c.specs.Frames.{comes, fails, goes, next_at, IsGiven};
 
 use crate::card::CardHandle;
@@ -19,7 +22,8 @@ use crate::kinds::AnyCard;
 use crate::plain::{
     NO_CARD, NO_FRAME, OK, PlainReport, WRONG_CARD, WRONG_LENGTH, WRONG_LINE, fault_in,
 };
-use lapd_card::BareReport;
+use lapd_card::{BareReport, FrameCard};
+use lapd_store::RawShelf;
 
 /// Takes a frame that came from a line, from its address to its information, without its check.
 #[unsafe(no_mangle)]
@@ -54,11 +58,27 @@ pub extern "C" fn lapd_frame(
     if line >= card.lines() {
         return WRONG_LINE;
     }
-    let mut bare = BareReport::nothing();
-    card.hear(line, octets, &mut bare);
-    report.show_bare(&bare, card.contents(line, octets, &bare));
+    hear(card, line, octets, report);
     kept.tell_reopened(line, report);
     OK
+}
+
+// Hears a frame at a line that the card has. Mostly it leads to nothing but orders, and then nothing else is looked for.
+#[inline(always)]
+fn hear(card: &mut FrameCard<RawShelf>, line: usize, octets: &[u8], report: &mut PlainReport)
+    requires { line < line_count card.old }
+    ensures shows { (m : machine.Card) → FrameCardStands card.old m
+        → ShowsAnswer report.new (answer (comes line octets.now m) m) }
+    ensures stands { (m : machine.Card) → FrameCardStands card.old m
+        → FrameCardStands card.new (after (comes line octets.now m) m) }
+    ensures counted { (m : machine.Card) → FrameCardStands card.old m
+        → counters_in card.new.lines ≡ moment_counted (counters_in card.old.lines) (moment_of m (comes line octets.now m)) }
+{
+    let mut bare = BareReport::nothing();
+    if card.hear(line, octets, &mut bare) {
+        return report.show_orders(bare.order_list());
+    }
+    report.show_bare(&bare, card.contents(line, octets, &bare));
 }
 
 /// The controller of a line told a fault in place of a frame, by its cause: an abort, bits that are no whole octets, a

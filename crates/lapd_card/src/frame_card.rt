@@ -1,8 +1,9 @@
 //! The card: one call an event.
 
-ghost use Rattle.std.specs.Prelude.{◌≡◌, ◌+◌, ◌≤◌, ◌<◌, ◌↔◌, length, drop, Some, None, IsSome, IfOk, IfErr, IfSome, IsErr, OnOk, OnErr, get_or};
+ghost use Rattle.std.specs.Prelude.{◌≡◌, ◌+◌, ◌≤◌, ◌<◌, ◌↔◌, true, length, drop, Some, None, IsSome, IfOk, IfErr, IfSome, IsErr, OnOk, OnErr, get_or};
 ghost use Rattle.std.specs.Option.{option_copied};
 ghost use Rattle.lapd_count.specs.Counters.{none_counted};
+ghost use Rattle.lapd_link_steps.specs.Quiet.{IsQuiet};
 ghost use Rattle.lapd_line.specs.Reports.{report_told, told_in, octets_of, gave_in, written, IsClear};
 ghost use Rattle.model_bits.specs.Heard.{heard_of};
 ghost use Rattle.model_bits.specs.Stream as stream;
@@ -107,19 +108,22 @@ impl<S: Shelf> FrameCard<S> {
     }
 
     /// Takes a frame as [`FrameCard::frame`] does, and tells what it led to in a report without references, in which nothing is
-    /// told yet. [`FrameCard::lend`] makes the report of it, and [`FrameCard::contents`] lends the contents alone.
+    /// told yet. [`FrameCard::lend`] makes the report of it, and [`FrameCard::contents`] lends the contents alone. Where the
+    /// answer is true, it tells nothing but orders for timers.
     #[inline(always)]
-    pub fn hear(&mut self, line: usize, octets: &[u8], report: &mut BareReport)
+    pub fn hear(&mut self, line: usize, octets: &[u8], report: &mut BareReport) -> bool
         requires within { line < line_count self.old }
         requires clear { IsClear report.old }
         ensures told { (m : machine.Card) → Stands S.store self.old m
             → told (told_in (octets_of (Some (came self.old.config.n201 octets.now))) report.new)
             ≡ answer (at line (hears (came self.old.config.n201 octets.now))) m }
         ensures after { Leads S.store (at line (hears (came self.old.config.n201 octets.now))) self.old self.new }
+        ensures quiet { result ≡ true → IsQuiet report.new }
     {
         let lane = &mut self.lines[line];
-        lane.frame(octets, report, &mut self.shelf);
+        let is_quiet = lane.frame(octets, report, &mut self.shelf);
         self.waiting.set(line, lane.has_next());
+        is_quiet
     }
 
     /// The report of what a frame of these octets led to at a line, with the contents that it delivered.

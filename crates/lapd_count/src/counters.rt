@@ -1,7 +1,7 @@
 //! The counters of a line.
 
 ghost use Rattle.std.specs.Option.{option_map_or};
-ghost use Rattle.std.specs.Prelude.{◌≡◌, ◌++◌, [], get_or, map};
+ghost use Rattle.std.specs.Prelude.{◌≡◌, ◌<◌, ◌++◌, [], get_or, map, set};
 ghost use Rattle.lapd_count.specs.declared.counter.Way.TheVariants.{Begun};
 ghost use Rattle.model_bits.specs.Heard.{heard_of};
 ghost use Rattle.lapd_count.specs.Counters.{value_in, with_more, with_all, none_counted};
@@ -51,7 +51,21 @@ impl Counters {
         ensures { self.new ≡ with_more self.old (counter, amount) }
     {
         let place = counter.place();
-        self.values[place] = self.values[place].saturating_add(amount);
+        let sum = self.values[place].wrapping_add(amount);
+        self.values[place] = sum;
+        if sum < amount {
+            self.fill(place);
+        }
+    }
+
+    /// A number that has become too great stays at the greatest. It stands apart, so that to count is one step in memory.
+    #[cold]
+    #[inline(never)]
+    fn fill(&mut self, place: usize)
+        requires { place < 76 }
+        ensures { self.new.values ≡ set self.old.values place 18446744073709551615 }
+    {
+        self.values[place] = u64::MAX;
     }
 
     /// A frame, by the octets in which its C/R bit and its control field stand, and its length.

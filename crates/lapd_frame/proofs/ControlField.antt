@@ -1,6 +1,6 @@
 -- Control fields: what `control_of` finds has that field, and the field of a row is found again.
 use Rattle.lapd_frame.specs.Allowed.{allowed}
-use Rattle.lapd_frame.proofs.Vocabulary.{◌≡◌, ◌≢◌, ℕ, ◌*◌, ◌/◌, ◌%◌, ◌<◌, inl, inr, Bool, true, false, cond, ◌==◌, refl, ap, sym, ◌∙◌, subst, List, [], ◌∷◌, ◌++◌, slice_index, Option, Some, None, arith, eq-eqb, ne_eqb, eqb_tells, Seq, seq, is_seq, Control, Information, ReceiveReady, ReceiveNotReady, Reject, Sabme, Disc, Ui, Ua, Dm, Frmr, Xid, row, second_octet, supervisory_of, unnumbered_of, control_of}
+use Rattle.lapd_frame.proofs.Vocabulary.{◌≡◌, ◌≢◌, ℕ, ◌*◌, ◌/◌, ◌%◌, ◌<◌, inl, inr, Bool, true, false, cond, ◌==◌, refl, ap, sym, ◌∙◌, subst, List, [], ◌∷◌, ◌++◌, slice_index, Option, Some, None, arith, eq-eqb, ne_eqb, eqb_tells, Seq, seq, is_seq, Control, Information, ReceiveReady, ReceiveNotReady, Reject, Sabme, Disc, Ui, Ua, Dm, Frmr, Xid, allows, row, second_octet, supervisory_of, unnumbered_of, control_of}
 
 -- what holds of each outcome of a chain of tests holds of the outcome
 step : (P : Control → Type 0) (octet k : ℕ) (x c : Control) (others : Option Control) → (octet ≡ k → P x) → (others ≡ Some c → P c)
@@ -124,3 +124,13 @@ pub supervisory_allowed : (command : Bool) (octet : ℕ) (nr : Seq) (pf : Bool) 
 unfolding supervisory_of
 supervisory_allowed command octet nr pf =
     allowed-too command (octet == 0x01) _ _ refl (allowed-too command (octet == 0x05) _ _ refl (allowed-too command (octet == 0x09) _ _ refl refl))
+
+-- what is kept by a test is what was there
+kept : (b : Bool) (found c : Control) → cond b (Some found) None ≡ Some c → Some found ≡ Some c
+kept true found c e = e
+kept false found c e = absurd (cc)
+
+-- what is allowed was found
+pub allowed-found : (command : Bool) (o : Option Control) (c : Control) → allowed command o ≡ Some c → o ≡ Some c
+allowed-found command None c e = absurd (cc)
+allowed-found command (Some found) c e = kept (allows (row found).kind command) found c e

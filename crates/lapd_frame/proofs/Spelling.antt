@@ -280,18 +280,17 @@ fault-again side (first ∷ second ∷ third ∷ rest) (WrongSize address) small
     let size : sized address c (drop (start_of c) octets) ≡ Err (WrongSize address) = wrong-size-again side octets address c h.0.begins has h.2 in
     rw (h.0.whole, h.0.extension, there, found, has.kind) size
 
--- Where the information of octets that have a header begins, they have not ended.
-pub start-within : (side : Side) (octets : List ℕ) (h : Address × Control) → AreOctets octets → is_short octets ≡ false
-    → header_of side (slice_index octets 0) (slice_index octets 1) (slice_index octets 2) (slice_index octets 3) ≡ Ok h → start_of h.1 ≤ length octets
-start-within side [] h small whole e = absurd (cc)
-start-within side (first ∷ []) h small whole e = absurd (cc)
-start-within side (first ∷ second ∷ []) h small whole e = absurd (cc)
-start-within side (first ∷ second ∷ third ∷ rest) h small whole e =
+-- Where the information of octets that have a control field begins, they have not ended.
+pub start-within : (octets : List ℕ) (c : Control) → AreOctets octets → is_short octets ≡ false
+    → control_of (slice_index octets 2) (slice_index octets 3) ≡ Some c → start_of c ≤ length octets
+start-within [] c small whole e = absurd (cc)
+start-within (first ∷ []) c small whole e = absurd (cc)
+start-within (first ∷ second ∷ []) c small whole e = absurd (cc)
+start-within (first ∷ second ∷ third ∷ rest) c small whole e =
     let at : (i : ℕ) → slice_index (first ∷ second ∷ third ∷ rest) i < 256 = octet-at (first ∷ second ∷ third ∷ rest) small in
-    let is : HeaderIs side first second third (slice_index rest 0) h = header-found side first second third (slice_index rest 0) h e in
-    let field : HasField h.1 third (slice_index rest 0) = control-found third (slice_index rest 0) h.1 (at 2) (at 3) is.found in
-    let behind : third ∷ rest ≡ (row h.1).field ++ drop (start_of h.1) (first ∷ second ∷ third ∷ rest) = rest-found h.1 first second third rest whole field in
-    let count : length (third ∷ rest) ≡ length (row h.1).field + length (drop (start_of h.1) (first ∷ second ∷ third ∷ rest)) = ap length behind ∙ length-append _ _ in
+    let field : HasField c third (slice_index rest 0) = control-found third (slice_index rest 0) c (at 2) (at 3) e in
+    let behind : third ∷ rest ≡ (row c).field ++ drop (start_of c) (first ∷ second ∷ third ∷ rest) = rest-found c first second third rest whole field in
+    let count : length (third ∷ rest) ≡ length (row c).field + length (drop (start_of c) (first ∷ second ∷ third ∷ rest)) = ap length behind ∙ length-append _ _ in
     omega arith
 
 -- What an outcome of `reading` says of the octets.

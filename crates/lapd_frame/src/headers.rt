@@ -43,7 +43,7 @@ pub(crate) fn header(side: Side, octets: &[u8; 4]) -> Result<(Address, Control),
 // The control field, if these octets are one that a command, or a response, can have. A supervisory frame can be either.
 #[tactic(auto, using(crate::proofs::ControlField::supervisory_allowed), unfolding(crate::specs::Reading::control_of))]
 #[inline(always)]
-fn control_of(third: u8, fourth: u8, command: bool) -> Option<Control>
+pub(crate) fn control_of(third: u8, fourth: u8, command: bool) -> Option<Control>
     ensures { result ≡ allowed command (control_of third fourth) }
 {
     let nr = Seq::new(fourth / 2);

@@ -6,10 +6,10 @@ ghost use Rattle.lapd_frame.specs.Faults.{IsFault};
 ghost use Rattle.lapd_frame.specs.Grammar.{Parts, parts_of, Spells};
 ghost use Rattle.lapd_frame.specs.Reading.{reading, outcome_of, start_of};
 
-use crate::addresses::Side;
+use crate::addresses::{Address, Side};
 use crate::faults::ReadFault;
 use crate::frames::Frame;
-use crate::headers::{header, is_short};
+use crate::headers::{control_of, is_short};
 
 /// Reads a frame that `side` sent, without its frame check.
 ///
@@ -33,8 +33,8 @@ pub fn read(side: Side, octets: &[u8]) -> Result<Frame<'_>, ReadFault>
     parse(side, octets)
 }
 
-// What `read` answers.
-#[tactic(auto, unfolding(crate::specs::Reading::reading))]
+// What `read` answers. It builds the address itself, so that this is compiled to numbers in registers.
+#[tactic(auto, unfolding(crate::specs::Reading::reading, crate::specs::Reading::header_of))]
 #[inline(always)]
 fn parse(side: Side, octets: &[u8]) -> Result<Frame<'_>, ReadFault>
     ensures tail { IfOk result (λ frame. frame.info.now ≡ drop (start_of frame.control) octets.now) }
@@ -45,7 +45,13 @@ fn parse(side: Side, octets: &[u8]) -> Result<Frame<'_>, ReadFault>
         return Err(ReadFault::Short);
     }
     let fourth = octets.get(3).copied().unwrap_or(0);
-    let (address, control) = header(side, &[octets[0], octets[1], octets[2], fourth])?;
+    if octets[0] % 2 != 0 || octets[1] % 2 != 1 {
+        return Err(ReadFault::BadExtension);
+    }
+    let address = Address::of(side, octets[0], octets[1]);
+    let Some(control) = control_of(octets[2], fourth, address.command) else {
+        return Err(ReadFault::Undefined(address));
+    };
     let (_, info) = octets.split_at(control.start());
     if !control.takes(info.len()) {
         return Err(ReadFault::WrongSize(address));

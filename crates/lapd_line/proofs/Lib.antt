@@ -1,6 +1,7 @@
 -- Lemmas: steps of a line, of its links and of its TEI management; what is next; ports; rooms.
 pub mod Vocabulary
 pub mod LinkSteps
+pub mod Quiet
 pub mod MarkBits
 pub mod AwakeSteps
 pub mod LayerSteps

@@ -1,14 +1,12 @@
 //! What is told is counted.
 
-ghost use Rattle.std.specs.Prelude.{◌≡◌, true, []};
+ghost use Rattle.std.specs.Prelude.{◌≡◌};
 ghost use Rattle.lapd_count.specs.Counters.{with_all};
 ghost use Rattle.lapd_count.specs.Shown.{told_shown};
 ghost use Rattle.lapd_frame.specs.ShortLists.{listed};
-ghost use Rattle.lapd_line.specs.Counted.{bare_shown};
 
 use lapd_count::Counters;
 use lapd_frame::{Note, ShortList};
-use lapd_link::BareReport;
 use model_bits::Cause;
 
 /// Counts what was told. Mostly there are no notes, and then nothing is done with the list.
@@ -49,15 +47,4 @@ fn count_several(counters: &mut Counters, notes: ShortList<Note>, cause: Option<
     ensures { counters.new ≡ with_all counters.old (told_shown (listed notes) cause lost) }
 {
     counters.told(notes.as_slice(), cause, lost);
-}
-
-/// Whether nothing is told that is counted, as mostly.
-#[inline(always)]
-pub(crate) fn tells_nothing(report: &BareReport) -> bool
-    ensures { result ≡ true → bare_shown report.now ≡ [] }
-{
-    matches!(report.notes, ShortList::None)
-        && report.cause.is_none()
-        && !report.unserved
-        && report.lost == 0
 }

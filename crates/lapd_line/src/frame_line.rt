@@ -1,6 +1,6 @@
 //! The line: one call for each thing that happens.
 
-ghost use Rattle.std.specs.Prelude.{◌≡◌, ◌≤◌, List, false, None, Some, IfOk, IfErr, OnErr, nat_le};
+ghost use Rattle.std.specs.Prelude.{◌≡◌, ◌≤◌, List, false, true, None, Some, IfOk, IfErr, OnErr, nat_le};
 ghost use Rattle.std.specs.Option.{option_copied};
 ghost use Rattle.lapd_count.specs.Counters.{none_counted};
 ghost use Rattle.lapd_store.specs.Ownership.{Owned, Holds};
@@ -18,7 +18,7 @@ ghost use Rattle.model_line.specs.Sound.{IsInRange};
 ghost use Rattle.model_link.specs.Told.{starts};
 
 use crate::came::{came, cause_of, octets_of};
-use crate::counting::{count_told, tells_nothing};
+use crate::counting::count_told;
 use crate::fault::StartFault;
 use crate::link_layer::LinkLayer;
 use crate::reports::{Report, lent, tell_drop};
@@ -43,6 +43,7 @@ pub struct FrameLine {
 }
 
 impl FrameLine {
+    ghost use Rattle.lapd_link_steps.specs.Quiet.{IsQuiet};
     ghost use Rattle.lapd_line.specs.Counted.{bare_shown, with_counted};
     ghost use Rattle.lapd_line.specs.Reports.{report_told, told_in, octets_of, IsClear};
     ghost use Rattle.lapd_line.specs.Stands.{Stands, Leads, LeadsIfHeard, answer_if_heard, config_of};
@@ -70,30 +71,38 @@ impl FrameLine {
     /// Takes what is heard, as a deframer tells it, and tells in the report what it led to. Where nothing is heard, nothing
     /// happens.
     #[inline(always)]
-    pub fn heard<S: Shelf>(&mut self, heard: Heard<'_>, report: &mut BareReport, shelf: &mut S)
+    pub fn heard<S: Shelf>(
+        &mut self,
+        heard: Heard<'_>,
+        report: &mut BareReport,
+        shelf: &mut S,
+    ) -> bool
         requires clear { IsClear report.old }
         requires stands { (others : List Owned) × (m : machine.Line) × Stands self.old (S.store shelf.old) others m }
         ensures told { (others : List Owned) (m : machine.Line) → Stands self.old (S.store shelf.old) others m
             → told (told_in (octets_of (heard_of heard.entry)) report.new) ≡ answer_if_heard (config_of self.old) (heard_of heard.entry) m }
         ensures after { LeadsIfHeard (heard_of heard.entry) self.old (S.store shelf.old) self.new (S.store shelf.new) }
+        ensures quiet { result ≡ true → IsQuiet report.new }
     {
         match heard {
-            Heard::Nothing => {}
+            Heard::Nothing => false,
             Heard::Dropped(_) | Heard::Frame(_) | Heard::Overlong(_) => {
                 self.counters.heard(self.layer.config.side, heard);
                 self.layer.serve(heard, report, shelf);
-                self.count(report);
+                self.count(report)
             }
         }
     }
 
-    /// Counts what was told.
+    /// Counts what was told. Where that is nothing but orders, it says so, and there is nothing to count.
+    #[tactic(auto, using(crate::proofs::Quiet::quiet_shown))]
     #[inline(always)]
-    fn count(&mut self, report: &BareReport)
-        ensures { self.new ≡ with_counted self.old (bare_shown report.now) }
+    fn count(&mut self, report: &BareReport) -> bool
+        ensures counted { self.new ≡ with_counted self.old (bare_shown report.now) }
+        ensures quiet { result ≡ true → IsQuiet report.now }
     {
-        if tells_nothing(report) {
-            return;
+        if report.is_quiet() {
+            return true;
         }
         count_told(
             &mut self.counters,
@@ -101,22 +110,25 @@ impl FrameLine {
             report.cause(),
             report.lost,
         );
+        false
     }
 
     /// Takes a frame that a controller brings, from its address to its information, without its check, and tells in the report
-    /// what it led to. [`FrameLine::lend`] lends contents that it delivers from these octets.
+    /// what it led to. [`FrameLine::lend`] lends contents that it delivers from these octets. Where the answer is true, it
+    /// tells nothing but orders for timers.
     ///
     /// What it is heard as is what a deframer would hear in its octets on an idle line (`frames_are_heard` of
     /// `model_card::ports`).
     #[inline(always)]
-    pub fn frame<S: Shelf>(&mut self, octets: &[u8], report: &mut BareReport, shelf: &mut S)
+    pub fn frame<S: Shelf>(&mut self, octets: &[u8], report: &mut BareReport, shelf: &mut S) -> bool
         requires clear { IsClear report.old }
         requires stands { (others : List Owned) × (m : machine.Line) × Stands self.old (S.store shelf.old) others m }
         ensures told { (others : List Owned) (m : machine.Line) → Stands self.old (S.store shelf.old) others m
             → told (told_in (octets_of (Some (came (config_of self.old).n201 octets.now))) report.new) ≡ answer (config_of self.old) (hears (came (config_of self.old).n201 octets.now)) m }
         ensures after { Leads (hears (came (config_of self.old).n201 octets.now)) self.old (S.store shelf.old) self.new (S.store shelf.new) }
+        ensures quiet { result ≡ true → IsQuiet report.new }
     {
-        self.heard(came(octets, self.layer.config.n201), report, shelf);
+        self.heard(came(octets, self.layer.config.n201), report, shelf)
     }
 
     /// The report of what a frame of these octets led to, with the contents that it delivered.

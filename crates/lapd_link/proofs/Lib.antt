@@ -1,5 +1,6 @@
 -- Lemmas of this crate.
 pub mod Vocabulary
+pub mod OrderSteps
 pub mod Ending
 pub mod Asking
 pub mod Offering

@@ -9,6 +9,7 @@ use lapd_link_steps::is_the;
 use model_link::{LinkTimer, Terms};
 
 // Start where the event started a timer and left it running, Stop where it ran before and does not after; T200 first.
+#[tactic(auto, using(crate::proofs::OrderSteps::unstarted, crate::proofs::OrderSteps::still_runs))]
 #[inline(always)]
 pub(crate) fn orders(
     terms: &Terms,
@@ -18,40 +19,54 @@ pub(crate) fn orders(
 ) -> ShortList<Order>
     ensures { listed result ≡ orders_for terms.now before started after }
 {
-    match (before, after) {
-        (None, None) => ShortList::none(),
-        (Some(timer), None) => ShortList::one(Order::Stop(line_timer(terms, timer))),
-        (None, Some(timer)) => start(terms, timer, started),
-        (Some(LinkTimer::T200), Some(LinkTimer::T200)) => start(terms, LinkTimer::T200, started),
-        (Some(LinkTimer::T203), Some(LinkTimer::T203)) => start(terms, LinkTimer::T203, started),
-        (Some(LinkTimer::T203), Some(LinkTimer::T200)) => {
-            let stop = Order::Stop(line_timer(terms, LinkTimer::T203));
-            if is_the(LinkTimer::T200, started) {
-                ShortList::Two([Order::Start(line_timer(terms, LinkTimer::T200)), stop])
+    let Some(timer) = started else {
+        return stop(terms, before, after);
+    };
+    if is_the(timer, after) {
+        start(terms, before, timer)
+    } else {
+        stop(terms, before, after)
+    }
+}
+
+// Start, where the event started this timer and left it running. The other stops, if it ran.
+#[inline(always)]
+fn start(terms: &Terms, before: Option<LinkTimer>, timer: LinkTimer) -> ShortList<Order>
+    ensures { listed result ≡ orders_for terms.now before (Some timer) (Some timer) }
+{
+    let start = Order::Start(line_timer(terms, timer));
+    match timer {
+        LinkTimer::T200 => {
+            if is_the(LinkTimer::T203, before) {
+                ShortList::Two([start, Order::Stop(line_timer(terms, LinkTimer::T203))])
             } else {
-                ShortList::One([stop])
+                ShortList::One([start])
             }
         }
-        (Some(LinkTimer::T200), Some(LinkTimer::T203)) => {
-            let stop = Order::Stop(line_timer(terms, LinkTimer::T200));
-            if is_the(LinkTimer::T203, started) {
-                ShortList::Two([stop, Order::Start(line_timer(terms, LinkTimer::T203))])
+        LinkTimer::T203 => {
+            if is_the(LinkTimer::T200, before) {
+                ShortList::Two([Order::Stop(line_timer(terms, LinkTimer::T200)), start])
             } else {
-                ShortList::One([stop])
+                ShortList::One([start])
             }
         }
     }
 }
 
-// Start, where the event started this timer.
+// Stop, where the event started none.
 #[inline(always)]
-fn start(terms: &Terms, timer: LinkTimer, started: Option<LinkTimer>) -> ShortList<Order>
-    ensures { listed result ≡ orders_for terms.now (Some timer) started (Some timer) }
+fn stop(terms: &Terms, before: Option<LinkTimer>, after: Option<LinkTimer>) -> ShortList<Order>
+    ensures { listed result ≡ orders_for terms.now before None after }
 {
-    if is_the(timer, started) {
-        ShortList::one(Order::Start(line_timer(terms, timer)))
-    } else {
-        ShortList::none()
+    match before {
+        Some(timer) => {
+            if is_the(timer, after) {
+                ShortList::none()
+            } else {
+                ShortList::one(Order::Stop(line_timer(terms, timer)))
+            }
+        }
+        None => ShortList::none(),
     }
 }
 

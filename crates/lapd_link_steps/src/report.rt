@@ -1,6 +1,6 @@
 //! What an event is answered with.
 
-ghost use Rattle.std.specs.Prelude.{◌≡◌, ◌≤◌, ◌||◌};
+ghost use Rattle.std.specs.Prelude.{◌≡◌, ◌≤◌, ◌||◌, true};
 ghost use Rattle.lapd_frame.specs.ShortLists.{listed};
 
 use lapd_frame::{Note, Order, ShortList};
@@ -39,6 +39,7 @@ pub struct BareReport {
 }
 
 impl BareReport {
+    ghost use Rattle.lapd_link_steps.specs.Quiet.{IsQuiet};
     ghost use Rattle.lapd_link_steps.specs.Reports.{IsClear, cause_in, has_contents};
 
     /// Nothing is told yet.
@@ -97,5 +98,22 @@ impl BareReport {
         ensures { result ≡ has_contents self.now }
     {
         self.delivered || self.unit
+    }
+
+    /// Whether nothing is told but orders for timers, as mostly.
+    #[inline(always)]
+    pub fn is_quiet(&self) -> bool
+        ensures { result ≡ true → IsQuiet self.now }
+    {
+        if !matches!(self.notes, ShortList::None) {
+            return false;
+        }
+        if self.unserved || self.delivered || self.unit {
+            return false;
+        }
+        if self.cause.is_some() {
+            return false;
+        }
+        self.lost == 0
     }
 }

@@ -97,8 +97,19 @@ impl PlainReport {
         self.deliver(delivered);
         self.note_count = write_note_list(&mut self.notes, told.note_list());
         self.order_count = write_order_list(&mut self.orders, told.order_list());
-        self.cause = cause_number(told.cause());
+        if told.cause().is_some() {
+            self.cause = cause_number(told.cause());
+        }
         self.lost = told.lost();
+    }
+
+    /// Shows orders alone.
+    #[inline(always)]
+    pub fn show_orders(&mut self, orders: &ShortList<Order>)
+        ensures { Shows self.new (record nothing { orders = listed orders.now }) }
+    {
+        self.show_nothing();
+        self.order_count = write_order_list(&mut self.orders, orders);
     }
 
     /// Shows that a call gave a frame, with these orders, and whether another waits on its line.
@@ -187,10 +198,9 @@ fn write_note_list(places: &mut [PlainNote; 4], notes: &ShortList<Note>) -> u8
 {
     match notes {
         ShortList::None => 0,
-        ShortList::One(notes) => write_notes(places, notes),
-        ShortList::Two(notes) => write_notes(places, notes),
-        ShortList::Three(notes) => write_notes(places, notes),
-        ShortList::Four(notes) => write_notes(places, notes),
+        ShortList::One(_) | ShortList::Two(_) | ShortList::Three(_) | ShortList::Four(_) => {
+            write_some_notes(places, notes)
+        }
     }
 }
 
@@ -203,19 +213,40 @@ fn write_order_list(places: &mut [PlainOrder; 4], orders: &ShortList<Order>) -> 
     match orders {
         ShortList::None => 0,
         ShortList::One(orders) => write_orders(places, orders),
-        ShortList::Two(orders) => write_several_orders(places, orders),
-        ShortList::Three(orders) => write_several_orders(places, orders),
-        ShortList::Four(orders) => write_several_orders(places, orders),
+        ShortList::Two(_) | ShortList::Three(_) | ShortList::Four(_) => {
+            write_several_orders(places, orders)
+        }
     }
 }
 
+#[cold]
 #[inline(never)]
-fn write_several_orders(places: &mut [PlainOrder; 4], orders: &[Order]) -> u8
-    requires { length orders.now ≤ 4 }
-    ensures count { result ≡ length orders.now }
-    ensures orders { take result places.new ≡ map plain_order orders.now }
+fn write_some_notes(places: &mut [PlainNote; 4], notes: &ShortList<Note>) -> u8
+    ensures count { result ≡ length (listed notes.now) }
+    ensures notes { take result places.new ≡ map plain_note (listed notes.now) }
 {
-    write_orders(places, orders)
+    match notes {
+        ShortList::None => 0,
+        ShortList::One(notes) => write_notes(places, notes),
+        ShortList::Two(notes) => write_notes(places, notes),
+        ShortList::Three(notes) => write_notes(places, notes),
+        ShortList::Four(notes) => write_notes(places, notes),
+    }
+}
+
+#[cold]
+#[inline(never)]
+fn write_several_orders(places: &mut [PlainOrder; 4], orders: &ShortList<Order>) -> u8
+    ensures count { result ≡ length (listed orders.now) }
+    ensures orders { take result places.new ≡ map plain_order (listed orders.now) }
+{
+    match orders {
+        ShortList::None => 0,
+        ShortList::One(orders) => write_orders(places, orders),
+        ShortList::Two(orders) => write_orders(places, orders),
+        ShortList::Three(orders) => write_orders(places, orders),
+        ShortList::Four(orders) => write_orders(places, orders),
+    }
 }
 
 // Writes notes to the first places, and answers how many there are.
@@ -239,7 +270,7 @@ fn write_orders(places: &mut [PlainOrder; 4], orders: &[Order]) -> u8
     ensures orders { take result places.new ≡ map plain_order orders.now }
 {
     for i in 0..orders.len() {
-        places[i] = PlainOrder::of(orders[i]);
+        places[i].show(orders[i]);
     }
     orders.len() as u8
 }

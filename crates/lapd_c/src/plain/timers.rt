@@ -66,6 +66,25 @@ impl PlainTimer {
         }
     }
 
+    /// Shows a timer.
+    #[inline(always)]
+    pub fn show(&mut self, timer: Timer)
+        ensures { self.new ≡ plain_timer timer }
+    {
+        let (service, tei) = match timer {
+            Timer::T200(service, tei) => (service.sapi(), tei),
+            Timer::T203(service, tei) => (service.sapi(), tei),
+            Timer::T201 => (0, 0),
+        };
+        self.timer = match timer {
+            Timer::T200(..) => 1,
+            Timer::T203(..) => 2,
+            Timer::T201 => 3,
+        };
+        self.service = service;
+        self.tei = tei;
+    }
+
     /// The timer that this is.
     ///
     /// # Errors
@@ -91,20 +110,17 @@ impl PlainTimer {
 }
 
 impl PlainOrder {
-    /// An order in C.
-    pub fn of(order: Order) -> PlainOrder
-        ensures { result ≡ plain_order order }
+    /// Shows an order.
+    #[inline(always)]
+    pub fn show(&mut self, order: Order)
+        ensures { self.new ≡ plain_order order }
     {
-        match order {
-            Order::Start(timer) => PlainOrder {
-                order: 1,
-                timer: PlainTimer::of(timer),
-            },
-            Order::Stop(timer) => PlainOrder {
-                order: 2,
-                timer: PlainTimer::of(timer),
-            },
-        }
+        let (number, timer) = match order {
+            Order::Start(timer) => (1, timer),
+            Order::Stop(timer) => (2, timer),
+        };
+        self.order = number;
+        self.timer.show(timer);
     }
 
     /// The order that this is.

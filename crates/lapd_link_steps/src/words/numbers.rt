@@ -55,7 +55,11 @@ impl Entity {
         ensures valid { IsValid (va_of self.new.window) nr (vs_of self.new.window) }
         ensures does { (terms : Terms) (info : List ℕ) → DoesBy terms info nr word.acknowledge self.old told.old self.new told.new }
     {
-        told.released = (told.released + self.window.acknowledged_by(nr)).min(ALL);
+        let count = self.window.acknowledged_by(nr);
+        if count == 0 {
+            return;
+        }
+        told.released = (told.released + count).min(ALL);
         self.window.acknowledge(nr);
     }
 

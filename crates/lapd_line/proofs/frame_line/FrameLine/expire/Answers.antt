@@ -13,4 +13,4 @@ returns-clause-starts g c =
     starts_one (config_of c.args.self.now) c.args.timer m (report_told c.of.result) (expiry_told c.args.timer c.of.result c.of.ensures c.expire.ensures others m st.layer)
 
 pub returns-clause-after : goal.returns-clause-after
-returns-clause-after g c = expired c.args.timer c.expire.ensures c.count.ensures
+returns-clause-after g c = expired c.args.timer c.expire.ensures c.count.ensures.counted

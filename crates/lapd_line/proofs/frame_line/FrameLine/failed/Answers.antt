@@ -11,4 +11,4 @@ returns-clause-told c = λ m.
 
 pub returns-clause-after : goal.returns-clause-after
 returns-clause-after c = λ store.
-    dropped_leads store (cause_of c.args.fault) c.tell_drop.new.report (c.tell_drop.ensures [] ∙ ap dropped c.cause_of.ensures) c.count.ensures
+    dropped_leads store (cause_of c.args.fault) c.tell_drop.new.report (c.tell_drop.ensures [] ∙ ap dropped c.cause_of.ensures) c.count.ensures.counted

@@ -9,4 +9,4 @@ returns-in-Ok-clause-told g c = λ others m st.
 
 pub returns-in-Ok-clause-after : goal.returns-in-Ok-clause-after
 returns-in-Ok-clause-after g c =
-    requested (nat_le c.args.slots (used_slots (g.S.Shelf.store c.args.shelf.now))) (request_of c.args.request) c.in-Ok.ensures.granted c.in-Ok.ensures.served c.count.ensures
+    requested (nat_le c.args.slots (used_slots (g.S.Shelf.store c.args.shelf.now))) (request_of c.args.request) c.in-Ok.ensures.granted c.in-Ok.ensures.served c.count.ensures.counted

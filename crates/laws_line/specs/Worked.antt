@@ -1,5 +1,6 @@
 -- Worked values: what requests and their ends are to the links of a line.
-use Rattle.laws_line.specs.WorkedWords.{◌≡◌, ℕ, true, false, List, [], ◌∷◌, refl, Network, Call, Packet, reading, header_of, control_of, unnumbered_of, request, told, nothing, refused, PoolFull, Config, of_aim, Line, fresh_line, of_request, aim_of_heard, Assign, Data, Unit, Remove, Release, no_share, ending, share_of, asked_by, units_asked}
+use Rattle.std.specs.Prelude.{◌≡◌, ℕ, true, false, List, [], ◌∷◌, refl}
+use Rattle.laws_line.specs.WorkedWords.{Network, Call, Packet, reading, header_of, control_of, unnumbered_of, request, told, nothing, refused, PoolFull, Config, of_aim, Line, fresh_line, of_request, aim_of_heard, Assign, Data, Unit, Remove, Release, no_share, ending, share_of, asked_by, units_asked}
 use Rattle.lapd_tei.specs.Events as teis
 use Rattle.model_bits.specs.Stream as stream
 

@@ -1,5 +1,6 @@
 -- Worked values of what a frame is heard as that a controller brings: each computes.
-use Rattle.laws_line.specs.WorkedWords.{◌≡◌, [], ◌∷◌, refl, frame, overlong, bits_dropped as dropped, came}
+use Rattle.std.specs.Prelude.{◌≡◌, [], ◌∷◌, refl}
+use Rattle.laws_line.specs.WorkedWords.{frame, overlong, bits_dropped as dropped, came}
 use Rattle.model_bits.specs.declared.heard.Cause.TheVariants as cause
 
 -- no octets at all, and an RR that has lost its second control octet, are too short

@@ -1,5 +1,6 @@
 -- Worked values: what calls for the next frame alone come to.
-use Rattle.laws_line.specs.WorkedWords.{◌≡◌, ℕ, List, [], ◌∷◌, length, refl, Network, reading, header_of, control_of, unnumbered_of, supervisory_of, seq, distance_of, named, Config, of_aim, Line, fresh_line, link_at, of_request, aim_of_heard, Assign, frames_to_go, way_round, frames_before, most_frames, most_frames_before}
+use Rattle.std.specs.Prelude.{◌≡◌, ℕ, List, [], ◌∷◌, length, refl}
+use Rattle.laws_line.specs.WorkedWords.{Network, reading, header_of, control_of, unnumbered_of, supervisory_of, seq, distance_of, named, Config, of_aim, Line, fresh_line, link_at, of_request, aim_of_heard, Assign, frames_to_go, way_round, frames_before, most_frames, most_frames_before}
 use Rattle.model_bits.specs.Stream as stream
 use Rattle.lapd_tei.specs.Events as teis
 

@@ -1,5 +1,6 @@
 -- Worked values: an I-frame and a UI are heard, and their contents are handed on; and a frame that the grammar refuses.
-use Rattle.laws_line.specs.WorkedWords.{◌≡◌, true, false, [], ◌∷◌, Some, None, refl, list_any, Fcs, Information, Call, Packet, Parts, reading, header_of, control_of, unnumbered_of, seq, distance_of, named, LineEvent as Event, Answer, hears, told, dropped, link_in, state_in, terms, after, answer, contents_in, due, is_data_of, is_unit_of, notes_of, IsNotedOnce}
+use Rattle.std.specs.Prelude.{◌≡◌, true, false, [], ◌∷◌, Some, None, refl}
+use Rattle.laws_line.specs.WorkedWords.{list_any, Fcs, Information, Call, Packet, Parts, reading, header_of, control_of, unnumbered_of, seq, distance_of, named, LineEvent as Event, Answer, hears, told, dropped, link_in, state_in, terms, after, answer, contents_in, due, is_data_of, is_unit_of, notes_of, IsNotedOnce}
 use Rattle.model_bits.specs.Stream as stream
 use Rattle.lapd_tei.specs.Events as teis
 use Rattle.laws_line.specs.Worked.{usual, both_up}

@@ -1,5 +1,6 @@
 -- Worked values of a line: each computes.
-use Rattle.laws_line.specs.WorkedWords.{◌≡◌, ℕ, zero, suc, false, List, [], ◌∷◌, replicate, Some, None, refl, Sapi, Tei, Network, BadTei, NoLink, WrongState, TeiTaken, CheckRunning, ControlFull, Call, Packet, Start, Stop, T203, reading, header_of, control_of, unnumbered_of, Config, nothing, dropped, Request, Data, Unit, Assign, Remove, Check, Line, fresh_line, state_of, Effect, of_aim, aim_of_heard, refusal, of_request, Taken, taken}
+use Rattle.std.specs.Prelude.{◌≡◌, ℕ, zero, suc, false, List, [], ◌∷◌, replicate, Some, None, refl}
+use Rattle.laws_line.specs.WorkedWords.{Sapi, Tei, Network, BadTei, NoLink, WrongState, TeiTaken, CheckRunning, ControlFull, Call, Packet, Start, Stop, T203, reading, header_of, control_of, unnumbered_of, Config, nothing, dropped, Request, Data, Unit, Assign, Remove, Check, Line, fresh_line, state_of, Effect, of_aim, aim_of_heard, refusal, of_request, Taken, taken}
 use Rattle.model_bits.specs.Stream as stream
 use Rattle.lapd_frame.specs.declared.notes.Note.TheVariants as notes
 use Rattle.lapd_frame.specs.declared.notes.ErrorCode.TheVariants as code

@@ -1,5 +1,6 @@
 -- Worked values: a terminal asks for a TEI, and what TEI management says.
-use Rattle.laws_line.specs.WorkedWords.{◌≡◌, ℕ, true, false, List, [], ◌∷◌, refl, Ui, T201, reading, header_of, control_of, unnumbered_of, Message, IdentityAssigned, IdentityDenied, IdentityCheckRequest, IdentityRemove, Config, LineEvent as Event, hears, expiry, Line, fresh_line, has_tei, after, answer, Assign, Check, Hears, lost_in, asks}
+use Rattle.std.specs.Prelude.{◌≡◌, ℕ, true, false, List, [], ◌∷◌, refl}
+use Rattle.laws_line.specs.WorkedWords.{Ui, T201, reading, header_of, control_of, unnumbered_of, Message, IdentityAssigned, IdentityDenied, IdentityCheckRequest, IdentityRemove, Config, LineEvent as Event, hears, expiry, Line, fresh_line, has_tei, after, answer, Assign, Check, Hears, lost_in, asks}
 use Rattle.model_bits.specs.Stream as stream
 use Rattle.lapd_tei.specs.Events as teis
 use Rattle.laws_line.specs.Worked.{usual, heard}

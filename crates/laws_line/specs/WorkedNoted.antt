@@ -1,5 +1,6 @@
 -- Worked values: what an answer notes as a TEI comes, as it leaves, and of an event of one of its links.
-use Rattle.laws_line.specs.WorkedWords.{◌≡◌, [], ◌∷◌, ◌++◌, refl, Removed, ReleaseIndication, Error, Call, Packet, T201, reading, header_of, control_of, unnumbered_of, seq, distance_of, named, told_by, expiry, request, Line, fresh_line, link_in, terms, after, answer, Assign, Check, Remove, notes_of, noted_coming, noted_leaving, noted_ending}
+use Rattle.std.specs.Prelude.{◌≡◌, [], ◌∷◌, ◌++◌, refl}
+use Rattle.laws_line.specs.WorkedWords.{Removed, ReleaseIndication, Error, Call, Packet, T201, reading, header_of, control_of, unnumbered_of, seq, distance_of, named, told_by, expiry, request, Line, fresh_line, link_in, terms, after, answer, Assign, Check, Remove, notes_of, noted_coming, noted_leaving, noted_ending}
 use Rattle.lapd_frame.specs.declared.notes.ErrorCode.TheVariants as code
 use Rattle.lapd_tei.specs.Events as teis
 use Rattle.model_link.specs.Events as link

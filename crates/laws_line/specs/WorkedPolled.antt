@@ -1,6 +1,7 @@
 -- Worked values: a poll, and what is before its answer. With them the laws of a poll say something: they are what those ask of
 -- a line.
-use Rattle.laws_line.specs.WorkedWords.{◌≡◌, ℕ, true, List, [], ◌∷◌, length, Some, None, refl, Network, ReceiveReady, Ua, Call, Parts, reading, header_of, control_of, unnumbered_of, supervisory_of, seq, distance_of, named, Link, is_multiple_frame, response, Config, hears, request, first_fault, Line, fresh_line, place_in, tei_at, link_in, after, Assign, frames_to_go, most_frames, most_frames_before}
+use Rattle.std.specs.Prelude.{◌≡◌, ℕ, true, List, [], ◌∷◌, length, Some, None, refl}
+use Rattle.laws_line.specs.WorkedWords.{Network, ReceiveReady, Ua, Call, Parts, reading, header_of, control_of, unnumbered_of, supervisory_of, seq, distance_of, named, Link, is_multiple_frame, response, Config, hears, request, first_fault, Line, fresh_line, place_in, tei_at, link_in, after, Assign, frames_to_go, most_frames, most_frames_before}
 use Rattle.model_bits.specs.Stream as stream
 use Rattle.lapd_tei.specs.Events as teis
 

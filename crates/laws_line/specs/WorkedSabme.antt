@@ -1,5 +1,6 @@
 -- Worked values: a SABME. They are what the law of SABME and DISC asks of a line.
-use Rattle.laws_line.specs.WorkedWords.{◌≡◌, true, [], length, Some, refl, Sabme, Ua, Parts, reading, header_of, control_of, unnumbered_of, supervisory_of, seq, distance_of, named, asked_of, hears, request, Line, fresh_line, place_in, after, Assign, frames_to_go}
+use Rattle.std.specs.Prelude.{◌≡◌, true, [], length, Some, refl}
+use Rattle.laws_line.specs.WorkedWords.{Sabme, Ua, Parts, reading, header_of, control_of, unnumbered_of, supervisory_of, seq, distance_of, named, asked_of, hears, request, Line, fresh_line, place_in, after, Assign, frames_to_go}
 use Rattle.model_bits.specs.Stream as stream
 use Rattle.lapd_tei.specs.Events as teis
 use Rattle.laws_line.specs.WorkedPolled.{small, sabme_octets, call_link}

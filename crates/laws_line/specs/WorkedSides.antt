@@ -1,5 +1,6 @@
 -- Worked values of the user's side of a line: each computes.
-use Rattle.laws_line.specs.WorkedWords.{◌≡◌, ℕ, false, List, [], ◌∷◌, replicate, Option, Some, None, refl, Tei, Unserved, User, BadTei, WrongSide, Call, Packet, Start, Stop, T200, T203, reading, header_of, control_of, unnumbered_of, Config, nothing, dropped, Request, Establish, Unit, Assign, Remove, Check, Line, fresh_line, state_of, Effect, of_aim, aim_of_heard, refusal, of_request, Taken, taken}
+use Rattle.std.specs.Prelude.{◌≡◌, ℕ, false, List, [], ◌∷◌, replicate, Option, Some, None, refl}
+use Rattle.laws_line.specs.WorkedWords.{Tei, Unserved, User, BadTei, WrongSide, Call, Packet, Start, Stop, T200, T203, reading, header_of, control_of, unnumbered_of, Config, nothing, dropped, Request, Establish, Unit, Assign, Remove, Check, Line, fresh_line, state_of, Effect, of_aim, aim_of_heard, refusal, of_request, Taken, taken}
 use Rattle.model_bits.specs.Stream as stream
 use Rattle.lapd_frame.specs.declared.notes.Note.TheVariants as notes
 use Rattle.lapd_tei.specs.Events as teis

@@ -1,7 +1,6 @@
 -- The words with which the worked values of this crate speak, from where they are defined.
 pub use Rattle.std.proofs.Common.{ap, arith}
 pub use Rattle.std.specs.List.{list_any}
-pub use Rattle.std.specs.Prelude.{Bool, List, None, Option, Some, [], false, length, map, option_map, refl, replicate, suc, true, zero, ℕ, ◌*◌, ◌++◌, ◌+◌, ◌<◌, ◌∷◌, ◌≡◌, ◌≢◌, ◌≤◌}
 pub use Rattle.model_bits.specs.Stream.{dropped as bits_dropped, frame, overlong}
 pub use Rattle.model_bits.specs.declared.heard.Cause.TheVariants.{Fcs, Sapi, Short, Tei, Unserved}
 pub use Rattle.lapd_frame.specs.Grammar.{Parts}

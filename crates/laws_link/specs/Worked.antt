@@ -1,5 +1,6 @@
 -- Worked values: contents that are accepted, sent, acknowledged and lost.
-use Rattle.laws_link.specs.WorkedWords.{◌≡◌, true, List, [], ◌∷◌, replicate, Some, None, refl, seq, distance_of, named, supervisory_of, unnumbered_of, control_of, header_of, reading, queue_of, Event, Data, Release, offer, after_all, usual, comes, ask, sabme, up, empties, nothing_yet, share, with_all, i_frames, unit_due}
+use Rattle.std.specs.Prelude.{◌≡◌, true, List, [], ◌∷◌, replicate, Some, None, refl}
+use Rattle.laws_link.specs.WorkedWords.{seq, distance_of, named, supervisory_of, unnumbered_of, control_of, header_of, reading, queue_of, Event, Data, Release, offer, after_all, usual, comes, ask, sabme, up, empties, nothing_yet, share, with_all, i_frames, unit_due}
 
 -- Three contents are accepted, two I-frames are given, and an RR with N(R) 1 comes.
 abbrev three : List Event

@@ -1,5 +1,6 @@
 -- Worked values: the numbers of a link begin anew, and it is told.
-use Rattle.laws_link.specs.WorkedWords.{◌≡◌, Bool, true, false, [], ◌∷◌, refl, list_any, seq, distance_of, named, supervisory_of, unnumbered_of, control_of, header_of, reading, restarts, Link, fresh, Event, Data, Establish, offer, cleared, after_all, told, usual, comes, ask, sabme, up, tells_beginning}
+use Rattle.std.specs.Prelude.{◌≡◌, Bool, true, false, [], ◌∷◌, refl}
+use Rattle.laws_link.specs.WorkedWords.{list_any, seq, distance_of, named, supervisory_of, unnumbered_of, control_of, header_of, reading, restarts, Link, fresh, Event, Data, Establish, offer, cleared, after_all, told, usual, comes, ask, sabme, up, tells_beginning}
 
 abbrev tells : Event → Link → Bool
 tells e l = list_any tells_beginning (told usual e l).notes

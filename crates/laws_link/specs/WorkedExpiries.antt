@@ -1,5 +1,6 @@
 -- Worked values: what comes of the expiry of T200 and T203.
-use Rattle.laws_link.specs.WorkedWords.{◌≡◌, true, List, [], ◌∷◌, replicate, refl, seq, distance_of, named, ReceiveReady, Sabme, Disc, Call, supervisory_of, unnumbered_of, control_of, header_of, reading, ControlFrame, TeiAssigned, AwaitingEstablishment, TimerRecovery, T200, T203, Event, Establish, Release, expired, offer, Link, fresh, after, after_all, told, command, usual, ask, up}
+use Rattle.std.specs.Prelude.{◌≡◌, true, List, [], ◌∷◌, replicate, refl}
+use Rattle.laws_link.specs.WorkedWords.{seq, distance_of, named, ReceiveReady, Sabme, Disc, Call, supervisory_of, unnumbered_of, control_of, header_of, reading, ControlFrame, TeiAssigned, AwaitingEstablishment, TimerRecovery, T200, T203, Event, Establish, Release, expired, offer, Link, fresh, after, after_all, told, command, usual, ask, up}
 use Rattle.lapd_frame.specs.declared.notes.ErrorCode.TheVariants as code
 use Rattle.lapd_frame.specs.declared.notes.Note.TheVariants as notes
 

@@ -1,5 +1,6 @@
 -- Worked values: the room of a link.
-use Rattle.laws_link.specs.WorkedWords.{◌≡◌, [], ◌∷◌, None, Some, refl, seq, distance_of, named, QueueFull, PoolFull, supervisory_of, unnumbered_of, control_of, header_of, reading, Link, fresh, Data, offer, after_all, room_of, refusal_for, usual, with_k_and_queue, comes, ask, sabme}
+use Rattle.std.specs.Prelude.{◌≡◌, [], ◌∷◌, None, Some, refl}
+use Rattle.laws_link.specs.WorkedWords.{seq, distance_of, named, QueueFull, PoolFull, supervisory_of, unnumbered_of, control_of, header_of, reading, Link, fresh, Data, offer, after_all, room_of, refusal_for, usual, with_k_and_queue, comes, ask, sabme}
 
 -- With k 1 and places for two contents, two leave no place, however many slots are free; once the terminal has
 -- acknowledged the first, there is one.

@@ -1,5 +1,6 @@
 -- Worked values: long runs.
-use Rattle.laws_link.specs.WorkedWords.{◌≡◌, ℕ, ◌+◌, ◌*◌, ◌%◌, List, [], ◌∷◌, ◌++◌, length, replicate, zero, suc, refl, seq, distance_of, named, Call, supervisory_of, unnumbered_of, control_of, header_of, reading, fresh, Event, Data, offer, after_all, may_send, price_of_all, usual, packet, comes, ask, pulls, out, notes, lost, up}
+use Rattle.std.specs.Prelude.{◌≡◌, ℕ, ◌+◌, ◌*◌, ◌%◌, List, [], ◌∷◌, ◌++◌, length, replicate, zero, suc, refl}
+use Rattle.laws_link.specs.WorkedWords.{seq, distance_of, named, Call, supervisory_of, unnumbered_of, control_of, header_of, reading, fresh, Event, Data, offer, after_all, may_send, price_of_all, usual, packet, comes, ask, pulls, out, notes, lost, up}
 use Rattle.lapd_frame.specs.declared.notes.Note.TheVariants as tell
 
 -- 129 I-frames numbered 0 to 127 and 0 again, each acknowledged before the next.

@@ -1,5 +1,6 @@
 -- Worked values: a terminal that is busy, one that rejects, and deliveries.
-use Rattle.laws_link.specs.WorkedWords.{◌≡◌, true, false, List, [], ◌∷◌, refl, seq, distance_of, named, Call, Order, Start, Stop, FrameT200 as T200, FrameT203 as T203, supervisory_of, unnumbered_of, control_of, header_of, reading, AwaitingEstablishment, Link, Data, offer, after, after_all, told, usual, comes, ask, up, i_frames_offered}
+use Rattle.std.specs.Prelude.{◌≡◌, true, false, List, [], ◌∷◌, refl}
+use Rattle.laws_link.specs.WorkedWords.{seq, distance_of, named, Call, Order, Start, Stop, FrameT200 as T200, FrameT203 as T203, supervisory_of, unnumbered_of, control_of, header_of, reading, AwaitingEstablishment, Link, Data, offer, after, after_all, told, usual, comes, ask, up, i_frames_offered}
 
 -- Contents are accepted, and RNR comes: no I-frame goes.
 busy : i_frames_offered usual 5 (after_all usual (ask (Data (1 ∷ [])) ∷ comes (0x02 ∷ 0x81 ∷ 0x05 ∷ 0x00 ∷ []) ∷ []) up)

@@ -1,6 +1,5 @@
 -- The words with which the worked values of this crate speak, from where they are defined.
 pub use Rattle.std.specs.List.{list_any}
-pub use Rattle.std.specs.Prelude.{Bool, List, None, Some, [], false, length, refl, replicate, suc, sum_by, true, zero, ℕ, ◌%◌, ◌*◌, ◌++◌, ◌+◌, ◌∷◌, ◌≡◌}
 unfoldable pub use Rattle.lapd_frame.specs.Reading.{control_of, header_of, reading, supervisory_of, unnumbered_of}
 pub use Rattle.lapd_frame.specs.declared.controls.Control.TheVariants.{Disc, Dm, ReceiveNotReady, ReceiveReady, Reject, Sabme, Ua}
 pub use Rattle.lapd_frame.specs.declared.refusals.Refusal.TheVariants.{PoolFull, QueueFull, TooLong, WrongState}

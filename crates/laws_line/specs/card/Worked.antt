@@ -1,5 +1,6 @@
 -- Worked values: what was accepted over a run, and what waits to be sent.
-use Rattle.laws_line.specs.WorkedWords.{◌≡◌, ℕ, List, [], ◌∷◌, ◌++◌, refl, Network, frame, Call, reading, header_of, control_of, unnumbered_of, History, Config, hears, request, Request, Assign, Data, Release, fresh, Event, at, moments, history, accepted_at}
+use Rattle.std.specs.Prelude.{◌≡◌, ℕ, List, [], ◌∷◌, ◌++◌, refl}
+use Rattle.laws_line.specs.WorkedWords.{Network, frame, Call, reading, header_of, control_of, unnumbered_of, History, Config, hears, request, Request, Assign, Data, Release, fresh, Event, at, moments, history, accepted_at}
 use Rattle.lapd_tei.specs.Events as teis
 use Rattle.model_line.specs.Machine as lines
 

@@ -1,5 +1,6 @@
 -- Worked values: states, answers and runs that would break the promises, which no card comes to.
-use Rattle.laws_line.specs.WorkedWords.{◌≡◌, ◌≢◌, ℕ, zero, suc, ◌<◌, true, false, List, [], ◌∷◌, ◌++◌, None, refl, ap, arith, Fcs, Call, T200, Link, link_fresh as fresh_link, told, gave, hears, next, nothing, cause_in, Line, fresh_line, place_at, tei_at, link_at, Card, fresh, Event, at, card_answer as answer, IsTakenAmong, LinksStay, TellsCause, up_by_notes, runs_at_callers}
+use Rattle.std.specs.Prelude.{◌≡◌, ◌≢◌, ℕ, zero, suc, ◌<◌, true, false, List, [], ◌∷◌, ◌++◌, None, refl}
+use Rattle.laws_line.specs.WorkedWords.{ap, arith, Fcs, Call, T200, Link, link_fresh as fresh_link, told, gave, hears, next, nothing, cause_in, Line, fresh_line, place_at, tei_at, link_at, Card, fresh, Event, at, card_answer as answer, IsTakenAmong, LinksStay, TellsCause, up_by_notes, runs_at_callers}
 use Rattle.model_bits.specs.Stream as stream
 use Rattle.model_line.specs.Machine as lines
 use Rattle.laws_line.specs.card.Worked.{usual}

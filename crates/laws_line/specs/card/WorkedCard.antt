@@ -1,5 +1,6 @@
 -- Worked values of a card: each computes.
-use Rattle.laws_line.specs.WorkedWords.{None, ◌≡◌, ℕ, List, [], ◌∷◌, ◌++◌, map, Some, refl, frame, Network, QueueFull, PoolFull, Call, reading, header_of, control_of, unnumbered_of, Config, first_fault, Answer, told, refused, gave, hears, next, request, nothing, Request, Assign, Data, Unit, Event, at, Card, fresh, state, run, stored, limit}
+use Rattle.std.specs.Prelude.{None, ◌≡◌, ℕ, List, [], ◌∷◌, ◌++◌, map, Some, refl}
+use Rattle.laws_line.specs.WorkedWords.{frame, Network, QueueFull, PoolFull, Call, reading, header_of, control_of, unnumbered_of, Config, first_fault, Answer, told, refused, gave, hears, next, request, nothing, Request, Assign, Data, Unit, Event, at, Card, fresh, state, run, stored, limit}
 use Rattle.lapd_tei.specs.Events as teis
 use Rattle.model_line.specs.declared.config.Field.TheVariants as field
 use Rattle.model_line.specs.Machine as lines

@@ -1,5 +1,6 @@
 -- Worked values: what is known by notes.
-use Rattle.laws_line.specs.WorkedWords.{◌≡◌, Bool, true, false, List, [], ◌∷◌, ◌++◌, refl, Call, Packet, T201, reading, header_of, control_of, unnumbered_of, expiry, Assign, Remove, Check, fresh, Event, at, moments, up_by_notes}
+use Rattle.std.specs.Prelude.{◌≡◌, Bool, true, false, List, [], ◌∷◌, ◌++◌, refl}
+use Rattle.laws_line.specs.WorkedWords.{Call, Packet, T201, reading, header_of, control_of, unnumbered_of, expiry, Assign, Remove, Check, fresh, Event, at, moments, up_by_notes}
 use Rattle.lapd_tei.specs.Events as teis
 use Rattle.model_line.specs.Machine as lines
 use Rattle.laws_line.specs.card.Worked.{usual, on_0, up}

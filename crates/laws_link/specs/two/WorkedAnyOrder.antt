@@ -1,5 +1,6 @@
 -- Worked values: three contents one way and two the other arrive while both ways are busy at once.
-use Rattle.laws_link.specs.WorkedWords.{◌≡◌, List, [], ◌∷◌, ◌++◌, refl, seq, distance_of, named, supervisory_of, unnumbered_of, control_of, header_of, reading, after_all, Ends, sends, receives, Doing, at_near, at_far, doing_all, weight}
+use Rattle.std.specs.Prelude.{◌≡◌, List, [], ◌∷◌, ◌++◌, refl}
+use Rattle.laws_link.specs.WorkedWords.{seq, distance_of, named, supervisory_of, unnumbered_of, control_of, header_of, reading, after_all, Ends, sends, receives, Doing, at_near, at_far, doing_all, weight}
 use Rattle.laws_link.specs.two.WorkedRounds.{octets, asked}
 
 -- Each end gives an I-frame before it has received the other's first.

@@ -1,5 +1,6 @@
 -- Worked values: what was kept while an end was busy itself arrives once own busy is over.
-use Rattle.laws_link.specs.WorkedWords.{◌≡◌, false, [], ◌∷◌, refl, seq, distance_of, named, supervisory_of, unnumbered_of, control_of, header_of, reading, SetBusy, after_all, Ends, asks, sends, receives, at_near, at_far, doing_all, rounds, with_t200_expired, with_near_told, with_far_told, with_far_untold}
+use Rattle.std.specs.Prelude.{◌≡◌, false, [], ◌∷◌, refl}
+use Rattle.laws_link.specs.WorkedWords.{seq, distance_of, named, supervisory_of, unnumbered_of, control_of, header_of, reading, SetBusy, after_all, Ends, asks, sends, receives, at_near, at_far, doing_all, rounds, with_t200_expired, with_near_told, with_far_told, with_far_untold}
 use Rattle.laws_link.specs.two.WorkedEnds.{both}
 use Rattle.laws_link.specs.two.WorkedRounds.{near_asked, far_asked}
 use Rattle.laws_link.specs.two.WorkedOwnBusy.{near_dropped, far_dropped, far_busy_lost}

@@ -1,5 +1,6 @@
 -- Worked values: I-frames out of sequence, and REJ.
-use Rattle.laws_link.specs.WorkedWords.{◌≡◌, ℕ, ◌*◌, false, List, [], ◌∷◌, refl, seq, distance_of, named, Reject, supervisory_of, unnumbered_of, control_of, header_of, reading, ControlFrame, Event, response, after_all, usual, comes, up}
+use Rattle.std.specs.Prelude.{◌≡◌, ℕ, ◌*◌, false, List, [], ◌∷◌, refl}
+use Rattle.laws_link.specs.WorkedWords.{seq, distance_of, named, Reject, supervisory_of, unnumbered_of, control_of, header_of, reading, ControlFrame, Event, response, after_all, usual, comes, up}
 
 abbrev waits_after : List Event → List ControlFrame
 waits_after es = (after_all usual es up).waiting

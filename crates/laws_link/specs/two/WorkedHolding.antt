@@ -1,5 +1,6 @@
 -- Worked values: what two links that face each other have accepted, while a frame is lost and sent again.
-use Rattle.laws_link.specs.WorkedWords.{◌≡◌, ℕ, List, [], ◌∷◌, ◌++◌, refl, seq, distance_of, named, supervisory_of, unnumbered_of, control_of, header_of, reading, after_all, sends, receives, Doing, at_near, at_far, doing_all, begun, near_history, far_history, nothing_yet}
+use Rattle.std.specs.Prelude.{◌≡◌, ℕ, List, [], ◌∷◌, ◌++◌, refl}
+use Rattle.laws_link.specs.WorkedWords.{seq, distance_of, named, supervisory_of, unnumbered_of, control_of, header_of, reading, after_all, sends, receives, Doing, at_near, at_far, doing_all, begun, near_history, far_history, nothing_yet}
 use Rattle.laws_link.specs.two.WorkedEnds.{both, mended}
 
 abbrev seven : List (List ℕ)

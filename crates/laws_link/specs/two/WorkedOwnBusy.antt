@@ -1,5 +1,6 @@
 -- Worked values: what an end that is busy itself gives arrives, and what the other gives waits.
-use Rattle.laws_link.specs.WorkedWords.{◌≡◌, true, false, List, [], ◌∷◌, ◌++◌, refl, seq, distance_of, named, supervisory_of, unnumbered_of, control_of, header_of, reading, T200, SetBusy, ClearBusy, after_all, Ends, asks, expires, sends, receives, loses, Doing, at_near, at_far, doing_all, rounds, with_t200_expired, with_far_busy}
+use Rattle.std.specs.Prelude.{◌≡◌, true, false, List, [], ◌∷◌, ◌++◌, refl}
+use Rattle.laws_link.specs.WorkedWords.{seq, distance_of, named, supervisory_of, unnumbered_of, control_of, header_of, reading, T200, SetBusy, ClearBusy, after_all, Ends, asks, expires, sends, receives, loses, Doing, at_near, at_far, doing_all, rounds, with_t200_expired, with_far_busy}
 use Rattle.laws_link.specs.two.WorkedEnds.{both}
 use Rattle.laws_link.specs.two.WorkedRounds.{near_asked, far_asked, octets, asking, asked}
 

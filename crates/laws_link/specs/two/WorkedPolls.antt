@@ -1,5 +1,6 @@
 -- Worked values: polls and their answers, and what goes in its turn.
-use Rattle.laws_link.specs.WorkedWords.{◌≡◌, ℕ, false, true, List, [], ◌∷◌, refl, Some, seq, distance_of, named, ReceiveReady, ReceiveNotReady, Reject, Ua, Dm, supervisory_of, unnumbered_of, control_of, header_of, reading, ControlFrame, T200, Link, fresh, Data, SetBusy, response, after, after_all, usual, comes, ask, up, after_offers, turns}
+use Rattle.std.specs.Prelude.{◌≡◌, ℕ, false, true, List, [], ◌∷◌, refl, Some}
+use Rattle.laws_link.specs.WorkedWords.{seq, distance_of, named, ReceiveReady, ReceiveNotReady, Reject, Ua, Dm, supervisory_of, unnumbered_of, control_of, header_of, reading, ControlFrame, T200, Link, fresh, Data, SetBusy, response, after, after_all, usual, comes, ask, up, after_offers, turns}
 
 -- What waits after an event.
 abbrev waits_after : List ℕ → Link → List ControlFrame

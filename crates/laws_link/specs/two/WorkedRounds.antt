@@ -1,5 +1,6 @@
 -- Worked values: seven contents one way and two the other arrive, after no loss and after the loss of every frame.
-use Rattle.laws_link.specs.WorkedWords.{◌≡◌, ℕ, false, List, [], ◌∷◌, ◌++◌, length, replicate, refl, seq, distance_of, named, supervisory_of, unnumbered_of, control_of, header_of, reading, Data, after_all, Ends, asks, sends, receives, loses, Doing, at_near, at_far, doing_all, rounds, with_t200_expired}
+use Rattle.std.specs.Prelude.{◌≡◌, ℕ, false, List, [], ◌∷◌, ◌++◌, length, replicate, refl}
+use Rattle.laws_link.specs.WorkedWords.{seq, distance_of, named, supervisory_of, unnumbered_of, control_of, header_of, reading, Data, after_all, Ends, asks, sends, receives, loses, Doing, at_near, at_far, doing_all, rounds, with_t200_expired}
 use Rattle.laws_link.specs.two.WorkedEnds.{both}
 
 abbrev pub near_asked : ℕ → Doing

@@ -1,5 +1,6 @@
 -- A worked value of a T200 that is timely, where losses make it expire twice.
-use Rattle.laws_link.specs.WorkedWords.{◌≡◌, false, List, [], ◌∷◌, ◌++◌, refl, seq, distance_of, named, supervisory_of, unnumbered_of, control_of, header_of, reading, Established, TimerRecovery, T200, Data, after_all, asks, expires, sends, receives, loses, Doing, at_near, at_far, doing_all}
+use Rattle.std.specs.Prelude.{◌≡◌, false, List, [], ◌∷◌, ◌++◌, refl}
+use Rattle.laws_link.specs.WorkedWords.{seq, distance_of, named, supervisory_of, unnumbered_of, control_of, header_of, reading, Established, TimerRecovery, T200, Data, after_all, asks, expires, sends, receives, loses, Doing, at_near, at_far, doing_all}
 use Rattle.laws_link.specs.two.WorkedEnds.{both}
 
 -- Near sends an I-frame, which is lost; T200 expires, and the enquiry is lost too. Neither is on its way any more, so that

@@ -1,6 +1,7 @@
 -- A worked value of what T200 must not do: it expires while an enquiry or its answer is still on the way. No frame is
 -- lost, and contents are delivered twice.
-use Rattle.laws_link.specs.WorkedWords.{◌≡◌, false, List, [], ◌∷◌, ◌++◌, refl, seq, distance_of, named, supervisory_of, unnumbered_of, control_of, header_of, reading, AwaitingEstablishment, Established, T200, T203, Data, after_all, asks, expires, sends, receives, Doing, at_near, at_far, doing_all}
+use Rattle.std.specs.Prelude.{◌≡◌, false, List, [], ◌∷◌, ◌++◌, refl}
+use Rattle.laws_link.specs.WorkedWords.{seq, distance_of, named, supervisory_of, unnumbered_of, control_of, header_of, reading, AwaitingEstablishment, Established, T200, T203, Data, after_all, asks, expires, sends, receives, Doing, at_near, at_far, doing_all}
 use Rattle.laws_link.specs.two.WorkedEnds.{both}
 
 -- Near accepts contents; T203 and then T200 expire before a frame has left, so that two enquiries wait; both go.

@@ -16,7 +16,7 @@ use Rattle.model_line.specs.Request.{Request}
 use Rattle.laws_line.specs.Requests as requests
 use Rattle.laws_trace.proofs.ControlsWatched.{of_link, control_in, controls_at, while_up, answer_to, changed, answers_at, answers_to_frame}
 use Rattle.laws_trace.proofs.DeliveriesWatched.{Standing}
-use Rattle.laws_trace.specs.Trace.{frame_in, is_up, Seen, heard, seen, seen_told, seen_granted}
+use Rattle.laws_trace.specs.Trace.{frame_in, Seen, heard, seen, seen_told, seen_granted}
 use Rattle.laws_trace.proofs.Addressed.{addressed-is}
 use Rattle.laws_trace.proofs.CommandsCaused.{same-itself}
 use Rattle.laws_trace.proofs.ControlsDue.{controls, answers_of}

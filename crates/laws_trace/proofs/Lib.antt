@@ -101,7 +101,6 @@ pub mod OwedOfLink
 pub mod OwedAtLine
 pub mod LossesAtLine
 pub mod FramesOfLink
-pub mod LossesOfParts
 pub mod NoLossInVain
 pub mod RoomsAreTold
 pub mod UnitsAreTold

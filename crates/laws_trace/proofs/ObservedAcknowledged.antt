@@ -4,7 +4,7 @@ use Rattle.model_card.specs.Card.{fresh}
 use Rattle.model_card.specs.Event.{Event}
 use Rattle.model_card.specs.Run.{AreAtLines}
 use Rattle.laws_trace.specs.Observer as observer
-use Rattle.laws_trace.specs.Observer.{Observed, view_of}
+use Rattle.laws_trace.specs.Observer.{view_of}
 use Rattle.laws_trace.specs.Trace.{trace_of}
 use Rattle.laws_trace.proofs.DeliveriesWatched.{at_first, stand}
 use Rattle.laws_trace.proofs.NewsWatched.{none_owed}

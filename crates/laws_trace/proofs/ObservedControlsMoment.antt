@@ -23,7 +23,7 @@ use Rattle.laws_trace.proofs.DeliveriesWatched.{Standing, busy_asked}
 use Rattle.laws_trace.proofs.LinksMove.{differ-self}
 use Rattle.laws_trace.proofs.MovesWatched.{repeated}
 use Rattle.laws_trace.proofs.NewsWatched as news
-use Rattle.laws_trace.proofs.NewsWatched.{Owing, none_owed, owing}
+use Rattle.laws_trace.proofs.NewsWatched.{Owing, owing}
 use Rattle.laws_trace.proofs.ObservedAnswers.{is_answered, card-answered}
 use Rattle.laws_trace.proofs.ObservedControls.{either-none, as-busy, receipt-is, by-heard, asked-answers-is, busies, still-busy, none-led, stays-up, AsBusy, unchanged, as-busy-before}
 use Rattle.laws_trace.proofs.ObservedCount.{Same, Agree, when-holds}

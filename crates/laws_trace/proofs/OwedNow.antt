@@ -13,7 +13,7 @@ use Rattle.laws_trace.specs.LinkFrames.{is_frame_of}
 use Rattle.laws_trace.specs.Managing.{is_on}
 use Rattle.laws_trace.specs.Observer.{Observed, View, views, view_of, moment_of, view_behind}
 use Rattle.laws_trace.specs.Outgoing as outgoing
-use Rattle.laws_trace.specs.Outgoing.{Outgoing, outgoing_of, watches, is_empty, still_owes}
+use Rattle.laws_trace.specs.Outgoing.{Outgoing, outgoing_of, is_empty, still_owes}
 use Rattle.laws_trace.specs.Trace.{frame_in, is_up, Seen, seen, trace_of}
 use Rattle.laws_trace.proofs.ControlsAtLine.{waits, put_here}
 use Rattle.laws_trace.proofs.ControlsDue.{controls}

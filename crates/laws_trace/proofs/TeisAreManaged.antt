@@ -4,7 +4,7 @@ use Rattle.std.proofs.Common.{eqb-true}
 use Rattle.model_line.specs.Event as line_event
 use Rattle.model_line.specs.Request as request
 use Rattle.model_line.specs.Machine as lines
-use Rattle.model_line.specs.Request.{Establish, Release, Data, Check, SetBusy, ClearBusy}
+use Rattle.model_line.specs.Request.{Data}
 use Rattle.model_card.specs.Card.{fresh}
 use Rattle.model_card.specs.Event.{Event}
 use Rattle.model_card.specs.Machine.{after, answer}

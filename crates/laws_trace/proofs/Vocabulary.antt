@@ -1,8 +1,8 @@
 -- The words of std and of the crates below with which the proofs of this crate speak, from where they are defined.
-pub use Rattle.std.proofs.Common.{All, Bool, Err, IfSome, IsTrue, List, None, Ok, Option, Result, Some, [], ap, append-nil, append_assoc, arith, cond, drop, eq-eqb, false, filter, get_or, inl, inr, is_some, length, length-append, length-take-le, map, max, nat_le, not, option_map, refl, replicate, set, slice_get, slice_index, subst, suc, sym, take, true, true≢false, zero, ℕ, ⊎_elim, ◌%◌, ◌&&◌, ◌*◌, ◌++◌, ◌+◌, ◌-◌, ◌/◌, ◌<◌, ◌==◌, ◌||◌, ◌∙◌, ◌∷◌, ◌≡◌, ◌≢◌, ◌≤◌, ◌⊎◌}
-pub use Rattle.std.proofs.lemmas.Bool.{and_parts, and_right, cases_eq, eqb-false, le-leb, le-ltb, leb-false, leb-true, or_from, or_parts, or_right}
+pub use Rattle.std.proofs.Common.{All, Bool, Err, IfSome, IsTrue, List, None, Ok, Option, Result, Some, [], ap, append-nil, append_assoc, arith, cond, drop, eq-eqb, false, filter, get_or, inl, inr, is_some, length, length-append, map, max, nat_le, not, option_map, refl, replicate, set, slice_get, slice_index, subst, suc, sym, take, true, true≢false, zero, ℕ, ⊎_elim, ◌%◌, ◌&&◌, ◌*◌, ◌++◌, ◌+◌, ◌-◌, ◌/◌, ◌<◌, ◌==◌, ◌||◌, ◌∙◌, ◌∷◌, ◌≡◌, ◌≢◌, ◌≤◌, ◌⊎◌}
+pub use Rattle.std.proofs.lemmas.Bool.{and_parts, and_right, eqb-false, le-leb, le-ltb, leb-false, leb-true, or_from, or_parts, or_right}
 pub use Rattle.std.proofs.lemmas.Grind.{flat_map-append}
-pub use Rattle.std.proofs.lemmas.List.{drop_all, get_or-replicate, get_or-set_other, get_or-set_same, length-replicate, map-append, take-append-drop}
+pub use Rattle.std.proofs.lemmas.List.{get_or-replicate, get_or-set_other, get_or-set_same, length-replicate, map-append}
 pub use Rattle.std.proofs.lemmas.List.Elements.{All-append, All-cons, All-drop, All-head, All-nil, All-tail, All-take, All-weaker, filter-append}
 pub use Rattle.std.proofs.lemmas.List.Sums.{fold-append, sum_by-append, sum_by-cons}
 pub use Rattle.std.proofs.lemmas.Map.Views.{any-filter_same}
@@ -55,7 +55,7 @@ pub use Rattle.lapd_tei.specs.Machine.{Management, TeiTold}
 pub use Rattle.lapd_tei.specs.Messages.{action_of, heard_in, heard_of_type}
 pub use Rattle.lapd_tei.specs.Sound.{IsAt, IsSoundCheck, IsSoundTable}
 pub use Rattle.lapd_tei.specs.Table.{Places, free_place, free_tei, has, is_free, is_on, place_of}
-pub use Rattle.lapd_tei.specs.Words.{freed, lost_after, no_room}
+pub use Rattle.lapd_tei.specs.Words.{freed, no_room}
 pub use Rattle.lapd_tei.specs.declared.check.Period.{Period}
 pub use Rattle.lapd_tei.specs.declared.check.Period.TheVariants.{First, Second}
 pub use Rattle.lapd_tei.specs.declared.messages.Message.{Message}
@@ -90,19 +90,17 @@ pub use Rattle.laws_line.specs.Frames.{lost_in}
 pub use Rattle.laws_line.specs.Heard.{IsMalformed, IsTooLong, contents_in, is_data_of, is_unit_of, notes_of, tells_contents}
 pub use Rattle.laws_line.specs.Loss.{is_loss_of}
 pub use Rattle.laws_line.specs.Requests.{deactivates, is_deactivation}
-pub use Rattle.laws_line.specs.Served.{HasNothing, IsIdle, IsMessage, IsOfLink, IsOwed, IsSilent, IsSilentAt, IsUnit, contents_of, in_turn, unit_asked, units_asked}
+pub use Rattle.laws_line.specs.Served.{HasNothing, IsIdle, IsOfLink, IsOwed, IsSilent, IsSilentAt, contents_of, in_turn, unit_asked, units_asked}
 pub use Rattle.laws_line.specs.Share.{is_granted}
 pub use Rattle.laws_line.specs.Steady.{Brings, BringsMalformed, IsBy, IsDeactivated, IsOf, timer_of}
 pub use Rattle.laws_line.specs.Timers.{HaveTheirTimers, is_needed, left_by}
 pub use Rattle.laws_line.specs.card.Among.{AreTakesAt, IsTakenAmong, takes_at}
 pub use Rattle.laws_line.specs.card.PromisesOfTakes.{IsWaiting}
-unfoldable pub use Rattle.laws_line.specs.card.PromisesOfTakes.{StaysAt}
 pub use Rattle.laws_line.specs.card.Timers.{AllHaveTheirTimers, runs_at_callers}
 pub use Rattle.laws_link.proofs.Counted.{kept-after}
 pub use Rattle.laws_link.proofs.Follows.{event-follows}
 pub use Rattle.laws_link.proofs.InOrder.{given-in-order}
 pub use Rattle.laws_link.proofs.Keeping.{event-done, event-unit}
-pub use Rattle.laws_link.proofs.OfTwo.Waiting.{nothing-given, silent-stays}
 pub use Rattle.laws_link.proofs.Offering.{given-is-offered}
 pub use Rattle.laws_link.proofs.Once.{data-is, within-is}
 pub use Rattle.laws_link.proofs.Restarts.{establishes}
@@ -113,11 +111,10 @@ pub use Rattle.laws_link.specs.Heard.{in_sequence, in_ui_frame, unit_heard, with
 pub use Rattle.laws_link.specs.History.{share, with_share}
 pub use Rattle.laws_link.specs.InOrder.{IsInOrder}
 pub use Rattle.laws_link.specs.Offered.{Carries, IsOffered, i_frames, number_sent}
-pub use Rattle.laws_link.specs.Owing.{IsBegunAgain, Owes, receipt}
 pub use Rattle.laws_link.specs.States.{as_heard, by_expiry, by_frame, by_received, by_request, comes_to, is_anew, is_clearing, is_faulty, is_invalid, is_overlong, leads_by_agreement, leads_by_sabme, moves, numbers_begin, receipt_of, state_after}
 pub use Rattle.laws_link.specs.Telling.{final_as, numbered_as, told_by, told_cleared, told_expired}
 pub use Rattle.laws_link.specs.Timed.{is_same, obeyed}
-pub use Rattle.laws_link.specs.Waiting.{answers, answers_to, answers_up, as_command, as_response, behind, command_in, commands, is_next, is_taken, is_time, lost_by, put, receipt_as, to_disc, to_information, to_sabme, to_supervisory, waiting_left}
+pub use Rattle.laws_link.specs.Waiting.{answers, answers_to, answers_up, as_command, as_response, behind, command_in, commands, is_next, is_taken, is_time, put, receipt_as, to_disc, to_information, to_sabme, to_supervisory, waiting_left}
 pub use Rattle.laws_link.specs.two.Needed.{HasItsTimer, IsCalmIn, needed, needed_in}
 pub use Rattle.model_bits.specs.Heads.{latest_frame, or_later}
 pub use Rattle.model_bits.specs.Sent.{Item, idle}

@@ -7,7 +7,7 @@ use Rattle.model_card.specs.Run.{Moment, after_all, AreAtLines}
 use Rattle.laws_trace.specs.Observer.{Observed, View, views, view_of, moment_of, view_behind}
 use Rattle.laws_trace.specs.ControlFrames.{put_in}
 use Rattle.laws_trace.specs.Outgoing as outgoing
-use Rattle.laws_trace.specs.Outgoing.{Outgoing, went_on, keeps, watches, nothing_yet, outgoing_of}
+use Rattle.laws_trace.specs.Outgoing.{outgoing_of}
 use Rattle.laws_trace.specs.Trace.{seen, seen_in, trace_of}
 use Rattle.laws_trace.proofs.ControlFrames.{moment}
 use Rattle.laws_trace.proofs.ControlsBegin.{begun-leaves}

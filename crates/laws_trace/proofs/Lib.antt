@@ -67,7 +67,6 @@ pub mod ControlsOfLink
 pub mod Addressed
 pub mod ControlsSeen
 pub mod ControlsAtLine
-pub mod CallsKeep
 pub mod ControlFrames
 pub mod ManagingTables
 pub mod ManagingNotes

@@ -1,5 +1,5 @@
 -- The numbers of a link begin anew by nothing but an establishment, or the end of its TEI.
-use Rattle.laws_link.proofs.Vocabulary.{◌≡◌, ℕ, Bool, true, false, List, refl, sym, ◌∙◌, true≢false, Control, Sabme, Ua, State, TeiAssigned, AwaitingEstablishment, AwaitingRelease, Established, TimerRecovery, Terms, Link, Course, begun, restarts, IsEstablished, Establishes, Fits, FitsEvent, Kept, frame_row, event_row, Event, cleared, frame, received, after, frame_in, frame_step}
+use Rattle.laws_link.proofs.Vocabulary.{◌≡◌, ℕ, Bool, true, false, List, refl, sym, ◌∙◌, true≢false, Control, Sabme, Ua, State, AwaitingEstablishment, AwaitingRelease, Terms, Link, Course, begun, restarts, IsEstablished, Establishes, Fits, FitsEvent, Kept, frame_row, event_row, Event, cleared, frame, received, after, frame_in, frame_step}
 
 -- The numbers go on.
 pub record GoesOn (zeroed : Bool) : Type 0 where

@@ -1,7 +1,6 @@
 -- Where control frames of a link wait, each frame of it that begins is one of them.
-use Rattle.laws_trace.proofs.Vocabulary.{◌≡◌, ℕ, ◌<◌, zero, suc, false, cond, true, Bool, true≢false, All, List, [], ◌∷◌, drop, length, map, flat_map, filter, Option, Some, None, IfSome, option_to_list, refl, sym, ap, ◌∙◌, subst, inl, inr, append-nil, Information, ReceiveReady, ReceiveNotReady, Reject, Sabme, Disc, Ui, Ua, Dm, Frmr, Service, place_of-is, given-in-order, IsInOrder, All-head, Refusal, ControlFrame, Terms, Link, Given, IsGiven, given_is_frame, Config, Effect, of_request, hears, expiry, request, next, Answer, unless_refused_told, is_information, Line, link_of, place_in, terms, IsInRange, terms_in_range, PoolFull, and_parts, line_at, is_full, at, by_room}
+use Rattle.laws_trace.proofs.Vocabulary.{◌≡◌, ℕ, ◌<◌, zero, suc, false, cond, true, Bool, true≢false, All, List, [], ◌∷◌, drop, length, map, flat_map, filter, Option, Some, None, IfSome, option_to_list, refl, sym, ap, ◌∙◌, subst, inl, inr, append-nil, Information, Ui, Service, place_of-is, given-in-order, IsInOrder, All-head, Refusal, ControlFrame, Terms, Link, Given, IsGiven, given_is_frame, Config, Effect, of_request, request, next, Answer, unless_refused_told, is_information, Line, link_of, place_in, terms, IsInRange, terms_in_range, PoolFull, and_parts, line_at, is_full, at, by_room}
 use Rattle.lapd_frame.specs.declared.controls.Control.{Control}
-use Rattle.lapd_frame.specs.declared.controls.Control.TheVariants.{Xid}
 use Rattle.model_link.specs.Events as link
 use Rattle.model_link.specs.Machine as links
 use Rattle.model_link.specs.Sound as link_sound

@@ -1,7 +1,6 @@
 -- Counters count what is seen: the law.
-use Rattle.laws_trace.proofs.Vocabulary.{◌≡◌, ℕ, ◌+◌, ◌<◌, ◌==◌, Bool, true, false, cond, List, [], ◌∷◌, ◌++◌, map, Option, Some, None, refl, sym, ap, ◌∙◌, arith, true≢false, ◌⊎◌, inl, inr, append-nil, flat_map, flat_map-append, sum_by-append, Cause, Counter, Frames, Octets, Polls, Overlong, Dropped, Errors, EstablishIndications, EstablishConfirms, ReleaseIndications, ReleaseConfirms, Units, Xids, Assigned, Lost, Messages, Heard, Begun, Kind, More, place, cause_place, amount_of, amount_in, kind_place, heard_shown, note_shown, drop_shown, lost_shown, Side, Config, shown, answer_shown, Answer, refused, gave, Line, Refusal, PoolFull, Card, line_at, by_room, all_shown, moments}
+use Rattle.laws_trace.proofs.Vocabulary.{◌≡◌, ℕ, ◌+◌, ◌<◌, ◌==◌, Bool, true, false, cond, List, [], ◌∷◌, ◌++◌, map, Option, Some, None, refl, sym, ap, ◌∙◌, arith, true≢false, ◌⊎◌, inl, inr, append-nil, flat_map, flat_map-append, sum_by-append, Cause, Counter, Frames, Octets, Polls, Overlong, Dropped, Messages, Heard, Begun, Kind, More, place, cause_place, amount_of, amount_in, kind_place, heard_shown, note_shown, drop_shown, lost_shown, Side, Config, shown, answer_shown, Answer, refused, gave, Line, Refusal, PoolFull, Card, line_at, by_room, all_shown, moments}
 use Rattle.std.proofs.Common.{eqb-true}
-use Rattle.lapd_count.specs.declared.counter.Counter.TheVariants.{Data, Removed, Doubled}
 use Rattle.model_line.specs.Event as line_event
 use Rattle.model_line.specs.Event.{told}
 use Rattle.model_line.specs.Machine as lines

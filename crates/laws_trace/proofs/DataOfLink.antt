@@ -1,6 +1,6 @@
 -- What an event of a link is to the contents that it keeps: what is acknowledged of them, and what is accepted.
 use Rattle.laws_trace.proofs.Vocabulary.{◌≡◌, ℕ, ◌+◌, ◌≤◌, Bool, true, false, cond, List, [], ◌∷◌, Option, Some, None, refl, ap, arith, is_some, option_map_or, Seq, named, WrongState, Terms, received, requested, Link, is_multiple_frame, refusal_for_room, named-within, acknowledged_by, accepted, beyond, number_received}
-use Rattle.model_link.specs.Events.{Event, Request, Establish, Release, Data, SetBusy, ClearBusy}
+use Rattle.model_link.specs.Events.{Event, Request, Data}
 use Rattle.model_link.specs.Requests.{refusal}
 use Rattle.laws_link.specs.Accepted.{acknowledged}
 

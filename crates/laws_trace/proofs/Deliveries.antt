@@ -1,5 +1,5 @@
 -- What is told is what was heard.
-use Rattle.laws_trace.proofs.Vocabulary.{◌≡◌, ℕ, ◌%◌, ◌≤◌, ◌==◌, ◌&&◌, Bool, true, false, cond, List, [], ◌∷◌, length, Option, Some, None, refl, sym, ap, ◌∙◌, arith, eq-eqb, ◌⊎◌, inl, inr, true≢false, All, ◌||◌, not, nat_le, count_by, option_to_list, list_any, and_parts, All-head, All-tail, sum_by-cons, none-some, Seq, Address, Note, Service, Parts, reading, sapi_of, service_of, same_service, Terms, Arrived, restarts, eligible, eligible_of, is_eligible, Link, is_multiple_frame, notes-own, establishes, unit_heard, in_ui_frame, Config, hears, expiry, request, next, Answer, Line, link_in, terms, aim_of, heard_side, group_tei, IsInRange, IsMalformed, IsTooLong, notes_of, contents_in, is_data_of, is_unit_of, tells_contents, IsBy, Brings, BringsMalformed, contents-heard, sapi-is, read-aim, read-event, told-once, group-read}
+use Rattle.laws_trace.proofs.Vocabulary.{◌≡◌, ℕ, ◌%◌, ◌≤◌, ◌==◌, ◌&&◌, Bool, true, false, cond, List, [], ◌∷◌, length, Option, Some, None, refl, sym, ap, ◌∙◌, arith, eq-eqb, ◌⊎◌, inl, inr, true≢false, All, ◌||◌, not, nat_le, count_by, option_to_list, list_any, and_parts, All-head, All-tail, sum_by-cons, none-some, Seq, Address, Note, Service, Parts, reading, sapi_of, service_of, same_service, Terms, Arrived, restarts, eligible, eligible_of, is_eligible, Link, is_multiple_frame, notes-own, establishes, unit_heard, in_ui_frame, Config, hears, Answer, Line, link_in, terms, aim_of, heard_side, group_tei, IsInRange, IsMalformed, IsTooLong, notes_of, contents_in, is_data_of, is_unit_of, tells_contents, IsBy, Brings, BringsMalformed, contents-heard, sapi-is, read-aim, read-event, told-once, group-read}
 use Rattle.model_bits.specs.Stream as stream
 use Rattle.lapd_frame.specs.declared.controls.Control.{Control}
 use Rattle.lapd_frame.specs.declared.controls.Control.TheVariants as control

@@ -1,5 +1,5 @@
 -- What is wrong with what is seen of a link: one event of its line.
-use Rattle.laws_trace.proofs.Vocabulary.{◌≡◌, ℕ, ◌==◌, ◌&&◌, Bool, true, false, cond, List, [], ◌∷◌, ◌++◌, Option, Some, None, Result, Ok, Err, refl, sym, ap, ◌∙◌, subst, true≢false, ◌⊎◌, inl, inr, append-nil, option_to_list, option_map_or, Unserved, Address, ReadFault, BadExtension, Undefined, WrongSize, Short, ErrorCode, Long, Service, Parts, reading, long_reading, Config, hears, expiry, request, next, Answer, heard_side, aim_of_heard, aim_of_reading, aim_of_long, drop_for, Line, place_in, terms, aim_of, IsMalformed, IsTooLong, IsBy, BringsMalformed, nat_lt, length}
+use Rattle.laws_trace.proofs.Vocabulary.{◌≡◌, ℕ, ◌==◌, ◌&&◌, Bool, true, false, cond, List, [], ◌∷◌, ◌++◌, Option, Some, None, Result, Ok, Err, refl, sym, ap, ◌∙◌, subst, true≢false, ◌⊎◌, inl, inr, append-nil, option_to_list, option_map_or, Unserved, Address, ReadFault, Undefined, WrongSize, ErrorCode, Long, Service, Parts, reading, long_reading, Config, hears, expiry, Answer, heard_side, aim_of_heard, aim_of_reading, aim_of_long, drop_for, Line, place_in, terms, aim_of, IsMalformed, IsTooLong, IsBy, BringsMalformed, nat_lt, length}
 use Rattle.std.proofs.Common.{eqb-true}
 use Rattle.model_bits.specs.Stream as stream
 use Rattle.lapd_frame.specs.declared.notes.ErrorCode.{ErrorCode}

@@ -1,12 +1,11 @@
 -- The control frames of a link that are due by what the observer knows are those that are due by how the link stands.
-use Rattle.laws_trace.proofs.Vocabulary.{◌≡◌, ℕ, ◌+◌, ◌%◌, ◌==◌, ◌&&◌, not, Bool, true, false, cond, length, List, [], ◌++◌, Option, Some, None, is_some, refl, sym, ap, ◌∙◌, subst, true≢false, nat_lt, Result, Ok, Err, option_map_or, seq, Information, ReceiveReady, ReceiveNotReady, Reject, Sabme, Disc, Ui, Ua, Dm, Frmr, ReadFault, Service, Timer, Parts, reading, ControlFrame, Config, hears, expiry, request, next, Answer, refused, gave, heard_side, Assign, Remove, Deactivate, as_response, is_granted, Down}
+use Rattle.laws_trace.proofs.Vocabulary.{◌≡◌, ℕ, ◌+◌, ◌%◌, ◌==◌, ◌&&◌, not, Bool, true, false, cond, length, List, [], ◌++◌, Option, Some, None, is_some, refl, sym, ap, ◌∙◌, subst, true≢false, nat_lt, Result, Ok, Err, option_map_or, seq, Information, ReceiveReady, ReceiveNotReady, Reject, Sabme, Disc, ReadFault, Service, Timer, Parts, reading, ControlFrame, Config, hears, expiry, request, next, Answer, gave, heard_side, Deactivate, as_response, is_granted}
 use Rattle.model_bits.specs.Stream as stream
 use Rattle.lapd_frame.specs.declared.controls.Control.{Control}
-use Rattle.lapd_frame.specs.declared.controls.Control.TheVariants.{Xid}
 use Rattle.lapd_frame.specs.declared.timers.Timer.TheVariants as timers
 use Rattle.model_line.specs.Event as line_event
 use Rattle.model_line.specs.Event.{told}
-use Rattle.model_line.specs.Request.{Request, Establish, Release, Data, Check, SetBusy, ClearBusy}
+use Rattle.model_line.specs.Request.{Request, Establish, Release, SetBusy, ClearBusy}
 use Rattle.laws_trace.specs.ControlFrames as now_due
 use Rattle.std.specs.Result.{result_ok}
 use Rattle.laws_trace.specs.LinkFrames.{brought, frame_of, its_frame, is_for, malformed}

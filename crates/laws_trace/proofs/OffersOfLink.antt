@@ -1,8 +1,7 @@
 -- What a link gives next is what an observer has it offer.
-use Rattle.laws_trace.proofs.Vocabulary.{◌≡◌, ℕ, zero, suc, ◌+◌, ◌%◌, ◌<◌, ◌≤◌, ◌==◌, ◌&&◌, not, nat_lt, Bool, true, false, cond, List, [], ◌∷◌, drop, length, slice_get, Option, Some, None, refl, sym, ap, ◌∙◌, subst, inl, inr, arith, true≢false, IfSome, and_parts, fold, Service, place_of-is, Information, ReceiveReady, ReceiveNotReady, Reject, Sabme, Disc, Ui, Ua, Dm, Frmr, Seq, seq, given-in-order, given-is-offered, IsInOrder, IsOffered, State, TeiAssigned, AwaitingEstablishment, AwaitingRelease, Established, TimerRecovery, ControlFrame, Terms, Link, is_multiple_frame, is_information, state_number, Given, Config, Line, link_of, place_in, terms, window, IsInRange, IsSilent, terms_in_range, line_at, moments, take, map, ◌++◌}
+use Rattle.laws_trace.proofs.Vocabulary.{◌≡◌, ℕ, zero, suc, ◌+◌, ◌%◌, ◌<◌, ◌≤◌, ◌==◌, ◌&&◌, not, nat_lt, Bool, true, false, cond, List, [], ◌∷◌, drop, length, slice_get, Option, Some, None, refl, sym, ap, ◌∙◌, subst, inl, inr, arith, true≢false, IfSome, and_parts, fold, Service, place_of-is, Information, ReceiveReady, Seq, seq, given-in-order, given-is-offered, IsInOrder, IsOffered, State, Established, ControlFrame, Terms, Link, is_multiple_frame, is_information, state_number, Given, Config, Line, link_of, place_in, terms, window, IsInRange, IsSilent, terms_in_range, line_at, moments, take, map, ◌++◌}
 use Rattle.std.proofs.lemmas.Bool.{ltb-true, lt-ltb}
 use Rattle.lapd_frame.specs.declared.controls.Control.{Control}
-use Rattle.lapd_frame.specs.declared.controls.Control.TheVariants.{Xid}
 use Rattle.model_link.specs.Events as link
 use Rattle.model_link.specs.Machine as links
 use Rattle.model_link.specs.Sound as link_sound

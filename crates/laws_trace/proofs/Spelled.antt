@@ -1,5 +1,5 @@
 -- Each frame that begins on a line is one that the grammar has, of a service or of TEI management: the law.
-use Rattle.laws_trace.proofs.Vocabulary.{◌≡◌, ◌<◌, ◌≤◌, true, false, List, [], ◌∷◌, ◌++◌, slice_get, Option, Some, None, IfSome, option_map, refl, sym, subst, arith, All, option_or, flat_map-append, All-nil, All-cons, All-head, All-append, Service, Call, Packet, Parts, Spells, Ui, sapi_of, Message, address_at, IsGiven, Given, Terms, given_is_frame, Config, hears, expiry, request, next, gave, Line, UnitData, service_at, place_at, terms, link_at, Taken, with_unit, unit_frame, first_taken, round, taken, next_of, IsInRange, IsSoundAt, IsUnitData, round_below, terms_in_range, OfLink, of-links, fresh_is_sound, Card, ℕ, moments}
+use Rattle.laws_trace.proofs.Vocabulary.{◌≡◌, ◌<◌, ◌≤◌, true, false, List, [], ◌∷◌, ◌++◌, slice_get, Option, Some, None, IfSome, option_map, refl, sym, subst, arith, All, option_or, flat_map-append, All-nil, All-cons, All-head, All-append, Service, Call, Packet, Parts, Spells, Ui, sapi_of, Message, address_at, IsGiven, Given, Terms, given_is_frame, Config, request, next, gave, Line, UnitData, service_at, place_at, terms, link_at, Taken, with_unit, unit_frame, first_taken, round, taken, next_of, IsInRange, IsSoundAt, IsUnitData, round_below, terms_in_range, OfLink, of-links, fresh_is_sound, Card, ℕ, moments}
 use Rattle.std.specs.Option.{unwrap_or}
 use Rattle.lapd_tei.specs.Messages.{information_of, frame_of as message_frame}
 use Rattle.model_link.specs.Machine as links

@@ -1,5 +1,5 @@
 -- How a link stands, to whoever watches it: over runs.
-use Rattle.laws_trace.proofs.Vocabulary.{◌≡◌, ℕ, ◌==◌, ◌&&◌, ◌||◌, Bool, true, false, cond, List, [], ◌∷◌, ◌++◌, map, Option, Some, None, refl, sym, ap, ◌∙◌, subst, eq-eqb, ◌⊎◌, inl, inr, true≢false, fold, not, is_some, list_any, option_map_or, and_parts, Service, Parts, same_service, Terms, restarts, Link, is_multiple_frame, Config, hears, expiry, request, next, Answer, LineTold, refused, gave, Line, place_in, link_in, link_of, terms, aim_of, unless_refused, of_heard, at_requested, IsInRange, notes_of, is_data_of, is_granted, IsBy, not-refused}
+use Rattle.laws_trace.proofs.Vocabulary.{◌≡◌, ℕ, ◌==◌, ◌&&◌, ◌||◌, Bool, true, false, cond, List, [], ◌∷◌, ◌++◌, map, Option, Some, None, refl, sym, ap, ◌∙◌, subst, eq-eqb, ◌⊎◌, inl, inr, true≢false, fold, not, is_some, list_any, option_map_or, and_parts, Service, Parts, same_service, Terms, restarts, Link, is_multiple_frame, Config, hears, expiry, request, next, Answer, LineTold, Line, place_in, link_in, link_of, terms, aim_of, unless_refused, of_heard, at_requested, IsInRange, notes_of, is_data_of, is_granted, IsBy, not-refused}
 use Rattle.std.proofs.Common.{eqb-true}
 use Rattle.model_bits.specs.Stream as stream
 use Rattle.laws_link.specs.Flags as flags

@@ -1,5 +1,5 @@
 -- What is known of a link, and its timers, over an offer; and what its orders start.
-use Rattle.laws_trace.proofs.Vocabulary.{◌≡◌, ℕ, ◌+◌, ◌%◌, ◌&&◌, ◌||◌, Bool, true, false, cond, List, [], ◌∷◌, Option, Some, None, refl, sym, ap, ◌∙◌, subst, arith, true≢false, All, not, nat_lt, length, option_map_or, All-head, seq, ControlFrame, State, TeiAssigned, AwaitingEstablishment, AwaitingRelease, Established, TimerRecovery, Terms, LinkTimer, Link, outstanding, is_established, IsWaitingFrame, Given, runs}
+use Rattle.laws_trace.proofs.Vocabulary.{◌≡◌, ℕ, ◌+◌, ◌%◌, ◌&&◌, ◌||◌, Bool, true, false, cond, List, [], ◌∷◌, Option, Some, None, refl, sym, ap, ◌∙◌, subst, arith, true≢false, All, not, nat_lt, length, option_map_or, All-head, seq, ControlFrame, State, AwaitingEstablishment, Established, TimerRecovery, Terms, LinkTimer, Link, outstanding, is_established, IsWaitingFrame, Given, runs}
 use Rattle.std.specs.Option.{unwrap_or}
 use Rattle.model_link.specs.declared.timers.LinkTimer.TheVariants.{T200, T203}
 use Rattle.model_link.specs.Events as link

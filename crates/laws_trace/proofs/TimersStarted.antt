@@ -1,5 +1,5 @@
 -- The timers of a link are started as they are due: each event of a line.
-use Rattle.laws_trace.proofs.Vocabulary.{◌≡◌, ℕ, ◌&&◌, ◌||◌, not, Bool, true, false, cond, Option, Some, None, refl, sym, ap, ◌∙◌, subst, true≢false, inl, inr, option_map_or, Service, Timer, place_of-is, is_on-at, HasItsTimer, State, TeiAssigned, AwaitingEstablishment, AwaitingRelease, Established, TimerRecovery, Terms, LinkTimer, Link, is_same, obeyed, runs, timer_at, Config, hears, expiry, request, next, Answer, orders_in, Line, link_of, place_in, has_tei, state_of, terms, IsInRange, timer_of, is_needed, left_by, HaveTheirTimers, followed, timely-line, List, ◌++◌, Order, order_for, orders_for}
+use Rattle.laws_trace.proofs.Vocabulary.{◌≡◌, ℕ, ◌&&◌, ◌||◌, not, Bool, true, false, cond, Option, Some, None, refl, sym, ap, ◌∙◌, subst, true≢false, inl, inr, option_map_or, Service, Timer, place_of-is, is_on-at, HasItsTimer, State, TeiAssigned, Terms, LinkTimer, Link, is_same, obeyed, runs, timer_at, Config, expiry, Answer, orders_in, Line, link_of, place_in, has_tei, state_of, terms, IsInRange, timer_of, is_needed, left_by, HaveTheirTimers, followed, timely-line, List, ◌++◌, Order, order_for, orders_for}
 use Rattle.lapd_frame.specs.declared.controls.Control.{Control}
 use Rattle.lapd_frame.specs.declared.timers.Timer.TheVariants as timers
 use Rattle.model_link.specs.declared.timers.LinkTimer.TheVariants.{T200, T203}

@@ -1,5 +1,5 @@
 -- A TEI that is on a line before an event and behind it keeps its place.
-use Rattle.laws_trace.proofs.Vocabulary.{◌≡◌, ◌≢◌, ℕ, ◌==◌, Bool, true, false, get_or, Option, Some, None, refl, sym, ap, ◌∙◌, subst, arith, eq-eqb, true≢false, none-some, get_or-set_same, get_or-set_other, Places, is_on, Change, Gained, Left, Refusal, Config, IsInRange, ranges_of, Aim, at_none, at_link, at_management, at_units, at_no_link, of_aim, of_change, told_of_management, IsProper, heard_proper, expiry_proper, request_proper, aim_of_heard, aim_of_request, unless_refused, hears, expiry, request, next, Line, fresh_line, next-moves, Card, line_at, by_room, has_lines}
+use Rattle.laws_trace.proofs.Vocabulary.{◌≡◌, ◌≢◌, ℕ, ◌==◌, Bool, true, false, get_or, Option, Some, None, refl, sym, ap, ◌∙◌, subst, arith, eq-eqb, true≢false, none-some, get_or-set_same, get_or-set_other, Places, is_on, Change, Gained, Left, Refusal, Config, IsInRange, ranges_of, Aim, at_management, at_no_link, of_aim, of_change, told_of_management, IsProper, heard_proper, expiry_proper, request_proper, aim_of_heard, aim_of_request, unless_refused, hears, expiry, request, next, Line, fresh_line, next-moves, Card, line_at, by_room, has_lines}
 use Rattle.std.proofs.Common.{eqb-true}
 use Rattle.lapd_tei.specs.Events as teis
 use Rattle.lapd_tei.specs.Laws as tei_laws

@@ -1,5 +1,5 @@
 -- Unit data goes out in the order in which it was granted, over runs.
-use Rattle.laws_trace.proofs.Vocabulary.{◌≡◌, ℕ, ◌<◌, ◌≤◌, ◌==◌, ◌&&◌, Bool, true, false, cond, List, [], ◌∷◌, ◌++◌, drop, map, slice_get, Option, Some, None, option_map, refl, sym, ap, ◌∙◌, subst, inl, inr, append-nil, All, not, filter, get_or-replicate, map-append, All-nil, All-head, Ui, sapi_of, IsInOrder, Link, ControlFrame, Config, hears, expiry, request, next, NextFrame, Answer, refused, gave, Line, UnitData, link_count, link_at, service_at, terms, fresh_line, management_sapi, Taken, taken, unit_frame, next_of, IsInRange, IsUnitData, IsOfLink, IsOwed, IsIdle, contents_of, units_asked, unit_asked, event-follows, event-happens, served, units-wait, fold}
+use Rattle.laws_trace.proofs.Vocabulary.{◌≡◌, ℕ, ◌<◌, ◌≤◌, ◌==◌, ◌&&◌, Bool, true, false, cond, List, [], ◌∷◌, ◌++◌, drop, map, slice_get, Option, Some, None, option_map, refl, sym, ap, ◌∙◌, subst, inl, inr, append-nil, All, not, filter, get_or-replicate, map-append, All-nil, All-head, Ui, sapi_of, IsInOrder, Link, ControlFrame, Config, hears, expiry, request, next, NextFrame, Answer, gave, Line, UnitData, link_count, link_at, service_at, terms, fresh_line, management_sapi, Taken, taken, unit_frame, next_of, IsInRange, IsUnitData, IsOfLink, IsOwed, IsIdle, contents_of, units_asked, unit_asked, event-follows, event-happens, served, units-wait, fold}
 use Rattle.lapd_tei.specs.Messages.{information_of}
 use Rattle.model_link.specs.Link.{fresh}
 use Rattle.model_line.specs.Event.{Event, told}

@@ -214,7 +214,7 @@ fn is_poll(side: Side, way: Way, first: u8, kind: Kind, second: u8) -> bool
         Side::User => 0,
         Side::Network => 1,
     };
-    first / 2 % 2 == bit && kind.asks() && second % 2 == 1
+    second % 2 == 1 && first / 2 % 2 == bit && kind.asks()
 }
 
 /// Whether a frame has a message of TEI management. Of most frames the first octet says that it has none.

@@ -19,6 +19,10 @@ or_true : (b : Bool) → (b || true) ≡ true
 or_true true = refl
 or_true false = refl
 
+or_false : (b : Bool) → (b || false) ≡ b
+or_false true = refl
+or_false false = refl
+
 -- unit data waits where its ring holds some
 unit_waits : (us : List QueuedUnit) (ds : List UnitData) → AreFor us ds → is_some (slice_get ds 0) ≡ is_some (slice_get us 0)
 unit_waits [] [] are = refl
@@ -108,12 +112,15 @@ module _ (e : LinkLayer) (s : Store) (others : List Owned) (m : Line) (st : Stan
       ∙ ap (λ b. message || (b || is_some (first_taken e.config m (round e.config m)))) of_unit
       ∙ ap (λ b. message || (unit || b)) is_link)
 
+  pub waits_with_link : (true ≡ false → AreMarked e.awake (λ number. false)) → (true ≡ true → (number : ℕ) × (number < 64) × IsMark e.awake number true) → true ≡ has_next e.config m
+  waits_with_link none some =
+      let message : Bool = is_some (offered e.config.side e.teis) in
+      let unit : Bool = is_some (slice_get e.units.waiting 0) in
+      sym (ap (λ b. message || b) (or_true unit) ∙ or_true message) ∙ waits_is message unit true refl refl (links_wait true none some)
+
   pub waits_with_message : ((side : Side) → true ≡ is_some (offered side e.teis)) → true ≡ has_next e.config m
   waits_with_message is_message = waits_is true (is_some (slice_get e.units.waiting 0)) (is_some (first_taken e.config m (round e.config m))) (is_message e.config.side) refl refl
 
-  pub waits_with_unit : ((side : Side) → false ≡ is_some (offered side e.teis)) → true ≡ is_some (slice_get e.units.waiting 0) → true ≡ has_next e.config m
-  waits_with_unit is_message is_unit = waits_is false true (is_some (first_taken e.config m (round e.config m))) (is_message e.config.side) is_unit refl
-
-  pub waits_with_link : {link : Bool} → ((side : Side) → false ≡ is_some (offered side e.teis)) → false ≡ is_some (slice_get e.units.waiting 0)
-      → (link ≡ false → AreMarked e.awake (λ number. false)) → (link ≡ true → (number : ℕ) × (number < 64) × IsMark e.awake number true) → link ≡ has_next e.config m
-  waits_with_link {link} is_message is_unit none some = waits_is false false link (is_message e.config.side) is_unit (links_wait link none some)
+  pub waits_with_unit : {unit : Bool} → (false ≡ false → AreMarked e.awake (λ number. false)) → (false ≡ true → (number : ℕ) × (number < 64) × IsMark e.awake number true)
+      → ((side : Side) → false ≡ is_some (offered side e.teis)) → unit ≡ is_some (slice_get e.units.waiting 0) → unit ≡ has_next e.config m
+  waits_with_unit {unit} none some is_message is_unit = sym (or_false unit) ∙ waits_is false unit false (is_message e.config.side) is_unit (links_wait false none some)

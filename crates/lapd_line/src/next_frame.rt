@@ -101,14 +101,13 @@ impl FrameLine {
         ensures room { length out.new ≡ length out.old }
         ensures after { Leads line_event.next self.old (S.store shelf.old) self.new (S.store shelf.new) }
     {
-        let side = self.layer.config.side;
         let mut room = RoomOf {
             octets: &mut *out,
             length: 0,
         };
         let orders = self.take(&mut room, shelf)?;
         let length = room.length;
-        self.counters.given(side, &out[..length]);
+        self.counters.given(self.layer.config.side, &out[..length]);
         Some(NextFrame { length, orders })
     }
 

@@ -82,13 +82,13 @@ impl LinkLayer {
         ensures { (store : Store) (others : List Owned) (m : machine.Line) → Stands self.now store others m
             → result ≡ has_next self.now.config m }
     {
+        if self.awake.any() {
+            return true;
+        }
         if self.teis.has_message() {
             return true;
         }
-        if self.units.oldest().is_some() {
-            return true;
-        }
-        self.awake.any()
+        self.units.oldest().is_some()
     }
 
     /// What the first of these links has to give. It is the first that is awake; where none is, that costs no call.

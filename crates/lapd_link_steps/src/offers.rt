@@ -92,10 +92,10 @@ impl Entity {
         ensures machine { (messages : List (List ℕ)) (t : BareReport) (p : Past) → length messages ≡ queued → t.released ≡ 0 →
             Fits terms.now messages self.now t p → result ≡ offers.may_send_information terms.now (link_of self.now p) }
     {
-        matches!(self.state, State::Established)
+        usize::from(self.window.outstanding()) < queued
+            && matches!(self.state, State::Established)
             && !self.peer_busy
             && self.window.may_send(terms.k)
-            && usize::from(self.window.outstanding()) < queued
     }
 
     // Sends the I-frame with the first contents that are unsent. It carries the acknowledgement.

@@ -214,7 +214,7 @@ fn write_order_list(places: &mut [PlainOrder; 4], orders: &ShortList<Order>) -> 
         ShortList::None => 0,
         ShortList::One(orders) => write_orders(places, orders),
         ShortList::Two(_) | ShortList::Three(_) | ShortList::Four(_) => {
-            write_several_orders(places, orders)
+            write_several_orders(places, *orders)
         }
     }
 }
@@ -236,16 +236,16 @@ fn write_some_notes(places: &mut [PlainNote; 4], notes: &ShortList<Note>) -> u8
 
 #[cold]
 #[inline(never)]
-fn write_several_orders(places: &mut [PlainOrder; 4], orders: &ShortList<Order>) -> u8
-    ensures count { result ≡ length (listed orders.now) }
-    ensures orders { take result places.new ≡ map plain_order (listed orders.now) }
+fn write_several_orders(places: &mut [PlainOrder; 4], orders: ShortList<Order>) -> u8
+    ensures count { result ≡ length (listed orders) }
+    ensures orders { take result places.new ≡ map plain_order (listed orders) }
 {
     match orders {
         ShortList::None => 0,
-        ShortList::One(orders) => write_orders(places, orders),
-        ShortList::Two(orders) => write_orders(places, orders),
-        ShortList::Three(orders) => write_orders(places, orders),
-        ShortList::Four(orders) => write_orders(places, orders),
+        ShortList::One(orders) => write_orders(places, &orders),
+        ShortList::Two(orders) => write_orders(places, &orders),
+        ShortList::Three(orders) => write_orders(places, &orders),
+        ShortList::Four(orders) => write_orders(places, &orders),
     }
 }
 

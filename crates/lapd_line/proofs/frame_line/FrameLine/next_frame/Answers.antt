@@ -31,5 +31,8 @@ returns-clause-after g c =
     next_leads c.take.ensures c.given.new.self _ c.given.ensures
     (λ others m st.
     ended (λ out. answer_shown (config_of c.args.self.now).side (answer (config_of c.args.self.now) next m)
-    ≡ begun_shown (config_of c.args.self.now).side (take c.take.new.out.length out))
-    c.take.new.out.octets.now _ (octets_shown c.in_ok-orders.orders c.take.ensures (ap orders_taken c.in_ok-orders.was) others m st) (c.out-2-1.given.1.1 (sym c.take.ensures.reference)))
+    ≡ begun_shown (config_of c.take.new.self).side (take c.take.new.out.length out))
+    c.take.new.out.octets.now _
+    (octets_shown c.in_ok-orders.orders c.take.ensures (ap orders_taken c.in_ok-orders.was) others m st
+    ∙ ap (λ d. begun_shown d.side (take c.take.new.out.length c.take.new.out.octets.now)) (sym c.take.ensures.config))
+    (c.out-2-1.given.1.1 (sym c.take.ensures.reference)))

@@ -1,10 +1,5 @@
 -- When the numbers of a link begin, by what is heard and noted.
-use Rattle.laws_trace.proofs.Vocabulary.{◌≡◌, ◌==◌, Bool, true, false, cond, [], ◌∷◌, refl, sym, ap, ◌∙◌, subst, true≢false, not, if◌then◌else◌, list_any, Parts, Information, ReceiveReady, ReceiveNotReady, Reject, Sabme, Disc, Ui, Ua, Dm, Frmr, EstablishIndication, EstablishConfirm, State, TeiAssigned, AwaitingEstablishment, AwaitingRelease, LinkTimer, Terms, restarts, Received, received, expired, requested, offer, cleared, Link, is_multiple_frame, may_repeat, runs, Leaves, as_heard, by_frame, by_received, by_expiry, by_request, state_after, numbers_begin, told_by, establishes, event-follows}
-use Rattle.lapd_frame.specs.declared.controls.Control.{Control}
-use Rattle.lapd_frame.specs.declared.controls.Control.TheVariants.{Xid}
-use Rattle.model_link.specs.declared.timers.LinkTimer.TheVariants.{T200, T203}
-use Rattle.model_link.specs.Events.{Event, frame, Request, Establish, Release, Data, SetBusy, ClearBusy}
-use Rattle.model_link.specs.Machine.{after, told}
+use Rattle.laws_trace.proofs.Vocabulary.{◌≡◌, ◌==◌, Bool, true, false, cond, [], ◌∷◌, refl, sym, ap, ◌∙◌, subst, true≢false, not, if◌then◌else◌, list_any, Parts, Information, ReceiveReady, ReceiveNotReady, Reject, Sabme, Disc, Ui, Ua, Dm, Frmr, EstablishIndication, EstablishConfirm, State, TeiAssigned, AwaitingEstablishment, AwaitingRelease, LinkTimer, Terms, restarts, Received, received, expired, requested, offer, cleared, Link, is_multiple_frame, may_repeat, runs, Leaves, as_heard, by_frame, by_received, by_expiry, by_request, state_after, numbers_begin, told_by, establishes, event-follows, Control, Xid, T200, T203, LinkEvent as Event, frame, LinkRequest as Request, LinkEstablish as Establish, LinkRelease as Release, LinkData as Data, LinkSetBusy as SetBusy, LinkClearBusy as ClearBusy, link_after as after, link_told as told}
 use Rattle.laws_trace.proofs.Counting.{begins_by, is_end}
 
 -- A link in a state is itself.

@@ -1,10 +1,6 @@
 -- Other lines stay as an event of one goes by, and no UI waits on a link.
-use Rattle.laws_trace.proofs.Vocabulary.{◌≡◌, ◌≢◌, ℕ, [], ◌∷◌, get_or, refl, get_or-set_other, All-cons, All-nil, fresh_line, Card, line_at, by_room}
+use Rattle.laws_trace.proofs.Vocabulary.{◌≡◌, ◌≢◌, ℕ, [], ◌∷◌, get_or, refl, get_or-set_other, All-cons, All-nil, fresh_line, Card, line_at, by_room, CardEvent as Event, after, after_all, IsAtLine, CardIsSound as IsSound}
 use Rattle.model_line.specs.Machine as lines
-use Rattle.model_card.specs.Event.{Event}
-use Rattle.model_card.specs.Machine.{after}
-use Rattle.model_card.specs.Run.{after_all, IsAtLine}
-use Rattle.model_card.specs.Sound.{IsSound}
 use Rattle.laws_trace.proofs.Runs.{run-shows}
 use Rattle.laws_trace.proofs.Units.{NoneWaits, Passes, rests, joins, steps}
 

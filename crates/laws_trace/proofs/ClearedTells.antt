@@ -1,8 +1,7 @@
 -- What a link tells that is cleared, as its TEI leaves the line or it is deactivated.
-use Rattle.laws_trace.proofs.Vocabulary.{◌≡◌, ℕ, Bool, false, ◌||◌, None, refl, ap, list_any, option_or, Note, ReleaseIndication, ReleaseConfirm, Service, State, TeiAssigned, AwaitingRelease, Terms, Link, ◌then◌, begin_anew}
+use Rattle.laws_trace.proofs.Vocabulary.{◌≡◌, ℕ, Bool, false, ◌||◌, None, refl, ap, list_any, option_or, Note, ReleaseIndication, ReleaseConfirm, Service, State, TeiAssigned, AwaitingRelease, Terms, Link, ◌then◌, begin_anew, begun}
 use Rattle.model_link.specs.Events as link
 use Rattle.model_link.specs.Machine as links
-use Rattle.model_link.specs.Steps.{begun}
 
 -- It delivers nothing, and loses no frame.
 pub none-delivered : (t : Terms) (x : Link) → option_or (links.told t link.cleared x).delivered (links.told t link.cleared x).unit ≡ None

@@ -1,21 +1,10 @@
 -- Where control frames of a link wait, each frame of it that begins is one of them.
-use Rattle.laws_trace.proofs.Vocabulary.{◌≡◌, ℕ, ◌<◌, zero, suc, false, cond, true, Bool, true≢false, All, List, [], ◌∷◌, drop, length, map, flat_map, filter, Option, Some, None, IfSome, option_to_list, refl, sym, ap, ◌∙◌, subst, inl, inr, append-nil, Information, Ui, Service, place_of-is, given-in-order, IsInOrder, All-head, Refusal, ControlFrame, Terms, Link, Given, IsGiven, given_is_frame, Config, Effect, of_request, request, next, Answer, unless_refused_told, is_information, Line, link_of, place_in, terms, IsInRange, terms_in_range, PoolFull, and_parts, line_at, is_full, at, by_room}
-use Rattle.lapd_frame.specs.declared.controls.Control.{Control}
+use Rattle.laws_trace.proofs.Vocabulary.{◌≡◌, ℕ, ◌<◌, zero, suc, false, cond, true, Bool, true≢false, All, List, [], ◌∷◌, drop, length, map, flat_map, filter, Option, Some, None, IfSome, option_to_list, refl, sym, ap, ◌∙◌, subst, inl, inr, append-nil, Information, Ui, Service, place_of-is, given-in-order, IsInOrder, All-head, Refusal, ControlFrame, Terms, Link, Given, IsGiven, given_is_frame, Config, Effect, of_request, request, next, Answer, unless_refused_told, is_information, Line, link_of, place_in, terms, IsInRange, terms_in_range, PoolFull, and_parts, line_at, is_full, at, by_room, Control, refusal, IsSound, line_frame_of as frame_of, Card, fresh, CardEvent as Event, card_answer as answer, after_all, AreAtLines, is_frame_of, trace_frame_in as frame_in, seen, is_ui}
 use Rattle.model_link.specs.Events as link
 use Rattle.model_link.specs.Machine as links
 use Rattle.model_link.specs.Sound as link_sound
 use Rattle.model_line.specs.Event as line_event
 use Rattle.model_line.specs.Machine as lines
-use Rattle.model_line.specs.Refusal.{refusal}
-use Rattle.model_line.specs.Sound.{IsSound}
-use Rattle.model_line.specs.Taken.{frame_of}
-use Rattle.model_card.specs.Card.{Card, fresh}
-use Rattle.model_card.specs.Event.{Event}
-use Rattle.model_card.specs.Machine.{answer}
-use Rattle.model_card.specs.Run.{after_all, AreAtLines}
-use Rattle.laws_trace.specs.LinkFrames.{is_frame_of}
-use Rattle.laws_trace.specs.Trace.{frame_in, seen}
-use Rattle.laws_trace.specs.Units.{is_ui}
 use Rattle.laws_trace.proofs.ControlsAtLine.{waits}
 use Rattle.laws_trace.proofs.ControlsDue.{controls}
 use Rattle.laws_trace.proofs.ControlsSeen as seen_of

@@ -1,22 +1,13 @@
 -- What is seen of the control frames of a link, and which are due by it.
-use Rattle.laws_trace.proofs.Vocabulary.{◌≡◌, ℕ, zero, suc, ◌==◌, ◌&&◌, Bool, true, false, cond, List, [], ◌∷◌, ◌++◌, map, drop, Option, Some, None, refl, sym, ap, ◌∙◌, ◌⊎◌, inl, inr, eq-eqb, append-nil, true≢false, Result, Ok, Err, All, IfSome, flat_map, option_to_list, nat_lt, length, All-head, All-tail, Ui, ReadFault, Service, Parts, reading, sapi_of, reading-again, event-follows, ControlFrame, Terms, Link, address_at, IsGiven, Given, orders_for, given_is_frame, Config, Effect, hears, expiry, request, next, Answer, Line, place_in, terms, aim_of, of_request, unless_refused_told, heard_side, message_of, aim_of_reading, aim_of_heard, at_side, IsMalformed, IsTooLong, is_granted, IsBy, Brings, BringsMalformed, sapi-is, same-sapi, both-true, Refusal}
-use Rattle.std.proofs.Common.{eqb-true}
-use Rattle.std.specs.Option.{unwrap_or}
+use Rattle.laws_trace.proofs.Vocabulary.{◌≡◌, ℕ, zero, suc, ◌==◌, ◌&&◌, Bool, true, false, cond, List, [], ◌∷◌, ◌++◌, map, drop, Option, Some, None, refl, sym, ap, ◌∙◌, ◌⊎◌, inl, inr, eq-eqb, append-nil, true≢false, Result, Ok, Err, All, IfSome, flat_map, option_to_list, nat_lt, length, All-head, All-tail, Ui, ReadFault, Service, Parts, reading, sapi_of, reading-again, event-follows, ControlFrame, Terms, Link, address_at, IsGiven, Given, orders_for, given_is_frame, Config, Effect, hears, expiry, request, next, Answer, Line, place_in, terms, aim_of, of_request, unless_refused_told, heard_side, message_of, aim_of_reading, aim_of_heard, at_side, IsMalformed, IsTooLong, is_granted, IsBy, Brings, BringsMalformed, sapi-is, same-sapi, both-true, Refusal, eqb-true, unwrap_or, information_of, begun as course_begun, Event, told, answer, line_frame_of as frame_of, Request, trace_frame_in as frame_in, Seen, heard, seen, seen_told, seen_granted, refusal}
 use Rattle.model_bits.specs.Stream as stream
-use Rattle.lapd_tei.specs.Messages.{information_of}
 use Rattle.model_link.specs.Events as link
 use Rattle.model_link.specs.Machine as links
 use Rattle.model_link.specs.Offers
 use Rattle.model_link.specs.Sound as link_sound
-use Rattle.model_link.specs.Steps.{begun as course_begun}
-use Rattle.model_line.specs.Event.{Event, told}
-use Rattle.model_line.specs.Machine.{answer}
-use Rattle.model_line.specs.Taken.{frame_of}
-use Rattle.model_line.specs.Request.{Request}
 use Rattle.laws_line.specs.Requests as requests
 use Rattle.laws_trace.proofs.ControlsWatched.{of_link, control_in, controls_at, while_up, answer_to, changed, answers_at, answers_to_frame}
 use Rattle.laws_trace.proofs.DeliveriesWatched.{Standing}
-use Rattle.laws_trace.specs.Trace.{frame_in, Seen, heard, seen, seen_told, seen_granted}
 use Rattle.laws_trace.proofs.Addressed.{addressed-is}
 use Rattle.laws_trace.proofs.CommandsCaused.{same-itself}
 use Rattle.laws_trace.proofs.ControlsDue.{controls, answers_of}
@@ -24,7 +15,6 @@ use Rattle.laws_trace.proofs.OneLink.{frames_given, IsForeign, is_at_link}
 use Rattle.laws_trace.proofs.ReadAgain.{read-again}
 use Rattle.laws_trace.proofs.Spelled.{whole-parts, given-spells}
 use Rattle.laws_trace.specs.Trace as traces
-use Rattle.model_line.specs.Refusal.{refusal}
 
 abbrev control_of : ControlFrame → List ControlFrame
 control_of f = control_in f.command f.control

@@ -1,11 +1,7 @@
 -- I-frames of a link that go out, as they are read.
-use Rattle.laws_trace.proofs.Vocabulary.{◌≡◌, ℕ, ◌==◌, ◌&&◌, Bool, true, false, cond, List, [], Option, Some, None, refl, ap, ◌∙◌, subst, eq-eqb, inl, inr, true≢false, IfSome, option_map_or, Information, Ui, Service, Parts, reading, sapi_of, reading-again, Link, address_at, is_information, Given, given_is_frame, Config, NextFrame, terms, same-sapi}
-use Rattle.std.specs.Prelude.{unwrap_or}
-use Rattle.lapd_frame.specs.declared.controls.Control.{Control}
-use Rattle.lapd_tei.specs.Messages.{information_of}
+use Rattle.laws_trace.proofs.Vocabulary.{◌≡◌, ℕ, ◌==◌, ◌&&◌, Bool, true, false, cond, List, [], Option, Some, None, refl, ap, ◌∙◌, subst, eq-eqb, inl, inr, true≢false, IfSome, option_map_or, Information, Ui, Service, Parts, reading, sapi_of, reading-again, Link, address_at, is_information, Given, given_is_frame, Config, NextFrame, terms, same-sapi, unwrap_or, Control, information_of, line_frame_of as frame_of}
 use Rattle.model_link.specs.Machine as links
 use Rattle.model_link.specs.Sound as link_sound
-use Rattle.model_line.specs.Taken.{frame_of}
 use Rattle.laws_trace.proofs.TimersWatched.{Sent, sent_by, sent_in}
 use Rattle.laws_trace.proofs.OneLink.{IsForeign}
 use Rattle.laws_trace.proofs.ReadAgain.{read-again}

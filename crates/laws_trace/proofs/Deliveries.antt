@@ -1,22 +1,13 @@
 -- What is told is what was heard.
-use Rattle.laws_trace.proofs.Vocabulary.{◌≡◌, ℕ, ◌%◌, ◌≤◌, ◌==◌, ◌&&◌, Bool, true, false, cond, List, [], ◌∷◌, length, Option, Some, None, refl, sym, ap, ◌∙◌, arith, eq-eqb, ◌⊎◌, inl, inr, true≢false, All, ◌||◌, not, nat_le, count_by, option_to_list, list_any, and_parts, All-head, All-tail, sum_by-cons, none-some, Seq, Address, Note, Service, Parts, reading, sapi_of, service_of, same_service, Terms, Arrived, restarts, eligible, eligible_of, is_eligible, Link, is_multiple_frame, notes-own, establishes, unit_heard, in_ui_frame, Config, hears, Answer, Line, link_in, terms, aim_of, heard_side, group_tei, IsInRange, IsMalformed, IsTooLong, notes_of, contents_in, is_data_of, is_unit_of, tells_contents, IsBy, Brings, BringsMalformed, contents-heard, sapi-is, read-aim, read-event, told-once, group-read}
+use Rattle.laws_trace.proofs.Vocabulary.{◌≡◌, ℕ, ◌%◌, ◌≤◌, ◌==◌, ◌&&◌, Bool, true, false, cond, List, [], ◌∷◌, length, Option, Some, None, refl, sym, ap, ◌∙◌, arith, eq-eqb, ◌⊎◌, inl, inr, true≢false, All, ◌||◌, not, nat_le, count_by, option_to_list, list_any, and_parts, All-head, All-tail, sum_by-cons, none-some, Seq, Address, Note, Service, Parts, reading, sapi_of, service_of, same_service, Terms, Arrived, restarts, eligible, eligible_of, is_eligible, Link, is_multiple_frame, notes-own, establishes, unit_heard, in_ui_frame, Config, hears, Answer, Line, link_in, terms, aim_of, heard_side, group_tei, IsInRange, IsMalformed, IsTooLong, notes_of, contents_in, is_data_of, is_unit_of, tells_contents, IsBy, Brings, BringsMalformed, contents-heard, sapi-is, read-aim, read-event, told-once, group-read, Control, link_information_of as information_of, IsOwn, Event, answer, IsSound, result_ok, frame_of, is_for, is_ui}
 use Rattle.model_bits.specs.Stream as stream
-use Rattle.lapd_frame.specs.declared.controls.Control.{Control}
 use Rattle.lapd_frame.specs.declared.controls.Control.TheVariants as control
 use Rattle.lapd_frame.specs.declared.notes.Note.TheVariants as notes
-use Rattle.model_link.specs.Deliveries.{information_of}
 use Rattle.model_link.specs.Events as link
-use Rattle.model_link.specs.Notes.{IsOwn}
 use Rattle.model_link.specs.Machine as links
-use Rattle.model_line.specs.Event.{Event}
-use Rattle.model_line.specs.Machine.{answer}
-use Rattle.model_line.specs.Sound.{IsSound}
 use Rattle.laws_line.specs.Heard as line_heard
-use Rattle.std.specs.Result.{result_ok}
-use Rattle.laws_trace.specs.LinkFrames.{frame_of, is_for}
 use Rattle.laws_trace.proofs.Counting.{begins_by, begins}
 use Rattle.laws_trace.proofs.DeliveriesWatched.{number_in, IsOfFrame}
-use Rattle.laws_trace.specs.Units.{is_ui}
 use Rattle.laws_trace.proofs.Begins.{unless, begins-is}
 use Rattle.laws_trace.proofs.OneLink.{is_at_link}
 

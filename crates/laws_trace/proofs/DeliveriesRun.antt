@@ -1,20 +1,12 @@
 -- What is told is what was heard: over runs.
-use Rattle.laws_trace.proofs.Vocabulary.{length, nat_le, le-leb, within, ◌≡◌, ℕ, ◌+◌, ◌%◌, ◌&&◌, ◌||◌, Bool, true, false, cond, List, Option, Some, None, refl, sym, ap, ◌∙◌, subst, eq-eqb, ◌==◌, Result, Ok, Err, true≢false, ◌⊎◌, inl, inr, is_some, Note, list_any, option_or, option_map_or, none-some, ReadFault, reading, sapi_of, same_service, Service, Parts, Terms, restarts, Link, is_multiple_frame, event-delivers, delivered-at_once, notes-own, event-tells, unit_heard, event-unit, within-is, place_of-is, Config, hears, Answer, Line, place_in, link_in, link_of, terms, aim_of, aim_of_heard, aim_of_reading, message_of, heard_side, group_tei, IsInRange, sound_in, at_side, notes_of, contents_in, is_data_of, is_unit_of, own-all, addressed-is, sapi-is, same-sapi, service-same, both-true, told-once}
-use Rattle.std.proofs.Common.{eqb-true}
+use Rattle.laws_trace.proofs.Vocabulary.{length, nat_le, le-leb, within, ◌≡◌, ℕ, ◌+◌, ◌%◌, ◌&&◌, ◌||◌, Bool, true, false, cond, List, Option, Some, None, refl, sym, ap, ◌∙◌, subst, eq-eqb, ◌==◌, Result, Ok, Err, true≢false, ◌⊎◌, inl, inr, is_some, Note, list_any, option_or, option_map_or, none-some, ReadFault, reading, sapi_of, same_service, Service, Parts, Terms, restarts, Link, is_multiple_frame, event-delivers, delivered-at_once, notes-own, event-tells, unit_heard, event-unit, within-is, place_of-is, Config, hears, Answer, Line, place_in, link_in, link_of, terms, aim_of, aim_of_heard, aim_of_reading, message_of, heard_side, group_tei, IsInRange, sound_in, at_side, notes_of, contents_in, is_data_of, is_unit_of, own-all, addressed-is, sapi-is, same-sapi, service-same, both-true, told-once, eqb-true, fresh_link as fresh, Event, line_after as after, answer, IsSound, result_ok, frame_of, is_for, is_ui}
 use Rattle.lapd_frame.specs.declared.notes.Note.TheVariants as notes
 use Rattle.model_bits.specs.Stream as stream
 use Rattle.model_link.specs.Events as link
-use Rattle.model_link.specs.Link.{fresh}
 use Rattle.model_link.specs.Machine as links
 use Rattle.model_link.specs.Sound as link_sound
-use Rattle.model_line.specs.Event.{Event}
-use Rattle.model_line.specs.Machine.{after, answer}
-use Rattle.model_line.specs.Sound.{IsSound}
 use Rattle.laws_trace.proofs.Counting.{Watched, begins, counted}
 use Rattle.laws_trace.proofs.DeliveriesWatched.{number_in, IsOfFrame, IsHeard}
-use Rattle.std.specs.Result.{result_ok}
-use Rattle.laws_trace.specs.LinkFrames.{frame_of, is_for}
-use Rattle.laws_trace.specs.Units.{is_ui}
 use Rattle.laws_trace.proofs.Begins.{unless, up-before}
 use Rattle.laws_trace.proofs.Deliveries.{frame_by, data-tells, unit-tells, data-own, unit-own, none-noted, one-begins, data-of, unit-of, group-notes}
 use Rattle.laws_trace.proofs.OneLink.{HasOne, HasNone, Goes, is_at_link, event-goes, IsGivenUp}

@@ -1,16 +1,9 @@
 -- What the observer of a line knows of its TEIs is what TEI management has, and what is due by an event is what that tells.
-use Rattle.laws_trace.proofs.Vocabulary.{◌≡◌, ℕ, ◌+◌, ◌*◌, ◌/◌, ◌%◌, ◌≤◌, ◌<◌, ◌==◌, ◌&&◌, ◌||◌, Bool, true, false, cond, not, List, [], ◌∷◌, length, drop, ◌-◌, ◌++◌, length-append, Option, Some, None, IfSome, option_map, option_map_or, refl, sym, ap, ◌∙◌, subst, arith, eq-eqb, true≢false, filter, is_some, nat_le, nat_lt, find, range_with_len, leb-true, leb-false, Management, Remembered, Period, First, Second, Message, IdentityAssigned, IdentityDenied, IdentityCheckRequest, IdentityRemove, heard_of_type, heard_in, IsSoundCheck, free_place, free_tei-is, Config}
-use Rattle.std.proofs.Common.{eqb-true}
-use Rattle.std.proofs.lemmas.Bool.{ltb-true, ltb-false}
-use Rattle.lapd_frame.specs.declared.notes.Note.TheVariants.{Removed, Doubled}
-use Rattle.lapd_tei.specs.declared.check.Check.{Check}
+use Rattle.laws_trace.proofs.Vocabulary.{◌≡◌, ℕ, ◌+◌, ◌*◌, ◌/◌, ◌%◌, ◌≤◌, ◌<◌, ◌==◌, ◌&&◌, ◌||◌, Bool, true, false, cond, not, List, [], ◌∷◌, length, drop, ◌-◌, ◌++◌, length-append, Option, Some, None, IfSome, option_map, option_map_or, refl, sym, ap, ◌∙◌, subst, arith, eq-eqb, true≢false, filter, is_some, nat_le, nat_lt, find, range_with_len, leb-true, leb-false, Management, Remembered, Period, First, Second, Message, IdentityAssigned, IdentityDenied, IdentityCheckRequest, IdentityRemove, heard_of_type, heard_in, IsSoundCheck, free_place, free_tei-is, Config, eqb-true, ltb-true, ltb-false, Removed, Doubled, Check, TeiCourse as Course, tei_begun as begun, by_message, Checked, Managed, nothing_due, owes, gives, asked, leaves, over, checks, may_check, responded, ran_out, managing_is_on as is_on, is_of_teis, is_of_t201}
 use Rattle.lapd_tei.specs.Rows as rows
 use Rattle.lapd_tei.specs.Sound.{IsSound}
 use Rattle.lapd_tei.specs.Table as table
 use Rattle.lapd_tei.specs.Words as words
-use Rattle.lapd_tei.specs.Words.{Course, begun}
-use Rattle.laws_trace.specs.Managing.{by_message, Checked, Managed, nothing_due, owes, gives, asked, leaves, over, checks, may_check, responded, ran_out, is_on}
-use Rattle.laws_trace.specs.TeisAreManaged.{is_of_teis, is_of_t201}
 use Rattle.laws_trace.proofs.ManagingTables.{AreOn, free-fewer, none-free, comes-on, leaves-on}
 
 -- A check, as it is seen.

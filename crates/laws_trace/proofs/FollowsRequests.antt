@@ -1,23 +1,11 @@
 -- What is due of TEI management by a request, and by any event of a line, is what its answer shows.
-use Rattle.laws_trace.proofs.Vocabulary.{IdentityRemove, ◌≡◌, ℕ, ◌==◌, ◌&&◌, Bool, true, false, cond, not, List, [], ◌∷◌, length, Option, Some, None, IfSome, is_some, refl, sym, ap, ◌∙◌, subst, true≢false, inl, arith, leb-true, leb-false, nat_le, nat_lt, list_any, Refusal, Management, free_place, on-range, Config, at_management, of_aim, hears, expiry, request, next, Line, place_in, has_tei, unless_refused, unless_refused_told, wrong_side, bad_tei, no_link, tei_taken, table_full, check_running, control_full, Assign, Remove, Deactivate, aim_of_request, has_management, passed, Down, at_no_link, filter, option_map, Stop, T201}
-use Rattle.std.proofs.lemmas.Bool.{ltb-true, ltb-false}
+use Rattle.laws_trace.proofs.Vocabulary.{IdentityRemove, ◌≡◌, ℕ, ◌==◌, ◌&&◌, Bool, true, false, cond, not, List, [], ◌∷◌, length, Option, Some, None, IfSome, is_some, refl, sym, ap, ◌∙◌, subst, true≢false, inl, arith, leb-true, leb-false, nat_le, nat_lt, list_any, Refusal, Management, free_place, on-range, Config, at_management, of_aim, hears, expiry, request, next, Line, place_in, has_tei, unless_refused, unless_refused_told, wrong_side, bad_tei, no_link, tei_taken, table_full, check_running, control_full, Assign, Remove, Deactivate, aim_of_request, has_management, passed, Down, at_no_link, filter, option_map, Stop, T201, ltb-true, ltb-false, tei_begun as begun, Event, told, line_after as after, answer, refusal, Request, Establish, Release, Data, Checking, SetBusy, ClearBusy, IsSound, Managed, owes, leaves, checks, may_check, grants, managing_by_event as by_event, due, is_of_t201, by-down, stop_of, Check}
 use Rattle.lapd_tei.specs.Events as teis
-use Rattle.lapd_tei.specs.Words.{begun}
 use Rattle.model_link.specs.Events as link
-use Rattle.model_line.specs.Event.{Event, told}
-use Rattle.model_line.specs.Machine.{after, answer}
-use Rattle.model_line.specs.Refusal.{refusal}
-use Rattle.model_line.specs.Request.{Request, Establish, Release, Data, Check as Checking, SetBusy, ClearBusy}
-use Rattle.model_line.specs.Sound.{IsSound}
-use Rattle.laws_trace.specs.Managing.{Managed, owes, leaves, checks, may_check, grants, by_event, due}
-use Rattle.laws_trace.specs.TeisAreManaged.{is_of_t201}
 use Rattle.laws_trace.proofs.Follows.{Follows, Leads, InOrder, seen_check, as_seen, here, assign-leads, remove-leads, begins-check, may-is, fewer-on, all-on}
 use Rattle.laws_trace.proofs.ManagingTables.{AreOn}
 use Rattle.laws_trace.proofs.ManagingNotes.{is_management}
 use Rattle.laws_trace.proofs.FollowsLine.{Shows, IsUnmanaged, none-granted, asked-aims, deactivated-aims, managed-shows, unmanaged-shows, hears-shows, expiry-shows, next-shows}
-use Rattle.laws_line.proofs.Downs.{by-down}
-use Rattle.lapd_tei.specs.Laws.{stop_of}
-use Rattle.lapd_tei.specs.declared.check.Check.{Check}
 
 -- The rows that refuse a request of management.
 refused-3 : (a b d : Bool) (x y z : Refusal) → is_some (cond a (Some x) (cond b (Some y) (cond d (Some z) None))) ≡ not (not a && not b && not d)

@@ -1,22 +1,9 @@
 -- What is given of a link is due: the laws.
-use Rattle.laws_trace.proofs.Vocabulary.{◌≡◌, ℕ, ◌<◌, true, false, cond, All, List, [], ◌∷◌, ◌++◌, map, filter, Option, Some, None, IfSome, option_to_list, refl, sym, ap, ◌∙◌, subst, inl, inr, append-nil, Service, place_of-is, given-in-order, IsInOrder, All-head, ControlFrame, Terms, Link, Given, given_is_frame, Config, next, Answer, Line, link_of, place_in, terms, IsInRange, terms_in_range, line_at, at}
+use Rattle.laws_trace.proofs.Vocabulary.{◌≡◌, ℕ, ◌<◌, true, false, cond, All, List, [], ◌∷◌, ◌++◌, map, filter, Option, Some, None, IfSome, option_to_list, refl, sym, ap, ◌∙◌, subst, inl, inr, append-nil, Service, place_of-is, given-in-order, IsInOrder, All-head, ControlFrame, Terms, Link, Given, given_is_frame, Config, next, Answer, Line, link_of, place_in, terms, IsInRange, terms_in_range, line_at, at, IsSound, line_frame_of as frame_of, fresh, CardEvent as Event, card_answer as answer, after_all, AreAtLines, offers, GivenIsDue, DueIsGiven, is_frame_of, managing_is_on as is_on, View, Outgoing, outgoing_of, trace_frame_in as frame_in, IsFront, Always, is_ui}
 use Rattle.model_link.specs.Events as link
 use Rattle.model_link.specs.Machine as links
 use Rattle.model_link.specs.Sound as link_sound
 use Rattle.model_line.specs.Machine as lines
-use Rattle.model_line.specs.Sound.{IsSound}
-use Rattle.model_line.specs.Taken.{frame_of}
-use Rattle.model_card.specs.Card.{fresh}
-use Rattle.model_card.specs.Event.{Event}
-use Rattle.model_card.specs.Machine.{answer}
-use Rattle.model_card.specs.Run.{after_all, AreAtLines}
-use Rattle.laws_trace.specs.FramesAreDue.{offers, GivenIsDue, DueIsGiven}
-use Rattle.laws_trace.specs.LinkFrames.{is_frame_of}
-use Rattle.laws_trace.specs.Managing.{is_on}
-use Rattle.laws_trace.specs.Observer.{View}
-use Rattle.laws_trace.specs.Outgoing.{Outgoing, outgoing_of}
-use Rattle.laws_trace.specs.Trace.{frame_in, IsFront, Always}
-use Rattle.laws_trace.specs.Units.{is_ui}
 use Rattle.laws_trace.proofs.Addressed.{at-some-place}
 use Rattle.laws_trace.proofs.LineAtEnd.{line-at-end, link-at-end, nothing-there, silent-there}
 use Rattle.laws_trace.proofs.DataAsked.{only-offered}

@@ -1,12 +1,10 @@
 -- Which events of a line give a frame: of a link, only an offer.
-use Rattle.laws_trace.proofs.Vocabulary.{◌≡◌, ℕ, List, [], map, Option, Some, None, refl, option_to_list, Service, Timer, Terms, Link, LinkTimer, Config, Aim, at_none, at_link, at_timer, aim_of_expiry, Line, place_in, link_of, terms, aim_of_heard, Deactivate, at_requested, at_deactivated, aim_of_request, heard_aims}
+use Rattle.laws_trace.proofs.Vocabulary.{◌≡◌, ℕ, List, [], map, Option, Some, None, refl, option_to_list, Service, Timer, Terms, Link, LinkTimer, Config, Aim, at_none, at_link, at_timer, aim_of_expiry, Line, place_in, link_of, terms, aim_of_heard, Deactivate, at_requested, at_deactivated, aim_of_request, heard_aims, line_frame_of as frame_of, Request, Establish, Release, Data, SetBusy, ClearBusy}
 use Rattle.model_bits.specs.Stream as stream
 use Rattle.lapd_frame.specs.declared.timers.Timer.TheVariants as timers
 use Rattle.model_link.specs.Events as link
 use Rattle.model_link.specs.Machine as links
 use Rattle.model_link.specs.declared.timers.LinkTimer.TheVariants as link_timer
-use Rattle.model_line.specs.Taken.{frame_of}
-use Rattle.model_line.specs.Request.{Request, Establish, Release, Data, SetBusy, ClearBusy}
 
 -- The frame that an offer of a link gives; no other event gives one.
 abbrev pub frames_given : Config → Terms → link.Event → Link → List (List ℕ)

@@ -1,20 +1,12 @@
 -- What an event of a line leaves of the contents that a link keeps.
-use Rattle.laws_trace.proofs.Vocabulary.{◌≡◌, ℕ, ◌%◌, Bool, true, false, cond, not, List, [], ◌∷◌, ◌++◌, ◌&&◌, ◌||◌, drop, Some, None, refl, sym, ap, ◌∙◌, subst, ◌⊎◌, inl, inr, arith, append-nil, All, is_some, list_any, option_map_or, All-head, All-tail, none-some, Note, WrongState, Service, place_of-is, is_on-at, not_not, accepted, ends, is_release, tells_loss, empties, Terms, Link, is_multiple_frame, queue_of, state_number, notes-own, Config, at_link, Answer, hears, expiry, request, next, Line, has_tei, link_in, link_of, place_in, terms, aim_of, unless_refused, bad_tei, no_link, wrong_state, Deactivate, at_requested, at_deactivated, aim_of_request, IsInRange, terms_in_range, notes_of, is_loss_of, is_granted, IsBy, link-grants, passed, not-refused}
+use Rattle.laws_trace.proofs.Vocabulary.{◌≡◌, ℕ, ◌%◌, Bool, true, false, cond, not, List, [], ◌∷◌, ◌++◌, ◌&&◌, ◌||◌, drop, Some, None, refl, sym, ap, ◌∙◌, subst, ◌⊎◌, inl, inr, arith, append-nil, All, is_some, list_any, option_map_or, All-head, All-tail, none-some, Note, WrongState, Service, place_of-is, is_on-at, not_not, accepted, ends, is_release, tells_loss, empties, Terms, Link, is_multiple_frame, queue_of, state_number, notes-own, Config, at_link, Answer, hears, expiry, request, next, Line, has_tei, link_in, link_of, place_in, terms, aim_of, unless_refused, bad_tei, no_link, wrong_state, Deactivate, at_requested, at_deactivated, aim_of_request, IsInRange, terms_in_range, notes_of, is_loss_of, is_granted, IsBy, link-grants, passed, not-refused, fresh_link, refusal, Request, Release, Data, IsSound, of_link, brings, is_news, is_sabme, steps, is_own, data_asked, seen, is_up}
 use Rattle.lapd_frame.specs.declared.notes.Note.TheVariants as notes
 use Rattle.model_link.specs.Events as link
-use Rattle.model_link.specs.Link.{fresh as fresh_link}
 use Rattle.model_link.specs.Machine as links
 use Rattle.model_link.specs.Requests as requests
 use Rattle.model_link.specs.Sound as link_sound
 use Rattle.model_line.specs.Event as line_event
 use Rattle.model_line.specs.Machine as lines
-use Rattle.model_line.specs.Refusal.{refusal}
-use Rattle.model_line.specs.Request.{Request, Release, Data}
-use Rattle.model_line.specs.Sound.{IsSound}
-use Rattle.laws_line.specs.Requests.{of_link}
-use Rattle.laws_trace.specs.News.{brings, is_news, is_sabme}
-use Rattle.laws_trace.specs.Observer.{steps}
-use Rattle.laws_trace.specs.Trace.{is_own, data_asked, seen, is_up}
 use Rattle.laws_trace.proofs.LineAtEnd.{link-at-end}
 use Rattle.laws_trace.proofs.DataAsked as asks
 use Rattle.laws_trace.proofs.DataAsked.{no-data, only-requested, only-offered, granted-data}

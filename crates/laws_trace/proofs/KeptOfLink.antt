@@ -1,16 +1,6 @@
 -- What an event of a link leaves of the contents that it keeps, and how far V(A) goes on.
-use Rattle.laws_trace.proofs.Vocabulary.{◌≡◌, ℕ, ◌+◌, ◌-◌, ◌%◌, ◌≤◌, Bool, true, false, cond, not, List, [], ◌∷◌, ◌++◌, ◌&&◌, ◌||◌, ◌==◌, length, drop, Option, Some, None, is_some, refl, sym, ap, ◌∙◌, subst, arith, eq-eqb, true≢false, All, nat_lt, list_any, option_map_or, All-head, All-tail, none-some, Information, ReceiveReady, ReceiveNotReady, Reject, Sabme, Ua, Note, Service, Parts, same_service, Seq, named, State, TeiAssigned, AwaitingEstablishment, AwaitingRelease, Established, TimerRecovery, Terms, restarts, MayEstablish, received, overlong, cleared, Link, is_multiple_frame, queue_of, state_number, frame_in, accepted, acknowledged_by, beyond, number_of, number_received, ends, empties, is_loss, tells_loss, with_share, as_heard, by_frame, is_faulty, is_invalid, is_overlong, receipt_of, state_after, event-follows, event-done, establishes, is_loss_of, service-same}
-use Rattle.lapd_frame.specs.declared.controls.Control.{Control}
+use Rattle.laws_trace.proofs.Vocabulary.{◌≡◌, ℕ, ◌+◌, ◌-◌, ◌%◌, ◌≤◌, Bool, true, false, cond, not, List, [], ◌∷◌, ◌++◌, ◌&&◌, ◌||◌, ◌==◌, length, drop, Option, Some, None, is_some, refl, sym, ap, ◌∙◌, subst, arith, eq-eqb, true≢false, All, nat_lt, list_any, option_map_or, All-head, All-tail, none-some, Information, ReceiveReady, ReceiveNotReady, Reject, Sabme, Ua, Note, Service, Parts, same_service, Seq, named, State, TeiAssigned, AwaitingEstablishment, AwaitingRelease, Established, TimerRecovery, Terms, restarts, MayEstablish, received, overlong, cleared, Link, is_multiple_frame, queue_of, state_number, frame_in, accepted, acknowledged_by, beyond, number_of, number_received, ends, empties, is_loss, tells_loss, with_share, as_heard, by_frame, is_faulty, is_invalid, is_overlong, receipt_of, state_after, event-follows, event-done, establishes, is_loss_of, service-same, Control, LinkEvent as Event, frame, link_after as after, link_told as told, IsOwn, LinkIsSound as IsSound, begun, acknowledged, is_sabme, steps, is_up}
 use Rattle.lapd_frame.specs.declared.notes.Note.TheVariants as notes
-use Rattle.model_link.specs.Events.{Event, frame}
-use Rattle.model_link.specs.Machine.{after, told}
-use Rattle.model_link.specs.Notes.{IsOwn}
-use Rattle.model_link.specs.Sound.{IsSound}
-use Rattle.model_link.specs.Steps.{begun}
-use Rattle.laws_link.specs.Accepted.{acknowledged}
-use Rattle.laws_trace.specs.News.{is_sabme}
-use Rattle.laws_trace.specs.Observer.{steps}
-use Rattle.laws_trace.specs.Trace.{is_up}
 use Rattle.laws_trace.proofs.DataOfLink.{acknowledged-went}
 use Rattle.laws_trace.proofs.NewsRows.{sabme_of}
 use Rattle.laws_trace.proofs.SeenAs.{up-number}

@@ -1,21 +1,13 @@
 -- Which state a link moves to: the law.
-use Rattle.laws_trace.proofs.Vocabulary.{◌≡◌, ℕ, ◌+◌, ◌<◌, ◌≤◌, ◌==◌, not, Bool, true, false, cond, List, [], get_or, set, Option, Some, None, refl, sym, ap, ◌∙◌, subst, arith, eq-eqb, true≢false, ◌⊎◌, inl, inr, IfSome, option_map_or, and_parts, get_or-set_same, get_or-replicate, none-some, PoolFull, Service, State, TeiAssigned, Terms, Link, state_number, Config, Answer, refused, Line, fresh_line, link_of, link_in, place_in, state_of, terms, IsInRange, Card, line_at, is_full, has_lines, by_room, line_sound, AllHaveTheirTimers, IsBy, HaveTheirTimers, nowhere, moves}
-use Rattle.std.proofs.Common.{eqb-true}
+use Rattle.laws_trace.proofs.Vocabulary.{◌≡◌, ℕ, ◌+◌, ◌<◌, ◌≤◌, ◌==◌, not, Bool, true, false, cond, List, [], get_or, set, Option, Some, None, refl, sym, ap, ◌∙◌, subst, arith, eq-eqb, true≢false, ◌⊎◌, inl, inr, IfSome, option_map_or, and_parts, get_or-set_same, get_or-replicate, none-some, PoolFull, Service, State, TeiAssigned, Terms, Link, state_number, Config, Answer, refused, Line, fresh_line, link_of, link_in, place_in, state_of, terms, IsInRange, Card, line_at, is_full, has_lines, by_room, line_sound, AllHaveTheirTimers, IsBy, HaveTheirTimers, nowhere, moves, eqb-true, fresh_link, IsSound, fresh, CardEvent as Event, after, card_answer as answer, IsAtLine, AreAtLines, seen}
 use Rattle.model_link.specs.Events as link
-use Rattle.model_link.specs.Link.{fresh as fresh_link}
 use Rattle.model_link.specs.Machine as links
 use Rattle.model_line.specs.Event as line_event
 use Rattle.model_line.specs.Machine as lines
-use Rattle.model_line.specs.Sound.{IsSound}
-use Rattle.model_card.specs.Card.{fresh}
-use Rattle.model_card.specs.Event.{Event}
-use Rattle.model_card.specs.Machine.{after, answer}
-use Rattle.model_card.specs.Run.{IsAtLine, AreAtLines}
 use Rattle.model_card.specs.Sound as card_sound
 use Rattle.laws_trace.proofs.MovesWatched.{by_expiry, repeated, led}
 use Rattle.laws_trace.proofs.States.{expired_of, one_more, differ}
 use Rattle.laws_trace.proofs.TimersWatched.{Known}
-use Rattle.laws_trace.specs.Trace.{seen}
 use Rattle.laws_trace.proofs.LinkLed.{on-line, none-led, none-ticks, one-led, one-ticks, ended-leads}
 use Rattle.laws_trace.proofs.MovesOfLink.{Counts, event-leads, event-counted}
 use Rattle.laws_trace.proofs.OneLink.{HasOne, HasNone, Goes, event-goes}

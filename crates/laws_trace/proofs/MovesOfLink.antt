@@ -1,14 +1,7 @@
 -- Which state an event of a link leads to, and how often its command was repeated: by what an observer knows, row by row.
-use Rattle.laws_trace.proofs.Vocabulary.{◌≡◌, ℕ, ◌+◌, ◌-◌, ◌%◌, ◌≤◌, ◌<◌, ◌==◌, not, Bool, true, false, cond, List, length, Option, Some, None, refl, sym, ap, ◌∙◌, subst, arith, nat_le, nat_lt, is_some, leb-true, leb-false, Address, Information, ReceiveReady, ReceiveNotReady, Reject, Sabme, Disc, Ui, Ua, Dm, Frmr, Call, Parts, Seq, named, distance_of, seq, HasItsTimer, needed_in, State, TeiAssigned, AwaitingEstablishment, AwaitingRelease, Established, TimerRecovery, Terms, LinkTimer, Received, undefined, wrong_size, overlong, received, expired, requested, offer, cleared, Link, state_number, runs, awaits_answer, repeats_left, as_heard, state_after, moves, is_time, event-follows}
-use Rattle.std.proofs.Common.{ltb-true, ltb-false}
-use Rattle.lapd_frame.specs.declared.controls.Control.{Control}
-use Rattle.lapd_frame.specs.declared.controls.Control.TheVariants.{Xid}
-use Rattle.model_link.specs.declared.timers.LinkTimer.TheVariants.{T200, T203}
-use Rattle.model_link.specs.Events.{Event, Request, frame, Establish, Release, Data, SetBusy, ClearBusy}
+use Rattle.laws_trace.proofs.Vocabulary.{◌≡◌, ℕ, ◌+◌, ◌-◌, ◌%◌, ◌≤◌, ◌<◌, ◌==◌, not, Bool, true, false, cond, List, length, Option, Some, None, refl, sym, ap, ◌∙◌, subst, arith, nat_le, nat_lt, is_some, leb-true, leb-false, Address, Information, ReceiveReady, ReceiveNotReady, Reject, Sabme, Disc, Ui, Ua, Dm, Frmr, Call, Parts, Seq, named, distance_of, seq, HasItsTimer, needed_in, State, TeiAssigned, AwaitingEstablishment, AwaitingRelease, Established, TimerRecovery, Terms, LinkTimer, Received, undefined, wrong_size, overlong, received, expired, requested, offer, cleared, Link, state_number, runs, awaits_answer, repeats_left, as_heard, state_after, moves, is_time, event-follows, ltb-true, ltb-false, Control, Xid, T200, T203, LinkEvent as Event, LinkRequest as Request, frame, LinkEstablish as Establish, LinkRelease as Release, LinkData as Data, LinkSetBusy as SetBusy, LinkClearBusy as ClearBusy, is_up, steps}
 use Rattle.model_link.specs.Machine as links
 use Rattle.laws_link.specs.States as states
-use Rattle.laws_trace.specs.Trace.{is_up}
-use Rattle.laws_trace.specs.Observer.{steps}
 use Rattle.laws_trace.proofs.MovesWatched.{is_invalid, by_frame, by_expiry}
 use Rattle.laws_trace.proofs.States.{one_more}
 use Rattle.laws_trace.proofs.TimersWatched.{Known, awaits}

@@ -1,22 +1,11 @@
 -- What layer 3 is told of establishments and releases: the law.
-use Rattle.laws_trace.proofs.Vocabulary.{◌≡◌, ℕ, ◌<◌, ◌==◌, ◌&&◌, not, Bool, true, false, cond, List, [], ◌∷◌, get_or, set, Option, Some, None, refl, sym, ap, ◌∙◌, subst, arith, eq-eqb, true≢false, fold, filter, list_any, option_map_or, and_parts, get_or-set_same, get_or-replicate, All-head, All-tail, PoolFull, Service, Link, Config, request, Answer, refused, Line, fresh_line, link_of, link_in, state_of, IsInRange, Card, line_at, is_full, at, moments, fresh_is_sound, after_is_sound, has_lines, by_room, line_sound, AllHaveTheirTimers, timely-after, begins-timely-card, notes_of, nowhere}
-use Rattle.std.proofs.Common.{eqb-true}
-use Rattle.std.specs.Option.{unwrap_or}
-use Rattle.model_link.specs.Link.{fresh as fresh_link}
+use Rattle.laws_trace.proofs.Vocabulary.{◌≡◌, ℕ, ◌<◌, ◌==◌, ◌&&◌, not, Bool, true, false, cond, List, [], ◌∷◌, get_or, set, Option, Some, None, refl, sym, ap, ◌∙◌, subst, arith, eq-eqb, true≢false, fold, filter, list_any, option_map_or, and_parts, get_or-set_same, get_or-replicate, All-head, All-tail, PoolFull, Service, Link, Config, request, Answer, refused, Line, fresh_line, link_of, link_in, state_of, IsInRange, Card, line_at, is_full, at, moments, fresh_is_sound, after_is_sound, has_lines, by_room, line_sound, AllHaveTheirTimers, timely-after, begins-timely-card, notes_of, nowhere, eqb-true, unwrap_or, fresh_link, Request, Establish, fresh, CardEvent as Event, after, card_answer as answer, Moment, after_all, IsAtLine, AreAtLines, is_news, is_sabme, is_xid, releases, wrong, moment_of, seen, Always}
 use Rattle.model_line.specs.Event as line_event
 use Rattle.model_line.specs.Machine as lines
-use Rattle.model_line.specs.Request.{Request, Establish}
-use Rattle.model_card.specs.Card.{fresh}
-use Rattle.model_card.specs.Event.{Event}
-use Rattle.model_card.specs.Machine.{after, answer}
-use Rattle.model_card.specs.Run.{Moment, after_all, IsAtLine, AreAtLines}
 use Rattle.model_card.specs.Sound as card_sound
-use Rattle.laws_trace.specs.News.{is_news, is_sabme, is_xid, releases, wrong}
 use Rattle.laws_trace.proofs.NewsWatched.{establishes, asked, Owing, none_owed, owing, due, NewsIsTold}
 use Rattle.laws_trace.proofs.TimersWatched.{brings, Known, watch}
 use Rattle.laws_trace.proofs.States.{is_state, differ}
-use Rattle.laws_trace.specs.Observer.{moment_of}
-use Rattle.laws_trace.specs.Trace.{seen, Always}
 use Rattle.laws_trace.proofs.LinksMove.{differ-self}
 use Rattle.laws_trace.proofs.NewsOfLink.{Asks}
 use Rattle.laws_trace.proofs.CallRuns.{apart}

@@ -1,9 +1,6 @@
 -- What a link tells of establishments and releases: each event of it; and who asked for the establishment that it awaits.
-use Rattle.laws_trace.proofs.Vocabulary.{◌≡◌, ◌==◌, ◌&&◌, not, Bool, true, false, cond, List, [], refl, sym, ◌∙◌, subst, filter, Parts, State, TeiAssigned, AwaitingEstablishment, AwaitingRelease, Established, TimerRecovery, Terms, LinkTimer, Received, undefined, wrong_size, overlong, received, expired, requested, offer, cleared, Link, state_number, may_repeat, runs, notes-own, asked_left, asks_establishment, as_heard, state_after, moves, by_expiry, told_by, told_expired, event-follows, Note}
-use Rattle.model_link.specs.declared.timers.LinkTimer.TheVariants.{T200, T203}
-use Rattle.model_link.specs.Events.{Event, Request, frame, Establish, Release, Data, SetBusy, ClearBusy}
+use Rattle.laws_trace.proofs.Vocabulary.{◌≡◌, ◌==◌, ◌&&◌, not, Bool, true, false, cond, List, [], refl, sym, ◌∙◌, subst, filter, Parts, State, TeiAssigned, AwaitingEstablishment, AwaitingRelease, Established, TimerRecovery, Terms, LinkTimer, Received, undefined, wrong_size, overlong, received, expired, requested, offer, cleared, Link, state_number, may_repeat, runs, notes-own, asked_left, asks_establishment, as_heard, state_after, moves, by_expiry, told_by, told_expired, event-follows, Note, T200, T203, LinkEvent as Event, LinkRequest as Request, frame, LinkEstablish as Establish, LinkRelease as Release, LinkData as Data, LinkSetBusy as SetBusy, LinkClearBusy as ClearBusy, is_news, given_up}
 use Rattle.model_link.specs.Machine as links
-use Rattle.laws_trace.specs.News.{is_news, given_up}
 use Rattle.laws_trace.proofs.NewsWatched.{due}
 use Rattle.laws_trace.proofs.NewsRows.{all-news, errors_of, xid_of, sabme_of, released_of, Fits, Told, nothing-fits, by-control}
 

@@ -1,28 +1,15 @@
 -- Where no event is one of a link, and its TEI stays on the line, nothing is told of its establishment or its release.
-use Rattle.laws_trace.proofs.Vocabulary.{◌≡◌, ℕ, ◌==◌, ◌&&◌, Bool, true, false, cond, List, [], ◌∷◌, ◌++◌, Option, Some, None, refl, sym, ap, ◌∙◌, subst, true≢false, ◌⊎◌, inl, inr, All, filter, All-nil, All-cons, All-append, All-head, All-tail, All-weaker, Note, Refusal, Service, Call, Packet, Timer, T201, same_service, is_on-at, Management, IsAt, IsSoundTable, Change, Gained, Left, Terms, LinkTimer, Link, notes-own, Config, Aim, at_link, at_management, of_aim, of_change, told_of_management, hears, expiry, request, next, at_timer, aim_of_expiry, Line, has_tei, link_in, place_in, terms, aim_of, unless_refused, unless_refused_told, aim_of_heard, group_tei, Assign, Remove, Deactivate, at_requested, at_deactivated, aim_of_request, IsProper, heard_aims, request_proper, notes_of, is-off, has-no-place, ByChange, noted, Down}
-use Rattle.std.proofs.Common.{eqb-true}
+use Rattle.laws_trace.proofs.Vocabulary.{◌≡◌, ℕ, ◌==◌, ◌&&◌, Bool, true, false, cond, List, [], ◌∷◌, ◌++◌, Option, Some, None, refl, sym, ap, ◌∙◌, subst, true≢false, ◌⊎◌, inl, inr, All, filter, All-nil, All-cons, All-append, All-head, All-tail, All-weaker, Note, Refusal, Service, Call, Packet, Timer, T201, same_service, is_on-at, Management, IsAt, IsSoundTable, Change, Gained, Left, Terms, LinkTimer, Link, notes-own, Config, Aim, at_link, at_management, of_aim, of_change, told_of_management, hears, expiry, request, next, at_timer, aim_of_expiry, Line, has_tei, link_in, place_in, terms, aim_of, unless_refused, unless_refused_told, aim_of_heard, group_tei, Assign, Remove, Deactivate, at_requested, at_deactivated, aim_of_request, IsProper, heard_aims, request_proper, notes_of, is-off, has-no-place, ByChange, noted, Down, eqb-true, TimerT200 as T200, TimerT203 as T203, IsOwn, fresh_link as fresh, line_of_link as of_link, Event, line_after as after, answer, refusal, Request, Establish, Release, Data, Checking as Check, SetBusy, ClearBusy, IsSound, is_own, is_news, by-down}
 use Rattle.model_bits.specs.Stream as stream
 use Rattle.lapd_frame.specs.declared.notes.Note.TheVariants as notes
-use Rattle.lapd_frame.specs.declared.timers.Timer.TheVariants.{T200, T203}
 use Rattle.lapd_tei.specs.Events as teis
 use Rattle.lapd_tei.proofs.LawLemmas as tei_lemmas
 use Rattle.lapd_tei.specs.Laws as tei_laws
 use Rattle.model_link.specs.declared.timers.LinkTimer.TheVariants as link_timer
 use Rattle.model_link.specs.Events as link
-use Rattle.model_link.specs.Notes.{IsOwn}
-use Rattle.model_link.specs.Link.{fresh}
 use Rattle.model_link.specs.Machine as links
-use Rattle.model_line.specs.Effect.{of_link}
-use Rattle.model_line.specs.Event.{Event}
-use Rattle.model_line.specs.Machine.{after, answer}
-use Rattle.model_line.specs.Refusal.{refusal}
-use Rattle.model_line.specs.Request.{Request, Establish, Release, Data, Check, SetBusy, ClearBusy}
-use Rattle.model_line.specs.Sound.{IsSound}
 use Rattle.laws_line.proofs.Readings as read
-use Rattle.laws_trace.specs.Trace.{is_own}
-use Rattle.laws_trace.specs.News.{is_news}
 use Rattle.laws_trace.proofs.OneLink.{is_at_link}
-use Rattle.laws_line.proofs.Downs.{by-down}
 
 module _ (service : Service) (tei : ℕ) where
   abbrev No : Note → Type 0

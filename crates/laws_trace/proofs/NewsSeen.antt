@@ -1,16 +1,10 @@
 -- What is seen of a link: SABME, and requests that are granted.
-use Rattle.laws_trace.proofs.Vocabulary.{◌≡◌, ℕ, ◌&&◌, Bool, true, false, cond, Option, Some, None, refl, sym, ap, ◌∙◌, true≢false, list_any, option_map_or, Service, Config, request, Answer, Line, place_in, at_requested, aim_of_request, is_granted, IsBy, asks_establishment, Parts}
-use Rattle.lapd_frame.specs.declared.controls.Control.{Control}
-use Rattle.model_link.specs.declared.timers.LinkTimer.TheVariants.{T200, T203}
+use Rattle.laws_trace.proofs.Vocabulary.{◌≡◌, ℕ, ◌&&◌, Bool, true, false, cond, Option, Some, None, refl, sym, ap, ◌∙◌, true≢false, list_any, option_map_or, Service, Config, request, Answer, Line, place_in, at_requested, aim_of_request, is_granted, IsBy, asks_establishment, Parts, Control, T200, T203, Request, Release, is_for, releases, is_own, seen}
 use Rattle.model_link.specs.Events as link
 use Rattle.model_line.specs.Event as line_event
 use Rattle.model_line.specs.Machine as lines
-use Rattle.model_line.specs.Request.{Request, Release}
-use Rattle.laws_trace.specs.LinkFrames.{is_for}
 use Rattle.laws_trace.proofs.NewsWatched.{establishes}
-use Rattle.laws_trace.specs.News.{releases}
 use Rattle.laws_trace.proofs.TimersWatched.{nothing_yet, control_in, brings}
-use Rattle.laws_trace.specs.Trace.{is_own, seen}
 use Rattle.laws_trace.proofs.Deliveries.{frame_by, brings-frame, brings-none, heard-by}
 use Rattle.laws_trace.proofs.DeliveriesRun.{event-aims}
 use Rattle.laws_trace.proofs.LinkLed.{own-is, none-refused, elsewhere}

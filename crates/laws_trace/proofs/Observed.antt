@@ -1,12 +1,8 @@
 -- What an observer knows of a link is what follows its parts: over runs.
-use Rattle.laws_trace.proofs.Vocabulary.{◌≡◌, ℕ, ◌+◌, ◌==◌, ◌&&◌, ◌||◌, not, Bool, true, false, cond, Option, Some, None, is_some, refl, sym, ap, ◌∙◌, subst, arith, eq-eqb, true≢false, fold, nat_lt, IfSome, option_map_or, Service, State, TeiAssigned, AwaitingEstablishment, AwaitingRelease, TimerRecovery, LinkTimer, state_number, Config, expiry, Answer}
-use Rattle.std.proofs.Common.{eqb-true}
+use Rattle.laws_trace.proofs.Vocabulary.{◌≡◌, ℕ, ◌+◌, ◌==◌, ◌&&◌, ◌||◌, not, Bool, true, false, cond, Option, Some, None, is_some, refl, sym, ap, ◌∙◌, subst, arith, eq-eqb, true≢false, fold, nat_lt, IfSome, option_map_or, Service, State, TeiAssigned, AwaitingEstablishment, AwaitingRelease, TimerRecovery, LinkTimer, state_number, Config, expiry, Answer, eqb-true, T200, T203, Observed, in_state, by_event, is_own, seen}
 use Rattle.lapd_frame.specs.declared.timers.Timer.TheVariants as timers
-use Rattle.model_link.specs.declared.timers.LinkTimer.TheVariants.{T200, T203}
 use Rattle.model_line.specs.Event as line_event
-use Rattle.laws_trace.specs.Observer.{Observed, in_state, by_event}
 use Rattle.laws_trace.proofs.States as states
-use Rattle.laws_trace.specs.Trace.{is_own, seen}
 use Rattle.laws_trace.proofs.TimersWatched.{Known, learned}
 use Rattle.laws_trace.proofs.States.{is_state, differ}
 use Rattle.laws_trace.proofs.ObservedMoves.{grown, event-moves}

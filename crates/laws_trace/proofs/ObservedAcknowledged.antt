@@ -1,11 +1,6 @@
 -- What the observer knows of this side of a link from the start on.
-use Rattle.laws_trace.proofs.Vocabulary.{ℕ, ◌<◌, false, List, refl, sym, ap, subst, true≢false, fold, Service, Link, Config, IsInRange, fresh_is_sound, begins-timely-card}
-use Rattle.model_card.specs.Card.{fresh}
-use Rattle.model_card.specs.Event.{Event}
-use Rattle.model_card.specs.Run.{AreAtLines}
+use Rattle.laws_trace.proofs.Vocabulary.{ℕ, ◌<◌, false, List, refl, sym, ap, subst, true≢false, fold, Service, Link, Config, IsInRange, fresh_is_sound, begins-timely-card, fresh, CardEvent as Event, AreAtLines, view_of, trace_of}
 use Rattle.laws_trace.specs.Observer as observer
-use Rattle.laws_trace.specs.Observer.{view_of}
-use Rattle.laws_trace.specs.Trace.{trace_of}
 use Rattle.laws_trace.proofs.DeliveriesWatched.{at_first, stand}
 use Rattle.laws_trace.proofs.NewsWatched.{none_owed}
 use Rattle.laws_trace.proofs.ObservedCount.{Agree}

@@ -1,17 +1,9 @@
 -- The control frames of a link that are due by what the observer knows are those that are due by how the link stands.
-use Rattle.laws_trace.proofs.Vocabulary.{◌≡◌, ℕ, ◌+◌, ◌%◌, ◌==◌, ◌&&◌, not, Bool, true, false, cond, length, List, [], ◌++◌, Option, Some, None, is_some, refl, sym, ap, ◌∙◌, subst, true≢false, nat_lt, Result, Ok, Err, option_map_or, seq, Information, ReceiveReady, ReceiveNotReady, Reject, Sabme, Disc, ReadFault, Service, Timer, Parts, reading, ControlFrame, Config, hears, expiry, request, next, Answer, gave, heard_side, Deactivate, as_response, is_granted}
+use Rattle.laws_trace.proofs.Vocabulary.{◌≡◌, ℕ, ◌+◌, ◌%◌, ◌==◌, ◌&&◌, not, Bool, true, false, cond, length, List, [], ◌++◌, Option, Some, None, is_some, refl, sym, ap, ◌∙◌, subst, true≢false, nat_lt, Result, Ok, Err, option_map_or, seq, Information, ReceiveReady, ReceiveNotReady, Reject, Sabme, Disc, ReadFault, Service, Timer, Parts, reading, ControlFrame, Config, hears, expiry, request, next, Answer, gave, heard_side, Deactivate, as_response, is_granted, Control, told, Request, Establish, Release, SetBusy, ClearBusy, result_ok, brought, frame_of, its_frame, is_for, malformed, Managed, due, Observed, in_state, awaits, anew, enquires, observer_by_frame as by_frame, by_t200, observer_by_expiry as by_expiry, observer_by_request as by_request, by_event, sends, is_own, is_up, heard, seen_told, seen_granted}
 use Rattle.model_bits.specs.Stream as stream
-use Rattle.lapd_frame.specs.declared.controls.Control.{Control}
 use Rattle.lapd_frame.specs.declared.timers.Timer.TheVariants as timers
 use Rattle.model_line.specs.Event as line_event
-use Rattle.model_line.specs.Event.{told}
-use Rattle.model_line.specs.Request.{Request, Establish, Release, SetBusy, ClearBusy}
 use Rattle.laws_trace.specs.ControlFrames as now_due
-use Rattle.std.specs.Result.{result_ok}
-use Rattle.laws_trace.specs.LinkFrames.{brought, frame_of, its_frame, is_for, malformed}
-use Rattle.laws_trace.specs.Managing.{Managed, due}
-use Rattle.laws_trace.specs.Observer.{Observed, in_state, awaits, anew, enquires, by_frame, by_t200, by_expiry, by_request, by_event, sends}
-use Rattle.laws_trace.specs.Trace.{is_own, is_up, heard, seen_told, seen_granted}
 use Rattle.laws_trace.proofs.ControlsSeen.{answers_seen, asked-answers}
 use Rattle.laws_trace.proofs.ControlsWatched as old
 use Rattle.laws_trace.proofs.DeliveriesWatched.{Standing, busy_asked}

@@ -1,14 +1,6 @@
 -- What is seen of the control frames of a link in a moment, by what the observer knows.
-use Rattle.laws_trace.proofs.Vocabulary.{◌≡◌, ℕ, ◌==◌, ◌&&◌, Bool, true, false, cond, List, [], Option, Some, None, refl, sym, ap, ◌∙◌, true≢false, option_map_or, none-some, Service, Call, Packet, Parts, sapi_of, ControlFrame, State, TeiAssigned, state_number, Config, hears, request, Answer, management_sapi, has_management, is_granted}
-use Rattle.std.proofs.Common.{eqb-true}
+use Rattle.laws_trace.proofs.Vocabulary.{◌≡◌, ℕ, ◌==◌, ◌&&◌, Bool, true, false, cond, List, [], Option, Some, None, refl, sym, ap, ◌∙◌, true≢false, option_map_or, none-some, Service, Call, Packet, Parts, sapi_of, ControlFrame, State, TeiAssigned, state_number, Config, hears, request, Answer, management_sapi, has_management, is_granted, eqb-true, told, Request, frame_of, its_frame, is_for, Managed, due, by_message, nothing_due, Observed, by_event, observer_by_request as by_request, is_up, seen, is_ui}
 use Rattle.model_bits.specs.Stream as stream
-use Rattle.model_line.specs.Event.{told}
-use Rattle.model_line.specs.Request.{Request}
-use Rattle.laws_trace.specs.LinkFrames.{frame_of, its_frame, is_for}
-use Rattle.laws_trace.specs.Managing.{Managed, due, by_message, nothing_due}
-use Rattle.laws_trace.specs.Observer.{Observed, by_event, by_request}
-use Rattle.laws_trace.specs.Trace.{is_up, seen}
-use Rattle.laws_trace.specs.Units.{is_ui}
 use Rattle.laws_trace.proofs.DeliveriesWatched.{busy_asked}
 use Rattle.laws_trace.proofs.ManagingNotes.{message_by, message-is-read}
 use Rattle.laws_trace.proofs.ObservedControls.{stays-down}

@@ -1,12 +1,7 @@
 -- What an observer knows of this side of a link is how the link stands by what is heard and noted: over runs.
-use Rattle.laws_trace.proofs.Vocabulary.{◌≡◌, ℕ, ◌+◌, ◌&&◌, ◌||◌, not, Bool, true, false, cond, Some, refl, sym, ap, ◌∙◌, subst, true≢false, list_any, Service, State, TeiAssigned, is_multiple_frame, state_number, Config, hears, Answer, Line, link_of, place_in, IsInRange, notes_of, is_data_of}
-use Rattle.model_line.specs.Event.{Event}
+use Rattle.laws_trace.proofs.Vocabulary.{◌≡◌, ℕ, ◌+◌, ◌&&◌, ◌||◌, not, Bool, true, false, cond, Some, refl, sym, ap, ◌∙◌, subst, true≢false, list_any, Service, State, TeiAssigned, is_multiple_frame, state_number, Config, hears, Answer, Line, link_of, place_in, IsInRange, notes_of, is_data_of, Event, IsSound, brought, Observed, by_event, is_up}
 use Rattle.model_line.specs.Machine as lines
-use Rattle.model_line.specs.Sound.{IsSound}
 use Rattle.laws_trace.proofs.Counting.{begins}
-use Rattle.laws_trace.specs.LinkFrames.{brought}
-use Rattle.laws_trace.specs.Observer.{Observed, by_event}
-use Rattle.laws_trace.specs.Trace.{is_up}
 use Rattle.laws_trace.proofs.Deliveries.{frame_by}
 use Rattle.laws_trace.proofs.DeliveriesRun.{IsCount}
 use Rattle.laws_trace.proofs.DeliveriesWatched.{Standing, brings_information}

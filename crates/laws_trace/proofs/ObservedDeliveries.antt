@@ -1,19 +1,9 @@
 -- What layer 3 is told of what is heard, by what the observer knows of the link.
-use Rattle.laws_trace.proofs.Vocabulary.{List, nat_le, ◌&&◌, ◌≡◌, ℕ, ◌<◌, ◌||◌, Bool, true, false, cond, Option, Some, None, option_map, refl, sym, ap, ◌∙◌, subst, true≢false, inl, inr, fold, count_by, length, option_to_list, list_any, option_map_or, and_parts, none-some, PoolFull, Service, Parts, State, TeiAssigned, is_multiple_frame, state_number, Config, hears, request, Answer, refused, Line, link_of, place_in, state_of, IsInRange, notes_of, contents_in, is_data_of, is_unit_of, tells_contents, line_at, is_full, at, has_lines, by_room, line_sound}
+use Rattle.laws_trace.proofs.Vocabulary.{List, nat_le, ◌&&◌, ◌≡◌, ℕ, ◌<◌, ◌||◌, Bool, true, false, cond, Option, Some, None, option_map, refl, sym, ap, ◌∙◌, subst, true≢false, inl, inr, fold, count_by, length, option_to_list, list_any, option_map_or, and_parts, none-some, PoolFull, Service, Parts, State, TeiAssigned, is_multiple_frame, state_number, Config, hears, request, Answer, refused, Line, link_of, place_in, state_of, IsInRange, notes_of, contents_in, is_data_of, is_unit_of, tells_contents, line_at, is_full, at, has_lines, by_room, line_sound, IsSound, fresh, card_answer as answer, after_all, AreAtLines, is_unit_for, is_unit_taken, Deliveries, brought, its_frame, is_for, Observed, in_state, view_of, is_up, trace_of, Always, is_ui, Managed}
 use Rattle.model_line.specs.Event as line_event
 use Rattle.model_line.specs.Machine as lines
-use Rattle.model_line.specs.Sound.{IsSound}
-use Rattle.model_card.specs.Card.{fresh}
-use Rattle.model_card.specs.Machine.{answer}
-use Rattle.model_card.specs.Run.{after_all, AreAtLines}
-use Rattle.laws_trace.specs.Deliveries.{is_unit_for, is_unit_taken, Deliveries}
-use Rattle.laws_trace.specs.LinkFrames.{brought, its_frame, is_for}
-use Rattle.laws_trace.specs.Observer.{Observed, in_state, view_of}
-use Rattle.laws_trace.specs.Trace.{is_up, trace_of, Always}
-use Rattle.laws_trace.specs.Units.{is_ui}
 use Rattle.laws_trace.proofs.Deliveries.{frame_by}
 use Rattle.laws_trace.proofs.DeliveriesKept.{run-stands}
-use Rattle.laws_trace.specs.Managing.{Managed}
 use Rattle.laws_trace.proofs.DeliveriesRun.{IsCount, IsSmall, no-data, event-small, event-told}
 use Rattle.laws_trace.proofs.DeliveriesWatched.{at_first, stand, IsHeard}
 use Rattle.laws_trace.proofs.ObservedAcknowledged.{agrees-now}

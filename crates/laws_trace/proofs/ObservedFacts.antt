@@ -1,11 +1,6 @@
 -- What an observer knows of a link, by whether its TEI is on the line, and what follows for the words of the laws.
-use Rattle.laws_trace.proofs.Vocabulary.{◌≡◌, ℕ, ◌==◌, ◌&&◌, ◌||◌, ◌⊎◌, inl, inr, not, Bool, true, false, cond, Option, Some, None, is_some, refl, sym, ap, ◌∙◌, subst, nat_le, list_any, option_map_or, Service, Parts, State, TeiAssigned, state_number, Config, hears, Line, state_of}
-use Rattle.std.specs.Option.{unwrap_or}
-use Rattle.lapd_frame.specs.declared.controls.Control.{Control}
+use Rattle.laws_trace.proofs.Vocabulary.{◌≡◌, ℕ, ◌==◌, ◌&&◌, ◌||◌, ◌⊎◌, inl, inr, not, Bool, true, false, cond, Option, Some, None, is_some, refl, sym, ap, ◌∙◌, subst, nat_le, list_any, option_map_or, Service, Parts, State, TeiAssigned, state_number, Config, hears, Line, state_of, unwrap_or, Control, frame_of, its_frame, is_for, Observed, View, in_state, is_outstanding, awaits, seen}
 use Rattle.model_line.specs.Event as line_event
-use Rattle.laws_trace.specs.LinkFrames.{frame_of, its_frame, is_for}
-use Rattle.laws_trace.specs.Observer.{Observed, View, in_state, is_outstanding, awaits}
-use Rattle.laws_trace.specs.Trace.{seen}
 use Rattle.laws_trace.proofs.Deliveries.{frame_by}
 use Rattle.laws_trace.proofs.LinksMove.{same-way}
 use Rattle.laws_trace.proofs.NewsWatched.{owing}

@@ -1,18 +1,7 @@
 -- What the observer knows of a link gives the laws of it, by what follows its parts.
-use Rattle.laws_trace.proofs.Vocabulary.{◌≡◌, ℕ, ◌<◌, ◌==◌, ◌&&◌, ◌||◌, inl, inr, not, Bool, false, cond, List, [], ◌∷◌, ◌++◌, map, Option, Some, None, is_some, refl, sym, ap, ◌∙◌, subst, fold, filter, nat_le, if◌then◌else◌, list_any, Note, EstablishIndication, EstablishConfirm, ReleaseIndication, ReleaseConfirm, Error, Service, State, TeiAssigned, LinkTimer, state_number, Config, orders_in, Line, state_of, IsInRange, obeyed, notes_of, timer_of, left_by, runs_at_callers, line_at, at, moments}
-use Rattle.std.specs.Option.{unwrap_or}
-use Rattle.lapd_frame.specs.declared.notes.Note.TheVariants.{Xid}
+use Rattle.laws_trace.proofs.Vocabulary.{◌≡◌, ℕ, ◌<◌, ◌==◌, ◌&&◌, ◌||◌, inl, inr, not, Bool, false, cond, List, [], ◌∷◌, ◌++◌, map, Option, Some, None, is_some, refl, sym, ap, ◌∙◌, subst, fold, filter, nat_le, if◌then◌else◌, list_any, Note, EstablishIndication, EstablishConfirm, ReleaseIndication, ReleaseConfirm, Error, Service, State, TeiAssigned, LinkTimer, state_number, Config, orders_in, Line, state_of, IsInRange, obeyed, notes_of, timer_of, left_by, runs_at_callers, line_at, at, moments, unwrap_or, NoteXid as Xid, fresh, CardEvent as Event, after, Moment, after_all, AreAtLines, managing_is_on as is_on, NewsIsTold, Observed, View, is_outstanding, awaits, view_of, moment_of, view_behind, TimersRun, Seen, seen, Always}
 use Rattle.model_line.specs.Event as line_event
-use Rattle.model_card.specs.Card.{fresh}
-use Rattle.model_card.specs.Event.{Event}
-use Rattle.model_card.specs.Machine.{after}
-use Rattle.model_card.specs.Run.{Moment, after_all, AreAtLines}
 use Rattle.laws_trace.specs.LinksMove.{LinksMove}
-use Rattle.laws_trace.specs.Managing.{is_on}
-use Rattle.laws_trace.specs.News.{NewsIsTold}
-use Rattle.laws_trace.specs.Observer.{Observed, View, is_outstanding, awaits, view_of, moment_of, view_behind}
-use Rattle.laws_trace.specs.TimersAreTimely.{TimersRun}
-use Rattle.laws_trace.specs.Trace.{Seen, seen, Always}
 use Rattle.laws_trace.proofs.MovesWatched.{repeated}
 use Rattle.laws_trace.proofs.NewsWatched.{Owing, none_owed, owing}
 use Rattle.laws_trace.proofs.Observed.{IsObserved}

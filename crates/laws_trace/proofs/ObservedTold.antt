@@ -1,20 +1,10 @@
 -- What an event of a line tells of data, by what an observer knows of the link; and when the numbers begin.
-use Rattle.laws_trace.proofs.Vocabulary.{◌≡◌, ℕ, ◌%◌, ◌==◌, ◌&&◌, ◌≤◌, ◌<◌, not, Bool, true, false, cond, List, length, Option, Some, None, refl, sym, ap, ◌∙◌, arith, inl, inr, true≢false, nat_lt, nat_le, is_some, list_any, option_map_or, leb-true, leb-false, none-some, Information, ReceiveReady, ReceiveNotReady, Reject, Sabme, Disc, Ui, Ua, Dm, Frmr, Service, Parts, Seq, State, TeiAssigned, Terms, restarts, eligible, eligible_of, Link, is_multiple_frame, state_number, in_sequence, as_heard, state_after, numbers_begin, event-follows, data-is, establishes, Config, hears, Answer, Line, link_of, place_in, terms, IsInRange, notes_of, is_data_of, IsBy}
-use Rattle.std.proofs.Common.{ltb-true, ltb-false}
-use Rattle.lapd_frame.specs.declared.controls.Control.{Control}
-use Rattle.lapd_frame.specs.declared.controls.Control.TheVariants.{Xid}
-use Rattle.model_link.specs.Deliveries.{information_of}
+use Rattle.laws_trace.proofs.Vocabulary.{◌≡◌, ℕ, ◌%◌, ◌==◌, ◌&&◌, ◌≤◌, ◌<◌, not, Bool, true, false, cond, List, length, Option, Some, None, refl, sym, ap, ◌∙◌, arith, inl, inr, true≢false, nat_lt, nat_le, is_some, list_any, option_map_or, leb-true, leb-false, none-some, Information, ReceiveReady, ReceiveNotReady, Reject, Sabme, Disc, Ui, Ua, Dm, Frmr, Service, Parts, Seq, State, TeiAssigned, Terms, restarts, eligible, eligible_of, Link, is_multiple_frame, state_number, in_sequence, as_heard, state_after, numbers_begin, event-follows, data-is, establishes, Config, hears, Answer, Line, link_of, place_in, terms, IsInRange, notes_of, is_data_of, IsBy, ltb-true, ltb-false, Control, Xid, link_information_of as information_of, Event, IsSound, brings_next, brought, frame_of, its_frame, is_for, Observed, is_up}
 use Rattle.model_link.specs.Events as link
 use Rattle.model_link.specs.Machine as links
-use Rattle.model_line.specs.Event.{Event}
 use Rattle.model_line.specs.Machine as lines
-use Rattle.model_line.specs.Sound.{IsSound}
 use Rattle.laws_trace.proofs.Counting as counting
 use Rattle.laws_trace.proofs.Counting.{begins}
-use Rattle.laws_trace.specs.Deliveries.{brings_next}
-use Rattle.laws_trace.specs.LinkFrames.{brought, frame_of, its_frame, is_for}
-use Rattle.laws_trace.specs.Observer.{Observed}
-use Rattle.laws_trace.specs.Trace.{is_up}
 use Rattle.laws_trace.proofs.Begins.{in-state, unless}
 use Rattle.laws_trace.proofs.Deliveries.{frame_by, brings-frame, brings-none, one-begins}
 use Rattle.laws_trace.proofs.DeliveriesRun.{IsCount, event-aims, data-noted, no-data, ended-notes}

@@ -1,25 +1,11 @@
 -- Where the contents that are granted, and the frames that are heard, are octets, so are those of each frame that
 -- begins: the law.
-use Rattle.laws_trace.proofs.Vocabulary.{◌≡◌, ℕ, zero, suc, ◌<◌, ◌≤◌, Bool, true, false, cond, List, [], ◌∷◌, ◌++◌, drop, get_or, replicate, slice_get, Option, Some, None, IfSome, option_map, refl, sym, ap, ◌∙◌, subst, arith, ◌⊎◌, inl, inr, All, is_some, option_or, option_map_or, flat_map-append, get_or-replicate, All-nil, All-cons, All-head, All-tail, All-append, All-drop, AreOctets, Address, Side, Ui, Refusal, Service, sapi_of, action_of, Message, accepted, share, IsOffered, Carries, number_sent, kept-after, given-is-offered, Seq, Link, queue_of, address_at, Given, Terms, Config, request, next, Answer, gave, Line, UnitData, link_count, link_number, service_at, place_at, place_in, tei_at, link_at, link_in, link_of, terms, fresh_line, Taken, with_unit, unit_frame, first_taken, round, taken, next_of, line_of, IsInRange, IsSoundAt, IsUnitData, sound_in, round_below, place_of-is, unit_asked, units_asked, is_granted, IsBy, OfLink, of-links, IsOne, taken-one, has-place, units-wait, number-is, fresh_is_sound, head, Call, Packet}
-use Rattle.std.specs.Option.{unwrap_or}
-use Rattle.lapd_frame.specs.declared.controls.Control.{Control}
-use Rattle.lapd_frame.specs.Grammar.{head_of}
-use Rattle.lapd_tei.specs.Messages.{information_of, frame_of as message_frame}
+use Rattle.laws_trace.proofs.Vocabulary.{◌≡◌, ℕ, zero, suc, ◌<◌, ◌≤◌, Bool, true, false, cond, List, [], ◌∷◌, ◌++◌, drop, get_or, replicate, slice_get, Option, Some, None, IfSome, option_map, refl, sym, ap, ◌∙◌, subst, arith, ◌⊎◌, inl, inr, All, is_some, option_or, option_map_or, flat_map-append, get_or-replicate, All-nil, All-cons, All-head, All-tail, All-append, All-drop, AreOctets, Address, Side, Ui, Refusal, Service, sapi_of, action_of, Message, accepted, share, IsOffered, Carries, number_sent, kept-after, given-is-offered, Seq, Link, queue_of, address_at, Given, Terms, Config, request, next, Answer, gave, Line, UnitData, link_count, link_number, service_at, place_at, place_in, tei_at, link_at, link_in, link_of, terms, fresh_line, Taken, with_unit, unit_frame, first_taken, round, taken, next_of, line_of, IsInRange, IsSoundAt, IsUnitData, sound_in, round_below, place_of-is, unit_asked, units_asked, is_granted, IsBy, OfLink, of-links, IsOne, taken-one, has-place, units-wait, number-is, fresh_is_sound, head, Call, Packet, unwrap_or, Control, head_of, information_of, message_frame, fresh_link, Event, told, line_after as after, answer, with_message, Request, IsSound, fresh, all-left as all-front, all-right as all-back, contents_given, GivesOctets, FramesAreOctets, trace_frame_in as frame_in, Seen, granted, seen_told, seen, frames_begun, Always, units_behind, units_left}
 use Rattle.model_link.specs.Events as link
-use Rattle.model_link.specs.Link.{fresh as fresh_link}
 use Rattle.model_link.specs.Machine as links
 use Rattle.model_link.specs.Requests as link_requests
 use Rattle.model_link.specs.Sound as link_sound
-use Rattle.model_line.specs.Event.{Event, told}
-use Rattle.model_line.specs.Machine.{after, answer}
-use Rattle.model_line.specs.Taken.{with_message}
 use Rattle.model_line.specs.Request as asked
-use Rattle.model_line.specs.Request.{Request}
-use Rattle.model_line.specs.Sound.{IsSound}
-use Rattle.model_card.specs.Card.{fresh}
-use Rattle.laws_line.proofs.OfCard.Wherever.{all-left as all-front, all-right as all-back}
-use Rattle.laws_trace.specs.FramesAreRead.{contents_given, GivesOctets, FramesAreOctets}
-use Rattle.laws_trace.specs.Trace.{frame_in, Seen, granted, seen_told, seen, frames_begun, Always}
 use Rattle.laws_trace.proofs.OneLink.{Goes, event-goes}
 use Rattle.laws_trace.proofs.Runs.{run-shows}
 use Rattle.laws_trace.proofs.SmallMessages.{IsSmall, message-octets}
@@ -27,7 +13,6 @@ use Rattle.laws_trace.proofs.SmallMessagesWait.{messages-after}
 use Rattle.laws_trace.proofs.Units.{none-told, none-requested, given-frames}
 use Rattle.laws_trace.proofs.Spelled.{Anything}
 use Rattle.laws_trace.specs.Trace as traces
-use Rattle.laws_line.specs.Served.{units_behind, units_left}
 
 abbrev IsUnit : UnitData → Type 0
 IsUnit u = AreOctets u.contents

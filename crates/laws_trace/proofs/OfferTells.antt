@@ -1,11 +1,9 @@
 -- An offer of a link tells layer 3 nothing.
-use Rattle.laws_trace.proofs.Vocabulary.{◌≡◌, Bool, true, false, cond, List, [], ◌∷◌, None, refl, ControlFrame, Terms, Link, ◌then◌, changed}
+use Rattle.laws_trace.proofs.Vocabulary.{◌≡◌, Bool, true, false, cond, List, [], ◌∷◌, None, refl, ControlFrame, Terms, Link, ◌then◌, changed, Course, begun as course_begun, T200}
 use Rattle.model_link.specs.Events as link
 use Rattle.model_link.specs.Machine as links
 use Rattle.model_link.specs.Offers
-use Rattle.model_link.specs.Steps.{Course, begun as course_begun}
 use Rattle.model_link.specs.Words
-use Rattle.model_link.specs.declared.timers.LinkTimer.TheVariants.{T200}
 
 module _ (t : Terms) (x : Link) where
   abbrev pub TellsNothing : Course → Type 0

@@ -1,14 +1,8 @@
 -- The orders of a link, among those of an answer.
-use Rattle.laws_trace.proofs.Vocabulary.{◌≡◌, ℕ, ◌==◌, ◌&&◌, Bool, true, false, cond, not, List, [], ◌∷◌, ◌++◌, Option, Some, None, refl, sym, ap, ◌∙◌, filter, filter-append, Service, Call, Packet, Order, Start, Stop, Timer, same_service, Follows, Terms, LinkTimer, Link, is_same, obeyed, runs, timer_at, order_for, orders_for, timer_of, obeyed-append, eq-eqb}
+use Rattle.laws_trace.proofs.Vocabulary.{◌≡◌, ℕ, ◌==◌, ◌&&◌, Bool, true, false, cond, not, List, [], ◌∷◌, ◌++◌, Option, Some, None, refl, sym, ap, ◌∙◌, filter, filter-append, Service, Call, Packet, Order, Start, Stop, Timer, same_service, Follows, Terms, LinkTimer, Link, is_same, obeyed, runs, timer_at, order_for, orders_for, timer_of, obeyed-append, eq-eqb, T200, T203, is_timer, stop_of, Check, obey, is_timer_of, is_order_of}
 use Rattle.lapd_frame.specs.declared.timers.Timer.TheVariants as timers
-use Rattle.model_link.specs.declared.timers.LinkTimer.TheVariants.{T200, T203}
 use Rattle.model_link.specs.Events as link
 use Rattle.model_link.specs.Machine as links
-use Rattle.model_link.specs.Told.{is_timer}
-use Rattle.lapd_tei.specs.Laws.{stop_of}
-use Rattle.lapd_tei.specs.declared.check.Check.{Check}
-use Rattle.laws_link.specs.Timed.{obey}
-use Rattle.laws_trace.specs.TimersAreTimely.{is_timer_of, is_order_of}
 
 -- Its orders among others, or none.
 abbrev pub its_orders : Service → ℕ → List Order → List Order

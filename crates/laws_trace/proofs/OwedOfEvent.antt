@@ -1,13 +1,9 @@
 -- Whether I-frames are outstanding, as an observer knows it: one event of a line.
-use Rattle.laws_trace.proofs.Vocabulary.{◌≡◌, ℕ, ◌+◌, ◌%◌, ◌≤◌, ◌==◌, not, Bool, true, false, length, Option, Some, None, refl, sym, ap, ◌∙◌, subst, arith, eq-eqb, true≢false, ◌⊎◌, inl, inr, option_map_or, Service, place_of-is, State, TeiAssigned, AwaitingEstablishment, Established, TimerRecovery, Link, Config, Line, link_in, link_of, place_in, state_of, terms, IsInRange, sound_in, terms_in_range, HaveTheirTimers}
+use Rattle.laws_trace.proofs.Vocabulary.{◌≡◌, ℕ, ◌+◌, ◌%◌, ◌≤◌, ◌==◌, not, Bool, true, false, length, Option, Some, None, refl, sym, ap, ◌∙◌, subst, arith, eq-eqb, true≢false, ◌⊎◌, inl, inr, option_map_or, Service, place_of-is, State, TeiAssigned, AwaitingEstablishment, Established, TimerRecovery, Link, Config, Line, link_in, link_of, place_in, state_of, terms, IsInRange, sound_in, terms_in_range, HaveTheirTimers, fresh_link as fresh, Event, line_after as after, answer, IsSound}
 use Rattle.model_link.specs.Events as link
-use Rattle.model_link.specs.Link.{fresh}
 use Rattle.model_link.specs.Machine as links
 use Rattle.model_link.specs.Sound as link_sound
 use Rattle.model_link.specs.Steps as steps
-use Rattle.model_line.specs.Event.{Event}
-use Rattle.model_line.specs.Machine.{after, answer}
-use Rattle.model_line.specs.Sound.{IsSound}
 use Rattle.laws_trace.proofs.TimersWatched.{Known}
 use Rattle.laws_trace.proofs.States.{is_state}
 use Rattle.laws_trace.proofs.OneLink.{HasOne, Goes, event-goes}

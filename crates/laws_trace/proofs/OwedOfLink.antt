@@ -1,9 +1,6 @@
 -- Whether a link owes an acknowledgement behind one of its events.
-use Rattle.laws_trace.proofs.Vocabulary.{◌≡◌, ◌&&◌, ◌||◌, Bool, true, false, cond, List, [], ◌∷◌, refl, sym, ap, ◌∙◌, true≢false, inl, inr, is_some, Sabme, Ua, Parts, flag_left, takes_contents, unless_put, owed_in, pending_left, as_heard, is_overlong, numbers_begin, state_after, put, event-follows, State, AwaitingEstablishment, Established, TimerRecovery, ControlFrame, Terms, restarts, eligible, overlong, received, offer, cleared, Link, is_multiple_frame, delivery, event-delivers}
-use Rattle.lapd_frame.specs.declared.controls.Control.{Control}
-use Rattle.model_link.specs.Events.{Event, frame}
+use Rattle.laws_trace.proofs.Vocabulary.{◌≡◌, ◌&&◌, ◌||◌, Bool, true, false, cond, List, [], ◌∷◌, refl, sym, ap, ◌∙◌, true≢false, inl, inr, is_some, Sabme, Ua, Parts, flag_left, takes_contents, unless_put, owed_in, pending_left, as_heard, is_overlong, numbers_begin, state_after, put, event-follows, State, AwaitingEstablishment, Established, TimerRecovery, ControlFrame, Terms, restarts, eligible, overlong, received, offer, cleared, Link, is_multiple_frame, delivery, event-delivers, Control, LinkEvent as Event, frame, is_empty}
 use Rattle.model_link.specs.Machine as links
-use Rattle.laws_trace.specs.Outgoing.{is_empty}
 use Rattle.laws_trace.proofs.Begins.{in-state, up-before}
 use Rattle.laws_trace.proofs.CommandsCaused.{IsNoOther}
 use Rattle.laws_trace.proofs.ReceiptsNumbered.{PendsUp, pends-up, taken-is}

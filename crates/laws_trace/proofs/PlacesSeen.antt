@@ -1,14 +1,9 @@
 -- What an event shows of the places of a link: data that is granted, and that layer 3 learns of a loss.
-use Rattle.laws_trace.proofs.Vocabulary.{◌≡◌, ℕ, Bool, true, false, cond, List, [], ◌++◌, ◌∷◌, ◌&&◌, ◌||◌, map, Some, None, refl, sym, ap, ◌∙◌, append-nil, flat_map, list_any, Service, Timer, is_release, Answer, hears, expiry, request, next, refused, gave, Deactivate, deactivates, notes_of, is_loss_of, is_granted}
+use Rattle.laws_trace.proofs.Vocabulary.{◌≡◌, ℕ, Bool, true, false, cond, List, [], ◌++◌, ◌∷◌, ◌&&◌, ◌||◌, map, Some, None, refl, sym, ap, ◌∙◌, append-nil, flat_map, list_any, Service, Timer, is_release, Answer, hears, expiry, request, next, refused, gave, Deactivate, deactivates, notes_of, is_loss_of, is_granted, Event, LineTold, told, Request, Release, Data, of_link, releases, Seen, data_asked, granted, trace_noted as noted, is_own, seen, seen_told, seen_granted, trace_frame_in as frame_in}
 use Rattle.model_bits.specs.Stream as stream
 use Rattle.model_link.specs.Events as link
-use Rattle.model_line.specs.Event.{Event, LineTold, told}
-use Rattle.model_line.specs.Request.{Request, Release, Data}
-use Rattle.laws_line.specs.Requests.{of_link}
-use Rattle.laws_trace.specs.News.{releases}
 use Rattle.laws_trace.specs.Outgoing as outgoing
 use Rattle.laws_trace.specs.Trace as traces
-use Rattle.laws_trace.specs.Trace.{Seen, data_asked, granted, noted, is_own, seen, seen_told, seen_granted, frame_in}
 use Rattle.laws_trace.proofs.LinkLed.{own-is}
 
 -- Data that is granted, as it is seen; and that layer 3 learns of a loss.

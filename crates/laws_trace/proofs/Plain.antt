@@ -1,13 +1,7 @@
 -- All that waits on a link are control frames: neither I-frames nor UI.
-use Rattle.laws_trace.proofs.Vocabulary.{◌≡◌, ℕ, ◌<◌, Bool, true, false, List, [], ◌∷◌, Some, refl, sym, ap, subst, arith, true≢false, All, option_map_or, get_or-replicate, All-nil, All-cons, All-head, All-tail, Information, Ui, Service, place_of-is, at-within, ControlFrame, Link, Config, Line, fresh_line, link_in, link_number, link_of, place_in, terms, number_within, IsInRange, line_at, fresh_is_sound}
-use Rattle.lapd_frame.specs.declared.controls.Control.{Control}
-use Rattle.model_link.specs.Link.{fresh as fresh_link}
+use Rattle.laws_trace.proofs.Vocabulary.{◌≡◌, ℕ, ◌<◌, Bool, true, false, List, [], ◌∷◌, Some, refl, sym, ap, subst, arith, true≢false, All, option_map_or, get_or-replicate, All-nil, All-cons, All-head, All-tail, Information, Ui, Service, place_of-is, at-within, ControlFrame, Link, Config, Line, fresh_line, link_in, link_number, link_of, place_in, terms, number_within, IsInRange, line_at, fresh_is_sound, Control, fresh_link, fresh, CardEvent as Event, after_all, AreAtLines, is_ui}
 use Rattle.model_link.specs.Sound as link_sound
-use Rattle.model_card.specs.Card.{fresh}
-use Rattle.model_card.specs.Event.{Event}
-use Rattle.model_card.specs.Run.{after_all, AreAtLines}
 use Rattle.laws_trace.proofs.ControlsWatched.{control_in}
-use Rattle.laws_trace.specs.Units.{is_ui}
 use Rattle.laws_trace.proofs.LineAtEnd.{link-at-end, line-at-end}
 use Rattle.laws_trace.proofs.ControlsAtLine.{waits}
 use Rattle.laws_trace.proofs.ControlsDue.{IsControl, all-controls}

@@ -1,8 +1,5 @@
 -- V(R) of a link behind an event, and when an acknowledgement is owed.
-use Rattle.laws_trace.proofs.Vocabulary.{◌≡◌, ℕ, ◌%◌, ◌==◌, ◌&&◌, ◌||◌, Bool, true, false, cond, List, [], ◌∷◌, length, Some, None, refl, sym, ap, ◌∙◌, arith, true≢false, is_some, nat_le, nat_lt, not, leb-true, leb-false, Information, Parts, Seq, seq, ControlFrame, State, Terms, Arrived, eligible, overlong, received, offer, Link, is_multiple_frame, delivery, takes_contents, owed_in, owed_behind, unless_put, pending_left, as_heard, is_anew, state_after, put, event-follows}
-use Rattle.std.proofs.lemmas.Bool.{ltb-true, ltb-false}
-use Rattle.lapd_frame.specs.declared.controls.Control.{Control}
-use Rattle.model_link.specs.Events.{Event, frame}
+use Rattle.laws_trace.proofs.Vocabulary.{◌≡◌, ℕ, ◌%◌, ◌==◌, ◌&&◌, ◌||◌, Bool, true, false, cond, List, [], ◌∷◌, length, Some, None, refl, sym, ap, ◌∙◌, arith, true≢false, is_some, nat_le, nat_lt, not, leb-true, leb-false, Information, Parts, Seq, seq, ControlFrame, State, Terms, Arrived, eligible, overlong, received, offer, Link, is_multiple_frame, delivery, takes_contents, owed_in, owed_behind, unless_put, pending_left, as_heard, is_anew, state_after, put, event-follows, ltb-true, ltb-false, Control, LinkEvent as Event, frame}
 use Rattle.model_link.specs.Machine as links
 
 -- Contents that are next are delivered.

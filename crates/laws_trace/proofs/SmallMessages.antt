@@ -1,11 +1,9 @@
 -- The Ri of each message of TEI management that waits on a line has two octets.
-use Rattle.laws_trace.proofs.Vocabulary.{ℕ, ◌+◌, ◌*◌, ◌/◌, ◌%◌, ◌<◌, ◌≤◌, ◌==◌, ◌&&◌, Bool, true, false, cond, List, [], ◌∷◌, ◌++◌, nat_le, Option, Some, None, arith, All, All-nil, All-cons, All-head, All-tail, All-append, AreOctets, Refusal, Management, Message, IdentityAssigned, IdentityDenied, IdentityCheckRequest, IdentityRemove, Period, First, Second, heard_of_type, heard_in, action_of, free_place, free_tei, no_room}
+use Rattle.laws_trace.proofs.Vocabulary.{ℕ, ◌+◌, ◌*◌, ◌/◌, ◌%◌, ◌<◌, ◌≤◌, ◌==◌, ◌&&◌, Bool, true, false, cond, List, [], ◌∷◌, ◌++◌, nat_le, Option, Some, None, arith, All, All-nil, All-cons, All-head, All-tail, All-append, AreOctets, Refusal, Management, Message, IdentityAssigned, IdentityDenied, IdentityCheckRequest, IdentityRemove, Period, First, Second, heard_of_type, heard_in, action_of, free_place, free_tei, no_room, Check, information_of, TeiCourse as Course, tei_begun as begun}
 use Rattle.lapd_tei.specs.Events as teis
-use Rattle.lapd_tei.specs.declared.check.Check.{Check}
-use Rattle.lapd_tei.specs.Messages.{information_of}
 use Rattle.lapd_tei.specs.Rows as rows
 use Rattle.lapd_tei.specs.Words as words
-use Rattle.lapd_tei.specs.Words.{Course, begun, with_message}
+use Rattle.lapd_tei.specs.Words.{with_message}
 
 abbrev pub ri_of : Message → ℕ
 ri_of (IdentityAssigned ri tei) = ri

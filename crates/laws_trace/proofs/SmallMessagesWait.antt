@@ -1,25 +1,15 @@
 -- The messages of TEI management that wait stay small: what it hears are octets.
-use Rattle.laws_trace.proofs.Vocabulary.{◌≡◌, ℕ, ◌<◌, ◌==◌, Bool, true, false, cond, List, [], ◌∷◌, ◌++◌, length, drop, Option, Some, None, IfSome, refl, sym, subst, inl, inr, Result, Ok, Err, All, option_map_or, All-drop, All-head, AreOctets, Tei, Unserved, Address, ReadFault, Undefined, WrongSize, Long, Refusal, Service, Timer, Parts, reading, long_reading, service_of, reading-found, Change, Gained, Left, Config, Aim, at_management, told_of_management, of_change, of_aim, LineTold, hears, expiry, request, next, Answer, aim_of_expiry, at_timer, Line, place_in, unless_refused, management_sapi, group_tei, drop_for, at_place, to_service, addressed, message_of, aim_of_reading, unless_at_link, aim_of_long, aim_of_heard, heard_side, Taken, taken, line_of, aim_of_request, at_requested, at_deactivated, side_aims, IsOne, taken-one, at_no_link, All-nil}
+use Rattle.laws_trace.proofs.Vocabulary.{◌≡◌, ℕ, ◌<◌, ◌==◌, Bool, true, false, cond, List, [], ◌∷◌, ◌++◌, length, drop, Option, Some, None, IfSome, refl, sym, subst, inl, inr, Result, Ok, Err, All, option_map_or, All-drop, All-head, AreOctets, Tei, Unserved, Address, ReadFault, Undefined, WrongSize, Long, Refusal, Service, Timer, Parts, reading, long_reading, service_of, reading-found, Change, Gained, Left, Config, Aim, at_management, told_of_management, of_change, of_aim, LineTold, hears, expiry, request, next, Answer, aim_of_expiry, at_timer, Line, place_in, unless_refused, management_sapi, group_tei, drop_for, at_place, to_service, addressed, message_of, aim_of_reading, unless_at_link, aim_of_long, aim_of_heard, heard_side, Taken, taken, line_of, aim_of_request, at_requested, at_deactivated, side_aims, IsOne, taken-one, at_no_link, All-nil, Control, head_of, Event, line_after as after, refusal, Request, IsSound, HasOctets, GivesOctets, seen, by-down}
 use Rattle.model_bits.specs.Stream as stream
-use Rattle.lapd_frame.specs.declared.controls.Control.{Control}
 use Rattle.lapd_frame.specs.declared.controls.Control.TheVariants as control
 use Rattle.lapd_frame.specs.declared.overlong.Long.TheVariants as long
 use Rattle.lapd_frame.specs.declared.timers.Timer.TheVariants as timers
-use Rattle.lapd_frame.specs.Grammar.{head_of}
 use Rattle.lapd_tei.specs.Events as teis
 use Rattle.model_link.specs.Events as link
 use Rattle.model_link.specs.declared.timers.LinkTimer.TheVariants as link_timer
-use Rattle.model_line.specs.Event.{Event}
-use Rattle.model_line.specs.Machine.{after}
-use Rattle.model_line.specs.Refusal.{refusal}
 use Rattle.model_line.specs.Request as asked
-use Rattle.model_line.specs.Request.{Request}
-use Rattle.model_line.specs.Sound.{IsSound}
 use Rattle.laws_trace.proofs.SmallMessages.{IsSmall, IsOfOctets, after-small}
-use Rattle.laws_trace.specs.FramesAreRead.{HasOctets, GivesOctets}
-use Rattle.laws_trace.specs.Trace.{seen}
 use Rattle.laws_trace.specs.Trace as traces
-use Rattle.laws_line.proofs.Downs.{by-down}
 
 -- What TEI management hears are octets.
 abbrev IsOfOctetsAt : Aim → Type 0

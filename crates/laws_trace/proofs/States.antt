@@ -1,11 +1,7 @@
 -- The state of a link before and behind a moment, as `Card::state` tells it, and the timer of it that expires.
-use Rattle.laws_trace.proofs.Vocabulary.{ℕ, ◌==◌, not, Bool, false, Option, Some, None, is_some, if◌then◌else◌, Service, LinkTimer, expiry, state_of, line_at}
+use Rattle.laws_trace.proofs.Vocabulary.{ℕ, ◌==◌, not, Bool, false, Option, Some, None, is_some, if◌then◌else◌, Service, LinkTimer, expiry, state_of, line_at, T200, T203, after, Moment, is_own}
 use Rattle.lapd_frame.specs.declared.timers.Timer.TheVariants as timers
-use Rattle.model_link.specs.declared.timers.LinkTimer.TheVariants.{T200, T203}
 use Rattle.model_line.specs.Event as line_event
-use Rattle.model_card.specs.Machine.{after}
-use Rattle.model_card.specs.Run.{Moment}
-use Rattle.laws_trace.specs.Trace.{is_own}
 
 -- None where the TEI is not on the line.
 abbrev pub state_before : Service → ℕ → ℕ → Moment → Option ℕ

@@ -1,20 +1,9 @@
 -- TEIs are managed as the procedures say: runs of a card, and the law.
-use Rattle.laws_trace.proofs.Vocabulary.{◌≡◌, ℕ, ◌<◌, ◌==◌, Bool, true, false, cond, List, [], ◌∷◌, get_or, refl, sym, ◌∙◌, subst, arith, eq-eqb, true≢false, inl, fold, and_parts, get_or-replicate, get_or-set_same, All-head, All-tail, PoolFull, Config, Answer, refused, Line, fresh_line, IsInRange, Card, line_at, is_full, at, after_is_sound, fresh_is_sound, has_lines, by_room, config-stays}
-use Rattle.std.proofs.Common.{eqb-true}
+use Rattle.laws_trace.proofs.Vocabulary.{◌≡◌, ℕ, ◌<◌, ◌==◌, Bool, true, false, cond, List, [], ◌∷◌, get_or, refl, sym, ◌∙◌, subst, arith, eq-eqb, true≢false, inl, fold, and_parts, get_or-replicate, get_or-set_same, All-head, All-tail, PoolFull, Config, Answer, refused, Line, fresh_line, IsInRange, Card, line_at, is_full, at, after_is_sound, fresh_is_sound, has_lines, by_room, config-stays, eqb-true, Data, fresh, CardEvent as Event, after, card_answer as answer, after_all, IsAtLine, AreAtLines, always_sound, line_sound as sound-at, Managed, none_on, nothing_due, due, led, managed_after, TeisAreManaged, Always}
 use Rattle.model_line.specs.Event as line_event
 use Rattle.model_line.specs.Request as request
 use Rattle.model_line.specs.Machine as lines
-use Rattle.model_line.specs.Request.{Data}
-use Rattle.model_card.specs.Card.{fresh}
-use Rattle.model_card.specs.Event.{Event}
-use Rattle.model_card.specs.Machine.{after, answer}
-use Rattle.model_card.specs.Run.{after_all, IsAtLine, AreAtLines}
 use Rattle.model_card.specs.Sound as card_sound
-use Rattle.model_card.proofs.CardSound.{always_sound}
-use Rattle.model_card.proofs.Steps.{line_sound as sound-at}
-use Rattle.laws_trace.specs.Managing.{Managed, none_on, nothing_due, due, led, managed_after}
-use Rattle.laws_trace.specs.TeisAreManaged.{TeisAreManaged}
-use Rattle.laws_trace.specs.Trace.{Always}
 use Rattle.laws_trace.proofs.CallRuns.{apart}
 use Rattle.laws_trace.proofs.Follows.{Follows}
 use Rattle.laws_trace.proofs.FollowsLine.{Shows, none-granted}

@@ -1,16 +1,10 @@
 -- What is known of a link, and when its timers are started anew: any event of a link but an offer.
-use Rattle.laws_trace.proofs.Vocabulary.{◌≡◌, ℕ, ◌≤◌, ◌+◌, ◌==◌, ◌||◌, not, Bool, true, false, cond, List, Option, Some, None, refl, sym, ap, ◌∙◌, subst, arith, true≢false, nat_lt, if◌then◌else◌, Sabme, Disc, Refusal, HasItsTimer, IsCalmIn, needed_in, State, TeiAssigned, AwaitingEstablishment, AwaitingRelease, Established, TimerRecovery, Terms, LinkTimer, received, expired, requested, offer, cleared, undefined, wrong_size, overlong, Link, is_own_busy, course, ◌then◌, runs, is_timer}
-use Rattle.std.proofs.Common.{eqb-true}
-use Rattle.lapd_frame.specs.declared.controls.Control.{Control}
+use Rattle.laws_trace.proofs.Vocabulary.{◌≡◌, ℕ, ◌≤◌, ◌+◌, ◌==◌, ◌||◌, not, Bool, true, false, cond, List, Option, Some, None, refl, sym, ap, ◌∙◌, subst, arith, true≢false, nat_lt, if◌then◌else◌, Sabme, Disc, Refusal, HasItsTimer, IsCalmIn, needed_in, State, TeiAssigned, AwaitingEstablishment, AwaitingRelease, Established, TimerRecovery, Terms, LinkTimer, received, expired, requested, offer, cleared, undefined, wrong_size, overlong, Link, is_own_busy, course, ◌then◌, runs, is_timer, eqb-true, Control, T200, T203, LinkEvent as Event, frame, LinkIsSound as IsSound, Course, Step, begun, nothing}
 use Rattle.lapd_frame.specs.declared.notes.ErrorCode.TheVariants as code
-use Rattle.model_link.specs.declared.timers.LinkTimer.TheVariants.{T200, T203}
 use Rattle.model_link.specs.Events
-use Rattle.model_link.specs.Events.{Event, frame}
 use Rattle.model_link.specs.Machine
 use Rattle.model_link.specs.MultipleFrame
 use Rattle.model_link.specs.Requests
-use Rattle.model_link.specs.Sound.{IsSound}
-use Rattle.model_link.specs.Steps.{Course, Step, begun, nothing}
 use Rattle.model_link.specs.Words
 use Rattle.laws_trace.proofs.TimersWatched.{Known}
 use Rattle.laws_trace.proofs.TimerActs.{timing, Acts, itself, whichever}

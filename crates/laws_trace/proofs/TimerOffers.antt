@@ -1,15 +1,10 @@
 -- What is known of a link, and its timers, over an offer; and what its orders start.
-use Rattle.laws_trace.proofs.Vocabulary.{◌≡◌, ℕ, ◌+◌, ◌%◌, ◌&&◌, ◌||◌, Bool, true, false, cond, List, [], ◌∷◌, Option, Some, None, refl, sym, ap, ◌∙◌, subst, arith, true≢false, All, not, nat_lt, length, option_map_or, All-head, seq, ControlFrame, State, AwaitingEstablishment, Established, TimerRecovery, Terms, LinkTimer, Link, outstanding, is_established, IsWaitingFrame, Given, runs}
-use Rattle.std.specs.Option.{unwrap_or}
-use Rattle.model_link.specs.declared.timers.LinkTimer.TheVariants.{T200, T203}
+use Rattle.laws_trace.proofs.Vocabulary.{◌≡◌, ℕ, ◌+◌, ◌%◌, ◌&&◌, ◌||◌, Bool, true, false, cond, List, [], ◌∷◌, Option, Some, None, refl, sym, ap, ◌∙◌, subst, arith, true≢false, All, not, nat_lt, length, option_map_or, All-head, seq, ControlFrame, State, AwaitingEstablishment, Established, TimerRecovery, Terms, LinkTimer, Link, outstanding, is_established, IsWaitingFrame, Given, runs, unwrap_or, T200, T203, LinkIsSound as IsSound, Course, begun}
 use Rattle.model_link.specs.Events as link
 use Rattle.model_link.specs.Machine as links
 use Rattle.model_link.specs.Offers
-use Rattle.model_link.specs.Sound.{IsSound}
-use Rattle.model_link.specs.Steps.{Course, begun}
 use Rattle.model_link.specs.Words
-use Rattle.laws_trace.proofs.TimersWatched.{Sent, sent_by}
-use Rattle.laws_trace.proofs.TimersWatched.{Known, nothing_yet, sends}
+use Rattle.laws_trace.proofs.TimersWatched.{Sent, sent_by, Known, nothing_yet, sends}
 use Rattle.laws_trace.proofs.States.{is_state}
 use Rattle.laws_trace.proofs.DataGoesOut.{none-sent}
 use Rattle.laws_trace.proofs.TimerActs.{Timing, timing}

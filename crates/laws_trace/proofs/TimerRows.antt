@@ -1,14 +1,10 @@
 -- What is known of a link, and when its timers are started anew: each row of the tables, except for offers.
-use Rattle.laws_trace.proofs.Vocabulary.{◌≡◌, ℕ, ◌≤◌, ◌+◌, Bool, true, false, List, Option, Some, None, refl, sym, subst, nat_lt, length, option_map_or, Information, ReceiveReady, ReceiveNotReady, Reject, Sabme, Disc, Ui, Ua, Dm, Frmr, ErrorCode, State, TeiAssigned, AwaitingEstablishment, AwaitingRelease, Established, TimerRecovery, Terms, LinkTimer, Link}
-use Rattle.lapd_frame.specs.declared.controls.Control.{Control}
-use Rattle.lapd_frame.specs.declared.controls.Control.TheVariants.{Xid}
+use Rattle.laws_trace.proofs.Vocabulary.{◌≡◌, ℕ, ◌≤◌, ◌+◌, Bool, true, false, List, Option, Some, None, refl, sym, subst, nat_lt, length, option_map_or, Information, ReceiveReady, ReceiveNotReady, Reject, Sabme, Disc, Ui, Ua, Dm, Frmr, ErrorCode, State, TeiAssigned, AwaitingEstablishment, AwaitingRelease, Established, TimerRecovery, Terms, LinkTimer, Link, Control, Xid, T200, T203, Step, begun, nothing}
 use Rattle.lapd_frame.specs.declared.notes.ErrorCode.TheVariants as code
-use Rattle.model_link.specs.declared.timers.LinkTimer.TheVariants.{T200, T203}
 use Rattle.model_link.specs.Machine
 use Rattle.model_link.specs.MultipleFrame
 use Rattle.model_link.specs.Established as seven
 use Rattle.model_link.specs.TimerRecovery as eight
-use Rattle.model_link.specs.Steps.{Step, begun, nothing}
 use Rattle.model_link.specs.Words
 use Rattle.laws_trace.proofs.TimersWatched.{Known, nothing_yet, listens, renews}
 use Rattle.laws_trace.proofs.TimerActs.{Timing, timing, Acts, itself, either-bit}

@@ -1,19 +1,11 @@
 -- What is known of a link stays true: each event of a line.
-use Rattle.laws_trace.proofs.Vocabulary.{◌≡◌, ℕ, ◌==◌, ◌&&◌, ◌||◌, Bool, true, false, cond, List, [], ◌∷◌, map, Option, Some, None, option_map, refl, sym, ap, ◌∙◌, subst, eq-eqb, true≢false, ◌⊎◌, inl, inr, All, option_to_list, option_map_or, All-head, Service, Call, Packet, same_service, Parts, place_of-is, HasItsTimer, needed, State, Terms, LinkTimer, Link, is_same, Given, runs, is_timer, Config, hears, next, Answer, NextFrame, gave, Line, link_in, link_of, link_number, place_in, state_of, state_in, terms, taken, next_of, IsInRange, sound_in, terms_in_range, IsBy, timer_of, is_needed, left_by, HaveTheirTimers}
+use Rattle.laws_trace.proofs.Vocabulary.{◌≡◌, ℕ, ◌==◌, ◌&&◌, ◌||◌, Bool, true, false, cond, List, [], ◌∷◌, map, Option, Some, None, option_map, refl, sym, ap, ◌∙◌, subst, eq-eqb, true≢false, ◌⊎◌, inl, inr, All, option_to_list, option_map_or, All-head, Service, Call, Packet, same_service, Parts, place_of-is, HasItsTimer, needed, State, Terms, LinkTimer, Link, is_same, Given, runs, is_timer, Config, hears, next, Answer, NextFrame, gave, Line, link_in, link_of, link_number, place_in, state_of, state_in, terms, taken, next_of, IsInRange, sound_in, terms_in_range, IsBy, timer_of, is_needed, left_by, HaveTheirTimers, T200, T203, fresh_link as fresh, Event, line_after as after, answer, line_frame_of as frame_of, IsSound, is_for, trace_frame_in as frame_in, seen}
 use Rattle.model_bits.specs.Stream as stream
-use Rattle.model_link.specs.declared.timers.LinkTimer.TheVariants.{T200, T203}
 use Rattle.model_link.specs.Events as link
-use Rattle.model_link.specs.Link.{fresh}
 use Rattle.model_link.specs.Machine as links
 use Rattle.model_link.specs.Sound as link_sound
-use Rattle.model_line.specs.Event.{Event}
-use Rattle.model_line.specs.Machine.{after, answer}
-use Rattle.model_line.specs.Taken.{frame_of}
-use Rattle.model_line.specs.Sound.{IsSound}
-use Rattle.laws_trace.specs.LinkFrames.{is_for}
 use Rattle.laws_trace.proofs.TimersWatched.{Known, nothing_yet, listens, sends, control_in, learned}
 use Rattle.laws_trace.proofs.States.{is_state}
-use Rattle.laws_trace.specs.Trace.{frame_in, seen}
 use Rattle.laws_trace.proofs.DataGoesOut.{foreign, own-sent, sent_of, sent_with}
 use Rattle.laws_trace.proofs.Deliveries.{heard-by, frame_by, brings-frame, brings-none}
 use Rattle.laws_trace.proofs.DeliveriesRun.{event-aims}

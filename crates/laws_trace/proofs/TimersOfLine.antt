@@ -1,13 +1,6 @@
 -- What is known of a link, and what is heard of it: one event of a line.
-use Rattle.laws_trace.proofs.Vocabulary.{◌≡◌, List, [], ◌∷◌, ℕ, ◌||◌, Bool, true, false, ◌++◌, map, Option, Some, None, option_map, refl, ap, ◌∙◌, fold, list_any, option_map_or, Service, Config, hears, expiry, request, next, NextFrame, Answer, gave, Line, taken, next_of}
-use Rattle.lapd_frame.specs.declared.controls.Control.{Control}
-use Rattle.model_line.specs.Event.{Event, told}
-use Rattle.model_line.specs.Machine.{answer}
-use Rattle.model_line.specs.Request.{Request}
-use Rattle.laws_trace.specs.LinkFrames.{frame_of as frame_heard}
-use Rattle.laws_trace.proofs.TimersWatched.{Sent}
-use Rattle.laws_trace.proofs.TimersWatched.{Known, listens, sends, control_in, learns, brings}
-use Rattle.laws_trace.specs.Trace.{frame_in, seen, seen_told, seen_granted}
+use Rattle.laws_trace.proofs.Vocabulary.{◌≡◌, List, [], ◌∷◌, ℕ, ◌||◌, Bool, true, false, ◌++◌, map, Option, Some, None, option_map, refl, ap, ◌∙◌, fold, list_any, option_map_or, Service, Config, hears, expiry, request, next, NextFrame, Answer, gave, Line, taken, next_of, Control, Event, told, answer, Request, frame_of as frame_heard, trace_frame_in as frame_in, seen, seen_told, seen_granted}
+use Rattle.laws_trace.proofs.TimersWatched.{Sent, Known, listens, sends, control_in, learns, brings}
 use Rattle.laws_trace.proofs.DataGoesOut.{sent_with}
 use Rattle.laws_trace.proofs.Deliveries.{frame_by}
 use Rattle.laws_trace.specs.Trace as traces

@@ -1,21 +1,8 @@
 -- What is ordered of the timers of a link is what is due: the law.
-use Rattle.laws_trace.proofs.Vocabulary.{◌≡◌, ℕ, ◌+◌, ◌<◌, ◌==◌, ◌&&◌, ◌||◌, not, Bool, true, false, cond, List, [], ◌∷◌, ◌++◌, refl, sym, ap, ◌∙◌, subst, ⊎_elim, eq-eqb, true≢false, and_parts, is_some, fold, fold-append, nat_lt, All-nil, All-cons, All-append, Service, Order, Timer, LinkTimer, obeyed, Config, hears, expiry, request, next, orders_in, IsInRange, timer_of, is_needed, left_by, Card, line_at, at, moments, runs_at_callers}
-use Rattle.std.proofs.Common.{eqb-true}
+use Rattle.laws_trace.proofs.Vocabulary.{◌≡◌, ℕ, ◌+◌, ◌<◌, ◌==◌, ◌&&◌, ◌||◌, not, Bool, true, false, cond, List, [], ◌∷◌, ◌++◌, refl, sym, ap, ◌∙◌, subst, ⊎_elim, eq-eqb, true≢false, and_parts, is_some, fold, fold-append, nat_lt, All-nil, All-cons, All-append, Service, Order, Timer, LinkTimer, obeyed, Config, hears, expiry, request, next, orders_in, IsInRange, timer_of, is_needed, left_by, Card, line_at, at, moments, runs_at_callers, eqb-true, T200, T203, fresh, CardEvent as Event, after, Moment, after_all, IsAtLine, AreAtLines, runs_then, one_more, Managed, managing_is_on as is_on, due, brings, Observed, View, in_state, at_first, anew, awaits, enquires, enters, by_t200, by_event, views, view_of, moment_of, view_behind, TimersAreTimely, is_own, Always}
 use Rattle.lapd_frame.specs.declared.timers.Timer.TheVariants as timers
-use Rattle.model_link.specs.declared.timers.LinkTimer.TheVariants.{T200, T203}
 use Rattle.model_line.specs.Event as line_event
-use Rattle.model_card.specs.Card.{fresh}
-use Rattle.model_card.specs.Event.{Event}
-use Rattle.model_card.specs.Machine.{after}
-use Rattle.model_card.specs.Run.{Moment, after_all, IsAtLine, AreAtLines}
-use Rattle.laws_line.specs.Timers.{runs_then}
-use Rattle.laws_line.specs.card.Timers.{one_more}
-use Rattle.laws_trace.specs.Managing.{Managed, is_on, due}
-use Rattle.laws_trace.specs.News.{brings}
-use Rattle.laws_trace.specs.Observer.{Observed, View, in_state, at_first, anew, awaits, enquires, enters, by_t200, by_event, views, view_of, moment_of, view_behind}
 use Rattle.laws_trace.specs.TimersAreTimely as timely
-use Rattle.laws_trace.specs.TimersAreTimely.{TimersAreTimely}
-use Rattle.laws_trace.specs.Trace.{is_own, Always}
 use Rattle.laws_trace.proofs.ObservedExpiries.{IsNoMore, same, zero, either, no-more, enquired, t200-enters}
 use Rattle.laws_trace.proofs.ObservedLaws.{known-now, on-line-now, timers-run-so, started-so, moved_or_renewed}
 use Rattle.laws_trace.proofs.OrdersOfLink.{order_by}

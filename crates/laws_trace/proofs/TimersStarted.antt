@@ -1,17 +1,11 @@
 -- The timers of a link are started as they are due: each event of a line.
-use Rattle.laws_trace.proofs.Vocabulary.{◌≡◌, ℕ, ◌&&◌, ◌||◌, not, Bool, true, false, cond, Option, Some, None, refl, sym, ap, ◌∙◌, subst, true≢false, inl, inr, option_map_or, Service, Timer, place_of-is, is_on-at, HasItsTimer, State, TeiAssigned, Terms, LinkTimer, Link, is_same, obeyed, runs, timer_at, Config, expiry, Answer, orders_in, Line, link_of, place_in, has_tei, state_of, terms, IsInRange, timer_of, is_needed, left_by, HaveTheirTimers, followed, timely-line, List, ◌++◌, Order, order_for, orders_for}
-use Rattle.lapd_frame.specs.declared.controls.Control.{Control}
+use Rattle.laws_trace.proofs.Vocabulary.{◌≡◌, ℕ, ◌&&◌, ◌||◌, not, Bool, true, false, cond, Option, Some, None, refl, sym, ap, ◌∙◌, subst, true≢false, inl, inr, option_map_or, Service, Timer, place_of-is, is_on-at, HasItsTimer, State, TeiAssigned, Terms, LinkTimer, Link, is_same, obeyed, runs, timer_at, Config, expiry, Answer, orders_in, Line, link_of, place_in, has_tei, state_of, terms, IsInRange, timer_of, is_needed, left_by, HaveTheirTimers, followed, timely-line, List, ◌++◌, Order, order_for, orders_for, Control, T200, T203, Event, line_after as after, answer, IsSound, seen}
 use Rattle.lapd_frame.specs.declared.timers.Timer.TheVariants as timers
-use Rattle.model_link.specs.declared.timers.LinkTimer.TheVariants.{T200, T203}
 use Rattle.model_link.specs.Events as link
 use Rattle.model_link.specs.Machine as links
 use Rattle.model_link.specs.Sound as link_sound
-use Rattle.model_line.specs.Event.{Event}
-use Rattle.model_line.specs.Machine.{after, answer}
-use Rattle.model_line.specs.Sound.{IsSound}
 use Rattle.laws_trace.proofs.TimersWatched.{Known, control_in, renews, is_anew}
 use Rattle.laws_trace.proofs.States.{is_state, differ}
-use Rattle.laws_trace.specs.Trace.{seen}
 use Rattle.laws_trace.proofs.Deliveries.{frame_by}
 use Rattle.laws_trace.proofs.OneLink.{HasOne, HasNone, Goes, event-goes}
 use Rattle.laws_trace.proofs.TimerActs.{timing}

@@ -1,14 +1,7 @@
 -- A part of what an observer knows of a link, its numbers; and by it when timers run, and when they are started.
-use Rattle.laws_trace.proofs.Vocabulary.{◌≡◌, ℕ, ◌+◌, ◌%◌, ◌==◌, ◌&&◌, ◌||◌, not, Bool, true, false, List, fold, Option, Some, None, Result, Ok, Err, if◌then◌else◌, list_any, option_map_or, ReadFault, Information, ReceiveReady, ReceiveNotReady, Reject, Sabme, Service, Parts, reading, LinkTimer, Config, state_of, line_at, moments, runs_at_callers}
-use Rattle.lapd_frame.specs.declared.controls.Control.{Control}
+use Rattle.laws_trace.proofs.Vocabulary.{◌≡◌, ℕ, ◌+◌, ◌%◌, ◌==◌, ◌&&◌, ◌||◌, not, Bool, true, false, List, fold, Option, Some, None, Result, Ok, Err, if◌then◌else◌, list_any, option_map_or, ReadFault, Information, ReceiveReady, ReceiveNotReady, Reject, Sabme, Service, Parts, reading, LinkTimer, Config, state_of, line_at, moments, runs_at_callers, Control, fresh, CardEvent as Event, after, Moment, after_all, is_for, frame_of, Seen, heard, trace_begun as begun, seen_in}
 use Rattle.lapd_frame.specs.declared.timers.Timer.TheVariants as timers
-use Rattle.model_card.specs.Card.{fresh}
-use Rattle.model_card.specs.Event.{Event}
-use Rattle.model_card.specs.Machine.{after}
-use Rattle.model_card.specs.Run.{Moment, after_all}
-use Rattle.laws_trace.specs.LinkFrames.{is_for, frame_of}
 use Rattle.laws_trace.proofs.States.{is_state, state_before, state_after, differ}
-use Rattle.laws_trace.specs.Trace.{Seen, heard, begun, seen_in}
 use Rattle.laws_trace.specs.TimersAreTimely as timely
 
 -- Whoever watches a link while it is in state 7 or 8 keeps in mind the N(R) that was heard of it last, to which V(A) is

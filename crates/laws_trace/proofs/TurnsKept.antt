@@ -1,20 +1,11 @@
 -- A TEI that is on a line before an event and behind it keeps its place.
-use Rattle.laws_trace.proofs.Vocabulary.{◌≡◌, ◌≢◌, ℕ, ◌==◌, Bool, true, false, get_or, Option, Some, None, refl, sym, ap, ◌∙◌, subst, arith, eq-eqb, true≢false, none-some, get_or-set_same, get_or-set_other, Places, is_on, Change, Gained, Left, Refusal, Config, IsInRange, ranges_of, Aim, at_management, at_no_link, of_aim, of_change, told_of_management, IsProper, heard_proper, expiry_proper, request_proper, aim_of_heard, aim_of_request, unless_refused, hears, expiry, request, next, Line, fresh_line, next-moves, Card, line_at, by_room, has_lines}
-use Rattle.std.proofs.Common.{eqb-true}
+use Rattle.laws_trace.proofs.Vocabulary.{◌≡◌, ◌≢◌, ℕ, ◌==◌, Bool, true, false, get_or, Option, Some, None, refl, sym, ap, ◌∙◌, subst, arith, eq-eqb, true≢false, none-some, get_or-set_same, get_or-set_other, Places, is_on, Change, Gained, Left, Refusal, Config, IsInRange, ranges_of, Aim, at_management, at_no_link, of_aim, of_change, told_of_management, IsProper, heard_proper, expiry_proper, request_proper, aim_of_heard, aim_of_request, unless_refused, hears, expiry, request, next, Line, fresh_line, next-moves, Card, line_at, by_room, has_lines, eqb-true, aim_of_expiry, refusal, IsSound, CardEvent as Event, after, IsAtLine, line_sound, by-down}
 use Rattle.lapd_tei.specs.Events as teis
 use Rattle.lapd_tei.specs.Laws as tei_laws
 use Rattle.lapd_tei.proofs.LawLemmas as tei_lemmas
 use Rattle.model_line.specs.Event as line_event
-use Rattle.model_line.specs.Expiry.{aim_of_expiry}
 use Rattle.model_line.specs.Machine as lines
-use Rattle.model_line.specs.Refusal.{refusal}
-use Rattle.model_line.specs.Sound.{IsSound}
-use Rattle.model_card.specs.Event.{Event}
-use Rattle.model_card.specs.Machine.{after}
-use Rattle.model_card.specs.Run.{IsAtLine}
 use Rattle.model_card.specs.Sound as card_sound
-use Rattle.model_card.proofs.Steps.{line_sound}
-use Rattle.laws_line.proofs.Downs.{by-down}
 use Rattle.laws_trace.proofs.CallRuns.{apart}
 use Rattle.laws_trace.proofs.ManagingTables.{clear-same}
 

@@ -1,17 +1,9 @@
 -- How the turn goes round the links of a line while whatever happens there: one keeps its place, and another has something to send.
-use Rattle.laws_trace.proofs.Vocabulary.{◌≡◌, ◌≢◌, ℕ, ◌+◌, ◌<◌, ◌≤◌, ◌==◌, ◌⊎◌, ⊎_elim, Bool, true, false, cond, List, [], ◌∷◌, ◌++◌, get_or, map, Option, Some, None, option_map, refl, sym, ap, ◌∙◌, subst, inl, inr, arith, eq-eqb, true≢false, All, filter, and_parts, flat_map-append, get_or-set_same, map-append, filter-append, Address, Service, Call, Packet, sapi_of, Config, request, next, Answer, gave, Line, fresh_line, link_count, service_at, place_at, tei_at, Taken, taken, next_of, way_round, in_turn, IsSilentAt, IsOfLink, IsOwed, IsIdle, contents_of, comes-first, served, turn-stays, Card, line_at, is_full, by_room}
-use Rattle.std.proofs.Common.{eqb-true}
-use Rattle.std.specs.Option.{unwrap_or}
-use Rattle.lapd_tei.specs.Messages.{information_of}
+use Rattle.laws_trace.proofs.Vocabulary.{◌≡◌, ◌≢◌, ℕ, ◌+◌, ◌<◌, ◌≤◌, ◌==◌, ◌⊎◌, ⊎_elim, Bool, true, false, cond, List, [], ◌∷◌, ◌++◌, get_or, map, Option, Some, None, option_map, refl, sym, ap, ◌∙◌, subst, inl, inr, arith, eq-eqb, true≢false, All, filter, and_parts, flat_map-append, get_or-set_same, map-append, filter-append, Address, Service, Call, Packet, sapi_of, Config, request, next, Answer, gave, Line, fresh_line, link_count, service_at, place_at, tei_at, Taken, taken, next_of, way_round, in_turn, IsSilentAt, IsOfLink, IsOwed, IsIdle, contents_of, comes-first, served, turn-stays, Card, line_at, is_full, by_room, eqb-true, unwrap_or, information_of, CardEvent as Event, after, card_answer as answer, IsAtLine, CardIsSound as IsSound, trace_frame_in as frame_in, Seen, seen, frames_begun, IsAmong}
 use Rattle.model_line.specs.Event as line_event
 use Rattle.model_line.specs.Machine as lines
 use Rattle.model_line.specs.Sound as line
-use Rattle.model_card.specs.Event.{Event}
-use Rattle.model_card.specs.Machine.{after, answer}
-use Rattle.model_card.specs.Run.{IsAtLine}
-use Rattle.model_card.specs.Sound.{IsSound}
 use Rattle.laws_trace.specs.Trace as traces
-use Rattle.laws_trace.specs.Trace.{frame_in, Seen, seen, frames_begun, IsAmong}
 use Rattle.laws_trace.proofs.CallRuns.{apart}
 use Rattle.laws_trace.proofs.Runs.{nothing-seen}
 use Rattle.laws_trace.proofs.Turns.{link-frame, ui-frame, name-is}

@@ -1,24 +1,10 @@
 -- Unit data that is heard is told: the law.
-use Rattle.model_card.specs.Machine.{answer}
-use Rattle.laws_trace.proofs.Vocabulary.{◌≡◌, ℕ, ◌≤◌, ◌==◌, ◌&&◌, ◌||◌, Bool, true, false, cond, List, length, Option, Some, None, refl, sym, ap, ◌∙◌, subst, true≢false, ◌⊎◌, inl, inr, Ok, is_some, ◌∷◌, ◌++◌, list_any, option_or, option_map_or, le-leb, none-some, User, Ui, Service, Call, Packet, Parts, reading, sapi_of, service_of, place_of-is, in_ui_frame, in_sequence, within, event-unit, data-is, Terms, eligible_of, Link, notes-own, event-tells, Config, hears, Answer, heard_side, Line, link_in, link_of, place_in, state_of, terms, IsToGroup, IsInRange, sound_in, line_at, at, notes_of, contents_in, is_unit_of, group-read, own-all, service-same, both-true, IsBy}
-use Rattle.std.proofs.Common.{eqb-true}
+use Rattle.laws_trace.proofs.Vocabulary.{◌≡◌, ℕ, ◌≤◌, ◌==◌, ◌&&◌, ◌||◌, Bool, true, false, cond, List, length, Option, Some, None, refl, sym, ap, ◌∙◌, subst, true≢false, ◌⊎◌, inl, inr, Ok, is_some, ◌∷◌, ◌++◌, list_any, option_or, option_map_or, le-leb, none-some, User, Ui, Service, Call, Packet, Parts, reading, sapi_of, service_of, place_of-is, in_ui_frame, in_sequence, within, event-unit, data-is, Terms, eligible_of, Link, notes-own, event-tells, Config, hears, Answer, heard_side, Line, link_in, link_of, place_in, state_of, terms, IsToGroup, IsInRange, sound_in, line_at, at, notes_of, contents_in, is_unit_of, group-read, own-all, service-same, both-true, IsBy, card_answer as answer, eqb-true, Control, link_information_of as information_of, fresh_link, Event as LineEvent, IsSound, fresh, CardEvent as Event, after_all, AreAtLines, result_ok, is_for, Always, is_ui}
 use Rattle.model_bits.specs.Stream as stream
-use Rattle.lapd_frame.specs.declared.controls.Control.{Control}
-use Rattle.model_link.specs.Deliveries.{information_of}
 use Rattle.model_link.specs.Events as link
-use Rattle.model_link.specs.Link.{fresh as fresh_link}
 use Rattle.model_link.specs.Machine as links
 use Rattle.model_link.specs.Sound as link_sound
-use Rattle.model_line.specs.Event.{Event as LineEvent}
 use Rattle.model_line.specs.Machine as lines
-use Rattle.model_line.specs.Sound.{IsSound}
-use Rattle.model_card.specs.Card.{fresh}
-use Rattle.model_card.specs.Event.{Event}
-use Rattle.model_card.specs.Run.{after_all, AreAtLines}
-use Rattle.std.specs.Result.{result_ok}
-use Rattle.laws_trace.specs.LinkFrames.{is_for}
-use Rattle.laws_trace.specs.Trace.{Always}
-use Rattle.laws_trace.specs.Units.{is_ui}
 use Rattle.laws_trace.proofs.LineAtEnd.{line-at-end}
 use Rattle.laws_trace.proofs.Deliveries.{frame_by, brings-frame, brings-none}
 use Rattle.laws_trace.proofs.DeliveriesRun.{event-aims}

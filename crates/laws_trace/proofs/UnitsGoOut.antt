@@ -1,18 +1,10 @@
 -- Unit data goes out: the laws.
-use Rattle.laws_trace.proofs.Vocabulary.{◌≡◌, ℕ, ◌<◌, ◌≤◌, List, [], ◌++◌, map, sym, ap, ◌∙◌, subst, get_or-replicate, Config, Line, fresh_line, unit_frame, most_frames, line_at, fresh_is_sound, AreTakesAt, takes_at, refl, arith, true, false, not, ◌||◌, true≢false, Option, Some, None, option_map, list_any, inl, inr, Service, Call, Packet, sapi_of, next, next_of, gave, Taken, taken, IsIdle, IsOwed, contents_of, served, at, config-stays, Bool, filter, Parts}
+use Rattle.laws_trace.proofs.Vocabulary.{◌≡◌, ℕ, ◌<◌, ◌≤◌, List, [], ◌++◌, map, sym, ap, ◌∙◌, subst, get_or-replicate, Config, Line, fresh_line, unit_frame, most_frames, line_at, fresh_is_sound, AreTakesAt, takes_at, refl, arith, true, false, not, ◌||◌, true≢false, Option, Some, None, option_map, list_any, inl, inr, Service, Call, Packet, sapi_of, next, next_of, gave, Taken, taken, IsIdle, IsOwed, contents_of, served, at, config-stays, Bool, filter, Parts, fresh, CardEvent as Event, after_all, AreAtLines, trace_frame_in as frame_in, trace_of, IsFront, Always, reads, is_ui, is_unit, units_of, UnitsGoOut, AllUnitsGoOut, information_of}
 use Rattle.model_line.specs.Sound as line
-use Rattle.model_card.specs.Card.{fresh}
-use Rattle.model_card.specs.Event.{Event}
-use Rattle.model_card.specs.Run.{after_all, AreAtLines}
-use Rattle.laws_trace.specs.Trace.{frame_in, trace_of, IsFront, Always}
-use Rattle.laws_trace.specs.LinkFrames.{reads}
-use Rattle.laws_trace.specs.Units.{is_ui}
-use Rattle.laws_trace.specs.UnitsGoOut.{is_unit, units_of, UnitsGoOut, AllUnitsGoOut}
 use Rattle.laws_trace.proofs.Runs.{run-shows}
 use Rattle.laws_trace.proofs.LineAtEnd.{line-at-end}
 use Rattle.laws_trace.proofs.Turns.{ui-frame}
 use Rattle.laws_trace.proofs.LinkNames.{is_of_a_link}
-use Rattle.lapd_tei.specs.Messages.{information_of}
 use Rattle.model_line.specs.Machine as lines
 use Rattle.model_card.specs.Machine as machine
 use Rattle.laws_trace.proofs.WaitedBegins.{drained}

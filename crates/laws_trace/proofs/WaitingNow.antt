@@ -1,14 +1,7 @@
 -- The control frames of a link that wait are those that an observer has.
-use Rattle.laws_trace.proofs.Vocabulary.{◌≡◌, ℕ, ◌<◌, ◌-◌, ◌==◌, ◌&&◌, false, cond, not, List, [], ◌++◌, drop, take, length, Some, refl, sym, ap, ◌∙◌, subst, eq-eqb, fold, Service, ControlFrame, Link, Config, Line, link_of, place_in, lost_in, IsInRange, at, moments, deactivates}
+use Rattle.laws_trace.proofs.Vocabulary.{◌≡◌, ℕ, ◌<◌, ◌-◌, ◌==◌, ◌&&◌, false, cond, not, List, [], ◌++◌, drop, take, length, Some, refl, sym, ap, ◌∙◌, subst, eq-eqb, fold, Service, ControlFrame, Link, Config, Line, link_of, place_in, lost_in, IsInRange, at, moments, deactivates, fresh, CardEvent as Event, Moment, after_all, AreAtLines, Observed, View, views, view_of, moment_of, view_behind, put_in, outgoing_of, seen, seen_in, trace_of}
 use Rattle.model_line.specs.Event as line_event
-use Rattle.model_card.specs.Card.{fresh}
-use Rattle.model_card.specs.Event.{Event}
-use Rattle.model_card.specs.Run.{Moment, after_all, AreAtLines}
-use Rattle.laws_trace.specs.Observer.{Observed, View, views, view_of, moment_of, view_behind}
-use Rattle.laws_trace.specs.ControlFrames.{put_in}
 use Rattle.laws_trace.specs.Outgoing as outgoing
-use Rattle.laws_trace.specs.Outgoing.{outgoing_of}
-use Rattle.laws_trace.specs.Trace.{seen, seen_in, trace_of}
 use Rattle.laws_trace.proofs.ControlFrames.{moment}
 use Rattle.laws_trace.proofs.ControlsBegin.{begun-leaves}
 use Rattle.laws_trace.proofs.ControlsAtLine.{waits}

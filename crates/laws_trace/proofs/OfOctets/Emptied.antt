@@ -1,26 +1,18 @@
 -- Where a line was only pulled, as often as the configuration says, the latest call for its next frame gave none.
-use Rattle.laws_trace.proofs.Vocabulary.{◌≡◌, ℕ, zero, suc, ◌+◌, ◌<◌, ◌≤◌, ◌==◌, Bool, true, false, cond, List, [], ◌∷◌, ◌++◌, Option, None, option_map, refl, sym, ap, ◌∙◌, subst, arith, append_assoc, eq-eqb, All, option_to_list, flat_map-append, All-nil, All-cons, All-head, All-tail, Config, NextFrame, taken, next_of, most_frames, HasNothing, Card, line_at, AreTakesAt, takes_at, card-idles, all-left, all-right, config-stays, OctetCard, port_at, answer_of_call, call_answered, calls_answered, moments_meant, pulls_at, pulls_behind, asked_at, refines, pulls_are_takes, fresh_octets_sound, moments-append}
-use Rattle.std.proofs.lemmas.Bool.{eqb-true}
+use Rattle.laws_trace.proofs.Vocabulary.{◌≡◌, ℕ, zero, suc, ◌+◌, ◌<◌, ◌≤◌, ◌==◌, Bool, true, false, cond, List, [], ◌∷◌, ◌++◌, Option, None, option_map, refl, sym, ap, ◌∙◌, subst, arith, append_assoc, eq-eqb, All, option_to_list, flat_map-append, All-nil, All-cons, All-head, All-tail, Config, NextFrame, taken, next_of, most_frames, HasNothing, Card, line_at, AreTakesAt, takes_at, card-idles, all-left, all-right, config-stays, OctetCard, port_at, answer_of_call, call_answered, calls_answered, moments_meant, pulls_at, pulls_behind, asked_at, refines, pulls_are_takes, fresh_octets_sound, moments-append, eqb-true, answer as line_answer, takes_slot, moments as frame_moments, after_all as frames_after, ports_fresh as fresh, ports_after as after, meant, PortsEvent as Event, PortsAreAtLines as AreAtLines, ports_after_all as after_all, meant_all, EndsInPulls}
 use Rattle.model_line.specs.Event as line
 use Rattle.model_line.specs.Sound as line_sound
-unfoldable use Rattle.model_line.specs.Machine.{answer as line_answer, takes_slot}
 use Rattle.model_card.specs.Card as cards
 use Rattle.model_card.specs.Event as frames
 use Rattle.model_card.specs.Machine as machine
 use Rattle.model_card.specs.Run as runs
-unfoldable use Rattle.model_card.specs.Run.{moments as frame_moments, after_all as frames_after}
 use Rattle.model_card.proofs.CardSound as card_sound
 use Rattle.laws_trace.proofs.WaitedBegins.{drained}
-use Rattle.model_card.specs.ports.Card.{fresh}
-unfoldable use Rattle.model_card.specs.ports.Card.{after, meant}
-use Rattle.model_card.specs.ports.Event.{Event}
 use Rattle.model_card.specs.ports.Pulls as pulls
-use Rattle.model_card.specs.ports.Run.{AreAtLines, IsAtLine}
-unfoldable use Rattle.model_card.specs.ports.Run.{after_all, meant_all}
+use Rattle.model_card.specs.ports.Run.{IsAtLine}
 use Rattle.model_card.specs.ports.Sound.{IsSound}
 use Rattle.model_card.proofs.OfPorts.Sound.{always_sound}
 use Rattle.model_card.proofs.OfPorts.Steps as steps
-use Rattle.laws_trace.specs.octets.Pulled.{EndsInPulls}
 
 -- what events mean behind others
 meant_both : (m : OctetCard) (front behind : List Event) → meant_all m (front ++ behind) ≡ meant_all m front ++ meant_all (after_all m front) behind

@@ -11,8 +11,7 @@ use Rattle.laws_trace.proofs.States.{expired_of, one_more, differ}
 use Rattle.laws_trace.proofs.ControlsAtLine.{waits, due_here, Passes, none-taken, event-passes}
 use Rattle.laws_trace.proofs.DeliveriesRun.{IsCount}
 use Rattle.laws_trace.proofs.LinksMove.{differ-self, none-expires}
-use Rattle.laws_trace.proofs.CallRuns.{apart}
-use Rattle.laws_trace.proofs.Runs.{nothing-seen}
+use Rattle.laws_trace.proofs.Runs.{nothing-seen, apart}
 use Rattle.laws_trace.proofs.Standing.{standing, stand-is, event-stands, event-counts}
 use Rattle.laws_trace.proofs.StandingOfLink.{calm, IsStanding}
 

@@ -1,5 +1,5 @@
 -- The control frames of a link that wait and go: one event of a line.
-use Rattle.laws_trace.proofs.Vocabulary.{◌≡◌, ℕ, ◌+◌, ◌-◌, ◌≤◌, ◌==◌, ◌&&◌, ◌||◌, Bool, true, false, cond, List, [], ◌++◌, drop, length, map, take, zero, suc, Some, None, refl, sym, ap, ◌∙◌, subst, inl, inr, append-nil, true≢false, flat_map, not, option_to_list, is_some, list_any, option_map_or, le-ltb, BadTei, NoLink, Service, same_service, place_of-is, takes_contents, as_heard, moves, as_response, event-follows, HasItsTimer, State, TeiAssigned, ControlFrame, Terms, restarts, eligible, Link, is_multiple_frame, state_number, delivery, event-delivers, Config, next, Answer, Deactivate, at_deactivated, Line, link_in, link_number, link_of, place_in, has_tei, state_of, terms, aim_of, unless_refused, IsInRange, sound_in, terms_in_range, lost_in, notes_of, is_data_of, deactivates, is_deactivation, both-true, IsBy, HaveTheirTimers, eqb-true, fresh_link as fresh, Event, refusal, Request, line_after as after, answer, line_frame_of as frame_of, IsSound, of_link, trace_frame_in as frame_in, Seen, seen}
+use Rattle.laws_trace.proofs.Vocabulary.{◌≡◌, ℕ, ◌+◌, ◌-◌, ◌≤◌, ◌==◌, ◌&&◌, ◌||◌, Bool, true, false, cond, List, [], ◌++◌, drop, length, map, take, zero, suc, Some, None, refl, sym, ap, ◌∙◌, subst, inl, inr, append-nil, true≢false, flat_map, not, option_to_list, is_some, list_any, option_map_or, le-ltb, BadTei, NoLink, Service, same_service, place_of-is, takes_contents, as_heard, moves, as_response, event-follows, HasItsTimer, ControlFrame, Terms, restarts, eligible, Link, is_multiple_frame, state_number, delivery, event-delivers, Config, next, Answer, Deactivate, at_deactivated, Line, link_in, link_number, link_of, place_in, has_tei, state_of, terms, aim_of, unless_refused, IsInRange, sound_in, terms_in_range, lost_in, notes_of, is_data_of, deactivates, is_deactivation, both-true, IsBy, HaveTheirTimers, eqb-true, fresh_link as fresh, Event, refusal, Request, line_after as after, answer, line_frame_of as frame_of, IsSound, of_link, trace_frame_in as frame_in, Seen, seen}
 use Rattle.model_link.specs.Events as link
 use Rattle.model_link.specs.Machine as links
 use Rattle.model_link.specs.Sound as link_sound
@@ -23,14 +23,7 @@ use Rattle.laws_trace.proofs.ReceiptsNumbered.{taken-is}
 use Rattle.laws_trace.proofs.Standing.{behind, one-restarts, busy-is, rejected-is, event-stands}
 use Rattle.laws_trace.proofs.StandingOfLink.{calm, IsStanding, busy_behind, rejected_behind}
 use Rattle.laws_trace.proofs.TimersOfEvent.{state-on}
-
-unmoved : (state : State) → moves state state ≡ false
-unmoved TeiAssigned = refl
-unmoved other = refl
-
-as-busy : (b : Bool) (frames : List ControlFrame) → cond (cond b (not b) b) frames [] ≡ []
-as-busy true frames = refl
-as-busy false frames = refl
+use Rattle.laws_trace.proofs.Facts.{as-busy, same-state}
 
 pub none-taken : (n : ℕ) → take {A = ControlFrame} n [] ≡ []
 none-taken zero = refl
@@ -130,7 +123,7 @@ module _ (service : Service) (tei : ℕ) where
           time : time_at l e new ≡ false
           time =
               time-is there.0 here.0 0 here.1 there.1 (ap (λ o. option_map_or one_more o 0) (none-ticks c service tei nothing_yet l here.0 here.1 e x.aims))
-              ∙ ap (λ (k : Link). moves own.state k.state || false) same ∙ ap (λ b. b || false) (unmoved own.state)
+              ∙ ap (λ (k : Link). moves own.state k.state || false) same ∙ ap (λ b. b || false) (same-state own.state)
 
           none : Put ≡ []
           none =
@@ -252,7 +245,7 @@ module _ (service : Service) (tei : ℕ) where
       none-due offer there on =
           put-is there on ∙ ap (λ e. put_by c.n201 was now e own.state (links.after t e own).state) offer
           ∙ ap (λ to. cond (moves own.state to || false) (command_of now (Some (state_number to))) []) (event-follows t link.offer own).leaves.state
-          ∙ ap (λ b. cond (b || false) (command_of now (Some (state_number own.state))) []) (unmoved own.state)
+          ∙ ap (λ b. cond (b || false) (command_of now (Some (state_number own.state))) []) (same-state own.state)
 
       begins-is : begins ≡ flat_map (begun_of c service tei) (frames_given c t x.event own)
       begins-is = begun-is c service tei e l ∙ ap (flat_map (begun_of c service tei)) x.begins

@@ -1,5 +1,5 @@
 -- Where control frames of a link wait, each frame of it that begins is one of them.
-use Rattle.laws_trace.proofs.Vocabulary.{◌≡◌, ℕ, ◌<◌, zero, suc, false, cond, true, Bool, true≢false, All, List, [], ◌∷◌, drop, length, map, flat_map, filter, Option, Some, None, IfSome, option_to_list, refl, sym, ap, ◌∙◌, subst, inl, inr, append-nil, Information, Ui, Service, place_of-is, given-in-order, IsInOrder, All-head, Refusal, ControlFrame, Terms, Link, Given, IsGiven, given_is_frame, Config, Effect, of_request, request, next, Answer, unless_refused_told, is_information, Line, link_of, place_in, terms, IsInRange, terms_in_range, PoolFull, and_parts, line_at, is_full, at, by_room, Control, refusal, IsSound, line_frame_of as frame_of, Card, fresh, CardEvent as Event, card_answer as answer, after_all, AreAtLines, is_frame_of, trace_frame_in as frame_in, seen, is_ui}
+use Rattle.laws_trace.proofs.Vocabulary.{◌≡◌, ℕ, ◌<◌, false, cond, true, Bool, true≢false, All, List, [], ◌∷◌, drop, length, map, flat_map, filter, Option, Some, None, option_to_list, refl, sym, ap, ◌∙◌, subst, inl, inr, append-nil, Information, Ui, Service, place_of-is, given-in-order, IsInOrder, All-head, Refusal, Terms, Link, Given, IsGiven, given_is_frame, Config, Effect, of_request, request, next, Answer, unless_refused_told, is_information, Line, link_of, place_in, terms, IsInRange, terms_in_range, PoolFull, and_parts, line_at, is_full, at, by_room, Control, refusal, IsSound, line_frame_of as frame_of, Card, fresh, CardEvent as Event, card_answer as answer, after_all, AreAtLines, is_frame_of, trace_frame_in as frame_in, seen, is_ui, drop-nil}
 use Rattle.model_link.specs.Events as link
 use Rattle.model_link.specs.Machine as links
 use Rattle.model_link.specs.Sound as link_sound
@@ -17,19 +17,13 @@ use Rattle.laws_trace.proofs.NoUi.{IsPlain}
 use Rattle.laws_trace.proofs.OneLink.{frames_given, Goes, event-goes}
 use Rattle.laws_trace.proofs.Plain.{own-plain}
 use Rattle.laws_trace.proofs.TimersAreTimely.{config-now}
-
-drop-none : (n : ℕ) → drop {A = ControlFrame} n [] ≡ []
-drop-none zero = refl
-drop-none (suc n) = refl
+use Rattle.laws_trace.proofs.Facts.{some-of}
 
 -- What is neither an I-frame nor a UI is a control frame.
 single : (command : Bool) (control : Control) → is_information control ≡ false → is_ui control ≡ false → length (control_in command control) ≡ 1
 single command (Information ns nr p) bare plain = absurd (true≢false bare)
 single command (Ui p) bare plain = absurd (true≢false plain)
 single command other bare plain = refl
-
-some-of : {X : Type 0} (P : X → Type 0) (o : Option X) (x : X) → o ≡ Some x → IfSome o P → P x
-some-of P o x is h = subst (λ o. IfSome o P) is h
 
 module _ (c : Config) (events : List Event) (number : ℕ) (ranged : IsInRange c) (all : AreAtLines (fresh c) events) (within : number < c.lines) (service : Service) (tei : ℕ) where
   abbrev card : Card
@@ -53,7 +47,7 @@ module _ (c : Config) (events : List Event) (number : ℕ) (ranged : IsInRange c
 
   empty : own.waiting ≡ [] → (n m : ℕ) → drop n (waits service tei line) ≡ drop m (waits service tei line)
   empty none n m =
-      ap (λ ws. drop n (controls ws)) none ∙ drop-none n ∙ sym (ap (λ ws. drop m (controls ws)) none ∙ drop-none m)
+      ap (λ ws. drop n (controls ws)) none ∙ drop-nil n ∙ sym (ap (λ ws. drop m (controls ws)) none ∙ drop-nil m)
 
   module _ (place : ℕ) (on : place_in line tei ≡ Some place) where
     safe : link_sound.IsSound t own

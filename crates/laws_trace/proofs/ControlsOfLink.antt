@@ -8,6 +8,7 @@ use Rattle.laws_trace.proofs.CommandsCaused.{enquires, IsNoOther, none-heard, no
 use Rattle.laws_trace.proofs.ControlsDue.{controls, answers_of, put_by, IsControl, all-put, all-controls}
 use Rattle.laws_trace.proofs.MovesOfLink.{ticks}
 use Rattle.laws_trace.proofs.StandingOfLink.{calm, rejected_behind}
+use Rattle.laws_trace.proofs.Facts.{either-none}
 
 -- V(R), own busy and whether REJ stands while the link is up, before an event and behind it.
 abbrev pub number_after : Event → Link → ℕ
@@ -52,10 +53,6 @@ by-sabme other p = refl
 by-disc : (s : State) (p : Bool) → to_disc s p ≡ cond (state_number s == 4 || state_number s == 5) (Dm p) (Ua p)
 by-disc TeiAssigned p = refl
 by-disc other p = refl
-
-either-none : (b : Bool) → cond {A = List ControlFrame} b [] [] ≡ []
-either-none true = refl
-either-none false = refl
 
 if-both : (a b : Bool) (xs : List ControlFrame) → cond (a && b) xs [] ≡ cond a (cond b xs []) []
 if-both true b xs = refl

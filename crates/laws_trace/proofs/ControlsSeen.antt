@@ -1,5 +1,5 @@
 -- What is seen of the control frames of a link, and which are due by it.
-use Rattle.laws_trace.proofs.Vocabulary.{◌≡◌, ℕ, zero, suc, ◌==◌, ◌&&◌, Bool, true, false, cond, List, [], ◌∷◌, ◌++◌, map, drop, Option, Some, None, refl, sym, ap, ◌∙◌, ◌⊎◌, inl, inr, eq-eqb, append-nil, true≢false, Result, Ok, Err, All, IfSome, flat_map, option_to_list, nat_lt, length, All-head, All-tail, Ui, ReadFault, Service, Parts, reading, sapi_of, reading-again, event-follows, ControlFrame, Terms, Link, address_at, IsGiven, Given, orders_for, given_is_frame, Config, Effect, hears, expiry, request, next, Answer, Line, place_in, terms, aim_of, of_request, unless_refused_told, heard_side, message_of, aim_of_reading, aim_of_heard, at_side, IsMalformed, IsTooLong, is_granted, IsBy, Brings, BringsMalformed, sapi-is, same-sapi, both-true, Refusal, eqb-true, unwrap_or, information_of, begun as course_begun, Event, told, answer, line_frame_of as frame_of, Request, trace_frame_in as frame_in, Seen, heard, seen, seen_told, seen_granted, refusal}
+use Rattle.laws_trace.proofs.Vocabulary.{◌≡◌, ℕ, ◌==◌, ◌&&◌, Bool, true, false, cond, List, [], ◌∷◌, ◌++◌, map, drop, Option, Some, None, refl, sym, ap, ◌∙◌, ◌⊎◌, inl, inr, eq-eqb, append-nil, true≢false, Result, Ok, Err, All, IfSome, flat_map, option_to_list, nat_lt, length, All-head, All-tail, Ui, ReadFault, Service, Parts, reading, sapi_of, reading-again, event-follows, ControlFrame, Terms, Link, address_at, IsGiven, Given, orders_for, given_is_frame, Config, Effect, hears, expiry, request, next, Answer, Line, place_in, terms, aim_of, of_request, unless_refused_told, heard_side, message_of, aim_of_reading, aim_of_heard, at_side, IsMalformed, IsTooLong, is_granted, IsBy, Brings, BringsMalformed, sapi-is, same-sapi, both-true, Refusal, eqb-true, unwrap_or, information_of, begun as course_begun, Event, told, answer, line_frame_of as frame_of, Request, trace_frame_in as frame_in, Seen, heard, seen, seen_told, seen_granted, refusal, drop-nil}
 use Rattle.model_bits.specs.Stream as stream
 use Rattle.model_link.specs.Events as link
 use Rattle.model_link.specs.Machine as links
@@ -15,13 +15,10 @@ use Rattle.laws_trace.proofs.OneLink.{frames_given, IsForeign, is_at_link}
 use Rattle.laws_trace.proofs.ReadAgain.{read-again}
 use Rattle.laws_trace.proofs.Spelled.{whole-parts, given-spells}
 use Rattle.laws_trace.specs.Trace as traces
+use Rattle.laws_trace.proofs.Facts.{either-none}
 
 abbrev control_of : ControlFrame → List ControlFrame
 control_of f = control_in f.command f.control
-
-either-none : (b : Bool) → cond {A = List ControlFrame} b [] [] ≡ []
-either-none true = refl
-either-none false = refl
 
 module _ (c : Config) (service : Service) (tei : ℕ) where
   abbrev pub begun_of : List ℕ → List ControlFrame
@@ -86,10 +83,6 @@ module _ (c : Config) (service : Service) (tei : ℕ) where
       ∙ ap (λ b. cond b (control_of g.frame) []) (ap (λ b. b && tei == tei) (eq-eqb (sapi_of service) (sapi_of service) refl) ∙ eq-eqb tei tei refl)
 
   -- So it is the first that begins, and the others wait on.
-  drop-none : (n : ℕ) → drop {A = ControlFrame} n [] ≡ []
-  drop-none zero = refl
-  drop-none (suc n) = refl
-
   drop-front : (xs ys : List ControlFrame) → drop (length xs) (xs ++ ys) ≡ ys
   drop-front [] ys = refl
   drop-front (x ∷ xs) ys = drop-front xs ys
@@ -116,7 +109,7 @@ module _ (c : Config) (service : Service) (tei : ℕ) where
       begins = flat_map begun_of (frames_given c its link.offer l)
 
       go : (ws : List ControlFrame) → l.waiting ≡ ws → controls (drop 1 l.waiting) ≡ drop (length begins) (controls l.waiting)
-      go [] is = ap (λ ws. controls (drop 1 ws)) is ∙ sym (ap (λ ws. drop (length begins) (controls ws)) is ∙ drop-none (length begins))
+      go [] is = ap (λ ws. controls (drop 1 ws)) is ∙ sym (ap (λ ws. drop (length begins) (controls ws)) is ∙ drop-nil (length begins))
       go (f ∷ fs) is =
           ap (λ ws. controls (drop 1 ws)) is
           ∙ sym (ap (λ ws. drop (length begins) (controls ws)) is ∙ ap (λ xs. drop (length xs) (control_of f ++ controls fs)) (first-begins l range sound f fs is)

@@ -5,6 +5,7 @@ use Rattle.model_link.specs.Events as link
 use Rattle.model_link.specs.Requests as requests
 use Rattle.laws_trace.proofs.OneLink.{is_at_link}
 use Rattle.laws_trace.proofs.Deliveries.{heard-by}
+use Rattle.laws_trace.proofs.Facts.{either-none}
 
 -- What an event that is no request and no call is to its link: it accepts nothing, and gives nothing.
 pub no-data : (c : Config) (e : Event) (a : Answer) (service : Service) (tei : ℕ) (t : Terms) (k : Link) → ((r : Request) → e ≡ request r → ⊥) → (e ≡ next → ⊥)
@@ -34,10 +35,6 @@ only-offered c a service tei (link.expired timer) by = cc by
 only-offered c a service tei (link.requested what full) by = let e : next ≡ request (of_link service tei what) = by.0 in cc e
 only-offered c a service tei link.offer by = refl
 only-offered c a service tei link.cleared by = absurd by
-
-either-none : (b : Bool) → cond {A = List (List ℕ)} b [] [] ≡ []
-either-none true = refl
-either-none false = refl
 
 -- Data that is granted is accepted by its link,
 pub granted-data : (service : Service) (tei : ℕ) (t : Terms) (k : Link) (full : Bool) (what : link.Request)

@@ -1,5 +1,5 @@
 -- What is given of a link is due: the laws.
-use Rattle.laws_trace.proofs.Vocabulary.{◌≡◌, ℕ, ◌<◌, true, false, cond, All, List, [], ◌∷◌, ◌++◌, map, filter, Option, Some, None, IfSome, option_to_list, refl, sym, ap, ◌∙◌, subst, inl, inr, append-nil, Service, place_of-is, given-in-order, IsInOrder, All-head, ControlFrame, Terms, Link, Given, given_is_frame, Config, next, Answer, Line, link_of, place_in, terms, IsInRange, terms_in_range, line_at, at, IsSound, line_frame_of as frame_of, fresh, CardEvent as Event, card_answer as answer, after_all, AreAtLines, offers, GivenIsDue, DueIsGiven, is_frame_of, managing_is_on as is_on, View, Outgoing, outgoing_of, trace_frame_in as frame_in, IsFront, Always, is_ui}
+use Rattle.laws_trace.proofs.Vocabulary.{◌≡◌, ℕ, ◌<◌, true, false, cond, All, List, [], ◌∷◌, ◌++◌, map, filter, Option, Some, None, option_to_list, refl, sym, ap, ◌∙◌, subst, inl, inr, append-nil, Service, place_of-is, given-in-order, IsInOrder, All-head, ControlFrame, Terms, Link, Given, given_is_frame, Config, next, Answer, Line, link_of, place_in, terms, IsInRange, terms_in_range, line_at, at, IsSound, line_frame_of as frame_of, fresh, CardEvent as Event, card_answer as answer, after_all, AreAtLines, offers, GivenIsDue, DueIsGiven, is_frame_of, managing_is_on as is_on, View, Outgoing, outgoing_of, trace_frame_in as frame_in, IsFront, Always, is_ui}
 use Rattle.model_link.specs.Events as link
 use Rattle.model_link.specs.Machine as links
 use Rattle.model_link.specs.Sound as link_sound
@@ -15,15 +15,13 @@ use Rattle.laws_trace.proofs.Outgoing.{view-is}
 use Rattle.laws_trace.proofs.Plain.{own-plain}
 use Rattle.laws_trace.proofs.SeenAs.{tei-seen}
 use Rattle.laws_trace.proofs.TimersAreTimely.{config-now}
+use Rattle.laws_trace.proofs.Facts.{some-of}
 
 none-goes : (xs ys : List (List ℕ)) → xs ≡ [] → IsFront xs ys
 none-goes xs ys none = record { rest = ys; whole_is = ap (λ xs. xs ++ ys) (sym none) }
 
 all-goes : (xs ys : List (List ℕ)) → ys ≡ xs → IsFront xs ys
 all-goes xs ys same = record { rest = []; whole_is = same ∙ sym (append-nil xs) }
-
-some-of : {X : Type 0} (P : X → Type 0) (o : Option X) (x : X) → o ≡ Some x → IfSome o P → P x
-some-of P o x is h = subst (λ o. IfSome o P) is h
 
 module _ (c : Config) (events : List Event) (number : ℕ) (ranged : IsInRange c) (all : AreAtLines (fresh c) events) (within : number < c.lines) (service : Service) (tei : ℕ) where
   abbrev line : Line

@@ -1,5 +1,6 @@
 -- Lemmas.
 pub mod Vocabulary
+pub mod Facts
 pub mod Counting
 pub mod States
 pub mod DeliveriesWatched
@@ -43,7 +44,6 @@ pub mod OctetsBegin
 pub mod WaitedBegins
 pub mod LinkNames
 pub mod Turns
-pub mod CallRuns
 pub mod NamedFrames
 pub mod TurnsKept
 pub mod TurnsWalked

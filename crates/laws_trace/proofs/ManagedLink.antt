@@ -5,7 +5,8 @@ use Rattle.lapd_tei.specs.Events as teis
 use Rattle.lapd_tei.specs.Laws as tei_laws
 use Rattle.lapd_tei.proofs.LawLemmas as tei_lemmas
 use Rattle.laws_line.proofs.Readings as read
-use Rattle.laws_trace.proofs.OrdersOfLink.{its_orders, its-own, of-event, none-ordered, management-orders-none}
+use Rattle.laws_trace.proofs.OrdersOfLink.{its_orders, of-event, none-ordered, management-orders-none}
+use Rattle.laws_trace.proofs.Facts.{its-own}
 
 module _ (c : Config) (l : Line) (s : IsSound c l) (service : Service) (tei : ℕ) where
   abbrev itself : Link → Link

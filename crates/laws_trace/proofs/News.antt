@@ -8,11 +8,11 @@ use Rattle.laws_trace.proofs.TimersWatched.{brings, Known, watch}
 use Rattle.laws_trace.proofs.States.{is_state, differ}
 use Rattle.laws_trace.proofs.LinksMove.{differ-self}
 use Rattle.laws_trace.proofs.NewsOfLink.{Asks}
-use Rattle.laws_trace.proofs.CallRuns.{apart}
 use Rattle.laws_trace.proofs.OwedOfEvent.{IsOwed, known-owes, five-owes}
 use Rattle.laws_trace.proofs.TimersAreTimely.{moment-known, begins-true, sound-now, timely-now, config-now, front-at, itself}
 use Rattle.laws_trace.proofs.TimersOfEvent.{IsTrueOf}
 use Rattle.laws_trace.proofs.NewsOfEvent.{IsAskedOf, event-asks, event-due, off-due}
+use Rattle.laws_trace.proofs.Runs.{apart}
 
 module _ (service : Service) (tei number : ℕ) where
   -- One event of a card.

@@ -1,5 +1,5 @@
 -- What layer 3 is told of the establishment and release of a link: one event of its line.
-use Rattle.laws_trace.proofs.Vocabulary.{◌≡◌, ℕ, ◌==◌, ◌&&◌, Bool, true, false, cond, List, [], Option, Some, None, refl, sym, ap, ◌∙◌, subst, true≢false, ◌⊎◌, inl, inr, filter, list_any, option_map_or, none-some, ErrorCode, Service, State, TeiAssigned, AwaitingEstablishment, Terms, Link, state_number, Config, Answer, Line, has_tei, link_of, place_in, state_of, terms, notes_of, is-off, moves, unwrap_or, Control, fresh_link, told, IsSound, is_news, is_sabme, is_xid, releases, wrong, seen}
+use Rattle.laws_trace.proofs.Vocabulary.{◌≡◌, ℕ, ◌==◌, ◌&&◌, Bool, true, false, cond, List, [], Option, Some, None, refl, sym, ap, ◌∙◌, subst, true≢false, inl, inr, filter, list_any, option_map_or, none-some, ErrorCode, Service, State, TeiAssigned, AwaitingEstablishment, Terms, Link, state_number, Config, Answer, Line, has_tei, link_of, place_in, state_of, terms, notes_of, is-off, moves, unwrap_or, Control, fresh_link, IsSound, is_news, is_sabme, is_xid, releases, wrong, seen}
 use Rattle.model_link.specs.Events as link
 use Rattle.model_link.specs.Machine as links
 use Rattle.model_line.specs.Event as line_event
@@ -17,10 +17,11 @@ use Rattle.laws_trace.proofs.NewsOfLink.{event-news, Asks, event-asking}
 use Rattle.laws_trace.proofs.OwedOfEvent.{IsOwed}
 use Rattle.laws_trace.proofs.OneLink.{HasOne, HasNone, Goes, event-goes, IsGivenUp}
 use Rattle.laws_trace.proofs.TimerClaims.{told_state}
-use Rattle.laws_trace.proofs.TimersOfEvent.{state-on, off-fresh, off-state}
+use Rattle.laws_trace.proofs.TimersOfEvent.{state-on, off-fresh, off-state, comes}
 use Rattle.laws_trace.proofs.NewsSeen.{one-begins, one-releases, one-establishes, none-begins, none-releases}
 use Rattle.laws_trace.proofs.TimersOfLine.{seen-brings}
 use Rattle.laws_trace.proofs.Deliveries.{frame_by}
+use Rattle.laws_trace.proofs.Facts.{same-state}
 
 abbrev pub IsAskedOf : Service → ℕ → Bool → Line → Type 0
 IsAskedOf service tei was l = let x = link_of service tei l in Asks x.state was x.asked
@@ -44,10 +45,6 @@ module _ (c : Config) (l : Line) (s : IsSound c l) (service : Service) (tei : �
   unmoved : (state : State) (outstanding : Bool) → due service tei [] was false false false outstanding (state_number state) (state_number state) ≡ []
   unmoved TeiAssigned outstanding = refl
   unmoved other outstanding = refl
-
-  same-state : (state : State) → moves state state ≡ false
-  same-state TeiAssigned = refl
-  same-state other = refl
 
   abbrev then_asked : Option ℕ → Option ℕ → Bool
   then_asked from to = cond (is_state 5 to && differ from to) (establishes service tei e a) was
@@ -166,18 +163,6 @@ module _ (c : Config) (l : Line) (s : IsSound c l) (service : Service) (tei : �
   begins-asked : (b : Bool) → next ≡ fresh_link → Asks next.state b next.asked
   begins-asked b is = subst (λ (y : Link). Asks y.state b y.asked) (sym is) tt
 
-  comes : place_in l tei ≡ None → next ≡ fresh_link
-  comes off = go (event-goes c e l service tei s)
-    where
-      go : Goes c service tei e l (lines.after c e l) a → next ≡ fresh_link
-      go (inr (inl x)) = absurd (none-some x.place (sym off ∙ x.placed))
-      go (inr (inr x)) = x.is
-      go (inl x) = either x.is
-        where
-          either : (next ≡ own) ⊎ (next ≡ fresh_link) → next ≡ fresh_link
-          either (inl same) = same ∙ off-fresh service tei l off
-          either (inr new) = new
-
   pub event-asks : IsAskedOf service tei (then_asked (state_of service tei l) (state_of service tei (lines.after c e l))) (lines.after c e l)
   event-asks = go (place_in l tei) refl (place_in (lines.after c e l) tei) refl
     where
@@ -186,7 +171,7 @@ module _ (c : Config) (l : Line) (s : IsSound c l) (service : Service) (tei : �
 
       go : (o : Option ℕ) → place_in l tei ≡ o → (p : Option ℕ) → place_in (lines.after c e l) tei ≡ p → Asks next.state b next.asked
       go o on None off = begins-asked b (off-fresh service tei (lines.after c e l) off)
-      go None off (Some there) still = begins-asked b (comes off)
+      go None off (Some there) still = begins-asked b (comes c e l s service tei off)
       go (Some place) on (Some there) still =
           subst (λ b. Asks next.state b next.asked)
           (sym (ap (λ o. then_asked o (state_of service tei (lines.after c e l))) (state-on service tei l place on)

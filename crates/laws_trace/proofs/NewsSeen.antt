@@ -1,5 +1,5 @@
 -- What is seen of a link: SABME, and requests that are granted.
-use Rattle.laws_trace.proofs.Vocabulary.{◌≡◌, ℕ, ◌&&◌, Bool, true, false, cond, Option, Some, None, refl, sym, ap, ◌∙◌, true≢false, list_any, option_map_or, Service, Config, request, Answer, Line, place_in, at_requested, aim_of_request, is_granted, IsBy, asks_establishment, Parts, Control, T200, T203, Request, Release, is_for, releases, is_own, seen}
+use Rattle.laws_trace.proofs.Vocabulary.{◌≡◌, ℕ, ◌&&◌, Bool, true, false, cond, Option, Some, None, refl, sym, ap, ◌∙◌, true≢false, list_any, option_map_or, Service, Config, request, Answer, Line, place_in, at_requested, aim_of_request, is_granted, IsBy, asks_establishment, Parts, Control, T200, T203, Request, Release, is_for, releases, is_own, seen, and-false}
 use Rattle.model_link.specs.Events as link
 use Rattle.model_line.specs.Event as line_event
 use Rattle.model_line.specs.Machine as lines
@@ -69,17 +69,13 @@ module _ (c : Config) (service : Service) (tei : ℕ) (which : Control → Bool)
         go None is = refl
         go (Some f) is = by-whom f is (is_for service tei f.address) refl
 
-    no-bit : (b : Bool) → (b && false) ≡ false
-    no-bit true = refl
-    no-bit false = refl
-
     not-granted : (r : Request) (a : Answer) → is_granted a ≡ false → releases service tei (request r) a ≡ false
     not-granted (Release its by) a none = ap (λ d. d && is_own service tei its by) none
     not-granted other a none = refl
 
     not-own : (r : Request) (a : Answer) → is_at_link service tei (aim_of_request r l) ≡ false → releases service tei (request r) a ≡ false
     not-own (Release its by) a aims =
-        ap (λ d. is_granted a && d) (elsewhere c service tei nothing_yet l place on its by (link.requested link.Release false) (at_requested its by link.Release) (λ p. refl) aims) ∙ no-bit (is_granted a)
+        ap (λ d. is_granted a && d) (elsewhere c service tei nothing_yet l place on its by (link.requested link.Release false) (at_requested its by link.Release) (λ p. refl) aims) ∙ and-false (is_granted a)
     not-own other a aims = refl
 
     pub none-releases : (e : line_event.Event) → is_at_link service tei (lines.aim_of c e l) ≡ false → releases service tei e (lines.answer c e l) ≡ false

@@ -1,5 +1,5 @@
 -- The control frames of a link that are due by what the observer knows are those that are due by how the link stands.
-use Rattle.laws_trace.proofs.Vocabulary.{◌≡◌, ℕ, ◌+◌, ◌%◌, ◌==◌, ◌&&◌, not, Bool, true, false, cond, length, List, [], ◌++◌, Option, Some, None, is_some, refl, sym, ap, ◌∙◌, subst, true≢false, nat_lt, Result, Ok, Err, option_map_or, seq, Information, ReceiveReady, ReceiveNotReady, Reject, Sabme, Disc, ReadFault, Service, Timer, Parts, reading, ControlFrame, Config, hears, expiry, request, next, Answer, gave, heard_side, Deactivate, as_response, is_granted, Control, told, Request, Establish, Release, SetBusy, ClearBusy, result_ok, brought, frame_of, its_frame, is_for, malformed, Managed, due, Observed, in_state, awaits, anew, enquires, observer_by_frame as by_frame, by_t200, observer_by_expiry as by_expiry, observer_by_request as by_request, by_event, sends, is_own, is_up, heard, seen_told, seen_granted}
+use Rattle.laws_trace.proofs.Vocabulary.{◌≡◌, ℕ, ◌+◌, ◌%◌, ◌==◌, ◌&&◌, not, Bool, true, false, cond, length, List, [], ◌++◌, Option, Some, None, is_some, refl, sym, ap, ◌∙◌, subst, true≢false, nat_lt, Result, Ok, Err, option_map_or, seq, Information, ReceiveReady, ReceiveNotReady, Reject, Sabme, Disc, ReadFault, Service, Timer, Parts, reading, Config, hears, expiry, request, next, Answer, gave, heard_side, Deactivate, as_response, is_granted, Control, told, Request, Establish, Release, SetBusy, ClearBusy, result_ok, brought, frame_of, its_frame, is_for, malformed, Managed, due, Observed, in_state, awaits, anew, enquires, observer_by_frame as by_frame, by_t200, observer_by_expiry as by_expiry, observer_by_request as by_request, by_event, sends, is_own, is_up, heard, seen_told, seen_granted}
 use Rattle.model_bits.specs.Stream as stream
 use Rattle.lapd_frame.specs.declared.timers.Timer.TheVariants as timers
 use Rattle.model_line.specs.Event as line_event
@@ -9,14 +9,7 @@ use Rattle.laws_trace.proofs.ControlsWatched as old
 use Rattle.laws_trace.proofs.DeliveriesWatched.{Standing, busy_asked}
 use Rattle.laws_trace.proofs.ObservedAnswers.{is_answered}
 use Rattle.laws_trace.proofs.ObservedCount.{Same}
-
-pub either-none : (b : Bool) → cond {A = List ControlFrame} b [] [] ≡ []
-either-none true = refl
-either-none false = refl
-
-pub as-busy : (b : Bool) (frames : List ControlFrame) → cond (cond b (not b) b) frames [] ≡ []
-as-busy true frames = refl
-as-busy false frames = refl
+use Rattle.laws_trace.proofs.Facts.{either-none, as-busy}
 
 -- What the link says, by the observer and by how it stands.
 module _ (q : Observed) (u : Standing) (same : Same q u.told.count u.busy u.rejected) where

@@ -4,7 +4,6 @@ use Rattle.model_bits.specs.Stream as stream
 use Rattle.model_line.specs.Event as line_event
 use Rattle.model_card.specs.Sound as card_sound
 use Rattle.laws_trace.specs.ControlFrames as now_due
-use Rattle.laws_trace.proofs.CallRuns.{apart}
 use Rattle.laws_trace.proofs.ControlsSeen.{answers_seen, heard-answers, told-none, begun-none}
 use Rattle.laws_trace.proofs.ControlsWatched as old
 use Rattle.laws_trace.proofs.DeliveriesWatched.{Standing, busy_asked}
@@ -13,7 +12,7 @@ use Rattle.laws_trace.proofs.MovesWatched.{repeated}
 use Rattle.laws_trace.proofs.NewsWatched as news
 use Rattle.laws_trace.proofs.NewsWatched.{Owing, owing}
 use Rattle.laws_trace.proofs.ObservedAnswers.{is_answered, card-answered}
-use Rattle.laws_trace.proofs.ObservedControls.{either-none, as-busy, receipt-is, by-heard, asked-answers-is, busies, still-busy, none-led, stays-up, AsBusy, unchanged, as-busy-before}
+use Rattle.laws_trace.proofs.ObservedControls.{receipt-is, by-heard, asked-answers-is, busies, still-busy, none-led, stays-up, AsBusy, unchanged, as-busy-before}
 use Rattle.laws_trace.proofs.ObservedCount.{Same, Agree, when-holds}
 use Rattle.laws_trace.proofs.ObservedCounted.{Stands, agrees-then}
 use Rattle.laws_trace.proofs.ObservedFacts.{Facts, facts, state-is, differs-is}
@@ -24,7 +23,9 @@ use Rattle.laws_trace.proofs.StandingOfLink.{calm}
 use Rattle.laws_trace.proofs.States.{is_state, differ, expired_of, one_more}
 use Rattle.laws_trace.proofs.TimersOfEvent.{state-on, off-state}
 use Rattle.laws_trace.proofs.TimersWatched.{Known, watch}
-use Rattle.laws_trace.proofs.ObservedControlsSeen.{none-mapped, not-one, frame-leads, granted-busy, asked-moves}
+use Rattle.laws_trace.proofs.ObservedControlsSeen.{none-mapped, frame-leads, granted-busy, asked-moves}
+use Rattle.laws_trace.proofs.Facts.{either-none, as-busy, not-one}
+use Rattle.laws_trace.proofs.Runs.{apart}
 
 module _ (service : Service) (tei number : ℕ) where
   module _ (card : Card) (s : card_sound.IsSound card) (timely : AllHaveTheirTimers card) (e : Event) (here : IsAtLine card e)

@@ -1,5 +1,5 @@
 -- What an observer knows of this side of a link is how the link stands by what is heard and noted: over runs.
-use Rattle.laws_trace.proofs.Vocabulary.{◌≡◌, ℕ, ◌+◌, ◌&&◌, ◌||◌, not, Bool, true, false, cond, Some, refl, sym, ap, ◌∙◌, subst, true≢false, list_any, Service, State, TeiAssigned, is_multiple_frame, state_number, Config, hears, Answer, Line, link_of, place_in, IsInRange, notes_of, is_data_of, Event, IsSound, brought, Observed, by_event, is_up}
+use Rattle.laws_trace.proofs.Vocabulary.{◌≡◌, ℕ, ◌+◌, ◌&&◌, ◌||◌, not, Bool, true, false, cond, Some, refl, sym, ap, ◌∙◌, subst, true≢false, list_any, Service, State, is_multiple_frame, state_number, Config, hears, Answer, Line, link_of, place_in, IsInRange, notes_of, is_data_of, Event, IsSound, brought, Observed, by_event, is_up}
 use Rattle.model_line.specs.Machine as lines
 use Rattle.laws_trace.proofs.Counting.{begins}
 use Rattle.laws_trace.proofs.Deliveries.{frame_by}
@@ -10,6 +10,7 @@ use Rattle.laws_trace.proofs.ObservedStanding.{Stood, in_number, begins_by, take
 use Rattle.laws_trace.proofs.ObservedTold.{begins-so, informs-so, data-so}
 use Rattle.laws_trace.proofs.Standing.{asked_busy, behind}
 use Rattle.laws_trace.proofs.StandingOfLink.{IsStanding}
+use Rattle.laws_trace.proofs.Facts.{number-up}
 
 pub record Same (o : Observed) (n : ℕ) (busy rejected : Bool) : Type 0 where
   pub count_is : o.count ≡ n
@@ -42,10 +43,6 @@ module _ (service : Service) (tei : ℕ) (c : Config) (ranged : IsInRange c) (l 
 
   up-here : is_multiple_frame its ≡ true → is_up o.state ≡ true
   up-here up = ap is_up is ∙ number-up its ∙ up
-    where
-      number-up : (x : State) → is_up (state_number x) ≡ is_multiple_frame x
-      number-up TeiAssigned = refl
-      number-up other = refl
 
   abbrev B : Bool
   B = begins service tei (frame_by c e) (notes_of a)

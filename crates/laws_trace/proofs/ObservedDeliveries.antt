@@ -1,5 +1,5 @@
 -- What layer 3 is told of what is heard, by what the observer knows of the link.
-use Rattle.laws_trace.proofs.Vocabulary.{List, nat_le, ◌&&◌, ◌≡◌, ℕ, ◌<◌, ◌||◌, Bool, true, false, cond, Option, Some, None, option_map, refl, sym, ap, ◌∙◌, subst, true≢false, inl, inr, fold, count_by, length, option_to_list, list_any, option_map_or, and_parts, none-some, PoolFull, Service, Parts, State, TeiAssigned, is_multiple_frame, state_number, Config, hears, request, Answer, refused, Line, link_of, place_in, state_of, IsInRange, notes_of, contents_in, is_data_of, is_unit_of, tells_contents, line_at, is_full, at, has_lines, by_room, line_sound, IsSound, fresh, card_answer as answer, after_all, AreAtLines, is_unit_for, is_unit_taken, Deliveries, brought, its_frame, is_for, Observed, in_state, view_of, is_up, trace_of, Always, is_ui, Managed}
+use Rattle.laws_trace.proofs.Vocabulary.{List, nat_le, ◌&&◌, ◌≡◌, ℕ, ◌<◌, ◌||◌, Bool, true, false, cond, Option, Some, None, option_map, refl, sym, ap, ◌∙◌, subst, true≢false, inl, inr, fold, count_by, length, option_to_list, list_any, option_map_or, and_parts, none-some, PoolFull, Service, Parts, state_number, Config, hears, request, Answer, refused, Line, link_of, place_in, state_of, IsInRange, notes_of, contents_in, is_data_of, is_unit_of, tells_contents, line_at, is_full, at, has_lines, by_room, line_sound, IsSound, fresh, card_answer as answer, after_all, AreAtLines, is_unit_for, is_unit_taken, Deliveries, brought, its_frame, is_for, Observed, in_state, view_of, is_up, trace_of, Always, is_ui, Managed}
 use Rattle.model_line.specs.Event as line_event
 use Rattle.model_line.specs.Machine as lines
 use Rattle.laws_trace.proofs.Deliveries.{frame_by}
@@ -18,10 +18,7 @@ use Rattle.laws_trace.proofs.TimersAreTimely.{sound-now, config-now, front-at}
 use Rattle.laws_trace.proofs.TimersOfEvent.{state-on, off-state}
 use Rattle.laws_trace.proofs.TimersWatched.{Known}
 use Rattle.laws_trace.proofs.UnitsAreFor.{unit-is, units-are}
-
-number-up : (x : State) → is_up (state_number x) ≡ is_multiple_frame x
-number-up TeiAssigned = refl
-number-up other = refl
+use Rattle.laws_trace.proofs.Facts.{number-up}
 
 -- All but to whom unit data is told.
 record Told (c : Config) (service : Service) (tei : ℕ) (o : Observed) (frame : Option Parts) (a : Answer) : Type 0 where

@@ -1,5 +1,5 @@
 -- How often T200 of a link expired, to an observer: it rises by an expiry of it alone.
-use Rattle.laws_trace.proofs.Vocabulary.{◌≡◌, ℕ, ◌+◌, ◌%◌, ◌==◌, ◌&&◌, ◌||◌, not, Bool, true, false, cond, length, Option, Some, None, refl, sym, ap, ◌∙◌, subst, arith, true≢false, is_some, nat_lt, le-ltb, option_map_or, Information, ReceiveReady, ReceiveNotReady, Reject, Sabme, Ui, Ua, Dm, Service, Parts, reading, Seq, Config, hears, expiry, request, next, Answer, refused, gave, Deactivate, is_granted, eqb-true, lt-ltb, result_ok, Control, Xid, Event, told, Request, Establish, Release, SetBusy, ClearBusy, frame_of, its_frame, malformed, Observed, in_state, awaits, anew, observer_takes as takes, observer_is_invalid as is_invalid, numbered, receipt, while_up, while_down, observer_by_frame as by_frame, observer_by_request as by_request, by_t200, enquires, enters, sends, by_event, is_own, is_up}
+use Rattle.laws_trace.proofs.Vocabulary.{◌≡◌, ℕ, ◌+◌, ◌%◌, ◌==◌, ◌&&◌, ◌||◌, not, Bool, true, false, cond, length, Option, Some, None, refl, sym, ap, ◌∙◌, subst, arith, true≢false, is_some, nat_lt, le-ltb, option_map_or, Information, ReceiveReady, ReceiveNotReady, Reject, Sabme, Ui, Ua, Dm, Service, Parts, reading, Seq, Config, hears, expiry, request, next, Answer, refused, gave, Deactivate, is_granted, eqb-true, lt-ltb, result_ok, Control, Xid, Event, told, Request, Establish, Release, SetBusy, ClearBusy, frame_of, its_frame, malformed, Observed, in_state, awaits, anew, observer_takes as takes, observer_is_invalid as is_invalid, numbered, receipt, while_up, while_down, observer_by_frame as by_frame, observer_by_request as by_request, by_t200, enquires, enters, sends, by_event, is_own, is_up, or-true}
 use Rattle.lapd_frame.specs.declared.timers.Timer.TheVariants as timers
 
 abbrev pub IsNoMore : Observed → Observed → Type 0
@@ -83,10 +83,6 @@ module _ (o : Observed) where
     no-more (expiry (timers.T200 of by)) a other = subst (λ b. IsNoMore o (cond b (by_t200 c.n200 o) o)) (sym (other of by refl)) (same o)
 
   -- An expiry of the timer that runs leads on, or is counted.
-  or-true : (b : Bool) → (b || true) ≡ true
-  or-true true = refl
-  or-true false = refl
-
   moved : (n : ℕ) (q : Observed) → o.state ≡ n → (n == q.state) ≡ false → enters o q ≡ true
   moved n q is other = ap (λ s. not (s == q.state) || nat_lt o.expiries q.expiries) is ∙ ap (λ b. not b || nat_lt o.expiries q.expiries) other
 

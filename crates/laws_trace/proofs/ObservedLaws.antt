@@ -1,5 +1,5 @@
 -- What the observer knows of a link gives the laws of it, by what follows its parts.
-use Rattle.laws_trace.proofs.Vocabulary.{◌≡◌, ℕ, ◌<◌, ◌==◌, ◌&&◌, ◌||◌, inl, inr, not, Bool, false, cond, List, [], ◌∷◌, ◌++◌, map, Option, Some, None, is_some, refl, sym, ap, ◌∙◌, subst, fold, filter, nat_le, if◌then◌else◌, list_any, Note, EstablishIndication, EstablishConfirm, ReleaseIndication, ReleaseConfirm, Error, Service, State, TeiAssigned, LinkTimer, state_number, Config, orders_in, Line, state_of, IsInRange, obeyed, notes_of, timer_of, left_by, runs_at_callers, line_at, at, moments, unwrap_or, NoteXid as Xid, fresh, CardEvent as Event, after, Moment, after_all, AreAtLines, managing_is_on as is_on, NewsIsTold, Observed, View, is_outstanding, awaits, view_of, moment_of, view_behind, TimersRun, Seen, seen, Always}
+use Rattle.laws_trace.proofs.Vocabulary.{◌≡◌, ℕ, ◌<◌, ◌==◌, ◌&&◌, ◌||◌, inl, inr, not, Bool, false, cond, List, [], ◌∷◌, ◌++◌, map, Option, Some, None, is_some, refl, sym, ap, ◌∙◌, subst, fold, filter, nat_le, if◌then◌else◌, list_any, Note, EstablishIndication, EstablishConfirm, ReleaseIndication, ReleaseConfirm, Error, Service, State, LinkTimer, state_number, Config, orders_in, Line, state_of, IsInRange, obeyed, notes_of, timer_of, left_by, runs_at_callers, line_at, at, moments, unwrap_or, NoteXid as Xid, fresh, CardEvent as Event, after, Moment, after_all, AreAtLines, managing_is_on as is_on, NewsIsTold, Observed, View, is_outstanding, awaits, view_of, moment_of, view_behind, TimersRun, Seen, seen, Always}
 use Rattle.model_line.specs.Event as line_event
 use Rattle.laws_trace.specs.LinksMove.{LinksMove}
 use Rattle.laws_trace.proofs.MovesWatched.{repeated}
@@ -17,6 +17,7 @@ use Rattle.laws_trace.proofs.News as old_news
 use Rattle.laws_trace.proofs.NewsWatched as news
 use Rattle.laws_trace.proofs.TimersAreTimely as old
 use Rattle.laws_trace.proofs.TimersWatched as known
+use Rattle.laws_trace.proofs.Facts.{not-one}
 
 -- The link moves to another state, or the frame that comes starts its timer anew.
 abbrev pub moved_or_renewed : Config → Service → ℕ → LinkTimer → Observed → Observed → line_event.Event → Bool
@@ -224,14 +225,10 @@ module _ (c : Config) (events : List Event) (number : ℕ) (ranged : IsInRange c
   news-so (inl y) =
       subst IsDue (sym (ap (λ (o : Observed). o.state == 1) y.2)) (old_news.none-is-told c before number ranged front within service tei what y.0)
   news-so (inr y) =
-      subst IsDue (sym (ap (λ s. s == 1) y.2.state_is ∙ not-one' y.0))
+      subst IsDue (sym (ap (λ s. s == 1) y.2.state_is ∙ not-one y.0))
       (old_news.news-is-told c events number ranged all within service tei before what behind is o.state (y.1 ∙ ap (λ s. Some s) (sym y.2.state_is))
       ∙ ap (λ b. old_due c before number ranged front within service tei what (cond b (seen what (moment_of c before number what).answer) [])) (itself number)
       ∙ sym (due-is c before number ranged front within service tei what y.0 y.2))
-    where
-      not-one' : (x : State) → (state_number x == 1) ≡ false
-      not-one' TeiAssigned = refl
-      not-one' other = refl
 
 pub news-is-told-so : Always NewsIsTold
 news-is-told-so c events number ranged all within service tei before what behind is =

@@ -6,7 +6,6 @@ use Rattle.laws_trace.proofs.MovesWatched.{repeated}
 use Rattle.laws_trace.proofs.TimersWatched.{Known, nothing_yet, learned, watch}
 use Rattle.laws_trace.proofs.States.{is_state, differ}
 use Rattle.laws_trace.proofs.NewsWatched.{Owing, none_owed, owing}
-use Rattle.laws_trace.proofs.CallRuns.{apart}
 use Rattle.laws_trace.proofs.LinkLed.{on-line}
 use Rattle.laws_trace.proofs.LinksMove.{IsCountOf, own-led, moment-counted}
 use Rattle.laws_trace.proofs.MovesOfLink.{Counts}
@@ -19,6 +18,7 @@ use Rattle.laws_trace.proofs.TimersAreTimely.{none-learned, moment-known, begins
 use Rattle.laws_trace.proofs.TimersOfEvent.{IsTrueOf, state-on, off-fresh, off-state}
 use Rattle.laws_trace.proofs.MovesWatched as moves
 use Rattle.laws_trace.proofs.NewsWatched as news
+use Rattle.laws_trace.proofs.Runs.{apart}
 
 -- A state is told where the TEI is on the line.
 shape-of : (x : State) (k : Known) (a s : ℕ) (busy : Bool) → Agrees x k a s busy → Shape x k

@@ -11,6 +11,7 @@ use Rattle.laws_trace.proofs.DeliveriesRun.{IsCount, event-aims, data-noted, no-
 use Rattle.laws_trace.proofs.DeliveriesWatched.{is_information, brings_information}
 use Rattle.laws_trace.proofs.ObservedStanding.{begun_by, begins_by, taken_by, informs}
 use Rattle.laws_trace.proofs.OneLink.{HasNone, Goes, event-goes}
+use Rattle.laws_trace.proofs.Facts.{number-up}
 
 -- The numbers begin anew, by the state before.
 module _ (t : Terms) (f : Parts) where
@@ -64,10 +65,6 @@ size-fits n m = go (nat_le n m) refl (nat_lt m n) refl
 
 module _ (t : Terms) (own : Link) (p : Observed) (is : p.state ≡ state_number own.state) (count_is : is_multiple_frame own.state ≡ true → own.r ≡ p.count)
     (busy_is : is_multiple_frame own.state ≡ true → own.own_busy ≡ p.own_busy) where
-  up-so : (x : State) → is_up (state_number x) ≡ is_multiple_frame x
-  up-so TeiAssigned = refl
-  up-so other = refl
-
   by-bits : (ns : Seq) (info : List ℕ) (n : ℕ) (fit up busy : Bool) → is_some (in_sequence n (cond (fit && up && not busy) (Some (record { ns = ns; contents = info })) None))
       ≡ (up && (fit && (not busy && ns.value == n % 128)))
   by-bits ns info n true true true = refl
@@ -99,7 +96,7 @@ module _ (t : Terms) (own : Link) (p : Observed) (is : p.state ≡ state_number 
       by-bits ns info own.r (nat_le (length info) t.n201) (is_multiple_frame own.state) own.own_busy
       ∙ by-up (is_multiple_frame own.state) refl ns (nat_le (length info) t.n201)
       ∙ ap (λ b. is_multiple_frame own.state && (b && (not p.own_busy && ns.value == p.count % 128))) (size-fits (length info) t.n201)
-      ∙ ap (λ b. b && (not (nat_lt t.n201 (length info)) && (not p.own_busy && ns.value == p.count % 128))) (sym (up-so own.state) ∙ ap is_up (sym is))
+      ∙ ap (λ b. b && (not (nat_lt t.n201 (length info)) && (not p.own_busy && ns.value == p.count % 128))) (sym (number-up own.state) ∙ ap is_up (sym is))
   due-so other info = sym (and-none (is_up p.state) (not (nat_lt t.n201 (length info))))
 
 -- One event of a line, where the TEI is on it.

@@ -1,5 +1,5 @@
 -- What a link gives next is what an observer has it offer.
-use Rattle.laws_trace.proofs.Vocabulary.{◌≡◌, ℕ, zero, suc, ◌+◌, ◌%◌, ◌<◌, ◌≤◌, ◌==◌, ◌&&◌, not, nat_lt, Bool, true, false, cond, List, [], ◌∷◌, drop, length, slice_get, Option, Some, None, refl, sym, ap, ◌∙◌, subst, inl, inr, arith, true≢false, IfSome, and_parts, fold, Service, place_of-is, Information, ReceiveReady, Seq, seq, given-in-order, given-is-offered, IsInOrder, IsOffered, State, Established, ControlFrame, Terms, Link, is_multiple_frame, is_information, state_number, Given, Config, Line, link_of, place_in, terms, window, IsInRange, IsSilent, terms_in_range, line_at, moments, take, map, ◌++◌, ltb-true, lt-ltb, Control, line_frame_of as frame_of, IsSound, fresh, CardEvent as Event, after_all, AreAtLines, is_seq, number_sent, Carries, text, may_go, offers, View, steps, view_of, Outgoing, outgoing_of, is_up}
+use Rattle.laws_trace.proofs.Vocabulary.{◌≡◌, ℕ, zero, suc, ◌+◌, ◌%◌, ◌<◌, ◌≤◌, ◌==◌, ◌&&◌, not, nat_lt, Bool, true, false, cond, List, [], ◌∷◌, drop, length, slice_get, Option, Some, None, refl, sym, ap, ◌∙◌, subst, inl, inr, arith, true≢false, and_parts, fold, Service, place_of-is, Information, ReceiveReady, Seq, seq, given-in-order, given-is-offered, IsInOrder, IsOffered, State, Established, ControlFrame, Terms, Link, is_multiple_frame, is_information, state_number, Given, Config, Line, link_of, place_in, terms, window, IsInRange, IsSilent, terms_in_range, line_at, moments, take, map, ◌++◌, ltb-true, lt-ltb, Control, line_frame_of as frame_of, IsSound, fresh, CardEvent as Event, after_all, AreAtLines, is_seq, number_sent, Carries, text, may_go, offers, View, steps, view_of, Outgoing, outgoing_of, is_up}
 use Rattle.model_link.specs.Events as link
 use Rattle.model_link.specs.Machine as links
 use Rattle.model_link.specs.Sound as link_sound
@@ -17,6 +17,7 @@ use Rattle.laws_trace.proofs.TimerClaims.{IsKnown}
 use Rattle.laws_trace.proofs.TimersAreTimely.{true-now}
 use Rattle.laws_trace.proofs.TimersWatched.{Known, nothing_yet, watch}
 use Rattle.laws_trace.proofs.WaitingNow.{waiting-now}
+use Rattle.laws_trace.proofs.Facts.{some-of, not-so}
 
 -- What a link offers, one after the other.
 abbrev unsent : Outgoing → List (List ℕ)
@@ -83,10 +84,6 @@ some-left [] n x rest is = absurd (no-first (sym (drop-none n) ∙ is))
     no-first e = cc e
 some-left (y ∷ xs) zero x rest is = omega arith
 some-left (y ∷ xs) (suc n) x rest is = let few = some-left xs n x rest is in omega (arith, few)
-
--- What holds of what is there.
-some-of : {X : Type 0} (P : X → Type 0) (o : Option X) (x : X) → o ≡ Some x → IfSome o P → P x
-some-of P o x is h = subst (λ o. IfSome o P) is h
 
 none-numbered : (control : Control) → link_sound.is_information control ≡ false → number_sent control ≡ None
 none-numbered (Information ns nr p) e = absurd (true≢false e)
@@ -207,10 +204,6 @@ module _ (c : Config) (events : List Event) (number : ℕ) (ranged : IsInRange c
         window = omega (arith, whole, few);
         unsent = some-left own.contents own.s contents rest (sym (unsent-is up) ∙ left);
       }
-    where
-      not-so : (b : Bool) → not b ≡ true → b ≡ false
-      not-so true is = absurd (true≢false (sym is))
-      not-so false is = refl
 
   -- where none may go, it is the acknowledgement,
   none-sent : (MayGo t own → ⊥) → sends c service tei o (unsent o) ≡ by_itself c service tei o

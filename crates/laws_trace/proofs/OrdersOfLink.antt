@@ -1,8 +1,9 @@
 -- The orders of a link, among those of an answer.
-use Rattle.laws_trace.proofs.Vocabulary.{◌≡◌, ℕ, ◌==◌, ◌&&◌, Bool, true, false, cond, not, List, [], ◌∷◌, ◌++◌, Option, Some, None, refl, sym, ap, ◌∙◌, filter, filter-append, Service, Call, Packet, Order, Start, Stop, Timer, same_service, Follows, Terms, LinkTimer, Link, is_same, obeyed, runs, timer_at, order_for, orders_for, timer_of, obeyed-append, eq-eqb, T200, T203, is_timer, stop_of, Check, obey, is_timer_of, is_order_of}
+use Rattle.laws_trace.proofs.Vocabulary.{◌≡◌, ℕ, ◌==◌, ◌&&◌, Bool, true, false, cond, not, List, [], ◌∷◌, ◌++◌, Option, Some, None, refl, sym, ap, ◌∙◌, filter, filter-append, Service, Order, Start, Stop, Timer, same_service, Follows, Terms, LinkTimer, Link, is_same, obeyed, runs, timer_at, order_for, orders_for, timer_of, obeyed-append, T200, T203, is_timer, stop_of, Check, obey, is_timer_of, is_order_of}
 use Rattle.lapd_frame.specs.declared.timers.Timer.TheVariants as timers
 use Rattle.model_link.specs.Events as link
 use Rattle.model_link.specs.Machine as links
+use Rattle.laws_trace.proofs.Facts.{its-own}
 
 -- Its orders among others, or none.
 abbrev pub its_orders : Service → ℕ → List Order → List Order
@@ -36,10 +37,6 @@ of-event t service tei d is before started after =
 
 pub other-ordered : (t : Terms) (e : link.Event) (x : Link) (service : Service) (tei : ℕ) → (same_service t.service service && t.tei == tei) ≡ false → its_orders service tei (links.told t e x).orders ≡ []
 other-ordered t e x service tei other = let c = links.course t e x in of-event t service tei false other x.running c.started c.link.running
-
-pub its-own : (service : Service) (tei : ℕ) → (same_service service service && tei == tei) ≡ true
-its-own Call tei = eq-eqb tei tei refl
-its-own Packet tei = eq-eqb tei tei refl
 
 pub own-ordered : (t : Terms) (before started after : Option LinkTimer) → its_orders t.service t.tei (orders_for t before started after) ≡ orders_for t before started after
 own-ordered t before started after = of-event t t.service t.tei true (its-own t.service t.tei) before started after

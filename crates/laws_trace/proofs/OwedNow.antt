@@ -1,5 +1,5 @@
 -- A link owes an acknowledgement where an observer has it so.
-use Rattle.laws_trace.proofs.Vocabulary.{◌≡◌, ℕ, ◌<◌, ◌==◌, ◌&&◌, ◌||◌, not, Bool, true, false, cond, List, [], ◌++◌, get_or, Some, None, refl, sym, ap, ◌∙◌, subst, arith, eq-eqb, fold, and_parts, list_any, option_map_or, get_or-set_same, PoolFull, Service, ControlFrame, Link, is_multiple_frame, state_number, Config, Answer, refused, Line, fresh_line, has_tei, link_of, place_in, state_of, IsInRange, notes_of, is_data_of, Card, line_at, is_full, at, moments, has_lines, by_room, line_sound, AllHaveTheirTimers, fresh, CardEvent as Event, Moment, after_all, IsAtLine, AreAtLines, put_in, is_frame_of, managing_is_on as is_on, Observed, View, views, view_of, moment_of, view_behind, Outgoing, outgoing_of, is_empty, still_owes, trace_frame_in as frame_in, is_up, Seen, seen, trace_of}
+use Rattle.laws_trace.proofs.Vocabulary.{◌≡◌, ℕ, ◌<◌, ◌==◌, ◌&&◌, ◌||◌, not, Bool, true, false, cond, List, [], ◌++◌, get_or, Some, None, refl, sym, ap, ◌∙◌, subst, arith, eq-eqb, fold, and_parts, list_any, option_map_or, get_or-set_same, PoolFull, Service, ControlFrame, Link, is_multiple_frame, state_number, Config, Answer, refused, Line, fresh_line, has_tei, link_of, place_in, state_of, IsInRange, notes_of, is_data_of, Card, line_at, is_full, at, moments, has_lines, by_room, line_sound, AllHaveTheirTimers, fresh, CardEvent as Event, Moment, after_all, IsAtLine, AreAtLines, put_in, is_frame_of, managing_is_on as is_on, Observed, View, views, view_of, moment_of, view_behind, Outgoing, outgoing_of, is_empty, still_owes, trace_frame_in as frame_in, is_up, Seen, seen, trace_of, and-false}
 use Rattle.model_line.specs.Event as line_event
 use Rattle.model_line.specs.Machine as lines
 use Rattle.model_card.specs.Event as card
@@ -19,7 +19,7 @@ use Rattle.laws_trace.proofs.NewsWatched as news
 use Rattle.laws_trace.proofs.NewsWatched.{none_owed, owing}
 use Rattle.laws_trace.proofs.ObservedAcknowledged.{agrees-now}
 use Rattle.laws_trace.proofs.ObservedControlsMoment.{puts-by}
-use Rattle.laws_trace.proofs.ObservedControlsSeen.{none-mapped, not-one}
+use Rattle.laws_trace.proofs.ObservedControlsSeen.{none-mapped}
 use Rattle.laws_trace.proofs.ObservedRun.{holds-now, known-is}
 use Rattle.laws_trace.proofs.Outgoing.{comes, its, behind_of, here-at, has-now}
 use Rattle.laws_trace.proofs.OwedAtLine.{Owed, stays-owed, event-pends}
@@ -32,10 +32,7 @@ use Rattle.laws_trace.proofs.States.{expired_of, one_more, differ}
 use Rattle.laws_trace.proofs.TimersAreTimely.{config-now, sound-now, timely-now}
 use Rattle.laws_trace.proofs.TimersWatched.{nothing_yet as known_first, watch}
 use Rattle.laws_trace.proofs.WaitingNow.{waits-stay}
-
-and-none : (b : Bool) → (b && false) ≡ false
-and-none true = refl
-and-none false = refl
+use Rattle.laws_trace.proofs.Facts.{not-one}
 
 -- An event of a line of a card.
 module _ (service : Service) (tei n : ℕ) (busy rejected : Bool) where
@@ -67,7 +64,7 @@ module _ (service : Service) (tei n : ℕ) (busy rejected : Bool) where
   idle c l what why none silent stands no-time was-on is-on =
       let own = link_of service tei l in
       stays-owed (up l) own.pending stands.pends_up
-      ∙ ap (λ b. Owed (up l) (up l) [] b (own.pending || false)) (sym (and-none (is_empty own.waiting)))
+      ∙ ap (λ b. Owed (up l) (up l) [] b (own.pending || false)) (sym (and-false (is_empty own.waiting)))
       ∙ ap (λ fs. Owed (up l) (up l) [] (is_empty own.waiting && list_any (is_frame_of c service tei) fs) (own.pending || false)) (sym none)
       ∙ ap (λ ns. Owed (up l) (up l) [] (is_empty own.waiting && list_any (is_frame_of c service tei) (frame_in why)) (own.pending || list_any (is_data_of service tei) ns)) (sym silent)
       ∙ ap (λ puts. Owed (up l) (up l) puts (is_empty own.waiting && list_any (is_frame_of c service tei) (frame_in why)) (own.pending || list_any (is_data_of service tei) (notes_of why))) (sym (no-put c l what no-time))

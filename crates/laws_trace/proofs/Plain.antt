@@ -1,5 +1,5 @@
 -- All that waits on a link are control frames: neither I-frames nor UI.
-use Rattle.laws_trace.proofs.Vocabulary.{◌≡◌, ℕ, ◌<◌, Bool, true, false, List, [], ◌∷◌, Some, refl, sym, ap, subst, arith, true≢false, All, option_map_or, get_or-replicate, All-nil, All-cons, All-head, All-tail, Information, Ui, Service, place_of-is, at-within, ControlFrame, Link, Config, Line, fresh_line, link_in, link_number, link_of, place_in, terms, number_within, IsInRange, line_at, fresh_is_sound, Control, fresh_link, fresh, CardEvent as Event, after_all, AreAtLines, is_ui}
+use Rattle.laws_trace.proofs.Vocabulary.{◌≡◌, ℕ, ◌<◌, Bool, false, List, [], ◌∷◌, Some, refl, sym, ap, subst, arith, All, option_map_or, get_or-replicate, All-nil, All-cons, All-head, All-tail, Information, Ui, Service, place_of-is, at-within, ControlFrame, Link, Config, Line, fresh_line, link_in, link_number, link_of, place_in, terms, number_within, IsInRange, line_at, fresh_is_sound, Control, fresh_link, fresh, CardEvent as Event, after_all, AreAtLines, is_ui}
 use Rattle.model_link.specs.Sound as link_sound
 use Rattle.laws_trace.proofs.ControlsWatched.{control_in}
 use Rattle.laws_trace.proofs.LineAtEnd.{link-at-end, line-at-end}
@@ -8,14 +8,12 @@ use Rattle.laws_trace.proofs.ControlsDue.{IsControl, all-controls}
 use Rattle.laws_trace.proofs.NoUi.{IsPlain}
 use Rattle.laws_trace.proofs.Runs.{run-shows}
 use Rattle.laws_trace.proofs.Units.{NoneWaits, fresh-none, Passes, rests, joins, steps}
-
-no : {A : Type 0} → false ≡ true → A
-no e = absurd (true≢false (sym e))
+use Rattle.laws_trace.proofs.Facts.{never}
 
 pub control-of : (command : Bool) (control : Control) → is_ui control ≡ false → link_sound.is_information control ≡ false
     → control_in command control ≡ record { command = command; control = control } ∷ []
-control-of command (Information ns nr p) plain bare = no (sym bare)
-control-of command (Ui p) plain bare = no (sym plain)
+control-of command (Information ns nr p) plain bare = never (sym bare)
+control-of command (Ui p) plain bare = never (sym plain)
 control-of command other plain bare = refl
 
 module _ (c : Config) (events : List Event) (number : ℕ) (ranged : IsInRange c) (all : AreAtLines (fresh c) events) (within : number < c.lines) (service : Service) (tei place : ℕ)

@@ -1,5 +1,7 @@
 -- Which frames that a line begins are unit data.
-use Rattle.laws_trace.proofs.Vocabulary.{◌≡◌, ℕ, ◌+◌, ◌*◌, ◌++◌, ◌<◌, ◌≤◌, ◌==◌, ◌&&◌, Bool, true, false, cond, List, length, drop, slice_index, refl, sym, ap, ◌∙◌, subst, Result, Ok, Err, Some, arith, not, Address, Side, Ui, ReadFault, BadExtension, Undefined, WrongSize, Short, Service, Call, Packet, is_short, has_bad_extension, Parts, cr_bit, allows, takes, row, spelling, address_of, checked, header_of, start_of, completed, reading, sapi_of, address-again, control-again, reading-again, Config, UnitData, management_sapi, unit_frame, option_map_or, Control, result_ok, is_ui, is_unit}
+use Rattle.laws_trace.proofs.Vocabulary.{◌≡◌, ℕ, ◌≤◌, ◌==◌, ◌&&◌, Bool, true, false, List, refl, ap, ◌∙◌, Result, arith, not, Address, Side, Ui, ReadFault, Service, Call, Packet, Parts, spelling, sapi_of, reading-again, Config, UnitData, management_sapi, unit_frame, option_map_or, Control, result_ok, is_ui, is_unit}
+use Rattle.laws_trace.proofs.Facts.{small-sapi}
+use Rattle.laws_trace.proofs.ReadAgain.{read-again}
 
 abbrev pub carries_unit : Result Parts ReadFault → Bool
 carries_unit r = option_map_or (λ (f : Parts). is_ui f.control && not (f.address.sapi == management_sapi)) (result_ok r) false
@@ -13,10 +15,6 @@ other-frame side a c other info = read-again side (λ r. carries_unit r ≡ fals
 by-service : (service : Service) → not (sapi_of service == management_sapi) ≡ true
 by-service Call = refl
 by-service Packet = refl
-
-small-sapi : (service : Service) → sapi_of service < 64
-small-sapi Call = omega arith
-small-sapi Packet = omega arith
 
 pub unit-is : (c : Config) (u : UnitData) → u.tei ≤ 127 → is_unit c.side (unit_frame c u) ≡ true
 unit-is c u small =

@@ -10,6 +10,12 @@ unfolding lines.takes_slot
 nothing-seen c (line_event.request r) l takes = refl
 nothing-seen c other l takes = absurd (true≢false (sym takes))
 
+-- An event of one line leaves the others as they are.
+pub apart : (card : Card) (e : Event) (other : ℕ) → other ≢ e.line → line_at other (after e card) ≡ line_at other card
+apart card e other away =
+    by_room (λ ls a. get_or ls other (fresh_line card.config) ≡ line_at other card) e card (λ full. refl)
+    (λ room. get_or-set_other card.lines e.line other (lines.after card.config e.what (line_at e.line card)) (fresh_line card.config) away)
+
 -- An invariant of lines, and what a trace is to the line before it and the one after it.
 module _ (Stands : Config → Line → Type 0) (Shows : Config → Line → List Seen → Line → Type 0)
     (rests : (c : Config) (l : Line) → Shows c l [] l)
@@ -33,11 +39,6 @@ module _ (Stands : Config → Line → Type 0) (Shows : Config → Line → List
       subst (λ (x : Line). Both c l (seen e.what (lines.answer c e.what l)) x)
       (sym (get_or-set_same card.lines e.line (lines.after c e.what l) (fresh_line c) (omega (arith, s.count, here))))
       (steps c s.config e.what l (line_sound card e.line (has_lines card s) here) stands))
-
-  apart : (card : Card) (e : Event) (other : ℕ) → other ≢ e.line → line_at other (after e card) ≡ line_at other card
-  apart card e other away =
-      by_room (λ ls a. get_or ls other (fresh_line card.config) ≡ line_at other card) e card (λ full. refl)
-      (λ room. get_or-set_other card.lines e.line other (lines.after card.config e.what (line_at e.line card)) (fresh_line card.config) away)
 
   moment : (card : Card) (e : Event) (number : ℕ) → IsSound card → IsAtLine card e → Stands card.config (line_at number card)
       → (b : Bool) → (e.line == number) ≡ b

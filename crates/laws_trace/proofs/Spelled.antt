@@ -1,5 +1,5 @@
 -- Each frame that begins on a line is one that the grammar has, of a service or of TEI management: the law.
-use Rattle.laws_trace.proofs.Vocabulary.{◌≡◌, ◌<◌, ◌≤◌, true, false, List, [], ◌∷◌, ◌++◌, slice_get, Option, Some, None, IfSome, option_map, refl, sym, subst, arith, All, option_or, flat_map-append, All-nil, All-cons, All-head, All-append, Service, Call, Packet, Parts, Spells, Ui, sapi_of, Message, address_at, IsGiven, Given, Terms, given_is_frame, Config, request, next, gave, Line, UnitData, service_at, place_at, terms, link_at, Taken, with_unit, unit_frame, first_taken, round, taken, next_of, IsInRange, IsSoundAt, IsUnitData, round_below, terms_in_range, OfLink, of-links, fresh_is_sound, Card, ℕ, moments, unwrap_or, information_of, message_frame, Event, line_after as after, answer, with_message, line_frame_of as frame_of, IsSound, fresh, is_of_use, IsSpelled, FramesAreRead, AreAtLines, trace_frame_in as frame_in, Seen, seen, trace, frames_begun, Always}
+use Rattle.laws_trace.proofs.Vocabulary.{◌≡◌, ◌≤◌, true, false, List, [], ◌∷◌, ◌++◌, slice_get, Option, Some, None, IfSome, option_map, refl, sym, subst, arith, All, option_or, flat_map-append, All-nil, All-cons, All-head, All-append, Service, Call, Packet, Parts, Spells, Ui, sapi_of, Message, address_at, IsGiven, Given, Terms, given_is_frame, Config, request, next, gave, Line, UnitData, service_at, place_at, terms, link_at, Taken, with_unit, unit_frame, first_taken, round, taken, next_of, IsInRange, IsSoundAt, IsUnitData, round_below, terms_in_range, OfLink, of-links, fresh_is_sound, Card, ℕ, moments, unwrap_or, information_of, message_frame, Event, line_after as after, answer, with_message, line_frame_of as frame_of, IsSound, fresh, is_of_use, IsSpelled, FramesAreRead, AreAtLines, trace_frame_in as frame_in, Seen, seen, trace, frames_begun, Always}
 use Rattle.model_link.specs.Machine as links
 use Rattle.model_link.specs.Sound as link_sound
 use Rattle.model_card.specs.Event as card_event
@@ -7,10 +7,7 @@ use Rattle.model_card.specs.Sound as card_sound
 use Rattle.laws_trace.proofs.Runs.{run-shows}
 use Rattle.laws_trace.proofs.Units.{given-frames, none-told, none-requested}
 use Rattle.laws_trace.specs.Trace as traces
-
-small-sapi : (service : Service) → sapi_of service < 64
-small-sapi Call = omega arith
-small-sapi Packet = omega arith
+use Rattle.laws_trace.proofs.Facts.{small-sapi}
 
 of-a-service : (service : Service) → is_of_use (sapi_of service) ≡ true
 of-a-service Call = refl

@@ -12,9 +12,7 @@ use Rattle.laws_trace.proofs.Deliveries.{frame_by, brings-frame, brings-none, on
 use Rattle.laws_trace.proofs.DeliveriesRun.{IsCount, event-aims, data-noted, event-told, no-data, ended-notes}
 use Rattle.laws_trace.proofs.OneLink.{HasOne, HasNone, Goes, is_at_link, event-goes}
 use Rattle.laws_trace.proofs.StandingOfLink.{quiet, calm, IsStanding, brings, busy_behind, rejected_behind, link-stands, delivers-free}
-
-no : {A : Type 0} → false ≡ true → A
-no e = absurd (true≢false (sym e))
+use Rattle.laws_trace.proofs.Facts.{never}
 
 module _ (service : Service) (tei : ℕ) where
   abbrev pub granted_busy : Request → Answer → Bool → Bool
@@ -99,7 +97,7 @@ module _ (service : Service) (tei : ℕ) where
     asked-by link.SetBusy full (told t) busy g = ap (λ b. b || busy) own-true
     asked-by link.ClearBusy full (told t) busy g = ap (λ b. not b && busy) own-true
     asked-by other full (told t) busy g = refl
-    asked-by what full other busy g = no g
+    asked-by what full other busy g = never g
 
     asked-is : (le : link.Event) (busy : Bool) → IsBy c e a service tei le → asked_busy e a busy ≡ flags.busy_asked le busy
     asked-is (link.received (link.frame f)) busy by = ap (λ e. asked_busy e a busy) by.by
@@ -200,12 +198,12 @@ module _ (service : Service) (tei : ℕ) where
     anew-stands new =
         subst Stands (sym new)
         (record {
-          busy_is = λ up. no up;
-          rejected_is = λ up. no up;
-          not_busy = λ at. no at;
-          not_rejecting = λ at. no at;
-          pends_up = λ is. no is;
-          pends_free = λ is. no is;
+          busy_is = λ up. never up;
+          rejected_is = λ up. never up;
+          not_busy = λ at. never at;
+          not_rejecting = λ at. never at;
+          pends_up = λ is. never is;
+          pends_free = λ is. never is;
         })
 
     module _ (x : HasNone c service tei e l (after c e l) a) where
@@ -276,10 +274,10 @@ module _ (service : Service) (tei : ℕ) where
 
 pub fresh-stands : IsStanding fresh false false
 fresh-stands = record {
-  busy_is = λ up. no up;
-  rejected_is = λ up. no up;
-  not_busy = λ at. no at;
-  not_rejecting = λ at. no at;
-  pends_up = λ is. no is;
-  pends_free = λ is. no is;
+  busy_is = λ up. never up;
+  rejected_is = λ up. never up;
+  not_busy = λ at. never at;
+  not_rejecting = λ at. never at;
+  pends_up = λ is. never is;
+  pends_free = λ is. never is;
 }

@@ -4,11 +4,11 @@ use Rattle.model_line.specs.Event as line_event
 use Rattle.model_line.specs.Request as request
 use Rattle.model_line.specs.Machine as lines
 use Rattle.model_card.specs.Sound as card_sound
-use Rattle.laws_trace.proofs.CallRuns.{apart}
 use Rattle.laws_trace.proofs.Follows.{Follows}
 use Rattle.laws_trace.proofs.FollowsLine.{Shows, none-granted}
 use Rattle.laws_trace.proofs.FollowsRequests.{event-shows}
 use Rattle.laws_trace.proofs.ManagingTables.{none-on}
+use Rattle.laws_trace.proofs.Runs.{apart}
 
 -- A request that finds the pool full shows nothing, and is none of management.
 abbrev Answers : Config → Line → Managed → line_event.Event → Answer → Line → Type 0

@@ -1,5 +1,5 @@
 -- What is known of a link, and what is heard of it: one event of a line.
-use Rattle.laws_trace.proofs.Vocabulary.{◌≡◌, List, [], ◌∷◌, ℕ, ◌||◌, Bool, true, false, ◌++◌, map, Option, Some, None, option_map, refl, ap, ◌∙◌, fold, list_any, option_map_or, Service, Config, hears, expiry, request, next, NextFrame, Answer, gave, Line, taken, next_of, Control, Event, told, answer, Request, frame_of as frame_heard, trace_frame_in as frame_in, seen, seen_told, seen_granted}
+use Rattle.laws_trace.proofs.Vocabulary.{◌≡◌, List, [], ◌∷◌, ℕ, ◌||◌, Bool, false, ◌++◌, map, Option, Some, None, option_map, refl, ap, ◌∙◌, fold, list_any, option_map_or, Service, Config, hears, expiry, request, next, NextFrame, Answer, gave, Line, taken, next_of, Control, Event, told, answer, Request, frame_of as frame_heard, trace_frame_in as frame_in, seen, seen_told, seen_granted, or-false}
 use Rattle.laws_trace.proofs.TimersWatched.{Sent, Known, listens, sends, control_in, learns, brings}
 use Rattle.laws_trace.proofs.DataGoesOut.{sent_with}
 use Rattle.laws_trace.proofs.Deliveries.{frame_by}
@@ -38,10 +38,6 @@ module _ (c : Config) (service : Service) (tei : ℕ) (which : Control → Bool)
   told-brings : (a : Answer) → list_any (brings which c service tei) (seen_told a) ≡ false
   told-brings (told t) = refl
   told-brings other = refl
-
-  or-false : (b : Bool) → (b || false) ≡ b
-  or-false true = refl
-  or-false false = refl
 
   asked-brings : (asked : Request) (a : Answer) → list_any (brings which c service tei) (seen_granted asked a ++ seen_told a) ≡ false
   asked-brings asked (told t) = refl

@@ -1,6 +1,7 @@
 -- Links take turns: over runs of a card of which a line is only called for its next frame.
-use Rattle.laws_trace.proofs.Vocabulary.{◌≡◌, ℕ, ◌+◌, ◌*◌, ◌/◌, ◌<◌, ◌≤◌, Bool, true, false, cond, List, ◌++◌, length, drop, slice_index, Some, Result, Ok, Err, refl, sym, ap, ◌∙◌, subst, arith, not, Address, Side, User, Network, Ui, ReadFault, BadExtension, Undefined, WrongSize, Short, is_short, has_bad_extension, Parts, cr_bit, allows, takes, row, spelling, address_of, checked, header_of, start_of, completed, reading, address-again, control-again, reading-again, option_map_or, Control, is_ui, result_ok}
+use Rattle.laws_trace.proofs.Vocabulary.{◌≡◌, ℕ, ◌+◌, ◌*◌, ◌/◌, ◌<◌, ◌≤◌, Bool, true, false, List, Result, refl, ap, ◌∙◌, arith, not, Address, Side, User, Network, Ui, ReadFault, Parts, cr_bit, spelling, reading-again, option_map_or, Control, is_ui, result_ok}
 use Rattle.laws_trace.proofs.LinkNames.{named_in, is_of_a_link}
+use Rattle.laws_trace.proofs.ReadAgain.{read-again}
 
 abbrev is_no_ui : Result Parts ReadFault → Bool
 is_no_ui r = not (option_map_or (λ (f : Parts). is_ui f.control) (result_ok r) false)

@@ -6,8 +6,8 @@ use Rattle.lapd_tei.proofs.LawLemmas as tei_lemmas
 use Rattle.model_line.specs.Event as line_event
 use Rattle.model_line.specs.Machine as lines
 use Rattle.model_card.specs.Sound as card_sound
-use Rattle.laws_trace.proofs.CallRuns.{apart}
 use Rattle.laws_trace.proofs.ManagingTables.{clear-same}
+use Rattle.laws_trace.proofs.Runs.{apart}
 
 module _ (c : Config) (ranged : IsInRange c) (l : Line) (s : IsSound c l) (p tei : ℕ) (at : get_or l.management.places p None ≡ Some tei) where
   abbrev pub Keeps : Line → Type 0

@@ -1,5 +1,7 @@
 -- The words of std and of the crates below with which the proofs of this crate speak, from where they are defined.
 pub use Rattle.std.proofs.Common.{All, Bool, Err, IfSome, IsTrue, List, None, Ok, Option, Result, Some, [], ap, append-nil, append_assoc, arith, cond, drop, eq-eqb, eqb-true, false, filter, get_or, inl, inr, is_some, length, length-append, map, max, nat_le, not, option_map, refl, replicate, set, slice_get, slice_index, subst, suc, sym, take, true, true≢false, zero, ℕ, ⊎_elim, ◌%◌, ◌&&◌, ◌*◌, ◌++◌, ◌+◌, ◌-◌, ◌/◌, ◌<◌, ◌==◌, ◌||◌, ◌∙◌, ◌∷◌, ◌≡◌, ◌≢◌, ◌≤◌, ◌⊎◌}
+pub use Rattle.std.proofs.Math.Bool.{and-true, or-false, or-true, or_comm}
+pub use Rattle.std.proofs.Math.Seq.{drop-nil}
 pub use Rattle.std.proofs.lemmas.Bool.{and_parts, and_right, eqb-false, le-leb, le-ltb, leb-false, leb-true, lt-ltb, ltb-false, ltb-true, or_from, or_parts, or_right}
 pub use Rattle.std.proofs.lemmas.Grind.{flat_map-append}
 pub use Rattle.std.proofs.lemmas.List.{get_or-replicate, get_or-set_other, get_or-set_same, length-drop, length-replicate, map-append}
@@ -69,7 +71,7 @@ pub use Rattle.lapd_tei.specs.declared.remembered.Remembered.{Remembered}
 pub use Rattle.laws_line.proofs.Asked.{link-grants, passed}
 pub use Rattle.laws_line.proofs.Bounds.{to-go-few}
 pub use Rattle.laws_line.proofs.Downs.{by-down}
-pub use Rattle.laws_line.proofs.Following.{some-same}
+pub use Rattle.laws_line.proofs.Following.{and-false, some-same}
 pub use Rattle.laws_line.proofs.Granting.{not-refused}
 pub use Rattle.laws_line.proofs.Grouping.{group-read}
 pub use Rattle.laws_line.proofs.HandedOn.{contents-heard, own-all}

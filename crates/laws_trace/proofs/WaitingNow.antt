@@ -15,7 +15,6 @@ use Rattle.laws_trace.proofs.NewsWatched as news
 use Rattle.laws_trace.proofs.NewsWatched.{none_owed, owing}
 use Rattle.laws_trace.proofs.ObservedAcknowledged.{agrees-now}
 use Rattle.laws_trace.proofs.ObservedControlsMoment.{due-same}
-use Rattle.laws_trace.proofs.ObservedControlsSeen.{not-one}
 use Rattle.laws_trace.proofs.SeenAs.{seen-before}
 use Rattle.laws_trace.proofs.Standing.{standing}
 use Rattle.laws_trace.proofs.StandingOfLink.{calm}
@@ -24,6 +23,7 @@ use Rattle.laws_trace.proofs.Outgoing.{comes, its, behind_of, here-at, has-now}
 use Rattle.laws_trace.proofs.LinkLed.{on-line}
 use Rattle.laws_trace.proofs.ObservedRun.{holds-now, known-is}
 use Rattle.laws_trace.proofs.TimersAreTimely.{config-now, sound-now, timely-now}
+use Rattle.laws_trace.proofs.Facts.{not-one}
 
 module _ (c : Config) (number : ℕ) (ranged : IsInRange c) (within : number < c.lines) (service : Service) (tei : ℕ) where
   abbrev line_of : List Event → Line

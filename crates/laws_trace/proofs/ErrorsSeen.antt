@@ -1,5 +1,5 @@
 -- What is wrong with what is seen of a link: one event of its line.
-use Rattle.laws_trace.proofs.Vocabulary.{◌≡◌, ℕ, ◌==◌, ◌&&◌, Bool, true, false, cond, List, [], ◌∷◌, ◌++◌, Option, Some, None, Result, Ok, Err, refl, sym, ap, ◌∙◌, subst, true≢false, ◌⊎◌, inl, inr, append-nil, option_to_list, option_map_or, Unserved, Address, ReadFault, Undefined, WrongSize, ErrorCode, Long, Service, Parts, reading, long_reading, Config, hears, expiry, Answer, heard_side, aim_of_heard, aim_of_reading, aim_of_long, drop_for, Line, place_in, terms, aim_of, IsMalformed, IsTooLong, IsBy, BringsMalformed, nat_lt, length, eqb-true, Event, option_and_then, result_ok, result_err, frame_of, its_frame, is_for, faulty_long, malformed, fault_of, wrong_frame, given_up, wrong, is_up}
+use Rattle.laws_trace.proofs.Vocabulary.{◌≡◌, ℕ, ◌==◌, ◌&&◌, Bool, true, false, cond, List, [], ◌∷◌, ◌++◌, Option, Some, None, Result, Ok, Err, refl, sym, ap, ◌∙◌, subst, true≢false, ◌⊎◌, inl, inr, append-nil, option_to_list, option_map_or, Unserved, Address, ReadFault, Undefined, WrongSize, ErrorCode, Long, Service, Parts, reading, long_reading, Config, hears, expiry, Answer, heard_side, aim_of_heard, aim_of_reading, aim_of_long, drop_for, Line, place_in, terms, aim_of, IsMalformed, IsTooLong, IsBy, BringsMalformed, nat_lt, length, eqb-true, Event, option_and_then, result_ok, result_err, frame_of, its_frame, is_for, faulty_long, malformed, fault_of, wrong_frame, given_up, wrong, is_up, and-false}
 use Rattle.model_bits.specs.Stream as stream
 use Rattle.lapd_frame.specs.declared.notes.ErrorCode.TheVariants as code
 use Rattle.lapd_frame.specs.declared.overlong.Long.TheVariants as long
@@ -18,14 +18,7 @@ none-given-up : (n m : ℕ) → (n ≡ m) ⊎ (m ≡ 1) → given_up n m ≡ []
 none-given-up n m (inr off) = ap (given_up n) off ∙ go (n == 5) (n == 6) (n == 8)
   where
     go : (a b c : Bool) → cond (a && false) (code.G ∷ []) (cond (b && false) (code.H ∷ []) (cond (c && false) (code.I ∷ []) [])) ≡ []
-    go true true true = refl
-    go true true false = refl
-    go true false true = refl
-    go true false false = refl
-    go false true true = refl
-    go false true false = refl
-    go false false true = refl
-    go false false false = refl
+    go a b c = rw (and-false a, and-false b, and-false c) refl
 none-given-up n m (inl same) = ap (given_up n) (sym same) ∙ go (n == 5) refl (n == 6) refl (n == 8) refl
   where
     go : (a : Bool) → (n == 5) ≡ a → (b : Bool) → (n == 6) ≡ b → (c : Bool) → (n == 8) ≡ c → given_up n n ≡ []

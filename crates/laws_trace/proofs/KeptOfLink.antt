@@ -10,19 +10,13 @@ keeps-up : (here : State) (command : Bool) (ct : Control) (nr : Seq) → receipt
 keeps-up TeiAssigned command ct nr is up = absurd (true≢false (sym up))
 keeps-up AwaitingEstablishment command ct nr is up = absurd (true≢false (sym up))
 keeps-up AwaitingRelease command ct nr is up = absurd (true≢false (sym up))
-keeps-up Established command (ReceiveReady n pf) nr is up = refl
-keeps-up Established command (ReceiveNotReady n pf) nr is up = refl
-keeps-up Established command (Reject n pf) nr is up = refl
-keeps-up other command (Information ns n p) nr is up = refl
-keeps-up TimerRecovery true (ReceiveReady n pf) nr is up = refl
 keeps-up TimerRecovery false (ReceiveReady n true) nr is up = refl
-keeps-up TimerRecovery false (ReceiveReady n false) nr is up = refl
-keeps-up TimerRecovery true (ReceiveNotReady n pf) nr is up = refl
 keeps-up TimerRecovery false (ReceiveNotReady n true) nr is up = refl
-keeps-up TimerRecovery false (ReceiveNotReady n false) nr is up = refl
-keeps-up TimerRecovery true (Reject n pf) nr is up = refl
 keeps-up TimerRecovery false (Reject n true) nr is up = refl
-keeps-up TimerRecovery false (Reject n false) nr is up = refl
+keeps-up other command (ReceiveReady n pf) nr is up = refl
+keeps-up other command (ReceiveNotReady n pf) nr is up = refl
+keeps-up other command (Reject n pf) nr is up = refl
+keeps-up other command (Information ns n p) nr is up = refl
 keeps-up here command other nr is up = absurd (none-some nr is)
 
 ua-goes-on : (t : Terms) (k : Link) (here : State) → is_multiple_frame here ≡ true → (command f : Bool) (info : List ℕ) → (frame_in here t command info (Ua f) (begun k)).zeroed ≡ true → ⊥

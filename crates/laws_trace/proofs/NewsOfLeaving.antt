@@ -192,25 +192,13 @@ leaving-due service tei c e l s place on off was outstanding =
 -- No request to release a link takes its TEI off the line.
 pub none-released : (service : Service) (tei : ℕ) (c : Config) (e : Event) (l : Line) → has_tei tei l ≡ true → has_tei tei (after c e l) ≡ false → (a : Answer) → releases service tei e a ≡ false
 unfolding after
-none-released service tei c (hears what) l on off a = refl
-none-released service tei c (expiry timer) l on off a = refl
-none-released service tei c next l on off a = refl
-none-released service tei c (request (Establish its by)) l on off a = refl
-none-released service tei c (request (Data its by contents)) l on off a = refl
-none-released service tei c (request (Request.Unit its by contents)) l on off a = refl
-none-released service tei c (request (Assign by)) l on off a = refl
-none-released service tei c (request (Remove by)) l on off a = refl
-none-released service tei c (request (Check by)) l on off a = refl
-none-released service tei c (request (SetBusy its by)) l on off a = refl
-none-released service tei c (request (ClearBusy its by)) l on off a = refl
-none-released service tei c (request (Deactivate its by)) l on off a = refl
-none-released service tei c (request Down) l on off a = refl
 none-released service tei c (request (Release its by)) l on off a = go (refusal c false (Release its by) l) (place_in l by) off
   where
     go : (why : Option Refusal) (o : Option ℕ) → has_tei tei (of_aim c (unless_refused why (at_requested its by link.Release o)) l).line ≡ false → releases service tei (request (Release its by)) a ≡ false
     go (Some why) o off = absurd (true≢false (sym on ∙ off))
     go None None off = absurd (true≢false (sym on ∙ off))
     go None (Some place) off = absurd (true≢false (sym on ∙ off))
+none-released service tei c other l on off a = refl
 
 -- An event of a link keeps its TEI on the line.
 pub one-stays : (service : Service) (tei : ℕ) (c : Config) (e : Event) (l : Line) → IsSound c l → has_tei tei l ≡ true → (place : ℕ) (event : link.Event)

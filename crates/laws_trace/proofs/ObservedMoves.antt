@@ -21,8 +21,6 @@ Frame x k long command control =
 in_4 : (long command : Bool) (control : Control) → Frame TeiAssigned nothing_yet long command control
 in_4 long command (Ua true) o = record { state_is = refl; known_is = refl; asks = tt; owes = tt; counts = tt }
 in_4 long command (Dm true) o = record { state_is = refl; known_is = refl; asks = tt; owes = tt; counts = tt }
-in_4 long command (Ua false) o = record { state_is = refl; known_is = refl; asks = tt; owes = tt; counts = tt }
-in_4 long command (Dm false) o = record { state_is = refl; known_is = refl; asks = tt; owes = tt; counts = tt }
 in_4 long command other o = record { state_is = refl; known_is = refl; asks = tt; owes = tt; counts = tt }
 
 -- In state 5.
@@ -105,8 +103,6 @@ module _ (k : Known) where
   in_7 long command (Reject nr f) o = reject_7 nr f (moves.is_invalid k nr) (not command && f) o
   in_7 long command (Frmr f) o = record { state_is = refl; known_is = refl; asks = refl; owes = refl; counts = refl }
   in_7 long command (Ua true) o = record { state_is = refl; known_is = refl; asks = tt; owes = tt; counts = tt }
-  in_7 long command (Ua false) o = record { state_is = refl; known_is = refl; asks = tt; owes = tt; counts = tt }
-  in_7 long command (Dm true) o = record { state_is = refl; known_is = refl; asks = tt; owes = tt; counts = tt }
   in_7 long command (Dm false) o = record { state_is = refl; known_is = refl; asks = refl; owes = refl; counts = refl }
   in_7 long command other o = record { state_is = refl; known_is = refl; asks = tt; owes = tt; counts = tt }
 

@@ -142,17 +142,17 @@ module _ (t : Terms) (k : Known) (ran : LinkTimer → Bool) (l : Link) where
         let final = MultipleFrame.is_final b p in
         moved TimerRecovery (Some (ReceiveReady nr p)) (Machine.frame_in TimerRecovery t b octets (ReceiveReady nr p)) (acts.supervises false nr (acts.recovers T203 final))
         (acts.supervisory-acts t (eight.particulars_in_8 t) false b p nr (eight.acknowledged_in_8 T203) (acts.recovers T203 final) solicited (acts.recovers-acts t T203 final))
-        (claims.ready-8 k ran l.a l.s l.peer_busy l.running facts.0 facts.1 final nr p)
+        (claims.supervised-8 k ran l.a l.s l.peer_busy l.running facts.0 facts.1 false T203 (Some (ReceiveReady nr p)) nr refl refl final)
     in-8 b octets (ReceiveNotReady nr p) =
         let final = MultipleFrame.is_final b p in
         moved TimerRecovery (Some (ReceiveNotReady nr p)) (Machine.frame_in TimerRecovery t b octets (ReceiveNotReady nr p)) (acts.supervises true nr (acts.recovers T200 final))
         (acts.supervisory-acts t (eight.particulars_in_8 t) true b p nr (eight.acknowledged_in_8 T200) (acts.recovers T200 final) solicited (acts.recovers-acts t T200 final))
-        (claims.not-ready-8 k ran l.a l.s l.peer_busy l.running facts.0 facts.1 final nr p)
+        (claims.supervised-8 k ran l.a l.s l.peer_busy l.running facts.0 facts.1 true T200 (Some (ReceiveNotReady nr p)) nr refl refl final)
     in-8 b octets (Reject nr p) =
         let final = MultipleFrame.is_final b p in
         moved TimerRecovery (Some (Reject nr p)) (Machine.frame_in TimerRecovery t b octets (Reject nr p)) (acts.supervises false nr (acts.recovers T203 final))
         (acts.supervisory-acts t (eight.particulars_in_8 t) false b p nr (eight.acknowledged_in_8 T203) (acts.recovers T203 final) solicited (acts.recovers-acts t T203 final))
-        (claims.reject-8 k ran l.a l.s l.peer_busy l.running facts.0 facts.1 final nr p)
+        (claims.supervised-8 k ran l.a l.s l.peer_busy l.running facts.0 facts.1 false T203 (Some (Reject nr p)) nr refl refl final)
     in-8 b octets (Sabme p) =
         moved TimerRecovery (Some (Sabme p)) (Machine.frame_in TimerRecovery t b octets (Sabme p)) (λ x. acts.with_busy false (acts.begins x)) (acts.sabme-acts t p)
         (claims.sabme-8 k ran l.a l.s l.peer_busy l.running facts.0 facts.1 p)

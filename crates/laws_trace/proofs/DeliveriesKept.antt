@@ -59,4 +59,4 @@ run-stands c events number ranged all within service tei =
     let off : link_of service tei (line_at number (cards.fresh c)) ≡ fresh =
     ap (link_of service tei) start ∙ ap (λ o. option_map_or (link_in (fresh_line c) service) o fresh) (nowhere c tei) in
     (run-shows Stands Shows rests joins steps (cards.fresh c) events number (fresh_is_sound c ranged) all tt).0 service tei 0 false false (λ up. ap (λ (k : Link). k.r) off)
-    (subst (λ (k : Link). IsStanding k false false) (sym off) fresh-stands)
+    (subst (λ (k : Link). IsStanding k false false) (sym off) (fresh-stands false false))

@@ -16,4 +16,4 @@ module _ (c : Config) (events : List Event) (number : ℕ) (ranged : IsInRange c
       let off = off-link c events number ranged all within service tei in
       run-agrees service tei number (fresh c) events (fresh_is_sound c ranged) (begins-timely-card c) all known.nothing_yet false none_owed refl 0 observer.at_first
       (at-start c events number ranged all within service tei) 0 false false
-      ((λ up. ap (λ (k : Link). k.r) off), subst (λ (k : Link). IsStanding k false false) (sym off) fresh-stands) (λ up. absurd (true≢false (sym up)))
+      ((λ up. ap (λ (k : Link). k.r) off), subst (λ (k : Link). IsStanding k false false) (sym off) (fresh-stands false false)) (λ up. absurd (true≢false (sym up)))

@@ -14,6 +14,17 @@ use Rattle.laws_trace.proofs.OneLink.{HasOne, HasNone, Goes, is_at_link, event-g
 use Rattle.laws_trace.proofs.StandingOfLink.{quiet, calm, IsStanding, brings, busy_behind, rejected_behind, link-stands, delivers-free}
 use Rattle.laws_trace.proofs.Facts.{never}
 
+-- However a fresh link is said to stand.
+pub fresh-stands : (busy rejected : Bool) → IsStanding fresh busy rejected
+fresh-stands busy rejected = record {
+  busy_is = λ up. never up;
+  rejected_is = λ up. never up;
+  not_busy = λ at. never at;
+  not_rejecting = λ at. never at;
+  pends_up = λ is. never is;
+  pends_free = λ is. never is;
+}
+
 module _ (service : Service) (tei : ℕ) where
   abbrev pub granted_busy : Request → Answer → Bool → Bool
   granted_busy r (told t) busy = busy_asked service tei busy r
@@ -195,16 +206,7 @@ module _ (service : Service) (tei : ℕ) where
               asked-is c e a x.event busy x.by ∙ y.2 ∙ sym (stands.busy_is y.0) ∙ y.1
 
     anew-stands : link_of service tei (after c e l) ≡ fresh → Stands (link_of service tei (after c e l))
-    anew-stands new =
-        subst Stands (sym new)
-        (record {
-          busy_is = λ up. never up;
-          rejected_is = λ up. never up;
-          not_busy = λ at. never at;
-          not_rejecting = λ at. never at;
-          pends_up = λ is. never is;
-          pends_free = λ is. never is;
-        })
+    anew-stands new = subst Stands (sym new) (fresh-stands now.busy now.rejected)
 
     module _ (x : HasNone c service tei e l (after c e l) a) where
       on-line : (o : Option ℕ) → place_in l tei ≡ o → is_multiple_frame own.state ≡ true → (place : ℕ) × (place_in l tei ≡ Some place)
@@ -271,13 +273,3 @@ module _ (service : Service) (tei : ℕ) where
 
     pub event-counts : IsCount (link_of service tei (after c e l)) now.told.count
     event-counts = (event-told c ranged l s e service tei m count).1
-
-pub fresh-stands : IsStanding fresh false false
-fresh-stands = record {
-  busy_is = λ up. never up;
-  rejected_is = λ up. never up;
-  not_busy = λ at. never at;
-  not_rejecting = λ at. never at;
-  pends_up = λ is. never is;
-  pends_free = λ is. never is;
-}

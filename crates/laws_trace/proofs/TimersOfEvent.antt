@@ -205,12 +205,8 @@ module _ (c : Config) (ranged : IsInRange c) (l : Line) (s : IsSound c l) (timed
         sent = ap (λ e. sent_at c service tei k e l) by.by;
         left = λ timer. ap (λ e. left_by e (timer_of service tei timer) (runs timer own.running)) by.by;
       }
-  other (link.received link.undefined) not_offer by =
-      let x = heard-by c e a service tei link.undefined by in bare link.undefined not_offer (λ same. cc same) refl x.0 x.1 (brings-none c e a service tei link.undefined by) (λ timer. refl)
-  other (link.received link.wrong_size) not_offer by =
-      let x = heard-by c e a service tei link.wrong_size by in bare link.wrong_size not_offer (λ same. cc same) refl x.0 x.1 (brings-none c e a service tei link.wrong_size by) (λ timer. refl)
-  other (link.received link.overlong) not_offer by =
-      let x = heard-by c e a service tei link.overlong by in bare link.overlong not_offer (λ same. cc same) refl x.0 x.1 (brings-none c e a service tei link.overlong by) (λ timer. refl)
+  other (link.received what) not_offer by =
+      let x = heard-by c e a service tei what by in bare what not_offer (λ same. cc same) refl x.0 x.1 (brings-none c e a service tei what by) (λ timer. refl)
   other (link.expired expired) not_offer by = record {
     no_offer = not_offer;
     no_cleared = λ same. cc same;

@@ -17,7 +17,7 @@ pub use Rattle.lapd_count.specs.Counters.{More, amount_in, amount_of, cause_plac
 pub use Rattle.lapd_count.specs.Kinds.{kind_place}
 pub use Rattle.lapd_count.specs.Shown.{drop_shown, heard_shown, lost_shown, note_shown}
 pub use Rattle.lapd_count.specs.declared.counter.Counter.{Counter}
-pub use Rattle.lapd_count.specs.declared.counter.Counter.TheVariants.{Assigned, Dropped, Errors, EstablishConfirms, EstablishIndications, Frames, Lost, Messages, Octets, Overlong, Polls, ReleaseConfirms, ReleaseIndications, Units, Xids}
+pub use Rattle.lapd_count.specs.declared.counter.Counter.TheVariants.{Dropped, Frames, Messages, Octets, Overlong, Polls}
 pub use Rattle.lapd_count.specs.declared.counter.Way.TheVariants.{Begun, Heard}
 pub use Rattle.lapd_count.specs.declared.kinds.Kind.{Kind}
 pub use Rattle.lapd_frame.proofs.AddressField.{address-again}
@@ -191,7 +191,7 @@ pub use Rattle.model_line.specs.Line.{Line, UnitData, fresh_line, has_tei, link_
 pub use Rattle.model_line.specs.Machine.{aim_of, of_heard, of_request, unless_refused, unless_refused_told}
 unfoldable pub use Rattle.model_line.specs.Machine.{after as line_after, answer, takes_slot}
 pub use Rattle.model_line.specs.Refusal.{bad_tei, check_running, control_full, no_link, pool_full, queue_full, refusal, table_full, tei_taken, too_long, wrong_side, wrong_state}
-pub use Rattle.model_line.specs.Request.{Assign, Check as Checking, ClearBusy, Data, Deactivate, Down, Establish, Release, Remove, Request, SetBusy, Unit}
+pub use Rattle.model_line.specs.Request.{Assign, Check as Checking, ClearBusy, Data, Deactivate, Down, Establish, Release, Remove, Request, SetBusy}
 pub use Rattle.model_line.specs.Requested.{aim_of_request, at_deactivated, at_requested}
 pub use Rattle.model_line.specs.Room.{unless}
 pub use Rattle.model_line.specs.Sides.{IsToGroup, at_side, group_told, has_management, managed_at}

@@ -1,7 +1,5 @@
 -- Where control frames of a link wait, each frame of it that begins is one of them.
-use Rattle.laws_trace.proofs.Vocabulary.{◌≡◌, ℕ, ◌<◌, false, cond, true, Bool, true≢false, All, List, [], ◌∷◌, drop, length, map, flat_map, filter, Option, Some, None, option_to_list, refl, sym, ap, ◌∙◌, subst, inl, inr, append-nil, Information, Ui, Service, place_of-is, given-in-order, IsInOrder, All-head, Refusal, Terms, Link, Given, IsGiven, given_is_frame, Config, Effect, of_request, request, next, Answer, unless_refused_told, is_information, Line, link_of, place_in, terms, IsInRange, terms_in_range, PoolFull, and_parts, line_at, is_full, at, by_room, Control, refusal, IsSound, line_frame_of as frame_of, Card, fresh, CardEvent as Event, card_answer as answer, after_all, AreAtLines, is_frame_of, trace_frame_in as frame_in, seen, is_ui, drop-nil}
-use Rattle.model_link.specs.Events as link
-use Rattle.model_link.specs.Machine as links
+use Rattle.laws_trace.proofs.Vocabulary.{◌≡◌, ℕ, ◌<◌, false, cond, true, Bool, true≢false, All, List, [], ◌∷◌, drop, length, map, flat_map, filter, Option, Some, None, option_to_list, refl, sym, ap, ◌∙◌, subst, inl, inr, append-nil, Information, Ui, Service, place_of-is, given-in-order, IsInOrder, All-head, Refusal, Terms, Link, Given, IsGiven, given_is_frame, Config, Effect, of_request, request, next, Answer, unless_refused_told, is_information, Line, link_of, place_in, terms, IsInRange, terms_in_range, PoolFull, and_parts, line_at, is_full, at, by_room, Control, refusal, IsSound, line_frame_of as frame_of, Card, fresh, CardEvent as Event, card_answer as answer, after_all, AreAtLines, is_frame_of, trace_frame_in as frame_in, seen, is_ui, drop-nil, offer, link_after as after, given}
 use Rattle.model_link.specs.Sound as link_sound
 use Rattle.model_line.specs.Event as line_event
 use Rattle.model_line.specs.Machine as lines
@@ -56,17 +54,17 @@ module _ (c : Config) (events : List Event) (number : ℕ) (ranged : IsInRange c
     range : link_sound.IsInRange t
     range = terms_in_range c ranged service tei (sound.management.table.range place tei (place_of-is line.management.places tei place on).1)
 
-    own-leaves : (g : Option Given) → links.given t own ≡ g → Leaves (map (frame_of c t) (option_to_list g))
+    own-leaves : (g : Option Given) → given t own ≡ g → Leaves (map (frame_of c t) (option_to_list g))
     own-leaves None none = refl
-    own-leaves (Some g) some = go (some-of (λ g. IsInOrder t own (links.after t link.offer own) g.frame) (links.given t own) g some (given-in-order t own safe))
+    own-leaves (Some g) some = go (some-of (λ g. IsInOrder t own (after t offer own) g.frame) (given t own) g some (given-in-order t own safe))
       where
-        go : IsInOrder t own (links.after t link.offer own) g.frame → Leaves (frame_of c t g ∷ [])
+        go : IsInOrder t own (after t offer own) g.frame → Leaves (frame_of c t g ∷ [])
         go (inr (inl information)) = empty information.none _ _
         go (inr (inr acknowledgement)) = empty acknowledgement.none _ _
         go (inl oldest) =
-            let is : IsGiven t g.frame g.contents = some-of (λ g. IsGiven t g.frame g.contents) (links.given t own) g some (given_is_frame t range own safe) in
+            let is : IsGiven t g.frame g.contents = some-of (λ g. IsGiven t g.frame g.contents) (given t own) g some (given_is_frame t range own safe) in
             let plain : is_ui g.frame.control ≡ false =
-            All-head IsPlain g.frame (links.after t link.offer own).waiting (subst (All IsPlain) oldest.waited (own-plain c events number ranged all within service tei place on)) in
+            All-head IsPlain g.frame (after t offer own).waiting (subst (All IsPlain) oldest.waited (own-plain c events number ranged all within service tei place on)) in
             ap (λ b. drop (length (cond b (frame_of c t g ∷ []) [])) (waits service tei line)) (own-frame c service tei g is plain)
             ∙ sym (ap (λ xs. drop (length xs) (waits service tei line)) (append-nil (begun_of c service tei (frame_of c t g)) ∙ given-read c service tei g is)
             ∙ ap (λ n. drop n (waits service tei line)) (single g.frame.command g.frame.control oldest.bare plain))
@@ -80,7 +78,7 @@ module _ (c : Config) (events : List Event) (number : ℕ) (ranged : IsInRange c
           ∙ sym (ap (λ xs. drop (length xs) (waits service tei line)) (seen_of.all-foreign c service tei (frame_in (lines.answer c next line)) x.begins))
       go (inr (inl x)) =
           subst Leaves (sym (x.begins ∙ ap (λ e. frames_given c t e own) (only-offered c (lines.answer c next line) service tei x.event x.by)))
-          (own-leaves x.place x.placed (links.given t own) refl)
+          (own-leaves x.place x.placed (given t own) refl)
       go (inr (inr x)) = absurd (cc x.by.0)
 
   -- An event that is no call begins none.

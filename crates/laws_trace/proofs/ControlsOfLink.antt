@@ -1,6 +1,5 @@
 -- What an event of a link puts is what it makes due.
-use Rattle.laws_trace.proofs.Vocabulary.{◌≡◌, ℕ, ◌+◌, ◌-◌, ◌≤◌, ◌==◌, ◌&&◌, ◌||◌, Bool, true, false, cond, List, [], ◌∷◌, ◌++◌, length, take, drop, zero, suc, Some, refl, sym, ap, ◌∙◌, subst, arith, true≢false, not, nat_lt, flat_map-append, All-take, Information, ReceiveReady, ReceiveNotReady, Reject, Sabme, Disc, Ua, Dm, Parts, seq, HasItsTimer, needed_in, State, TeiAssigned, AwaitingEstablishment, AwaitingRelease, Established, TimerRecovery, ControlFrame, Terms, LinkTimer, restarts, undefined, wrong_size, overlong, received, expired, requested, offer, cleared, Received, Link, is_multiple_frame, may_repeat, state_number, runs, establishes, busy_asked, takes_contents, as_heard, moves, by_expiry, state_after, is_overlong, receipt_as, as_response, as_command, is_next, to_supervisory, to_sabme, to_disc, answers, command_in, commands, put, behind, waiting_left, event-follows, Seq, length-drop, Control, T200, T203, LinkEvent as Event, frame, LinkRequest as Request, LinkEstablish as Establish, LinkRelease as Release, LinkData as Data, LinkSetBusy as SetBusy, LinkClearBusy as ClearBusy, room}
-use Rattle.model_link.specs.Machine as links
+use Rattle.laws_trace.proofs.Vocabulary.{◌≡◌, ℕ, ◌+◌, ◌-◌, ◌≤◌, ◌==◌, ◌&&◌, ◌||◌, Bool, true, false, cond, List, [], ◌∷◌, ◌++◌, length, take, drop, zero, suc, Some, refl, sym, ap, ◌∙◌, subst, arith, true≢false, not, nat_lt, flat_map-append, All-take, Information, ReceiveReady, ReceiveNotReady, Reject, Sabme, Disc, Ua, Dm, Parts, seq, HasItsTimer, needed_in, State, TeiAssigned, AwaitingEstablishment, AwaitingRelease, Established, TimerRecovery, ControlFrame, Terms, LinkTimer, restarts, undefined, wrong_size, overlong, received, expired, requested, offer, cleared, Received, Link, is_multiple_frame, may_repeat, state_number, runs, establishes, busy_asked, takes_contents, as_heard, moves, by_expiry, state_after, is_overlong, receipt_as, as_response, as_command, is_next, to_supervisory, to_sabme, to_disc, answers, command_in, commands, put, behind, waiting_left, event-follows, Seq, length-drop, Control, T200, T203, LinkEvent as Event, frame, LinkRequest as Request, LinkEstablish as Establish, LinkRelease as Release, LinkData as Data, LinkSetBusy as SetBusy, LinkClearBusy as ClearBusy, room, link_after as after, link_told as told}
 use Rattle.laws_link.specs.Waiting as waiting
 use Rattle.laws_trace.proofs.ControlsWatched.{control_in, receipt, polled, to_information, while_up, answer_to, changed, command_of}
 use Rattle.laws_trace.proofs.DeliveriesWatched.{Standing}
@@ -275,8 +274,8 @@ as-many (suc n) (x ∷ xs) =
 -- What waits behind those that waited.
 pub puts : (t : Terms) (e : Event) (l : Link) (m : ℕ) (busy rejected : Bool) (n : ℕ) (busy_now rejected_now : Bool) → IsNoOther e → HasItsTimer l
     → IsNumbered t e l m busy rejected n busy_now rejected_now
-    → let due = put_by t.n201 (calm m busy rejected) (calm n busy_now rejected_now) e l.state (links.after t e l).state in
-    controls (links.after t e l).waiting ≡ controls l.waiting ++ take (length due - (links.told t e l).lost) due
+    → let due = put_by t.n201 (calm m busy rejected) (calm n busy_now rejected_now) e l.state (after t e l).state in
+    controls (after t e l).waiting ≡ controls l.waiting ++ take (length due - (told t e l).lost) due
 puts t e l m busy rejected n busy_now rejected_now other timed h =
     ap controls waits ∙ flat_map-append (λ (f : ControlFrame). control_in f.command f.control) l.waiting (take (room t l) due)
     ∙ ap (λ xs. controls l.waiting ++ xs) (all-controls (take (room t l) due) (All-take IsControl (room t l) due (all-put t.n201 was now e l.state to)) ∙ as-many (room t l) due
@@ -292,7 +291,7 @@ puts t e l m busy rejected n busy_now rejected_now other timed h =
     heard = as_heard t e
 
     to : State
-    to = (links.after t e l).state
+    to = (after t e l).state
 
     due : List ControlFrame
     due = put_by t.n201 was now e l.state to
@@ -309,8 +308,8 @@ puts t e l m busy rejected n busy_now rejected_now other timed h =
     others cleared other = absurd other
     others any other = refl
 
-    waits : (links.after t e l).waiting ≡ l.waiting ++ take (room t l) due
+    waits : (after t e l).waiting ≡ l.waiting ++ take (room t l) due
     waits = (event-follows t e l).leaves.waiting ∙ others e other ∙ ap (λ fs. l.waiting ++ take (room t l) fs) is
 
-    lost-is : (links.told t e l).lost ≡ length (drop (room t l) due)
+    lost-is : (told t e l).lost ≡ length (drop (room t l) due)
     lost-is = (event-follows t e l).leaves.lost_is ∙ ap (λ fs. length (drop (room t l) fs)) is

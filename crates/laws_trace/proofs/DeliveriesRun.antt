@@ -1,6 +1,5 @@
 -- What is told is what was heard: over runs.
-use Rattle.laws_trace.proofs.Vocabulary.{length, nat_le, le-leb, within, ◌≡◌, ℕ, ◌+◌, ◌%◌, ◌&&◌, Bool, true, false, cond, List, Option, Some, None, refl, sym, ap, ◌∙◌, subst, eq-eqb, ◌==◌, Result, Ok, Err, true≢false, ◌⊎◌, inl, inr, is_some, Note, list_any, option_or, option_map_or, none-some, ReadFault, reading, sapi_of, same_service, Service, Parts, Terms, restarts, Link, is_multiple_frame, event-delivers, delivered-at_once, notes-own, event-tells, unit_heard, event-unit, within-is, place_of-is, Config, hears, Answer, Line, place_in, link_in, link_of, terms, aim_of, aim_of_heard, aim_of_reading, message_of, heard_side, group_tei, IsInRange, sound_in, at_side, notes_of, contents_in, is_data_of, is_unit_of, own-all, addressed-is, sapi-is, same-sapi, service-same, both-true, told-once, eqb-true, fresh_link as fresh, Event, line_after as after, answer, IsSound, result_ok, frame_of, is_for, is_ui}
-use Rattle.lapd_frame.specs.declared.notes.Note.TheVariants as notes
+use Rattle.laws_trace.proofs.Vocabulary.{length, nat_le, le-leb, within, ◌≡◌, ℕ, ◌+◌, ◌%◌, ◌&&◌, Bool, true, false, cond, List, Option, Some, None, refl, sym, ap, ◌∙◌, subst, eq-eqb, ◌==◌, Result, Ok, Err, true≢false, ◌⊎◌, inl, inr, is_some, Note, list_any, option_or, option_map_or, none-some, ReadFault, reading, sapi_of, same_service, Service, Parts, Terms, restarts, Link, is_multiple_frame, event-delivers, delivered-at_once, notes-own, event-tells, unit_heard, event-unit, within-is, place_of-is, Config, hears, Answer, Line, place_in, link_in, link_of, terms, aim_of, aim_of_heard, aim_of_reading, message_of, heard_side, group_tei, IsInRange, sound_in, at_side, notes_of, contents_in, is_data_of, is_unit_of, own-all, addressed-is, sapi-is, same-sapi, service-same, both-true, told-once, eqb-true, fresh_link as fresh, Event, line_after as after, answer, IsSound, result_ok, frame_of, is_for, is_ui, ReleaseConfirm, ReleaseIndication}
 use Rattle.model_bits.specs.Stream as stream
 use Rattle.model_link.specs.Events as link
 use Rattle.model_link.specs.Machine as links
@@ -205,7 +204,7 @@ module _ (c : Config) (ranged : IsInRange c) (l : Line) (s : IsSound c l) (e : E
         go (inr new) = absurd (true≢false (sym up ∙ ap (λ (y : Link). is_multiple_frame y.state) new))
 
   -- Its deactivation.
-  pub ended-notes : (q : Note → Bool) → ((s : Service) (n : ℕ) → q (notes.ReleaseIndication s n) ≡ false) → ((s : Service) (n : ℕ) → q (notes.ReleaseConfirm s n) ≡ false)
+  pub ended-notes : (q : Note → Bool) → ((s : Service) (n : ℕ) → q (ReleaseIndication s n) ≡ false) → ((s : Service) (n : ℕ) → q (ReleaseConfirm s n) ≡ false)
       → IsGivenUp c service tei e l (after c e l) a → list_any q (notes_of a) ≡ false
   ended-notes q indication confirm x = ap (list_any q) x.notes ∙ ends-alone q indication confirm (terms c service tei) (link_of service tei l)
 

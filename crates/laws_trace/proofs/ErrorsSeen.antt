@@ -1,7 +1,6 @@
 -- What is wrong with what is seen of a link: one event of its line.
-use Rattle.laws_trace.proofs.Vocabulary.{◌≡◌, ℕ, ◌==◌, ◌&&◌, Bool, true, false, cond, List, [], ◌∷◌, ◌++◌, Option, Some, None, Result, Ok, Err, refl, sym, ap, ◌∙◌, subst, true≢false, ◌⊎◌, inl, inr, append-nil, option_to_list, option_map_or, Unserved, Address, ReadFault, Undefined, WrongSize, ErrorCode, Long, Service, Parts, reading, long_reading, Config, hears, expiry, Answer, heard_side, aim_of_heard, aim_of_reading, aim_of_long, drop_for, Line, place_in, terms, aim_of, IsMalformed, IsTooLong, IsBy, BringsMalformed, nat_lt, length, eqb-true, Event, option_and_then, result_ok, result_err, frame_of, its_frame, is_for, faulty_long, malformed, fault_of, wrong_frame, given_up, wrong, is_up, and-false}
+use Rattle.laws_trace.proofs.Vocabulary.{◌≡◌, ℕ, ◌==◌, ◌&&◌, Bool, true, false, cond, List, [], ◌∷◌, ◌++◌, Option, Some, None, Result, Ok, Err, refl, sym, ap, ◌∙◌, subst, true≢false, ◌⊎◌, inl, inr, append-nil, option_to_list, option_map_or, Unserved, Address, ReadFault, Undefined, WrongSize, ErrorCode, Long, Service, Parts, reading, long_reading, Config, hears, expiry, Answer, heard_side, aim_of_heard, aim_of_reading, aim_of_long, drop_for, Line, place_in, terms, aim_of, IsMalformed, IsTooLong, IsBy, BringsMalformed, nat_lt, length, eqb-true, Event, option_and_then, result_ok, result_err, frame_of, its_frame, is_for, faulty_long, malformed, fault_of, wrong_frame, given_up, wrong, is_up, and-false, G, H, I, L, N, O}
 use Rattle.model_bits.specs.Stream as stream
-use Rattle.lapd_frame.specs.declared.notes.ErrorCode.TheVariants as code
 use Rattle.lapd_frame.specs.declared.overlong.Long.TheVariants as long
 use Rattle.model_link.specs.Events as link
 use Rattle.laws_trace.proofs.DeliveriesRun.{heard-aims-at}
@@ -17,7 +16,7 @@ wrong_parts c was to f = wrong_frame (nat_lt c.n201 (length f.info)) f.address.c
 none-given-up : (n m : ℕ) → (n ≡ m) ⊎ (m ≡ 1) → given_up n m ≡ []
 none-given-up n m (inr off) = ap (given_up n) off ∙ go (n == 5) (n == 6) (n == 8)
   where
-    go : (a b c : Bool) → cond (a && false) (code.G ∷ []) (cond (b && false) (code.H ∷ []) (cond (c && false) (code.I ∷ []) [])) ≡ []
+    go : (a b c : Bool) → cond (a && false) (G ∷ []) (cond (b && false) (H ∷ []) (cond (c && false) (I ∷ []) [])) ≡ []
     go a b c = rw (and-false a, and-false b, and-false c) refl
 none-given-up n m (inl same) = ap (given_up n) (sym same) ∙ go (n == 5) refl (n == 6) refl (n == 8) refl
   where
@@ -37,14 +36,14 @@ module _ (c : Config) (service : Service) (tei : ℕ) where
   -- no event of the link
   module _ (l : Line) (place : ℕ) (on : place_in l tei ≡ Some place) where
     no-fault : (r : Result Parts ReadFault) → is_at_link service tei (aim_of_reading c l r) ≡ false → option_and_then (fault_of service tei) (result_err r) ≡ None
-    no-fault (Err (Undefined address)) aims = no-letter (is_for service tei address) code.L (addressed-none c service tei nothing_yet l place on address link.undefined (drop_for Unserved) aims)
-    no-fault (Err (WrongSize address)) aims = no-letter (is_for service tei address) code.N (addressed-none c service tei nothing_yet l place on address link.wrong_size (drop_for Unserved) aims)
+    no-fault (Err (Undefined address)) aims = no-letter (is_for service tei address) L (addressed-none c service tei nothing_yet l place on address link.undefined (drop_for Unserved) aims)
+    no-fault (Err (WrongSize address)) aims = no-letter (is_for service tei address) N (addressed-none c service tei nothing_yet l place on address link.wrong_size (drop_for Unserved) aims)
     no-fault other aims = refl
 
     no-long : (r : Result Long ReadFault) → is_at_link service tei (aim_of_long l r) ≡ false → faulty_long service tei r ≡ None
-    no-long (Err (Undefined address)) aims = no-letter (is_for service tei address) code.L (addressed-none c service tei nothing_yet l place on address link.undefined (drop_for Unserved) aims)
-    no-long (Err (WrongSize address)) aims = no-letter (is_for service tei address) code.N (addressed-none c service tei nothing_yet l place on address link.wrong_size (drop_for Unserved) aims)
-    no-long (Ok (long.Information address)) aims = no-letter (is_for service tei address) code.O (addressed-none c service tei nothing_yet l place on address link.overlong (drop_for Unserved) aims)
+    no-long (Err (Undefined address)) aims = no-letter (is_for service tei address) L (addressed-none c service tei nothing_yet l place on address link.undefined (drop_for Unserved) aims)
+    no-long (Err (WrongSize address)) aims = no-letter (is_for service tei address) N (addressed-none c service tei nothing_yet l place on address link.wrong_size (drop_for Unserved) aims)
+    no-long (Ok (long.Information address)) aims = no-letter (is_for service tei address) O (addressed-none c service tei nothing_yet l place on address link.overlong (drop_for Unserved) aims)
     no-long other aims = refl
 
     none-malformed : (e : stream.Event) → is_at_link service tei (aim_of_heard c l e) ≡ false → malformed c service tei e ≡ None
@@ -93,15 +92,15 @@ module _ (c : Config) (service : Service) (tei : ℕ) where
     wrong-malformed address octets what for (inl y) = ap (λ e. wrong c service tei e from to) y.0 ∙ go what y.1
       where
         go : (what : link.Received) → IsMalformed c address octets what → By-reading (reading (heard_side c) octets) ≡ errors_of (terms c service tei) (link.received what) from to
-        go link.undefined is = ap By-reading is ∙ by-letter (is_for service tei address) code.L for
-        go link.wrong_size is = ap By-reading is ∙ by-letter (is_for service tei address) code.N for
+        go link.undefined is = ap By-reading is ∙ by-letter (is_for service tei address) L for
+        go link.wrong_size is = ap By-reading is ∙ by-letter (is_for service tei address) N for
         go other is = absurd is
     wrong-malformed address octets what for (inr y) = ap (λ e. wrong c service tei e from to) y.0 ∙ go what y.1
       where
         go : (what : link.Received) → IsTooLong c address octets what → By-long (long_reading (heard_side c) octets) ≡ errors_of (terms c service tei) (link.received what) from to
-        go link.undefined is = ap By-long is ∙ by-letter (is_for service tei address) code.L for
-        go link.wrong_size is = ap By-long is ∙ by-letter (is_for service tei address) code.N for
-        go link.overlong is = ap By-long is ∙ by-letter (is_for service tei address) code.O for
+        go link.undefined is = ap By-long is ∙ by-letter (is_for service tei address) L for
+        go link.wrong_size is = ap By-long is ∙ by-letter (is_for service tei address) N for
+        go link.overlong is = ap By-long is ∙ by-letter (is_for service tei address) O for
         go (link.frame f) is = absurd is
 
     brings-malformed : (what : link.Received) → BringsMalformed c e service tei what → Wrong (link.received what)

@@ -1,14 +1,12 @@
 -- Which events of a line give a frame: of a link, only an offer.
-use Rattle.laws_trace.proofs.Vocabulary.{◌≡◌, ℕ, List, [], map, Option, Some, None, refl, option_to_list, Service, Timer, Terms, Link, LinkTimer, Config, Aim, at_none, at_link, at_timer, aim_of_expiry, Line, place_in, link_of, terms, aim_of_heard, Deactivate, at_requested, at_deactivated, aim_of_request, heard_aims, line_frame_of as frame_of, Request, Establish, Release, Data, SetBusy, ClearBusy}
+use Rattle.laws_trace.proofs.Vocabulary.{◌≡◌, ℕ, List, [], map, Option, Some, None, refl, option_to_list, Service, Timer, Terms, Link, LinkTimer, Config, Aim, at_none, at_link, at_timer, aim_of_expiry, Line, place_in, link_of, terms, aim_of_heard, Deactivate, at_requested, at_deactivated, aim_of_request, heard_aims, line_frame_of as frame_of, Request, Establish, Release, Data, SetBusy, ClearBusy, TimerT200 as T200, T201, TimerT203 as T203, given}
 use Rattle.model_bits.specs.Stream as stream
-use Rattle.lapd_frame.specs.declared.timers.Timer.TheVariants as timers
 use Rattle.model_link.specs.Events as link
-use Rattle.model_link.specs.Machine as links
 use Rattle.model_link.specs.declared.timers.LinkTimer.TheVariants as link_timer
 
 -- The frame that an offer of a link gives; no other event gives one.
 abbrev pub frames_given : Config → Terms → link.Event → Link → List (List ℕ)
-frames_given c t link.offer x = map (frame_of c t) (option_to_list (links.given t x))
+frames_given c t link.offer x = map (frame_of c t) (option_to_list (given t x))
 frames_given c t other x = []
 
 -- No other event gives a frame; and what concerns no part orders nothing.
@@ -26,9 +24,9 @@ module _ (c : Config) (l : Line) where
   timer-silent its by k (Some place) = refl
 
   pub expiry-silent : (timer : Timer) → Silent (aim_of_expiry timer l)
-  expiry-silent (timers.T200 its by) = timer-silent its by link_timer.T200 (place_in l by)
-  expiry-silent (timers.T203 its by) = timer-silent its by link_timer.T203 (place_in l by)
-  expiry-silent timers.T201 = tt
+  expiry-silent (T200 its by) = timer-silent its by link_timer.T200 (place_in l by)
+  expiry-silent (T203 its by) = timer-silent its by link_timer.T203 (place_in l by)
+  expiry-silent T201 = tt
 
   asked-silent : (its : Service) (by : ℕ) (asked : link.Request) (o : Option ℕ) → Silent (at_requested its by asked o)
   asked-silent its by asked None = refl

@@ -1,6 +1,5 @@
 -- Which state an event of a link leads to, and how often its command was repeated: by what an observer knows, row by row.
-use Rattle.laws_trace.proofs.Vocabulary.{◌≡◌, ℕ, ◌+◌, ◌-◌, ◌%◌, ◌≤◌, ◌<◌, ◌==◌, not, Bool, true, false, cond, List, length, Option, Some, None, refl, sym, ap, ◌∙◌, subst, arith, nat_le, nat_lt, is_some, leb-true, leb-false, Address, Information, ReceiveReady, ReceiveNotReady, Reject, Ua, Dm, Call, Parts, Seq, named, distance_of, seq, HasItsTimer, needed_in, State, TeiAssigned, AwaitingEstablishment, AwaitingRelease, Established, TimerRecovery, Terms, LinkTimer, Received, undefined, wrong_size, overlong, received, expired, requested, offer, cleared, Link, state_number, runs, awaits_answer, repeats_left, as_heard, state_after, moves, is_time, event-follows, ltb-true, ltb-false, Control, T200, T203, LinkEvent as Event, LinkRequest as Request, frame, LinkEstablish as Establish, LinkRelease as Release, is_up, steps}
-use Rattle.model_link.specs.Machine as links
+use Rattle.laws_trace.proofs.Vocabulary.{◌≡◌, ℕ, ◌+◌, ◌-◌, ◌%◌, ◌≤◌, ◌<◌, ◌==◌, not, Bool, true, false, cond, List, length, Option, Some, None, refl, sym, ap, ◌∙◌, subst, arith, nat_le, nat_lt, is_some, leb-true, leb-false, Address, Information, ReceiveReady, ReceiveNotReady, Reject, Ua, Dm, Call, Parts, Seq, named, distance_of, seq, HasItsTimer, needed_in, State, TeiAssigned, AwaitingEstablishment, AwaitingRelease, Established, TimerRecovery, Terms, LinkTimer, Received, undefined, wrong_size, overlong, received, expired, requested, offer, cleared, Link, state_number, runs, awaits_answer, repeats_left, as_heard, state_after, moves, is_time, event-follows, ltb-true, ltb-false, Control, T200, T203, LinkEvent as Event, LinkRequest as Request, frame, LinkEstablish as Establish, LinkRelease as Release, is_up, steps, link_after as after}
 use Rattle.laws_link.specs.States as states
 use Rattle.laws_trace.proofs.MovesWatched.{is_invalid, by_frame, by_expiry}
 use Rattle.laws_trace.proofs.States.{one_more}
@@ -179,7 +178,7 @@ module _ (t : Terms) (k : Known) (l : Link) (n : ℕ) (ordered : l.a ≤ l.s) (w
 
   -- Any event but the end of the TEI.
   pub event-leads : HasItsTimer l → Agrees l.state k l.a l.s l.peer_busy → Counts l.state n l.repeats → (e : Event) → (e ≡ cleared → ⊥)
-      → state_number (links.after t e l).state ≡ expected t k n e (state_number l.state)
+      → state_number (after t e l).state ≡ expected t k n e (state_number l.state)
   event-leads timed known counts e some = ap state_number (event-follows t e l).leaves.state ∙ go e some
     where
       go : (e : Event) → (e ≡ cleared → ⊥) → state_number (state_after t (as_heard t e) l) ≡ expected t k n e (state_number l.state)
@@ -217,8 +216,8 @@ module _ (t : Terms) (l : Link) (n : ℕ) (e : Event) (some : e ≡ cleared → 
   counted TimerRecovery TimerRecovery is counts = ticked e is counts
   counted other any is counts = refl
 
-  pub event-counted : HasItsTimer l → Counts l.state n l.repeats → let y = links.after t e l in Counts y.state (cond (moves l.state y.state) 0 (n + ticks e)) y.repeats
+  pub event-counted : HasItsTimer l → Counts l.state n l.repeats → let y = after t e l in Counts y.state (cond (moves l.state y.state) 0 (n + ticks e)) y.repeats
   event-counted timed counts =
-      let y = links.after t e l in
+      let y = after t e l in
       subst (λ m. Counts y.state (cond (moves l.state y.state) 0 (n + ticks e)) m) (sym ((event-follows t e l).leaves.repeats ∙ left-is e some y.state))
       (counted l.state y.state timed.running counts)

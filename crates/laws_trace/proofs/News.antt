@@ -1,8 +1,7 @@
 -- What layer 3 is told of establishments and releases: the law.
-use Rattle.laws_trace.proofs.Vocabulary.{◌≡◌, ℕ, ◌<◌, ◌==◌, ◌&&◌, not, Bool, true, false, cond, List, [], ◌∷◌, get_or, set, Option, Some, None, refl, sym, ap, ◌∙◌, subst, arith, eq-eqb, true≢false, fold, filter, list_any, option_map_or, and_parts, get_or-set_same, get_or-replicate, All-head, All-tail, PoolFull, Service, Link, Config, request, Answer, refused, Line, fresh_line, link_of, link_in, state_of, IsInRange, Card, line_at, is_full, at, moments, fresh_is_sound, after_is_sound, has_lines, by_room, line_sound, AllHaveTheirTimers, timely-after, begins-timely-card, notes_of, nowhere, eqb-true, unwrap_or, fresh_link, Request, Establish, fresh, CardEvent as Event, after, card_answer as answer, Moment, after_all, IsAtLine, AreAtLines, is_news, is_sabme, is_xid, releases, wrong, moment_of, seen, Always}
+use Rattle.laws_trace.proofs.Vocabulary.{◌≡◌, ℕ, ◌<◌, ◌==◌, ◌&&◌, not, Bool, true, false, cond, List, [], ◌∷◌, get_or, set, Option, Some, None, refl, sym, ap, ◌∙◌, subst, arith, eq-eqb, true≢false, fold, filter, list_any, option_map_or, and_parts, get_or-set_same, get_or-replicate, All-head, All-tail, PoolFull, Service, Link, Config, request, Answer, refused, Line, fresh_line, link_of, link_in, state_of, IsInRange, Card, line_at, is_full, at, moments, fresh_is_sound, after_is_sound, has_lines, by_room, line_sound, AllHaveTheirTimers, timely-after, begins-timely-card, notes_of, nowhere, eqb-true, unwrap_or, fresh_link, Request, Establish, fresh, CardEvent as Event, after, card_answer as answer, Moment, after_all, IsAtLine, AreAtLines, is_news, is_sabme, is_xid, releases, wrong, moment_of, seen, Always, CardIsSound as IsSound}
 use Rattle.model_line.specs.Event as line_event
 use Rattle.model_line.specs.Machine as lines
-use Rattle.model_card.specs.Sound as card_sound
 use Rattle.laws_trace.proofs.NewsWatched.{establishes, asked, Owing, none_owed, owing, due, NewsIsTold}
 use Rattle.laws_trace.proofs.TimersWatched.{brings, Known, watch}
 use Rattle.laws_trace.proofs.States.{is_state, differ}
@@ -16,7 +15,7 @@ use Rattle.laws_trace.proofs.Runs.{apart}
 
 module _ (service : Service) (tei number : ℕ) where
   -- One event of a card.
-  module _ (card : Card) (s : card_sound.IsSound card) (e : Event) (here : IsAtLine card e) (was : Bool) (asks : IsAskedOf service tei was (line_at e.line card))
+  module _ (card : Card) (s : IsSound card) (e : Event) (here : IsAtLine card e) (was : Bool) (asks : IsAskedOf service tei was (line_at e.line card))
       (outstanding : Bool) (owes : IsOwed service tei outstanding (line_at e.line card)) where
     abbrev l : Line
     l = line_at e.line card
@@ -90,7 +89,7 @@ module _ (service : Service) (tei number : ℕ) where
   abbrev Stands : Bool → Owing → Line → Type 0
   Stands was w l = IsAskedOf service tei was l × IsTrueOf service tei w.known l × IsOwed service tei w.outstanding l
 
-  module _ (card : Card) (s : card_sound.IsSound card) (timely : AllHaveTheirTimers card) (e : Event) (here : IsAtLine card e) (within : number < card.config.lines) where
+  module _ (card : Card) (s : IsSound card) (timely : AllHaveTheirTimers card) (e : Event) (here : IsAtLine card e) (within : number < card.config.lines) where
     abbrev m : Moment
     m = record { card = card; event = e; answer = answer e card }
 
@@ -142,14 +141,14 @@ module _ (service : Service) (tei number : ℕ) where
         known : IsTrueOf service tei new later
         known = moment-known service tei number card s timely e here w.known h.1
 
-        sound-later : card_sound.IsSound (after e card)
+        sound-later : IsSound (after e card)
         sound-later = after_is_sound card e s here
 
         go : (b : Bool) → is_state 5 (state_of service tei later) ≡ b → IsOwed service tei (cond b w.outstanding (not (new.next == new.acknowledged))) later
         go true in_5 = five-stays w.known h.1 w.outstanding h.2 in_5
         go false off = known-owes card.config s.config later (line_sound (after e card) number (has_lines (after e card) sound-later) within) service tei new known off
 
-  run-stands : (card : Card) (events : List Event) → card_sound.IsSound card → AllHaveTheirTimers card → AreAtLines card events → number < card.config.lines → (was : Bool) (w : Owing)
+  run-stands : (card : Card) (events : List Event) → IsSound card → AllHaveTheirTimers card → AreAtLines card events → number < card.config.lines → (was : Bool) (w : Owing)
       → Stands was w (line_at number card)
       → Stands (fold (asked service tei number) was (moments card events)) (fold (owing card.config service tei number) w (moments card events)) (line_at number (after_all card events))
   unfolding moments after_all

@@ -1,8 +1,5 @@
 -- What layer 3 is told of the establishment and release of a link: one event of its line.
-use Rattle.laws_trace.proofs.Vocabulary.{◌≡◌, ℕ, ◌==◌, ◌&&◌, Bool, true, false, cond, List, [], Option, Some, None, refl, sym, ap, ◌∙◌, subst, true≢false, inl, inr, filter, list_any, option_map_or, none-some, ErrorCode, Service, State, TeiAssigned, AwaitingEstablishment, Terms, Link, state_number, Config, Answer, Line, has_tei, link_of, place_in, state_of, terms, notes_of, is-off, moves, unwrap_or, Control, fresh_link, IsSound, is_news, is_sabme, is_xid, releases, wrong, seen}
-use Rattle.model_link.specs.Events as link
-use Rattle.model_link.specs.Machine as links
-use Rattle.model_line.specs.Event as line_event
+use Rattle.laws_trace.proofs.Vocabulary.{◌≡◌, ℕ, ◌==◌, ◌&&◌, Bool, true, false, cond, List, [], Option, Some, None, refl, sym, ap, ◌∙◌, subst, true≢false, inl, inr, filter, list_any, option_map_or, none-some, ErrorCode, Service, State, TeiAssigned, AwaitingEstablishment, Terms, Link, state_number, Config, Answer, Line, has_tei, link_of, place_in, state_of, terms, notes_of, is-off, moves, unwrap_or, Control, fresh_link, IsSound, is_news, is_sabme, is_xid, releases, wrong, seen, cleared, link_after as after, Event}
 use Rattle.model_line.specs.Machine as lines
 use Rattle.laws_trace.proofs.NewsWatched.{establishes, due}
 use Rattle.laws_trace.proofs.TimersWatched.{brings, control_in}
@@ -28,7 +25,7 @@ IsAskedOf service tei was l = let x = link_of service tei l in Asks x.state was 
 
 -- One event of a line.
 module _ (c : Config) (l : Line) (s : IsSound c l) (service : Service) (tei : ℕ) (was : Bool) (asks : IsAskedOf service tei was l) (outstanding : Bool) (owes : IsOwed service tei outstanding l)
-    (e : line_event.Event) where
+    (e : Event) where
   abbrev a : Answer
   a = lines.answer c e l
 
@@ -104,7 +101,7 @@ module _ (c : Config) (l : Line) (s : IsSound c l) (service : Service) (tei : �
 
     -- one event of the link
     module _ (x : HasOne c service tei e l (lines.after c e l) a) where
-      some : x.event ≡ link.cleared → ⊥
+      some : x.event ≡ cleared → ⊥
       some = no-event x.event c e a service tei x.by
 
       asked-now : (state : State) → Asks state was own.asked → (errors : List ErrorCode) (xid sabme released outstanding : Bool) (to : ℕ)
@@ -114,7 +111,7 @@ module _ (c : Config) (l : Line) (s : IsSound c l) (service : Service) (tei : �
 
       one-due : Due (state_number own.state) (state_number next.state) (state_number next.state)
       one-due =
-          let later = links.after t x.event own in
+          let later = after t x.event own in
           let its = errors_of t x.event (state_number own.state) (state_number later.state) in
           ap (filter (is_news service tei)) x.notes ∙ event-news t own x.event some
           ∙ ap (λ b. due service tei its own.asked (xid_of x.event) (sabme_of x.event) (released_of x.event) b (state_number own.state) (state_number later.state)) (sym owes)
@@ -128,7 +125,7 @@ module _ (c : Config) (l : Line) (s : IsSound c l) (service : Service) (tei : �
 
       one-asked : Asks next.state (then_asked (told_state own.state) (told_state next.state)) next.asked
       one-asked =
-          let y = links.after t x.event own in
+          let y = after t x.event own in
           subst (λ (y : Link). Asks y.state (then_asked (told_state own.state) (told_state y.state)) y.asked) (sym x.is)
           (subst (λ b. Asks y.state b y.asked)
           (sym (asked-in own.state y.state ∙ ap (λ b. cond ((state_number y.state == 5) && moves own.state y.state) b was) (one-establishes c service tei is_sabme e a x.event x.by)))

@@ -1,8 +1,6 @@
 -- What is seen of a link: SABME, and requests that are granted.
-use Rattle.laws_trace.proofs.Vocabulary.{◌≡◌, ℕ, ◌&&◌, Bool, true, false, cond, Option, Some, None, refl, sym, ap, ◌∙◌, true≢false, list_any, option_map_or, Service, Config, request, Answer, Line, place_in, at_requested, aim_of_request, is_granted, IsBy, asks_establishment, Parts, Control, T200, T203, Request, Release, is_for, releases, is_own, seen, and-false}
+use Rattle.laws_trace.proofs.Vocabulary.{◌≡◌, ℕ, ◌&&◌, Bool, true, false, cond, Option, Some, None, refl, sym, ap, ◌∙◌, true≢false, list_any, option_map_or, Service, Config, request, Answer, Line, place_in, at_requested, aim_of_request, is_granted, IsBy, asks_establishment, Parts, Control, T200, T203, Request, Release, is_for, releases, is_own, seen, and-false, Event, aim_of, answer, unless_refused}
 use Rattle.model_link.specs.Events as link
-use Rattle.model_line.specs.Event as line_event
-use Rattle.model_line.specs.Machine as lines
 use Rattle.laws_trace.proofs.NewsWatched.{establishes}
 use Rattle.laws_trace.proofs.TimersWatched.{nothing_yet, control_in, brings}
 use Rattle.laws_trace.proofs.Deliveries.{frame_by, brings-frame, brings-none, heard-by}
@@ -13,7 +11,7 @@ use Rattle.laws_trace.proofs.OneLink.{is_at_link}
 use Rattle.laws_trace.proofs.TimersOfLine.{seen-brings}
 
 module _ (c : Config) (service : Service) (tei : ℕ) (which : Control → Bool) where
-  module _ (e : line_event.Event) (a : Answer) where
+  module _ (e : Event) (a : Answer) where
     none-brought : frame_by c e ≡ None → option_map_or which (control_in service tei (frame_by c e)) false ≡ false
     none-brought none = ap (λ o. option_map_or which (control_in service tei o) false) none
 
@@ -58,7 +56,7 @@ module _ (c : Config) (service : Service) (tei : ℕ) (which : Control → Bool)
 
   -- and none
   module _ (l : Line) (place : ℕ) (on : place_in l tei ≡ Some place) where
-    pub none-begins : (e : line_event.Event) → is_at_link service tei (lines.aim_of c e l) ≡ false → (a : Answer) → list_any (brings which c service tei) (seen e a) ≡ false
+    pub none-begins : (e : Event) → is_at_link service tei (aim_of c e l) ≡ false → (a : Answer) → list_any (brings which c service tei) (seen e a) ≡ false
     none-begins e aims a = seen-brings c service tei which e a ∙ go (frame_by c e) refl
       where
         by-whom : (f : Parts) → frame_by c e ≡ Some f → (b : Bool) → is_for service tei f.address ≡ b → option_map_or which (cond b (Some f.control) None) false ≡ false
@@ -78,12 +76,12 @@ module _ (c : Config) (service : Service) (tei : ℕ) (which : Control → Bool)
         ap (λ d. is_granted a && d) (elsewhere c service tei nothing_yet l place on its by (link.requested link.Release false) (at_requested its by link.Release) (λ p. refl) aims) ∙ and-false (is_granted a)
     not-own other a aims = refl
 
-    pub none-releases : (e : line_event.Event) → is_at_link service tei (lines.aim_of c e l) ≡ false → releases service tei e (lines.answer c e l) ≡ false
-    none-releases (request r) aims = go (is_granted (lines.answer c (request r) l)) refl
+    pub none-releases : (e : Event) → is_at_link service tei (aim_of c e l) ≡ false → releases service tei e (answer c e l) ≡ false
+    none-releases (request r) aims = go (is_granted (answer c (request r) l)) refl
       where
-        go : (b : Bool) → is_granted (lines.answer c (request r) l) ≡ b → releases service tei (request r) (lines.answer c (request r) l) ≡ false
-        go false none = not-granted r (lines.answer c (request r) l) none
+        go : (b : Bool) → is_granted (answer c (request r) l) ≡ b → releases service tei (request r) (answer c (request r) l) ≡ false
+        go false none = not-granted r (answer c (request r) l) none
         go true some =
-            not-own r (lines.answer c (request r) l)
-            (ap (λ o. is_at_link service tei (lines.unless_refused o (aim_of_request r l))) (sym (none-refused c r l some)) ∙ aims)
+            not-own r (answer c (request r) l)
+            (ap (λ o. is_at_link service tei (unless_refused o (aim_of_request r l))) (sym (none-refused c r l some)) ∙ aims)
     none-releases other aims = refl

@@ -1,11 +1,9 @@
 -- Nothing is told as lost in vain: the law.
-use Rattle.laws_trace.proofs.Vocabulary.{◌≡◌, ℕ, zero, suc, ◌+◌, ◌-◌, ◌<◌, ◌≤◌, ◌==◌, ◌&&◌, ◌||◌, not, Bool, true, false, cond, List, [], ◌++◌, length, get_or, Option, Some, None, refl, sym, ap, ◌∙◌, subst, ◌⊎◌, inl, inr, arith, eq-eqb, true≢false, fold, nat_lt, le-ltb, and_parts, option_map_or, get_or-set_same, PoolFull, Refusal, Service, Call, Timer, place_of-is, is_on-at, service-same, LinkTimer, ControlFrame, Config, Aim, at_none, at_link, at_management, at_units, of_aim, at_timer, aim_of_expiry, aim_of_heard, hears, expiry, request, next, Answer, refused, Line, fresh_line, has_tei, link_of, place_in, aim_of, unless_refused, unless_refused_told, Deactivate, at_requested, at_deactivated, aim_of_request, heard_aims, IsInRange, lost_in, deactivates, is_granted, IsBy, HaveTheirTimers, AllHaveTheirTimers, Card, line_at, is_full, at, fresh_is_sound, has_lines, by_room, line_sound, config-stays, at_no_link, Event, refusal, Request, Establish, Release, Data, SetBusy, ClearBusy, IsSound, after, card_answer as answer, Moment, after_all, AreAtLines, always_sound, put_in, managing_is_on as is_on, due, managed_after, Observed, View, in_state, by_event, enters, view_of, view_behind, moment_of, is_empty, outgoing_of, is_own, seen, trace_of, Always, by-down}
+use Rattle.laws_trace.proofs.Vocabulary.{◌≡◌, ℕ, zero, suc, ◌+◌, ◌-◌, ◌<◌, ◌≤◌, ◌==◌, ◌&&◌, ◌||◌, not, Bool, true, false, cond, List, [], ◌++◌, length, get_or, Option, Some, None, refl, sym, ap, ◌∙◌, subst, ◌⊎◌, inl, inr, arith, eq-eqb, true≢false, fold, nat_lt, le-ltb, and_parts, option_map_or, get_or-set_same, PoolFull, Refusal, Service, Call, Timer, place_of-is, is_on-at, service-same, LinkTimer, ControlFrame, Config, Aim, at_none, at_link, at_management, at_units, of_aim, at_timer, aim_of_expiry, aim_of_heard, hears, expiry, request, next, Answer, refused, Line, fresh_line, has_tei, link_of, place_in, aim_of, unless_refused, unless_refused_told, Deactivate, at_requested, at_deactivated, aim_of_request, heard_aims, IsInRange, lost_in, deactivates, is_granted, IsBy, HaveTheirTimers, AllHaveTheirTimers, Card, line_at, is_full, at, fresh_is_sound, has_lines, by_room, line_sound, config-stays, at_no_link, Event, refusal, Request, Establish, Release, Data, SetBusy, ClearBusy, IsSound, after, card_answer as answer, Moment, after_all, AreAtLines, always_sound, put_in, managing_is_on as is_on, due, managed_after, Observed, View, in_state, by_event, enters, view_of, view_behind, moment_of, is_empty, outgoing_of, is_own, seen, trace_of, Always, by-down, TimerT200 as T200, T201, TimerT203 as T203, fresh}
 use Rattle.model_bits.specs.Stream as stream
-use Rattle.lapd_frame.specs.declared.timers.Timer.TheVariants as timers
 use Rattle.model_link.specs.declared.timers.LinkTimer.TheVariants as link_timer
 use Rattle.model_link.specs.Events as link
 use Rattle.model_line.specs.Machine as lines
-use Rattle.model_card.specs.Card as cards
 use Rattle.model_card.specs.Event as card_event
 use Rattle.model_card.specs.Sound as card_sound
 use Rattle.laws_trace.specs.ControlFrames as now_due
@@ -48,9 +46,9 @@ module _ (c : Config) (l : Line) where
   timer-none its by k (Some place) = tt
 
   expiry-none : (timer : Timer) → NoLoss (aim_of_expiry timer l)
-  expiry-none (timers.T200 its by) = timer-none its by link_timer.T200 (place_in l by)
-  expiry-none (timers.T203 its by) = timer-none its by link_timer.T203 (place_in l by)
-  expiry-none timers.T201 = tt
+  expiry-none (T200 its by) = timer-none its by link_timer.T200 (place_in l by)
+  expiry-none (T203 its by) = timer-none its by link_timer.T203 (place_in l by)
+  expiry-none T201 = tt
 
   asked-none : (its : Service) (by : ℕ) (asked : link.Request) (o : Option ℕ) → NoLoss (at_requested its by asked o)
   asked-none its by asked None = refl
@@ -206,9 +204,9 @@ down-none c service tei o (request (Deactivate its by)) a m is down =
     go false = ap (λ xs. xs ++ cond (enters o o) (now_due.command_of o) []) (unchanged o o (λ up. refl)) ∙ ap (λ b. cond b (now_due.command_of o) []) stays
 down-none c service tei o other a m is down = absurd (true≢false (sym down))
 
-module _ (c : Config) (events : List card_event.Event) (number : ℕ) (ranged : IsInRange c) (all : AreAtLines (cards.fresh c) events) (within : number < c.lines) (what : Event) where
+module _ (c : Config) (events : List card_event.Event) (number : ℕ) (ranged : IsInRange c) (all : AreAtLines (fresh c) events) (within : number < c.lines) (what : Event) where
   abbrev k : Card
-  k = after_all (cards.fresh c) events
+  k = after_all (fresh c) events
 
   abbrev l : Line
   l = line_at number k
@@ -223,10 +221,10 @@ module _ (c : Config) (events : List card_event.Event) (number : ℕ) (ranged : 
   messages = (due c what (managed_after c number events)).lost
 
   kept : k.config ≡ c
-  kept = config-stays (cards.fresh c) events
+  kept = config-stays (fresh c) events
 
   sound : card_sound.IsSound k
-  sound = always_sound (cards.fresh c) events (fresh_is_sound c ranged) all
+  sound = always_sound (fresh c) events (fresh_is_sound c ranged) all
 
   here : number < k.config.lines
   here = subst (λ (d : Config). number < d.lines) (sym kept) within

@@ -1,7 +1,6 @@
 -- The control frames of a link that are due by what the observer knows are those that are due by how the link stands.
-use Rattle.laws_trace.proofs.Vocabulary.{◌≡◌, ℕ, ◌+◌, ◌%◌, ◌==◌, ◌&&◌, not, Bool, true, false, cond, length, List, [], ◌++◌, Option, Some, None, is_some, refl, sym, ap, ◌∙◌, subst, true≢false, nat_lt, Result, Ok, Err, option_map_or, seq, Information, ReceiveReady, ReceiveNotReady, Reject, Sabme, Disc, ReadFault, Service, Timer, Parts, reading, Config, hears, expiry, request, next, Answer, gave, heard_side, Deactivate, as_response, is_granted, Control, told, Request, Establish, Release, SetBusy, ClearBusy, result_ok, brought, frame_of, its_frame, is_for, malformed, Managed, due, Observed, in_state, awaits, anew, enquires, observer_by_frame as by_frame, by_t200, observer_by_expiry as by_expiry, observer_by_request as by_request, by_event, sends, is_own, is_up, heard, seen_told, seen_granted}
+use Rattle.laws_trace.proofs.Vocabulary.{◌≡◌, ℕ, ◌+◌, ◌%◌, ◌==◌, ◌&&◌, not, Bool, true, false, cond, length, List, [], ◌++◌, Option, Some, None, is_some, refl, sym, ap, ◌∙◌, subst, true≢false, nat_lt, Result, Ok, Err, option_map_or, seq, Information, ReceiveReady, ReceiveNotReady, Reject, Sabme, Disc, ReadFault, Service, Timer, Parts, reading, Config, hears, expiry, request, next, Answer, gave, heard_side, Deactivate, as_response, is_granted, Control, told, Request, Establish, Release, SetBusy, ClearBusy, result_ok, brought, frame_of, its_frame, is_for, malformed, Managed, due, Observed, in_state, awaits, anew, enquires, observer_by_frame as by_frame, by_t200, observer_by_expiry as by_expiry, observer_by_request as by_request, by_event, sends, is_own, is_up, heard, seen_told, seen_granted, TimerT200 as T200, T201, TimerT203 as T203}
 use Rattle.model_bits.specs.Stream as stream
-use Rattle.lapd_frame.specs.declared.timers.Timer.TheVariants as timers
 use Rattle.model_line.specs.Event as line_event
 use Rattle.laws_trace.specs.ControlFrames as now_due
 use Rattle.laws_trace.proofs.ControlsSeen.{answers_seen, asked-answers}
@@ -187,9 +186,9 @@ unchanged o q same = go (is_up q.state) refl
 
 module _ (c : Config) (service : Service) (tei : ℕ) (o : Observed) where
   ran-out : (timer : Timer) → AsBusy o (by_expiry c service tei timer o)
-  ran-out timers.T201 = λ up. refl
-  ran-out (timers.T203 of by) = either-so o (is_own service tei of by && (o.state == 7 && not (awaits o))) (enquires o) o (λ up. refl) (λ up. refl)
-  ran-out (timers.T200 of by) =
+  ran-out T201 = λ up. refl
+  ran-out (T203 of by) = either-so o (is_own service tei of by && (o.state == 7 && not (awaits o))) (enquires o) o (λ up. refl) (λ up. refl)
+  ran-out (T200 of by) =
       either-so o (is_own service tei of by) (by_t200 c.n200 o) o
       (either-so o (o.state == 7) (cond (awaits o) (enquires o) o) (cond (not (awaits o)) o last) (either-so o (awaits o) (enquires o) o (λ up. refl) (λ up. refl))
       (either-so o (not (awaits o)) o last (λ up. refl)

@@ -1,6 +1,5 @@
 -- What an observer knows of this side of a link is how the link stands by what is heard and noted: over runs.
-use Rattle.laws_trace.proofs.Vocabulary.{◌≡◌, ℕ, ◌+◌, ◌&&◌, ◌||◌, not, Bool, true, false, cond, Some, refl, sym, ap, ◌∙◌, subst, true≢false, list_any, Service, State, is_multiple_frame, state_number, Config, hears, Answer, Line, link_of, place_in, IsInRange, notes_of, is_data_of, Event, IsSound, brought, Observed, by_event, is_up}
-use Rattle.model_line.specs.Machine as lines
+use Rattle.laws_trace.proofs.Vocabulary.{◌≡◌, ℕ, ◌+◌, ◌&&◌, ◌||◌, not, Bool, true, false, cond, Some, refl, sym, ap, ◌∙◌, subst, true≢false, list_any, Service, State, is_multiple_frame, state_number, Config, hears, Answer, Line, link_of, place_in, IsInRange, notes_of, is_data_of, Event, IsSound, brought, Observed, by_event, is_up, answer}
 use Rattle.laws_trace.proofs.Counting.{begins}
 use Rattle.laws_trace.proofs.Deliveries.{frame_by}
 use Rattle.laws_trace.proofs.DeliveriesRun.{IsCount}
@@ -30,16 +29,16 @@ module _ (service : Service) (tei : ℕ) (c : Config) (ranged : IsInRange c) (l 
     (count : IsCount (link_of service tei l) n) (busy rejected : Bool) (stands : IsStanding (link_of service tei l) busy rejected) (o : Observed)
     (is : o.state ≡ state_number (link_of service tei l).state) (agree : is_up o.state ≡ true → Same o n busy rejected) where
   abbrev a : Answer
-  a = lines.answer c e l
+  a = answer c e l
 
   abbrev its : State
   its = (link_of service tei l).state
 
   abbrev q : Observed
-  q = by_event c service tei e (lines.answer c e l) o
+  q = by_event c service tei e (answer c e l) o
 
   abbrev now : Standing
-  now = behind service tei c e l (lines.answer c e l) n busy rejected
+  now = behind service tei c e l (answer c e l) n busy rejected
 
   up-here : is_multiple_frame its ≡ true → is_up o.state ≡ true
   up-here up = ap is_up is ∙ number-up its ∙ up

@@ -1,7 +1,6 @@
 -- How an event of a line moves what an observer knows of this side of a link: how many contents were told, whether layer 3
 -- is busy, and whether an I-frame is rejected.
-use Rattle.laws_trace.proofs.Vocabulary.{◌≡◌, ℕ, ◌+◌, ◌==◌, ◌&&◌, ◌||◌, not, Bool, true, false, cond, length, Option, Some, None, refl, ap, is_some, nat_lt, option_map_or, Information, ReceiveReady, ReceiveNotReady, Reject, Sabme, Ua, Dm, Service, Timer, Parts, reading, State, TeiAssigned, AwaitingEstablishment, AwaitingRelease, Established, TimerRecovery, state_number, Config, hears, expiry, request, next, Answer, LineTold, gave, Deactivate, Control, Event, told, Request, Establish, Release, SetBusy, ClearBusy, brings_next, result_ok, brought, frame_of, its_frame, malformed, Observed, in_state, awaits, anew, observer_takes as takes, observer_is_next as is_next, observer_is_invalid as is_invalid, while_up, while_down, observer_by_frame as by_frame, by_t200, observer_by_expiry as by_expiry, enquires, sends, by_event, is_own, is_up}
-use Rattle.lapd_frame.specs.declared.timers.Timer.TheVariants as timers
+use Rattle.laws_trace.proofs.Vocabulary.{◌≡◌, ℕ, ◌+◌, ◌==◌, ◌&&◌, ◌||◌, not, Bool, true, false, cond, length, Option, Some, None, refl, ap, is_some, nat_lt, option_map_or, Information, ReceiveReady, ReceiveNotReady, Reject, Sabme, Ua, Dm, Service, Timer, Parts, reading, State, TeiAssigned, AwaitingEstablishment, AwaitingRelease, Established, TimerRecovery, state_number, Config, hears, expiry, request, next, Answer, LineTold, gave, Deactivate, Control, Event, told, Request, Establish, Release, SetBusy, ClearBusy, brings_next, result_ok, brought, frame_of, its_frame, malformed, Observed, in_state, awaits, anew, observer_takes as takes, observer_is_next as is_next, observer_is_invalid as is_invalid, while_up, while_down, observer_by_frame as by_frame, by_t200, observer_by_expiry as by_expiry, enquires, sends, by_event, is_own, is_up, TimerT200 as T200, T201, TimerT203 as T203, Disc, Frmr}
 use Rattle.laws_trace.specs.Deliveries.{is_taken}
 use Rattle.laws_trace.proofs.ObservedShape.{When}
 use Rattle.laws_trace.proofs.Standing.{asked_busy}
@@ -165,9 +164,9 @@ module _ (c : Config) (service : Service) (tei : ℕ) where
   t203 other o true = tt
 
   timer-stands : (x : State) (o : Observed) (timer : Timer) → Quiet x o (by_expiry c service tei timer (in_number (state_number x) o))
-  timer-stands x o (timers.T200 of by) = t200 x o (is_own service tei of by)
-  timer-stands x o (timers.T203 of by) = t203 x o (is_own service tei of by)
-  timer-stands x o timers.T201 = rests x o
+  timer-stands x o (T200 of by) = t200 x o (is_own service tei of by)
+  timer-stands x o (T203 of by) = t203 x o (is_own service tei of by)
+  timer-stands x o T201 = rests x o
 
   establish : (x : State) (o : Observed) (b : Bool) → let p = in_number (state_number x) o in Quiet x o (cond (b && p.state == 4) (record (in_state 5) { asked = true }) p)
   establish x o false = rests x o

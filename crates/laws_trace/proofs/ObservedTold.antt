@@ -1,7 +1,6 @@
 -- What an event of a line tells of data, by what an observer knows of the link; and when the numbers begin.
-use Rattle.laws_trace.proofs.Vocabulary.{◌≡◌, ℕ, ◌%◌, ◌==◌, ◌&&◌, ◌≤◌, ◌<◌, not, Bool, true, false, cond, List, length, Option, Some, None, refl, sym, ap, ◌∙◌, arith, inl, inr, true≢false, nat_lt, nat_le, is_some, list_any, option_map_or, leb-true, leb-false, none-some, Information, ReceiveReady, ReceiveNotReady, Reject, Sabme, Disc, Ui, Ua, Dm, Frmr, Service, Parts, Seq, State, TeiAssigned, Terms, restarts, eligible, eligible_of, Link, is_multiple_frame, state_number, in_sequence, as_heard, state_after, numbers_begin, event-follows, data-is, establishes, Config, hears, Answer, Line, link_of, place_in, terms, IsInRange, notes_of, is_data_of, IsBy, ltb-true, ltb-false, Control, Xid, link_information_of as information_of, Event, IsSound, brings_next, brought, frame_of, its_frame, is_for, Observed, is_up}
+use Rattle.laws_trace.proofs.Vocabulary.{◌≡◌, ℕ, ◌%◌, ◌==◌, ◌&&◌, ◌≤◌, ◌<◌, not, Bool, true, false, cond, List, length, Option, Some, None, refl, sym, ap, ◌∙◌, arith, inl, inr, true≢false, nat_lt, nat_le, is_some, list_any, option_map_or, leb-true, leb-false, none-some, Information, ReceiveReady, ReceiveNotReady, Reject, Sabme, Disc, Ui, Ua, Dm, Frmr, Service, Parts, Seq, State, TeiAssigned, Terms, restarts, eligible, eligible_of, Link, is_multiple_frame, state_number, in_sequence, as_heard, state_after, numbers_begin, event-follows, data-is, establishes, Config, hears, Answer, Line, link_of, place_in, terms, IsInRange, notes_of, is_data_of, IsBy, ltb-true, ltb-false, Control, Xid, link_information_of as information_of, Event, IsSound, brings_next, brought, frame_of, its_frame, is_for, Observed, is_up, link_after as after}
 use Rattle.model_link.specs.Events as link
-use Rattle.model_link.specs.Machine as links
 use Rattle.model_line.specs.Machine as lines
 use Rattle.laws_trace.proofs.Counting as counting
 use Rattle.laws_trace.proofs.Counting.{begins}
@@ -34,8 +33,8 @@ module _ (t : Terms) (f : Parts) where
   followed control l heard is =
       let e = link.received (link.frame (record f { control = control })) in
       let x = event-follows t e l in
-      let state : (links.after t e l).state ≡ state_after t e l = x.leaves.state ∙ ap (λ e. state_after t e l) heard in
-      x.numbers ∙ ap (λ e. numbers_begin e l.state (links.after t (link.received (link.frame (record f { control = control }))) l).state) heard ∙ ap (numbers_begin e l.state) state ∙ is
+      let state : (after t e l).state ≡ state_after t e l = x.leaves.state ∙ ap (λ e. state_after t e l) heard in
+      x.numbers ∙ ap (λ e. numbers_begin e l.state (after t (link.received (link.frame (record f { control = control }))) l).state) heard ∙ ap (numbers_begin e l.state) state ∙ is
 
   by-control : (control : Control) (l : Link) → Restarts control l
   by-control (Sabme p) l = followed (Sabme p) l refl (in-state (Numbers (Sabme p)) l (λ here. by-sabme p here l))

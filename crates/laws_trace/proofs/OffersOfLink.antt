@@ -1,7 +1,5 @@
 -- What a link gives next is what an observer has it offer.
-use Rattle.laws_trace.proofs.Vocabulary.{◌≡◌, ℕ, zero, suc, ◌+◌, ◌%◌, ◌<◌, ◌≤◌, ◌==◌, ◌&&◌, not, nat_lt, Bool, true, false, cond, List, [], ◌∷◌, drop, length, slice_get, Option, Some, None, refl, sym, ap, ◌∙◌, subst, inl, inr, arith, true≢false, and_parts, fold, Service, place_of-is, Information, ReceiveReady, Seq, seq, given-in-order, given-is-offered, IsInOrder, IsOffered, State, Established, ControlFrame, Terms, Link, is_multiple_frame, is_information, state_number, Given, Config, Line, link_of, place_in, terms, window, IsInRange, IsSilent, terms_in_range, line_at, moments, take, map, ◌++◌, ltb-true, lt-ltb, Control, line_frame_of as frame_of, IsSound, fresh, CardEvent as Event, after_all, AreAtLines, is_seq, number_sent, Carries, text, may_go, offers, View, steps, view_of, Outgoing, outgoing_of, is_up}
-use Rattle.model_link.specs.Events as link
-use Rattle.model_link.specs.Machine as links
+use Rattle.laws_trace.proofs.Vocabulary.{◌≡◌, ℕ, zero, suc, ◌+◌, ◌%◌, ◌<◌, ◌≤◌, ◌==◌, ◌&&◌, not, nat_lt, Bool, true, false, cond, List, [], ◌∷◌, drop, length, slice_get, Option, Some, None, refl, sym, ap, ◌∙◌, subst, inl, inr, arith, true≢false, and_parts, fold, Service, place_of-is, Information, ReceiveReady, Seq, seq, given-in-order, given-is-offered, IsInOrder, IsOffered, State, Established, ControlFrame, Terms, Link, is_multiple_frame, is_information, state_number, Given, Config, Line, link_of, place_in, terms, window, IsInRange, IsSilent, terms_in_range, line_at, moments, take, map, ◌++◌, ltb-true, lt-ltb, Control, line_frame_of as frame_of, IsSound, fresh, CardEvent as Event, after_all, AreAtLines, is_seq, number_sent, Carries, text, may_go, offers, View, steps, view_of, Outgoing, outgoing_of, is_up, offer, link_after as after, given}
 use Rattle.model_link.specs.Sound as link_sound
 use Rattle.laws_link.specs.Sending.{MayGo}
 use Rattle.laws_trace.proofs.LineAtEnd.{line-at-end, link-at-end}
@@ -235,7 +233,7 @@ module _ (c : Config) (events : List Event) (number : ℕ) (ranged : IsInRange c
   unfolding seq
   seq-again n = is_seq (seq (n % 128)) n (omega arith)
 
-  in-order : (g : Given) → IsInOrder t own (links.after t link.offer own) g.frame → IsOffered own.contents own.s g.frame g.contents → Offers g
+  in-order : (g : Given) → IsInOrder t own (after t offer own) g.frame → IsOffered own.contents own.s g.frame g.contents → Offers g
   in-order g (inl oldest) offered =
       offers-are c service tei o ∙ ap (offers_behind c service tei o) (waits-are ∙ oldest.waited)
       ∙ ap (λ f. f ∷ []) (sym (with-frame g g.frame None refl (bare-contents own.contents own.s g.frame g.contents oldest.bare offered)))
@@ -263,7 +261,7 @@ module _ (c : Config) (events : List Event) (number : ℕ) (ranged : IsInRange c
       pends-up-now : own.pending ≡ true → is_multiple_frame own.state ≡ true
       pends-up-now = (run-stands c events number ranged all within service tei).2.pends_up
 
-  pub given-is-offered-so : (g : Given) → links.given t own ≡ Some g → Offers g
+  pub given-is-offered-so : (g : Given) → given t own ≡ Some g → Offers g
   given-is-offered-so g some =
-      in-order g (some-of (λ g. IsInOrder t own (links.after t link.offer own) g.frame) (links.given t own) g some (given-in-order t own safe))
-      (some-of (λ g. IsOffered own.contents own.s g.frame g.contents) (links.given t own) g some (given-is-offered t own safe))
+      in-order g (some-of (λ g. IsInOrder t own (after t offer own) g.frame) (given t own) g some (given-in-order t own safe))
+      (some-of (λ g. IsOffered own.contents own.s g.frame g.contents) (given t own) g some (given-is-offered t own safe))

@@ -1,8 +1,6 @@
 -- The orders of a link, among those of an answer.
-use Rattle.laws_trace.proofs.Vocabulary.{◌≡◌, ℕ, ◌==◌, ◌&&◌, Bool, true, false, cond, not, List, [], ◌∷◌, ◌++◌, Option, Some, None, refl, sym, ap, ◌∙◌, filter, filter-append, Service, Order, Start, Stop, Timer, same_service, Follows, Terms, LinkTimer, Link, is_same, obeyed, runs, timer_at, order_for, orders_for, timer_of, obeyed-append, T200, T203, is_timer, stop_of, Check, obey, is_timer_of, is_order_of}
+use Rattle.laws_trace.proofs.Vocabulary.{◌≡◌, ℕ, ◌==◌, ◌&&◌, Bool, true, false, cond, not, List, [], ◌∷◌, ◌++◌, Option, Some, None, refl, sym, ap, ◌∙◌, filter, filter-append, Service, Order, Start, Stop, Timer, same_service, Follows, Terms, LinkTimer, Link, is_same, obeyed, runs, timer_at, order_for, orders_for, timer_of, obeyed-append, T200, T203, is_timer, stop_of, Check, obey, is_timer_of, is_order_of, LinkEvent as Event, course, link_told as told}
 use Rattle.lapd_frame.specs.declared.timers.Timer.TheVariants as timers
-use Rattle.model_link.specs.Events as link
-use Rattle.model_link.specs.Machine as links
 use Rattle.laws_trace.proofs.Facts.{its-own}
 
 -- Its orders among others, or none.
@@ -35,8 +33,8 @@ of-event t service tei d is before started after =
     join true = refl
     join false = refl
 
-pub other-ordered : (t : Terms) (e : link.Event) (x : Link) (service : Service) (tei : ℕ) → (same_service t.service service && t.tei == tei) ≡ false → its_orders service tei (links.told t e x).orders ≡ []
-other-ordered t e x service tei other = let c = links.course t e x in of-event t service tei false other x.running c.started c.link.running
+pub other-ordered : (t : Terms) (e : Event) (x : Link) (service : Service) (tei : ℕ) → (same_service t.service service && t.tei == tei) ≡ false → its_orders service tei (told t e x).orders ≡ []
+other-ordered t e x service tei other = let c = course t e x in of-event t service tei false other x.running c.started c.link.running
 
 pub own-ordered : (t : Terms) (before started after : Option LinkTimer) → its_orders t.service t.tei (orders_for t before started after) ≡ orders_for t before started after
 own-ordered t before started after = of-event t t.service t.tei true (its-own t.service t.tei) before started after

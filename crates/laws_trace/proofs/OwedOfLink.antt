@@ -1,6 +1,5 @@
 -- Whether a link owes an acknowledgement behind one of its events.
-use Rattle.laws_trace.proofs.Vocabulary.{◌≡◌, ◌&&◌, ◌||◌, Bool, true, false, cond, List, [], ◌∷◌, refl, sym, ap, ◌∙◌, true≢false, inl, inr, is_some, Sabme, Ua, Parts, flag_left, takes_contents, unless_put, owed_in, pending_left, as_heard, is_overlong, numbers_begin, state_after, put, event-follows, State, AwaitingEstablishment, Established, TimerRecovery, ControlFrame, Terms, restarts, eligible, overlong, received, offer, cleared, Link, is_multiple_frame, delivery, event-delivers, Control, LinkEvent as Event, frame, is_empty, or_comm}
-use Rattle.model_link.specs.Machine as links
+use Rattle.laws_trace.proofs.Vocabulary.{◌≡◌, ◌&&◌, ◌||◌, Bool, true, false, cond, List, [], ◌∷◌, refl, sym, ap, ◌∙◌, true≢false, inl, inr, is_some, Sabme, Ua, Parts, flag_left, takes_contents, unless_put, owed_in, pending_left, as_heard, is_overlong, numbers_begin, state_after, put, event-follows, State, AwaitingEstablishment, Established, TimerRecovery, ControlFrame, Terms, restarts, eligible, overlong, received, offer, cleared, Link, is_multiple_frame, delivery, event-delivers, Control, LinkEvent as Event, frame, is_empty, or_comm, link_after as after, link_told as told}
 use Rattle.laws_trace.proofs.Begins.{in-state, up-before}
 use Rattle.laws_trace.proofs.CommandsCaused.{IsNoOther}
 use Rattle.laws_trace.proofs.ReceiptsNumbered.{PendsUp, pends-up, taken-is}
@@ -42,7 +41,7 @@ unless-empty (f ∷ frames) owed = refl
 
 module _ (t : Terms) (e : Event) (l : Link) (other : IsNoOther e) (owed : PendsUp l) where
   abbrev next : Link
-  next = links.after t e l
+  next = after t e l
 
   abbrev heard : Event
   heard = as_heard t e
@@ -51,7 +50,7 @@ module _ (t : Terms) (e : Event) (l : Link) (other : IsNoOther e) (owed : PendsU
   to = state_after t heard l
 
   abbrev delivers : Bool
-  delivers = is_some (links.told t e l).delivered
+  delivers = is_some (told t e l).delivered
 
   abbrev owes : Bool
   owes = unless_put (put heard l to) (takes_contents heard l || l.pending)

@@ -1,9 +1,8 @@
 -- What an event shows of the places of a link: data that is granted, and that layer 3 learns of a loss.
-use Rattle.laws_trace.proofs.Vocabulary.{◌≡◌, ℕ, Bool, true, false, cond, List, [], ◌++◌, ◌∷◌, ◌&&◌, ◌||◌, map, Some, None, refl, sym, ap, ◌∙◌, append-nil, flat_map, list_any, Service, Timer, is_release, Answer, hears, expiry, request, next, refused, gave, Deactivate, deactivates, notes_of, is_loss_of, is_granted, Event, LineTold, told, Request, Release, Data, of_link, releases, Seen, data_asked, granted, trace_noted as noted, is_own, seen, seen_told, seen_granted, trace_frame_in as frame_in, and-false, or-false, and-true}
+use Rattle.laws_trace.proofs.Vocabulary.{◌≡◌, ℕ, Bool, true, false, cond, List, [], ◌++◌, ◌∷◌, ◌&&◌, ◌||◌, map, Some, None, refl, sym, ap, ◌∙◌, append-nil, flat_map, list_any, Service, Timer, is_release, Answer, hears, expiry, request, next, refused, gave, Deactivate, deactivates, notes_of, is_loss_of, is_granted, Event, LineTold, told, Request, Release, Data, of_link, releases, Seen, data_asked, granted, trace_noted as noted, is_own, seen, seen_told, seen_granted, trace_frame_in as frame_in, and-false, or-false, and-true, trace_begun as begun}
 use Rattle.model_bits.specs.Stream as stream
 use Rattle.model_link.specs.Events as link
 use Rattle.laws_trace.specs.Outgoing as outgoing
-use Rattle.laws_trace.specs.Trace as traces
 use Rattle.laws_trace.proofs.LinkLed.{own-is}
 
 -- Data that is granted, as it is seen; and that layer 3 learns of a loss.
@@ -22,17 +21,17 @@ shows_loss service tei (noted ns contents) = list_any (is_loss_of service tei) n
 shows_loss service tei other = false
 
 module _ (service : Service) (tei : ℕ) where
-  abbrev pub granted_in : List traces.Seen → List (List ℕ)
+  abbrev pub granted_in : List Seen → List (List ℕ)
   granted_in t = flat_map (data_granted service tei) t
 
-  abbrev pub lost_in : List traces.Seen → Bool
+  abbrev pub lost_in : List Seen → Bool
   lost_in t = list_any (shows_loss service tei) t
 
   pub told-grants : (a : Answer) → granted_in (seen_told a) ≡ []
   told-grants (told t) = refl
   told-grants other = refl
 
-  pub begun-grants : (a : Answer) → granted_in (map traces.begun (frame_in a)) ≡ []
+  pub begun-grants : (a : Answer) → granted_in (map begun (frame_in a)) ≡ []
   begun-grants (gave None) = refl
   begun-grants (gave (Some f)) = refl
   begun-grants other = refl

@@ -1,9 +1,8 @@
 -- How the turn goes round the links of a line while whatever happens there: one keeps its place, and another has something to send.
-use Rattle.laws_trace.proofs.Vocabulary.{◌≡◌, ◌≢◌, ℕ, ◌+◌, ◌<◌, ◌≤◌, ◌==◌, ◌⊎◌, ⊎_elim, Bool, true, false, cond, List, [], ◌∷◌, ◌++◌, get_or, map, Option, Some, None, option_map, refl, sym, ap, ◌∙◌, subst, inl, inr, arith, eq-eqb, true≢false, All, filter, and_parts, flat_map-append, get_or-set_same, map-append, filter-append, Address, sapi_of, Config, request, next, Answer, gave, Line, fresh_line, link_count, service_at, place_at, tei_at, Taken, taken, next_of, way_round, in_turn, IsSilentAt, IsOfLink, IsOwed, IsIdle, contents_of, comes-first, served, turn-stays, Card, line_at, is_full, by_room, eqb-true, unwrap_or, information_of, CardEvent as Event, after, card_answer as answer, IsAtLine, CardIsSound as IsSound, trace_frame_in as frame_in, Seen, seen, frames_begun, IsAmong}
+use Rattle.laws_trace.proofs.Vocabulary.{◌≡◌, ◌≢◌, ℕ, ◌+◌, ◌<◌, ◌≤◌, ◌==◌, ◌⊎◌, ⊎_elim, Bool, true, false, cond, List, [], ◌∷◌, ◌++◌, get_or, map, Option, Some, None, option_map, refl, sym, ap, ◌∙◌, subst, inl, inr, arith, eq-eqb, true≢false, All, filter, and_parts, flat_map-append, get_or-set_same, map-append, filter-append, Address, sapi_of, Config, request, next, Answer, gave, Line, fresh_line, link_count, service_at, place_at, tei_at, Taken, taken, next_of, way_round, in_turn, IsSilentAt, IsOfLink, IsOwed, IsIdle, contents_of, comes-first, served, turn-stays, Card, line_at, is_full, by_room, eqb-true, unwrap_or, information_of, CardEvent as Event, after, card_answer as answer, IsAtLine, CardIsSound as IsSound, trace_frame_in as frame_in, Seen, seen, frames_begun, IsAmong, frame_begun}
 use Rattle.model_line.specs.Event as line_event
 use Rattle.model_line.specs.Machine as lines
 use Rattle.model_line.specs.Sound as line
-use Rattle.laws_trace.specs.Trace as traces
 use Rattle.laws_trace.proofs.Runs.{nothing-seen, apart}
 use Rattle.laws_trace.proofs.Turns.{link-frame, ui-frame, name-is}
 use Rattle.laws_trace.proofs.Units.{NoneWaits, plain-order, first-of, none-told, none-requested, given-frames}
@@ -154,7 +153,7 @@ module _ (c : Config) (one tei other its : ℕ) where
 
 pub names-both : (c : Config) (t u : List Seen) → links_begun c (t ++ u) ≡ links_begun c t ++ links_begun c u
 names-both c t u =
-    ap (map named_in) (ap (filter (is_of_a_link c.side)) (flat_map-append traces.frame_begun t u) ∙ filter-append (is_of_a_link c.side) (frames_begun t) (frames_begun u))
+    ap (map named_in) (ap (filter (is_of_a_link c.side)) (flat_map-append frame_begun t u) ∙ filter-append (is_of_a_link c.side) (frames_begun t) (frames_begun u))
     ∙ map-append named_in (filter (is_of_a_link c.side) (frames_begun t)) (filter (is_of_a_link c.side) (frames_begun u))
 
 -- A run.

@@ -36,10 +36,11 @@ pub use Rattle.lapd_frame.specs.declared.controls.Control.TheVariants.{Disc, Dm,
 pub use Rattle.lapd_frame.specs.declared.faults.ReadFault.{ReadFault}
 pub use Rattle.lapd_frame.specs.declared.faults.ReadFault.TheVariants.{BadExtension, Short, Undefined, WrongSize}
 pub use Rattle.lapd_frame.specs.declared.notes.ErrorCode.{ErrorCode}
-pub use Rattle.lapd_frame.specs.declared.notes.ErrorCode.TheVariants.{C, L, N, O}
+pub use Rattle.lapd_frame.specs.declared.notes.ErrorCode.TheVariants.{A, C, D, F, G, H, I, L, N, O}
 pub use Rattle.lapd_frame.specs.declared.notes.Note.{Note}
-pub use Rattle.lapd_frame.specs.declared.notes.Note.TheVariants.{Doubled, Error, EstablishConfirm, EstablishIndication, ReleaseConfirm, ReleaseIndication, Removed, Xid as NoteXid}
+pub use Rattle.lapd_frame.specs.declared.notes.Note.TheVariants.{Assigned, Data as NoteData, Doubled, Error, EstablishConfirm, EstablishIndication, ReleaseConfirm, ReleaseIndication, Removed, Unit, Xid as NoteXid}
 pub use Rattle.lapd_frame.specs.declared.overlong.Long.{Long}
+pub use Rattle.lapd_frame.specs.declared.overlong.Long.TheVariants.{Unnumbered}
 pub use Rattle.lapd_frame.specs.declared.refusals.Refusal.{Refusal}
 pub use Rattle.lapd_frame.specs.declared.refusals.Refusal.TheVariants.{BadTei, NoLink, PoolFull, WrongState}
 pub use Rattle.lapd_frame.specs.declared.services.Service.{Service}
@@ -53,13 +54,14 @@ unfoldable pub use Rattle.lapd_seq.specs.Circle.{distance_of, named}
 unfoldable pub use Rattle.lapd_seq.specs.Numbers.{seq}
 pub use Rattle.lapd_seq.specs.declared.numbers.Seq.{Seq}
 pub use Rattle.lapd_tei.proofs.Followed.{t201_follows}
+pub use Rattle.lapd_tei.proofs.LawLemmas.{changes_are_told, sound-after}
 pub use Rattle.lapd_tei.proofs.Tables.{at-within, free_place-is, free_tei-is, is_on-at, not_not, on-range, place_of-is}
-pub use Rattle.lapd_tei.specs.Laws.{Follows, stop_of}
+pub use Rattle.lapd_tei.specs.Laws.{Follows, HasJoined, HasLeft, IsInRange as TeiIsInRange, Moves, stop_of}
 pub use Rattle.lapd_tei.specs.Machine.{Management, TeiTold}
 pub use Rattle.lapd_tei.specs.Messages.{action_of, frame_of as message_frame, heard_in, heard_of_type, information_of}
 pub use Rattle.lapd_tei.specs.Sound.{IsAt, IsSoundCheck, IsSoundTable}
 pub use Rattle.lapd_tei.specs.Table.{Places, free_place, free_tei, has, is_free, is_on, place_of}
-pub use Rattle.lapd_tei.specs.Words.{Course as TeiCourse, begun as tei_begun, freed, no_room}
+pub use Rattle.lapd_tei.specs.Words.{Course as TeiCourse, begin_check, begun as tei_begun, check_is, end_check, freed, leave, lose_one, no_room, send, unserved, with_message as tei_with_message, withdraw}
 pub use Rattle.lapd_tei.specs.declared.check.Check.{Check}
 pub use Rattle.lapd_tei.specs.declared.check.Period.{Period}
 pub use Rattle.lapd_tei.specs.declared.check.Period.TheVariants.{First, Second}
@@ -86,6 +88,7 @@ pub use Rattle.laws_line.proofs.OfCard.Spelling.{head}
 pub use Rattle.laws_line.proofs.OfCard.TimersRun.{begins-timely-card, needed-run, needs-none, timely-after, timely-all}
 pub use Rattle.laws_line.proofs.OfCard.Wherever.{all-left, all-right, config-stays}
 pub use Rattle.laws_line.proofs.Places.{has-no-place, has-place, is-off}
+pub use Rattle.laws_line.proofs.Readings.{elsewhere, emptied, emptied-read, filled-read, same-read}
 pub use Rattle.laws_line.proofs.Serving.{none-waits, served, turn-stays, units-wait}
 pub use Rattle.laws_line.proofs.TeiNotes.{ByChange, noted}
 pub use Rattle.laws_line.proofs.Tied.{Ties, expiry-ties, heard-ties, request-ties}
@@ -93,7 +96,7 @@ pub use Rattle.laws_line.proofs.TimersFollow.{followed, nowhere, number-is, time
 pub use Rattle.laws_line.proofs.ToldOnce.{told-once}
 pub use Rattle.laws_line.specs.Drains.{control_text, frames_to_go, most_frames, way_round}
 pub use Rattle.laws_line.specs.Frames.{lost_in}
-pub use Rattle.laws_line.specs.Heard.{IsMalformed, IsTooLong, contents_in, is_data_of, is_unit_of, notes_of, tells_contents}
+pub use Rattle.laws_line.specs.Heard.{IsHeard, IsHeardAtLink, IsHeardByGroup, IsMalformed, IsTooLong, contents_in, is_data_of, is_unit_of, notes_of, tells_contents}
 pub use Rattle.laws_line.specs.Loss.{is_loss_of}
 pub use Rattle.laws_line.specs.Requests.{deactivates, is_deactivation, of_link}
 pub use Rattle.laws_line.specs.Served.{HasNothing, IsIdle, IsOfLink, IsOwed, IsSilent, IsSilentAt, contents_of, in_turn, unit_asked, units_asked, units_behind, units_left}
@@ -122,7 +125,7 @@ pub use Rattle.laws_link.specs.Telling.{final_as, numbered_as, told_by, told_cle
 pub use Rattle.laws_link.specs.Timed.{is_same, obey, obeyed}
 pub use Rattle.laws_link.specs.Waiting.{answers, answers_to, answers_up, as_command, as_response, behind, command_in, commands, is_next, is_taken, is_time, put, receipt_as, room, to_disc, to_information, to_sabme, to_supervisory, waiting_left}
 pub use Rattle.laws_link.specs.two.Needed.{HasItsTimer, IsCalmIn, needed, needed_in}
-pub use Rattle.laws_trace.specs.ControlFrames.{put_in}
+pub use Rattle.laws_trace.specs.ControlFrames.{command_of, polled, put_in}
 pub use Rattle.laws_trace.specs.Deliveries.{Deliveries, brings_next, is_unit_for, is_unit_taken}
 pub use Rattle.laws_trace.specs.FramesAreDue.{DueIsGiven, GivenIsDue, may_go, offers, text}
 pub use Rattle.laws_trace.specs.FramesAreRead.{FramesAreOctets, FramesAreRead, GivesOctets, HasOctets, IsSpelled, contents_given, is_of_use}
@@ -132,8 +135,8 @@ pub use Rattle.laws_trace.specs.News.{NewsIsTold, brings, given_up, is_news, is_
 pub use Rattle.laws_trace.specs.Observer.{Observed, View, anew, at_first, awaits, by_event, by_expiry as observer_by_expiry, by_frame as observer_by_frame, by_heard, by_request as observer_by_request, by_t200, enquires, enters, in_state, is_invalid as observer_is_invalid, is_next as observer_is_next, is_outstanding, moment_of, numbered, receipt, sends, steps, takes as observer_takes, view_behind, view_of, views, while_down, while_up}
 pub use Rattle.laws_trace.specs.Outgoing.{Outgoing, data_granted, is_empty, keeps, nothing_yet, outgoing_of, still_owes, watches, went_on}
 pub use Rattle.laws_trace.specs.TeisAreManaged.{IsAsDue, TeisAreManaged, is_of_t201, is_of_teis}
-pub use Rattle.laws_trace.specs.TimersAreTimely.{TimersAreTimely, TimersRun, is_order_of, is_timer_of}
-pub use Rattle.laws_trace.specs.Trace.{Always, IsAmong, IsFront, Seen, begun as trace_begun, data_asked, frame_in as trace_frame_in, frames_begun, granted, heard, is_own, is_up, lost, noted as trace_noted, seen, seen_granted, seen_in, seen_told, trace, trace_of}
+pub use Rattle.laws_trace.specs.TimersAreTimely.{TimersAreTimely, TimersRun, is_order_of, is_timer_of, renews}
+pub use Rattle.laws_trace.specs.Trace.{Always, IsAmong, IsFront, Seen, begun as trace_begun, data_asked, frame_begun, frame_in as trace_frame_in, frames_begun, granted, heard, is_own, is_up, lost, noted as trace_noted, seen, seen_granted, seen_in, seen_told, trace, trace_of}
 pub use Rattle.laws_trace.specs.Units.{is_down, is_ui}
 pub use Rattle.laws_trace.specs.UnitsGoOut.{AllUnitsGoOut, UnitsGoOut, is_unit, units_of, waits}
 pub use Rattle.laws_trace.specs.octets.Granted.{Asked, if_granted, none_asked, request_granted, requests_of, units_to_hear, with_request}
@@ -150,7 +153,7 @@ pub use Rattle.model_card.proofs.OfPorts.GoingOut.{fresh_at, given_frames_are_he
 pub use Rattle.model_card.proofs.OfPorts.HeardOctets.{heard_frames_are_octets}
 pub use Rattle.model_card.proofs.OfPorts.Pulls.{pulls_are_takes}
 pub use Rattle.model_card.proofs.OfPorts.Sound.{fresh_octets_sound}
-pub use Rattle.model_card.proofs.OfPorts.Steps.{moments-append}
+pub use Rattle.model_card.proofs.OfPorts.Steps.{config_stays, moments-append}
 pub use Rattle.model_card.proofs.Refusals.{answer_is}
 pub use Rattle.model_card.proofs.Rooms.{refuses_by}
 pub use Rattle.model_card.proofs.Steps.{by_room, has_lines, line_sound}
@@ -164,7 +167,7 @@ unfoldable pub use Rattle.model_card.specs.Run.{after_all, moments}
 pub use Rattle.model_card.specs.Sound.{IsSound as CardIsSound}
 pub use Rattle.model_card.specs.ports.Card.{OctetCard, after as ports_after, answer_to, fresh as ports_fresh, port_at}
 unfoldable pub use Rattle.model_card.specs.ports.Card.{meant}
-pub use Rattle.model_card.specs.ports.Codec.{frame_moment, frames_among, frames_given, given_of, meant_in}
+pub use Rattle.model_card.specs.ports.Codec.{frame_moment, frames_among, frames_given, given_of, meant_in, octets_of}
 pub use Rattle.model_card.specs.ports.Event.{Event as PortsEvent}
 pub use Rattle.model_card.specs.ports.GoingOut.{OfEachLine, answer_of_call, as_octets, call_answered, calls_answered, frames_to_hear, octets_given}
 pub use Rattle.model_card.specs.ports.HeardOctets.{HearsOctets}
@@ -191,7 +194,7 @@ pub use Rattle.model_line.specs.Line.{Line, UnitData, fresh_line, has_tei, link_
 pub use Rattle.model_line.specs.Machine.{aim_of, of_heard, of_request, unless_refused, unless_refused_told}
 unfoldable pub use Rattle.model_line.specs.Machine.{after as line_after, answer, takes_slot}
 pub use Rattle.model_line.specs.Refusal.{bad_tei, check_running, control_full, no_link, pool_full, queue_full, refusal, table_full, tei_taken, too_long, wrong_side, wrong_state}
-pub use Rattle.model_line.specs.Request.{Assign, Check as Checking, ClearBusy, Data, Deactivate, Down, Establish, Release, Remove, Request, SetBusy}
+pub use Rattle.model_line.specs.Request.{Assign, Check as Checking, ClearBusy, Data, Deactivate, Down, Establish, Release, Remove, Request, SetBusy, Unit as LineUnit}
 pub use Rattle.model_line.specs.Requested.{aim_of_request, at_deactivated, at_requested}
 pub use Rattle.model_line.specs.Room.{unless}
 pub use Rattle.model_line.specs.Sides.{IsToGroup, at_side, group_told, has_management, managed_at}
@@ -210,15 +213,16 @@ pub use Rattle.model_link.proofs.TellRows.{event-tells}
 pub use Rattle.model_link.specs.Deliveries.{Arrived, MayEstablish, eligible, eligible_of, information_in, information_of as link_information_of, is_eligible, restarts}
 pub use Rattle.model_link.specs.Events.{ClearBusy as LinkClearBusy, Data as LinkData, Establish as LinkEstablish, Event as LinkEvent, Received, Release as LinkRelease, Request as LinkRequest, SetBusy as LinkSetBusy, cleared, expired, frame, offer, overlong, received, requested, undefined, wrong_size}
 pub use Rattle.model_link.specs.Link.{Link, address_at, fresh as fresh_link, has_outstanding, is_asked, is_multiple_frame, is_own_busy, is_rejecting, may_repeat, outstanding, queue_of, state_number}
-pub use Rattle.model_link.specs.Machine.{after as link_after, course, frame_in, told as link_told}
+pub use Rattle.model_link.specs.Machine.{after as link_after, course, expired_step, frame_in, given, given_of as link_given_of, malformed_in, told as link_told, told_of_clearing}
+pub use Rattle.model_link.specs.MultipleFrame.{Particulars, answered, clear_busy_in_7_8, contents_in_7_8, data_in_7_8, dropped as link_dropped, failed, in_sequence as link_in_sequence, information_in_7_8, is_final, is_next as link_is_next, out_of_sequence, sabme_in_7_8, set_busy_in_7_8, supervisory, ua_in_7_8}
 pub use Rattle.model_link.specs.Notes.{IsOwn}
-pub use Rattle.model_link.specs.Offers.{is_established}
-pub use Rattle.model_link.specs.Requests.{refusal_for_room}
+pub use Rattle.model_link.specs.Offers.{first_unsent, give_information, give_waiting, is_awaiting_acknowledgement, is_established, may_send_information, next_information, offer_among, send_acknowledgement, send_information, with_one_sent}
+pub use Rattle.model_link.specs.Requests.{refusal as link_refusal, refusal_for_room, refusal_of_contents, request_step}
 pub use Rattle.model_link.specs.Room.{room_of}
-pub use Rattle.model_link.specs.Sound.{IsGiven, IsSound as LinkIsSound, IsWaitingFrame, is_information}
+pub use Rattle.model_link.specs.Sound.{IsGiven, IsInRange as LinkIsInRange, IsSound as LinkIsSound, IsWaitingFrame, is_information}
 pub use Rattle.model_link.specs.Steps.{Course, Sent, Step, begun, by_bit, changed, depending_on, nothing, ◌then◌}
 pub use Rattle.model_link.specs.Told.{Given, is_timer, order_for, orders_for, runs, timer_at}
-pub use Rattle.model_link.specs.Words.{begin_anew}
+pub use Rattle.model_link.specs.Words.{acknowledge, answer as link_answer, begin_anew, by_number, clear_flags, command, count_received, deliver, deliver_unit, discard, enquire, enter, error, establish_confirm, establish_indication, leave_unserved, no_timer, peer_busy_is, pending_is, re_establish, reject, rejecting_is, release_confirm, release_indication, repeated, response, send as link_send, start, unit_data, zero_numbers}
 pub use Rattle.model_link.specs.declared.frames.ControlFrame.{ControlFrame}
 pub use Rattle.model_link.specs.declared.rooms.Room.{Room}
 pub use Rattle.model_link.specs.declared.states.State.{State}

@@ -1,5 +1,5 @@
 -- What is wrong with what is seen of a link: one event of its line.
-use Rattle.laws_trace.proofs.Vocabulary.{◌≡◌, ℕ, ◌==◌, ◌&&◌, Bool, true, false, cond, List, [], ◌∷◌, ◌++◌, Option, Some, None, Result, Ok, Err, refl, sym, ap, ◌∙◌, subst, true≢false, ◌⊎◌, inl, inr, append-nil, option_to_list, option_map_or, Unserved, Address, ReadFault, Undefined, WrongSize, ErrorCode, Long, Service, Parts, reading, long_reading, Config, hears, expiry, Answer, heard_side, aim_of_heard, aim_of_reading, aim_of_long, drop_for, Line, place_in, terms, aim_of, IsMalformed, IsTooLong, IsBy, BringsMalformed, nat_lt, length, eqb-true, Event, option_and_then, result_ok, result_err, frame_of, its_frame, is_for, faulty_long, malformed, fault_of, wrong_frame, given_up, wrong, is_up, and-false, G, H, I, L, N, O}
+use Rattle.laws_trace.proofs.Vocabulary.{◌≡◌, ℕ, ◌==◌, ◌&&◌, Bool, true, false, cond, List, [], ◌∷◌, ◌++◌, Option, Some, None, Result, Ok, Err, refl, sym, ap, ◌∙◌, subst, true≢false, ◌⊎◌, inl, inr, append-nil, option_to_list, option_map_or, Unserved, Address, ReadFault, Undefined, WrongSize, ErrorCode, Long, Service, Parts, reading, long_reading, Config, hears, expiry, Answer, heard_side, aim_of_heard, aim_of_reading, aim_of_long, drop_for, Line, place_in, terms, aim_of, IsMalformed, IsTooLong, IsBy, BringsMalformed, nat_lt, length, eqb-true, Event, option_and_then, result_ok, result_err, frame_of, its_frame, is_for, faulty_long, malformed, fault_of, wrong_frame, given_up, wrong, is_up, and-false, G, H, I, L, N, O, cond_both}
 use Rattle.model_bits.specs.Stream as stream
 use Rattle.lapd_frame.specs.declared.overlong.Long.TheVariants as long
 use Rattle.model_link.specs.Events as link
@@ -56,11 +56,9 @@ module _ (c : Config) (service : Service) (tei : ℕ) where
       where
         go : (o : Option Parts) → frame_of c e ≡ o → its_frame service tei o ≡ None
         go None is = refl
-        go (Some f) is = by-address (is_for service tei f.address) refl
-          where
-            by-address : (b : Bool) → is_for service tei f.address ≡ b → cond b (Some f) None ≡ None
-            by-address false other = refl
-            by-address true for = absurd (true≢false (sym (heard-aims-at c l service tei place on e f is for) ∙ aims))
+        go (Some f) is =
+            cond_both (is_for service tei f.address) (Some f) None (λ o. o ≡ None)
+            (λ for. absurd (true≢false (sym (heard-aims-at c l service tei place on e f is for) ∙ aims))) (λ other. refl)
 
     bare : (b : Bool) → cond b (option_to_list no-code) [] ≡ []
     bare true = refl

@@ -1,5 +1,5 @@
 -- What an event of a line leaves of the contents that a link keeps.
-use Rattle.laws_trace.proofs.Vocabulary.{◌≡◌, ℕ, ◌%◌, Bool, true, false, cond, not, List, [], ◌∷◌, ◌++◌, ◌&&◌, ◌||◌, drop, Some, None, refl, sym, ap, ◌∙◌, subst, ◌⊎◌, inl, inr, arith, append-nil, All, is_some, list_any, option_map_or, All-head, All-tail, none-some, Note, WrongState, Service, place_of-is, is_on-at, not_not, accepted, ends, is_release, tells_loss, empties, Terms, Link, is_multiple_frame, queue_of, state_number, notes-own, Config, at_link, Answer, hears, expiry, request, next, Line, has_tei, link_in, link_of, place_in, terms, aim_of, unless_refused, bad_tei, no_link, wrong_state, Deactivate, at_requested, at_deactivated, aim_of_request, IsInRange, terms_in_range, notes_of, is_loss_of, is_granted, IsBy, link-grants, passed, not-refused, fresh_link, refusal, Request, Release, Data, IsSound, of_link, brings, is_news, is_sabme, steps, is_own, data_asked, seen, is_up, EstablishIndication, ReleaseConfirm, ReleaseIndication, link_after as after, link_told as told, Event}
+use Rattle.laws_trace.proofs.Vocabulary.{◌≡◌, ℕ, ◌%◌, Bool, true, false, cond, not, List, [], ◌∷◌, ◌++◌, ◌&&◌, ◌||◌, drop, Some, None, refl, sym, ap, ◌∙◌, subst, ◌⊎◌, inl, inr, arith, append-nil, All, is_some, list_any, option_map_or, All-head, All-tail, none-some, Note, WrongState, Service, place_of-is, is_on-at, not_not, accepted, ends, is_release, tells_loss, empties, Terms, Link, is_multiple_frame, queue_of, state_number, notes-own, Config, at_link, Answer, hears, expiry, request, next, Line, has_tei, link_in, link_of, place_in, terms, aim_of, unless_refused, bad_tei, no_link, wrong_state, Deactivate, at_requested, at_deactivated, aim_of_request, IsInRange, terms_in_range, notes_of, is_loss_of, is_granted, IsBy, link-grants, passed, not-refused, fresh_link, refusal, Request, Release, Data, IsSound, of_link, brings, is_news, is_sabme, steps, is_own, data_asked, seen, is_up, EstablishIndication, ReleaseConfirm, ReleaseIndication, link_after as after, link_told as told, Event, cond_both}
 use Rattle.model_link.specs.Events as link
 use Rattle.model_link.specs.Requests as requests
 use Rattle.model_link.specs.Sound as link_sound
@@ -26,11 +26,7 @@ either-false true = refl
 either-false false = refl
 
 pub still : (anew : Bool) (k : Link) → went_by anew k k ≡ 0
-still anew k = go (is_up (state_number k.state) && is_up (state_number k.state) && not anew)
-  where
-    go : (b : Bool) → cond b (steps (k.a % 128) (k.a % 128)) 0 ≡ 0
-    go true = omega arith
-    go false = refl
+still anew k = cond_both (is_up (state_number k.state) && is_up (state_number k.state) && not anew) (steps (k.a % 128) (k.a % 128)) 0 (λ n. n ≡ 0) (λ up. omega arith) (λ down. refl)
 
 -- What is left of what a link keeps.
 abbrev pub left : Bool → Bool → Link → Link → List (List ℕ) → List (List ℕ)
@@ -128,11 +124,9 @@ module _ (c : Config) (ranged : IsInRange c) (l : Line) (s : IsSound c l) (servi
   -- No event of the link grants it data.
   pub none-granted : (e : Event) → HasNone c service tei e l (lines.after c e l) (lines.answer c e l) → granted_in service tei (seen e (lines.answer c e l)) ≡ []
   none-granted next x = begun-grants service tei (lines.answer c next l)
-  none-granted (request r) x = asked-grants service tei r (lines.answer c (request r) l) ∙ go (is_granted (lines.answer c (request r) l)) refl
-    where
-      go : (b : Bool) → is_granted (lines.answer c (request r) l) ≡ b → cond {A = List (List ℕ)} b (data_asked service tei r) [] ≡ []
-      go true g = asks.elsewhere c l service tei r g x.aims
-      go false g = refl
+  none-granted (request r) x =
+      asked-grants service tei r (lines.answer c (request r) l)
+      ∙ cond_both (is_granted (lines.answer c (request r) l)) (data_asked service tei r) [] (λ given. given ≡ []) (λ g. asks.elsewhere c l service tei r g x.aims) (λ g. refl)
   none-granted other x = told-grants service tei (lines.answer c other l)
 
   -- and none loses what it keeps, while its TEI stays
@@ -206,11 +200,7 @@ module _ (c : Config) (ranged : IsInRange c) (l : Line) (s : IsSound c l) (servi
       ∙ ap (λ y. drop (went_by anew k y) (queue_of k)) same ∙ ap (λ n. drop n (queue_of k)) (still anew k) in
       ap (λ (y : Link). queue_of y) same
       ∙ sym (ap (λ b. left b anew k k' (granted_in service tei (seen e a))) (none-lost c ranged l s service tei p on e x.aims (on-there new q there))
-      ∙ ap (λ xs. cond (is_up (state_number k.state)) xs (queue_of k)) rest ∙ either (is_up (state_number k.state)))
-    where
-      either : (b : Bool) → cond b (queue_of k) (queue_of k) ≡ queue_of k
-      either true = refl
-      either false = refl
+      ∙ ap (λ xs. cond (is_up (state_number k.state)) xs (queue_of k)) rest ∙ cond_both (is_up (state_number k.state)) (queue_of k) (queue_of k) (λ q. q ≡ queue_of k) (λ up. refl) (λ down. refl))
 
   -- One event of it.
   one-left : (x : HasOne c service tei e l new a) → Left

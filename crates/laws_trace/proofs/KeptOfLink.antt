@@ -1,5 +1,5 @@
 -- What an event of a link leaves of the contents that it keeps, and how far V(A) goes on.
-use Rattle.laws_trace.proofs.Vocabulary.{◌≡◌, ℕ, ◌+◌, ◌-◌, ◌%◌, ◌≤◌, Bool, true, false, cond, not, List, [], ◌∷◌, ◌++◌, ◌&&◌, ◌||◌, ◌==◌, length, drop, Option, Some, None, is_some, refl, sym, ap, ◌∙◌, subst, arith, eq-eqb, true≢false, All, nat_lt, list_any, option_map_or, All-head, All-tail, none-some, Information, ReceiveReady, ReceiveNotReady, Reject, Sabme, Ua, Note, Service, Parts, same_service, Seq, named, State, TeiAssigned, AwaitingEstablishment, AwaitingRelease, Established, TimerRecovery, Terms, restarts, MayEstablish, received, overlong, cleared, Link, is_multiple_frame, queue_of, state_number, frame_in, accepted, acknowledged_by, beyond, number_of, number_received, ends, empties, is_loss, tells_loss, with_share, as_heard, by_frame, is_faulty, is_invalid, is_overlong, receipt_of, state_after, event-follows, event-done, establishes, is_loss_of, service-same, Control, LinkEvent as Event, frame, link_after as after, link_told as told, IsOwn, LinkIsSound as IsSound, begun, acknowledged, is_sabme, steps, is_up, EstablishIndication, ReleaseConfirm, ReleaseIndication}
+use Rattle.laws_trace.proofs.Vocabulary.{◌≡◌, ℕ, ◌+◌, ◌-◌, ◌%◌, ◌≤◌, Bool, true, false, cond, not, List, [], ◌∷◌, ◌++◌, ◌&&◌, ◌||◌, ◌==◌, length, drop, Option, Some, None, is_some, refl, sym, ap, ◌∙◌, subst, arith, eq-eqb, true≢false, All, nat_lt, list_any, option_map_or, All-head, All-tail, none-some, Information, ReceiveReady, ReceiveNotReady, Reject, Sabme, Ua, Note, Service, Parts, same_service, Seq, named, State, TeiAssigned, AwaitingEstablishment, AwaitingRelease, Established, TimerRecovery, Terms, restarts, MayEstablish, received, overlong, cleared, Link, is_multiple_frame, queue_of, state_number, frame_in, accepted, acknowledged_by, beyond, number_of, number_received, ends, empties, is_loss, tells_loss, with_share, as_heard, by_frame, is_faulty, is_invalid, is_overlong, receipt_of, state_after, event-follows, event-done, establishes, is_loss_of, service-same, Control, LinkEvent as Event, frame, link_after as after, link_told as told, IsOwn, LinkIsSound as IsSound, begun, acknowledged, is_sabme, steps, is_up, EstablishIndication, ReleaseConfirm, ReleaseIndication, cond_both}
 use Rattle.laws_trace.proofs.DataOfLink.{acknowledged-went}
 use Rattle.laws_trace.proofs.NewsRows.{sabme_of}
 use Rattle.laws_trace.proofs.SeenAs.{up-number}
@@ -60,11 +60,8 @@ module _ (t : Terms) (k : Link) where
         (ap (λ ct. received (cond (is_overlong t ct f.info) overlong (frame f))) is ∙ ap (λ b. received (cond b overlong (frame f))) short)
 
     frame-acked : (ct : Control) → f.control ≡ ct → acknowledged_by (number_of t ct f.info) k ≡ 0
-    frame-acked (Information ns nr p) is = go (nat_lt t.n201 (length f.info)) refl
-      where
-        go : (b : Bool) → nat_lt t.n201 (length f.info) ≡ b → acknowledged_by (cond b None (Some nr)) k ≡ 0
-        go true long = refl
-        go false short = supervised (Information ns nr p) is short nr refl
+    frame-acked (Information ns nr p) is =
+        cond_both (nat_lt t.n201 (length f.info)) None (Some nr) (λ o. acknowledged_by o k ≡ 0) (λ long. refl) (λ short. supervised (Information ns nr p) is short nr refl)
     frame-acked (ReceiveReady nr pf) is = supervised (ReceiveReady nr pf) is refl nr refl
     frame-acked (ReceiveNotReady nr pf) is = supervised (ReceiveNotReady nr pf) is refl nr refl
     frame-acked (Reject nr pf) is = supervised (Reject nr pf) is refl nr refl

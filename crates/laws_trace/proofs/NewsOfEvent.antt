@@ -1,5 +1,5 @@
 -- What layer 3 is told of the establishment and release of a link: one event of its line.
-use Rattle.laws_trace.proofs.Vocabulary.{◌≡◌, ℕ, ◌==◌, ◌&&◌, Bool, true, false, cond, List, [], Option, Some, None, refl, sym, ap, ◌∙◌, subst, true≢false, inl, inr, filter, list_any, option_map_or, none-some, ErrorCode, Service, State, TeiAssigned, AwaitingEstablishment, Terms, Link, state_number, Config, Answer, Line, has_tei, link_of, place_in, state_of, terms, notes_of, is-off, moves, unwrap_or, Control, fresh_link, IsSound, is_news, is_sabme, is_xid, releases, wrong, seen, cleared, link_after as after, Event}
+use Rattle.laws_trace.proofs.Vocabulary.{◌≡◌, ℕ, ◌==◌, ◌&&◌, Bool, false, cond, List, [], Option, Some, None, refl, sym, ap, ◌∙◌, subst, true≢false, inl, inr, filter, list_any, option_map_or, none-some, ErrorCode, Service, State, TeiAssigned, AwaitingEstablishment, Terms, Link, state_number, Config, Answer, Line, has_tei, link_of, place_in, state_of, terms, notes_of, is-off, moves, unwrap_or, Control, fresh_link, IsSound, is_news, is_sabme, is_xid, releases, wrong, seen, cleared, link_after as after, Event, and-false}
 use Rattle.model_line.specs.Machine as lines
 use Rattle.laws_trace.proofs.NewsWatched.{establishes, due}
 use Rattle.laws_trace.proofs.TimersWatched.{brings, control_in}
@@ -93,11 +93,8 @@ module _ (c : Config) (l : Line) (s : IsSound c l) (service : Service) (tei : �
       none-asked =
           subst (λ (y : Link). Asks y.state (then_asked (told_state own.state) (told_state y.state)) y.asked) (sym same)
           (subst (λ b. Asks own.state b own.asked)
-          (sym (asked-in own.state own.state ∙ ap (λ b. cond ((state_number own.state == 5) && b) (establishes service tei e a) was) (same-state own.state) ∙ and-false (state_number own.state == 5))) asks)
-        where
-          and-false : (b : Bool) → cond (b && false) (establishes service tei e a) was ≡ was
-          and-false true = refl
-          and-false false = refl
+          (sym (asked-in own.state own.state ∙ ap (λ b. cond ((state_number own.state == 5) && b) (establishes service tei e a) was) (same-state own.state)
+          ∙ ap (λ d. cond d (establishes service tei e a) was) (and-false (state_number own.state == 5)))) asks)
 
     -- one event of the link
     module _ (x : HasOne c service tei e l (lines.after c e l) a) where

@@ -23,18 +23,14 @@ module _ (c : Config) (service : Service) (tei : ℕ) (which : Control → Bool)
         go (link.received (link.frame f)) by =
             let x = brings-frame c e a service tei f by in
             ap (λ o. option_map_or which (control_in service tei o) false) x.0 ∙ ap (λ b. option_map_or which (cond b (Some f.control) None) false) x.1
-        go (link.received link.undefined) by = none-brought (brings-none c e a service tei link.undefined by)
-        go (link.received link.wrong_size) by = none-brought (brings-none c e a service tei link.wrong_size by)
-        go (link.received link.overlong) by = none-brought (brings-none c e a service tei link.overlong by)
+        go (link.received what) by = none-brought (brings-none c e a service tei what by)
         go (link.requested what full) by = none-brought (ap (λ e. frame_by c e) by.0)
         go link.cleared by = absurd by
         go other by = none-brought (ap (λ e. frame_by c e) by)
 
     pub one-releases : (event : link.Event) → IsBy c e a service tei event → releases service tei e a ≡ released_of event
     one-releases (link.received (link.frame f)) by = ap (λ e. releases service tei e a) by.by
-    one-releases (link.received link.undefined) by = ap (λ e. releases service tei e a) (heard-by c e a service tei link.undefined by).1
-    one-releases (link.received link.wrong_size) by = ap (λ e. releases service tei e a) (heard-by c e a service tei link.wrong_size by).1
-    one-releases (link.received link.overlong) by = ap (λ e. releases service tei e a) (heard-by c e a service tei link.overlong by).1
+    one-releases (link.received what) by = ap (λ e. releases service tei e a) (heard-by c e a service tei what by).1
     one-releases (link.expired T200) by = ap (λ e. releases service tei e a) by
     one-releases (link.expired T203) by = ap (λ e. releases service tei e a) by
     one-releases (link.requested link.Release full) by = ap (λ e. releases service tei e a) by.0 ∙ ap (λ b. b && is_own service tei service tei) by.1 ∙ own-is service tei
@@ -44,9 +40,7 @@ module _ (c : Config) (service : Service) (tei : ℕ) (which : Control → Bool)
 
     pub one-establishes : (event : link.Event) → IsBy c e a service tei event → establishes service tei e a ≡ asks_establishment event
     one-establishes (link.received (link.frame f)) by = ap (λ e. establishes service tei e a) by.by
-    one-establishes (link.received link.undefined) by = ap (λ e. establishes service tei e a) (heard-by c e a service tei link.undefined by).1
-    one-establishes (link.received link.wrong_size) by = ap (λ e. establishes service tei e a) (heard-by c e a service tei link.wrong_size by).1
-    one-establishes (link.received link.overlong) by = ap (λ e. establishes service tei e a) (heard-by c e a service tei link.overlong by).1
+    one-establishes (link.received what) by = ap (λ e. establishes service tei e a) (heard-by c e a service tei what by).1
     one-establishes (link.expired T200) by = ap (λ e. establishes service tei e a) by
     one-establishes (link.expired T203) by = ap (λ e. establishes service tei e a) by
     one-establishes (link.requested link.Establish full) by = ap (λ e. establishes service tei e a) by.0 ∙ ap (λ b. b && is_own service tei service tei) by.1 ∙ own-is service tei

@@ -1,5 +1,5 @@
 -- What an observer knows of a link is what follows its parts: over runs.
-use Rattle.laws_trace.proofs.Vocabulary.{◌≡◌, ℕ, ◌+◌, ◌==◌, ◌&&◌, ◌||◌, not, Bool, true, false, cond, Option, Some, None, is_some, refl, sym, ap, ◌∙◌, subst, arith, eq-eqb, true≢false, fold, nat_lt, IfSome, option_map_or, Service, State, TeiAssigned, AwaitingEstablishment, AwaitingRelease, TimerRecovery, LinkTimer, state_number, Config, expiry, Answer, eqb-true, T200, T203, Observed, in_state, by_event, is_own, seen, Event}
+use Rattle.laws_trace.proofs.Vocabulary.{◌≡◌, ℕ, ◌+◌, ◌==◌, ◌&&◌, ◌||◌, not, Bool, true, false, cond, Option, Some, None, is_some, refl, sym, ap, ◌∙◌, subst, arith, eq-eqb, true≢false, fold, nat_lt, IfSome, option_map_or, Service, State, TeiAssigned, AwaitingEstablishment, AwaitingRelease, TimerRecovery, LinkTimer, state_number, Config, expiry, Answer, eqb-true, T200, T203, Observed, in_state, by_event, is_own, seen, Event, cond_both}
 use Rattle.lapd_frame.specs.declared.timers.Timer.TheVariants as timers
 use Rattle.laws_trace.proofs.States as states
 use Rattle.laws_trace.proofs.TimersWatched.{Known, learned}
@@ -97,11 +97,8 @@ module _ (c : Config) (service : Service) (tei : ℕ) where
       go : (b : Bool) → cond b one_more none_more n ≡ n + option_map_or states.one_more (cond b (Some T200) None) 0
       go true = refl
       go false = nothing-more n
-  grown-is (expiry (timers.T203 of by)) n = go (is_own service tei of by)
-    where
-      go : (b : Bool) → n ≡ n + option_map_or states.one_more (cond b (Some T203) None) 0
-      go true = nothing-more n
-      go false = nothing-more n
+  grown-is (expiry (timers.T203 of by)) n =
+      cond_both (is_own service tei of by) (Some T203) None (λ o. n ≡ n + option_map_or states.one_more o 0) (λ own. nothing-more n) (λ other. nothing-more n)
   grown-is other n = nothing-more n
 
   -- An event of the line, where the TEI is on it before and behind.

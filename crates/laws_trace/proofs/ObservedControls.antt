@@ -1,5 +1,5 @@
 -- The control frames of a link that are due by what the observer knows are those that are due by how the link stands.
-use Rattle.laws_trace.proofs.Vocabulary.{◌≡◌, ℕ, ◌+◌, ◌%◌, ◌==◌, ◌&&◌, not, Bool, true, false, cond, length, List, [], ◌++◌, Option, Some, None, is_some, refl, sym, ap, ◌∙◌, subst, true≢false, nat_lt, Result, Ok, Err, option_map_or, seq, Information, ReceiveReady, ReceiveNotReady, Reject, Sabme, Disc, ReadFault, Service, Timer, Parts, reading, Config, hears, expiry, request, next, Answer, gave, heard_side, Deactivate, as_response, is_granted, Control, told, Request, Establish, Release, SetBusy, ClearBusy, result_ok, brought, frame_of, its_frame, is_for, malformed, Managed, due, Observed, in_state, awaits, anew, enquires, observer_by_frame as by_frame, by_t200, observer_by_expiry as by_expiry, observer_by_request as by_request, by_event, sends, is_own, is_up, heard, seen_told, seen_granted, TimerT200 as T200, T201, TimerT203 as T203}
+use Rattle.laws_trace.proofs.Vocabulary.{◌≡◌, ℕ, ◌+◌, ◌%◌, ◌==◌, ◌&&◌, not, Bool, true, false, cond, length, List, [], ◌++◌, Option, Some, None, is_some, refl, sym, ap, ◌∙◌, subst, true≢false, nat_lt, Result, Ok, Err, option_map_or, seq, Information, ReceiveReady, ReceiveNotReady, Reject, Sabme, Disc, ReadFault, Service, Timer, Parts, reading, Config, hears, expiry, request, next, Answer, gave, heard_side, Deactivate, as_response, is_granted, Control, told, Request, Establish, Release, SetBusy, ClearBusy, result_ok, brought, frame_of, its_frame, is_for, malformed, Managed, due, Observed, in_state, awaits, anew, enquires, observer_by_frame as by_frame, by_t200, observer_by_expiry as by_expiry, observer_by_request as by_request, by_event, sends, is_own, is_up, heard, seen_told, seen_granted, TimerT200 as T200, T201, TimerT203 as T203, cond_both}
 use Rattle.model_bits.specs.Stream as stream
 use Rattle.model_line.specs.Event as line_event
 use Rattle.laws_trace.specs.ControlFrames as now_due
@@ -107,31 +107,12 @@ module _ (c : Config) (service : Service) (tei : ℕ) (o q : Observed) (w u : St
 -- What is kept while layer 3 asks for something else.
 module _ (service : Service) (tei : ℕ) where
   pub stays-down : (r : Request) (o : Observed) → is_up o.state ≡ false → is_up (by_request service tei r o).state ≡ false
-  stays-down (Establish of by) o down = go (is_own service tei of by && o.state == 4)
-    where
-      go : (b : Bool) → is_up (cond b (record (in_state 5) { asked = true }) o).state ≡ false
-      go true = refl
-      go false = down
-  stays-down (Release of by) o down = go (is_own service tei of by && is_up o.state)
-    where
-      go : (b : Bool) → is_up (cond b (in_state 6) o).state ≡ false
-      go true = refl
-      go false = down
-  stays-down (Deactivate of by) o down = go (is_own service tei of by)
-    where
-      go : (b : Bool) → is_up (cond b (in_state 4) o).state ≡ false
-      go true = refl
-      go false = down
-  stays-down (SetBusy of by) o down = go (is_own service tei of by)
-    where
-      go : (b : Bool) → is_up (cond b (record o { own_busy = true }) o).state ≡ false
-      go true = down
-      go false = down
-  stays-down (ClearBusy of by) o down = go (is_own service tei of by)
-    where
-      go : (b : Bool) → is_up (cond b (record o { own_busy = false }) o).state ≡ false
-      go true = down
-      go false = down
+  stays-down (Establish of by) o down =
+      cond_both (is_own service tei of by && o.state == 4) (record (in_state 5) { asked = true }) o (λ (q : Observed). is_up q.state ≡ false) (λ own. refl) (λ other. down)
+  stays-down (Release of by) o down = cond_both (is_own service tei of by && is_up o.state) (in_state 6) o (λ (q : Observed). is_up q.state ≡ false) (λ own. refl) (λ other. down)
+  stays-down (Deactivate of by) o down = cond_both (is_own service tei of by) (in_state 4) o (λ (q : Observed). is_up q.state ≡ false) (λ own. refl) (λ other. down)
+  stays-down (SetBusy of by) o down = cond_both (is_own service tei of by) (record o { own_busy = true }) o (λ (q : Observed). is_up q.state ≡ false) (λ own. down) (λ other. down)
+  stays-down (ClearBusy of by) o down = cond_both (is_own service tei of by) (record o { own_busy = false }) o (λ (q : Observed). is_up q.state ≡ false) (λ own. down) (λ other. down)
   stays-down other o down = down
 
   -- layer 3 is as busy as before, unless it says so
@@ -152,16 +133,8 @@ module _ (service : Service) (tei : ℕ) where
 
   -- where it says so, the link stays up
   pub stays-up : (r : Request) (o : Observed) → busies r ≡ true → (by_request service tei r o).state ≡ o.state
-  stays-up (SetBusy of by) o is = go (is_own service tei of by)
-    where
-      go : (b : Bool) → (cond b (record o { own_busy = true }) o).state ≡ o.state
-      go true = refl
-      go false = refl
-  stays-up (ClearBusy of by) o is = go (is_own service tei of by)
-    where
-      go : (b : Bool) → (cond b (record o { own_busy = false }) o).state ≡ o.state
-      go true = refl
-      go false = refl
+  stays-up (SetBusy of by) o is = cond_both (is_own service tei of by) (record o { own_busy = true }) o (λ (q : Observed). q.state ≡ o.state) (λ own. refl) (λ other. refl)
+  stays-up (ClearBusy of by) o is = cond_both (is_own service tei of by) (record o { own_busy = false }) o (λ (q : Observed). q.state ≡ o.state) (λ own. refl) (λ other. refl)
   stays-up other o is = absurd (true≢false (sym is))
 
 -- Where no frame comes, and nothing is granted, layer 3 is as busy as before.

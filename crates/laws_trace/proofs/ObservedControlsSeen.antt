@@ -1,5 +1,5 @@
 -- What is seen of the control frames of a link in a moment, by what the observer knows.
-use Rattle.laws_trace.proofs.Vocabulary.{◌≡◌, ℕ, ◌==◌, ◌&&◌, Bool, true, false, cond, List, [], Option, Some, None, refl, sym, ap, ◌∙◌, true≢false, option_map_or, none-some, Service, Parts, sapi_of, ControlFrame, Config, hears, request, Answer, management_sapi, has_management, is_granted, eqb-true, told, Request, frame_of, its_frame, is_for, Managed, due, by_message, nothing_due, Observed, by_event, observer_by_request as by_request, is_up, seen, is_ui, and-false}
+use Rattle.laws_trace.proofs.Vocabulary.{◌≡◌, ℕ, ◌==◌, ◌&&◌, Bool, true, false, cond, List, [], Option, Some, None, refl, sym, ap, ◌∙◌, true≢false, option_map_or, none-some, Service, Parts, sapi_of, ControlFrame, Config, hears, request, Answer, management_sapi, has_management, is_granted, eqb-true, told, Request, frame_of, its_frame, is_for, Managed, due, by_message, nothing_due, Observed, by_event, observer_by_request as by_request, is_up, seen, is_ui, and-false, cond_both}
 use Rattle.model_bits.specs.Stream as stream
 use Rattle.laws_trace.proofs.DeliveriesWatched.{busy_asked}
 use Rattle.laws_trace.proofs.ManagingNotes.{message_by, message-is-read}
@@ -38,8 +38,4 @@ module _ (c : Config) (service : Service) (tei : ℕ) where
   granted-busy r other n busy rejected granted = absurd (true≢false (sym granted))
 
   pub asked-moves : (r : Request) (a : Answer) (o : Observed) → is_up o.state ≡ false → is_up (by_event c service tei (request r) a o).state ≡ false
-  asked-moves r a o down = go (is_granted a)
-    where
-      go : (b : Bool) → is_up (cond b (by_request service tei r o) o).state ≡ false
-      go true = stays-down service tei r o down
-      go false = down
+  asked-moves r a o down = cond_both (is_granted a) (by_request service tei r o) o (λ (q : Observed). is_up q.state ≡ false) (λ granted. stays-down service tei r o down) (λ refused. down)

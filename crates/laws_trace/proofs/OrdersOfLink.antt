@@ -1,5 +1,5 @@
 -- The orders of a link, among those of an answer.
-use Rattle.laws_trace.proofs.Vocabulary.{◌≡◌, ℕ, ◌==◌, ◌&&◌, Bool, true, false, cond, not, List, [], ◌∷◌, ◌++◌, Option, Some, None, refl, sym, ap, ◌∙◌, filter, filter-append, Service, Order, Start, Stop, Timer, same_service, Follows, Terms, LinkTimer, Link, is_same, obeyed, runs, timer_at, order_for, orders_for, timer_of, obeyed-append, T200, T203, is_timer, stop_of, Check, obey, is_timer_of, is_order_of, LinkEvent as Event, course, link_told as told}
+use Rattle.laws_trace.proofs.Vocabulary.{◌≡◌, ℕ, ◌==◌, ◌&&◌, Bool, true, false, cond, not, List, [], ◌∷◌, ◌++◌, Option, Some, None, refl, sym, ap, ◌∙◌, filter, filter-append, Service, Order, Start, Stop, Timer, same_service, Follows, Terms, LinkTimer, Link, is_same, obeyed, runs, timer_at, order_for, orders_for, timer_of, obeyed-append, T200, T203, is_timer, stop_of, Check, obey, is_timer_of, is_order_of, LinkEvent as Event, course, link_told as told, cond_both}
 use Rattle.lapd_frame.specs.declared.timers.Timer.TheVariants as timers
 use Rattle.laws_trace.proofs.Facts.{its-own}
 
@@ -94,11 +94,7 @@ obeys-one : (t : Terms) (timer other : LinkTimer) (running p q : Bool)
     → obeyed (timer_at t timer) running (cond p (Start (timer_at t other) ∷ []) (cond q (Stop (timer_at t other) ∷ []) [])) ≡ cond (is_timer other timer) (cond p true (cond q false running)) running
 obeys-one t timer other running true q = ap (λ b. cond b true running) (same-own t other timer)
 obeys-one t timer other running false true = ap (λ b. cond b false running) (same-own t other timer)
-obeys-one t timer other running false false = go (is_timer other timer)
-  where
-    go : (b : Bool) → running ≡ cond b running running
-    go true = refl
-    go false = refl
+obeys-one t timer other running false false = cond_both (is_timer other timer) running running (λ b. running ≡ b) (λ same. refl) (λ apart. refl)
 
 alone : (p q : Bool) → cond p true (cond q false false) ≡ p
 alone true q = refl

@@ -1,5 +1,5 @@
 -- Whether a link owes an acknowledgement behind one event of its line.
-use Rattle.laws_trace.proofs.Vocabulary.{◌≡◌, ℕ, ◌&&◌, ◌||◌, not, Bool, true, false, List, [], ◌∷◌, map, Option, Some, None, is_some, list_any, option_to_list, refl, sym, ap, ◌∙◌, subst, inl, inr, Service, place_of-is, as_heard, state_after, put, owed_behind, event-follows, given-in-order, IsInOrder, ControlFrame, Terms, Link, is_multiple_frame, Given, given_is_frame, Config, next, Answer, Line, has_tei, link_of, place_in, terms, IsInRange, terms_in_range, notes_of, is_data_of, IsBy, HaveTheirTimers, Event, line_after as after, answer, line_frame_of as frame_of, IsSound, is_frame_of, is_empty, trace_frame_in as frame_in, seen, is_ui, and-false}
+use Rattle.laws_trace.proofs.Vocabulary.{◌≡◌, ℕ, ◌&&◌, ◌||◌, not, Bool, true, false, List, [], ◌∷◌, map, Option, Some, None, is_some, list_any, option_to_list, refl, sym, ap, ◌∙◌, subst, inl, inr, Service, place_of-is, as_heard, state_after, put, owed_behind, event-follows, given-in-order, IsInOrder, ControlFrame, Terms, Link, is_multiple_frame, Given, given_is_frame, Config, next, Answer, Line, has_tei, link_of, place_in, terms, IsInRange, terms_in_range, notes_of, is_data_of, IsBy, HaveTheirTimers, Event, line_after as after, answer, line_frame_of as frame_of, IsSound, is_frame_of, is_empty, trace_frame_in as frame_in, seen, is_ui, and-false, false_from_ne_true}
 use Rattle.model_link.specs.Events as link
 use Rattle.model_link.specs.Machine as links
 use Rattle.model_link.specs.Sound as link_sound
@@ -38,10 +38,6 @@ never-owed was now puts begins = sym (and-false (was && now && is_empty puts && 
 
 never-begun : (was now : Bool) (puts : List ControlFrame) (owes : Bool) → false ≡ Owed was now puts true owes
 never-begun was now puts owes = sym (ap (λ b. b && owes) (and-false (was && now && is_empty puts)))
-
-if-told : (b : Bool) → (b ≡ true → ⊥) → b ≡ false
-if-told true h = absurd (h refl)
-if-told false h = refl
 
 none-noted : (c : Config) (l : Line) (service : Service) (tei : ℕ) → list_any (is_data_of service tei) (notes_of (answer c next l)) ≡ false
 unfolding answer
@@ -88,7 +84,7 @@ module _ (service : Service) (tei : ℕ) (c : Config) (ranged : IsInRange c) (e 
         ap (λ (k : Link). k.pending) (x.stays was-on is-on) ∙ stays-owed (up own) own.pending stands.pends_up
         ∙ ap (λ b. Owed (up own) (up own) [] b (own.pending || false)) (sym (and-false (is_empty own.waiting)))
         ∙ ap (λ b. Owed (up own) (up own) [] (is_empty own.waiting && b) (own.pending || false)) (sym (any-foreign c service tei (frame_in a) x.begins))
-        ∙ ap (λ b. Owed (up own) (up own) [] (is_empty own.waiting && begins) (own.pending || b)) (sym (if-told told (no-data c ranged l s e service tei m count x)))
+        ∙ ap (λ b. Owed (up own) (up own) [] (is_empty own.waiting && begins) (own.pending || b)) (sym (false_from_ne_true told (no-data c ranged l s e service tei m count x)))
         ∙ ap (λ puts. Owed (up own) (up own) puts (is_empty own.waiting && begins) (own.pending || told)) (sym (none-puts service tei c ranged e l s timed m busy rejected count stands x was-on is-on))
         ∙ ap (λ (k : Link). Owed (up own) (up k) Put (is_empty own.waiting && begins) (own.pending || told)) (sym (x.stays was-on is-on))
 

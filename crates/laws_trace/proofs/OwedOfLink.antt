@@ -1,5 +1,5 @@
 -- Whether a link owes an acknowledgement behind one of its events.
-use Rattle.laws_trace.proofs.Vocabulary.{◌≡◌, ◌&&◌, ◌||◌, Bool, true, false, cond, List, [], ◌∷◌, refl, sym, ap, ◌∙◌, true≢false, inl, inr, is_some, Sabme, Ua, Parts, flag_left, takes_contents, unless_put, owed_in, pending_left, as_heard, is_overlong, numbers_begin, state_after, put, event-follows, State, AwaitingEstablishment, Established, TimerRecovery, ControlFrame, Terms, restarts, eligible, overlong, received, offer, cleared, Link, is_multiple_frame, delivery, event-delivers, Control, LinkEvent as Event, frame, is_empty, or_comm, link_after as after, link_told as told}
+use Rattle.laws_trace.proofs.Vocabulary.{◌≡◌, ◌&&◌, ◌||◌, Bool, true, false, List, [], ◌∷◌, refl, sym, ap, ◌∙◌, true≢false, inl, inr, is_some, Sabme, Ua, Parts, flag_left, takes_contents, unless_put, owed_in, pending_left, as_heard, is_overlong, numbers_begin, state_after, put, event-follows, State, AwaitingEstablishment, Established, TimerRecovery, ControlFrame, Terms, restarts, eligible, overlong, received, offer, cleared, Link, is_multiple_frame, delivery, event-delivers, Control, LinkEvent as Event, frame, is_empty, or_comm, link_after as after, link_told as told, cond_both, false_from_ne_true}
 use Rattle.laws_trace.proofs.Begins.{in-state, up-before}
 use Rattle.laws_trace.proofs.CommandsCaused.{IsNoOther}
 use Rattle.laws_trace.proofs.ReceiptsNumbered.{PendsUp, pends-up, taken-is}
@@ -22,11 +22,8 @@ module _ (t : Terms) where
   puts-frame f other l = λ up is. never is
 
   puts-begun : (e : Event) (l : Link) → IsNoOther e → Puts (as_heard t e) l
-  puts-begun (received (frame f)) l other = go (is_overlong t f.control f.info)
-    where
-      go : (long : Bool) → Puts (received (cond long overlong (frame f))) l
-      go true = λ up is. never is
-      go false = puts-frame f f.control l
+  puts-begun (received (frame f)) l other =
+      cond_both (is_overlong t f.control f.info) overlong (frame f) (λ what. Puts (received what) l) (λ long up is. never is) (λ short. puts-frame f f.control l)
   puts-begun offer l other = absurd other
   puts-begun cleared l other = absurd other
   puts-begun any l other = λ up is. never is
@@ -72,11 +69,7 @@ module _ (t : Terms) (e : Event) (l : Link) (other : IsNoOther e) (owed : PendsU
 
   -- it is false
   none-down : (k : Link) → PendsUp k → is_multiple_frame k.state ≡ false → k.pending ≡ false
-  none-down k h down = go k.pending refl
-    where
-      go : (b : Bool) → k.pending ≡ b → b ≡ false
-      go false is = refl
-      go true is = absurd (true≢false (sym (h is) ∙ down))
+  none-down k h down = false_from_ne_true k.pending (λ is. true≢false (sym (h is) ∙ down))
 
   none-begun : restarts t e l ≡ true → next.pending ≡ false
   none-begun begins = left-is ∙ off-where-begun t (owed_in to owes) l.pending heard l (sym begin-is ∙ begins) (λ waits. none-down l owed (awaiting-down l.state waits))

@@ -1,5 +1,5 @@
 -- The Ri of each message of TEI management that waits on a line has two octets.
-use Rattle.laws_trace.proofs.Vocabulary.{ℕ, ◌+◌, ◌*◌, ◌/◌, ◌%◌, ◌<◌, ◌≤◌, ◌==◌, ◌&&◌, Bool, true, false, cond, List, [], ◌∷◌, ◌++◌, nat_le, Option, Some, None, arith, All, All-nil, All-cons, All-head, All-tail, All-append, AreOctets, Refusal, Management, Message, IdentityAssigned, IdentityDenied, IdentityCheckRequest, IdentityRemove, Period, First, Second, heard_of_type, heard_in, action_of, free_place, free_tei, no_room, Check, information_of, TeiCourse as Course, tei_begun as begun, begin_check, check_is, end_check, lose_one, send, unserved, withdraw}
+use Rattle.laws_trace.proofs.Vocabulary.{ℕ, ◌+◌, ◌*◌, ◌/◌, ◌%◌, ◌<◌, ◌≤◌, ◌==◌, ◌&&◌, Bool, true, false, cond, List, [], ◌∷◌, ◌++◌, nat_le, Option, Some, None, arith, All, All-nil, All-cons, All-head, All-tail, All-append, AreOctets, Refusal, Management, Message, IdentityAssigned, IdentityDenied, IdentityCheckRequest, IdentityRemove, Period, First, Second, heard_of_type, heard_in, action_of, free_place, free_tei, no_room, Check, information_of, TeiCourse as Course, tei_begun as begun, begin_check, check_is, end_check, lose_one, send, unserved, withdraw, cond_both}
 use Rattle.lapd_tei.specs.Events as teis
 use Rattle.lapd_tei.specs.Rows as rows
 use Rattle.lapd_tei.specs.Words.{with_message}
@@ -16,11 +16,8 @@ abbrev AreSmall : Course → Type 0
 AreSmall c = All IsSmall c.now.waiting
 
 sent : (m : Message) (waiting : List Message) → IsSmall m → All IsSmall waiting → All IsSmall (with_message m waiting)
-sent m waiting small h = go (no_room waiting)
-  where
-    go : (b : Bool) → All IsSmall (cond b waiting (waiting ++ m ∷ []))
-    go true = h
-    go false = All-append IsSmall waiting (m ∷ []) h (All-cons IsSmall m [] small (All-nil IsSmall))
+sent m waiting small h =
+    cond_both (no_room waiting) waiting (waiting ++ m ∷ []) (All IsSmall) (λ full. h) (λ room. All-append IsSmall waiting (m ∷ []) h (All-cons IsSmall m [] small (All-nil IsSmall)))
 
 -- The rows.
 request-small : (ri : ℕ) (c : Course) → ri < 65536 → AreSmall c → AreSmall (rows.request ri c)

@@ -2,7 +2,7 @@
 pub use Rattle.std.proofs.Common.{All, Bool, Err, IfSome, IsTrue, List, None, Ok, Option, Result, Some, [], ap, append-nil, append_assoc, arith, cond, drop, eq-eqb, eqb-true, false, filter, get_or, inl, inr, is_some, length, length-append, map, max, nat_le, not, option_map, refl, replicate, set, slice_get, slice_index, subst, suc, sym, take, true, true≢false, zero, ℕ, ⊎_elim, ◌%◌, ◌&&◌, ◌*◌, ◌++◌, ◌+◌, ◌-◌, ◌/◌, ◌<◌, ◌==◌, ◌||◌, ◌∙◌, ◌∷◌, ◌≡◌, ◌≢◌, ◌≤◌, ◌⊎◌}
 pub use Rattle.std.proofs.Math.Bool.{and-true, or-false, or-true, or_comm}
 pub use Rattle.std.proofs.Math.Seq.{drop-nil}
-pub use Rattle.std.proofs.lemmas.Bool.{and_parts, and_right, eqb-false, le-leb, le-ltb, leb-false, leb-true, lt-ltb, ltb-false, ltb-true, or_from, or_parts, or_right}
+pub use Rattle.std.proofs.lemmas.Bool.{and_parts, and_right, cond_both, eqb-false, false_from_ne_true, le-leb, le-ltb, leb-false, leb-true, lt-ltb, ltb-false, ltb-true, or_from, or_parts, or_right}
 pub use Rattle.std.proofs.lemmas.Grind.{flat_map-append}
 pub use Rattle.std.proofs.lemmas.List.{get_or-replicate, get_or-set_other, get_or-set_same, length-drop, length-replicate, map-append}
 pub use Rattle.std.proofs.lemmas.List.Elements.{All-append, All-cons, All-drop, All-head, All-nil, All-tail, All-take, All-weaker, filter-append}
@@ -40,7 +40,6 @@ pub use Rattle.lapd_frame.specs.declared.notes.ErrorCode.TheVariants.{A, C, D, F
 pub use Rattle.lapd_frame.specs.declared.notes.Note.{Note}
 pub use Rattle.lapd_frame.specs.declared.notes.Note.TheVariants.{Assigned, Data as NoteData, Doubled, Error, EstablishConfirm, EstablishIndication, ReleaseConfirm, ReleaseIndication, Removed, Unit, Xid as NoteXid}
 pub use Rattle.lapd_frame.specs.declared.overlong.Long.{Long}
-pub use Rattle.lapd_frame.specs.declared.overlong.Long.TheVariants.{Unnumbered}
 pub use Rattle.lapd_frame.specs.declared.refusals.Refusal.{Refusal}
 pub use Rattle.lapd_frame.specs.declared.refusals.Refusal.TheVariants.{BadTei, NoLink, PoolFull, WrongState}
 pub use Rattle.lapd_frame.specs.declared.services.Service.{Service}
@@ -125,7 +124,7 @@ pub use Rattle.laws_link.specs.Telling.{final_as, numbered_as, told_by, told_cle
 pub use Rattle.laws_link.specs.Timed.{is_same, obey, obeyed}
 pub use Rattle.laws_link.specs.Waiting.{answers, answers_to, answers_up, as_command, as_response, behind, command_in, commands, is_next, is_taken, is_time, put, receipt_as, room, to_disc, to_information, to_sabme, to_supervisory, waiting_left}
 pub use Rattle.laws_link.specs.two.Needed.{HasItsTimer, IsCalmIn, needed, needed_in}
-pub use Rattle.laws_trace.specs.ControlFrames.{command_of, polled, put_in}
+pub use Rattle.laws_trace.specs.ControlFrames.{put_in}
 pub use Rattle.laws_trace.specs.Deliveries.{Deliveries, brings_next, is_unit_for, is_unit_taken}
 pub use Rattle.laws_trace.specs.FramesAreDue.{DueIsGiven, GivenIsDue, may_go, offers, text}
 pub use Rattle.laws_trace.specs.FramesAreRead.{FramesAreOctets, FramesAreRead, GivesOctets, HasOctets, IsSpelled, contents_given, is_of_use}

@@ -1,5 +1,5 @@
 -- What is told is what was heard: over runs.
-use Rattle.laws_trace.proofs.Vocabulary.{length, nat_le, le-leb, within, ◌≡◌, ℕ, ◌+◌, ◌%◌, ◌&&◌, Bool, true, false, cond, List, Option, Some, None, refl, sym, ap, ◌∙◌, subst, eq-eqb, ◌==◌, Result, Ok, Err, true≢false, ◌⊎◌, inl, inr, is_some, Note, list_any, option_or, option_map_or, none-some, ReadFault, reading, sapi_of, same_service, Service, Parts, Terms, restarts, Link, is_multiple_frame, event-delivers, delivered-at_once, notes-own, event-tells, unit_heard, event-unit, within-is, place_of-is, Config, hears, Answer, Line, place_in, link_in, link_of, terms, aim_of, aim_of_heard, aim_of_reading, message_of, heard_side, group_tei, IsInRange, sound_in, at_side, notes_of, contents_in, is_data_of, is_unit_of, own-all, addressed-is, sapi-is, same-sapi, service-same, both-true, told-once, eqb-true, fresh_link as fresh, Event, line_after as after, answer, IsSound, result_ok, frame_of, is_for, is_ui, ReleaseConfirm, ReleaseIndication}
+use Rattle.laws_trace.proofs.Vocabulary.{length, nat_le, le-leb, within, ◌≡◌, ℕ, ◌+◌, ◌%◌, ◌&&◌, Bool, true, false, cond, List, Option, Some, None, refl, sym, ap, ◌∙◌, subst, eq-eqb, ◌==◌, Result, Ok, Err, true≢false, ◌⊎◌, inl, inr, is_some, Note, list_any, option_or, option_map_or, none-some, ReadFault, reading, sapi_of, same_service, Service, Parts, Terms, restarts, Link, is_multiple_frame, event-delivers, delivered-at_once, notes-own, event-tells, unit_heard, event-unit, within-is, Config, hears, Answer, Line, place_in, link_in, link_of, terms, aim_of, aim_of_heard, aim_of_reading, message_of, heard_side, group_tei, IsInRange, at_side, notes_of, contents_in, is_data_of, is_unit_of, own-all, addressed-is, sapi-is, same-sapi, service-same, both-true, told-once, eqb-true, fresh_link as fresh, Event, line_after as after, answer, IsSound, result_ok, frame_of, is_for, is_ui, ReleaseConfirm, ReleaseIndication}
 use Rattle.model_bits.specs.Stream as stream
 use Rattle.model_link.specs.Events as link
 use Rattle.model_link.specs.Machine as links
@@ -11,6 +11,7 @@ use Rattle.laws_trace.proofs.Deliveries.{frame_by, data-tells, unit-tells, data-
 use Rattle.laws_trace.proofs.OneLink.{HasOne, HasNone, Goes, is_at_link, event-goes, IsGivenUp}
 use Rattle.laws_trace.proofs.ClearedTells.{ends-alone}
 use Rattle.laws_trace.proofs.Facts.{only}
+use Rattle.laws_trace.proofs.LineAtEnd.{link-at-end}
 
 -- Contents of at most N201 octets.
 abbrev pub IsSmall : ℕ → Option (List ℕ) → Type 0
@@ -76,9 +77,7 @@ module _ (c : Config) (ranged : IsInRange c) (l : Line) (s : IsSound c l) (e : E
     t = terms c service tei
 
     own-sound : link_sound.IsSound t k
-    own-sound =
-        subst (link_sound.IsSound t) (sym (ap (λ o. option_map_or (link_in l service) o fresh) x.placed))
-        (sound_in c ranged l s service tei x.place (place_of-is l.management.places tei x.place x.placed).1)
+    own-sound = link-at-end c l ranged s service tei x.place x.placed
 
     pub data-noted : list_any (is_data_of service tei) (notes_of a) ≡ is_some (links.told t x.event k).delivered
     data-noted =

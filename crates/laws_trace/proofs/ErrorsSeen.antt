@@ -8,6 +8,7 @@ use Rattle.laws_trace.proofs.LinkLed.{addressed-none, own-address}
 use Rattle.laws_trace.proofs.NewsRows.{errors_of}
 use Rattle.laws_trace.proofs.OneLink.{is_at_link}
 use Rattle.laws_trace.proofs.TimersWatched.{nothing_yet}
+use Rattle.laws_trace.proofs.Facts.{either-none}
 
 abbrev wrong_parts : Config → ℕ → ℕ → Parts → List ErrorCode
 wrong_parts c was to f = wrong_frame (nat_lt c.n201 (length f.info)) f.address.command f.control was to
@@ -60,14 +61,10 @@ module _ (c : Config) (service : Service) (tei : ℕ) where
             cond_both (is_for service tei f.address) (Some f) None (λ o. o ≡ None)
             (λ for. absurd (true≢false (sym (heard-aims-at c l service tei place on e f is for) ∙ aims))) (λ other. refl)
 
-    bare : (b : Bool) → cond b (option_to_list no-code) [] ≡ []
-    bare true = refl
-    bare false = refl
-
     pub none-wrong : (e : Event) → is_at_link service tei (aim_of c e l) ≡ false → (n m : ℕ) → (n ≡ m) ⊎ (m ≡ 1) → wrong c service tei e n m ≡ []
     none-wrong (hears e) aims n m stays =
         ap (λ o. cond (is_up n) (option_to_list o) [] ++ option_map_or (wrong_parts c n m) (its_frame service tei (frame_of c e)) []) (none-malformed e aims)
-        ∙ ap (λ o. cond (is_up n) [] [] ++ option_map_or (wrong_parts c n m) o []) (none-its e aims) ∙ ap (λ xs. xs ++ []) (bare (is_up n))
+        ∙ ap (λ o. cond (is_up n) [] [] ++ option_map_or (wrong_parts c n m) o []) (none-its e aims) ∙ ap (λ xs. xs ++ []) (either-none (is_up n))
     none-wrong (expiry timer) aims n m stays = none-given-up n m stays
     none-wrong other aims n m stays = refl
 
@@ -104,15 +101,11 @@ module _ (c : Config) (service : Service) (tei : ℕ) where
     brings-malformed : (what : link.Received) → BringsMalformed c e service tei what → Wrong (link.received what)
     brings-malformed what y = wrong-malformed y.address y.octets what (own-address c service tei nothing_yet a y.address y.sapi y.tei_is) y.by
 
-    bare-up : (b : Bool) → cond b (option_to_list no-code) [] ≡ []
-    bare-up true = refl
-    bare-up false = refl
-
     pub one-wrong : (event : link.Event) → IsBy c e a service tei event → Wrong event
     one-wrong (link.received (link.frame f)) y =
         ap (λ e. wrong c service tei e from to) y.by
         ∙ ap (λ r. cond (is_up from) (option_to_list (option_and_then (fault_of service tei) (result_err r))) [] ++ option_map_or (wrong_parts c from to) (its_frame service tei (result_ok r)) []) y.read
-        ∙ ap (λ xs. xs ++ option_map_or (wrong_parts c from to) (cond (is_for service tei f.address) (Some f) None) []) (bare-up (is_up from))
+        ∙ ap (λ xs. xs ++ option_map_or (wrong_parts c from to) (cond (is_for service tei f.address) (Some f) None) []) (either-none (is_up from))
         ∙ ap (λ b. option_map_or (wrong_parts c from to) (cond b (Some f) None) []) (own-address c service tei nothing_yet a f.address y.sapi y.tei_is)
     one-wrong (link.received link.undefined) y = brings-malformed link.undefined y
     one-wrong (link.received link.wrong_size) y = brings-malformed link.wrong_size y

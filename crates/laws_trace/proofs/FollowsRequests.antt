@@ -18,20 +18,16 @@ refused-4 : (side bad on full : Bool) (x y z u : Refusal) → (on ≡ true → b
     → is_some (cond (not side) (Some x) (cond bad (Some y) (cond (not on) (Some z) (cond full (Some u) None)))) ≡ not (side && on && not full)
 refused-4 false bad on full x y z u low = refl
 refused-4 true true true full x y z u low = absurd (true≢false (low refl))
-refused-4 true true false full x y z u low = refl
-refused-4 true false false full x y z u low = refl
 refused-4 true false true true x y z u low = refl
-refused-4 true false true false x y z u low = refl
+refused-4 true bad on full x y z u low = refl
 
 refused-5 : (side bad on runs full : Bool) (x y z u v : Refusal) → (on ≡ true → bad ≡ false)
     → is_some (cond (not side) (Some x) (cond bad (Some y) (cond (not on) (Some z) (cond runs (Some u) (cond full (Some v) None))))) ≡ not (side && (on && not runs) && not full)
 refused-5 false bad on runs full x y z u v low = refl
 refused-5 true true true runs full x y z u v low = absurd (true≢false (low refl))
-refused-5 true true false runs full x y z u v low = refl
-refused-5 true false false runs full x y z u v low = refl
 refused-5 true false true true full x y z u v low = refl
 refused-5 true false true false true x y z u v low = refl
-refused-5 true false true false false x y z u v low = refl
+refused-5 true bad on runs full x y z u v low = refl
 
 low-test : (tei : ℕ) → nat_le tei 126 ≡ not (nat_lt 126 tei)
 low-test tei = go (nat_le tei 126) refl (nat_lt 126 tei) refl

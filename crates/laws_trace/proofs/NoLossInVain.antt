@@ -31,6 +31,7 @@ use Rattle.laws_trace.proofs.States.{one_more}
 use Rattle.laws_trace.proofs.TeisAreManaged.{shows-behind}
 use Rattle.laws_trace.proofs.TimersAreTimely.{timely-now}
 use Rattle.laws_trace.proofs.WaitingNow.{waiting-now}
+use Rattle.laws_trace.proofs.Facts.{either-none}
 
 -- One event of a line.
 abbrev NoLoss : Aim → Type 0
@@ -195,12 +196,8 @@ down-none c service tei o (request (Deactivate its by)) a m is down =
     stays : enters o o ≡ false
     stays = ap (λ b. not b || nat_lt o.expiries o.expiries) (eq-eqb o.state o.state refl) ∙ le-ltb o.expiries o.expiries (omega arith)
 
-    either : (b : Bool) → cond {A = List ControlFrame} b [] [] ≡ []
-    either true = refl
-    either false = refl
-
     go : (g : Bool) → let q = cond g (cond (is_own service tei its by) (in_state 4) o) o in now_due.changed o q ++ cond (enters o q) (now_due.command_of q) [] ≡ []
-    go true = ap (λ b. let q = cond b (in_state 4) o in now_due.changed o q ++ cond (enters o q) (now_due.command_of q) []) down ∙ either (enters o (in_state 4))
+    go true = ap (λ b. let q = cond b (in_state 4) o in now_due.changed o q ++ cond (enters o q) (now_due.command_of q) []) down ∙ either-none (enters o (in_state 4))
     go false = ap (λ xs. xs ++ cond (enters o o) (now_due.command_of o) []) (unchanged o o (λ up. refl)) ∙ ap (λ b. cond b (now_due.command_of o) []) stays
 down-none c service tei o other a m is down = absurd (true≢false (sym down))
 

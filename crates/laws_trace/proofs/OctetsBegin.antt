@@ -1,6 +1,6 @@
 -- Where the contents that are granted, and the frames that are heard, are octets, so are those of each frame that
 -- begins: the law.
-use Rattle.laws_trace.proofs.Vocabulary.{◌≡◌, ℕ, zero, suc, ◌<◌, ◌≤◌, Bool, true, false, cond, List, [], ◌∷◌, ◌++◌, drop, get_or, replicate, slice_get, Option, Some, None, IfSome, option_map, refl, sym, ap, ◌∙◌, subst, arith, ◌⊎◌, inl, inr, All, is_some, option_or, option_map_or, flat_map-append, get_or-replicate, All-nil, All-cons, All-head, All-tail, All-append, All-drop, AreOctets, Address, Side, Ui, Refusal, Service, sapi_of, action_of, Message, accepted, share, IsOffered, Carries, number_sent, kept-after, given-is-offered, Seq, Link, queue_of, address_at, Given, Terms, Config, request, next, Answer, gave, Line, UnitData, link_count, link_number, service_at, place_at, place_in, tei_at, link_at, link_in, link_of, terms, fresh_line, Taken, with_unit, unit_frame, first_taken, round, taken, next_of, line_of, IsInRange, IsSoundAt, IsUnitData, sound_in, round_below, place_of-is, unit_asked, units_asked, is_granted, IsBy, OfLink, of-links, IsOne, taken-one, has-place, units-wait, number-is, fresh_is_sound, head, unwrap_or, Control, head_of, information_of, message_frame, fresh_link, Event, told, line_after as after, answer, with_message, Request, IsSound, fresh, all-left as all-front, all-right as all-back, contents_given, GivesOctets, FramesAreOctets, trace_frame_in as frame_in, Seen, granted, seen_told, seen, frames_begun, Always, units_behind, units_left, link_refusal as refusal, Data, Down, LineUnit as Unit, frame_begun, seen_granted}
+use Rattle.laws_trace.proofs.Vocabulary.{◌≡◌, ℕ, zero, suc, ◌<◌, ◌≤◌, Bool, true, false, cond, List, [], ◌∷◌, ◌++◌, drop, get_or, replicate, slice_get, Option, Some, None, IfSome, option_map, refl, sym, ap, ◌∙◌, subst, arith, ◌⊎◌, inl, inr, All, is_some, option_or, option_map_or, flat_map-append, get_or-replicate, All-nil, All-cons, All-head, All-tail, All-append, All-drop, AreOctets, Address, Side, Ui, Refusal, Service, sapi_of, action_of, Message, accepted, share, IsOffered, Carries, number_sent, kept-after, given-is-offered, Seq, Link, queue_of, address_at, Given, Terms, Config, request, next, Answer, gave, Line, UnitData, link_count, link_number, service_at, place_at, place_in, tei_at, link_at, link_in, link_of, terms, fresh_line, Taken, with_unit, unit_frame, first_taken, round, taken, next_of, line_of, IsInRange, IsSoundAt, IsUnitData, round_below, unit_asked, units_asked, is_granted, IsBy, OfLink, of-links, IsOne, taken-one, has-place, units-wait, number-is, fresh_is_sound, head, unwrap_or, Control, head_of, information_of, message_frame, fresh_link, Event, told, line_after as after, answer, with_message, Request, IsSound, fresh, all-left as all-front, all-right as all-back, contents_given, GivesOctets, FramesAreOctets, trace_frame_in as frame_in, Seen, granted, seen_told, seen, frames_begun, Always, units_behind, units_left, link_refusal as refusal, Data, Down, LineUnit as Unit, frame_begun, seen_granted}
 use Rattle.model_link.specs.Events as link
 use Rattle.model_link.specs.Machine as links
 use Rattle.model_link.specs.Sound as link_sound
@@ -11,6 +11,7 @@ use Rattle.laws_trace.proofs.SmallMessagesWait.{messages-after}
 use Rattle.laws_trace.proofs.Units.{none-told, none-requested, given-frames}
 use Rattle.laws_trace.proofs.Spelled.{Anything}
 use Rattle.laws_trace.proofs.Facts.{small-sapi}
+use Rattle.laws_trace.proofs.LineAtEnd.{link-at-end}
 
 abbrev IsUnit : UnitData → Type 0
 IsUnit u = AreOctets u.contents
@@ -131,9 +132,7 @@ module _ (c : Config) (e : Event) (l : Line) (s : IsSound c l) (ranged : IsInRan
   own = link_of service tei l
 
   sound : (place : ℕ) → place_in l tei ≡ Some place → link_sound.IsSound (terms c service tei) own
-  sound place is =
-      subst (link_sound.IsSound (terms c service tei)) (sym (ap (λ o. option_map_or (link_in l service) o fresh_link) is))
-      (sound_in c ranged l s service tei place (place_of-is l.management.places tei place is).1)
+  sound place is = link-at-end c l ranged s service tei place is
 
   stays : (link_of service tei (after c e l) ≡ own) ⊎ (link_of service tei (after c e l) ≡ fresh_link) → All AreOctets (queue_of (link_of service tei (after c e l)))
   stays (inl same) = subst (λ (x : Link). All AreOctets (queue_of x)) (sym same) (k.links service tei)

@@ -1,5 +1,5 @@
 -- Whether I-frames are outstanding, as an observer knows it: one event of a line.
-use Rattle.laws_trace.proofs.Vocabulary.{◌≡◌, ℕ, ◌+◌, ◌%◌, ◌≤◌, ◌==◌, not, Bool, true, false, length, Option, Some, None, refl, sym, ap, ◌∙◌, subst, arith, eq-eqb, true≢false, ◌⊎◌, inl, inr, option_map_or, Service, place_of-is, State, TeiAssigned, AwaitingEstablishment, Established, TimerRecovery, Link, Config, Line, link_in, link_of, place_in, state_of, terms, IsInRange, sound_in, terms_in_range, HaveTheirTimers, fresh_link as fresh, Event, line_after as after, answer, IsSound, offer, begun}
+use Rattle.laws_trace.proofs.Vocabulary.{◌≡◌, ℕ, ◌+◌, ◌%◌, ◌≤◌, ◌==◌, not, Bool, true, false, length, Option, Some, None, refl, sym, ap, ◌∙◌, subst, arith, eq-eqb, true≢false, ◌⊎◌, inl, inr, Service, place_of-is, State, TeiAssigned, AwaitingEstablishment, Established, TimerRecovery, Link, Config, Line, link_of, place_in, state_of, terms, IsInRange, terms_in_range, HaveTheirTimers, fresh_link as fresh, Event, line_after as after, answer, IsSound, offer, begun}
 use Rattle.model_link.specs.Machine as links
 use Rattle.model_link.specs.Sound as link_sound
 use Rattle.laws_trace.proofs.TimersWatched.{Known}
@@ -11,6 +11,7 @@ use Rattle.laws_trace.proofs.TimerEvents.{event-good}
 use Rattle.laws_trace.proofs.TimersAreTimely.{outstanding-is}
 use Rattle.laws_trace.proofs.TimersOfEvent.{IsTrueOf, state-on, off-fresh, off-state}
 use Rattle.laws_trace.proofs.TimersOfEvent as events
+use Rattle.laws_trace.proofs.LineAtEnd.{link-at-end}
 
 abbrev pub IsOwed : Service → ℕ → Bool → Line → Type 0
 IsOwed service tei outstanding l = let x = link_of service tei l in outstanding ≡ not (x.s == x.a)
@@ -47,8 +48,7 @@ module _ (c : Config) (ranged : IsInRange c) (l : Line) (s : IsSound c l) (servi
           none-owed (subst (λ (x : Link). Agrees x.state k x.a x.s x.peer_busy) new agrees) (ap (λ (x : Link). x.s) new ∙ sym (ap (λ (x : Link). x.a) new))
       go (Some place) on =
           let placed = (place_of-is l.management.places tei place on).1 in
-          let sound : link_sound.IsSound (terms c service tei) own =
-          subst (link_sound.IsSound (terms c service tei)) (sym (ap (λ o. option_map_or (link_in l service) o fresh) on)) (sound_in c ranged l s service tei place placed) in
+          let sound : link_sound.IsSound (terms c service tei) own = link-at-end c l ranged s service tei place on in
           let high : own.s ≤ own.a + (terms c service tei).k = sound.within in
           let small : (terms c service tei).k ≤ 127 = (terms_in_range c ranged service tei (s.management.table.range place tei placed)).k_high in
           by-state own.state (sym (ap (is_state 5) (state-on service tei l place on)) ∙ off) agrees sound.settled sound (omega (arith, high, small))

@@ -1,5 +1,5 @@
 -- What is known of a link stays true: each event of a line.
-use Rattle.laws_trace.proofs.Vocabulary.{◌≡◌, ℕ, ◌&&◌, ◌||◌, Bool, true, false, cond, List, [], ◌∷◌, map, Option, Some, None, option_map, refl, sym, ap, ◌∙◌, subst, true≢false, ◌⊎◌, inl, inr, All, option_to_list, option_map_or, All-head, Service, Parts, place_of-is, HasItsTimer, needed, State, Terms, LinkTimer, Link, is_same, Given, runs, is_timer, Config, hears, next, Answer, NextFrame, gave, Line, link_in, link_of, link_number, place_in, state_of, state_in, terms, taken, next_of, IsInRange, sound_in, terms_in_range, IsBy, timer_of, is_needed, left_by, HaveTheirTimers, T200, T203, fresh_link as fresh, Event, line_after as after, answer, line_frame_of as frame_of, IsSound, is_for, trace_frame_in as frame_in, seen, none-some}
+use Rattle.laws_trace.proofs.Vocabulary.{◌≡◌, ℕ, ◌&&◌, ◌||◌, Bool, true, false, cond, List, [], ◌∷◌, map, Option, Some, None, option_map, refl, sym, ap, ◌∙◌, subst, true≢false, ◌⊎◌, inl, inr, All, option_to_list, option_map_or, All-head, Service, Parts, place_of-is, HasItsTimer, needed, State, Terms, LinkTimer, Link, is_same, Given, runs, is_timer, Config, hears, next, Answer, NextFrame, gave, Line, link_in, link_of, link_number, place_in, state_of, state_in, terms, taken, next_of, IsInRange, terms_in_range, IsBy, timer_of, is_needed, left_by, HaveTheirTimers, T200, T203, fresh_link as fresh, Event, line_after as after, answer, line_frame_of as frame_of, IsSound, is_for, trace_frame_in as frame_in, seen, none-some}
 use Rattle.model_bits.specs.Stream as stream
 use Rattle.model_link.specs.Events as link
 use Rattle.model_link.specs.Machine as links
@@ -16,6 +16,7 @@ use Rattle.laws_trace.proofs.TimerEvents.{ran_before, control_of, event-good}
 use Rattle.laws_trace.proofs.TimerOffers.{Offered, sent_known, given_sent, same-known, offer-good}
 use Rattle.laws_trace.proofs.TimersOfLine.{sent_at, seen-learns}
 use Rattle.laws_trace.proofs.Facts.{its-own}
+use Rattle.laws_trace.proofs.LineAtEnd.{link-at-end}
 
 -- What is true of a link of a line, whose TEI may be on it or not.
 abbrev pub IsTrueOf : Service → ℕ → Known → Line → Type 0
@@ -87,9 +88,7 @@ module _ (c : Config) (ranged : IsInRange c) (l : Line) (s : IsSound c l) (timed
   new = link_of service tei (after c e l)
 
   own-sound : (place : ℕ) → place_in l tei ≡ Some place → link_sound.IsSound t own
-  own-sound place is =
-      subst (link_sound.IsSound t) (sym (ap (λ o. option_map_or (link_in l service) o fresh) is))
-      (sound_in c ranged l s service tei place (place_of-is l.management.places tei place is).1)
+  own-sound place is = link-at-end c l ranged s service tei place is
 
   own-range : (place : ℕ) → place_in l tei ≡ Some place → link_sound.IsInRange t
   own-range place is = terms_in_range c ranged service tei (s.management.table.range place tei (place_of-is l.management.places tei place is).1)

@@ -13,7 +13,7 @@ use Rattle.laws_wire.specs.Timely.{is_poll, is_final, IsTimelyOf}
 use Rattle.laws_wire.specs.Answering.{IsFullTalkOf, gives_information}
 use Rattle.laws_wire.proofs.Acting.{ranges, sound}
 use Rattle.laws_wire.proofs.Answered.{takes-granted}
-use Rattle.laws_wire.proofs.Awaited.{closed}
+use Rattle.laws_wire.proofs.Awaited.{all-behind, NoneOpen, closed}
 use Rattle.laws_wire.proofs.Calling.{its_ua, ua, end}
 use Rattle.laws_wire.proofs.Firm.{not-behind}
 use Rattle.laws_wire.proofs.Held.{Held, held-given, held-lost, held-first, taken-told, taken-stands}
@@ -24,7 +24,7 @@ use Rattle.laws_wire.proofs.Ringing.{ringing, answered}
 use Rattle.laws_wire.proofs.Talking.{Face}
 use Rattle.laws_wire.proofs.UaCalled.{sane-after, Poised, PoisedOn, poised-on, loose-poised}
 use Rattle.laws_wire.proofs.UaCalledAt.{FreeAs, StirsAt, asked-at, expired-at, flagged-at}
-use Rattle.laws_wire.proofs.UaLost.{behind, IsNoPoll, none-asked, all-behind, all-behind-way, rising-drop, taken-none, first_near, ignores-frame}
+use Rattle.laws_wire.proofs.UaLost.{behind, IsNoPoll, none-asked, rising-drop, taken-none, first_near, ignores-frame}
 
 module _ (service : Service) (tei : ℕ) (c d : Config) (p q : ℕ) (face : Face c d) (back : Face d c) (rt : IsInRange (terms c service tei)) (ru : IsInRange (terms d service tei)) (past : List LineTold) where
   abbrev t : Terms
@@ -303,7 +303,7 @@ module _ (service : Service) (tei : ℕ) (c d : Config) (p q : ℕ) (face : Face
     timely-there its free state running =
         let asked = free state running in
         closed h.m n (record {
-          commands = record { waiting = asked.waiting; way = all-behind-way (λ (f : Parts). is_poll f.address.command f.control ≡ false) before h.m.way asked.way };
+          commands = record { waiting = asked.waiting; way = all-behind (λ (f : Parts). is_poll f.address.command f.control ≡ false) before h.m.way asked.way };
           responses = record { waiting = All-nil (λ (f : ControlFrame). is_final f.command f.control ≡ false); way = All-nil (λ (f : Parts). is_final f.address.command f.control ≡ false) };
         })
 
@@ -333,7 +333,7 @@ module _ (service : Service) (tei : ℕ) (c d : Config) (p q : ℕ) (face : Face
     pub comes-awaited : HasNo is_final whole → ⊥
     comes-awaited free =
         let all = subst (All (λ (f : Parts). is_final f.address.command f.control ≡ false)) (append_assoc h.stale (ua u ∷ []) h.m.way) free.way in
-        let here = all-behind-way (λ (f : Parts). is_final f.address.command f.control ≡ false) h.stale (ua u ∷ h.m.way) all in
+        let here = all-behind (λ (f : Parts). is_final f.address.command f.control ≡ false) h.stale (ua u ∷ h.m.way) all in
         true≢false (All-head (λ (f : Parts). is_final f.address.command f.control ≡ false) (ua u) h.m.way here)
 
     not-beyond : h.m.link.r ≤ 0

@@ -1,28 +1,13 @@
 -- The premises of the law on a call with losses are met by the worked call.
-use Rattle.laws_wire.proofs.Vocabulary.{◌≡◌, Bool, true, false, List, [], ◌∷◌, ◌++◌, refl, sym, subst, ◌∙◌, true≢false, All, All-nil, All-cons, Call, reading, header_of, control_of, unnumbered_of, supervisory_of, distance_of, named, seq}
+use Rattle.laws_wire.proofs.Vocabulary.{◌≡◌, Bool, true, false, List, [], ◌∷◌, ◌++◌, refl, sym, subst, ◌∙◌, true≢false, All, All-nil, All-cons, Call, reading, header_of, control_of, unnumbered_of, supervisory_of, distance_of, named, seq, Data, SetBusy, ClearBusy, Wire, IsStill, requests, times_out, gives, takes, loses, Doing, at_near, at_far, doing, doing_all, turns, confirmed, indicated, data_told, heard_in, round, awaits_reply, MayRepeat, user, network, begins}
 use Rattle.lapd_frame.specs.declared.timers.Timer.TheVariants.{T200, T203}
 use Rattle.lapd_tei.specs.Events as teis
 use Rattle.model_line.specs.Machine as lines
-use Rattle.model_line.specs.Request.{Data, SetBusy, ClearBusy}
-use Rattle.laws_wire.specs.Wire.{Wire, IsStill, requests, times_out, gives, takes, loses, Doing, at_near, at_far, doing, doing_all, turns}
-use Rattle.laws_wire.specs.Call.{confirmed, indicated, data_told}
-use Rattle.laws_wire.specs.Losing.{heard_in}
-use Rattle.laws_wire.specs.Recovering.{round}
-use Rattle.laws_wire.specs.Timely.{awaits_reply, MayRepeat}
 use Rattle.laws_wire.specs.Answering.{IsFullTalk, StayPatient, uncalled, error_f, seen, ToldSo}
-use Rattle.laws_wire.specs.Worked.{user, network, begins}
 use Rattle.laws_wire.specs.WorkedAnswering.{loses_ua, is_busy, repeated, repeated_seen, repeated_still, repeated_rests, asks_early, rings_again, kept, kept_seen, kept_still, kept_rests}
-use Rattle.laws_wire.proofs.PremisesMet.{can}
+use Rattle.laws_wire.proofs.PremisesMet.{can, all-of}
 use Rattle.laws_wire.proofs.RecoveryMet.{none-told, still-open}
 use Rattle.laws_wire.proofs.UaTold.{lossy-calls-come-through}
-
-abbrev AreFull : List Doing → Type 0
-AreFull [] = Unit {0}
-AreFull (d ∷ ds) = IsFullTalk Call 0 d × AreFull ds
-
-all-full : (ds : List Doing) → AreFull ds → All (IsFullTalk Call 0) ds
-all-full [] h = All-nil (IsFullTalk Call 0)
-all-full (d ∷ ds) h = All-cons (IsFullTalk Call 0) d ds h.0 (all-full ds h.1)
 
 full : All (IsFullTalk Call 0) (loses_ua ++ is_busy)
 full =
@@ -31,14 +16,14 @@ full =
     let busy : IsFullTalk Call 0 (at_far (requests (SetBusy Call 0))) = (refl, refl) in
     let ready : IsFullTalk Call 0 (at_far (requests (ClearBusy Call 0))) = (refl, refl) in
     let expires : IsFullTalk Call 0 (at_near (times_out (T200 Call 0))) = (refl, refl) in
-    all-full (loses_ua ++ is_busy) (tt, (tt, (tt, (tt, (expires, (tt, (tt, (tt, (tt, (busy, (near, (tt, (tt, (tt, (tt, (far, (tt, (tt, (ready, (expires, (tt, (tt, (tt, (tt, (tt, (tt, (tt, (tt, (tt, (tt, (tt, (tt, tt))))))))))))))))))))))))))))))))
+    all-of (IsFullTalk Call 0) (loses_ua ++ is_busy) (tt, (tt, (tt, (tt, (expires, (tt, (tt, (tt, (tt, (busy, (near, (tt, (tt, (tt, (tt, (far, (tt, (tt, (ready, (expires, (tt, (tt, (tt, (tt, (tt, (tt, (tt, (tt, (tt, (tt, (tt, (tt, tt))))))))))))))))))))))))))))))))
 
 full-early : All (IsFullTalk Call 0) (asks_early ++ rings_again)
 full-early =
     let far : IsFullTalk Call 0 (at_far (requests (Data Call 0 (2 ∷ [])))) = (refl, refl) in
     let idle : IsFullTalk Call 0 (at_far (times_out (T203 Call 0))) = (refl, refl) in
     let expires : IsFullTalk Call 0 (at_near (times_out (T200 Call 0))) = (refl, refl) in
-    all-full (asks_early ++ rings_again) (tt, (tt, (idle, (tt, (tt, (tt, (far, (tt, (expires, (tt, (tt, (tt, (tt, (tt, (tt, (tt, (tt, (tt, (tt, (tt, (tt, tt)))))))))))))))))))))
+    all-of (IsFullTalk Call 0) (asks_early ++ rings_again) (tt, (tt, (idle, (tt, (tt, (tt, (far, (tt, (expires, (tt, (tt, (tt, (tt, (tt, (tt, (tt, (tt, (tt, (tt, (tt, (tt, tt)))))))))))))))))))))
 
 -- Where no timer expires nothing is asked of it.
 abbrev without_timers : List Doing → Bool

@@ -4,7 +4,7 @@ use Rattle.lapd_frame.specs.declared.timers.Timer.TheVariants.{T200}
 use Rattle.lapd_tei.specs.Events as teis
 use Rattle.model_line.specs.Machine as lines
 use Rattle.laws_wire.specs.WorkedArriving.{loses_two, goes_on, lossy, over, lossy_near, near_asked, over_still}
-use Rattle.laws_wire.proofs.PremisesMet.{can, all-rough}
+use Rattle.laws_wire.proofs.PremisesMet.{can, all-of}
 use Rattle.laws_wire.proofs.RecoveryMet.{none-told, heard-it}
 use Rattle.laws_wire.proofs.UnderwayRun.{arrives-under-traffic}
 
@@ -18,11 +18,11 @@ expires : IsRoughTalk Call 0 (at_near (times_out (T200 Call 0)))
 expires = (refl, refl)
 
 rough : All (IsRoughTalk Call 0) loses_two
-rough = all-rough loses_two (tt, (tt, (tt, (tt, (data-near (1 ∷ []), (tt, (tt, (data-far (2 ∷ []), (data-far (3 ∷ []), (tt, (tt, (tt, tt))))))))))))
+rough = all-of (IsRoughTalk Call 0) loses_two (tt, (tt, (tt, (tt, (data-near (1 ∷ []), (tt, (tt, (data-far (2 ∷ []), (data-far (3 ∷ []), (tt, (tt, (tt, tt))))))))))))
 
 rough-on : All (IsRoughTalk Call 0) goes_on
 rough-on =
-    all-rough goes_on (
+    all-of (IsRoughTalk Call 0) goes_on (
       tt,
       (
         expires,
@@ -33,16 +33,8 @@ rough-on =
       ),
     )
 
-abbrev AreKept : List Doing → Type 0
-AreKept [] = Unit {0}
-AreKept (d ∷ ds) = LosesNothing d × AreKept ds
-
-all-kept : (ds : List Doing) → AreKept ds → All LosesNothing ds
-all-kept [] h = All-nil LosesNothing
-all-kept (d ∷ ds) h = All-cons LosesNothing d ds h.0 (all-kept ds h.1)
-
 kept : All LosesNothing goes_on
-kept = all-kept goes_on (tt, (tt, (tt, (tt, (tt, (tt, (tt, (tt, (tt, (tt, (tt, (tt, (tt, (tt, (tt, (tt, (tt, (tt, (tt, (tt, (tt, (tt, (tt, tt)))))))))))))))))))))))
+kept = all-of LosesNothing goes_on (tt, (tt, (tt, (tt, (tt, (tt, (tt, (tt, (tt, (tt, (tt, (tt, (tt, (tt, (tt, (tt, (tt, (tt, (tt, (tt, (tt, (tt, (tt, tt)))))))))))))))))))))))
 
 -- the far end's I-frame is lost behind UA
 as-it-is-lost : Wire

@@ -5,32 +5,16 @@ use Rattle.lapd_tei.specs.Events as teis
 use Rattle.model_line.specs.Machine as lines
 use Rattle.laws_wire.specs.WorkedEnding.{established, rests, still, released, loses_disc, loses_both, ended, ended_still, ended_rests}
 use Rattle.laws_wire.proofs.EndedRun.{calls-end}
-use Rattle.laws_wire.proofs.PremisesMet.{can}
+use Rattle.laws_wire.proofs.PremisesMet.{can, all-of}
 use Rattle.laws_wire.proofs.RecoveryMet.{none-told, still-open}
 
-abbrev AreFull : List Doing → Type 0
-AreFull [] = Unit {0}
-AreFull (d ∷ ds) = IsFullTalk Call 0 d × AreFull ds
-
-all-full : (ds : List Doing) → AreFull ds → All (IsFullTalk Call 0) ds
-all-full [] h = All-nil (IsFullTalk Call 0)
-all-full (d ∷ ds) h = All-cons (IsFullTalk Call 0) d ds h.0 (all-full ds h.1)
-
-abbrev AreLeaving : List Doing → Type 0
-AreLeaving [] = Unit {0}
-AreLeaving (d ∷ ds) = IsLeaving Call 0 d × AreLeaving ds
-
-all-leaving : (ds : List Doing) → AreLeaving ds → All (IsLeaving Call 0) ds
-all-leaving [] h = All-nil (IsLeaving Call 0)
-all-leaving (d ∷ ds) h = All-cons (IsLeaving Call 0) d ds h.0 (all-leaving ds h.1)
-
 full : All (IsFullTalk Call 0) establishes
-full = all-full establishes (tt, (tt, (tt, (tt, tt))))
+full = all-of (IsFullTalk Call 0) establishes (tt, (tt, (tt, (tt, tt))))
 
 leaving-all : All (IsLeaving Call 0) loses_both
 leaving-all =
     let expires : IsLeaving Call 0 (at_near (times_out (T200 Call 0))) = (refl, refl) in
-    all-leaving loses_both (tt, (tt, (expires, (tt, (tt, (tt, (tt, (expires, (tt, (tt, (tt, (tt, tt))))))))))))
+    all-of (IsLeaving Call 0) loses_both (tt, (tt, (expires, (tt, (tt, (tt, (tt, (expires, (tt, (tt, (tt, (tt, tt))))))))))))
 
 patient : StayPatient establishes begins
 unfolding StayPatient

@@ -6,7 +6,7 @@ use Rattle.model_line.specs.Machine as lines
 use Rattle.model_line.specs.Taken.{line_of}
 use Rattle.laws_wire.specs.Facing.{read_as}
 use Rattle.laws_wire.specs.Wire.{unless_refused}
-use Rattle.laws_wire.proofs.PremisesMet.{can, all-rough}
+use Rattle.laws_wire.proofs.PremisesMet.{can, all-of}
 use Rattle.laws_wire.proofs.StillIsTimely.{still-is-enough}
 use Rattle.laws_wire.proofs.TimelyRun.{what-is-lost-arrives}
 
@@ -15,7 +15,7 @@ rough =
     let near : IsRoughTalk Call 0 (at_near (requests (Data Call 0 (0xAB ∷ [])))) = (refl, refl) in
     let far : IsRoughTalk Call 0 (at_far (requests (Data Call 0 (0xCD ∷ [])))) = (refl, refl) in
     let expires : IsRoughTalk Call 0 (at_near (times_out (T200 Call 0))) = (refl, refl) in
-    all-rough loses_three (tt, (tt, (expires, (tt, (tt, (tt, (tt, (near, (tt, (tt, (far, (tt, (tt, tt)))))))))))))
+    all-of (IsRoughTalk Call 0) loses_three (tt, (tt, (expires, (tt, (tt, (tt, (tt, (near, (tt, (tt, (far, (tt, (tt, tt)))))))))))))
 
 abbrev IsFair : LineTold → Type 0
 IsFair t = list_any is_error t.notes ≡ false

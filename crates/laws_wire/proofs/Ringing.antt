@@ -53,10 +53,6 @@ module _ (t : Terms) (k : ℕ) (ws : List ControlFrame) where
       go true true = inr (record { repeats = k + 1; waiting = ws ++ its_sabme ∷ []; becomes = refl; more = inr refl; notes = refl; delivered = refl; unit = refl })
       go true false = inr (record { repeats = k + 1; waiting = ws; becomes = refl; more = inl refl; notes = refl; delivered = refl; unit = refl })
 
-  -- where N200 is used up an error is told
-  pub t200-over : nat_lt k t.n200 ≡ false → HasError (course t (expired T200) l).notes
-  t200-over over = ap (λ b. list_any is_error (cond b (again (nat_lt (length ws) t.control)) given_up).notes) over
-
   pub t203-rings : Rings k ws (course t (expired T203) l)
   t203-rings = record { repeats = k; waiting = ws; becomes = refl; more = inl refl; notes = refl; delivered = refl; unit = refl }
 

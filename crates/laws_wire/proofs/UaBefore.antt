@@ -1,10 +1,8 @@
 -- Two cards on one wire, one of which was granted more before: nothing else is other.
-use Rattle.laws_wire.proofs.Vocabulary.{◌≡◌, ℕ, suc, ◌==◌, Bool, true, false, cond, List, [], ◌∷◌, ◌++◌, length, refl, sym, ap, append-nil, append_assoc, eqb-true, arith, LineTold, Service, End, Config, expiry, request, next, zero, subst, All, flat_map, Control, Parts, NoneGoes, giving}
+use Rattle.laws_wire.proofs.Vocabulary.{◌≡◌, ℕ, suc, ◌==◌, Bool, true, false, cond, List, [], ◌∷◌, ◌++◌, length, refl, sym, ap, append-nil, append_assoc, eqb-true, arith, LineTold, Service, End, Config, expiry, request, next, zero, subst, All, flat_map, Control, Parts, NoneGoes, giving, Event, is_poll, is_final, IsTimelyOf}
 use Rattle.lapd_frame.specs.declared.timers.Timer.TheVariants as timers
-use Rattle.model_line.specs.Event.{Event}
 use Rattle.laws_wire.specs.Wire.{Station, Wire, answered, happens, with_first_of, with_first_lost, unless_refused, contents_in, Act, requests, times_out, gives, takes, loses, acting, turned}
 use Rattle.laws_wire.specs.Facing.{read_as}
-use Rattle.laws_wire.specs.Timely.{is_poll, is_final, IsTimelyOf}
 use Rattle.laws_wire.proofs.Standing.{Stands}
 
 -- These were granted before.

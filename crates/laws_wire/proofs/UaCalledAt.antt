@@ -1,14 +1,9 @@
 -- The station of the end that is called, whose link is up: what requests, timers and calls for the next frame do there.
-use Rattle.laws_wire.proofs.Vocabulary.{◌≡◌, ℕ, Bool, true, false, ◌||◌, IsTrue, List, [], ◌∷◌, ◌++◌, None, refl, sym, ap, subst, ◌∙◌, ◌⊎◌, inl, inr, arith, Service, Timer, TimerRecovery, LinkTimer, T203, Link, is_multiple_frame, has_outstanding, given, is_running, awaits_answer, no-reports, End, with_link, frame_given, Config, LineTold, expiry, request, Line, place_in, Request, at_requested, aim_of_request, IsMildRequest, CanRepeat, HasNo, Sane}
+use Rattle.laws_wire.proofs.Vocabulary.{◌≡◌, ℕ, Bool, true, false, ◌||◌, IsTrue, List, [], ◌∷◌, ◌++◌, None, refl, sym, ap, subst, ◌∙◌, ◌⊎◌, inl, inr, arith, Service, Timer, TimerRecovery, LinkTimer, T203, Link, is_multiple_frame, has_outstanding, given, is_running, awaits_answer, no-reports, End, with_link, frame_given, Config, LineTold, expiry, request, Line, place_in, Request, at_requested, aim_of_request, IsMildRequest, CanRepeat, HasNo, Sane, T200, Data, SetBusy, ClearBusy, Station, Wire, happens, times_out, contents_of, IsOfLink, is_poll, IsTimelyOf}
 use Rattle.lapd_frame.specs.declared.timers.Timer.TheVariants as timers
-use Rattle.model_link.specs.declared.timers.LinkTimer.TheVariants.{T200}
 use Rattle.model_link.specs.Events as link
 use Rattle.model_link.specs.Machine as links
-use Rattle.model_line.specs.Request.{Data, SetBusy, ClearBusy}
 use Rattle.laws_link.proofs.OfTwo.Staying.{timer-stays}
-use Rattle.laws_wire.specs.Wire.{Station, Wire, happens, times_out, contents_of}
-use Rattle.laws_wire.specs.Losing.{IsOfLink}
-use Rattle.laws_wire.specs.Timely.{is_poll, IsTimelyOf}
 use Rattle.laws_wire.specs.Answering.{IsAsked, gives_information}
 use Rattle.laws_wire.proofs.Acting.{ranges, sound}
 use Rattle.laws_wire.proofs.Asking.{asked-form}

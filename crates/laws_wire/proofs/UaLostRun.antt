@@ -1,11 +1,6 @@
 -- A whole call in which UA may be lost: what is told, and that all has come where no turn is left and T200 runs at neither end.
-use Rattle.laws_wire.proofs.Vocabulary.{◌≡◌, ℕ, ◌==◌, Bool, true, false, cond, ◌&&◌, ◌||◌, List, [], ◌∷◌, ◌++◌, length, map, refl, sym, ap, subst, ◌∙◌, ◌⊎◌, inl, inr, append-nil, append_assoc, true≢false, arith, All, All-head, All-tail, Service, Parts, ControlFrame, spelling, fresh, IsInRange, End, frames_of, Config, LineTold, T203, expiry, request, terms}
+use Rattle.laws_wire.proofs.Vocabulary.{◌≡◌, ℕ, ◌==◌, Bool, true, false, cond, ◌&&◌, ◌||◌, List, [], ◌∷◌, ◌++◌, length, map, refl, sym, ap, subst, ◌∙◌, ◌⊎◌, inl, inr, append-nil, append_assoc, true≢false, arith, All, All-head, All-tail, Service, Parts, ControlFrame, spelling, fresh, IsInRange, End, frames_of, Config, LineTold, T203, expiry, request, terms, T200, Station, Wire, happens, with_first_lost, Act, requests, times_out, gives, takes, loses, acting, turned, Doing, at_near, at_far, doing, doing_all, is_any, confirmed, indicated, data_told, heard_in, is_final, IsTimelyOf}
 use Rattle.lapd_frame.specs.declared.timers.Timer.TheVariants as timers
-use Rattle.model_link.specs.declared.timers.LinkTimer.TheVariants.{T200}
-use Rattle.laws_wire.specs.Wire.{Station, Wire, happens, with_first_lost, Act, requests, times_out, gives, takes, loses, acting, turned, Doing, at_near, at_far, doing, doing_all, is_any}
-use Rattle.laws_wire.specs.Call.{confirmed, indicated, data_told}
-use Rattle.laws_wire.specs.Losing.{heard_in}
-use Rattle.laws_wire.specs.Timely.{is_final, IsTimelyOf}
 use Rattle.laws_wire.specs.Answering.{IsFullTalkOf, IsFullTalk, IsPatient, StayPatient, Called, error_f, renewed, told_of_sabme, with_sabme, takes_sabme, gives_information, seeing, seen}
 use Rattle.laws_wire.proofs.Awaited.{awaits-is, none-there}
 use Rattle.laws_wire.proofs.Calling.{end, answering, sabme, ua}

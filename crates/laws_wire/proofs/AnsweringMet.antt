@@ -1,5 +1,5 @@
 -- The premises of the law on a call with losses are met by the worked call.
-use Rattle.laws_wire.proofs.Vocabulary.{◌≡◌, Bool, true, false, List, [], ◌∷◌, ◌++◌, refl, sym, subst, ◌∙◌, true≢false, All, All-nil, All-cons, Call, reading, header_of, control_of, unnumbered_of, supervisory_of, distance_of, named, seq, Data, SetBusy, ClearBusy, Wire, IsStill, requests, times_out, gives, takes, loses, Doing, at_near, at_far, doing, doing_all, turns, confirmed, indicated, data_told, heard_in, round, awaits_reply, MayRepeat, user, network, begins}
+use Rattle.laws_wire.proofs.Vocabulary.{◌≡◌, Bool, true, false, List, [], ◌∷◌, ◌++◌, refl, sym, subst, ◌∙◌, true≢false, All, Call, reading, header_of, control_of, unnumbered_of, supervisory_of, distance_of, named, seq, Data, SetBusy, ClearBusy, Wire, IsStill, requests, times_out, gives, takes, loses, Doing, at_near, at_far, doing, doing_all, turns, confirmed, indicated, data_told, heard_in, round, awaits_reply, MayRepeat, user, network, begins}
 use Rattle.lapd_frame.specs.declared.timers.Timer.TheVariants.{T200, T203}
 use Rattle.lapd_tei.specs.Events as teis
 use Rattle.model_line.specs.Machine as lines

@@ -1,5 +1,5 @@
 -- The premises of the law on what arrives under traffic are met by the worked call.
-use Rattle.laws_wire.proofs.Vocabulary.{◌≡◌, ℕ, List, [], ◌∷◌, ◌++◌, refl, sym, ◌∙◌, inl, true≢false, All, leb-true, All-nil, All-cons, Call, reading, header_of, control_of, unnumbered_of, supervisory_of, distance_of, named, seq, Data, Wire, requests, times_out, gives, takes, loses, Doing, at_near, at_far, doing_all, turns, confirmed, indicated, all_told, heard_in, IsRoughTalk, round, StayTimely, LosesNothing, HasCome, user, network, begins, MayRepeat, awaits_reply, false, true}
+use Rattle.laws_wire.proofs.Vocabulary.{◌≡◌, ℕ, List, [], ◌∷◌, ◌++◌, refl, sym, ◌∙◌, inl, true≢false, All, leb-true, Call, reading, header_of, control_of, unnumbered_of, supervisory_of, distance_of, named, seq, Data, Wire, requests, times_out, gives, takes, loses, at_near, at_far, doing_all, turns, confirmed, indicated, all_told, heard_in, IsRoughTalk, round, StayTimely, LosesNothing, HasCome, user, network, begins, MayRepeat, awaits_reply, false}
 use Rattle.lapd_frame.specs.declared.timers.Timer.TheVariants.{T200}
 use Rattle.lapd_tei.specs.Events as teis
 use Rattle.model_line.specs.Machine as lines

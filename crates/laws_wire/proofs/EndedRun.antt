@@ -1,5 +1,5 @@
 -- A call that ends where both ends rest: from its release on.
-use Rattle.laws_wire.proofs.Vocabulary.{◌≡◌, ℕ, ◌≤◌, Bool, true, false, not, cond, List, [], ◌∷◌, ◌++◌, None, Some, refl, sym, ap, subst, ◌∙◌, ◌⊎◌, inl, inr, append-nil, true≢false, All, nat_lt, flat_map, option_map_or, le-ltb, lt-ltb, Refusal, BadTei, NoLink, WrongState, Service, is_on-at, place_of-is, Established, Terms, Link, fresh, course, serves, IsInRange, End, with_link, Config, LineTold, request, Line, link_in, link_of, terms, line_at, wants_room, HasNothingToSend, nothing-given, flat_map-append, T200, Release, Station, Wire, happens, requests, acting, turned, Doing, doing_all, IsStill, calling, confirmed, for_layer_3, heard_in, runs_t200, IsLeaving, StayTimelyThere, release_confirmed, release_indicated, EndsSo, CallsEnd}
+use Rattle.laws_wire.proofs.Vocabulary.{◌≡◌, ℕ, ◌≤◌, Bool, true, false, not, cond, List, [], ◌∷◌, ◌++◌, None, Some, refl, sym, ap, subst, ◌∙◌, ◌⊎◌, inl, inr, append-nil, true≢false, All, nat_lt, flat_map, option_map_or, le-ltb, lt-ltb, Refusal, BadTei, NoLink, WrongState, Service, is_on-at, place_of-is, Established, Terms, Link, fresh, course, serves, IsInRange, End, with_link, Config, LineTold, request, Line, link_in, link_of, terms, line_at, wants_room, HasNothingToSend, nothing-given, flat_map-append, Release, Station, Wire, happens, requests, acting, turned, Doing, doing_all, IsStill, calling, confirmed, for_layer_3, heard_in, runs_t200, IsLeaving, StayTimelyThere, release_confirmed, release_indicated, EndsSo, CallsEnd}
 use Rattle.model_link.specs.Events as link
 use Rattle.model_line.specs.Machine as lines
 use Rattle.model_line.specs.Refusal.{refusal}

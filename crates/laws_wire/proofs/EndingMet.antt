@@ -1,5 +1,5 @@
 -- The premises of the law on a call that ends are met by the worked call.
-use Rattle.laws_wire.proofs.Vocabulary.{◌≡◌, List, [], ◌∷◌, ◌++◌, refl, inl, All, All-nil, All-cons, Call, reading, header_of, control_of, unnumbered_of, supervisory_of, distance_of, named, seq, Wire, times_out, gives, loses, Doing, at_near, doing_all, turns, heard_in, MayRepeat, IsFullTalk, StayPatient, IsLeaving, StayTimelyThere, release_confirmed, EndsSo, user, network, begins, establishes, IsStill}
+use Rattle.laws_wire.proofs.Vocabulary.{◌≡◌, [], ◌∷◌, ◌++◌, refl, inl, All, Call, reading, header_of, control_of, unnumbered_of, supervisory_of, distance_of, named, seq, Wire, times_out, gives, loses, at_near, doing_all, turns, heard_in, MayRepeat, IsFullTalk, StayPatient, IsLeaving, StayTimelyThere, release_confirmed, EndsSo, user, network, begins, establishes, IsStill}
 use Rattle.lapd_frame.specs.declared.timers.Timer.TheVariants.{T200}
 use Rattle.lapd_tei.specs.Events as teis
 use Rattle.model_line.specs.Machine as lines

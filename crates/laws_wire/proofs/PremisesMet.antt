@@ -39,7 +39,7 @@ rough =
     let expires : IsRoughTalk Call 0 (at_near (times_out (T200 Call 0))) = (refl, refl) in
     all-of (IsRoughTalk Call 0) loses_two (tt, (tt, (expires, (tt, (tt, (tt, (tt, (sends, (tt, (tt, (expires, (tt, (tt, (tt, (tt, (tt, (tt, (tt, (tt, tt)))))))))))))))))))
 
-abbrev IsFair : LineTold → Type 0
+abbrev pub IsFair : LineTold → Type 0
 IsFair t = list_any is_error t.notes ≡ false
 
 told-near : (doing_all loses_two begins).near.told ≡ confirmed Call 0 ∷ []

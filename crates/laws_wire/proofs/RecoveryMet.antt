@@ -1,12 +1,12 @@
 -- The premises of the law on what is lost are met: by the worked call in which SABME is lost, and then an I-frame of each end.
-use Rattle.laws_wire.proofs.Vocabulary.{◌≡◌, ◌≢◌, ℕ, ◌+◌, ◌≤◌, false, List, [], ◌∷◌, length, map, refl, sym, ap, subst, ◌∙◌, arith, All, All-nil, All-cons, list_any, Call, reading, header_of, control_of, unnumbered_of, supervisory_of, distance_of, named, seq, LineTold, Data, Wire, requests, times_out, gives, loses, at_near, at_far, acting, doing_all, turns, IsStill, confirmed, indicated, data_told, heard_in, is_error, IsRoughTalk, is_poll, is_final, IsNoneOpen, MayRepeat, StayTimely, with_t200_expired, HasNoErrors, BothMayRepeat, HasMissing, HasArrived, StayStill, user, network, begins, loses_three, lost, recovered, Bool, Control, NoneGoes, Parts, Station, flat_map, giving, happens, next, suc, zero, Option, None, Some, gave, option_map, option_map_or, next_of, Taken, taken, answered, line_at, set, set-get_or, fresh_line, frames_by, told_by, append-nil, ◌++◌}
+use Rattle.laws_wire.proofs.Vocabulary.{◌≡◌, ◌≢◌, ℕ, ◌+◌, ◌≤◌, false, List, [], ◌∷◌, length, map, refl, sym, ap, subst, ◌∙◌, arith, All, All-nil, All-cons, Call, reading, header_of, control_of, unnumbered_of, supervisory_of, distance_of, named, seq, LineTold, Data, Wire, requests, times_out, gives, loses, at_near, at_far, acting, doing_all, turns, IsStill, confirmed, indicated, data_told, heard_in, IsRoughTalk, is_poll, is_final, IsNoneOpen, MayRepeat, StayTimely, with_t200_expired, HasNoErrors, BothMayRepeat, HasMissing, HasArrived, StayStill, user, network, begins, loses_three, lost, recovered, Bool, Control, NoneGoes, Parts, Station, flat_map, giving, happens, next, suc, zero, Option, None, Some, gave, option_map, option_map_or, next_of, Taken, taken, answered, line_at, set, set-get_or, fresh_line, frames_by, told_by, append-nil, ◌++◌}
 use Rattle.lapd_frame.specs.declared.timers.Timer.TheVariants.{T200}
 use Rattle.lapd_tei.specs.Events as teis
 use Rattle.model_line.specs.Machine as lines
 use Rattle.model_line.specs.Taken.{line_of}
 use Rattle.laws_wire.specs.Facing.{read_as}
 use Rattle.laws_wire.specs.Wire.{unless_refused}
-use Rattle.laws_wire.proofs.PremisesMet.{can, all-of}
+use Rattle.laws_wire.proofs.PremisesMet.{can, IsFair, all-of}
 use Rattle.laws_wire.proofs.StillIsTimely.{still-is-enough}
 use Rattle.laws_wire.proofs.TimelyRun.{what-is-lost-arrives}
 
@@ -17,10 +17,7 @@ rough =
     let expires : IsRoughTalk Call 0 (at_near (times_out (T200 Call 0))) = (refl, refl) in
     all-of (IsRoughTalk Call 0) loses_three (tt, (tt, (expires, (tt, (tt, (tt, (tt, (near, (tt, (tt, (far, (tt, (tt, tt)))))))))))))
 
-abbrev IsFair : LineTold → Type 0
-IsFair t = list_any is_error t.notes ≡ false
-
-pub none-told : All (λ (t : LineTold). list_any is_error t.notes ≡ false) []
+pub none-told : All IsFair []
 none-told = All-nil IsFair
 
 -- an end that has nothing to give stays as it is, and so none of its frames goes

@@ -12,7 +12,6 @@ use Rattle.laws_wire.proofs.Held.{Held, Grants, held-asked}
 use Rattle.laws_wire.proofs.Joint.{Goes, only-link, timer-delivers}
 use Rattle.laws_wire.proofs.LooseUp.{Mute, busy-mute, ready-mute, for-asked, held-busy}
 use Rattle.laws_wire.proofs.LossyPhases.{Aims}
-use Rattle.laws_wire.proofs.Standing.{Stands, gives-stands}
 use Rattle.laws_wire.proofs.TimelyUp.{each-timer, timer-held, never}
 use Rattle.laws_wire.proofs.UaCalled.{sane-after, Stirs, busy-stirs, busy-goes, ready-goes, timer-stirs, informs, flagged}
 

@@ -10,7 +10,7 @@ use Rattle.laws_link.proofs.OfTwo.Staying.{offer-stays}
 use Rattle.laws_wire.specs.Answering.{IsFullTalkOf, gives_information}
 use Rattle.laws_wire.proofs.Acting.{ranges, sound}
 use Rattle.laws_wire.proofs.Answered.{takes-granted}
-use Rattle.laws_wire.proofs.Awaited.{all-behind, NoneOpen, closed}
+use Rattle.laws_wire.proofs.Awaited.{all-behind, closed}
 use Rattle.laws_wire.proofs.Calling.{its_ua, ua, end}
 use Rattle.laws_wire.proofs.Firm.{not-behind}
 use Rattle.laws_wire.proofs.Held.{Held, held-given, held-lost, held-first, taken-told, taken-stands}

@@ -22,7 +22,7 @@ LosesNothing (at_far loses) = ⊥
 LosesNothing other = Unit {0}
 
 -- T200 of the link runs at a station: its expiry there is answered with orders for timers. That of a timer that does not run tells
--- nothing (profile). So it runs at a caller's that obeys the orders (`timers_run` of `laws_trace`).
+-- nothing (profile). At a caller's that obeys the orders those timers run that run here (`timers_follow` of `laws_line`).
 abbrev pub is_any_order : List Order → Bool
 is_any_order [] = false
 is_any_order (order ∷ more) = true

@@ -1,5 +1,7 @@
 -- A release is told in the end: to the end that releases, whose RC counts the expiries of T200, and to the other before that.
-use Rattle.laws_order.proofs.Vocabulary.{◌≡◌, ℕ, ◌≤◌, Bool, true, false, List, [], ◌∷◌, ◌++◌, refl, sym, ap, ◌∙◌, arith, append-nil, true≢false, ◌⊎◌, inl, inr, All, list_any, All-nil, All-cons, All-head, All-tail, Service, other_side, AwaitingRelease, Link, is_multiple_frame, came, hears, expiry, request, next, Line, has_tei, terms, deactivates, Seen, Station, Wire, requests, times_out, gives, takes, turned, Event, at, line_of, Deed, acts, disturbed, befalling, Happening, by_near, by_far, IsPossible, IsPossibleAt, happening, happening_all, events_here, seen_by, seen_at_near, seen_near, seen_far, t200s, IsToldAtLast, ReleasesAreTold, StaysThere, IsNotDeactivated, BothAreTold, ends_by, StaysEstablished, link_here, news, IsToldOfRelease}
+use Rattle.laws_order.proofs.Vocabulary.{◌≡◌, ℕ, ◌≤◌, Bool, true, false, List, [], ◌∷◌, ◌++◌, refl, sym, ap, ◌∙◌, arith, append-nil, true≢false, ◌⊎◌, inl, inr, All, list_any, All-nil, All-cons, All-head, All-tail, Service, other_side, AwaitingRelease, Link, is_multiple_frame, came, hears, expiry, request, next, Line, has_tei, terms, deactivates, Seen, Station, Wire, requests, times_out, gives, takes, turned, Event, at, line_of, Deed, acts, disturbed, befalling, Happening, by_near, by_far, IsPossible, IsPossibleAt, happening, happening_all, events_here, seen_by, seen_at_near, seen_near, seen_far, t200s, IsToldAtLast, ReleasesAreTold, StaysThere, IsNotDeactivated, BothAreTold, ends_by, StaysEstablished, link_here, news, IsToldOfRelease, T200, TeiAssigned}
+use Rattle.model_link.specs.Machine.{is_running}
+use Rattle.laws_wire.proofs.Awaited.{runs-there}
 use Rattle.laws_order.proofs.Down.{Speaks}
 use Rattle.laws_order.proofs.Leading.{NotHeard, near-led, not-heard}
 use Rattle.laws_order.proofs.NearOver.{Lasts, near-goes, none-heard, first-speaks}
@@ -160,8 +162,11 @@ module _ (service : Service) (tei : ℕ) where
 pub releases-are-told : ReleasesAreTold
 releases-are-told service tei w hs at is runs-on all quiet many = go (releases-end service tei w hs at is all quiet).0
   where
+    runs : is_running T200 (link_here service tei w.near) ≡ true
+    runs = sym (runs-there service tei w.near (λ e. let wrong : AwaitingRelease ≡ TeiAssigned = sym is ∙ e in cc wrong)) ∙ runs-on
+
     go : IsToldOfRelease service tei (news service tei (seen_near hs w)) → IsToldAtLast service tei (news service tei (seen_near hs w))
-    go (inl none) = too-few (run-counts service tei hs w (record { sound = at.sound; within = at.within }) is (runs-so (link_here service tei w.near).running runs-on) all none)
+    go (inl none) = too-few (run-counts service tei hs w (record { sound = at.sound; within = at.within }) is (runs-so (link_here service tei w.near).running runs) all none)
       where
         too-few : Bounded service tei (t200s service tei hs w) (link_here service tei w.near).repeats (terms w.near.card.config service tei).n200
             → IsToldAtLast service tei (news service tei (seen_near hs w))

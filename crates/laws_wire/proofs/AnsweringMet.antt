@@ -1,30 +1,13 @@
 -- The premises of the law on a call with losses are met by the worked call.
-use Rattle.laws_wire.proofs.Vocabulary.{◌≡◌, Bool, true, false, List, [], ◌∷◌, ◌++◌, refl, sym, ap, subst, ◌∙◌, true≢false, arith, All, All-nil, All-cons, Call, reading, header_of, control_of, unnumbered_of, supervisory_of, distance_of, named, seq, Established, awaits_answer}
+use Rattle.laws_wire.proofs.Vocabulary.{◌≡◌, Bool, true, false, List, [], ◌∷◌, ◌++◌, refl, sym, subst, ◌∙◌, true≢false, All, Call, reading, header_of, control_of, unnumbered_of, supervisory_of, distance_of, named, seq, Data, SetBusy, ClearBusy, Wire, IsStill, requests, times_out, gives, takes, loses, Doing, at_near, at_far, doing, doing_all, turns, confirmed, indicated, data_told, heard_in, round, awaits_reply, MayRepeat, user, network, begins}
 use Rattle.lapd_frame.specs.declared.timers.Timer.TheVariants.{T200, T203}
 use Rattle.lapd_tei.specs.Events as teis
 use Rattle.model_line.specs.Machine as lines
-use Rattle.model_line.specs.Request.{Data, SetBusy, ClearBusy}
-use Rattle.laws_wire.specs.Wire.{Wire, requests, times_out, gives, takes, loses, Doing, at_near, at_far, doing, doing_all, turns}
-use Rattle.laws_wire.specs.Call.{confirmed, indicated, data_told}
-use Rattle.laws_wire.specs.Losing.{heard_in}
-use Rattle.laws_wire.specs.Recovering.{round}
-use Rattle.laws_wire.specs.Facing.{end_of}
-use Rattle.laws_wire.specs.Timely.{is_poll, is_final, IsTimelyOf}
 use Rattle.laws_wire.specs.Answering.{IsFullTalk, StayPatient, uncalled, error_f, seen, ToldSo}
-use Rattle.laws_wire.specs.Worked.{user, network, begins}
 use Rattle.laws_wire.specs.WorkedAnswering.{loses_ua, is_busy, repeated, repeated_seen, repeated_still, repeated_rests, asks_early, rings_again, kept, kept_seen, kept_still, kept_rests}
-use Rattle.laws_wire.proofs.PremisesMet.{can}
-use Rattle.laws_wire.proofs.RecoveryMet.{fewer, free}
-use Rattle.laws_wire.proofs.TimelyUp.{none-of}
+use Rattle.laws_wire.proofs.PremisesMet.{can, all-of}
+use Rattle.laws_wire.proofs.RecoveryMet.{none-told, still-open}
 use Rattle.laws_wire.proofs.UaTold.{lossy-calls-come-through}
-
-abbrev AreFull : List Doing → Type 0
-AreFull [] = Unit {0}
-AreFull (d ∷ ds) = IsFullTalk Call 0 d × AreFull ds
-
-all-full : (ds : List Doing) → AreFull ds → All (IsFullTalk Call 0) ds
-all-full [] h = All-nil (IsFullTalk Call 0)
-all-full (d ∷ ds) h = All-cons (IsFullTalk Call 0) d ds h.0 (all-full ds h.1)
 
 full : All (IsFullTalk Call 0) (loses_ua ++ is_busy)
 full =
@@ -33,14 +16,14 @@ full =
     let busy : IsFullTalk Call 0 (at_far (requests (SetBusy Call 0))) = (refl, refl) in
     let ready : IsFullTalk Call 0 (at_far (requests (ClearBusy Call 0))) = (refl, refl) in
     let expires : IsFullTalk Call 0 (at_near (times_out (T200 Call 0))) = (refl, refl) in
-    all-full (loses_ua ++ is_busy) (tt, (tt, (tt, (tt, (expires, (tt, (tt, (tt, (tt, (busy, (near, (tt, (tt, (tt, (tt, (far, (tt, (tt, (ready, (expires, (tt, (tt, (tt, (tt, (tt, (tt, (tt, (tt, (tt, (tt, (tt, (tt, tt))))))))))))))))))))))))))))))))
+    all-of (IsFullTalk Call 0) (loses_ua ++ is_busy) (tt, (tt, (tt, (tt, (expires, (tt, (tt, (tt, (tt, (busy, (near, (tt, (tt, (tt, (tt, (far, (tt, (tt, (ready, (expires, (tt, (tt, (tt, (tt, (tt, (tt, (tt, (tt, (tt, (tt, (tt, (tt, tt))))))))))))))))))))))))))))))))
 
 full-early : All (IsFullTalk Call 0) (asks_early ++ rings_again)
 full-early =
     let far : IsFullTalk Call 0 (at_far (requests (Data Call 0 (2 ∷ [])))) = (refl, refl) in
     let idle : IsFullTalk Call 0 (at_far (times_out (T203 Call 0))) = (refl, refl) in
     let expires : IsFullTalk Call 0 (at_near (times_out (T200 Call 0))) = (refl, refl) in
-    all-full (asks_early ++ rings_again) (tt, (tt, (idle, (tt, (tt, (tt, (far, (tt, (expires, (tt, (tt, (tt, (tt, (tt, (tt, (tt, (tt, (tt, (tt, (tt, (tt, tt)))))))))))))))))))))
+    all-of (IsFullTalk Call 0) (asks_early ++ rings_again) (tt, (tt, (idle, (tt, (tt, (tt, (far, (tt, (expires, (tt, (tt, (tt, (tt, (tt, (tt, (tt, (tt, (tt, (tt, (tt, (tt, tt)))))))))))))))))))))
 
 -- Where no timer expires nothing is asked of it.
 abbrev without_timers : List Doing → Bool
@@ -68,24 +51,6 @@ unfolding StayPatient doing_all
 both-patient [] es w h g = g
 both-patient (d ∷ ds) es w h g = (h.0, both-patient ds es (doing d w) h.1 g)
 
--- nothing is open where nothing waits and nothing is on its way
-record IsIdle (w : Wire) : Type 0 where
-  near_waiting : (end_of Call 0 w.near).link.waiting ≡ []
-  near_way : (end_of Call 0 w.near).way ≡ []
-  far_waiting : (end_of Call 0 w.far).link.waiting ≡ []
-  far_way : (end_of Call 0 w.far).way ≡ []
-  repeats : (end_of Call 0 w.near).link.repeats ≡ 0
-  n200 : (end_of Call 0 w.near).terms.n200 ≡ 3
-
-rings-on : (w : Wire) → IsIdle w → IsTimelyOf (times_out (T200 Call 0)) w
-rings-on w h = (
-  λ awaits. record {
-    commands = none-of Call 0 is_poll (end_of Call 0 w.near) h.near_waiting h.near_way;
-    responses = none-of Call 0 is_final (end_of Call 0 w.far) h.far_waiting h.far_way;
-  },
-  λ awaits. fewer _ _ 0 3 (h.repeats, h.n200) (omega arith),
-)
-
 -- UA was lost
 abbrev ua_goes : List Doing
 ua_goes = at_near gives ∷ at_far takes ∷ at_far gives ∷ at_far loses ∷ []
@@ -93,15 +58,15 @@ ua_goes = at_near gives ∷ at_far takes ∷ at_far gives ∷ at_far loses ∷ [
 ua-lost : Wire
 ua-lost = doing_all ua_goes begins
 
-lost-idle : IsIdle ua-lost
+lost-idle : IsStill ua-lost × MayRepeat Call 0 ua-lost.near
 unfolding lines.after lines.answer lines.takes_slot reading header_of control_of unnumbered_of supervisory_of teis.course teis.refusal seq distance_of named doing_all turns ua-lost
-lost-idle = record { near_waiting = refl; near_way = refl; far_waiting = refl; far_way = refl; repeats = refl; n200 = refl }
+lost-idle = (record { near = refl; far = refl; near_way = refl; far_way = refl }, none-told)
 
 patient-first : StayPatient loses_ua begins
 unfolding doing_all StayPatient ua-lost
 patient-first =
     both-patient ua_goes (at_near (times_out (T200 Call 0)) ∷ round) begins (only-turns ua_goes refl begins)
-    (rings-on ua-lost lost-idle, only-turns round refl (doing (at_near (times_out (T200 Call 0))) ua-lost))
+    ((λ awaits. still-open ua-lost lost-idle.0, lost-idle.1), only-turns round refl (doing (at_near (times_out (T200 Call 0))) ua-lost))
 
 -- Behind that T200 expires in state 7.
 then : Wire
@@ -115,15 +80,15 @@ drops_one =
 expires : Wire
 expires = doing_all drops_one then
 
-in-7 : (end_of Call 0 expires.near).link.state ≡ Established
+in-7 : (awaits_reply Call 0 expires.near ≡ false) × MayRepeat Call 0 expires.near
 unfolding lines.after lines.answer lines.takes_slot reading header_of control_of unnumbered_of supervisory_of teis.course teis.refusal seq distance_of named doing_all turns then expires
-in-7 = refl
+in-7 = (refl, none-told)
 
 patient-then : StayPatient is_busy then
 unfolding doing_all StayPatient then expires
 patient-then =
     both-patient drops_one (at_near (times_out (T200 Call 0)) ∷ (round ++ round ++ round)) then (only-turns drops_one refl then) (
-      ((λ awaits. absurd (true≢false (sym awaits ∙ ap awaits_answer in-7))), free (end_of Call 0 expires.near) in-7),
+      ((λ awaits. absurd (true≢false (sym awaits ∙ in-7.0))), in-7.1),
       only-turns (round ++ round ++ round) refl (doing (at_near (times_out (T200 Call 0))) expires),
     )
 
@@ -143,15 +108,15 @@ told = (subst (λ x. ToldSo Call 0 x repeated) repeated_seen so).near repeated_s
 early : Wire
 early = doing_all asks_early begins
 
-early-idle : IsIdle early
+early-idle : IsStill early × MayRepeat Call 0 early.near
 unfolding lines.after lines.answer lines.takes_slot reading header_of control_of unnumbered_of supervisory_of teis.course teis.refusal seq distance_of named doing_all turns early
-early-idle = record { near_waiting = refl; near_way = refl; far_waiting = refl; far_way = refl; repeats = refl; n200 = refl }
+early-idle = (record { near = refl; far = refl; near_way = refl; far_way = refl }, none-told)
 
 patient-early : StayPatient (asks_early ++ rings_again) begins
 unfolding early StayPatient doing_all
 patient-early =
     both-patient asks_early rings_again begins (tt, (tt, (tt, (tt, (tt, (tt, (tt, (tt, tt))))))))
-    (rings-on early early-idle, only-turns (round ++ round ++ round) refl (doing (at_near (times_out (T200 Call 0))) early))
+    ((λ awaits. still-open early early-idle.0, early-idle.1), only-turns (round ++ round ++ round) refl (doing (at_near (times_out (T200 Call 0))) early))
 
 so-early : ToldSo Call 0 (seen Call 0 (asks_early ++ rings_again) begins uncalled) kept
 so-early = lossy-calls-come-through Call user network 0 0 0 (asks_early ++ rings_again) can full-early patient-early

@@ -1,11 +1,11 @@
 -- The premises of the law on what arrives under traffic are met by the worked call.
-use Rattle.laws_wire.proofs.Vocabulary.{◌≡◌, ℕ, List, [], ◌∷◌, ◌++◌, refl, sym, ap, ◌∙◌, inl, true≢false, All, leb-true, All-nil, All-cons, Call, reading, header_of, control_of, unnumbered_of, supervisory_of, distance_of, named, seq, Established, awaits_answer, Data, Wire, requests, times_out, gives, takes, loses, Doing, at_near, at_far, doing_all, turns, confirmed, indicated, all_told, heard_in, IsRoughTalk, end_of, round, StayTimely, LosesNothing, HasCome, user, network, begins}
+use Rattle.laws_wire.proofs.Vocabulary.{◌≡◌, ℕ, List, [], ◌∷◌, ◌++◌, refl, sym, ◌∙◌, inl, true≢false, All, leb-true, Call, reading, header_of, control_of, unnumbered_of, supervisory_of, distance_of, named, seq, Data, Wire, requests, times_out, gives, takes, loses, at_near, at_far, doing_all, turns, confirmed, indicated, all_told, heard_in, IsRoughTalk, round, StayTimely, LosesNothing, HasCome, user, network, begins, MayRepeat, awaits_reply, false}
 use Rattle.lapd_frame.specs.declared.timers.Timer.TheVariants.{T200}
 use Rattle.lapd_tei.specs.Events as teis
 use Rattle.model_line.specs.Machine as lines
 use Rattle.laws_wire.specs.WorkedArriving.{loses_two, goes_on, lossy, over, lossy_near, near_asked, over_still}
-use Rattle.laws_wire.proofs.PremisesMet.{can, all-rough}
-use Rattle.laws_wire.proofs.RecoveryMet.{heard-it, free}
+use Rattle.laws_wire.proofs.PremisesMet.{can, all-of}
+use Rattle.laws_wire.proofs.RecoveryMet.{none-told, heard-it}
 use Rattle.laws_wire.proofs.UnderwayRun.{arrives-under-traffic}
 
 data-near : (octets : List ℕ) → IsRoughTalk Call 0 (at_near (requests (Data Call 0 octets)))
@@ -18,11 +18,11 @@ expires : IsRoughTalk Call 0 (at_near (times_out (T200 Call 0)))
 expires = (refl, refl)
 
 rough : All (IsRoughTalk Call 0) loses_two
-rough = all-rough loses_two (tt, (tt, (tt, (tt, (data-near (1 ∷ []), (tt, (tt, (data-far (2 ∷ []), (data-far (3 ∷ []), (tt, (tt, (tt, tt))))))))))))
+rough = all-of (IsRoughTalk Call 0) loses_two (tt, (tt, (tt, (tt, (data-near (1 ∷ []), (tt, (tt, (data-far (2 ∷ []), (data-far (3 ∷ []), (tt, (tt, (tt, tt))))))))))))
 
 rough-on : All (IsRoughTalk Call 0) goes_on
 rough-on =
-    all-rough goes_on (
+    all-of (IsRoughTalk Call 0) goes_on (
       tt,
       (
         expires,
@@ -33,16 +33,8 @@ rough-on =
       ),
     )
 
-abbrev AreKept : List Doing → Type 0
-AreKept [] = Unit {0}
-AreKept (d ∷ ds) = LosesNothing d × AreKept ds
-
-all-kept : (ds : List Doing) → AreKept ds → All LosesNothing ds
-all-kept [] h = All-nil LosesNothing
-all-kept (d ∷ ds) h = All-cons LosesNothing d ds h.0 (all-kept ds h.1)
-
 kept : All LosesNothing goes_on
-kept = all-kept goes_on (tt, (tt, (tt, (tt, (tt, (tt, (tt, (tt, (tt, (tt, (tt, (tt, (tt, (tt, (tt, (tt, (tt, (tt, (tt, (tt, (tt, (tt, (tt, tt)))))))))))))))))))))))
+kept = all-of LosesNothing goes_on (tt, (tt, (tt, (tt, (tt, (tt, (tt, (tt, (tt, (tt, (tt, (tt, (tt, (tt, (tt, (tt, (tt, (tt, (tt, (tt, (tt, (tt, (tt, tt)))))))))))))))))))))))
 
 -- the far end's I-frame is lost behind UA
 as-it-is-lost : Wire
@@ -64,16 +56,16 @@ timely = (
 as-it-expires : Wire
 as-it-expires = doing_all (at_near takes ∷ []) lossy
 
-in-7 : (end_of Call 0 as-it-expires.near).link.state ≡ Established
+in-7 : (awaits_reply Call 0 as-it-expires.near ≡ false) × MayRepeat Call 0 as-it-expires.near
 unfolding lines.after lines.answer lines.takes_slot reading header_of control_of unnumbered_of supervisory_of teis.course teis.refusal seq distance_of named doing_all turns as-it-expires
-in-7 = refl
+in-7 = (refl, none-told)
 
 timely-on : StayTimely goes_on lossy
 unfolding doing_all StayTimely as-it-expires
 timely-on = (
   tt,
   (
-    (λ awaits. absurd (true≢false (sym awaits ∙ ap awaits_answer in-7)), free (end_of Call 0 as-it-expires.near) in-7),
+    (λ awaits. absurd (true≢false (sym awaits ∙ in-7.0)), in-7.1),
     (
       (tt, tt),
       (tt, ((tt, tt), ((tt, tt), (tt, (tt, ((tt, tt), ((tt, tt), (tt, (tt, ((tt, tt), ((tt, tt), (tt, (tt, ((tt, tt), ((tt, tt), (tt, (tt, ((tt, tt), ((tt, tt), (tt, tt)))))))))))))))))))),

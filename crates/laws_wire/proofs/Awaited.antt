@@ -1,8 +1,22 @@
--- What is awaited at a station is awaited at the end for which it stands: there a T200 that is long enough is timely.
-use Rattle.laws_wire.proofs.Vocabulary.{◌≡◌, ℕ, ◌<◌, Bool, true, false, List, [], ◌∷◌, ◌++◌, map, refl, sym, ap, subst, ◌∙◌, true≢false, All, flat_map, option_map_or, All-head, All-tail, All-weaker, Control, ReceiveReady, ReceiveNotReady, Reject, Service, Parts, spelling, State, ControlFrame, fresh, End, Config, link_in, terms, awaits_answer, is_enquiry, is_answer, supervisory_bit, HasNo, Station, bit_of, is_poll, is_final, IsNoneOpen, MayRepeat}
+-- What is awaited at a station is awaited at the end for which it stands: there a T200 that is long enough is timely, N200 is used up as
+-- its expiry tells, and it runs as its expiry is answered.
+use Rattle.laws_wire.proofs.Vocabulary.{◌≡◌, ℕ, zero, suc, ◌<◌, Bool, true, false, cond, not, ◌||◌, IsTrue, List, [], ◌∷◌, ◌++◌, length, map, Option, None, Some, option_map, refl, sym, ap, subst, ◌∙◌, true≢false, All, flat_map, list_any, option_map_or, nat_lt, ltb-true, lt-ltb, All-nil, All-cons, All-append, All-head, All-tail, All-weaker, Seq, Control, Information, ReceiveReady, ReceiveNotReady, Reject, Service, Parts, spelling, State, TeiAssigned, AwaitingEstablishment, AwaitingRelease, Established, TimerRecovery, ControlFrame, LinkTimer, Terms, Link, fresh, frame_of, state_number, is_multiple_frame, course, begun, given_of, is_running, runs, Course, T200, T203, End, frame_given, with_sent, Config, LineTold, next, link_in, state_in, state_of, terms, awaits_answer, is_enquiry, is_answer, supervisory_bit, HasNo, Station, answered, happens, told_by, tells_nothing, expiry, is_error, TellNoError, bit_of, is_poll, is_final, giving, NoneGoes, IsNoneOpen, awaits_in, awaits_reply, IsLongEnough, MayRepeat, is_any_order, runs_t200, All-drop, Answer, BadTei, NoLink, Refusal, Rests, arith, frames_by, front_rest, gave, gives_one, is_on-at, le-ltb, link_of, list_any_none, place_of-is, queue_of, seq, told, told_of_link, of_aim, at_timer, place_in, unwrap_or, ◌-◌, ◌≤◌}
+use Rattle.lapd_frame.specs.declared.timers.Timer.TheVariants as timers
+use Rattle.model_link.specs.Events as link
+use Rattle.model_link.specs.Machine as links
+use Rattle.model_link.specs.Offers as offers
+use Rattle.model_link.specs.Room.{room_of}
+use Rattle.model_link.specs.Told.{orders_for}
+use Rattle.model_line.specs.Laws.{orders_in}
+use Rattle.model_line.specs.Machine as lines
+use Rattle.model_line.specs.Room.{unless}
+use Rattle.model_card.specs.Room.{free}
 use Rattle.laws_link.specs.two.Timely as two_links
 use Rattle.laws_wire.specs.Facing.{line_of, read_as, parts_of, end_of}
-use Rattle.laws_wire.proofs.Standing.{IsCarried, Stands}
+use Rattle.laws_wire.proofs.Fair.{HasError}
+use Rattle.laws_wire.proofs.Held.{error-said, tells_error}
+use Rattle.laws_wire.proofs.Speaking.{heard_by, said_by}
+use Rattle.laws_wire.proofs.Standing.{IsCarried, Stands, link-ranges, gives-frames, gives-stands}
 
 -- ---- of two links less is asked
 
@@ -20,63 +34,281 @@ no-answer : (command : Bool) (control : Control) → is_final command control �
 no-answer true control e = refl
 no-answer false control e = no-bit control e
 
-pub less : (asked more : Bool → Control → Bool) → ((command : Bool) (control : Control) → more command control ≡ false → asked command control ≡ false) → (n : End) → HasNo more n
+less : (asked more : Bool → Control → Bool) → ((command : Bool) (control : Control) → more command control ≡ false → asked command control ≡ false) → (n : End) → HasNo more n
     → HasNo asked n
 less asked more weaker n h = record {
   waiting = All-weaker (λ (f : ControlFrame). more f.command f.control ≡ false) (λ (f : ControlFrame). asked f.command f.control ≡ false) (λ f. weaker f.command f.control) n.link.waiting h.waiting;
   way = All-weaker (λ (f : Parts). more f.address.command f.control ≡ false) (λ (f : Parts). asked f.address.command f.control ≡ false) (λ f. weaker f.address.command f.control) n.way h.way;
 }
 
-pub no-finals : (n : End) → HasNo is_final n → HasNo is_answer n
-no-finals n h = less is_answer is_final no-answer n h
+pub record NoneOpen (n m : End) : Type 0 where
+  pub commands : HasNo is_poll n
+  pub responses : HasNo is_final m
 
-pub closed : (n m : End) → IsNoneOpen n m → two_links.IsNoneOpen n m
-closed n m h = record { enquiries = less is_enquiry is_poll no-enquiry n h.commands; answers = no-finals m h.responses }
+pub closed : (n m : End) → NoneOpen n m → two_links.IsNoneOpen n m
+closed n m h = record { enquiries = less is_enquiry is_poll no-enquiry n h.commands; answers = less is_answer is_final no-answer m h.responses }
+
+-- of all, what is behind
+pub all-behind : {X : Type 0} (P : X → Type 0) (first rest : List X) → All P (first ++ rest) → All P rest
+all-behind P first rest h = subst (All P) (front_rest (first ++ rest) first rest refl) (All-drop P (length first) (first ++ rest) h)
+
+-- ---- a link whose T200 expires
+
+module _ (t : Terms) (l : Link) where
+  abbrev expires : Course
+  expires = course t (link.expired T200) l
+
+  -- it is answered with orders where it runs
+  abbrev HasOrders : Course → Type 0
+  HasOrders c = is_any_order (orders_for t l.running c.started c.link.running) ≡ true
+
+  none-ordered : (r : Option LinkTimer) → is_any_order (orders_for t r None r) ≡ false
+  none-ordered None = refl
+  none-ordered (Some T200) = refl
+  none-ordered (Some T203) = refl
+
+  stop-ordered : (r : Option LinkTimer) → runs T200 r ≡ true → is_any_order (orders_for t r None None) ≡ true
+  stop-ordered None e = absurd (true≢false (sym e))
+  stop-ordered (Some T200) e = refl
+  stop-ordered (Some T203) e = absurd (true≢false (sym e))
+
+  either-ordered : (b : Bool) (c d : Course) → HasOrders c → HasOrders d → HasOrders (cond b c d)
+  either-ordered true c d x y = x
+  either-ordered false c d x y = y
+
+  ordered-in : (here : State) → (here ≡ TeiAssigned → ⊥) → is_running T200 l ≡ true → HasOrders (links.expired_in here T200 t (begun l))
+  ordered-in TeiAssigned up e = absurd (up refl)
+  ordered-in AwaitingEstablishment up e = either-ordered (nat_lt l.repeats t.n200) _ _ refl (stop-ordered l.running e)
+  ordered-in AwaitingRelease up e = either-ordered (nat_lt l.repeats t.n200) _ _ refl (stop-ordered l.running e)
+  ordered-in Established up e = refl
+  ordered-in TimerRecovery up e = either-ordered (nat_lt l.repeats t.n200) _ _ refl refl
+
+  ordered-as : (l.state ≡ TeiAssigned → ⊥) → (b : Bool) → is_running T200 l ≡ b
+      → let c = cond b (links.expire_running T200 t (begun l)) (begun l) in is_any_order (orders_for t l.running c.started c.link.running) ≡ b
+  ordered-as up true e = ordered-in l.state up e
+  ordered-as up false e = none-ordered l.running
+
+  -- and tells an error where N200 is used up
+  taken : (b : Bool) (c d : Course) → b ≡ true → list_any is_error c.notes ≡ false → list_any is_error (cond b c d).notes ≡ false
+  taken true c d e h = h
+  taken false c d e h = absurd (true≢false (sym e))
+
+  passed : (b : Bool) (c d : Course) → b ≡ false → HasError d.notes → HasError (cond b c d).notes
+  passed true c d e h = absurd (true≢false e)
+  passed false c d e h = h
+
+  fair-in : (here : State) → (awaits_answer here ≡ true → nat_lt l.repeats t.n200 ≡ true) → list_any is_error (links.expired_in here T200 t (begun l)).notes ≡ false
+  fair-in AwaitingEstablishment few = taken (nat_lt l.repeats t.n200) _ _ (few refl) refl
+  fair-in AwaitingRelease few = taken (nat_lt l.repeats t.n200) _ _ (few refl) refl
+  fair-in TimerRecovery few = taken (nat_lt l.repeats t.n200) _ _ (few refl) refl
+  fair-in TeiAssigned few = refl
+  fair-in Established few = refl
+
+  error-in : (here : State) → awaits_answer here ≡ true → nat_lt l.repeats t.n200 ≡ false → HasError (links.expired_in here T200 t (begun l)).notes
+  error-in AwaitingEstablishment awaits over = passed (nat_lt l.repeats t.n200) _ _ over refl
+  error-in AwaitingRelease awaits over = passed (nat_lt l.repeats t.n200) _ _ over refl
+  error-in TimerRecovery awaits over = passed (nat_lt l.repeats t.n200) _ _ over refl
+  error-in other awaits over = absurd (true≢false (sym awaits))
+
+  few-tell : (awaits_answer l.state ≡ true → l.repeats < t.n200) → list_any is_error expires.notes ≡ false
+  few-tell few = go (is_running T200 l)
+    where
+      go : (b : Bool) → list_any is_error (cond b (links.expire_running T200 t (begun l)) (begun l)).notes ≡ false
+      go true = fair-in l.state (λ awaits. lt-ltb l.repeats t.n200 (few awaits))
+      go false = refl
+
+  told-few : awaits_answer l.state ≡ true → is_running T200 l ≡ true → list_any is_error expires.notes ≡ false → l.repeats < t.n200
+  told-few awaits running fair = go (nat_lt l.repeats t.n200) refl
+    where
+      go : (b : Bool) → nat_lt l.repeats t.n200 ≡ b → l.repeats < t.n200
+      go true e = ltb-true l.repeats t.n200 e
+      go false e =
+          let error = ap (λ b. list_any is_error (cond b (links.expire_running T200 t (begun l)) (begun l)).notes) running ∙ error-in l.state awaits e in
+          absurd (true≢false (sym error ∙ fair))
+
+said-fair : (c : Course) → list_any is_error c.notes ≡ false → TellNoError (said_by c)
+said-fair c h = go (tells_nothing (heard_by c))
+  where
+    go : (b : Bool) → TellNoError (cond b [] (heard_by c ∷ []))
+    go true = All-nil (λ (t : LineTold). list_any is_error t.notes ≡ false)
+    go false = All-cons (λ (t : LineTold). list_any is_error t.notes ≡ false) (heard_by c) [] h (All-nil (λ (t : LineTold). list_any is_error t.notes ≡ false))
+
+fair-said : (c : Course) → TellNoError (said_by c) → list_any is_error c.notes ≡ false
+fair-said c h = go (list_any is_error c.notes) refl
+  where
+    go : (b : Bool) → list_any is_error c.notes ≡ b → b ≡ false
+    go true e = sym (error-said c e) ∙ list_any_none tells_error (said_by c) h
+    go false e = refl
+
+-- ---- a link that is only called for its next frames
+
+-- what it gives has waited, or is an I-frame with P=0, or an acknowledgement with F=0
+module _ (of : Bool → Control → Bool) (i : (ns nr : Seq) → of true (Information ns nr false) ≡ false) (rr : (nr : Seq) → of false (ReceiveReady nr false) ≡ false) where
+  abbrev IsNone : ControlFrame → Type 0
+  IsNone f = of f.command f.control ≡ false
+
+  abbrev IsNot : Parts → Type 0
+  IsNot f = of f.address.command f.control ≡ false
+
+  record Gives (t : Terms) (l : Link) (c : Course) : Type 0 where
+    waiting : All IsNone c.link.waiting
+    gives : All IsNot (frame_given t (given_of t l c c.sent))
+
+  either-gives : (t : Terms) (l : Link) (b : Bool) (c d : Course) → Gives t l c → Gives t l d → Gives t l (cond b c d)
+  either-gives t l true c d x y = x
+  either-gives t l false c d x y = y
+
+  offers-none : (t : Terms) (l : Link) (ws : List ControlFrame) → All IsNone ws → All IsNone l.waiting → Gives t l (offers.offer_among t ws (begun l))
+  offers-none t l (f ∷ fs) h w = record { waiting = All-tail IsNone f fs h; gives = All-cons IsNot _ [] (All-head IsNone f fs h) (All-nil IsNot) }
+  offers-none t l [] h w =
+      let sent : All IsNot (record (frame_of t (offers.next_information l)) { info = unwrap_or (offers.first_unsent l) [] } ∷ []) =
+      All-cons IsNot _ [] (i (seq l.s) (seq l.r)) (All-nil IsNot) in
+      either-gives t l (offers.may_send_information t l) _ _
+      (either-gives t l (runs T200 l.running) _ _ (record { waiting = w; gives = sent }) (record { waiting = w; gives = sent }))
+      (either-gives t l l.pending _ _ (record { waiting = w; gives = All-cons IsNot _ [] (rr (seq l.r)) (All-nil IsNot) }) (record { waiting = w; gives = All-nil IsNot }))
+
+  sent-none : (n : End) → HasNo of n → HasNo of (with_sent n)
+  sent-none n h =
+      let x = offers-none n.terms n.link n.link.waiting h.waiting h.waiting in
+      record { waiting = x.waiting; way = All-append IsNot n.way (frame_given n.terms (links.given n.terms n.link)) h.way x.gives }
 
 -- ---- a station, and the end for which it stands
 
+awaits-number : (here : State) → awaits_in (Some (state_number here)) ≡ awaits_answer here
+awaits-number TeiAssigned = refl
+awaits-number other = refl
+
+two-pass : (a b : Bool) (x y : Refusal) → a ≡ false → b ≡ false → cond a (Some x) (cond b (Some y) None) ≡ None
+two-pass a b x y e e' = rw (e, e') refl
+
+none-taken : (n : ℕ) (queue : List (List ℕ)) → queue ≡ [] → n - length queue ≡ n
+none-taken n queue e = ap (λ q. n - length q) e ∙ omega arith
+
+-- its frames are read as what they are
+pub read-again : (service : Service) (tei : ℕ) (c : Config) (way : List Parts) → All (IsCarried c service tei) way → flat_map (read_as c) (map (spelling c.side) way) ≡ way
+read-again service tei c [] all = refl
+read-again service tei c (f ∷ fs) all =
+    ap (λ r. parts_of r ++ flat_map (read_as c) (map (spelling c.side) fs)) (All-head (IsCarried c service tei) f fs all).carried.read
+    ∙ ap (λ more. f ∷ more) (read-again service tei c fs (All-tail (IsCarried c service tei) f fs all))
+
+module _ (service : Service) (tei place : ℕ) where
+  abbrev Own : Station → End → Type 0
+  Own s n = Stands s.card.config service tei place s n
+
+  way-read : (s : Station) (n : End) → Own s n → flat_map (read_as s.card.config) s.way ≡ n.way
+  way-read s n h = ap (flat_map (read_as s.card.config)) h.way ∙ read-again service tei s.card.config n.way h.carried
+
+  -- what waits goes, as the next frame is called for again and again
+  waits-none : (of : Bool → Control → Bool) (ws : List ControlFrame) (s : Station) (n : End) → Own s n → n.link.waiting ≡ ws → NoneGoes of s
+      → All (λ (f : ControlFrame). of f.command f.control ≡ false) ws
+  unfolding giving
+  waits-none of [] s n h e none = All-nil (λ (f : ControlFrame). of f.command f.control ≡ false)
+  waits-none of (f ∷ fs) s n h e none =
+      let t = n.terms in
+      let l = n.link in
+      let h' = gives-stands service tei place s n h in
+      let gone : flat_map (read_as s.card.config) (happens next s).way ≡ n.way ++ frame_of t f ∷ [] =
+      way-read (happens next s) (with_sent n) h'
+      ∙ ap (λ ws. let c = offers.offer_among t ws (begun l) in n.way ++ frame_given t (given_of t l c c.sent)) e in
+      let its = all-behind (λ (f : Parts). of f.address.command f.control ≡ false) n.way (frame_of t f ∷ []) (subst (All (λ (f : Parts). of f.address.command f.control ≡ false)) gone (none (suc zero))) in
+      All-cons (λ (f : ControlFrame). of f.command f.control ≡ false) f fs (All-head (λ (f : Parts). of f.address.command f.control ≡ false) (frame_of t f) [] its)
+      (waits-none of fs (happens next s) (with_sent n) h' (ap (λ ws. (offers.offer_among t ws (begun l)).link.waiting) e) (λ k. none (suc k)))
+
+  goes-none : (of : Bool → Control → Bool) → ((ns nr : Seq) → of true (Information ns nr false) ≡ false) → ((nr : Seq) → of false (ReceiveReady nr false) ≡ false)
+      → (k : ℕ) (s : Station) (n : End) → Own s n → HasNo of n → All (λ (f : Parts). of f.address.command f.control ≡ false) (flat_map (read_as s.card.config) (giving k s).way)
+  unfolding giving
+  goes-none of i rr zero s n h x = subst (All (λ (f : Parts). of f.address.command f.control ≡ false)) (sym (way-read s n h)) x.way
+  goes-none of i rr (suc k) s n h x = goes-none of i rr k (happens next s) (with_sent n) (gives-stands service tei place s n h) (sent-none of i rr n x)
+
+-- T200 of a link on the line expires
+module _ (service : Service) (tei : ℕ) (s : Station) where
+  abbrev t200 : Answer
+  t200 = answered (expiry (timers.T200 service tei)) s
+
+  answers-t200 : (place : ℕ) → place_in (line_of s) tei ≡ Some place
+      → t200 ≡ told (told_of_link (links.told (terms s.card.config service tei) (link.expired T200) (link_in (line_of s) service place)))
+  unfolding lines.answer lines.takes_slot
+  answers-t200 place e = ap (λ o. told (of_aim s.card.config (at_timer service tei T200 o) (line_of s)).told) e
+
+  pub runs-there : ((link_of service tei (line_of s)).state ≡ TeiAssigned → ⊥) → runs_t200 service tei s ≡ is_running T200 (link_of service tei (line_of s))
+  runs-there = go (place_in (line_of s) tei) refl
+    where
+      go : (o : Option ℕ) → place_in (line_of s) tei ≡ o → let l = option_map_or (link_in (line_of s) service) o fresh in (l.state ≡ TeiAssigned → ⊥) → runs_t200 service tei s ≡ is_running T200 l
+      go None e up = absurd (up refl)
+      go (Some place) e up =
+          let l = link_in (line_of s) service place in
+          ap (λ a. is_any_order (orders_in a)) (answers-t200 place e) ∙ ordered-as (terms s.card.config service tei) l up (is_running T200 l) refl
+
 module _ (service : Service) (tei : ℕ) (c : Config) (place : ℕ) (s : Station) (n : End) (h : Stands c service tei place s n) where
+  own : Stands s.card.config service tei place s n
+  own = subst (λ k. Stands k service tei place s n) (sym h.config) h
+
   pub link-is : (end_of service tei s).link ≡ n.link
   link-is = ap (λ o. option_map_or (link_in (line_of s) service) o fresh) h.speaks.placed ∙ h.speaks.link
 
-  -- its frames are read as what they are
-  pub read-again : (way : List Parts) → All (IsCarried c service tei) way → flat_map (read_as c) (map (spelling c.side) way) ≡ way
-  read-again [] all = refl
-  read-again (f ∷ fs) all =
-      ap (λ r. parts_of r ++ flat_map (read_as c) (map (spelling c.side) fs)) (All-head (IsCarried c service tei) f fs all).carried.read
-      ∙ ap (λ more. f ∷ more) (read-again fs (All-tail (IsCarried c service tei) f fs all))
+  pub state-is : state_of service tei (line_of s) ≡ Some (state_number n.link.state)
+  state-is = ap (option_map (state_in (line_of s) service)) h.speaks.placed ∙ ap (λ (l : Link). Some (state_number l.state)) h.speaks.link
 
-  pub way-is : (end_of service tei s).way ≡ n.way
-  way-is = (λ i. flat_map (read_as (h.config i)) (h.way i)) ∙ read-again n.way h.carried
+  pub awaits-is : awaits_reply service tei s ≡ awaits_answer n.link.state
+  awaits-is = ap awaits_in state-is ∙ awaits-number n.link.state
 
-  pub none-there : (asked : Bool → Control → Bool) → HasNo asked (end_of service tei s) → HasNo asked n
-  none-there asked x = record {
-    waiting = subst (λ l. All (λ (f : ControlFrame). asked f.command f.control ≡ false) l.waiting) link-is x.waiting;
-    way = subst (All (λ (f : Parts). asked f.address.command f.control ≡ false)) way-is x.way;
+  pub none-there : (of : Bool → Control → Bool) → NoneGoes of s → HasNo of n
+  unfolding giving
+  none-there of none = record {
+    waiting = waits-none service tei place of n.link.waiting s n own refl none;
+    way = subst (All (λ (f : Parts). of f.address.command f.control ≡ false)) (way-read service tei place s n own) (none zero);
   }
 
-  pub none-here : (asked : Bool → Control → Bool) → HasNo asked n → HasNo asked (end_of service tei s)
-  none-here asked x = record {
-    waiting = subst (λ l. All (λ (f : ControlFrame). asked f.command f.control ≡ false) l.waiting) (sym link-is) x.waiting;
-    way = subst (All (λ (f : Parts). asked f.address.command f.control ≡ false)) (sym way-is) x.way;
-  }
+  pub none-here : (of : Bool → Control → Bool) → ((ns nr : Seq) → of true (Information ns nr false) ≡ false) → ((nr : Seq) → of false (ReceiveReady nr false) ≡ false) → HasNo of n → NoneGoes of s
+  none-here of i rr x = λ k. goes-none service tei place of i rr k s n own x
 
-  -- and it may be repeated as often
-  terms-are : (end_of service tei s).terms ≡ n.terms
-  terms-are = ap (λ k. terms k service tei) h.config ∙ sym h.terms
+  -- what it gives is read as what it is
+  pub gives-reads : flat_map (read_as s.card.config) (frames_by (answered next s)) ≡ frame_given n.terms (links.given n.terms n.link)
+  gives-reads =
+      let given = frame_given n.terms (links.given n.terms n.link) in
+      ap (flat_map (read_as s.card.config)) (gives-frames service tei place s n own)
+      ∙ read-again service tei s.card.config given (all-behind (IsCarried s.card.config service tei) n.way given (gives-stands service tei place s n own).carried)
 
-  pub as-here : {x : State} → n.link.state ≡ x → (end_of service tei s).link.state ≡ x
-  as-here e = ap (λ l. l.state) link-is ∙ e
+  pub gives-first : (of : Control → Bool) (f : ControlFrame) (fs : List ControlFrame) → n.link.waiting ≡ f ∷ fs → gives_one of s ≡ (of f.control || false)
+  gives-first of f fs e =
+      let t = n.terms in
+      let l = n.link in
+      ap (list_any (λ (x : Parts). of x.control)) gives-reads
+      ∙ ap (λ ws. let c = offers.offer_among t ws (begun l) in list_any (λ (x : Parts). of x.control) (frame_given t (given_of t l c c.sent))) e
 
-  pub may-there : MayRepeat (end_of service tei s) → MayRepeat n
-  may-there x awaits =
-      let few = x (ap (λ l. awaits_answer l.state) link-is ∙ awaits) in
-      subst (λ l. l.repeats < n.terms.n200) link-is (subst (λ t. (end_of service tei s).link.repeats < t.n200) terms-are few)
+  -- it rests where it is in state 7 and keeps nothing
+  pub rests-here : n.link.state ≡ Established → queue_of n.link ≡ [] → Rests service tei s
+  rests-here state empty =
+      let l = line_of s in
+      let ranges = link-ranges service tei place s n own in
+      let few : tei ≤ 126 = subst (λ (t : Terms). t.tei ≤ 126) h.terms ranges.tei in
+      let at = (place_of-is l.management.places tei place h.speaks.placed).1 in
+      let kept : queue_of (link_of service tei l) ≡ [] = ap queue_of link-is ∙ empty in
+      let free_room = room_of (terms s.card.config service tei) (free s.card) (link_of service tei l) in (
+        state-is ∙ ap (λ here. Some (state_number here)) state,
+        free_room,
+        ap (λ o. unless o free_room) (two-pass _ _ BadTei NoLink (le-ltb 126 tei few) (ap not (is_on-at l.management.places place tei at))),
+        none-taken s.card.config.queue (queue_of (link_of service tei l)) kept,
+      )
 
-  pub may-here : MayRepeat n → MayRepeat (end_of service tei s)
-  may-here x awaits =
-      let few = x (ap (λ l. awaits_answer l.state) (sym link-is) ∙ awaits) in
-      subst (λ t. (end_of service tei s).link.repeats < t.n200) (sym terms-are) (subst (λ l. l.repeats < n.terms.n200) (sym link-is) few)
+  -- its T200 expires
+  its-answer : t200 service tei s ≡ told (told_of_link (links.told n.terms (link.expired T200) n.link))
+  its-answer =
+      answers-t200 service tei s place h.speaks.placed
+      ∙ (λ i. told (told_of_link (links.told ((ap (λ k. terms k service tei) h.config ∙ sym h.terms) i) (link.expired T200) (h.speaks.link i))))
+
+  pub may-there : MayRepeat service tei s → awaits_answer n.link.state ≡ true → is_running T200 n.link ≡ true → n.link.repeats < n.terms.n200
+  may-there may awaits running =
+      told-few n.terms n.link awaits running (fair-said (course n.terms (link.expired T200) n.link) (subst (λ a. TellNoError (told_by a)) its-answer may))
+
+  pub may-here : (awaits_answer n.link.state ≡ true → n.link.repeats < n.terms.n200) → MayRepeat service tei s
+  may-here few = subst (λ a. TellNoError (told_by a)) (sym its-answer) (said-fair (course n.terms (link.expired T200) n.link) (few-tell n.terms n.link few))
+
+  pub runs-is : (n.link.state ≡ TeiAssigned → ⊥) → runs_t200 service tei s ≡ is_running T200 n.link
+  runs-is up = runs-there service tei s (λ e. up (ap (λ (l : Link). l.state) (sym link-is) ∙ e)) ∙ ap (is_running T200) link-is
+
+  pub runs-up : IsTrue (is_multiple_frame n.link.state) → runs_t200 service tei s ≡ is_running T200 n.link
+  runs-up up = runs-is (λ e. true≢false (sym up ∙ ap is_multiple_frame e))
 
 -- what waits, or is on its way, first
 pub waits-first : (asked : Bool → Control → Bool) (n : End) (f : ControlFrame) (fs : List ControlFrame) → n.link.waiting ≡ f ∷ fs → asked f.command f.control ≡ true → HasNo asked n → ⊥
@@ -89,9 +321,17 @@ goes-first asked n f fs first is h =
     let all = subst (All (λ (g : Parts). asked g.address.command g.control ≡ false)) first h.way in
     true≢false (sym is ∙ All-head (λ (g : Parts). asked g.address.command g.control ≡ false) f fs all)
 
-module _ (service : Service) (tei : ℕ) (c d : Config) (p q : ℕ) (s r : Station) (n m : End) (near : Stands c service tei p s n) (far : Stands d service tei q r m) where
-  pub open-there : IsNoneOpen (end_of service tei s) (end_of service tei r) → IsNoneOpen n m
-  open-there h = record { commands = none-there service tei c p s n near is_poll h.commands; responses = none-there service tei d q r m far is_final h.responses }
+pub gives-none-of : (of : Control → Bool) (s : Station) → answered next s ≡ gave None → gives_one of s ≡ false
+gives-none-of of s e = ap (λ a. list_any (λ (x : Parts). of x.control) (flat_map (read_as s.card.config) (frames_by a))) e
 
-  pub open-here : IsNoneOpen n m → IsNoneOpen (end_of service tei s) (end_of service tei r)
-  open-here h = record { commands = none-here service tei c p s n near is_poll h.commands; responses = none-here service tei d q r m far is_final h.responses }
+module _ (service : Service) (tei : ℕ) (c d : Config) (p q : ℕ) (s r : Station) (n m : End) (near : Stands c service tei p s n) (far : Stands d service tei q r m) where
+  pub long-there : IsLongEnough service tei s r → awaits_answer n.link.state ≡ true → NoneOpen n m
+  long-there long awaits =
+      let none = long (awaits-is service tei c p s n near ∙ awaits) in
+      record { commands = none-there service tei c p s n near is_poll none.commands; responses = none-there service tei d q r m far is_final none.responses }
+
+  pub open-here : NoneOpen n m → IsNoneOpen s r
+  open-here h = record {
+    commands = none-here service tei c p s n near is_poll (λ ns nr. refl) (λ nr. refl) h.commands;
+    responses = none-here service tei d q r m far is_final (λ ns nr. refl) (λ nr. refl) h.responses;
+  }

@@ -13,7 +13,7 @@ called =
     let far : IsCall Call 0 (at_far asks) = (refl, refl) in
     let first : IsCall Call 0 (at_far (requests (Data Call 0 (0xAB ∷ [])))) = (refl, refl) in
     let second : IsCall Call 0 (at_near (requests (Data Call 0 (0xCD ∷ [])))) = (refl, refl) in
-    all-of both_send (near, (tt, (far, (tt, (tt, (tt, (tt, (tt, (first, (far, (tt, (tt, (tt, (tt, (second, (tt, (tt, (tt, (tt, tt)))))))))))))))))))
+    all-of (IsCall Call 0) both_send (near, (tt, (far, (tt, (tt, (tt, (tt, (tt, (first, (far, (tt, (tt, (tt, (tt, (second, (tt, (tt, (tt, (tt, tt)))))))))))))))))))
 
 pub still : IsStill (doing_all both_send begins)
 unfolding lines.after lines.answer lines.takes_slot reading header_of control_of unnumbered_of supervisory_of teis.course teis.refusal seq distance_of named doing_all turns

@@ -1,10 +1,10 @@
 -- The premises of the law on counted expiries are met, by the worked call that recovers from its losses.
-use Rattle.laws_wire.proofs.Vocabulary.{◌≡◌, refl, arith, Call, reading, header_of, control_of, unnumbered_of, supervisory_of, distance_of, named, seq, gives, loses, at_near, doing, doing_all, turns, confirmed, heard_in, end_of, StayTimely, Counts, counting, IsBelow, StayCounted, user, network, begins, loses_three, lost}
+use Rattle.laws_wire.proofs.Vocabulary.{◌≡◌, refl, arith, Call, reading, header_of, control_of, unnumbered_of, supervisory_of, distance_of, named, seq, gives, loses, at_near, doing, doing_all, turns, confirmed, heard_in, StayTimely, Counts, counting, IsBelow, StayCounted, user, network, begins, loses_three, lost, ℕ, ◌<◌}
 use Rattle.lapd_tei.specs.Events as teis
 use Rattle.model_line.specs.Machine as lines
 use Rattle.laws_wire.proofs.Counting.{expiries-are-counted}
 use Rattle.laws_wire.proofs.PremisesMet.{can}
-use Rattle.laws_wire.proofs.RecoveryMet.{silent, silent-open, silent-repeats, fewer, heard-it, lost-near, rough}
+use Rattle.laws_wire.proofs.RecoveryMet.{silent, silent-open, heard-it, lost-near, rough}
 
 abbrev none_yet : Counts
 none_yet = record { near = 0; far = 0 }
@@ -17,8 +17,15 @@ none-expired : so_far.near ≡ 0
 unfolding lines.after lines.answer lines.takes_slot reading header_of control_of unnumbered_of supervisory_of teis.course teis.refusal seq distance_of named doing_all turns
 none-expired = refl
 
-few : IsBelow (end_of Call 0 silent.near) so_far.near
-few awaits = fewer _ _ 0 3 (none-expired, silent-repeats.1) (omega arith)
+three-times : silent.near.card.config.n200 ≡ 3
+unfolding doing_all
+three-times = refl
+
+few : IsBelow Call 0 silent.near so_far.near
+few awaits = fewer so_far.near silent.near.card.config.n200 none-expired three-times
+  where
+    fewer : (k n : ℕ) → k ≡ 0 → n ≡ 3 → k < n
+    fewer k n e e' = omega (arith, e, e')
 
 counted : StayCounted Call 0 loses_three none_yet begins
 unfolding doing_all StayCounted

@@ -1,10 +1,10 @@
--- RC is never above the number of expiries of T200 since a link was last in state 7.
-use Rattle.laws_wire.proofs.Vocabulary.{◌≡◌, ℕ, ◌+◌, ◌<◌, ◌≤◌, Bool, true, false, cond, not, ◌==◌, List, [], ◌∷◌, map, refl, sym, ap, subst, ◌∙◌, inl, inr, true≢false, eqb-true, arith, All, All-head, All-tail, Service, Parts, spelling, State, TeiAssigned, AwaitingEstablishment, AwaitingRelease, Established, TimerRecovery, Terms, T203, Link, state_number, IsInRange, End, Config, LineTold, request, terms, awaits_answer, repeats_left, as_heard, is_clearing, is_time, event-follows, T200, after, Data, Station, Wire, happens, with_first_of, Act, requests, times_out, gives, takes, loses, Doing, at_near, at_far, acting, turned, doing, calling, IsRoughTalkOf, IsRoughTalk, end_of, IsTimelyOf, IsTimely, StayTimely, Counts, is_in_7, counted, counting, IsCountedOf, IsCounted, StayCounted, ExpiriesAreCounted}
+-- RC is never above the number of expiries of T200 since a link was last in state 7, so no error is told while this is below N200.
+use Rattle.laws_wire.proofs.Vocabulary.{◌≡◌, ℕ, ◌+◌, ◌<◌, ◌≤◌, Bool, true, false, cond, not, ◌==◌, List, [], ◌∷◌, map, refl, sym, ap, subst, ◌∙◌, inl, inr, true≢false, eqb-true, arith, All, All-head, All-tail, Service, Parts, spelling, State, TeiAssigned, AwaitingEstablishment, AwaitingRelease, Established, TimerRecovery, Terms, T203, Link, state_number, IsInRange, End, Config, LineTold, request, terms, awaits_answer, repeats_left, as_heard, is_clearing, is_time, event-follows, T200, after, Data, Station, Wire, happens, with_first_of, Act, requests, times_out, gives, takes, loses, Doing, at_near, at_far, acting, turned, doing, calling, IsRoughTalkOf, IsRoughTalk, end_of, IsTimelyOf, IsTimely, StayTimely, Counts, is_7, is_in_7, counted, counting, IsCountedOf, IsCounted, StayCounted, ExpiriesAreCounted}
 use Rattle.laws_link.specs.States.{moves}
 use Rattle.lapd_frame.specs.declared.timers.Timer.TheVariants as timers
 use Rattle.model_link.specs.Events as link
 use Rattle.model_link.specs.Events.{Event}
-use Rattle.laws_wire.proofs.Awaited.{link-is}
+use Rattle.laws_wire.proofs.Awaited.{link-is, state-is, awaits-is, may-here}
 use Rattle.laws_wire.proofs.Held.{Held, taken-stands, held-asked}
 use Rattle.laws_wire.proofs.LossyPhases.{for-data}
 use Rattle.laws_wire.proofs.Standing.{IsCarried, Stands, gives-stands, expires-stands}
@@ -86,7 +86,7 @@ module _ (service : Service) (tei : ℕ) where
     own-stands = subst (λ c. Stands c service tei p w.near n) (sym near.stands.config) near.stands
 
     seven : awaits_answer n.link.state ≡ true → in_7 ≡ false
-    seven awaits = ap (λ l. state_number l.state == 7) (link-is service tei c p w.near n near.stands) ∙ not-7 n.link.state awaits
+    seven awaits = ap is_7 (state-is service tei c p w.near n near.stands) ∙ not-7 n.link.state awaits
 
     keeps : (i : ℕ) → k ≤ i → awaits_answer n.link.state ≡ true → k ≤ cond in_7 0 i
     keeps i few awaits = subst (λ b. k ≤ cond b 0 i) (sym (seven awaits)) few
@@ -159,15 +159,21 @@ module _ (service : Service) (tei : ℕ) where
   far-same (requests r) w k h = h
   far-same other w k h = h
 
-  few : (r k i : ℕ) → r ≤ k → k < i → r < i
-  few r k i h h' = omega (arith, h, h')
+  few : (r k i i' : ℕ) → r ≤ k → k < i → i' ≡ i → r < i'
+  few r k i i' h h' e = omega (arith, h, h', e)
 
-  of-act : (act : Act) → IsRoughTalkOf service tei act → (w : Wire) (k : ℕ) → Below w.near k → IsCountedOf act k w → IsTimelyOf act w
-  of-act (times_out timer) is w k below x =
-      let n = end_of service tei w.near in
+  of-act : (c : Config) (p : ℕ) (act : Act) → IsRoughTalkOf service tei act → (w : Wire) (n : End) → Stands c service tei p w.near n → (k : ℕ) → Below w.near k → IsCountedOf act k w
+      → IsTimelyOf act w
+  of-act c p (times_out timer) is w n h k below x =
       each-timer service tei (λ timer. IsCountedOf (times_out timer) k w → IsTimelyOf (times_out timer) w)
-      (λ x. (x.0, λ awaits. few n.link.repeats k n.terms.n200 (below awaits) (x.1 awaits))) (λ x. tt) timer is x
-  of-act other is w k below x = tt
+      (λ x. (
+        x.0,
+        may-here service tei c p w.near n h (λ awaits.
+            few n.link.repeats k w.near.card.config.n200 n.terms.n200 (subst (λ l. IsBelow l k) (link-is service tei c p w.near n h) below awaits) (x.1 (awaits-is service tei c p w.near n h ∙ awaits))
+            (ap (λ t. t.n200) h.terms ∙ ap (λ (e : Config). e.n200) (sym h.config))),
+      ))
+      (λ x. tt) timer is x
+  of-act c p other is w n h k below x = tt
 
   -- ---- the run
 
@@ -191,9 +197,9 @@ module _ (service : Service) (tei : ℕ) where
     both w (inr (inr (inr (inr (inl h))))) = record { n = _; m = _; past = _; other = _; near = h.is.near; far = h.is.far }
     both w (inr (inr (inr (inr (inr h))))) = record { n = _; m = _; past = _; other = _; near = h.up.near; far = h.up.far }
 
-    timely : (a : Doing) → IsRoughTalk service tei a → (k : Counts) (w : Wire) → Below w.near k.near → Below w.far k.far → IsCounted a k w → IsTimely a w
-    timely (at_near act) is k w near far x = of-act act is w k.near near x
-    timely (at_far act) is k w near far x = (of-act act is (turned w) k.far far x.0, x.1)
+    timely : (a : Doing) → IsRoughTalk service tei a → (k : Counts) (w : Wire) → On w → Below w.near k.near → Below w.far k.far → IsCounted a k w → IsTimely a w
+    timely (at_near act) is k w h near far x = let y = both w h in of-act c p act is w y.n y.near.stands k.near near x
+    timely (at_far act) is k w h near far x = let y = both w h in (of-act d q act is (turned w) y.m y.far.stands k.far far x.0, x.1)
 
     near-next : (a : Doing) → IsRoughTalk service tei a → (k : Counts) (w : Wire) → On w → Below w.near k.near → Below (doing a w).near (counting service tei a w k).near
     near-next (at_near act) is k w h near = let x = both w h in near-counts c d p q face x.past x.other w x.n x.m x.near x.far k.near near act is
@@ -209,7 +215,7 @@ module _ (service : Service) (tei : ℕ) where
     all-timely [] rough k w h near far x = tt
     all-timely (a ∷ ds) rough k w h near far x =
         let is = All-head (IsRoughTalk service tei) a ds rough in
-        let now = timely a is k w near far x.0 in
+        let now = timely a is k w h near far x.0 in
         (now, all-timely ds (All-tail (IsRoughTalk service tei) a ds rough) (counting service tei a w k) (doing a w) (step service tei c d p q face back rt ru a is w now h) (near-next a is k w h near) (far-next a is k w h far) x.1)
 
 pub expiries-are-counted : ExpiriesAreCounted

@@ -1,8 +1,8 @@
 -- Two stations of which one releases the link where both rest: what each thing that is done makes of them.
-use Rattle.laws_wire.proofs.Vocabulary.{◌≡◌, ℕ, ◌+◌, ◌<◌, Bool, true, false, List, [], ◌∷◌, ◌++◌, cond, refl, sym, ap, subst, ◌∙◌, ◌⊎◌, inl, inr, append-nil, arith, All, nat_lt, flat_map, lt-ltb, All-head, All-tail, Service, Timer, Parts, spelling, Established, ControlFrame, Terms, LinkTimer, T203, Link, frame_of, course, End, with_link, response, Ua, Dm, IsInRange, begun, Config, LineTold, expiry, next, terms, HasNothingToSend, awaits_answer, T200, Station, Wire, happens, comes, with_first_of, Act, requests, times_out, gives, takes, loses, acting, turned, Doing, at_near, at_far, doing, doing_all, end_of, is_poll, is_final, IsNoneOpen, IsTimelyOf, for_layer_3, IsLeaving, IsTimelyThere, StayTimelyThere, release_confirmed, release_indicated}
+use Rattle.laws_wire.proofs.Vocabulary.{◌≡◌, ℕ, ◌+◌, ◌<◌, Bool, true, false, List, [], ◌∷◌, ◌++◌, cond, refl, sym, ap, subst, ◌∙◌, ◌⊎◌, inl, inr, append-nil, arith, All, nat_lt, flat_map, lt-ltb, All-head, All-tail, Service, Timer, Parts, spelling, Established, ControlFrame, Terms, LinkTimer, T203, Link, frame_of, course, End, with_link, response, Ua, Dm, IsInRange, begun, Config, LineTold, expiry, next, terms, HasNothingToSend, awaits_answer, T200, Station, Wire, happens, comes, with_first_of, Act, requests, times_out, gives, takes, loses, acting, turned, Doing, at_near, at_far, doing, doing_all, is_poll, is_final, IsTimelyOf, for_layer_3, IsLeaving, IsTimelyThere, StayTimelyThere, release_confirmed, release_indicated}
 use Rattle.lapd_frame.specs.declared.timers.Timer.TheVariants as timers
 use Rattle.model_link.specs.Events as link
-use Rattle.laws_wire.proofs.Awaited.{as-here, may-there, open-there, waits-first, goes-first}
+use Rattle.laws_wire.proofs.Awaited.{NoneOpen, may-there, long-there, waits-first, goes-first}
 use Rattle.laws_wire.proofs.Leaving.{its_disc, disc, leaving, left, gone, hears-disc, told-disc, repeats-disc, repeats-untold, hears-again, told-again}
 use Rattle.laws_wire.proofs.LossyPhases.{for-timer, Aims}
 use Rattle.laws_wire.proofs.Speaking.{said_by}
@@ -189,8 +189,8 @@ module _ (service : Service) (tei : ℕ) where
     -- ---- each act
 
     -- what is open at the stations is open at the ends
-    open-now : (n m : End) (a b : List LineTold) (w : Wire) → Are n m a b w → IsNoneOpen (end_of service tei w.near) (end_of service tei w.far) → IsNoneOpen n m
-    open-now n m a b w h none = open-there service tei c d p q w.near w.far n m h.near.stands h.far.stands none
+    open-now : (n m : End) (a b : List LineTold) (w : Wire) → Are n m a b w → awaits_answer n.link.state ≡ true → IsTimelyOf (times_out (timers.T200 service tei)) w → NoneOpen n m
+    open-now n m a b w h awaits x = long-there service tei c d p q w.near w.far n m h.near.stands h.far.stands x.0 awaits
 
     final : (b : Bool) → is_final (reply b).command (reply b).control ≡ true
     final true = refl
@@ -201,21 +201,21 @@ module _ (service : Service) (tei : ℕ) where
     first-near k w h (requests r) is x = absurd is
     first-near k w (inl h) (times_out timer) is x =
         each-timer service tei (λ timer. IsTimelyOf (times_out timer) w → First (acting (times_out timer) w))
-        (λ x. absurd (waits-first is_poll (N k (its_disc ∷ []) []) its_disc [] refl refl (open-now (N k (its_disc ∷ []) []) M hn hm w h (x.0 (ap awaits_answer (as-here service tei c p w.near (N k (its_disc ∷ []) []) h.near.stands refl)))).commands))
+        (λ x. absurd (waits-first is_poll (N k (its_disc ∷ []) []) its_disc [] refl refl (open-now (N k (its_disc ∷ []) []) M hn hm w h refl x).commands))
         (λ x. (k, inl (near-unmoved (N k (its_disc ∷ []) []) M hn hm w h (timers.T203 service tei) T203 (λ l. refl) refl))) timer is x
     first-near k w (inl h) gives is x = (k, inr (inl (gives-disc k M hm w h)))
     first-near k w (inl h) takes is x = (k, inl (near-takes-none (N k (its_disc ∷ []) []) M hn hm w h refl))
     first-near k w (inl h) loses is x = (k, inl (near-loses-none (N k (its_disc ∷ []) []) M hn hm w h refl))
     first-near k w (inr (inl h)) (times_out timer) is x =
         each-timer service tei (λ timer. IsTimelyOf (times_out timer) w → First (acting (times_out timer) w))
-        (λ x. absurd (goes-first is_poll (N k [] (disc t ∷ [])) (disc t) [] refl refl (open-now (N k [] (disc t ∷ [])) M hn hm w h (x.0 (ap awaits_answer (as-here service tei c p w.near (N k [] (disc t ∷ [])) h.near.stands refl)))).commands))
+        (λ x. absurd (goes-first is_poll (N k [] (disc t ∷ [])) (disc t) [] refl refl (open-now (N k [] (disc t ∷ [])) M hn hm w h refl x).commands))
         (λ x. (k, inr (inl (near-unmoved (N k [] (disc t ∷ [])) M hn hm w h (timers.T203 service tei) T203 (λ l. refl) refl)))) timer is x
     first-near k w (inr (inl h)) gives is x = (k, inr (inl (near-silent (N k [] (disc t ∷ [])) M hn hm w h (leaving-quiet k))))
     first-near k w (inr (inl h)) takes is x = (k, inr (inl (near-takes-none (N k [] (disc t ∷ [])) M hn hm w h refl)))
     first-near k w (inr (inl h)) loses is x = (k, inr (inr (loses-disc k M hm w h)))
     first-near k w (inr (inr h)) (times_out timer) is x =
         each-timer service tei (λ timer. IsTimelyOf (times_out timer) w → First (acting (times_out timer) w))
-        (λ x. (k + 1, inl (asks-again k M hm w (may-there service tei c p w.near (N k [] []) h.near.stands x.1 refl) h)))
+        (λ x. (k + 1, inl (asks-again k M hm w (may-there service tei c p w.near (N k [] []) h.near.stands x.1 refl refl) h)))
         (λ x. (k, inr (inr (near-unmoved (N k [] []) M hn hm w h (timers.T203 service tei) T203 (λ l. refl) refl)))) timer is x
     first-near k w (inr (inr h)) gives is x = (k, inr (inr (near-silent (N k [] []) M hn hm w h (leaving-quiet k))))
     first-near k w (inr (inr h)) takes is x = (k, inr (inr (near-takes-none (N k [] []) M hn hm w h refl)))
@@ -244,35 +244,35 @@ module _ (service : Service) (tei : ℕ) where
     told-near k b w h (requests r) is x = absurd is
     told-near k b w (inl h) (times_out timer) is x =
         each-timer service tei (λ timer. IsTimelyOf (times_out timer) w → Phase (acting (times_out timer) w))
-        (λ x. absurd (waits-first is_final (G (reply b ∷ []) []) (reply b) [] refl (final b) (open-now (N k [] []) (G (reply b ∷ []) []) hn I w h (x.0 (ap awaits_answer (as-here service tei c p w.near (N k [] []) h.near.stands refl)))).responses))
+        (λ x. absurd (waits-first is_final (G (reply b ∷ []) []) (reply b) [] refl (final b) (open-now (N k [] []) (G (reply b ∷ []) []) hn I w h refl x).responses))
         (λ x. inr (inl (k, b, inl (near-unmoved (N k [] []) (G (reply b ∷ []) []) hn I w h (timers.T203 service tei) T203 (λ l. refl) refl)))) timer is x
     told-near k b w (inl h) gives is x = inr (inl (k, b, inl (near-silent (N k [] []) (G (reply b ∷ []) []) hn I w h (leaving-quiet k))))
     told-near k b w (inl h) takes is x = inr (inl (k, b, inl (near-takes-none (N k [] []) (G (reply b ∷ []) []) hn I w h refl)))
     told-near k b w (inl h) loses is x = inr (inl (k, b, inl (near-loses-none (N k [] []) (G (reply b ∷ []) []) hn I w h refl)))
     told-near k b w (inr (inl h)) (times_out timer) is x =
         each-timer service tei (λ timer. IsTimelyOf (times_out timer) w → Phase (acting (times_out timer) w))
-        (λ x. absurd (goes-first is_final (G [] (frame_of u (reply b) ∷ [])) (frame_of u (reply b)) [] refl (final b) (open-now (N k [] []) (G [] (frame_of u (reply b) ∷ [])) hn I w h (x.0 (ap awaits_answer (as-here service tei c p w.near (N k [] []) h.near.stands refl)))).responses))
+        (λ x. absurd (goes-first is_final (G [] (frame_of u (reply b) ∷ [])) (frame_of u (reply b)) [] refl (final b) (open-now (N k [] []) (G [] (frame_of u (reply b) ∷ [])) hn I w h refl x).responses))
         (λ x. inr (inl (k, b, inr (inl (near-unmoved (N k [] []) (G [] (frame_of u (reply b) ∷ [])) hn I w h (timers.T203 service tei) T203 (λ l. refl) refl))))) timer is x
     told-near k b w (inr (inl h)) gives is x = inr (inl (k, b, inr (inl (near-silent (N k [] []) (G [] (frame_of u (reply b) ∷ [])) hn I w h (leaving-quiet k)))))
     told-near k b w (inr (inl h)) takes is x = inr (inr (k, takes-reply k w b h))
     told-near k b w (inr (inl h)) loses is x = inr (inl (k, b, inr (inl (near-loses-none (N k [] []) (G [] (frame_of u (reply b) ∷ [])) hn I w h refl))))
     told-near k b w (inr (inr (inl h))) (times_out timer) is x =
         each-timer service tei (λ timer. IsTimelyOf (times_out timer) w → Phase (acting (times_out timer) w))
-        (λ x. inr (inl (k + 1, b, inr (inr (inr (inl (asks-again k (G [] []) I w (may-there service tei c p w.near (N k [] []) h.near.stands x.1 refl) h)))))))
+        (λ x. inr (inl (k + 1, b, inr (inr (inr (inl (asks-again k (G [] []) I w (may-there service tei c p w.near (N k [] []) h.near.stands x.1 refl refl) h)))))))
         (λ x. inr (inl (k, b, inr (inr (inl (near-unmoved (N k [] []) (G [] []) hn I w h (timers.T203 service tei) T203 (λ l. refl) refl)))))) timer is x
     told-near k b w (inr (inr (inl h))) gives is x = inr (inl (k, b, inr (inr (inl (near-silent (N k [] []) (G [] []) hn I w h (leaving-quiet k))))))
     told-near k b w (inr (inr (inl h))) takes is x = inr (inl (k, b, inr (inr (inl (near-takes-none (N k [] []) (G [] []) hn I w h refl)))))
     told-near k b w (inr (inr (inl h))) loses is x = inr (inl (k, b, inr (inr (inl (near-loses-none (N k [] []) (G [] []) hn I w h refl)))))
     told-near k b w (inr (inr (inr (inl h)))) (times_out timer) is x =
         each-timer service tei (λ timer. IsTimelyOf (times_out timer) w → Phase (acting (times_out timer) w))
-        (λ x. absurd (waits-first is_poll (N k (its_disc ∷ []) []) its_disc [] refl refl (open-now (N k (its_disc ∷ []) []) (G [] []) hn I w h (x.0 (ap awaits_answer (as-here service tei c p w.near (N k (its_disc ∷ []) []) h.near.stands refl)))).commands))
+        (λ x. absurd (waits-first is_poll (N k (its_disc ∷ []) []) its_disc [] refl refl (open-now (N k (its_disc ∷ []) []) (G [] []) hn I w h refl x).commands))
         (λ x. inr (inl (k, b, inr (inr (inr (inl (near-unmoved (N k (its_disc ∷ []) []) (G [] []) hn I w h (timers.T203 service tei) T203 (λ l. refl) refl))))))) timer is x
     told-near k b w (inr (inr (inr (inl h)))) gives is x = inr (inl (k, b, inr (inr (inr (inr (gives-disc k (G [] []) I w h))))))
     told-near k b w (inr (inr (inr (inl h)))) takes is x = inr (inl (k, b, inr (inr (inr (inl (near-takes-none (N k (its_disc ∷ []) []) (G [] []) hn I w h refl))))))
     told-near k b w (inr (inr (inr (inl h)))) loses is x = inr (inl (k, b, inr (inr (inr (inl (near-loses-none (N k (its_disc ∷ []) []) (G [] []) hn I w h refl))))))
     told-near k b w (inr (inr (inr (inr h)))) (times_out timer) is x =
         each-timer service tei (λ timer. IsTimelyOf (times_out timer) w → Phase (acting (times_out timer) w))
-        (λ x. absurd (goes-first is_poll (N k [] (disc t ∷ [])) (disc t) [] refl refl (open-now (N k [] (disc t ∷ [])) (G [] []) hn I w h (x.0 (ap awaits_answer (as-here service tei c p w.near (N k [] (disc t ∷ [])) h.near.stands refl)))).commands))
+        (λ x. absurd (goes-first is_poll (N k [] (disc t ∷ [])) (disc t) [] refl refl (open-now (N k [] (disc t ∷ [])) (G [] []) hn I w h refl x).commands))
         (λ x. inr (inl (k, b, inr (inr (inr (inr (near-unmoved (N k [] (disc t ∷ [])) (G [] []) hn I w h (timers.T203 service tei) T203 (λ l. refl) refl))))))) timer is x
     told-near k b w (inr (inr (inr (inr h)))) gives is x = inr (inl (k, b, inr (inr (inr (inr (near-silent (N k [] (disc t ∷ [])) (G [] []) hn I w h (leaving-quiet k)))))))
     told-near k b w (inr (inr (inr (inr h)))) takes is x = inr (inl (k, b, inr (inr (inr (inr (near-takes-none (N k [] (disc t ∷ [])) (G [] []) hn I w h refl))))))

@@ -1,19 +1,11 @@
 -- A call that ends where both ends rest: from its release on.
-use Rattle.laws_wire.proofs.Vocabulary.{◌≡◌, ℕ, ◌≤◌, Bool, true, false, not, cond, List, [], ◌∷◌, ◌++◌, None, Some, refl, sym, ap, subst, ◌∙◌, ◌⊎◌, inl, inr, append-nil, true≢false, All, nat_lt, flat_map, option_map_or, le-ltb, lt-ltb, Refusal, BadTei, NoLink, WrongState, Service, is_on-at, place_of-is, Established, Terms, Link, fresh, course, serves, IsInRange, runs, End, with_link, Config, LineTold, request, Line, link_in, link_of, terms, line_at, wants_room, HasNothingToSend, nothing-given}
-use Rattle.std.proofs.lemmas.List.Concat.{flat_map-append}
-use Rattle.model_link.specs.declared.timers.LinkTimer.TheVariants.{T200}
+use Rattle.laws_wire.proofs.Vocabulary.{◌≡◌, ℕ, ◌≤◌, Bool, true, false, not, cond, List, [], ◌∷◌, ◌++◌, None, Some, refl, sym, ap, subst, ◌∙◌, ◌⊎◌, inl, inr, append-nil, true≢false, All, nat_lt, flat_map, option_map_or, le-ltb, lt-ltb, Refusal, BadTei, NoLink, WrongState, Service, is_on-at, place_of-is, Established, Terms, Link, fresh, course, serves, IsInRange, End, with_link, Config, LineTold, request, Line, link_in, link_of, terms, line_at, wants_room, HasNothingToSend, nothing-given, flat_map-append, Release, Station, Wire, happens, requests, acting, turned, Doing, doing_all, IsStill, calling, confirmed, for_layer_3, heard_in, runs_t200, IsLeaving, StayTimelyThere, release_confirmed, release_indicated, EndsSo, CallsEnd}
 use Rattle.model_link.specs.Events as link
 use Rattle.model_line.specs.Machine as lines
 use Rattle.model_line.specs.Refusal.{refusal}
-use Rattle.model_line.specs.Request.{Release}
 use Rattle.model_card.specs.Event.{at as event_at}
-use Rattle.laws_wire.specs.Wire.{Station, Wire, happens, requests, acting, turned, Doing, doing_all, IsStill}
-use Rattle.laws_wire.specs.Call.{calling, confirmed}
-use Rattle.laws_wire.specs.Losing.{for_layer_3, heard_in}
-use Rattle.laws_wire.specs.Arriving.{runs_t200}
 use Rattle.laws_wire.specs.Answering.{uncalled, seen}
-use Rattle.laws_wire.specs.Ending.{IsLeaving, StayTimelyThere, release_confirmed, release_indicated, EndsSo, CallsEnd}
-use Rattle.laws_wire.proofs.Awaited.{link-is}
+use Rattle.laws_wire.proofs.Awaited.{runs-is, runs-up}
 use Rattle.laws_wire.proofs.Ended.{Phase, ends}
 use Rattle.laws_wire.proofs.Leaving.{its_disc, disc, leaving, releases, releases-untold}
 use Rattle.laws_wire.proofs.Loose.{Loose, loose-turned, loose-came}
@@ -82,12 +74,12 @@ module _ (service : Service) (tei : ℕ) (few : tei ≤ 126) (c d : Config) (p q
   far-quiet = subst (λ t. HasNothingToSend t m.link) h.far.terms (nothing-given m.terms m.link far-hushed.given)
 
   near-state : n.link.state ≡ Established
-  near-state = (loose-came n m h.loose near-quiet (ap (λ (l : Link). runs T200 l.running) (sym (link-is service tei c p w.near n h.near)) ∙ h.near_stopped)).state
+  near-state = (loose-came n m h.loose near-quiet (sym (runs-up service tei c p w.near n h.near h.loose.joined.near_up) ∙ h.near_stopped)).state
 
   far-state : m.link.state ≡ Established
   far-state =
       (loose-came m n (loose-turned n m h.loose) (nothing-given m.terms m.link far-hushed.given)
-      (ap (λ (l : Link). runs T200 l.running) (sym (link-is service tei d q w.far m h.far)) ∙ h.far_stopped)).state
+      (sym (runs-up service tei d q w.far m h.far h.loose.joined.far_up) ∙ h.far_stopped)).state
 
   -- the release is granted
   own : Stands w.near.card.config service tei p w.near n
@@ -143,7 +135,7 @@ module _ (service : Service) (tei : ℕ) (few : tei ≤ 126) (c d : Config) (p q
     runs-on : (k : ℕ) (ws : List Rattle.model_link.specs.declared.frames.ControlFrame.ControlFrame) (way : List Rattle.lapd_frame.specs.Grammar.Parts) (hs : List LineTold)
         → Tells service tei c p hs last.near (record { terms = t; link = leaving n.link k ws; way = way; delivered = [] }) → (A : Type 0) → runs_t200 service tei last.near ≡ false → A
     runs-on k ws way hs x A stopped =
-        absurd (true≢false (sym (ap (λ (l : Link). runs T200 l.running) (link-is service tei c p last.near (record { terms = t; link = leaving n.link k ws; way = way; delivered = [] }) x.stands)) ∙ stopped))
+        absurd (true≢false (sym (runs-is service tei c p last.near (record { terms = t; link = leaving n.link k ws; way = way; delivered = [] }) x.stands (λ e. cc e)) ∙ stopped))
 
     abbrev Confirmed : Type 0
     Confirmed = heard_in last.near ≡ heard_in w.near ++ release_confirmed service tei ∷ []

@@ -1,37 +1,20 @@
 -- The premises of the law on a call that ends are met by the worked call.
-use Rattle.laws_wire.proofs.Vocabulary.{◌≡◌, ℕ, ◌<◌, List, [], ◌∷◌, ◌++◌, refl, inl, arith, All, All-nil, All-cons, Call, reading, header_of, control_of, unnumbered_of, supervisory_of, distance_of, named, seq, Wire, times_out, gives, loses, Doing, at_near, doing_all, turns, heard_in, end_of, is_poll, is_final, IsNoneOpen, MayRepeat, IsFullTalk, StayPatient, IsLeaving, StayTimelyThere, release_confirmed, EndsSo, user, network, begins, establishes}
+use Rattle.laws_wire.proofs.Vocabulary.{◌≡◌, [], ◌∷◌, ◌++◌, refl, inl, All, Call, reading, header_of, control_of, unnumbered_of, supervisory_of, distance_of, named, seq, Wire, times_out, gives, loses, at_near, doing_all, turns, heard_in, MayRepeat, IsFullTalk, StayPatient, IsLeaving, StayTimelyThere, release_confirmed, EndsSo, user, network, begins, establishes, IsStill}
 use Rattle.lapd_frame.specs.declared.timers.Timer.TheVariants.{T200}
 use Rattle.lapd_tei.specs.Events as teis
 use Rattle.model_line.specs.Machine as lines
 use Rattle.laws_wire.specs.WorkedEnding.{established, rests, still, released, loses_disc, loses_both, ended, ended_still, ended_rests}
 use Rattle.laws_wire.proofs.EndedRun.{calls-end}
-use Rattle.laws_wire.proofs.PremisesMet.{can}
-use Rattle.laws_wire.proofs.RecoveryMet.{fewer}
-use Rattle.laws_wire.proofs.TimelyUp.{none-of}
-
-abbrev AreFull : List Doing → Type 0
-AreFull [] = Unit {0}
-AreFull (d ∷ ds) = IsFullTalk Call 0 d × AreFull ds
-
-all-full : (ds : List Doing) → AreFull ds → All (IsFullTalk Call 0) ds
-all-full [] h = All-nil (IsFullTalk Call 0)
-all-full (d ∷ ds) h = All-cons (IsFullTalk Call 0) d ds h.0 (all-full ds h.1)
-
-abbrev AreLeaving : List Doing → Type 0
-AreLeaving [] = Unit {0}
-AreLeaving (d ∷ ds) = IsLeaving Call 0 d × AreLeaving ds
-
-all-leaving : (ds : List Doing) → AreLeaving ds → All (IsLeaving Call 0) ds
-all-leaving [] h = All-nil (IsLeaving Call 0)
-all-leaving (d ∷ ds) h = All-cons (IsLeaving Call 0) d ds h.0 (all-leaving ds h.1)
+use Rattle.laws_wire.proofs.PremisesMet.{can, all-of}
+use Rattle.laws_wire.proofs.RecoveryMet.{none-told, still-open}
 
 full : All (IsFullTalk Call 0) establishes
-full = all-full establishes (tt, (tt, (tt, (tt, tt))))
+full = all-of (IsFullTalk Call 0) establishes (tt, (tt, (tt, (tt, tt))))
 
 leaving-all : All (IsLeaving Call 0) loses_both
 leaving-all =
     let expires : IsLeaving Call 0 (at_near (times_out (T200 Call 0))) = (refl, refl) in
-    all-leaving loses_both (tt, (tt, (expires, (tt, (tt, (tt, (tt, (expires, (tt, (tt, (tt, (tt, tt))))))))))))
+    all-of (IsLeaving Call 0) loses_both (tt, (tt, (expires, (tt, (tt, (tt, (tt, (expires, (tt, (tt, (tt, (tt, tt))))))))))))
 
 patient : StayPatient establishes begins
 unfolding StayPatient
@@ -41,42 +24,24 @@ patient = (tt, (tt, (tt, (tt, tt))))
 disc-lost : Wire
 disc-lost = doing_all (at_near gives ∷ at_near loses ∷ []) released
 
-first-near : ((end_of Call 0 disc-lost.near).link.waiting ≡ []) × ((end_of Call 0 disc-lost.near).way ≡ [])
+disc-idle : IsStill disc-lost
 unfolding lines.after lines.answer lines.takes_slot reading header_of control_of unnumbered_of supervisory_of teis.course teis.refusal seq distance_of named doing_all turns disc-lost
-first-near = (refl, refl)
+disc-idle = record { near = refl; far = refl; near_way = refl; far_way = refl }
 
-first-far : ((end_of Call 0 disc-lost.far).link.waiting ≡ []) × ((end_of Call 0 disc-lost.far).way ≡ [])
+disc-may : MayRepeat Call 0 disc-lost.near
 unfolding lines.after lines.answer lines.takes_slot reading header_of control_of unnumbered_of supervisory_of teis.course teis.refusal seq distance_of named doing_all turns disc-lost
-first-far = (refl, refl)
-
-first-repeats : ((end_of Call 0 disc-lost.near).link.repeats ≡ 0) × ((end_of Call 0 disc-lost.near).terms.n200 ≡ 3)
-unfolding lines.after lines.answer lines.takes_slot reading header_of control_of unnumbered_of supervisory_of teis.course teis.refusal seq distance_of named doing_all turns disc-lost
-first-repeats = (refl, refl)
+disc-may = none-told
 
 ua-lost : Wire
 ua-lost = doing_all loses_disc released
 
-second-near : ((end_of Call 0 ua-lost.near).link.waiting ≡ []) × ((end_of Call 0 ua-lost.near).way ≡ [])
+ua-idle : IsStill ua-lost
 unfolding lines.after lines.answer lines.takes_slot reading header_of control_of unnumbered_of supervisory_of teis.course teis.refusal seq distance_of named doing_all turns ua-lost
-second-near = (refl, refl)
+ua-idle = record { near = refl; far = refl; near_way = refl; far_way = refl }
 
-second-far : ((end_of Call 0 ua-lost.far).link.waiting ≡ []) × ((end_of Call 0 ua-lost.far).way ≡ [])
+ua-may : MayRepeat Call 0 ua-lost.near
 unfolding lines.after lines.answer lines.takes_slot reading header_of control_of unnumbered_of supervisory_of teis.course teis.refusal seq distance_of named doing_all turns ua-lost
-second-far = (refl, refl)
-
-second-repeats : ((end_of Call 0 ua-lost.near).link.repeats ≡ 1) × ((end_of Call 0 ua-lost.near).terms.n200 ≡ 3)
-unfolding lines.after lines.answer lines.takes_slot reading header_of control_of unnumbered_of supervisory_of teis.course teis.refusal seq distance_of named doing_all turns ua-lost
-second-repeats = (refl, refl)
-
-open-at : (w : Wire) → ((end_of Call 0 w.near).link.waiting ≡ []) × ((end_of Call 0 w.near).way ≡ []) → ((end_of Call 0 w.far).link.waiting ≡ []) × ((end_of Call 0 w.far).way ≡ [])
-    → IsNoneOpen (end_of Call 0 w.near) (end_of Call 0 w.far)
-open-at w near far = record {
-  commands = none-of Call 0 is_poll (end_of Call 0 w.near) near.0 near.1;
-  responses = none-of Call 0 is_final (end_of Call 0 w.far) far.0 far.1;
-}
-
-may-at : (w : Wire) (k : ℕ) → ((end_of Call 0 w.near).link.repeats ≡ k) × ((end_of Call 0 w.near).terms.n200 ≡ 3) → k < 3 → MayRepeat (end_of Call 0 w.near)
-may-at w k h less awaits = fewer _ _ k 3 h less
+ua-may = none-told
 
 timely : StayTimelyThere loses_both released
 unfolding doing_all StayTimelyThere disc-lost ua-lost
@@ -85,8 +50,8 @@ timely = (
   (
     tt,
     (
-      ((λ awaits. open-at disc-lost first-near first-far), may-at disc-lost 0 first-repeats (omega arith)),
-      (tt, (tt, (tt, (tt, (((λ awaits. open-at ua-lost second-near second-far), may-at ua-lost 1 second-repeats (omega arith)), (tt, (tt, (tt, (tt, tt))))))))),
+      ((λ awaits. still-open disc-lost disc-idle), disc-may),
+      (tt, (tt, (tt, (tt, (((λ awaits. still-open ua-lost ua-idle), ua-may), (tt, (tt, (tt, (tt, tt))))))))),
     ),
   ),
 )

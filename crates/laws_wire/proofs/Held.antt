@@ -47,7 +47,7 @@ hears-it service tei c h =
 
 -- ---- errors that were told
 
-abbrev tells_error : LineTold → Bool
+abbrev pub tells_error : LineTold → Bool
 tells_error t = list_any is_error t.notes
 
 abbrev pub Erred : Station → Type 0
@@ -57,7 +57,7 @@ some-notes : (ns : List Note) → HasError ns → (length ns == 0) ≡ true → 
 some-notes [] h e = false≢true h
 some-notes (n ∷ ns) h e = let none : suc (length ns) ≡ 0 = eqb-true (length (n ∷ ns)) 0 e in absurd (omega (arith, none))
 
-error-said : (c : Course) → HasError c.notes → list_any tells_error (said_by c) ≡ true
+pub error-said : (c : Course) → HasError c.notes → list_any tells_error (said_by c) ≡ true
 error-said c h = go (tells_nothing (heard_by c)) refl
   where
     contents : Option (List ℕ)

@@ -1,12 +1,12 @@
 -- Two stations that are up, either of which may be busy, where each timer is timely: both stay up, whatever is lost.
-use Rattle.laws_wire.proofs.Vocabulary.{◌≡◌, ℕ, Bool, true, false, cond, List, [], ◌∷◌, ◌++◌, length, drop, map, Option, None, Some, refl, sym, ap, subst, ◌∙◌, ◌⊎◌, inl, inr, append-nil, Refusal, Service, Timer, TimerRecovery, Terms, LinkTimer, T203, Link, state_number, queue_of, course, begun, End, with_link, with_sent, offer-gave, Config, LineTold, request, Line, place_in, Request, at_requested, aim_of_request, awaits_answer, IsMildRequest, CanRepeat, HasNothingToSend, nothing-given, runs, T200, Course, Data, SetBusy, ClearBusy, Station, Wire, happens, Act, requests, times_out, gives, takes, loses, acting, turned, IsStill, contents_of, data_told, heard_in, end_of, IsTimelyOf, runs_t200, IsAsked, IsFullTalkOf, Rests}
+use Rattle.laws_wire.proofs.Vocabulary.{◌≡◌, ℕ, Bool, true, false, cond, List, [], ◌∷◌, ◌++◌, length, drop, map, Option, None, Some, refl, sym, ap, subst, ◌∙◌, ◌⊎◌, inl, inr, append-nil, Refusal, Service, Timer, TimerRecovery, Terms, LinkTimer, T203, Link, course, begun, End, with_link, with_sent, offer-gave, Config, LineTold, request, Line, place_in, Request, at_requested, aim_of_request, awaits_answer, IsMildRequest, CanRepeat, HasNothingToSend, nothing-given, runs, T200, Course, Data, SetBusy, ClearBusy, Station, Wire, happens, Act, requests, times_out, gives, takes, loses, acting, turned, IsStill, contents_of, data_told, heard_in, IsTimelyOf, runs_t200, IsAsked, IsFullTalkOf, Rests}
 use Rattle.lapd_frame.specs.declared.timers.Timer.TheVariants as timers
 use Rattle.model_link.specs.Events as link
 use Rattle.model_link.specs.Requests as requests
 use Rattle.model_link.specs.TwoEnds as two_ends
 use Rattle.laws_link.specs.two.Timely as two_links_timely
 use Rattle.laws_wire.proofs.Asking.{with_more, asked-form}
-use Rattle.laws_wire.proofs.Awaited.{closed, link-is, as-here, may-there, open-there}
+use Rattle.laws_wire.proofs.Awaited.{closed, may-there, long-there, runs-up, rests-here}
 use Rattle.laws_wire.proofs.Held.{TellsIt, Held, heard-then, held-given, held-lost, Grants, held-asked}
 use Rattle.laws_wire.proofs.Loose.{Loose, loose-turned, loose-after, HasAll, loose-came}
 use Rattle.laws_wire.proofs.LossyPhases.{Aims}
@@ -172,8 +172,8 @@ module _ (service : Service) (tei : ℕ) where
     loose-t200 (long, may) =
         let there = may-there service tei c p w.near n h.near.stands may in
         let none = λ (state : n.link.state ≡ TimerRecovery).
-        closed n m (open-there service tei c d p q w.near w.far n m h.near.stands h.far.stands (long (ap awaits_answer (as-here service tei c p w.near n h.near.stands state)))) in
-        loose-expires (timers.T200 service tei) T200 (λ l. refl) (λ state running. there (ap awaits_answer state)) (λ state running. none state)
+        closed n m (long-there service tei c d p q w.near w.far n m h.near.stands h.far.stands long (ap awaits_answer state)) in
+        loose-expires (timers.T200 service tei) T200 (λ l. refl) (λ state running. there (ap awaits_answer state) running) (λ state running. none state)
 
     loose-t203 : Now (acting (times_out (timers.T203 service tei)) w)
     loose-t203 =
@@ -193,14 +193,11 @@ module _ (service : Service) (tei : ℕ) where
 
     -- where no turn is left and T200 does not run, all that it was granted was told at the other, and it rests
     module _ (still : IsStill w) (none : runs_t200 service tei w.near ≡ false) where
-      its-link : (end_of service tei w.near).link ≡ n.link
-      its-link = link-is service tei c p w.near n h.near.stands
-
       quiet : HasNothingToSend n.terms n.link
       quiet = nothing-given n.terms n.link (hushed service tei c p past w.near n h.near still.near still.near_way).given
 
       stopped : runs T200 n.link.running ≡ false
-      stopped = ap (λ (l : Link). runs T200 l.running) (sym its-link) ∙ none
+      stopped = sym (runs-up service tei c p w.near n h.near.stands h.loose.joined.near_up) ∙ none
 
       has-all : HasAll n m h.loose quiet stopped
       has-all = loose-came n m h.loose quiet stopped
@@ -209,7 +206,5 @@ module _ (service : Service) (tei : ℕ) where
       loose-told = h.far.heard ∙ ap (λ xs. other ++ map (data_told service tei) xs) (has-all.delivered ∙ sym h.near.granted)
 
       pub loose-rests : Rests service tei w.near
-      loose-rests = (
-        ap (λ (l : Link). state_number l.state) its-link ∙ ap state_number has-all.state,
-        ap queue_of its-link ∙ ap (λ a. drop a n.link.contents) has-all.acknowledged ∙ drop-all n.link.contents,
-      )
+      loose-rests =
+          rests-here service tei c p w.near n h.near.stands has-all.state (ap (λ a. drop a n.link.contents) has-all.acknowledged ∙ drop-all n.link.contents)

@@ -10,19 +10,19 @@ use Rattle.laws_wire.proofs.LossyRun.{calls-are-told_in_order}
 pub can : CanCall user 0 network 0 0
 can = record { near = refl; far = refl; sides = refl; n201 = refl; near_line = omega arith; far_line = omega arith; terminal = omega arith }
 
-abbrev pub AreCalls : List Doing → Type 0
-AreCalls [] = Unit {0}
-AreCalls (k ∷ ds) = IsCall Call 0 k × AreCalls ds
+abbrev pub Are : (Doing → Type 0) → List Doing → Type 0
+Are P [] = Unit {0}
+Are P (d ∷ ds) = P d × Are P ds
 
-pub all-of : (ds : List Doing) → AreCalls ds → All (IsCall Call 0) ds
-all-of [] h = All-nil (IsCall Call 0)
-all-of (k ∷ ds) h = All-cons (IsCall Call 0) k ds h.0 (all-of ds h.1)
+pub all-of : (P : Doing → Type 0) (ds : List Doing) → Are P ds → All P ds
+all-of P [] h = All-nil P
+all-of P (d ∷ ds) h = All-cons P d ds h.0 (all-of P ds h.1)
 
 pub talk : All (IsCall Call 0) talks
 talk =
     let first : IsCall Call 0 (at_far (requests (Data Call 0 (0xAB ∷ [])))) = (refl, refl) in
     let second : IsCall Call 0 (at_near (requests (Data Call 0 (0xCD ∷ 0xEF ∷ [])))) = (refl, refl) in
-    all-of talks (tt, (tt, (first, (tt, (tt, (tt, (second, (tt, (tt, (tt, (tt, (tt, (tt, (tt, tt))))))))))))))
+    all-of (IsCall Call 0) talks (tt, (tt, (first, (tt, (tt, (tt, (second, (tt, (tt, (tt, (tt, (tt, (tt, (tt, tt))))))))))))))
 
 pub still : IsStill (doing_all talks begins)
 unfolding lines.after lines.answer lines.takes_slot reading header_of control_of unnumbered_of supervisory_of teis.course teis.refusal seq distance_of named doing_all turns
@@ -33,21 +33,13 @@ pub face : Face Call 0 (doing_all talks begins)
 face = calls-face Call user network 0 0 0 talks can talk still
 
 -- a call that loses two frames, and in which no error is told
-abbrev pub AreRough : List Doing → Type 0
-AreRough [] = Unit {0}
-AreRough (k ∷ ds) = IsRoughTalk Call 0 k × AreRough ds
-
-pub all-rough : (ds : List Doing) → AreRough ds → All (IsRoughTalk Call 0) ds
-all-rough [] h = All-nil (IsRoughTalk Call 0)
-all-rough (k ∷ ds) h = All-cons (IsRoughTalk Call 0) k ds h.0 (all-rough ds h.1)
-
 pub rough : All (IsRoughTalk Call 0) loses_two
 rough =
     let sends : IsRoughTalk Call 0 (at_near (requests (Data Call 0 (0xAB ∷ [])))) = (refl, refl) in
     let expires : IsRoughTalk Call 0 (at_near (times_out (T200 Call 0))) = (refl, refl) in
-    all-rough loses_two (tt, (tt, (expires, (tt, (tt, (tt, (tt, (sends, (tt, (tt, (expires, (tt, (tt, (tt, (tt, (tt, (tt, (tt, (tt, tt)))))))))))))))))))
+    all-of (IsRoughTalk Call 0) loses_two (tt, (tt, (expires, (tt, (tt, (tt, (tt, (sends, (tt, (tt, (expires, (tt, (tt, (tt, (tt, (tt, (tt, (tt, (tt, tt)))))))))))))))))))
 
-abbrev IsFair : LineTold → Type 0
+abbrev pub IsFair : LineTold → Type 0
 IsFair t = list_any is_error t.notes ≡ false
 
 told-near : (doing_all loses_two begins).near.told ≡ confirmed Call 0 ∷ []

@@ -1,47 +1,68 @@
 -- The premises of the law on what is lost are met: by the worked call in which SABME is lost, and then an I-frame of each end.
-use Rattle.laws_wire.proofs.Vocabulary.{◌≡◌, ◌≢◌, ℕ, ◌+◌, ◌<◌, ◌≤◌, false, List, [], ◌∷◌, length, map, refl, sym, ap, subst, ◌∙◌, true≢false, arith, All, All-nil, All-cons, list_any, Call, reading, header_of, control_of, unnumbered_of, supervisory_of, distance_of, named, seq, Established, End, LineTold, awaits_answer, Data, Wire, requests, times_out, gives, loses, at_near, at_far, acting, doing_all, turns, IsStill, confirmed, indicated, data_told, heard_in, is_error, IsRoughTalk, end_of, is_poll, is_final, IsNoneOpen, MayRepeat, StayTimely, with_t200_expired, HasNoErrors, BothMayRepeat, HasMissing, HasArrived, StayStill, user, network, begins, loses_three, lost, recovered}
+use Rattle.laws_wire.proofs.Vocabulary.{◌≡◌, ◌≢◌, ℕ, ◌+◌, ◌≤◌, false, List, [], ◌∷◌, length, map, refl, sym, ap, subst, ◌∙◌, arith, All, All-nil, All-cons, Call, reading, header_of, control_of, unnumbered_of, supervisory_of, distance_of, named, seq, LineTold, Data, Wire, requests, times_out, gives, loses, at_near, at_far, acting, doing_all, turns, IsStill, confirmed, indicated, data_told, heard_in, IsRoughTalk, is_poll, is_final, IsNoneOpen, MayRepeat, StayTimely, with_t200_expired, HasNoErrors, BothMayRepeat, HasMissing, HasArrived, StayStill, user, network, begins, loses_three, lost, recovered, Bool, Control, NoneGoes, Parts, Station, flat_map, giving, happens, next, suc, zero, Option, None, Some, gave, option_map, option_map_or, next_of, Taken, taken, answered, line_at, set, set-get_or, fresh_line, frames_by, told_by, append-nil, ◌++◌}
 use Rattle.lapd_frame.specs.declared.timers.Timer.TheVariants.{T200}
 use Rattle.lapd_tei.specs.Events as teis
 use Rattle.model_line.specs.Machine as lines
-use Rattle.laws_wire.proofs.PremisesMet.{can, all-rough}
+use Rattle.model_line.specs.Taken.{line_of}
+use Rattle.laws_wire.specs.Facing.{read_as}
+use Rattle.laws_wire.specs.Wire.{unless_refused}
+use Rattle.laws_wire.proofs.PremisesMet.{can, IsFair, all-of}
 use Rattle.laws_wire.proofs.StillIsTimely.{still-is-enough}
 use Rattle.laws_wire.proofs.TimelyRun.{what-is-lost-arrives}
-use Rattle.laws_wire.proofs.TimelyUp.{none-of}
 
 pub rough : All (IsRoughTalk Call 0) loses_three
 rough =
     let near : IsRoughTalk Call 0 (at_near (requests (Data Call 0 (0xAB ∷ [])))) = (refl, refl) in
     let far : IsRoughTalk Call 0 (at_far (requests (Data Call 0 (0xCD ∷ [])))) = (refl, refl) in
     let expires : IsRoughTalk Call 0 (at_near (times_out (T200 Call 0))) = (refl, refl) in
-    all-rough loses_three (tt, (tt, (expires, (tt, (tt, (tt, (tt, (near, (tt, (tt, (far, (tt, (tt, tt)))))))))))))
+    all-of (IsRoughTalk Call 0) loses_three (tt, (tt, (expires, (tt, (tt, (tt, (tt, (near, (tt, (tt, (far, (tt, (tt, tt)))))))))))))
+
+pub none-told : All IsFair []
+none-told = All-nil IsFair
+
+-- an end that has nothing to give stays as it is, and so none of its frames goes
+none-taken : (o : Option Taken) → gave (option_map next_of o) ≡ gave None → o ≡ None
+none-taken None e = refl
+none-taken (Some t) e = absurd (cc)
+
+stays : (s : Station) → answered next s ≡ gave None → happens next s ≡ s
+unfolding lines.after lines.answer lines.takes_slot
+stays s e =
+    let l = line_at s.line s.card in
+    let none = none-taken (taken s.card.config l) e in
+    let same = ap (λ o. set s.card.lines s.line (option_map_or line_of o l)) none ∙ set-get_or s.card.lines s.line (fresh_line s.card.config) in
+    let way = ap (λ a. s.way ++ frames_by a) e ∙ append-nil s.way in
+    let granted = ap (λ a. s.granted ++ unless_refused a []) e ∙ append-nil s.granted in
+    let told = ap (λ a. s.told ++ told_by a) e ∙ append-nil s.told in
+    (λ i. record { card = record s.card { lines = same i }; line = s.line; way = way i; granted = granted i; told = told i })
+
+goes-on : (k : ℕ) (s : Station) → happens next s ≡ s → giving k s ≡ s
+unfolding giving
+goes-on zero s e = refl
+goes-on (suc k) s e = ap (giving k) e ∙ goes-on k s e
+
+none-goes : (of : Bool → Control → Bool) (s : Station) → answered next s ≡ gave None → s.way ≡ [] → NoneGoes of s
+none-goes of s e empty = λ k.
+    subst (λ (way : List (List ℕ)). All (λ (f : Parts). of f.address.command f.control ≡ false) (flat_map (read_as s.card.config) way)) (sym (ap (λ (x : Station). x.way) (goes-on k s (stays s e)) ∙ empty))
+    (All-nil (λ (f : Parts). of f.address.command f.control ≡ false))
+
+pub still-open : (w : Wire) → IsStill w → IsNoneOpen w.near w.far
+still-open w h = record { commands = none-goes is_poll w.near h.near h.near_way; responses = none-goes is_final w.far h.far h.far_way }
 
 -- SABME was lost
 abbrev pub silent : Wire
 silent = doing_all (at_near gives ∷ at_near loses ∷ []) begins
 
-silent-near : ((end_of Call 0 silent.near).link.waiting ≡ []) × ((end_of Call 0 silent.near).way ≡ [])
+silent-still : IsStill silent
 unfolding lines.after lines.answer lines.takes_slot reading header_of control_of unnumbered_of supervisory_of teis.course teis.refusal seq distance_of named doing_all turns
-silent-near = (refl, refl)
+silent-still = record { near = refl; far = refl; near_way = refl; far_way = refl }
 
-silent-far : ((end_of Call 0 silent.far).link.waiting ≡ []) × ((end_of Call 0 silent.far).way ≡ [])
+pub silent-open : IsNoneOpen silent.near silent.far
+silent-open = still-open silent silent-still
+
+silent-may : MayRepeat Call 0 silent.near
 unfolding lines.after lines.answer lines.takes_slot reading header_of control_of unnumbered_of supervisory_of teis.course teis.refusal seq distance_of named doing_all turns
-silent-far = (refl, refl)
-
-pub silent-open : IsNoneOpen (end_of Call 0 silent.near) (end_of Call 0 silent.far)
-silent-open = record {
-  commands = none-of Call 0 is_poll (end_of Call 0 silent.near) silent-near.0 silent-near.1;
-  responses = none-of Call 0 is_final (end_of Call 0 silent.far) silent-far.0 silent-far.1;
-}
-
-pub silent-repeats : ((end_of Call 0 silent.near).link.repeats ≡ 0) × ((end_of Call 0 silent.near).terms.n200 ≡ 3)
-unfolding lines.after lines.answer lines.takes_slot reading header_of control_of unnumbered_of supervisory_of teis.course teis.refusal seq distance_of named doing_all turns
-silent-repeats = (refl, refl)
-
-pub fewer : (a b k n : ℕ) → (a ≡ k) × (b ≡ n) → k < n → a < b
-fewer a b k n (e, e') less = omega (arith, e, e', less)
-
-silent-may : MayRepeat (end_of Call 0 silent.near)
-silent-may awaits = fewer _ _ 0 3 silent-repeats (omega arith)
+silent-may = none-told
 
 -- the other's I-frame is lost only behind its UA
 pub heard-it : (hs : List LineTold) (t : LineTold) → hs ≡ t ∷ [] → hs ≢ []
@@ -92,16 +113,10 @@ missing = record {
   far = one-missing (indicated Call 0) (0xAB ∷ []) lost.near.granted (heard_in lost.far) near-granted lost-far;
 }
 
-lost-states : ((end_of Call 0 lost.near).link.state ≡ Established) × ((end_of Call 0 lost.far).link.state ≡ Established)
-unfolding lines.after lines.answer lines.takes_slot reading header_of control_of unnumbered_of supervisory_of teis.course teis.refusal seq distance_of named doing_all turns
-lost-states = (refl, refl)
-
 -- in state 7 N200 counts nothing
-pub free : (n : End) → n.link.state ≡ Established → MayRepeat n
-free n state awaits = absurd (true≢false (sym awaits ∙ ap awaits_answer state))
-
 pub may : BothMayRepeat Call 0 lost
-may = (free (end_of Call 0 lost.near) lost-states.0, free (end_of Call 0 lost.far) lost-states.1)
+unfolding lines.after lines.answer lines.takes_slot reading header_of control_of unnumbered_of supervisory_of teis.course teis.refusal seq distance_of named doing_all turns
+may = (none-told, none-told)
 
 -- so the law says of it that no error is told, and that all arrives
 pub no-error : HasNoErrors lost
@@ -111,10 +126,6 @@ pub arrives : HasArrived Call 0 lost recovered
 arrives = (what-is-lost-arrives Call user network 0 0 0 loses_three can rough timely).arrives 1 still missing may
 
 -- T200 expires only as no turn is left, and no error is told as it does
-silent-still : IsStill silent
-unfolding lines.after lines.answer lines.takes_slot reading header_of control_of unnumbered_of supervisory_of teis.course teis.refusal seq distance_of named doing_all turns
-silent-still = record { near = refl; far = refl; near_way = refl; far_way = refl }
-
 expires-untold : ((acting (times_out (T200 Call 0)) silent).near.told ≡ []) × ((acting (times_out (T200 Call 0)) silent).far.told ≡ [])
 unfolding lines.after lines.answer lines.takes_slot reading header_of control_of unnumbered_of supervisory_of teis.course teis.refusal seq distance_of named doing_all turns
 expires-untold = (refl, refl)
@@ -122,9 +133,6 @@ expires-untold = (refl, refl)
 expired-told : ((with_t200_expired Call 0 lost).near.told ≡ confirmed Call 0 ∷ []) × ((with_t200_expired Call 0 lost).far.told ≡ indicated Call 0 ∷ [])
 unfolding lines.after lines.answer lines.takes_slot reading header_of control_of unnumbered_of supervisory_of teis.course teis.refusal seq distance_of named doing_all turns
 expired-told = (refl, refl)
-
-abbrev IsFair : LineTold → Type 0
-IsFair t = list_any is_error t.notes ≡ false
 
 one-told : (t : LineTold) (ts : List LineTold) → IsFair t → ts ≡ t ∷ [] → All IsFair ts
 one-told t ts fair e = subst (All IsFair) (sym e) (All-cons IsFair t [] fair (All-nil IsFair))

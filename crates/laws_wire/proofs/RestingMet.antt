@@ -1,14 +1,11 @@
 -- The premises of the laws on how turns come to an end are met, by worked calls.
-use Rattle.laws_wire.proofs.Vocabulary.{◌≡◌, ◌≤◌, ℕ, ◌*◌, false, List, [], ◌∷◌, ◌++◌, refl, sym, subst, arith, All, list_any, All-nil, All-cons, Call, reading, header_of, control_of, unnumbered_of, supervisory_of, distance_of, named, seq, LineTold, Data, requests, Doing, at_near, doing_all, IsStill, confirmed, indicated, data_told, granted_of, is_error, HasNoError, rounds, moves, expiries, most_frames, StayTimely, user, network, begins, establishes}
+use Rattle.laws_wire.proofs.Vocabulary.{◌≡◌, ◌≤◌, ℕ, ◌*◌, List, [], ◌∷◌, ◌++◌, refl, sym, subst, arith, All, All-nil, All-cons, Call, reading, header_of, control_of, unnumbered_of, supervisory_of, distance_of, named, seq, LineTold, Data, requests, Doing, at_near, doing_all, IsStill, confirmed, indicated, data_told, granted_of, HasNoError, IsRoughTalk, rounds, moves, expiries, most_frames, StayTimely, user, network, begins, establishes}
 use Rattle.lapd_tei.specs.Events as teis
 use Rattle.model_line.specs.Machine as lines
 use Rattle.laws_wire.specs.WorkedResting.{rejects_one, two_accepted}
-use Rattle.laws_wire.proofs.PremisesMet.{can, all-rough}
+use Rattle.laws_wire.proofs.PremisesMet.{can, IsFair, all-of}
 use Rattle.laws_wire.proofs.RestedRun.{moves-come-to-an-end}
 use Rattle.laws_wire.proofs.RestedTimely.{timely-rounds-come-to-rest}
-
-abbrev IsFair : LineTold → Type 0
-IsFair t = list_any is_error t.notes ≡ false
 
 -- An I-frame is lost, and both go again.
 near-told : (doing_all rejects_one begins).near.told ≡ confirmed Call 0 ∷ []
@@ -32,7 +29,7 @@ far-fair =
 bounded : moves rejects_one begins ≤ 2 * most_frames 7 (expiries rejects_one) (granted_of (doing_all rejects_one begins))
 bounded =
     moves-come-to-an-end Call user network 0 0 0 7 rejects_one can
-    (all-rough rejects_one (tt, (tt, (tt, (tt, ((refl, refl), ((refl, refl), (tt, (tt, (tt, (tt, (tt, (tt, (tt, (tt, (tt, (tt, (tt, (tt, tt)))))))))))))))))))
+    (all-of (IsRoughTalk Call 0) rejects_one (tt, (tt, (tt, (tt, ((refl, refl), ((refl, refl), (tt, (tt, (tt, (tt, (tt, (tt, (tt, (tt, (tt, (tt, (tt, (tt, tt)))))))))))))))))))
     (omega arith) (omega arith) near-fair far-fair
 
 -- Two contents are accepted, and no frame has gone.
@@ -45,4 +42,4 @@ timely = (tt, ((tt, tt), ((tt, tt), (tt, (tt, (tt, tt))))))
 
 rest-comes : (n : ℕ) × (n ≤ 2 * most_frames 7 (expiries accepts_two) (granted_of two_accepted)) × IsStill (rounds n two_accepted)
 rest-comes =
-    timely-rounds-come-to-rest Call user network 0 0 0 7 accepts_two can (all-rough accepts_two (tt, (tt, (tt, (tt, ((refl, refl), ((refl, refl), tt))))))) (omega arith) (omega arith) timely
+    timely-rounds-come-to-rest Call user network 0 0 0 7 accepts_two can (all-of (IsRoughTalk Call 0) accepts_two (tt, (tt, (tt, (tt, ((refl, refl), ((refl, refl), tt))))))) (omega arith) (omega arith) timely

@@ -1,5 +1,5 @@
 -- A link that awaits its establishment, as often as SABME was repeated and whatever waits; and what comes of it.
-use Rattle.laws_wire.proofs.Vocabulary.{◌≡◌, ℕ, ◌+◌, ◌<◌, Bool, true, false, cond, List, [], ◌∷◌, ◌++◌, length, drop, None, Some, refl, sym, ap, subst, ◌∙◌, ◌⊎◌, inl, inr, append-nil, append_assoc, All, nat_lt, list_any, lt-ltb, All-nil, All-cons, All-tail, All-append, Control, Information, ReceiveReady, ReceiveNotReady, Reject, Sabme, Parts, T203, ControlFrame, Terms, Link, fresh, frame_of, received, expired, course, begun, ◌then◌, with_sent, command, frames_of, frames-append, Means, T200, frame, after, Course, is_error}
+use Rattle.laws_wire.proofs.Vocabulary.{◌≡◌, ℕ, ◌+◌, ◌<◌, Bool, true, false, cond, List, [], ◌∷◌, ◌++◌, length, drop, None, Some, refl, sym, ap, subst, ◌∙◌, ◌⊎◌, inl, inr, append-nil, append_assoc, All, nat_lt, lt-ltb, All-nil, All-cons, All-tail, All-append, Control, Information, ReceiveReady, ReceiveNotReady, Reject, Sabme, Parts, T203, ControlFrame, Terms, Link, fresh, frame_of, received, expired, course, begun, ◌then◌, with_sent, command, frames_of, frames-append, Means, T200, frame, after, Course}
 use Rattle.lapd_frame.specs.declared.notes.ErrorCode.TheVariants as code
 use Rattle.model_link.specs.declared.states.State.TheVariants as state
 use Rattle.model_link.specs.Words
@@ -52,10 +52,6 @@ module _ (t : Terms) (k : ℕ) (ws : List ControlFrame) where
       go false room = inl refl
       go true true = inr (record { repeats = k + 1; waiting = ws ++ its_sabme ∷ []; becomes = refl; more = inr refl; notes = refl; delivered = refl; unit = refl })
       go true false = inr (record { repeats = k + 1; waiting = ws; becomes = refl; more = inl refl; notes = refl; delivered = refl; unit = refl })
-
-  -- where N200 is used up an error is told
-  pub t200-over : nat_lt k t.n200 ≡ false → HasError (course t (expired T200) l).notes
-  t200-over over = ap (λ b. list_any is_error (cond b (again (nat_lt (length ws) t.control)) given_up).notes) over
 
   pub t203-rings : Rings k ws (course t (expired T203) l)
   t203-rings = record { repeats = k; waiting = ws; becomes = refl; more = inl refl; notes = refl; delivered = refl; unit = refl }

@@ -1,10 +1,10 @@
 -- The next phases of such a call: the other end is up, and its UA waits, or is on its way before all else.
-use Rattle.laws_wire.proofs.Vocabulary.{◌≡◌, ℕ, false, List, [], ◌∷◌, ◌++◌, None, refl, sym, ap, subst, ◌∙◌, ◌⊎◌, inl, inr, All-tail, Service, Timer, Parts, spelling, Terms, TimerRecovery, LinkTimer, T203, course, given, IsInRange, End, with_link, with_sent, offer-gave, Config, expiry, request, next, terms, awaits_answer, CanRepeat, T200, refusal, Data, Station, Wire, happens, with_first_of, Act, requests, times_out, gives, takes, loses, acting, turned, IsStill, comes, confirmed, indicated, IsRoughTalkOf, end_of, is_final, IsLongEnough, IsTimelyOf, IsSpared}
+use Rattle.laws_wire.proofs.Vocabulary.{◌≡◌, ℕ, false, List, [], ◌∷◌, ◌++◌, None, refl, sym, ap, subst, ◌∙◌, ◌⊎◌, inl, inr, All-tail, Service, Timer, Parts, spelling, Terms, TimerRecovery, LinkTimer, T203, course, given, IsInRange, End, with_link, with_sent, offer-gave, Config, expiry, request, next, terms, awaits_answer, CanRepeat, T200, refusal, Data, Station, Wire, happens, with_first_of, Act, requests, times_out, gives, takes, loses, acting, turned, IsStill, comes, confirmed, indicated, IsRoughTalkOf, is_final, IsLongEnough, IsTimelyOf, IsSpared, gives_one, is_ua, true, true≢false}
 use Rattle.lapd_frame.specs.declared.timers.Timer.TheVariants as timers
 use Rattle.model_link.specs.Events as link
 use Rattle.laws_link.specs.two.Timely as two_links_timely
 use Rattle.laws_wire.proofs.Answered.{takes-granted}
-use Rattle.laws_wire.proofs.Awaited.{closed, link-is, as-here, may-there, open-there, waits-first, goes-first}
+use Rattle.laws_wire.proofs.Awaited.{closed, may-there, long-there, gives-first, waits-first, goes-first}
 use Rattle.laws_wire.proofs.Asking.{with_more, asked-form}
 use Rattle.laws_wire.proofs.Calling.{its_ua, ua, end, with_ua_waiting, with_ua_first}
 use Rattle.laws_wire.proofs.Firm.{Firm, firm-turned, firm-sends, firm-asks, firm-expires}
@@ -107,9 +107,9 @@ module _ (service : Service) (tei : ℕ) (c d : Config) (p q : ℕ) (face : Face
     pub waits-far : (act : Act) → IsRoughTalkOf service tei act → IsSpared act w → Goes (turned (acting act (turned w)))
     waits-far (requests r) is y = for-data service tei (λ r. Goes (turned (acting (requests r) (turned w)))) waits-asks r is
     waits-far (times_out timer) is y =
-        let ua-first : (end_of service tei w.far).link.waiting ≡ its_ua ∷ [] = ap (λ l. l.waiting) (link-is service tei d q w.far (with_ua_waiting m) h.far.stands) in
+        let ua-first : gives_one is_ua w.far ≡ true = gives-first service tei d q w.far (with_ua_waiting m) h.far.stands is_ua its_ua [] refl in
         each-timer service tei (λ timer. IsSpared (times_out timer) w → Goes (turned (acting (times_out timer) (turned w))))
-        (λ y. let none = sym ua-first ∙ y h.near.heard in absurd (cc)) (λ y. let none = sym ua-first ∙ y h.near.heard in absurd (cc)) timer is y
+        (λ y. absurd (true≢false (sym ua-first ∙ y h.near.heard))) (λ y. absurd (true≢false (sym ua-first ∙ y h.near.heard))) timer is y
     waits-far gives is y = as-comes m gives-ua
     waits-far takes is y = as-waits m (subst (λ w'. UaWaits m (turned w')) (sym (takes-none (turned w) (empty service tei c p [] w.near waits_end h.near refl))) h)
     waits-far loses is y = absurd (y h.near.heard)
@@ -179,10 +179,10 @@ module _ (service : Service) (tei : ℕ) (c d : Config) (p q : ℕ) (face : Face
           firm = firm-turned (with_link (link.expired its) m) near firm;
         })
 
-    far-none : m.link.state ≡ TimerRecovery → IsLongEnough (end_of service tei w.far) (end_of service tei w.near) → two_links_timely.IsNoneOpen m (end t (answered h.repeats []) [])
+    far-none : m.link.state ≡ TimerRecovery → IsLongEnough service tei w.far w.near → two_links_timely.IsNoneOpen m (end t (answered h.repeats []) [])
     far-none state long =
         let far = with_ua_first m in
-        let open_ = open-there service tei d c q p w.far w.near far comes_end h.far.stands h.near.stands (long (ap awaits_answer (as-here service tei d q w.far far h.far.stands state))) in
+        let open_ = long-there service tei d c q p w.far w.near far comes_end h.far.stands h.near.stands long (ap awaits_answer state) in
         let both = closed far comes_end open_ in
         record {
           enquiries = record { waiting = both.enquiries.waiting; way = All-tail (λ (f : Parts). two_links_timely.is_enquiry f.address.command f.control ≡ false) (ua m.terms) m.way both.enquiries.way };
@@ -192,7 +192,7 @@ module _ (service : Service) (tei : ℕ) (c d : Config) (p q : ℕ) (face : Face
     comes-t200 : IsTimelyOf (times_out (timers.T200 service tei)) (turned w) → Goes (turned (acting (times_out (timers.T200 service tei)) (turned w)))
     comes-t200 (long, may) =
         let there = may-there service tei d q w.far (with_ua_first m) h.far.stands may in
-        comes-expires (timers.T200 service tei) T200 (λ l. refl) (λ state running. there (ap awaits_answer state)) (λ state running. far-none state long)
+        comes-expires (timers.T200 service tei) T200 (λ l. refl) (λ state running. there (ap awaits_answer state) running) (λ state running. far-none state long)
 
     comes-t203 : Goes (turned (acting (times_out (timers.T203 service tei)) (turned w)))
     comes-t203 =

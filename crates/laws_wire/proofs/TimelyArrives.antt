@@ -1,15 +1,15 @@
 -- Where both ends are up and no turn is left: once T200 expires, so many rounds are enough for all that is missing.
-use Rattle.laws_wire.proofs.Vocabulary.{◌≡◌, ℕ, suc, ◌+◌, ◌<◌, ◌≤◌, false, List, [], ◌∷◌, ◌++◌, length, map, take, None, refl, sym, ap, subst, ◌∙◌, ◌⊎◌, inl, inr, arith, All, length-map, length-take-le, All-nil, All-cons, Service, Timer, spelling, ControlFrame, TimerRecovery, given, End, Ends, with_link, rising-low, Config, LineTold, next, gave, IsCutOff, HasNo, Asking, Resting, expires-one, all-recovered, enquiry_with, nothing-to_send, awaits_answer, T200, line_of, Station, Wire, times_out, acting, turned, IsStill, answered, confirmed, indicated, data_told, heard_in, is_poll, is_final, IsNoneOpen, StayTimely, both_expire, rounds, HasMissing, HasArrived, with_t200_expired, BothMayRepeat}
+use Rattle.laws_wire.proofs.Vocabulary.{◌≡◌, ℕ, suc, ◌+◌, ◌<◌, ◌≤◌, false, List, [], ◌∷◌, ◌++◌, length, map, take, None, refl, sym, ap, subst, ◌∙◌, ◌⊎◌, inl, inr, arith, All, length-map, length-take-le, All-nil, All-cons, Service, Timer, spelling, ControlFrame, TimerRecovery, given, End, Ends, with_link, rising-low, Config, LineTold, next, gave, IsCutOff, HasNo, Asking, Resting, expires-one, all-recovered, enquiry_with, nothing-to_send, awaits_answer, T200, line_of, Station, Wire, times_out, acting, turned, IsStill, answered, confirmed, indicated, data_told, heard_in, is_poll, is_final, StayTimely, both_expire, rounds, HasMissing, HasArrived, with_t200_expired, BothMayRepeat, is_ua, runs}
 use Rattle.lapd_frame.specs.declared.timers.Timer.TheVariants as timers
 use Rattle.model_link.specs.Events as link
 use Rattle.laws_link.specs.two.CutOff as cut_off
 use Rattle.laws_link.specs.two.Rounds as two_links
-use Rattle.laws_wire.proofs.Awaited.{closed, link-is, may-there, open-here}
+use Rattle.laws_wire.proofs.Awaited.{NoneOpen, closed, gives-none-of, may-there, open-here}
 use Rattle.laws_wire.proofs.Firm.{Firm, not-behind}
 use Rattle.laws_wire.proofs.Held.{Held}
 use Rattle.laws_wire.proofs.Standing.{Stands, gives-none}
 use Rattle.laws_wire.proofs.Talking.{Face}
-use Rattle.laws_wire.proofs.TimelyUp.{IsHushed, hushed, none-waits, none-of, none-open, BothUp, turned-up, up-expires, rounds-up}
+use Rattle.laws_wire.proofs.TimelyUp.{IsHushed, hushed, none-waits, none-of, none-open, BothUp, turned-up, up-expires, rounds-up, timed-8}
 
 -- all frames on the way were lost
 cut-off : (n m : End) → Firm n m → n.link.waiting ≡ [] → n.way ≡ [] → (n.link.state ≡ TimerRecovery → n.link.repeats < n.terms.n200) → IsCutOff n m
@@ -108,12 +108,12 @@ module _ (service : Service) (tei : ℕ) where
       near-cut : IsCutOff n m
       near-cut =
           cut-off n m h.firm (none-waits service tei n near-hushed) near-hushed.way
-          (λ state. may-there service tei c p w.near n h.near.stands may.0 (ap awaits_answer state))
+          (λ state. may-there service tei c p w.near n h.near.stands may.0 (ap awaits_answer state) (ap (runs T200) (timed-8 service tei c p _ w.near n h.near h.firm.near_sane.timed state)))
 
       far-cut : IsCutOff m n
       far-cut =
           cut-off m n other.firm (none-waits service tei m far-hushed) far-hushed.way
-          (λ state. may-there service tei d q w.far m h.far.stands may.1 (ap awaits_answer state))
+          (λ state. may-there service tei d q w.far m h.far.stands may.1 (ap awaits_answer state) (ap (runs T200) (timed-8 service tei d q _ w.far m h.far h.firm.far_sane.timed state)))
 
       -- at the first end, and then at the other, which has no answer to come
       abbrev w' : Wire
@@ -124,7 +124,7 @@ module _ (service : Service) (tei : ℕ) where
           up-expires service tei c d p q face (confirmed service tei ∷ []) (indicated service tei ∷ []) w n m h timer T200 (λ l. refl) (λ state running. near-cut.repeats state)
           (λ state running. closed n m (none-open service tei n m near-hushed far-hushed))
 
-      far-open : IsNoneOpen m n'
+      far-open : NoneOpen m n'
       far-open = record { commands = none-of service tei is_poll m (none-waits service tei m far-hushed) far-hushed.way; responses = no-answer n m near-cut }
 
       both-expired : Up (with_t200_expired service tei w) n' m'
@@ -140,7 +140,7 @@ module _ (service : Service) (tei : ℕ) where
         (
           (
             (λ no. open-here service tei d c q p w'.far w'.near m n' near-expired.far.stands near-expired.near.stands far-open, may.1),
-            λ none. ap (λ l. l.waiting) (link-is service tei d q w.far m h.far.stands) ∙ none-waits service tei m far-hushed,
+            λ none. gives-none-of is_ua w.far still.far,
           ),
           tt,
         ),

@@ -1,5 +1,5 @@
 -- The first phases of such a call: one end rings, and the other is down.
-use Rattle.laws_wire.proofs.Vocabulary.{◌≡◌, ℕ, ◌+◌, ◌<◌, true, List, [], ◌∷◌, map, None, refl, sym, ap, subst, ◌∙◌, inl, inr, arith, nat_lt, option_to_list, lt-ltb, Service, Timer, Parts, spelling, ControlFrame, Terms, LinkTimer, fresh, course, given, IsInRange, End, with_link, Config, expiry, terms, T200, Course, Data, Wire, happens, with_first_of, Act, requests, times_out, gives, takes, loses, acting, turned, IsStill, comes, indicated, IsRoughTalkOf, is_poll, MayRepeat, IsTimelyOf, end_of}
+use Rattle.laws_wire.proofs.Vocabulary.{◌≡◌, ℕ, ◌+◌, ◌<◌, true, List, [], ◌∷◌, map, None, refl, sym, ap, subst, ◌∙◌, inl, inr, arith, nat_lt, option_to_list, lt-ltb, Service, Timer, Parts, spelling, ControlFrame, Terms, LinkTimer, fresh, course, given, IsInRange, End, with_link, Config, expiry, terms, T200, Course, Data, Wire, happens, with_first_of, Act, requests, times_out, gives, takes, loses, acting, turned, IsStill, comes, indicated, IsRoughTalkOf, is_poll, MayRepeat, IsTimelyOf}
 use Rattle.lapd_frame.specs.declared.notes.Note.TheVariants as notes
 use Rattle.lapd_frame.specs.declared.timers.Timer.TheVariants as timers
 use Rattle.model_link.specs.Events as link
@@ -108,8 +108,8 @@ module _ (service : Service) (tei : ℕ) (c d : Config) (p q : ℕ) (face : Face
           far = h.far;
         }
 
-    pub few-repeats : MayRepeat (end_of service tei w.near) → h.repeats < t.n200
-    few-repeats may = may-there service tei c p w.near rung h.near.stands may refl
+    pub few-repeats : MayRepeat service tei w.near → h.repeats < t.n200
+    few-repeats may = may-there service tei c p w.near rung h.near.stands may refl refl
 
     pub silent-near : (act : Act) → IsRoughTalkOf service tei act → IsTimelyOf act w → Goes (acting act w)
     silent-near (requests r) is x = for-data service tei (λ r. Goes (acting (requests r) w)) (λ octets. as-lost (rings-asks [] [] w h octets)) r is

@@ -1,8 +1,8 @@
 -- A whole call in which timers are timely: both ends stay up, and what was lost arrives.
-use Rattle.laws_wire.proofs.Vocabulary.{◌≡◌, ℕ, suc, ◌+◌, ◌<◌, Bool, true, false, cond, not, ◌&&◌, ◌||◌, ◌==◌, List, [], ◌∷◌, ◌++◌, length, map, is_some, refl, sym, ap, subst, ◌∙◌, inl, inr, eqb-true, arith, All, flat_map, list_any, and_parts, or_parts, All-nil, All-cons, All-head, All-tail, list_any-append, Note, Service, Timer, Parts, ControlFrame, fresh, IsInRange, Ends, Config, LineTold, terms, all-arrived, T200, nothing, Station, Wire, Act, gives, takes, times_out, Doing, at_near, at_far, acting, turned, doing, doing_all, IsStill, calling, confirmed, indicated, data_told, for_layer_3, heard_in, is_error, HasNoError, IsRoughTalkOf, IsRoughTalk, is_poll, is_final, IsNoneOpen, IsTimelyOf, IsSpared, IsTimely, StayTimely, both_expire, round, rounds, HasNoErrors, BothMayRepeat, HasMissing, HasArrived, with_t200_expired, WhatIsLostArrives}
+use Rattle.laws_wire.proofs.Vocabulary.{◌≡◌, ℕ, suc, ◌+◌, ◌<◌, Bool, true, false, cond, not, ◌&&◌, ◌||◌, ◌==◌, List, [], ◌∷◌, ◌++◌, length, map, is_some, refl, sym, ap, subst, ◌∙◌, inl, inr, eqb-true, arith, All, flat_map, list_any, and_parts, or_parts, All-nil, All-cons, All-head, All-tail, list_any-append, Note, Service, Timer, Parts, ControlFrame, fresh, IsInRange, Ends, Config, LineTold, terms, all-arrived, T200, nothing, Station, Wire, Act, gives, takes, times_out, Doing, at_near, at_far, acting, turned, doing, doing_all, IsStill, calling, confirmed, indicated, data_told, for_layer_3, heard_in, is_error, HasNoError, IsRoughTalkOf, IsRoughTalk, is_poll, is_final, IsTimelyOf, IsSpared, IsTimely, StayTimely, both_expire, round, rounds, HasNoErrors, BothMayRepeat, HasMissing, HasArrived, with_t200_expired, WhatIsLostArrives, is_ua}
 use Rattle.lapd_frame.specs.declared.timers.Timer.TheVariants as timers
 use Rattle.laws_link.specs.two.Rounds as two_links
-use Rattle.laws_wire.proofs.Awaited.{link-is, open-here}
+use Rattle.laws_wire.proofs.Awaited.{NoneOpen, gives-none-of, open-here}
 use Rattle.laws_wire.proofs.Calling.{end, called}
 use Rattle.laws_wire.proofs.LossyRun.{Setting, setting}
 use Rattle.laws_wire.proofs.Ringing.{answered, its_sabme}
@@ -179,12 +179,12 @@ module _ (service : Service) (tei : ℕ) (c d : Config) (p q : ℕ) (face : Face
         let next = repeats-sabme service tei c d p q face back rt ru w h timer (λ l. refl) few in
         let n' = end t (ringing_as next.repeats (its_sabme ∷ [])) [] in
         let sabme-alone = All-cons (λ (f : ControlFrame). is_final f.command f.control ≡ false) its_sabme [] refl (All-nil (λ (f : ControlFrame). is_final f.command f.control ≡ false)) in
-        let open_ : IsNoneOpen m n' = record { commands = none-of service tei is_poll m refl refl; responses = record { waiting = sabme-alone; way = All-nil (λ (f : Parts). is_final f.address.command f.control ≡ false) } } in (
+        let open_ : NoneOpen m n' = record { commands = none-of service tei is_poll m refl refl; responses = record { waiting = sabme-alone; way = All-nil (λ (f : Parts). is_final f.address.command f.control ≡ false) } } in (
           (λ no. open-here service tei c d p q w.near w.far n m h.near.stands h.far.stands (none-open service tei n m near far), may.0),
           (
             (
               (λ no. open-here service tei d c q p w.far w'.near m n' h.far.stands next.near.stands open_, may.1),
-              λ none. ap (λ l. l.waiting) (link-is service tei d q w.far m h.far.stands),
+              λ none. gives-none-of is_ua w.far still.far,
             ),
             tt,
           ),

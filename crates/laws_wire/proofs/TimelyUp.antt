@@ -1,12 +1,12 @@
 -- Two stations whose links are up, where each timer is timely: both stay up, whatever is lost.
-use Rattle.laws_wire.proofs.Vocabulary.{◌≡◌, ℕ, zero, suc, Bool, true, false, IsTrue, List, [], ◌∷◌, map, Some, None, refl, sym, ap, subst, ◌∙◌, ◌⊎◌, inl, inr, append-nil, true≢false, All, All-nil, All-head, Control, Service, Timer, Parts, spelling, ControlFrame, TimerRecovery, LinkTimer, T203, is_multiple_frame, course, given, is_running, awaits_answer, IsTimed, IsTimedIn, runs, End, Ends, with_link, with_sent, offer-gave, Config, LineTold, expiry, request, next, gave, CanRepeat, nothing-given, T200, Data, Station, Wire, happens, with_first_of, Act, requests, times_out, gives, takes, loses, acting, turned, doing_all, answered, IsOfLink, IsRoughTalkOf, is_poll, is_final, IsNoneOpen, IsTimelyOf, round, rounds, Joined, Flows}
+use Rattle.laws_wire.proofs.Vocabulary.{◌≡◌, ℕ, zero, suc, Bool, true, false, IsTrue, List, [], ◌∷◌, map, Some, None, refl, sym, ap, subst, ◌∙◌, ◌⊎◌, inl, inr, append-nil, true≢false, All, All-nil, All-head, Control, Service, Timer, Parts, spelling, ControlFrame, TimerRecovery, LinkTimer, T203, is_multiple_frame, course, given, is_running, awaits_answer, IsTimed, IsTimedIn, runs, End, Ends, with_link, with_sent, offer-gave, Config, LineTold, expiry, request, next, gave, CanRepeat, nothing-given, T200, Data, Station, Wire, happens, with_first_of, Act, requests, times_out, gives, takes, loses, acting, turned, doing_all, answered, IsOfLink, IsRoughTalkOf, is_poll, is_final, IsTimelyOf, round, rounds, Joined, Flows}
 use Rattle.lapd_frame.specs.declared.timers.Timer.TheVariants as timers
 use Rattle.model_link.specs.Events as link
 use Rattle.model_link.specs.TwoEnds as two_ends
 use Rattle.laws_link.specs.two.Rounds as two_links
 use Rattle.laws_link.specs.two.Timely as two_links_timely
 use Rattle.laws_wire.proofs.Asking.{with_more, asked-form}
-use Rattle.laws_wire.proofs.Awaited.{closed, as-here, may-there, open-there}
+use Rattle.laws_wire.proofs.Awaited.{NoneOpen, closed, may-there, long-there}
 use Rattle.laws_wire.proofs.Fair.{HasError, Fine, timer-fair}
 use Rattle.laws_wire.proofs.Firm.{timer-quiet, Firm, firm-turned, firm-sends, firm-loses, firm-asks, firm-expires, firm-takes, takes-fine, takes-kept}
 use Rattle.laws_wire.proofs.Held.{Held, held-given, held-lost, held-taken, held-expired, Grants, held-asked}
@@ -44,7 +44,7 @@ module _ (service : Service) (tei : ℕ) where
     way = subst (All (λ (f : Parts). asked f.address.command f.control ≡ false)) (sym way) (All-nil (λ (f : Parts). asked f.address.command f.control ≡ false));
   }
 
-  pub none-open : (n m : End) → IsHushed n → IsHushed m → IsNoneOpen n m
+  pub none-open : (n m : End) → IsHushed n → IsHushed m → NoneOpen n m
   none-open n m h k = record { commands = none-of is_poll n (none-waits n h) h.way; responses = none-of is_final m (none-waits m k) k.way }
 
   -- a station whose link is up, and stays so as a timer expires
@@ -146,11 +146,11 @@ module _ (service : Service) (tei : ℕ) where
     up-t200 (long, may) =
         let there = may-there service tei c p w.near n h.near.stands may in
         let none = λ (state : n.link.state ≡ TimerRecovery).
-        closed n m (open-there service tei c d p q w.near w.far n m h.near.stands h.far.stands (long (ap awaits_answer (as-here service tei c p w.near n h.near.stands state)))) in
+        closed n m (long-there service tei c d p q w.near w.far n m h.near.stands h.far.stands long (ap awaits_answer state)) in
         record {
           n = with_link (link.expired T200) n;
           m = m;
-          up = up-expires (timers.T200 service tei) T200 (λ l. refl) (λ state running. there (ap awaits_answer state)) (λ state running. none state);
+          up = up-expires (timers.T200 service tei) T200 (λ l. refl) (λ state running. there (ap awaits_answer state) running) (λ state running. none state);
         }
 
     up-t203 : AreUp c d p q past other (acting (times_out (timers.T203 service tei)) w)

@@ -1,9 +1,8 @@
 -- Two cards on one wire, one of which was granted more before: nothing else is other.
-use Rattle.laws_wire.proofs.Vocabulary.{◌≡◌, ℕ, suc, ◌==◌, Bool, true, false, cond, List, [], ◌∷◌, ◌++◌, length, refl, sym, ap, append-nil, append_assoc, eqb-true, arith, LineTold, Service, End, Config, expiry, request, next}
+use Rattle.laws_wire.proofs.Vocabulary.{◌≡◌, ℕ, suc, ◌==◌, Bool, true, false, cond, List, [], ◌∷◌, ◌++◌, length, refl, sym, ap, append-nil, append_assoc, eqb-true, arith, LineTold, Service, End, Config, expiry, request, next, zero, subst, All, flat_map, Control, Parts, NoneGoes, giving, Event, is_poll, is_final, IsTimelyOf}
 use Rattle.lapd_frame.specs.declared.timers.Timer.TheVariants as timers
-use Rattle.model_line.specs.Event.{Event}
 use Rattle.laws_wire.specs.Wire.{Station, Wire, answered, happens, with_first_of, with_first_lost, unless_refused, contents_in, Act, requests, times_out, gives, takes, loses, acting, turned}
-use Rattle.laws_wire.specs.Timely.{IsTimelyOf}
+use Rattle.laws_wire.specs.Facing.{read_as}
 use Rattle.laws_wire.proofs.Standing.{Stands}
 
 -- These were granted before.
@@ -44,10 +43,19 @@ near-before takes g w = refl
 near-before loses g w = refl
 
 -- what T200 asks does not look at it
+giving-with : (k : ℕ) (g : List (List ℕ)) (s : Station) → (giving k (record s { granted = g })).way ≡ (giving k s).way
+unfolding giving
+giving-with zero g s = refl
+giving-with (suc k) g s = giving-with k (g ++ unless_refused (answered next s) (contents_in next)) (happens next s)
+
+none-with : (of : Bool → Control → Bool) (g : List (List ℕ)) (s : Station) → NoneGoes of (record s { granted = g }) → NoneGoes of s
+none-with of g s none = λ k. subst (λ way. All (λ (f : Parts). of f.address.command f.control ≡ false) (flat_map (read_as s.card.config) way)) (giving-with k g s) (none k)
+
 pub timely-with : (act : Act) (s r : Station) (g g' : List (List ℕ)) → IsTimelyOf act (record { near = record s { granted = g }; far = record r { granted = g' } })
     → IsTimelyOf act (record { near = s; far = r })
 timely-with (requests r) s r' g g' x = x
-timely-with (times_out (timers.T200 service tei)) s r g g' x = x
+timely-with (times_out (timers.T200 service tei)) s r g g' (long, may) =
+    ((λ awaits. let x = long awaits in record { commands = none-with is_poll g s x.commands; responses = none-with is_final g' r x.responses }), may)
 timely-with (times_out (timers.T203 service tei)) s r g g' x = x
 timely-with (times_out timers.T201) s r g g' x = x
 timely-with gives s r g g' x = x

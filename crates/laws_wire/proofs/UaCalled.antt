@@ -1,14 +1,11 @@
 -- The link of the end that is called, before its caller is up: it has received nothing but SABME.
-use Rattle.laws_wire.proofs.Vocabulary.{◌≡◌, ℕ, ◌+◌, ◌<◌, ◌≤◌, ◌==◌, Bool, true, false, cond, not, ◌||◌, IsTrue, List, [], ◌∷◌, ◌++◌, take, drop, Option, None, Some, refl, sym, ap, subst, ◌∙◌, ◌⊎◌, inl, inr, append_assoc, true≢false, eqb-true, ne_eqb, arith, flat_map, list_any, All, All-head, front_rest, Refusal, Parts, State, TeiAssigned, AwaitingEstablishment, AwaitingRelease, Established, TimerRecovery, Sabme, LinkTimer, T203, ControlFrame, Terms, Link, is_multiple_frame, has_outstanding, received, requested, expired, offer, course, given, given_of, is_running, begun, frame_given, IsInRange, IsWaitingFrame, End, frame_of, frames_of, frames-append, kinds-append, has_room, Reports, still, at-first, offer-gave, Calm, Kind, enquiry, report, kind_of, kinds_of, tally, tally-push, one_enquiry, one_answer, one_rejection, line, most, is_recovering, Sane, IsMildRequest}
+use Rattle.laws_wire.proofs.Vocabulary.{◌≡◌, ℕ, ◌+◌, ◌<◌, ◌≤◌, ◌==◌, Bool, true, false, cond, not, ◌||◌, IsTrue, List, [], ◌∷◌, ◌++◌, take, drop, Option, None, Some, refl, sym, ap, subst, ◌∙◌, ◌⊎◌, inl, inr, append_assoc, true≢false, eqb-true, ne_eqb, arith, flat_map, list_any, All, All-head, front_rest, Refusal, Parts, State, TeiAssigned, AwaitingEstablishment, AwaitingRelease, Established, TimerRecovery, Sabme, LinkTimer, T203, ControlFrame, Terms, Link, is_multiple_frame, has_outstanding, received, requested, expired, offer, course, given, given_of, is_running, begun, frame_given, IsInRange, IsWaitingFrame, End, frame_of, frames_of, frames-append, kinds-append, has_room, Reports, still, at-first, offer-gave, Calm, Kind, enquiry, report, kind_of, kinds_of, tally, tally-push, one_enquiry, one_answer, one_rejection, line, most, is_recovering, Sane, IsMildRequest, frame, after, Course, ◌then◌, for_layer_3}
 use Rattle.lapd_frame.specs.declared.notes.ErrorCode.TheVariants as code
-use Rattle.model_link.specs.Events.{frame}
 use Rattle.model_link.specs.Events as link
 use Rattle.model_link.specs.Machine
-use Rattle.model_link.specs.Machine.{after}
 use Rattle.model_link.specs.Offers
 use Rattle.model_link.specs.Requests as requests
 use Rattle.model_link.specs.Sound.{IsSound, is_information}
-use Rattle.model_link.specs.Steps.{Course, ◌then◌}
 use Rattle.model_link.specs.Words
 use Rattle.model_link.proofs.Direction.{carried-reports, rising-reports}
 use Rattle.model_link.proofs.Facing.{AreReports, IsReport, set_busy_up, clear_busy_up}
@@ -18,7 +15,6 @@ use Rattle.laws_link.proofs.OfTwo.Going.{asks-went, expires-goes, RanOut}
 use Rattle.laws_link.proofs.OfTwo.HeedingEvents.{heeds-after}
 use Rattle.laws_link.proofs.OfTwo.Staying.{request-stays, timer-stays}
 use Rattle.laws_link.proofs.OfTwo.Trains.{Every, every-push, Behind, calm-rise}
-use Rattle.laws_wire.specs.Losing.{for_layer_3}
 use Rattle.laws_wire.specs.Answering.{error_f, renewed}
 use Rattle.laws_wire.proofs.Calling.{end, its_ua, sabme}
 use Rattle.laws_wire.proofs.Joint.{Goes, by-up, stays, timer-goes}

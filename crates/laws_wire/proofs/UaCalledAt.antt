@@ -1,24 +1,17 @@
 -- The station of the end that is called, whose link is up: what requests, timers and calls for the next frame do there.
-use Rattle.laws_wire.proofs.Vocabulary.{◌≡◌, ℕ, Bool, true, false, ◌||◌, IsTrue, List, [], ◌∷◌, ◌++◌, length, None, refl, sym, ap, subst, ◌∙◌, ◌⊎◌, inl, inr, arith, front_rest, All, All-drop, flat_map, Service, Timer, TimerRecovery, LinkTimer, T203, Link, is_multiple_frame, has_outstanding, given, is_running, awaits_answer, no-reports, End, with_link, frame_given, Config, LineTold, expiry, request, Line, place_in, Request, at_requested, aim_of_request, IsMildRequest, CanRepeat, HasNo, Sane}
+use Rattle.laws_wire.proofs.Vocabulary.{◌≡◌, ℕ, Bool, true, false, ◌||◌, IsTrue, List, [], ◌∷◌, ◌++◌, None, refl, sym, ap, subst, ◌∙◌, ◌⊎◌, inl, inr, arith, Service, Timer, TimerRecovery, LinkTimer, T203, Link, is_multiple_frame, has_outstanding, given, is_running, awaits_answer, no-reports, End, with_link, frame_given, Config, LineTold, expiry, request, Line, place_in, Request, at_requested, aim_of_request, IsMildRequest, CanRepeat, HasNo, Sane, T200, Data, SetBusy, ClearBusy, Station, Wire, happens, times_out, contents_of, IsOfLink, is_poll, IsTimelyOf}
 use Rattle.lapd_frame.specs.declared.timers.Timer.TheVariants as timers
-use Rattle.model_link.specs.declared.timers.LinkTimer.TheVariants.{T200}
 use Rattle.model_link.specs.Events as link
 use Rattle.model_link.specs.Machine as links
-use Rattle.model_line.specs.Request.{Data, SetBusy, ClearBusy}
 use Rattle.laws_link.proofs.OfTwo.Staying.{timer-stays}
-use Rattle.laws_wire.specs.Wire.{Station, Wire, happens, times_out, contents_of}
-use Rattle.laws_wire.specs.Losing.{IsOfLink}
-use Rattle.laws_wire.specs.Facing.{read_as}
-use Rattle.laws_wire.specs.Timely.{is_poll, IsTimelyOf}
 use Rattle.laws_wire.specs.Answering.{IsAsked, gives_information}
 use Rattle.laws_wire.proofs.Acting.{ranges, sound}
 use Rattle.laws_wire.proofs.Asking.{asked-form}
-use Rattle.laws_wire.proofs.Awaited.{as-here, may-there, none-there, read-again}
+use Rattle.laws_wire.proofs.Awaited.{awaits-is, may-there, none-there, gives-reads}
 use Rattle.laws_wire.proofs.Held.{Held, Grants, held-asked}
 use Rattle.laws_wire.proofs.Joint.{Goes, only-link, timer-delivers}
 use Rattle.laws_wire.proofs.LooseUp.{Mute, busy-mute, ready-mute, for-asked, held-busy}
 use Rattle.laws_wire.proofs.LossyPhases.{Aims}
-use Rattle.laws_wire.proofs.Standing.{IsCarried, Stands, gives-frames, gives-stands}
 use Rattle.laws_wire.proofs.TimelyUp.{each-timer, timer-held, never}
 use Rattle.laws_wire.proofs.UaCalled.{sane-after, Stirs, busy-stirs, busy-goes, ready-goes, timer-stirs, informs, flagged}
 
@@ -26,18 +19,10 @@ module _ (service : Service) (tei : ℕ) (d : Config) (q : ℕ) (past : List Lin
   abbrev s : Station
   s = v.near
 
-  own : Stands s.card.config service tei q s M
-  own = subst (λ k. Stands k service tei q s M) (sym h.stands.config) h.stands
-
   -- ---- the next frame is called for
 
   gives-informs : gives_information s ≡ informs (frame_given M.terms (given M.terms M.link))
-  gives-informs =
-      let given = frame_given M.terms (given M.terms M.link) in
-      let all = All-drop (IsCarried s.card.config service tei) (length M.way) (M.way ++ given) (gives-stands service tei q s M own).carried in
-      let carried = subst (All (IsCarried s.card.config service tei)) (front_rest (M.way ++ given) M.way given refl) all in
-      ap (λ fs. informs (flat_map (read_as s.card.config) fs)) (gives-frames service tei q s M own)
-      ∙ ap informs (read-again service tei s.card.config q s M own given carried)
+  gives-informs = ap informs (gives-reads service tei d q s M h.stands)
 
   pub flagged-at : (b : Bool) → b ≡ has_outstanding M.link → (b || gives_information s) ≡ has_outstanding (links.after M.terms link.offer M.link)
   flagged-at b e =
@@ -125,7 +110,7 @@ module _ (service : Service) (tei : ℕ) (d : Config) (q : ℕ) (past : List Lin
       pub expired-at : (timer : Timer) → IsOfLink service tei timer → IsTimelyOf (times_out timer) v → P (happens (expiry timer) s)
       expired-at timer is x =
           each-timer service tei (λ timer. IsTimelyOf (times_out timer) v → P (happens (expiry timer) s))
-          (λ x. expires-so (timers.T200 service tei) T200 (λ l. refl) (λ state running. may-there service tei d q s M h.stands x.1 (ap awaits_answer state))
-          (λ state running. none-there service tei d q s M h.stands is_poll (x.0 (ap awaits_answer (as-here service tei d q s M h.stands state))).commands))
+          (λ x. expires-so (timers.T200 service tei) T200 (λ l. refl) (λ state running. may-there service tei d q s M h.stands x.1 (ap awaits_answer state) running)
+          (λ state running. none-there service tei d q s M h.stands is_poll (x.0 (awaits-is service tei d q s M h.stands ∙ ap awaits_answer state)).commands))
           (λ x. expires-so (timers.T203 service tei) T203 (λ l. refl) (λ state running. absurd (never service tei d q past s M h sane.timed state running))
           (λ state running. absurd (never service tei d q past s M h sane.timed state running))) timer is x

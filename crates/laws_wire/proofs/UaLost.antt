@@ -1,17 +1,10 @@
 -- The phases of a call in which UA may be lost: one end rings, and the other is down; or it is up, and its UA waits, is on its way, or is
 -- not to come.
-use Rattle.laws_wire.proofs.Vocabulary.{◌≡◌, ℕ, ◌+◌, ◌<◌, ◌≤◌, Bool, true, false, not, List, [], ◌∷◌, ◌++◌, length, map, take, drop, refl, sym, ap, subst, ◌∙◌, ◌⊎◌, inl, inr, true≢false, arith, nat_lt, option_to_list, lt-ltb, front_rest, All, All-head, All-drop, Control, Information, ReceiveReady, ReceiveNotReady, Reject, Sabme, Disc, Ui, Ua, Dm, Frmr, Xid, Service, Parts, spelling, ControlFrame, Terms, awaits_answer, course, IsInRange, End, with_link, Config, LineTold, expiry, request, terms, Request, Means, Rising, kind_of, one_enquiry, tally, line, HasNo}
+use Rattle.laws_wire.proofs.Vocabulary.{◌≡◌, ℕ, ◌+◌, ◌<◌, ◌≤◌, Bool, true, false, not, List, [], ◌∷◌, ◌++◌, map, take, drop, refl, sym, ap, subst, ◌∙◌, ◌⊎◌, inl, inr, true≢false, arith, nat_lt, option_to_list, lt-ltb, All, All-head, All-drop, Control, Information, ReceiveReady, ReceiveNotReady, Reject, Sabme, Disc, Ui, Ua, Dm, Frmr, Xid, Service, Parts, spelling, ControlFrame, Terms, course, IsInRange, End, with_link, Config, LineTold, expiry, request, terms, Request, Means, Rising, kind_of, one_enquiry, tally, line, HasNo, T200, Course, Station, Wire, happens, comes, with_first_of, with_first_lost, Act, requests, times_out, gives, takes, loses, acting, confirmed, heard_in, is_poll, IsTimelyOf, IsFullTalkOf}
 use Rattle.lapd_frame.specs.declared.notes.Note.TheVariants as notes
 use Rattle.lapd_frame.specs.declared.timers.Timer.TheVariants as timers
-use Rattle.model_link.specs.declared.timers.LinkTimer.TheVariants.{T200}
 use Rattle.model_link.specs.Events as link
-use Rattle.model_link.specs.Steps.{Course}
-use Rattle.laws_wire.specs.Wire.{Station, Wire, happens, comes, with_first_of, with_first_lost, Act, requests, times_out, gives, takes, loses, acting}
-use Rattle.laws_wire.specs.Call.{confirmed}
-use Rattle.laws_wire.specs.Losing.{heard_in}
-use Rattle.laws_wire.specs.Timely.{is_poll, IsTimelyOf}
-use Rattle.laws_wire.specs.Answering.{IsFullTalkOf}
-use Rattle.laws_wire.proofs.Awaited.{as-here, may-there, none-there, goes-first, waits-first}
+use Rattle.laws_wire.proofs.Awaited.{awaits-is, may-there, none-there, goes-first, waits-first}
 use Rattle.laws_wire.proofs.Calling.{sabme, end}
 use Rattle.laws_wire.proofs.Held.{TellsIt, Held, held-given, held-lost, held-taken, held-expired}
 use Rattle.laws_wire.proofs.LooseUp.{for-asked}
@@ -59,13 +52,6 @@ none-asked t (f ∷ fs) h =
     let one = not-poll f.command f.control (All-head IsNoPoll f fs h) in
     let more : tally one_enquiry (line t [] fs) ≡ 0 = none-asked t fs (All-drop IsNoPoll 1 (f ∷ fs) h) in
     omega (arith, one, more)
-
--- of all that waits, what is behind
-pub all-behind : (P : ControlFrame → Type 0) (first rest : List ControlFrame) → All P (first ++ rest) → All P rest
-all-behind P first rest h = subst (All P) (front_rest (first ++ rest) first rest refl) (All-drop P (length first) (first ++ rest) h)
-
-pub all-behind-way : (P : Parts → Type 0) (first rest : List Parts) → All P (first ++ rest) → All P rest
-all-behind-way P first rest h = subst (All P) (front_rest (first ++ rest) first rest refl) (All-drop P (length first) (first ++ rest) h)
 
 -- the first of a line is lost
 pub rising-drop : (r : ℕ) (way rest : List Parts) → Rising 0 r (way ++ rest) → Rising 0 r (drop 1 way ++ rest)
@@ -170,7 +156,7 @@ module _ (service : Service) (tei : ℕ) (c d : Config) (p q : ℕ) (face : Face
 
       -- nothing that it asked is open as T200 expires
       nothing-asked : IsTimelyOf (times_out (timers.T200 service tei)) w → HasNo is_poll n
-      nothing-asked x = none-there service tei c p w.near n h.near.stands is_poll (x.0 (ap awaits_answer (as-here service tei c p w.near n h.near.stands refl))).commands
+      nothing-asked x = none-there service tei c p w.near n h.near.stands is_poll (x.0 (awaits-is service tei c p w.near n h.near.stands)).commands
 
     -- T200 expires, and SABME goes again
     repeats-sabme : (w : Wire) (h : R [] [] w) → h.repeats < t.n200 → R (its_sabme ∷ []) [] (acting (times_out (timers.T200 service tei)) w)
@@ -202,7 +188,7 @@ module _ (service : Service) (tei : ℕ) (c d : Config) (p q : ℕ) (face : Face
     silent w h (requests r) not is x = inl (near-asks [] [] w h r is)
     silent w h (times_out timer) not is x =
         each-timer service tei (λ timer. IsTimelyOf (times_out timer) w → Ringing P (acting (times_out timer) w))
-        (λ x. inr (inl (repeats-sabme w h (may-there service tei c p w.near (end t (ringing h.repeats []) []) h.near.stands x.1 refl)))) (λ x. inl (near-t203 [] [] w h)) timer is x
+        (λ x. inr (inl (repeats-sabme w h (may-there service tei c p w.near (end t (ringing h.repeats []) []) h.near.stands x.1 refl refl)))) (λ x. inl (near-t203 [] [] w h)) timer is x
     silent w h gives not is x = inl (record { repeats = h.repeats; near = gives-nothing service tei c p [] w.near (end t (ringing h.repeats []) []) h.near refl; far = h.far })
     silent w h takes not is x = absurd (not refl)
     silent w h loses not is x = inl (near-loses [] [] w h refl)

@@ -1,13 +1,8 @@
 -- A whole call in which UA may be lost: what is told, and that all has come where no turn is left and T200 runs at neither end.
-use Rattle.laws_wire.proofs.Vocabulary.{◌≡◌, ℕ, ◌==◌, Bool, true, false, cond, ◌&&◌, ◌||◌, List, [], ◌∷◌, ◌++◌, length, map, refl, sym, ap, subst, ◌∙◌, ◌⊎◌, inl, inr, append-nil, append_assoc, true≢false, arith, All, All-head, All-tail, Service, Parts, ControlFrame, spelling, fresh, IsInRange, End, frames_of, Config, LineTold, T203, expiry, request, terms, awaits_answer}
+use Rattle.laws_wire.proofs.Vocabulary.{◌≡◌, ℕ, ◌==◌, Bool, true, false, cond, ◌&&◌, ◌||◌, List, [], ◌∷◌, ◌++◌, length, map, refl, sym, ap, subst, ◌∙◌, ◌⊎◌, inl, inr, append-nil, append_assoc, true≢false, arith, All, All-head, All-tail, Service, Parts, ControlFrame, spelling, fresh, IsInRange, End, frames_of, Config, LineTold, T203, expiry, request, terms, T200, Station, Wire, happens, with_first_lost, Act, requests, times_out, gives, takes, loses, acting, turned, Doing, at_near, at_far, doing, doing_all, is_any, confirmed, indicated, data_told, heard_in, is_final, IsTimelyOf}
 use Rattle.lapd_frame.specs.declared.timers.Timer.TheVariants as timers
-use Rattle.model_link.specs.declared.timers.LinkTimer.TheVariants.{T200}
-use Rattle.laws_wire.specs.Wire.{Station, Wire, happens, with_first_lost, Act, requests, times_out, gives, takes, loses, acting, turned, Doing, at_near, at_far, doing, doing_all, is_any}
-use Rattle.laws_wire.specs.Call.{confirmed, indicated, data_told}
-use Rattle.laws_wire.specs.Losing.{heard_in}
-use Rattle.laws_wire.specs.Timely.{is_final, IsTimelyOf}
 use Rattle.laws_wire.specs.Answering.{IsFullTalkOf, IsFullTalk, IsPatient, StayPatient, Called, error_f, renewed, told_of_sabme, with_sabme, takes_sabme, gives_information, seeing, seen}
-use Rattle.laws_wire.proofs.Awaited.{as-here, none-there}
+use Rattle.laws_wire.proofs.Awaited.{awaits-is, none-there}
 use Rattle.laws_wire.proofs.Calling.{end, answering, sabme, ua}
 use Rattle.laws_wire.proofs.Held.{Held, held-lost, held-expired}
 use Rattle.laws_wire.proofs.LooseUp.{for-asked, LooseUp, loose-turned-up, loose-acts}
@@ -66,12 +61,12 @@ module _ (service : Service) (tei : ℕ) (c d : Config) (p q : ℕ) (face : Face
   near-but past b w (inr (inl h)) act not is x =
       let awaited = λ (x : IsTimelyOf (times_out (timers.T200 service tei)) w).
       is-awaited service tei c d p q face back rt ru past b (turned w) h.far
-      (none-there service tei d q w.far h.far.M h.far.held.stands is_final (x.0 (ap awaits_answer (as-here service tei c p w.near (end (terms c service tei) (ringing h.repeats []) []) h.near.stands refl))).responses) in
+      (none-there service tei d q w.far h.far.M h.far.held.stands is_final (x.0 (awaits-is service tei c p w.near (end (terms c service tei) (ringing h.repeats []) []) h.near.stands)).responses) in
       inr (inl (record { repeats = h.repeats; near = near-waits service tei c d p q face back rt ru h.repeats w h.near awaited act not is x; far = subst (Waiting past b) (sym (far-same act not w)) h.far }))
   near-but past b w (inr (inr (inl h))) act not is x =
       let awaited = λ (x : IsTimelyOf (times_out (timers.T200 service tei)) w).
       comes-awaited service tei c d p q face back rt ru past b w h
-      (none-there service tei d q w.far (whole h) h.far.stands is_final (x.0 (ap awaits_answer (as-here service tei c p w.near (end (terms c service tei) (ringing h.repeats []) []) h.near.stands refl))).responses) in
+      (none-there service tei d q w.far (whole h) h.far.stands is_final (x.0 (awaits-is service tei c p w.near (end (terms c service tei) (ringing h.repeats []) []) h.near.stands)).responses) in
       inr (inr (inl (record {
         repeats = h.repeats;
         near = near-waits service tei c d p q face back rt ru h.repeats w h.near awaited act not is x;

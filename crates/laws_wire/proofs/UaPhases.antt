@@ -1,5 +1,5 @@
 -- The end that is called, once it took SABME: its UA is not to come, waits, or is on its way behind what went before.
-use Rattle.laws_wire.proofs.Vocabulary.{◌≡◌, ℕ, ◌≤◌, Bool, false, not, ◌==◌, ◌||◌, IsTrue, List, [], ◌∷◌, ◌++◌, refl, sym, ap, subst, ◌∙◌, ◌⊎◌, inl, inr, append_assoc, append-nil, true≢false, arith, All, All-head, All-nil, Service, Parts, spelling, ControlFrame, LinkTimer, Terms, Link, is_multiple_frame, has_outstanding, frame_of, frames_of, course, given, IsInRange, End, with_sent, Config, LineTold, next, terms, Rising, Sane, HasNo, offer-gave}
+use Rattle.laws_wire.proofs.Vocabulary.{◌≡◌, ℕ, ◌≤◌, Bool, false, not, ◌==◌, ◌||◌, IsTrue, List, [], ◌∷◌, ◌++◌, refl, sym, ap, subst, ◌∙◌, ◌⊎◌, inl, inr, append_assoc, append-nil, true≢false, arith, All, All-head, All-nil, Service, Parts, spelling, ControlFrame, LinkTimer, Terms, Link, is_multiple_frame, has_outstanding, frame_of, frames_of, course, given, IsInRange, End, with_sent, Config, LineTold, next, terms, Rising, Sane, HasNo, offer-gave, Station, Wire, happens, comes, with_first_of, with_first_lost, Act, requests, times_out, gives, takes, loses, acting, turned, confirmed, is_poll, is_final, IsTimelyOf}
 use Rattle.model_link.specs.Events as link
 use Rattle.model_link.specs.Machine as links
 use Rattle.model_link.specs.TwoEnds as two_ends
@@ -7,13 +7,10 @@ use Rattle.model_link.proofs.Direction.{line_of, line-grows, rising-reports}
 use Rattle.model_link.proofs.Lines.{rising-lower}
 use Rattle.laws_link.specs.two.Timely as two_links_timely
 use Rattle.laws_link.proofs.OfTwo.Staying.{offer-stays}
-use Rattle.laws_wire.specs.Wire.{Station, Wire, happens, comes, with_first_of, with_first_lost, Act, requests, times_out, gives, takes, loses, acting, turned}
-use Rattle.laws_wire.specs.Call.{confirmed}
-use Rattle.laws_wire.specs.Timely.{is_poll, is_final, IsTimelyOf}
 use Rattle.laws_wire.specs.Answering.{IsFullTalkOf, gives_information}
 use Rattle.laws_wire.proofs.Acting.{ranges, sound}
 use Rattle.laws_wire.proofs.Answered.{takes-granted}
-use Rattle.laws_wire.proofs.Awaited.{closed}
+use Rattle.laws_wire.proofs.Awaited.{all-behind, closed}
 use Rattle.laws_wire.proofs.Calling.{its_ua, ua, end}
 use Rattle.laws_wire.proofs.Firm.{not-behind}
 use Rattle.laws_wire.proofs.Held.{Held, held-given, held-lost, held-first, taken-told, taken-stands}
@@ -24,7 +21,7 @@ use Rattle.laws_wire.proofs.Ringing.{ringing, answered}
 use Rattle.laws_wire.proofs.Talking.{Face}
 use Rattle.laws_wire.proofs.UaCalled.{sane-after, Poised, PoisedOn, poised-on, loose-poised}
 use Rattle.laws_wire.proofs.UaCalledAt.{FreeAs, StirsAt, asked-at, expired-at, flagged-at}
-use Rattle.laws_wire.proofs.UaLost.{behind, IsNoPoll, none-asked, all-behind, all-behind-way, rising-drop, taken-none, first_near, ignores-frame}
+use Rattle.laws_wire.proofs.UaLost.{behind, IsNoPoll, none-asked, rising-drop, taken-none, first_near, ignores-frame}
 
 module _ (service : Service) (tei : ℕ) (c d : Config) (p q : ℕ) (face : Face c d) (back : Face d c) (rt : IsInRange (terms c service tei)) (ru : IsInRange (terms d service tei)) (past : List LineTold) where
   abbrev t : Terms
@@ -303,7 +300,7 @@ module _ (service : Service) (tei : ℕ) (c d : Config) (p q : ℕ) (face : Face
     timely-there its free state running =
         let asked = free state running in
         closed h.m n (record {
-          commands = record { waiting = asked.waiting; way = all-behind-way (λ (f : Parts). is_poll f.address.command f.control ≡ false) before h.m.way asked.way };
+          commands = record { waiting = asked.waiting; way = all-behind (λ (f : Parts). is_poll f.address.command f.control ≡ false) before h.m.way asked.way };
           responses = record { waiting = All-nil (λ (f : ControlFrame). is_final f.command f.control ≡ false); way = All-nil (λ (f : Parts). is_final f.address.command f.control ≡ false) };
         })
 
@@ -333,7 +330,7 @@ module _ (service : Service) (tei : ℕ) (c d : Config) (p q : ℕ) (face : Face
     pub comes-awaited : HasNo is_final whole → ⊥
     comes-awaited free =
         let all = subst (All (λ (f : Parts). is_final f.address.command f.control ≡ false)) (append_assoc h.stale (ua u ∷ []) h.m.way) free.way in
-        let here = all-behind-way (λ (f : Parts). is_final f.address.command f.control ≡ false) h.stale (ua u ∷ h.m.way) all in
+        let here = all-behind (λ (f : Parts). is_final f.address.command f.control ≡ false) h.stale (ua u ∷ h.m.way) all in
         true≢false (All-head (λ (f : Parts). is_final f.address.command f.control ≡ false) (ua u) h.m.way here)
 
     not-beyond : h.m.link.r ≤ 0

@@ -1,12 +1,6 @@
 -- SABME comes again to the end that is called, whose UA was lost: UA waits again, where there is room, and what it had sent is given up.
-use Rattle.laws_wire.proofs.Vocabulary.{◌≡◌, ℕ, Bool, true, false, cond, List, [], ◌∷◌, ◌++◌, map, refl, sym, ap, subst, ◌∙◌, ◌⊎◌, inl, inr, append-nil, arith, flat_map, option_to_list, Service, spelling, Terms, has_outstanding, has_room, frames_of, course, IsInRange, End, with_link, Config, LineTold, terms, Rising, Sane}
-use Rattle.std.proofs.lemmas.List.Concat.{flat_map-append}
+use Rattle.laws_wire.proofs.Vocabulary.{◌≡◌, ℕ, Bool, true, false, cond, List, [], ◌∷◌, ◌++◌, map, refl, sym, ap, subst, ◌∙◌, ◌⊎◌, inl, inr, append-nil, arith, flat_map, option_to_list, Service, spelling, Terms, has_outstanding, has_room, frames_of, course, IsInRange, End, with_link, Config, LineTold, terms, Rising, Sane, flat_map-append, Course, line_of, Station, Wire, comes, with_first_of, with_first_lost, takes, acting, turned, data_told, for_layer_3, heard_in}
 use Rattle.model_link.specs.Events as link
-use Rattle.model_link.specs.Steps.{Course}
-use Rattle.model_link.proofs.Direction.{line_of}
-use Rattle.laws_wire.specs.Wire.{Station, Wire, comes, with_first_of, with_first_lost, takes, acting, turned}
-use Rattle.laws_wire.specs.Call.{data_told}
-use Rattle.laws_wire.specs.Losing.{for_layer_3, heard_in}
 use Rattle.laws_wire.specs.Answering.{error_f, renewed}
 use Rattle.laws_wire.proofs.Answered.{takes-granted}
 use Rattle.laws_wire.proofs.Calling.{its_ua, sabme, end}

@@ -1,12 +1,7 @@
 -- What is told in a call in which UA may be lost, from its phases.
-use Rattle.laws_wire.proofs.Vocabulary.{◌≡◌, ℕ, Bool, false, List, [], ◌∷◌, ◌++◌, length, map, take, drop, refl, sym, ap, append-nil, append_assoc, map-append, take-append-drop, subst, ◌∙◌, inl, inr, true≢false, All, front_rest, Service, Parts, ControlFrame, Link, IsInRange, runs, End, Config, LineTold, terms}
-use Rattle.model_link.specs.declared.timers.LinkTimer.TheVariants.{T200}
-use Rattle.laws_wire.specs.Wire.{Station, Wire, turned, Doing, doing_all, IsStill}
-use Rattle.laws_wire.specs.Call.{CanCall, calling, confirmed, data_told, IsBeginningOf}
-use Rattle.laws_wire.specs.Losing.{heard_in}
-use Rattle.laws_wire.specs.Arriving.{runs_t200}
+use Rattle.laws_wire.proofs.Vocabulary.{◌≡◌, ℕ, Bool, false, List, [], ◌∷◌, ◌++◌, length, map, take, drop, refl, sym, ap, append-nil, append_assoc, map-append, take-append-drop, subst, ◌∙◌, inl, inr, true≢false, All, front_rest, Service, Parts, ControlFrame, IsInRange, End, Config, LineTold, terms, Station, Wire, turned, Doing, doing_all, IsStill, CanCall, calling, confirmed, data_told, IsBeginningOf, heard_in, runs_t200}
 use Rattle.laws_wire.specs.Answering.{IsFullTalk, StayPatient, Called, uncalled, seen, all_kept, ToldSo, LossyCallsComeThrough}
-use Rattle.laws_wire.proofs.Awaited.{link-is}
+use Rattle.laws_wire.proofs.Awaited.{runs-is}
 use Rattle.laws_wire.proofs.Calling.{end, sabme}
 use Rattle.laws_wire.proofs.Held.{Held}
 use Rattle.laws_wire.proofs.LooseUp.{loose-turned-up, loose-told, loose-rests}
@@ -94,7 +89,7 @@ module _ (service : Service) (tei : ℕ) (c d : Config) (p q : ℕ) (face : Face
   stops : (A : Type 0) (v : Wire) (k : ℕ) (ws : List ControlFrame) (way : List Parts) → Held c service tei p [] v.near (end (terms c service tei) (ringing k ws) way)
       → runs_t200 service tei v.near ≡ false → A
   stops A v k ws way h none =
-      absurd (true≢false (sym (ap (λ (l : Link). runs T200 l.running) (link-is service tei c p v.near (end (terms c service tei) (ringing k ws) way) h.stands)) ∙ none))
+      absurd (true≢false (sym (runs-is service tei c p v.near (end (terms c service tei) (ringing k ws) way) h.stands (λ e. cc e)) ∙ none))
 
   ringing-stops : (A : Type 0) (P : Station → Type 0) (v : Wire) → Rs service tei c d p q face back rt ru P v → runs_t200 service tei v.near ≡ false → A
   ringing-stops A P v (inl h) none = stops A v h.repeats [] [] h.near none

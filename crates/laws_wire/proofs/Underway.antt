@@ -1,11 +1,11 @@
 -- Two stations that are up, nothing is lost, and T200 expires at either: what is then sure to arrive, and that it has, where no turn is left.
-use Rattle.laws_wire.proofs.Vocabulary.{◌≡◌, ℕ, ◌≤◌, Bool, true, false, ◌&&◌, ◌||◌, IsTrue, List, [], ◌∷◌, ◌++◌, length, map, drop, refl, sym, ap, subst, ◌∙◌, ◌⊎◌, inl, inr, true≢false, arith, All, take_all, All-head, All-tail, Service, Timer, Parts, TimerRecovery, LinkTimer, T203, Link, is_multiple_frame, is_running, runs, End, with_link, with_sent, frames_of, Config, LineTold, request, awaits_answer, CanRepeat, HasNothingToSend, line, tally, one_enquiry, one_answer, nothing-given, T200, line_of, Data, Station, Wire, happens, Act, requests, times_out, gives, takes, loses, acting, turned, Doing, at_near, at_far, doing, doing_all, IsStill, confirmed, indicated, data_told, heard_in, IsRoughTalkOf, IsRoughTalk, IsTimelyOf, IsTimely, StayTimely, LosesNothing, runs_t200, is_t200, near_asks, far_asks, ever}
+use Rattle.laws_wire.proofs.Vocabulary.{◌≡◌, ℕ, ◌≤◌, Bool, true, false, ◌&&◌, ◌||◌, IsTrue, List, [], ◌∷◌, ◌++◌, length, map, drop, refl, sym, ap, subst, ◌∙◌, ◌⊎◌, inl, inr, true≢false, arith, All, take_all, All-head, All-tail, Service, Timer, Parts, TimerRecovery, LinkTimer, T203, is_multiple_frame, is_running, End, with_link, with_sent, frames_of, Config, LineTold, request, awaits_answer, CanRepeat, HasNothingToSend, line, tally, one_enquiry, one_answer, nothing-given, T200, line_of, Data, Station, Wire, happens, Act, requests, times_out, gives, takes, loses, acting, turned, Doing, at_near, at_far, doing, doing_all, IsStill, confirmed, indicated, data_told, heard_in, IsRoughTalkOf, IsRoughTalk, IsTimelyOf, IsTimely, StayTimely, LosesNothing, runs_t200, is_t200, near_asks, far_asks, ever}
 use Rattle.lapd_frame.specs.declared.timers.Timer.TheVariants as timers
 use Rattle.model_link.specs.Events as link
 use Rattle.model_link.specs.TwoEnds as two_ends
 use Rattle.laws_link.specs.two.Timely as two_links
 use Rattle.laws_wire.proofs.Asking.{with_more, asked-form}
-use Rattle.laws_wire.proofs.Awaited.{closed, link-is, as-here, may-there, open-there}
+use Rattle.laws_wire.proofs.Awaited.{closed, may-there, long-there, runs-up}
 use Rattle.laws_wire.proofs.Dense.{Dense, Reaches}
 use Rattle.laws_wire.proofs.Firm.{Firm, firm-asks, firm-takes}
 use Rattle.laws_wire.proofs.Held.{Held, Grants, held-asked}
@@ -143,14 +143,14 @@ module _ (service : Service) (tei : ℕ) where
         go up (inr x) = begins up x
 
     runs-there : runs_t200 service tei w.near ≡ true → is_running T200 n.link ≡ true
-    runs-there e = ap (is_running T200) (sym (link-is service tei c p w.near n h.up.near.stands)) ∙ e
+    runs-there e = sym (runs-up service tei c p w.near n h.up.near.stands firm.joined.near_up) ∙ e
 
     expires-t200 : IsTimelyOf (times_out (timers.T200 service tei)) w → Now (runs_t200 service tei w.near ≡ true) (acting (times_out (timers.T200 service tei)) w)
     expires-t200 (long, may) =
         let there = may-there service tei c p w.near n h.up.near.stands may in
         let none = λ (state : n.link.state ≡ TimerRecovery).
-        closed n m (open-there service tei c d p q w.near w.far n m h.up.near.stands h.up.far.stands (long (ap awaits_answer (as-here service tei c p w.near n h.up.near.stands state)))) in
-        expires-by (timers.T200 service tei) T200 (runs_t200 service tei w.near ≡ true) (λ l. refl) (λ state running. there (ap awaits_answer state)) (λ state running. none state)
+        closed n m (long-there service tei c d p q w.near w.far n m h.up.near.stands h.up.far.stands long (ap awaits_answer state)) in
+        expires-by (timers.T200 service tei) T200 (runs_t200 service tei w.near ≡ true) (λ l. refl) (λ state running. there (ap awaits_answer state) running) (λ state running. none state)
         (λ up e. sure-begins n m firm wide (λ state running. none state) (runs-there e) up)
 
     expires-t203 : Now Nothing (acting (times_out (timers.T203 service tei)) w)
@@ -252,4 +252,4 @@ module _ (service : Service) (tei : ℕ) where
     pub has-come : Sure n m ⊎ (runs_t200 service tei w.near ≡ false) → HasHeard
     has-come (inl s) = told-all (sure-came n m h.firm near-quiet near-hushed.way (nothing-given m.terms m.link far-hushed.given) far-hushed.way s)
     has-come (inr none) =
-        told-all (loose-came n m (as-loose n m h.firm) near-quiet (ap (λ (l : Link). runs T200 l.running) (sym (link-is service tei c p w.near n h.near.stands)) ∙ none)).delivered
+        told-all (loose-came n m (as-loose n m h.firm) near-quiet (sym (runs-up service tei c p w.near n h.near.stands h.firm.joined.near_up) ∙ none)).delivered

@@ -94,7 +94,7 @@ pub use Rattle.model_line.specs.Effect.{Aim, Effect, at_link, at_management, of_
 pub use Rattle.model_line.specs.Event.{Answer, Event, LineTold, NextFrame, expiry, gave, hears, next, nothing, refused, request, told}
 pub use Rattle.model_line.specs.Expiry.{aim_of_expiry, at_timer}
 pub use Rattle.model_line.specs.Heard.{addressed, aim_of_heard, aim_of_reading, at_place, drop_for, group_tei, heard_side, management_sapi, message_of, to_service}
-pub use Rattle.model_line.specs.Line.{Line, fresh_line, has_tei, link_at, link_count, link_in, link_number, link_of, place_at, place_in, service_at, tei_at, terms, terms_at}
+pub use Rattle.model_line.specs.Line.{Line, fresh_line, has_tei, link_at, link_count, link_in, link_number, link_of, place_at, place_in, service_at, state_in, state_of, tei_at, terms, terms_at}
 pub use Rattle.model_line.specs.Machine.{of_heard, of_request, unless_refused, unless_refused_told}
 pub use Rattle.model_line.specs.Refusal.{bad_tei, first_that_holds, no_link, wrong_state}
 pub use Rattle.model_line.specs.Request.{Assign, Check, ClearBusy, Data, Deactivate, Establish, Release, Remove, Request, SetBusy}
@@ -134,24 +134,24 @@ pub use Rattle.model_link.specs.declared.timers.LinkTimer.{LinkTimer}
 pub use Rattle.model_link.specs.declared.timers.LinkTimer.TheVariants.{T200, T203}
 pub use Rattle.laws_wire.specs.Answering.{IsAsked, IsFullTalk, IsFullTalkOf, Rests, error_f}
 unfoldable pub use Rattle.laws_wire.specs.Answering.{StayPatient}
-pub use Rattle.laws_wire.specs.Arriving.{ArrivesInRounds, ArrivesUnderTraffic, HasCome, LosesNothing, far_asks, frames_left, is_t200, most_left, near_asks, notes_left, runs_t200}
+pub use Rattle.laws_wire.specs.Arriving.{ArrivesInRounds, ArrivesUnderTraffic, HasCome, LosesNothing, far_asks, frames_left, is_any_order, is_t200, most_left, near_asks, notes_left, runs_t200}
 unfoldable pub use Rattle.laws_wire.specs.Arriving.{ever}
 pub use Rattle.laws_wire.specs.Call.{CallsComeThrough, CanCall, ComesThrough, IsBeginningOf, IsCall, IsCallOf, IsTalk, IsTalkOf, all_told, assigned, calling, calls_back, confirmed, data_told, indicated, station, told_first}
 unfoldable pub use Rattle.laws_wire.specs.Call.{both_call}
-pub use Rattle.laws_wire.specs.Counted.{Counts, ExpiriesAreCounted, IsBelow, IsCounted, IsCountedOf, counted, counting, is_in_7}
+pub use Rattle.laws_wire.specs.Counted.{Counts, ExpiriesAreCounted, IsBelow, IsCounted, IsCountedOf, counted, counting, is_7, is_in_7}
 unfoldable pub use Rattle.laws_wire.specs.Counted.{StayCounted}
 pub use Rattle.laws_wire.specs.Ending.{CallsEnd, EndsSo, IsLeaving, IsTimelyThere, release_confirmed, release_indicated}
 unfoldable pub use Rattle.laws_wire.specs.Ending.{StayTimelyThere}
 pub use Rattle.laws_wire.specs.Facing.{Face, end_of, granted_of}
-pub use Rattle.laws_wire.specs.Losing.{CallsAreToldInOrder, HasNoError, IsOfLink, IsRoughTalk, IsRoughTalkOf, for_layer_3, heard_in, is_error}
+pub use Rattle.laws_wire.specs.Losing.{CallsAreToldInOrder, HasNoError, IsOfLink, IsRoughTalk, IsRoughTalkOf, TellNoError, for_layer_3, heard_in, is_error}
 pub use Rattle.laws_wire.specs.Recovering.{BothMayRepeat, HasArrived, HasMissing, HasNoErrors, WhatIsLostArrives, both_expire, round, with_t200_expired}
 unfoldable pub use Rattle.laws_wire.specs.Recovering.{rounds}
 pub use Rattle.laws_wire.specs.Resting.{MovesComeToAnEnd, RoundsComeToRest, TimelyRoundsComeToRest, expiries_in, expiries_of, is_move, is_move_of, most_frames}
 unfoldable pub use Rattle.laws_wire.specs.Resting.{expiries, moves}
 pub use Rattle.laws_wire.specs.StillTimely.{IsSparedStill, IsStillDoing, IsStillOf, WhatIsLostArrivesFromRest}
 unfoldable pub use Rattle.laws_wire.specs.StillTimely.{StayStill}
-pub use Rattle.laws_wire.specs.Timely.{IsLongEnough, IsNoneOpen, IsSpared, IsTimely, IsTimelyOf, MayRepeat, bit_of, is_final, is_poll}
-unfoldable pub use Rattle.laws_wire.specs.Timely.{StayTimely}
+pub use Rattle.laws_wire.specs.Timely.{IsLongEnough, IsNoneOpen, IsSpared, IsTimely, IsTimelyOf, MayRepeat, NoneGoes, awaits_in, awaits_reply, bit_of, gives_one, is_final, is_poll, is_ua}
+unfoldable pub use Rattle.laws_wire.specs.Timely.{StayTimely, giving}
 pub use Rattle.laws_wire.specs.Wire.{Act, Doing, IsStill, Station, Wire, acting, answered, at_far, at_near, comes, contents_of, doing, frames_by, gives, happens, is_any, is_turn, is_turn_of, loses, requests, takes, tells_nothing, times_out, told_by, turned, with_first_lost, with_first_of}
 unfoldable pub use Rattle.laws_wire.specs.Wire.{doing_all, turns}
 pub use Rattle.laws_wire.specs.Worked.{begins, establishes, network, talks, user}

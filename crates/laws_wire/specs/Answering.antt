@@ -1,19 +1,20 @@
 -- A call in which frames are lost, UA too, and either end may be busy: what is told then.
-use Rattle.std.specs.Prelude.{◌≡◌, ℕ, ◌==◌, Bool, false, ◌&&◌, ◌||◌, List, [], ◌∷◌, ◌++◌, length, map, flat_map, drop, All, if◌then◌else◌}
-use Rattle.std.specs.List.{list_any}
+use Rattle.std.specs.Prelude.{◌≡◌, ℕ, ◌==◌, Bool, false, ◌&&◌, ◌||◌, List, [], ◌∷◌, ◌++◌, length, map, drop, All, Some, Ok, if◌then◌else◌}
 use Rattle.lapd_frame.specs.declared.notes.ErrorCode.TheVariants.{F}
 use Rattle.lapd_frame.specs.declared.notes.Note.TheVariants.{Error, EstablishIndication}
 use Rattle.lapd_frame.specs.declared.services.Service.{Service}
-use Rattle.model_link.specs.Link.{state_number, queue_of}
+use Rattle.model_link.specs.declared.rooms.Room.{Room}
 use Rattle.model_link.specs.Sound.{is_information}
 use Rattle.model_line.specs.declared.config.Config.{Config}
-use Rattle.model_line.specs.Event.{LineTold, nothing, next}
+use Rattle.model_line.specs.Event.{LineTold, nothing}
+use Rattle.model_line.specs.Line.{state_of}
 use Rattle.model_line.specs.Request.{Request, Data, SetBusy, ClearBusy}
-use Rattle.laws_wire.specs.Wire.{Station, frames_by, answered, Wire, Act, requests, times_out, gives, takes, turned, Doing, at_near, at_far, doing, doing_all, is_any, IsStill}
+use Rattle.model_card.specs.Room.{room}
+use Rattle.laws_wire.specs.Wire.{Station, Wire, Act, requests, times_out, gives, takes, turned, Doing, at_near, at_far, doing, doing_all, is_any, IsStill}
 use Rattle.laws_wire.specs.Call.{calling, CanCall, confirmed, indicated, data_told, IsBeginningOf}
 use Rattle.laws_wire.specs.Losing.{IsOfLink, heard_in}
-use Rattle.laws_wire.specs.Facing.{read_as, end_of}
-use Rattle.laws_wire.specs.Timely.{IsTimelyOf}
+use Rattle.laws_wire.specs.Facing.{line_of}
+use Rattle.laws_wire.specs.Timely.{gives_one, IsTimelyOf}
 use Rattle.laws_wire.specs.Arriving.{runs_t200}
 
 -- What is done: as in `Losing`, and layer 3 also says that its end is busy, or ready again (Q.921 clause 5.6.6).
@@ -72,7 +73,7 @@ abbrev pub takes_sabme : Wire → Bool
 takes_sabme w = is_any w.near.way && length (heard_in w.near) == 0
 
 abbrev pub gives_information : Station → Bool
-gives_information s = list_any (λ f. is_information f.control) (flat_map (read_as s.card.config) (frames_by (answered next s)))
+gives_information s = gives_one is_information s
 
 abbrev pub seeing : Service → ℕ → Doing → Wire → Called → Called
 seeing service tei (at_far takes) w x = if takes_sabme w then with_sabme service tei (length w.far.granted) x else x
@@ -83,9 +84,10 @@ unfoldable pub seen : Service → ℕ → List Doing → Wire → Called → Cal
 seen service tei [] w x = x
 seen service tei (d ∷ ds) w x = seen service tei ds (doing d w) (seeing service tei d w x)
 
--- A link is in state 7, and keeps nothing, as all was acknowledged.
+-- A link is in state 7, and no place of its queue is taken, as all was acknowledged.
 abbrev pub Rests : Service → ℕ → Station → Type 0
-Rests service tei s = (state_number (end_of service tei s).link.state ≡ 7) × (queue_of (end_of service tei s).link ≡ [])
+Rests service tei s =
+    (state : state_of service tei (line_of s) ≡ Some 7) × (left : Room) × (room s.line service tei s.card ≡ Ok left) × (left.queue ≡ s.card.config.queue)
 
 -- Each SABME is told at once. Then each is told the data of the other that is not given up, in order, each once, and nothing else: all
 -- of it where no turn is left and T200 runs at neither end; and then both rest.

@@ -1,12 +1,13 @@
 -- What arrives under traffic: of an end whose T200 has expired since a frame was lost last, all that it was granted to send.
 use Rattle.std.specs.Prelude.{◌≡◌, ◌≢◌, ◌≤◌, ℕ, ◌+◌, ◌-◌, ◌*◌, Bool, true, false, ◌&&◌, ◌||◌, List, [], ◌∷◌, ◌++◌, length, All, ◌⊎◌}
 use Rattle.lapd_frame.specs.declared.services.Service.{Service}
+use Rattle.lapd_frame.specs.declared.timers.Order.{Order}
 use Rattle.lapd_frame.specs.declared.timers.Timer.TheVariants.{T200}
-use Rattle.model_link.specs.declared.timers.LinkTimer.TheVariants as link
-use Rattle.model_link.specs.Machine.{is_running}
 use Rattle.model_line.specs.declared.config.Config.{Config}
+use Rattle.model_line.specs.Event.{expiry}
+use Rattle.model_line.specs.Laws.{orders_in}
 use Rattle.model_line.specs.Line.{terms}
-use Rattle.laws_wire.specs.Wire.{Station, Wire, Act, times_out, loses, Doing, at_near, at_far, doing, doing_all, IsStill}
+use Rattle.laws_wire.specs.Wire.{Station, answered, Wire, Act, times_out, loses, Doing, at_near, at_far, doing, doing_all, IsStill}
 use Rattle.laws_wire.specs.Call.{calling, CanCall, confirmed, indicated, all_told}
 use Rattle.laws_wire.specs.Losing.{IsRoughTalk, heard_in}
 use Rattle.laws_wire.specs.Facing.{end_of, granted_of}
@@ -20,9 +21,14 @@ LosesNothing (at_near loses) = ⊥
 LosesNothing (at_far loses) = ⊥
 LosesNothing other = Unit {0}
 
--- T200 of the link runs at a station; it expires there at some time.
+-- T200 of the link runs at a station: its expiry there is answered with orders for timers. That of a timer that does not run tells
+-- nothing (profile). At a caller's that obeys the orders those timers run that run here (`timers_follow` of `laws_line`).
+abbrev pub is_any_order : List Order → Bool
+is_any_order [] = false
+is_any_order (order ∷ more) = true
+
 abbrev pub runs_t200 : Service → ℕ → Station → Bool
-runs_t200 service tei s = is_running link.T200 (end_of service tei s).link
+runs_t200 service tei s = is_any_order (orders_in (answered (expiry (T200 service tei)) s))
 
 abbrev pub is_t200 : Act → Bool
 is_t200 (times_out (T200 service tei)) = true

@@ -1,16 +1,14 @@
 -- How often T200 may expire: N200 counts its expiries (Q.921 clauses 5.5.1.3, 5.6.7 and 5.9.2).
-use Rattle.std.specs.Prelude.{◌≡◌, ◌<◌, ℕ, ◌+◌, ◌==◌, Bool, true, List, [], ◌∷◌, All, if◌then◌else◌}
+use Rattle.std.specs.Prelude.{◌≡◌, ◌<◌, ℕ, ◌+◌, ◌==◌, Bool, true, false, List, [], ◌∷◌, All, Option, None, Some, if◌then◌else◌}
 use Rattle.lapd_frame.specs.declared.services.Service.{Service}
 use Rattle.lapd_frame.specs.declared.timers.Timer.TheVariants.{T200}
-use Rattle.model_link.specs.Link.{state_number}
-use Rattle.model_link.specs.TwoEnds.{End}
 use Rattle.model_line.specs.declared.config.Config.{Config}
-use Rattle.laws_link.specs.Flags.{awaits_answer}
+use Rattle.model_line.specs.Line.{state_of}
 use Rattle.laws_wire.specs.Wire.{Station, Wire, Act, times_out, turned, Doing, at_near, at_far, doing}
 use Rattle.laws_wire.specs.Call.{calling, CanCall}
 use Rattle.laws_wire.specs.Losing.{IsRoughTalk}
-use Rattle.laws_wire.specs.Facing.{end_of}
-use Rattle.laws_wire.specs.Timely.{IsLongEnough, IsSpared, StayTimely}
+use Rattle.laws_wire.specs.Facing.{line_of}
+use Rattle.laws_wire.specs.Timely.{awaits_reply, IsLongEnough, IsSpared, StayTimely}
 
 -- How often T200 expired at each end since its link was last in state 7, or since the call began. The expiry that led
 -- out of state 7 is not among them.
@@ -18,8 +16,12 @@ pub record Counts : Type 0 where
   pub near : ℕ
   pub far : ℕ
 
+abbrev pub is_7 : Option ℕ → Bool
+is_7 None = false
+is_7 (Some state) = state == 7
+
 abbrev pub is_in_7 : Service → ℕ → Station → Bool
-is_in_7 service tei s = state_number (end_of service tei s).link.state == 7
+is_in_7 service tei s = is_7 (state_of service tei (line_of s))
 
 abbrev pub counted : Service → ℕ → Act → Station → ℕ → ℕ
 counted service tei (times_out (T200 s t)) x k = if is_in_7 service tei x then 0 else k + 1
@@ -30,12 +32,11 @@ counting service tei (at_near act) w k = record k { near = counted service tei a
 counting service tei (at_far act) w k = record k { far = counted service tei act w.far k.far }
 
 -- T200 is long enough, and expires in states 5 and 8 only while this count is below N200.
-abbrev pub IsBelow : End → ℕ → Type 0
-IsBelow n k = awaits_answer n.link.state ≡ true → k < n.terms.n200
+abbrev pub IsBelow : Service → ℕ → Station → ℕ → Type 0
+IsBelow service tei s k = awaits_reply service tei s ≡ true → k < s.card.config.n200
 
 abbrev pub IsCountedOf : Act → ℕ → Wire → Type 0
-IsCountedOf (times_out (T200 service tei)) k w =
-    IsLongEnough (end_of service tei w.near) (end_of service tei w.far) × IsBelow (end_of service tei w.near) k
+IsCountedOf (times_out (T200 service tei)) k w = IsLongEnough service tei w.near w.far × IsBelow service tei w.near k
 IsCountedOf other k w = Unit {0}
 
 abbrev pub IsCounted : Doing → Counts → Wire → Type 0
@@ -46,7 +47,7 @@ unfoldable pub StayCounted : Service → ℕ → List Doing → Counts → Wire 
 StayCounted service tei [] k w = Unit {0}
 StayCounted service tei (d ∷ ds) k w = IsCounted d k w × StayCounted service tei ds (counting service tei d w k) (doing d w)
 
--- So N200 is not used up: RC is never above the count.
+-- So N200 is not used up: no error is told as T200 expires.
 abbrev pub ExpiriesAreCounted : Type 0
 ExpiriesAreCounted =
     (service : Service) (c d : Config) (line other tei : ℕ) (ds : List Doing) → CanCall c line d other tei → All (IsRoughTalk service tei) ds →

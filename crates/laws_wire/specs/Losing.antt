@@ -38,8 +38,11 @@ abbrev pub is_error : Note → Bool
 is_error (Error service tei code) = true
 is_error other = false
 
+abbrev pub TellNoError : List LineTold → Type 0
+TellNoError ts = All (λ (t : LineTold). list_any is_error t.notes ≡ false) ts
+
 abbrev pub HasNoError : Station → Type 0
-HasNoError s = All (λ (t : LineTold). list_any is_error t.notes ≡ false) s.told
+HasNoError s = TellNoError s.told
 
 -- As long as it is so at both ends, whatever was lost and whichever timers expired, layer 3 of each was told one
 -- establishment and then a beginning of the data that the other was granted to send, in order, each once, and nothing else.

@@ -6,7 +6,6 @@ use Rattle.model_line.specs.declared.config.Config.{Config}
 use Rattle.laws_wire.specs.Wire.{Wire, times_out, gives, takes, Doing, at_near, at_far, doing, doing_all, IsStill}
 use Rattle.laws_wire.specs.Call.{calling, CanCall, confirmed, indicated, all_told}
 use Rattle.laws_wire.specs.Losing.{IsRoughTalk, heard_in, HasNoError}
-use Rattle.laws_wire.specs.Facing.{end_of}
 use Rattle.laws_wire.specs.Timely.{MayRepeat, StayTimely}
 
 -- A round: each end in turn gives its next frame, if it has one, and the other takes it. Nothing is lost.
@@ -40,7 +39,7 @@ abbrev pub HasNoErrors : Wire → Type 0
 HasNoErrors w = HasNoError w.near × HasNoError w.far
 
 abbrev pub BothMayRepeat : Service → ℕ → Wire → Type 0
-BothMayRepeat service tei w = MayRepeat (end_of service tei w.near) × MayRepeat (end_of service tei w.far)
+BothMayRepeat service tei w = MayRepeat service tei w.near × MayRepeat service tei w.far
 
 -- Both stay up: no error is told. And where no turn is left what is lost arrives: once T200 expires at both ends, as
 -- many rounds as notes are missing, and three more, are enough. T200 is long enough for that, so that the same holds

@@ -3,18 +3,20 @@
 ghost use Rattle.laws_wire.specs.Answering.{LossyCallsComeThrough};
 ghost use Rattle.laws_wire.specs.Ending.{CallsEnd};
 
-/// A call with losses comes through. Two cards have just begun as in [`crate::a_call_comes_through`], and one is asked to
-/// establish. Then data is asked for at either end, layer 3 says that it is busy and that it is ready again, and frames are
-/// given, taken or lost, in any order and at any time: UA, RNR and all others. T200 and T203 of the link expire; T200 is long
-/// enough, and N200 is not used up, as in [`crate::what_is_lost_arrives`]. So layer 3 of the end that is called may ask, and its
-/// timers expire, also before its UA is heard. Each SABME that this end takes is told: the first as an establishment, and each
-/// further one, which comes where its UA was lost, as error F (Q.921 clauses 5.5.1.2, 5.5.1.3 and 5.7). Where an I-frame of
-/// this end went since the SABME before, an establishment is told with the error, and all that was granted there up to then is
-/// given up; else nothing is, and what was granted goes behind UA. Then each is told the data that the other was granted to
-/// send and that was not given up, in order, each once, and nothing else, so no other error: at any time a beginning of that,
-/// and all of it wherever no turn is left and T200 runs at neither end, as it does while the other end is busy, or something
-/// that was sent is missing. And there both links are in state 7 again, and all that they kept is acknowledged. Where no data is
-/// granted at the end that is called before the other is told of the establishment, nothing is given up.
+/// A call with losses comes through. Two cards have just begun as in [`crate::a_call_comes_through`], and one is asked
+/// to establish. Then data is asked for at either end, layer 3 says that it is busy and that it is ready again, and
+/// frames are given, taken or lost, in any order and at any time: UA, RNR and all others. T200 and T203 of the link
+/// expire; T200 is long enough, and N200 is not used up, as in [`crate::what_is_lost_arrives`]. So layer 3 of the end
+/// that is called may ask, and its timers expire, also before its UA is heard. Each SABME that this end takes is told:
+/// the first as an establishment, and each further one, which comes where its UA was lost, as error F (Q.921 clauses
+/// 5.5.1.2, 5.5.1.3 and 5.7). Where an I-frame of this end went since the SABME before, an establishment is told with
+/// the error, and all that was granted there up to then is given up; else nothing is, and what was granted goes behind
+/// UA. Then each is told the data that the other was granted to send and that was not given up, in order, each once, and
+/// nothing else, so no other error: at any time a beginning of that, and all of it wherever no turn is left and T200
+/// runs at neither end, as it does while the other end is busy, or something that was sent is missing; T200 runs where
+/// the card answers its expiry with orders. And there both links are in state 7 again, and their rooms (`Card::room`)
+/// have each place of their queues, as all that they kept is acknowledged. Where no data is granted at the end that is
+/// called before the other is told of the establishment, nothing is given up.
 pub fn a_call_with_losses_comes_through()
     ensures { LossyCallsComeThrough }
 {}

@@ -5,7 +5,6 @@ pub mod OneWay
 pub mod Projected
 pub mod Through
 pub mod AtPort
-pub mod Mute
 pub mod Takings
 pub mod Coming
 pub mod Onward

@@ -156,10 +156,17 @@ early-looks : Looks Call early
 unfolding lines.after lines.answer lines.takes_slot reading header_of control_of unnumbered_of supervisory_of teis.course teis.refusal seq distance_of named doing_all happening_all
 early-looks = record {
   near = record { up = refl; said = leb-true 0 0 refl; kept = leb-true 0 0 refl; within = leb-true 0 7 refl };
-  far = record { up = refl; said = (
-    0, leb-true 0 0 refl, (record { place = 0; meant = refl; inside = leb-true 1 7 refl; same = refl }, refl),
-    (0, leb-true 0 0 refl, (record { place = 1; meant = refl; inside = leb-true 2 7 refl; same = refl }, refl), leb-true 0 0 refl)
-  ); kept = leb-true 0 2 refl; within = leb-true 0 7 refl };
+  far = record {
+    up = refl;
+    said = (
+      0,
+      leb-true 0 0 refl,
+      (record { place = 0; meant = refl; inside = leb-true 1 7 refl; same = refl }, refl),
+      (0, leb-true 0 0 refl, (record { place = 1; meant = refl; inside = leb-true 2 7 refl; same = refl }, refl), leb-true 0 0 refl),
+    );
+    kept = leb-true 0 2 refl;
+    within = leb-true 0 7 refl;
+  };
   near_side = refl;
   far_side = refl;
 }

@@ -13,7 +13,7 @@ use Rattle.laws_order.proofs.OfCircuit.Onward.{acts-append, meant-append, many-b
 unfoldable use Rattle.laws_order.proofs.OfCircuit.Onward.{many}
 use Rattle.laws_order.proofs.OfCircuit.Projected.{as_wire, Fits, Follows, all-done}
 unfoldable use Rattle.laws_order.proofs.OfCircuit.Projected.{doings_meant}
-use Rattle.laws_order.proofs.OfCircuit.Mute.{IsMute, all-talk}
+use Rattle.laws_order.proofs.OfCircuit.Takings.{IsMute, all-talk}
 use Rattle.laws_order.proofs.OfCircuit.Takings.{takings, takings-append, on_ways, all-paid}
 use Rattle.laws_order.proofs.OfCircuit.Through as through
 use Rattle.laws_order.proofs.OfCircuit.Through.{or-none}

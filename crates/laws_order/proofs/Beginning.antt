@@ -1,14 +1,14 @@
 -- Two ends that are in step to whoever watches them face each other as links do.
-use Rattle.laws_order.proofs.Vocabulary.{is_some, has_tei, on-line, LineTold, ◌≡◌, ℕ, zero, suc, ◌+◌, ◌-◌, ◌<◌, ◌≤◌, ◌==◌, Bool, true, false, IsTrue, List, [], ◌∷◌, ◌++◌, map, length, take, drop, slice_get, Option, Some, None, refl, sym, ap, ◌∙◌, subst, arith, append_assoc, length-drop, true≢false, All-append, All-cons, All-nil, option_map, option_map_or, unwrap_or, Control, Information, ReceiveReady, ReceiveNotReady, Reject, Service, Parts, other_side, ControlFrame, State, TeiAssigned, AwaitingRelease, Terms, T200, Link, is_multiple_frame, frame_of, state_number, End, Direction, frames_of, Carried, Means, Piece, Rising, rising-low, Config, IsInRange, Line, link_in, link_of, place_in, terms, line_at, fresh_is_sound, frames_always_sound, IsFront, Station, Wire, Act, requests, times_out, gives, takes, loses, turned, happens, Doing, station, assigned, calling, CanCall, came, hears, expiry, request, next, Assign, Event, at, acts, Happening, by_near, by_far, happening_all, state_here, of_link_on, Past, Known, known, said_by, IsOfStep, AreOfStep, IsInStep, FaceInStep, kept_by}
+use Rattle.laws_order.proofs.Vocabulary.{is_some, has_tei, on-line, LineTold, ◌≡◌, ℕ, zero, suc, ◌+◌, ◌-◌, ◌<◌, ◌≤◌, ◌==◌, true, false, IsTrue, List, [], ◌∷◌, ◌++◌, map, length, take, drop, slice_get, Option, Some, None, refl, sym, ap, ◌∙◌, subst, arith, length-drop, true≢false, All-append, All-cons, All-nil, option_map, option_map_or, unwrap_or, Control, Information, ReceiveReady, ReceiveNotReady, Reject, Service, Parts, ControlFrame, State, TeiAssigned, AwaitingRelease, Terms, T200, Link, is_multiple_frame, frame_of, state_number, Direction, frames_of, Carried, Means, Piece, Rising, Config, IsInRange, Line, link_in, link_of, place_in, terms, line_at, fresh_is_sound, frames_always_sound, Station, Wire, Act, requests, times_out, gives, takes, loses, turned, happens, Doing, station, assigned, calling, came, hears, expiry, request, next, Assign, Event, at, state_here, of_link_on, Past, Known, known, said_by, IsOfStep, AreOfStep, IsInStep, FaceInStep, kept_by}
 use Rattle.std.proofs.lemmas.List.{drop-drop}
 use Rattle.model_link.specs.Link.{fresh as fresh_link}
-use Rattle.model_line.specs.Line.{link_number, state_in, state_of, window}
+use Rattle.model_line.specs.Line.{link_number, state_in, window}
 use Rattle.model_line.specs.Request.{Establish}
 use Rattle.model_link.proofs.Direction.{line_of}
-use Rattle.model_card.specs.Card.{Card, fresh}
+use Rattle.model_card.specs.Card.{fresh}
 use Rattle.model_card.specs.Event as card
 use Rattle.model_card.specs.Machine as machine
-use Rattle.model_card.specs.Run.{after_all, IsAtLine, AreAtLines}
+use Rattle.model_card.specs.Run.{after_all, IsAtLine}
 use Rattle.model_card.specs.Sound as card_sound
 use Rattle.laws_link.specs.two.Needed.{needed_in}
 use Rattle.laws_line.specs.Timers.{HaveTheirTimers}
@@ -17,7 +17,7 @@ use Rattle.laws_trace.proofs.ObservedAcknowledged.{agrees-now}
 use Rattle.laws_trace.proofs.Outgoing.{its, here-at, view-is, kept-now}
 use Rattle.laws_trace.proofs.Plain.{all-wait}
 use Rattle.laws_trace.proofs.SeenAs.{seen-before, up-number}
-use Rattle.laws_trace.proofs.TimersAreTimely.{config-now, timely-now}
+use Rattle.laws_trace.proofs.TimersAreTimely.{timely-now}
 use Rattle.laws_trace.proofs.WaitedBegins.{after-both}
 use Rattle.laws_trace.proofs.WaitingNow.{waiting-now}
 use Rattle.laws_trace.specs.Observer.{View}

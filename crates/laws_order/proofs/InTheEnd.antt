@@ -1,5 +1,5 @@
 -- A release is told in the end: to the end that releases, whose RC counts the expiries of T200, and to the other before that.
-use Rattle.laws_order.proofs.Vocabulary.{◌≡◌, ℕ, ◌≤◌, Bool, true, false, List, [], ◌∷◌, ◌++◌, refl, sym, ap, ◌∙◌, arith, append-nil, true≢false, ◌⊎◌, inl, inr, All, list_any, All-nil, All-cons, All-head, All-tail, Service, other_side, AwaitingRelease, Link, is_multiple_frame, came, hears, expiry, request, next, Line, has_tei, terms, deactivates, Seen, Station, Wire, requests, times_out, gives, takes, turned, Event, at, line_of, Deed, acts, disturbed, befalling, Happening, by_near, by_far, IsPossible, IsPossibleAt, happening, happening_all, events_here, seen_by, seen_at_near, seen_near, seen_far, t200s, IsToldAtLast, ReleasesAreTold, StaysThere, IsNotDeactivated, BothAreTold, ends_by, StaysEstablished, news, IsToldOfRelease}
+use Rattle.laws_order.proofs.Vocabulary.{◌≡◌, ℕ, ◌≤◌, Bool, true, false, List, [], ◌∷◌, ◌++◌, refl, sym, ap, ◌∙◌, arith, append-nil, true≢false, ◌⊎◌, inl, inr, All, list_any, All-nil, All-cons, All-head, All-tail, Service, other_side, AwaitingRelease, Link, is_multiple_frame, came, hears, expiry, request, next, Line, has_tei, terms, deactivates, Seen, Station, Wire, requests, times_out, gives, takes, turned, Event, line_of, Deed, acts, disturbed, befalling, Happening, by_near, by_far, IsPossible, IsPossibleAt, happening, happening_all, events_here, seen_by, seen_at_near, seen_near, seen_far, t200s, IsToldAtLast, ReleasesAreTold, StaysThere, IsNotDeactivated, BothAreTold, ends_by, StaysEstablished, news, IsToldOfRelease}
 use Rattle.laws_order.proofs.Beginning.{past-well, six-here, six-runs, on-here, begins-pair}
 use Rattle.laws_order.proofs.Down.{Speaks}
 use Rattle.laws_order.proofs.Leading.{NotHeard, near-led, not-heard}

@@ -1,5 +1,5 @@
 -- Whole runs of two cards whose links face each other.
-use Rattle.laws_order.proofs.Vocabulary.{◌≡◌, ℕ, suc, ◌+◌, ◌<◌, ◌≤◌, false, List, [], ◌∷◌, ◌++◌, map, take, drop, refl, sym, ap, ◌∙◌, subst, append-nil, append_assoc, true≢false, ◌⊎◌, inl, inr, All, list_any, All-nil, All-cons, All-head, All-tail, list_any-append, arith, Control, Information, ReceiveReady, ReceiveNotReady, Reject, Service, Parts, other_side, ControlFrame, Terms, Link, is_multiple_frame, frame_of, Direction, frames_of, joined-turned, Carried, Means, Piece, Rising, rising-low, Config, terms, Seen, IsFront, Station, Wire, requests, times_out, gives, takes, loses, turned, twice-other, flat_map-append, Deed, acts, disturbed, elsewhere, IsNotOf, IsPossibleAt, befalling, Happening, by_near, by_far, IsPossible, seen_by, seen_near, seen_far, noted_in, granted_in, data_noted, data_granted, ends_by, StaysEstablished, Past, Known, known, FaceInStep, kept_by, DeliveredInOrder, or_parts}
+use Rattle.laws_order.proofs.Vocabulary.{◌≡◌, ℕ, suc, ◌+◌, ◌<◌, ◌≤◌, false, List, [], ◌∷◌, ◌++◌, take, drop, refl, sym, ap, ◌∙◌, subst, append-nil, append_assoc, true≢false, ◌⊎◌, inl, inr, All, list_any, All-nil, All-cons, All-head, All-tail, list_any-append, Service, other_side, Link, is_multiple_frame, joined-turned, rising-low, Config, terms, Seen, IsFront, Station, Wire, requests, times_out, gives, takes, loses, turned, twice-other, flat_map-append, Deed, acts, disturbed, elsewhere, IsNotOf, IsPossibleAt, befalling, Happening, by_near, by_far, IsPossible, seen_by, seen_near, seen_far, noted_in, granted_in, data_noted, data_granted, ends_by, StaysEstablished, Past, Known, known, FaceInStep, kept_by, DeliveredInOrder, or_parts}
 use Rattle.laws_wire.specs.Wire.{with_first_of}
 use Rattle.model_link.proofs.Direction.{line_of}
 use Rattle.laws_order.proofs.Beginning.{had, begins-pair, kept-is}
@@ -7,7 +7,7 @@ use Rattle.laws_order.proofs.Leading.{near-led}
 use Rattle.laws_order.proofs.Lasting.{carried-brought, rising-speaks}
 use Rattle.laws_order.proofs.NearOver.{Lasts, near-goes}
 use Rattle.laws_order.proofs.OneLasts.{far-goes}
-use Rattle.laws_order.proofs.Pairs.{link_here, facing, Pair, Led, Falls, IsWell, proper}
+use Rattle.laws_order.proofs.Pairs.{link_here, facing, Pair, Led, Falls}
 
 -- Nothing that happens moves a card to another line, or changes what it is configured with.
 pub record StaysAt (s s' : Station) : Type 0 where

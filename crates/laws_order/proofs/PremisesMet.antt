@@ -1,9 +1,9 @@
 -- The premises of the law are met by the worked run.
-use Rattle.laws_order.proofs.Vocabulary.{◌≡◌, ℕ, ◌<◌, true, false, IsTrue, List, [], ◌∷◌, ◌++◌, refl, sym, ap, ◌∙◌, subst, arith, All, list_any, leb-true, All-nil, All-cons, User, Network, Service, Call, Packet, other_side, reading, header_of, control_of, unnumbered_of, supervisory_of, distance_of, named, seq, ReceiveNotReady, Parts, Terms, Link, is_multiple_frame, Config, terms, Assign, came, hears, expiry, request, next, fresh_is_sound, IsFront, station, assigned, calling, Station, Wire, Act, requests, times_out, gives, takes, loses, turned, Doing, at, acts, IsElsewhere, Happening, by_near, by_far, IsPossible, happening_all, seen_near, seen_far, t200s, IsToldAtLast, IsNotDeactivated, data_noted, data_granted, ends_by, known, IsInStep, FaceInStep, kept_by, StaysEstablished, IsToldOfRelease, news}
-use Rattle.laws_wire.specs.Wire.{acting, at_near, at_far, doing, doing_all, with_first_of}
+use Rattle.laws_order.proofs.Vocabulary.{◌≡◌, ℕ, ◌<◌, true, List, [], ◌∷◌, ◌++◌, refl, sym, ap, ◌∙◌, arith, All, list_any, leb-true, All-nil, All-cons, User, Network, Service, Call, Packet, other_side, reading, header_of, control_of, unnumbered_of, supervisory_of, distance_of, named, seq, Assign, request, IsFront, calling, Wire, requests, at, acts, IsElsewhere, Happening, by_near, by_far, IsPossible, happening_all, seen_near, seen_far, t200s, IsToldAtLast, IsNotDeactivated, data_noted, data_granted, ends_by, known, IsInStep, FaceInStep, kept_by, StaysEstablished, IsToldOfRelease, news}
+use Rattle.laws_wire.specs.Wire.{acting, at_far, doing, doing_all}
 use Rattle.lapd_tei.specs.Events as teis
 use Rattle.model_line.specs.Machine as lines
-use Rattle.model_line.specs.Request.{Establish, SetBusy}
+use Rattle.model_line.specs.Request.{SetBusy}
 use Rattle.laws_order.specs.Worked.{network, user, faces, calls_both, others_speak, both_send, is_busy, busy_run, call_far as far_stays, owes, sends_one, sends_more, more_far_stays, busy_waits, clears, cleared_stays, enquires, asks_state, recovers, recovered_stays, early, loses_first, early_stays}
 use Rattle.laws_order.specs.WorkedRelease.{releases, released, takes_two, far_lasts, awaits, both_release, both_begin_nothing}
 use Rattle.laws_order.specs.WorkedInTheEnd.{repeats_three, gives_up, four_expire, gives_up_quietly, comes, comes_quietly, comes_there, comes_confirmed}

@@ -1,5 +1,5 @@
 -- The premises of the law on damaged octets are met by the worked run.
-use Rattle.laws_order.proofs.Vocabulary.{◌≡◌, ℕ, ◌<◌, ◌&&◌, ◌==◌, Bool, true, false, IsTrue, List, [], ◌∷◌, ◌++◌, Option, Some, eqb-true, refl, arith, sym, ap, ◌∙◌, subst, and_parts, Call, Parts, other_side, reading, header_of, control_of, unnumbered_of, supervisory_of, distance_of, named, seq, low_bits, is_multiple_frame, Config, terms, heard_side, IsFront, user, network, Station, of_link_at, data_noted, data_granted, None, port_of, known, kept_by, Circuit, doing_all, Mixed, establishes}
+use Rattle.laws_order.proofs.Vocabulary.{◌≡◌, ℕ, ◌&&◌, ◌==◌, Bool, true, false, List, [], ◌∷◌, ◌++◌, Option, Some, eqb-true, refl, ap, and_parts, Call, Parts, reading, header_of, control_of, unnumbered_of, supervisory_of, distance_of, named, seq, low_bits, Config, heard_side, IsFront, user, network, Station, of_link_at, data_noted, data_granted, None, port_of, known, kept_by, Circuit, doing_all, Mixed, establishes}
 use Rattle.lapd_tei.specs.Events as teis
 use Rattle.model_bits.specs.Stream as stream
 use Rattle.model_line.specs.Event as line

@@ -1,10 +1,9 @@
 -- Two cards that face each other as a call leaves them are at rest.
-use Rattle.laws_order.proofs.Vocabulary.{◌≡◌, ◌∙◌, ◌≤◌, ℕ, List, [], ◌++◌, map, refl, sym, ap, subst, arith, All, Service, frame_of, is_multiple_frame, Config, terms, IsReady, IsTaken, CanCall, Face, end_of, Station, IsStill, calls-face, Wire, length, drop, length-drop, ◌-◌, said_by, AreOfStep, IsInStep, FaceInStep, Circuit, OctetDoing, IsTalk, HasAllGone}
+use Rattle.laws_order.proofs.Vocabulary.{◌≡◌, ◌∙◌, ℕ, List, [], map, sym, ap, subst, arith, All, Service, frame_of, is_multiple_frame, Config, terms, IsReady, IsTaken, CanCall, Face, end_of, Station, IsStill, calls-face, Wire, length, drop, length-drop, ◌-◌, said_by, AreOfStep, IsInStep, FaceInStep, Circuit, OctetDoing, IsTalk, HasAllGone}
 use Rattle.model_line.specs.Line.{window}
 use Rattle.laws_order.specs.circuit.Resting.{FaceAtRest, CallsComeToRest}
 use Rattle.laws_order.proofs.Beginning.{Pasts, past-same, past-all, past-calling, link_known, up-here, from-links}
 use Rattle.laws_order.proofs.Pairs.{link_here}
-use Rattle.laws_order.proofs.OfCircuit.AsFrames.{as_station}
 use Rattle.laws_order.proofs.OfCircuit.Projected.{as_wire, doings_meant}
 use Rattle.laws_order.proofs.OfCircuit.Through as through
 

@@ -15,7 +15,7 @@ use Rattle.model_card.specs.ports.Port as port
 use Rattle.model_card.specs.ports.Port.{octet, pull}
 use Rattle.laws_order.specs.Order.{data_noted, data_granted, StaysEstablished}
 use Rattle.laws_order.specs.circuit.Circuit.{doing_all}
-use Rattle.laws_order.specs.circuit.Damaged.{Noisy, happens, completes, loses, Happening, by_near, by_far, as_station, happening_all, ArePossible, seen_near, seen_far}
+use Rattle.laws_order.specs.circuit.Damaged.{Noisy, happens, completes, loses, Happening, by_near, by_far, happening_all, ArePossible, seen_near, seen_far}
 use Rattle.laws_order.specs.circuit.Resting.{from_then_on}
 use Rattle.laws_order.specs.circuit.WorkedCall as call
 use Rattle.laws_order.specs.circuit.WorkedCall.{establishes}

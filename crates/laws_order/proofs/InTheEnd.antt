@@ -1,18 +1,17 @@
 -- A release is told in the end: to the end that releases, whose RC counts the expiries of T200, and to the other before that.
-use Rattle.laws_order.proofs.Vocabulary.{◌≡◌, ℕ, ◌≤◌, Bool, true, false, List, [], ◌∷◌, ◌++◌, refl, sym, ap, ◌∙◌, arith, append-nil, true≢false, ◌⊎◌, inl, inr, All, list_any, All-nil, All-cons, All-head, All-tail, Service, other_side, AwaitingRelease, Link, is_multiple_frame, came, hears, expiry, request, next, Line, has_tei, terms, deactivates, Seen, Station, Wire, requests, times_out, gives, takes, turned, Event, at, line_of, Deed, acts, disturbed, befalling, Happening, by_near, by_far, IsPossible, IsPossibleAt, happening, happening_all, events_here, seen_by, seen_at_near, seen_near, seen_far, t200s, IsToldAtLast, ReleasesAreTold, StaysThere, IsNotDeactivated, BothAreTold, ends_by, StaysEstablished, link_here, news, IsToldOfRelease, T200, TeiAssigned}
-use Rattle.model_link.specs.Machine.{is_running}
-use Rattle.laws_wire.proofs.Awaited.{runs-there}
+use Rattle.laws_order.proofs.Vocabulary.{◌≡◌, ℕ, ◌≤◌, Bool, true, false, List, [], ◌∷◌, ◌++◌, refl, sym, ap, ◌∙◌, arith, append-nil, true≢false, ◌⊎◌, inl, inr, All, list_any, All-nil, All-cons, All-head, All-tail, Service, other_side, AwaitingRelease, Link, is_multiple_frame, came, hears, expiry, request, next, Line, has_tei, terms, deactivates, Seen, Station, Wire, requests, times_out, gives, takes, turned, Event, line_of, Deed, acts, disturbed, befalling, Happening, by_near, by_far, IsPossible, IsPossibleAt, happening, happening_all, events_here, seen_by, seen_at_near, seen_near, seen_far, t200s, IsToldAtLast, ReleasesAreTold, StaysThere, IsNotDeactivated, BothAreTold, ends_by, StaysEstablished, news, IsToldOfRelease}
+use Rattle.laws_order.proofs.Beginning.{past-well, six-here, six-runs, on-here, begins-pair}
 use Rattle.laws_order.proofs.Down.{Speaks}
 use Rattle.laws_order.proofs.Leading.{NotHeard, near-led, not-heard}
 use Rattle.laws_order.proofs.NearOver.{Lasts, near-goes, none-heard, first-speaks}
 use Rattle.laws_order.proofs.OneLasts.{far-goes}
-use Rattle.laws_order.proofs.Ordered.{turned-pair, pair-lasts, begins-pair, both-stay, other-link}
-use Rattle.laws_order.proofs.Pairs.{Pair, Led, Falls, IsWell}
+use Rattle.laws_order.proofs.Ordered.{turned-pair, pair-lasts, both-stay, other-link}
+use Rattle.laws_order.proofs.Pairs.{link_here, Pair, Led, Falls, IsWell}
 use Rattle.laws_order.proofs.Putting.{Each}
 use Rattle.laws_order.proofs.Released.{Occurs, then-well, news-append, step-six, StepSix, events_at, occurs, later, releases-end}
 use Rattle.laws_order.proofs.ReleasedAt.{Confirm, GivenUp, Confirmless}
 use Rattle.laws_order.proofs.Saying.{on_line}
-use Rattle.laws_order.proofs.ReleaseCounted.{runs-so, Bounded, run-counts}
+use Rattle.laws_order.proofs.ReleaseCounted.{Bounded, run-counts}
 
 module _ (service : Service) (tei : ℕ) where
   abbrev Here : Wire → Link
@@ -106,10 +105,10 @@ module _ (service : Service) (tei : ℕ) where
     all-confirmless (by_near deed) is active over = deed-confirmless deed is active over
     all-confirmless (by_far deed) is active over = All-nil P
 
-  there-first : (hs : List Happening) (w : Wire) → StaysThere tei hs w → has_tei tei (line_of w.near) ≡ true
+  there-first : (hs : List Happening) (w : Wire) → StaysThere service tei hs w → has_tei tei (line_of w.near) ≡ true
   unfolding StaysThere
-  there-first [] w h = h
-  there-first (x ∷ hs) w h = h.0
+  there-first [] w h = on-here service tei w.near h
+  there-first (x ∷ hs) w h = on-here service tei w.near h.0
 
   then-over : (h : Happening) (w : Wire) → IsOpen w h → StaysEstablished service tei (seen_far (h ∷ []) w) → Over w → IsDown (happening h w) → Over (happening h w)
   unfolding seen_far
@@ -125,7 +124,7 @@ module _ (service : Service) (tei : ℕ) where
       let x = both-stay service tei t (seen_far hs (turned (befalling deed (turned w)))) stays in
       (ap (list_any (ends_by service tei)) (append-nil t) ∙ x.0, x.1)
 
-  never : (hs : List Happening) (w : Wire) → IsWell w.near → (Here w).state ≡ AwaitingRelease → Over w → All (IsOpen w) hs → StaysThere tei hs w → All (IsNotDeactivated service tei) hs
+  never : (hs : List Happening) (w : Wire) → IsWell w.near → (Here w).state ≡ AwaitingRelease → Over w → All (IsOpen w) hs → StaysThere service tei hs w → All (IsNotDeactivated service tei) hs
       → StaysEstablished service tei (seen_far hs w) → news service tei (seen_near hs w) ≡ Confirm service tei → ⊥
   unfolding seen_near StaysThere
   never [] w well is over all there active stays told = cc told
@@ -160,13 +159,13 @@ module _ (service : Service) (tei : ℕ) where
           let wrong : GivenUp service tei ++ news service tei (seen_near hs w') ≡ Confirm service tei = ap (λ ns. ns ++ news service tei (seen_near hs w')) (sym x.0) ∙ split in cc wrong
 
 pub releases-are-told : ReleasesAreTold
-releases-are-told service tei w hs at is runs-on all quiet many = go (releases-end service tei w hs at is all quiet).0
+releases-are-told service tei w hs p is all quiet many = go (releases-end service tei w hs p is all quiet).0
   where
-    runs : is_running T200 (link_here service tei w.near) ≡ true
-    runs = sym (runs-there service tei w.near (λ e. let wrong : AwaitingRelease ≡ TeiAssigned = sym is ∙ e in cc wrong)) ∙ runs-on
+    six : (link_here service tei w.near).state ≡ AwaitingRelease
+    six = six-here service tei w.near is
 
     go : IsToldOfRelease service tei (news service tei (seen_near hs w)) → IsToldAtLast service tei (news service tei (seen_near hs w))
-    go (inl none) = too-few (run-counts service tei hs w (record { sound = at.sound; within = at.within }) is (runs-so (link_here service tei w.near).running runs) all none)
+    go (inl none) = too-few (run-counts service tei hs w (past-well w.near p) six (six-runs service tei w.near p six) all none)
       where
         too-few : Bounded service tei (t200s service tei hs w) (link_here service tei w.near).repeats (terms w.near.card.config service tei).n200
             → IsToldAtLast service tei (news service tei (seen_near hs w))
@@ -175,7 +174,7 @@ releases-are-told service tei w hs at is runs-on all quiet many = go (releases-e
     go (inr told) = told
 
 pub both-are-told : BothAreTold
-both-are-told service tei w before behind rest possible lasts is possible' there active quiet told = go (list_any (ends_by service tei) (seen_far behind v)) refl
+both-are-told service tei w p q before behind rest possible lasts is possible' there active quiet told = go (list_any (ends_by service tei) (seen_far behind v)) refl
   where
     v : Wire
     v = happening_all before w
@@ -183,9 +182,10 @@ both-are-told service tei w before behind rest possible lasts is possible' there
     go : (b : Bool) → list_any (ends_by service tei) (seen_far behind v) ≡ b → b ≡ true
     go true e = refl
     go false e =
-        let reached = reaches service tei before w possible lasts (inl (_, _, begins-pair service tei w rest)) in
-        let over = over-six service tei v is reached in
-        absurd (never service tei behind v (well over) is over possible' there active e told)
+        let reached = reaches service tei before w possible lasts (inl (_, _, begins-pair service tei w p q rest)) in
+        let six = six-here service tei v.near is in
+        let over = over-six service tei v six reached in
+        absurd (never service tei behind v (well over) six over possible' there active e told)
       where
         well : Over service tei v → IsWell v.near
         well (contents, a, k, small, dm, h) = h.near

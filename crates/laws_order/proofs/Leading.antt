@@ -1,5 +1,5 @@
 -- Two cards whose links face each other: where anything that happens at one of them leads.
-use Rattle.laws_order.proofs.Vocabulary.{◌≡◌, ℕ, Bool, true, false, cond, List, [], ◌∷◌, ◌++◌, drop, get_or, Result, Ok, Err, refl, sym, ap, ◌∙◌, subst, append-nil, ◌⊎◌, inl, inr, get_or-set_other, ReadFault, Service, Parts, other_side, reading, Link, End, Joined, joined-turned, done-at, came, Config, hears, expiry, request, next, heard_side, fresh_line, link_of, line_at, after_is_sound, by_room, Seen, seen, Station, Wire, requests, times_out, gives, takes, loses, answered, happens, with_first_lost, Event, is_of_link, of_link_in, of_link_at, Deed, acts, disturbed, elsewhere, IsNotOf, IsElsewhere, IsPossibleAt, elsewhere_on, befalling, seen_by, data_noted, data_granted, of_link_on, link_here}
+use Rattle.laws_order.proofs.Vocabulary.{◌≡◌, ℕ, Bool, true, false, cond, List, [], ◌∷◌, ◌++◌, drop, get_or, Result, Ok, Err, refl, sym, ap, ◌∙◌, subst, append-nil, ◌⊎◌, inl, inr, get_or-set_other, ReadFault, Service, Parts, other_side, reading, Link, End, Joined, joined-turned, done-at, came, Config, hears, expiry, request, next, heard_side, fresh_line, link_of, line_at, after_is_sound, by_room, Seen, seen, Station, Wire, requests, times_out, gives, takes, loses, answered, happens, with_first_lost, Event, is_of_link, of_link_in, of_link_at, Deed, acts, disturbed, elsewhere, IsNotOf, IsElsewhere, IsPossibleAt, elsewhere_on, befalling, seen_by, data_noted, data_granted, of_link_on}
 use Rattle.laws_wire.specs.Wire.{comes}
 use Rattle.model_bits.specs.Stream as stream
 use Rattle.model_link.specs.Events as link
@@ -7,9 +7,8 @@ use Rattle.model_link.specs.TwoEnds as two
 use Rattle.model_line.specs.Machine as lines
 use Rattle.model_card.specs.Event as card
 use Rattle.model_card.specs.Machine.{after}
-use Rattle.laws_order.proofs.Contents.{frame-same}
 use Rattle.laws_order.proofs.Does.{Has, Does, IsKind}
-use Rattle.laws_order.proofs.Pairs.{whole-is, facing, Pair, Led, Falls, happens-well, station-does, leaves-still, leaves-granted, linked, granted-by, up-by, expired-still, asked-still, offer-still}
+use Rattle.laws_order.proofs.Pairs.{frame-same, link_here, whole-is, facing, Pair, Led, Falls, happens-well, station-does, leaves-still, leaves-granted, linked, granted-by, up-by, expired-still, asked-still, offer-still}
 
 module _ (service : Service) (tei : ℕ) where
   -- The same is seen, and the same end stands there.

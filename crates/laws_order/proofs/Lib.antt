@@ -4,7 +4,6 @@ pub mod Putting
 pub mod LinkEnds
 pub mod Shown
 pub mod Does
-pub mod Contents
 pub mod Pairs
 pub mod Down
 pub mod Saying
@@ -12,6 +11,8 @@ pub mod Leading
 pub mod Lasting
 pub mod NearOver
 pub mod OneLasts
+pub mod Acknowledged
+pub mod Beginning
 pub mod Ordered
 pub mod LinkReleased
 pub mod ReleasedAt

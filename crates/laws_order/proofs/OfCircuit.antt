@@ -3,10 +3,8 @@ pub mod Ran
 pub mod AsFrames
 pub mod OneWay
 pub mod Projected
-pub mod WhoCalls
 pub mod Through
 pub mod AtPort
-pub mod Mute
 pub mod Takings
 pub mod Coming
 pub mod Onward
@@ -17,5 +15,5 @@ pub mod HeardWhole
 pub mod Damaged
 pub mod Mixed
 pub mod MixedCall
-pub mod DamagedMet
 pub mod Resting
+pub mod DamagedMet

@@ -1,9 +1,8 @@
 -- The far end lasts in its establishment, and that of the near end is over: what happens at the far end.
-use Rattle.laws_order.proofs.Vocabulary.{◌≡◌, ℕ, ◌+◌, ◌≤◌, cond, IsTrue, List, [], ◌∷◌, ◌++◌, length, take, Option, None, refl, sym, ap, ◌∙◌, subst, append-nil, true≢false, inl, inr, arith, option_to_list, Seq, seq, is_seq, Control, Information, ReceiveReady, ReceiveNotReady, Reject, Sabme, Disc, Service, Parts, other_side, State, AwaitingEstablishment, AwaitingRelease, Terms, Link, is_multiple_frame, frames_of, Means, frame-taken, came, hears, expiry, request, next, link_of, terms, after_is_sound, Seen, seen, offer-tells_nothing, frames_given, Station, Wire, requests, times_out, gives, takes, loses, answered, happens, frames_by, turned, twice-other, flat_map-append, Event, of_link_in, of_link_at, Deed, acts, disturbed, elsewhere, IsElsewhere, IsPossibleAt, elsewhere_on, befalling, seen_by, data_noted, StaysEstablished, of_link_on, link_here}
+use Rattle.laws_order.proofs.Vocabulary.{◌≡◌, ℕ, ◌+◌, ◌≤◌, cond, IsTrue, List, [], ◌∷◌, ◌++◌, length, take, Option, None, refl, sym, ap, ◌∙◌, subst, append-nil, true≢false, inl, inr, arith, option_to_list, Seq, seq, is_seq, Control, Information, ReceiveReady, ReceiveNotReady, Reject, Sabme, Disc, Service, Parts, other_side, State, AwaitingEstablishment, AwaitingRelease, Terms, Link, is_multiple_frame, frames_of, Means, frame-taken, came, hears, expiry, request, next, link_of, terms, after_is_sound, Seen, seen, offer-tells_nothing, frames_given, Station, Wire, requests, times_out, gives, takes, loses, answered, happens, frames_by, turned, twice-other, flat_map-append, Event, of_link_in, of_link_at, Deed, acts, disturbed, elsewhere, IsElsewhere, IsPossibleAt, elsewhere_on, befalling, seen_by, data_noted, StaysEstablished, of_link_on}
 use Rattle.model_link.specs.Events as link
 use Rattle.model_link.specs.Machine as links
 use Rattle.model_card.specs.Event as card
-use Rattle.laws_order.proofs.Contents.{request-grows, request-delivers, timer-same, offer-same}
 use Rattle.laws_wire.proofs.Joint.{timer-delivers}
 use Rattle.laws_order.proofs.Does.{Has, LeavesIt, Does, IsKind}
 use Rattle.laws_order.proofs.Down.{Speaks}
@@ -11,7 +10,7 @@ use Rattle.laws_order.proofs.Lasting.{speaks-report, speaks-plain, speaks-answer
 use Rattle.laws_order.proofs.Leading.{NotHeard, not-heard, other-line}
 use Rattle.laws_order.proofs.LinkEnds.{Ended, sabme-ends, disc-ends}
 use Rattle.laws_order.proofs.NearOver.{Lasts, IsFirst, other_first, its_first, first-is, comes-so}
-use Rattle.laws_order.proofs.Pairs.{happens-well, proper, way_here, station-does}
+use Rattle.laws_order.proofs.Pairs.{request-grows, request-delivers, timer-same, offer-same, link_here, happens-well, proper, way_here, station-does}
 use Rattle.laws_order.proofs.Putting.{Each, AnsweredAt, Awaited, each-back, each-append}
 use Rattle.laws_order.proofs.Saying.{NotUi, each-as, event-grows, on_line}
 

@@ -1,12 +1,13 @@
 -- Whole runs of two cards whose links face each other.
-use Rattle.laws_order.proofs.Vocabulary.{◌≡◌, ℕ, suc, ◌+◌, ◌<◌, ◌≤◌, false, List, [], ◌∷◌, ◌++◌, map, take, drop, refl, sym, ap, ◌∙◌, subst, append-nil, append_assoc, true≢false, ◌⊎◌, inl, inr, All, list_any, All-nil, All-cons, All-head, All-tail, list_any-append, arith, Control, Information, ReceiveReady, ReceiveNotReady, Reject, Service, Parts, other_side, ControlFrame, Terms, Link, is_multiple_frame, frame_of, Direction, frames_of, joined-turned, Carried, Means, Piece, Rising, rising-low, Config, terms, Seen, IsFront, Station, Wire, requests, times_out, gives, takes, loses, turned, twice-other, flat_map-append, Deed, acts, disturbed, elsewhere, IsNotOf, IsPossibleAt, befalling, Happening, by_near, by_far, IsPossible, seen_by, seen_near, seen_far, noted_in, granted_in, data_noted, data_granted, ends_by, StaysEstablished, link_here, IsInStep, IsOfStep, AreOfStep, of_link_on, HasReceivedOf, FaceInStep, kept_by, DeliveredInOrder, or_parts}
+use Rattle.laws_order.proofs.Vocabulary.{◌≡◌, ℕ, suc, ◌+◌, ◌<◌, ◌≤◌, false, List, [], ◌∷◌, ◌++◌, take, drop, refl, sym, ap, ◌∙◌, subst, append-nil, append_assoc, true≢false, ◌⊎◌, inl, inr, All, list_any, All-nil, All-cons, All-head, All-tail, list_any-append, Service, other_side, Link, is_multiple_frame, joined-turned, rising-low, Config, terms, Seen, IsFront, Station, Wire, requests, times_out, gives, takes, loses, turned, twice-other, flat_map-append, Deed, acts, disturbed, elsewhere, IsNotOf, IsPossibleAt, befalling, Happening, by_near, by_far, IsPossible, seen_by, seen_near, seen_far, noted_in, granted_in, data_noted, data_granted, ends_by, StaysEstablished, Past, Known, known, FaceInStep, kept_by, DeliveredInOrder, or_parts}
 use Rattle.laws_wire.specs.Wire.{with_first_of}
 use Rattle.model_link.proofs.Direction.{line_of}
+use Rattle.laws_order.proofs.Beginning.{had, begins-pair, kept-is}
 use Rattle.laws_order.proofs.Leading.{near-led}
 use Rattle.laws_order.proofs.Lasting.{carried-brought, rising-speaks}
 use Rattle.laws_order.proofs.NearOver.{Lasts, near-goes}
 use Rattle.laws_order.proofs.OneLasts.{far-goes}
-use Rattle.laws_order.proofs.Pairs.{facing, Pair, Led, Falls, IsWell, proper}
+use Rattle.laws_order.proofs.Pairs.{link_here, facing, Pair, Led, Falls}
 
 -- Nothing that happens moves a card to another line, or changes what it is configured with.
 pub record StaysAt (s s' : Station) : Type 0 where
@@ -222,88 +223,15 @@ module _ (service : Service) (tei : ℕ) where
           front-before dm t (seen_far hs w') (contents_at w.near) (contents_at w'.near) [] (seen_near hs w') (unmoved w.near w'.near x.other)
           (later-on x stay.1)
 
-  -- The beginning: what is in step is what two links that face each other have on the line.
-  piece-of : (t : Terms) (l : Link) → t.k ≤ 127 → (r : ℕ) → r ≤ l.a + t.k → (octets : List ℕ) (control : Control) → IsOfStep t l octets control
-      → Piece l.contents (l.a + t.k) r (l.a + t.k) octets control
-  piece-of t l small r high octets (Information ns nr p) h =
-      let x = h.0 in
-      let low : l.a ≤ x.number = x.unacknowledged in
-      let below : x.number < l.a + t.k = x.window in
-      record { number = x.number; is_seq = x.meant; near = omega (arith, small, high, low); below = below; same = x.same; next = omega (arith, below) }
-  piece-of t l small r high octets (ReceiveReady nr pf) h = tt
-  piece-of t l small r high octets (ReceiveNotReady nr pf) h = tt
-  piece-of t l small r high octets (Reject nr pf) h = tt
-  piece-of t l small r high octets other h = h
-
-  means-of : (t : Terms) (l : Link) (octets : List ℕ) (control : Control) → IsOfStep t l octets control → Means l.r control
-  means-of t l octets (Information ns nr p) h = h.1
-  means-of t l octets other h = h
-
-  carried-of : (t : Terms) (l : Link) → t.k ≤ 127 → (r : ℕ) → r ≤ l.a + t.k → (fs : List Parts) → AreOfStep t l fs → Carried l.contents (l.a + t.k) r fs
-  carried-of t l small r high [] h = high
-  carried-of t l small r high (f ∷ fs) h = (l.a + t.k, high, piece-of t l small r high f.info f.control h.0, carried-of t l small (l.a + t.k) (omega arith) fs h.1)
-
-  rising-of : (t : Terms) (l : Link) (a : ℕ) → a ≤ l.r → (fs : List Parts) → AreOfStep t l fs → Rising a l.r fs
-  rising-of t l a low [] h = low
-  rising-of t l a low (f ∷ fs) h = (l.r, low, means-of t l f.info f.control h.0, rising-of t l l.r (omega arith) fs h.1)
-
-  frames-mapped : (t : Terms) (ws : List ControlFrame) → frames_of t ws ≡ map (frame_of t) ws
-  frames-mapped t [] = refl
-  frames-mapped t (w ∷ ws) = ap (λ fs. frame_of t w ∷ fs) (frames-mapped t ws)
-
-  well : (s : Station) → IsInStep service tei s → IsWell s
-  well s b = record { sound = b.sound; within = b.within }
-
-  line-of : (s : Station) → IsInStep service tei s → AreOfStep (terms s.card.config service tei) (link_here service tei s) (line_of (facing service tei s []))
-  line-of s b =
-      subst (λ fs. AreOfStep (terms s.card.config service tei) (link_here service tei s) (of_link_on service tei s.card.config.side s.way ++ fs))
-      (sym (frames-mapped (terms s.card.config service tei) (link_here service tei s).waiting)) b.said
-
-  -- what the second station has received of the contents of the first
-  abbrev had : Station → Station → List (List ℕ)
-  had s u = take (link_here service tei u).r (link_here service tei s).contents
-
-  begins-one : (s u : Station) (b : IsInStep service tei s) (d : IsInStep service tei u) (ds : List (List ℕ)) → HasReceivedOf service tei s u
-      → Direction (facing service tei s ds) (facing service tei u (had s u))
-  begins-one s u b d ds there =
-      let n = link_here service tei s in
-      let m = link_here service tei u in
-      record {
-        carried = carried-of (terms s.card.config service tei) n (proper service tei s (well s b) b.up).ranges.k_high m.r there.window (line_of (facing service tei s ds)) (line-of s b);
-        rising = rising-of (terms u.card.config service tei) m n.a there.acknowledged (line_of (facing service tei u (had s u))) (line-of u d);
-        delivered = refl;
-        accepted = there.kept;
-      }
-
-  pub begins-pair : (w : Wire) (h : FaceInStep service tei w) → Pair service tei w (had w.far w.near) (had w.near w.far)
-  begins-pair w h =
-      let n = proper service tei w.near (well w.near h.near) h.near.up in
-      let m = proper service tei w.far (well w.far h.far) h.far.up in
-      record {
-        near = well w.near h.near;
-        far = well w.far h.far;
-        sides = h.sides;
-        joined = record {
-          near_ranges = n.ranges;
-          far_ranges = m.ranges;
-          near_sound = n.sound;
-          far_sound = m.sound;
-          near_up = h.near.up;
-          far_up = h.far.up;
-          there = begins-one w.near w.far h.near h.far (had w.far w.near) h.there;
-          back = begins-one w.far w.near h.far h.near (had w.near w.far) h.back;
-        };
-      }
-
   same-rest : (xs ys zs : List (List ℕ)) → xs ++ ys ≡ xs ++ zs → ys ≡ zs
   same-rest [] ys zs e = e
   same-rest (x ∷ xs) ys zs e = same-rest xs ys zs (cc e)
 
   -- behind what was received before
-  since : (s u : Station) (ds gs : List (List ℕ)) → IsFront (had s u ++ ds) (contents_at s ++ gs) → IsFront ds (kept_by service tei s u ++ gs)
+  since : (s u : Station) (ds gs : List (List ℕ)) → IsFront (had service tei s u ++ ds) (contents_at s ++ gs) → IsFront ds (drop (link_here service tei u).r (contents_at s) ++ gs)
   since s u ds gs h =
-      let front = had s u in
-      let kept = kept_by service tei s u in
+      let front = had service tei s u in
+      let kept = drop (link_here service tei u).r (contents_at s) in
       let whole : contents_at s ≡ front ++ kept = both-parts (link_here service tei u).r (contents_at s) in
       record {
         rest = h.rest;
@@ -312,11 +240,16 @@ module _ (service : Service) (tei : ℕ) where
             (sym (append_assoc front kept gs) ∙ ap (λ cs. cs ++ gs) (sym whole) ∙ h.whole_is ∙ append_assoc front ds h.rest);
       }
 
-  told-far : (hs : List Happening) (w : Wire) → FaceInStep service tei w → All (IsOpen w) hs → StaysEstablished service tei (seen_far hs w)
-      → IsFront (data_noted service tei (seen_far hs w)) (kept_by service tei w.near w.far ++ data_granted service tei (seen_near hs w))
-  told-far hs w h all far =
-      since w.near w.far (data_noted service tei (seen_far hs w)) (data_granted service tei (seen_near hs w))
-      (all-led hs w (had w.far w.near) (had w.near w.far) (begins-pair w h) all far)
+  told-far : (hs : List Happening) (w : Wire) (p : Past w.near) (q : Past w.far) → FaceInStep service tei w (known service tei w.near p) (known service tei w.far q)
+      → All (IsOpen w) hs → StaysEstablished service tei (seen_far hs w)
+      → IsFront (data_noted service tei (seen_far hs w)) (kept_by (known service tei w.near p) (known service tei w.far q) ++ data_granted service tei (seen_near hs w))
+  told-far hs w p q h all far =
+      let x = begins-pair service tei w p q h in
+      let low = rising-low (link_here service tei w.near).a (link_here service tei w.far).r (line_of (facing service tei w.far (had service tei w.near w.far))) x.joined.there.rising in
+      subst (λ cs. IsFront (data_noted service tei (seen_far hs w)) (cs ++ data_granted service tei (seen_near hs w)))
+      (sym (kept-is service tei w p q x.joined.near_up x.joined.far_up low))
+      (since w.near w.far (data_noted service tei (seen_far hs w)) (data_granted service tei (seen_near hs w))
+      (all-led hs w (had service tei w.far w.near) (had service tei w.near w.far) x all far))
 
   -- The same from the other end.
   abbrev swapped : Happening → Happening
@@ -348,21 +281,17 @@ module _ (service : Service) (tei : ℕ) where
   possible-swapped w (h ∷ hs) all =
       All-cons (IsOpen (turned w)) (swapped h) (all_swapped hs) (one-swapped w h (All-head (IsOpen w) h hs all)) (possible-swapped w hs (All-tail (IsOpen w) h hs all))
 
-  step-turned : (w : Wire) → FaceInStep service tei w → FaceInStep service tei (turned w)
-  step-turned w h = record {
-    near = h.far;
-    far = h.near;
-    sides = sym (ap other_side h.sides ∙ twice-other w.near.card.config.side);
-    there = h.back;
-    back = h.there;
-  }
+  step-turned : (w : Wire) (n m : Known) → FaceInStep service tei w n m → FaceInStep service tei (turned w) m n
+  step-turned w n m h = record { near = h.far; far = h.near; sides = sym (ap other_side h.sides ∙ twice-other w.near.card.config.side) }
 
-  told-near : (hs : List Happening) (w : Wire) → FaceInStep service tei w → All (IsOpen w) hs → StaysEstablished service tei (seen_near hs w)
-      → IsFront (data_noted service tei (seen_near hs w)) (kept_by service tei w.far w.near ++ data_granted service tei (seen_far hs w))
-  told-near hs w h all near =
-      subst (λ t. IsFront (data_noted service tei t) (kept_by service tei w.far w.near ++ data_granted service tei (seen_far hs w))) (sym (near-is hs w))
-      (subst (λ t. IsFront (data_noted service tei (seen_far (all_swapped hs) (turned w))) (kept_by service tei w.far w.near ++ data_granted service tei t)) (sym (far-is hs w))
-      (told-far (all_swapped hs) (turned w) (step-turned w h) (possible-swapped w hs all) (subst (StaysEstablished service tei) (near-is hs w) near)))
+  told-near : (hs : List Happening) (w : Wire) (p : Past w.near) (q : Past w.far) → FaceInStep service tei w (known service tei w.near p) (known service tei w.far q)
+      → All (IsOpen w) hs → StaysEstablished service tei (seen_near hs w)
+      → IsFront (data_noted service tei (seen_near hs w)) (kept_by (known service tei w.far q) (known service tei w.near p) ++ data_granted service tei (seen_far hs w))
+  told-near hs w p q h all near =
+      let kept = kept_by (known service tei w.far q) (known service tei w.near p) in
+      subst (λ t. IsFront (data_noted service tei t) (kept ++ data_granted service tei (seen_far hs w))) (sym (near-is hs w))
+      (subst (λ t. IsFront (data_noted service tei (seen_far (all_swapped hs) (turned w))) (kept ++ data_granted service tei t)) (sym (far-is hs w))
+      (told-far (all_swapped hs) (turned w) q p (step-turned w (known service tei w.near p) (known service tei w.far q) h) (possible-swapped w hs all) (subst (StaysEstablished service tei) (near-is hs w) near)))
 
 pub delivered-in-order : DeliveredInOrder
-delivered-in-order service tei w hs h all = (told-near service tei hs w h all, told-far service tei hs w h all)
+delivered-in-order service tei w p q hs h all = (told-near service tei hs w p q h all, told-far service tei hs w p q h all)

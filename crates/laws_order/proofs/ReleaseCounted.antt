@@ -1,5 +1,5 @@
 -- An end that releases its link counts in RC the expiries of T200, until it is told.
-use Rattle.laws_order.proofs.Vocabulary.{◌≡◌, ℕ, ◌+◌, ◌≤◌, Bool, true, false, cond, List, [], ◌∷◌, ◌++◌, get_or, set, Option, Some, None, refl, sym, ap, ◌∙◌, subst, arith, true≢false, ◌⊎◌, inl, inr, All, filter, length, nat_lt, ltb-true, get_or-set_same, All-head, Note, Service, TeiAssigned, AwaitingRelease, Terms, LinkTimer, T200, T203, Link, runs, Config, hears, expiry, Line, fresh_line, link_of, place_in, terms, line_at, wants_room, has_lines, by_room, repeats_left, as_heard, is_clearing, moves, by_expiry, IsTimedIn, is_time, event-follows, timed-after, IsBy, Seen, is_own, none-ticks, own-is, Goes, event-goes, expired_of, off-fresh, nothing_yet, Station, Wire, happens, fresh, Event, at, line_of, Happening, by_near, by_far, IsPossible, happening, seen_at_near, seen_near, is_t200, t200_by, t200s, link_here, news}
+use Rattle.laws_order.proofs.Vocabulary.{◌≡◌, ℕ, ◌+◌, ◌≤◌, Bool, true, false, cond, List, [], ◌∷◌, ◌++◌, get_or, set, Option, Some, None, refl, sym, ap, ◌∙◌, subst, arith, true≢false, ◌⊎◌, inl, inr, All, filter, length, nat_lt, ltb-true, get_or-set_same, All-head, Note, Service, TeiAssigned, AwaitingRelease, Terms, LinkTimer, T200, T203, Link, runs, Config, hears, expiry, Line, fresh_line, link_of, place_in, terms, line_at, wants_room, has_lines, by_room, repeats_left, as_heard, is_clearing, moves, by_expiry, IsTimedIn, is_time, event-follows, timed-after, IsBy, Seen, is_own, none-ticks, own-is, Goes, event-goes, expired_of, off-fresh, nothing_yet, Station, Wire, happens, fresh, Event, at, line_of, Happening, by_near, by_far, IsPossible, happening, seen_at_near, seen_near, is_t200, t200_by, t200s, news}
 use Rattle.model_bits.specs.Stream as stream
 use Rattle.lapd_frame.specs.declared.timers.Timer.TheVariants as timers
 use Rattle.model_link.specs.Events as link
@@ -7,12 +7,8 @@ use Rattle.model_link.specs.Machine as links
 use Rattle.model_line.specs.Machine as lines
 use Rattle.model_line.specs.Sound as line_sound
 use Rattle.model_card.proofs.Steps.{line_sound as sound_line}
-use Rattle.laws_order.proofs.Pairs.{IsWell}
+use Rattle.laws_order.proofs.Pairs.{link_here, IsWell}
 use Rattle.laws_order.proofs.Released.{Occurs, nothing_there, one_there, then-well, news-append, step-six, StepSix, events_at, occurs, later}
-
-pub runs-so : (o : Option LinkTimer) → runs T200 o ≡ true → o ≡ Some T200
-runs-so (Some T200) e = refl
-runs-so other e = absurd (true≢false (sym e))
 
 -- A link in state 6 that stays there runs T200, and RC counts its expiries, up to N200.
 pub record Counted (t : Terms) (l l' : Link) (n : ℕ) : Type 0 where

@@ -1,8 +1,9 @@
 -- What an end is told of its link in state 6, and in state 4, whatever happens at it and at the other end.
-use Rattle.laws_order.proofs.Vocabulary.{◌≡◌, ℕ, List, [], ◌∷◌, ◌++◌, refl, sym, ap, ◌∙◌, subst, append-nil, ◌⊎◌, inl, inr, All, list_any, All-head, All-tail, list_any-append, Note, Service, State, TeiAssigned, AwaitingRelease, Link, came, hears, expiry, request, next, link_of, after_is_sound, Seen, seen, Station, Wire, requests, times_out, gives, takes, loses, answered, happens, turned, flat_map-append, Event, at, line_of, Deed, acts, disturbed, elsewhere, befalling, Happening, by_near, by_far, IsPossible, happening, IsPossibleAt, events_here, seen_by, seen_at_near, seen_near, data_noted, link_here, news_in, news, begins_by, BeginsNothing, IsToldOfRelease, ReleasesEnd, ReleasedIsOver, or_parts}
+use Rattle.laws_order.proofs.Vocabulary.{◌≡◌, ℕ, List, [], ◌∷◌, ◌++◌, refl, sym, ap, ◌∙◌, subst, append-nil, ◌⊎◌, inl, inr, All, list_any, All-head, All-tail, list_any-append, Note, Service, State, TeiAssigned, AwaitingRelease, Link, came, hears, expiry, request, next, link_of, after_is_sound, Seen, seen, Station, Wire, requests, times_out, gives, takes, loses, answered, happens, turned, flat_map-append, Event, line_of, Deed, acts, disturbed, elsewhere, befalling, Happening, by_near, by_far, IsPossible, happening, IsPossibleAt, events_here, seen_by, seen_at_near, seen_near, data_noted, news_in, news, begins_by, BeginsNothing, IsToldOfRelease, ReleasesEnd, ReleasedIsOver, or_parts}
+use Rattle.laws_order.proofs.Beginning.{past-well, six-here, four-here}
 use Rattle.laws_order.proofs.Leading.{other-line}
 use Rattle.laws_order.proofs.Ordered.{noted-append, near-place, far-place, all-possible}
-use Rattle.laws_order.proofs.Pairs.{IsWell, happens-well}
+use Rattle.laws_order.proofs.Pairs.{link_here, IsWell, happens-well}
 use Rattle.laws_order.proofs.ReleasedAt.{Confirm, GivenUp, Confirmless, SixAt, station-six, station-four}
 
 module _ (service : Service) (tei : ℕ) where
@@ -167,7 +168,7 @@ module _ (service : Service) (tei : ℕ) where
       go w' t u six four (inr (is, inr x)) = given-up-so (t ++ u) (joins t u (GivenUp service tei) [] x (four is))
 
 pub releases-end : ReleasesEnd
-releases-end service tei w hs at is all quiet = run-six service tei hs w (record { sound = at.sound; within = at.within }) is all quiet
+releases-end service tei w hs p is all quiet = run-six service tei hs w (past-well w.near p) (six-here service tei w.near is) all quiet
 
 pub released-is-over : ReleasedIsOver
-released-is-over service tei w hs at is all quiet = run-four service tei hs w (record { sound = at.sound; within = at.within }) is all quiet
+released-is-over service tei w hs p is all quiet = run-four service tei hs w (past-well w.near p) (four-here service tei w.near is) all quiet

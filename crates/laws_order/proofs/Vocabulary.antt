@@ -1,9 +1,10 @@
 -- The words of std, of the crates below and of the statements of this crate with which its proofs speak, from where they are defined.
 pub use Rattle.std.proofs.Common.{Bool, Err, IfSome, IsTrue, List, None, Ok, Option, Result, Some, [], ap, append-nil, append_assoc, arith, cond, drop, eq-eqb, eqb-true, false, get_or, inl, inr, is_some, length, length-append, length-drop, map, nat_eq, nat_lt, not, option_and_then, option_map, option_to_list, refl, reverse, set, slice_index, subst, suc, sym, take, true, true≢false, zero, ℕ, ◌%◌, ◌&&◌, ◌*◌, ◌++◌, ◌+◌, ◌-◌, ◌<◌, ◌==◌, ◌||◌, ◌∙◌, ◌∷◌, ◌≡◌, ◌≤◌, ◌⊎◌}
 pub use Rattle.std.proofs.lemmas.Bool.{and_left, and_parts, le-ltb, leb-true, ltb-false, ltb-true, ne_eqb, or_from, or_parts}
-pub use Rattle.std.proofs.lemmas.List.{append_cancel_left, get_or-set_other, get_or-set_same, length-map, length-take-le, map-append}
+pub use Rattle.std.proofs.lemmas.List.{append_cancel_left, get_or-replicate, get_or-set_other, get_or-set_same, length-map, length-take-le, map-append}
 pub use Rattle.std.proofs.lemmas.List.Elements.{All-append, All-cons, All-head, All-nil, All-tail}
 pub use Rattle.std.proofs.lemmas.List.Folds.{list_any-append}
+pub use Rattle.std.proofs.lemmas.List.Sums.{fold-append}
 pub use Rattle.std.proofs.lemmas.Option.{slice_get_within}
 pub use Rattle.std.specs.List.{list_any}
 pub use Rattle.std.specs.Option.{option_map_or, option_or}
@@ -34,8 +35,9 @@ pub use Rattle.laws_line.proofs.Granting.{not-refused}
 pub use Rattle.laws_line.proofs.Hearing.{same-sapi, sapi-is}
 pub use Rattle.laws_line.proofs.Knowing.{known-up}
 pub use Rattle.laws_line.proofs.Obeyed.{service-same}
-pub use Rattle.laws_line.proofs.OfCard.Wherever.{all-right}
+pub use Rattle.laws_line.proofs.OfCard.Wherever.{all-left, all-right}
 pub use Rattle.laws_line.proofs.Places.{is-off}
+pub use Rattle.laws_line.proofs.TimersFollow.{nowhere}
 pub use Rattle.laws_line.specs.Heard.{contents_in, is_data_of, notes_of}
 pub use Rattle.laws_line.specs.Knowledge.{is_up_of, link_is_up, up_by_note}
 pub use Rattle.laws_line.specs.Requests.{deactivates, of_link}
@@ -88,7 +90,7 @@ pub use Rattle.model_bits.specs.Stream.{closed_by_flag, ends_abort, ends_flag, g
 pub use Rattle.model_bits.specs.Stuffing.{octets_sent}
 pub use Rattle.model_bits.specs.StuffingLaws.{AreOctets}
 pub use Rattle.model_bits.specs.declared.heard.Cause.TheVariants.{Abort, Fcs, Short}
-pub use Rattle.model_card.proofs.CardSound.{after_is_sound, fresh_is_sound}
+pub use Rattle.model_card.proofs.CardSound.{after_is_sound, always_sound as frames_always_sound, fresh_is_sound}
 pub use Rattle.model_card.proofs.OfPorts.AsOctets.{all_exact, cut_sent, frames_sent, heard_whole, same_text, sent}
 pub use Rattle.model_card.proofs.OfPorts.Codec.{meant_at_lines, refined_card}
 pub use Rattle.model_card.proofs.OfPorts.Gains.{heard_with}
@@ -149,7 +151,7 @@ pub use Rattle.laws_order.specs.Happenings.{Deed, Happening, IsElsewhere, IsNotO
 unfoldable pub use Rattle.laws_order.specs.Happenings.{happening_all, seen_far, seen_near}
 pub use Rattle.laws_order.specs.InTheEnd.{BothAreTold, IsNotDeactivated, IsToldAtLast, ReleasesAreTold, is_t200, t200_by}
 unfoldable pub use Rattle.laws_order.specs.InTheEnd.{StaysThere, t200s}
-pub use Rattle.laws_order.specs.Order.{AreOfStep, DeliveredInOrder, FaceInStep, HasReceivedOf, IsInStep, IsOfStep, StaysEstablished, data_granted, data_noted, ends_by, ends_by_note, ends_by_request, granted_in, kept_by, link_here, noted_in, of_link_on, said_by}
+pub use Rattle.laws_order.specs.Order.{AreOfStep, DeliveredInOrder, FaceInStep, IsInStep, IsOfStep, Known, Past, StaysEstablished, Tally, data_granted, data_noted, ends_by, ends_by_note, ends_by_request, granted_in, kept_by, known, no_tally, noted_in, of_link_on, said_by, state_here, tallies, tally_of}
 pub use Rattle.laws_order.specs.Release.{BeginsNothing, IsToldOfRelease, ReleasedIsOver, ReleasesEnd, begins_by, begins_by_note, begins_by_request, is_news, is_unasked, news, news_in}
 pub use Rattle.laws_order.specs.circuit.Beats.{AllIsToldInBeats, beat, enough_beats, granted_of, longest}
 unfoldable pub use Rattle.laws_order.specs.circuit.Beats.{beats}

@@ -1,22 +1,18 @@
 -- A release is told in the end, at both ends, whatever waits, is on its way, or is lost.
-use Rattle.std.specs.Prelude.{◌≡◌, ◌<◌, ℕ, ◌+◌, Bool, true, false, List, [], ◌∷◌, length, filter, All, ◌⊎◌}
+use Rattle.std.specs.Prelude.{◌≡◌, ◌<◌, ℕ, ◌+◌, Bool, true, false, List, [], ◌∷◌, length, filter, All, Some, is_some, ◌⊎◌}
 use Rattle.std.specs.List.{list_any}
 use Rattle.lapd_frame.specs.declared.notes.ErrorCode.TheVariants.{H}
 use Rattle.lapd_frame.specs.declared.notes.Note.{Note}
 use Rattle.lapd_frame.specs.declared.notes.Note.TheVariants.{ReleaseConfirm, Error}
 use Rattle.lapd_frame.specs.declared.services.Service.{Service}
 use Rattle.lapd_frame.specs.declared.timers.Timer.TheVariants.{T200}
-use Rattle.model_link.specs.declared.states.State.TheVariants.{AwaitingRelease}
 use Rattle.model_line.specs.Event.{Event, expiry, request}
-use Rattle.model_line.specs.Line.{has_tei, terms}
 use Rattle.laws_line.specs.Requests.{deactivates}
 use Rattle.laws_trace.specs.Trace.{is_own}
-use Rattle.laws_wire.specs.Arriving.{runs_t200}
-use Rattle.laws_wire.specs.Facing.{line_of}
 use Rattle.laws_wire.specs.Wire.{requests, Wire}
 use Rattle.laws_order.specs.Happenings.{acts, Happening, by_near, by_far, IsPossible, happening, happening_all, events_here, seen_near, seen_far}
-use Rattle.laws_order.specs.Order.{ends_by, StaysEstablished, link_here, FaceInStep}
-use Rattle.laws_order.specs.Release.{news, BeginsNothing, IsAtLine}
+use Rattle.laws_order.specs.Order.{ends_by, StaysEstablished, Past, known, state_here, FaceInStep}
+use Rattle.laws_order.specs.Release.{news, BeginsNothing}
 
 -- How often T200 of the link expired at the near end.
 abbrev pub is_t200 : Service → ℕ → Event → Bool
@@ -36,18 +32,18 @@ t200s service tei (h ∷ hs) w = t200_by service tei h w + t200s service tei hs 
 abbrev pub IsToldAtLast : Service → ℕ → List Note → Type 0
 IsToldAtLast service tei ns = (ns ≡ ReleaseConfirm service tei ∷ []) ⊎ (ns ≡ Error service tei H ∷ ReleaseConfirm service tei ∷ [])
 
--- The end at which the release was granted is told once T200 expired there more than N200 times, if not before: from state 6 on, in
--- which T200 runs, and as long as nothing else begins, as `Release` has it.
+-- The end at which the release was granted is told once T200 expired there more than N200 times, if not before: from state 6 on, and as
+-- long as nothing else begins, as `Release` has it.
 abbrev pub ReleasesAreTold : Type 0
 ReleasesAreTold =
-    (service : Service) (tei : ℕ) (w : Wire) (hs : List Happening) → IsAtLine w.near → (link_here service tei w.near).state ≡ AwaitingRelease →
-    runs_t200 service tei w.near ≡ true → All (IsPossible service tei w) hs → BeginsNothing service tei (seen_near hs w) →
-    (terms w.near.card.config service tei).n200 < t200s service tei hs w → IsToldAtLast service tei (news service tei (seen_near hs w))
+    (service : Service) (tei : ℕ) (w : Wire) (hs : List Happening) → Past w.near → state_here service tei w.near ≡ Some 6 →
+    All (IsPossible service tei w) hs → BeginsNothing service tei (seen_near hs w) →
+    w.near.card.config.n200 < t200s service tei hs w → IsToldAtLast service tei (news service tei (seen_near hs w))
 
 -- The TEI stays on the line of the near end, and its link is not deactivated.
-unfoldable pub StaysThere : ℕ → List Happening → Wire → Type 0
-StaysThere tei [] w = has_tei tei (line_of w.near) ≡ true
-StaysThere tei (h ∷ hs) w = (has_tei tei (line_of w.near) ≡ true) × StaysThere tei hs (happening h w)
+unfoldable pub StaysThere : Service → ℕ → List Happening → Wire → Type 0
+StaysThere service tei [] w = is_some (state_here service tei w.near) ≡ true
+StaysThere service tei (h ∷ hs) w = (is_some (state_here service tei w.near) ≡ true) × StaysThere service tei hs (happening h w)
 
 abbrev pub IsNotDeactivated : Service → ℕ → Happening → Type 0
 IsNotDeactivated service tei (by_near (acts (requests r))) = deactivates service tei (request r) ≡ false
@@ -58,9 +54,9 @@ IsNotDeactivated service tei other = Unit {0}
 -- other in step, and whatever was waiting or on its way as the release was granted.
 abbrev pub BothAreTold : Type 0
 BothAreTold =
-    (service : Service) (tei : ℕ) (w : Wire) (before behind : List Happening) → FaceInStep service tei w → All (IsPossible service tei w) before →
-    let v = happening_all before w in StaysEstablished service tei (seen_far before w) →
-    (link_here service tei v.near).state ≡ AwaitingRelease → All (IsPossible service tei v) behind →
-    StaysThere tei behind v → All (IsNotDeactivated service tei) behind → BeginsNothing service tei (seen_near behind v) →
-    news service tei (seen_near behind v) ≡ ReleaseConfirm service tei ∷ [] →
+    (service : Service) (tei : ℕ) (w : Wire) (p : Past w.near) (q : Past w.far) (before behind : List Happening) →
+    FaceInStep service tei w (known service tei w.near p) (known service tei w.far q) → All (IsPossible service tei w) before →
+    let v = happening_all before w in StaysEstablished service tei (seen_far before w) → state_here service tei v.near ≡ Some 6 →
+    All (IsPossible service tei v) behind → StaysThere service tei behind v → All (IsNotDeactivated service tei) behind →
+    BeginsNothing service tei (seen_near behind v) → news service tei (seen_near behind v) ≡ ReleaseConfirm service tei ∷ [] →
     list_any (ends_by service tei) (seen_far behind v) ≡ true

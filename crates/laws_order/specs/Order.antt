@@ -1,6 +1,7 @@
 -- What is told at each of two cards is in order, whatever else happens.
-use Rattle.std.specs.Prelude.{◌≡◌, ◌≤◌, ◌<◌, ℕ, ◌+◌, ◌&&◌, Bool, false, IsTrue, List, [], ◌∷◌, ◌++◌, length, map, drop, flat_map, slice_get, Some, All, option_to_list, if◌then◌else◌}
+use Rattle.std.specs.Prelude.{◌≡◌, ◌≤◌, ◌<◌, ℕ, ◌+◌, ◌-◌, ◌==◌, ◌&&◌, not, Bool, true, false, List, [], ◌∷◌, ◌++◌, length, map, drop, fold, flat_map, slice_get, Option, Some, All, option_to_list, if◌then◌else◌}
 use Rattle.std.specs.List.{list_any}
+use Rattle.std.specs.Option.{option_map_or}
 use Rattle.lapd_frame.specs.declared.addresses.Side.{Side}
 use Rattle.lapd_frame.specs.declared.controls.Control.{Control}
 use Rattle.lapd_frame.specs.declared.controls.Control.TheVariants.{Information, ReceiveReady, ReceiveNotReady, Reject}
@@ -10,14 +11,21 @@ use Rattle.lapd_frame.specs.declared.services.Service.{Service}
 use Rattle.lapd_frame.specs.Grammar.{Parts, other_side}
 use Rattle.lapd_seq.specs.Numbers.{seq}
 use Rattle.lapd_seq.specs.declared.numbers.Seq.{Seq}
-use Rattle.model_link.specs.declared.terms.Terms.{Terms}
-use Rattle.model_link.specs.Link.{Link, is_multiple_frame, frame_of}
-use Rattle.model_line.specs.Line.{link_of, terms}
+use Rattle.model_link.specs.declared.frames.ControlFrame.{ControlFrame}
+use Rattle.model_link.specs.Link.{frame_of}
+use Rattle.model_line.specs.declared.config.Config.{Config}
+use Rattle.model_line.specs.Line.{state_of, terms, window}
 use Rattle.model_line.specs.Request.{Request, Release}
-use Rattle.model_card.specs.Sound as card_sound
+use Rattle.model_line.specs.Sound.{IsInRange}
+use Rattle.model_card.specs.Card.{fresh}
+use Rattle.model_card.specs.Event as card
+use Rattle.model_card.specs.Run.{Moment, moments, after_all, AreAtLines}
 use Rattle.laws_line.specs.Heard.{is_data_of}
 use Rattle.laws_link.specs.Steady.{is_anew}
-use Rattle.laws_trace.specs.Trace.{is_own, data_asked, Seen, noted, granted, IsFront}
+use Rattle.laws_trace.specs.News.{brings, is_sabme}
+use Rattle.laws_trace.specs.Observer.{View, at_first, steps, views}
+use Rattle.laws_trace.specs.Outgoing.{outgoing_of}
+use Rattle.laws_trace.specs.Trace.{is_own, is_up, data_asked, Seen, noted, granted, IsFront}
 use Rattle.laws_wire.specs.Facing.{line_of}
 use Rattle.laws_wire.specs.Wire.{Station, Wire}
 use Rattle.laws_order.specs.Happenings.{Happening, IsPossible, of_link_at, seen_near, seen_far}
@@ -40,7 +48,7 @@ data_noted service tei t = flat_map (noted_in service tei) t
 
 -- What ends an establishment, or renews it: its release is granted; layer 3 is told of an establishment or a release; or layer
 -- management is told of an error other than A, C, D, G and H, as the link is then established anew (Q.921 clauses 4.1.1.1, 4.1.1.2,
--- 5.7.1 and 5.8.2 to 5.8.7, appendix II). Error B, of DM with F=1, counts in state 7, too, though it renews the link in state 8 alone.
+-- 5.7.1 and 5.8.2 to 5.8.7, appendix II). Error B, of DM with F=1, tallies in state 7, too, though it renews the link in state 8 alone.
 abbrev pub ends_by_note : Service → ℕ → Note → Bool
 ends_by_note service tei (EstablishIndication of by) = is_own service tei of by
 ends_by_note service tei (EstablishConfirm of by) = is_own service tei of by
@@ -61,73 +69,108 @@ ends_by service tei other = false
 abbrev pub StaysEstablished : Service → ℕ → List Seen → Type 0
 StaysEstablished service tei t = list_any (ends_by service tei) t ≡ false
 
--- What is on its way of a link,
+-- An end is known by its past: its card has come about by events from its start, as every card has.
+pub record Past (s : Station) : Type 0 where
+  pub events : List card.Event
+  pub at_lines : AreAtLines (fresh s.card.config) events
+  pub is : s.card ≡ after_all (fresh s.card.config) events
+  pub ranged : IsInRange s.card.config
+  pub within : s.line < s.card.config.lines
+
+-- How many contents of a link the other end has acknowledged since the numbers began: V(A), counted on beyond 127. They begin anew by SABME,
+-- and where the link leaves states 7 and 8 (Q.921 clauses 3.5.2.3, 5.5.1.2 and 5.7).
+pub record Tally : Type 0 where
+  pub view : View
+  pub acknowledged : ℕ
+
+abbrev pub no_tally : Tally
+no_tally = record { view = at_first; acknowledged = 0 }
+
+abbrev pub tallies : Config → Service → ℕ → ℕ → Tally → Moment → Tally
+tallies c service tei number o m =
+    let was = o.view.link in let now = views c service tei number o.view m in
+    let anew = m.event.line == number && brings is_sabme c service tei m.event.what in
+    record {
+      view = now;
+      acknowledged = if is_up was.state && is_up now.link.state && not anew then o.acknowledged + steps was.acknowledged now.link.acknowledged else 0;
+    }
+
+abbrev pub tally_of : Config → Service → ℕ → ℕ → List card.Event → Tally
+tally_of c service tei number events = fold (tallies c service tei number) no_tally (moments (fresh c) events)
+
+-- What whoever watches the line of an end knows of a link there, from the card's start on (`Observer` and `Outgoing` of laws_trace): how
+-- many contents were told since the numbers began, and how many acknowledged; those that it keeps, which are not; and the control frames
+-- that wait.
+pub record Known : Type 0 where
+  pub told : ℕ
+  pub acknowledged : ℕ
+  pub kept : List (List ℕ)
+  pub waiting : List ControlFrame
+
+abbrev pub known_by : Config → Service → ℕ → ℕ → List card.Event → Known
+known_by c service tei number events =
+    let o = outgoing_of c service tei number events in
+    record { told = o.view.link.count; acknowledged = (tally_of c service tei number events).acknowledged; kept = o.kept; waiting = o.waiting }
+
+abbrev pub known : Service → ℕ → (s : Station) → Past s → Known
+known service tei s p = known_by s.card.config service tei s.line p.events
+
+-- What is on its way of a link, and, behind it, what waits.
 abbrev pub of_link_on : Service → ℕ → Side → List (List ℕ) → List Parts
 of_link_on service tei side way = flat_map (of_link_at service tei side) way
 
-abbrev pub link_here : Service → ℕ → Station → Link
-link_here service tei s = link_of service tei (line_of s)
+abbrev pub said_by : Service → ℕ → Station → Known → List Parts
+said_by service tei s n = of_link_on service tei s.card.config.side s.way ++ map (frame_of (terms s.card.config service tei)) n.waiting
 
--- and, behind it, what waits.
-abbrev pub said_by : Service → ℕ → Station → List Parts
-said_by service tei s =
-    of_link_on service tei s.card.config.side s.way ++ map (frame_of (terms s.card.config service tei)) (link_here service tei s).waiting
+-- A frame is in step: N(R) means r, and an I-frame carries contents that are kept, of the number that N(S) means, within the window.
+pub record IsKept (k : ℕ) (n : Known) (ns : Seq) (contents : List ℕ) : Type 0 where
+  pub place : ℕ
+  pub meant : ns ≡ seq (n.acknowledged + place)
+  pub inside : place < k
+  pub same : slice_get n.kept place ≡ Some contents
 
--- A frame of a link is in step with it: N(R) is its V(R), and an I-frame carries contents that it keeps, of the number that N(S) means,
--- not acknowledged yet, and within the window.
-pub record IsKept (t : Terms) (l : Link) (ns : Seq) (contents : List ℕ) : Type 0 where
-  pub number : ℕ
-  pub meant : ns ≡ seq number
-  pub unacknowledged : l.a ≤ number
-  pub window : number < l.a + t.k
-  pub same : slice_get l.contents number ≡ Some contents
+abbrev pub IsOfStep : ℕ → Known → ℕ → List ℕ → Control → Type 0
+IsOfStep k n r contents (Information ns nr p) = IsKept k n ns contents × (nr ≡ seq r)
+IsOfStep k n r contents (ReceiveReady nr pf) = nr ≡ seq r
+IsOfStep k n r contents (ReceiveNotReady nr pf) = nr ≡ seq r
+IsOfStep k n r contents (Reject nr pf) = nr ≡ seq r
+IsOfStep k n r contents other = ⊥
 
-abbrev pub IsOfStep : Terms → Link → List ℕ → Control → Type 0
-IsOfStep t l contents (Information ns nr p) = IsKept t l ns contents × (nr ≡ seq l.r)
-IsOfStep t l contents (ReceiveReady nr pf) = nr ≡ seq l.r
-IsOfStep t l contents (ReceiveNotReady nr pf) = nr ≡ seq l.r
-IsOfStep t l contents (Reject nr pf) = nr ≡ seq l.r
-IsOfStep t l contents other = ⊥
+-- And what the N(R) of one frame after another mean rises from what the other end has of it to what was told.
+abbrev pub AreOfStep : ℕ → Known → ℕ → List Parts → Type 0
+AreOfStep k n low [] = low ≤ n.told
+AreOfStep k n low (f ∷ fs) = (r : ℕ) × (low ≤ r) × IsOfStep k n r f.info f.control × AreOfStep k n r fs
 
-abbrev pub AreOfStep : Terms → Link → List Parts → Type 0
-AreOfStep t l [] = Unit {0}
-AreOfStep t l (f ∷ fs) = IsOfStep t l f.info f.control × AreOfStep t l fs
+-- At an end `Card::state` tells 7 or 8; all that is on its way or waits is in step; and the other end was told of no more than what it has
+-- acknowledged and what is kept here, within the window.
+abbrev pub state_here : Service → ℕ → Station → Option ℕ
+state_here service tei s = state_of service tei (line_of s)
 
--- At a line of a sound card the link is in state 7 or 8, and all that is on its way or waits is in step with it; nothing may be.
-pub record IsInStep (service : Service) (tei : ℕ) (s : Station) : Type 0 where
-  pub sound : card_sound.IsSound s.card
-  pub within : s.line < s.card.config.lines
-  pub up : IsTrue (is_multiple_frame (link_here service tei s).state)
-  pub said : AreOfStep (terms s.card.config service tei) (link_here service tei s) (said_by service tei s)
-
--- A link has received what the other takes for acknowledged, and it may be more: of what is kept for it, within the window.
-pub record HasReceived (t : Terms) (l : Link) (r : ℕ) : Type 0 where
-  pub acknowledged : l.a ≤ r
-  pub kept : r ≤ length l.contents
-  pub window : r ≤ l.a + t.k
-
-abbrev pub HasReceivedOf : Service → ℕ → Station → Station → Type 0
-HasReceivedOf service tei s u = HasReceived (terms s.card.config service tei) (link_here service tei s) (link_here service tei u).r
+pub record IsInStep (service : Service) (tei : ℕ) (s : Station) (n m : Known) : Type 0 where
+  pub up : option_map_or is_up (state_here service tei s) false ≡ true
+  pub said : AreOfStep (window s.card.config service) n m.acknowledged (said_by service tei s n)
+  pub kept : m.told ≤ n.acknowledged + length n.kept
+  pub within : m.told ≤ n.acknowledged + window s.card.config service
 
 -- Two cards of the two sides face each other so: as an establishment leaves them, with V(S) and V(R) zero, whatever of it is on its way
--- already, and whatever waits; or later.
-pub record FaceInStep (service : Service) (tei : ℕ) (w : Wire) : Type 0 where
-  pub near : IsInStep service tei w.near
-  pub far : IsInStep service tei w.far
+-- already, and whatever waits; or later, also in the midst of data.
+pub record FaceInStep (service : Service) (tei : ℕ) (w : Wire) (n m : Known) : Type 0 where
+  pub near : IsInStep service tei w.near n m
+  pub far : IsInStep service tei w.far m n
   pub sides : w.far.card.config.side ≡ other_side w.near.card.config.side
-  pub there : HasReceivedOf service tei w.near w.far
-  pub back : HasReceivedOf service tei w.far w.near
 
--- The contents that the link at the first station kept then, sent or not, and that the other has not received.
-abbrev pub kept_by : Service → ℕ → Station → Station → List (List ℕ)
-kept_by service tei s u = drop (link_here service tei u).r (link_here service tei s).contents
+-- The contents that the link at the first end keeps, sent or not, and that the other was not told of.
+abbrev pub kept_by : Known → Known → List (List ℕ)
+kept_by n m = drop (m.told - n.acknowledged) n.kept
 
 -- As long as the establishment neither ends nor is renewed at an end, whatever becomes of it at the other, the contents that this end
 -- is told of are a beginning of those that the other kept for it then, and of those that it was granted to send since, in order, each
 -- once. So where layer 3 of one is granted the release, with anything waiting or on its way, the other is told so up to its own end.
 abbrev pub DeliveredInOrder : Type 0
 DeliveredInOrder =
-    (service : Service) (tei : ℕ) (w : Wire) (hs : List Happening) → FaceInStep service tei w → All (IsPossible service tei w) hs →
+    (service : Service) (tei : ℕ) (w : Wire) (p : Past w.near) (q : Past w.far) (hs : List Happening) →
+    let n = known service tei w.near p in let m = known service tei w.far q in
+    FaceInStep service tei w n m → All (IsPossible service tei w) hs →
     let near = seen_near hs w in let far = seen_far hs w in
-    (StaysEstablished service tei near → IsFront (data_noted service tei near) (kept_by service tei w.far w.near ++ data_granted service tei far))
-    × (StaysEstablished service tei far → IsFront (data_noted service tei far) (kept_by service tei w.near w.far ++ data_granted service tei near))
+    (StaysEstablished service tei near → IsFront (data_noted service tei near) (kept_by m n ++ data_granted service tei far))
+    × (StaysEstablished service tei far → IsFront (data_noted service tei far) (kept_by n m ++ data_granted service tei near))

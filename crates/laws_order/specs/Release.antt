@@ -1,18 +1,16 @@
 -- What an end is told of a link whose release was granted, or that is released.
-use Rattle.std.specs.Prelude.{◌≡◌, ◌<◌, ℕ, ◌&&◌, not, Bool, true, false, List, [], ◌∷◌, filter, flat_map, All, ◌⊎◌}
+use Rattle.std.specs.Prelude.{◌≡◌, ℕ, ◌&&◌, not, Bool, true, false, List, [], ◌∷◌, filter, flat_map, All, Some, unwrap_or, ◌⊎◌}
 use Rattle.std.specs.List.{list_any}
 use Rattle.lapd_frame.specs.declared.notes.ErrorCode.{ErrorCode}
 use Rattle.lapd_frame.specs.declared.notes.ErrorCode.TheVariants.{C, D, H}
 use Rattle.lapd_frame.specs.declared.notes.Note.{Note}
 use Rattle.lapd_frame.specs.declared.notes.Note.TheVariants.{EstablishIndication, EstablishConfirm, ReleaseIndication, ReleaseConfirm, Error}
 use Rattle.lapd_frame.specs.declared.services.Service.{Service}
-use Rattle.model_link.specs.declared.states.State.TheVariants.{TeiAssigned, AwaitingRelease}
 use Rattle.model_line.specs.Request.{Request, Establish, Release}
-use Rattle.model_card.specs.Sound as card_sound
 use Rattle.laws_trace.specs.Trace.{is_own, Seen, noted, granted}
-use Rattle.laws_wire.specs.Wire.{Station, Wire}
+use Rattle.laws_wire.specs.Wire.{Wire}
 use Rattle.laws_order.specs.Happenings.{Happening, IsPossible, seen_near}
-use Rattle.laws_order.specs.Order.{data_noted, link_here}
+use Rattle.laws_order.specs.Order.{data_noted, Past, state_here}
 
 -- The notes of a link's establishment and release, and its errors; but for C and D, each of which tells of a UA that answers nothing
 -- (Q.921 clauses 4.1.1.1, 4.1.1.2 and 5.8.7).
@@ -61,22 +59,19 @@ abbrev pub IsToldOfRelease : Service → ℕ → List Note → Type 0
 IsToldOfRelease service tei ns =
     (ns ≡ []) ⊎ (ns ≡ ReleaseConfirm service tei ∷ []) ⊎ (ns ≡ Error service tei H ∷ ReleaseConfirm service tei ∷ [])
 
-pub record IsAtLine (s : Station) : Type 0 where
-  pub sound : card_sound.IsSound s.card
-  pub within : s.line < s.card.config.lines
-
 -- At an end a link is in state 6, as from where the release of one in state 7 or 8 is granted, whatever it kept, whatever is on its way,
 -- and whatever the other end is and does. Up to where the establishment is asked for again, or told, this is all that the end is told of
 -- it, and no data.
 abbrev pub ReleasesEnd : Type 0
 ReleasesEnd =
-    (service : Service) (tei : ℕ) (w : Wire) (hs : List Happening) → IsAtLine w.near → (link_here service tei w.near).state ≡ AwaitingRelease →
+    (service : Service) (tei : ℕ) (w : Wire) (hs : List Happening) → Past w.near → state_here service tei w.near ≡ Some 6 →
     All (IsPossible service tei w) hs → let behind = seen_near hs w in BeginsNothing service tei behind →
     IsToldOfRelease service tei (news service tei behind) × (data_noted service tei behind ≡ [])
 
--- And an end at which it is in state 4, as behind each note that it is released, is told nothing of it.
+-- And an end at which it is in state 4, as behind each note that it is released, or has no state, as its TEI is not on the line, is told
+-- nothing of it.
 abbrev pub ReleasedIsOver : Type 0
 ReleasedIsOver =
-    (service : Service) (tei : ℕ) (w : Wire) (hs : List Happening) → IsAtLine w.near → (link_here service tei w.near).state ≡ TeiAssigned →
+    (service : Service) (tei : ℕ) (w : Wire) (hs : List Happening) → Past w.near → unwrap_or (state_here service tei w.near) 4 ≡ 4 →
     All (IsPossible service tei w) hs → let behind = seen_near hs w in BeginsNothing service tei behind →
     (news service tei behind ≡ []) × (data_noted service tei behind ≡ [])

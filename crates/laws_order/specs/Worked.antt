@@ -11,15 +11,17 @@ use Rattle.lapd_seq.specs.Circle.{distance_of, named}
 use Rattle.lapd_seq.specs.Numbers.{seq}
 use Rattle.lapd_tei.specs.Events as teis
 use Rattle.model_line.specs.declared.config.Config.{Config}
-use Rattle.model_line.specs.Event.{request}
+use Rattle.model_line.specs.Event.{hears, request, next}
 use Rattle.model_line.specs.Machine as lines
 use Rattle.model_line.specs.Request.{Data, Establish, Assign, SetBusy, ClearBusy}
-use Rattle.model_card.specs.Event.{at}
+use Rattle.model_card.specs.Card.{fresh}
+use Rattle.model_card.specs.Event.{Event, at}
+use Rattle.model_card.specs.Run.{moments, after_all}
 use Rattle.laws_wire.specs.Call.{calling}
 use Rattle.laws_wire.specs.Wire.{Wire, requests, times_out, gives, takes, loses, Doing, at_near, at_far, doing_all}
 use Rattle.laws_wire.specs.Worked.{establishes}
 use Rattle.laws_order.specs.Happenings.{acts, disturbed, elsewhere, Happening, by_near, by_far, happening_all, seen_near, seen_far}
-use Rattle.laws_order.specs.Order.{data_noted, StaysEstablished, link_here, kept_by}
+use Rattle.laws_order.specs.Order.{data_noted, StaysEstablished, Known, known_by, kept_by}
 
 abbrev pub network : Config
 network = record { lines = 2; terminals = 1; k = 7; k16 = 3; queue = 8; unit_queue = 4; control = 4; slots = 16; n201 = 260; n200 = 3; side = Network }
@@ -81,36 +83,68 @@ pub call_far : StaysEstablished Call 0 (seen_far busy_run faces)
 unfolding lines.after lines.answer lines.takes_slot reading header_of control_of unnumbered_of supervisory_of teis.course teis.refusal seq distance_of named doing_all happening_all seen_near seen_far
 call_far = refl
 
--- A moment of rest at which the far end has received what it has not acknowledged yet: it is not told again, though the near end keeps it.
+-- What happened at the lines of the two ends up to where both links are established; and so what is known of an end there.
+abbrev pub near_begins : List Event
+near_begins =
+    at 0 (request (Assign 0)) ∷ at 0 (request (Establish Call 0)) ∷ at 0 next ∷ at 0 (hears (frame (0x00 ∷ 0x01 ∷ 0x73 ∷ [])))
+    ∷ at 0 (request (Establish Packet 0)) ∷ at 0 next ∷ at 0 (hears (frame (0x40 ∷ 0x01 ∷ 0x73 ∷ []))) ∷ []
+
+abbrev pub far_begins : List Event
+far_begins =
+    at 0 (request (Assign 0)) ∷ at 0 (hears (frame (0x00 ∷ 0x01 ∷ 0x7F ∷ []))) ∷ at 0 next ∷ at 0 (hears (frame (0x40 ∷ 0x01 ∷ 0x7F ∷ []))) ∷ at 0 next ∷ []
+
+near_is : faces.near.card ≡ after_all (fresh user) near_begins
+unfolding lines.after lines.answer lines.takes_slot reading header_of control_of unnumbered_of supervisory_of teis.course teis.refusal seq distance_of named doing_all happening_all moments after_all
+near_is = refl
+
+far_is : faces.far.card ≡ after_all (fresh network) far_begins
+unfolding lines.after lines.answer lines.takes_slot reading header_of control_of unnumbered_of supervisory_of teis.course teis.refusal seq distance_of named doing_all happening_all moments after_all
+far_is = refl
+
+abbrev pub near_known : List Event → Known
+near_known events = known_by user Call 0 0 (near_begins ++ events)
+
+abbrev pub far_known : List Event → Known
+far_known events = known_by network Call 0 0 (far_begins ++ events)
+
+-- In the midst of data the far end was told of what it has not acknowledged yet, which is not told again, though the near end keeps it;
+-- and its own I-frame is on its way, from before.
 abbrev pub sends_one : List Happening
-sends_one = by_near (acts (requests (Data Call 0 (1 ∷ [])))) ∷ by_near (acts gives) ∷ by_far (acts takes) ∷ []
+sends_one =
+    by_near (acts (requests (Data Call 0 (1 ∷ [])))) ∷ by_far (acts (requests (Data Call 0 (2 ∷ [])))) ∷ by_near (acts gives) ∷ by_far (acts gives)
+    ∷ by_far (acts takes) ∷ []
 
 abbrev pub owes : Wire
 owes = happening_all sends_one faces
 
 abbrev pub sends_more : List Happening
-sends_more =
-    by_near (acts (requests (Data Call 0 (2 ∷ [])))) ∷ by_far (acts gives) ∷ by_near (acts takes) ∷ by_near (acts gives) ∷ by_far (acts takes) ∷ []
+sends_more = by_near (acts (requests (Data Call 0 (3 ∷ [])))) ∷ by_near (acts takes) ∷ by_near (acts gives) ∷ by_far (acts takes) ∷ []
 
-is_kept : (link_here Call 0 owes.near).contents ≡ (1 ∷ []) ∷ []
-unfolding lines.after lines.answer lines.takes_slot reading header_of control_of unnumbered_of supervisory_of teis.course teis.refusal seq distance_of named doing_all happening_all seen_near seen_far
+is_kept : near_known (at 0 (request (Data Call 0 (1 ∷ []))) ∷ at 0 next ∷ []) ≡ record { told = 0; acknowledged = 0; kept = (1 ∷ []) ∷ []; waiting = [] }
+unfolding lines.after lines.answer lines.takes_slot reading header_of control_of unnumbered_of supervisory_of teis.course teis.refusal seq distance_of named doing_all happening_all moments after_all
 is_kept = refl
 
-not_missing : kept_by Call 0 owes.near owes.far ≡ []
-unfolding lines.after lines.answer lines.takes_slot reading header_of control_of unnumbered_of supervisory_of teis.course teis.refusal seq distance_of named doing_all happening_all seen_near seen_far
+has_told : far_known (at 0 (request (Data Call 0 (2 ∷ []))) ∷ at 0 next ∷ at 0 (hears (frame (0x00 ∷ 0x01 ∷ 0x00 ∷ 0x00 ∷ 1 ∷ []))) ∷ [])
+    ≡ record { told = 1; acknowledged = 0; kept = (2 ∷ []) ∷ []; waiting = [] }
+unfolding lines.after lines.answer lines.takes_slot reading header_of control_of unnumbered_of supervisory_of teis.course teis.refusal seq distance_of named doing_all happening_all moments after_all
+has_told = refl
+
+not_missing : kept_by (record { told = 0; acknowledged = 0; kept = (1 ∷ []) ∷ []; waiting = [] }) (record { told = 1; acknowledged = 0; kept = (2 ∷ []) ∷ []; waiting = [] }) ≡ []
 not_missing = refl
 
-more_far : data_noted Call 0 (seen_far sends_more owes) ≡ (2 ∷ []) ∷ []
-unfolding lines.after lines.answer lines.takes_slot reading header_of control_of unnumbered_of supervisory_of teis.course teis.refusal seq distance_of named doing_all happening_all seen_near seen_far
+more_far : data_noted Call 0 (seen_far sends_more owes) ≡ (3 ∷ []) ∷ []
+unfolding lines.after lines.answer lines.takes_slot reading header_of control_of unnumbered_of supervisory_of teis.course teis.refusal seq distance_of named doing_all happening_all seen_near seen_far moments after_all
 more_far = refl
 
-pub more_near_stays : StaysEstablished Call 0 (seen_near sends_more owes)
-unfolding lines.after lines.answer lines.takes_slot reading header_of control_of unnumbered_of supervisory_of teis.course teis.refusal seq distance_of named doing_all happening_all seen_near seen_far
-more_near_stays = refl
-
 pub more_far_stays : StaysEstablished Call 0 (seen_far sends_more owes)
-unfolding lines.after lines.answer lines.takes_slot reading header_of control_of unnumbered_of supervisory_of teis.course teis.refusal seq distance_of named doing_all happening_all seen_near seen_far
+unfolding lines.after lines.answer lines.takes_slot reading header_of control_of unnumbered_of supervisory_of teis.course teis.refusal seq distance_of named doing_all happening_all seen_near seen_far moments after_all
 more_far_stays = refl
+
+-- V(A) is counted on: it is 1 where RR 1 has come, and nothing is kept.
+is_gone : near_known (at 0 (request (Data Call 0 (1 ∷ []))) ∷ at 0 next ∷ at 0 (hears (frame (0x00 ∷ 0x01 ∷ 0x01 ∷ 0x02 ∷ []))) ∷ [])
+    ≡ record { told = 0; acknowledged = 1; kept = []; waiting = [] }
+unfolding lines.after lines.answer lines.takes_slot reading header_of control_of unnumbered_of supervisory_of teis.course teis.refusal seq distance_of named doing_all happening_all moments after_all
+is_gone = refl
 
 -- Moments in step at which not all is at rest: an RNR of the far end waits.
 abbrev pub busy_waits : Wire
@@ -129,6 +163,26 @@ pub cleared_stays : StaysEstablished Call 0 (seen_far clears busy_waits)
 unfolding lines.after lines.answer lines.takes_slot reading header_of control_of unnumbered_of supervisory_of teis.course teis.refusal seq distance_of named doing_all happening_all seen_near seen_far
 cleared_stays = refl
 
+-- One end is in state 8, and its enquiry waits.
+abbrev pub asks_state : List Happening
+asks_state = by_near (acts (times_out (T203 Call 0))) ∷ []
+
+abbrev pub enquires : Wire
+enquires = happening_all asks_state faces
+
+abbrev pub recovers : List Happening
+recovers =
+    by_near (acts (requests (Data Call 0 (1 ∷ [])))) ∷ by_near (acts gives) ∷ by_far (acts takes) ∷ by_far (acts gives) ∷ by_near (acts takes)
+    ∷ by_near (acts gives) ∷ by_far (acts takes) ∷ []
+
+recovered_far : data_noted Call 0 (seen_far recovers enquires) ≡ (1 ∷ []) ∷ []
+unfolding lines.after lines.answer lines.takes_slot reading header_of control_of unnumbered_of supervisory_of teis.course teis.refusal seq distance_of named doing_all happening_all seen_near seen_far moments after_all
+recovered_far = refl
+
+pub recovered_stays : StaysEstablished Call 0 (seen_far recovers enquires)
+unfolding lines.after lines.answer lines.takes_slot reading header_of control_of unnumbered_of supervisory_of teis.course teis.refusal seq distance_of named doing_all happening_all seen_near seen_far moments after_all
+recovered_stays = refl
+
 -- And the near end has just taken UA, behind which the far end has sent two I-frames already; the first of them is lost.
 abbrev pub early : Wire
 early =
@@ -140,8 +194,9 @@ loses_first =
     by_far (acts loses) ∷ by_near (acts takes) ∷ by_near (acts gives) ∷ by_far (acts takes) ∷ by_far (acts gives) ∷ by_far (acts gives)
     ∷ by_near (acts takes) ∷ by_near (acts takes) ∷ []
 
-both_kept : kept_by Call 0 early.far early.near ≡ (1 ∷ []) ∷ (2 ∷ []) ∷ []
-unfolding lines.after lines.answer lines.takes_slot reading header_of control_of unnumbered_of supervisory_of teis.course teis.refusal seq distance_of named doing_all happening_all seen_near seen_far
+both_kept : known_by network Call 0 0 (at 0 (request (Assign 0)) ∷ at 0 (hears (frame (0x00 ∷ 0x01 ∷ 0x7F ∷ []))) ∷ at 0 (request (Data Call 0 (1 ∷ [])))
+    ∷ at 0 (request (Data Call 0 (2 ∷ []))) ∷ at 0 next ∷ at 0 next ∷ at 0 next ∷ []) ≡ record { told = 0; acknowledged = 0; kept = (1 ∷ []) ∷ (2 ∷ []) ∷ []; waiting = [] }
+unfolding lines.after lines.answer lines.takes_slot reading header_of control_of unnumbered_of supervisory_of teis.course teis.refusal seq distance_of named doing_all happening_all moments after_all
 both_kept = refl
 
 early_near : data_noted Call 0 (seen_near loses_first early) ≡ (1 ∷ []) ∷ (2 ∷ []) ∷ []

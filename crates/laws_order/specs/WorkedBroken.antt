@@ -1,18 +1,22 @@
 -- Worked values: what would be told where a premise is left out. Each computes.
 use Rattle.std.specs.Prelude.{◌≡◌, ℕ, false, List, [], ◌∷◌, ◌++◌, refl}
 use Rattle.std.specs.List.{list_any}
+use Rattle.model_bits.specs.Stream.{frame}
 use Rattle.lapd_frame.specs.declared.services.Service.TheVariants.{Call}
 use Rattle.lapd_frame.specs.Reading.{reading, header_of, control_of, unnumbered_of, supervisory_of}
 use Rattle.lapd_seq.specs.Circle.{distance_of, named}
 use Rattle.lapd_seq.specs.Numbers.{seq}
 use Rattle.lapd_tei.specs.Events as teis
+use Rattle.model_line.specs.Event.{hears}
 use Rattle.model_line.specs.Machine as lines
 use Rattle.model_line.specs.Request.{Data}
+use Rattle.model_card.specs.Event.{at}
+use Rattle.model_card.specs.Run.{moments, after_all}
 use Rattle.laws_trace.specs.Trace.{IsFront}
 use Rattle.laws_wire.specs.Wire.{Wire, requests, gives, takes, doing_all}
 use Rattle.laws_order.specs.Happenings.{acts, Happening, by_near, by_far, happening_all, seen_near, seen_far}
 use Rattle.laws_order.specs.Order.{data_noted, data_granted, ends_by, kept_by, StaysEstablished}
-use Rattle.laws_order.specs.Worked.{faces}
+use Rattle.laws_order.specs.Worked.{faces, near_known, far_known}
 
 -- An I-frame that is on its way from an earlier establishment, with N(S) 0, is told as if it were of this one.
 abbrev old_frame : List ℕ
@@ -28,8 +32,8 @@ told_of_old : data_noted Call 0 (seen_far comes_late with_old) ≡ (0x99 ∷ [])
 unfolding lines.after lines.answer lines.takes_slot reading header_of control_of unnumbered_of supervisory_of teis.course teis.refusal seq distance_of named doing_all happening_all seen_near seen_far
 told_of_old = refl
 
-never_granted : kept_by Call 0 with_old.near with_old.far ++ data_granted Call 0 (seen_near comes_late with_old) ≡ []
-unfolding lines.after lines.answer lines.takes_slot reading header_of control_of unnumbered_of supervisory_of teis.course teis.refusal seq distance_of named doing_all happening_all seen_near seen_far
+never_granted : kept_by (near_known []) (far_known []) ++ data_granted Call 0 (seen_near comes_late with_old) ≡ []
+unfolding lines.after lines.answer lines.takes_slot reading header_of control_of unnumbered_of supervisory_of teis.course teis.refusal seq distance_of named doing_all happening_all seen_near seen_far moments after_all
 never_granted = refl
 
 no_end : StaysEstablished Call 0 (seen_far comes_late with_old)
@@ -55,8 +59,8 @@ told_six : data_noted Call 0 (seen_far skips ahead) ≡ (6 ∷ []) ∷ []
 unfolding lines.after lines.answer lines.takes_slot reading header_of control_of unnumbered_of supervisory_of teis.course teis.refusal seq distance_of named doing_all happening_all seen_near seen_far
 told_six = refl
 
-granted_both : kept_by Call 0 ahead.near ahead.far ++ data_granted Call 0 (seen_near skips ahead) ≡ (5 ∷ []) ∷ (6 ∷ []) ∷ []
-unfolding lines.after lines.answer lines.takes_slot reading header_of control_of unnumbered_of supervisory_of teis.course teis.refusal seq distance_of named doing_all happening_all seen_near seen_far
+granted_both : kept_by (near_known []) (far_known (at 0 (hears (frame old_frame)) ∷ [])) ++ data_granted Call 0 (seen_near skips ahead) ≡ (5 ∷ []) ∷ (6 ∷ []) ∷ []
+unfolding lines.after lines.answer lines.takes_slot reading header_of control_of unnumbered_of supervisory_of teis.course teis.refusal seq distance_of named doing_all happening_all seen_near seen_far moments after_all
 granted_both = refl
 
 both_last : list_any (ends_by Call 0) (seen_near skips ahead ++ seen_far skips ahead) ≡ false
@@ -84,8 +88,8 @@ told_nine : data_noted Call 0 (seen_near renews with_call) ≡ (7 ∷ []) ∷ (9
 unfolding lines.after lines.answer lines.takes_slot reading header_of control_of unnumbered_of supervisory_of teis.course teis.refusal seq distance_of named doing_all happening_all seen_near seen_far
 told_nine = refl
 
-granted_all : kept_by Call 0 with_call.far with_call.near ++ data_granted Call 0 (seen_far renews with_call) ≡ (7 ∷ []) ∷ (8 ∷ []) ∷ (9 ∷ []) ∷ []
-unfolding lines.after lines.answer lines.takes_slot reading header_of control_of unnumbered_of supervisory_of teis.course teis.refusal seq distance_of named doing_all happening_all seen_near seen_far
+granted_all : kept_by (far_known []) (near_known []) ++ data_granted Call 0 (seen_far renews with_call) ≡ (7 ∷ []) ∷ (8 ∷ []) ∷ (9 ∷ []) ∷ []
+unfolding lines.after lines.answer lines.takes_slot reading header_of control_of unnumbered_of supervisory_of teis.course teis.refusal seq distance_of named doing_all happening_all seen_near seen_far moments after_all
 granted_all = refl
 
 near_lasts : StaysEstablished Call 0 (seen_near renews with_call)

@@ -1,5 +1,5 @@
 -- Worked values: a release whose commands are lost, and what would be told where a premise is left out. Each computes.
-use Rattle.std.specs.Prelude.{◌≡◌, ℕ, true, List, [], ◌∷◌, ◌++◌, refl}
+use Rattle.std.specs.Prelude.{◌≡◌, ℕ, List, [], ◌∷◌, ◌++◌, refl}
 use Rattle.lapd_frame.specs.declared.notes.ErrorCode.TheVariants.{H}
 use Rattle.lapd_frame.specs.declared.notes.Note.TheVariants.{ReleaseConfirm, Error}
 use Rattle.lapd_frame.specs.declared.services.Service.TheVariants.{Call}
@@ -10,7 +10,6 @@ use Rattle.lapd_seq.specs.Numbers.{seq}
 use Rattle.lapd_tei.specs.Events as teis
 use Rattle.model_line.specs.Machine as lines
 use Rattle.model_line.specs.Request.{Release, Remove, Deactivate}
-use Rattle.laws_wire.specs.Arriving.{runs_t200}
 use Rattle.laws_wire.specs.Wire.{Wire, requests, times_out, gives, takes, loses, turned, doing_all}
 use Rattle.laws_order.specs.Happenings.{acts, Happening, by_near, happening_all, seen_near, seen_far}
 use Rattle.laws_order.specs.InTheEnd.{t200s, StaysThere}
@@ -19,16 +18,16 @@ use Rattle.laws_order.specs.Release.{news, BeginsNothing}
 use Rattle.laws_order.specs.Worked.{faces}
 use Rattle.laws_order.specs.WorkedRelease.{releases, released, takes_two, takes_disc}
 
-pub runs_on : runs_t200 Call 0 released.near ≡ true
-unfolding lines.after lines.answer lines.takes_slot reading header_of control_of unnumbered_of supervisory_of teis.course teis.refusal seq distance_of named doing_all happening_all
-runs_on = refl
-
 -- N200 is 3. The I-frames that were on their way are lost, and DISC, and T200 expires: at the fourth time the near end is told.
 abbrev pub is_lost : List Happening
 is_lost = by_near (acts gives) ∷ by_near (acts loses) ∷ by_near (acts (times_out (T200 Call 0))) ∷ []
 
 abbrev pub gives_up : List Happening
 gives_up = is_lost ++ is_lost ++ is_lost ++ is_lost
+
+pub repeats_three : released.near.card.config.n200 ≡ 3
+unfolding lines.after lines.answer lines.takes_slot reading header_of control_of unnumbered_of supervisory_of teis.course teis.refusal seq distance_of named doing_all happening_all
+repeats_three = refl
 
 three_are_few : news Call 0 (seen_near (is_lost ++ is_lost ++ is_lost) released) ≡ []
 unfolding lines.after lines.answer lines.takes_slot reading header_of control_of unnumbered_of supervisory_of teis.course teis.refusal seq distance_of named doing_all happening_all seen_near
@@ -58,7 +57,7 @@ pub comes_confirmed : news Call 0 (seen_near comes released) ≡ ReleaseConfirm 
 unfolding lines.after lines.answer lines.takes_slot reading header_of control_of unnumbered_of supervisory_of teis.course teis.refusal seq distance_of named doing_all happening_all seen_near
 comes_confirmed = refl
 
-pub comes_there : StaysThere 0 comes released
+pub comes_there : StaysThere Call 0 comes released
 unfolding lines.after lines.answer lines.takes_slot reading header_of control_of unnumbered_of supervisory_of teis.course teis.refusal seq distance_of named doing_all happening_all StaysThere
 comes_there = (refl, (refl, (refl, (refl, (refl, (refl, (refl, refl)))))))
 

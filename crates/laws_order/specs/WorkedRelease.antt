@@ -1,5 +1,5 @@
 -- Worked values: releases in the midst of data. Each computes.
-use Rattle.std.specs.Prelude.{◌≡◌, List, [], ◌∷◌, ◌++◌, refl}
+use Rattle.std.specs.Prelude.{◌≡◌, List, [], ◌∷◌, ◌++◌, Some, refl}
 use Rattle.lapd_frame.specs.declared.notes.ErrorCode.TheVariants.{C}
 use Rattle.lapd_frame.specs.declared.notes.Note.{Note}
 use Rattle.lapd_frame.specs.declared.notes.Note.TheVariants.{ReleaseIndication, ReleaseConfirm, Error}
@@ -9,13 +9,12 @@ use Rattle.lapd_frame.specs.Reading.{reading, header_of, control_of, unnumbered_
 use Rattle.lapd_seq.specs.Circle.{distance_of, named}
 use Rattle.lapd_seq.specs.Numbers.{seq}
 use Rattle.lapd_tei.specs.Events as teis
-use Rattle.model_link.specs.declared.states.State.TheVariants.{TeiAssigned, AwaitingRelease}
 use Rattle.model_line.specs.Machine as lines
 use Rattle.model_line.specs.Request.{Data, Release}
 use Rattle.laws_trace.specs.Trace.{Seen, noted}
 use Rattle.laws_wire.specs.Wire.{Wire, requests, times_out, gives, takes, doing_all}
 use Rattle.laws_order.specs.Happenings.{acts, Happening, by_near, by_far, happening_all, seen_near, seen_far}
-use Rattle.laws_order.specs.Order.{data_noted, StaysEstablished, link_here}
+use Rattle.laws_order.specs.Order.{data_noted, StaysEstablished, state_here}
 use Rattle.laws_order.specs.Release.{news, BeginsNothing}
 use Rattle.laws_order.specs.Worked.{faces}
 
@@ -36,7 +35,7 @@ takes_two = by_near (acts gives) ∷ by_far (acts takes) ∷ by_far (acts takes)
 abbrev pub takes_disc : List Happening
 takes_disc = by_far (acts takes) ∷ by_far (acts gives) ∷ by_near (acts takes) ∷ []
 
-pub awaits : (link_here Call 0 released.near).state ≡ AwaitingRelease
+pub awaits : state_here Call 0 released.near ≡ Some 6
 unfolding lines.after lines.answer lines.takes_slot reading header_of control_of unnumbered_of supervisory_of teis.course teis.refusal seq distance_of named doing_all happening_all
 awaits = refl
 
@@ -87,6 +86,6 @@ far_told : all_notes (seen_far both_release released) ≡ ReleaseConfirm Call 0 
 unfolding lines.after lines.answer lines.takes_slot reading header_of control_of unnumbered_of supervisory_of teis.course teis.refusal seq distance_of named doing_all happening_all seen_far
 far_told = refl
 
-then_down : (link_here Call 0 (happening_all both_release released).near).state ≡ TeiAssigned
+then_down : state_here Call 0 (happening_all both_release released).near ≡ Some 4
 unfolding lines.after lines.answer lines.takes_slot reading header_of control_of unnumbered_of supervisory_of teis.course teis.refusal seq distance_of named doing_all happening_all
 then_down = refl

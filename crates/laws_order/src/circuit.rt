@@ -48,7 +48,7 @@ pub fn all_is_told_in_beats()
 
 /// What is delivered is in order, though octets are damaged. A line of a card for octets of one side faces a line of
 /// one of the other, and the links of a service and TEI are in step there, as [`crate::delivered_in_order`] has
-/// them. Then anything happens at both: requests of any kind, expiries, pulls, octets of any value that come, and any
+/// them, to whoever watches the cards of frames inside, to which what happened is what their octets meant. Then anything happens at both: requests of any kind, expiries, pulls, octets of any value that come, and any
 /// events at the other lines. What comes need not be what the other's pulls gave: octets are changed, lost or added
 /// anywhere, and other terminals may be heard. Of all that comes one thing alone is assumed: a frame of the link that
 /// is heard whole, its check right, was pulled whole; it is one of those that the other's pulls began, behind all that

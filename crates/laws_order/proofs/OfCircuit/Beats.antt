@@ -13,10 +13,10 @@ use Rattle.laws_order.proofs.OfCircuit.Onward.{acts-append, meant-append, many-b
 unfoldable use Rattle.laws_order.proofs.OfCircuit.Onward.{many}
 use Rattle.laws_order.proofs.OfCircuit.Projected.{as_wire, Fits, Follows, all-done}
 unfoldable use Rattle.laws_order.proofs.OfCircuit.Projected.{doings_meant}
-use Rattle.laws_order.proofs.OfCircuit.Mute.{IsMute, all-talk}
+use Rattle.laws_order.proofs.OfCircuit.Takings.{IsMute, all-talk}
 use Rattle.laws_order.proofs.OfCircuit.Takings.{takings, takings-append, on_ways, all-paid}
 use Rattle.laws_order.proofs.OfCircuit.Through as through
-use Rattle.laws_order.proofs.OfCircuit.WhoCalls.{or-none}
+use Rattle.laws_order.proofs.OfCircuit.Through.{or-none}
 use Rattle.laws_wire.proofs.Run.{or-both}
 
 module _ (n201 way : ℕ) (service : Service) (tei : ℕ) (c d : Config) (fits : Fits n201 c) (fits_far : Fits n201 d) where

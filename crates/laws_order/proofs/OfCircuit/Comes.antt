@@ -5,7 +5,7 @@ use Rattle.laws_wire.specs.Wire as wire
 use Rattle.laws_order.proofs.OfCircuit.AsFrames.{as_station}
 use Rattle.laws_order.proofs.OfCircuit.Coming.{Kept, from-near, from-far, frames_of, Puts, putting, GoesOn, going, all-out, Hears, hearing, length-framed, IsBehind}
 use Rattle.laws_order.proofs.OfCircuit.AtPort.{next_of_card}
-use Rattle.laws_order.proofs.OfCircuit.Mute.{one_pull, all-talk, count_near, count_far}
+use Rattle.laws_order.proofs.OfCircuit.Takings.{one_pull, all-talk, count_near, count_far}
 use Rattle.laws_order.proofs.OfCircuit.OneWay.{Carries, framed, heard-beyond}
 use Rattle.laws_order.proofs.OfCircuit.Onward.{meant-append, many, many-append, many-mute, pulls-near, pulls-far, hearings-near, hearings-far, many-stay}
 use Rattle.laws_order.proofs.OfCircuit.Projected.{as_wire, doings_meant, Fits, Follows, all-done}

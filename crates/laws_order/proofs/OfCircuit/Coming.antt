@@ -7,7 +7,7 @@ use Rattle.laws_wire.specs.Wire as wire
 use Rattle.laws_order.specs.circuit.Circuit.{Termination, port_of, happens, with_first_of, Circuit, OctetAct, asks, pulls, hears, OctetDoing, at_near, at_far, acting, turned, doing}
 unfoldable use Rattle.laws_order.specs.circuit.Circuit.{doing_all}
 use Rattle.laws_order.proofs.OfCircuit.AtPort.{next_of_card, pull-between, pull-put, pull-given, pull-received, card-heard, port-heard}
-use Rattle.laws_order.proofs.OfCircuit.Mute.{IsMuteOf, IsMute, one_pull, one_hearing, mute-talk, count_near, count_far}
+use Rattle.laws_order.proofs.OfCircuit.Takings.{IsMuteOf, IsMute, one_pull, one_hearing, mute-talk, count_near, count_far}
 use Rattle.laws_order.proofs.OfCircuit.OneWay.{Carries, framed, frames_among-append, one-heard, out, all-given}
 use Rattle.laws_order.proofs.OfCircuit.Projected.{as_wire, hearing_means, act_meant, doing_meant, Fits, Follows, other-way, one-done}
 unfoldable use Rattle.laws_order.proofs.OfCircuit.Projected.{doings_meant}

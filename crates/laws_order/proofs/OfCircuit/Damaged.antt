@@ -1,5 +1,5 @@
 -- What happens on a circuit on which octets are damaged is, at the cards of frames inside, what happens on a wire of frames.
-use Rattle.laws_order.proofs.Vocabulary.{◌≡◌, ℕ, Bool, true, false, cond, List, [], ◌∷◌, ◌++◌, drop, Option, None, Some, option_map, option_to_list, refl, sym, ap, ◌∙◌, subst, append-nil, All, flat_map, option_map_or, All-nil, All-cons, All-head, Service, LineTold, Card, port_at, answer_to, card_after, gained, is_due, Seen, IsFront, Station, Wire, frames_by, FaceInStep, StaysEstablished, data_noted, data_granted, kept_by}
+use Rattle.laws_order.proofs.Vocabulary.{◌≡◌, ℕ, Bool, true, false, cond, List, [], ◌∷◌, ◌++◌, drop, Option, None, Some, option_map, option_to_list, refl, sym, ap, ◌∙◌, subst, append-nil, All, flat_map, option_map_or, All-nil, All-cons, All-head, Service, LineTold, Card, port_at, answer_to, card_after, gained, is_due, Seen, IsFront, Station, Wire, frames_by, Past, known, FaceInStep, StaysEstablished, data_noted, data_granted, kept_by}
 use Rattle.model_bits.specs.Stream as stream
 use Rattle.model_line.specs.Event as line
 use Rattle.model_card.specs.Event as frames
@@ -283,14 +283,17 @@ module _ (service : Service) (tei : ℕ) (first : Wire) where
         go (Some deed) same shown can = record { step = Some (order.by_far deed); same = ap wire.turned same; can = can; near_is = refl; far_is = shown }
 
 -- so what is told is in order
-pub delivered-as : (service : Service) (tei : ℕ) (w : Wire) (near far : List Seen) → FaceInStep service tei w → Ran service tei w w near far
-    → (StaysEstablished service tei near → IsFront (data_noted service tei near) (kept_by service tei w.far w.near ++ data_granted service tei far))
-    × (StaysEstablished service tei far → IsFront (data_noted service tei far) (kept_by service tei w.near w.far ++ data_granted service tei near))
-delivered-as service tei w near far step ran =
+pub delivered-as : (service : Service) (tei : ℕ) (w : Wire) (p : Past w.near) (q : Past w.far) (near far : List Seen) →
+    let n = known service tei w.near p in let m = known service tei w.far q in FaceInStep service tei w n m → Ran service tei w w near far
+    → (StaysEstablished service tei near → IsFront (data_noted service tei near) (kept_by m n ++ data_granted service tei far))
+    × (StaysEstablished service tei far → IsFront (data_noted service tei far) (kept_by n m ++ data_granted service tei near))
+delivered-as service tei w p q near far step ran =
+    let n = known service tei w.near p in
+    let m = known service tei w.far q in
     let both : (List Seen → List Seen → Type 0) =
-    λ near far. (StaysEstablished service tei near → IsFront (data_noted service tei near) (kept_by service tei w.far w.near ++ data_granted service tei far))
-    × (StaysEstablished service tei far → IsFront (data_noted service tei far) (kept_by service tei w.near w.far ++ data_granted service tei near)) in
-    subst (λ near. both near far) ran.near_is (subst (both (order.seen_near ran.run w)) ran.far_is (delivered-in-order service tei w ran.run step ran.can))
+    λ near far. (StaysEstablished service tei near → IsFront (data_noted service tei near) (kept_by m n ++ data_granted service tei far))
+    × (StaysEstablished service tei far → IsFront (data_noted service tei far) (kept_by n m ++ data_granted service tei near)) in
+    subst (λ near. both near far) ran.near_is (subst (both (order.seen_near ran.run w)) ran.far_is (delivered-in-order service tei w p q ran.run step ran.can))
 
 -- ---- two ends for octets
 
@@ -315,5 +318,5 @@ all-ran service tei first (by_far deed ∷ hs) w g h t u stay can =
     (far-one service tei first w.far w'.far y (left_by deed w.near.way) h u (seen_by deed w.far) x) (λ stay'. all-ran service tei first hs w' g x.granted t x.told stay' can.1)
 
 pub delivered-though-damaged : DeliveredThoughDamaged
-delivered-though-damaged service tei w hs step can =
-    delivered-as service tei (as_wire w) (seen_near hs w) (seen_far hs w) step (all-ran service tei (as_wire w) hs w [] [] [] [] (stays (as_wire w)) can)
+delivered-though-damaged service tei w p q hs step can =
+    delivered-as service tei (as_wire w) p q (seen_near hs w) (seen_far hs w) step (all-ran service tei (as_wire w) hs w [] [] [] [] (stays (as_wire w)) can)

@@ -1,5 +1,5 @@
 -- The premises of the law on damaged octets are met by the worked run.
-use Rattle.laws_order.proofs.Vocabulary.{◌≡◌, ℕ, ◌<◌, ◌&&◌, ◌==◌, Bool, true, false, IsTrue, List, [], ◌∷◌, ◌++◌, Option, Some, eqb-true, refl, arith, sym, ap, ◌∙◌, subst, and_parts, Call, Parts, other_side, reading, header_of, control_of, unnumbered_of, supervisory_of, distance_of, named, seq, low_bits, is_multiple_frame, Config, terms, heard_side, IsFront, user, network, Station, of_link_at, data_noted, data_granted, link_here, said_by, AreOfStep, HasReceivedOf, FaceInStep, kept_by, Circuit, doing_all, Mixed, establishes}
+use Rattle.laws_order.proofs.Vocabulary.{◌≡◌, ℕ, ◌&&◌, ◌==◌, Bool, true, false, List, [], ◌∷◌, ◌++◌, Option, Some, eqb-true, refl, ap, and_parts, Call, Parts, reading, header_of, control_of, unnumbered_of, supervisory_of, distance_of, named, seq, low_bits, Config, heard_side, IsFront, user, network, Station, of_link_at, data_noted, data_granted, None, port_of, known, kept_by, Circuit, doing_all, Mixed, establishes}
 use Rattle.lapd_tei.specs.Events as teis
 use Rattle.model_bits.specs.Stream as stream
 use Rattle.model_line.specs.Event as line
@@ -16,10 +16,11 @@ use Rattle.laws_order.specs.circuit.WorkedCall as call
 use Rattle.laws_order.specs.circuit.WorkedDamaged.{begins, goes_again, far_stays}
 use Rattle.laws_order.proofs.OfCircuit.Damaged.{delivered-though-damaged}
 use Rattle.laws_order.proofs.OfCircuit.Mixed.{delivered-between-kinds}
-use Rattle.laws_order.proofs.OfCircuit.PremisesMet.{can, by-mutes}
-use Rattle.laws_order.proofs.OfCircuit.Ran as ran
-use Rattle.laws_order.proofs.OfCircuit.Ran.{Ran}
-use Rattle.laws_order.proofs.OfCircuit.Through as through
+use Rattle.laws_order.proofs.OfCircuit.PremisesMet.{can, by-mutes, is_flag, ends-in-flag}
+use Rattle.laws_order.proofs.OfCircuit.Resting.{calls-come-to-rest}
+use Rattle.model_card.specs.Event as frames
+use Rattle.model_card.specs.Machine as machine
+use Rattle.laws_order.specs.circuit.Resting.{FaceAtRest}
 
 -- ---- what happens is possible, as is computed
 
@@ -101,60 +102,51 @@ computed : are_possible goes_again begins ≡ true
 unfolding lines.after lines.answer lines.takes_slot reading header_of control_of unnumbered_of supervisory_of teis.course teis.refusal seq distance_of named low_bits ports.after ports.answer ports.meant doing_all are_possible
 computed = refl
 
--- ---- the two ends are in step
+-- ---- the two ends are at rest
 
 abbrev established : Circuit
 established = doing_all establishes call.begins
 
-near-ran : Ran user established.near
-near-ran = (through.done Call user network 0 0 0 establishes can (by-mutes establishes refl)).follows.near
-
-far-ran : Ran network established.far
-far-ran = (through.done Call user network 0 0 0 establishes can (by-mutes establishes refl)).follows.far
-
--- What of it computes.
-record Looks : Type 0 where
-  near_up : IsTrue (is_multiple_frame (link_here Call 0 (as_station begins.near)).state)
-  far_up : IsTrue (is_multiple_frame (link_here Call 0 (as_station begins.far)).state)
-  near_said : AreOfStep (terms (as_station begins.near).card.config Call 0) (link_here Call 0 (as_station begins.near)) (said_by Call 0 (as_station begins.near))
-  far_said : AreOfStep (terms (as_station begins.far).card.config Call 0) (link_here Call 0 (as_station begins.far)) (said_by Call 0 (as_station begins.far))
-  near_a : (link_here Call 0 (as_station begins.near)).a ≡ 0
-  near_r : (link_here Call 0 (as_station begins.near)).r ≡ 0
-  far_a : (link_here Call 0 (as_station begins.far)).a ≡ 0
-  far_r : (link_here Call 0 (as_station begins.far)).r ≡ 0
-
-looks : Looks
+near-flag : is_flag false (port_of established.near).items ≡ true
 unfolding lines.after lines.answer lines.takes_slot reading header_of control_of unnumbered_of supervisory_of teis.course teis.refusal seq distance_of named low_bits ports.after ports.answer ports.meant doing_all
-looks = record { near_up = refl; far_up = refl; near_said = tt; far_said = tt; near_a = refl; near_r = refl; far_a = refl; far_r = refl }
+near-flag = refl
 
-received : (s u : Station) → (link_here Call 0 s).a ≡ 0 → (link_here Call 0 u).r ≡ 0 → HasReceivedOf Call 0 s u
-received s u a r = record { acknowledged = omega (arith, a, r); kept = omega (arith, r); window = omega (arith, r) }
+far-flag : is_flag false (port_of established.far).items ≡ true
+unfolding lines.after lines.answer lines.takes_slot reading header_of control_of unnumbered_of supervisory_of teis.course teis.refusal seq distance_of named low_bits ports.after ports.answer ports.meant doing_all
+far-flag = refl
 
-pub in-step : FaceInStep Call 0 (as_wire begins)
-in-step =
-    let near : established.near.card.card.config ≡ user = ran.config user can.near established.near near-ran in
-    let far : established.far.card.card.config ≡ network = ran.config network can.far established.far far-ran in
-    record {
-      near = record {
-        sound = (ran.sound user can.near established.near near-ran).card;
-        within = subst (λ (x : Config). established.near.line < x.lines) (sym near) near-ran.within;
-        up = looks.near_up;
-        said = looks.near_said;
-      };
-      far = record {
-        sound = (ran.sound network can.far established.far far-ran).card;
-        within = subst (λ (x : Config). established.far.line < x.lines) (sym far) far-ran.within;
-        up = looks.far_up;
-        said = looks.far_said;
-      };
-      sides = ap (λ (x : Config). x.side) far ∙ can.sides ∙ ap (λ (x : Config). other_side x.side) (sym near);
-      there = received (as_station begins.near) (as_station begins.far) looks.near_a looks.far_r;
-      back = received (as_station begins.far) (as_station begins.near) looks.far_a looks.near_r;
-    }
+near-none : machine.answer (frames.at established.near.line line.next) established.near.card.card ≡ line.gave None
+unfolding lines.after lines.answer lines.takes_slot reading header_of control_of unnumbered_of supervisory_of teis.course teis.refusal seq distance_of named low_bits ports.after ports.answer ports.meant doing_all
+near-none = refl
+
+far-none : machine.answer (frames.at established.far.line line.next) established.far.card.card ≡ line.gave None
+unfolding lines.after lines.answer lines.takes_slot reading header_of control_of unnumbered_of supervisory_of teis.course teis.refusal seq distance_of named low_bits ports.after ports.answer ports.meant doing_all
+far-none = refl
+
+near-heard : established.near.way ≡ []
+unfolding lines.after lines.answer lines.takes_slot reading header_of control_of unnumbered_of supervisory_of teis.course teis.refusal seq distance_of named low_bits ports.after ports.answer ports.meant doing_all
+near-heard = refl
+
+far-heard : established.far.way ≡ []
+unfolding lines.after lines.answer lines.takes_slot reading header_of control_of unnumbered_of supervisory_of teis.course teis.refusal seq distance_of named low_bits ports.after ports.answer ports.meant doing_all
+far-heard = refl
+
+pub rest : FaceAtRest Call 0 (as_wire begins)
+rest =
+    let near = ends-in-flag (port_of established.near).items near-flag in
+    let far = ends-in-flag (port_of established.far).items far-flag in
+    calls-come-to-rest Call user network 0 0 0 establishes can (by-mutes establishes refl) (record {
+      near = record { none = near-none; front = near.front; flag = near.flag; heard = near-heard };
+      far = record { none = far-none; front = far.front; flag = far.flag; heard = far-heard };
+    })
+
+-- what is kept at the near end, and the far end was not told of
+abbrev pub kept : List (List ℕ)
+kept = kept_by (known Call 0 (as_station begins.near) rest.near) (known Call 0 (as_station begins.far) rest.far)
 
 -- so the law says what the worked values show
-pub in-order : IsFront (data_noted Call 0 (seen_far goes_again begins)) (kept_by Call 0 (as_station begins.near) (as_station begins.far) ++ data_granted Call 0 (seen_near goes_again begins))
-in-order = (delivered-though-damaged Call 0 begins goes_again in-step (all-so goes_again begins computed)).1 far_stays
+pub in-order : IsFront (data_noted Call 0 (seen_far goes_again begins)) (kept ++ data_granted Call 0 (seen_near goes_again begins))
+in-order = (delivered-though-damaged Call 0 begins rest.near rest.far goes_again rest.step (all-so goes_again begins computed)).1 far_stays
 
 -- ---- and so of a card of frames and one of octets
 
@@ -184,6 +176,5 @@ mixed-computed : are_mixed worked.goes_again worked.begins ≡ true
 unfolding lines.after lines.answer lines.takes_slot reading header_of control_of unnumbered_of supervisory_of teis.course teis.refusal seq distance_of named low_bits ports.after ports.answer ports.meant doing_all are_mixed
 mixed-computed = refl
 
-pub mixed-in-order : IsFront (data_noted Call 0 (mixed.seen_far worked.goes_again worked.begins))
-    (kept_by Call 0 worked.begins.near (as_station worked.begins.far) ++ data_granted Call 0 (mixed.seen_near worked.goes_again worked.begins))
-mixed-in-order = (delivered-between-kinds Call 0 worked.begins worked.goes_again in-step (mixed-so worked.goes_again worked.begins mixed-computed)).1 worked.far_stays
+pub mixed-in-order : IsFront (data_noted Call 0 (mixed.seen_far worked.goes_again worked.begins)) (kept ++ data_granted Call 0 (mixed.seen_near worked.goes_again worked.begins))
+mixed-in-order = (delivered-between-kinds Call 0 worked.begins rest.near rest.far worked.goes_again rest.step (mixed-so worked.goes_again worked.begins mixed-computed)).1 worked.far_stays

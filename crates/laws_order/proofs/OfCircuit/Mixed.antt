@@ -36,5 +36,5 @@ all-mixed service tei first (mixed.by_octets deed ∷ hs) w h u stay can =
     (far-one service tei first w.far w'.far w.near (left_by deed w.near.way) h u (seen_by deed w.far) x) (λ stay'. all-mixed service tei first hs w' x.granted x.told stay' can.1)
 
 pub delivered-between-kinds : DeliveredBetweenKinds
-delivered-between-kinds service tei w hs step can =
-    delivered-as service tei (mixed.as_wire w) (mixed.seen_near hs w) (mixed.seen_far hs w) step (all-mixed service tei (mixed.as_wire w) hs w [] [] (stays (mixed.as_wire w)) can)
+delivered-between-kinds service tei w p q hs step can =
+    delivered-as service tei (mixed.as_wire w) p q (mixed.seen_near hs w) (mixed.seen_far hs w) step (all-mixed service tei (mixed.as_wire w) hs w [] [] (stays (mixed.as_wire w)) can)

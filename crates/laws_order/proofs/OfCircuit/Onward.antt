@@ -9,7 +9,7 @@ use Rattle.laws_order.specs.circuit.Circuit.{Termination, port_of, happens, told
 unfoldable use Rattle.laws_order.specs.circuit.Circuit.{doing_all}
 use Rattle.laws_order.proofs.OfCircuit.Projected.{doing_meant, heard-way}
 unfoldable use Rattle.laws_order.proofs.OfCircuit.Projected.{doings_meant}
-use Rattle.laws_order.proofs.OfCircuit.Mute.{IsMute, one_pull, one_hearing, count_near, count_far}
+use Rattle.laws_order.proofs.OfCircuit.Takings.{IsMute, one_pull, one_hearing, count_near, count_far}
 
 -- ---- lists
 

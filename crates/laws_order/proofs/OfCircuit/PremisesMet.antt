@@ -21,19 +21,19 @@ abbrev after_it : Circuit
 after_it = doing_all sends begins
 
 -- an idle flag is the last item
-abbrev is_flag : Bool → List Item → Bool
+abbrev pub is_flag : Bool → List Item → Bool
 is_flag b [] = b
 is_flag b (idle ∷ items) = is_flag true items
 is_flag b (frame octets ∷ items) = is_flag false items
 
-record EndsInFlag (items : List Item) : Type 0 where
-  front : List Item
-  flag : items ≡ front ++ idle ∷ []
+pub record EndsInFlag (items : List Item) : Type 0 where
+  pub front : List Item
+  pub flag : items ≡ front ++ idle ∷ []
 
 behind : (i : Item) (items : List Item) → EndsInFlag items → EndsInFlag (i ∷ items)
 behind i items h = record { front = i ∷ h.front; flag = ap (λ l. i ∷ l) h.flag }
 
-ends-in-flag : (items : List Item) → is_flag false items ≡ true → EndsInFlag items
+pub ends-in-flag : (items : List Item) → is_flag false items ≡ true → EndsInFlag items
 ends-in-flag [] e = absurd (cc e)
 ends-in-flag (idle ∷ []) e = record { front = []; flag = refl }
 ends-in-flag (idle ∷ idle ∷ items) e = behind idle (idle ∷ items) (ends-in-flag (idle ∷ items) e)

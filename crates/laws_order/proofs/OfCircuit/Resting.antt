@@ -1,17 +1,30 @@
 -- Two cards that face each other as a call leaves them are at rest.
-use Rattle.laws_order.proofs.Vocabulary.{◌≡◌, ℕ, List, [], ◌++◌, map, refl, sym, ap, subst, arith, All, Service, frame_of, is_multiple_frame, Config, terms, IsReady, IsTaken, CanCall, Face, end_of, Station, IsStill, calls-face, of_link_on, link_here, said_by, AreOfStep, HasReceivedOf, Circuit, OctetDoing, IsTalk, HasAllGone}
-use Rattle.laws_order.specs.circuit.Resting.{CallsComeToRest}
-use Rattle.laws_order.proofs.OfCircuit.AsFrames.{as_station}
+use Rattle.laws_order.proofs.Vocabulary.{◌≡◌, ◌∙◌, ℕ, List, [], map, sym, ap, subst, arith, All, Service, frame_of, is_multiple_frame, Config, terms, IsReady, IsTaken, CanCall, Face, end_of, Station, IsStill, calls-face, Wire, length, drop, length-drop, ◌-◌, said_by, AreOfStep, IsInStep, FaceInStep, Circuit, OctetDoing, IsTalk, HasAllGone}
+use Rattle.model_line.specs.Line.{window}
+use Rattle.laws_order.specs.circuit.Resting.{FaceAtRest, CallsComeToRest}
+use Rattle.laws_order.proofs.Beginning.{Pasts, past-same, past-all, past-calling, link_known, up-here, from-links}
+use Rattle.laws_order.proofs.Pairs.{link_here}
 use Rattle.laws_order.proofs.OfCircuit.Projected.{as_wire, doings_meant}
 use Rattle.laws_order.proofs.OfCircuit.Through as through
 
-received : (service : Service) (tei : ℕ) (s u : Station) → IsReady (end_of service tei s) → IsTaken (end_of service tei s) (end_of service tei u) → HasReceivedOf service tei s u
-received service tei s u ready taken =
-    let same = taken.received in
-    let low = ready.sound.ordered in
-    let most = ready.sound.accepted in
-    let within = ready.sound.within in
-    record { acknowledged = omega (arith, same, low); kept = omega (arith, same, most); window = omega (arith, same, within) }
+-- An end from where nothing is on its way.
+abbrev rested : Station → Station
+rested s = record { card = s.card; line = s.line; way = []; granted = []; told = [] }
+
+-- That of a call in which all has gone, of which nothing waits.
+rests : (service : Service) (tei : ℕ) (s u : Station) → IsReady (end_of service tei s) → IsReady (end_of service tei u) → IsTaken (end_of service tei s) (end_of service tei u)
+    → IsTaken (end_of service tei u) (end_of service tei s) → said_by service tei (rested s) (link_known service tei s) ≡ [] → IsInStep service tei (rested s) (link_known service tei s) (link_known service tei u)
+rests service tei s u ready other taken back none =
+    let l = link_here service tei s in
+    let all : (link_here service tei u).r ≡ l.s = taken.received in
+    let got : l.r ≡ (link_here service tei u).s = back.received in
+    let few : length (drop l.a l.contents) ≡ length l.contents - l.a = length-drop l.a l.contents in
+    record {
+      up = up-here service tei (rested s) ∙ ap is_multiple_frame ready.state;
+      said = subst (AreOfStep (window s.card.config service) (link_known service tei s) (link_here service tei u).a) (sym none) (omega (arith, got, other.sound.ordered));
+      kept = omega (arith, all, few, ready.sound.ordered, ready.sound.accepted);
+      within = omega (arith, all, ready.sound.within);
+    }
 
 module _ (service : Service) (c d : Config) (line other tei : ℕ) (ds : List OctetDoing) (can : CanCall c line d other tei) (talk : All (IsTalk service tei) ds) where
   abbrev last : Circuit
@@ -24,27 +37,38 @@ module _ (service : Service) (c d : Config) (line other tei : ℕ) (ds : List Oc
       let still = through.still service c d line other tei ds can talk gone in
       subst (Face service tei) led (calls-face service c d line other tei (doings_meant ds (through.begun service c d line other tei ds can talk)) can done.talk (subst IsStill (sym led) still))
 
--- what is said where nothing waits or is on its way
-none-said : (service : Service) (tei : ℕ) (s : Station) → (link_here service tei s).waiting ≡ [] → s.way ≡ [] → said_by service tei s ≡ []
-none-said service tei s waiting way =
-    λ i. of_link_on service tei s.card.config.side (way i) ++ map (frame_of (terms s.card.config service tei)) (waiting i)
+  -- each end has a past
+  abbrev there : Wire
+  there = as_wire (through.done service c d line other tei ds can talk).there' (through.done service c d line other tei ds can talk).back' last
+
+  pasts : Pasts there
+  pasts =
+      subst Pasts (through.led service c d line other tei ds can talk)
+      (past-all (doings_meant ds (through.begun service c d line other tei ds can talk)) _ (past-calling service tei c line d other can.near can.near_line can.far can.far_line))
+
+  none-said : (s : Station) → (link_here service tei s).waiting ≡ [] → said_by service tei (rested s) (link_known service tei (rested s)) ≡ []
+  none-said s waiting = ap (map (frame_of (terms s.card.config service tei))) waiting
+
+  at-rest : Face service tei there → FaceAtRest service tei (record { near = rested there.near; far = rested there.far })
+  at-rest h =
+      let w : Wire = record { near = rested there.near; far = rested there.far } in
+      let near = none-said there.near h.near_ready.waiting in
+      let far = none-said there.far h.far_ready.waiting in
+      let p = past-same there.near [] [] [] pasts.near in
+      let q = past-same there.far [] [] [] pasts.far in
+      let up = ap is_multiple_frame h.near_ready.state in
+      let others = ap is_multiple_frame h.far_ready.state in
+      record {
+        near = p;
+        far = q;
+        step = from-links service tei w p q up others (FaceInStep service tei w) (record {
+          near = rests service tei there.near there.far h.near_ready h.far_ready h.near_taken h.far_taken near;
+          far = rests service tei there.far there.near h.far_ready h.near_ready h.far_taken h.near_taken far;
+          sides = h.sides;
+        });
+        near_rests = from-links service tei w p q up others (λ n m. said_by service tei w.near n ≡ []) near;
+        far_rests = from-links service tei w p q up others (λ n m. said_by service tei w.far m ≡ []) far;
+      }
 
 pub calls-come-to-rest : CallsComeToRest
-calls-come-to-rest service c d line other tei ds can talk gone =
-    let h = faces service c d line other tei ds can talk gone in
-    let done = through.done service c d line other tei ds can talk in
-    let near = as_station done.there' (last service c d line other tei ds can talk).near in
-    let far = as_station done.back' (last service c d line other tei ds can talk).far in
-    let near-said = none-said service tei (record near { way = [] }) h.near_ready.waiting refl in
-    let far-said = none-said service tei (record far { way = [] }) h.far_ready.waiting refl in
-    record {
-      step = record {
-        near = record { sound = h.near.sound; within = h.near.within; up = ap is_multiple_frame h.near_ready.state; said = subst (AreOfStep (terms near.card.config service tei) (link_here service tei near)) (sym near-said) tt };
-        far = record { sound = h.far.sound; within = h.far.within; up = ap is_multiple_frame h.far_ready.state; said = subst (AreOfStep (terms far.card.config service tei) (link_here service tei far)) (sym far-said) tt };
-        sides = h.sides;
-        there = received service tei near far h.near_ready h.near_taken;
-        back = received service tei far near h.far_ready h.far_taken;
-      };
-      near = near-said;
-      far = far-said;
-    }
+calls-come-to-rest service c d line other tei ds can talk gone = at-rest service c d line other tei ds can talk (faces service c d line other tei ds can talk gone)

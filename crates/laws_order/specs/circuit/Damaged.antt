@@ -12,7 +12,7 @@ use Rattle.model_card.specs.ports.Port as port
 use Rattle.laws_trace.specs.Trace.{Seen, seen, IsFront}
 use Rattle.laws_wire.specs.Wire.{Station, Wire, frames_by}
 use Rattle.laws_order.specs.Happenings.{IsNotOf}
-use Rattle.laws_order.specs.Order.{FaceInStep, StaysEstablished, data_noted, data_granted, kept_by}
+use Rattle.laws_order.specs.Order.{Past, known, FaceInStep, StaysEstablished, data_noted, data_granted, kept_by}
 
 -- A card at one end, which is at one of its lines; and the frames that its pulls began, but those that were given up as lost or
 -- that came whole to the other end, the oldest first.
@@ -134,10 +134,12 @@ abbrev pub as_wire : Noisy → Wire
 as_wire w = record { near = as_station w.near; far = as_station w.far }
 
 -- What is told at each is in order (`Order` of `laws_order`), so long as every frame of the link that is heard whole was pulled
--- whole, up to where its own establishment ends or is renewed.
+-- whole, up to where its own establishment ends or is renewed. The past of an end is of the card of frames inside.
 abbrev pub DeliveredThoughDamaged : Type 0
 DeliveredThoughDamaged =
-    (service : Service) (tei : ℕ) (w : Noisy) (hs : List Happening) → FaceInStep service tei (as_wire w) → ArePossible service tei hs w →
-    let near = seen_near hs w in let far = seen_far hs w in let n = as_station w.near in let m = as_station w.far in
-    (StaysEstablished service tei near → IsFront (data_noted service tei near) (kept_by service tei m n ++ data_granted service tei far))
-    × (StaysEstablished service tei far → IsFront (data_noted service tei far) (kept_by service tei n m ++ data_granted service tei near))
+    (service : Service) (tei : ℕ) (w : Noisy) (p : Past (as_station w.near)) (q : Past (as_station w.far)) (hs : List Happening) →
+    let n = known service tei (as_station w.near) p in let m = known service tei (as_station w.far) q in
+    FaceInStep service tei (as_wire w) n m → ArePossible service tei hs w →
+    let near = seen_near hs w in let far = seen_far hs w in
+    (StaysEstablished service tei near → IsFront (data_noted service tei near) (kept_by m n ++ data_granted service tei far))
+    × (StaysEstablished service tei far → IsFront (data_noted service tei far) (kept_by n m ++ data_granted service tei near))

@@ -4,7 +4,7 @@ use Rattle.lapd_frame.specs.declared.services.Service.{Service}
 use Rattle.laws_trace.specs.Trace.{Seen, IsFront}
 use Rattle.laws_wire.specs.Wire.{Station, Wire}
 use Rattle.laws_order.specs.Happenings as frames
-use Rattle.laws_order.specs.Order.{FaceInStep, StaysEstablished, data_noted, data_granted, kept_by}
+use Rattle.laws_order.specs.Order.{Past, known, FaceInStep, StaysEstablished, data_noted, data_granted, kept_by}
 use Rattle.laws_order.specs.circuit.Damaged as octets
 use Rattle.laws_order.specs.circuit.Damaged.{Socket, as_station, with_deed, left_by}
 
@@ -52,7 +52,9 @@ seen_far (h ∷ hs) w = seen_by_octets h w ++ seen_far hs (happening h w)
 
 abbrev pub DeliveredBetweenKinds : Type 0
 DeliveredBetweenKinds =
-    (service : Service) (tei : ℕ) (w : Mixed) (hs : List Happening) → FaceInStep service tei (as_wire w) → ArePossible service tei hs w →
-    let near = seen_near hs w in let far = seen_far hs w in let n = w.near in let m = as_station w.far in
-    (StaysEstablished service tei near → IsFront (data_noted service tei near) (kept_by service tei m n ++ data_granted service tei far))
-    × (StaysEstablished service tei far → IsFront (data_noted service tei far) (kept_by service tei n m ++ data_granted service tei near))
+    (service : Service) (tei : ℕ) (w : Mixed) (p : Past w.near) (q : Past (as_station w.far)) (hs : List Happening) →
+    let n = known service tei w.near p in let m = known service tei (as_station w.far) q in
+    FaceInStep service tei (as_wire w) n m → ArePossible service tei hs w →
+    let near = seen_near hs w in let far = seen_far hs w in
+    (StaysEstablished service tei near → IsFront (data_noted service tei near) (kept_by m n ++ data_granted service tei far))
+    × (StaysEstablished service tei far → IsFront (data_noted service tei far) (kept_by n m ++ data_granted service tei near))

@@ -4,7 +4,7 @@ use Rattle.lapd_frame.specs.declared.services.Service.{Service}
 use Rattle.model_line.specs.declared.config.Config.{Config}
 use Rattle.laws_wire.specs.Call.{CanCall}
 use Rattle.laws_wire.specs.Wire.{Wire}
-use Rattle.laws_order.specs.Order.{said_by, FaceInStep}
+use Rattle.laws_order.specs.Order.{Past, known, said_by, FaceInStep}
 use Rattle.laws_order.specs.circuit.Circuit.{Termination, Circuit, OctetDoing, doing_all}
 use Rattle.laws_order.specs.circuit.Damaged.{Socket, Noisy, as_wire}
 use Rattle.laws_order.specs.circuit.Through.{calling, IsTalk, HasAllGone}
@@ -18,9 +18,11 @@ from_then_on w = record { near = as_socket w.near; far = as_socket w.far }
 
 -- In step, and nothing of the link is on its way or waits.
 pub record FaceAtRest (service : Service) (tei : ℕ) (w : Wire) : Type 0 where
-  pub step : FaceInStep service tei w
-  pub near : said_by service tei w.near ≡ []
-  pub far : said_by service tei w.far ≡ []
+  pub near : Past w.near
+  pub far : Past w.far
+  pub step : FaceInStep service tei w (known service tei w.near near) (known service tei w.far far)
+  pub near_rests : said_by service tei w.near (known service tei w.near near) ≡ []
+  pub far_rests : said_by service tei w.far (known service tei w.far far) ≡ []
 
 abbrev pub CallsComeToRest : Type 0
 CallsComeToRest =

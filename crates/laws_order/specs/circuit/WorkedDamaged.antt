@@ -1,6 +1,6 @@
 -- Worked values: a card of the user's side has called one of the network's, and sends two contents; a bit of the first is turned on
 -- its way. Each computes.
-use Rattle.std.specs.Prelude.{◌≡◌, ℕ, List, [], ◌∷◌, ◌++◌, map, replicate, refl}
+use Rattle.std.specs.Prelude.{◌≡◌, ℕ, List, [], ◌∷◌, ◌++◌, map, replicate, Ok, refl}
 use Rattle.lapd_frame.specs.declared.services.Service.TheVariants.{Call}
 use Rattle.lapd_frame.specs.Reading.{reading, header_of, control_of, unnumbered_of, supervisory_of}
 use Rattle.lapd_seq.specs.Circle.{distance_of, named}
@@ -9,12 +9,13 @@ use Rattle.lapd_tei.specs.Events as teis
 use Rattle.model_bits.specs.Bits.{low_bits}
 use Rattle.model_line.specs.Machine as lines
 use Rattle.model_line.specs.Request.{Data}
+use Rattle.model_card.specs.Room.{room}
 use Rattle.model_card.specs.ports.Card as ports
 use Rattle.model_card.specs.ports.Port as port
 use Rattle.model_card.specs.ports.Port.{octet, pull}
-use Rattle.laws_order.specs.Order.{data_noted, data_granted, kept_by, StaysEstablished}
+use Rattle.laws_order.specs.Order.{data_noted, data_granted, StaysEstablished}
 use Rattle.laws_order.specs.circuit.Circuit.{doing_all}
-use Rattle.laws_order.specs.circuit.Damaged.{Noisy, happens, completes, loses, Happening, by_near, by_far, as_station, happening_all, ArePossible, seen_near, seen_far}
+use Rattle.laws_order.specs.circuit.Damaged.{Noisy, happens, completes, loses, Happening, by_near, by_far, happening_all, ArePossible, seen_near, seen_far}
 use Rattle.laws_order.specs.circuit.Resting.{from_then_on}
 use Rattle.laws_order.specs.circuit.WorkedCall as call
 use Rattle.laws_order.specs.circuit.WorkedCall.{establishes}
@@ -81,7 +82,11 @@ told_of_none : data_noted Call 0 (seen_far never_pulled begins) ≡ (0x99 ∷ []
 unfolding lines.after lines.answer lines.takes_slot reading header_of control_of unnumbered_of supervisory_of teis.course teis.refusal seq distance_of named low_bits ports.after ports.answer ports.meant doing_all happening_all seen_near seen_far
 told_of_none = refl
 
-never_granted : kept_by Call 0 (as_station begins.near) (as_station begins.far) ++ data_granted Call 0 (seen_near never_pulled begins) ≡ []
+none_kept : room 0 Call 0 begins.near.card.card ≡ Ok (record { queue = 8; pool = 16; va = 0 })
+unfolding lines.after lines.answer lines.takes_slot reading header_of control_of unnumbered_of supervisory_of teis.course teis.refusal seq distance_of named low_bits ports.after ports.answer ports.meant doing_all
+none_kept = refl
+
+never_granted : data_granted Call 0 (seen_near never_pulled begins) ≡ []
 unfolding lines.after lines.answer lines.takes_slot reading header_of control_of unnumbered_of supervisory_of teis.course teis.refusal seq distance_of named low_bits ports.after ports.answer ports.meant doing_all happening_all seen_near seen_far
 never_granted = refl
 

@@ -1,0 +1,347 @@
+-- How many contents an observer has counted as acknowledged is V(A) of the link, while that is in state 7 or 8.
+use Rattle.laws_order.proofs.Vocabulary.{◌≡◌, ℕ, ◌+◌, ◌-◌, ◌%◌, ◌<◌, ◌≤◌, ◌==◌, ◌&&◌, ◌||◌, not, Bool, true, false, cond, List, [], ◌∷◌, ◌++◌, get_or, Option, Some, None, refl, sym, ap, ◌∙◌, subst, arith, eq-eqb, eqb-true, and_parts, append-nil, append_assoc, true≢false, all-left, nowhere, get_or-replicate, ◌⊎◌, inl, inr, fold, list_any, get_or-set_same, fold-append, Control, Sabme, Disc, Ua, Dm, Frmr, Parts, Service, place_of-is, State, TeiAssigned, AwaitingEstablishment, AwaitingRelease, Established, TimerRecovery, Terms, received, overlong, cleared, Link, is_multiple_frame, Config, IsInRange, Answer, refused, PoolFull, Line, fresh_line, link_of, place_in, terms, terms_in_range, line_at, has_lines, by_room, is_overlong, is_faulty, by_frame, state_after, event-follows, after, Goes, event-goes, off-fresh, fresh, at, Tally, no_tally, tallies, tally_of}
+use Rattle.model_link.specs.Deliveries.{restarts}
+use Rattle.model_link.specs.Events as link
+use Rattle.model_link.specs.Events.{frame}
+use Rattle.model_link.specs.Link.{state_number}
+use Rattle.model_link.specs.Sound.{IsSound}
+use Rattle.model_line.specs.Event as line_event
+use Rattle.model_line.specs.Machine as lines
+use Rattle.model_line.specs.Sound as line_sound
+use Rattle.model_card.proofs.Steps.{line_sound as line_sound_at}
+use Rattle.model_card.specs.Card as cards
+use Rattle.model_card.specs.Card.{Card}
+use Rattle.model_card.specs.Event.{Event}
+use Rattle.model_card.specs.Machine as machine
+use Rattle.model_card.specs.Run.{Moment, moments, after_all, IsAtLine, AreAtLines}
+use Rattle.model_card.specs.Sound as card_sound
+use Rattle.laws_link.proofs.Keeping.{event-done}
+use Rattle.laws_link.proofs.Restarts.{establishes}
+use Rattle.laws_link.specs.Accepted.{acknowledged, empties}
+use Rattle.laws_link.specs.History.{share, with_share}
+use Rattle.laws_link.specs.States as states
+use Rattle.laws_trace.proofs.CallRuns.{apart}
+use Rattle.laws_trace.proofs.DataOfLink.{acknowledged-went}
+use Rattle.laws_trace.proofs.LineAtEnd.{link-at-end}
+use Rattle.laws_trace.proofs.NewsRows.{sabme_of}
+use Rattle.laws_trace.proofs.NewsSeen.{one-begins, none-begins}
+use Rattle.laws_trace.proofs.ObservedFacts.{brings-is}
+use Rattle.laws_trace.proofs.Outgoing.{its, comes, here-at}
+use Rattle.laws_trace.proofs.Runs.{nothing-seen}
+use Rattle.laws_trace.proofs.SeenAs.{IsSeenAs, seen-before, up-number}
+use Rattle.laws_trace.proofs.TimersAreTimely.{config-now, sound-now}
+use Rattle.laws_trace.proofs.WaitedBegins.{moments-both, after-both}
+use Rattle.laws_trace.specs.News.{brings, is_sabme}
+use Rattle.laws_trace.specs.Observer.{View, at_first, steps, views, view_of}
+use Rattle.laws_trace.specs.Trace.{is_up}
+use Rattle.laws_order.proofs.Down.{stays-down}
+
+abbrev up_in : State → Bool
+up_in s = is_multiple_frame s
+
+-- ---- a link
+
+-- A frame that leaves a link in state 7 or 8 begins its numbers anew if it was in another, or the frame is SABME.
+abbrev Begins : State → Control → State → Type 0
+Begins here ct to =
+    up_in to ≡ true →
+    ((states.is_sabme ct && state_number to == 7) || ((states.is_agreement ct && states.comes_to 7 here to) || false)) ≡ (not (up_in here) || is_sabme ct)
+
+by-frame : (here : State) (command : Bool) (ct : Control) → Begins here ct (by_frame here command ct)
+by-frame TeiAssigned command (Sabme p) up = refl
+by-frame TeiAssigned command other up = absurd (true≢false (sym up))
+by-frame AwaitingEstablishment command (Ua true) up = refl
+by-frame AwaitingEstablishment command (Ua false) up = absurd (true≢false (sym up))
+by-frame AwaitingEstablishment command (Dm true) up = absurd (true≢false (sym up))
+by-frame AwaitingEstablishment command (Dm false) up = absurd (true≢false (sym up))
+by-frame AwaitingEstablishment command other up = absurd (true≢false (sym up))
+by-frame AwaitingRelease command (Ua true) up = absurd (true≢false (sym up))
+by-frame AwaitingRelease command (Ua false) up = absurd (true≢false (sym up))
+by-frame AwaitingRelease command (Dm true) up = absurd (true≢false (sym up))
+by-frame AwaitingRelease command (Dm false) up = absurd (true≢false (sym up))
+by-frame AwaitingRelease command other up = absurd (true≢false (sym up))
+by-frame Established command (Disc p) up = absurd (true≢false (sym up))
+by-frame Established command (Dm true) up = refl
+by-frame Established command (Dm false) up = absurd (true≢false (sym up))
+by-frame Established command (Frmr f) up = absurd (true≢false (sym up))
+by-frame Established command (Ua true) up = refl
+by-frame Established command (Ua false) up = refl
+by-frame Established command other up = refl
+by-frame TimerRecovery command (Disc p) up = absurd (true≢false (sym up))
+by-frame TimerRecovery command (Dm f) up = absurd (true≢false (sym up))
+by-frame TimerRecovery command (Frmr f) up = absurd (true≢false (sym up))
+by-frame TimerRecovery command (Ua true) up = refl
+by-frame TimerRecovery command (Ua false) up = refl
+by-frame TimerRecovery command other up = refl
+
+-- V(A) goes on in states 7 and 8, and else begins with 0.
+abbrev pub gone_on : Bool → Link → Link → ℕ
+gone_on anew k x = cond (up_in k.state && not anew) (k.a + steps (k.a % 128) (x.a % 128)) 0
+
+remains : (a n more : ℕ) → n ≡ a + more → more ≤ 127 → (128 + n % 128 - a % 128) % 128 ≡ more
+remains a n more is few = omega (arith, is, few)
+
+stepped : (a n more : ℕ) → n ≡ a + more → more ≤ 127 → n ≡ a + steps (a % 128) (n % 128)
+stepped a n more is few = is ∙ ap (λ m. a + m) (sym (remains a n more is few))
+
+module _ (t : Terms) (k : Link) where
+  abbrev Stays : link.Event → Type 0
+  Stays e = up_in (after t e k).state ≡ true → restarts t e k ≡ (not (up_in k.state) || sabme_of e)
+
+  too-long : (u : Bool) → up_in k.state ≡ u → up_in (cond (u && true) AwaitingEstablishment k.state) ≡ true → ⊥
+  too-long true was up = true≢false (sym up)
+  too-long false was up = true≢false (sym up ∙ was)
+
+  frame-begins : (f : Parts) → Stays (received (frame f))
+  frame-begins f up =
+      let x = event-follows t (received (frame f)) k in
+      x.numbers ∙ ap (λ to. states.numbers_begin (states.as_heard t (received (frame f))) k.state to) x.leaves.state
+      ∙ by-length (is_overlong t f.control f.info) (sym (ap is_multiple_frame x.leaves.state) ∙ up)
+    where
+      to : State
+      to = by_frame k.state f.address.command f.control
+
+      by-fault : (b : Bool) → Begins k.state f.control (cond b AwaitingEstablishment to)
+      by-fault true up = absurd (true≢false (sym up))
+      by-fault false up = by-frame k.state f.address.command f.control up
+
+      by-length : (long : Bool) → let e = received (cond long overlong (frame f)) in
+          up_in (state_after t e k) ≡ true → states.numbers_begin e k.state (state_after t e k) ≡ (not (up_in k.state) || is_sabme f.control)
+      by-length true up = absurd (too-long (up_in k.state) refl up)
+      by-length false up = by-fault (up_in k.state && is_faulty (frame f) k) up
+
+  other-begins : (e : link.Event) → (up_in k.state ≡ false → up_in (after t e k).state ≡ false) → (restarts t e k ≡ true → ⊥) → sabme_of e ≡ false → Stays e
+  other-begins e down never none up = go (up_in k.state) refl (restarts t e k) refl
+    where
+      go : (u : Bool) → up_in k.state ≡ u → (b : Bool) → restarts t e k ≡ b → b ≡ (not u || sabme_of e)
+      go false was b is = absurd (true≢false (sym up ∙ down was))
+      go true was true is = absurd (never is)
+      go true was false is = sym none
+
+  begins : (e : link.Event) → Stays e
+  begins (received (frame f)) up = frame-begins f up
+  begins cleared up = absurd (true≢false (sym up ∙ ap is_multiple_frame (event-follows t cleared k).leaves.state))
+  begins other up = other-begins other (λ down. stays-down t k down other tt) (establishes t k other) refl up
+
+  module _ (s : IsSound t k) (small : t.k ≤ 127) (e : link.Event) where
+    abbrev next : Link
+    next = after t e k
+
+    abbrev a_by : Bool → Bool → ℕ
+    a_by anew empty =
+        (with_share (record { accepted = k.contents; acknowledged = k.a })
+        (record { restarts = anew; empties = empty; accepted = (share t e k).accepted; acknowledged = acknowledged t e k })).acknowledged
+
+    pub event-goes-on : up_in next.state ≡ true → next.a ≡ gone_on (sabme_of e) k next
+    event-goes-on up = go (up_in k.state) refl (sabme_of e) refl
+      where
+        is : (b : Bool) → (not (up_in k.state) || sabme_of e) ≡ b → next.a ≡ a_by b (empties t e k)
+        is b so = (event-done t k s e).comes.acknowledged ∙ ap (λ b. a_by b (empties t e k)) (begins e up ∙ so)
+
+        on : (empty : Bool) → next.a ≡ a_by false empty → next.a ≡ k.a + steps (k.a % 128) (next.a % 128)
+        on true still = let same : next.a ≡ k.a = still in stepped k.a next.a 0 (omega (arith, same)) (omega arith)
+        on false went =
+            let few : k.a + acknowledged t e k ≤ k.s = acknowledged-went t e k s.ordered in
+            let window : k.s ≤ k.a + t.k = s.within in
+            stepped k.a next.a (acknowledged t e k) went (omega (arith, few, window, small))
+
+        go : (u : Bool) → up_in k.state ≡ u → (z : Bool) → sabme_of e ≡ z → next.a ≡ cond (u && not z) (k.a + steps (k.a % 128) (next.a % 128)) 0
+        go false was z anew = is true (ap (λ u. not u || sabme_of e) was)
+        go true was true anew = is true (ap (λ u. not u || sabme_of e) was ∙ anew)
+        go true was false anew = on (empties t e k) (is false (ap (λ u. not u || sabme_of e) was ∙ anew))
+
+-- a link that stays as it is
+still-goes : (k : Link) → up_in k.state ≡ true → k.a ≡ gone_on false k k
+still-goes k up = stepped k.a k.a 0 (omega arith) (omega arith) ∙ sym (ap (λ u. cond (u && true) (k.a + steps (k.a % 128) (k.a % 128)) 0) up)
+
+same-goes : (k x : Link) (anew : Bool) → x ≡ k → anew ≡ false → up_in x.state ≡ true → x.a ≡ gone_on anew k x
+same-goes k x anew is none up =
+    subst (λ y. y.a ≡ gone_on anew k y) (sym is)
+    (still-goes k (sym (ap (λ (y : Link). up_in y.state) is) ∙ up) ∙ ap (λ b. gone_on b k k) (sym none))
+
+-- ---- a line, and a card
+
+pub place-of : (service : Service) (tei : ℕ) (l : Line) → up_in (link_of service tei l).state ≡ true → (place : ℕ) × (place_in l tei ≡ Some place)
+place-of service tei l up = go (place_in l tei) refl
+  where
+    go : (o : Option ℕ) → place_in l tei ≡ o → (place : ℕ) × (place_in l tei ≡ Some place)
+    go None off = absurd (true≢false (sym up ∙ ap (λ (y : Link). up_in y.state) (off-fresh service tei l off)))
+    go (Some place) on = (place, on)
+
+module _ (service : Service) (tei : ℕ) where
+  abbrev GoesOn : Config → line_event.Event → Line → Line → Type 0
+  GoesOn c e l m = let x = link_of service tei m in up_in x.state ≡ true → x.a ≡ gone_on (brings is_sabme c service tei e) (link_of service tei l) x
+
+  line-goes : (c : Config) → IsInRange c → (l : Line) → line_sound.IsSound c l → (e : line_event.Event) → GoesOn c e l (lines.after c e l)
+  line-goes c ranged l s e up = go (event-goes c e l service tei s)
+    where
+      a : Answer
+      a = lines.answer c e l
+
+      k : Link
+      k = link_of service tei l
+
+      x : Link
+      x = link_of service tei (lines.after c e l)
+
+      go : Goes c service tei e l (lines.after c e l) (lines.answer c e l) → x.a ≡ gone_on (brings is_sabme c service tei e) k x
+      go (inl h) = either h.is
+        where
+          either : (x ≡ k) ⊎ (x ≡ fresh) → x.a ≡ gone_on (brings is_sabme c service tei e) k x
+          either (inr new) = absurd (true≢false (sym up ∙ ap (λ (y : Link). up_in y.state) new))
+          either (inl same) =
+              let placed = place-of service tei l (sym (ap (λ (y : Link). up_in y.state) same) ∙ up) in
+              same-goes k x (brings is_sabme c service tei e) same
+              (sym (brings-is c service tei is_sabme e a) ∙ none-begins c service tei is_sabme l placed.0 placed.1 e h.aims a) up
+      go (inr (inl h)) =
+          let t = terms c service tei in
+          let sound = link-at-end c l ranged s service tei h.place h.placed in
+          let small = (terms_in_range c ranged service tei (s.management.table.range h.place tei (place_of-is l.management.places tei h.place h.placed).1)).k_high in
+          let anew = brings-is c service tei is_sabme e a in
+          subst (λ y. y.a ≡ gone_on (brings is_sabme c service tei e) k y) (sym h.is)
+          (event-goes-on t k sound small h.event (sym (ap (λ (y : Link). up_in y.state) h.is) ∙ up)
+          ∙ ap (λ b. gone_on b k (after t h.event k)) (sym (one-begins c service tei is_sabme e a h.event h.by) ∙ anew))
+      go (inr (inr h)) = absurd (true≢false (sym up ∙ ap (λ (y : Link). up_in y.state) h.is))
+
+  card-goes : (card : Card) (number : ℕ) → card_sound.IsSound card → number < card.config.lines → (what : line_event.Event)
+      → GoesOn card.config what (line_at number card) (line_at number (machine.after (at number what) card))
+  card-goes card number s here what =
+      let c = card.config in
+      let l = line_at number card in
+      by_room (λ ls a. GoesOn c what l (get_or ls number (fresh_line c))) (at number what) card
+      (λ full. same-goes (link_of service tei l) (link_of service tei l) (brings is_sabme c service tei what) refl
+      (sym (brings-is c service tei is_sabme what (refused PoolFull)) ∙ ap (list_any _) (nothing-seen c what l (and_parts (lines.takes_slot c what l) _ full).0)))
+      (λ room. subst (λ m. GoesOn c what l m) (sym (get_or-set_same card.lines number (lines.after c what l) (fresh_line c) (omega (arith, s.count, here))))
+      (line-goes c s.config l (line_sound_at card number (has_lines card s) here) what))
+
+-- ---- a run from the start
+
+module _ (c : Config) (number : ℕ) (ranged : IsInRange c) (within : number < c.lines) (service : Service) (tei : ℕ) where
+  abbrev its_link : List Event → Link
+  its_link events = link_of service tei (its c number ranged within service tei events)
+
+  abbrev counted : List Event → ℕ
+  counted events = (tally_of c service tei number events).acknowledged
+
+  same-view : (ms : List Moment) (o : Tally) → (fold (tallies c service tei number) o ms).view ≡ fold (views c service tei number) o.view ms
+  same-view [] o = refl
+  same-view (m ∷ ms) o = same-view ms (tallies c service tei number o m)
+
+  abbrev with_event : List Event → Event → Moment
+  with_event before e = let card = after_all (cards.fresh c) before in record { card = card; event = e; answer = machine.answer e card }
+
+  then-is : (before : List Event) (e : Event) → tally_of c service tei number (before ++ e ∷ []) ≡ tallies c service tei number (tally_of c service tei number before) (with_event before e)
+  unfolding moments
+  then-is before e =
+      ap (fold (tallies c service tei number) no_tally) (moments-both (cards.fresh c) before (e ∷ []))
+      ∙ fold-append (tallies c service tei number) no_tally (moments (cards.fresh c) before) (with_event before e ∷ [])
+
+  view-then : (before : List Event) (e : Event) → view_of c service tei number (before ++ e ∷ []) ≡ views c service tei number (view_of c service tei number before) (with_event before e)
+  unfolding moments
+  view-then before e =
+      ap (fold (views c service tei number) at_first) (moments-both (cards.fresh c) before (e ∷ []))
+      ∙ fold-append (views c service tei number) at_first (moments (cards.fresh c) before) (with_event before e ∷ [])
+
+  line-then : (before : List Event) (e : Event) → its_link (before ++ e ∷ []) ≡ link_of service tei (line_at number (machine.after e (after_all (cards.fresh c) before)))
+  unfolding after_all
+  line-then before e = ap (λ card. link_of service tei (line_at number card)) (after-both (cards.fresh c) before (e ∷ []))
+
+  abbrev Has : List Event → Type 0
+  Has events = up_in (its_link events).state ≡ true → counted events ≡ (its_link events).a
+
+  -- what the event is to the numbers of the link
+  abbrev anew_by : Event → Bool
+  anew_by e = e.line == number && brings is_sabme c service tei e.what
+
+  goes-by : (before : List Event) → AreAtLines (cards.fresh c) before → (e : Event) → let x = its_link (before ++ e ∷ []) in
+      up_in x.state ≡ true → x.a ≡ gone_on (anew_by e) (its_link before) x
+  goes-by before all e = subst (λ x. up_in x.state ≡ true → x.a ≡ gone_on (anew_by e) (its_link before) x) (sym (line-then before e)) (go (e.line == number) refl)
+    where
+      card : Card
+      card = after_all (cards.fresh c) before
+
+      go : (b : Bool) → (e.line == number) ≡ b → let x = link_of service tei (line_at number (machine.after e card)) in
+          up_in x.state ≡ true → x.a ≡ gone_on (b && brings is_sabme c service tei e.what) (its_link before) x
+      go true own =
+          subst (λ n. let x = link_of service tei (line_at number (machine.after (at n e.what) card)) in
+          up_in x.state ≡ true → x.a ≡ gone_on (brings is_sabme c service tei e.what) (its_link before) x) (sym (eqb-true e.line number own))
+          (subst (λ (d : Config). GoesOn service tei d e.what (line_at number card) (line_at number (machine.after (at number e.what) card))) (config-now c before number ranged all within service tei)
+          (card-goes service tei card number (sound-now c before number ranged all within service tei) (here-at c number ranged within service tei before all) e.what))
+      go false other =
+          same-goes (its_link before) (link_of service tei (line_at number (machine.after e card))) false
+          (ap (link_of service tei) (apart card e number (λ same. true≢false (sym (eq-eqb e.line number (sym same)) ∙ other)))) refl
+
+  fresh-then : (before : List Event) → AreAtLines (cards.fresh c) before → (e : Event) → place_in (its c number ranged within service tei before) tei ≡ None → its_link (before ++ e ∷ []) ≡ fresh
+  fresh-then before all e off = line-then before e ∙ go (e.line == number) refl
+    where
+      card : Card
+      card = after_all (cards.fresh c) before
+
+      go : (b : Bool) → (e.line == number) ≡ b → link_of service tei (line_at number (machine.after e card)) ≡ fresh
+      go true own =
+          subst (λ n. link_of service tei (line_at number (machine.after (at n e.what) card)) ≡ fresh) (sym (eqb-true e.line number own))
+          (comes card number e.what (sound-now c before number ranged all within service tei) (here-at c number ranged within service tei before all) service tei off)
+      go false other =
+          ap (link_of service tei) (apart card e number (λ same. true≢false (sym (eq-eqb e.line number (sym same)) ∙ other))) ∙ off-fresh service tei (line_at number card) off
+
+  -- In one moment.
+  has-then : (before : List Event) → AreAtLines (cards.fresh c) before → Has before → (e : Event) → AreAtLines (cards.fresh c) (before ++ e ∷ []) → Has (before ++ e ∷ [])
+  has-then before all has e more up =
+      ap (λ (o : Tally). o.acknowledged) (then-is before e)
+      ∙ ap (λ v. by v (views c service tei number v (with_event before e))) (same-view (moments (cards.fresh c) before) no_tally)
+      ∙ ap (by was) (sym (view-then before e)) ∙ numbers (place_in (its c number ranged within service tei before) tei) refl ∙ sym (goes-by before all e up)
+    where
+      k : Link
+      k = its_link before
+
+      x : Link
+      x = its_link (before ++ e ∷ [])
+
+      was : View
+      was = view_of c service tei number before
+
+      now : View
+      now = view_of c service tei number (before ++ e ∷ [])
+
+      by : View → View → ℕ
+      by v u = cond (is_up v.link.state && is_up u.link.state && not (anew_by e)) (counted before + steps v.link.acknowledged u.link.acknowledged) 0
+
+      numbers : (o : Option ℕ) → place_in (its c number ranged within service tei before) tei ≡ o → by was now ≡ gone_on (anew_by e) k x
+      numbers None off = absurd (true≢false (sym up ∙ ap (λ (y : Link). up_in y.state) (fresh-then before all e off)))
+      numbers (Some p) on =
+          ap (λ s. cond (is_up s && is_up now.link.state && not (anew_by e)) (counted before + steps was.link.acknowledged now.link.acknowledged) 0) seen-k.state_is
+          ∙ ap (λ u. cond (u && is_up now.link.state && not (anew_by e)) (counted before + steps was.link.acknowledged now.link.acknowledged) 0) (up-number k.state)
+          ∙ ap (λ v. cond (up_in k.state && v && not (anew_by e)) (counted before + steps was.link.acknowledged now.link.acknowledged) 0) (ap is_up seen-x.state_is ∙ up-number x.state ∙ up)
+          ∙ by-state (up_in k.state) refl
+        where
+          seen-k : IsSeenAs k was.link
+          seen-k = seen-before c before number ranged all within service tei p on
+
+          seen-x : IsSeenAs x now.link
+          seen-x = let q = place-of service tei (its c number ranged within service tei (before ++ e ∷ [])) up in seen-before c (before ++ e ∷ []) number ranged more within service tei q.0 q.1
+
+          by-state : (u : Bool) → up_in k.state ≡ u
+              → cond (u && true && not (anew_by e)) (counted before + steps was.link.acknowledged now.link.acknowledged) 0 ≡ cond (u && not (anew_by e)) (k.a + steps (k.a % 128) (x.a % 128)) 0
+          by-state false down = refl
+          by-state true was-up =
+              ap (λ n. cond (not (anew_by e)) (n + steps was.link.acknowledged now.link.acknowledged) 0) (has was-up)
+              ∙ ap (λ n. cond (not (anew_by e)) (k.a + steps n now.link.acknowledged) 0) (seen-k.acknowledged_is was-up)
+              ∙ ap (λ n. cond (not (anew_by e)) (k.a + steps (k.a % 128) n) 0) (seen-x.acknowledged_is up)
+
+  run : (before rest : List Event) → AreAtLines (cards.fresh c) (before ++ rest) → Has before → Has (before ++ rest)
+  run before [] all has = subst Has (sym (append-nil before)) has
+  run before (e ∷ rest) all has =
+      let joined : (before ++ e ∷ []) ++ rest ≡ before ++ e ∷ rest = append_assoc before (e ∷ []) rest in
+      let more = subst (AreAtLines (cards.fresh c)) (sym joined) all in
+      subst Has joined
+      (run (before ++ e ∷ []) rest more
+      (has-then before (all-left (IsAtLine (cards.fresh c)) before (e ∷ rest) all) has e (all-left (IsAtLine (cards.fresh c)) (before ++ e ∷ []) rest more)))
+
+  at-first-down : Has []
+  unfolding moments after_all
+  at-first-down up =
+      absurd (true≢false (sym up ∙ ap (λ (l : Line). up_in (link_of service tei l).state) (get_or-replicate c.lines number (fresh_line c) (fresh_line c) within)
+      ∙ ap (λ (y : Link). up_in y.state) (off-fresh service tei (fresh_line c) (nowhere c tei))))
+
+  pub acknowledged-now : (events : List Event) → AreAtLines (cards.fresh c) events → up_in (its_link events).state ≡ true → counted events ≡ (its_link events).a
+  acknowledged-now events all = run [] events all at-first-down

@@ -1,0 +1,322 @@
+-- Two ends that are in step to whoever watches them face each other as links do.
+use Rattle.laws_order.proofs.Vocabulary.{is_some, has_tei, on-line, LineTold, ◌≡◌, ℕ, zero, suc, ◌+◌, ◌-◌, ◌<◌, ◌≤◌, ◌==◌, true, false, IsTrue, List, [], ◌∷◌, ◌++◌, map, length, take, drop, slice_get, Option, Some, None, refl, sym, ap, ◌∙◌, subst, arith, length-drop, true≢false, All-append, All-cons, All-nil, option_map, option_map_or, unwrap_or, Control, Information, ReceiveReady, ReceiveNotReady, Reject, Service, Parts, ControlFrame, State, TeiAssigned, AwaitingRelease, Terms, T200, Link, is_multiple_frame, frame_of, state_number, Direction, frames_of, Carried, Means, Piece, Rising, Config, IsInRange, Line, link_in, link_of, place_in, terms, line_at, fresh_is_sound, frames_always_sound, Station, Wire, Act, requests, times_out, gives, takes, loses, turned, happens, Doing, station, assigned, calling, came, hears, expiry, request, next, Assign, Event, at, state_here, of_link_on, Past, Known, known, said_by, IsOfStep, AreOfStep, IsInStep, FaceInStep, kept_by}
+use Rattle.std.proofs.lemmas.List.{drop-drop}
+use Rattle.model_link.specs.Link.{fresh as fresh_link}
+use Rattle.model_line.specs.Line.{link_number, state_in, window}
+use Rattle.model_line.specs.Request.{Establish}
+use Rattle.model_link.proofs.Direction.{line_of}
+use Rattle.model_card.specs.Card.{fresh}
+use Rattle.model_card.specs.Event as card
+use Rattle.model_card.specs.Machine as machine
+use Rattle.model_card.specs.Run.{after_all, IsAtLine}
+use Rattle.model_card.specs.Sound as card_sound
+use Rattle.laws_link.specs.two.Needed.{needed_in}
+use Rattle.laws_line.specs.Timers.{HaveTheirTimers}
+use Rattle.laws_trace.proofs.DeliveriesKept.{run-stands}
+use Rattle.laws_trace.proofs.ObservedAcknowledged.{agrees-now}
+use Rattle.laws_trace.proofs.Outgoing.{its, here-at, view-is, kept-now}
+use Rattle.laws_trace.proofs.Plain.{all-wait}
+use Rattle.laws_trace.proofs.SeenAs.{seen-before, up-number}
+use Rattle.laws_trace.proofs.TimersAreTimely.{timely-now}
+use Rattle.laws_trace.proofs.WaitedBegins.{after-both}
+use Rattle.laws_trace.proofs.WaitingNow.{waiting-now}
+use Rattle.laws_trace.specs.Observer.{View}
+use Rattle.laws_trace.specs.Trace.{is_up}
+use Rattle.laws_wire.specs.Wire.{acting, at_near, at_far, doing, doing_all, with_first_of}
+use Rattle.laws_order.proofs.Acknowledged.{place-of, acknowledged-now}
+use Rattle.laws_order.proofs.Pairs.{link_here, facing, Pair, IsWell, proper}
+
+-- ---- stations and their pasts
+
+pub past-well : (s : Station) → Past s → IsWell s
+past-well s p = record {
+  sound = subst card_sound.IsSound (sym p.is) (frames_always_sound (fresh s.card.config) p.events (fresh_is_sound s.card.config p.ranged) p.at_lines);
+  within = p.within;
+}
+
+-- from the start of a card, and one event more, of whatever line
+pub past-begun : (c : Config) (line : ℕ) → IsInRange c → line < c.lines → Past (station c line)
+unfolding after_all
+past-begun c line ranged within = record { events = []; at_lines = All-nil (IsAtLine (fresh c)); is = refl; ranged = ranged; within = within }
+
+pub past-event : (s : Station) (e : card.Event) (way granted : List (List ℕ)) (told : List LineTold) → Past s → e.line < s.card.config.lines
+    → Past (record { card = machine.after e s.card; line = s.line; way = way; granted = granted; told = told })
+unfolding after_all
+past-event s e way granted told p here = record {
+  events = p.events ++ e ∷ [];
+  at_lines = All-append (IsAtLine (fresh s.card.config)) p.events (e ∷ []) p.at_lines (All-cons (IsAtLine (fresh s.card.config)) e [] here (All-nil (IsAtLine (fresh s.card.config))));
+  is = ap (machine.after e) p.is ∙ sym (after-both (fresh s.card.config) p.events (e ∷ []));
+  ranged = p.ranged;
+  within = p.within;
+}
+
+pub past-same : (s : Station) (way granted : List (List ℕ)) (told : List LineTold) → Past s → Past (record { card = s.card; line = s.line; way = way; granted = granted; told = told })
+past-same s way granted told p = record { events = p.events; at_lines = p.at_lines; is = p.is; ranged = p.ranged; within = p.within }
+
+pub past-happens : (s : Station) → Past s → (e : Event) → Past (happens e s)
+past-happens s p e = let s' = happens e s in past-event s (at s.line e) s'.way s'.granted s'.told p p.within
+
+pub record Pasts (w : Wire) : Type 0 where
+  pub near : Past w.near
+  pub far : Past w.far
+
+past-first : (way : List (List ℕ)) (s : Station) → Past s → Past (with_first_of way s)
+past-first [] s p = p
+past-first (octets ∷ rest) s p = past-happens s p (hears (came s.card.config.n201 octets))
+
+pub past-acted : (act : Act) (w : Wire) → Pasts w → Pasts (acting act w)
+past-acted (requests r) w h = record { near = past-happens w.near h.near (request r); far = h.far }
+past-acted (times_out timer) w h = record { near = past-happens w.near h.near (expiry timer); far = h.far }
+past-acted gives w h = record { near = past-happens w.near h.near next; far = h.far }
+past-acted takes w h = record { near = past-first w.far.way w.near h.near; far = past-same w.far _ _ _ h.far }
+past-acted loses w h = record { near = past-same w.near _ _ _ h.near; far = h.far }
+
+pub past-done : (d : Doing) (w : Wire) → Pasts w → Pasts (doing d w)
+past-done (at_near act) w h = past-acted act w h
+past-done (at_far act) w h = let x = past-acted act (turned w) (record { near = h.far; far = h.near }) in record { near = x.far; far = x.near }
+
+pub past-all : (ds : List Doing) (w : Wire) → Pasts w → Pasts (doing_all ds w)
+unfolding doing_all
+past-all [] w h = h
+past-all (d ∷ ds) w h = past-all ds (doing d w) (past-done d w h)
+
+pub past-calling : (service : Service) (tei : ℕ) (c : Config) (line : ℕ) (d : Config) (other : ℕ) → IsInRange c → line < c.lines → IsInRange d → other < d.lines
+    → Pasts (calling service tei c line d other)
+past-calling service tei c line d other ranged within ranged' within' = record {
+  near = past-happens (assigned c line tei) (past-happens (station c line) (past-begun c line ranged within) (request (Assign tei))) (request (Establish service tei));
+  far = past-happens (station d other) (past-begun d other ranged' within') (request (Assign tei));
+}
+
+-- ---- what is known is so
+
+-- What is known of a link in state 7 or 8.
+abbrev pub known_of : Link → Known
+known_of l = record { told = l.r; acknowledged = l.a; kept = drop l.a l.contents; waiting = l.waiting }
+
+module _ (service : Service) (tei : ℕ) where
+  line-known : (s : Station) (p : Past s) → let l = link_of service tei (line_at s.line (after_all (fresh s.card.config) p.events)) in
+      is_multiple_frame l.state ≡ true → known service tei s p ≡ known_of l
+  line-known s p up = λ i. record { told = told i; acknowledged = acknowledged i; kept = kept i; waiting = waiting i }
+    where
+      c : Config
+      c = s.card.config
+
+      line : Line
+      line = its c s.line p.ranged p.within service tei p.events
+
+      l : Link
+      l = link_of service tei (its s.card.config s.line p.ranged p.within service tei p.events)
+
+      n : Known
+      n = known service tei s p
+
+      placed : (place : ℕ) × (place_in (its s.card.config s.line p.ranged p.within service tei p.events) tei ≡ Some place)
+      placed = place-of service tei line up
+
+      told : n.told ≡ l.r
+      told =
+          let seen = seen-before c p.events s.line p.ranged p.at_lines p.within service tei placed.0 placed.1 in
+          ap (λ (v : View). v.link.count) (view-is c s.line p.ranged p.within service tei p.events)
+          ∙ (agrees-now c p.events s.line p.ranged p.at_lines p.within service tei (ap is_up seen.state_is ∙ up-number l.state ∙ up)).count_is
+          ∙ sym ((run-stands c p.events s.line p.ranged p.at_lines p.within service tei).1 up)
+
+      acknowledged : n.acknowledged ≡ l.a
+      acknowledged = acknowledged-now c s.line p.ranged p.within service tei p.events p.at_lines up
+
+      kept : n.kept ≡ drop l.a l.contents
+      kept = kept-now c s.line p.ranged p.within service tei p.events p.at_lines placed.0 placed.1
+
+      waiting : n.waiting ≡ l.waiting
+      waiting =
+          waiting-now c s.line p.ranged p.within service tei p.events p.at_lines placed.0 placed.1
+          ∙ all-wait c p.events s.line p.ranged p.at_lines p.within service tei placed.0 placed.1
+
+  pub known-is : (s : Station) (p : Past s) → is_multiple_frame (link_here service tei s).state ≡ true → known service tei s p ≡ known_of (link_here service tei s)
+  known-is s p up =
+      subst (λ card. known service tei s p ≡ known_of (link_of service tei (line_at s.line card))) (sym p.is)
+      (line-known s p (subst (λ card. is_multiple_frame (link_of service tei (line_at s.line card)).state ≡ true) p.is up))
+
+  -- what `Card::state` tells
+  pub up-here : (s : Station) → option_map_or is_up (state_here service tei s) false ≡ is_multiple_frame (link_here service tei s).state
+  up-here s = go (place_in (line_at s.line s.card) tei)
+    where
+      go : (o : Option ℕ) → let l = line_at s.line s.card in
+          option_map_or is_up (option_map (state_in l service) o) false ≡ is_multiple_frame (option_map_or (link_in l service) o fresh_link).state
+      go None = refl
+      go (Some place) = up-number (link_in (line_at s.line s.card) service place).state
+
+  six-is : (state : State) → (state_number state == 6) ≡ true → state ≡ AwaitingRelease
+  six-is AwaitingRelease e = refl
+  six-is other e = absurd (true≢false (sym e))
+
+  four-is : (state : State) → (state_number state == 4) ≡ true → state ≡ TeiAssigned
+  four-is TeiAssigned e = refl
+  four-is other e = absurd (true≢false (sym e))
+
+  pub six-here : (s : Station) → state_here service tei s ≡ Some 6 → (link_here service tei s).state ≡ AwaitingRelease
+  six-here s = go (place_in (line_at s.line s.card) tei)
+    where
+      go : (o : Option ℕ) → let l = line_at s.line s.card in option_map (state_in l service) o ≡ Some 6 → (option_map_or (link_in l service) o fresh_link).state ≡ AwaitingRelease
+      go None e = absurd (true≢false (sym (ap (λ o. option_map_or (λ n. n == 6) o false) e)))
+      go (Some place) e = six-is (link_in (line_at s.line s.card) service place).state (ap (λ o. option_map_or (λ n. n == 6) o false) e)
+
+  pub four-here : (s : Station) → unwrap_or (state_here service tei s) 4 ≡ 4 → (link_here service tei s).state ≡ TeiAssigned
+  four-here s = go (place_in (line_at s.line s.card) tei)
+    where
+      go : (o : Option ℕ) → let l = line_at s.line s.card in unwrap_or (option_map (state_in l service) o) 4 ≡ 4 → (option_map_or (link_in l service) o fresh_link).state ≡ TeiAssigned
+      go None e = refl
+      go (Some place) e = four-is (link_in (line_at s.line s.card) service place).state (ap (λ n. n == 4) e)
+
+  pub on-here : (s : Station) → is_some (state_here service tei s) ≡ true → has_tei tei (line_at s.line s.card) ≡ true
+  on-here s = go (place_in (line_at s.line s.card) tei) refl
+    where
+      go : (o : Option ℕ) → place_in (line_at s.line s.card) tei ≡ o → is_some (option_map (state_in (line_at s.line s.card) service) o) ≡ true → has_tei tei (line_at s.line s.card) ≡ true
+      go None off e = absurd (true≢false (sym e))
+      go (Some place) on e = on-line (line_at s.line s.card) tei place on
+
+  -- T200 runs in state 6.
+  pub six-runs : (s : Station) → Past s → (link_here service tei s).state ≡ AwaitingRelease → (link_here service tei s).running ≡ Some T200
+  six-runs s p = go (place_in (line_at s.line s.card) tei)
+    where
+      timed : HaveTheirTimers (line_at s.line s.card)
+      timed =
+          subst (λ card. HaveTheirTimers (line_at s.line card)) (sym p.is)
+          ((timely-now s.card.config p.events s.line p.ranged p.at_lines p.within service tei).lines s.line
+          (here-at s.card.config s.line p.ranged p.within service tei p.events p.at_lines))
+
+      go : (o : Option ℕ) → let l = option_map_or (link_in (line_at s.line s.card) service) o fresh_link in l.state ≡ AwaitingRelease → l.running ≡ Some T200
+      go None is = absurd (true≢false (sym (ap (λ x. state_number x == 6) is)))
+      go (Some place) is =
+          let l = link_in (line_at s.line s.card) service place in
+          (timed.links (link_number place service)).running ∙ ap (λ x. needed_in x l) is
+
+-- ---- what is in step is what two links that face each other have on the line
+
+get-dropped : (n : ℕ) (xs : List (List ℕ)) (i : ℕ) → slice_get (drop n xs) i ≡ slice_get xs (n + i)
+get-dropped zero xs i = let same : i ≡ 0 + i = omega arith in ap (slice_get xs) same
+get-dropped (suc n) [] i = refl
+get-dropped (suc n) (x ∷ xs) i = let same : suc (n + i) ≡ suc n + i = omega arith in get-dropped n xs i ∙ ap (slice_get (x ∷ xs)) same
+
+module _ (k : ℕ) (l : Link) (small : k ≤ 127) where
+  piece-of : (r m : ℕ) → m ≤ l.a + k → (octets : List ℕ) (control : Control) → IsOfStep k (known_of l) r octets control → Piece l.contents (l.a + k) m (l.a + k) octets control
+  piece-of r m high octets (Information ns nr p) h =
+      let x = h.0 in
+      let inside : x.place < k = x.inside in
+      record {
+        number = l.a + x.place;
+        is_seq = x.meant;
+        near = omega (arith, small, high);
+        below = omega (arith, inside);
+        same = sym (get-dropped l.a l.contents x.place) ∙ x.same;
+        next = omega (arith, inside);
+      }
+  piece-of r m high octets (ReceiveReady nr pf) h = tt
+  piece-of r m high octets (ReceiveNotReady nr pf) h = tt
+  piece-of r m high octets (Reject nr pf) h = tt
+  piece-of r m high octets other h = h
+
+  carried-of : (low m : ℕ) → m ≤ l.a + k → (fs : List Parts) → AreOfStep k (known_of l) low fs → Carried l.contents (l.a + k) m fs
+  carried-of low m high [] h = high
+  carried-of low m high (f ∷ fs) (r, up, x, h) = (l.a + k, high, piece-of r m high f.info f.control x, carried-of r (l.a + k) (omega arith) fs h)
+
+means-of : (k : ℕ) (n : Known) (r : ℕ) (octets : List ℕ) (control : Control) → IsOfStep k n r octets control → Means r control
+means-of k n r octets (Information ns nr p) h = h.1
+means-of k n r octets other h = h
+
+rising-of : (k : ℕ) (n : Known) (low : ℕ) (fs : List Parts) → AreOfStep k n low fs → Rising low n.told fs
+rising-of k n low [] h = h
+rising-of k n low (f ∷ fs) (r, up, x, h) = (r, up, means-of k n r f.info f.control x, rising-of k n r fs h)
+
+frames-mapped : (t : Terms) (ws : List ControlFrame) → frames_of t ws ≡ map (frame_of t) ws
+frames-mapped t [] = refl
+frames-mapped t (w ∷ ws) = ap (λ fs. frame_of t w ∷ fs) (frames-mapped t ws)
+
+module _ (service : Service) (tei : ℕ) where
+  abbrev pub link_known : Station → Known
+  link_known s = known_of (link_here service tei s)
+
+  -- what the second station has received of the contents of the first
+  abbrev pub had : Station → Station → List (List ℕ)
+  had s u = take (link_here service tei u).r (link_here service tei s).contents
+
+  up-of : (s : Station) (n m : Known) → IsInStep service tei s n m → IsTrue (is_multiple_frame (link_here service tei s).state)
+  up-of s n m b = sym (up-here service tei s) ∙ b.up
+
+  line-is : (s : Station) (ds : List (List ℕ)) → said_by service tei s (link_known s) ≡ line_of (facing service tei s ds)
+  line-is s ds = ap (λ fs. of_link_on service tei s.card.config.side s.way ++ fs) (sym (frames-mapped (terms s.card.config service tei) (link_here service tei s).waiting))
+
+  begins-one : (s u : Station) → IsWell s → IsInStep service tei s (link_known s) (link_known u) → IsInStep service tei u (link_known u) (link_known s) → (ds : List (List ℕ))
+      → Direction (facing service tei s ds) (facing service tei u (had s u))
+  begins-one s u well b d ds =
+      let l = link_here service tei s in
+      let r = (link_here service tei u).r in
+      let k = window s.card.config service in
+      let its = proper service tei s well (up-of s (link_known s) (link_known u) b) in
+      let most : r ≤ l.a + k = b.within in
+      let all : r ≤ l.a + length (drop l.a l.contents) = b.kept in
+      let few : length (drop l.a l.contents) ≡ length l.contents - l.a = length-drop l.a l.contents in
+      let low : l.a ≤ l.s = its.sound.ordered in
+      let high : l.s ≤ length l.contents = its.sound.accepted in
+      record {
+        carried =
+            subst (Carried l.contents (l.a + k) r) (line-is s ds)
+            (carried-of k l its.ranges.k_high (link_here service tei u).a r most (said_by service tei s (link_known s)) b.said);
+        rising =
+            subst (Rising l.a r) (line-is u (had s u))
+            (rising-of (window u.card.config service) (link_known u) l.a (said_by service tei u (link_known u)) d.said);
+        delivered = refl;
+        accepted = omega (arith, all, few, low, high);
+      }
+
+  -- what is known of two ends is what their links have
+  pub from-links : (w : Wire) (p : Past w.near) (q : Past w.far) → IsTrue (is_multiple_frame (link_here service tei w.near).state)
+      → IsTrue (is_multiple_frame (link_here service tei w.far).state) → (P : Known → Known → Type 0) → P (link_known w.near) (link_known w.far)
+      → P (known service tei w.near p) (known service tei w.far q)
+  from-links w p q up others P h =
+      subst (λ n. P n (known service tei w.far q)) (sym (known-is service tei w.near p up)) (subst (P (link_known w.near)) (sym (known-is service tei w.far q others)) h)
+
+  to-links : (w : Wire) (p : Past w.near) (q : Past w.far) → IsTrue (is_multiple_frame (link_here service tei w.near).state)
+      → IsTrue (is_multiple_frame (link_here service tei w.far).state) → (P : Known → Known → Type 0) → P (known service tei w.near p) (known service tei w.far q)
+      → P (link_known w.near) (link_known w.far)
+  to-links w p q up others P h =
+      subst (λ n. P n (link_known w.far)) (known-is service tei w.near p up) (subst (P (known service tei w.near p)) (known-is service tei w.far q others) h)
+
+  pub step-known : (w : Wire) (p : Past w.near) (q : Past w.far) → FaceInStep service tei w (link_known w.near) (link_known w.far)
+      → FaceInStep service tei w (known service tei w.near p) (known service tei w.far q)
+  step-known w p q h = from-links w p q (up-of w.near _ _ h.near) (up-of w.far _ _ h.far) (FaceInStep service tei w) h
+
+  pub begins-pair : (w : Wire) (p : Past w.near) (q : Past w.far) → FaceInStep service tei w (known service tei w.near p) (known service tei w.far q)
+      → Pair service tei w (had w.far w.near) (had w.near w.far)
+  begins-pair w p q known-step =
+      let up = up-of w.near _ _ known-step.near in
+      let others-up = up-of w.far _ _ known-step.far in
+      let h = to-links w p q up others-up (FaceInStep service tei w) known-step in
+      let near = past-well w.near p in
+      let far = past-well w.far q in
+      let its = proper service tei w.near near up in
+      let others = proper service tei w.far far others-up in
+      record {
+        near = near;
+        far = far;
+        sides = h.sides;
+        joined = record {
+          near_ranges = its.ranges;
+          far_ranges = others.ranges;
+          near_sound = its.sound;
+          far_sound = others.sound;
+          near_up = up;
+          far_up = others-up;
+          there = begins-one w.near w.far near h.near h.far (had w.far w.near);
+          back = begins-one w.far w.near far h.far h.near (had w.near w.far);
+        };
+      }
+
+  -- and what is kept of it
+  pub kept-is : (w : Wire) (p : Past w.near) (q : Past w.far) → IsTrue (is_multiple_frame (link_here service tei w.near).state) → IsTrue (is_multiple_frame (link_here service tei w.far).state)
+      → (link_here service tei w.near).a ≤ (link_here service tei w.far).r
+      → kept_by (known service tei w.near p) (known service tei w.far q) ≡ drop (link_here service tei w.far).r (link_here service tei w.near).contents
+  kept-is w p q up others low =
+      let l = link_here service tei w.near in
+      let r = (link_here service tei w.far).r in
+      let on : l.a + (r - l.a) ≡ r = omega (arith, low) in
+      from-links w p q up others (λ n m. kept_by n m ≡ drop r l.contents) (drop-drop (r - l.a) l.a l.contents ∙ ap (λ i. drop i l.contents) on)

@@ -13,8 +13,9 @@ ghost use Rattle.laws_wire.specs.Arriving.{ArrivesInRounds, ArrivesUnderTraffic}
 /// what is left to do there (`rounds`): as if an expiry stood for each control frame of the link that waits and each
 /// frame on its way, and four more, and a request that was granted for each note that is still to be told. And so it is
 /// where its T200 does not run. So an expiry is needed only at the end whose data is missing, and only where T200 runs
-/// there; neither the other's T200 has to expire nor need the line be quiet. Where two control frames alone may wait an
-/// enquiry or its answer may find no room, and then it is not so (`specs/WorkedArriving`).
+/// there; there it is needed (`specs/WorkedArriving`). Neither the other's T200 has to expire nor need the line be
+/// quiet. Where two control frames alone may wait an enquiry or its answer may find no room, and then it is not so
+/// (`specs/WorkedArriving`).
 pub fn it_arrives_under_traffic()
     ensures still { ArrivesUnderTraffic }
     ensures rounds { ArrivesInRounds }

@@ -55,15 +55,16 @@ pub fn told_in_order()
 /// used up (clause 5.9.2): no error is told as T200 expires ([`expiries_are_counted`] says when). And UA is not lost:
 /// before the end that calls has heard that the link is established, the other loses none of its frames, and no timer
 /// expires there while UA is its next frame. Then no error is told at either end, so there is one establishment, and
-/// what [`told_in_order`] says holds at any time. And what was lost arrives: wherever no turn is left, once T200 expires
-/// at both ends, again with no error told as it does, u + 3 rounds in which nothing is lost are enough, where at either
-/// end at most u notes are missing; in a round each end in turn gives its next frame, if it has one, and the other takes
-/// it. Then layer 3 of each has heard one establishment and the data that the other was granted to send, all of it, in
-/// order, each once, and nothing else, and no turn is left. So it is where SABME was lost, too. That T200 expires there
-/// at both ends is timely (`goes_on`), so the run can go on behind it, with further losses, and the same holds again
-/// wherever it then leads (`specs/WorkedRecovering`). That UA is not lost is needed for that no error is told, and that
-/// T200 does not expire while SABME is on its way (`specs/WorkedRecovering`), or an enquiry (`specs/WorkedLosing`). That
-/// it is long enough can be seen where it expires only as no turn is left ([`what_is_lost_arrives_from_rest`]).
+/// what [`told_in_order`] says holds at any time. And what was lost arrives: wherever no turn is left, once T200
+/// expires at both ends, again with no error told as it does, u + 3 rounds in which nothing is lost are enough, where
+/// at either end at most u notes are missing; in a round each end in turn gives its next frame, if it has one, and the
+/// other takes it. Then layer 3 of each has heard one establishment and the data that the other was granted to send,
+/// all of it, in order, each once, and nothing else, and no turn is left. So it is where SABME was lost, too. That T200
+/// expires there at both ends is timely (`goes_on`), so the run can go on behind it, with further losses, and the same
+/// holds again wherever it then leads (`specs/WorkedRecovering`). That UA is not lost is needed for that no error is
+/// told, and that T200 does not expire while SABME is on its way (`specs/WorkedRecovering`), or an enquiry
+/// (`specs/WorkedLosing`). That it is long enough can be seen where it expires only as no turn is left
+/// ([`what_is_lost_arrives_from_rest`]).
 pub fn what_is_lost_arrives()
     ensures { WhatIsLostArrives }
 {}
@@ -77,10 +78,10 @@ pub fn what_is_lost_arrives_from_rest()
 {}
 
 /// N200 counts expiries of T200. At each end let be counted how often T200 expired since its link was last in state 7,
-/// or since the call began; the expiry that led out of state 7 is not among them. A call as in [`what_is_lost_arrives`],
-/// in which T200 is long enough, and expires in states 5 and 8 only while this count is below N200 (Q.921 clause 5.9.2),
-/// is such a call: N200 is not used up, and no error is told. So while SABME is not answered T200 may expire N200 times,
-/// and while an enquiry is not, N200 times after the expiry that led to state 8.
+/// or since the call began; the expiry that led out of state 7 is not among them. A call as in
+/// [`what_is_lost_arrives`], in which T200 is long enough, and expires in states 5 and 8 only while this count is below
+/// N200 (Q.921 clause 5.9.2), is such a call: N200 is not used up, and no error is told. So while SABME is not answered
+/// T200 may expire N200 times, and while an enquiry is not, N200 times after the expiry that led to state 8.
 pub fn expiries_are_counted()
     ensures { ExpiriesAreCounted }
 {}

@@ -2,18 +2,19 @@
 //! user's, and each hears the octets that the other's pulls give, one by one. There is nothing to call: each law is the
 //! contract of a function that does nothing.
 //!
-//! `specs/circuit` has the circuit and what can happen at its ends (`Circuit`), a call between two cards that have just begun
-//! (`Through`), how many octets it takes (`Beats`), and worked values that compute (`Worked`, `WorkedCall`, `WorkedMixed`). `Damaged` has
-//! two cards between which octets are changed, lost or added, and at which anything happens; `WorkedDamaged` a run that
-//! meets its premise, and one that breaks what it says without. Where all has gone in a call, `Damaged` holds from there on
-//! (`Resting`); `Mixed` and `MixedCall` have a card of frames that faces one for octets. What a card for octets does at an event is the machine of `model_card::ports`. That a run of octets is, at
-//! the cards inside, a run of frames as `laws_wire` or `laws_order` has them, is shown in `proofs/OfCircuit/Projected` and
-//! `Damaged`; that frames come in so many beats, in `Comes` there.
+//! `specs/circuit` has the circuit and what can happen at its ends (`Circuit`), a call between two cards that have just
+//! begun (`Through`), how many octets it takes (`Beats`), and worked values that compute (`Worked`, `WorkedCall`,
+//! `WorkedMixed`). `Damaged` has two cards between which octets are changed, lost or added, and at which anything
+//! happens; `WorkedDamaged` a run that meets its premise, and one that breaks what it says without. Where all has gone
+//! in a call, `Damaged` holds from there on (`Resting`); `Mixed` and `MixedCall` have a card of frames that faces one
+//! for octets. What a card for octets does at an event is the machine of `model_card::ports`. That a run of octets is,
+//! at the cards inside, a run of frames as `laws_wire` or `laws_order` has them, is shown in
+//! `proofs/OfCircuit/Projected` and `Damaged`; that frames come in so many beats, in `Comes` there.
 //!
 //! # Open
 //!
-//! That all is told in the end where octets are damaged or timers expire; calls that begin elsewhere than from nothing; how
-//! long a call takes between a card of frames and one for octets.
+//! That all is told in the end where octets are damaged or timers expire; calls that begin elsewhere than from nothing;
+//! how long a call takes between a card of frames and one for octets.
 
 ghost use Rattle.laws_order.specs.circuit.Beats.{AllIsToldInBeats};
 ghost use Rattle.laws_order.specs.circuit.Damaged.{DeliveredThoughDamaged};
@@ -60,29 +61,31 @@ pub fn delivered_though_damaged()
     ensures { DeliveredThoughDamaged }
 {}
 
-/// What is delivered is in order, too, where a card of frames faces a card for octets. The controller of the first takes the frames that
-/// the other's pulls begin, and gives what the card gives; what happens at the card of frames is as in [`crate::delivered_in_order`], at
-/// the card for octets as in [`delivered_though_damaged`]: a frame of the link that is heard whole was given there, behind all that
-/// were heard before it, and no more is assumed of the octets that come. So it is of two cards of either kind.
+/// What is delivered is in order, too, where a card of frames faces a card for octets. The controller of the first
+/// takes the frames that the other's pulls begin, and gives what the card gives; what happens at the card of frames is
+/// as in [`crate::delivered_in_order`], at the card for octets as in [`delivered_though_damaged`]: a frame of the link
+/// that is heard whole was given there, behind all that were heard before it, and no more is assumed of the octets that
+/// come. So it is of two cards of either kind.
 pub fn delivered_between_kinds()
     ensures { DeliveredBetweenKinds }
 {}
 
-/// A call between a card of frames and one for octets is a call between two cards of frames (`frames`), and comes through (`through`).
-/// The line between them and the first's controller are without fault: an octet that ends anything at the card for octets ends the first
-/// frame that the other gave, whole, and what its pulls begin is taken in order. Whatever is asked for in a call, as
-/// [`a_call_comes_through_in_octets`] has it, in whatever order octets are pulled and come, and frames are given and taken: from any
-/// state of the two there is a run of two cards of frames in the same call that leads to the same, so to the same that is granted, told
-/// and on its way. And where the two have just begun, and layer 3 of either asks for the establishment first, the call comes through
-/// as `a_call_comes_through` of `laws_wire` says.
+/// A call between a card of frames and one for octets is a call between two cards of frames (`frames`), and comes
+/// through (`through`). The line between them and the first's controller are without fault: an octet that ends anything
+/// at the card for octets ends the first frame that the other gave, whole, and what its pulls begin is taken in order.
+/// Whatever is asked for in a call, as [`a_call_comes_through_in_octets`] has it, in whatever order octets are pulled
+/// and come, and frames are given and taken: from any state of the two there is a run of two cards of frames in the
+/// same call that leads to the same, so to the same that is granted, told and on its way. And where the two have just
+/// begun, and layer 3 of either asks for the establishment first, the call comes through as `a_call_comes_through` of
+/// `laws_wire` says.
 pub fn calls_are_of_frames()
     ensures frames { CallsAreOfFrames }
     ensures through { CallsComeThroughBetweenKinds }
 {}
 
 /// A call comes to rest. Where all has gone in a call, as [`a_call_comes_through_in_octets`] has it, whether one end
-/// called or both, the two links are in step, and no frame of them is on its way or waits. So what [`delivered_though_damaged`] says holds of all that happens from
-/// there on.
+/// called or both, the two links are in step, and no frame of them is on its way or waits. So what
+/// [`delivered_though_damaged`] says holds of all that happens from there on.
 pub fn a_call_comes_to_rest()
     ensures { CallsComeToRest }
 {}

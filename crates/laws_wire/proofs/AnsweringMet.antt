@@ -4,7 +4,7 @@ use Rattle.lapd_frame.specs.declared.timers.Timer.TheVariants.{T200, T203}
 use Rattle.lapd_tei.specs.Events as teis
 use Rattle.model_line.specs.Machine as lines
 use Rattle.laws_wire.specs.Answering.{IsFullTalk, StayPatient, uncalled, error_f, seen, ToldSo}
-use Rattle.laws_wire.specs.WorkedAnswering.{loses_ua, is_busy, repeated, repeated_seen, repeated_still, repeated_rests, asks_early, rings_again, kept, kept_seen, kept_still, kept_rests}
+use Rattle.laws_wire.specs.WorkedAnswering.{loses_ua, is_busy, repeated, repeated_seen, repeated_still, repeated_rests, asks_early, rings_again, kept, kept_seen, kept_still, kept_rests, grants_early, dropped, dropped_seen, dropped_still, dropped_rests}
 use Rattle.laws_wire.proofs.PremisesMet.{can, all-of}
 use Rattle.laws_wire.proofs.RecoveryMet.{none-told, still-open}
 use Rattle.laws_wire.proofs.UaTold.{lossy-calls-come-through}
@@ -124,3 +124,34 @@ so-early = lossy-calls-come-through Call user network 0 0 0 (asks_early ++ rings
 pub told-early : heard_in kept.far ≡ indicated Call 0 ∷ error_f Call 0 ∷ []
 unfolding lines.after lines.answer lines.takes_slot reading header_of control_of unnumbered_of supervisory_of teis.course teis.refusal seq distance_of named doing_all turns
 told-early = (subst (λ x. ToldSo Call 0 x kept) kept_seen so-early).far kept_still kept_rests.0 kept_rests.1
+
+-- and where an I-frame went before, so that contents are given up
+abbrev i_frame_goes : List Doing
+i_frame_goes =
+    at_near gives ∷ at_far takes ∷ at_far (requests (Data Call 0 (2 ∷ []))) ∷ at_far gives ∷ at_far gives ∷ at_far loses ∷ at_near takes ∷ []
+
+given-up : Wire
+given-up = doing_all i_frame_goes begins
+
+given-up-idle : IsStill given-up × MayRepeat Call 0 given-up.near
+unfolding lines.after lines.answer lines.takes_slot reading header_of control_of unnumbered_of supervisory_of teis.course teis.refusal seq distance_of named doing_all turns given-up
+given-up-idle = (record { near = refl; far = refl; near_way = refl; far_way = refl }, none-told)
+
+patient-dropped : StayPatient grants_early begins
+unfolding given-up StayPatient doing_all
+patient-dropped =
+    both-patient i_frame_goes (at_near (times_out (T200 Call 0)) ∷ round) begins (only-turns i_frame_goes refl begins)
+    ((λ awaits. still-open given-up given-up-idle.0, given-up-idle.1), only-turns round refl (doing (at_near (times_out (T200 Call 0))) given-up))
+
+full-dropped : All (IsFullTalk Call 0) grants_early
+full-dropped =
+    let far : IsFullTalk Call 0 (at_far (requests (Data Call 0 (2 ∷ [])))) = (refl, refl) in
+    let expires : IsFullTalk Call 0 (at_near (times_out (T200 Call 0))) = (refl, refl) in
+    all-of (IsFullTalk Call 0) grants_early (tt, (tt, (far, (tt, (tt, (tt, (tt, (expires, (tt, (tt, (tt, (tt, tt))))))))))))
+
+so-dropped : ToldSo Call 0 (seen Call 0 grants_early begins uncalled) dropped
+so-dropped = lossy-calls-come-through Call user network 0 0 0 grants_early can full-dropped patient-dropped
+
+pub told-dropped : heard_in dropped.near ≡ confirmed Call 0 ∷ []
+unfolding lines.after lines.answer lines.takes_slot reading header_of control_of unnumbered_of supervisory_of teis.course teis.refusal seq distance_of named doing_all turns
+told-dropped = (subst (λ x. ToldSo Call 0 x dropped) dropped_seen so-dropped).near dropped_still dropped_rests.0 dropped_rests.1

@@ -1,11 +1,12 @@
 -- The premises of the law on what arrives under traffic are met by the worked call.
-use Rattle.laws_wire.proofs.Vocabulary.{◌≡◌, ℕ, List, [], ◌∷◌, ◌++◌, refl, sym, ◌∙◌, inl, true≢false, All, leb-true, Call, reading, header_of, control_of, unnumbered_of, supervisory_of, distance_of, named, seq, Data, Wire, requests, times_out, gives, takes, loses, at_near, at_far, doing_all, turns, confirmed, indicated, all_told, heard_in, IsRoughTalk, round, StayTimely, LosesNothing, HasCome, user, network, begins, MayRepeat, awaits_reply, false}
+use Rattle.laws_wire.proofs.Vocabulary.{◌≡◌, ℕ, List, [], ◌∷◌, ◌++◌, refl, sym, ◌∙◌, inl, true≢false, All, leb-true, Call, reading, header_of, control_of, unnumbered_of, supervisory_of, distance_of, named, seq, Data, Wire, requests, times_out, gives, takes, loses, at_near, at_far, doing_all, turns, confirmed, indicated, all_told, heard_in, IsRoughTalk, round, StayTimely, LosesNothing, HasCome, user, network, begins, MayRepeat, awaits_reply, false, ◌≤◌, ◌*◌, inr, arith, IsStill, granted_of, rounds, expiries, most_frames, most_left, Doing}
 use Rattle.lapd_frame.specs.declared.timers.Timer.TheVariants.{T200}
 use Rattle.lapd_tei.specs.Events as teis
 use Rattle.model_line.specs.Machine as lines
-use Rattle.laws_wire.specs.WorkedArriving.{loses_two, goes_on, lossy, over, lossy_near, near_asked, over_still}
+use Rattle.laws_wire.specs.WorkedArriving.{loses_two, goes_on, lossy, over, lossy_near, near_asked, over_still, waits, quiet, quiet_still, quiet_runs}
 use Rattle.laws_wire.proofs.PremisesMet.{can, all-of}
 use Rattle.laws_wire.proofs.RecoveryMet.{none-told, heard-it}
+use Rattle.laws_wire.proofs.UnderwayRounds.{arrives-in-rounds}
 use Rattle.laws_wire.proofs.UnderwayRun.{arrives-under-traffic}
 
 data-near : (octets : List ℕ) → IsRoughTalk Call 0 (at_near (requests (Data Call 0 octets)))
@@ -81,3 +82,40 @@ come =
 
 pub told : heard_in over.far ≡ all_told Call 0 (indicated Call 0) over.near
 told = come.near (inl near_asked)
+
+-- Where no T200 expires, the law says that what the far end sent has come, as T200 does not run there.
+rough-waits : All (IsRoughTalk Call 0) waits
+rough-waits = all-of (IsRoughTalk Call 0) waits (tt, (tt, (tt, (tt, (tt, (tt, (tt, (tt, (tt, (tt, (tt, (tt, (tt, (tt, (tt, (tt, tt))))))))))))))))
+
+kept-waits : All LosesNothing waits
+kept-waits = all-of LosesNothing waits (tt, (tt, (tt, (tt, (tt, (tt, (tt, (tt, (tt, (tt, (tt, (tt, (tt, (tt, (tt, (tt, tt))))))))))))))))
+
+timely-waits : StayTimely waits lossy
+unfolding doing_all StayTimely
+timely-waits =
+    (tt, ((tt, tt), ((tt, tt), (tt, (tt, ((tt, tt), ((tt, tt), (tt, (tt, ((tt, tt), ((tt, tt), (tt, (tt, ((tt, tt), ((tt, tt), (tt, tt))))))))))))))))
+
+come-waits : HasCome Call 0 waits lossy quiet
+come-waits =
+    arrives-under-traffic Call user network 0 0 0 loses_two waits can (leb-true 3 4 refl) (leb-true 3 4 refl) rough rough-waits kept-waits timely timely-waits
+    (heard-it (heard_in lossy.near) (confirmed Call 0) lossy_near) quiet_still
+
+pub told-back : heard_in quiet.near ≡ all_told Call 0 (confirmed Call 0) quiet.far
+told-back = come-waits.far (inr quiet_runs.1)
+
+-- As the last data is asked for, turns are left, and the law says that rounds lead to where none is.
+abbrev asks : List Doing
+asks = at_near takes ∷ at_near (times_out (T200 Call 0)) ∷ at_far (requests (Data Call 0 (4 ∷ []))) ∷ []
+
+rough-asks : All (IsRoughTalk Call 0) asks
+rough-asks = all-of (IsRoughTalk Call 0) asks (tt, (expires, (data-far (4 ∷ []), tt)))
+
+timely-asks : StayTimely asks lossy
+unfolding doing_all StayTimely
+timely-asks = (tt, (timely-on.1.0, ((tt, tt), tt)))
+
+by-rounds : (n : ℕ) × (n ≤ most_left Call 0 7 (doing_all asks lossy)) × (n ≤ 2 * most_frames 7 (expiries (loses_two ++ asks)) (granted_of (doing_all asks lossy)))
+    × IsStill (rounds n (doing_all asks lossy)) × HasCome Call 0 asks lossy (rounds n (doing_all asks lossy))
+by-rounds =
+    arrives-in-rounds Call user network 0 0 0 7 loses_two asks can (leb-true 3 4 refl) (leb-true 3 4 refl) (omega arith) (omega arith) rough rough-asks
+    (all-of LosesNothing asks (tt, (tt, (tt, tt)))) timely timely-asks (heard-it (heard_in lossy.near) (confirmed Call 0) lossy_near)

@@ -9,11 +9,11 @@ use Rattle.lapd_tei.specs.Events as teis
 use Rattle.model_line.specs.Machine as lines
 use Rattle.model_line.specs.Request.{Data, SetBusy, ClearBusy}
 use Rattle.laws_wire.specs.Wire.{Wire, requests, times_out, gives, takes, loses, Doing, at_near, at_far, doing_all, turns, IsStill}
-use Rattle.laws_wire.specs.Call.{confirmed, indicated, data_told}
+use Rattle.laws_wire.specs.Call.{confirmed, indicated, data_told, IsBeginningOf}
 use Rattle.laws_wire.specs.Losing.{heard_in}
 use Rattle.laws_wire.specs.Recovering.{round}
 use Rattle.laws_wire.specs.Arriving.{runs_t200}
-use Rattle.laws_wire.specs.Answering.{uncalled, error_f, renewed, seen}
+use Rattle.laws_wire.specs.Answering.{uncalled, error_f, renewed, seen, all_of_calls}
 use Rattle.laws_wire.specs.Worked.{begins}
 
 -- UA is lost, T200 expires, and SABME goes again.
@@ -72,15 +72,15 @@ waits_runs = refl
 
 -- Where the end that was called is granted data before, its I-frame goes behind the UA that is lost, and as SABME comes again its contents
 -- are given up: it is told a second establishment, and the other is told nothing of them, though no turn is left and T200 runs nowhere.
-abbrev grants_early : List Doing
+abbrev pub grants_early : List Doing
 grants_early =
     at_near gives ∷ at_far takes ∷ at_far (requests (Data Call 0 (2 ∷ []))) ∷ at_far gives ∷ at_far gives ∷ at_far loses ∷ at_near takes
     ∷ at_near (times_out (T200 Call 0)) ∷ round
 
-abbrev dropped : Wire
+abbrev pub dropped : Wire
 dropped = doing_all grants_early begins
 
-dropped_seen : seen Call 0 grants_early begins uncalled ≡ record { told = indicated Call 0 ∷ renewed Call 0 ∷ []; sent = false; given_up = 1 }
+pub dropped_seen : seen Call 0 grants_early begins uncalled ≡ record { told = indicated Call 0 ∷ renewed Call 0 ∷ []; sent = false; given_up = 1 }
 unfolding lines.after lines.answer lines.takes_slot reading header_of control_of unnumbered_of supervisory_of teis.course teis.refusal seq distance_of named doing_all turns seen
 dropped_seen = refl
 
@@ -96,11 +96,11 @@ dropped_far : heard_in dropped.far ≡ indicated Call 0 ∷ renewed Call 0 ∷ [
 unfolding lines.after lines.answer lines.takes_slot reading header_of control_of unnumbered_of supervisory_of teis.course teis.refusal seq distance_of named doing_all turns
 dropped_far = refl
 
-dropped_still : IsStill dropped
+pub dropped_still : IsStill dropped
 unfolding lines.after lines.answer lines.takes_slot reading header_of control_of unnumbered_of supervisory_of teis.course teis.refusal seq distance_of named doing_all turns
 dropped_still = record { near = refl; far = refl; near_way = refl; far_way = refl }
 
-dropped_rests : (runs_t200 Call 0 dropped.near ≡ false) × (runs_t200 Call 0 dropped.far ≡ false)
+pub dropped_rests : (runs_t200 Call 0 dropped.near ≡ false) × (runs_t200 Call 0 dropped.far ≡ false)
 unfolding lines.after lines.answer lines.takes_slot reading header_of control_of unnumbered_of supervisory_of teis.course teis.refusal seq distance_of named doing_all turns
 dropped_rests = (refl, refl)
 
@@ -135,3 +135,28 @@ kept_still = record { near = refl; far = refl; near_way = refl; far_way = refl }
 pub kept_rests : (runs_t200 Call 0 kept.near ≡ false) × (runs_t200 Call 0 kept.far ≡ false)
 unfolding lines.after lines.answer lines.takes_slot reading header_of control_of unnumbered_of supervisory_of teis.course teis.refusal seq distance_of named doing_all turns
 kept_rests = (refl, refl)
+
+-- Where T200 is too short, and expires while SABME is on its way, SABME goes again though nothing is lost. The second comes
+-- as the near end has heard UA, and error F is told: what the far end is told is no beginning of what the law says.
+abbrev repeats_early : List Doing
+repeats_early =
+    at_near gives ∷ at_near (times_out (T200 Call 0)) ∷ at_near gives ∷ at_far takes ∷ at_far gives ∷ at_near takes ∷ at_far takes ∷ []
+
+abbrev twice : Wire
+twice = doing_all repeats_early begins
+
+twice_seen : seen Call 0 repeats_early begins uncalled ≡ record { told = indicated Call 0 ∷ []; sent = false; given_up = 0 }
+unfolding lines.after lines.answer lines.takes_slot reading header_of control_of unnumbered_of supervisory_of teis.course teis.refusal seq distance_of named doing_all turns seen
+twice_seen = refl
+
+twice_near : heard_in twice.near ≡ confirmed Call 0 ∷ []
+unfolding lines.after lines.answer lines.takes_slot reading header_of control_of unnumbered_of supervisory_of teis.course teis.refusal seq distance_of named doing_all turns
+twice_near = refl
+
+twice_far : heard_in twice.far ≡ indicated Call 0 ∷ error_f Call 0 ∷ []
+unfolding lines.after lines.answer lines.takes_slot reading header_of control_of unnumbered_of supervisory_of teis.course teis.refusal seq distance_of named doing_all turns
+twice_far = refl
+
+not_so_far : IsBeginningOf (all_of_calls Call 0 (seen Call 0 repeats_early begins uncalled) twice.near) (heard_in twice.far) → ⊥
+unfolding lines.after lines.answer lines.takes_slot reading header_of control_of unnumbered_of supervisory_of teis.course teis.refusal seq distance_of named doing_all turns seen
+not_so_far x = cc x.1

@@ -1,5 +1,5 @@
 -- Worked values of a call in which frames are lost, and T200 of one end expires amid what goes on. Each computes.
-use Rattle.std.specs.Prelude.{◌≡◌, true, List, [], ◌∷◌, ◌++◌, refl}
+use Rattle.std.specs.Prelude.{◌≡◌, true, false, List, [], ◌∷◌, ◌++◌, refl}
 use Rattle.lapd_frame.specs.declared.services.Service.TheVariants.{Call}
 use Rattle.lapd_frame.specs.declared.timers.Timer.TheVariants.{T200}
 use Rattle.lapd_frame.specs.Reading.{reading, header_of, control_of, unnumbered_of, supervisory_of}
@@ -13,7 +13,7 @@ use Rattle.laws_wire.specs.Wire.{Wire, requests, times_out, gives, takes, loses,
 use Rattle.laws_wire.specs.Call.{calling, confirmed, indicated, data_told}
 use Rattle.laws_wire.specs.Losing.{heard_in}
 use Rattle.laws_wire.specs.Recovering.{round}
-use Rattle.laws_wire.specs.Arriving.{near_asks, ever}
+use Rattle.laws_wire.specs.Arriving.{runs_t200, near_asks, ever}
 use Rattle.laws_wire.specs.Worked.{user, network, begins}
 
 -- Each end loses its first I-frame, and the far end's second is on its way.
@@ -87,3 +87,35 @@ stuck_granted = refl
 stuck_far : heard_in stuck.far ≡ indicated Call 0 ∷ []
 unfolding lines.after lines.answer lines.takes_slot reading header_of control_of unnumbered_of supervisory_of teis.course teis.refusal seq distance_of named doing_all turns ever
 stuck_far = refl
+
+-- Where nothing is lost any more, but no T200 expires: the near end takes the second, and by its REJ all that the far end
+-- sent comes. What the near end sent has not been told, though no turn is left: its T200 runs, and an expiry is needed.
+abbrev pub waits : List Doing
+waits = round ++ round ++ round ++ round
+
+abbrev pub quiet : Wire
+quiet = doing_all waits lossy
+
+quiet_asked : ever (near_asks Call 0) waits lossy ≡ false
+unfolding lines.after lines.answer lines.takes_slot reading header_of control_of unnumbered_of supervisory_of teis.course teis.refusal seq distance_of named doing_all turns ever
+quiet_asked = refl
+
+pub quiet_still : IsStill quiet
+unfolding lines.after lines.answer lines.takes_slot reading header_of control_of unnumbered_of supervisory_of teis.course teis.refusal seq distance_of named doing_all turns ever
+quiet_still = record { near = refl; far = refl; near_way = refl; far_way = refl }
+
+pub quiet_runs : (runs_t200 Call 0 quiet.near ≡ true) × (runs_t200 Call 0 quiet.far ≡ false)
+unfolding lines.after lines.answer lines.takes_slot reading header_of control_of unnumbered_of supervisory_of teis.course teis.refusal seq distance_of named doing_all turns ever
+quiet_runs = (refl, refl)
+
+quiet_granted : quiet.near.granted ≡ (1 ∷ []) ∷ []
+unfolding lines.after lines.answer lines.takes_slot reading header_of control_of unnumbered_of supervisory_of teis.course teis.refusal seq distance_of named doing_all turns ever
+quiet_granted = refl
+
+quiet_far : heard_in quiet.far ≡ indicated Call 0 ∷ []
+unfolding lines.after lines.answer lines.takes_slot reading header_of control_of unnumbered_of supervisory_of teis.course teis.refusal seq distance_of named doing_all turns ever
+quiet_far = refl
+
+quiet_near : heard_in quiet.near ≡ confirmed Call 0 ∷ data_told Call 0 (2 ∷ []) ∷ data_told Call 0 (3 ∷ []) ∷ []
+unfolding lines.after lines.answer lines.takes_slot reading header_of control_of unnumbered_of supervisory_of teis.course teis.refusal seq distance_of named doing_all turns ever
+quiet_near = refl

@@ -1,20 +1,21 @@
-//! Laws of two cards on one wire: a line of a card of the network's side faces a line of one of the user's, and what one
-//! gives the other takes. There is nothing to call: each law is the contract of a function that does nothing.
+//! Laws of two cards on one wire: a line of a card of the network's side faces a line of one of the user's, and what
+//! one gives the other takes. There is nothing to call: each law is the contract of a function that does nothing.
 //!
 //! `specs/` has the wire and what can happen at its ends (`Wire`), a call between two cards that have just begun, in
 //! the words of the events and answers of a card alone (`Call`), the same where frames are lost and timers expire
-//! (`Losing`), a T200 that is long enough (`Timely`), what it recovers (`Recovering`; `StillTimely`, where it expires as no turn is left), also under traffic
-//! (`Arriving`), and where UA is lost or an end is busy (`Answering`), the end of such a call (`Ending`), how often
-//! T200 may expire (`Counted`), how many turns there are at most (`Resting`), two cards that face each other by links
-//! in state 7 (`Facing`), and worked values that compute (`Worked`, `WorkedLosing`, `WorkedRecovering`,
-//! `WorkedArriving`, `WorkedAnswering`, `WorkedEnding`, `WorkedCounted`, `WorkedResting`). What a card does at an
-//! event is the machine of `model_card`, of frames; the laws of two links are those of `laws_link`.
+//! (`Losing`), a T200 that is long enough (`Timely`), what it recovers (`Recovering`; `StillTimely`, where it expires
+//! as no turn is left), also under traffic (`Arriving`), and where UA is lost or an end is busy (`Answering`), the end
+//! of such a call (`Ending`), how often T200 may expire (`Counted`), how many turns there are at most (`Resting`), two
+//! cards that face each other by links in state 7 (`Facing`), and worked values that compute (`Worked`, `WorkedLosing`,
+//! `WorkedRecovering`, `WorkedArriving`, `WorkedAnswering`, `WorkedEnding`, `WorkedCounted`, `WorkedResting`). What a
+//! card does at an event is the machine of `model_card`, of frames; the laws of two links are those of `laws_link`.
 //!
 //! # Open
 //!
 //! What is told after an error other than F of a lost UA. Whether rest is reached after an error, with an end busy, or
-//! behind a release: that the weight which bounds the turns (`proofs/Weighing`) falls there, too, was not tried. Losses where both
-//! ends call, with other requests, links or lines, or from elsewhere than nothing. That a given T200 is long enough.
+//! behind a release: that the weight which bounds the turns (`proofs/Weighing`) falls there, too, was not tried. Losses
+//! where both ends call, with other requests, links or lines, or from elsewhere than nothing. That a given T200 is long
+//! enough.
 #![tactic(auto)]
 
 mod answering;

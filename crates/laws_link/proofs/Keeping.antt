@@ -301,8 +301,7 @@ module _ (t : Terms) (l : Link) (h : IsSound t l) where
   unit-requested Events.Release o e = by-release l.state
     where
       by-release : (here : State) → (Requests.release_in here t (begun l)).unit ≡ None
-      by-release TeiAssigned = refl
-      by-release other = refl
+      by-release here = grind arith
   unit-requested Events.SetBusy o e = no-unit 0 _ set-busy
   unit-requested Events.ClearBusy o e = no-unit 0 _ clear-busy
   unit-requested other o e = refl
@@ -321,8 +320,7 @@ module _ (t : Terms) (l : Link) (h : IsSound t l) where
       (both_ways (λ c. c.unit ≡ None) l.pending _ _ refl refl)
 
   unit-cleared : (here : State) → (told_of_clearing here t (begun l)).unit ≡ None
-  unit-cleared TeiAssigned = refl
-  unit-cleared other = refl
+  unit-cleared here = grind arith
 
   pub event-unit : (e : Events.Event) → (course t e l).unit ≡ unit_due t e
   event-unit (Events.received (Events.frame f)) = unit-in f.address.command f.info f.control (is_ui f.control) refl

@@ -1,5 +1,5 @@
 -- What layer 3 is told is what becomes of the link: every row keeps that.
-use Rattle.laws_link.proofs.Vocabulary.{◌≡◌, ℕ, Bool, true, false, IsTrue, List, [], ◌∷◌, Option, Some, None, refl, sym, subst, ◌∙◌, ap, cond, not, ◌++◌, fold, true≢false, Seq, named, Note, ErrorCode, State, TeiAssigned, AwaitingEstablishment, AwaitingRelease, Established, TimerRecovery, LinkTimer, T203, ControlFrame, Terms, Link, is_asked, has_outstanding, Course, Step, ◌then◌, nothing, depending_on, changed, Leads, then_leads, keeping_then, nothing_leads, depending_leads, bit_leads, tested_leads, Passed, from_more, to_less, seen, known, is_up_in, leaves, number_leads, asked_is, deliver, deliver_unit, discard, enter, establish_confirm, establish_indication, no_timer, note, release_confirm, release_indication, start, zero_numbers, failed}
+use Rattle.laws_link.proofs.Vocabulary.{arith, ◌≡◌, ℕ, Bool, true, false, List, [], ◌∷◌, refl, sym, ◌∙◌, ap, not, ◌++◌, true≢false, Note, ErrorCode, State, TeiAssigned, AwaitingEstablishment, Established, T203, Terms, Link, is_asked, has_outstanding, Course, Step, ◌then◌, nothing, depending_on, Leads, keeping_then, nothing_leads, depending_leads, bit_leads, tested_leads, to_less, seen, known, is_up_in, leaves, number_leads, asked_is, deliver, deliver_unit, discard, enter, establish_confirm, establish_indication, no_timer, note, release_confirm, release_indication, start, zero_numbers, failed}
 
 -- the same as `is_up_in`, of what it speaks of
 abbrev pub up_by : State → Bool → Bool
@@ -8,8 +8,7 @@ up_by AwaitingEstablishment asked = not asked
 up_by other asked = true
 
 pub is-up-by : (here : State) (l : Link) → is_up_in here l ≡ up_by here l.asked
-is-up-by TeiAssigned l = refl
-is-up-by other l = refl
+is-up-by here l = grind arith
 
 -- in this state, and known to layer 3 as what it is
 pub record In (here state : State) (asked up : Bool) : Type 0 where

@@ -7,8 +7,7 @@ use Rattle.laws_link.proofs.Keeping.{event-unit}
 
 -- What is delivered is what is due.
 delivery-is : (r : ℕ) (o : Option Arrived) → delivery r o ≡ in_sequence r o
-delivery-is r None = refl
-delivery-is r (Some i) = refl
+delivery-is r o = grind arith
 
 module _ (t : Terms) (l : Link) where
   establishing : (control : Control) (octets : List ℕ) → MayEstablish control → information_of control octets ≡ None

@@ -1,5 +1,5 @@
 -- Most words of the tables leave V(S) and own busy, and tell no loss; an error that is told may end own busy.
-use Rattle.laws_link.proofs.Vocabulary.{◌≡◌, ℕ, Bool, true, false, ◌||◌, List, [], ◌∷◌, ◌++◌, Option, None, Some, refl, ap, sym, ◌∙◌, ◌⊎◌, inl, inr, ⊎_elim, list_any, list_any-append, Seq, named, Note, ErrorCode, State, LinkTimer, ControlFrame, Terms, Link, Course, begun, Step, ◌then◌, Leads, keeping_then, nothing_leads, depending_leads, bit_leads, is_loss, tells_loss, is_anew, tells_anew, leaves, number_leads, deliver, deliver_unit, note}
+use Rattle.laws_link.proofs.Vocabulary.{arith, ◌≡◌, ℕ, Bool, true, false, ◌||◌, List, [], ◌∷◌, ◌++◌, refl, ap, ◌∙◌, ◌⊎◌, inl, inr, ⊎_elim, list_any, list_any-append, Note, ErrorCode, Terms, Link, Course, begun, ◌then◌, Leads, keeping_then, nothing_leads, depending_leads, bit_leads, is_loss, tells_loss, is_anew, tells_anew, leaves, number_leads, deliver, deliver_unit, note}
 use Rattle.model_link.specs.MultipleFrame
 use Rattle.laws_link.proofs.Queueing.{no_loss-note}
 
@@ -25,8 +25,7 @@ told-now : (ns : List Note) (n : Note) → tells_anew n ≡ true → list_any te
 told-now ns n e = list_any-append tells_anew ns (n ∷ []) ∙ ap (λ b. list_any tells_anew ns || (b || false)) e ∙ always (list_any tells_anew ns)
   where
     always : (b : Bool) → (b || true) ≡ true
-    always true = refl
-    always false = refl
+    always b = grind arith
 
 module _ (l : Link) where
   pub begins : Ordinary l (begun l)

@@ -1,5 +1,5 @@
 -- What each event changes of V(S) and of own busy, and which events tell a loss.
-use Rattle.laws_link.proofs.Vocabulary.{◌≡◌, ℕ, ◌+◌, Bool, true, false, cond, ◌||◌, List, [], ◌∷◌, Option, None, Some, is_some, refl, ap, sym, ◌∙◌, subst, true≢false, ◌⊎◌, inl, inr, ⊎_elim, nat_lt, Seq, named, Control, Information, ReceiveReady, ReceiveNotReady, Reject, Sabme, Disc, Ui, Ua, Dm, Frmr, Xid, ErrorCode, Refusal, Parts, State, TeiAssigned, AwaitingEstablishment, AwaitingRelease, Established, TimerRecovery, LinkTimer, T200, T203, ControlFrame, Terms, Link, has_outstanding, Course, begun, Step, ◌then◌, changed, Leads, is_release, tells_loss, empties, asked_from, AsksFrom, MovesSent, is_anew, MovesBusy, MayEndBy, MayLose, both_ways, ClearBusy, Data, Establish, Event, Received, Release, Request, SetBusy, cleared, expired, frame, offer, overlong, received, requested, undefined, wrong_size, by_number, clear_flags, command, discard, enquire, enter, error, establish_confirm, establish_indication, peer_busy_is, pending_is, re_establish, repeated, response, send, start, zero_numbers, frame_in_4, malformed_in_4, frame_in_5, malformed_in_5, frame_in_6, malformed_in_6, acknowledged_by_rej_in_7, frame_in_7, timer_in_7, unsolicited, acknowledged_in_8, frame_in_8, give_information, is_awaiting_acknowledgement, may_send_information, offer_among, with_one_sent, after, course, expired_in, expired_step, frame_in, frame_step, is_running, malformed_in, received_step, told}
+use Rattle.laws_link.proofs.Vocabulary.{arith, ◌≡◌, ℕ, ◌+◌, Bool, true, false, cond, ◌||◌, List, [], ◌∷◌, Option, None, Some, is_some, refl, ap, sym, ◌∙◌, subst, true≢false, ◌⊎◌, inl, inr, ⊎_elim, nat_lt, Seq, named, Control, Information, ReceiveReady, ReceiveNotReady, Reject, Sabme, Disc, Ui, Ua, Dm, Frmr, Xid, ErrorCode, Refusal, Parts, State, TeiAssigned, AwaitingEstablishment, AwaitingRelease, Established, TimerRecovery, LinkTimer, T200, T203, ControlFrame, Terms, Link, has_outstanding, Course, begun, Step, ◌then◌, changed, Leads, is_release, tells_loss, empties, asked_from, AsksFrom, MovesSent, is_anew, MovesBusy, MayEndBy, MayLose, both_ways, ClearBusy, Data, Establish, Event, Received, Release, Request, SetBusy, cleared, expired, frame, offer, overlong, received, requested, undefined, wrong_size, by_number, clear_flags, command, discard, enquire, enter, error, establish_confirm, establish_indication, peer_busy_is, pending_is, re_establish, repeated, response, send, start, zero_numbers, frame_in_4, malformed_in_4, frame_in_5, malformed_in_5, frame_in_6, malformed_in_6, acknowledged_by_rej_in_7, frame_in_7, timer_in_7, unsolicited, acknowledged_in_8, frame_in_8, give_information, is_awaiting_acknowledgement, may_send_information, offer_among, with_one_sent, after, course, expired_in, expired_step, frame_in, frame_step, is_running, malformed_in, received_step, told}
 use Rattle.model_link.specs.MultipleFrame
 use Rattle.model_link.specs.Requests
 use Rattle.laws_link.proofs.Ordinary.{Busy, Ordinary, begins, failed, words}
@@ -86,10 +86,7 @@ module _ (Asks : ℕ → Type 0) (t : Terms) (l : Link) where
       (λ n names. let h = known.leads (begun l) (begins l) in record { sent = inr (inl (asks nr n refl names)); busy = h.busy; loss = λ some. absurd (true≢false (sym some ∙ h.no_loss)) })
     where
       same-a : (b pf : Bool) → ((peer_busy_is false then MultipleFrame.answered t b pf then unsolicited t (MultipleFrame.is_final b pf)) (begun l)).link.a ≡ l.a
-      same-a true true = refl
-      same-a true false = refl
-      same-a false true = refl
-      same-a false false = refl
+      same-a b pf = grind arith
   frames_in_7 b octets (Sabme p) asks = sabme-again p (has_outstanding l)
   frames_in_7 b octets (Disc p) asks = record { sent = inr (inr (inl (refl, refl))); busy = inl refl; loss = λ some. tt }
   frames_in_7 b octets (Dm false) asks = fails Asks _ t l ErrorCode.E refl

@@ -22,10 +22,7 @@ told-still : (ns : List Note) (n : Note) → list_any tells_anew ns ≡ true →
 told-still ns n e = list_any-append tells_anew ns (n ∷ []) ∙ ap (λ b. b || list_any tells_anew (n ∷ [])) e
 
 told-now : (ns : List Note) (n : Note) → tells_anew n ≡ true → list_any tells_anew (ns ++ n ∷ []) ≡ true
-told-now ns n e = list_any-append tells_anew ns (n ∷ []) ∙ ap (λ b. list_any tells_anew ns || (b || false)) e ∙ always (list_any tells_anew ns)
-  where
-    always : (b : Bool) → (b || true) ≡ true
-    always b = grind arith
+told-now ns n e = grind (arith, list_any-append)
 
 module _ (l : Link) where
   pub begins : Ordinary l (begun l)
@@ -46,12 +43,6 @@ module _ (l : Link) where
 
   -- an error after which the link is established anew
   pub failed : (t : Terms) (e : ErrorCode) → is_anew e ≡ true → Leads (Ordinary l) (MultipleFrame.failed t e) (Ordinary l)
-  failed t e anew = record {
-    leads = λ c h. record {
-      sent = h.sent;
-      busy = inr (refl, told-now c.notes (Note.Error t.service t.tei e) anew);
-      no_loss = no_loss-note c.notes (Note.Error t.service t.tei e) refl ∙ h.no_loss;
-    };
-  }
+  failed t e anew = grind (arith, told-now, no_loss-note)
 
 pub ruleset words = (leaves, keeping_then, nothing_leads, depending_leads, bit_leads, note_ordinary, deliver_ordinary, unit_ordinary, failed, refl, number_leads)

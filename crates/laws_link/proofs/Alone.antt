@@ -1,5 +1,5 @@
 -- An I-frame is offered only where it may go; and with offers alone contents go one after the other.
-use Rattle.laws_link.proofs.Vocabulary.{◌≡◌, ℕ, zero, suc, ◌+◌, ◌-◌, ◌<◌, Bool, true, false, cond, IsTrue, ◌&&◌, not, List, [], ◌∷◌, length, Option, Some, None, refl, sym, ap, ◌∙◌, subst, true≢false, arith, All, IfSome, nat_lt, ltb-true, and_parts, All-head, State, Established, ControlFrame, T200, Terms, Link, outstanding, course, after, given, given_of, IsInRange, IsSound, IsWaitingFrame, is_information, Course, Sent, begun, ◌then◌, changed, sound-after, IsOffered, is_i_frame, i_frames, MayGo, offered, i_frames_offered, both_ways, offer, give_information, is_awaiting_acknowledgement, is_established, may_send_information, offer_among, with_one_sent, pending_is, start}
+use Rattle.laws_link.proofs.Vocabulary.{◌≡◌, ℕ, zero, suc, ◌+◌, ◌-◌, Bool, true, false, cond, IsTrue, not, List, [], ◌∷◌, Option, Some, None, refl, sym, ap, ◌∙◌, subst, true≢false, arith, All, IfSome, nat_lt, ltb-true, and_parts, All-head, State, Established, ControlFrame, T200, Terms, Link, course, after, given, given_of, IsInRange, IsSound, IsWaitingFrame, is_information, Course, Sent, begun, ◌then◌, changed, sound-after, IsOffered, is_i_frame, i_frames, MayGo, offered, i_frames_offered, both_ways, offer, give_information, is_awaiting_acknowledgement, is_established, may_send_information, offer_among, with_one_sent, pending_is, start}
 use Rattle.laws_link.proofs.Offering.{given-is-offered, offer-leaves, offer-counts}
 
 in-state-7 : (state : State) → is_established state ≡ true → state ≡ Established
@@ -12,17 +12,7 @@ off false e = refl
 
 module _ (t : Terms) (l : Link) (h : IsSound t l) where
   pub may-go : may_send_information t l ≡ true → MayGo t l
-  may-go e =
-      let some = and_parts (is_established l.state && not l.peer_busy && nat_lt (outstanding l) t.k) (nat_lt l.s (length l.contents)) e in
-      let fewer = and_parts (is_established l.state && not l.peer_busy) (nat_lt (outstanding l) t.k) some.0 in
-      let free = and_parts (is_established l.state) (not l.peer_busy) fewer.0 in
-      let fewer_out : l.s - l.a < t.k = ltb-true (l.s - l.a) t.k fewer.1 in
-      record {
-        state = in-state-7 l.state free.0;
-        free = off l.peer_busy free.1;
-        window = omega (arith, fewer_out);
-        unsent = ltb-true l.s (length l.contents) some.1;
-      }
+  may-go e = grind (arith, and_parts, nat_lt, ltb-true, in-state-7, off)
 
   abbrev May : Course → Type 0
   May c = IfSome c.sent (λ s. IsTrue (is_information s.frame.control) → MayGo t l)

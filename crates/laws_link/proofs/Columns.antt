@@ -1,5 +1,5 @@
 -- What an event leaves of a link, row by row of the tables.
-use Rattle.laws_link.proofs.Vocabulary.{◌≡◌, ℕ, ◌+◌, Bool, true, false, cond, not, ◌||◌, List, [], ◌∷◌, ◌++◌, length, drop, Option, None, Some, is_some, refl, nat_lt, Control, Note, Parts, State, AwaitingEstablishment, LinkTimer, ControlFrame, Terms, Link, Course, begun, Step, ◌then◌, as_heard, state_after, numbers_begin, answers, commands, peer_busy_left, own_busy_left, flag_left, rejecting_heard, takes_contents, unless_put, owed_in, owed_behind, asked_left, repeats_left, told_with, ErrorCode, Event, cleared, frame, offer, received, deliver_unit, error, leave_unserved, re_establish, unit_data, course}
+use Rattle.laws_link.proofs.Vocabulary.{◌≡◌, ℕ, ◌+◌, Bool, cond, ◌||◌, List, [], ◌∷◌, ◌++◌, length, drop, Option, nat_lt, Control, Note, Parts, State, LinkTimer, ControlFrame, Terms, Link, Course, as_heard, state_after, numbers_begin, answers, commands, peer_busy_left, own_busy_left, flag_left, rejecting_heard, takes_contents, unless_put, owed_in, owed_behind, asked_left, repeats_left, told_with, Event, cleared, frame, offer, received, course}
 
 -- What a course leaves: fields of its link, how many frames were lost, and whether the numbers begin.
 pub record Left : Type 0 where
@@ -87,23 +87,3 @@ module _ (t : Terms) where
   -- The event leaves what is due in the state to which the table leads.
   abbrev pub Row : Event → Link → Type 0
   Row e l = left (course t e l) ≡ due t (as_heard t e) l (state_after t (as_heard t e) l)
-
-  pub chosen : (b : Bool) (u v c : Course) → left u ≡ left c → left v ≡ left c → left (cond b u v) ≡ left c
-  chosen true u v c x y = x
-  chosen false u v c x y = y
-
-  pub unit-left : (octets : List ℕ) (l : Link)
-      → left (unit_data t octets (begun l)) ≡ record (left (begun l)) { notes = cond (nat_lt t.n201 (length octets)) [] (Note.Unit t.service t.tei ∷ []) }
-  unit-left octets l = go (nat_lt t.n201 (length octets))
-    where
-      go : (over : Bool) → left (cond over (leave_unserved (begun l)) (deliver_unit t octets (begun l)))
-          ≡ record (left (begun l)) { notes = cond over [] (Note.Unit t.service t.tei ∷ []) }
-      go true = refl
-      go false = refl
-
-  -- An N(R) that is valid, or not.
-  pub by-named : (D : State → Left) (c : Course) (f : ℕ → Step) (o : Option ℕ) (to : State)
-      → left ((error t ErrorCode.J then re_establish t) c) ≡ D AwaitingEstablishment → ((n : ℕ) → left (f n c) ≡ D to)
-      → left (elim o [ None ↦ (error t ErrorCode.J then re_establish t) c | Some n ↦ f n c ]) ≡ D (cond (not (is_some o)) AwaitingEstablishment to)
-  by-named D c f None to x y = x
-  by-named D c f (Some n) to x y = y n

@@ -1,5 +1,5 @@
 -- What a link keeps, and the contents that were accepted since its numbers began.
-use Rattle.laws_link.proofs.Vocabulary.{◌≡◌, ℕ, List, [], ◌∷◌, refl, ap, ◌∙◌, Terms, Link, fresh, Event, after, after_all, IsInRange, IsSound, sound-after, sound-fresh, Share, share, History, nothing_yet, with_share, with_all, IsKept, IsCounted}
+use Rattle.laws_link.proofs.Vocabulary.{arith, ◌≡◌, ℕ, List, [], ◌∷◌, refl, Terms, Link, fresh, Event, after, after_all, IsInRange, IsSound, sound-after, sound-fresh, Share, share, History, nothing_yet, with_share, with_all, IsKept, IsCounted}
 use Rattle.laws_link.proofs.Keeping.{Comes, event-done}
 
 pub kept-after : (t : Terms) (e : Event) (l : Link) → IsSound t l → IsKept (share t e l) l (after t e l)
@@ -8,14 +8,10 @@ kept-after t e l s = (event-done t l s e).comes.kept
 -- over plain values
 pub counted : (share : Share) (all all' : List (List ℕ)) (a a' : ℕ) (h : History) → all ≡ h.accepted → a ≡ h.acknowledged → Comes share all a all' a'
     → (all' ≡ (with_share h share).accepted) × (a' ≡ (with_share h share).acknowledged)
-counted share all all' a a' h e e' c =
-    let same : record { accepted = all; acknowledged = a } ≡ h = ap (λ xs. record { accepted = xs; acknowledged = a }) e ∙ ap (λ n. record { accepted = h.accepted; acknowledged = n }) e' in
-    (c.contents ∙ ap (λ (x : History). (with_share x share).accepted) same, c.acknowledged ∙ ap (λ (x : History). (with_share x share).acknowledged) same)
+counted share all all' a a' h e e' c = grind arith
 
 pub counted-after : (t : Terms) (e : Event) (l : Link) (h : History) → IsSound t l → IsCounted h l → IsCounted (with_share h (share t e l)) (after t e l)
-counted-after t e l h s is =
-    let x = counted (share t e l) l.contents (after t e l).contents l.a (after t e l).a h is.accepted is.acknowledged (event-done t l s e).comes in
-    record { accepted = x.0; acknowledged = x.1 }
+counted-after t e l h s is = grind (arith, counted, event-done)
 
 pub counted-fresh : IsCounted nothing_yet fresh
 counted-fresh = record { accepted = refl; acknowledged = refl }

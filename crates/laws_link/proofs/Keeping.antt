@@ -1,5 +1,5 @@
 -- What each event makes of the contents of a link, of V(A) and of V(S).
-use Rattle.laws_link.proofs.Vocabulary.{◌≡◌, ℕ, ◌+◌, ◌≤◌, Bool, true, false, cond, List, [], ◌∷◌, ◌++◌, length, take, drop, Option, Some, None, is_some, refl, ◌⊎◌, inl, inr, sym, ap, ◌∙◌, subst, true≢false, arith, length-take-le, append-nil, drop-drop, add-zero, ⊎_elim, All, nat_lt, nat_le, option_map_or, drop_all, drop-append-le, All-head, Control, Ui, ErrorCode, Refusal, WrongState, State, TeiAssigned, AwaitingEstablishment, AwaitingRelease, Established, TimerRecovery, LinkTimer, T200, T203, ControlFrame, Terms, Link, is_multiple_frame, IsSettledIn, IsSound, IsWaitingFrame, Course, begun, Step, ◌then◌, nothing, changed, Leads, nothing_leads, number_of, acknowledged_by, contents_of, is_release, tells_loss, Share, share, left_by, with_share, in_ui_frame, within, unit_due, one, is_i_frame, i_frames, begin_anew, deliver_unit, leave_unserved, pending_is, start, unit_data, give_information, give_waiting, is_awaiting_acknowledgement, may_send_information, offer_among, send_acknowledgement, with_one_sent, course, expired_in, expired_step, frame_in, frame_step, given_of, is_running, malformed_in, told_of_clearing, both_ways}
+use Rattle.laws_link.proofs.Vocabulary.{◌≡◌, ℕ, ◌+◌, ◌≤◌, Bool, true, false, cond, List, [], ◌∷◌, ◌++◌, length, take, drop, Option, Some, None, is_some, refl, ◌⊎◌, inl, inr, sym, ap, ◌∙◌, subst, true≢false, arith, length-take-le, append-nil, drop-drop, add-zero, ⊎_elim, All, nat_lt, nat_le, option_map_or, drop_all, drop-append-le, All-head, Control, Ui, ErrorCode, Refusal, WrongState, State, TeiAssigned, AwaitingEstablishment, AwaitingRelease, Established, TimerRecovery, LinkTimer, T200, ControlFrame, Terms, Link, is_multiple_frame, IsSettledIn, IsSound, IsWaitingFrame, Course, begun, Step, ◌then◌, nothing, changed, Leads, nothing_leads, number_of, acknowledged_by, contents_of, is_release, tells_loss, Share, share, left_by, with_share, in_ui_frame, within, unit_due, one, is_i_frame, i_frames, begin_anew, deliver_unit, leave_unserved, pending_is, start, unit_data, give_information, give_waiting, is_awaiting_acknowledgement, may_send_information, offer_among, send_acknowledgement, with_one_sent, course, expired_in, expired_step, frame_in, frame_step, given_of, is_running, malformed_in, told_of_clearing, both_ways}
 use Rattle.model_link.specs.Events
 use Rattle.model_link.specs.Requests
 use Rattle.laws_link.proofs.Queueing.{On, words}
@@ -27,11 +27,7 @@ drop-more n m xs = sym (drop-drop m n xs)
 
 went-on : (all more : List (List ℕ)) (a n : ℕ) → a + n ≤ length all
     → Comes (record { restarts = false; empties = false; accepted = more; acknowledged = n }) all a (all ++ more) (a + n)
-went-on all more a n few = record {
-  contents = refl;
-  acknowledged = refl;
-  kept = drop-append-le (a + n) all more few ∙ ap (λ xs. xs ++ more) (drop-more a n all);
-}
+went-on all more a n few = grind (arith, drop-append-le, drop-more)
 
 emptied : (all more : List (List ℕ)) (a n : ℕ) → a ≤ length all
     → Comes (record { restarts = false; empties = true; accepted = more; acknowledged = n }) all a (take a all) a
@@ -104,11 +100,7 @@ module _ (t : Terms) (l : Link) (h : IsSound t l) where
   -- what leaves the contents and V(A)
   leaves : (all : List (List ℕ)) (a : ℕ) (loss zeroed : Bool) → all ≡ l.contents → a ≡ l.a → loss ≡ false → zeroed ≡ false
       → Comes (row zeroed loss 0) l.contents l.a all a
-  leaves all a loss zeroed e e' q on =
-      let x : Comes (row false false 0) l.contents l.a (l.contents ++ []) (l.a + 0) = went-on l.contents [] l.a 0 (omega (arith, few)) in
-      let y : Comes (row false false 0) l.contents l.a all a =
-      subst (λ xs. Comes (row false false 0) l.contents l.a xs a) (append-nil l.contents ∙ sym e) (subst (λ n. Comes (row false false 0) l.contents l.a (l.contents ++ []) n) (add-zero l.a ∙ sym e') x) in
-      subst (λ z. Comes (row z loss 0) l.contents l.a all a) (sym on) (subst (λ b. Comes (row false b 0) l.contents l.a all a) (sym q) y)
+  leaves all a loss zeroed e e' q on = grind (arith, went-on, few, append-nil, add-zero)
 
   unmoved-by : (f : Step) → Leads (On (Stay t l h.ordered h.accepted)) f (On (Stay t l h.ordered h.accepted)) → Moved 0 (f (begun l))
   unfolding Moved
@@ -150,9 +142,7 @@ module _ (t : Terms) (l : Link) (h : IsSound t l) where
 
   malformed : (here : State) (e : ErrorCode) → Moved 0 (malformed_in here t e (begun l))
   unfolding Moved
-  malformed Established e = failed_moves t l h.ordered h.accepted e
-  malformed TimerRecovery e = failed_moves t l h.ordered h.accepted e
-  malformed other e = unmoved-by leave_unserved (search words)
+  malformed here e = grind (arith, failed_moves, unmoved-by, words)
 
   -- Timers.
   unmoved : Moved 0 (begun l)
@@ -160,12 +150,7 @@ module _ (t : Terms) (l : Link) (h : IsSound t l) where
 
   expired-in : (here : State) → l.state ≡ here → (timer : LinkTimer) → Moved 0 (expired_in here timer t (begun l))
   unfolding Moved
-  expired-in TeiAssigned e timer = unmoved
-  expired-in AwaitingEstablishment e T200 = t200_in_5 t l h.ordered h.accepted
-  expired-in AwaitingRelease e T200 = t200_in_6 t l h.ordered h.accepted (settled AwaitingRelease e)
-  expired-in Established e timer = timer_in_7 t l h.ordered h.accepted
-  expired-in TimerRecovery e T200 = t200_in_8 t l h.ordered h.accepted
-  expired-in other e T203 = unmoved
+  expired-in here e timer = grind (arith, unmoved, t200_in_5, t200_in_6, settled, timer_in_7, t200_in_8)
 
   expires : (b : Bool) (timer : LinkTimer) → Moved 0 (cond b (expired_in l.state timer t (begun l)) (begun l))
   expires true timer = expired-in l.state refl timer
@@ -298,14 +283,7 @@ module _ (t : Terms) (l : Link) (h : IsSound t l) where
 
   unit-requested : (request : Events.Request) (o : Option Refusal) → cond (Requests.serves l.state request) o (Some WrongState) ≡ None
       → (Requests.granted t request (begun l)).unit ≡ None
-  unit-requested Events.Release o e = by-release l.state
-    where
-      by-release : (here : State) → (Requests.release_in here t (begun l)).unit ≡ None
-      by-release TeiAssigned = refl
-      by-release other = refl
-  unit-requested Events.SetBusy o e = no-unit 0 _ set-busy
-  unit-requested Events.ClearBusy o e = no-unit 0 _ clear-busy
-  unit-requested other o e = refl
+  unit-requested request o e = grind (arith, no-unit, set-busy, clear-busy)
 
   unit-asked : (request : Events.Request) (full : Bool) (o : Option Refusal) → Requests.refusal t l full request ≡ o
       → (elim o as (λ o. Course) [ None ↦ Requests.granted t request (begun l) | Some _ ↦ begun l ]).unit ≡ None
@@ -313,16 +291,10 @@ module _ (t : Terms) (l : Link) (h : IsSound t l) where
   unit-asked request full (Some w) e = refl
 
   unit-offered : (ws : List ControlFrame) → (offer_among t ws (begun l)).unit ≡ None
-  unit-offered (f ∷ fs) = refl
-  unit-offered [] =
-      let one_more = (give_information then changed with_one_sent then pending_is false) (begun l) in
-      both_ways (λ c. c.unit ≡ None) (may_send_information t l) _ _
-      (both_ways (λ c. c.unit ≡ None) (is_awaiting_acknowledgement one_more.link) one_more (start T200 one_more) refl refl)
-      (both_ways (λ c. c.unit ≡ None) l.pending _ _ refl refl)
+  unit-offered ws = grind (arith, both_ways)
 
   unit-cleared : (here : State) → (told_of_clearing here t (begun l)).unit ≡ None
-  unit-cleared TeiAssigned = refl
-  unit-cleared other = refl
+  unit-cleared here = grind arith
 
   pub event-unit : (e : Events.Event) → (course t e l).unit ≡ unit_due t e
   event-unit (Events.received (Events.frame f)) = unit-in f.address.command f.info f.control (is_ui f.control) refl

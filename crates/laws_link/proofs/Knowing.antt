@@ -1,5 +1,5 @@
 -- What layer 3 is told is what becomes of the link: every row keeps that.
-use Rattle.laws_link.proofs.Vocabulary.{◌≡◌, ℕ, Bool, true, false, IsTrue, List, [], ◌∷◌, Option, Some, None, refl, sym, subst, ◌∙◌, ap, cond, not, ◌++◌, fold, true≢false, Seq, named, Note, ErrorCode, State, TeiAssigned, AwaitingEstablishment, AwaitingRelease, Established, TimerRecovery, LinkTimer, T203, ControlFrame, Terms, Link, is_asked, has_outstanding, Course, Step, ◌then◌, nothing, depending_on, changed, Leads, then_leads, keeping_then, nothing_leads, depending_leads, bit_leads, tested_leads, Passed, from_more, to_less, seen, known, is_up_in, leaves, number_leads, asked_is, deliver, deliver_unit, discard, enter, establish_confirm, establish_indication, no_timer, note, release_confirm, release_indication, start, zero_numbers, failed}
+use Rattle.laws_link.proofs.Vocabulary.{arith, ◌≡◌, ℕ, Bool, true, false, List, [], ◌∷◌, refl, ◌∙◌, ap, not, ◌++◌, true≢false, Note, ErrorCode, State, TeiAssigned, AwaitingEstablishment, Established, T203, Terms, Link, is_asked, has_outstanding, Course, Step, ◌then◌, nothing, depending_on, Leads, keeping_then, nothing_leads, depending_leads, bit_leads, tested_leads, to_less, seen, known, is_up_in, leaves, number_leads, asked_is, deliver, deliver_unit, discard, enter, establish_confirm, establish_indication, no_timer, note, release_confirm, release_indication, start, zero_numbers, failed}
 
 -- the same as `is_up_in`, of what it speaks of
 abbrev pub up_by : State → Bool → Bool
@@ -8,8 +8,7 @@ up_by AwaitingEstablishment asked = not asked
 up_by other asked = true
 
 pub is-up-by : (here : State) (l : Link) → is_up_in here l ≡ up_by here l.asked
-is-up-by TeiAssigned l = refl
-is-up-by other l = refl
+is-up-by here l = grind arith
 
 -- in this state, and known to layer 3 as what it is
 pub record In (here state : State) (asked up : Bool) : Type 0 where
@@ -38,11 +37,7 @@ is_plain (Note.ReleaseConfirm service tei) = false
 is_plain other = true
 
 pub plain-seen : (n : Note) → is_plain n ≡ true → (up : Bool) → seen up n ≡ up
-plain-seen (Note.EstablishIndication service tei) e up = absurd (true≢false (sym e))
-plain-seen (Note.EstablishConfirm service tei) e up = absurd (true≢false (sym e))
-plain-seen (Note.ReleaseIndication service tei) e up = absurd (true≢false (sym e))
-plain-seen (Note.ReleaseConfirm service tei) e up = absurd (true≢false (sym e))
-plain-seen other e up = refl
+plain-seen n e up = grind arith
 
 module _ (up : Bool) where
   abbrev pub At : State → Course → Type 0
@@ -63,9 +58,7 @@ module _ (up : Bool) where
   -- what is told, and layer 3 knows as before
   module _ (here : State) where
     pub note_knows : (n : Note) → is_plain n ≡ true → Leads (At here) (note n) (At here)
-    note_knows n plain = record {
-      leads = λ c h. record { state_is = h.state_is; known_is = one-more up c.notes n ∙ (plain-seen n plain (known up c.notes) ∙ h.known_is) };
-    }
+    note_knows n plain = grind (arith, one-more, plain-seen)
 
     pub deliver_knows : (t : Terms) (octets : List ℕ) → Leads (At here) (deliver t octets) (At here)
     deliver_knows t octets = record { leads = λ c h. (note_knows (Note.Data t.service t.tei) refl).leads c h }
@@ -74,9 +67,7 @@ module _ (up : Bool) where
     deliver_unit_knows t octets = record { leads = λ c h. (note_knows (Note.Unit t.service t.tei) refl).leads c h }
 
     pub indication_knows : (t : Terms) → ((asked : Bool) → up_by here asked ≡ true) → Leads (At here) (establish_indication t) (At here)
-    indication_knows t e = record {
-      leads = λ c h. record { state_is = h.state_is; known_is = one-more up c.notes (Note.EstablishIndication t.service t.tei) ∙ sym (e c.link.asked) };
-    }
+    indication_knows t e = grind (arith, one-more)
 
     pub enters : (state : State) → ((asked : Bool) → up_by here asked ≡ up_by state asked) → Leads (At here) (enter state) Ends
     enters state e = record { leads = λ c h. record { known_is = h.known_is ∙ e c.link.asked } }
@@ -103,9 +94,7 @@ module _ (up : Bool) where
 
   -- from state 4
   pub confirms_in_4 : (t : Terms) → Leads (At TeiAssigned) (release_confirm t) (At TeiAssigned)
-  confirms_in_4 t = record {
-    leads = λ c h. record { state_is = h.state_is; known_is = one-more up c.notes (Note.ReleaseConfirm t.service t.tei) };
-  }
+  confirms_in_4 t = grind (arith, one-more)
 
   -- from state 5
   pub not-asked : (asked k : Bool) → asked ≡ false → k ≡ not asked → k ≡ true

@@ -1,5 +1,5 @@
 -- What layer 3 is told is what becomes of the link: the rows by state, and every event.
-use Rattle.laws_link.proofs.Vocabulary.{◌≡◌, ℕ, Bool, true, false, List, [], ◌∷◌, Option, Some, None, refl, sym, subst, ◌∙◌, cond, Control, Ua, Dm, ErrorCode, Refusal, WrongState, State, TeiAssigned, AwaitingEstablishment, AwaitingRelease, Established, TimerRecovery, LinkTimer, T200, ControlFrame, Terms, Link, Course, begun, establish_in_4, Leads, then_leads, nothing_leads, depending_leads, known, is_up_in, is_up, leaves, ClearBusy, Data, Establish, Event, Release, Request, SetBusy, cleared, expired, frame, offer, overlong, received, requested, undefined, wrong_size, clear_busy_in_7_8, data_in_7_8, set_busy_in_7_8, offer_among, after, course, expired_in, frame_in, frame_step, is_running, malformed_in, told, told_of_clearing}
+use Rattle.laws_link.proofs.Vocabulary.{arith, ◌≡◌, ℕ, Bool, true, false, List, [], ◌∷◌, Option, Some, None, refl, sym, subst, ◌∙◌, cond, Control, Ua, Dm, ErrorCode, Refusal, WrongState, State, TeiAssigned, AwaitingEstablishment, AwaitingRelease, Established, TimerRecovery, LinkTimer, T200, ControlFrame, Terms, Link, Course, begun, establish_in_4, Leads, then_leads, nothing_leads, depending_leads, known, is_up_in, is_up, leaves, ClearBusy, Data, Establish, Event, Release, Request, SetBusy, cleared, expired, frame, offer, overlong, received, requested, undefined, wrong_size, clear_busy_in_7_8, data_in_7_8, set_busy_in_7_8, offer_among, after, course, expired_in, frame_in, frame_step, is_running, malformed_in, told, told_of_clearing}
 use Rattle.model_link.specs.Requests
 use Rattle.laws_link.proofs.Knowing.{up_by, is-up-by, At, Ends, at_ends, established_up, zero_enters, words, ends, rows}
 
@@ -42,8 +42,7 @@ module _ (up : Bool) (t : Terms) where
 
 -- the TEI leaves the line
 cleared-knows : (t : Terms) (here : State) (l : Link) → known (is_up_in here l) (told_of_clearing here t (begun l)).notes ≡ false
-cleared-knows t TeiAssigned l = refl
-cleared-knows t other l = refl
+cleared-knows t here l = grind arith
 
 -- an establishment is granted in state 4 alone
 granted-in-4 : (here : State) → cond (Requests.is_down here) None (Some WrongState) ≡ None → here ≡ TeiAssigned

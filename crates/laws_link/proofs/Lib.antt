@@ -20,9 +20,6 @@ pub mod Steady
 pub mod Effects
 pub mod Expiries
 pub mod Columns
-pub mod RowsDown
-pub mod RowsUp
-pub mod RowsRecovering
 pub mod EachRow
 pub mod Placing
 pub mod Follows

@@ -1,19 +1,16 @@
 -- What an offer gives.
-use Rattle.laws_link.proofs.Vocabulary.{◌≡◌, ℕ, ◌+◌, ◌<◌, Bool, true, false, cond, ◌&&◌, not, List, [], ◌∷◌, length, slice_get, Option, Some, None, refl, sym, ap, ◌∙◌, true≢false, add-zero, All, IfSome, nat_lt, option_map_or, ltb-true, and_parts, slice_get-get_or, get_or, All-head, seq, Control, Information, ReceiveReady, ControlFrame, T200, Terms, Link, course, after, given, given_of, IsSound, IsWaitingFrame, is_information, Course, Sent, begun, ◌then◌, changed, IsOffered, one, is_i_frame, both_ways, offer, first_unsent, give_information, is_awaiting_acknowledgement, is_established, may_send_information, next_information, offer_among, with_one_sent, pending_is, start}
+use Rattle.laws_link.proofs.Vocabulary.{arith, ◌≡◌, ℕ, ◌+◌, ◌<◌, Bool, true, false, cond, List, [], ◌∷◌, length, slice_get, Option, None, refl, sym, ap, ◌∙◌, true≢false, add-zero, All, IfSome, nat_lt, option_map_or, ltb-true, and_parts, slice_get-get_or, get_or, All-head, seq, Control, ReceiveReady, ControlFrame, T200, Terms, Link, course, after, given, given_of, IsSound, IsWaitingFrame, is_information, Course, Sent, begun, ◌then◌, changed, IsOffered, one, is_i_frame, both_ways, offer, first_unsent, give_information, is_awaiting_acknowledgement, may_send_information, next_information, offer_among, with_one_sent, pending_is, start}
 
 -- a frame without contents that is no I-frame
 alone : (all : List (List ℕ)) (j : ℕ) (command : Bool) (control : Control) → is_information control ≡ false → IsOffered all j (record { command = command; control = control }) None
-alone all j b (Information ns nr p) e = absurd (true≢false e)
-alone all j b other e = refl
+alone all j command control e = grind arith
 
 module _ (t : Terms) (l : Link) (h : IsSound t l) where
   abbrev Offers-it : Course → Type 0
   Offers-it c = IfSome c.sent (λ s. IsOffered l.contents l.s s.frame s.contents)
 
   unsent : may_send_information t l ≡ true → l.s < length l.contents
-  unsent e =
-      let parts = and_parts (is_established l.state && not l.peer_busy && nat_lt (Rattle.model_link.specs.Link.outstanding l) t.k) (nat_lt l.s (length l.contents)) e in
-      ltb-true l.s (length l.contents) parts.1
+  unsent e = grind (arith, and_parts, nat_lt, ltb-true)
 
   information : may_send_information t l ≡ true → IsOffered l.contents l.s (next_information l) (first_unsent l)
   unfolding seq
@@ -22,8 +19,7 @@ module _ (t : Terms) (l : Link) (h : IsSound t l) where
       record { information = get_or l.contents l.s []; is = some; among = some; number = refl }
 
   tested : (b : Bool) → may_send_information t l ≡ b → (u v : Course) → (b ≡ true → Offers-it u) → Offers-it v → Offers-it (cond b u v)
-  tested true e u v x y = x refl
-  tested false e u v x y = y
+  tested b e u v x y = grind arith
 
   offered : (ws : List ControlFrame) → All (IsWaitingFrame t) ws → Offers-it (offer_among t ws (begun l))
   offered (f ∷ fs) frames = alone l.contents l.s f.command f.control (All-head (IsWaitingFrame t) f fs frames).without_contents
@@ -35,8 +31,7 @@ module _ (t : Terms) (l : Link) (h : IsSound t l) where
 
   from-sent : (c : Course) (o : Option Sent) → IfSome o (λ s. IsOffered l.contents l.s s.frame s.contents)
       → IfSome (given_of t l c o) (λ g. IsOffered l.contents l.s g.frame g.contents)
-  from-sent c None x = tt
-  from-sent c (Some s) x = x
+  from-sent c o x = grind arith
 
   pub given-is-offered : IfSome (given t l) (λ g. IsOffered l.contents l.s g.frame g.contents)
   given-is-offered = from-sent (course t offer l) (course t offer l).sent (offered l.waiting h.frames)
@@ -44,8 +39,7 @@ module _ (t : Terms) (l : Link) (h : IsSound t l) where
 -- What such a frame carries is the contents with the number, if it is an I-frame, and else nothing.
 pub carried-is : (all : List (List ℕ)) (j : ℕ) (command : Bool) (control : Control) (contents : Option (List ℕ))
     → IsOffered all j (record { command = command; control = control }) contents → contents ≡ cond (is_information control) (slice_get all j) None
-carried-is all j b (Information ns nr p) contents x = x.is ∙ sym x.among
-carried-is all j b other contents x = x
+carried-is all j command control contents x = grind arith
 
 -- An offer leaves the contents and V(A);
 pub record Left (l : Link) (c : Course) : Type 0 where
@@ -54,13 +48,7 @@ pub record Left (l : Link) (c : Course) : Type 0 where
 
 module _ (t : Terms) (l : Link) where
   leaving : (ws : List ControlFrame) → Left l (offer_among t ws (begun l))
-  leaving (f ∷ fs) = record { contents = refl; acknowledged = refl }
-  leaving [] =
-      let one_more = (give_information then changed with_one_sent then pending_is false) (begun l) in
-      both_ways (Left l) (may_send_information t l) _ _
-      (both_ways (Left l) (is_awaiting_acknowledgement one_more.link) one_more (start T200 one_more)
-      (record { contents = refl; acknowledged = refl }) (record { contents = refl; acknowledged = refl }))
-      (both_ways (Left l) l.pending _ _ (record { contents = refl; acknowledged = refl }) (record { contents = refl; acknowledged = refl }))
+  leaving ws = grind (arith, both_ways)
 
   pub offer-leaves : Left l (course t offer l)
   offer-leaves = leaving l.waiting

@@ -1,5 +1,5 @@
 -- What is due is delivered, and is noted once.
-use Rattle.laws_link.proofs.Vocabulary.{◌≡◌, ℕ, ◌≤◌, Bool, true, false, cond, ◌||◌, List, [], ◌∷◌, length, Option, Some, None, is_some, option_to_list, refl, sym, ap, ◌∙◌, subst, inl, inr, arith, count_by, nat_lt, nat_le, list_any, or_parts, sum_by-cons, sum_by_push, none-some, Seq, named, Control, Information, Ui, Note, State, TeiAssigned, Established, TimerRecovery, Terms, Arrived, information_of, eligible_of, eligible, MayEstablish, restarts, Link, is_peer_busy, is_rejecting, is_data, is_unit, IsSound, Course, begun, Step, ◌then◌, delivery, event-delivers, event-tells, in_i_frame, in_ui_frame, contents_heard, unit_heard, within, in_sequence, data_due, IsNotedOnce, ErrorCode, acknowledged_by_information_in_7, is_all_sent, is_beyond_acknowledged, Event, frame, received, course, frame_in, frame_step, told, acknowledge, by_number, error, re_establish, both_ways}
+use Rattle.laws_link.proofs.Vocabulary.{◌≡◌, ℕ, ◌≤◌, Bool, true, false, cond, ◌||◌, List, [], ◌∷◌, length, Option, Some, None, is_some, option_to_list, refl, sym, ap, ◌∙◌, arith, count_by, nat_lt, list_any, or_parts, sum_by-cons, sum_by_push, none-some, Seq, Control, Information, Ui, Note, State, TeiAssigned, Terms, Arrived, information_of, MayEstablish, restarts, Link, is_data, is_unit, IsSound, Course, begun, Step, delivery, event-delivers, event-tells, in_i_frame, in_ui_frame, contents_heard, unit_heard, within, in_sequence, data_due, IsNotedOnce, acknowledged_by_information_in_7, Event, frame, received, course, frame_in, frame_step, told, by_number, both_ways}
 use Rattle.model_link.specs.MultipleFrame
 use Rattle.laws_link.proofs.Restarts.{establishes}
 use Rattle.laws_link.proofs.Delivered.{delivered-was-heard}
@@ -7,8 +7,7 @@ use Rattle.laws_link.proofs.Keeping.{event-unit}
 
 -- What is delivered is what is due.
 delivery-is : (r : ℕ) (o : Option Arrived) → delivery r o ≡ in_sequence r o
-delivery-is r None = refl
-delivery-is r (Some i) = refl
+delivery-is r o = grind arith
 
 module _ (t : Terms) (l : Link) where
   establishing : (control : Control) (octets : List ℕ) → MayEstablish control → information_of control octets ≡ None
@@ -16,16 +15,10 @@ module _ (t : Terms) (l : Link) where
   establishing other octets may = refl
 
   none-due : (e : Event) → restarts t e l ≡ true → data_due t e l ≡ None
-  none-due (received (frame f)) begins =
-      ap (λ o. in_sequence l.r (eligible_of t l o)) (establishing f.control f.info (establishes t l (received (frame f)) begins).by)
-  none-due other begins = refl
+  none-due e begins = grind (arith, establishing, establishes)
 
   pub data-is : (e : Event) → (told t e l).delivered ≡ data_due t e l
-  data-is e =
-      elim (event-delivers t l e) [
-        | inl x ↦ x.delivered ∙ delivery-is l.r (eligible t e l)
-        | inr x ↦ x.delivered ∙ sym (none-due e x.begins)
-      ]
+  data-is e = grind (arith, event-delivers, delivery-is, none-due)
 
 -- How often something is noted, by whether it is.
 pub none-counted : (p : Note → Bool) (ns : List Note) → list_any p ns ≡ false → count_by p ns ≡ 0
@@ -52,12 +45,7 @@ once p ns None e few = none-counted p ns e
 once p ns (Some contents) e few = let one = few contents refl in let some = some-counted p ns e in omega (arith, one, some)
 
 pub within-is : (n : ℕ) (o : Option (List ℕ)) (contents : List ℕ) → within n o ≡ Some contents → o ≡ Some contents
-within-is n None contents e = e
-within-is n (Some octets) contents e = go (nat_le (length octets) n) e
-  where
-    go : (b : Bool) → cond b (Some octets) None ≡ Some contents → Some octets ≡ Some contents
-    go true e = e
-    go false e = absurd (none-some contents e)
+within-is n o contents e = grind (arith, none-some)
 
 -- An I-frame has one note of data at most, and a UI one of unit data.
 module _ (t : Terms) (l : Link) where
@@ -65,17 +53,10 @@ module _ (t : Terms) (l : Link) where
   AtMostOne c = count_by is_data c.notes ≤ 1
 
   by-number : (nr : Seq) (f : ℕ → Step) → ((n : ℕ) (c : Course) → (f n c).notes ≡ c.notes) → (c : Course) → AtMostOne c → AtMostOne (by_number t nr f c)
-  by-number nr f keeps c few = go (named c.link.a c.link.s nr)
-    where
-      go : (o : Option ℕ) → AtMostOne (elim o [ None ↦ (error t ErrorCode.J then re_establish t) c | Some n ↦ f n c ])
-      go None = omega (arith, few, sum_by_push (λ n. cond (is_data n) 1 0) c.notes (Note.Error t.service t.tei ErrorCode.J))
-      go (Some n) = subst (λ ns. count_by is_data ns ≤ 1) (sym (keeps n c)) few
+  by-number nr f keeps c few = grind (arith, sum_by_push)
 
   contents : (ns : Seq) (p : Bool) (octets : List ℕ) → AtMostOne (MultipleFrame.contents_in_7_8 t ns p octets (begun l))
-  contents ns p octets =
-      both_ways AtMostOne l.own_busy _ _ (both_ways AtMostOne p _ _ (omega arith) (omega arith))
-      (both_ways AtMostOne (MultipleFrame.is_next ns l) _ _ (both_ways AtMostOne p _ _ (omega arith) (omega arith))
-      (both_ways AtMostOne (is_rejecting l) _ _ (both_ways AtMostOne p _ _ (omega arith) (omega arith)) (omega arith)))
+  contents ns p octets = grind (arith, both_ways)
 
   information : (ns nr : Seq) (p : Bool) (octets : List ℕ) (f : ℕ → Step) → ((n : ℕ) (c : Course) → (f n c).notes ≡ c.notes)
       → AtMostOne (MultipleFrame.information_in_7_8 t ns nr p octets f (begun l))
@@ -83,14 +64,10 @@ module _ (t : Terms) (l : Link) where
       both_ways AtMostOne (nat_lt t.n201 (length octets)) _ _ (omega arith) (by-number nr f keeps (MultipleFrame.contents_in_7_8 t ns p octets (begun l)) (contents ns p octets))
 
   keeps-in-7 : (n : ℕ) (c : Course) → (acknowledged_by_information_in_7 n c).notes ≡ c.notes
-  keeps-in-7 n c =
-      both_ways (λ d. d.notes ≡ c.notes) (is_peer_busy c.link) _ _ refl
-      (both_ways (λ d. d.notes ≡ c.notes) (is_all_sent n c.link) _ _ refl (both_ways (λ d. d.notes ≡ c.notes) (is_beyond_acknowledged n c.link) _ _ refl refl))
+  keeps-in-7 n c = grind (arith, both_ways)
 
   i-frame : (here : State) (b : Bool) (octets : List ℕ) (ns nr : Seq) (p : Bool) → AtMostOne (frame_in here t b octets (Information ns nr p) (begun l))
-  i-frame Established b octets ns nr p = information ns nr p octets acknowledged_by_information_in_7 keeps-in-7
-  i-frame TimerRecovery b octets ns nr p = information ns nr p octets acknowledge (λ n c. refl)
-  i-frame other b octets ns nr p = omega arith
+  i-frame here b octets ns nr p = grind (arith, information, keeps-in-7)
 
   data-frame : (b : Bool) (octets : List ℕ) (control : Control) (contents : List ℕ) → in_i_frame control octets ≡ Some contents → AtMostOne (frame_step t b octets control (begun l))
   data-frame b octets (Information ns nr p) contents h = i-frame l.state b octets ns nr p

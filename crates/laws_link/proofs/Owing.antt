@@ -1,5 +1,5 @@
 -- Each delivery is acknowledged.
-use Rattle.laws_link.proofs.Vocabulary.{◌≡◌, ℕ, ◌+◌, ◌≤◌, Bool, true, false, cond, List, [], ◌∷◌, ◌++◌, length, Option, Some, None, refl, ◌⊎◌, inl, inr, sym, ◌∙◌, arith, nat_lt, Seq, seq, named, Control, Information, ReceiveReady, ReceiveNotReady, State, Established, TimerRecovery, LinkTimer, ControlFrame, Terms, Link, Arrived, information_of, eligible_of, Course, begun, Step, ◌then◌, by_bit, Leads, keeping_then, nothing_leads, depending_leads, delivered-at_once, receipt, HasReceipt, Owes, IsBegunAgain, ErrorCode, both_ways, acknowledge, by_number, count_received, deliver, error, re_establish, ready_to_receive, rejecting_is, response, start, acknowledged_by_information_in_7}
+use Rattle.laws_link.proofs.Vocabulary.{◌≡◌, ℕ, ◌+◌, ◌≤◌, Bool, true, false, cond, List, [], ◌∷◌, ◌++◌, length, Option, Some, None, refl, ◌⊎◌, inl, inr, arith, nat_lt, Seq, seq, named, Control, Information, ReceiveReady, ReceiveNotReady, State, Established, TimerRecovery, LinkTimer, ControlFrame, Terms, Link, Arrived, information_of, eligible_of, Course, begun, Step, ◌then◌, by_bit, Leads, keeping_then, nothing_leads, depending_leads, delivered-at_once, receipt, HasReceipt, Owes, IsBegunAgain, ErrorCode, both_ways, acknowledge, by_number, error, re_establish, start, acknowledged_by_information_in_7}
 use Rattle.model_link.specs.Events
 use Rattle.model_link.specs.MultipleFrame
 use Rattle.model_link.specs.Machine
@@ -23,26 +23,18 @@ module _ (ws : List ControlFrame) where
   in_7_owes n = search (keeping_then, nothing_leads, depending_leads, acknowledge_owes, start_owes) depth 12 fits 4000
 
 says-ready : (b : Bool) (r : ℕ) → receipt (cond b (ReceiveNotReady (seq r) true) (ReceiveReady (seq r) true)) ≡ Some (seq r)
-says-ready true r = refl
-says-ready false r = refl
+says-ready b r = grind arith
 
 put : (room : Bool) (ws : List ControlFrame) (f : ControlFrame) (r : ℕ) → receipt f.control ≡ Some (seq r)
     → HasReceipt ws (cond room (ws ++ f ∷ []) ws) r ⊎ (1 ≤ cond {A = ℕ} room 0 (0 + 1))
-put true ws f r e = inl (record { frame = f; waits = refl; number = e })
-put false ws f r e = inr (omega arith)
+put room ws f r e = grind arith
 
 module _ (t : Terms) (l : Link) where
   in-sequence : (p : Bool) (octets : List ℕ) → Half l.waiting (MultipleFrame.in_sequence t p octets (begun l))
-  in-sequence true octets =
-      let one_more = (count_received then rejecting_is false then deliver t octets) (begun l) in
-      inr (inr (put (nat_lt (length l.waiting) t.control) l.waiting (response (ready_to_receive true one_more.link)) (l.r + 1) (says-ready l.own_busy (l.r + 1))))
-  in-sequence false octets = inr (inl refl)
+  in-sequence p octets = grind (arith, put, nat_lt, says-ready)
 
   contents : (ns : Seq) (p : Bool) (octets : List ℕ) → Half l.waiting (MultipleFrame.contents_in_7_8 t ns p octets (begun l))
-  contents ns p octets =
-      both_ways (Half l.waiting) l.own_busy _ _ (both_ways (Half l.waiting) p _ _ (inl refl) (inl refl))
-      (both_ways (Half l.waiting) (MultipleFrame.is_next ns l) _ _ (in-sequence p octets)
-      (both_ways (Half l.waiting) l.rejecting _ _ (both_ways (Half l.waiting) p _ _ (inl refl) (inl refl)) (inl refl)))
+  contents ns p octets = grind (arith, both_ways, in-sequence)
 
   by-number : (f : ℕ → Step) → ((n : ℕ) → Leads (Half l.waiting) (f n) (Half l.waiting)) → (c : Course) → Half l.waiting c → (o : Option ℕ)
       → Final t l.waiting (elim o [ None ↦ (error t ErrorCode.J then re_establish t) c | Some n ↦ f n c ])
@@ -65,17 +57,14 @@ module _ (t : Terms) (l : Link) where
   -- only an I-frame is eligible
   frames : (command : Bool) (octets : List ℕ) (control : Control) (i : Arrived) → eligible_of t l (information_of control octets) ≡ Some i
       → Final t l.waiting (Machine.frame_step t command octets control (begun l))
-  frames command octets (Information ns nr p) i e = i-frame l.state command ns nr p octets
-  frames command octets other i e = absurd (cc)
+  frames command octets control i e = grind (arith, i-frame)
 
   event-final : (e : Events.Event) (i : Arrived) → Rattle.model_link.specs.Deliveries.eligible t e l ≡ Some i → Final t l.waiting (Machine.course t e l)
   event-final (Events.received (Events.frame f)) i e = frames f.address.command f.info f.control i e
   event-final other i e = absurd (cc)
 
   delivering : (c : Course) (octets : List ℕ) → c.delivered ≡ Some octets → Final t l.waiting c → Owes l.waiting c.link c.lost ⊎ IsBegunAgain t c.link c.notes
-  delivering c octets d (inr x) = inr x
-  delivering c octets d (inl (inr x)) = inl x
-  delivering c octets d (inl (inl x)) = absurd (let none : None ≡ Some octets = sym x ∙ d in cc)
+  delivering c octets d o = grind arith
 
   pub acknowledged : (e : Events.Event) (octets : List ℕ) → (Machine.told t e l).delivered ≡ Some octets
       → Owes l.waiting (Machine.after t e l) (Machine.told t e l).lost ⊎ IsBegunAgain t (Machine.after t e l) (Machine.told t e l).notes

@@ -43,10 +43,7 @@ module _ (most : ℕ) where
   -- from none on, that were lost before
   from-none : (m : ℕ) (fs ws : List ControlFrame) → (queued most ws fs ≡ ws ++ take m fs) × (unplaced most ws 0 fs ≡ 0 + length (drop m fs))
       → (queued most ws fs ≡ ws ++ take m fs) × (unplaced most ws 0 fs ≡ length (drop m fs))
-  from-none m fs ws x = (x.0, x.1 ∙ plus (length (drop m fs)))
-    where
-      plus : (n : ℕ) → 0 + n ≡ n
-      plus n = omega arith
+  from-none m fs ws x = grind arith
 
   pub placed : (fs ws : List ControlFrame)
       → (queued most ws fs ≡ ws ++ take (most - length ws) fs) × (unplaced most ws 0 fs ≡ length (drop (most - length ws) fs))

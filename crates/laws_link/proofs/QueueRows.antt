@@ -1,5 +1,5 @@
 -- What each row of the tables makes of the contents of a link, of V(A) and of V(S).
-use Rattle.laws_link.proofs.Vocabulary.{◌≡◌, ℕ, ◌-◌, ◌≤◌, Bool, true, false, cond, not, ◌==◌, List, [], length, take, drop, length-take-le, Option, Some, None, IsTrue, true≢false, refl, ◌⊎◌, inl, inr, sym, ap, ◌∙◌, arith, nat_lt, option_map_or, ltb-false, drop_all, take_all, Seq, named, Control, Information, ReceiveReady, ReceiveNotReady, Reject, Sabme, Disc, Ui, Ua, Dm, Frmr, Xid, ErrorCode, Established, LinkTimer, T200, T203, Terms, Link, has_outstanding, is_peer_busy, begun, Step, ◌then◌, by_bit, frame_in_4, release_in_4, establish_in_4, Leads, keeping_then, depending_leads, bit_leads, tested_leads, from_more, eqb-true, beyond, number_of, acknowledge, by_number, clear_flags, command, discard, enquire, enter, error, establish_confirm, establish_indication, repeated, response, send, start, zero_numbers, clear_busy_in_7_8, contents_in_7_8, failed, set_busy_in_7_8, both_ways}
+use Rattle.laws_link.proofs.Vocabulary.{◌≡◌, ℕ, ◌-◌, ◌≤◌, Bool, true, false, cond, List, [], length, take, drop, length-take-le, Option, Some, None, IsTrue, true≢false, refl, ◌⊎◌, inl, inr, sym, arith, nat_lt, option_map_or, ltb-false, drop_all, take_all, Seq, named, Control, Information, ReceiveReady, ReceiveNotReady, Reject, Sabme, Disc, Ui, Ua, Dm, Frmr, Xid, ErrorCode, Established, LinkTimer, T203, Terms, Link, has_outstanding, is_peer_busy, begun, Step, ◌then◌, by_bit, frame_in_4, release_in_4, establish_in_4, Leads, keeping_then, depending_leads, bit_leads, tested_leads, from_more, eqb-true, beyond, number_of, acknowledge, by_number, clear_flags, discard, enter, error, establish_confirm, establish_indication, response, send, start, zero_numbers, clear_busy_in_7_8, contents_in_7_8, failed, set_busy_in_7_8, both_ways}
 use Rattle.model_link.specs.AwaitingEstablishment
 use Rattle.model_link.specs.AwaitingRelease
 use Rattle.model_link.specs.Established
@@ -41,18 +41,11 @@ module _ (t : Terms) (l : Link) (ordered : l.a ≤ l.s) (most : l.s ≤ length l
   rest-goes = drop_all l.a (take l.a l.contents) (omega (arith, length-take-le l.a l.contents (omega (arith, ordered, most))))
 
   same-place : has_outstanding l ≡ false → l.s ≡ l.a
-  same-place e = eqb-true l.s l.a (go (l.s == l.a) e)
-    where
-      go : (b : Bool) → not b ≡ false → b ≡ true
-      go true e = refl
-      go false e = absurd (true≢false e)
+  same-place e = grind (arith, eqb-true)
 
   -- State 4.
   pub frames_in_4 : length l.contents ≡ l.a → (octets : List ℕ) (control : Control) → is_ui control ≡ false → On (Move 0) (frame_in_4 t octets control (begun l))
-  frames_in_4 none octets (Sabme p) is = inr (inr (record { none = refl; contents = none-left none; acknowledged = refl; sent = refl; begins = refl; no_unit = refl }))
-  frames_in_4 none octets (Ua true) is = still (frame_in_4 t octets (Ua true)) (search words)
-  frames_in_4 none octets (Ui p) is = absurd (true≢false is)
-  frames_in_4 none octets other is = still (frame_in_4 t octets other) (search words)
+  frames_in_4 none octets control is = grind (arith, none-left, begins, still, words)
 
   pub released_in_4 : length l.contents ≡ l.a → On (Move 0) (release_in_4 t (begun l))
   released_in_4 none =
@@ -65,68 +58,32 @@ module _ (t : Terms) (l : Link) (ordered : l.a ≤ l.s) (most : l.s ≤ length l
   answered-in-5 : (IsTrue l.asked → length l.contents ≡ l.a) → (b : Bool) → l.asked ≡ b → (d : Bool) → has_outstanding l ≡ d
       → On (Move 0) ((zero_numbers then start T203 then enter Established)
       (cond b (establish_confirm t (begun l)) (cond d ((discard then establish_indication t) (begun l)) (begun l))))
-  answered-in-5 none true e d e' =
-      inr (inr (record {
-        none = refl;
-        contents = none-left (none e) ∙ sym (drop_all l.a l.contents (omega (arith, none e)));
-        acknowledged = refl;
-        sent = refl;
-        begins = refl;
-        no_unit = refl;
-      }))
-  answered-in-5 none false e true e' = inr (inr (record { none = refl; contents = rest-goes; acknowledged = refl; sent = refl; begins = refl; no_unit = refl }))
-  answered-in-5 none false e false e' =
-      inr (inr (record { none = refl; contents = ap (λ n. drop n l.contents) (same-place e'); acknowledged = refl; sent = refl; begins = refl; no_unit = refl }))
+  answered-in-5 none b e d e' = grind (arith, none-left, drop_all, begins, rest-goes, same-place)
 
   pub frames_in_5 : (IsTrue l.asked → length l.contents ≡ l.a) → (octets : List ℕ) (control : Control) → is_ui control ≡ false → On (Move 0) (AwaitingEstablishment.frame_in_5 t octets control (begun l))
-  frames_in_5 none octets (Ua true) is = answered-in-5 none l.asked refl (has_outstanding l) refl
-  frames_in_5 none octets (Dm true) is = inr (inl (record { contents = refl; acknowledged = refl; sent = refl; told = refl; goes_on = refl; no_unit = refl }))
-  frames_in_5 none octets (Ui p) is = absurd (true≢false is)
-  frames_in_5 none octets other is = still (AwaitingEstablishment.frame_in_5 t octets other) (search words)
+  frames_in_5 none octets control is = grind (arith, answered-in-5, still, words)
 
   pub t200_in_5 : On (Move 0) (AwaitingEstablishment.t200_in_5 t (begun l))
-  t200_in_5 =
-      let again : Leads (On Stay) (send t (command (Sabme true)) then repeated then start T200) (On Stay) = search words in
-      both_ways (On (Move 0)) (nat_lt l.repeats t.n200) _ _ (still (send t (command (Sabme true)) then repeated then start T200) again)
-      (inr (inl (record { contents = refl; acknowledged = refl; sent = refl; told = refl; goes_on = refl; no_unit = refl })))
+  t200_in_5 = grind (arith, On, words, both_ways, nat_lt, still)
 
   -- State 6.
   pub frames_in_6 : length l.contents ≡ l.a → (octets : List ℕ) (control : Control) → is_ui control ≡ false → On (Move 0) (AwaitingRelease.frame_in_6 t octets control (begun l))
-  frames_in_6 none octets (Ua true) is =
-      inr (inl (record { contents = all-taken none; acknowledged = refl; sent = omega (arith, ordered, most, none); told = refl; goes_on = refl; no_unit = refl }))
-  frames_in_6 none octets (Dm true) is =
-      inr (inl (record { contents = all-taken none; acknowledged = refl; sent = omega (arith, ordered, most, none); told = refl; goes_on = refl; no_unit = refl }))
-  frames_in_6 none octets (Ui p) is = absurd (true≢false is)
-  frames_in_6 none octets other is = still (AwaitingRelease.frame_in_6 t octets other) (search words)
+  frames_in_6 none octets control is = grind (arith, all-taken, still, words)
 
   pub t200_in_6 : length l.contents ≡ l.a → On (Move 0) (AwaitingRelease.t200_in_6 t (begun l))
-  t200_in_6 none =
-      let again : Leads (On Stay) (send t (command (Disc true)) then repeated then start T200) (On Stay) = search words in
-      both_ways (On (Move 0)) (nat_lt l.repeats t.n200) _ _ (still (send t (command (Disc true)) then repeated then start T200) again)
-      (inr (inl (record { contents = all-taken none; acknowledged = refl; sent = omega (arith, ordered, most, none); told = refl; goes_on = refl; no_unit = refl })))
+  t200_in_6 none = grind (arith, On, words, both_ways, nat_lt, still, all-taken)
 
   -- States 7 and 8.
   sabme-again : (p d : Bool) → has_outstanding l ≡ d
       → let c = (send t (response (Ua p)) then clear_flags then error t ErrorCode.F) (begun l) in
       On (Move 0) ((zero_numbers then start T203 then enter Established) (cond d ((discard then establish_indication t) c) c))
-  sabme-again p true e = inr (inr (record { none = refl; contents = rest-goes; acknowledged = refl; sent = refl; begins = refl; no_unit = refl }))
-  sabme-again p false e =
-      inr (inr (record { none = refl; contents = ap (λ n. drop n l.contents) (same-place e); acknowledged = refl; sent = refl; begins = refl; no_unit = refl }))
+  sabme-again p d e = grind (arith, rest-goes, begins, same-place)
 
   -- an N(R) that names m
   went : (m : ℕ) → l.a ≤ m → m ≤ l.s → (all : List (List ℕ)) (a s : ℕ) (loss zeroed : Bool) (unit : Option (List ℕ))
       → all ≡ l.contents → a ≡ m → (s ≡ l.s) ⊎ (s ≡ a) → loss ≡ false → zeroed ≡ false → unit ≡ None
       → Moves l.contents l.a l.s (m - l.a) all a s loss zeroed unit
-  went m from to all a s loss zeroed unit e e' sent no_loss on none =
-      inl (record {
-        contents = e;
-        acknowledged = omega (arith, e', from);
-        among = omega (arith, from, to, most);
-        sent = sent;
-        no_loss = no_loss;
-        goes_on = on;
-        no_unit = none;
-      })
+  went m from to all a s loss zeroed unit e e' sent no_loss on none = grind arith
 
   acknowledging : (m : ℕ) → l.a ≤ m → m ≤ l.s → Leads (On Stay) (acknowledge m) (On (Move (m - l.a)))
   acknowledging m from to =
@@ -137,15 +94,7 @@ module _ (t : Terms) (l : Link) (ordered : l.a ≤ l.s) (most : l.s ≤ length l
       record { leads = λ c h. went m from to c.link.contents m c.link.s _ c.zeroed c.unit h.contents refl (inl h.sent) h.no_loss h.goes_on h.no_unit }
 
   in-7 : (m : ℕ) → l.a ≤ m → m ≤ l.s → Leads (On Stay) (Established.acknowledged_in_7 m) (On (Move (m - l.a)))
-  in-7 m from to =
-      depending_leads (Established.is_all_sent m) (acknowledging-then m from to T203)
-      (tested_leads (Established.is_beyond_acknowledged m) (from_more (λ c h. h.holds) (acknowledging-then m from to T200))
-      (record {
-        leads = λ c h.
-            let none : m ≤ c.link.a = ltb-false c.link.a m h.told in
-            let at : c.link.a ≡ l.a = h.holds.acknowledged in
-            went m from to c.link.contents c.link.a c.link.s _ c.zeroed c.unit h.holds.contents (omega (arith, none, at, from)) (inl h.holds.sent) h.holds.no_loss h.holds.goes_on h.holds.no_unit;
-      }))
+  in-7 m from to = grind (arith, depending_leads, acknowledging-then, tested_leads, from_more, ltb-false, went)
 
   in-7-by-information : (m : ℕ) → l.a ≤ m → m ≤ l.s → Leads (On Stay) (Established.acknowledged_by_information_in_7 m) (On (Move (m - l.a)))
   in-7-by-information m from to = depending_leads is_peer_busy (acknowledging m from to) (in-7 m from to)
@@ -155,10 +104,7 @@ module _ (t : Terms) (l : Link) (ordered : l.a ≤ l.s) (most : l.s ≤ length l
       record { leads = λ c h. went m from to c.link.contents m m _ c.zeroed c.unit h.contents refl (inr refl) h.no_loss h.goes_on h.no_unit }
 
   in-8 : (timer : LinkTimer) (final : Bool) (m : ℕ) → l.a ≤ m → m ≤ l.s → Leads (On Stay) (TimerRecovery.acknowledged_in_8 timer final m) (On (Move (m - l.a)))
-  in-8 timer final m from to =
-      bit_leads final
-      (record { leads = λ c h. went m from to c.link.contents m m _ c.zeroed c.unit h.contents refl (inr refl) h.no_loss h.goes_on h.no_unit })
-      (acknowledging m from to)
+  in-8 timer final m from to = grind (arith, bit_leads, went, acknowledging)
 
   numbers : (nr : Seq) {f : ℕ → Step} → ((m : ℕ) → l.a ≤ m → m ≤ l.s → Leads (On Stay) (f m) (On (Move (m - l.a))))
       → Leads (On Stay) (by_number t nr f) (On (Move (count l.a l.s (Some nr))))
@@ -209,9 +155,7 @@ module _ (t : Terms) (l : Link) (ordered : l.a ≤ l.s) (most : l.s ≤ length l
   frames_in_8 b octets other is = moved (TimerRecovery.frame_in_8 t b octets other) (search (words, numbers, in-8) depth 12 fits 4000)
 
   pub t200_in_8 : On (Move 0) (TimerRecovery.t200_in_8 t (begun l))
-  t200_in_8 =
-      let again : Leads (On Stay) (enquire t then repeated then start T200) (On Stay) = search words in
-      both_ways (On (Move 0)) (nat_lt l.repeats t.n200) _ _ (still (enquire t then repeated then start T200) again) (failed_moves ErrorCode.I)
+  t200_in_8 = grind (arith, On, words, both_ways, nat_lt, still, failed_moves)
 
   -- Requests of layer 3.
   pub set_busy : On (Move 0) (set_busy_in_7_8 t (begun l))

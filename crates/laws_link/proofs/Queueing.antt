@@ -1,5 +1,5 @@
 -- The contents of a link, its numbers, and what its notes tell of them: most words of the tables leave them.
-use Rattle.laws_link.proofs.Vocabulary.{◌≡◌, ℕ, Bool, true, false, ◌||◌, List, [], ◌∷◌, ◌++◌, Option, refl, subst, sym, ◌∙◌, list_any-append, Note, ErrorCode, State, LinkTimer, ControlFrame, Terms, Course, Leads, keeping_then, nothing_leads, depending_leads, bit_leads, is_loss, tells_loss, leaves, deliver, note}
+use Rattle.laws_link.proofs.Vocabulary.{arith, ◌≡◌, ℕ, Bool, false, List, [], ◌∷◌, ◌++◌, Option, refl, subst, sym, list_any-append, Note, Terms, Course, Leads, keeping_then, nothing_leads, depending_leads, bit_leads, is_loss, tells_loss, leaves, deliver, note}
 
 -- A claim on the contents, on V(A) and V(S), on whether the notes tell a loss, on whether the numbers began anew, and on
 -- what unit data is told.
@@ -11,11 +11,7 @@ On Q c = Q c.link.contents c.link.a c.link.s (tells_loss c.notes) c.zeroed c.uni
 
 -- one more note that tells no loss
 pub no_loss-note : (ns : List Note) (n : Note) → is_loss n ≡ false → tells_loss (ns ++ n ∷ []) ≡ tells_loss ns
-no_loss-note ns n e = list_any-append is_loss ns (n ∷ []) ∙ go (tells_loss ns) (is_loss n) e
-  where
-    go : (b d : Bool) → d ≡ false → (b || (d || false)) ≡ b
-    go true d e = refl
-    go false d e = rw e refl
+no_loss-note ns n e = grind (arith, list_any-append)
 
 module _ (Q : Claim) where
   noting : (n : Note) → is_loss n ≡ false → (c : Course) → On Q c → Q c.link.contents c.link.a c.link.s (tells_loss (c.notes ++ n ∷ [])) c.zeroed c.unit

@@ -1,5 +1,5 @@
 -- The numbers of a link begin anew by nothing but an establishment, or the end of its TEI.
-use Rattle.laws_link.proofs.Vocabulary.{◌≡◌, ℕ, Bool, true, false, List, refl, sym, ◌∙◌, true≢false, Control, Sabme, Ua, State, AwaitingEstablishment, AwaitingRelease, Terms, Link, Course, begun, restarts, IsEstablished, Establishes, Fits, FitsEvent, Kept, frame_row, event_row, Event, cleared, frame, received, after, frame_in, frame_step}
+use Rattle.laws_link.proofs.Vocabulary.{arith, ◌≡◌, ℕ, Bool, true, false, List, refl, sym, ◌∙◌, true≢false, Control, Sabme, Ua, State, Terms, Link, Course, begun, restarts, IsEstablished, Establishes, Fits, FitsEvent, Kept, frame_row, event_row, Event, cleared, frame, received, after, frame_in, frame_step}
 
 -- The numbers go on.
 pub record GoesOn (zeroed : Bool) : Type 0 where
@@ -31,15 +31,11 @@ module _ (t : Terms) (l : Link) where
 
   by-sabme : (here : State) (b p : Bool) (octets : List ℕ) → (frame_in here t b octets (Sabme p) (begun l)).zeroed ≡ true
       → IsEstablished (Sabme p) (frame_in here t b octets (Sabme p) (begun l)).link
-  by-sabme AwaitingEstablishment b p octets e = absurd (true≢false (sym e))
-  by-sabme AwaitingRelease b p octets e = absurd (true≢false (sym e))
-  by-sabme other b p octets e = record { by = tt; state = refl; a = refl; s = refl; r = refl }
+  by-sabme here b p octets e = grind (arith, other)
 
   by-ua : (here : State) (b f : Bool) (octets : List ℕ) → (frame_in here t b octets (Ua f) (begun l)).zeroed ≡ true
       → IsEstablished (Ua f) (frame_in here t b octets (Ua f) (begun l)).link
-  by-ua here b false octets e = goes-on here b octets (Ua false) tt e
-  by-ua AwaitingEstablishment b true octets e = record { by = tt; state = refl; a = refl; s = refl; r = refl }
-  by-ua other b true octets e = absurd (true≢false (sym e))
+  by-ua here b f octets e = grind (arith, goes-on, other)
 
   frames : (b : Bool) (octets : List ℕ) (control : Control) → (frame_step t b octets control (begun l)).zeroed ≡ true
       → IsEstablished control (frame_step t b octets control (begun l)).link

@@ -1,5 +1,5 @@
 -- What each event changes of V(S) and of own busy, and which events tell a loss.
-use Rattle.laws_link.proofs.Vocabulary.{◌≡◌, ℕ, ◌+◌, Bool, true, false, cond, ◌||◌, List, [], ◌∷◌, Option, None, Some, is_some, refl, ap, sym, ◌∙◌, subst, true≢false, ◌⊎◌, inl, inr, ⊎_elim, nat_lt, Seq, named, Control, Information, ReceiveReady, ReceiveNotReady, Reject, Sabme, Disc, Ui, Ua, Dm, Frmr, Xid, ErrorCode, Refusal, Parts, State, TeiAssigned, AwaitingEstablishment, AwaitingRelease, Established, TimerRecovery, LinkTimer, T200, T203, ControlFrame, Terms, Link, has_outstanding, Course, begun, Step, ◌then◌, changed, Leads, is_release, tells_loss, empties, asked_from, AsksFrom, MovesSent, is_anew, MovesBusy, MayEndBy, MayLose, both_ways, ClearBusy, Data, Establish, Event, Received, Release, Request, SetBusy, cleared, expired, frame, offer, overlong, received, requested, undefined, wrong_size, by_number, clear_flags, command, discard, enquire, enter, error, establish_confirm, establish_indication, peer_busy_is, pending_is, re_establish, repeated, response, send, start, zero_numbers, frame_in_4, malformed_in_4, frame_in_5, malformed_in_5, frame_in_6, malformed_in_6, acknowledged_by_rej_in_7, frame_in_7, timer_in_7, unsolicited, acknowledged_in_8, frame_in_8, give_information, is_awaiting_acknowledgement, may_send_information, offer_among, with_one_sent, after, course, expired_in, expired_step, frame_in, frame_step, is_running, malformed_in, received_step, told}
+use Rattle.laws_link.proofs.Vocabulary.{arith, ◌≡◌, ℕ, ◌+◌, Bool, true, false, cond, ◌||◌, List, [], Option, None, Some, is_some, refl, ap, sym, ◌∙◌, subst, true≢false, ◌⊎◌, inl, inr, ⊎_elim, nat_lt, Seq, named, Control, Information, ReceiveReady, ReceiveNotReady, Reject, Sabme, Disc, Ui, Ua, Dm, Frmr, Xid, ErrorCode, Refusal, Parts, State, TeiAssigned, AwaitingEstablishment, AwaitingRelease, Established, TimerRecovery, LinkTimer, T200, T203, ControlFrame, Terms, Link, has_outstanding, Course, begun, Step, ◌then◌, Leads, is_release, tells_loss, empties, asked_from, AsksFrom, MovesSent, is_anew, MovesBusy, MayEndBy, MayLose, both_ways, Event, Received, Release, Request, cleared, expired, frame, offer, overlong, received, requested, undefined, wrong_size, by_number, clear_flags, command, discard, enter, error, establish_confirm, establish_indication, peer_busy_is, re_establish, response, send, start, zero_numbers, frame_in_4, frame_in_5, frame_in_6, acknowledged_by_rej_in_7, frame_in_7, timer_in_7, unsolicited, acknowledged_in_8, frame_in_8, offer_among, after, course, expired_in, expired_step, frame_in, frame_step, is_running, malformed_in, received_step, told}
 use Rattle.model_link.specs.MultipleFrame
 use Rattle.model_link.specs.Requests
 use Rattle.laws_link.proofs.Ordinary.{Busy, Ordinary, begins, failed, words}
@@ -42,28 +42,20 @@ module _ (Asks : ℕ → Type 0) (Ends : Type 0) (t : Terms) (l : Link) where
 module _ (Asks : ℕ → Type 0) (t : Terms) (l : Link) where
   -- State 4.
   pub frames_in_4 : (octets : List ℕ) (control : Control) → Row Asks (MayEndBy control) l (frame_in_4 t octets control (begun l))
-  frames_in_4 octets (Sabme p) = record { sent = inr (inr (inr (refl, refl))); busy = inr (refl, refl); loss = λ some. tt }
-  frames_in_4 octets (Ua true) = still Asks _ t l (frame_in_4 t octets (Ua true)) (search words)
-  frames_in_4 octets other = still Asks _ t l (frame_in_4 t octets other) (search words)
+  frames_in_4 octets control = grind (arith, still, words)
 
   -- State 5.
   answered_in_5 : (asked out : Bool)
       → Row Asks (Unit {0}) l ((zero_numbers then start T203 then enter Established)
       (cond asked (establish_confirm t (begun l)) (cond out ((discard then establish_indication t) (begun l)) (begun l))))
-  answered_in_5 true out = record { sent = inr (inr (inr (refl, refl))); busy = inl refl; loss = λ some. tt }
-  answered_in_5 false true = record { sent = inr (inr (inr (refl, refl))); busy = inl refl; loss = λ some. tt }
-  answered_in_5 false false = record { sent = inr (inr (inr (refl, refl))); busy = inl refl; loss = λ some. tt }
+  answered_in_5 asked out = grind arith
 
   pub frames_in_5 : (octets : List ℕ) (control : Control) → Row Asks (MayEndBy control) l (frame_in_5 t octets control (begun l))
-  frames_in_5 octets (Ua true) = answered_in_5 l.asked (has_outstanding l)
-  frames_in_5 octets (Dm true) = record { sent = inr (inr (inl (refl, refl))); busy = inl refl; loss = λ some. tt }
-  frames_in_5 octets other = still Asks _ t l (frame_in_5 t octets other) (search words)
+  frames_in_5 octets control = grind (arith, answered_in_5, still, words)
 
   -- State 6.
   pub frames_in_6 : (octets : List ℕ) (control : Control) → Row Asks (MayEndBy control) l (frame_in_6 t octets control (begun l))
-  frames_in_6 octets (Ua true) = record { sent = inl refl; busy = inl refl; loss = λ some. tt }
-  frames_in_6 octets (Dm true) = record { sent = inl refl; busy = inl refl; loss = λ some. tt }
-  frames_in_6 octets other = still Asks _ t l (frame_in_6 t octets other) (search words)
+  frames_in_6 octets control = grind (arith, still, words)
 
   -- States 7 and 8.
   sabme-again : (p out : Bool)
@@ -86,10 +78,7 @@ module _ (Asks : ℕ → Type 0) (t : Terms) (l : Link) where
       (λ n names. let h = known.leads (begun l) (begins l) in record { sent = inr (inl (asks nr n refl names)); busy = h.busy; loss = λ some. absurd (true≢false (sym some ∙ h.no_loss)) })
     where
       same-a : (b pf : Bool) → ((peer_busy_is false then MultipleFrame.answered t b pf then unsolicited t (MultipleFrame.is_final b pf)) (begun l)).link.a ≡ l.a
-      same-a true true = refl
-      same-a true false = refl
-      same-a false true = refl
-      same-a false false = refl
+      same-a b pf = grind arith
   frames_in_7 b octets (Sabme p) asks = sabme-again p (has_outstanding l)
   frames_in_7 b octets (Disc p) asks = record { sent = inr (inr (inl (refl, refl))); busy = inl refl; loss = λ some. tt }
   frames_in_7 b octets (Dm false) asks = fails Asks _ t l ErrorCode.E refl
@@ -99,10 +88,7 @@ module _ (Asks : ℕ → Type 0) (t : Terms) (l : Link) where
   -- the answer to an enquiry, and other supervisory frames of state 8
   recovering : (busy : Bool) (timer : LinkTimer) (nr : Seq) → ((n : ℕ) → named l.a l.s nr ≡ Some n → Asks n) → (Ends : Type 0)
       → Row Asks Ends l ((peer_busy_is busy then by_number t nr (acknowledged_in_8 timer true)) (begun l))
-  recovering busy timer nr asks Ends =
-      by-number Asks Ends t l nr (acknowledged_in_8 timer true) (peer_busy_is busy (begun l))
-      (record { holds = record { sent = refl; busy = inl refl; no_loss = refl }; a = refl })
-      (λ n names. record { sent = inr (inl (asks n names)); busy = inl refl; loss = λ some. absurd (true≢false (sym some)) })
+  recovering busy timer nr asks Ends = grind (arith, by-number)
 
   pub frames_in_8 : (b : Bool) (octets : List ℕ) (control : Control)
       → ((nr : Seq) (n : ℕ) → asked_from TimerRecovery b control ≡ Some nr → named l.a l.s nr ≡ Some n → Asks n)
@@ -140,25 +126,10 @@ module _ (Asks : ℕ → Type 0) (t : Terms) (l : Link) where
 
   -- What the grammar does not have, and expiries.
   pub malformed : (here : State) (e : ErrorCode) → is_anew e ≡ true → Row Asks ⊥ l (malformed_in here t e (begun l))
-  malformed TeiAssigned e anew = still Asks ⊥ t l malformed_in_4 (search words)
-  malformed AwaitingEstablishment e anew = still Asks ⊥ t l malformed_in_5 (search words)
-  malformed AwaitingRelease e anew = still Asks ⊥ t l malformed_in_6 (search words)
-  malformed other e anew = fails Asks ⊥ t l e anew
+  malformed here e anew = grind (arith, still, words, fails)
 
   pub t200 : (here : State) → Row Asks (Unit {0}) l (expired_in here T200 t (begun l))
-  t200 TeiAssigned = ordinary Asks _ t l (begun l) (begins l)
-  t200 AwaitingEstablishment =
-      let again : Leads (Ordinary l) (send t (command (Sabme true)) then repeated then start T200) (Ordinary l) = search words in
-      both_ways (Row Asks _ l) (nat_lt l.repeats t.n200) _ _ (still Asks _ t l (send t (command (Sabme true)) then repeated then start T200) again)
-      (record { sent = inr (inr (inl (refl, refl))); busy = inl refl; loss = λ some. tt })
-  t200 AwaitingRelease =
-      let again : Leads (Ordinary l) (send t (command (Disc true)) then repeated then start T200) (Ordinary l) = search words in
-      both_ways (Row Asks _ l) (nat_lt l.repeats t.n200) _ _ (still Asks _ t l (send t (command (Disc true)) then repeated then start T200) again)
-      (record { sent = inl refl; busy = inl refl; loss = λ some. tt })
-  t200 Established = still Asks _ t l (timer_in_7 t) (search words)
-  t200 TimerRecovery =
-      let again : Leads (Ordinary l) (enquire t then repeated then start T200) (Ordinary l) = search words in
-      both_ways (Row Asks _ l) (nat_lt l.repeats t.n200) _ _ (still Asks _ t l (enquire t then repeated then start T200) again) (fails Asks _ t l ErrorCode.I refl)
+  t200 here = grind (arith, ordinary, begins, Ordinary, words, both_ways, nat_lt, still)
 
   pub t203 : (here : State) → Row Asks ⊥ l (expired_in here T203 t (begun l))
   t203 Established = still Asks ⊥ t l (timer_in_7 t) (search words)
@@ -192,17 +163,7 @@ module _ (t : Terms) (l : Link) where
       sent (inr (inr (inr x))) = inr (inr (inr (inr x)))
 
   by-malformed : (what : Received) → Row (AsksFrom (received what) l) ⊥ l (received_step t what (begun l)) → Steady t (received what) l
-  by-malformed what x = record {
-    sent = sent x.sent;
-    busy = busy-by (received what) (course t (received what) l) x.busy;
-    loss = λ some. absurd (x.loss some);
-  }
-    where
-      sent : Sent (received what) (course t (received what) l) → MovesSent t (received what) l (after t (received what) l)
-      sent (inl x) = inl x
-      sent (inr (inl x)) = inr (inr (inl x))
-      sent (inr (inr (inl x))) = inr (inr (inr (inl x)))
-      sent (inr (inr (inr x))) = inr (inr (inr (inr x)))
+  by-malformed what x = grind (arith, busy-by)
 
   expires : {Ends : Type 0} (timer : LinkTimer) (b : Bool) → Row (AsksFrom (expired timer) l) Ends l (expired_in l.state timer t (begun l))
       → Row (AsksFrom (expired timer) l) Ends l (cond b (expired_in l.state timer t (begun l)) (begun l))
@@ -211,17 +172,7 @@ module _ (t : Terms) (l : Link) where
 
   by-expiry : (timer : LinkTimer) (Ends : Type 0) → (Ends → MayLose (expired timer))
       → Row (AsksFrom (expired timer) l) Ends l (expired_step t timer (begun l)) → Steady t (expired timer) l
-  by-expiry timer Ends ends x = record {
-    sent = sent x.sent;
-    busy = busy-by (expired timer) (course t (expired timer) l) x.busy;
-    loss = λ some. ends (x.loss some);
-  }
-    where
-      sent : Sent (expired timer) (course t (expired timer) l) → MovesSent t (expired timer) l (after t (expired timer) l)
-      sent (inl x) = inl x
-      sent (inr (inl x)) = inr (inr (inl x))
-      sent (inr (inr (inl x))) = inr (inr (inr (inl x)))
-      sent (inr (inr (inr x))) = inr (inr (inr (inr x)))
+  by-expiry timer Ends ends x = grind (arith, busy-by)
 
   -- of a request
   record Asked (request : Request) (full refused : Bool) (c : Course) : Type 0 where
@@ -234,22 +185,10 @@ module _ (t : Terms) (l : Link) where
   one-of request full false u v x y = y
 
   released : (full : Bool) (here : State) → Asked Release full false (Requests.release_in here t (begun l))
-  released full Established = record { sent = inr (refl, refl); busy = inl refl; loss = λ some. tt }
-  released full TimerRecovery = record { sent = inr (refl, refl); busy = inl refl; loss = λ some. tt }
-  released full other = record { sent = inl refl; busy = inl refl; loss = λ some. tt }
+  released full here = grind arith
 
   granted : (request : Request) (full : Bool) → Asked request full false (Requests.granted t request (begun l))
-  granted Establish full = record { sent = inl refl; busy = inr (inr (refl, inl tt)); loss = λ some. absurd (true≢false (sym some)) }
-  granted Release full = released full l.state
-  granted (Data octets) full = record { sent = inl refl; busy = inl refl; loss = λ some. absurd (true≢false (sym some)) }
-  granted SetBusy full =
-      one-of SetBusy full l.own_busy _ _
-      (record { sent = inl refl; busy = inl refl; loss = λ some. absurd (true≢false (sym some)) })
-      (record { sent = inl refl; busy = inr (inl (tt, refl)); loss = λ some. absurd (true≢false (sym some)) })
-  granted ClearBusy full =
-      one-of ClearBusy full l.own_busy _ _
-      (record { sent = inl refl; busy = inr (inr (refl, inl tt)); loss = λ some. absurd (true≢false (sym some)) })
-      (record { sent = inl refl; busy = inl refl; loss = λ some. absurd (true≢false (sym some)) })
+  granted request full = grind (arith, released, one-of)
 
   asked : (request : Request) (full : Bool) (o : Option Refusal)
       → Asked request full (is_some o) (elim o as (λ o. Course) [ None ↦ Requests.granted t request (begun l) | Some _ ↦ begun l ])
@@ -257,9 +196,7 @@ module _ (t : Terms) (l : Link) where
   asked request full (Some w) = record { sent = inl refl; busy = inl refl; loss = λ some. absurd (true≢false (sym some)) }
 
   by-request : (request : Request) (full : Bool) → Steady t (requested request full) l
-  by-request request full =
-      let x = asked request full (Requests.refusal t l full request) in
-      record { sent = ⊎_elim (λ y. inl y) (λ y. inr (inr (inr (inl y)))) x.sent; busy = x.busy; loss = x.loss }
+  by-request request full = grind (arith, asked)
 
   -- of an offer
   record Offers-it (c : Course) : Type 0 where
@@ -268,22 +205,10 @@ module _ (t : Terms) (l : Link) where
     no_loss : tells_loss c.notes ≡ false
 
   offers : (ws : List ControlFrame) → Offers-it (offer_among t ws (begun l))
-  offers (f ∷ fs) = record { sent = inl refl; busy = refl; no_loss = refl }
-  offers [] =
-      let one_more = (give_information then changed with_one_sent then pending_is false) (begun l) in
-      both_ways Offers-it (may_send_information t l) _ _
-      (both_ways Offers-it (is_awaiting_acknowledgement one_more.link) one_more (start T200 one_more)
-      (record { sent = inr refl; busy = refl; no_loss = refl }) (record { sent = inr refl; busy = refl; no_loss = refl }))
-      (both_ways Offers-it l.pending _ _ (record { sent = inl refl; busy = refl; no_loss = refl }) (record { sent = inl refl; busy = refl; no_loss = refl }))
+  offers ws = grind (arith, both_ways)
 
   by-offer : Steady t offer l
-  by-offer =
-      let x = offers l.waiting in
-      record {
-        sent = ⊎_elim (λ y. inl y) (λ y. inr (inl (refl, y))) x.sent;
-        busy = inl x.busy;
-        loss = λ some. absurd (true≢false (sym some ∙ x.no_loss));
-      }
+  by-offer = grind (arith, offers)
 
   pub event-steady : (e : Event) → Steady t e l
   event-steady (received (frame f)) = by-frame f

@@ -1,5 +1,5 @@
 -- A link that awaits something has its timer: every row keeps that.
-use Rattle.laws_link.proofs.Vocabulary.{◌≡◌, ℕ, ◌≤◌, Bool, true, List, Option, Some, None, ◌⊎◌, inl, inr, refl, arith, Seq, named, Note, ErrorCode, State, TeiAssigned, AwaitingEstablishment, AwaitingRelease, Established, TimerRecovery, LinkTimer, T200, T203, ControlFrame, Terms, Course, Step, ◌then◌, changed, named-within, Leads, keeping_then, nothing_leads, depending_leads, bit_leads, tested_leads, Passed, from_more, to_less, eqb-true, leaves, acknowledge, asked_is, by_number, discard, enter, error, establish_indication, no_timer, re_establish, send_again_from, start, zero_numbers, failed, acknowledged_by_information_in_7, acknowledged_in_7, is_all_sent, is_beyond_acknowledged, acknowledged_in_8, recovered}
+use Rattle.laws_link.proofs.Vocabulary.{◌≡◌, ℕ, ◌≤◌, Bool, true, Option, Some, None, ◌⊎◌, inl, inr, refl, arith, Seq, named, ErrorCode, State, TeiAssigned, AwaitingEstablishment, AwaitingRelease, Established, TimerRecovery, LinkTimer, T200, T203, Terms, Course, Step, ◌then◌, named-within, Leads, keeping_then, nothing_leads, depending_leads, bit_leads, tested_leads, Passed, from_more, to_less, eqb-true, leaves, acknowledge, asked_is, by_number, discard, enter, error, establish_indication, no_timer, re_establish, send_again_from, start, zero_numbers, failed, acknowledged_by_information_in_7, acknowledged_in_7, is_all_sent, acknowledged_in_8, recovered}
 
 -- the same as `IsTimedIn`, of what it speaks of
 abbrev pub TimedBy : State → Option LinkTimer → ℕ → ℕ → Type 0
@@ -38,14 +38,10 @@ unnamed x = from_more (λ c h. h.holds) x
 
 -- all contents that are kept are released: nothing is outstanding
 pub discarded : (here : State) (running : Option LinkTimer) (a s : ℕ) → TimedBy here running a s → TimedBy here running a a
-discarded Established running a s (inl e) = inl e
-discarded Established running a s (inr e) = inr (e.0, omega arith)
-discarded other running a s e = e
+discarded here running a s e = grind arith
 
 pub discard_timed : (here : State) → Leads (At here) discard (At here)
-discard_timed here = record {
-  leads = λ c h. record { state_is = h.state_is; timer = discarded here c.link.running c.link.a c.link.s h.timer };
-}
+discard_timed here = grind (arith, discarded)
 
 -- the ends of rows, whatever was before
 module _ {X : Course → Type 0} where
@@ -96,14 +92,10 @@ nearer running a s m from (inl e) = inl e
 nearer running a s m from (inr e) = inr (e.0, omega (arith, from, e.1))
 
 pub acknowledge_7 : (m : ℕ) → Leads (Named Established m) (acknowledge m) (At Established)
-acknowledge_7 m = record {
-  leads = λ c h. record { state_is = h.holds.state_is; timer = nearer c.link.running c.link.a c.link.s m h.from h.holds.timer };
-}
+acknowledge_7 m = grind (arith, nearer)
 
 pub all_acknowledged_7 : (m : ℕ) → Leads (Passed (Named Established m) (is_all_sent m) true) (acknowledge m then start T203) (At Established)
-all_acknowledged_7 m = record {
-  leads = λ c h. record { state_is = h.holds.holds.state_is; timer = inr (refl, omega (arith, eqb-true m c.link.s h.told)) };
-}
+all_acknowledged_7 m = grind (arith, eqb-true)
 
 pub acknowledge_start_7 : (m : ℕ) → Leads (Named Established m) (acknowledge m then start T200) (At Established)
 acknowledge_start_7 m = record { leads = λ c h. record { state_is = h.holds.state_is; timer = inl refl } }
@@ -115,9 +107,7 @@ pub to_named : {here : State} {m : ℕ} {f : Step} → Leads (Named here m) f (A
 to_named {here} {m} {f} x = to_less (λ c h. enough here c.link.state c.link.running c.link.a c.link.s h) x
 
 pub acknowledged_7 : (m : ℕ) → Leads (Named Established m) (acknowledged_in_7 m) (At Established)
-acknowledged_7 m =
-    tested_leads (is_all_sent m) (all_acknowledged_7 m)
-    (from_more (λ c h. h.holds) (depending_leads (is_beyond_acknowledged m) (acknowledge_start_7 m) (unnamed nothing_leads)))
+acknowledged_7 m = grind (arith, tested_leads, all_acknowledged_7, from_more, depending_leads, acknowledge_start_7, unnamed, nothing_leads)
 
 pub acknowledged_by_information_7 : (m : ℕ) → Leads (Named Established m) (acknowledged_by_information_in_7 m) (At Established)
 acknowledged_by_information_7 m = depending_leads _ (acknowledge_7 m) (acknowledged_7 m)

@@ -1,5 +1,5 @@
 -- What answers a poll.
-use Rattle.laws_link.proofs.Vocabulary.{◌≡◌, ℕ, ◌+◌, ◌≤◌, Bool, true, false, cond, IsTrue, List, [], ◌∷◌, ◌++◌, length, Option, None, Some, refl, sym, ap, subst, ◌∙◌, true≢false, arith, nat_lt, lt-ltb, le-ltb, Seq, seq, named, Control, Information, ReceiveReady, ReceiveNotReady, Reject, Sabme, Disc, Ui, Ua, Dm, Frmr, Xid, Parts, State, TeiAssigned, AwaitingEstablishment, AwaitingRelease, Established, TimerRecovery, LinkTimer, T200, T203, ControlFrame, Terms, Link, is_multiple_frame, frame, received, Course, begun, Step, ◌then◌, Leads, then_leads, keeping_then, nothing_leads, depending_leads, bit_leads, IsValidAt, IsPollWith, SaysReceived, Answered, AnsweredBy, asked_of, leaves, ErrorCode, both_ways, acknowledged_by_information_in_7, acknowledged_by_rej_in_7, acknowledged_by_rnr_in_7, acknowledged_in_7, frame_in_7, acknowledged_in_8, frame_in_8, after, frame_in, frame_step}
+use Rattle.laws_link.proofs.Vocabulary.{◌≡◌, ℕ, ◌+◌, ◌≤◌, Bool, true, false, cond, IsTrue, List, [], ◌∷◌, ◌++◌, length, Option, None, Some, refl, sym, ap, subst, ◌∙◌, true≢false, arith, nat_lt, lt-ltb, le-ltb, Seq, seq, named, Control, Information, ReceiveReady, ReceiveNotReady, Reject, Sabme, Disc, Ua, Parts, State, TeiAssigned, Established, TimerRecovery, T200, T203, ControlFrame, Terms, Link, is_multiple_frame, frame, received, Course, begun, Step, ◌then◌, Leads, keeping_then, nothing_leads, depending_leads, bit_leads, IsValidAt, IsPollWith, SaysReceived, Answered, AnsweredBy, asked_of, leaves, ErrorCode, both_ways, acknowledged_by_information_in_7, acknowledged_by_rej_in_7, acknowledged_by_rnr_in_7, acknowledged_in_7, frame_in_7, acknowledged_in_8, frame_in_8, after, frame_in, frame_step}
 use Rattle.model_link.specs.Words
 use Rattle.model_link.specs.MultipleFrame
 
@@ -30,6 +30,41 @@ answered-by ws l c h w =
       is_response = h.is_response;
       says = subst (λ r. SaysReceived r h.answer.control) (sym w.number) h.says;
     }
+
+-- What a poll with a valid N(R) comes to, by what an I-frame and a supervisory frame do, whatever the number leads to.
+pub record Polled (t : Terms) (l : Link) (P : Course → Type 0) (K : (ℕ → Step) → Type 0) : Type 0 where
+  pub informs : (ns nr : Seq) (octets : List ℕ) (f : ℕ → Step) → length octets ≤ t.n201 → K f → IsValidAt l nr
+      → P (MultipleFrame.information_in_7_8 t ns nr true octets f (begun l))
+  pub supervises : (b : Bool) (nr : Seq) (f : ℕ → Step) → K f → IsValidAt l nr
+      → P ((Words.peer_busy_is b then Words.answer t then Words.by_number t nr f) (begun l))
+  pub informed : K acknowledged_by_information_in_7
+  pub informed-8 : K Words.acknowledge
+  pub ready : K acknowledged_in_7
+  pub not-ready : K acknowledged_by_rnr_in_7
+  pub rejected : K acknowledged_by_rej_in_7
+  pub ready-8 : K (acknowledged_in_8 T203 false)
+  pub not-ready-8 : K (acknowledged_in_8 T200 false)
+
+module _ {t : Terms} {l : Link} (P : Course → Type 0) (K : (ℕ → Step) → Type 0) (x : Polled t l P K) where
+  in-7 : (command : Bool) (octets : List ℕ) (control : Control) → IsPollWith t l command octets control → P (frame_in_7 t command octets control (begun l))
+  in-7 command octets (Information ns nr true) h = x.informs ns nr octets acknowledged_by_information_in_7 h.1 x.informed h.2
+  in-7 true octets (ReceiveReady nr true) h = x.supervises false nr acknowledged_in_7 x.ready h.2
+  in-7 true octets (ReceiveNotReady nr true) h = x.supervises true nr acknowledged_by_rnr_in_7 x.not-ready h.2
+  in-7 true octets (Reject nr true) h = x.supervises false nr acknowledged_by_rej_in_7 x.rejected h.2
+  in-7 command octets other h = grind (arith, h)
+
+  in-8 : (command : Bool) (octets : List ℕ) (control : Control) → IsPollWith t l command octets control → P (frame_in_8 t command octets control (begun l))
+  in-8 command octets (Information ns nr true) h = x.informs ns nr octets Words.acknowledge h.1 x.informed-8 h.2
+  in-8 true octets (ReceiveReady nr true) h = x.supervises false nr (acknowledged_in_8 T203 false) x.ready-8 h.2
+  in-8 true octets (ReceiveNotReady nr true) h = x.supervises true nr (acknowledged_in_8 T200 false) x.not-ready-8 h.2
+  in-8 true octets (Reject nr true) h = x.supervises false nr (acknowledged_in_8 T203 false) x.ready-8 h.2
+  in-8 command octets other h = grind (arith, h)
+
+  pub polled-in : (here : State) → IsTrue (is_multiple_frame here) → (command : Bool) (octets : List ℕ) (control : Control)
+      → IsPollWith t l command octets control → P (frame_in here t command octets control (begun l))
+  polled-in Established up command octets control h = in-7 command octets control h
+  polled-in TimerRecovery up command octets control h = in-8 command octets control h
+  polled-in other up command octets control h = absurd (true≢false (sym up))
 
 says-ready : (b : Bool) (r : ℕ) → SaysReceived r (cond b (ReceiveNotReady (seq r) true) (ReceiveReady (seq r) true))
 says-ready true r = (refl, refl)
@@ -99,53 +134,22 @@ module _ (t : Terms) (l : Link) (room : length l.waiting + 1 ≤ t.control) wher
       → Answered l.waiting ((Words.peer_busy_is b then Words.answer t then Words.by_number t nr f) (begun l)).link
   supervisory b nr f x valid = numbered nr f x valid (Words.answer t (Words.peer_busy_is b (begun l))) (ready (Words.peer_busy_is b (begun l)) refl refl refl)
 
-  in-7 : (command : Bool) (octets : List ℕ) (control : Control) → IsPollWith t l command octets control
-      → Answered l.waiting (frame_in_7 t command octets control (begun l)).link
-  in-7 command octets (Information ns nr true) h = information ns nr octets acknowledged_by_information_in_7 h.1 information_7_waits h.2
-  in-7 command octets (Information ns nr false) h = absurd (true≢false (sym h.0))
-  in-7 true octets (ReceiveReady nr true) h = supervisory false nr acknowledged_in_7 (λ ws r n. search words depth 12 fits 4000) h.2
-  in-7 true octets (ReceiveReady nr false) h = absurd (true≢false (sym h.1))
-  in-7 false octets (ReceiveReady nr p) h = absurd (true≢false (sym h.0))
-  in-7 true octets (ReceiveNotReady nr true) h = supervisory true nr acknowledged_by_rnr_in_7 (λ ws r n. search words depth 12 fits 4000) h.2
-  in-7 true octets (ReceiveNotReady nr false) h = absurd (true≢false (sym h.1))
-  in-7 false octets (ReceiveNotReady nr p) h = absurd (true≢false (sym h.0))
-  in-7 true octets (Reject nr true) h = supervisory false nr acknowledged_by_rej_in_7 (λ ws r n. search words depth 12 fits 4000) h.2
-  in-7 true octets (Reject nr false) h = absurd (true≢false (sym h.1))
-  in-7 false octets (Reject nr p) h = absurd (true≢false (sym h.0))
-  in-7 command octets other h = absurd h
-
-  in-8 : (command : Bool) (octets : List ℕ) (control : Control) → IsPollWith t l command octets control
-      → Answered l.waiting (frame_in_8 t command octets control (begun l)).link
-  in-8 command octets (Information ns nr true) h = information ns nr octets Words.acknowledge h.1 (λ ws r n. leaves (λ c h. h)) h.2
-  in-8 command octets (Information ns nr false) h = absurd (true≢false (sym h.0))
-  in-8 true octets (ReceiveReady nr true) h = supervisory false nr (acknowledged_in_8 T203 false) (λ ws r n. search words depth 12 fits 4000) h.2
-  in-8 true octets (ReceiveReady nr false) h = absurd (true≢false (sym h.1))
-  in-8 false octets (ReceiveReady nr p) h = absurd (true≢false (sym h.0))
-  in-8 true octets (ReceiveNotReady nr true) h = supervisory true nr (acknowledged_in_8 T200 false) (λ ws r n. search words depth 12 fits 4000) h.2
-  in-8 true octets (ReceiveNotReady nr false) h = absurd (true≢false (sym h.1))
-  in-8 false octets (ReceiveNotReady nr p) h = absurd (true≢false (sym h.0))
-  in-8 true octets (Reject nr true) h = supervisory false nr (acknowledged_in_8 T203 false) (λ ws r n. search words depth 12 fits 4000) h.2
-  in-8 true octets (Reject nr false) h = absurd (true≢false (sym h.1))
-  in-8 false octets (Reject nr p) h = absurd (true≢false (sym h.0))
-  in-8 command octets other h = absurd h
-
-  frames-in : (here : State) → IsTrue (is_multiple_frame here) → (command : Bool) (octets : List ℕ) (control : Control)
-      → IsPollWith t l command octets control → Answered l.waiting (frame_in here t command octets control (begun l)).link
-  frames-in Established up command octets control h = in-7 command octets control h
-  frames-in TimerRecovery up command octets control h = in-8 command octets control h
-  frames-in other up command octets control h = absurd (true≢false (sym up))
-
-  frame-answered : IsTrue (is_multiple_frame l.state) → (command : Bool) (octets : List ℕ) (control : Control) → IsPollWith t l command octets control
-      → Answered l.waiting (frame_step t command octets control (begun l)).link
-  frame-answered up command octets (Information ns nr p) h = frames-in l.state up command octets (Information ns nr p) h
-  frame-answered up command octets (ReceiveReady nr p) h = frames-in l.state up command octets (ReceiveReady nr p) h
-  frame-answered up command octets (ReceiveNotReady nr p) h = frames-in l.state up command octets (ReceiveNotReady nr p) h
-  frame-answered up command octets (Reject nr p) h = frames-in l.state up command octets (Reject nr p) h
-  frame-answered up command octets other h = absurd h
+  answers : Polled t l (λ c. Answered l.waiting c.link) (λ f. (ws : List ControlFrame) (r n : ℕ) → Leads (Waits ws r) (f n) (Waits ws r))
+  answers = record {
+    informs = information;
+    supervises = supervisory;
+    informed = information_7_waits;
+    informed-8 = λ ws r n. leaves (λ c h. h);
+    ready = λ ws r n. search words depth 12 fits 4000;
+    not-ready = λ ws r n. search words depth 12 fits 4000;
+    rejected = λ ws r n. search words depth 12 fits 4000;
+    ready-8 = λ ws r n. search words depth 12 fits 4000;
+    not-ready-8 = λ ws r n. search words depth 12 fits 4000;
+  }
 
   pub poll-answered : (f : Parts) → IsTrue (is_multiple_frame l.state) → IsPollWith t l f.address.command f.info f.control
       → Answered l.waiting (after t (received (frame f)) l)
-  poll-answered f up h = frame-answered up f.address.command f.info f.control h
+  poll-answered f up h = polled-in _ _ answers l.state up f.address.command f.info f.control h
 
   -- SABME and DISC
   same-waiting : (b : Bool) (u v : Course) (ws : List ControlFrame) → u.link.waiting ≡ ws → v.link.waiting ≡ ws → (cond b u v).link.waiting ≡ ws

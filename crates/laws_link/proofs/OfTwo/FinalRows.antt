@@ -1,5 +1,5 @@
 -- No event but a poll makes a response with F=1 wait, and a poll makes at most one.
-use Rattle.laws_link.proofs.Vocabulary.{◌≡◌, ℕ, ◌+◌, ◌≤◌, Bool, true, false, cond, ◌&&◌, List, [], ◌∷◌, Option, None, Some, arith, sum_by-cons, Seq, Control, Information, ReceiveReady, ReceiveNotReady, Reject, Sabme, Disc, Ui, Ua, Dm, Frmr, Xid, ErrorCode, Refusal, State, TeiAssigned, AwaitingEstablishment, AwaitingRelease, Established, TimerRecovery, LinkTimer, T200, T203, ControlFrame, Terms, Link, frame, Request, Establish, Release, Data, SetBusy, ClearBusy, Event, received, expired, requested, offer, cleared, Course, Step, begun, frame_in_4, establish_in_4, frame_in_5, frame_in_6, Leads, then_leads, nothing_leads, bit_leads, finals, is_poll, polls, is_final_response, both_ways, acknowledge, begin_anew, clear_busy_in_7_8, contents_in_7_8, information_in_7_8, set_busy_in_7_8, acknowledged_by_information_in_7, frame_in_7, frame_in_8, granted, refusal, release_in, is_awaiting_acknowledgement, may_send_information, offer_among, with_one_sent, after, course, expired_in, frame_in, frame_step, is_running, malformed_in, told_of_clearing}
+use Rattle.laws_link.proofs.Vocabulary.{◌≡◌, ℕ, ◌+◌, ◌≤◌, Bool, true, false, cond, List, [], ◌∷◌, Option, None, Some, arith, sum_by-cons, Seq, Control, Information, Sabme, Disc, Ui, Ua, Dm, Frmr, Xid, ErrorCode, Refusal, State, TeiAssigned, AwaitingEstablishment, AwaitingRelease, Established, TimerRecovery, LinkTimer, T200, T203, ControlFrame, Terms, Link, frame, Request, Establish, Release, Data, SetBusy, ClearBusy, Event, received, expired, requested, offer, cleared, Course, Step, begun, frame_in_4, establish_in_4, frame_in_5, frame_in_6, Leads, then_leads, nothing_leads, bit_leads, finals, is_poll, polls, is_final_response, both_ways, acknowledge, begin_anew, clear_busy_in_7_8, contents_in_7_8, information_in_7_8, set_busy_in_7_8, acknowledged_by_information_in_7, frame_in_7, frame_in_8, granted, refusal, release_in, is_awaiting_acknowledgement, may_send_information, offer_among, with_one_sent, after, course, expired_in, frame_in, frame_step, is_running, malformed_in, told_of_clearing}
 use Rattle.laws_link.proofs.OfTwo.Finals.{Few, few_stays, rows, answers, weaker, ua_few, dm_few, failed_few, number_few}
 
 module _ (t : Terms) (n : ℕ) where
@@ -7,36 +7,21 @@ module _ (t : Terms) (n : ℕ) where
   in-4 b octets (Sabme p) = search answers depth 14 fits 6000
   in-4 b octets (Disc p) = dm_few t n p
   in-4 b octets (Ua true) = weaker n false (search rows depth 12 fits 4000)
-  in-4 b octets (Ua false) = weaker n false (search rows depth 12 fits 4000)
-  in-4 b octets (Information ns nr p) = weaker n p (search rows)
-  in-4 b octets (ReceiveReady nr p) = weaker n (b && p) (search rows)
-  in-4 b octets (ReceiveNotReady nr p) = weaker n (b && p) (search rows)
-  in-4 b octets (Reject nr p) = weaker n (b && p) (search rows)
-  in-4 b octets other = weaker n false (search rows)
+  in-4 b octets other = weaker n (is_poll b other) (search rows depth 12 fits 4000)
 
   in-5 : (b : Bool) (octets : List ℕ) (control : Control) → Leads (Few n) (frame_in_5 t octets control) (Few (n + cond {A = ℕ} (is_poll b control) 1 0))
   in-5 b octets (Sabme p) = ua_few t n p
   in-5 b octets (Disc p) = dm_few t n p
   in-5 b octets (Ua true) = weaker n false (search rows depth 12 fits 4000)
-  in-5 b octets (Ua false) = weaker n false (search rows depth 12 fits 4000)
-  in-5 b octets (Information ns nr p) = weaker n p (search rows)
-  in-5 b octets (ReceiveReady nr p) = weaker n (b && p) (search rows)
-  in-5 b octets (ReceiveNotReady nr p) = weaker n (b && p) (search rows)
-  in-5 b octets (Reject nr p) = weaker n (b && p) (search rows)
   in-5 b octets (Dm true) = weaker n false (search rows depth 12 fits 4000)
-  in-5 b octets other = weaker n false (search rows)
+  in-5 b octets other = weaker n (is_poll b other) (search rows depth 12 fits 4000)
 
   in-6 : (b : Bool) (octets : List ℕ) (control : Control) → Leads (Few n) (frame_in_6 t octets control) (Few (n + cond {A = ℕ} (is_poll b control) 1 0))
   in-6 b octets (Sabme p) = dm_few t n p
   in-6 b octets (Disc p) = ua_few t n p
   in-6 b octets (Ua true) = weaker n false (search rows depth 12 fits 4000)
-  in-6 b octets (Ua false) = weaker n false (search rows depth 12 fits 4000)
-  in-6 b octets (Information ns nr p) = weaker n p (search rows)
-  in-6 b octets (ReceiveReady nr p) = weaker n (b && p) (search rows)
-  in-6 b octets (ReceiveNotReady nr p) = weaker n (b && p) (search rows)
-  in-6 b octets (Reject nr p) = weaker n (b && p) (search rows)
   in-6 b octets (Dm true) = weaker n false (search rows depth 12 fits 4000)
-  in-6 b octets other = weaker n false (search rows)
+  in-6 b octets other = weaker n (is_poll b other) (search rows depth 12 fits 4000)
 
   -- states 7 and 8
   contents : (ns : Seq) (p : Bool) (octets : List ℕ) → Leads (Few n) (contents_in_7_8 t ns p octets) (Few (n + cond {A = ℕ} p 1 0))

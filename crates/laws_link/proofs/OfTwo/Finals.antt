@@ -1,5 +1,5 @@
 -- How many responses with F=1 wait: each word but the answers leaves their number.
-use Rattle.laws_link.proofs.Vocabulary.{◌≡◌, ℕ, ◌+◌, ◌≤◌, Bool, true, false, cond, List, [], ◌∷◌, ◌++◌, Option, None, Some, refl, subst, arith, sum_by_push, Seq, seq, named, Control, ReceiveReady, ReceiveNotReady, Reject, Ua, Dm, Note, State, LinkTimer, ControlFrame, Terms, Link, Course, Step, ◌then◌, nothing, by_bit, Leads, then_leads, keeping_then, nothing_leads, depending_leads, bit_leads, to_less, finals, is_final_response, ErrorCode, number_leads, answer, by_number, command, enquire, has_room, note, pending_is, re_establish, ready_to_receive, reject, report_ready, response, send}
+use Rattle.laws_link.proofs.Vocabulary.{◌≡◌, ℕ, ◌+◌, ◌≤◌, Bool, true, false, cond, List, [], ◌∷◌, ◌++◌, refl, subst, arith, sum_by_push, Seq, seq, Control, ReceiveReady, ReceiveNotReady, Reject, Ua, Dm, Note, ControlFrame, Terms, Link, Course, Step, ◌then◌, nothing, by_bit, Leads, then_leads, keeping_then, nothing_leads, depending_leads, bit_leads, to_less, finals, is_final_response, number_leads, answer, by_number, command, enquire, has_room, note, pending_is, re_establish, ready_to_receive, reject, report_ready, response, send}
 
 -- At most n of them wait.
 pub record Few (n : ℕ) (c : Course) : Type 0 where
@@ -24,22 +24,16 @@ sends t n f b e =
     }
 
 ready-response : (b f : Bool) (x y : Seq) → is_final_response (response (cond b (ReceiveNotReady x f) (ReceiveReady y f))) ≡ f
-ready-response true true x y = refl
-ready-response true false x y = refl
-ready-response false true x y = refl
-ready-response false false x y = refl
+ready-response b f x y = grind arith
 
 same-bit : (f : Bool) → is_final_response (response (Ua f)) ≡ f
-same-bit true = refl
-same-bit false = refl
+same-bit f = grind arith
 
 same-bit-dm : (f : Bool) → is_final_response (response (Dm f)) ≡ f
-same-bit-dm true = refl
-same-bit-dm false = refl
+same-bit-dm f = grind arith
 
 same-bit-rej : (f : Bool) (nr : Seq) → is_final_response (response (Reject nr f)) ≡ f
-same-bit-rej true nr = refl
-same-bit-rej false nr = refl
+same-bit-rej f nr = grind arith
 
 no-more : (n : ℕ) (c : Course) → Few (n + 0) c → Few n c
 no-more n c h = record { few = omega (arith, h.few) }

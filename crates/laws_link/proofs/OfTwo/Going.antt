@@ -1,5 +1,5 @@
 -- What requests, expiries and offers do to a link that stays in states 7 and 8, and to what is on its line.
-use Rattle.laws_link.proofs.Vocabulary.{◌≡◌, ◌+◌, ◌-◌, Bool, true, false, cond, not, ◌&&◌, IsTrue, List, [], ◌∷◌, ◌++◌, Option, None, Some, refl, sym, ap, subst, ◌∙◌, append_assoc, append-nil, ◌⊎◌, inl, inr, true≢false, nat_lt, length, slice_get, unwrap_or, and_parts, seq, ReceiveReady, ReceiveNotReady, Refusal, WrongState, Parts, State, Established, TimerRecovery, LinkTimer, T200, T203, ControlFrame, Terms, Link, is_multiple_frame, frame_of, may_repeat, Request, Establish, Release, Data, SetBusy, ClearBusy, expired, requested, offer, Course, begun, frame_given, frames_of, IsMildRequest, ErrorCode, both_ways, command, enquire, has_room, ready_to_receive, repeated, response, start, failed, granted, refusal, give_waiting, is_awaiting_acknowledgement, is_established, may_send_information, next_information, offer_among, send_acknowledgement, with_one_sent, course, expire_running, expired_in, given_of, is_running}
+use Rattle.laws_link.proofs.Vocabulary.{arith, ◌≡◌, ◌+◌, ◌-◌, Bool, true, false, cond, not, ◌&&◌, IsTrue, List, [], ◌∷◌, ◌++◌, Option, None, Some, refl, sym, ap, subst, ◌∙◌, append_assoc, append-nil, ◌⊎◌, inl, inr, true≢false, nat_lt, length, slice_get, unwrap_or, and_parts, seq, ReceiveReady, ReceiveNotReady, Refusal, WrongState, Parts, State, Established, TimerRecovery, LinkTimer, T200, T203, ControlFrame, Terms, Link, is_multiple_frame, frame_of, may_repeat, Request, Establish, Release, Data, SetBusy, ClearBusy, expired, requested, offer, Course, begun, frame_given, frames_of, IsMildRequest, ErrorCode, both_ways, command, enquire, has_room, ready_to_receive, repeated, response, start, failed, granted, refusal, give_waiting, is_awaiting_acknowledgement, is_established, may_send_information, next_information, offer_among, send_acknowledgement, with_one_sent, course, expire_running, expired_in, given_of, is_running}
 use Rattle.laws_link.proofs.OfTwo.Staying.{refused}
 use Rattle.laws_link.proofs.OfTwo.Trains.{Kind, numbered, enquiry, report, kind_of, kinds_of, kinds-append}
 use Rattle.laws_link.proofs.OfTwo.Effects.{Grown, grows, Kept, Went, unchanged}
@@ -74,8 +74,7 @@ module _ (t : Terms) (l : Link) where
 
   -- An expiry: the timer does not run, or an enquiry waits.
   kind-of-enquiry : (own : Bool) → kind_of true (cond own (ReceiveNotReady (seq l.r) true) (ReceiveReady (seq l.r) true)) ≡ enquiry
-  kind-of-enquiry true = refl
-  kind-of-enquiry false = refl
+  kind-of-enquiry own = grind arith
 
   enquires : (l' : Link) → l'.state ≡ TimerRecovery → l'.s ≡ l.s → l'.r ≡ l.r → l'.rejecting ≡ l.rejecting
       → l'.waiting ≡ cond (has_room t l) (l.waiting ++ command (ready_to_receive true l) ∷ []) l.waiting → Asked l l'

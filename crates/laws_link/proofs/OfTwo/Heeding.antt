@@ -1,5 +1,5 @@
 -- Where T200 runs while the terminal is taken for busy: each word, and each row.
-use Rattle.laws_link.proofs.Vocabulary.{◌≡◌, ℕ, Bool, true, false, cond, IsTrue, List, Option, None, Some, refl, sym, subst, true≢false, Seq, named, Control, Information, ReceiveReady, ReceiveNotReady, Reject, Sabme, Disc, Ui, Ua, Dm, Frmr, Xid, Note, State, TeiAssigned, AwaitingEstablishment, AwaitingRelease, Established, TimerRecovery, LinkTimer, T200, T203, ControlFrame, Terms, Course, Step, ◌then◌, frame_in_4, establish_in_4, frame_in_5, t200_in_5, frame_in_6, t200_in_6, Leads, then_leads, keeping_then, nothing_leads, depending_leads, bit_leads, to_less, HeedsIn, leaves, ErrorCode, number_leads, acknowledge, by_number, clear_flags, enter, no_timer, note, peer_busy_is, re_establish, release_confirm, start, release_in_7_8, acknowledged_by_information_in_7, acknowledged_by_rej_in_7, acknowledged_by_rnr_in_7, acknowledged_in_7, frame_in_7, timer_in_7, acknowledged_in_8, frame_in_8, t200_in_8}
+use Rattle.laws_link.proofs.Vocabulary.{◌≡◌, ℕ, Bool, true, false, cond, IsTrue, List, Option, Some, refl, sym, subst, true≢false, Seq, Control, Sabme, Disc, Ui, Ua, Dm, Frmr, Xid, Note, State, TeiAssigned, AwaitingEstablishment, AwaitingRelease, Established, TimerRecovery, LinkTimer, T200, T203, Terms, Course, Step, ◌then◌, frame_in_4, frame_in_5, t200_in_5, frame_in_6, t200_in_6, Leads, keeping_then, nothing_leads, depending_leads, bit_leads, to_less, HeedsIn, leaves, number_leads, acknowledge, by_number, clear_flags, enter, no_timer, note, peer_busy_is, re_establish, release_confirm, start, release_in_7_8, acknowledged_by_information_in_7, acknowledged_by_rej_in_7, acknowledged_by_rnr_in_7, acknowledged_in_7, frame_in_7, timer_in_7, acknowledged_in_8, frame_in_8, t200_in_8}
 
 -- A claim on the state, on whether the terminal is taken for busy, and on the timer that runs.
 abbrev pub Claim : Type 1
@@ -99,10 +99,6 @@ enter_5_calm = record { leads = λ c h. record { holds = h.holds } }
 pub enter_8_awake : Leads (On awake) (enter TimerRecovery) (On heeding)
 enter_8_awake = record { leads = λ c h. record { holds = h.holds } }
 
--- whatever was claimed
-any : Claim
-any state busy running = Unit {0}
-
 module _ {P : Claim} (t : Terms) where
   pub re_establish_heeds : (x : Note) → Leads (On P) (note x then re_establish t) (On heeding)
   re_establish_heeds x = record { leads = λ c h. record { holds = refl } }
@@ -131,9 +127,6 @@ module _ (t : Terms) where
   in_4 octets (Sabme p) = search (rows, start_then) depth 14 fits 6000
   in_4 octets (Ua true) = search (words, as_4) depth 12 fits 4000
   in_4 octets other = search (words, as_4) depth 12 fits 4000
-
-  pub establishes : Leads (On (at_state TeiAssigned)) (establish_in_4 t) (On heeding)
-  establishes = record { leads = λ c h. record { holds = refl } }
 
   pub releases_4 : Leads (On (at_state TeiAssigned)) (release_confirm t) (On heeding)
   releases_4 = search (words, as_4) depth 12 fits 4000

@@ -15,8 +15,7 @@ calm AwaitingEstablishment busy = busy ≡ false
 calm other busy = Unit {0}
 
 needs : (here : State) (l : Link) → needed_in here l ≡ need here l.peer_busy l.a l.s
-needs TeiAssigned l = refl
-needs other l = refl
+needs here l = grind arith
 
 t203-is-not : Some T203 ≡ Some T200 → ⊥
 t203-is-not e = true≢false (sym (ap (runs T200) e))
@@ -45,8 +44,7 @@ to-timed Established l e = timed-7 l.running l.peer_busy l.a l.s e
 to-timed other l e = e
 
 or-true : (x : Bool) → (x || true) ≡ true
-or-true true = refl
-or-true false = refl
+or-true x = grind arith
 
 busy-needs : (busy : Bool) (a s : ℕ) → IsTrue busy → need Established busy a s ≡ Some T200
 busy-needs true a s h = ap (λ b. cond b (Some T200) (Some T203)) (or-true (not (s == a)))

@@ -1,5 +1,5 @@
 -- An end in state 7 with nothing waiting: what it gives, and, with neither side busy, what it makes of what it receives.
-use Rattle.laws_link.proofs.Vocabulary.{◌≡◌, ℕ, ◌+◌, Bool, true, false, cond, ◌==◌, [], ◌∷◌, ◌++◌, length, Option, None, Some, refl, ap, ◌∙◌, nat_lt, slice_get, unwrap_or, option_to_list, Seq, seq, named, Information, ReceiveReady, Parts, T200, T203, Terms, Link, frame_of, address_at, runs, frame, received, Course, Step, begun, ◌then◌, changed, given_of, End, with_link, with_sent, frame_given, IsReady, ErrorCode, State, acknowledge, by_number, error, pending_is, re_establish, response, start, acknowledged_by_information_in_7, acknowledged_in_7, give_information, may_send_information, send_acknowledgement, send_information, with_one_sent}
+use Rattle.laws_link.proofs.Vocabulary.{arith, ◌≡◌, ℕ, ◌+◌, Bool, true, false, cond, ◌==◌, [], ◌∷◌, ◌++◌, length, Option, None, Some, refl, ap, ◌∙◌, nat_lt, slice_get, unwrap_or, option_to_list, Seq, seq, named, Information, ReceiveReady, Parts, T200, T203, Terms, Link, frame_of, address_at, runs, frame, received, Course, Step, begun, ◌then◌, changed, given_of, End, with_link, with_sent, frame_given, IsReady, ErrorCode, State, acknowledge, by_number, error, pending_is, re_establish, response, start, acknowledged_by_information_in_7, acknowledged_in_7, give_information, may_send_information, send_acknowledgement, send_information, with_one_sent}
 use Rattle.model_link.specs.MultipleFrame
 
 -- with own busy, and the other end taken for busy, as the bits say
@@ -58,8 +58,7 @@ module _ (own busy : Bool) (n : End) where
 
   timed : (a : Bool) → runs T200 n.link.running ≡ a
       → giving (cond a informing (start T200 informing)) ≡ record n { link = record (plain_with own busy n.link) { s = n.link.s + 1; pending = false; running = cond a n.link.running (Some T200) }; way = information_frame n.terms n.link ∷ [] }
-  timed true e = refl
-  timed false e = refl
+  timed a e = grind arith
 
   pub gives-information : may_send_information n.terms (plain_with own busy n.link) ≡ true
       → with_sent (plain_end_with own busy n) ≡ record n { link = with_information_with own busy n.link; way = information_frame n.terms n.link ∷ [] }

@@ -48,8 +48,7 @@ done-up (at_far act) e h same ahead mild =
 
 -- the ends keep their terms
 first-terms : (way : List Parts) (n : End) → (with_first_of way n).terms ≡ n.terms
-first-terms [] n = refl
-first-terms (f ∷ fs) n = refl
+first-terms way n = grind arith
 
 acting-terms : (act : Act) (e : Ends) → ((acting act e).near.terms ≡ e.near.terms) × ((acting act e).far.terms ≡ e.far.terms)
 acting-terms receives e = (first-terms e.far.way e.near, refl)

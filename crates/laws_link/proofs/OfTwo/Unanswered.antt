@@ -1,6 +1,7 @@
 -- An answer that finds no room is told as lost.
-use Rattle.laws_link.proofs.Vocabulary.{◌≡◌, ℕ, ◌+◌, ◌≤◌, Bool, true, false, cond, IsTrue, List, length, is_some, sym, subst, true≢false, arith, nat_lt, le-ltb, Seq, Control, Information, ReceiveReady, ReceiveNotReady, Reject, Sabme, Disc, Parts, State, TeiAssigned, Established, TimerRecovery, T200, T203, Terms, Link, is_multiple_frame, frame, received, Course, begun, Step, ◌then◌, Leads, keeping_then, nothing_leads, depending_leads, bit_leads, IsPollWith, asked_of, leaves, ErrorCode, both_ways, number_leads, acknowledge, answer, by_number, has_room, peer_busy_is, re_establish, without_flags, acknowledged_by_information_in_7, acknowledged_by_rej_in_7, acknowledged_by_rnr_in_7, acknowledged_in_7, frame_in_7, acknowledged_in_8, frame_in_8, frame_in, frame_step, told}
+use Rattle.laws_link.proofs.Vocabulary.{◌≡◌, ℕ, ◌+◌, ◌≤◌, Bool, true, false, cond, IsTrue, List, length, is_some, sym, subst, true≢false, arith, nat_lt, le-ltb, Seq, Control, Sabme, Disc, Parts, State, TeiAssigned, Established, TimerRecovery, Terms, Link, is_multiple_frame, frame, received, Course, begun, Step, ◌then◌, Leads, keeping_then, nothing_leads, depending_leads, bit_leads, IsPollWith, IsValidAt, asked_of, leaves, ErrorCode, both_ways, number_leads, answer, by_number, has_room, peer_busy_is, re_establish, without_flags, frame_in, frame_step, told}
 use Rattle.model_link.specs.MultipleFrame
+use Rattle.laws_link.proofs.OfTwo.Answering.{Polled, polled-in}
 
 -- What is counted as lost stays counted.
 abbrev Lost : Course → Type 0
@@ -28,56 +29,33 @@ module _ (t : Terms) (l : Link) (full : t.control ≤ length l.waiting) where
   contents : (ns : Seq) (octets : List ℕ) → Lost (MultipleFrame.contents_in_7_8 t ns true octets (begun l))
   contents ns octets = both_ways Lost l.own_busy _ _ put (both_ways Lost (MultipleFrame.is_next ns l) _ _ put (both_ways Lost l.rejecting _ _ put put))
 
-  information : (ns nr : Seq) (octets : List ℕ) (f : ℕ → Step) → length octets ≤ t.n201 → ((n : ℕ) → Leads Lost (f n) Lost)
+  information : (ns nr : Seq) (octets : List ℕ) (f : ℕ → Step) → length octets ≤ t.n201 → ((n : ℕ) → Leads Lost (f n) Lost) → IsValidAt l nr
       → Lost (MultipleFrame.information_in_7_8 t ns nr true octets f (begun l))
-  information ns nr octets f size x =
+  information ns nr octets f size x valid =
       subst (λ b. Lost (cond b (MultipleFrame.failed t ErrorCode.O (begun l)) ((MultipleFrame.contents_in_7_8 t ns true octets then by_number t nr f) (begun l))))
       (sym (le-ltb t.n201 (length octets) size))
       ((number_lost t nr x).leads (MultipleFrame.contents_in_7_8 t ns true octets (begun l)) (contents ns octets))
 
-  supervisory : (b : Bool) (nr : Seq) (f : ℕ → Step) → ((n : ℕ) → Leads Lost (f n) Lost)
+  supervisory : (b : Bool) (nr : Seq) (f : ℕ → Step) → ((n : ℕ) → Leads Lost (f n) Lost) → IsValidAt l nr
       → Lost ((peer_busy_is b then answer t then by_number t nr f) (begun l))
-  supervisory b nr f x = (number_lost t nr x).leads (answer t (peer_busy_is b (begun l))) put
+  supervisory b nr f x valid = (number_lost t nr x).leads (answer t (peer_busy_is b (begun l))) put
 
-  in-7 : (command : Bool) (octets : List ℕ) (control : Control) → IsPollWith t l command octets control
-      → Lost (frame_in_7 t command octets control (begun l))
-  in-7 command octets (Information ns nr true) h = information ns nr octets acknowledged_by_information_in_7 h.1 (λ n. search words depth 12 fits 4000)
-  in-7 command octets (Information ns nr false) h = absurd (true≢false (sym h.0))
-  in-7 true octets (ReceiveReady nr true) h = supervisory false nr acknowledged_in_7 (λ n. search words depth 12 fits 4000)
-  in-7 true octets (ReceiveReady nr false) h = absurd (true≢false (sym h.1))
-  in-7 false octets (ReceiveReady nr p) h = absurd (true≢false (sym h.0))
-  in-7 true octets (ReceiveNotReady nr true) h = supervisory true nr acknowledged_by_rnr_in_7 (λ n. search words depth 12 fits 4000)
-  in-7 true octets (ReceiveNotReady nr false) h = absurd (true≢false (sym h.1))
-  in-7 false octets (ReceiveNotReady nr p) h = absurd (true≢false (sym h.0))
-  in-7 true octets (Reject nr true) h = supervisory false nr acknowledged_by_rej_in_7 (λ n. search words depth 12 fits 4000)
-  in-7 true octets (Reject nr false) h = absurd (true≢false (sym h.1))
-  in-7 false octets (Reject nr p) h = absurd (true≢false (sym h.0))
-  in-7 command octets other h = absurd h
-
-  in-8 : (command : Bool) (octets : List ℕ) (control : Control) → IsPollWith t l command octets control
-      → Lost (frame_in_8 t command octets control (begun l))
-  in-8 command octets (Information ns nr true) h = information ns nr octets acknowledge h.1 (λ n. leaves (λ c h. h))
-  in-8 command octets (Information ns nr false) h = absurd (true≢false (sym h.0))
-  in-8 true octets (ReceiveReady nr true) h = supervisory false nr (acknowledged_in_8 T203 false) (λ n. search words depth 12 fits 4000)
-  in-8 true octets (ReceiveReady nr false) h = absurd (true≢false (sym h.1))
-  in-8 false octets (ReceiveReady nr p) h = absurd (true≢false (sym h.0))
-  in-8 true octets (ReceiveNotReady nr true) h = supervisory true nr (acknowledged_in_8 T200 false) (λ n. search words depth 12 fits 4000)
-  in-8 true octets (ReceiveNotReady nr false) h = absurd (true≢false (sym h.1))
-  in-8 false octets (ReceiveNotReady nr p) h = absurd (true≢false (sym h.0))
-  in-8 true octets (Reject nr true) h = supervisory false nr (acknowledged_in_8 T203 false) (λ n. search words depth 12 fits 4000)
-  in-8 true octets (Reject nr false) h = absurd (true≢false (sym h.1))
-  in-8 false octets (Reject nr p) h = absurd (true≢false (sym h.0))
-  in-8 command octets other h = absurd h
-
-  frames-in : (here : State) → IsTrue (is_multiple_frame here) → (command : Bool) (octets : List ℕ) (control : Control)
-      → IsPollWith t l command octets control → Lost (frame_in here t command octets control (begun l))
-  frames-in Established up command octets control h = in-7 command octets control h
-  frames-in TimerRecovery up command octets control h = in-8 command octets control h
-  frames-in other up command octets control h = absurd (true≢false (sym up))
+  loses : Polled t l Lost (λ f. (n : ℕ) → Leads Lost (f n) Lost)
+  loses = record {
+    informs = information;
+    supervises = supervisory;
+    informed = λ n. search words depth 12 fits 4000;
+    informed-8 = λ n. leaves (λ c h. h);
+    ready = λ n. search words depth 12 fits 4000;
+    not-ready = λ n. search words depth 12 fits 4000;
+    rejected = λ n. search words depth 12 fits 4000;
+    ready-8 = λ n. search words depth 12 fits 4000;
+    not-ready-8 = λ n. search words depth 12 fits 4000;
+  }
 
   pub poll-lost : (f : Parts) → IsTrue (is_multiple_frame l.state) → IsPollWith t l f.address.command f.info f.control
       → 1 ≤ (told t (received (frame f)) l).lost
-  poll-lost f up h = frames-in l.state up f.address.command f.info f.control h
+  poll-lost f up h = polled-in _ _ loses l.state up f.address.command f.info f.control h
 
   -- SABME and DISC
   sabme-in : (here : State) (command : Bool) (octets : List ℕ) (p : Bool) → Lost (frame_in here t command octets (Sabme p) (begun l))

@@ -5,7 +5,7 @@ ghost use Rattle.lapd_script.specs.Job.{job, seen, limits_of, job_or_none};
 ghost use Rattle.lapd_script.specs.Words.{texts};
 
 use crate::jobs::{Job, Limits};
-use crate::number::number;
+use crate::values::number;
 
 /// What these words ask for, and `None` where they ask for nothing that there is.
 pub fn job<'a>(words: &[&'a str]) -> Option<Job<'a>>

@@ -1,6 +1,6 @@
 //! What can be wrong with a line of a script.
 
-ghost use Rattle.std.specs.Prelude.{◌≡◌};
+ghost use Rattle.std.specs.Prelude.{◌≡◌, Some};
 ghost use Rattle.lapd_script.specs.Kinds.{kind_words};
 
 use std::error::Error;
@@ -62,8 +62,6 @@ impl FaultKind {
 }
 
 impl fmt::Display for FaultKind {
-    ghost use Rattle.std.specs.Prelude.{Some};
-
     ghost output = { λ kind. Some (kind_words kind) };
 
     fn fmt<W: fmt::Write>(&self, f: &mut fmt::Formatter<W>) -> fmt::Result {

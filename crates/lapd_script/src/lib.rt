@@ -6,7 +6,7 @@
 //! - `command`: what a line says.
 //! - `word`: the first words.
 //! - `words`: the words of a line, and how many a line takes.
-//! - `number`, `hex_word`, `cause_word`: words that stand for numbers, for octets and for causes.
+//! - `values`: words that stand for numbers, for octets and for causes.
 //! - `read`: reads a line.
 //! - `lines`: how the lines of a script are read, in pieces.
 //! - `faults`: why a script is not played to its end.
@@ -20,17 +20,15 @@
 #![tactic(auto)]
 
 mod arguments;
-mod cause_word;
 mod command;
 mod fault_lines;
 mod faults;
-mod hex_word;
 mod jobs;
 mod kind;
 mod lines;
-mod number;
 mod read;
 mod shown;
+mod values;
 mod word;
 mod words;
 
@@ -38,9 +36,9 @@ pub use arguments::job;
 pub use command::{Asked, CardKind, Command};
 pub use fault_lines::{refuse, refuse_digits, refuse_words};
 pub use faults::{LineFault, PlayFault};
-pub use hex_word::octets;
 pub use jobs::{Job, Limits};
 pub use kind::FaultKind;
 pub use lines::ScriptLines;
 pub use read::read_line;
 pub use shown::{FrameFault, show_frame};
+pub use values::octets;

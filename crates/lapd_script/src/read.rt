@@ -6,11 +6,9 @@ ghost use Rattle.lapd_script.specs.Meaning.{rx, into, meant_by, IsCounted};
 ghost use Rattle.lapd_script.specs.Read.{read, read_words, read_as, lengths, card_numbers, for_user, is_user, nine_numbers, ten_numbers, three_numbers};
 ghost use Rattle.lapd_script.specs.declared.word.Word.TheVariants.{Rx, In, Failed, Pull, Ask};
 
-use crate::cause_word::cause;
 use crate::command::{Asked, Command};
-use crate::hex_word::octets;
 use crate::kind::FaultKind;
-use crate::number::{number, octet, short};
+use crate::values::{cause, number, octet, octets, short};
 use crate::word::Word;
 use crate::words::{none, one, three, two, words_of};
 use lapd_frame::Side;

@@ -9,7 +9,7 @@ ghost use Rattle.lapd_script.specs.FaultLines.{frame_line};
 ghost use Rattle.lapd_script.specs.declared.shown.FrameFault.TheVariants as frame;
 ghost use Rattle.lapd_script.specs.Shown.{IsUnshown, ShowsFrame};
 
-use crate::hex_word::octets;
+use crate::values::octets;
 use lapd_frame::{ReadFault, Side, read};
 use lapd_transcript::{
     LONGEST_FRAME, Target, WriteFailed, on_line, write_line_octets, write_shown,

@@ -29,34 +29,21 @@ impl Word {
     pub(crate) fn named(name: &[u8]) -> Option<Word>
         ensures { result ≡ word_named name.now }
     {
-        if name == b"card".as_slice() {
-            Some(Word::Card(CardKind::Octets))
-        } else if name == b"frames".as_slice() {
-            Some(Word::Card(CardKind::Frames))
-        } else if name == b"rx".as_slice() {
-            Some(Word::Rx)
-        } else if name == b"in".as_slice() {
-            Some(Word::In)
-        } else if name == b"failed".as_slice() {
-            Some(Word::Failed)
-        } else if name == b"next".as_slice() {
-            Some(Word::Next)
-        } else if name == b"down".as_slice() {
-            Some(Word::Down)
-        } else if name == b"pull".as_slice() {
-            Some(Word::Pull)
-        } else if name == b"wait".as_slice() {
-            Some(Word::Wait)
-        } else if name == b"timers".as_slice() {
-            Some(Word::Timers)
-        } else if name == b"stored".as_slice() {
-            Some(Word::Stored)
-        } else if name == b"counters".as_slice() {
-            Some(Word::Counters(CounterGroup::Line))
-        } else if name == b"messages".as_slice() {
-            Some(Word::Counters(CounterGroup::Messages))
-        } else {
-            Asked::named(name).map(Word::Ask)
+        match name {
+            _ if name == b"card".as_slice() => Some(Word::Card(CardKind::Octets)),
+            _ if name == b"frames".as_slice() => Some(Word::Card(CardKind::Frames)),
+            _ if name == b"rx".as_slice() => Some(Word::Rx),
+            _ if name == b"in".as_slice() => Some(Word::In),
+            _ if name == b"failed".as_slice() => Some(Word::Failed),
+            _ if name == b"next".as_slice() => Some(Word::Next),
+            _ if name == b"down".as_slice() => Some(Word::Down),
+            _ if name == b"pull".as_slice() => Some(Word::Pull),
+            _ if name == b"wait".as_slice() => Some(Word::Wait),
+            _ if name == b"timers".as_slice() => Some(Word::Timers),
+            _ if name == b"stored".as_slice() => Some(Word::Stored),
+            _ if name == b"counters".as_slice() => Some(Word::Counters(CounterGroup::Line)),
+            _ if name == b"messages".as_slice() => Some(Word::Counters(CounterGroup::Messages)),
+            _ => Asked::named(name).map(Word::Ask),
         }
     }
 }
@@ -66,42 +53,25 @@ impl Asked {
     fn named(name: &[u8]) -> Option<Asked>
         ensures { result ≡ asked_named name.now }
     {
-        if name == b"assign".as_slice() {
-            Some(Asked::Assign)
-        } else if name == b"remove".as_slice() {
-            Some(Asked::Remove)
-        } else if name == b"check".as_slice() {
-            Some(Asked::Check)
-        } else if name == b"establish".as_slice() {
-            Some(Asked::Establish(Service::Call))
-        } else if name == b"establish16".as_slice() {
-            Some(Asked::Establish(Service::Packet))
-        } else if name == b"release".as_slice() {
-            Some(Asked::Release(Service::Call))
-        } else if name == b"release16".as_slice() {
-            Some(Asked::Release(Service::Packet))
-        } else if name == b"busy".as_slice() {
-            Some(Asked::SetBusy(Service::Call))
-        } else if name == b"busy16".as_slice() {
-            Some(Asked::SetBusy(Service::Packet))
-        } else if name == b"ready".as_slice() {
-            Some(Asked::ClearBusy(Service::Call))
-        } else if name == b"ready16".as_slice() {
-            Some(Asked::ClearBusy(Service::Packet))
-        } else if name == b"deactivate".as_slice() {
-            Some(Asked::Deactivate(Service::Call))
-        } else if name == b"deactivate16".as_slice() {
-            Some(Asked::Deactivate(Service::Packet))
-        } else if name == b"data".as_slice() {
-            Some(Asked::Data(Service::Call))
-        } else if name == b"data16".as_slice() {
-            Some(Asked::Data(Service::Packet))
-        } else if name == b"unit".as_slice() {
-            Some(Asked::Unit(Service::Call))
-        } else if name == b"unit16".as_slice() {
-            Some(Asked::Unit(Service::Packet))
-        } else {
-            None
+        match name {
+            _ if name == b"assign".as_slice() => Some(Asked::Assign),
+            _ if name == b"remove".as_slice() => Some(Asked::Remove),
+            _ if name == b"check".as_slice() => Some(Asked::Check),
+            _ if name == b"establish".as_slice() => Some(Asked::Establish(Service::Call)),
+            _ if name == b"establish16".as_slice() => Some(Asked::Establish(Service::Packet)),
+            _ if name == b"release".as_slice() => Some(Asked::Release(Service::Call)),
+            _ if name == b"release16".as_slice() => Some(Asked::Release(Service::Packet)),
+            _ if name == b"busy".as_slice() => Some(Asked::SetBusy(Service::Call)),
+            _ if name == b"busy16".as_slice() => Some(Asked::SetBusy(Service::Packet)),
+            _ if name == b"ready".as_slice() => Some(Asked::ClearBusy(Service::Call)),
+            _ if name == b"ready16".as_slice() => Some(Asked::ClearBusy(Service::Packet)),
+            _ if name == b"deactivate".as_slice() => Some(Asked::Deactivate(Service::Call)),
+            _ if name == b"deactivate16".as_slice() => Some(Asked::Deactivate(Service::Packet)),
+            _ if name == b"data".as_slice() => Some(Asked::Data(Service::Call)),
+            _ if name == b"data16".as_slice() => Some(Asked::Data(Service::Packet)),
+            _ if name == b"unit".as_slice() => Some(Asked::Unit(Service::Call)),
+            _ if name == b"unit16".as_slice() => Some(Asked::Unit(Service::Packet)),
+            _ => None,
         }
     }
 

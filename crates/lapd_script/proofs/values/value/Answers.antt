@@ -1,7 +1,7 @@
 -- Hand-written answers for `value`.
 use Rattle.lapd_script.proofs.Vocabulary.{sym, subst, List, ℕ, ParsesUnsigned}
 use Rattle.lapd_script.proofs.NumberLemmas.{parsed, digits_text}
-use Rattle.lapd_script.proofs.number.value.Goals as goal
+use Rattle.lapd_script.proofs.values.value.Goals as goal
 
 pub returns-in_default : goal.returns-in_default
 returns-in_default c = absurd (c.in_default.ensures.cases.0 (digits_text c.args.word.now (sym c.if-not-are_digits.ensures)))

@@ -48,15 +48,16 @@ pub fn all_is_told_in_beats()
 {}
 
 /// What is delivered is in order, though octets are damaged. A line of a card for octets of one side faces a line of
-/// one of the other, and the links of a service and TEI are in step there, as [`crate::delivered_in_order`] has
-/// them, to whoever watches the cards of frames inside, to which what happened is what their octets meant. Then anything happens at both: requests of any kind, expiries, pulls, octets of any value that come, and any
-/// events at the other lines. What comes need not be what the other's pulls gave: octets are changed, lost or added
-/// anywhere, and other terminals may be heard. Of all that comes one thing alone is assumed: a frame of the link that
-/// is heard whole, its check right, was pulled whole; it is one of those that the other's pulls began, behind all that
-/// were heard before it. (That is what the check is for, Q.921 clause 2.7; where errors make a frame of which it shows
-/// nothing, that frame is told, `specs/WorkedDamaged`.) As long as the establishment is neither ended nor renewed at an
-/// end, as said there, the contents it is told of are a beginning of those that the other's link kept for it at first
-/// and of those that the other's layer 3 was granted to send since: in order, each once, and nothing else.
+/// one of the other, and the links of a service and TEI are in step there, as [`crate::delivered_in_order`] has them,
+/// to whoever watches the cards of frames inside, to which what happened is what their octets meant. Then anything
+/// happens at both: requests of any kind, expiries, pulls, octets of any value that come, and any events at the other
+/// lines. What comes need not be what the other's pulls gave: octets are changed, lost or added anywhere, and other
+/// terminals may be heard. Of all that comes one thing alone is assumed: a frame of the link that is heard whole, its
+/// check right, was pulled whole; it is one of those that the other's pulls began, behind all that were heard before
+/// it. (That is what the check is for, Q.921 clause 2.7; where errors make a frame of which it shows nothing, that
+/// frame is told, `specs/WorkedDamaged`.) As long as the establishment is neither ended nor renewed at an end, as said
+/// there, the contents it is told of are a beginning of those that the other's link kept for it at first and of those
+/// that the other's layer 3 was granted to send since: in order, each once, and nothing else.
 pub fn delivered_though_damaged()
     ensures { DeliveredThoughDamaged }
 {}

@@ -1,10 +1,12 @@
-"""Copies of crates for tests/wrong-machines: of those that define machines and state laws, the definitions alone."""
+"""Copies of crates for tests/wrong-machines: of those that define machines and state laws, the definitions alone; of
+cards and of laws those on which rows stand."""
 import os
 import re
 import shutil
 
-# The crates that define machines and state laws, and what a copy of one doesn't have.
+# The crates that define machines and state laws, those of cards and of laws, and what a copy of one doesn't have.
 MACHINES = re.compile(r"^(model|laws)_|^lapd_tei$")
+LAWS = re.compile(r"^laws_|^model_card$")
 DROPPED = "proofs", "out", "must-fail", "wrong-bodies.txt"
 # A worked value: its statement, what it unfolds, and its proof by computing, alone or field by field.
 WORKED = re.compile(
@@ -13,6 +15,11 @@ WORKED = re.compile(
 )
 # What a file of worked values has beside them: imports and definitions.
 DEFINES = re.compile(r"(?:--.*\n)*(?:pub )?(?:use|abbrev|unfoldable) ")
+# An import of definitions: the crate, the way to a module or to a word of it, and the list of its words, if any. The
+# words that a line brings by a list, or by another name. And a line that hands words on.
+IMPORT = re.compile(r"\buse Rattle\.(\w+)\.specs\.([\w.]+)(\{[^}]*\})?")
+WORDS = re.compile(r"[^\s,{}]+(?=[,}])|(?<= as )\w+$", re.MULTILINE)
+HANDS_ON = re.compile(r"(?:unfoldable )?pub use ")
 # A plain type, and what it is named.
 TYPE = re.compile(r"^#\[derive\(Clone, Copy.*\npub(?:\(crate\))? (?:struct|enum) .*\{\n(?:.+\n|\n)*?\}\n", re.MULTILINE)
 NAME = re.compile(r"^pub (?:struct|enum) (\w+)", re.MULTILINE)
@@ -105,3 +112,74 @@ def copy(crates, name, folder):
         os.rename(f"{at}/out", f"{part}/out")
     shutil.rmtree(at, ignore_errors=True)
     os.rename(part, at)
+
+
+def narrowed(text, words=frozenset()):
+    """Returns a module without the imports of which it uses no word, and without what it hands on but these words."""
+    lines = text.splitlines(True)
+    body = "".join(it for it in lines if not it.startswith(("--", "use ")) and not HANDS_ON.match(it))
+
+    def is_kept(line):
+        found = WORDS.findall(line)
+        if HANDS_ON.match(line):
+            return "*" in words or not words.isdisjoint(found)
+        # (operators are words with gaps)
+        return any("◌" in it or re.search(rf"(?<![\w-]){re.escape(it)}(?![\w-])", body) for it in found)
+
+    return "".join(it for it in lines if not re.match(r"(unfoldable )?(pub )?use ", it) or is_kept(it))
+
+
+def imported(crates, text):
+    """Returns the modules of crates that a text imports, by crate and path, each with its words, or '*' for all."""
+    found = {}
+    for crate, way, words in IMPORT.findall(text):
+        path = way.rstrip(".").split(".")
+        while path and not os.path.isfile(f"{crates}/{crate}/specs/{'/'.join(path)}.antt"):
+            path.pop()
+        if path:
+            found.setdefault((crate, "/".join(path)), set()).update(re.findall(r"(?:[{]|, )([^\s,}]+)", words) or "*")
+    return found
+
+
+def stood_on(crates, text):
+    """Returns the modules of crates on which a text stands, as `imported`."""
+    found, left = {}, [text]
+    while left:
+        for (crate, path), words in imported(crates, left.pop()).items():
+            known = found.setdefault((crate, path), set())
+            if not words <= known:
+                known |= words
+                left.append(narrowed(read(f"{crates}/{crate}/specs/{path}.antt"), known))
+    return found
+
+
+def keep(crates, names, text):
+    """Leaves of the crates of cards and of laws the modules on which a text stands."""
+    found = stood_on(crates, text)
+    for name in filter(LAWS.search, names):
+        specs, kept = f"{crates}/{name}/specs", {path: words for (crate, path), words in found.items() if crate == name}
+        folders = {"Lib", *(os.path.dirname(it) for it in kept)}
+        for file in files_in(specs):
+            path = file.removesuffix(".antt")
+            if path in kept:
+                write(f"{specs}/{file}", narrowed(read(f"{specs}/{file}"), kept[path]))
+            elif path in folders:
+                below, left = "" if path == "Lib" else f"{path}/", {*kept, *folders}
+                lines = read(f"{specs}/{file}").splitlines(True)
+                there = [it for it in lines if not it.startswith("pub mod ") or below + it.split()[-1] in left]
+                write(f"{specs}/{file}", "".join(there))
+            else:
+                os.remove(f"{specs}/{file}")
+
+
+def take_in(crates, names, folder):
+    """Puts the definitions of crates into one that stands on them, as modules of their names: it is checked at once."""
+    for name in names:
+        for file in files_in(f"{crates}/{name}/specs"):
+            to = f"{name}.antt" if file == "Lib.antt" else f"{name}/{file}"
+            write(f"{folder}/specs/{to}", read(f"{crates}/{name}/specs/{file}"))
+    lib, way = f"{folder}/specs/Lib.antt", re.compile(rf"\bRattle\.({'|'.join(names)})\.specs\.")
+    write(lib, "".join(f"pub mod {it}\n" for it in names) + read(lib))
+    for file in files_in(folder):
+        text = read(f"{folder}/{file}")
+        write(f"{folder}/{file}", way.sub(rf"Rattle.{os.path.basename(folder)}.specs.\1.", text))

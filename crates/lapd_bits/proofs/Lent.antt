@@ -1,8 +1,7 @@
 -- What a deframer lends until its next octet.
-use Rattle.lapd_bits.proofs.Vocabulary.{◌≡◌, ℕ, List, [], ◌∷◌, ◌++◌, Option, length, reverse, option_to_list, refl, sym, ap, subst, ◌∙◌, same_from_push, length-take-le, bits, Event, heard_until, heard_in, room_for, FitsIn, event_in, without_octets, with_bits, HoldsPast, Ended}
+use Rattle.lapd_bits.proofs.Vocabulary.{◌≡◌, ℕ, List, [], ◌∷◌, ◌++◌, Option, length, reverse, option_to_list, sym, ap, subst, ◌∙◌, same_from_push, bits, Event, heard_until, heard_in, room_for, with_bits, HoldsPast}
 use Rattle.lapd_bits.specs.Deframer.{Stands, latest_of}
 use Rattle.lapd_bits.specs.declared.deframer.Deframer.{Deframer}
-use Rattle.lapd_bits.specs.declared.ended.Ended.TheVariants as ended
 use Rattle.lapd_bits.proofs.BitSteps.{with_bits-octet}
 
 -- what the bits of an octet bring, it brings
@@ -26,10 +25,3 @@ Stands-more n201 octet room past new is same holds told =
       latest = λ front last e.
           heard ∙ ap (λ p. heard_in n201 p ++ option_to_list (latest_of new)) (same_from_push past front octet last e).0;
     }
-
--- what has ended, without its octets
-pub told_is : (octets : List ℕ) (e : Ended) → FitsIn (length octets) e → e ≡ without_octets (event_in octets e)
-told_is octets ended.Nothing fits = refl
-told_is octets (ended.Dropped cause) fits = refl
-told_is octets (ended.Frame len) fits = ap ended.Frame (sym (length-take-le len octets fits))
-told_is octets ended.Overlong fits = refl

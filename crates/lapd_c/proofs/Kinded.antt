@@ -1,5 +1,5 @@
 -- A card of either kind.
-use Rattle.lapd_c.proofs.Vocabulary.{◌≡◌, ℕ, Bool, true, false, cond, List, drop, Option, Result, Ok, Err, IfOk, IfErr, sym, ap, refl, subst, ◌∙◌, None, option_map, option_to_list, Config, IsInRange, Timer, Refusal, refusal, Request, Report, NextFrame, written, gave_in, next_in, Card, line_at, Event, at, moment_counted, moment_of, all_counted, Counters, Store, counters_in, AnyCard, Octets, Frames, OctetCard, Machine, with_ports, alone, card_in, AnyStands, AnyLeads, CardStands, FrameCardStands, line_count, shelf_of, comes, goes, next_at, report_told}
+use Rattle.lapd_c.proofs.Vocabulary.{◌≡◌, ℕ, Bool, true, false, cond, List, drop, Option, Result, Ok, Err, IfOk, IfErr, sym, ap, refl, subst, ◌∙◌, None, option_map, option_to_list, Config, IsInRange, Timer, Refusal, refusal, Request, Report, NextFrame, written, gave_in, next_in, Card, line_at, Event, at, moment_counted, moment_of, all_counted, Counters, Store, counters_in, AnyCard, Octets, Frames, OctetCard, Machine, with_ports, alone, card_in, AnyStands, AnyLeads, CardStands, FrameCardStands, shelf_of, comes, goes, next_at, report_told}
 use Rattle.std.proofs.Common.{Some, IfSome, length, take, ◌≤◌}
 use Rattle.std.proofs.Math.Nat.{min-eq_left}
 use Rattle.std.proofs.lemmas.List.{length-take}
@@ -48,11 +48,6 @@ by_frames P {card} {c} is h m s = go m (subst (λ card. AnyStands card m) is s)
 pub ranges_in : (card : AnyCard) (m : Machine) → AnyStands card m → IsInRange (card_in m).config
 ranges_in (Octets c) m s = by_octets (λ m. IsInRange (card_in m).config) refl (λ m s. s.reached.config) m s
 ranges_in (Frames c) m s = by_frames (λ m. IsInRange (card_in m).config) refl (λ m s. s.reached.config) m s
-
--- it has the machine's lines
-pub lines_of : (card : AnyCard) (m : Machine) → AnyStands card m → line_count card ≡ (card_in m).config.lines
-lines_of (Octets c) m s = by_octets (λ m. line_count (Octets c) ≡ (card_in m).config.lines) refl (λ m s. ap (λ (config : Config). config.lines) (sym s.frames.config)) m s
-lines_of (Frames c) m s = by_frames (λ m. line_count (Frames c) ≡ (card_in m).config.lines) refl (λ m s. ap (λ (config : Config). config.lines) (sym s.config)) m s
 
 -- ---- an event at the card of frames
 

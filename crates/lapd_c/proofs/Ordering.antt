@@ -12,7 +12,7 @@ use Rattle.lapd_c.specs.declared.plain.timers.PlainOrder.{PlainOrder}
 use Rattle.lapd_c.specs.declared.plain.timers.PlainTimer.{PlainTimer}
 use Rattle.lapd_c.specs.Clocks as one
 use Rattle.lapd_c.specs.Clocks.{latest, order_status}
-use Rattle.lapd_c.specs.Orders.{wrong_among, orders_status, after_all}
+use Rattle.lapd_c.specs.Orders.{orders_status, after_all}
 use Rattle.lapd_c.specs.Services.{or_wrong_service, service_in}
 use Rattle.lapd_c.specs.Statuses.{ok, wrong_time, no_place}
 use Rattle.lapd_c.specs.Timers.{with_tei, link_in, timer_of_link, timer_in, order_of_timer, order_in}
@@ -52,20 +52,9 @@ wrong_order_in p =
     wrong_by (p.order == 1) _ _ (wrong_order_of Start (timer_in p.timer) (wrong_timer_in p.timer))
     (wrong_by (p.order == 2) _ _ (wrong_order_of Stop (timer_in p.timer) (wrong_timer_in p.timer)) refl)
 
--- No order: the moment alone can be wrong.
-none_by : (late : Bool) → cond late wrong_time ok ≡ cond (not (cond late wrong_time ok == ok)) (cond late wrong_time ok) ok
-none_by true = refl
-none_by false = refl
-
-pub none_status : (c : Timers) (line now : ℕ) → wrong_among [] now ≡ orders_status c line [] now
-none_status c line now = none_by (nat_lt latest now)
-
 same_by : {A : Type 0} (b : Bool) (x : A) → x ≡ cond b x x
 same_by true x = refl
 same_by false x = refl
-
-pub none_after : (c : Timers) (line now : ℕ) → c ≡ after_all c line [] now
-none_after c line now = same_by (wrong_among [] now == ok) c
 
 -- One order.
 answered : ℕ → ℕ → ℕ → ℕ

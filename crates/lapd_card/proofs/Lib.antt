@@ -15,4 +15,3 @@ pub mod OctetsBegin
 pub mod OctetHeadline
 pub mod OctetAmounts
 pub mod OctetsTaken
-pub mod Keeping

@@ -43,9 +43,6 @@ module _ (ls : Lengths) (places k : ℕ) (firsts : List ℕ) (lines : List Line)
   own : IsLineKept places u
   own = All-at (IsLineKept places) lines k u within at kept.each
 
-  pub is_first : k < length firsts
-  is_first = omega (arith, within, ap length kept.at_hand, length-firsts lines)
-
   pub each_once : IsEachOnce u.items
   each_once = line-once lines k u within at kept.sound.one_each
 

@@ -1,5 +1,5 @@
 -- Lists in an order: what `put_in_order` and an insertion sort do to them.
-use Rattle.lapd_clock.proofs.Vocabulary.{◌++◌, ◌≡◌, ℕ, suc, ◌+◌, Bool, true, false, cond, not, List, [], ◌∷◌, length, filter, count_by, refl, sym, ap, ◌∙◌, arith, subst, false≢true, sum_by-cons, sum_by-insert, IsStrictWeakOrder, AllByRecursion, prefix_len, insert, position_or_len, sum_by, put_in_order, IsInOrder, recursion_from_All, All-from_recursion, length-insert, prefix_len-le-length}
+use Rattle.lapd_clock.proofs.Vocabulary.{◌++◌, ◌≡◌, ℕ, suc, ◌+◌, Bool, true, false, cond, not, List, [], ◌∷◌, filter, count_by, refl, sym, ap, ◌∙◌, arith, subst, false≢true, sum_by-cons, sum_by-insert, IsStrictWeakOrder, AllByRecursion, prefix_len, insert, position_or_len, sum_by, put_in_order, IsInOrder, recursion_from_All, All-from_recursion}
 use Rattle.std.proofs.lemmas.List.Elements as lists
 
 -- a count over one more element
@@ -70,9 +70,6 @@ module _ {X : Type 0} (before : X → X → Bool) where
   -- and to a count, and to the length
   pub count_by-put_in_order : (p : X → Bool) (x : X) (ys : List X) → count_by p (put_in_order before x ys) ≡ cond (p x) 1 0 + count_by p ys
   count_by-put_in_order p x ys = omega (arith, sum_by-put_in_order (λ y. cond (p y) 1 0) x ys)
-
-  pub length-put_in_order : (x : X) (ys : List X) → length (put_in_order before x ys) ≡ length ys + 1
-  length-put_in_order x ys = ap length (sym (insert-place x ys)) ∙ length-insert ys _ x (prefix_len-le-length (λ y. not (not (before y x))) ys)
 
   module _ (order : IsStrictWeakOrder before) where
     -- what does not come before y does not come before an x that y does not come before

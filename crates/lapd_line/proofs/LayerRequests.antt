@@ -1,5 +1,5 @@
 -- Requests, and why they are refused.
-use Rattle.lapd_line.proofs.Vocabulary.{◌≡◌, ℕ, ◌+◌, ◌||◌, Bool, true, false, not, ◌≤◌, nat_lt, List, [], ◌∷◌, length, Option, Some, None, refl, sym, ap, subst, ◌∙◌, cond, arith, option_map_or, ltb-false, none-some, prefix_len, list_any, Refusal, BadTei, NoLink, WrongState, TooLong, QueueFull, PoolFull, WrongSide, Service, serves, refusal_for_room, Terms, Places, has, is_on, place_of, IsAt, is_on-at, place_of-is, Config, Line, has_tei, link_of, link_in, place_in, terms, link_number, with_link, refusal, Establish, Release, Data, SetBusy, ClearBusy, Assign, Remove, Check, Owned, Store, Link, told_with, at_link, of_aim, told_of_link, at_requested, Marks, LinkLayer, BareReport, Stands, Standing, Serves, Sets, TellsOf, HasTerms, Refuses, machine_at, told_in, TeiRequest, event_of, link_refusal, management_refusal, may_ask, Deactivate}
+use Rattle.lapd_line.proofs.Vocabulary.{◌≡◌, ℕ, ◌+◌, ◌||◌, Bool, true, false, not, ◌≤◌, nat_lt, List, [], ◌∷◌, length, Option, Some, None, refl, sym, ap, subst, ◌∙◌, cond, arith, option_map_or, ltb-false, none-some, prefix_len, list_any, Refusal, BadTei, NoLink, WrongState, TooLong, QueueFull, PoolFull, Service, serves, refusal_for_room, Terms, Places, has, is_on, place_of, IsAt, is_on-at, place_of-is, Config, Line, has_tei, link_of, link_in, place_in, terms, link_number, with_link, refusal, Establish, Release, Data, SetBusy, ClearBusy, Assign, Remove, Check, Owned, Store, Link, told_with, at_link, of_aim, told_of_link, at_requested, Marks, LinkLayer, BareReport, Stands, Standing, Serves, Sets, TellsOf, HasTerms, Refuses, machine_at, told_in, link_refusal, management_refusal, Deactivate}
 use Rattle.model_link.specs.Events as link
 use Rattle.model_link.specs.Link as machine
 use Rattle.model_link.specs.Machine as answers
@@ -147,10 +147,3 @@ asked_serves e s t new awake service tei place number full request answer outcom
         let course = same_step (terms e.config service tei) l full request (ap (λ x. links.refusal (terms e.config service tei) (machine_at m.links x) full request) (sym same) ∙ granted) in
         ap (λ k. record { line = with_link (link_number place service) k.link m; told = told_of_link (answers.told_of (terms e.config service tei) l k) }) course
         ∙ ap (λ o. of_aim e.config (at_requested service tei request o) m) (sym (ap (λ x. place_of tei x.places) st.management ∙ here))
-
--- management is asked of a TEI of a terminal
-pub managed : (e : LinkLayer) (s : Store) (others : List Owned) (m : Line) (asked : TeiRequest) (tei : ℕ) (why : Option Refusal) → Stands e s others m → may_ask e.config.side asked ≡ true → nat_lt 126 tei ≡ false
-    → teis.refusal (event_of asked tei) e.teis ≡ why → management_refusal e.config.side asked tei m ≡ why
-managed e s others m asked tei why st ours low is =
-    ap (λ b. cond (not b) (Some WrongSide) (cond (nat_lt 126 tei) (Some BadTei) (teis.refusal (event_of asked tei) m.management))) ours
-    ∙ ap (λ b. cond b (Some BadTei) (teis.refusal (event_of asked tei) m.management)) low ∙ ap (teis.refusal (event_of asked tei)) st.management ∙ is

@@ -1,5 +1,5 @@
 -- What an event does to a line and its port.
-use Rattle.lapd_line.proofs.Vocabulary.{◌≡◌, ℕ, ◌<◌, Bool, true, false, List, [], ◌∷◌, ◌++◌, length, Option, Some, None, is_some, option_map, refl, sym, ap, ◌∙◌, subst, cond, lt-ltb, option_map_or, unwrap_or, IsSome, Owned, Store, SameLimits, ShortList, Order, Timer, Cause, Config, Counters, with_all, hears, next, gave, expiry, Request, LineTold, answer_shown, counted, taken, next_of, drop_costs_nothing, may_send, cause_in, BareReport, FrameLine, Leads, LeadsIfHeard, config_of, told_in, told_if, orders_taken, IsLoaded, IsSaid, PortStands, Pulls, with_frame, OctetsLead, OctetsStand, octets_config}
+use Rattle.lapd_line.proofs.Vocabulary.{◌≡◌, ℕ, ◌<◌, Bool, true, false, List, [], ◌∷◌, ◌++◌, length, Option, Some, None, is_some, option_map, refl, sym, ap, ◌∙◌, subst, cond, lt-ltb, option_map_or, IsSome, Owned, Store, SameLimits, ShortList, Order, Timer, Cause, Config, Counters, with_all, hears, next, gave, expiry, LineTold, answer_shown, counted, taken, next_of, drop_costs_nothing, may_send, cause_in, FrameLine, Leads, LeadsIfHeard, config_of, orders_taken, IsLoaded, IsSaid, PortStands, Pulls, with_frame, OctetsLead, OctetsStand, octets_config}
 use Rattle.model_bits.specs.Stream as stream
 use Rattle.model_line.specs.Event as line
 use Rattle.model_line.specs.Line as lines
@@ -85,18 +85,6 @@ drop_leaves c value l t says some = go (gained c.n201 l.port.received value) (ap
 pub expiry_leads : {old : Line} {s t : Store} {new : FrameLine} (timer : Timer) → Leads (expiry timer) old.frames s new t
     → OctetsLead (port.expiry timer) old s (record old { frames = new }) t
 expiry_leads {old} timer leads = record {
-  config = leads.config;
-  limits = leads.limits;
-  stands = λ others l st. record {
-    frames = leads.stands others l.line st.frames;
-    port = subst (λ c. PortStands c.n201 old.port l.port) (sym leads.config) st.port;
-  };
-  counted = λ others l st. leads.counted others l.line st.frames;
-}
-
-pub request_leads : {old : Line} {s t : Store} {new : FrameLine} (r : Request) → Leads (line.request r) old.frames s new t
-    → OctetsLead (port.request r) old s (record old { frames = new }) t
-request_leads {old} r leads = record {
   config = leads.config;
   limits = leads.limits;
   stands = λ others l st. record {

@@ -150,10 +150,6 @@ either_assoc : (x y z : Option Taken) → option_or (option_or x y) z ≡ option
 either_assoc None y z = refl
 either_assoc (Some x) y z = refl
 
-either_none : (x : Option Taken) → option_or x None ≡ x
-either_none None = refl
-either_none (Some x) = refl
-
 first_append : (c : Config) (m : Line) (xs ys : List ℕ) → first_taken c m (xs ++ ys) ≡ option_or (first_taken c m xs) (first_taken c m ys)
 first_append c m [] ys = refl
 first_append c m (x ∷ xs) ys =

@@ -1,5 +1,5 @@
 -- What is written into a report in which nothing is told yet.
-use Rattle.lapd_line.proofs.Vocabulary.{◌≡◌, ℕ, ◌||◌, Bool, true, false, false≢true, List, [], Option, Some, None, drop, refl, sym, ap, ◌∙◌, Cause, listed, told_with, LineTold, nothing, told_of_link, TeiOutcome, told_of, told_of_management, BareReport, told_in}
+use Rattle.lapd_line.proofs.Vocabulary.{◌≡◌, ℕ, ◌||◌, Bool, true, false, false≢true, List, Option, Some, None, drop, refl, sym, ap, ◌∙◌, Cause, listed, told_with, nothing, told_of_link, BareReport, told_in}
 use Rattle.std.specs.Option.{option_or}
 use Rattle.std.specs.Prelude.{if◌then◌else◌}
 use Rattle.model_line.specs.Effect.{unserved_cause}
@@ -34,18 +34,6 @@ link_told octets info r start is =
       cause = alone i;
       orders = listed r.orders;
       lost = r.lost;
-    }
-
--- or of TEI management
-pub management_told : {r : BareReport} (octets : List ℕ) (told : TeiOutcome) → IsClear r
-    → told_in octets (record r { notes = told.notes; lost = told.lost; unserved = told.unserved; orders = told.orders }) ≡ told_of_management (told_of told)
-management_told {r} octets told clear =
-    let alone = ap (option_or (unserved_cause told.unserved)) clear.cause ∙ none_else (unserved_cause told.unserved) in λ i. record {
-      notes = listed told.notes;
-      contents = option_or (if clear.delivered i then Some (drop r.start octets) else None) (if clear.unit i then Some (drop r.start octets) else None);
-      cause = alone i;
-      orders = listed told.orders;
-      lost = told.lost;
     }
 
 -- contents are lent where they were delivered

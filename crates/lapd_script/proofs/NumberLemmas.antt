@@ -1,5 +1,5 @@
 -- What `parse` reads of decimal digits.
-use Rattle.lapd_script.proofs.Vocabulary.{◌≡◌, ℕ, ◌<◌, ◌^◌, true, false, ◌&&◌, List, [], ◌∷◌, None, Ok, Err, Result, refl, sym, ap, ◌∙◌, arith, list_all, is_ascii_digit, all_ascii_digits, IsUtf8, IsAscii, digits_value, ParsesUnsigned, result_ok, IsUtf8-from_ascii, IsAscii-nil, IsAscii-cons, IsNumeralModel, numerals_by_value, tells_all_ascii_digits, parse_digits, number, within}
+use Rattle.lapd_script.proofs.Vocabulary.{◌≡◌, ℕ, ◌<◌, ◌^◌, true, ◌&&◌, List, [], ◌∷◌, Ok, Err, Result, refl, sym, ap, ◌∙◌, arith, list_all, is_ascii_digit, all_ascii_digits, IsUtf8, IsAscii, digits_value, ParsesUnsigned, result_ok, IsUtf8-from_ascii, IsAscii-nil, IsAscii-cons, IsNumeralModel, numerals_by_value, tells_all_ascii_digits, parse_digits, number, within}
 
 own : IsNumeralModel (λ word. all_ascii_digits word ≡ true) (digits_value 10)
 own = numerals_by_value _ tells_all_ascii_digits
@@ -7,9 +7,6 @@ own = numerals_by_value _ tells_all_ascii_digits
 same_digits : (word : List ℕ) → list_all is_ascii_digit word ≡ all_ascii_digits word
 same_digits [] = refl
 same_digits (octet ∷ more) = ap (λ rest. is_ascii_digit octet && rest) (same_digits more)
-
-pub no_digits : (low high : ℕ) (word : List ℕ) → list_all is_ascii_digit word ≡ false → number low high word ≡ within low high None
-no_digits low high word h = grind (arith, h)
 
 digits_ascii : (word : List ℕ) → list_all is_ascii_digit word ≡ true → IsAscii word
 digits_ascii [] h = IsAscii-nil

@@ -86,10 +86,6 @@ Keeps-release slots messages others slot is released kept =
       held = Holds-queue_release slots messages others slot kept.lengths is released kept.held;
     }
 
--- a fresh queue keeps no message
-pub Keeps-none : {s : Store} (others : List Owned) → Holds s others → Keeps s [] [] others
-Keeps-none others held = record { lengths = refl; held = held }
-
 -- so many are gone, and one more
 pub Keeps-one_less : {s : Store} (slots : List ℕ) (messages : List (List ℕ)) (others : List Owned) (n : ℕ) → Keeps s slots (drop 1 (drop n messages)) others → Keeps s slots (drop (n + 1) messages) others
 Keeps-one_less {s} slots messages others n = subst (λ l. Keeps s slots l others) (drop-drop 1 n messages)

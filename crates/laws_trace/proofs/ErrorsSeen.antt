@@ -27,9 +27,6 @@ none-given-up n m (inl same) = ap (given_up n) (sym same) ∙ go (n == 5) refl (
     go false is false other true third = subst (λ n. given_up n n ≡ []) (sym (eqb-true n 8 third)) refl
     go false is false other false third = rw (is, other, third) refl
 
-abbrev no-code : Option ErrorCode
-no-code = None
-
 module _ (c : Config) (service : Service) (tei : ℕ) where
   no-letter : (b : Bool) (letter : ErrorCode) → b ≡ false → cond b (Some letter) None ≡ None
   no-letter b letter none = ap (λ b. cond b (Some letter) None) none

@@ -199,9 +199,6 @@ module _ (t : Terms) (l : Link) where
     pub r : l'.r ≡ l.r
     pub waits : l'.waiting ≡ l.waiting ++ its_answer ∷ []
 
-  pub answer-means : Means l.r its_answer.control
-  answer-means = ready-means l.own_busy l.r true
-
   answered : Words.has_room t l ≡ true → (l' : Link) → l'.r ≡ l.r → l'.waiting ≡ cond (Words.has_room t l) (l.waiting ++ its_answer ∷ []) l.waiting → Answers l'
   answered room l' r waits = record { r = r; waits = waits ∙ ap (λ b. cond b (l.waiting ++ its_answer ∷ []) l.waiting) room }
 

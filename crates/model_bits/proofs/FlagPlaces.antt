@@ -1,5 +1,5 @@
 -- What a flag and an abort bring, by the flag before.
-use Rattle.model_bits.proofs.Vocabulary.{◌≡◌, ℕ, Bool, true, false, List, [], ◌∷◌, ◌++◌, length, drop, reverse, Some, None, refl, ap, ◌∙◌, arith, lt-ltb, le-ltb, length-reverse, reverse-reverse, flag, dropped, since_flag, has_abort, gap_event, closed_by_flag, given_up, HasNoFlag, gap_brings, abort_brings, seven_ones, GapBetweenFlags, FlagsThatShare, FirstAbortAfterFlag, Abort}
+use Rattle.model_bits.proofs.Vocabulary.{◌≡◌, ℕ, Bool, true, false, List, [], ◌∷◌, ◌++◌, length, drop, reverse, Some, None, refl, ap, ◌∙◌, arith, lt-ltb, le-ltb, length-reverse, reverse-reverse, flag, dropped, since_flag, has_abort, gap_event, closed_by_flag, given_up, HasNoFlag, gap_brings, abort_brings, seven_ones, GapBetweenFlags, FirstAbortAfterFlag, Abort}
 use Rattle.std.specs.Prelude.{option_map, option_and_then, not, nat_lt, ◌&&◌, ◌||◌, if◌then◌else◌}
 
 -- where no flag ends, the bits since the latest grow
@@ -21,9 +21,6 @@ closes room (b ∷ gap) =
 pub gap_between_flags : GapBetweenFlags
 gap_between_flags room past gap none =
     ap (option_and_then (closed_by_flag room)) (since-grows (drop 1 flag ++ reverse gap) (flag ++ past) refl none) ∙ closes room gap
-
-pub flags_that_share : FlagsThatShare
-flags_that_share room past = refl
 
 -- the first seven 1s give up what was begun
 gives_up : (begun : List Bool) → has_abort (drop 1 seven_ones ++ reverse begun) ≡ false → given_up (seven_ones ++ reverse begun) ≡ abort_brings begun

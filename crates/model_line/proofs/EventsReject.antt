@@ -1,5 +1,5 @@
 -- Each event that brings an REJ with a valid N(R) is heard as a frame of four octets.
-use Rattle.model_line.proofs.Vocabulary.{◌≡◌, true, false, refl, ap, arith, false≢true, Timer, Config, Event, hears, expiry, request, next, one, rejects, rejects_aimed, aim_of_expiry, IsRejectHeard, Line, takes_slot, unless_refused, refusal, Request, aim_of_request}
+use Rattle.model_line.proofs.Vocabulary.{◌≡◌, false, refl, ap, arith, Timer, Config, Event, hears, expiry, request, next, one, rejects_aimed, aim_of_expiry, IsRejectHeard, Line, unless_refused, refusal, Request, aim_of_request}
 use Rattle.model_line.proofs.ProperAims.{expiry_aims, request_aims}
 use Rattle.model_line.proofs.RejectsHeard.{heard_rejects}
 
@@ -15,9 +15,3 @@ event_rejects c (hears e) l = heard_rejects c l e
 event_rejects c (expiry timer) l = omega (arith, ap one (expiry_none l timer))
 event_rejects c (request r) l = omega (arith, ap one (request_none c l r))
 event_rejects c next l = omega arith
-
--- a request that takes a slot is no frame
-pub takes_no_reject : (c : Config) (e : Event) (l : Line) → takes_slot c e l ≡ true → rejects c e l ≡ false
-unfolding takes_slot
-takes_no_reject c (request r) l takes = request_none c l r
-takes_no_reject c other l takes = absurd (false≢true takes)

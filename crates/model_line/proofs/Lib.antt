@@ -19,7 +19,6 @@ pub mod AimsRise
 pub mod LineRises
 pub mod EventsRise
 pub mod NextRises
-pub mod ByEvent
 pub mod Numbered
 pub mod NumberedEvents
 pub mod SlotsGrow

@@ -1,5 +1,5 @@
 -- What is delivered, and V(R): each word but three leaves them.
-use Rattle.model_link.proofs.Vocabulary.{◌≡◌, ℕ, Bool, true, false, List, Option, Some, None, ◌⊎◌, inl, inr, refl, Seq, named, Terms, Course, Step, ◌then◌, by_number, ErrorCode}
+use Rattle.model_link.proofs.Vocabulary.{◌≡◌, ℕ, Bool, true, false, List, Option, None, ◌⊎◌, inl, inr, refl, Seq, Terms, Course, Step, by_number}
 use Rattle.model_link.proofs.Leads.{Leads, number_leads}
 use Rattle.model_link.proofs.Kept.{Kept}
 
@@ -23,9 +23,6 @@ pub record Restarted (r' : ℕ) (contents' : Option (List ℕ)) (zeroed : Bool) 
   pub number : r' ≡ 0
   pub delivered : contents' ≡ None
   pub begins : zeroed ≡ true
-
-abbrev pub restarted : Count
-restarted r' contents' zeroed = Restarted r' contents' zeroed
 
 abbrev pub done : ℕ → Option (List ℕ) → Count
 done r contents r' contents' zeroed = Counted r contents r' contents' zeroed ⊎ Restarted r' contents' zeroed

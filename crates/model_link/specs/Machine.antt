@@ -1,16 +1,15 @@
 -- The machine of a data link: what each event makes of it, and what it answers.
-use Rattle.std.specs.Prelude.{ℕ, Bool, List, [], ◌∷◌, Option, None, Some, Result, Ok, Err}
+use Rattle.std.specs.Prelude.{ℕ, Bool, List, [], ◌∷◌, Option, None, Some}
 use Rattle.lapd_frame.specs.declared.controls.Control.{Control}
 use Rattle.lapd_frame.specs.declared.notes.ErrorCode.{ErrorCode}
 use Rattle.lapd_frame.specs.declared.notes.ErrorCode.TheVariants as code
-use Rattle.lapd_frame.specs.declared.refusals.Refusal.{Refusal}
 use Rattle.model_link.specs.declared.states.State.{State}
 use Rattle.model_link.specs.declared.states.State.TheVariants.{TeiAssigned, AwaitingEstablishment, AwaitingRelease, Established, TimerRecovery}
 use Rattle.model_link.specs.declared.timers.LinkTimer.{LinkTimer}
 use Rattle.model_link.specs.declared.timers.LinkTimer.TheVariants.{T200, T203}
 use Rattle.model_link.specs.declared.terms.Terms.{Terms}
 use Rattle.model_link.specs.Link.{Link}
-use Rattle.model_link.specs.Events.{Received, frame, undefined, wrong_size, overlong, Request, Event, received, expired, requested, offer, cleared}
+use Rattle.model_link.specs.Events.{Received, frame, undefined, wrong_size, overlong, Event, received, expired, requested, offer, cleared}
 use Rattle.model_link.specs.Told.{LinkTold, Given, runs, orders_for}
 use Rattle.model_link.specs.Steps.{Sent, Course, begun, Step, ◌then◌, nothing, depending_on}
 use Rattle.model_link.specs.Words.{release_indication, release_confirm, begin_anew}
@@ -20,7 +19,7 @@ use Rattle.model_link.specs.AwaitingRelease.{frame_in_6, malformed_in_6, t200_in
 use Rattle.model_link.specs.MultipleFrame.{failed}
 use Rattle.model_link.specs.Established.{frame_in_7, timer_in_7}
 use Rattle.model_link.specs.TimerRecovery.{frame_in_8, t200_in_8}
-use Rattle.model_link.specs.Requests.{refusal, request_step}
+use Rattle.model_link.specs.Requests.{request_step}
 use Rattle.model_link.specs.Offers.{offer_step}
 
 -- What comes from the terminal.
@@ -118,11 +117,6 @@ told_of t before c = record {
 
 abbrev pub told : Terms → Event → Link → LinkTold
 told t e l = told_of t l (course t e l)
-
--- What a request answers.
-abbrev pub answer_to_request : Terms → Request → Bool → Link → Result LinkTold Refusal
-answer_to_request t request pool_is_full l =
-    elim (refusal t l pool_is_full request) [ None ↦ Ok (told t (requested request pool_is_full) l) | Some r ↦ Err r ]
 
 -- What an offer gives.
 abbrev pub given_of : Terms → Link → Course → Option Sent → Option Given

@@ -1,6 +1,5 @@
 -- Where no frame comes in so many beats, no turn was left before them.
 use Rattle.laws_order.proofs.Vocabulary.{◌≡◌, ℕ, ◌+◌, ◌*◌, ◌≤◌, ◌<◌, ◌⊎◌, inl, inr, Bool, true, false, List, [], ◌∷◌, ◌++◌, length, Option, None, Some, option_map, refl, sym, ap, ◌∙◌, subst, arith, append-nil, length-append, Service, heard_in, Item, Config, NextFrame, gave, taken, next_of, line_at, frames_among, left_of, longest_text, Wire, IsStill, gives-taken, longest, Termination, port_of, Circuit, doing_all}
-use Rattle.model_bits.specs.Stream as stream
 use Rattle.laws_wire.specs.Wire as wire
 use Rattle.laws_order.proofs.OfCircuit.AsFrames.{as_station}
 use Rattle.laws_order.proofs.OfCircuit.Coming.{Kept, from-near, from-far, frames_of, Puts, putting, GoesOn, going, all-out, Hears, hearing, length-framed, IsBehind}
@@ -115,9 +114,6 @@ module _ (n201 way : ℕ) where
 
     no-more : (long heard had given beyond : ℕ) → had ≡ given + beyond → long ≤ given → heard ≡ had → heard < long → ⊥
     no-more long heard had given beyond sum low same more = omega (arith, sum, low, same, more)
-
-    heard_by : Bool → Circuit → List stream.Event
-    heard_by b w = heard_in n201 (port_of (receiver b w)).received
 
     -- a frame on its way comes
     pub comes : (b : Bool) (w : Circuit) (there back : List (List ℕ)) → Follows n201 c d w there back → IsShort w → length (heard_in n201 (port_of (receiver b w)).received) < length (frames_of n201 (sender b w))

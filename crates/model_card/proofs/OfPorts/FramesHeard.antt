@@ -26,9 +26,6 @@ filling-fills n = omega arith
 pub filling-seven : (n : ℕ) → 7 ≤ filling n
 filling-seven n = omega arith
 
-pub filling-few : (n : ℕ) → filling n ≤ 14
-filling-few n = omega arith
-
 pub bits-filled : (text : List Bool) → bits (octets_of (filled text)) ≡ filled text
 bits-filled text =
     let n = length text in

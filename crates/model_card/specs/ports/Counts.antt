@@ -1,7 +1,7 @@
 -- What is counted of the octets of a card.
 use Rattle.std.specs.Prelude.{ℕ, length, sum_by, count_by}
 use Rattle.model_bits.specs.Stream as stream
-use Rattle.model_line.specs.Counts.{is_frame, is_long_frame}
+use Rattle.model_line.specs.Counts.{is_frame}
 use Rattle.model_card.specs.ports.Port.{Port}
 use Rattle.model_card.specs.ports.Card.{OctetCard}
 
@@ -17,9 +17,3 @@ frames_in n201 p = count_by is_frame (stream.heard_in n201 p.received)
 
 abbrev pub frames_heard : OctetCard → ℕ
 frames_heard m = sum_by (frames_in m.card.config.n201) m.ports
-
-abbrev pub long_frames_in : ℕ → Port → ℕ
-long_frames_in n201 p = count_by is_long_frame (stream.heard_in n201 p.received)
-
-abbrev pub long_frames_heard : OctetCard → ℕ
-long_frames_heard m = sum_by (long_frames_in m.card.config.n201) m.ports

@@ -1,5 +1,5 @@
 -- What is heard in the octets that a frame or a fault means.
-use Rattle.model_card.proofs.OfPorts.Vocabulary.{◌≡◌, ℕ, zero, suc, ◌+◌, ◌*◌, ◌/◌, ◌<◌, ◌≤◌, Bool, true, List, [], ◌∷◌, ◌++◌, length, replicate, reverse, refl, ap, sym, ◌∙◌, subst, arith, length-append, length-replicate, bits, flag, low_bits, check, frame_text, heard_until, heard_in, room_for, AreOctets, bits-append, low_bits-number_of_n, length-check, stuffed_after-at_least, stuffed-counted, NoSix-stuffed, after_flag, heard_until-onto, hears_text, after_text, reverse_aux-append, Fault, IsIdle, framed, filling, filled, line_octets, came, fault_octets, cause_of, AreHeardAs, FramesAreHeard}
+use Rattle.model_card.proofs.OfPorts.Vocabulary.{◌≡◌, ℕ, zero, suc, ◌+◌, ◌*◌, ◌/◌, ◌<◌, ◌≤◌, Bool, true, List, [], ◌∷◌, ◌++◌, length, replicate, reverse, refl, ap, sym, ◌∙◌, subst, arith, length-append, length-replicate, bits, flag, low_bits, check, frame_text, heard_until, heard_in, room_for, AreOctets, bits-append, low_bits-number_of_n, length-check, stuffed_after-at_least, stuffed-counted, NoSix-stuffed, after_flag, heard_until-onto, hears_text, after_text, reverse_aux-append, Fault, IsIdle, filling, filled, line_octets, came, fault_octets, cause_of, AreHeardAs, FramesAreHeard}
 use mathlib.Core.List.{reverse_aux}
 use Rattle.model_bits.specs.Bits.{octets_of}
 use Rattle.model_bits.specs.Stream.{Event, dropped}
@@ -18,6 +18,10 @@ bits-octets_of (suc k) (b1 ∷ b2 ∷ b3 ∷ b4 ∷ b5 ∷ b6 ∷ b7 ∷ b8 ∷ 
     ap (λ l. l ++ bits (octets_of b)) (low_bits-number_of_n 8 eight refl)
     ∙ ap (λ l. eight ++ l) (bits-octets_of k b (omega (arith, e)))
 bits-octets_of (suc k) short e = absurd (omega (arith, e))
+
+-- a frame between its flags
+abbrev framed : List ℕ → List Bool
+framed octets = flag ++ (frame_text octets ++ flag)
 
 -- the 1s fill the last octet, and are seven at least
 filling-fills : (n : ℕ) → n + filling n ≡ 8 * ((n + filling n) / 8)

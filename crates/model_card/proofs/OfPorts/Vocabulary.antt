@@ -50,5 +50,5 @@ pub use Rattle.model_card.specs.ports.Run.{AreAtLines, IsAtLine, Moment, Run}
 unfoldable pub use Rattle.model_card.specs.ports.Run.{after_all, meant_all, moments}
 pub use Rattle.model_card.specs.ports.Sound.{IsSound, IsSoundPort}
 pub use Rattle.model_card.specs.ports.Stored.{held_at, held_received, held_sent, limit, limit_of_port, stored}
-pub use Rattle.model_card.specs.ports.Whole.{IsIdle, fault_octets, filled, filling, framed, line_octets}
+pub use Rattle.model_card.specs.ports.Whole.{IsIdle, fault_octets, filled, filling, line_octets}
 pub use Rattle.model_card.specs.ports.WholeLaws.{AreHeardAs, FramesAreHeard}

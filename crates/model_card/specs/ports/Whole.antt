@@ -12,19 +12,16 @@ pub record IsIdle (octets : List ℕ) : Type 0 where
   pub ones : run_of (reverse (bits octets)) ≡ 7
   pub no_gap : open_gap (reverse (bits octets)) ≡ None
 
--- A frame between its flags, and the 1s of an idle line after it: seven at least, and as many as fill the last octet.
-abbrev pub framed : List ℕ → List Bool
-framed octets = flag ++ (frame_text octets ++ flag)
-
+-- The 1s of an idle line after a frame: seven at least, and as many as fill the last octet.
 abbrev pub filling : ℕ → ℕ
 filling n = 14 - (n + 6) % 8
 
 abbrev pub filled : List Bool → List Bool
 filled text = text ++ replicate (filling (length text)) true
 
--- The octets in which a frame stands, which has these octets from its address to its information.
+-- The octets in which a frame stands, between its flags, which has these octets from its address to its information.
 abbrev pub line_octets : List ℕ → List ℕ
-line_octets octets = octets_of (filled (framed octets))
+line_octets octets = octets_of (filled (flag ++ (frame_text octets ++ flag)))
 
 -- The octets in which a fault stands, beginning with a flag: six zeros before a flag, which have no good check; an octet
 -- before eight 1s; four bits before a flag; an octet before a flag. Then 1s.

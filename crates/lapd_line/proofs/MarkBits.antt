@@ -1,5 +1,8 @@
 -- The bits of marks.
-use Rattle.lapd_line.proofs.Vocabulary.{◌≡◌, ◌≢◌, ℕ, ◌+◌, ◌-◌, ◌/◌, ◌%◌, ◌^◌, ◌≤◌, ◌<◌, ap, sym, ◌∙◌, arith, shr-shr, div-le_self, bit_at-zero, bit_at-trailing_zeros, bit_at, trailing_zeros, NoneFrom, IsLowestFrom, digit, Bool, true, false, true≢false, eqb-true, not, ◌==◌, zero, suc, refl}
+use Rattle.lapd_line.proofs.Vocabulary.{◌≡◌, ◌≢◌, ℕ, ◌+◌, ◌-◌, ◌/◌, ◌%◌, ◌^◌, ◌≤◌, ◌<◌, ap, sym, ◌∙◌, arith, shr-shr, div-le_self, bit_at-zero, bit_at-trailing_zeros, bit_at, trailing_zeros, NoneFrom, IsLowestFrom, digit, Bool, true, false, true≢false, eqb-true, not, ◌==◌, zero, suc, refl, inl, inr, bit_at_above, Marks, Option, Some, None}
+use Rattle.std.specs.Prelude.{MatchOption}
+use Rattle.std.proofs.lemmas.Bool.{cases_lt}
+use Rattle.lapd_line.specs.Rounds.{IsFirstAround}
 use Rattle.std.specs.Int.{w64}
 
 -- a bit is 1 exactly where it is a mark
@@ -45,3 +48,25 @@ some_marked n fits some =
     over : (n : ℕ) → not (n == 0) ≡ true → 0 < n
     over zero h = absurd (cc)
     over (suc n) h = omega arith
+
+-- only a bit below 64 is 1
+pub low_bit : (n number : ℕ) → n < 2 ^ 64 → bit_at n number ≡ 1 → number < 64
+low_bit n number fits one = elim (cases_lt number 64) [
+  | inl low ↦ low
+  | inr high ↦ absurd (omega (arith, one, bit_at_above n 64 number fits high))
+]
+
+-- the first that is marked, going round
+pub around_behind : (m : Marks) (turn number : ℕ) → number < 64 → IsLowestFrom m.bits turn number → IsFirstAround m turn 64 (Some number)
+around_behind m turn number few (low, one, others) = (Some number, ((low, few, one), others), refl)
+
+pub around_before : (m : Marks) (turn : ℕ) (first : Option ℕ) → NoneFrom m.bits turn → MatchOption first (NoneFrom m.bits 0) (IsLowestFrom m.bits 0) → IsFirstAround m turn 64 first
+around_before m turn None behind none = (None, (_, λ number low below. behind number low), (_, λ number low below. none number low))
+around_before m turn (Some number) behind (low, one, others) =
+    (None, (_, λ number low below. behind number low), ((low, below_turn, one), others))
+  where
+    below_turn : number < turn
+    below_turn = elim (cases_lt number turn) [
+      | inl before ↦ before
+      | inr after ↦ absurd (omega (arith, one, behind number after))
+    ]

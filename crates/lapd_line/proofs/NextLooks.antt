@@ -44,7 +44,7 @@ some_among c m from (suc n) number low high some =
 
 module _ (e : LinkLayer) (s : Store) (others : List Owned) (m : Line) (st : Stands e s others m) where
   -- a link that is awake is there,
-  there : (number : ℕ) → number < 64 → IsMark e.awake number true → number < link_count e.config
+  pub there : (number : ℕ) → number < 64 → IsMark e.awake number true → number < link_count e.config
   there number few awake = go (slice_get (terms_in e.links) number) refl (marked (gives_at e.links m.links number) (sym awake ∙ st.awake number few))
     where
       go : (o : Option Terms) → slice_get (terms_in e.links) number ≡ o → option_map_or (gives (machine_at m.links number)) (slice_get (terms_in e.links) number) false ≡ true → number < link_count e.config

@@ -1,8 +1,7 @@
 -- What a pull takes of the links.
-use Rattle.lapd_line.proofs.Vocabulary.{◌≡◌, ◌⊎◌, inl, inr, Bool, true, false, cond, ℕ, zero, suc, ◌+◌, ◌-◌, ◌≤◌, ◌<◌, List, [], ◌∷◌, ◌++◌, length, take, drop, get_or, set, slice_get, Option, Some, None, option_map, IfSome, refl, ap, sym, ◌∙◌, subst, arith, set-get_or, none-some, slice_get_cases, slice_get-map, range_with_len, option_or, unwrap_or, Address, Order, IsFrame, spelling, listed, Owned, Store, IsUsed, Link, Offer, contents_in, HasMessage, terms_of, ControlFrame, Terms, address_at, given, given_of, course, offer, Given, may_send_information, offer_among, send_information, send_acknowledgement, give_information, with_one_sent, next_information, first_unsent, is_awaiting_acknowledgement, Course, Sent, ◌then◌, changed, pending_is, start, T200, Config, Line, link_at, link_count, place_at, service_at, tei_at, terms, terms_at, Taken, with_given_frame, link_taken, first_taken, round, IsSoundAt, fresh_gives_nothing, TakesSoundly, link_sound, ranges_of, is_some, true≢false, false≢true, ShortList, orders_taken, Marks, IsMark, Sets, TellsOf, given_by, LinkLayer, Stands, Standing, LinksStand, HasTerms, IsGiven, Offers, terms_in, Loading, Loads, room_in, reference_in, IsFree, HasTaken, Took, Takes}
-use Rattle.model_link.specs.Link as machine
+use Rattle.lapd_line.proofs.Vocabulary.{◌≡◌, ◌⊎◌, inl, inr, Bool, true, false, ℕ, zero, suc, ◌+◌, ◌-◌, ◌≤◌, ◌<◌, List, [], ◌∷◌, ◌++◌, length, take, drop, get_or, slice_get, Option, Some, None, option_map, IfSome, refl, ap, sym, ◌∙◌, subst, arith, none-some, slice_get_cases, slice_get-map, range_with_len, option_or, unwrap_or, Order, IsFrame, spelling, listed, Owned, Store, IsUsed, Link, Offer, contents_in, HasMessage, terms_of, Terms, frame_of, given, Given, Config, Line, link_at, link_count, place_at, service_at, tei_at, terms, terms_at, Taken, with_given_frame, link_taken, first_taken, round, IsSoundAt, fresh_gives_nothing, TakesSoundly, link_sound, ranges_of, is_some, true≢false, false≢true, ShortList, orders_taken, IsMark, Sets, TellsOf, given_by, LinkLayer, Stands, Standing, HasTerms, IsGiven, Offers, terms_in, Loading, Loads, room_in, reference_in, IsFree, HasTaken, Took, Takes}
+use Rattle.lapd_store.specs.Store.{contents_of}
 use Rattle.model_link.specs.Machine.{after}
-use Rattle.model_link.specs.Steps.{begun}
 use Rattle.lapd_line.proofs.AwakeSteps.{awake_set, awake_gives}
 use Rattle.lapd_line.proofs.LayerSteps.{beside_links, links_part, links_turned}
 use Rattle.lapd_line.proofs.PullTakes.{takes_or, takes_first, takes_as}
@@ -70,9 +69,9 @@ gives e s others m number new o few st offers =
     let has = k.some _ (sym (offers.given e.config k.t s (beside_links e m others) m.links k.has part).given) in
     record { has = has; is = offers.given e.config (terms_at e.config number m) s (beside_links e m others) m.links has part }
 
--- its address and contents make a frame
-pub record CanLoad (e : LinkLayer) (s : Store) (o : Offer) (address : Address) (info : List ℕ) : Type 0 where
-  pub frame : IsFrame (record { address = address; control = o.frame.control; info = [] })
+-- it is a frame under the link's parameters, and its contents have room
+pub record CanSend (e : LinkLayer) (number : ℕ) (new : List Link) (o : Offer) (info : List ℕ) : Type 0 where
+  pub frame : (t : Terms) × HasTerms new number t × IsFrame (frame_of t o.frame)
   pub size : length info ≤ e.config.n201
 
 size_of : (s : Store) (most : ℕ) (slot : Option ℕ) (info : List ℕ) → info ≡ unwrap_or (contents_in s slot) [] → IfSome slot (HasMessage s most) → length info ≤ most
@@ -88,49 +87,52 @@ given_used e s number new o few (others, m, st) offers = (gives e s others m num
 still : (e : LinkLayer) (number : ℕ) (new : List Link) (t : Terms) → terms_in new ≡ terms_in e.links → HasTerms e.links number t → HasTerms new number t
 still e number new t same has = subst (λ l. slice_get l number ≡ Some t) (sym same) has
 
-pub loads : (e : LinkLayer) (s : Store) (number : ℕ) (new : List Link) (o : Offer) (address : Address) (info : List ℕ) → number < link_count e.config → Standing e s
-    → Offers number e.links new (Some o)
-    → ((t : Terms) → HasTerms new number t → address ≡ address_at t o.frame.command)
-    → info ≡ unwrap_or (contents_in s o.contents) [] → CanLoad e s o address info
-loads e s number new o address info few (others, m, st) offers named is =
+-- the information that goes with it
+pub no_contents : (s : Store) (slot : Option ℕ) → slot ≡ None → [] ≡ unwrap_or (contents_in s slot) []
+no_contents s slot is = sym (ap (λ x. unwrap_or (contents_in s x) []) is)
+
+pub its_contents : (s : Store) (slot : Option ℕ) (at : ℕ) (octets : List ℕ) → slot ≡ Some at → contents_of s at ≡ Some octets → octets ≡ unwrap_or (contents_in s slot) []
+its_contents s slot at octets is there = sym (ap (λ x. unwrap_or (contents_in s x) []) is ∙ ap (λ o. unwrap_or o []) there)
+
+pub can_send : (e : LinkLayer) (s : Store) (number : ℕ) (new : List Link) (o : Offer) (info : List ℕ) → number < link_count e.config → Standing e s
+    → Offers number e.links new (Some o) → info ≡ unwrap_or (contents_in s o.contents) [] → CanSend e number new o info
+can_send e s number new o info few (others, m, st) offers is =
     let g = gives e s others m number new o few st offers in
     let t = terms_at e.config number m in
     record {
-      frame = subst (λ a. IsFrame (record { address = a; control = o.frame.control; info = [] })) (sym (named t (still e number new t offers.terms g.has))) g.is.frame;
+      frame = (t, still e number new t offers.terms g.has, g.is.frame);
       size = size_of s e.config.n201 o.contents info is g.is.slot;
     }
 
--- what a link gives is loaded
-pub link_loaded : (e : LinkLayer) (s : Store) (f g : Loading) (number : ℕ) (new : List Link) (o : Offer) (address : Address) (info : List ℕ) (awake : Marks) (looked : Bool) → number < link_count e.config
-    → TellsOf number new looked → Sets number looked e.awake awake → Offers number e.links new (Some o)
-    → ((t : Terms) → HasTerms new number t → address ≡ address_at t o.frame.command)
-    → info ≡ unwrap_or (contents_in s o.contents) [] → room_in g ≡ room_in f → reference_in g ≡ reference_in f
-    → Loads (spelling e.config.side (record { address = address; control = o.frame.control; info = info })) f g
-    → Takes (λ c m. link_taken c m number) e s f (record e { links = new; awake = awake; turn = number + 1 }) s g (Some (listed o.orders))
-link_loaded e s f g number new o address info awake looked few looks sets offers named is room reference loaded = record {
-  config = refl;
-  limits = record { slots = refl; width = refl };
-  room = room;
-  reference = reference;
-  took = λ others m st.
-      let gave = gives e s others m number new o few st offers in
-      let t = terms_at e.config number m in
-      let what : Given = record { frame = o.frame; contents = contents_in s o.contents; orders = listed o.orders } in
-      let same : link_taken e.config m number ≡ Some (with_given_frame e.config m number t what) = ap (λ x. option_map (with_given_frame e.config m number t) x) (sym gave.is.given) in
-      let sound : TakesSoundly e.config m (with_given_frame e.config m number t what) =
-      subst (λ x. IfSome x (TakesSoundly e.config m)) same (link_sound e.config st.range m st.sound number few) in
-      let stand = offers.goes_on s e.config t (beside_links e m others) m.links gave.has (links_part e s others m st) in
-      let has_t = still e number new t offers.terms gave.has in
-      let are_awake = awake_set e.awake awake e.links new m.links number _ looked t sets offers.terms has_t (looks e.config t s (beside_links e m others) _ has_t stand) st.awake in
-      let has : HasTaken (with_given_frame e.config m number t what) (listed o.orders) (record e { links = new; awake = awake; turn = number + 1 }) s others f g = record {
-        orders = refl;
-        stands = links_turned e s s others m new _ awake (number + 1) (number + 1) st offers.terms (record { slots = refl; width = refl }) sound.line stand are_awake refl;
-        loaded =
-            subst (λ a. Loads (spelling e.config.side (record { address = a; control = o.frame.control; info = unwrap_or (contents_in s o.contents) [] })) f g) (named t (still e number new t offers.terms gave.has))
-            (subst (λ x. Loads (spelling e.config.side (record { address = address; control = o.frame.control; info = x })) f g) is loaded);
-      } in
-      subst (λ x. Took x (Some (listed o.orders)) m (record e { links = new; awake = awake; turn = number + 1 }) s others f g) (sym same) has;
-}
+-- what a link gives is sent
+pub link_sent : (e : LinkLayer) (s : Store) (f g : Loading) (number : ℕ) (new : List Link) (o : Offer) (info : List ℕ) (after : LinkLayer) → number < link_count e.config
+    → (looked : Bool) × TellsOf number new looked × Sets number looked e.awake after.awake → after ≡ record e { links = new; awake = after.awake; turn = number + 1 }
+    → Offers number e.links new (Some o) → info ≡ unwrap_or (contents_in s o.contents) [] → room_in g ≡ room_in f → reference_in g ≡ reference_in f
+    → ((t : Terms) → HasTerms new number t → Loads (spelling e.config.side (record (frame_of t o.frame) { info = info })) f g)
+    → Takes (λ c m. link_taken c m number) e s f after s g (Some (listed o.orders))
+link_sent e s f g number new o info after few (looked, looks, sets) rest offers is room reference loaded =
+    subst (λ l. Takes (λ c m. link_taken c m number) e s f l s g (Some (listed o.orders))) (sym rest) (record {
+      config = refl;
+      limits = record { slots = refl; width = refl };
+      room = room;
+      reference = reference;
+      took = λ others m st.
+          let gave = gives e s others m number new o few st offers in
+          let t = terms_at e.config number m in
+          let what : Given = record { frame = o.frame; contents = contents_in s o.contents; orders = listed o.orders } in
+          let same : link_taken e.config m number ≡ Some (with_given_frame e.config m number t what) = ap (λ x. option_map (with_given_frame e.config m number t) x) (sym gave.is.given) in
+          let sound : TakesSoundly e.config m (with_given_frame e.config m number t what) =
+          subst (λ x. IfSome x (TakesSoundly e.config m)) same (link_sound e.config st.range m st.sound number few) in
+          let stand = offers.goes_on s e.config t (beside_links e m others) m.links gave.has (links_part e s others m st) in
+          let has_t = still e number new t offers.terms gave.has in
+          let are_awake = awake_set e.awake after.awake e.links new m.links number _ looked t sets offers.terms has_t (looks e.config t s (beside_links e m others) _ has_t stand) st.awake in
+          let has : HasTaken (with_given_frame e.config m number t what) (listed o.orders) (record e { links = new; awake = after.awake; turn = number + 1 }) s others f g = record {
+            orders = refl;
+            stands = links_turned e s s others m new _ after.awake (number + 1) (number + 1) st offers.terms (record { slots = refl; width = refl }) sound.line stand are_awake refl;
+            loaded = subst (λ x. Loads (spelling e.config.side (record (frame_of t o.frame) { info = x })) f g) is (loaded t has_t);
+          } in
+          subst (λ x. Took x (Some (listed o.orders)) m (record e { links = new; awake = after.awake; turn = number + 1 }) s others f g) (sym same) has;
+    })
 
 -- more links, one after another
 range_append : (a n k : ℕ) → range_with_len a (n + k) ≡ range_with_len a n ++ range_with_len (a + n) k

@@ -1,7 +1,28 @@
 -- What a take takes of the links: going round from the turn.
-use Rattle.lapd_line.proofs.Vocabulary.{◌≡◌, ℕ, ◌≤◌, true, false, Option, Some, None, is_some, length, refl, subst, sym, arith, false≢true, first_taken, round, link_taken, link_count, Order, ShortList, listed, Store, LinkLayer, Standing, Loading, Takes, orders_taken}
+use Rattle.lapd_line.proofs.Vocabulary.{◌≡◌, ℕ, ◌<◌, IfSome, IsMark, same_Some, ranges_of, true, Option, Some, None, is_some, length, refl, subst, sym, arith, false≢true, first_taken, round, link_taken, link_count, Order, ShortList, listed, Store, LinkLayer, Standing, Loading, Takes, orders_taken}
 use Rattle.lapd_line.specs.Rounds.{IsFirstAround}
+use Rattle.lapd_line.proofs.NextLooks.{there}
 use Rattle.lapd_line.proofs.PullTakesLinks.{passed, found_first, turn_within, round_found, round_ends}
+
+-- The first of all marks, going round from the turn, is the first of the links: no other is awake.
+pub first_of_links : (e : LinkLayer) (s : Store) (first : Option ℕ) → Standing e s → IsFirstAround e.awake e.turn 64 first → IsFirstAround e.awake e.turn (length e.links) first
+first_of_links e s first (others, m, st) (None, (_, after), before) =
+    (None, (_, λ number low below. after number low (omega (arith, below, st.count, (ranges_of e.config st.range).terminals.most))), before)
+first_of_links e s first (others, m, st) (Some number, ((low, below, awake), after), found) =
+    (Some number, ((low, omega (arith, there e s others m st number below awake, st.count), awake), after), found)
+
+-- it is there,
+pub first_within : (e : LinkLayer) (s : Store) (first : Option ℕ) → Standing e s → IsFirstAround e.awake e.turn 64 first → IfSome first (λ number. number < link_count e.config)
+first_within e s None stands around = _
+first_within e s (Some number) stands (None, _, ((low, below, awake), others)) = let (turn, count) = turn_within stands in omega (arith, below, turn)
+first_within e s (Some number) (others, m, st) (Some k, ((low, below, awake), after), found) =
+    subst (λ n. n < link_count e.config) (same_Some k number (sym found)) (there e s others m st k below awake)
+
+-- and is awake
+pub first_marked : (e : LinkLayer) (first : Option ℕ) → IsFirstAround e.awake e.turn 64 first → IfSome first (λ number. IsMark e.awake number true)
+first_marked e None around = _
+first_marked e (Some number) (None, _, ((low, below, awake), others)) = awake
+first_marked e (Some number) (Some k, ((low, below, awake), after), found) = subst (λ n. IsMark e.awake n true) (same_Some k number (sym found)) awake
 
 -- Where no link is awake, nothing is taken.
 pub round_none : (e : LinkLayer) (s : Store) (f : Loading) → Standing e s → IsFirstAround e.awake e.turn (length e.links) None

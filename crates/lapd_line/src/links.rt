@@ -124,13 +124,6 @@ impl Links {
         self.all[number].request(request, report, shelf, slots)
     }
 
-    /// How many they are.
-    pub(crate) fn len(&self) -> usize
-        ensures { result ≡ length self.now }
-    {
-        self.all.len()
-    }
-
     /// What a link has to give, if it has something.
     // As `LinkLayer::serve` is, it is called from two places.
     #[inline(always)]

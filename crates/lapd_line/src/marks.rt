@@ -14,6 +14,7 @@ pub struct Marks {
 
 impl Marks {
     ghost use Rattle.lapd_line.specs.Marks.{AreMarked, IsMark, IsMarkedAmong, Sets};
+    ghost use Rattle.lapd_line.specs.Rounds.{IsFirstAround};
 
     /// No number is marked.
     pub fn none() -> Marks
@@ -54,6 +55,18 @@ impl Marks {
         self.bits != 0
     }
 
+    /// The first that is marked, going round from one number on.
+    #[tactic(auto, using(crate::proofs::MarkBits::around_behind, crate::proofs::MarkBits::around_before))]
+    #[inline(always)]
+    pub fn first_around(&self, turn: usize) -> Option<usize>
+        ensures { IsFirstAround self.now turn 64 result }
+    {
+        match lowest_from(self.bits, turn) {
+            Some(number) => Some(number),
+            None => lowest_from(self.bits, 0),
+        }
+    }
+
     /// The first that is marked, of those from one number on and below another.
     #[inline(always)]
     pub fn first(&self, from: usize, to: usize) -> Option<usize>
@@ -68,7 +81,8 @@ impl Marks {
 /// The lowest bit that is 1, from one on.
 #[inline(always)]
 fn lowest_from(bits: u64, from: usize) -> Option<usize>
-    ensures { MatchOption result (NoneFrom bits from) (IsLowestFrom bits from) }
+    ensures lowest { MatchOption result (NoneFrom bits from) (IsLowestFrom bits from) }
+    ensures few { IfSome result (λ place. place < 64) }
 {
     if from >= 64 {
         return None;

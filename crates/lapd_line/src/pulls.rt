@@ -1,16 +1,18 @@
 //! What a call for the next frame takes: a message of TEI management, unit data, or a frame of a link.
 
-ghost use Rattle.std.specs.Prelude.{◌≡◌, ◌<◌, ◌≤◌, true, List, [], length, IfSome, IsSome};
-ghost use Rattle.std.specs.Option.{unwrap_or};
+ghost use Rattle.std.specs.Prelude.{◌≡◌, ◌+◌, ◌<◌, ◌≤◌, Bool, true, List, [], length, IfSome, IsSome};
 ghost use Rattle.lapd_frame.specs.Grammar.{IsFrame, spelling};
-ghost use Rattle.lapd_store.specs.Store.{Store, IsUsed};
-ghost use Rattle.lapd_link.specs.Outcome.{contents_in};
+ghost use Rattle.lapd_store.specs.Store.{Store};
+ghost use Rattle.model_link.specs.Link.{frame_of};
+ghost use Rattle.model_link.specs.declared.terms.Terms.{Terms};
 ghost use Rattle.model_line.specs.Line.{link_count};
 ghost use Rattle.model_line.specs.Taken.{message_taken, unit_taken, link_taken, first_taken, round, taken};
 ghost use Rattle.model_line.specs.Line as machine;
 ghost use Rattle.lapd_store.specs.Ownership.{Owned};
 ghost use Rattle.lapd_line.specs.Waiting.{has_next};
-ghost use Rattle.lapd_line.specs.Marks.{IsMark};
+ghost use Rattle.lapd_line.specs.Awake.{TellsOf};
+ghost use Rattle.lapd_line.specs.Links.{HasTerms};
+ghost use Rattle.lapd_line.specs.Marks.{IsMark, Sets};
 ghost use Rattle.lapd_line.specs.Rounds.{IsFirstAround};
 ghost use Rattle.lapd_line.specs.Loading.{IsFree, Loads, room_in, reference_in};
 ghost use Rattle.lapd_line.specs.Pulls.{Takes, orders_taken};
@@ -18,7 +20,8 @@ ghost use Rattle.lapd_line.specs.Pulls.{Takes, orders_taken};
 use crate::link_layer::LinkLayer;
 use crate::outlet::Outlet;
 use lapd_frame::{Address, Control, Frame, Order, ShortList, Side, write};
-use lapd_store::{Shelf, Slot};
+use lapd_store::Shelf;
+use model_link::ControlFrame;
 
 /// Loads a frame of a side, whose information is apart from it.
 #[inline(always)]
@@ -38,17 +41,6 @@ fn load<O: Outlet>(out: &mut O, side: Side, address: Address, control: Control, 
     };
     let len = write(side, &frame, &mut head);
     out.load(&head[..len], info);
-}
-
-/// The contents that lie in the slot of an I-frame; no other frame has contents.
-fn contents<S: Shelf>(shelf: &S, slot: Option<Slot>) -> &[u8]
-    requires { IfSome slot (λ slot. IsUsed (S.store shelf.now) slot) }
-    ensures { result.now ≡ unwrap_or (contents_in (S.store shelf.now) slot) [] }
-{
-    match slot {
-        None => &[],
-        Some(slot) => shelf.get(&slot),
-    }
 }
 
 impl LinkLayer {
@@ -108,6 +100,7 @@ impl LinkLayer {
     }
 
     /// The first of the links that is awake, going round from the turn.
+    #[tactic(auto, using(crate::proofs::PullTakesRound::first_within, crate::proofs::PullTakesRound::first_marked, crate::proofs::PullTakesRound::first_of_links))]
     #[inline(always)]
     fn first_awake(&self) -> Option<usize>
         requires { (store : Store) × Standing self.now store }
@@ -115,11 +108,7 @@ impl LinkLayer {
         ensures awake { IfSome result (λ number. IsMark self.now.awake number true) }
         ensures first { IsFirstAround self.now.awake self.now.turn (length self.now.links) result }
     {
-        let (turn, count) = (self.turn, self.links.len());
-        match self.awake.first(turn, count) {
-            Some(number) => Some(number),
-            None => self.awake.first(0, turn),
-        }
+        self.awake.first_around(self.turn)
     }
 
     /// What a link that is awake has to give.
@@ -140,17 +129,33 @@ impl LinkLayer {
         ensures taken { Takes (λ c m. link_taken c m number) self.old (S.store shelf.now) (O.loading out.old) self.new (S.store shelf.now) (O.loading out.new) (orders_taken result) }
     {
         let offer = self.links.offer(number)?;
-        self.awake.set(number, self.links.has_frame(number));
-        let address = self.links.address(number, offer.frame.command);
-        load(
-            out,
-            self.config.side,
-            address,
-            offer.frame.control,
-            contents(shelf, offer.contents),
-        );
-        self.turn = number + 1;
+        match offer.contents {
+            None => self.send(number, offer.frame, &[], out),
+            Some(slot) => self.send(number, offer.frame, shelf.get(&slot), out),
+        }
         Some(offer.orders)
+    }
+
+    /// Loads the frame that a link has given, and turns to the next link.
+    // It is compiled into both places: one that has no information, as mostly, is given without a look at any.
+    #[inline(always)]
+    fn send<O: Outlet>(&mut self, number: usize, frame: ControlFrame, info: &[u8], out: &mut O)
+        requires within { number < length self.old.links }
+        requires low { number < 64 }
+        requires free { IsFree (O.loading out.old) }
+        requires frame { (terms : Terms) × HasTerms self.old.links number terms × IsFrame (frame_of terms frame) }
+        requires info { length info.now ≤ room_in (O.loading out.old) }
+        ensures awake { (looked : Bool) × TellsOf number self.old.links looked × Sets number looked self.old.awake self.new.awake }
+        ensures rest { self.new ≡ record self.old { awake = self.new.awake; turn = number + 1 } }
+        ensures room { room_in (O.loading out.new) ≡ room_in (O.loading out.old) }
+        ensures reference { reference_in (O.loading out.new) ≡ reference_in (O.loading out.old) }
+        ensures loaded { (terms : Terms) → HasTerms self.old.links number terms
+            → Loads (spelling self.old.config.side (record (frame_of terms frame) { info = info.now })) (O.loading out.old) (O.loading out.new) }
+    {
+        let address = self.links.address(number, frame.command);
+        self.awake.set(number, self.links.has_frame(number));
+        load(out, self.config.side, address, frame.control, info);
+        self.turn = number + 1;
     }
 
     /// The oldest message of TEI management.

@@ -1,10 +1,5 @@
 -- When the numbers of a link begin, by what is heard and noted.
-use Rattle.laws_trace.proofs.Vocabulary.{◌≡◌, ◌==◌, Bool, true, false, cond, [], ◌∷◌, refl, sym, ap, ◌∙◌, subst, true≢false, not, if◌then◌else◌, list_any, Parts, Information, ReceiveReady, ReceiveNotReady, Reject, Sabme, Disc, Ui, Ua, Dm, Frmr, EstablishIndication, EstablishConfirm, State, TeiAssigned, AwaitingEstablishment, AwaitingRelease, LinkTimer, Terms, restarts, Received, received, expired, requested, offer, cleared, Link, is_multiple_frame, may_repeat, runs, Leaves, as_heard, by_frame, by_received, by_expiry, by_request, state_after, numbers_begin, told_by, establishes, event-follows}
-use Rattle.lapd_frame.specs.declared.controls.Control.{Control}
-use Rattle.lapd_frame.specs.declared.controls.Control.TheVariants.{Xid}
-use Rattle.model_link.specs.declared.timers.LinkTimer.TheVariants.{T200, T203}
-use Rattle.model_link.specs.Events.{Event, frame, Request, Establish, Release, Data, SetBusy, ClearBusy}
-use Rattle.model_link.specs.Machine.{after, told}
+use Rattle.laws_trace.proofs.Vocabulary.{◌≡◌, ◌==◌, Bool, true, false, cond, [], ◌∷◌, refl, sym, ap, ◌∙◌, subst, true≢false, not, if◌then◌else◌, list_any, Parts, Sabme, Ua, Dm, EstablishIndication, EstablishConfirm, State, TeiAssigned, AwaitingEstablishment, AwaitingRelease, LinkTimer, Terms, restarts, Received, received, expired, requested, offer, cleared, Link, is_multiple_frame, may_repeat, runs, Leaves, as_heard, by_frame, by_received, by_expiry, by_request, state_after, numbers_begin, told_by, establishes, event-follows, Control, T200, LinkEvent as Event, frame, LinkRequest as Request, LinkEstablish as Establish, link_after as after, link_told as told}
 use Rattle.laws_trace.proofs.Counting.{begins_by, is_end}
 
 -- A link in a state is itself.
@@ -58,16 +53,7 @@ module _ (t : Terms) (f : Parts) where
   by-control : (control : Control) (l : Link) → Says control l
   by-control (Sabme p) l = seen-by (Sabme p) l refl (in-state (IsSame (Sabme p)) l (λ here. sabme p here l))
   by-control (Ua true) l = seen-by (Ua true) l refl (in-state (IsSame (Ua true)) l (λ here. ua here l))
-  by-control (Ua false) l = unless _ (λ is. (establishes t l (received (frame (record f { control = Ua false }))) is).by)
-  by-control (Information ns nr p) l = unless _ (λ is. (establishes t l (received (frame (record f { control = Information ns nr p }))) is).by)
-  by-control (ReceiveReady nr p) l = unless _ (λ is. (establishes t l (received (frame (record f { control = ReceiveReady nr p }))) is).by)
-  by-control (ReceiveNotReady nr p) l = unless _ (λ is. (establishes t l (received (frame (record f { control = ReceiveNotReady nr p }))) is).by)
-  by-control (Reject nr p) l = unless _ (λ is. (establishes t l (received (frame (record f { control = Reject nr p }))) is).by)
-  by-control (Disc p) l = unless _ (λ is. (establishes t l (received (frame (record f { control = Disc p }))) is).by)
-  by-control (Ui p) l = unless _ (λ is. (establishes t l (received (frame (record f { control = Ui p }))) is).by)
-  by-control (Dm p) l = unless _ (λ is. (establishes t l (received (frame (record f { control = Dm p }))) is).by)
-  by-control (Frmr p) l = unless _ (λ is. (establishes t l (received (frame (record f { control = Frmr p }))) is).by)
-  by-control (Xid p) l = unless _ (λ is. (establishes t l (received (frame (record f { control = Xid p }))) is).by)
+  by-control other l = unless _ (λ is. (establishes t l (received (frame (record f { control = other }))) is).by)
 
   pub begins-is : (l : Link) → begins_by f.control (told t (received (frame f)) l).notes ≡ restarts t (received (frame f)) l
   begins-is l = by-control f.control l
@@ -83,31 +69,11 @@ by-frame : (from : State) (f : Parts) (control : Control) → let e = received (
 by-frame TeiAssigned f (Sabme p) up none = absurd (true≢false none)
 by-frame TeiAssigned f other up none = up
 by-frame AwaitingEstablishment f (Ua true) up none = absurd (true≢false none)
-by-frame AwaitingEstablishment f (Ua false) up none = up
 by-frame AwaitingEstablishment f (Dm true) up none = up
-by-frame AwaitingEstablishment f (Dm false) up none = up
-by-frame AwaitingEstablishment f (Sabme p) up none = up
-by-frame AwaitingEstablishment f (Information ns nr p) up none = up
-by-frame AwaitingEstablishment f (ReceiveReady nr p) up none = up
-by-frame AwaitingEstablishment f (ReceiveNotReady nr p) up none = up
-by-frame AwaitingEstablishment f (Reject nr p) up none = up
-by-frame AwaitingEstablishment f (Disc p) up none = up
-by-frame AwaitingEstablishment f (Ui p) up none = up
-by-frame AwaitingEstablishment f (Frmr p) up none = up
-by-frame AwaitingEstablishment f (Xid p) up none = up
+by-frame AwaitingEstablishment f other up none = up
 by-frame AwaitingRelease f (Ua true) up none = up
-by-frame AwaitingRelease f (Ua false) up none = up
 by-frame AwaitingRelease f (Dm true) up none = up
-by-frame AwaitingRelease f (Dm false) up none = up
-by-frame AwaitingRelease f (Sabme p) up none = up
-by-frame AwaitingRelease f (Information ns nr p) up none = up
-by-frame AwaitingRelease f (ReceiveReady nr p) up none = up
-by-frame AwaitingRelease f (ReceiveNotReady nr p) up none = up
-by-frame AwaitingRelease f (Reject nr p) up none = up
-by-frame AwaitingRelease f (Disc p) up none = up
-by-frame AwaitingRelease f (Ui p) up none = up
-by-frame AwaitingRelease f (Frmr p) up none = up
-by-frame AwaitingRelease f (Xid p) up none = up
+by-frame AwaitingRelease f other up none = up
 by-frame other f control up none = refl
 
 by-received : (from : State) (r : Received) → ComesUp from (received r) (by_received from r)
@@ -117,29 +83,18 @@ by-received from other = λ up none. up
 by-expiry : (from : State) (timer : LinkTimer) (again : Bool) → IsUp (by_expiry from timer again) → IsUp from
 by-expiry TeiAssigned timer again up = up
 by-expiry AwaitingEstablishment T200 true up = up
-by-expiry AwaitingEstablishment T200 false up = up
-by-expiry AwaitingEstablishment T203 again up = up
+by-expiry AwaitingEstablishment timer again up = up
 by-expiry AwaitingRelease T200 true up = up
-by-expiry AwaitingRelease T200 false up = up
-by-expiry AwaitingRelease T203 again up = up
+by-expiry AwaitingRelease timer again up = up
 by-expiry other timer again up = refl
 
 by-request : (from : State) (request : Request) → IsUp (by_request from request) → IsUp from
 by-request TeiAssigned Establish up = up
-by-request TeiAssigned Release up = up
-by-request TeiAssigned (Data octets) up = up
-by-request TeiAssigned SetBusy up = up
-by-request TeiAssigned ClearBusy up = up
+by-request TeiAssigned any up = up
 by-request AwaitingEstablishment Establish up = up
-by-request AwaitingEstablishment Release up = up
-by-request AwaitingEstablishment (Data octets) up = up
-by-request AwaitingEstablishment SetBusy up = up
-by-request AwaitingEstablishment ClearBusy up = up
+by-request AwaitingEstablishment any up = up
 by-request AwaitingRelease Establish up = up
-by-request AwaitingRelease Release up = up
-by-request AwaitingRelease (Data octets) up = up
-by-request AwaitingRelease SetBusy up = up
-by-request AwaitingRelease ClearBusy up = up
+by-request AwaitingRelease any up = up
 by-request other request up = refl
 
 either : (from : State) (e : Event) (b : Bool) (one other : State) → ComesUp from e one → ComesUp from e other → ComesUp from e (cond b one other)

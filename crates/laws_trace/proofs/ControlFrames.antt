@@ -1,21 +1,14 @@
 -- The control frames of a link that wait are those that were due, and have not begun: a moment of a card.
-use Rattle.laws_trace.proofs.Vocabulary.{◌≡◌, ℕ, ◌==◌, ◌&&◌, ◌||◌, Bool, true, false, cond, List, [], ◌++◌, get_or, length, take, ◌-◌, Option, Some, None, refl, sym, ap, ◌∙◌, subst, arith, eq-eqb, true≢false, append-nil, option_map_or, and_parts, get_or-set_same, Service, ControlFrame, Config, Line, fresh_line, link_of, state_of, Deactivate, lost_in, deactivates, Card, line_at, is_full, has_lines, by_room, line_sound, AllHaveTheirTimers}
-use Rattle.std.proofs.Common.{eqb-true}
-use Rattle.model_line.specs.Event as line_event
+use Rattle.laws_trace.proofs.Vocabulary.{◌≡◌, ℕ, ◌==◌, ◌&&◌, ◌||◌, Bool, true, false, cond, List, [], ◌++◌, get_or, length, take, ◌-◌, Option, Some, None, refl, sym, ap, ◌∙◌, subst, arith, eq-eqb, true≢false, append-nil, option_map_or, and_parts, get_or-set_same, Service, ControlFrame, Config, Line, fresh_line, link_of, state_of, Deactivate, lost_in, deactivates, Card, line_at, is_full, has_lines, by_room, line_sound, AllHaveTheirTimers, eqb-true, IsAtLine, Seen, seen, Event, request, after, card_answer as answer, CardIsSound as IsSound}
 use Rattle.model_line.specs.Machine as lines
 use Rattle.model_card.specs.Event as card
-use Rattle.model_card.specs.Machine as cards
-use Rattle.model_card.specs.Run.{IsAtLine}
-use Rattle.model_card.specs.Sound as card_sound
 use Rattle.laws_trace.proofs.ControlsWatched.{command_of}
 use Rattle.laws_trace.proofs.DeliveriesWatched.{Standing}
 use Rattle.laws_trace.proofs.States.{expired_of, one_more, differ}
-use Rattle.laws_trace.specs.Trace.{Seen, seen}
 use Rattle.laws_trace.proofs.ControlsAtLine.{waits, due_here, Passes, none-taken, event-passes}
 use Rattle.laws_trace.proofs.DeliveriesRun.{IsCount}
 use Rattle.laws_trace.proofs.LinksMove.{differ-self, none-expires}
-use Rattle.laws_trace.proofs.CallRuns.{apart}
-use Rattle.laws_trace.proofs.Runs.{nothing-seen}
+use Rattle.laws_trace.proofs.Runs.{nothing-seen, apart}
 use Rattle.laws_trace.proofs.Standing.{standing, stand-is, event-stands, event-counts}
 use Rattle.laws_trace.proofs.StandingOfLink.{calm, IsStanding}
 
@@ -28,9 +21,9 @@ pub as-calm : (w : Standing) → w.told.frame ≡ None → w ≡ calm w.told.cou
 as-calm w quiet = ap (λ o. record { told = record { frame = o; count = w.told.count }; busy = w.busy; rejected = w.rejected }) quiet
 
 -- a request that takes a slot deactivates nothing
-none-ended : (service : Service) (tei : ℕ) (c : Config) (e : line_event.Event) (l : Line) → lines.takes_slot c e l ≡ true → deactivates service tei e ≡ false
+none-ended : (service : Service) (tei : ℕ) (c : Config) (e : Event) (l : Line) → lines.takes_slot c e l ≡ true → deactivates service tei e ≡ false
 unfolding lines.takes_slot
-none-ended service tei c (line_event.request (Deactivate its by)) l takes = absurd (true≢false (sym takes))
+none-ended service tei c (request (Deactivate its by)) l takes = absurd (true≢false (sym takes))
 none-ended service tei c other l takes = refl
 
 module _ (service : Service) (tei : ℕ) where
@@ -70,8 +63,8 @@ module _ (service : Service) (tei : ℕ) where
     abbrev time_of : Line → card.Event → Bool → Line → Bool
     time_of l e b next = differ (state_of service tei l) (state_of service tei next) || (b && option_map_or one_more (expired_of service tei e.what) 0 == 1)
 
-    own-line : (m : Card) (e : card.Event) → card_sound.IsSound m → AllHaveTheirTimers m → IsAtLine m e → let l = line_at e.line m in Stands l
-        → let x = line_at e.line (cards.after e m) in Moves m.config was (time_of l e true x) (deactivates service tei e.what) l (seen e.what (cards.answer e m)) (lost_in (cards.answer e m)) x
+    own-line : (m : Card) (e : card.Event) → IsSound m → AllHaveTheirTimers m → IsAtLine m e → let l = line_at e.line m in Stands l
+        → let x = line_at e.line (after e m) in Moves m.config was (time_of l e true x) (deactivates service tei e.what) l (seen e.what (answer e m)) (lost_in (answer e m)) x
     own-line m e s timely here stands =
         let c = m.config in
         let l = line_at e.line m in
@@ -99,14 +92,14 @@ module _ (service : Service) (tei : ℕ) where
     abbrev Moment-moves : Card → card.Event → ℕ → Bool → Type 0
     Moment-moves m e number b =
         let l = line_at number m in
-        let x = line_at number (cards.after e m) in
-        Moves m.config was (time_of l e b x) (b && deactivates service tei e.what) l (cond b (seen e.what (cards.answer e m)) []) (lost_in (cards.answer e m)) x
+        let x = line_at number (after e m) in
+        Moves m.config was (time_of l e b x) (b && deactivates service tei e.what) l (cond b (seen e.what (answer e m)) []) (lost_in (answer e m)) x
 
-    pub moment : (m : Card) (e : card.Event) (number : ℕ) → card_sound.IsSound m → AllHaveTheirTimers m → IsAtLine m e → Stands (line_at number m)
+    pub moment : (m : Card) (e : card.Event) (number : ℕ) → IsSound m → AllHaveTheirTimers m → IsAtLine m e → Stands (line_at number m)
         → (b : Bool) → (e.line == number) ≡ b → Moment-moves m e number b
     moment m e number s timely at-line stands false other =
         let l = line_at number m in
-        let lost = lost_in (cards.answer e m) in
+        let lost = lost_in (answer e m) in
         subst (λ (x : Line). Moves m.config was (time_of l e false x) false l [] lost x) (sym (apart m e number (λ same. true≢false (sym (eq-eqb e.line number (sym same)) ∙ other))))
         (idle m.config (time_of l e false l) false l lost (no-time l 0 refl) refl stands)
     moment m e number s timely at-line stands true is =

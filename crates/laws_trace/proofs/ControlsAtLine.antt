@@ -1,23 +1,12 @@
 -- The control frames of a link that wait and go: one event of a line.
-use Rattle.laws_trace.proofs.Vocabulary.{◌≡◌, ℕ, ◌+◌, ◌-◌, ◌≤◌, ◌==◌, ◌&&◌, ◌||◌, Bool, true, false, cond, List, [], ◌++◌, drop, length, map, take, zero, suc, Some, None, refl, sym, ap, ◌∙◌, subst, inl, inr, append-nil, true≢false, flat_map, not, option_to_list, is_some, list_any, option_map_or, le-ltb, BadTei, NoLink, Service, same_service, place_of-is, takes_contents, as_heard, moves, as_response, event-follows, HasItsTimer, State, TeiAssigned, ControlFrame, Terms, restarts, eligible, Link, is_multiple_frame, state_number, delivery, event-delivers, Config, next, Answer, Deactivate, at_deactivated, Line, link_in, link_number, link_of, place_in, has_tei, state_of, terms, aim_of, unless_refused, IsInRange, sound_in, terms_in_range, lost_in, notes_of, is_data_of, deactivates, is_deactivation, both-true, IsBy, HaveTheirTimers}
-use Rattle.std.proofs.Common.{eqb-true}
+use Rattle.laws_trace.proofs.Vocabulary.{◌≡◌, ℕ, ◌+◌, ◌-◌, ◌≤◌, ◌==◌, ◌&&◌, ◌||◌, Bool, true, false, cond, List, [], ◌++◌, drop, length, map, take, zero, suc, Some, None, refl, sym, ap, ◌∙◌, subst, inl, inr, append-nil, true≢false, flat_map, not, option_to_list, is_some, list_any, option_map_or, le-ltb, BadTei, NoLink, Service, same_service, place_of-is, takes_contents, as_heard, moves, as_response, event-follows, HasItsTimer, ControlFrame, Terms, restarts, eligible, Link, is_multiple_frame, state_number, delivery, event-delivers, Config, next, Answer, Deactivate, at_deactivated, Line, link_in, link_number, link_of, place_in, has_tei, state_of, terms, aim_of, unless_refused, IsInRange, terms_in_range, lost_in, notes_of, is_data_of, deactivates, is_deactivation, both-true, IsBy, HaveTheirTimers, eqb-true, fresh_link as fresh, Event, refusal, Request, line_after as after, answer, line_frame_of as frame_of, IsSound, of_link, trace_frame_in as frame_in, Seen, seen, request}
 use Rattle.model_link.specs.Events as link
-use Rattle.model_link.specs.Link.{fresh}
 use Rattle.model_link.specs.Machine as links
 use Rattle.model_link.specs.Sound as link_sound
-use Rattle.model_line.specs.Event as line_event
-use Rattle.model_line.specs.Event.{Event}
-use Rattle.model_line.specs.Refusal.{refusal}
-use Rattle.model_line.specs.Request.{Request}
-use Rattle.model_line.specs.Machine.{after, answer}
-use Rattle.model_line.specs.Taken.{frame_of}
-use Rattle.model_line.specs.Sound.{IsSound}
-use Rattle.laws_line.specs.Requests.{of_link}
 use Rattle.laws_trace.proofs.ControlsWatched.{receipt, changed, command_of}
 use Rattle.laws_trace.proofs.DeliveriesWatched.{Standing}
 use Rattle.laws_trace.proofs.States.{expired_of, one_more, differ}
 use Rattle.laws_trace.proofs.TimersWatched.{nothing_yet}
-use Rattle.laws_trace.specs.Trace.{frame_in, Seen, seen}
 use Rattle.laws_trace.proofs.Addressed.{at-some-place}
 use Rattle.laws_trace.proofs.CommandsCaused.{IsNoOther}
 use Rattle.laws_trace.proofs.ControlsDue.{controls, answers_of, put_by}
@@ -33,14 +22,8 @@ use Rattle.laws_trace.proofs.ReceiptsNumbered.{taken-is}
 use Rattle.laws_trace.proofs.Standing.{behind, one-restarts, busy-is, rejected-is, event-stands}
 use Rattle.laws_trace.proofs.StandingOfLink.{calm, IsStanding, busy_behind, rejected_behind}
 use Rattle.laws_trace.proofs.TimersOfEvent.{state-on}
-
-unmoved : (state : State) → moves state state ≡ false
-unmoved TeiAssigned = refl
-unmoved other = refl
-
-as-busy : (b : Bool) (frames : List ControlFrame) → cond (cond b (not b) b) frames [] ≡ []
-as-busy true frames = refl
-as-busy false frames = refl
+use Rattle.laws_trace.proofs.Facts.{as-busy, same-state}
+use Rattle.laws_trace.proofs.LineAtEnd.{link-at-end}
 
 pub none-taken : (n : ℕ) → take {A = ControlFrame} n [] ≡ []
 none-taken zero = refl
@@ -140,7 +123,7 @@ module _ (service : Service) (tei : ℕ) where
           time : time_at l e new ≡ false
           time =
               time-is there.0 here.0 0 here.1 there.1 (ap (λ o. option_map_or one_more o 0) (none-ticks c service tei nothing_yet l here.0 here.1 e x.aims))
-              ∙ ap (λ (k : Link). moves own.state k.state || false) same ∙ ap (λ b. b || false) (unmoved own.state)
+              ∙ ap (λ (k : Link). moves own.state k.state || false) same ∙ ap (λ b. b || false) (same-state own.state)
 
           none : Put ≡ []
           none =
@@ -161,9 +144,9 @@ module _ (service : Service) (tei : ℕ) where
           low = s.management.table.range here.0 tei (place_of-is l.management.places tei here.0 here.1).1
 
           go : (e' : Event) → e ≡ e' → deactivates service tei e' ≡ false
-          go (line_event.request r) is = by-request r is
+          go (request r) is = by-request r is
             where
-              by-request : (r : Request) → e ≡ line_event.request r → is_deactivation service tei r ≡ false
+              by-request : (r : Request) → e ≡ request r → is_deactivation service tei r ≡ false
               by-request (Deactivate its by) is = other (same_service its service && by == tei) refl
                 where
                   other : (b : Bool) → (same_service its service && by == tei) ≡ b → b ≡ false
@@ -208,9 +191,7 @@ module _ (service : Service) (tei : ℕ) where
       later = links.after (terms c service tei) x.event (link_of service tei l)
 
       pub sound : link_sound.IsSound t own
-      sound =
-          subst (link_sound.IsSound t) (sym (ap (λ o. option_map_or (link_in l service) o fresh) x.placed))
-          (sound_in c ranged l s service tei x.place (place_of-is l.management.places tei x.place x.placed).1)
+      sound = link-at-end c l ranged s service tei x.place x.placed
 
       pub own-timed : HasItsTimer own
       own-timed = subst HasItsTimer (sym (ap (λ o. option_map_or (link_in l service) o fresh) x.placed)) (timed.links (link_number x.place service))
@@ -262,7 +243,7 @@ module _ (service : Service) (tei : ℕ) where
       none-due offer there on =
           put-is there on ∙ ap (λ e. put_by c.n201 was now e own.state (links.after t e own).state) offer
           ∙ ap (λ to. cond (moves own.state to || false) (command_of now (Some (state_number to))) []) (event-follows t link.offer own).leaves.state
-          ∙ ap (λ b. cond (b || false) (command_of now (Some (state_number own.state))) []) (unmoved own.state)
+          ∙ ap (λ b. cond (b || false) (command_of now (Some (state_number own.state))) []) (same-state own.state)
 
       begins-is : begins ≡ flat_map (begun_of c service tei) (frames_given c t x.event own)
       begins-is = begun-is c service tei e l ∙ ap (flat_map (begun_of c service tei)) x.begins

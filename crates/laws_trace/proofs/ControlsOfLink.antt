@@ -1,18 +1,13 @@
 -- What an event of a link puts is what it makes due.
-use Rattle.laws_trace.proofs.Vocabulary.{◌≡◌, ℕ, ◌+◌, ◌-◌, ◌≤◌, ◌==◌, ◌&&◌, ◌||◌, Bool, true, false, cond, List, [], ◌∷◌, ◌++◌, length, take, drop, zero, suc, Some, refl, sym, ap, ◌∙◌, subst, arith, true≢false, not, nat_lt, flat_map-append, All-take, Information, ReceiveReady, ReceiveNotReady, Reject, Sabme, Disc, Ua, Dm, Parts, seq, HasItsTimer, needed_in, State, TeiAssigned, AwaitingEstablishment, AwaitingRelease, Established, TimerRecovery, ControlFrame, Terms, LinkTimer, restarts, undefined, wrong_size, overlong, received, expired, requested, offer, cleared, Received, Link, is_multiple_frame, may_repeat, state_number, runs, establishes, busy_asked, takes_contents, as_heard, moves, by_expiry, state_after, is_overlong, receipt_as, as_response, as_command, is_next, to_supervisory, to_sabme, to_disc, answers, command_in, commands, put, behind, waiting_left, event-follows, Seq}
-use Rattle.std.proofs.lemmas.List.{length-drop}
-use Rattle.lapd_frame.specs.declared.controls.Control.{Control}
-use Rattle.model_link.specs.declared.timers.LinkTimer.TheVariants.{T200, T203}
-use Rattle.model_link.specs.Events.{Event, frame, Request, Establish, Release, Data, SetBusy, ClearBusy}
-use Rattle.model_link.specs.Machine as links
+use Rattle.laws_trace.proofs.Vocabulary.{◌≡◌, ℕ, ◌+◌, ◌-◌, ◌≤◌, ◌==◌, ◌&&◌, ◌||◌, Bool, true, false, cond, List, [], ◌∷◌, ◌++◌, length, take, drop, zero, suc, Some, refl, sym, ap, ◌∙◌, subst, arith, true≢false, not, nat_lt, flat_map-append, All-take, Information, ReceiveReady, ReceiveNotReady, Reject, Sabme, Disc, Ua, Dm, Parts, seq, HasItsTimer, needed_in, State, TeiAssigned, AwaitingEstablishment, AwaitingRelease, Established, TimerRecovery, ControlFrame, Terms, LinkTimer, restarts, undefined, wrong_size, overlong, received, expired, requested, offer, cleared, Received, Link, is_multiple_frame, may_repeat, state_number, runs, establishes, busy_asked, takes_contents, as_heard, moves, by_expiry, state_after, is_overlong, receipt_as, as_response, as_command, is_next, to_supervisory, to_sabme, to_disc, answers, command_in, commands, put, behind, waiting_left, event-follows, Seq, length-drop, Control, T200, T203, LinkEvent as Event, frame, LinkRequest as Request, LinkEstablish as Establish, LinkRelease as Release, LinkData as Data, LinkSetBusy as SetBusy, LinkClearBusy as ClearBusy, room, link_after as after, link_told as told, false_from_ne_true}
 use Rattle.laws_link.specs.Waiting as waiting
-use Rattle.laws_link.specs.Waiting.{room}
 use Rattle.laws_trace.proofs.ControlsWatched.{control_in, receipt, polled, to_information, while_up, answer_to, changed, command_of}
 use Rattle.laws_trace.proofs.DeliveriesWatched.{Standing}
 use Rattle.laws_trace.proofs.CommandsCaused.{enquires, IsNoOther, none-heard, none-asked}
 use Rattle.laws_trace.proofs.ControlsDue.{controls, answers_of, put_by, IsControl, all-put, all-controls}
 use Rattle.laws_trace.proofs.MovesOfLink.{ticks}
 use Rattle.laws_trace.proofs.StandingOfLink.{calm, rejected_behind}
+use Rattle.laws_trace.proofs.Facts.{either-none}
 
 -- V(R), own busy and whether REJ stands while the link is up, before an event and behind it.
 abbrev pub number_after : Event → Link → ℕ
@@ -58,10 +53,6 @@ by-disc : (s : State) (p : Bool) → to_disc s p ≡ cond (state_number s == 4 |
 by-disc TeiAssigned p = refl
 by-disc other p = refl
 
-either-none : (b : Bool) → cond {A = List ControlFrame} b [] [] ≡ []
-either-none true = refl
-either-none false = refl
-
 if-both : (a b : Bool) (xs : List ControlFrame) → cond (a && b) xs [] ≡ cond a (cond b xs []) []
 if-both true b xs = refl
 if-both false b xs = refl
@@ -87,11 +78,7 @@ module _ (t : Terms) (l : Link) (m : ℕ) (busy rejected : Bool) (n : ℕ) (busy
 
   -- numbers begin by no frame but these
   goes-on : (e : Event) → (restarts t e l ≡ true → ⊥) → restarts t e l ≡ false
-  goes-on e never = go (restarts t e l) never
-    where
-      go : (b : Bool) → (b ≡ true → ⊥) → b ≡ false
-      go true h = absurd (h refl)
-      go false h = refl
+  goes-on e never = false_from_ne_true (restarts t e l) never
 
   -- what is due by the link's own fields is due by what a watcher has in mind
   as-seen : (e : Event) (D : Standing → Standing → List ControlFrame) (xs : List ControlFrame) → Seen e → is_multiple_frame l.state ≡ true → restarts t e l ≡ false
@@ -283,8 +270,8 @@ as-many (suc n) (x ∷ xs) =
 -- What waits behind those that waited.
 pub puts : (t : Terms) (e : Event) (l : Link) (m : ℕ) (busy rejected : Bool) (n : ℕ) (busy_now rejected_now : Bool) → IsNoOther e → HasItsTimer l
     → IsNumbered t e l m busy rejected n busy_now rejected_now
-    → let due = put_by t.n201 (calm m busy rejected) (calm n busy_now rejected_now) e l.state (links.after t e l).state in
-    controls (links.after t e l).waiting ≡ controls l.waiting ++ take (length due - (links.told t e l).lost) due
+    → let due = put_by t.n201 (calm m busy rejected) (calm n busy_now rejected_now) e l.state (after t e l).state in
+    controls (after t e l).waiting ≡ controls l.waiting ++ take (length due - (told t e l).lost) due
 puts t e l m busy rejected n busy_now rejected_now other timed h =
     ap controls waits ∙ flat_map-append (λ (f : ControlFrame). control_in f.command f.control) l.waiting (take (room t l) due)
     ∙ ap (λ xs. controls l.waiting ++ xs) (all-controls (take (room t l) due) (All-take IsControl (room t l) due (all-put t.n201 was now e l.state to)) ∙ as-many (room t l) due
@@ -300,7 +287,7 @@ puts t e l m busy rejected n busy_now rejected_now other timed h =
     heard = as_heard t e
 
     to : State
-    to = (links.after t e l).state
+    to = (after t e l).state
 
     due : List ControlFrame
     due = put_by t.n201 was now e l.state to
@@ -317,8 +304,8 @@ puts t e l m busy rejected n busy_now rejected_now other timed h =
     others cleared other = absurd other
     others any other = refl
 
-    waits : (links.after t e l).waiting ≡ l.waiting ++ take (room t l) due
+    waits : (after t e l).waiting ≡ l.waiting ++ take (room t l) due
     waits = (event-follows t e l).leaves.waiting ∙ others e other ∙ ap (λ fs. l.waiting ++ take (room t l) fs) is
 
-    lost-is : (links.told t e l).lost ≡ length (drop (room t l) due)
+    lost-is : (told t e l).lost ≡ length (drop (room t l) due)
     lost-is = (event-follows t e l).leaves.lost_is ∙ ap (λ fs. length (drop (room t l) fs)) is

@@ -1,37 +1,20 @@
 -- What is seen of the control frames of a link, and which are due by it.
-use Rattle.laws_trace.proofs.Vocabulary.{◌≡◌, ℕ, zero, suc, ◌==◌, ◌&&◌, Bool, true, false, cond, List, [], ◌∷◌, ◌++◌, map, drop, Option, Some, None, refl, sym, ap, ◌∙◌, ◌⊎◌, inl, inr, eq-eqb, append-nil, true≢false, Result, Ok, Err, All, IfSome, flat_map, option_to_list, nat_lt, length, All-head, All-tail, Ui, ReadFault, Service, Parts, reading, sapi_of, reading-again, event-follows, ControlFrame, Terms, Link, address_at, IsGiven, Given, orders_for, given_is_frame, Config, Effect, hears, expiry, request, next, Answer, Line, place_in, terms, aim_of, of_request, unless_refused_told, heard_side, message_of, aim_of_reading, aim_of_heard, at_side, IsMalformed, IsTooLong, is_granted, IsBy, Brings, BringsMalformed, sapi-is, same-sapi, both-true, Refusal}
-use Rattle.std.proofs.Common.{eqb-true}
-use Rattle.std.specs.Option.{unwrap_or}
+use Rattle.laws_trace.proofs.Vocabulary.{◌≡◌, ℕ, ◌==◌, ◌&&◌, Bool, true, false, cond, List, [], ◌∷◌, ◌++◌, map, drop, Option, Some, None, refl, sym, ap, ◌∙◌, ◌⊎◌, inl, inr, eq-eqb, append-nil, true≢false, Result, Ok, Err, All, IfSome, flat_map, option_to_list, nat_lt, length, All-head, All-tail, Ui, ReadFault, Service, Parts, reading, sapi_of, reading-again, event-follows, ControlFrame, Terms, Link, address_at, IsGiven, Given, orders_for, given_is_frame, Config, Effect, hears, expiry, request, next, Answer, Line, place_in, terms, aim_of, of_request, unless_refused_told, heard_side, message_of, aim_of_reading, aim_of_heard, at_side, IsMalformed, IsTooLong, is_granted, IsBy, Brings, BringsMalformed, sapi-is, same-sapi, both-true, Refusal, eqb-true, unwrap_or, information_of, begun as course_begun, Event, told, answer, line_frame_of as frame_of, Request, trace_frame_in as frame_in, Seen, heard, seen, seen_told, seen_granted, refusal, drop-nil, link_after as after, link_given_of as given_of, offer_among, LinkIsInRange as IsInRange, LinkIsSound as IsSound, trace_begun as begun}
 use Rattle.model_bits.specs.Stream as stream
-use Rattle.lapd_tei.specs.Messages.{information_of}
 use Rattle.model_link.specs.Events as link
-use Rattle.model_link.specs.Machine as links
-use Rattle.model_link.specs.Offers
-use Rattle.model_link.specs.Sound as link_sound
-use Rattle.model_link.specs.Steps.{begun as course_begun}
-use Rattle.model_line.specs.Event.{Event, told}
-use Rattle.model_line.specs.Machine.{answer}
-use Rattle.model_line.specs.Taken.{frame_of}
-use Rattle.model_line.specs.Request.{Request}
 use Rattle.laws_line.specs.Requests as requests
 use Rattle.laws_trace.proofs.ControlsWatched.{of_link, control_in, controls_at, while_up, answer_to, changed, answers_at, answers_to_frame}
 use Rattle.laws_trace.proofs.DeliveriesWatched.{Standing}
-use Rattle.laws_trace.specs.Trace.{frame_in, Seen, heard, seen, seen_told, seen_granted}
 use Rattle.laws_trace.proofs.Addressed.{addressed-is}
 use Rattle.laws_trace.proofs.CommandsCaused.{same-itself}
 use Rattle.laws_trace.proofs.ControlsDue.{controls, answers_of}
 use Rattle.laws_trace.proofs.OneLink.{frames_given, IsForeign, is_at_link}
 use Rattle.laws_trace.proofs.ReadAgain.{read-again}
 use Rattle.laws_trace.proofs.Spelled.{whole-parts, given-spells}
-use Rattle.laws_trace.specs.Trace as traces
-use Rattle.model_line.specs.Refusal.{refusal}
+use Rattle.laws_trace.proofs.Facts.{either-none}
 
 abbrev control_of : ControlFrame → List ControlFrame
 control_of f = control_in f.command f.control
-
-either-none : (b : Bool) → cond {A = List ControlFrame} b [] [] ≡ []
-either-none true = refl
-either-none false = refl
 
 module _ (c : Config) (service : Service) (tei : ℕ) where
   abbrev pub begun_of : List ℕ → List ControlFrame
@@ -53,7 +36,7 @@ module _ (c : Config) (service : Service) (tei : ℕ) where
   none-granted r (told t) = refl
   none-granted r other = refl
 
-  by-begun : (frames : List (List ℕ)) → controls_begun (map traces.begun frames) ≡ flat_map begun_of frames
+  by-begun : (frames : List (List ℕ)) → controls_begun (map begun frames) ≡ flat_map begun_of frames
   by-begun [] = refl
   by-begun (f ∷ frames) = ap (λ xs. begun_of f ++ xs) (by-begun frames)
 
@@ -96,37 +79,33 @@ module _ (c : Config) (service : Service) (tei : ℕ) where
       ∙ ap (λ b. cond b (control_of g.frame) []) (ap (λ b. b && tei == tei) (eq-eqb (sapi_of service) (sapi_of service) refl) ∙ eq-eqb tei tei refl)
 
   -- So it is the first that begins, and the others wait on.
-  drop-none : (n : ℕ) → drop {A = ControlFrame} n [] ≡ []
-  drop-none zero = refl
-  drop-none (suc n) = refl
-
   drop-front : (xs ys : List ControlFrame) → drop (length xs) (xs ++ ys) ≡ ys
   drop-front [] ys = refl
   drop-front (x ∷ xs) ys = drop-front xs ys
 
-  pub first-begins : (l : Link) → link_sound.IsInRange its → link_sound.IsSound its l → (f : ControlFrame) (fs : List ControlFrame) → l.waiting ≡ f ∷ fs
+  pub first-begins : (l : Link) → IsInRange its → IsSound its l → (f : ControlFrame) (fs : List ControlFrame) → l.waiting ≡ f ∷ fs
       → flat_map begun_of (frames_given c its link.offer l) ≡ control_of f
   first-begins l range sound f fs is = go l.waiting is (given_is_frame its range l sound)
     where
-      go : (ws : List ControlFrame) → ws ≡ f ∷ fs → let under = Offers.offer_among its ws (course_begun l) in
-          IfSome (links.given_of its l under under.sent) (λ g. IsGiven its g.frame g.contents)
-          → flat_map begun_of (map (frame_of c its) (option_to_list (links.given_of its l under under.sent))) ≡ control_of f
+      go : (ws : List ControlFrame) → ws ≡ f ∷ fs → let under = offer_among its ws (course_begun l) in
+          IfSome (given_of its l under under.sent) (λ g. IsGiven its g.frame g.contents)
+          → flat_map begun_of (map (frame_of c its) (option_to_list (given_of its l under under.sent))) ≡ control_of f
       go [] is h = cc is
       go (x ∷ xs) is h =
-          let under = Offers.offer_among its (x ∷ xs) (course_begun l) in
+          let under = offer_among its (x ∷ xs) (course_begun l) in
           let g : Given = record { frame = x; contents = None; orders = orders_for its l.running under.started under.link.running } in
           let same : x ≡ f = cc is in
           append-nil (begun_of (frame_of c its g)) ∙ given-read g h ∙ ap control_of same
 
-  pub offer-leaves : (l : Link) → link_sound.IsInRange its → link_sound.IsSound its l
-      → controls (links.after its link.offer l).waiting ≡ drop (length (flat_map begun_of (frames_given c its link.offer l))) (controls l.waiting)
+  pub offer-leaves : (l : Link) → IsInRange its → IsSound its l
+      → controls (after its link.offer l).waiting ≡ drop (length (flat_map begun_of (frames_given c its link.offer l))) (controls l.waiting)
   offer-leaves l range sound = ap controls (event-follows its link.offer l).leaves.waiting ∙ go l.waiting refl
     where
       begins : List ControlFrame
       begins = flat_map begun_of (frames_given c its link.offer l)
 
       go : (ws : List ControlFrame) → l.waiting ≡ ws → controls (drop 1 l.waiting) ≡ drop (length begins) (controls l.waiting)
-      go [] is = ap (λ ws. controls (drop 1 ws)) is ∙ sym (ap (λ ws. drop (length begins) (controls ws)) is ∙ drop-none (length begins))
+      go [] is = ap (λ ws. controls (drop 1 ws)) is ∙ sym (ap (λ ws. drop (length begins) (controls ws)) is ∙ drop-nil (length begins))
       go (f ∷ fs) is =
           ap (λ ws. controls (drop 1 ws)) is
           ∙ sym (ap (λ ws. drop (length begins) (controls ws)) is ∙ ap (λ xs. drop (length xs) (control_of f ++ controls fs)) (first-begins l range sound f fs is)
@@ -144,7 +123,7 @@ module _ (c : Config) (service : Service) (tei : ℕ) where
     told-none (told t) = refl
     told-none other = refl
 
-    pub begun-none : (frames : List (List ℕ)) → answers_seen (map traces.begun frames) ≡ []
+    pub begun-none : (frames : List (List ℕ)) → answers_seen (map begun frames) ≡ []
     begun-none [] = refl
     begun-none (f ∷ frames) = begun-none frames
 

@@ -1,15 +1,8 @@
 -- Counters count what is seen: the law.
-use Rattle.laws_trace.proofs.Vocabulary.{◌≡◌, ℕ, ◌+◌, ◌<◌, ◌==◌, Bool, true, false, cond, List, [], ◌∷◌, ◌++◌, map, Option, Some, None, refl, sym, ap, ◌∙◌, arith, true≢false, ◌⊎◌, inl, inr, append-nil, flat_map, flat_map-append, sum_by-append, Cause, Counter, Frames, Octets, Polls, Overlong, Dropped, Messages, Heard, Begun, Kind, More, place, cause_place, amount_of, amount_in, kind_place, heard_shown, note_shown, drop_shown, lost_shown, Side, Config, shown, answer_shown, Answer, refused, gave, Line, Refusal, PoolFull, Card, line_at, by_room, all_shown, moments}
-use Rattle.std.proofs.Common.{eqb-true}
+use Rattle.laws_trace.proofs.Vocabulary.{◌≡◌, ℕ, ◌+◌, ◌<◌, ◌==◌, Bool, true, false, cond, List, [], ◌∷◌, ◌++◌, map, Option, Some, None, refl, sym, ap, ◌∙◌, arith, true≢false, ◌⊎◌, inl, inr, append-nil, flat_map, flat_map-append, sum_by-append, Cause, Counter, Frames, Octets, Polls, Overlong, Dropped, Messages, Heard, Begun, Kind, More, place, cause_place, amount_of, amount_in, kind_place, heard_shown, note_shown, drop_shown, lost_shown, Side, Config, shown, answer_shown, Answer, refused, gave, Line, Refusal, PoolFull, Card, line_at, by_room, all_shown, moments, eqb-true, told, refusal, fresh, CardEvent as Event, after, card_answer as answer, Seen, seen, seen_told, heard, trace_begun as begun, trace, Always}
 use Rattle.model_line.specs.Event as line_event
-use Rattle.model_line.specs.Event.{told}
 use Rattle.model_line.specs.Machine as lines
-use Rattle.model_line.specs.Refusal.{refusal}
-use Rattle.model_card.specs.Card.{fresh}
-use Rattle.model_card.specs.Event.{Event}
-use Rattle.model_card.specs.Machine.{after, answer}
 use Rattle.laws_trace.specs.CountersCount.{names, is_drop, CountersCount}
-use Rattle.laws_trace.specs.Trace.{Seen, seen, seen_told, heard, begun, trace, Always}
 
 -- No other counter stands among those of drops.
 kind-low : (k : Kind) → kind_place k < 12

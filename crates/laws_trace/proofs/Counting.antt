@@ -1,8 +1,5 @@
 -- When the numbers of a link begin, and how many contents were told since, by what is heard and noted.
-use Rattle.laws_trace.proofs.Vocabulary.{ℕ, ◌+◌, ◌&&◌, not, Bool, true, false, List, [], ◌∷◌, Option, Some, None, if◌then◌else◌, list_any, Sabme, Ua, C, Note, Error, ReleaseConfirm, Service, Parts, Config, is_data_of}
-use Rattle.lapd_frame.specs.declared.controls.Control.{Control}
-use Rattle.laws_trace.specs.LinkFrames.{frame_of, is_for}
-use Rattle.laws_trace.specs.Trace.{Seen, heard, noted}
+use Rattle.laws_trace.proofs.Vocabulary.{ℕ, ◌+◌, ◌&&◌, not, Bool, true, false, List, [], ◌∷◌, Option, Some, None, if◌then◌else◌, list_any, Sabme, Ua, C, Note, Error, ReleaseConfirm, Service, Parts, Config, is_data_of, Control, frame_of, is_for, Seen, heard, trace_noted as noted}
 
 -- Whoever watches the link of a service with a TEI keeps in mind the frame that was heard right before, as the grammar
 -- reads it, and how many contents were told as data of the link since its numbers began.

@@ -1,16 +1,11 @@
 -- What an event of a line is to the data of a link: what it asks for, and what it does not.
-use Rattle.laws_trace.proofs.Vocabulary.{◌≡◌, ℕ, ◌==◌, ◌&&◌, Bool, true, false, cond, List, [], ◌∷◌, Option, Some, None, refl, sym, ap, ◌∙◌, eq-eqb, true≢false, is_some, Service, same_service, not_not, Terms, Link, accepted, i_frames, Config, hears, request, next, Answer, Line, has_tei, place_in, aim_of, unless_refused, bad_tei, no_link, wrong_state, too_long, queue_full, pool_full, at_requested, is_granted, IsBy, passed, not-refused, service-same, is-off}
+use Rattle.laws_trace.proofs.Vocabulary.{◌≡◌, ℕ, ◌==◌, ◌&&◌, Bool, true, false, cond, List, [], ◌∷◌, Option, Some, None, refl, sym, ap, ◌∙◌, eq-eqb, true≢false, is_some, Service, same_service, not_not, Terms, Link, accepted, i_frames, Config, hears, request, next, Answer, Line, has_tei, place_in, aim_of, unless_refused, bad_tei, no_link, wrong_state, too_long, queue_full, pool_full, at_requested, is_granted, IsBy, passed, not-refused, service-same, is-off, Event, answer, refusal, Request, Data, of_link, data_asked}
 use Rattle.model_bits.specs.Stream as stream
 use Rattle.model_link.specs.Events as link
 use Rattle.model_link.specs.Requests as requests
-use Rattle.model_line.specs.Event.{Event}
-use Rattle.model_line.specs.Machine.{answer}
-use Rattle.model_line.specs.Refusal.{refusal}
-use Rattle.model_line.specs.Request.{Request, Data}
-use Rattle.laws_line.specs.Requests.{of_link}
-use Rattle.laws_trace.specs.Trace.{data_asked}
 use Rattle.laws_trace.proofs.OneLink.{is_at_link}
 use Rattle.laws_trace.proofs.Deliveries.{heard-by}
+use Rattle.laws_trace.proofs.Facts.{either-none}
 
 -- What an event that is no request and no call is to its link: it accepts nothing, and gives nothing.
 pub no-data : (c : Config) (e : Event) (a : Answer) (service : Service) (tei : ℕ) (t : Terms) (k : Link) → ((r : Request) → e ≡ request r → ⊥) → (e ≡ next → ⊥)
@@ -40,10 +35,6 @@ only-offered c a service tei (link.expired timer) by = cc by
 only-offered c a service tei (link.requested what full) by = let e : next ≡ request (of_link service tei what) = by.0 in cc e
 only-offered c a service tei link.offer by = refl
 only-offered c a service tei link.cleared by = absurd by
-
-either-none : (b : Bool) → cond {A = List (List ℕ)} b [] [] ≡ []
-either-none true = refl
-either-none false = refl
 
 -- Data that is granted is accepted by its link,
 pub granted-data : (service : Service) (tei : ℕ) (t : Terms) (k : Link) (full : Bool) (what : link.Request)

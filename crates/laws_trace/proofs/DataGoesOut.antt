@@ -1,11 +1,5 @@
 -- I-frames of a link that go out, as they are read.
-use Rattle.laws_trace.proofs.Vocabulary.{◌≡◌, ℕ, ◌==◌, ◌&&◌, Bool, true, false, cond, List, [], Option, Some, None, refl, ap, ◌∙◌, subst, eq-eqb, inl, inr, true≢false, IfSome, option_map_or, Information, Ui, Service, Parts, reading, sapi_of, reading-again, Link, address_at, is_information, Given, given_is_frame, Config, NextFrame, terms, same-sapi}
-use Rattle.std.specs.Prelude.{unwrap_or}
-use Rattle.lapd_frame.specs.declared.controls.Control.{Control}
-use Rattle.lapd_tei.specs.Messages.{information_of}
-use Rattle.model_link.specs.Machine as links
-use Rattle.model_link.specs.Sound as link_sound
-use Rattle.model_line.specs.Taken.{frame_of}
+use Rattle.laws_trace.proofs.Vocabulary.{◌≡◌, ℕ, ◌==◌, ◌&&◌, Bool, true, false, cond, List, [], Option, Some, None, refl, ap, ◌∙◌, subst, eq-eqb, inl, inr, true≢false, IfSome, option_map_or, Information, Ui, Service, Parts, reading, sapi_of, reading-again, Link, address_at, is_information, Given, given_is_frame, Config, NextFrame, terms, same-sapi, unwrap_or, Control, information_of, line_frame_of as frame_of, given, IsGiven, LinkIsInRange as IsInRange, LinkIsSound as IsSound}
 use Rattle.laws_trace.proofs.TimersWatched.{Sent, sent_by, sent_in}
 use Rattle.laws_trace.proofs.OneLink.{IsForeign}
 use Rattle.laws_trace.proofs.ReadAgain.{read-again}
@@ -40,13 +34,13 @@ module _ (c : Config) (service : Service) (tei : ℕ) where
       ∙ read-again c.side (λ r. sent_in service tei r ≡ None) (address_at t g.frame.command) g.frame.control
       (λ info. ap (λ b. cond b (sent_by g.frame.control info) None) away) (λ fault. refl) (unwrap_or g.contents [])
 
-  pub own-sent : (k : Link) → link_sound.IsInRange (terms c service tei) → link_sound.IsSound (terms c service tei) k → (g : Given) → links.given (terms c service tei) k ≡ Some g
+  pub own-sent : (k : Link) → IsInRange (terms c service tei) → IsSound (terms c service tei) k → (g : Given) → given (terms c service tei) k ≡ Some g
       → sent_of (frame_of c (terms c service tei) g) ≡ sent_by g.frame.control (unwrap_or g.contents [])
   own-sent k ranged s g is =
       let t = terms c service tei in
       let info = unwrap_or g.contents [] in
       let f : Parts = record { address = address_at t g.frame.command; control = g.frame.control; info = info } in
-      let whole = subst (λ o. IfSome o (λ g. link_sound.IsGiven t g.frame g.contents)) is (given_is_frame t ranged k s) in
+      let whole = subst (λ o. IfSome o (λ g. IsGiven t g.frame g.contents)) is (given_is_frame t ranged k s) in
       ap (sent_in service tei) (reading-again c.side f (frame_of c t g) (record { is_frame = whole.whole; octets_are = refl }))
       ∙ ap (λ b. cond b (sent_by g.frame.control info) None) (ap (λ b. b && tei == tei) (eq-eqb (sapi_of service) (sapi_of service) refl) ∙ eq-eqb tei tei refl)
 

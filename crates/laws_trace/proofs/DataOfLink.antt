@@ -1,8 +1,7 @@
 -- What an event of a link is to the contents that it keeps: what is acknowledged of them, and what is accepted.
-use Rattle.laws_trace.proofs.Vocabulary.{◌≡◌, ℕ, ◌+◌, ◌≤◌, Bool, true, false, cond, List, [], ◌∷◌, Option, Some, None, refl, ap, arith, is_some, option_map_or, Seq, named, WrongState, Terms, received, requested, Link, is_multiple_frame, refusal_for_room, named-within, acknowledged_by, accepted, beyond, number_received}
-use Rattle.model_link.specs.Events.{Event, Request, Data}
+use Rattle.laws_trace.proofs.Vocabulary.{◌≡◌, ℕ, ◌+◌, ◌≤◌, Bool, true, false, cond, List, [], ◌∷◌, Option, Some, None, refl, ap, arith, is_some, option_map_or, Seq, named, WrongState, Terms, received, requested, Link, is_multiple_frame, refusal_for_room, named-within, acknowledged_by, accepted, beyond, number_received, LinkEvent as Event, LinkRequest as Request, LinkData as Data, acknowledged}
 use Rattle.model_link.specs.Requests.{refusal}
-use Rattle.laws_link.specs.Accepted.{acknowledged}
+use Rattle.laws_trace.proofs.Facts.{either-none}
 
 -- What is acknowledged had gone.
 acknowledged-number : (l : Link) → l.a ≤ l.s → (o : Option Seq) → l.a + acknowledged_by o l ≤ l.s
@@ -22,10 +21,6 @@ acknowledged-went t (received r) l ordered = acknowledged-number l ordered (numb
 acknowledged-went t other l ordered = omega (arith, ordered)
 
 -- No data is accepted but in states 7 and 8.
-either-none : (b : Bool) → cond {A = List (List ℕ)} b [] [] ≡ []
-either-none true = refl
-either-none false = refl
-
 none-asked : (t : Terms) (request : Request) (full : Bool) (l : Link) → is_multiple_frame l.state ≡ false → accepted t (requested request full) l ≡ []
 none-asked t (Data octets) full l down =
     ap (λ b. cond {A = List (List ℕ)} (is_some (cond b (refusal_for_room t l full (Data octets)) (Some WrongState))) [] (octets ∷ [])) down

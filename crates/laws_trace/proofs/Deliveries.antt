@@ -1,22 +1,10 @@
 -- What is told is what was heard.
-use Rattle.laws_trace.proofs.Vocabulary.{◌≡◌, ℕ, ◌%◌, ◌≤◌, ◌==◌, ◌&&◌, Bool, true, false, cond, List, [], ◌∷◌, length, Option, Some, None, refl, sym, ap, ◌∙◌, arith, eq-eqb, ◌⊎◌, inl, inr, true≢false, All, ◌||◌, not, nat_le, count_by, option_to_list, list_any, and_parts, All-head, All-tail, sum_by-cons, none-some, Seq, Address, Note, Service, Parts, reading, sapi_of, service_of, same_service, Terms, Arrived, restarts, eligible, eligible_of, is_eligible, Link, is_multiple_frame, notes-own, establishes, unit_heard, in_ui_frame, Config, hears, Answer, Line, link_in, terms, aim_of, heard_side, group_tei, IsInRange, IsMalformed, IsTooLong, notes_of, contents_in, is_data_of, is_unit_of, tells_contents, IsBy, Brings, BringsMalformed, contents-heard, sapi-is, read-aim, read-event, told-once, group-read}
+use Rattle.laws_trace.proofs.Vocabulary.{◌≡◌, ℕ, ◌%◌, ◌≤◌, ◌==◌, ◌&&◌, Bool, true, false, cond, List, [], ◌∷◌, length, Option, Some, None, refl, sym, ap, ◌∙◌, arith, eq-eqb, ◌⊎◌, inl, inr, true≢false, All, ◌||◌, not, nat_le, count_by, option_to_list, list_any, and_parts, All-head, All-tail, sum_by-cons, none-some, Seq, Address, Note, Service, Parts, reading, sapi_of, service_of, same_service, Terms, Arrived, restarts, eligible, eligible_of, is_eligible, Link, is_multiple_frame, notes-own, establishes, unit_heard, in_ui_frame, Config, hears, Answer, Line, link_in, terms, aim_of, heard_side, group_tei, IsInRange, IsMalformed, IsTooLong, notes_of, contents_in, is_data_of, is_unit_of, tells_contents, IsBy, Brings, BringsMalformed, contents-heard, sapi-is, read-aim, read-event, told-once, group-read, Control, link_information_of as information_of, IsOwn, Event, answer, IsSound, result_ok, frame_of, is_for, is_ui, Information, Ui, NoteData as Data, Unit, IsHeard, IsHeardAtLink, IsHeardByGroup}
 use Rattle.model_bits.specs.Stream as stream
-use Rattle.lapd_frame.specs.declared.controls.Control.{Control}
-use Rattle.lapd_frame.specs.declared.controls.Control.TheVariants as control
-use Rattle.lapd_frame.specs.declared.notes.Note.TheVariants as notes
-use Rattle.model_link.specs.Deliveries.{information_of}
 use Rattle.model_link.specs.Events as link
-use Rattle.model_link.specs.Notes.{IsOwn}
 use Rattle.model_link.specs.Machine as links
-use Rattle.model_line.specs.Event.{Event}
-use Rattle.model_line.specs.Machine.{answer}
-use Rattle.model_line.specs.Sound.{IsSound}
-use Rattle.laws_line.specs.Heard as line_heard
-use Rattle.std.specs.Result.{result_ok}
-use Rattle.laws_trace.specs.LinkFrames.{frame_of, is_for}
 use Rattle.laws_trace.proofs.Counting.{begins_by, begins}
 use Rattle.laws_trace.proofs.DeliveriesWatched.{number_in, IsOfFrame}
-use Rattle.laws_trace.specs.Units.{is_ui}
 use Rattle.laws_trace.proofs.Begins.{unless, begins-is}
 use Rattle.laws_trace.proofs.OneLink.{is_at_link}
 
@@ -46,11 +34,11 @@ some-own t q P h (n ∷ ns) own e = go (q n) refl e (λ any. some-own t q P h ns
 
 module _ (service : Service) (tei : ℕ) where
   pub data-tells : (n : Note) → is_data_of service tei n ≡ true → tells_contents n ≡ true
-  data-tells (notes.Data s n) e = refl
+  data-tells (Data s n) e = refl
   data-tells other e = absurd (true≢false (sym e))
 
   pub unit-tells : (n : Note) → is_unit_of service tei n ≡ true → tells_contents n ≡ true
-  unit-tells (notes.Unit s n) e = refl
+  unit-tells (Unit s n) e = refl
   unit-tells other e = absurd (true≢false (sym e))
 
   module _ (t : Terms) where
@@ -61,11 +49,11 @@ module _ (service : Service) (tei : ℕ) where
     its s n own e = ap (λ z. same_service z service && t.tei == tei) (sym own.0) ∙ ap (λ m. same_service s service && m == tei) (sym own.1) ∙ e
 
     pub data-own : (n : Note) → IsOwn t n → is_data_of service tei n ≡ true → IsIts
-    data-own (notes.Data s n) own e = its s n own e
+    data-own (Data s n) own e = its s n own e
     data-own other own e = absurd (true≢false (sym e))
 
     pub unit-own : (n : Note) → IsOwn t n → is_unit_of service tei n ≡ true → IsIts
-    unit-own (notes.Unit s n) own e = its s n own e
+    unit-own (Unit s n) own e = its s n own e
     unit-own other own e = absurd (true≢false (sym e))
 
 -- An event that is none of the link notes no contents of it.
@@ -83,7 +71,7 @@ module _ (c : Config) (ranged : IsInRange c) (l : Line) (s : IsSound c l) (e : E
       absurd (omega (arith, many, none))
 
   noted-aim : (q : Note → Bool) → ((t : Terms) (n : Note) → IsOwn t n → q n ≡ true → (same_service t.service service && t.tei == tei) ≡ true)
-      → list_any q (notes_of a) ≡ true → (contents : List ℕ) → line_heard.IsHeardAtLink c l e a contents → is_at_link service tei (aim_of c e l) ≡ true
+      → list_any q (notes_of a) ≡ true → (contents : List ℕ) → IsHeardAtLink c l e a contents → is_at_link service tei (aim_of c e l) ≡ true
   noted-aim q own some contents x =
       let t = terms c x.service x.tei in
       let aims = read-aim c l x.service x.tei x.place x.parts x.octets x.read x.whose in
@@ -98,17 +86,17 @@ module _ (c : Config) (ranged : IsInRange c) (l : Line) (s : IsSound c l) (e : E
   pub none-noted : (q : Note → Bool) → ((n : Note) → q n ≡ true → tells_contents n ≡ true)
       → ((t : Terms) (n : Note) → IsOwn t n → q n ≡ true → (same_service t.service service && t.tei == tei) ≡ true)
       → is_at_link service tei (aim_of c e l) ≡ false → list_any q (notes_of a) ≡ true
-      → (contents : List ℕ) × (contents_in a ≡ Some contents) × line_heard.IsHeardByGroup c e a contents
+      → (contents : List ℕ) × (contents_in a ≡ Some contents) × IsHeardByGroup c e a contents
   none-noted q tells own none some =
       let x = has-contents q tells some (contents_in a) refl in
       (x.0, x.1, go x.0 (contents-heard c e l x.0 ranged s x.1))
     where
-      go : (contents : List ℕ) → line_heard.IsHeard c l e a contents → line_heard.IsHeardByGroup c e a contents
+      go : (contents : List ℕ) → IsHeard c l e a contents → IsHeardByGroup c e a contents
       go contents (inl at) = absurd (true≢false (sym (noted-aim q own some contents at) ∙ none))
       go contents (inr group) = group
 
   -- the notes of the group's unit data
-  pub group-notes : (contents : List ℕ) (x : line_heard.IsHeardByGroup c e a contents) → notes_of a ≡ notes.Unit x.service group_tei ∷ []
+  pub group-notes : (contents : List ℕ) (x : IsHeardByGroup c e a contents) → notes_of a ≡ Unit x.service group_tei ∷ []
   group-notes contents x =
       ap (λ e. notes_of (answer c e l)) x.by
       ∙ ap notes_of (group-read c l x.parts x.octets x.service s x.read x.whose).answer_is
@@ -167,16 +155,16 @@ module _ (c : Config) (e : Event) (a : Answer) (service : Service) (tei : ℕ) w
     ns : Seq
     nr : Seq
     p : Bool
-    is : ct ≡ control.Information ns nr p
+    is : ct ≡ Information ns nr p
     number : i.ns ≡ ns
     contents : i.contents ≡ octets
     up : is_multiple_frame k.state ≡ true
 
   carried : (t : Terms) (k : Link) (ct : Control) (octets : List ℕ) (i : Arrived) → eligible_of t k (information_of ct octets) ≡ Some i → Carried t k ct octets i
-  carried t k (control.Information ns nr p) octets i h = go (is_eligible t k (record { ns = ns; contents = octets })) refl h
+  carried t k (Information ns nr p) octets i h = go (is_eligible t k (record { ns = ns; contents = octets })) refl h
     where
       go : (b : Bool) → is_eligible t k (record { ns = ns; contents = octets }) ≡ b → cond b (Some (record { ns = ns; contents = octets })) None ≡ Some i
-          → Carried t k (control.Information ns nr p) octets i
+          → Carried t k (Information ns nr p) octets i
       go true fits e =
           let same : record { ns = ns; contents = octets } ≡ i = cc e in
           record {
@@ -210,8 +198,8 @@ module _ (c : Config) (e : Event) (a : Answer) (service : Service) (tei : ℕ) w
 
   -- a UI that is told
   ui-of : (f : Parts) (contents : List ℕ) → (ct : Control) → f.control ≡ ct → in_ui_frame ct f.info ≡ Some contents
-      → (p : Bool) × (f.control ≡ control.Ui p) × (Some contents ≡ Some f.info)
-  ui-of f contents (control.Ui p) is h = (p, is, sym h)
+      → (p : Bool) × (f.control ≡ Ui p) × (Some contents ≡ Some f.info)
+  ui-of f contents (Ui p) is h = (p, is, sym h)
   ui-of f contents other is h = absurd (none-some contents h)
 
   pub unit-of : (le : link.Event) → IsBy c e a service tei le → (n : ℕ) (contents : List ℕ) → unit_heard le ≡ Some contents

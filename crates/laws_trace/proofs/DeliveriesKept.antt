@@ -1,13 +1,7 @@
 -- How a link stands by what is heard and noted: over runs.
-use Rattle.laws_trace.proofs.Vocabulary.{◌≡◌, ℕ, ◌<◌, Bool, false, List, [], ◌++◌, None, refl, sym, ap, ◌∙◌, subst, option_map_or, get_or-replicate, fold-append, Service, Link, Config, Line, link_in, link_of, fresh_line, IsInRange, nowhere, line_at, fresh_is_sound}
-use Rattle.model_link.specs.Link.{fresh}
-use Rattle.model_line.specs.Event.{Event}
-use Rattle.model_line.specs.Machine.{after, answer}
-use Rattle.model_line.specs.Sound.{IsSound}
+use Rattle.laws_trace.proofs.Vocabulary.{◌≡◌, ℕ, ◌<◌, Bool, false, List, [], ◌++◌, None, refl, sym, ap, ◌∙◌, subst, option_map_or, get_or-replicate, fold-append, Service, Link, Config, Line, link_in, link_of, fresh_line, IsInRange, nowhere, line_at, fresh_is_sound, fresh_link as fresh, Event, line_after as after, answer, IsSound, after_all, AreAtLines, Seen, seen, trace_of}
 use Rattle.model_card.specs.Card as cards
 use Rattle.model_card.specs.Event as card
-use Rattle.model_card.specs.Run.{after_all, AreAtLines}
-use Rattle.laws_trace.specs.Trace.{Seen, seen, trace_of}
 use Rattle.laws_trace.proofs.DeliveriesWatched.{Standing, at_first, stand}
 use Rattle.laws_trace.proofs.DeliveriesRun.{IsCount}
 use Rattle.laws_trace.proofs.Runs.{run-shows}
@@ -65,4 +59,4 @@ run-stands c events number ranged all within service tei =
     let off : link_of service tei (line_at number (cards.fresh c)) ≡ fresh =
     ap (link_of service tei) start ∙ ap (λ o. option_map_or (link_in (fresh_line c) service) o fresh) (nowhere c tei) in
     (run-shows Stands Shows rests joins steps (cards.fresh c) events number (fresh_is_sound c ranged) all tt).0 service tei 0 false false (λ up. ap (λ (k : Link). k.r) off)
-    (subst (λ (k : Link). IsStanding k false false) (sym off) fresh-stands)
+    (subst (λ (k : Link). IsStanding k false false) (sym off) (fresh-stands false false))

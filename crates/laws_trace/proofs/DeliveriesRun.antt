@@ -1,24 +1,17 @@
 -- What is told is what was heard: over runs.
-use Rattle.laws_trace.proofs.Vocabulary.{length, nat_le, le-leb, within, ◌≡◌, ℕ, ◌+◌, ◌%◌, ◌&&◌, ◌||◌, Bool, true, false, cond, List, Option, Some, None, refl, sym, ap, ◌∙◌, subst, eq-eqb, ◌==◌, Result, Ok, Err, true≢false, ◌⊎◌, inl, inr, is_some, Note, list_any, option_or, option_map_or, none-some, ReadFault, reading, sapi_of, same_service, Service, Parts, Terms, restarts, Link, is_multiple_frame, event-delivers, delivered-at_once, notes-own, event-tells, unit_heard, event-unit, within-is, place_of-is, Config, hears, Answer, Line, place_in, link_in, link_of, terms, aim_of, aim_of_heard, aim_of_reading, message_of, heard_side, group_tei, IsInRange, sound_in, at_side, notes_of, contents_in, is_data_of, is_unit_of, own-all, addressed-is, sapi-is, same-sapi, service-same, both-true, told-once}
-use Rattle.std.proofs.Common.{eqb-true}
-use Rattle.lapd_frame.specs.declared.notes.Note.TheVariants as notes
+use Rattle.laws_trace.proofs.Vocabulary.{length, nat_le, le-leb, within, ◌≡◌, ℕ, ◌+◌, ◌%◌, ◌&&◌, Bool, true, false, cond, List, Option, Some, None, refl, sym, ap, ◌∙◌, subst, eq-eqb, ◌==◌, Result, Ok, Err, true≢false, ◌⊎◌, inl, inr, is_some, Note, list_any, option_or, option_map_or, none-some, ReadFault, reading, sapi_of, same_service, Service, Parts, Terms, restarts, Link, is_multiple_frame, event-delivers, delivered-at_once, notes-own, event-tells, unit_heard, event-unit, within-is, Config, hears, Answer, Line, place_in, link_in, link_of, terms, aim_of, aim_of_heard, aim_of_reading, message_of, heard_side, group_tei, IsInRange, at_side, notes_of, contents_in, is_data_of, is_unit_of, own-all, addressed-is, sapi-is, same-sapi, service-same, both-true, told-once, eqb-true, fresh_link as fresh, Event, line_after as after, answer, IsSound, result_ok, frame_of, is_for, is_ui, ReleaseConfirm, ReleaseIndication}
 use Rattle.model_bits.specs.Stream as stream
 use Rattle.model_link.specs.Events as link
-use Rattle.model_link.specs.Link.{fresh}
 use Rattle.model_link.specs.Machine as links
 use Rattle.model_link.specs.Sound as link_sound
-use Rattle.model_line.specs.Event.{Event}
-use Rattle.model_line.specs.Machine.{after, answer}
-use Rattle.model_line.specs.Sound.{IsSound}
 use Rattle.laws_trace.proofs.Counting.{Watched, begins, counted}
 use Rattle.laws_trace.proofs.DeliveriesWatched.{number_in, IsOfFrame, IsHeard}
-use Rattle.std.specs.Result.{result_ok}
-use Rattle.laws_trace.specs.LinkFrames.{frame_of, is_for}
-use Rattle.laws_trace.specs.Units.{is_ui}
 use Rattle.laws_trace.proofs.Begins.{unless, up-before}
 use Rattle.laws_trace.proofs.Deliveries.{frame_by, data-tells, unit-tells, data-own, unit-own, none-noted, one-begins, data-of, unit-of, group-notes}
 use Rattle.laws_trace.proofs.OneLink.{HasOne, HasNone, Goes, is_at_link, event-goes, IsGivenUp}
 use Rattle.laws_trace.proofs.ClearedTells.{ends-alone}
+use Rattle.laws_trace.proofs.Facts.{only}
+use Rattle.laws_trace.proofs.LineAtEnd.{link-at-end}
 
 -- Contents of at most N201 octets.
 abbrev pub IsSmall : ℕ → Option (List ℕ) → Type 0
@@ -84,9 +77,7 @@ module _ (c : Config) (ranged : IsInRange c) (l : Line) (s : IsSound c l) (e : E
     t = terms c service tei
 
     own-sound : link_sound.IsSound t k
-    own-sound =
-        subst (link_sound.IsSound t) (sym (ap (λ o. option_map_or (link_in l service) o fresh) x.placed))
-        (sound_in c ranged l s service tei x.place (place_of-is l.management.places tei x.place x.placed).1)
+    own-sound = link-at-end c l ranged s service tei x.place x.placed
 
     pub data-noted : list_any (is_data_of service tei) (notes_of a) ≡ is_some (links.told t x.event k).delivered
     data-noted =
@@ -183,10 +174,6 @@ module _ (c : Config) (ranged : IsInRange c) (l : Line) (s : IsSound c l) (e : E
           control = ap is_ui h.whose.control;
           told = y.1 ∙ ap (λ octets. Some octets) (sym h.contents_are);
         }
-      where
-        only : (b : Bool) → (b || false) ≡ true → b ≡ true
-        only true is = refl
-        only false is = is
 
     group-small : list_any (is_unit_of service tei) (notes_of a) ≡ true → IsSmall c.n201 (contents_in a)
     group-small some =
@@ -216,7 +203,7 @@ module _ (c : Config) (ranged : IsInRange c) (l : Line) (s : IsSound c l) (e : E
         go (inr new) = absurd (true≢false (sym up ∙ ap (λ (y : Link). is_multiple_frame y.state) new))
 
   -- Its deactivation.
-  pub ended-notes : (q : Note → Bool) → ((s : Service) (n : ℕ) → q (notes.ReleaseIndication s n) ≡ false) → ((s : Service) (n : ℕ) → q (notes.ReleaseConfirm s n) ≡ false)
+  pub ended-notes : (q : Note → Bool) → ((s : Service) (n : ℕ) → q (ReleaseIndication s n) ≡ false) → ((s : Service) (n : ℕ) → q (ReleaseConfirm s n) ≡ false)
       → IsGivenUp c service tei e l (after c e l) a → list_any q (notes_of a) ≡ false
   ended-notes q indication confirm x = ap (list_any q) x.notes ∙ ends-alone q indication confirm (terms c service tei) (link_of service tei l)
 

@@ -1,10 +1,5 @@
 -- What layer 3 is told of what is heard.
-use Rattle.laws_trace.proofs.Vocabulary.{◌≡◌, ℕ, ◌%◌, ◌&&◌, ◌||◌, not, Bool, true, false, List, length, option_to_list, count_by, Option, Some, None, if◌then◌else◌, list_any, Information, Note, Service, Parts, Config, is_data_of, is_unit_of, tells_contents}
-use Rattle.lapd_frame.specs.declared.controls.Control.{Control}
-use Rattle.model_line.specs.Request.{Request, SetBusy, ClearBusy}
-use Rattle.laws_trace.specs.LinkFrames.{is_for}
-use Rattle.laws_trace.specs.Trace.{is_own, Seen, noted, granted}
-use Rattle.laws_trace.specs.Units.{is_ui}
+use Rattle.laws_trace.proofs.Vocabulary.{◌≡◌, ℕ, ◌%◌, ◌&&◌, ◌||◌, not, Bool, true, false, List, length, option_to_list, count_by, Option, Some, None, if◌then◌else◌, list_any, Information, Note, Service, Parts, Config, is_data_of, is_unit_of, tells_contents, Control, Request, SetBusy, ClearBusy, is_for, is_own, Seen, trace_noted as noted, granted, is_ui}
 use Rattle.laws_trace.proofs.Counting.{Watched, nothing_yet, begins, watch}
 
 -- And how the card's side of the link stands. Layer 3 is busy from SetBusy that is granted to ClearBusy that is, and is

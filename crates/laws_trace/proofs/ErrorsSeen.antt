@@ -1,22 +1,14 @@
 -- What is wrong with what is seen of a link: one event of its line.
-use Rattle.laws_trace.proofs.Vocabulary.{◌≡◌, ℕ, ◌==◌, ◌&&◌, Bool, true, false, cond, List, [], ◌∷◌, ◌++◌, Option, Some, None, Result, Ok, Err, refl, sym, ap, ◌∙◌, subst, true≢false, ◌⊎◌, inl, inr, append-nil, option_to_list, option_map_or, Unserved, Address, ReadFault, Undefined, WrongSize, ErrorCode, Long, Service, Parts, reading, long_reading, Config, hears, expiry, Answer, heard_side, aim_of_heard, aim_of_reading, aim_of_long, drop_for, Line, place_in, terms, aim_of, IsMalformed, IsTooLong, IsBy, BringsMalformed, nat_lt, length}
-use Rattle.std.proofs.Common.{eqb-true}
+use Rattle.laws_trace.proofs.Vocabulary.{◌≡◌, ℕ, ◌==◌, ◌&&◌, Bool, true, false, cond, List, [], ◌∷◌, ◌++◌, Option, Some, None, Result, Ok, Err, refl, sym, ap, ◌∙◌, subst, true≢false, ◌⊎◌, inl, inr, append-nil, option_to_list, option_map_or, Unserved, Address, ReadFault, Undefined, WrongSize, ErrorCode, Long, Service, Parts, reading, long_reading, Config, hears, expiry, Answer, heard_side, aim_of_heard, aim_of_reading, aim_of_long, drop_for, Line, place_in, terms, aim_of, IsMalformed, IsTooLong, IsBy, BringsMalformed, nat_lt, length, eqb-true, Event, option_and_then, result_ok, result_err, frame_of, its_frame, is_for, faulty_long, malformed, fault_of, wrong_frame, given_up, wrong, is_up, and-false, G, H, I, L, N, O, cond_both}
 use Rattle.model_bits.specs.Stream as stream
-use Rattle.lapd_frame.specs.declared.notes.ErrorCode.{ErrorCode}
-use Rattle.lapd_frame.specs.declared.notes.ErrorCode.TheVariants as code
 use Rattle.lapd_frame.specs.declared.overlong.Long.TheVariants as long
 use Rattle.model_link.specs.Events as link
-use Rattle.model_line.specs.Event.{Event}
-use Rattle.std.specs.Option.{option_and_then}
-use Rattle.std.specs.Result.{result_ok, result_err}
-use Rattle.laws_trace.specs.LinkFrames.{frame_of, its_frame, is_for, faulty_long, malformed, fault_of}
-use Rattle.laws_trace.specs.News.{wrong_frame, given_up, wrong}
-use Rattle.laws_trace.specs.Trace.{is_up}
 use Rattle.laws_trace.proofs.DeliveriesRun.{heard-aims-at}
 use Rattle.laws_trace.proofs.LinkLed.{addressed-none, own-address}
 use Rattle.laws_trace.proofs.NewsRows.{errors_of}
 use Rattle.laws_trace.proofs.OneLink.{is_at_link}
 use Rattle.laws_trace.proofs.TimersWatched.{nothing_yet}
+use Rattle.laws_trace.proofs.Facts.{either-none}
 
 abbrev wrong_parts : Config → ℕ → ℕ → Parts → List ErrorCode
 wrong_parts c was to f = wrong_frame (nat_lt c.n201 (length f.info)) f.address.command f.control was to
@@ -25,15 +17,8 @@ wrong_parts c was to f = wrong_frame (nat_lt c.n201 (length f.info)) f.address.c
 none-given-up : (n m : ℕ) → (n ≡ m) ⊎ (m ≡ 1) → given_up n m ≡ []
 none-given-up n m (inr off) = ap (given_up n) off ∙ go (n == 5) (n == 6) (n == 8)
   where
-    go : (a b c : Bool) → cond (a && false) (code.G ∷ []) (cond (b && false) (code.H ∷ []) (cond (c && false) (code.I ∷ []) [])) ≡ []
-    go true true true = refl
-    go true true false = refl
-    go true false true = refl
-    go true false false = refl
-    go false true true = refl
-    go false true false = refl
-    go false false true = refl
-    go false false false = refl
+    go : (a b c : Bool) → cond (a && false) (G ∷ []) (cond (b && false) (H ∷ []) (cond (c && false) (I ∷ []) [])) ≡ []
+    go a b c = rw (and-false a, and-false b, and-false c) refl
 none-given-up n m (inl same) = ap (given_up n) (sym same) ∙ go (n == 5) refl (n == 6) refl (n == 8) refl
   where
     go : (a : Bool) → (n == 5) ≡ a → (b : Bool) → (n == 6) ≡ b → (c : Bool) → (n == 8) ≡ c → given_up n n ≡ []
@@ -52,14 +37,14 @@ module _ (c : Config) (service : Service) (tei : ℕ) where
   -- no event of the link
   module _ (l : Line) (place : ℕ) (on : place_in l tei ≡ Some place) where
     no-fault : (r : Result Parts ReadFault) → is_at_link service tei (aim_of_reading c l r) ≡ false → option_and_then (fault_of service tei) (result_err r) ≡ None
-    no-fault (Err (Undefined address)) aims = no-letter (is_for service tei address) code.L (addressed-none c service tei nothing_yet l place on address link.undefined (drop_for Unserved) aims)
-    no-fault (Err (WrongSize address)) aims = no-letter (is_for service tei address) code.N (addressed-none c service tei nothing_yet l place on address link.wrong_size (drop_for Unserved) aims)
+    no-fault (Err (Undefined address)) aims = no-letter (is_for service tei address) L (addressed-none c service tei nothing_yet l place on address link.undefined (drop_for Unserved) aims)
+    no-fault (Err (WrongSize address)) aims = no-letter (is_for service tei address) N (addressed-none c service tei nothing_yet l place on address link.wrong_size (drop_for Unserved) aims)
     no-fault other aims = refl
 
     no-long : (r : Result Long ReadFault) → is_at_link service tei (aim_of_long l r) ≡ false → faulty_long service tei r ≡ None
-    no-long (Err (Undefined address)) aims = no-letter (is_for service tei address) code.L (addressed-none c service tei nothing_yet l place on address link.undefined (drop_for Unserved) aims)
-    no-long (Err (WrongSize address)) aims = no-letter (is_for service tei address) code.N (addressed-none c service tei nothing_yet l place on address link.wrong_size (drop_for Unserved) aims)
-    no-long (Ok (long.Information address)) aims = no-letter (is_for service tei address) code.O (addressed-none c service tei nothing_yet l place on address link.overlong (drop_for Unserved) aims)
+    no-long (Err (Undefined address)) aims = no-letter (is_for service tei address) L (addressed-none c service tei nothing_yet l place on address link.undefined (drop_for Unserved) aims)
+    no-long (Err (WrongSize address)) aims = no-letter (is_for service tei address) N (addressed-none c service tei nothing_yet l place on address link.wrong_size (drop_for Unserved) aims)
+    no-long (Ok (long.Information address)) aims = no-letter (is_for service tei address) O (addressed-none c service tei nothing_yet l place on address link.overlong (drop_for Unserved) aims)
     no-long other aims = refl
 
     none-malformed : (e : stream.Event) → is_at_link service tei (aim_of_heard c l e) ≡ false → malformed c service tei e ≡ None
@@ -72,20 +57,14 @@ module _ (c : Config) (service : Service) (tei : ℕ) where
       where
         go : (o : Option Parts) → frame_of c e ≡ o → its_frame service tei o ≡ None
         go None is = refl
-        go (Some f) is = by-address (is_for service tei f.address) refl
-          where
-            by-address : (b : Bool) → is_for service tei f.address ≡ b → cond b (Some f) None ≡ None
-            by-address false other = refl
-            by-address true for = absurd (true≢false (sym (heard-aims-at c l service tei place on e f is for) ∙ aims))
-
-    bare : (b : Bool) → cond b (option_to_list no-code) [] ≡ []
-    bare true = refl
-    bare false = refl
+        go (Some f) is =
+            cond_both (is_for service tei f.address) (Some f) None (λ o. o ≡ None)
+            (λ for. absurd (true≢false (sym (heard-aims-at c l service tei place on e f is for) ∙ aims))) (λ other. refl)
 
     pub none-wrong : (e : Event) → is_at_link service tei (aim_of c e l) ≡ false → (n m : ℕ) → (n ≡ m) ⊎ (m ≡ 1) → wrong c service tei e n m ≡ []
     none-wrong (hears e) aims n m stays =
         ap (λ o. cond (is_up n) (option_to_list o) [] ++ option_map_or (wrong_parts c n m) (its_frame service tei (frame_of c e)) []) (none-malformed e aims)
-        ∙ ap (λ o. cond (is_up n) [] [] ++ option_map_or (wrong_parts c n m) o []) (none-its e aims) ∙ ap (λ xs. xs ++ []) (bare (is_up n))
+        ∙ ap (λ o. cond (is_up n) [] [] ++ option_map_or (wrong_parts c n m) o []) (none-its e aims) ∙ ap (λ xs. xs ++ []) (either-none (is_up n))
     none-wrong (expiry timer) aims n m stays = none-given-up n m stays
     none-wrong other aims n m stays = refl
 
@@ -108,29 +87,25 @@ module _ (c : Config) (service : Service) (tei : ℕ) where
     wrong-malformed address octets what for (inl y) = ap (λ e. wrong c service tei e from to) y.0 ∙ go what y.1
       where
         go : (what : link.Received) → IsMalformed c address octets what → By-reading (reading (heard_side c) octets) ≡ errors_of (terms c service tei) (link.received what) from to
-        go link.undefined is = ap By-reading is ∙ by-letter (is_for service tei address) code.L for
-        go link.wrong_size is = ap By-reading is ∙ by-letter (is_for service tei address) code.N for
+        go link.undefined is = ap By-reading is ∙ by-letter (is_for service tei address) L for
+        go link.wrong_size is = ap By-reading is ∙ by-letter (is_for service tei address) N for
         go other is = absurd is
     wrong-malformed address octets what for (inr y) = ap (λ e. wrong c service tei e from to) y.0 ∙ go what y.1
       where
         go : (what : link.Received) → IsTooLong c address octets what → By-long (long_reading (heard_side c) octets) ≡ errors_of (terms c service tei) (link.received what) from to
-        go link.undefined is = ap By-long is ∙ by-letter (is_for service tei address) code.L for
-        go link.wrong_size is = ap By-long is ∙ by-letter (is_for service tei address) code.N for
-        go link.overlong is = ap By-long is ∙ by-letter (is_for service tei address) code.O for
+        go link.undefined is = ap By-long is ∙ by-letter (is_for service tei address) L for
+        go link.wrong_size is = ap By-long is ∙ by-letter (is_for service tei address) N for
+        go link.overlong is = ap By-long is ∙ by-letter (is_for service tei address) O for
         go (link.frame f) is = absurd is
 
     brings-malformed : (what : link.Received) → BringsMalformed c e service tei what → Wrong (link.received what)
     brings-malformed what y = wrong-malformed y.address y.octets what (own-address c service tei nothing_yet a y.address y.sapi y.tei_is) y.by
 
-    bare-up : (b : Bool) → cond b (option_to_list no-code) [] ≡ []
-    bare-up true = refl
-    bare-up false = refl
-
     pub one-wrong : (event : link.Event) → IsBy c e a service tei event → Wrong event
     one-wrong (link.received (link.frame f)) y =
         ap (λ e. wrong c service tei e from to) y.by
         ∙ ap (λ r. cond (is_up from) (option_to_list (option_and_then (fault_of service tei) (result_err r))) [] ++ option_map_or (wrong_parts c from to) (its_frame service tei (result_ok r)) []) y.read
-        ∙ ap (λ xs. xs ++ option_map_or (wrong_parts c from to) (cond (is_for service tei f.address) (Some f) None) []) (bare-up (is_up from))
+        ∙ ap (λ xs. xs ++ option_map_or (wrong_parts c from to) (cond (is_for service tei f.address) (Some f) None) []) (either-none (is_up from))
         ∙ ap (λ b. option_map_or (wrong_parts c from to) (cond b (Some f) None) []) (own-address c service tei nothing_yet a f.address y.sapi y.tei_is)
     one-wrong (link.received link.undefined) y = brings-malformed link.undefined y
     one-wrong (link.received link.wrong_size) y = brings-malformed link.wrong_size y

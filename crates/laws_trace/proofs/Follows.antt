@@ -1,16 +1,8 @@
 -- What the observer of a line knows of its TEIs is what TEI management has, and what is due by an event is what that tells.
-use Rattle.laws_trace.proofs.Vocabulary.{◌≡◌, ℕ, ◌+◌, ◌*◌, ◌/◌, ◌%◌, ◌≤◌, ◌<◌, ◌==◌, ◌&&◌, ◌||◌, Bool, true, false, cond, not, List, [], ◌∷◌, length, drop, ◌-◌, ◌++◌, length-append, Option, Some, None, IfSome, option_map, option_map_or, refl, sym, ap, ◌∙◌, subst, arith, eq-eqb, true≢false, filter, is_some, nat_le, nat_lt, find, range_with_len, leb-true, leb-false, Management, Remembered, Period, First, Second, Message, IdentityAssigned, IdentityDenied, IdentityCheckRequest, IdentityRemove, heard_of_type, heard_in, IsSoundCheck, free_place, free_tei-is, Config}
-use Rattle.std.proofs.Common.{eqb-true}
-use Rattle.std.proofs.lemmas.Bool.{ltb-true, ltb-false}
-use Rattle.lapd_frame.specs.declared.notes.Note.TheVariants.{Removed, Doubled}
-use Rattle.lapd_tei.specs.declared.check.Check.{Check}
+use Rattle.laws_trace.proofs.Vocabulary.{◌≡◌, ℕ, ◌+◌, ◌*◌, ◌/◌, ◌%◌, ◌≤◌, ◌<◌, ◌==◌, ◌&&◌, ◌||◌, Bool, true, false, cond, not, List, [], ◌∷◌, length, drop, ◌-◌, ◌++◌, length-append, Option, Some, None, IfSome, option_map, option_map_or, refl, sym, ap, ◌∙◌, subst, arith, eq-eqb, true≢false, filter, is_some, nat_le, nat_lt, find, range_with_len, leb-true, leb-false, Management, Remembered, Period, First, Second, Message, IdentityAssigned, IdentityDenied, IdentityCheckRequest, IdentityRemove, heard_of_type, heard_in, IsSoundCheck, free_place, free_tei-is, Config, eqb-true, ltb-true, ltb-false, Removed, Doubled, Check, TeiCourse as Course, tei_begun as begun, by_message, Checked, Managed, nothing_due, owes, gives, asked, leaves, over, checks, may_check, responded, ran_out, managing_is_on as is_on, is_of_teis, is_of_t201, begin_check, check_is, end_check, leave, lose_one, no_room, send, unserved, tei_with_message as with_message, false_from_ne_true}
 use Rattle.lapd_tei.specs.Rows as rows
 use Rattle.lapd_tei.specs.Sound.{IsSound}
 use Rattle.lapd_tei.specs.Table as table
-use Rattle.lapd_tei.specs.Words as words
-use Rattle.lapd_tei.specs.Words.{Course, begun}
-use Rattle.laws_trace.specs.Managing.{by_message, Checked, Managed, nothing_due, owes, gives, asked, leaves, over, checks, may_check, responded, ran_out, is_on}
-use Rattle.laws_trace.specs.TeisAreManaged.{is_of_teis, is_of_t201}
 use Rattle.laws_trace.proofs.ManagingTables.{AreOn, free-fewer, none-free, comes-on, leaves-on}
 
 -- A check, as it is seen.
@@ -78,10 +70,10 @@ module _ (on : List ℕ) (m : Management) (h : AreOn on m.places) (order : IfSom
   pub here : Follows w m
   here = record { is = refl; on = h; order = order }
 
-  plain : (message : Message) → Leads (owes message w) (words.send message (begun m))
+  plain : (message : Message) → Leads (owes message w) (send message (begun m))
   plain message = record { notes = refl; orders = refl; lost = refl; begins = refl; granted = refl; follows = record { is = refl; on = h; order = order } }
 
-  pub none-due : Leads w (words.unserved (begun m))
+  pub none-due : Leads w (unserved (begun m))
   none-due = record { notes = refl; orders = refl; lost = refl; begins = refl; granted = refl; follows = here }
 
   -- A TEI leaves, and where it is checked, the check is over.
@@ -94,7 +86,7 @@ module _ (on : List ℕ) (m : Management) (h : AreOn on m.places) (order : IfSom
   own-check tei check is own = checked-seen tei m.check ∙ ap (rows.is_checked tei) is ∙ own
 
   -- A check begins.
-  pub begins-check : (tei : ℕ) → Leads (checks tei None w) (words.begin_check tei (begun m))
+  pub begins-check : (tei : ℕ) → Leads (checks tei None w) (begin_check tei (begun m))
   begins-check tei = record { notes = refl; orders = refl; lost = refl; begins = refl; granted = refl; follows = record { is = refl; on = h; order = λ first. refl } }
 
   pub may-is : (tei : ℕ) → may_check tei w ≡ rows.may_be_checked tei m
@@ -104,7 +96,7 @@ module _ (on : List ℕ) (m : Management) (h : AreOn on m.places) (order : IfSom
   verify-leads tei =
       subst (λ b. Leads (cond b (checks tei None w) w) (rows.verify tei (begun m))) (sym (may-is tei)) (go (rows.may_be_checked tei m))
     where
-      go : (b : Bool) → Leads (cond b (checks tei None w) w) ((cond b (words.begin_check tei) words.unserved) (begun m))
+      go : (b : Bool) → Leads (cond b (checks tei None w) w) ((cond b (begin_check tei) unserved) (begun m))
       go true = begins-check tei
       go false = none-due
 
@@ -136,7 +128,7 @@ module _ (on : List ℕ) (m : Management) (h : AreOn on m.places) (order : IfSom
     counted-order First k = k
     counted-order Second k = λ first. absurd (true≢false first)
 
-    answers-once : Leads answered (words.check_is (Some (rows.counted check)) (begun m))
+    answers-once : Leads answered (check_is (Some (rows.counted check)) (begun m))
     answers-once = record {
       notes = refl;
       orders = refl;
@@ -172,7 +164,7 @@ module _ (on : List ℕ) (m : Management) (h : AreOn on m.places) (order : IfSom
     counts : (check.tei == tei) ≡ true → Leads (cond (not (rows.responses check == 0)) doubling answered) (rows.count tei (rows.counted check) (begun m))
     counts own = subst (λ b. Leads (cond b doubling answered) (rows.count tei (rows.counted check) (begun m))) is-second (go (nat_le 2 (rows.responses (rows.counted check))))
       where
-        go : (b : Bool) → Leads (cond b doubling answered) ((cond b (rows.doubled tei) (words.check_is (Some (rows.counted check)))) (begun m))
+        go : (b : Bool) → Leads (cond b doubling answered) ((cond b (rows.doubled tei) (check_is (Some (rows.counted check)))) (begun m))
         go true = doubles own
         go false = answers-once
 
@@ -180,7 +172,7 @@ module _ (on : List ℕ) (m : Management) (h : AreOn on m.places) (order : IfSom
     responds-so = go (check.tei == tei) refl
       where
         go : (b : Bool) → (check.tei == tei) ≡ b
-            → Leads (cond (not b) w (cond (not (rows.responses check == 0)) doubling answered)) ((cond b (rows.count tei (rows.counted check)) words.unserved) (begun m))
+            → Leads (cond (not b) w (cond (not (rows.responses check == 0)) doubling answered)) ((cond b (rows.count tei (rows.counted check)) unserved) (begun m))
         go true own = counts own
         go false own = none-due
 
@@ -205,14 +197,14 @@ module _ (on : List ℕ) (m : Management) (h : AreOn on m.places) (order : IfSom
       granted = refl;
       follows = record {
         is =
-            ap (λ n. record w { check = Some (record { tei = check.tei; answered = not (n == 0); before = Some (not (check.first == 0)) }); owed = words.with_message (IdentityCheckRequest check.tei) m.waiting })
+            ap (λ n. record w { check = Some (record { tei = check.tei; answered = not (n == 0); before = Some (not (check.first == 0)) }); owed = with_message (IdentityCheckRequest check.tei) m.waiting })
             (sym none);
         on = h;
         order = λ first. absurd (true≢false first);
       };
     }
 
-    ends : Leads (over w) (words.end_check (begun m))
+    ends : Leads (over w) (end_check (begun m))
     ends = record { notes = refl; orders = refl; lost = refl; begins = refl; granted = refl; follows = record { is = refl; on = h; order = tt } }
 
     removes : Leads unanswered (rows.removed check.tei (begun m))
@@ -220,7 +212,7 @@ module _ (on : List ℕ) (m : Management) (h : AreOn on m.places) (order : IfSom
         subst (λ b. Leads (record (left b check.tei) { notes = Removed check.tei ∷ [] }) (rows.removed check.tei (begun m))) (sym (own-check check.tei check is (eq-eqb check.tei check.tei refl)))
         (record { notes = refl; orders = refl; lost = refl; begins = refl; granted = refl; follows = record { is = refl; on = leaves-on on m.places h check.tei s.table; order = tt } })
 
-    by-answers : (a b : Bool) → Leads (cond (not a || not b) (over w) unanswered) ((cond (a && b) (rows.removed check.tei) words.end_check) (begun m))
+    by-answers : (a b : Bool) → Leads (cond (not a || not b) (over w) unanswered) ((cond (a && b) (rows.removed check.tei) end_check) (begun m))
     by-answers true true = removes
     by-answers true false = ends
     by-answers false true = ends
@@ -247,7 +239,7 @@ module _ (on : List ℕ) (m : Management) (h : AreOn on m.places) (order : IfSom
   pub remove-leads : (tei : ℕ) → Leads (owes (IdentityRemove tei) (leaves tei w)) (rows.take_off tei (begun m))
   remove-leads tei = subst (λ b. Leads (owes (IdentityRemove tei) (left b tei)) (rows.take_off tei (begun m))) (sym (checked-seen tei m.check)) (go (rows.is_checked tei m.check))
     where
-      go : (b : Bool) → Leads (owes (IdentityRemove tei) (left b tei)) (words.leave tei ((cond b words.end_check rows.nothing_happens) (words.send (IdentityRemove tei) (begun m))))
+      go : (b : Bool) → Leads (owes (IdentityRemove tei) (left b tei)) (leave tei ((cond b end_check rows.nothing_happens) (send (IdentityRemove tei) (begun m))))
       go true = record { notes = refl; orders = refl; lost = refl; begins = refl; granted = refl; follows = record { is = refl; on = leaves-on on m.places h tei s.table; order = tt } }
       go false = record { notes = refl; orders = refl; lost = refl; begins = refl; granted = refl; follows = record { is = refl; on = leaves-on on m.places h tei s.table; order = order } }
 
@@ -265,15 +257,13 @@ module _ (on : List ℕ) (m : Management) (h : AreOn on m.places) (order : IfSom
             absurd (omega (arith, most, fewer, size, places))
 
     pub all-on : free_place m.places ≡ None → nat_lt (length on) c.terminals ≡ false
-    all-on none = go (nat_lt (length on) c.terminals) refl
-      where
-        go : (b : Bool) → nat_lt (length on) c.terminals ≡ b → b ≡ false
-        go true is =
-            let less = ltb-true (length on) c.terminals is in
-            let all = none-free m.places none in
-            let size = h.size in
-            absurd (omega (arith, less, all, size, places))
-        go false is = refl
+    all-on none =
+        false_from_ne_true (nat_lt (length on) c.terminals)
+        (λ is.
+        let less = ltb-true (length on) c.terminals is in
+        let all = none-free m.places none in
+        let size = h.size in
+        omega (arith, less, all, size, places))
 
     abbrev lowest : Option ℕ
     lowest = find (λ tei. not (is_on tei w)) (range_with_len 64 63)
@@ -291,7 +281,7 @@ module _ (on : List ℕ) (m : Management) (h : AreOn on m.places) (order : IfSom
         granted = refl;
         follows = record {
           is =
-              ap (λ n. record w { on = tei ∷ on; held = drop n (m.remembered ++ record { ri = ri; tei = tei } ∷ []); owed = words.with_message (IdentityAssigned ri tei) m.waiting })
+              ap (λ n. record w { on = tei ∷ on; held = drop n (m.remembered ++ record { ri = ri; tei = tei } ∷ []); owed = with_message (IdentityAssigned ri tei) m.waiting })
               (three-of (length m.remembered) (length (m.remembered ++ record { ri = ri; tei = tei } ∷ [])) (length-append m.remembered (record { ri = ri; tei = tei } ∷ [])));
           on = comes-on on m.places h place tei free (free_tei-is m.places tei is).off;
           order = order;
@@ -315,21 +305,21 @@ module _ (on : List ℕ) (m : Management) (h : AreOn on m.places) (order : IfSom
       by-held None = new (free_place m.places) (table.free_tei m.places) refl refl
 
       -- and where there is none
-      lose : (message : Message) → words.no_room m.waiting ≡ true → Leads (owes message w) (words.lose_one (begun m))
+      lose : (message : Message) → no_room m.waiting ≡ true → Leads (owes message w) (lose_one (begun m))
       lose message full =
-          subst (λ b. Leads (record w { owed = cond b m.waiting (m.waiting ++ message ∷ []); lost = cond b 1 0 }) (words.lose_one (begun m))) (sym full)
+          subst (λ b. Leads (record w { owed = cond b m.waiting (m.waiting ++ message ∷ []); lost = cond b 1 0 }) (lose_one (begun m))) (sym full)
           (record { notes = refl; orders = refl; lost = refl; begins = refl; granted = refl; follows = record { is = refl; on = h; order = order } })
 
-      loses : (o : Option Remembered) (b : Bool) → words.no_room m.waiting ≡ true → Leads (gives ri o (cond (b && false) lowest None) w) (words.lose_one (begun m))
+      loses : (o : Option Remembered) (b : Bool) → no_room m.waiting ≡ true → Leads (gives ri o (cond (b && false) lowest None) w) (lose_one (begun m))
       loses (Some r) b full = lose (IdentityAssigned ri r.tei) full
       loses None true full = lose (IdentityDenied ri) full
       loses None false full = lose (IdentityDenied ri) full
 
       pub request-leads : Leads (asked c ri w) (rows.request ri (begun m))
-      request-leads = go (words.no_room m.waiting) refl
+      request-leads = go (no_room m.waiting) refl
         where
-          go : (b : Bool) → words.no_room m.waiting ≡ b → Leads (gives ri (find (rows.is_for ri) m.remembered) (cond (nat_lt (length on) c.terminals && not b) lowest None) w)
-              ((cond b words.lose_one (rows.assign ri (rows.remembered_in ri m.remembered))) (begun m))
+          go : (b : Bool) → no_room m.waiting ≡ b → Leads (gives ri (find (rows.is_for ri) m.remembered) (cond (nat_lt (length on) c.terminals && not b) lowest None) w)
+              ((cond b lose_one (rows.assign ri (rows.remembered_in ri m.remembered))) (begun m))
           go true full = loses (find (rows.is_for ri) m.remembered) (nat_lt (length on) c.terminals) full
           go false room = by-held (find (rows.is_for ri) m.remembered)
 

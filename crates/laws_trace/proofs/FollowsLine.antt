@@ -1,26 +1,17 @@
 -- What is due of TEI management by one event of a line is what its answer shows, and the observer follows it.
-use Rattle.laws_trace.proofs.Vocabulary.{◌≡◌, ℕ, ◌==◌, Bool, true, false, cond, List, [], ◌∷◌, ◌++◌, map, take, drop, slice_get, All, filter, Option, Some, None, IfSome, option_map, refl, sym, ap, ◌∙◌, subst, append-nil, true≢false, ◌⊎◌, inl, inr, arith, option_map_or, none-some, filter-append, Ui, Note, Service, Call, Packet, Timer, T201, Parts, reading, Result, ReadFault, sapi_of, reading-again, Management, Message, LinkTimer, Config, Aim, at_none, at_link, at_management, of_aim, hears, expiry, next, Answer, LineTold, gave, at_timer, orders_in, Line, link_in, link_at, place_in, terms, service_at, aim_of, aim_of_heard, management_sapi, Taken, taken, next_of, line_of, at_requested, at_deactivated, heard_aims, lost_in, IsOwed, IsIdle, contents_of, IsOne, taken-one, served}
-use Rattle.std.specs.Option.{unwrap_or}
+use Rattle.laws_trace.proofs.Vocabulary.{◌≡◌, ℕ, ◌==◌, Bool, true, false, cond, List, [], ◌∷◌, ◌++◌, map, take, drop, slice_get, All, filter, Option, Some, None, IfSome, option_map, refl, sym, ap, ◌∙◌, subst, append-nil, true≢false, ◌⊎◌, inl, inr, arith, option_map_or, none-some, filter-append, Ui, Note, Service, Timer, T201, Parts, reading, Result, ReadFault, sapi_of, reading-again, Management, Message, LinkTimer, Config, Aim, at_none, at_link, at_management, of_aim, hears, expiry, next, Answer, LineTold, gave, at_timer, orders_in, Line, link_in, link_at, place_in, terms, service_at, aim_of, aim_of_heard, management_sapi, Taken, taken, next_of, line_of, at_requested, at_deactivated, heard_aims, lost_in, IsOwed, IsIdle, contents_of, IsOne, taken-one, served, unwrap_or, TimerT200 as T200, TimerT203 as T203, message_frame as frame_of, information_of, TeiCourse as Course, Event, told, line_after as after, answer, IsSound, result_ok, Managed, by_message, ran_out, managing_by_event as by_event, is_of_teis, is_of_t201, IsAsDue, trace_frame_in as frame_in}
 use Rattle.model_bits.specs.Stream as stream
-use Rattle.lapd_frame.specs.declared.timers.Timer.TheVariants.{T200, T203}
 use Rattle.lapd_tei.specs.Events as teis
-use Rattle.lapd_tei.specs.Messages.{frame_of, information_of}
-use Rattle.lapd_tei.specs.Words.{Course}
 use Rattle.model_link.specs.Events as link
 use Rattle.model_link.specs.Machine as links
 use Rattle.model_link.specs.declared.timers.LinkTimer.TheVariants as link_timer
-use Rattle.model_line.specs.Event.{Event, told, nothing}
-use Rattle.model_line.specs.Machine.{after, answer}
-use Rattle.model_line.specs.Sound.{IsSound}
-use Rattle.std.specs.Result.{result_ok}
-use Rattle.laws_trace.specs.Managing.{Managed, by_message, ran_out, by_event}
-use Rattle.laws_trace.specs.TeisAreManaged.{is_of_teis, is_of_t201, IsAsDue}
-use Rattle.laws_trace.specs.Trace.{frame_in}
+use Rattle.model_line.specs.Event.{nothing}
 use Rattle.laws_trace.proofs.Follows.{Follows, Leads, InOrder, as_seen, here, serve-leads, expire-leads}
 use Rattle.laws_trace.proofs.ManagingTables.{AreOn}
 use Rattle.laws_trace.proofs.ManagingNotes.{IsOther, none-of-teis, link-others, told-orders, behind, Cases, is_management, message_in, message-is-read, heard-cases}
 use Rattle.laws_trace.proofs.OneLink.{given-orders}
 use Rattle.laws_trace.proofs.ReadAgain.{read-again}
+use Rattle.laws_trace.proofs.Facts.{not-management}
 
 -- Frames with SAPI 63.
 abbrev of_management : Result Parts ReadFault → Bool
@@ -91,10 +82,6 @@ module _ (c : Config) (l : Line) where
 first-goes : (ms : List Message) (m : Message) → slice_get ms 0 ≡ Some m → take 1 ms ≡ m ∷ []
 first-goes [] m is = absurd (cc is)
 first-goes (n ∷ ms) m is = let same : n ≡ m = cc is in ap (λ x. x ∷ []) same
-
-no-sapi : (service : Service) → (sapi_of service == management_sapi) ≡ false
-no-sapi Call = refl
-no-sapi Packet = refl
 
 -- Where no request of management is granted or refused, nothing is said of it.
 pub none-granted : (d : Managed) → d.granted ≡ None → (its so : Bool) → d.granted ≡ Some so → its ≡ so
@@ -195,13 +182,13 @@ module _ (c : Config) (l : Line) (s : IsSound c l) (on : List ℕ) (h : AreOn on
   )
   goes new (Some t) (inr (inl x)) = (
     kept-of t.frame false (ap (is_message c) x.spelled
-        ∙ read-again c.side (λ r. of_management r ≡ false) (record { sapi = sapi_of x.unit.service; command = true; tei = x.unit.tei }) (Ui false) (λ info. no-sapi x.unit.service) (λ fault. refl) x.unit.contents)
+        ∙ read-again c.side (λ r. of_management r ≡ false) (record { sapi = sapi_of x.unit.service; command = true; tei = x.unit.tei }) (Ui false) (λ info. not-management x.unit.service) (λ fault. refl) x.unit.contents)
         ∙ none-goes x.no_message,
     stays new (ap (λ (l : Line). l.management) x.line) x.no_message,
   )
   goes new (Some t) (inr (inr x)) = (
     kept-of t.frame false (ap (is_message c) x.spelled
-        ∙ read-again c.side (λ r. of_management r ≡ false) (record { sapi = sapi_of (service_at x.number); command = x.command; tei = x.tei }) x.control (λ info. no-sapi (service_at x.number)) (λ fault. refl)
+        ∙ read-again c.side (λ r. of_management r ≡ false) (record { sapi = sapi_of (service_at x.number); command = x.command; tei = x.tei }) x.control (λ info. not-management (service_at x.number)) (λ fault. refl)
         (unwrap_or x.information []))
         ∙ none-goes x.its_turn.no_message,
     stays new (ap (λ (l : Line). l.management) x.line) x.its_turn.no_message,

@@ -1,23 +1,11 @@
 -- What is due of TEI management by a request, and by any event of a line, is what its answer shows.
-use Rattle.laws_trace.proofs.Vocabulary.{IdentityRemove, ◌≡◌, ℕ, ◌==◌, ◌&&◌, Bool, true, false, cond, not, List, [], ◌∷◌, length, Option, Some, None, IfSome, is_some, refl, sym, ap, ◌∙◌, subst, true≢false, inl, arith, leb-true, leb-false, nat_le, nat_lt, list_any, Refusal, Management, free_place, on-range, Config, at_management, of_aim, hears, expiry, request, next, Line, place_in, has_tei, unless_refused, unless_refused_told, wrong_side, bad_tei, no_link, tei_taken, table_full, check_running, control_full, Assign, Remove, Deactivate, aim_of_request, has_management, passed, Down, at_no_link, filter, option_map, Stop, T201}
-use Rattle.std.proofs.lemmas.Bool.{ltb-true, ltb-false}
+use Rattle.laws_trace.proofs.Vocabulary.{IdentityRemove, ◌≡◌, ℕ, ◌==◌, ◌&&◌, Bool, true, false, cond, not, List, [], ◌∷◌, length, Option, Some, None, IfSome, is_some, refl, sym, ap, ◌∙◌, subst, true≢false, inl, arith, leb-true, leb-false, nat_le, nat_lt, list_any, Refusal, Management, free_place, on-range, Config, at_management, of_aim, hears, expiry, request, next, Line, place_in, has_tei, unless_refused, unless_refused_told, wrong_side, bad_tei, no_link, tei_taken, table_full, check_running, control_full, Assign, Remove, Deactivate, aim_of_request, has_management, passed, Down, at_no_link, filter, option_map, Stop, T201, ltb-true, ltb-false, tei_begun as begun, Event, told, line_after as after, answer, refusal, Request, Establish, Release, Data, Checking, SetBusy, ClearBusy, IsSound, Managed, owes, leaves, checks, may_check, grants, managing_by_event as by_event, due, is_of_t201, by-down, stop_of, Check, false_from_ne_true}
 use Rattle.lapd_tei.specs.Events as teis
-use Rattle.lapd_tei.specs.Words.{begun}
 use Rattle.model_link.specs.Events as link
-use Rattle.model_line.specs.Event.{Event, told}
-use Rattle.model_line.specs.Machine.{after, answer}
-use Rattle.model_line.specs.Refusal.{refusal}
-use Rattle.model_line.specs.Request.{Request, Establish, Release, Data, Check as Checking, SetBusy, ClearBusy}
-use Rattle.model_line.specs.Sound.{IsSound}
-use Rattle.laws_trace.specs.Managing.{Managed, owes, leaves, checks, may_check, grants, by_event, due}
-use Rattle.laws_trace.specs.TeisAreManaged.{is_of_t201}
 use Rattle.laws_trace.proofs.Follows.{Follows, Leads, InOrder, seen_check, as_seen, here, assign-leads, remove-leads, begins-check, may-is, fewer-on, all-on}
 use Rattle.laws_trace.proofs.ManagingTables.{AreOn}
 use Rattle.laws_trace.proofs.ManagingNotes.{is_management}
 use Rattle.laws_trace.proofs.FollowsLine.{Shows, IsUnmanaged, none-granted, asked-aims, deactivated-aims, managed-shows, unmanaged-shows, hears-shows, expiry-shows, next-shows}
-use Rattle.laws_line.proofs.Downs.{by-down}
-use Rattle.lapd_tei.specs.Laws.{stop_of}
-use Rattle.lapd_tei.specs.declared.check.Check.{Check}
 
 -- The rows that refuse a request of management.
 refused-3 : (a b d : Bool) (x y z : Refusal) → is_some (cond a (Some x) (cond b (Some y) (cond d (Some z) None))) ≡ not (not a && not b && not d)
@@ -30,20 +18,16 @@ refused-4 : (side bad on full : Bool) (x y z u : Refusal) → (on ≡ true → b
     → is_some (cond (not side) (Some x) (cond bad (Some y) (cond (not on) (Some z) (cond full (Some u) None)))) ≡ not (side && on && not full)
 refused-4 false bad on full x y z u low = refl
 refused-4 true true true full x y z u low = absurd (true≢false (low refl))
-refused-4 true true false full x y z u low = refl
-refused-4 true false false full x y z u low = refl
 refused-4 true false true true x y z u low = refl
-refused-4 true false true false x y z u low = refl
+refused-4 true bad on full x y z u low = refl
 
 refused-5 : (side bad on runs full : Bool) (x y z u v : Refusal) → (on ≡ true → bad ≡ false)
     → is_some (cond (not side) (Some x) (cond bad (Some y) (cond (not on) (Some z) (cond runs (Some u) (cond full (Some v) None))))) ≡ not (side && (on && not runs) && not full)
 refused-5 false bad on runs full x y z u v low = refl
 refused-5 true true true runs full x y z u v low = absurd (true≢false (low refl))
-refused-5 true true false runs full x y z u v low = refl
-refused-5 true false false runs full x y z u v low = refl
 refused-5 true false true true full x y z u v low = refl
 refused-5 true false true false true x y z u v low = refl
-refused-5 true false true false false x y z u v low = refl
+refused-5 true bad on runs full x y z u v low = refl
 
 low-test : (tei : ℕ) → nat_le tei 126 ≡ not (nat_lt 126 tei)
 low-test tei = go (nat_le tei 126) refl (nat_lt 126 tei) refl
@@ -110,11 +94,8 @@ module _ (c : Config) (l : Line) (s : IsSound c l) (on : List ℕ) (h : AreOn on
   is-there (Some place) e = (place, refl)
 
   on-low : (tei : ℕ) → has_tei tei l ≡ true → nat_lt 126 tei ≡ false
-  on-low tei there = go (nat_lt 126 tei) refl
-    where
-      go : (b : Bool) → nat_lt 126 tei ≡ b → b ≡ false
-      go true high = let x = ltb-true 126 tei high in let y = on-range m.places tei s.management.table there in absurd (omega (arith, x, y))
-      go false high = refl
+  on-low tei there =
+      false_from_ne_true (nat_lt 126 tei) (λ high. let x = ltb-true 126 tei high in let y = on-range m.places tei s.management.table there in omega (arith, x, y))
 
   room-is : nat_lt (length on) c.terminals ≡ not (not (is_some (free_place m.places)))
   room-is = go (free_place m.places) refl

@@ -1,22 +1,7 @@
 -- What is given of a link is due: the laws.
-use Rattle.laws_trace.proofs.Vocabulary.{◌≡◌, ℕ, ◌<◌, true, false, cond, All, List, [], ◌∷◌, ◌++◌, map, filter, Option, Some, None, IfSome, option_to_list, refl, sym, ap, ◌∙◌, subst, inl, inr, append-nil, Service, place_of-is, given-in-order, IsInOrder, All-head, ControlFrame, Terms, Link, Given, given_is_frame, Config, next, Answer, Line, link_of, place_in, terms, IsInRange, terms_in_range, line_at, at}
-use Rattle.model_link.specs.Events as link
-use Rattle.model_link.specs.Machine as links
+use Rattle.laws_trace.proofs.Vocabulary.{◌≡◌, ℕ, ◌<◌, true, false, cond, All, List, [], ◌∷◌, ◌++◌, map, filter, Option, Some, None, option_to_list, refl, sym, ap, ◌∙◌, subst, inl, inr, append-nil, Service, place_of-is, given-in-order, IsInOrder, All-head, ControlFrame, Terms, Link, Given, given_is_frame, Config, next, Answer, Line, link_of, place_in, terms, IsInRange, terms_in_range, line_at, at, IsSound, line_frame_of as frame_of, fresh, CardEvent as Event, card_answer as answer, after_all, AreAtLines, offers, GivenIsDue, DueIsGiven, is_frame_of, managing_is_on as is_on, View, Outgoing, outgoing_of, trace_frame_in as frame_in, IsFront, Always, is_ui, offer, link_after as after, given}
 use Rattle.model_link.specs.Sound as link_sound
 use Rattle.model_line.specs.Machine as lines
-use Rattle.model_line.specs.Sound.{IsSound}
-use Rattle.model_line.specs.Taken.{frame_of}
-use Rattle.model_card.specs.Card.{fresh}
-use Rattle.model_card.specs.Event.{Event}
-use Rattle.model_card.specs.Machine.{answer}
-use Rattle.model_card.specs.Run.{after_all, AreAtLines}
-use Rattle.laws_trace.specs.FramesAreDue.{offers, GivenIsDue, DueIsGiven}
-use Rattle.laws_trace.specs.LinkFrames.{is_frame_of}
-use Rattle.laws_trace.specs.Managing.{is_on}
-use Rattle.laws_trace.specs.Observer.{View}
-use Rattle.laws_trace.specs.Outgoing.{Outgoing, outgoing_of}
-use Rattle.laws_trace.specs.Trace.{frame_in, IsFront, Always}
-use Rattle.laws_trace.specs.Units.{is_ui}
 use Rattle.laws_trace.proofs.Addressed.{at-some-place}
 use Rattle.laws_trace.proofs.LineAtEnd.{line-at-end, link-at-end, nothing-there, silent-there}
 use Rattle.laws_trace.proofs.DataAsked.{only-offered}
@@ -28,15 +13,13 @@ use Rattle.laws_trace.proofs.Outgoing.{view-is}
 use Rattle.laws_trace.proofs.Plain.{own-plain}
 use Rattle.laws_trace.proofs.SeenAs.{tei-seen}
 use Rattle.laws_trace.proofs.TimersAreTimely.{config-now}
+use Rattle.laws_trace.proofs.Facts.{some-of}
 
 none-goes : (xs ys : List (List ℕ)) → xs ≡ [] → IsFront xs ys
 none-goes xs ys none = record { rest = ys; whole_is = ap (λ xs. xs ++ ys) (sym none) }
 
 all-goes : (xs ys : List (List ℕ)) → ys ≡ xs → IsFront xs ys
 all-goes xs ys same = record { rest = []; whole_is = same ∙ sym (append-nil xs) }
-
-some-of : {X : Type 0} (P : X → Type 0) (o : Option X) (x : X) → o ≡ Some x → IfSome o P → P x
-some-of P o x is h = subst (λ o. IfSome o P) is h
 
 module _ (c : Config) (events : List Event) (number : ℕ) (ranged : IsInRange c) (all : AreAtLines (fresh c) events) (within : number < c.lines) (service : Service) (tei : ℕ) where
   abbrev line : Line
@@ -67,18 +50,18 @@ module _ (c : Config) (events : List Event) (number : ℕ) (ranged : IsInRange c
     range : link_sound.IsInRange t
     range = terms_in_range c ranged service tei (sound.management.table.range place tei (place_of-is line.management.places tei place on).1)
 
-    plain : (f : ControlFrame) → IsInOrder t own (links.after t link.offer own) f → is_ui f.control ≡ false
+    plain : (f : ControlFrame) → IsInOrder t own (after t offer own) f → is_ui f.control ≡ false
     plain f (inl oldest) =
-        All-head IsPlain f (links.after t link.offer own).waiting (subst (All IsPlain) oldest.waited (own-plain c events number ranged all within service tei place on))
+        All-head IsPlain f (after t offer own).waiting (subst (All IsPlain) oldest.waited (own-plain c events number ranged all within service tei place on))
     plain f (inr (inl information)) = ap (λ (f : ControlFrame). is_ui f.control) information.is
     plain f (inr (inr acknowledgement)) = ap (λ (f : ControlFrame). is_ui f.control) acknowledgement.is
 
-    own-due : (g : Option Given) → links.given t own ≡ g → Due (map (frame_of c t) (option_to_list g))
+    own-due : (g : Option Given) → given t own ≡ g → Due (map (frame_of c t) (option_to_list g))
     own-due None none = none-goes [] (offers c service tei o) refl
     own-due (Some g) some =
         let its : is_frame_of c service tei (frame_of c t g) ≡ true =
-        own-frame c service tei g (some-of (λ g. link_sound.IsGiven t g.frame g.contents) (links.given t own) g some (given_is_frame t range own safe))
-        (plain g.frame (some-of (λ g. IsInOrder t own (links.after t link.offer own) g.frame) (links.given t own) g some (given-in-order t own safe))) in
+        own-frame c service tei g (some-of (λ g. link_sound.IsGiven t g.frame g.contents) (given t own) g some (given_is_frame t range own safe))
+        (plain g.frame (some-of (λ g. IsInOrder t own (after t offer own) g.frame) (given t own) g some (given-in-order t own safe))) in
         all-goes (filter (is_frame_of c service tei) (frame_of c t g ∷ [])) (offers c service tei o)
         (given-is-offered-so c events number ranged all within service tei place on g some ∙ sym (ap (λ b. cond b (frame_of c t g ∷ []) []) its))
 
@@ -88,7 +71,7 @@ module _ (c : Config) (events : List Event) (number : ℕ) (ranged : IsInRange c
       go : Goes c service tei next line (lines.after c next line) a → Due (frame_in (lines.answer c next line))
       go (inl x) = none-goes (filter (is_frame_of c service tei) (frame_in (lines.answer c next line))) (offers c service tei o) (all-foreign c service tei (frame_in (lines.answer c next line)) x.begins)
       go (inr (inl x)) =
-          subst Due (sym (x.begins ∙ ap (λ e. frames_given c t e own) (only-offered c a service tei x.event x.by))) (own-due x.place x.placed (links.given t own) refl)
+          subst Due (sym (x.begins ∙ ap (λ e. frames_given c t e own) (only-offered c a service tei x.event x.by))) (own-due x.place x.placed (given t own) refl)
       go (inr (inr x)) = absurd (cc x.by.0)
 
   pub now-due : Due (frame_in (answer (at number next) (after_all (fresh c) events)))

@@ -1,20 +1,9 @@
 -- What an event of a line leaves of the contents that a link keeps.
-use Rattle.laws_trace.proofs.Vocabulary.{◌≡◌, ℕ, ◌%◌, Bool, true, false, cond, not, List, [], ◌∷◌, ◌++◌, ◌&&◌, ◌||◌, drop, Some, None, refl, sym, ap, ◌∙◌, subst, ◌⊎◌, inl, inr, arith, append-nil, All, is_some, list_any, option_map_or, All-head, All-tail, none-some, Note, WrongState, Service, place_of-is, is_on-at, not_not, accepted, ends, is_release, tells_loss, empties, Terms, Link, is_multiple_frame, queue_of, state_number, notes-own, Config, at_link, Answer, hears, expiry, request, next, Line, has_tei, link_in, link_of, place_in, terms, aim_of, unless_refused, bad_tei, no_link, wrong_state, Deactivate, at_requested, at_deactivated, aim_of_request, IsInRange, terms_in_range, notes_of, is_loss_of, is_granted, IsBy, link-grants, passed, not-refused}
-use Rattle.lapd_frame.specs.declared.notes.Note.TheVariants as notes
+use Rattle.laws_trace.proofs.Vocabulary.{◌≡◌, ℕ, ◌%◌, Bool, true, false, cond, not, List, [], ◌∷◌, ◌++◌, ◌&&◌, ◌||◌, drop, Some, None, refl, sym, ap, ◌∙◌, subst, ◌⊎◌, inl, inr, arith, append-nil, All, is_some, list_any, option_map_or, All-head, All-tail, none-some, Note, WrongState, Service, place_of-is, is_on-at, not_not, accepted, ends, is_release, tells_loss, empties, Terms, Link, is_multiple_frame, queue_of, state_number, notes-own, Config, at_link, Answer, hears, expiry, request, next, Line, has_tei, link_in, link_of, place_in, terms, aim_of, unless_refused, bad_tei, no_link, wrong_state, Deactivate, at_requested, at_deactivated, aim_of_request, IsInRange, terms_in_range, notes_of, is_loss_of, is_granted, IsBy, link-grants, passed, not-refused, fresh_link, refusal, Request, Release, Data, IsSound, of_link, brings, is_news, is_sabme, steps, is_own, data_asked, seen, is_up, EstablishIndication, ReleaseConfirm, ReleaseIndication, link_after as after, link_told as told, Event, cond_both}
 use Rattle.model_link.specs.Events as link
-use Rattle.model_link.specs.Link.{fresh as fresh_link}
-use Rattle.model_link.specs.Machine as links
 use Rattle.model_link.specs.Requests as requests
 use Rattle.model_link.specs.Sound as link_sound
-use Rattle.model_line.specs.Event as line_event
 use Rattle.model_line.specs.Machine as lines
-use Rattle.model_line.specs.Refusal.{refusal}
-use Rattle.model_line.specs.Request.{Request, Release, Data}
-use Rattle.model_line.specs.Sound.{IsSound}
-use Rattle.laws_line.specs.Requests.{of_link}
-use Rattle.laws_trace.specs.News.{brings, is_news, is_sabme}
-use Rattle.laws_trace.specs.Observer.{steps}
-use Rattle.laws_trace.specs.Trace.{is_own, data_asked, seen, is_up}
 use Rattle.laws_trace.proofs.LineAtEnd.{link-at-end}
 use Rattle.laws_trace.proofs.DataAsked as asks
 use Rattle.laws_trace.proofs.DataAsked.{no-data, only-requested, only-offered, granted-data}
@@ -37,11 +26,7 @@ either-false true = refl
 either-false false = refl
 
 pub still : (anew : Bool) (k : Link) → went_by anew k k ≡ 0
-still anew k = go (is_up (state_number k.state) && is_up (state_number k.state) && not anew)
-  where
-    go : (b : Bool) → cond b (steps (k.a % 128) (k.a % 128)) 0 ≡ 0
-    go true = omega arith
-    go false = refl
+still anew k = cond_both (is_up (state_number k.state) && is_up (state_number k.state) && not anew) (steps (k.a % 128) (k.a % 128)) 0 (λ n. n ≡ 0) (λ up. omega arith) (λ down. refl)
 
 -- What is left of what a link keeps.
 abbrev pub left : Bool → Bool → Link → Link → List (List ℕ) → List (List ℕ)
@@ -55,10 +40,10 @@ module _ (c : Config) (ranged : IsInRange c) (l : Line) (s : IsSound c l) (servi
   abbrev own : Link
   own = link_of service tei l
 
-  abbrev One : line_event.Event → Type 0
+  abbrev One : Event → Type 0
   One e = HasOne c service tei e l (lines.after c e l) (lines.answer c e l)
 
-  pub accepted-asked : (e : line_event.Event) → (x : One e) → accepted own_terms x.event own ≡ granted_in service tei (seen e (lines.answer c e l))
+  pub accepted-asked : (e : Event) → (x : One e) → accepted own_terms x.event own ≡ granted_in service tei (seen e (lines.answer c e l))
   accepted-asked next x =
       ap (λ le. accepted own_terms le own) (only-offered c (lines.answer c next l) service tei x.event x.by) ∙ sym (begun-grants service tei (lines.answer c next l))
   accepted-asked (request r) x =
@@ -91,17 +76,17 @@ module _ (c : Config) (ranged : IsInRange c) (l : Line) (s : IsSound c l) (servi
       (no-data c other (lines.answer c other l) service tei own_terms own (λ r same. cc same) (λ same. cc same) x.event x.by).0
       ∙ sym (told-grants service tei (lines.answer c other l))
 
-  no-end : (e : line_event.Event) → ((r : Request) → e ≡ request r → ⊥) → (le : link.Event) → IsBy c e (lines.answer c e l) service tei le → ends own_terms le own ≡ false
+  no-end : (e : Event) → ((r : Request) → e ≡ request r → ⊥) → (le : link.Event) → IsBy c e (lines.answer c e l) service tei le → ends own_terms le own ≡ false
   no-end e never (link.requested what full) by = absurd (never (of_link service tei what) by.0)
   no-end e never link.cleared by = absurd by
   no-end e never other by = refl
 
-  noted : (e : line_event.Event) → (x : One e) → list_any (is_loss_of service tei) (notes_of (lines.answer c e l)) ≡ tells_loss (links.told own_terms x.event own).notes
+  noted : (e : Event) → (x : One e) → list_any (is_loss_of service tei) (notes_of (lines.answer c e l)) ≡ tells_loss (told own_terms x.event own).notes
   noted e x =
-      ap (list_any (is_loss_of service tei)) x.notes ∙ sym (own-losses own_terms (links.told own_terms x.event own).notes (notes-own own_terms x.event own))
+      ap (list_any (is_loss_of service tei)) x.notes ∙ sym (own-losses own_terms (told own_terms x.event own).notes (notes-own own_terms x.event own))
 
-  by-notes : (e : line_event.Event) → (x : One e) → ends own_terms x.event own ≡ false → list_any (is_loss_of service tei) (notes_of (lines.answer c e l)) ≡ empties own_terms x.event own
-  by-notes e x none = noted e x ∙ sym (ap (λ b. b || tells_loss (links.told own_terms x.event own).notes) none)
+  by-notes : (e : Event) → (x : One e) → ends own_terms x.event own ≡ false → list_any (is_loss_of service tei) (notes_of (lines.answer c e l)) ≡ empties own_terms x.event own
+  by-notes e x none = noted e x ∙ sym (ap (λ b. b || tells_loss (told own_terms x.event own).notes) none)
 
   -- a release that the line grants its link does not refuse
   served : (place : ℕ) → place_in l tei ≡ Some place → refusal c false (Release service tei) l ≡ None → (full : Bool) → requests.refusal own_terms own full link.Release ≡ None
@@ -117,7 +102,7 @@ module _ (c : Config) (ranged : IsInRange c) (l : Line) (s : IsSound c l) (servi
   released link.Release full h = sym (ap (λ o. cond (is_some o) false true) (h refl))
   released other full h = sym (either-false (is_some (requests.refusal own_terms own full other)))
 
-  pub lost-is : (e : line_event.Event) → (x : One e) → lost_in service tei (seen e (lines.answer c e l)) ≡ empties own_terms x.event own
+  pub lost-is : (e : Event) → (x : One e) → lost_in service tei (seen e (lines.answer c e l)) ≡ empties own_terms x.event own
   lost-is (hears what) x =
       heard-loses service tei what (lines.answer c (hears what) l) ∙ by-notes (hears what) x (no-end (hears what) (λ r same. cc same) x.event x.by)
   lost-is (expiry timer) x =
@@ -137,13 +122,11 @@ module _ (c : Config) (ranged : IsInRange c) (l : Line) (s : IsSound c l) (servi
       ∙ ap (λ b. ends own_terms x.event own || b) (noted (request r) x)
 
   -- No event of the link grants it data.
-  pub none-granted : (e : line_event.Event) → HasNone c service tei e l (lines.after c e l) (lines.answer c e l) → granted_in service tei (seen e (lines.answer c e l)) ≡ []
+  pub none-granted : (e : Event) → HasNone c service tei e l (lines.after c e l) (lines.answer c e l) → granted_in service tei (seen e (lines.answer c e l)) ≡ []
   none-granted next x = begun-grants service tei (lines.answer c next l)
-  none-granted (request r) x = asked-grants service tei r (lines.answer c (request r) l) ∙ go (is_granted (lines.answer c (request r) l)) refl
-    where
-      go : (b : Bool) → is_granted (lines.answer c (request r) l) ≡ b → cond {A = List (List ℕ)} b (data_asked service tei r) [] ≡ []
-      go true g = asks.elsewhere c l service tei r g x.aims
-      go false g = refl
+  none-granted (request r) x =
+      asked-grants service tei r (lines.answer c (request r) l)
+      ∙ cond_both (is_granted (lines.answer c (request r) l)) (data_asked service tei r) [] (λ given. given ≡ []) (λ g. asks.elsewhere c l service tei r g x.aims) (λ g. refl)
   none-granted other x = told-grants service tei (lines.answer c other l)
 
   -- and none loses what it keeps, while its TEI stays
@@ -160,15 +143,15 @@ module _ (c : Config) (ranged : IsInRange c) (l : Line) (s : IsSound c l) (servi
         ∙ no-note ns (All-tail (λ n. is_news service tei n ≡ false) n ns all)
       where
         no-loss : (n : Note) → is_news service tei n ≡ false → is_loss_of service tei n ≡ false
-        no-loss (notes.EstablishIndication of by) none = none
-        no-loss (notes.ReleaseIndication of by) none = none
-        no-loss (notes.ReleaseConfirm of by) none = none
+        no-loss (EstablishIndication of by) none = none
+        no-loss (ReleaseIndication of by) none = none
+        no-loss (ReleaseConfirm of by) none = none
         no-loss other none = refl
 
-    pub none-lost : (e : line_event.Event) → is_at_link service tei (aim_of c e l) ≡ false → has_tei tei (lines.after c e l) ≡ true → lost_in service tei (seen e (lines.answer c e l)) ≡ false
+    pub none-lost : (e : Event) → is_at_link service tei (aim_of c e l) ≡ false → has_tei tei (lines.after c e l) ≡ true → lost_in service tei (seen e (lines.answer c e l)) ≡ false
     none-lost e aims there = go e aims (no-note (notes_of (lines.answer c e l)) (others-silent service tei c e l s aims (inr there)))
       where
-        go : (e : line_event.Event) → is_at_link service tei (aim_of c e l) ≡ false → list_any (is_loss_of service tei) (notes_of (lines.answer c e l)) ≡ false
+        go : (e : Event) → is_at_link service tei (aim_of c e l) ≡ false → list_any (is_loss_of service tei) (notes_of (lines.answer c e l)) ≡ false
             → lost_in service tei (seen e (lines.answer c e l)) ≡ false
         go (hears what) aims none = heard-loses service tei what (lines.answer c (hears what) l) ∙ none
         go (expiry timer) aims none = expiry-loses service tei timer (lines.answer c (expiry timer) l) ∙ none
@@ -183,7 +166,7 @@ module _ (c : Config) (ranged : IsInRange c) (l : Line) (s : IsSound c l) (servi
                 (none-asked r (sym (ap (λ o. is_at_link service tei (unless_refused o (aim_of_request r l))) (not-refused c r l g)) ∙ aims)) ∙ none
 
 -- One event of a line.
-module _ (c : Config) (ranged : IsInRange c) (l : Line) (s : IsSound c l) (service : Service) (tei : ℕ) (e : line_event.Event) where
+module _ (c : Config) (ranged : IsInRange c) (l : Line) (s : IsSound c l) (service : Service) (tei : ℕ) (e : Event) where
   abbrev a : Answer
   a = lines.answer c e l
 
@@ -217,11 +200,7 @@ module _ (c : Config) (ranged : IsInRange c) (l : Line) (s : IsSound c l) (servi
       ∙ ap (λ y. drop (went_by anew k y) (queue_of k)) same ∙ ap (λ n. drop n (queue_of k)) (still anew k) in
       ap (λ (y : Link). queue_of y) same
       ∙ sym (ap (λ b. left b anew k k' (granted_in service tei (seen e a))) (none-lost c ranged l s service tei p on e x.aims (on-there new q there))
-      ∙ ap (λ xs. cond (is_up (state_number k.state)) xs (queue_of k)) rest ∙ either (is_up (state_number k.state)))
-    where
-      either : (b : Bool) → cond b (queue_of k) (queue_of k) ≡ queue_of k
-      either true = refl
-      either false = refl
+      ∙ ap (λ xs. cond (is_up (state_number k.state)) xs (queue_of k)) rest ∙ cond_both (is_up (state_number k.state)) (queue_of k) (queue_of k) (λ q. q ≡ queue_of k) (λ up. refl) (λ down. refl))
 
   -- One event of it.
   one-left : (x : HasOne c service tei e l new a) → Left
@@ -230,7 +209,7 @@ module _ (c : Config) (ranged : IsInRange c) (l : Line) (s : IsSound c l) (servi
       ∙ sym (ap (λ b. left b anew k k' (granted_in service tei (seen e a))) (lost-is c ranged l s service tei e x)
       ∙ ap (left (empties t x.event k) anew k k') (sym (accepted-asked c ranged l s service tei e x))
       ∙ ap (λ y. left (empties t x.event k) anew k y (accepted t x.event k)) x.is
-      ∙ ap (λ z. left (empties t x.event k) z k (links.after t x.event k) (accepted t x.event k)) anew-is)
+      ∙ ap (λ z. left (empties t x.event k) z k (after t x.event k) (accepted t x.event k)) anew-is)
     where
       sound : link_sound.IsSound t k
       sound = link-at-end c l ranged s service tei x.place x.placed
@@ -242,21 +221,21 @@ module _ (c : Config) (ranged : IsInRange c) (l : Line) (s : IsSound c l) (servi
       anew-is = sym (brings-is c service tei is_sabme e a) ∙ one-begins c service tei is_sabme e a x.event x.by
 
       go : (b : Bool) → empties t x.event k ≡ b
-          → queue_of (links.after t x.event k) ≡ left (empties t x.event k) (sabme_of x.event) k (links.after t x.event k) (accepted t x.event k)
-      go true all = none-left t k sound range.k_high x.event all ∙ sym (ap (λ b. left b (sabme_of x.event) k (links.after t x.event k) (accepted t x.event k)) all)
+          → queue_of (after t x.event k) ≡ left (empties t x.event k) (sabme_of x.event) k (after t x.event k) (accepted t x.event k)
+      go true all = none-left t k sound range.k_high x.event all ∙ sym (ap (λ b. left b (sabme_of x.event) k (after t x.event k) (accepted t x.event k)) all)
       go false some =
           some-left t k sound range.k_high x.event some ∙ by-state (is_multiple_frame k.state) refl
-          ∙ sym (ap (λ b. left b (sabme_of x.event) k (links.after t x.event k) (accepted t x.event k)) some)
+          ∙ sym (ap (λ b. left b (sabme_of x.event) k (after t x.event k) (accepted t x.event k)) some)
         where
           rest : List (List ℕ)
-          rest = drop (went_by (sabme_of x.event) k (links.after t x.event k)) (queue_of k) ++ accepted t x.event k
+          rest = drop (went_by (sabme_of x.event) k (after t x.event k)) (queue_of k) ++ accepted t x.event k
 
           by-state : (b : Bool) → is_multiple_frame k.state ≡ b → rest ≡ cond (is_up (state_number k.state)) rest (queue_of k)
           by-state true up = sym (ap (λ b. cond b rest (queue_of k)) (up-number k.state ∙ up))
           by-state false down =
-              ap (λ more. drop (went_by (sabme_of x.event) k (links.after t x.event k)) (queue_of k) ++ more) (none-accepted t x.event k down)
-              ∙ append-nil (drop (went_by (sabme_of x.event) k (links.after t x.event k)) (queue_of k))
-              ∙ ap (λ b. drop (cond (b && is_up (state_number (links.after t x.event k).state) && not (sabme_of x.event)) (steps (k.a % 128) ((links.after t x.event k).a % 128)) 0) (queue_of k)) (up-number k.state ∙ down)
+              ap (λ more. drop (went_by (sabme_of x.event) k (after t x.event k)) (queue_of k) ++ more) (none-accepted t x.event k down)
+              ∙ append-nil (drop (went_by (sabme_of x.event) k (after t x.event k)) (queue_of k))
+              ∙ ap (λ b. drop (cond (b && is_up (state_number (after t x.event k).state) && not (sabme_of x.event)) (steps (k.a % 128) ((after t x.event k).a % 128)) 0) (queue_of k)) (up-number k.state ∙ down)
               ∙ sym (ap (λ b. cond b rest (queue_of k)) (up-number k.state ∙ down))
 
   -- Its deactivation.

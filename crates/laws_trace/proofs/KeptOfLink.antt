@@ -1,16 +1,5 @@
 -- What an event of a link leaves of the contents that it keeps, and how far V(A) goes on.
-use Rattle.laws_trace.proofs.Vocabulary.{◌≡◌, ℕ, ◌+◌, ◌-◌, ◌%◌, ◌≤◌, Bool, true, false, cond, not, List, [], ◌∷◌, ◌++◌, ◌&&◌, ◌||◌, ◌==◌, length, drop, Option, Some, None, is_some, refl, sym, ap, ◌∙◌, subst, arith, eq-eqb, true≢false, All, nat_lt, list_any, option_map_or, All-head, All-tail, none-some, Information, ReceiveReady, ReceiveNotReady, Reject, Sabme, Ua, Note, Service, Parts, same_service, Seq, named, State, TeiAssigned, AwaitingEstablishment, AwaitingRelease, Established, TimerRecovery, Terms, restarts, MayEstablish, received, overlong, cleared, Link, is_multiple_frame, queue_of, state_number, frame_in, accepted, acknowledged_by, beyond, number_of, number_received, ends, empties, is_loss, tells_loss, with_share, as_heard, by_frame, is_faulty, is_invalid, is_overlong, receipt_of, state_after, event-follows, event-done, establishes, is_loss_of, service-same}
-use Rattle.lapd_frame.specs.declared.controls.Control.{Control}
-use Rattle.lapd_frame.specs.declared.notes.Note.TheVariants as notes
-use Rattle.model_link.specs.Events.{Event, frame}
-use Rattle.model_link.specs.Machine.{after, told}
-use Rattle.model_link.specs.Notes.{IsOwn}
-use Rattle.model_link.specs.Sound.{IsSound}
-use Rattle.model_link.specs.Steps.{begun}
-use Rattle.laws_link.specs.Accepted.{acknowledged}
-use Rattle.laws_trace.specs.News.{is_sabme}
-use Rattle.laws_trace.specs.Observer.{steps}
-use Rattle.laws_trace.specs.Trace.{is_up}
+use Rattle.laws_trace.proofs.Vocabulary.{◌≡◌, ℕ, ◌+◌, ◌-◌, ◌%◌, ◌≤◌, Bool, true, false, cond, not, List, [], ◌∷◌, ◌++◌, ◌&&◌, ◌||◌, ◌==◌, length, drop, Option, Some, None, is_some, refl, sym, ap, ◌∙◌, subst, arith, eq-eqb, true≢false, All, nat_lt, list_any, option_map_or, All-head, All-tail, none-some, Information, ReceiveReady, ReceiveNotReady, Reject, Sabme, Ua, Note, Service, Parts, same_service, Seq, named, State, TeiAssigned, AwaitingEstablishment, AwaitingRelease, Established, TimerRecovery, Terms, restarts, MayEstablish, received, overlong, cleared, Link, is_multiple_frame, queue_of, state_number, frame_in, accepted, acknowledged_by, beyond, number_of, number_received, ends, empties, is_loss, tells_loss, with_share, as_heard, by_frame, is_faulty, is_invalid, is_overlong, receipt_of, state_after, event-follows, event-done, establishes, is_loss_of, service-same, Control, LinkEvent as Event, frame, link_after as after, link_told as told, IsOwn, LinkIsSound as IsSound, begun, acknowledged, is_sabme, steps, is_up, EstablishIndication, ReleaseConfirm, ReleaseIndication, cond_both}
 use Rattle.laws_trace.proofs.DataOfLink.{acknowledged-went}
 use Rattle.laws_trace.proofs.NewsRows.{sabme_of}
 use Rattle.laws_trace.proofs.SeenAs.{up-number}
@@ -20,19 +9,13 @@ keeps-up : (here : State) (command : Bool) (ct : Control) (nr : Seq) → receipt
 keeps-up TeiAssigned command ct nr is up = absurd (true≢false (sym up))
 keeps-up AwaitingEstablishment command ct nr is up = absurd (true≢false (sym up))
 keeps-up AwaitingRelease command ct nr is up = absurd (true≢false (sym up))
-keeps-up Established command (ReceiveReady n pf) nr is up = refl
-keeps-up Established command (ReceiveNotReady n pf) nr is up = refl
-keeps-up Established command (Reject n pf) nr is up = refl
-keeps-up other command (Information ns n p) nr is up = refl
-keeps-up TimerRecovery true (ReceiveReady n pf) nr is up = refl
 keeps-up TimerRecovery false (ReceiveReady n true) nr is up = refl
-keeps-up TimerRecovery false (ReceiveReady n false) nr is up = refl
-keeps-up TimerRecovery true (ReceiveNotReady n pf) nr is up = refl
 keeps-up TimerRecovery false (ReceiveNotReady n true) nr is up = refl
-keeps-up TimerRecovery false (ReceiveNotReady n false) nr is up = refl
-keeps-up TimerRecovery true (Reject n pf) nr is up = refl
 keeps-up TimerRecovery false (Reject n true) nr is up = refl
-keeps-up TimerRecovery false (Reject n false) nr is up = refl
+keeps-up other command (ReceiveReady n pf) nr is up = refl
+keeps-up other command (ReceiveNotReady n pf) nr is up = refl
+keeps-up other command (Reject n pf) nr is up = refl
+keeps-up other command (Information ns n p) nr is up = refl
 keeps-up here command other nr is up = absurd (none-some nr is)
 
 ua-goes-on : (t : Terms) (k : Link) (here : State) → is_multiple_frame here ≡ true → (command f : Bool) (info : List ℕ) → (frame_in here t command info (Ua f) (begun k)).zeroed ≡ true → ⊥
@@ -77,11 +60,8 @@ module _ (t : Terms) (k : Link) where
         (ap (λ ct. received (cond (is_overlong t ct f.info) overlong (frame f))) is ∙ ap (λ b. received (cond b overlong (frame f))) short)
 
     frame-acked : (ct : Control) → f.control ≡ ct → acknowledged_by (number_of t ct f.info) k ≡ 0
-    frame-acked (Information ns nr p) is = go (nat_lt t.n201 (length f.info)) refl
-      where
-        go : (b : Bool) → nat_lt t.n201 (length f.info) ≡ b → acknowledged_by (cond b None (Some nr)) k ≡ 0
-        go true long = refl
-        go false short = supervised (Information ns nr p) is short nr refl
+    frame-acked (Information ns nr p) is =
+        cond_both (nat_lt t.n201 (length f.info)) None (Some nr) (λ o. acknowledged_by o k ≡ 0) (λ long. refl) (λ short. supervised (Information ns nr p) is short nr refl)
     frame-acked (ReceiveReady nr pf) is = supervised (ReceiveReady nr pf) is refl nr refl
     frame-acked (ReceiveNotReady nr pf) is = supervised (ReceiveNotReady nr pf) is refl nr refl
     frame-acked (Reject nr pf) is = supervised (Reject nr pf) is refl nr refl
@@ -177,9 +157,9 @@ module _ (t : Terms) where
       (ap (λ b. b && tei == t.tei) (ap (λ x. same_service x t.service) same ∙ service-same t.service) ∙ eq-eqb tei t.tei is)
 
   own-loss : (n : Note) → IsOwn t n → is_loss n ≡ is_loss_of t.service t.tei n
-  own-loss (notes.EstablishIndication service tei) own = its-own service tei own.0 own.1
-  own-loss (notes.ReleaseIndication service tei) own = its-own service tei own.0 own.1
-  own-loss (notes.ReleaseConfirm service tei) own = its-own service tei own.0 own.1
+  own-loss (EstablishIndication service tei) own = its-own service tei own.0 own.1
+  own-loss (ReleaseIndication service tei) own = its-own service tei own.0 own.1
+  own-loss (ReleaseConfirm service tei) own = its-own service tei own.0 own.1
   own-loss other own = refl
 
   pub own-losses : (ns : List Note) → All (IsOwn t) ns → list_any is_loss ns ≡ list_any (is_loss_of t.service t.tei) ns

@@ -1,5 +1,6 @@
 -- Lemmas.
 pub mod Vocabulary
+pub mod Facts
 pub mod Counting
 pub mod States
 pub mod DeliveriesWatched
@@ -43,7 +44,6 @@ pub mod OctetsBegin
 pub mod WaitedBegins
 pub mod LinkNames
 pub mod Turns
-pub mod CallRuns
 pub mod NamedFrames
 pub mod TurnsKept
 pub mod TurnsWalked
@@ -56,7 +56,6 @@ pub mod DataGoesOut
 pub mod DataAsked
 pub mod LineAtEnd
 pub mod ClearedTells
-pub mod FramesGiven
 pub mod CommandsCaused
 pub mod ReceiptsNumbered
 pub mod StandingOfLink
@@ -109,7 +108,6 @@ pub mod KeptOfLink
 pub mod PlacesSeen
 pub mod KeptOfLine
 pub mod Outgoing
-pub mod ControlsBegin
 pub mod WaitingNow
 pub mod Plain
 pub mod OwedNow

@@ -1,16 +1,8 @@
 -- The line and a link of it behind a list of events; and a link that has nothing to send, where nothing of its line does.
-use Rattle.laws_trace.proofs.Vocabulary.{◌≡◌, ℕ, ◌<◌, List, get_or, Option, Some, None, sym, ap, ◌∙◌, subst, arith, option_map_or, Service, place_of-is, Config, Line, link_in, link_of, link_at, link_number, place_at, place_in, service_at, tei_at, terms, IsInRange, sound_in, place_at-number, service_at-number, number_within, HasNothing, IsSilent, line_at, fresh_is_sound, line-sound, config-stays, [], refl, gave, next, next_of, Taken, taken, at, option_map}
-use Rattle.model_link.specs.Link.{fresh}
+use Rattle.laws_trace.proofs.Vocabulary.{◌≡◌, ℕ, ◌<◌, List, get_or, Option, Some, None, sym, ap, ◌∙◌, subst, arith, option_map_or, Service, place_of-is, Config, Line, link_in, link_of, link_at, link_number, place_at, place_in, service_at, tei_at, terms, IsInRange, sound_in, place_at-number, service_at-number, number_within, HasNothing, IsSilent, line_at, fresh_is_sound, line-sound, config-stays, [], refl, gave, next, next_of, Taken, taken, at, option_map, fresh_link as fresh, IsSound, CardEvent as Event, after_all, AreAtLines, always_sound, none-waits, trace_frame_in as frame_in, card_answer as answer}
 use Rattle.model_link.specs.Sound as link_sound
-use Rattle.model_line.specs.Sound.{IsSound}
 use Rattle.model_card.specs.Card as cards
-use Rattle.model_card.specs.Event.{Event}
-use Rattle.model_card.specs.Run.{after_all, AreAtLines}
-use Rattle.model_card.proofs.CardSound.{always_sound}
-use Rattle.model_card.specs.Machine as machine
 use Rattle.model_line.specs.Machine as lines
-use Rattle.laws_line.proofs.Serving.{none-waits}
-use Rattle.laws_trace.specs.Trace.{frame_in}
 
 -- A link of a line that has nothing to send has nothing to send.
 pub silent-there : (c : Config) (l : Line) → IsSound c l → HasNothing c l → (service : Service) (tei place : ℕ) → place_in l tei ≡ Some place
@@ -45,7 +37,7 @@ none-taken None is = refl
 none-taken (Some t) is = cc is
 
 pub nothing-there : (c : Config) (events : List Event) (number : ℕ) → IsInRange c → AreAtLines (cards.fresh c) events → number < c.lines
-    → frame_in (machine.answer (at number next) (after_all (cards.fresh c) events)) ≡ [] → HasNothing c (line_at number (after_all (cards.fresh c) events))
+    → frame_in (answer (at number next) (after_all (cards.fresh c) events)) ≡ [] → HasNothing c (line_at number (after_all (cards.fresh c) events))
 unfolding lines.answer lines.takes_slot
 nothing-there c events number ranged all within none =
     let l = line_at number (after_all (cards.fresh c) events) in

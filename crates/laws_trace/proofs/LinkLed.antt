@@ -1,35 +1,15 @@
 -- Which state a link moves to: one event of a line, by what is seen of it.
-use Rattle.laws_trace.proofs.Vocabulary.{◌≡◌, ℕ, ◌==◌, ◌&&◌, Bool, true, false, cond, List, [], ◌∷◌, ◌++◌, length, map, Option, Some, None, Result, Ok, Err, refl, sym, ap, ◌∙◌, eq-eqb, true≢false, ◌⊎◌, inl, inr, fold, is_some, nat_lt, option_map_or, Unserved, Address, ReadFault, Undefined, WrongSize, ErrorCode, L, N, O, Long, Refusal, Service, Timer, Parts, reading, long_reading, sapi_of, service_of, same_service, place_of-is, is_on-at, LinkTimer, Config, Aim, Effect, at_link, hears, expiry, request, next, Answer, aim_of_expiry, at_timer, Line, has_tei, place_in, terms, aim_of, unless_refused, unless_refused_told, of_request, heard_side, addressed, aim_of_heard, aim_of_reading, aim_of_long, drop_for, message_of, Deactivate, aim_of_request, at_requested, at_deactivated, at_side, IsMalformed, IsTooLong, is_granted, IsBy, BringsMalformed, timer_of, IsDeactivated, addressed-is, sapi-is, service-same, both-true}
-use Rattle.std.proofs.Common.{eqb-true}
+use Rattle.laws_trace.proofs.Vocabulary.{◌≡◌, ℕ, ◌==◌, ◌&&◌, Bool, true, false, cond, List, [], ◌∷◌, ◌++◌, length, map, Option, Some, None, Result, Ok, Err, refl, sym, ap, ◌∙◌, eq-eqb, true≢false, ◌⊎◌, inl, inr, fold, is_some, nat_lt, option_map_or, Unserved, Address, ReadFault, Undefined, WrongSize, ErrorCode, L, N, O, Long, Refusal, Service, Timer, Parts, reading, long_reading, sapi_of, service_of, same_service, place_of-is, is_on-at, LinkTimer, Config, Aim, Effect, at_link, hears, expiry, request, next, Answer, aim_of_expiry, at_timer, Line, has_tei, place_in, terms, aim_of, unless_refused, unless_refused_told, of_request, heard_side, addressed, aim_of_heard, aim_of_reading, aim_of_long, drop_for, message_of, Deactivate, aim_of_request, at_requested, at_deactivated, at_side, IsMalformed, IsTooLong, is_granted, IsBy, BringsMalformed, timer_of, IsDeactivated, addressed-is, sapi-is, service-same, both-true, eqb-true, T200, T203, Event, told, answer, refusal, Request, Establish, Release, option_and_then, result_ok, result_err, is_for, faulty_long, fault_of, trace_frame_in as frame_in, is_own, seen, seen_told, seen_granted, is_up, and-false, and-true, of_link, Seen, trace_begun as begun, heard}
 use Rattle.model_bits.specs.Stream as stream
 use Rattle.lapd_frame.specs.declared.overlong.Long.TheVariants as long
 use Rattle.lapd_frame.specs.declared.timers.Timer.TheVariants as timers
-use Rattle.model_link.specs.declared.timers.LinkTimer.TheVariants.{T200, T203}
 use Rattle.model_link.specs.Events as link
-use Rattle.model_line.specs.Event.{Event, told}
-use Rattle.model_line.specs.Machine.{answer}
-use Rattle.model_line.specs.Refusal.{refusal}
-use Rattle.model_line.specs.Request.{Request, Establish, Release}
-use Rattle.laws_line.specs.Requests as requests
-use Rattle.std.specs.Option.{option_and_then}
-use Rattle.std.specs.Result.{result_ok, result_err}
-use Rattle.laws_trace.specs.LinkFrames.{is_for, faulty_long, fault_of}
 use Rattle.laws_trace.proofs.MovesWatched.{by_frame, by_parts, by_request, by_seen, by_expiry, led}
 use Rattle.laws_trace.proofs.States.{expired_of, one_more}
 use Rattle.laws_trace.proofs.TimersWatched.{Known}
-use Rattle.laws_trace.specs.Trace.{frame_in, is_own, seen, seen_told, seen_granted, is_up}
 use Rattle.laws_trace.proofs.MovesOfLink.{expected, ticks}
 use Rattle.laws_trace.proofs.Deliveries.{heard-by}
 use Rattle.laws_trace.proofs.OneLink.{is_at_link}
-use Rattle.laws_trace.specs.Trace as traces
-
-and-false : (b : Bool) → (b && false) ≡ false
-and-false true = refl
-and-false false = refl
-
-and-true : (b : Bool) → (b && true) ≡ b
-and-true true = refl
-and-true false = refl
 
 pub own-is : (service : Service) (tei : ℕ) → is_own service tei service tei ≡ true
 own-is service tei = ap (λ b. b && tei == tei) (service-same service) ∙ eq-eqb tei tei refl
@@ -48,11 +28,11 @@ none-refused c r l e = granted-is (refusal c false r l) (of_request c r l) e
 
 -- What is seen, in state x.
 module _ (c : Config) (service : Service) (tei : ℕ) (k : Known) where
-  abbrev by_all : ℕ → List traces.Seen → ℕ
+  abbrev by_all : ℕ → List Seen → ℕ
   by_all x t = fold (by_seen c service tei k) x t
 
   abbrev by_heard : ℕ → stream.Event → ℕ
-  by_heard x e = by_seen c service tei k x (traces.heard e)
+  by_heard x e = by_seen c service tei k x (heard e)
 
   told-leads : (x : ℕ) (a : Answer) → by_all x (seen_told a) ≡ x
   told-leads x (told t) = refl
@@ -66,7 +46,7 @@ module _ (c : Config) (service : Service) (tei : ℕ) (k : Known) where
   refused-leads x r (told t) e = absurd (true≢false e)
   refused-leads x r other e = refl
 
-  begun-leads : (x : ℕ) (frames : List (List ℕ)) → by_all x (map traces.begun frames) ≡ x
+  begun-leads : (x : ℕ) (frames : List (List ℕ)) → by_all x (map begun frames) ≡ x
   begun-leads x [] = refl
   begun-leads x (f ∷ frames) = begun-leads x frames
 
@@ -206,7 +186,7 @@ module _ (c : Config) (service : Service) (tei : ℕ) (k : Known) where
     brings-malformed : (n x : ℕ) (e : Event) (what : link.Received) → BringsMalformed c e service tei what → led c service tei k n e (seen e a) x ≡ cond (is_up x) 5 x
     brings-malformed n x e what y = malformed-leads n x e y.address y.octets what (own-address y.address y.sapi y.tei_is) y.by
 
-    asked-leads : (x : ℕ) (asked : link.Request) → by_request service tei x (requests.of_link service tei asked) ≡ expected (terms c service tei) k 0 (link.requested asked false) x
+    asked-leads : (x : ℕ) (asked : link.Request) → by_request service tei x (of_link service tei asked) ≡ expected (terms c service tei) k 0 (link.requested asked false) x
     asked-leads x link.Establish = ap (λ b. cond (b && x == 4) 5 x) (own-is service tei)
     asked-leads x link.Release = ap (λ b. cond (b && is_up x) 6 x) (own-is service tei)
     asked-leads x other = refl
@@ -232,7 +212,7 @@ module _ (c : Config) (service : Service) (tei : ℕ) (k : Known) where
         ∙ ap (λ o. option_map_or (by_expiry c.n200 k n x) o x) (ticked timer)
     one-led n x e (link.requested asked full) y =
         ap (λ e. led c service tei k n e (seen e a) x) y.0
-        ∙ granted-leads x (requests.of_link service tei asked) a y.1 ∙ asked-leads x asked ∙ full-or-not n x asked full
+        ∙ granted-leads x (of_link service tei asked) a y.1 ∙ asked-leads x asked ∙ full-or-not n x asked full
     one-led n x e link.offer y = ap (λ e. led c service tei k n e (seen e a) x) y ∙ begun-leads x (frame_in a)
     one-led n x e link.cleared y = absurd y
 

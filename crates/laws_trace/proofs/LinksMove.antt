@@ -1,29 +1,21 @@
 -- Which state a link moves to: the law.
-use Rattle.laws_trace.proofs.Vocabulary.{◌≡◌, ℕ, ◌+◌, ◌<◌, ◌≤◌, ◌==◌, not, Bool, true, false, cond, List, [], get_or, set, Option, Some, None, refl, sym, ap, ◌∙◌, subst, arith, eq-eqb, true≢false, ◌⊎◌, inl, inr, IfSome, option_map_or, and_parts, get_or-set_same, get_or-replicate, none-some, PoolFull, Service, State, TeiAssigned, Terms, Link, state_number, Config, Answer, refused, Line, fresh_line, link_of, link_in, place_in, state_of, terms, IsInRange, Card, line_at, is_full, has_lines, by_room, line_sound, AllHaveTheirTimers, IsBy, HaveTheirTimers, nowhere, moves}
-use Rattle.std.proofs.Common.{eqb-true}
+use Rattle.laws_trace.proofs.Vocabulary.{◌≡◌, ℕ, ◌+◌, ◌<◌, ◌≤◌, ◌==◌, not, Bool, true, false, cond, List, [], get_or, set, Option, Some, None, refl, sym, ap, ◌∙◌, subst, arith, eq-eqb, true≢false, inl, inr, IfSome, option_map_or, and_parts, get_or-set_same, get_or-replicate, PoolFull, Service, State, Terms, Link, state_number, Config, Answer, refused, Line, fresh_line, link_of, link_in, place_in, state_of, terms, IsInRange, Card, line_at, is_full, has_lines, by_room, line_sound, AllHaveTheirTimers, IsBy, HaveTheirTimers, nowhere, moves, eqb-true, fresh_link, IsSound, fresh, CardEvent as Event, after, card_answer as answer, IsAtLine, AreAtLines, seen}
 use Rattle.model_link.specs.Events as link
-use Rattle.model_link.specs.Link.{fresh as fresh_link}
 use Rattle.model_link.specs.Machine as links
 use Rattle.model_line.specs.Event as line_event
 use Rattle.model_line.specs.Machine as lines
-use Rattle.model_line.specs.Sound.{IsSound}
-use Rattle.model_card.specs.Card.{fresh}
-use Rattle.model_card.specs.Event.{Event}
-use Rattle.model_card.specs.Machine.{after, answer}
-use Rattle.model_card.specs.Run.{IsAtLine, AreAtLines}
 use Rattle.model_card.specs.Sound as card_sound
 use Rattle.laws_trace.proofs.MovesWatched.{by_expiry, repeated, led}
 use Rattle.laws_trace.proofs.States.{expired_of, one_more, differ}
 use Rattle.laws_trace.proofs.TimersWatched.{Known}
-use Rattle.laws_trace.specs.Trace.{seen}
 use Rattle.laws_trace.proofs.LinkLed.{on-line, none-led, none-ticks, one-led, one-ticks, ended-leads}
 use Rattle.laws_trace.proofs.MovesOfLink.{Counts, event-leads, event-counted}
 use Rattle.laws_trace.proofs.OneLink.{HasOne, HasNone, Goes, event-goes}
-use Rattle.laws_trace.proofs.CallRuns.{apart}
-use Rattle.laws_trace.proofs.Runs.{nothing-seen}
+use Rattle.laws_trace.proofs.Runs.{nothing-seen, apart}
 use Rattle.laws_trace.proofs.TimerClaims.{told_state}
-use Rattle.laws_trace.proofs.TimersOfEvent.{IsTrueOf, state-on, off-fresh, off-state}
+use Rattle.laws_trace.proofs.TimersOfEvent.{IsTrueOf, state-on, off-fresh, off-state, comes}
 use Rattle.laws_trace.proofs.TimersOfEvent as events
+use Rattle.laws_trace.proofs.Facts.{same-state}
 
 -- What was counted of a link is its RC, in states 5, 6 and 8.
 abbrev pub IsCountOf : Service → ℕ → ℕ → Line → Type 0
@@ -61,10 +53,6 @@ module _ (c : Config) (ranged : IsInRange c) (l : Line) (s : IsSound c l) (timed
 
   abbrev next : Link
   next = link_of service tei (lines.after c e l)
-
-  same-state : (state : State) → moves state state ≡ false
-  same-state TeiAssigned = refl
-  same-state other = refl
 
   abbrev counted : Option ℕ → Option ℕ → ℕ
   counted from to = cond (differ from to) 0 (n + option_map_or one_more (expired_of service tei e) 0)
@@ -124,19 +112,6 @@ module _ (c : Config) (ranged : IsInRange c) (l : Line) (s : IsSound c l) (timed
         go (inr (inl x)) = one-counted x
         go (inr (inr x)) = subst (λ (y : Link). Counts y.state (counted (told_state own.state) (told_state y.state)) y.repeats) (sym x.is) tt
 
-  -- a TEI that comes
-  comes : place_in l tei ≡ None → next ≡ fresh_link
-  comes off = go (event-goes c e l service tei s)
-    where
-      go : Goes c service tei e l (lines.after c e l) a → next ≡ fresh_link
-      go (inr (inl x)) = absurd (none-some x.place (sym off ∙ x.placed))
-      go (inr (inr x)) = x.is
-      go (inl x) = either x.is
-        where
-          either : (next ≡ own) ⊎ (next ≡ fresh_link) → next ≡ fresh_link
-          either (inl same) = same ∙ off-fresh service tei l off
-          either (inr new) = new
-
   begins-counted : (m : ℕ) → next ≡ fresh_link → Counts next.state m next.repeats
   begins-counted m is = subst (λ (y : Link). Counts y.state m y.repeats) (sym is) tt
 
@@ -148,7 +123,7 @@ module _ (c : Config) (ranged : IsInRange c) (l : Line) (s : IsSound c l) (timed
 
       go : (o : Option ℕ) → place_in l tei ≡ o → (p : Option ℕ) → place_in (lines.after c e l) tei ≡ p → Counts next.state m next.repeats
       go o on None off = begins-counted m (off-fresh service tei (lines.after c e l) off)
-      go None off (Some there) stays = begins-counted m (comes off)
+      go None off (Some there) stays = begins-counted m (comes c e l s service tei off)
       go (Some place) on (Some there) stays =
           subst (λ m. Counts next.state m next.repeats)
           (sym (ap (λ o. counted o (state_of service tei (lines.after c e l))) (state-on service tei l place on)
@@ -165,7 +140,7 @@ module _ (c : Config) (ranged : IsInRange c) (l : Line) (s : IsSound c l) (timed
       go o on None off = subst (Led (state_of service tei l)) (sym (off-state service tei (lines.after c e l) off)) tt
       go None off (Some there) stays =
           subst (Led (state_of service tei l)) (sym (state-on service tei (lines.after c e l) there stays))
-          (ap (λ (y : Link). state_number y.state) (comes off) ∙ sym (ap (λ o. option_map_or (led c service tei k n e (seen e a)) o 4) (off-state service tei l off)))
+          (ap (λ (y : Link). state_number y.state) (comes c e l s service tei off) ∙ sym (ap (λ o. option_map_or (led c service tei k n e (seen e a)) o 4) (off-state service tei l off)))
       go (Some place) on (Some there) stays =
           subst (Led (state_of service tei l)) (sym (state-on service tei (lines.after c e l) there stays))
           (leads place there on stays ∙ sym (ap (λ o. option_map_or (led c service tei k n e (seen e a)) o 4) (state-on service tei l place on)))

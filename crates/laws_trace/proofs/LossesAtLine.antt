@@ -1,15 +1,8 @@
 -- How many of the control frames of a link that are due one event of its line loses.
-use Rattle.laws_trace.proofs.Vocabulary.{◌≡◌, ℕ, ◌+◌, ◌-◌, ◌≤◌, Bool, false, true, List, [], length, drop, refl, sym, ap, ◌∙◌, subst, arith, true≢false, inl, inr, Some, Service, as_heard, put, event-follows, ControlFrame, Terms, Link, Config, Answer, Line, has_tei, link_of, place_in, terms, IsInRange, lost_in, deactivates, IsBy, HaveTheirTimers}
-use Rattle.std.proofs.Common.{length-drop}
-use Rattle.laws_link.specs.Waiting.{room}
+use Rattle.laws_trace.proofs.Vocabulary.{◌≡◌, ℕ, ◌+◌, ◌-◌, ◌≤◌, Bool, false, true, List, [], length, drop, refl, sym, ap, ◌∙◌, subst, arith, true≢false, inl, inr, Some, Service, as_heard, put, event-follows, ControlFrame, Terms, Link, Config, Answer, Line, has_tei, link_of, place_in, terms, IsInRange, lost_in, deactivates, IsBy, HaveTheirTimers, length-drop, room, Event, line_after as after, answer, IsSound, is_empty, seen}
 use Rattle.model_link.specs.Events as link
 use Rattle.model_link.specs.Machine as links
 use Rattle.model_link.specs.Sound as link_sound
-use Rattle.model_line.specs.Event.{Event}
-use Rattle.model_line.specs.Machine.{after, answer}
-use Rattle.model_line.specs.Sound.{IsSound}
-use Rattle.laws_trace.specs.Outgoing.{is_empty}
-use Rattle.laws_trace.specs.Trace.{seen}
 use Rattle.laws_trace.proofs.Addressed.{at-some-place}
 use Rattle.laws_trace.proofs.CommandsCaused.{IsNoOther}
 use Rattle.laws_trace.proofs.ControlsAtLine.{time_at, put_here, none-puts, put-is, none-due, numbered, own-timed, sound}

@@ -1,16 +1,9 @@
 -- What an event of TEI management is to the link of a service with a TEI: it stays as it is, or its TEI comes or
 -- leaves; and it orders what stops the timer of a link whose TEI leaves.
-use Rattle.laws_trace.proofs.Vocabulary.{◌≡◌, ℕ, ◌==◌, Bool, true, false, List, ◌++◌, Option, Some, None, refl, sym, ap, ◌∙◌, eq-eqb, true≢false, ◌⊎◌, inl, inr, is_some, none-some, Service, Order, Call, Packet, Management, IsSoundTable, Change, Gained, Left, t201_follows, Link, Config, told_of_management, of_change, Line, has_tei, link_in, link_of, terms, some-same, is-off, has-no-place, [], ◌&&◌, append-nil, arith, get_or, set, get_or-set_other, option_map_or, filter-append, same_service, is_on-at, place_of-is, has-place, place_in, link_number, orders_for, Terms}
-use Rattle.std.proofs.Common.{eqb-true}
+use Rattle.laws_trace.proofs.Vocabulary.{◌≡◌, ℕ, ◌==◌, Bool, true, false, List, ◌++◌, Option, Some, None, refl, sym, ap, ◌∙◌, eq-eqb, true≢false, ◌⊎◌, inl, inr, is_some, none-some, Service, Order, Call, Packet, Management, IsSoundTable, Change, Gained, Left, t201_follows, Link, Config, told_of_management, of_change, Line, has_tei, link_in, link_of, terms, some-same, is-off, has-no-place, [], ◌&&◌, append-nil, arith, get_or, set, get_or-set_other, option_map_or, filter-append, same_service, is_on-at, place_of-is, has-place, place_in, link_number, orders_for, Terms, eqb-true, fresh_link as fresh, line_after as after, IsSound, is_order_of, HasJoined, HasLeft, TeiIsInRange as IsInRange, Moves, changes_are_told, sound-after, elsewhere, emptied, emptied-read, filled-read, same-read, and-false}
 use Rattle.lapd_tei.specs.Events as teis
-use Rattle.lapd_tei.specs.Laws as tei_laws
-use Rattle.lapd_tei.proofs.LawLemmas as tei_lemmas
-use Rattle.model_link.specs.Link.{fresh}
-use Rattle.model_line.specs.Machine.{after}
-use Rattle.model_line.specs.Sound.{IsSound}
-use Rattle.laws_line.proofs.Readings as read
-use Rattle.laws_trace.specs.TimersAreTimely.{is_order_of}
-use Rattle.laws_trace.proofs.OrdersOfLink.{its_orders, its-own, of-event, none-ordered, management-orders-none}
+use Rattle.laws_trace.proofs.OrdersOfLink.{its_orders, of-event, none-ordered, management-orders-none}
+use Rattle.laws_trace.proofs.Facts.{its-own}
 
 module _ (c : Config) (l : Line) (s : IsSound c l) (service : Service) (tei : ℕ) where
   abbrev itself : Link → Link
@@ -18,7 +11,7 @@ module _ (c : Config) (l : Line) (s : IsSound c l) (service : Service) (tei : �
 
   -- the same table, and the same links
   pub alike : (before after : Line) → after.management.places ≡ before.management.places → after.links ≡ before.links → link_of service tei after ≡ link_of service tei before
-  alike before after places links = read.same-read fresh itself service tei before after places links
+  alike before after places links = same-read fresh itself service tei before after places links
 
   -- It stays as it is, or its TEI comes or leaves.
   abbrev pub Remains : Line → Type 0
@@ -27,12 +20,12 @@ module _ (c : Config) (l : Line) (s : IsSound c l) (service : Service) (tei : �
       ⊎ ((link_of service tei next ≡ fresh) × (has_tei tei l ≡ true → has_tei tei next ≡ true → ⊥))
 
   -- An event of TEI management: a TEI comes, or leaves, or none does.
-  module _ (me : teis.Event) (fits : tei_laws.IsInRange me) where
+  module _ (me : teis.Event) (fits : IsInRange me) where
     abbrev m : Management
     m = teis.after me l.management
 
     table : IsSoundTable m.places
-    table = (tei_lemmas.sound-after me l.management fits s.management).table
+    table = (sound-after me l.management fits s.management).table
 
     abbrev next : Option Change → Line
     next o = (of_change c o (told_of_management (teis.told me l.management)) (record l { management = m })).line
@@ -40,39 +33,39 @@ module _ (c : Config) (l : Line) (s : IsSound c l) (service : Service) (tei : �
     abbrev Stays : Option Change → Type 0
     Stays o = Remains (next o)
 
-    gained-elsewhere : (by place : ℕ) → tei_laws.HasJoined l.management.places m.places by place → (by == tei) ≡ false → link_of service tei (next (Some (Gained by place))) ≡ link_of service tei l
+    gained-elsewhere : (by place : ℕ) → HasJoined l.management.places m.places by place → (by == tei) ≡ false → link_of service tei (next (Some (Gained by place))) ≡ link_of service tei l
     gained-elsewhere by place joined other =
-        read.elsewhere fresh itself refl c l s m table place (Some by) joined.is_there joined.within service tei
+        elsewhere fresh itself refl c l s m table place (Some by) joined.is_there joined.within service tei
         (λ same. true≢false (sym (eq-eqb by tei (some-same by tei same)) ∙ other)) (λ at. none-some tei (sym joined.was_free ∙ at))
 
-    left-elsewhere : (by place : ℕ) → tei_laws.HasLeft l.management.places m.places by place → (by == tei) ≡ false → link_of service tei (next (Some (Left by place))) ≡ link_of service tei l
+    left-elsewhere : (by place : ℕ) → HasLeft l.management.places m.places by place → (by == tei) ≡ false → link_of service tei (next (Some (Left by place))) ≡ link_of service tei l
     left-elsewhere by place gone other =
-        read.elsewhere fresh itself refl c l s m table place None gone.is_free gone.within service tei (λ same. none-some tei same)
+        elsewhere fresh itself refl c l s m table place None gone.is_free gone.within service tei (λ same. none-some tei same)
         (λ at. true≢false (sym (eq-eqb by tei (some-same by tei (sym gone.was_there ∙ at))) ∙ other))
 
-    left-fresh : (by place : ℕ) → tei_laws.HasLeft l.management.places m.places by place → (by == tei) ≡ true → link_of service tei (next (Some (Left by place))) ≡ fresh
+    left-fresh : (by place : ℕ) → HasLeft l.management.places m.places by place → (by == tei) ≡ true → link_of service tei (next (Some (Left by place))) ≡ fresh
     left-fresh by place gone same =
-        read.emptied-read fresh itself refl c l s m table place None gone.is_free gone.within service tei refl (gone.was_there ∙ ap Some (eqb-true by tei same))
+        emptied-read fresh itself refl c l s m table place None gone.is_free gone.within service tei refl (gone.was_there ∙ ap Some (eqb-true by tei same))
 
-    comes : (by place : ℕ) → tei_laws.HasJoined l.management.places m.places by place → (b : Bool) → (by == tei) ≡ b → Stays (Some (Gained by place))
+    comes : (by place : ℕ) → HasJoined l.management.places m.places by place → (b : Bool) → (by == tei) ≡ b → Stays (Some (Gained by place))
     comes by place joined true same =
         inr (
-          read.filled-read fresh itself refl c l s m table place (Some by) joined.is_there joined.within service tei (ap Some (eqb-true by tei same)),
+          filled-read fresh itself refl c l s m table place (Some by) joined.is_there joined.within service tei (ap Some (eqb-true by tei same)),
           λ was there. true≢false (sym was ∙ ap (λ n. has_tei n l) (sym (eqb-true by tei same)) ∙ joined.was_off),
         )
     comes by place joined false other = inl (gained-elsewhere by place joined other)
 
-    leaves : (by place : ℕ) → tei_laws.HasLeft l.management.places m.places by place → (b : Bool) → (by == tei) ≡ b → Stays (Some (Left by place))
+    leaves : (by place : ℕ) → HasLeft l.management.places m.places by place → (b : Bool) → (by == tei) ≡ b → Stays (Some (Left by place))
     leaves by place gone true same =
         let was-there = gone.was_there ∙ ap Some (eqb-true by tei same) in
         inr (
           left-fresh by place gone same,
           λ was there. true≢false (sym there
-              ∙ is-off m.places tei (has-no-place m.places tei (read.emptied fresh itself refl c l s m table place None gone.is_free gone.within tei refl was-there))),
+              ∙ is-off m.places tei (has-no-place m.places tei (emptied fresh itself refl c l s m table place None gone.is_free gone.within tei refl was-there))),
         )
     leaves by place gone false other = inl (left-elsewhere by place gone other)
 
-    by-change : (o : Option Change) → tei_laws.Moves l.management.places o m.places → Stays o
+    by-change : (o : Option Change) → Moves l.management.places o m.places → Stays o
     by-change None moves = inl (alike l (next None) moves refl)
     by-change (Some (Gained by place)) joined = comes by place joined (by == tei) refl
     by-change (Some (Left by place)) gone = leaves by place gone (by == tei) refl
@@ -103,7 +96,7 @@ module _ (c : Config) (l : Line) (s : IsSound c l) (service : Service) (tei : �
         go None none = ap (λ o. option_map_or (link_in l service) o fresh) none
         go (Some place) on = absurd (true≢false (sym (is_on-at l.management.places place tei (place_of-is l.management.places tei place on).1) ∙ off))
 
-    comes-ordered : (by place : ℕ) → tei_laws.HasJoined l.management.places m.places by place → (b : Bool) → (by == tei) ≡ b → Ordered (Some (Gained by place))
+    comes-ordered : (by place : ℕ) → HasJoined l.management.places m.places by place → (b : Bool) → (by == tei) ≡ b → Ordered (Some (Gained by place))
     comes-ordered by place joined false other = own-orders-none ∙ as-before (Some (Gained by place)) (gained-elsewhere by place joined other)
     comes-ordered by place joined true same = own-orders-none ∙ go (comes by place joined true same)
       where
@@ -142,8 +135,7 @@ module _ (c : Config) (l : Line) (s : IsSound c l) (service : Service) (tei : �
           ∙ of-event (terms c Packet n) service tei false (away (same_service Packet service)) second_link.running None None
         where
           away : (b : Bool) → (b && n == tei) ≡ false
-          away true = other
-          away false = refl
+          away b = ap (λ d. b && d) other ∙ and-false b
 
       second-is : second_link ≡ link_in l Packet place
       second-is = get_or-set_other l.links (link_number place Call) (link_number place Packet) fresh fresh (λ e. omega (arith, e))
@@ -165,7 +157,7 @@ module _ (c : Config) (l : Line) (s : IsSound c l) (service : Service) (tei : �
           ∙ ap (λ (x : Link). orders_for (terms c Packet tei) x.running None None) second-is
           ∙ ap (λ z. orders_for (terms c z tei) (link_in l z place).running None None) (sym is)
 
-    leaves-ordered : (by place : ℕ) → tei_laws.HasLeft l.management.places m.places by place → (b : Bool) → (by == tei) ≡ b → Ordered (Some (Left by place))
+    leaves-ordered : (by place : ℕ) → HasLeft l.management.places m.places by place → (b : Bool) → (by == tei) ≡ b → Ordered (Some (Left by place))
     leaves-ordered by place gone false other = others-left place by other ∙ as-before (Some (Left by place)) (left-elsewhere by place gone other)
     leaves-ordered by place gone true same =
         ap (λ n. its_orders service tei (of_both place n)) (eqb-true by tei same) ∙ its-left place service refl
@@ -176,12 +168,12 @@ module _ (c : Config) (l : Line) (s : IsSound c l) (service : Service) (tei : �
         there = ap (λ o. option_map_or (link_in l service) o fresh) (has-place l.management.places tei place s.management.table (gone.was_there ∙ ap Some (eqb-true by tei same)))
 
     pub management-ordered : Ordered (teis.told me l.management).change
-    management-ordered = go (teis.told me l.management).change (tei_lemmas.changes_are_told me l.management fits s.management)
+    management-ordered = go (teis.told me l.management).change (changes_are_told me l.management fits s.management)
       where
-        go : (o : Option Change) → tei_laws.Moves l.management.places o m.places → Ordered o
+        go : (o : Option Change) → Moves l.management.places o m.places → Ordered o
         go None moves = own-orders-none ∙ as-before None (alike l (next None) moves refl)
         go (Some (Gained by place)) joined = comes-ordered by place joined (by == tei) refl
         go (Some (Left by place)) gone = leaves-ordered by place gone (by == tei) refl
 
     pub managed : Stays (teis.told me l.management).change
-    managed = by-change (teis.told me l.management).change (tei_lemmas.changes_are_told me l.management fits s.management)
+    managed = by-change (teis.told me l.management).change (changes_are_told me l.management fits s.management)

@@ -1,37 +1,28 @@
 -- Which aims of a line are none of TEI management, and that what a line tells behind what TEI management tells changes nothing.
-use Rattle.laws_trace.proofs.Vocabulary.{◌≡◌, ℕ, ◌==◌, ◌&&◌, Bool, true, false, cond, List, [], ◌∷◌, ◌++◌, Option, Some, None, refl, sym, ap, ◌∙◌, subst, append-nil, append_assoc, option_map_or, true≢false, ◌⊎◌, inl, inr, All, filter, not, Result, Ok, Err, All-nil, All-cons, All-head, All-tail, All-append, filter-append, Tei, Unserved, Address, Side, Network, User, Ui, ReadFault, Undefined, WrongSize, Note, Long, Service, Start, Stop, Call, Packet, Parts, reading, long_reading, service_of, TeiTold, Change, Left, Link, runs, timer_at, order_for, orders_for, LinkTimer, Terms, notes-own, Config, Aim, at_management, told_of_management, of_change, Line, link_in, terms, place_in, management_sapi, group_tei, drop_for, at_place, to_service, addressed, message_of, aim_of_reading, unless_at_link, aim_of_long, aim_of_heard, heard_side, managed_at, at_side, has_management}
+use Rattle.laws_trace.proofs.Vocabulary.{◌≡◌, ℕ, ◌==◌, ◌&&◌, Bool, true, false, cond, List, [], ◌∷◌, ◌++◌, Option, Some, None, refl, sym, ap, ◌∙◌, subst, append-nil, append_assoc, option_map_or, true≢false, ◌⊎◌, inl, inr, All, filter, not, Result, Ok, Err, All-nil, All-cons, All-head, All-tail, All-append, filter-append, Tei, Unserved, Address, Side, Network, User, Ui, ReadFault, Undefined, WrongSize, Note, Long, Service, Start, Stop, Call, Packet, Parts, reading, long_reading, service_of, TeiTold, Change, Left, Link, runs, timer_at, order_for, orders_for, LinkTimer, Terms, notes-own, Config, Aim, at_management, told_of_management, of_change, Line, link_in, terms, place_in, management_sapi, group_tei, drop_for, at_place, to_service, addressed, message_of, aim_of_reading, unless_at_link, aim_of_long, aim_of_heard, heard_side, managed_at, at_side, has_management, Control, T200, T203, line_of_link as of_link, result_ok, frame_of, Managed, by_message, is_of_teis, is_of_t201, is_ui, Assigned, Doubled, Removed, course, link_told as told}
 use Rattle.model_bits.specs.Stream as stream
-use Rattle.lapd_frame.specs.declared.controls.Control.{Control}
-use Rattle.lapd_frame.specs.declared.notes.Note.TheVariants as notes
 use Rattle.lapd_frame.specs.declared.overlong.Long.TheVariants as long
 use Rattle.lapd_tei.specs.Events as teis
 use Rattle.model_link.specs.Events as link
-use Rattle.model_link.specs.Machine as links
-use Rattle.model_link.specs.declared.timers.LinkTimer.TheVariants.{T200, T203}
 use Rattle.model_link.proofs.OwnNotes.{IsOwn}
-use Rattle.model_line.specs.Effect.{of_link}
-use Rattle.std.specs.Result.{result_ok}
-use Rattle.laws_trace.specs.LinkFrames.{frame_of}
-use Rattle.laws_trace.specs.Managing.{Managed, by_message, by_frame}
-use Rattle.laws_trace.specs.TeisAreManaged.{is_of_teis, is_of_t201}
-use Rattle.laws_trace.specs.Units.{is_ui}
+use Rattle.laws_trace.specs.Managing.{by_frame}
 
 -- Notes that are none of a TEI.
 abbrev pub IsOther : Note → Type 0
 IsOther n = is_of_teis n ≡ false
 
 own-other : (t : Terms) (n : Note) → IsOwn t n → IsOther n
-own-other t (notes.Assigned n) own = absurd own
-own-other t (notes.Removed n) own = absurd own
-own-other t (notes.Doubled n) own = absurd own
+own-other t (Assigned n) own = absurd own
+own-other t (Removed n) own = absurd own
+own-other t (Doubled n) own = absurd own
 own-other t other own = refl
 
 others-own : (t : Terms) (ns : List Note) → All (IsOwn t) ns → All IsOther ns
 others-own t [] h = All-nil IsOther
 others-own t (n ∷ ns) h = All-cons IsOther n ns (own-other t n (All-head (IsOwn t) n ns h)) (others-own t ns (All-tail (IsOwn t) n ns h))
 
-pub link-others : (t : Terms) (e : link.Event) (l : Link) → All IsOther (links.told t e l).notes
-link-others t e l = others-own t (links.told t e l).notes (notes-own t e l)
+pub link-others : (t : Terms) (e : link.Event) (l : Link) → All IsOther (told t e l).notes
+link-others t e l = others-own t (told t e l).notes (notes-own t e l)
 
 pub none-of-teis : (ns : List Note) → All IsOther ns → filter is_of_teis ns ≡ []
 none-of-teis [] h = refl
@@ -54,8 +45,8 @@ link-orders t before started after =
     filter-append is_of_t201 (order_for t T200 before started after) (order_for t T203 before started after)
     ∙ ap (λ xs. xs ++ filter is_of_t201 (order_for t T203 before started after)) (own-orders t T200 before started after) ∙ own-orders t T203 before started after
 
-pub told-orders : (t : Terms) (e : link.Event) (l : Link) → filter is_of_t201 (links.told t e l).orders ≡ []
-told-orders t e l = link-orders t l.running (links.course t e l).started (links.course t e l).link.running
+pub told-orders : (t : Terms) (e : link.Event) (l : Link) → filter is_of_t201 (told t e l).orders ≡ []
+told-orders t e l = link-orders t l.running (course t e l).started (course t e l).link.running
 
 -- What TEI management tells, and what its links tell behind.
 module _ (c : Config) (t : TeiTold) (l : Line) where

@@ -1,8 +1,6 @@
 -- The table of TEIs, and the list of those on a line that an observer has: what is on it after a TEI came or left, and how
 -- many are.
-use Rattle.laws_trace.proofs.Vocabulary.{◌≡◌, ℕ, zero, suc, ◌+◌, ◌<◌, ◌≤◌, ◌==◌, ◌&&◌, ◌||◌, Bool, true, false, cond, not, List, [], ◌∷◌, length, replicate, set, get_or, Option, Some, None, refl, sym, ap, ◌∙◌, subst, arith, eq-eqb, true≢false, filter, nat_lt, list_any, prefix_len, any-filter_same, none-some, IsAt, IsSoundTable, Places, is_free, has, is_on, place_of, free_place, freed, place_of-is, is_on-at, free_place-is, is-off}
-use Rattle.std.proofs.Common.{eqb-true}
-use Rattle.std.proofs.lemmas.Bool.{ltb-false}
+use Rattle.laws_trace.proofs.Vocabulary.{◌≡◌, ℕ, zero, suc, ◌+◌, ◌<◌, ◌≤◌, ◌==◌, ◌&&◌, ◌||◌, Bool, true, false, cond, not, List, [], ◌∷◌, length, replicate, set, get_or, Option, Some, None, refl, sym, ap, ◌∙◌, subst, arith, eq-eqb, true≢false, filter, nat_lt, list_any, prefix_len, any-filter_same, none-some, IsAt, IsSoundTable, Places, is_free, has, is_on, place_of, free_place, freed, place_of-is, is_on-at, free_place-is, is-off, eqb-true, ltb-false, false_from_ne_true}
 
 -- A TEI that comes.
 swap : (a b c : Bool) → (a || (b || c)) ≡ (b || (a || c))
@@ -50,11 +48,7 @@ clear-other x tei [] place within at other = absurd (omega (arith, within))
 clear-other x tei (o ∷ places) zero within at other = ap (λ b. b || is_on x places) (sym (ap (has x) at ∙ apart))
   where
     apart : (tei == x) ≡ false
-    apart = go (tei == x) refl
-      where
-        go : (b : Bool) → (tei == x) ≡ b → (tei == x) ≡ false
-        go true is = absurd (true≢false (sym (eq-eqb x tei (sym (eqb-true tei x is))) ∙ other))
-        go false is = is
+    apart = false_from_ne_true (tei == x) (λ is. true≢false (sym (eq-eqb x tei (sym (eqb-true tei x is))) ∙ other))
 clear-other x tei (o ∷ places) (suc i) within at other = ap (λ b. has x o || b) (clear-other x tei places i (omega (arith, within)) at other)
 
 pub on-leaving : (places : Places) (tei x : ℕ) → IsSoundTable places → is_on x (freed places (place_of tei places)) ≡ (not (x == tei) && is_on x places)

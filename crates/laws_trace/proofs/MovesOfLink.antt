@@ -1,14 +1,6 @@
 -- Which state an event of a link leads to, and how often its command was repeated: by what an observer knows, row by row.
-use Rattle.laws_trace.proofs.Vocabulary.{◌≡◌, ℕ, ◌+◌, ◌-◌, ◌%◌, ◌≤◌, ◌<◌, ◌==◌, not, Bool, true, false, cond, List, length, Option, Some, None, refl, sym, ap, ◌∙◌, subst, arith, nat_le, nat_lt, is_some, leb-true, leb-false, Address, Information, ReceiveReady, ReceiveNotReady, Reject, Sabme, Disc, Ui, Ua, Dm, Frmr, Call, Parts, Seq, named, distance_of, seq, HasItsTimer, needed_in, State, TeiAssigned, AwaitingEstablishment, AwaitingRelease, Established, TimerRecovery, Terms, LinkTimer, Received, undefined, wrong_size, overlong, received, expired, requested, offer, cleared, Link, state_number, runs, awaits_answer, repeats_left, as_heard, state_after, moves, is_time, event-follows}
-use Rattle.std.proofs.Common.{ltb-true, ltb-false}
-use Rattle.lapd_frame.specs.declared.controls.Control.{Control}
-use Rattle.lapd_frame.specs.declared.controls.Control.TheVariants.{Xid}
-use Rattle.model_link.specs.declared.timers.LinkTimer.TheVariants.{T200, T203}
-use Rattle.model_link.specs.Events.{Event, Request, frame, Establish, Release, Data, SetBusy, ClearBusy}
-use Rattle.model_link.specs.Machine as links
+use Rattle.laws_trace.proofs.Vocabulary.{◌≡◌, ℕ, ◌+◌, ◌-◌, ◌%◌, ◌≤◌, ◌<◌, ◌==◌, not, Bool, true, false, cond, List, length, Option, Some, None, refl, sym, ap, ◌∙◌, subst, arith, nat_le, nat_lt, is_some, leb-true, leb-false, Address, Information, ReceiveReady, ReceiveNotReady, Reject, Ua, Dm, Call, Parts, Seq, named, distance_of, seq, HasItsTimer, needed_in, State, TeiAssigned, AwaitingEstablishment, AwaitingRelease, Established, TimerRecovery, Terms, LinkTimer, Received, undefined, wrong_size, overlong, received, expired, requested, offer, cleared, Link, state_number, runs, awaits_answer, repeats_left, as_heard, state_after, moves, is_time, event-follows, ltb-true, ltb-false, Control, T200, T203, LinkEvent as Event, LinkRequest as Request, frame, LinkEstablish as Establish, LinkRelease as Release, is_up, steps, link_after as after}
 use Rattle.laws_link.specs.States as states
-use Rattle.laws_trace.specs.Trace.{is_up}
-use Rattle.laws_trace.specs.Observer.{steps}
 use Rattle.laws_trace.proofs.MovesWatched.{is_invalid, by_frame, by_expiry}
 use Rattle.laws_trace.proofs.States.{one_more}
 use Rattle.laws_trace.proofs.TimersWatched.{Known, awaits}
@@ -87,16 +79,10 @@ module _ (t : Terms) (k : Known) (l : Link) (n : ℕ) (ordered : l.a ≤ l.s) (w
   information : (here : State) → Agrees here k l.a l.s l.peer_busy → (too_long : Bool) (address : Address) (ns nr : Seq) (p : Bool) (info : List ℕ)
       → state_number (state_after t (received (cond too_long overlong (frame (record { address = address; control = Information ns nr p; info = info })))) (in_state here l))
       ≡ by_frame k (state_number here) address.command too_long (Information ns nr p)
-  information TeiAssigned known true address ns nr p info = refl
-  information TeiAssigned known false address ns nr p info = refl
-  information AwaitingEstablishment known true address ns nr p info = refl
-  information AwaitingEstablishment known false address ns nr p info = refl
-  information AwaitingRelease known true address ns nr p info = refl
-  information AwaitingRelease known false address ns nr p info = refl
-  information Established known true address ns nr p info = refl
   information Established known false address ns nr p info = numbered known nr Established 7 refl
-  information TimerRecovery known true address ns nr p info = refl
   information TimerRecovery known false address ns nr p info = numbered known nr TimerRecovery 8 refl
+  information here known true address ns nr p info = refl
+  information here known other address ns nr p info = refl
 
   -- RR, RNR and REJ in state 8
   ready-8 : IsKnown k l.a l.s l.peer_busy → (command f : Bool) (nr : Seq)
@@ -122,111 +108,29 @@ module _ (t : Terms) (k : Known) (l : Link) (n : ℕ) (ordered : l.a ≤ l.s) (w
 
   by-control : (here : State) → Agrees here k l.a l.s l.peer_busy → (address : Address) (control : Control) (info : List ℕ) → Heard here address control info
   by-control here known address (Information ns nr p) info = information here known (nat_lt t.n201 (length info)) address ns nr p info
-  by-control TeiAssigned known address (ReceiveReady nr f) info = refl
-  by-control AwaitingEstablishment known address (ReceiveReady nr f) info = refl
-  by-control AwaitingRelease known address (ReceiveReady nr f) info = refl
   by-control Established known address (ReceiveReady nr f) info = numbered known nr Established 7 refl
   by-control TimerRecovery known address (ReceiveReady nr f) info = ready-8 known address.command f nr
-  by-control TeiAssigned known address (ReceiveNotReady nr f) info = refl
-  by-control AwaitingEstablishment known address (ReceiveNotReady nr f) info = refl
-  by-control AwaitingRelease known address (ReceiveNotReady nr f) info = refl
   by-control Established known address (ReceiveNotReady nr f) info = numbered known nr Established 7 refl
   by-control TimerRecovery known address (ReceiveNotReady nr f) info = not-ready-8 known address.command f nr
-  by-control TeiAssigned known address (Reject nr f) info = refl
-  by-control AwaitingEstablishment known address (Reject nr f) info = refl
-  by-control AwaitingRelease known address (Reject nr f) info = refl
   by-control Established known address (Reject nr f) info = numbered known nr Established 7 refl
   by-control TimerRecovery known address (Reject nr f) info = reject-8 known address.command f nr
-  by-control TeiAssigned known address (Sabme p) info = refl
-  by-control AwaitingEstablishment known address (Sabme p) info = refl
-  by-control AwaitingRelease known address (Sabme p) info = refl
-  by-control Established known address (Sabme p) info = refl
-  by-control TimerRecovery known address (Sabme p) info = refl
-  by-control TeiAssigned known address (Disc p) info = refl
-  by-control AwaitingEstablishment known address (Disc p) info = refl
-  by-control AwaitingRelease known address (Disc p) info = refl
-  by-control Established known address (Disc p) info = refl
-  by-control TimerRecovery known address (Disc p) info = refl
   by-control TeiAssigned known address (Ua true) info = refl
-  by-control TeiAssigned known address (Ua false) info = refl
-  by-control AwaitingEstablishment known address (Ua true) info = refl
-  by-control AwaitingEstablishment known address (Ua false) info = refl
-  by-control AwaitingRelease known address (Ua true) info = refl
-  by-control AwaitingRelease known address (Ua false) info = refl
-  by-control Established known address (Ua true) info = refl
-  by-control Established known address (Ua false) info = refl
-  by-control TimerRecovery known address (Ua true) info = refl
-  by-control TimerRecovery known address (Ua false) info = refl
+  by-control here known address (Ua true) info = refl
   by-control TeiAssigned known address (Dm true) info = refl
-  by-control TeiAssigned known address (Dm false) info = refl
-  by-control AwaitingEstablishment known address (Dm true) info = refl
-  by-control AwaitingEstablishment known address (Dm false) info = refl
-  by-control AwaitingRelease known address (Dm true) info = refl
-  by-control AwaitingRelease known address (Dm false) info = refl
-  by-control Established known address (Dm true) info = refl
-  by-control Established known address (Dm false) info = refl
-  by-control TimerRecovery known address (Dm true) info = refl
-  by-control TimerRecovery known address (Dm false) info = refl
-  by-control TeiAssigned known address (Frmr f) info = refl
-  by-control AwaitingEstablishment known address (Frmr f) info = refl
-  by-control AwaitingRelease known address (Frmr f) info = refl
-  by-control Established known address (Frmr f) info = refl
-  by-control TimerRecovery known address (Frmr f) info = refl
-  by-control TeiAssigned known address (Ui p) info = refl
-  by-control AwaitingEstablishment known address (Ui p) info = refl
-  by-control AwaitingRelease known address (Ui p) info = refl
-  by-control Established known address (Ui p) info = refl
-  by-control TimerRecovery known address (Ui p) info = refl
-  by-control TeiAssigned known address (Xid f) info = refl
-  by-control AwaitingEstablishment known address (Xid f) info = refl
-  by-control AwaitingRelease known address (Xid f) info = refl
-  by-control Established known address (Xid f) info = refl
-  by-control TimerRecovery known address (Xid f) info = refl
+  by-control here known address (Dm true) info = refl
+  by-control TeiAssigned known address other info = refl
+  by-control here known address other info = refl
 
   malformed : (here : State) (what : Received) → ((f : Parts) → what ≡ frame f → ⊥) → Is here (received what)
   malformed here (frame f) none = absurd (none f refl)
-  malformed TeiAssigned undefined none = refl
-  malformed AwaitingEstablishment undefined none = refl
-  malformed AwaitingRelease undefined none = refl
-  malformed Established undefined none = refl
-  malformed TimerRecovery undefined none = refl
-  malformed TeiAssigned wrong_size none = refl
-  malformed AwaitingEstablishment wrong_size none = refl
-  malformed AwaitingRelease wrong_size none = refl
-  malformed Established wrong_size none = refl
-  malformed TimerRecovery wrong_size none = refl
-  malformed TeiAssigned overlong none = refl
-  malformed AwaitingEstablishment overlong none = refl
-  malformed AwaitingRelease overlong none = refl
-  malformed Established overlong none = refl
-  malformed TimerRecovery overlong none = refl
+  malformed TeiAssigned other none = refl
+  malformed here other none = refl
 
   asked : (here : State) (r : Request) (full : Bool) → Is here (requested r full)
   asked TeiAssigned Establish full = refl
-  asked AwaitingEstablishment Establish full = refl
-  asked AwaitingRelease Establish full = refl
-  asked Established Establish full = refl
-  asked TimerRecovery Establish full = refl
-  asked TeiAssigned Release full = refl
-  asked AwaitingEstablishment Release full = refl
-  asked AwaitingRelease Release full = refl
-  asked Established Release full = refl
-  asked TimerRecovery Release full = refl
-  asked TeiAssigned (Data octets) full = refl
-  asked AwaitingEstablishment (Data octets) full = refl
-  asked AwaitingRelease (Data octets) full = refl
-  asked Established (Data octets) full = refl
-  asked TimerRecovery (Data octets) full = refl
-  asked TeiAssigned SetBusy full = refl
-  asked AwaitingEstablishment SetBusy full = refl
-  asked AwaitingRelease SetBusy full = refl
-  asked Established SetBusy full = refl
-  asked TimerRecovery SetBusy full = refl
-  asked TeiAssigned ClearBusy full = refl
-  asked AwaitingEstablishment ClearBusy full = refl
-  asked AwaitingRelease ClearBusy full = refl
-  asked Established ClearBusy full = refl
-  asked TimerRecovery ClearBusy full = refl
+  asked here Establish full = refl
+  asked TeiAssigned other full = refl
+  asked here other full = refl
 
   -- Expiries, by the timer that runs.
   abbrev Expires : State → LinkTimer → Option LinkTimer → ℕ → Type 0
@@ -274,7 +178,7 @@ module _ (t : Terms) (k : Known) (l : Link) (n : ℕ) (ordered : l.a ≤ l.s) (w
 
   -- Any event but the end of the TEI.
   pub event-leads : HasItsTimer l → Agrees l.state k l.a l.s l.peer_busy → Counts l.state n l.repeats → (e : Event) → (e ≡ cleared → ⊥)
-      → state_number (links.after t e l).state ≡ expected t k n e (state_number l.state)
+      → state_number (after t e l).state ≡ expected t k n e (state_number l.state)
   event-leads timed known counts e some = ap state_number (event-follows t e l).leaves.state ∙ go e some
     where
       go : (e : Event) → (e ≡ cleared → ⊥) → state_number (state_after t (as_heard t e) l) ≡ expected t k n e (state_number l.state)
@@ -312,8 +216,8 @@ module _ (t : Terms) (l : Link) (n : ℕ) (e : Event) (some : e ≡ cleared → 
   counted TimerRecovery TimerRecovery is counts = ticked e is counts
   counted other any is counts = refl
 
-  pub event-counted : HasItsTimer l → Counts l.state n l.repeats → let y = links.after t e l in Counts y.state (cond (moves l.state y.state) 0 (n + ticks e)) y.repeats
+  pub event-counted : HasItsTimer l → Counts l.state n l.repeats → let y = after t e l in Counts y.state (cond (moves l.state y.state) 0 (n + ticks e)) y.repeats
   event-counted timed counts =
-      let y = links.after t e l in
+      let y = after t e l in
       subst (λ m. Counts y.state (cond (moves l.state y.state) 0 (n + ticks e)) m) (sym ((event-follows t e l).leaves.repeats ∙ left-is e some y.state))
       (counted l.state y.state timed.running counts)

@@ -1,15 +1,7 @@
 -- Which state a link moves to, by its numbers and by how often T200 expired: a part of what an observer knows.
-use Rattle.laws_trace.proofs.Vocabulary.{ℕ, ◌+◌, ◌==◌, ◌&&◌, ◌||◌, not, nat_lt, Bool, List, length, fold, Option, Some, None, is_some, if◌then◌else◌, option_map_or, Information, ReceiveReady, ReceiveNotReady, Reject, Sabme, Disc, Ua, Dm, Frmr, Service, Parts, Seq, LinkTimer, Config, Deactivate}
-use Rattle.lapd_frame.specs.declared.controls.Control.{Control}
-use Rattle.model_link.specs.declared.timers.LinkTimer.TheVariants.{T200, T203}
-use Rattle.model_line.specs.Event as line_event
-use Rattle.model_line.specs.Request.{Request, Establish, Release}
-use Rattle.model_card.specs.Run.{Moment}
-use Rattle.laws_trace.specs.LinkFrames.{is_for, frame_of, malformed}
+use Rattle.laws_trace.proofs.Vocabulary.{ℕ, ◌+◌, ◌==◌, ◌&&◌, ◌||◌, not, nat_lt, Bool, List, length, fold, Option, Some, None, is_some, if◌then◌else◌, option_map_or, Information, ReceiveReady, ReceiveNotReady, Reject, Sabme, Disc, Ua, Dm, Frmr, Service, Parts, Seq, LinkTimer, Config, Deactivate, Control, T200, T203, Request, Establish, Release, Moment, is_for, frame_of, malformed, steps, is_own, is_up, Seen, heard, granted, Event}
 use Rattle.laws_trace.proofs.TimersWatched.{Known, awaits}
 use Rattle.laws_trace.proofs.States.{state_before, state_after, differ, expired_of, one_more}
-use Rattle.laws_trace.specs.Observer.{steps}
-use Rattle.laws_trace.specs.Trace.{is_own, is_up, Seen, heard, granted}
 
 abbrev pub is_invalid : Known → Seq → Bool
 is_invalid k nr = nat_lt (steps k.acknowledged k.next) (steps k.acknowledged nr.value)
@@ -76,6 +68,6 @@ repeated service tei number n m =
     else n + option_map_or one_more (expired_of service tei m.event.what) 0
 
 -- The state that an event leads to, with what is seen of it.
-abbrev pub led : Config → Service → ℕ → Known → ℕ → line_event.Event → List Seen → ℕ → ℕ
+abbrev pub led : Config → Service → ℕ → Known → ℕ → Event → List Seen → ℕ → ℕ
 led c service tei k n what now state =
     fold (by_seen c service tei k) (option_map_or (by_expiry c.n200 k n state) (expired_of service tei what) state) now

@@ -1,11 +1,6 @@
 -- Frames of a link, and their names.
-use Rattle.laws_trace.proofs.Vocabulary.{◌≡◌, ℕ, ◌==◌, ◌&&◌, ◌||◌, not, Bool, true, false, cond, List, [], ◌∷◌, ◌++◌, map, filter, list_any, Some, None, refl, sym, ap, ◌∙◌, eq-eqb, true≢false, option_map_or, and_parts, map-append, filter-append, All, All-head, All-tail, Parts, Service, reading-again, sapi_of, Config}
-use Rattle.std.proofs.Common.{eqb-true}
-use Rattle.std.specs.Result.{result_ok}
-use Rattle.laws_trace.specs.FramesAreRead.{IsSpelled}
-use Rattle.laws_trace.specs.LinkFrames.{its_frame, is_frame_of}
+use Rattle.laws_trace.proofs.Vocabulary.{◌≡◌, ℕ, ◌==◌, ◌&&◌, ◌||◌, not, Bool, true, false, cond, List, [], ◌∷◌, ◌++◌, map, filter, list_any, Some, None, refl, sym, ap, ◌∙◌, eq-eqb, true≢false, option_map_or, and_parts, map-append, filter-append, All, All-head, All-tail, Parts, Service, reading-again, sapi_of, Config, eqb-true, result_ok, IsSpelled, its_frame, is_frame_of, is_ui, or-true}
 use Rattle.laws_trace.proofs.LinkNames.{LinkName, named_in, is_of_a_link}
-use Rattle.laws_trace.specs.Units.{is_ui}
 use Rattle.laws_trace.proofs.Turns.{name-is}
 
 module _ (c : Config) where
@@ -66,10 +61,6 @@ module _ (c : Config) where
     none-there : (front back : List LinkName) → [] ≡ front ++ name ∷ back → ⊥
     none-there [] back e = cc e
     none-there (y ∷ front) back e = cc e
-
-    or-true : (b : Bool) → (b || true) ≡ true
-    or-true true = refl
-    or-true false = refl
 
     pub among-frames : (fs : List (List ℕ)) → All (IsSpelled c) fs → (front back : List LinkName) → names fs ≡ front ++ name ∷ back → list_any (is_frame_of c service tei) fs ≡ true
     among-frames [] all front back e = absurd (none-there front back e)

@@ -1,33 +1,21 @@
 -- What layer 3 is told of establishments and releases: the law.
-use Rattle.laws_trace.proofs.Vocabulary.{◌≡◌, ℕ, ◌<◌, ◌==◌, ◌&&◌, not, Bool, true, false, cond, List, [], ◌∷◌, get_or, set, Option, Some, None, refl, sym, ap, ◌∙◌, subst, arith, eq-eqb, true≢false, fold, filter, list_any, option_map_or, and_parts, get_or-set_same, get_or-replicate, All-head, All-tail, PoolFull, Service, Link, Config, request, Answer, refused, Line, fresh_line, link_of, link_in, state_of, IsInRange, Card, line_at, is_full, at, moments, fresh_is_sound, after_is_sound, has_lines, by_room, line_sound, AllHaveTheirTimers, timely-after, begins-timely-card, notes_of, nowhere}
-use Rattle.std.proofs.Common.{eqb-true}
-use Rattle.std.specs.Option.{unwrap_or}
-use Rattle.model_link.specs.Link.{fresh as fresh_link}
+use Rattle.laws_trace.proofs.Vocabulary.{◌≡◌, ℕ, ◌<◌, ◌==◌, ◌&&◌, not, Bool, true, false, cond, List, [], ◌∷◌, get_or, set, Option, Some, None, refl, sym, ap, ◌∙◌, subst, arith, eq-eqb, true≢false, fold, filter, list_any, option_map_or, and_parts, get_or-set_same, get_or-replicate, All-head, All-tail, PoolFull, Service, Link, Config, request, Answer, refused, Line, fresh_line, link_of, link_in, state_of, IsInRange, Card, line_at, is_full, at, moments, fresh_is_sound, after_is_sound, has_lines, by_room, line_sound, AllHaveTheirTimers, timely-after, begins-timely-card, notes_of, nowhere, eqb-true, unwrap_or, fresh_link, Request, Establish, fresh, CardEvent as Event, after, card_answer as answer, Moment, after_all, IsAtLine, AreAtLines, is_news, is_sabme, is_xid, releases, wrong, moment_of, seen, Always, CardIsSound as IsSound, and-false}
 use Rattle.model_line.specs.Event as line_event
 use Rattle.model_line.specs.Machine as lines
-use Rattle.model_line.specs.Request.{Request, Establish}
-use Rattle.model_card.specs.Card.{fresh}
-use Rattle.model_card.specs.Event.{Event}
-use Rattle.model_card.specs.Machine.{after, answer}
-use Rattle.model_card.specs.Run.{Moment, after_all, IsAtLine, AreAtLines}
-use Rattle.model_card.specs.Sound as card_sound
-use Rattle.laws_trace.specs.News.{is_news, is_sabme, is_xid, releases, wrong}
 use Rattle.laws_trace.proofs.NewsWatched.{establishes, asked, Owing, none_owed, owing, due, NewsIsTold}
 use Rattle.laws_trace.proofs.TimersWatched.{brings, Known, watch}
 use Rattle.laws_trace.proofs.States.{is_state, differ}
-use Rattle.laws_trace.specs.Observer.{moment_of}
-use Rattle.laws_trace.specs.Trace.{seen, Always}
 use Rattle.laws_trace.proofs.LinksMove.{differ-self}
 use Rattle.laws_trace.proofs.NewsOfLink.{Asks}
-use Rattle.laws_trace.proofs.CallRuns.{apart}
 use Rattle.laws_trace.proofs.OwedOfEvent.{IsOwed, known-owes, five-owes}
 use Rattle.laws_trace.proofs.TimersAreTimely.{moment-known, begins-true, sound-now, timely-now, config-now, front-at, itself}
 use Rattle.laws_trace.proofs.TimersOfEvent.{IsTrueOf}
 use Rattle.laws_trace.proofs.NewsOfEvent.{IsAskedOf, event-asks, event-due, off-due}
+use Rattle.laws_trace.proofs.Runs.{apart}
 
 module _ (service : Service) (tei number : ℕ) where
   -- One event of a card.
-  module _ (card : Card) (s : card_sound.IsSound card) (e : Event) (here : IsAtLine card e) (was : Bool) (asks : IsAskedOf service tei was (line_at e.line card))
+  module _ (card : Card) (s : IsSound card) (e : Event) (here : IsAtLine card e) (was : Bool) (asks : IsAskedOf service tei was (line_at e.line card))
       (outstanding : Bool) (owes : IsOwed service tei outstanding (line_at e.line card)) where
     abbrev l : Line
     l = line_at e.line card
@@ -42,11 +30,8 @@ module _ (service : Service) (tei number : ℕ) where
     asked_then to b = cond (is_state 5 to && differ (state_of service tei l) to) (establishes service tei e.what b) was
 
     still : (o : Option ℕ) (b : Answer) → cond (is_state 5 o && differ o o) (establishes service tei e.what b) was ≡ was
-    still o b = ap (λ d. cond (is_state 5 o && d) (establishes service tei e.what b) was) (differ-self o) ∙ by-bit (is_state 5 o)
-      where
-        by-bit : (x : Bool) → cond (x && false) (establishes service tei e.what b) was ≡ was
-        by-bit true = refl
-        by-bit false = refl
+    still o b = ap (λ d. cond (is_state 5 o && d) (establishes service tei e.what b) was) (differ-self o)
+        ∙ ap (λ d. cond d (establishes service tei e.what b) was) (and-false (is_state 5 o))
 
     pub own-asked : IsAskedOf service tei (asked_then (state_of service tei (line_at e.line (after e card))) (answer e card)) (line_at e.line (after e card))
     own-asked =
@@ -101,7 +86,7 @@ module _ (service : Service) (tei number : ℕ) where
   abbrev Stands : Bool → Owing → Line → Type 0
   Stands was w l = IsAskedOf service tei was l × IsTrueOf service tei w.known l × IsOwed service tei w.outstanding l
 
-  module _ (card : Card) (s : card_sound.IsSound card) (timely : AllHaveTheirTimers card) (e : Event) (here : IsAtLine card e) (within : number < card.config.lines) where
+  module _ (card : Card) (s : IsSound card) (timely : AllHaveTheirTimers card) (e : Event) (here : IsAtLine card e) (within : number < card.config.lines) where
     abbrev m : Moment
     m = record { card = card; event = e; answer = answer e card }
 
@@ -153,14 +138,14 @@ module _ (service : Service) (tei number : ℕ) where
         known : IsTrueOf service tei new later
         known = moment-known service tei number card s timely e here w.known h.1
 
-        sound-later : card_sound.IsSound (after e card)
+        sound-later : IsSound (after e card)
         sound-later = after_is_sound card e s here
 
         go : (b : Bool) → is_state 5 (state_of service tei later) ≡ b → IsOwed service tei (cond b w.outstanding (not (new.next == new.acknowledged))) later
         go true in_5 = five-stays w.known h.1 w.outstanding h.2 in_5
         go false off = known-owes card.config s.config later (line_sound (after e card) number (has_lines (after e card) sound-later) within) service tei new known off
 
-  run-stands : (card : Card) (events : List Event) → card_sound.IsSound card → AllHaveTheirTimers card → AreAtLines card events → number < card.config.lines → (was : Bool) (w : Owing)
+  run-stands : (card : Card) (events : List Event) → IsSound card → AllHaveTheirTimers card → AreAtLines card events → number < card.config.lines → (was : Bool) (w : Owing)
       → Stands was w (line_at number card)
       → Stands (fold (asked service tei number) was (moments card events)) (fold (owing card.config service tei number) w (moments card events)) (line_at number (after_all card events))
   unfolding moments after_all

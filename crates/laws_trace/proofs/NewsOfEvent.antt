@@ -1,19 +1,9 @@
 -- What layer 3 is told of the establishment and release of a link: one event of its line.
-use Rattle.laws_trace.proofs.Vocabulary.{◌≡◌, ℕ, ◌==◌, ◌&&◌, Bool, true, false, cond, List, [], Option, Some, None, refl, sym, ap, ◌∙◌, subst, true≢false, ◌⊎◌, inl, inr, filter, list_any, option_map_or, none-some, ErrorCode, Service, State, TeiAssigned, AwaitingEstablishment, Terms, Link, state_number, Config, Answer, Line, has_tei, link_of, place_in, state_of, terms, notes_of, is-off, moves}
-use Rattle.std.specs.Option.{unwrap_or}
-use Rattle.lapd_frame.specs.declared.controls.Control.{Control}
-use Rattle.model_link.specs.Events as link
-use Rattle.model_link.specs.Link.{fresh as fresh_link}
-use Rattle.model_link.specs.Machine as links
-use Rattle.model_line.specs.Event as line_event
-use Rattle.model_line.specs.Event.{told}
+use Rattle.laws_trace.proofs.Vocabulary.{◌≡◌, ℕ, ◌==◌, ◌&&◌, Bool, false, cond, List, [], Option, Some, None, refl, sym, ap, ◌∙◌, subst, true≢false, inl, inr, filter, list_any, option_map_or, none-some, ErrorCode, Service, State, TeiAssigned, AwaitingEstablishment, Terms, Link, state_number, Config, Answer, Line, has_tei, link_of, place_in, state_of, terms, notes_of, is-off, moves, unwrap_or, Control, fresh_link, IsSound, is_news, is_sabme, is_xid, releases, wrong, seen, cleared, link_after as after, Event, and-false}
 use Rattle.model_line.specs.Machine as lines
-use Rattle.model_line.specs.Sound.{IsSound}
-use Rattle.laws_trace.specs.News.{is_news, is_sabme, is_xid, releases, wrong}
 use Rattle.laws_trace.proofs.NewsWatched.{establishes, due}
 use Rattle.laws_trace.proofs.TimersWatched.{brings, control_in}
 use Rattle.laws_trace.proofs.States.{is_state, differ}
-use Rattle.laws_trace.specs.Trace.{seen}
 use Rattle.laws_trace.proofs.ErrorsSeen.{none-wrong, one-wrong}
 use Rattle.laws_trace.proofs.LinkLed.{on-line}
 use Rattle.laws_trace.proofs.LinksMove.{differs, no-event}
@@ -24,17 +14,18 @@ use Rattle.laws_trace.proofs.NewsOfLink.{event-news, Asks, event-asking}
 use Rattle.laws_trace.proofs.OwedOfEvent.{IsOwed}
 use Rattle.laws_trace.proofs.OneLink.{HasOne, HasNone, Goes, event-goes, IsGivenUp}
 use Rattle.laws_trace.proofs.TimerClaims.{told_state}
-use Rattle.laws_trace.proofs.TimersOfEvent.{state-on, off-fresh, off-state}
+use Rattle.laws_trace.proofs.TimersOfEvent.{state-on, off-fresh, off-state, comes}
 use Rattle.laws_trace.proofs.NewsSeen.{one-begins, one-releases, one-establishes, none-begins, none-releases}
 use Rattle.laws_trace.proofs.TimersOfLine.{seen-brings}
 use Rattle.laws_trace.proofs.Deliveries.{frame_by}
+use Rattle.laws_trace.proofs.Facts.{same-state}
 
 abbrev pub IsAskedOf : Service → ℕ → Bool → Line → Type 0
 IsAskedOf service tei was l = let x = link_of service tei l in Asks x.state was x.asked
 
 -- One event of a line.
 module _ (c : Config) (l : Line) (s : IsSound c l) (service : Service) (tei : ℕ) (was : Bool) (asks : IsAskedOf service tei was l) (outstanding : Bool) (owes : IsOwed service tei outstanding l)
-    (e : line_event.Event) where
+    (e : Event) where
   abbrev a : Answer
   a = lines.answer c e l
 
@@ -51,10 +42,6 @@ module _ (c : Config) (l : Line) (s : IsSound c l) (service : Service) (tei : �
   unmoved : (state : State) (outstanding : Bool) → due service tei [] was false false false outstanding (state_number state) (state_number state) ≡ []
   unmoved TeiAssigned outstanding = refl
   unmoved other outstanding = refl
-
-  same-state : (state : State) → moves state state ≡ false
-  same-state TeiAssigned = refl
-  same-state other = refl
 
   abbrev then_asked : Option ℕ → Option ℕ → Bool
   then_asked from to = cond (is_state 5 to && differ from to) (establishes service tei e a) was
@@ -106,15 +93,12 @@ module _ (c : Config) (l : Line) (s : IsSound c l) (service : Service) (tei : �
       none-asked =
           subst (λ (y : Link). Asks y.state (then_asked (told_state own.state) (told_state y.state)) y.asked) (sym same)
           (subst (λ b. Asks own.state b own.asked)
-          (sym (asked-in own.state own.state ∙ ap (λ b. cond ((state_number own.state == 5) && b) (establishes service tei e a) was) (same-state own.state) ∙ and-false (state_number own.state == 5))) asks)
-        where
-          and-false : (b : Bool) → cond (b && false) (establishes service tei e a) was ≡ was
-          and-false true = refl
-          and-false false = refl
+          (sym (asked-in own.state own.state ∙ ap (λ b. cond ((state_number own.state == 5) && b) (establishes service tei e a) was) (same-state own.state)
+          ∙ ap (λ d. cond d (establishes service tei e a) was) (and-false (state_number own.state == 5)))) asks)
 
     -- one event of the link
     module _ (x : HasOne c service tei e l (lines.after c e l) a) where
-      some : x.event ≡ link.cleared → ⊥
+      some : x.event ≡ cleared → ⊥
       some = no-event x.event c e a service tei x.by
 
       asked-now : (state : State) → Asks state was own.asked → (errors : List ErrorCode) (xid sabme released outstanding : Bool) (to : ℕ)
@@ -124,7 +108,7 @@ module _ (c : Config) (l : Line) (s : IsSound c l) (service : Service) (tei : �
 
       one-due : Due (state_number own.state) (state_number next.state) (state_number next.state)
       one-due =
-          let later = links.after t x.event own in
+          let later = after t x.event own in
           let its = errors_of t x.event (state_number own.state) (state_number later.state) in
           ap (filter (is_news service tei)) x.notes ∙ event-news t own x.event some
           ∙ ap (λ b. due service tei its own.asked (xid_of x.event) (sabme_of x.event) (released_of x.event) b (state_number own.state) (state_number later.state)) (sym owes)
@@ -138,7 +122,7 @@ module _ (c : Config) (l : Line) (s : IsSound c l) (service : Service) (tei : �
 
       one-asked : Asks next.state (then_asked (told_state own.state) (told_state next.state)) next.asked
       one-asked =
-          let y = links.after t x.event own in
+          let y = after t x.event own in
           subst (λ (y : Link). Asks y.state (then_asked (told_state own.state) (told_state y.state)) y.asked) (sym x.is)
           (subst (λ b. Asks y.state b y.asked)
           (sym (asked-in own.state y.state ∙ ap (λ b. cond ((state_number y.state == 5) && moves own.state y.state) b was) (one-establishes c service tei is_sabme e a x.event x.by)))
@@ -173,18 +157,6 @@ module _ (c : Config) (l : Line) (s : IsSound c l) (service : Service) (tei : �
   begins-asked : (b : Bool) → next ≡ fresh_link → Asks next.state b next.asked
   begins-asked b is = subst (λ (y : Link). Asks y.state b y.asked) (sym is) tt
 
-  comes : place_in l tei ≡ None → next ≡ fresh_link
-  comes off = go (event-goes c e l service tei s)
-    where
-      go : Goes c service tei e l (lines.after c e l) a → next ≡ fresh_link
-      go (inr (inl x)) = absurd (none-some x.place (sym off ∙ x.placed))
-      go (inr (inr x)) = x.is
-      go (inl x) = either x.is
-        where
-          either : (next ≡ own) ⊎ (next ≡ fresh_link) → next ≡ fresh_link
-          either (inl same) = same ∙ off-fresh service tei l off
-          either (inr new) = new
-
   pub event-asks : IsAskedOf service tei (then_asked (state_of service tei l) (state_of service tei (lines.after c e l))) (lines.after c e l)
   event-asks = go (place_in l tei) refl (place_in (lines.after c e l) tei) refl
     where
@@ -193,7 +165,7 @@ module _ (c : Config) (l : Line) (s : IsSound c l) (service : Service) (tei : �
 
       go : (o : Option ℕ) → place_in l tei ≡ o → (p : Option ℕ) → place_in (lines.after c e l) tei ≡ p → Asks next.state b next.asked
       go o on None off = begins-asked b (off-fresh service tei (lines.after c e l) off)
-      go None off (Some there) still = begins-asked b (comes off)
+      go None off (Some there) still = begins-asked b (comes c e l s service tei off)
       go (Some place) on (Some there) still =
           subst (λ b. Asks next.state b next.asked)
           (sym (ap (λ o. then_asked o (state_of service tei (lines.after c e l))) (state-on service tei l place on)

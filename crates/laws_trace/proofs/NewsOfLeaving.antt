@@ -1,27 +1,13 @@
 -- Where the TEI of a link leaves its line, what is told of the link is what the end of the TEI tells.
-use Rattle.laws_trace.proofs.Vocabulary.{◌≡◌, ℕ, ◌==◌, ◌&&◌, ◌||◌, not, Bool, true, false, List, [], ◌++◌, Option, Some, None, refl, sym, ap, ◌∙◌, subst, arith, eq-eqb, true≢false, ◌⊎◌, inl, inr, append-nil, filter, option_map_or, get_or-set_other, filter-append, Note, Refusal, Service, Call, Packet, Timer, T201, same_service, Management, is_on, Change, Gained, Left, place_of-is, is_on-at, event-follows, told_cleared, State, TeiAssigned, Terms, LinkTimer, Link, state_number, Config, Aim, at_none, at_link, at_management, of_aim, of_change, told_of_management, Answer, hears, expiry, request, next, dropped, at_timer, aim_of_expiry, Line, has_tei, link_in, link_of, link_number, place_in, terms, aim_of, unless_refused, unless_refused_told, aim_of_heard, Assign, Remove, Deactivate, at_requested, at_deactivated, aim_of_request, group_told, IsProper, heard_aims, request_proper, notes_of, has-place, ByChange, noted, Down, at_no_link, IfSome, line_of, Taken, taken, IsOne, taken-one}
-use Rattle.std.proofs.Common.{eqb-true}
+use Rattle.laws_trace.proofs.Vocabulary.{◌≡◌, ℕ, ◌==◌, ◌&&◌, ◌||◌, not, Bool, true, false, List, [], ◌++◌, Option, Some, None, refl, sym, ap, ◌∙◌, subst, arith, eq-eqb, true≢false, ◌⊎◌, inl, inr, append-nil, filter, option_map_or, get_or-set_other, filter-append, Note, Refusal, Service, Call, Packet, Timer, T201, same_service, Management, is_on, Change, Gained, Left, place_of-is, is_on-at, event-follows, told_cleared, State, TeiAssigned, Terms, LinkTimer, Link, state_number, Config, Aim, at_none, at_link, at_management, of_aim, of_change, told_of_management, Answer, hears, expiry, request, next, dropped, at_timer, aim_of_expiry, Line, has_tei, link_in, link_of, link_number, place_in, terms, aim_of, unless_refused, unless_refused_told, aim_of_heard, Assign, Remove, Deactivate, at_requested, at_deactivated, aim_of_request, group_told, IsProper, heard_aims, request_proper, notes_of, has-place, ByChange, noted, Down, at_no_link, IfSome, line_of, Taken, taken, IsOne, taken-one, eqb-true, TimerT200 as T200, TimerT203 as T203, fresh_link as fresh, line_of_link as of_link, Event, line_after as after, answer, refusal, Request, Establish, Release, Data, Checking as Check, SetBusy, ClearBusy, IsSound, is_news, releases, by-down, or-true, HasLeft, TeiIsInRange as IsInRange, Moves, changes_are_told, link_told as told, false_from_ne_true}
 use Rattle.model_bits.specs.Stream as stream
-use Rattle.lapd_frame.specs.declared.timers.Timer.TheVariants.{T200, T203}
 use Rattle.lapd_tei.specs.Events as teis
-use Rattle.lapd_tei.specs.Laws as tei_laws
-use Rattle.lapd_tei.proofs.LawLemmas as tei_lemmas
 use Rattle.model_link.specs.declared.timers.LinkTimer.TheVariants as link_timer
 use Rattle.model_link.specs.Events as link
-use Rattle.model_link.specs.Link.{fresh}
-use Rattle.model_link.specs.Machine as links
-use Rattle.model_line.specs.Effect.{of_link}
-use Rattle.model_line.specs.Event.{Event}
-use Rattle.model_line.specs.Machine.{after, answer}
-use Rattle.model_line.specs.Refusal.{refusal}
-use Rattle.model_line.specs.Request.{Request, Establish, Release, Data, Check, SetBusy, ClearBusy}
-use Rattle.model_line.specs.Sound.{IsSound}
-use Rattle.laws_trace.specs.News.{is_news, releases}
 use Rattle.laws_trace.proofs.NewsWatched.{due}
 use Rattle.laws_trace.proofs.LinkLed.{own-is}
 use Rattle.laws_trace.proofs.ManagingTables.{on-coming, on-leaving}
 use Rattle.laws_trace.proofs.NewsOfOthers.{none-filtered, tei-note, other-link}
-use Rattle.laws_line.proofs.Downs.{by-down}
 
 -- Calls keep a TEI on the line.
 next-keeps : (tei : ℕ) (c : Config) (l : Line) → IsSound c l → has_tei tei l ≡ true → has_tei tei (after c next l) ≡ true
@@ -39,7 +25,7 @@ next-keeps tei c l s on = go (taken c l) (taken-one c l s)
 
 -- What the end of a TEI tells of its link is due as the link would come to state 4.
 pub cleared-due : (t : Terms) (l : Link) (was outstanding : Bool)
-    → filter (is_news t.service t.tei) (links.told t link.cleared l).notes ≡ due t.service t.tei [] was false false false outstanding (state_number l.state) 4
+    → filter (is_news t.service t.tei) (told t link.cleared l).notes ≡ due t.service t.tei [] was false false false outstanding (state_number l.state) 4
 cleared-due t l was outstanding = ap (filter (is_news t.service t.tei)) (event-follows t link.cleared l).leaves.tells ∙ by-state l.state
   where
     by-state : (here : State) → filter (is_news t.service t.tei) (told_cleared here t) ≡ due t.service t.tei [] was false false false outstanding (state_number here) 4
@@ -54,7 +40,7 @@ module _ (service : Service) (tei : ℕ) (c : Config) (l : Line) (s : IsSound c 
   news ns = filter (is_news service tei) ns
 
   abbrev Leaves : List Note → Type 0
-  Leaves ns = news ns ≡ news (links.told (terms c service tei) link.cleared own).notes
+  Leaves ns = news ns ≡ news (told (terms c service tei) link.cleared own).notes
 
   abbrev Gone : Aim → Type 0
   Gone aim = has_tei tei (of_aim c aim l).line ≡ false → Leaves (of_aim c aim l).told.notes
@@ -66,7 +52,7 @@ module _ (service : Service) (tei : ℕ) (c : Config) (l : Line) (s : IsSound c 
   stays aim same = λ off. absurd (true≢false (sym (same ∙ there) ∙ off))
 
   -- An event of TEI management.
-  module _ (me : teis.Event) (fits : tei_laws.IsInRange me) where
+  module _ (me : teis.Event) (fits : IsInRange me) where
     abbrev m : Management
     m = teis.after me l.management
 
@@ -83,7 +69,7 @@ module _ (service : Service) (tei : ℕ) (c : Config) (l : Line) (s : IsSound c 
     none-news o is = none-filtered service tei ns (tei-note service tei me o ns is)
 
     -- its own TEI leaves
-    its-own : (place' : ℕ) → tei_laws.HasLeft l.management.places m.places tei place' → ByChange me (Some (Left tei place')) ns
+    its-own : (place' : ℕ) → HasLeft l.management.places m.places tei place' → ByChange me (Some (Left tei place')) ns
         → Leaves (of_change c (Some (Left tei place')) (told_of_management (teis.told me l.management)) at).told.notes
     its-own place' gone is = by-service service refl
       where
@@ -110,43 +96,35 @@ module _ (service : Service) (tei : ℕ) (c : Config) (l : Line) (s : IsSound c 
             three ns call packet
             ∙ first-only (news ns) (news call) (news packet) (none-news (Some (Left tei place')) is)
             (none-filtered service tei packet (other-link service tei (terms c Packet tei) (ap (λ z. same_service Packet z && tei == tei) same) link.cleared (link_in (of_link c Call tei place' link.cleared at).line Packet place')))
-            ∙ ap (λ z. news (links.told (terms c z tei) link.cleared (link_in l z place')).notes) (sym same)
-            ∙ ap (λ o. news (links.told (terms c service tei) link.cleared (option_map_or (link_in l service) o fresh)).notes) (sym placed)
+            ∙ ap (λ z. news (told (terms c z tei) link.cleared (link_in l z place')).notes) (sym same)
+            ∙ ap (λ o. news (told (terms c service tei) link.cleared (option_map_or (link_in l service) o fresh)).notes) (sym placed)
         by-service Packet same =
             three ns call packet
             ∙ last-only (news ns) (news call) (news packet) (none-news (Some (Left tei place')) is)
             (none-filtered service tei call (other-link service tei (terms c Call tei) (ap (λ z. same_service Call z && tei == tei) same) link.cleared (link_in at Call place')))
-            ∙ ap (λ x. news (links.told (terms c Packet tei) link.cleared x).notes) second
-            ∙ ap (λ z. news (links.told (terms c z tei) link.cleared (link_in l z place')).notes) (sym same)
-            ∙ ap (λ o. news (links.told (terms c service tei) link.cleared (option_map_or (link_in l service) o fresh)).notes) (sym placed)
+            ∙ ap (λ x. news (told (terms c Packet tei) link.cleared x).notes) second
+            ∙ ap (λ z. news (told (terms c z tei) link.cleared (link_in l z place')).notes) (sym same)
+            ∙ ap (λ o. news (told (terms c service tei) link.cleared (option_map_or (link_in l service) o fresh)).notes) (sym placed)
 
-    changed : (o : Option Change) → tei_laws.Moves l.management.places o m.places → ByChange me o ns → has_tei tei (of_change c o (told_of_management (teis.told me l.management)) at).line ≡ false
+    changed : (o : Option Change) → Moves l.management.places o m.places → ByChange me o ns → has_tei tei (of_change c o (told_of_management (teis.told me l.management)) at).line ≡ false
         → Leaves (of_change c o (told_of_management (teis.told me l.management)) at).told.notes
     changed None same is off = absurd (true≢false (sym (ap (is_on tei) same ∙ there) ∙ off))
     changed (Some (Gained by place')) joined is off =
         absurd (true≢false (sym (ap (is_on tei) joined.is_there ∙ on-coming l.management.places place' by tei joined.lowest ∙ ap (λ b. (by == tei) || b) there ∙ or-true (by == tei)) ∙ off))
-      where
-        or-true : (b : Bool) → (b || true) ≡ true
-        or-true true = refl
-        or-true false = refl
     changed (Some (Left by place')) gone is off = go (by == tei) refl
       where
         go : (b : Bool) → (by == tei) ≡ b → Leaves (of_change c (Some (Left by place')) (told_of_management (teis.told me l.management)) at).told.notes
         go true same =
             let it = eqb-true by tei same in
-            subst (λ n. tei_laws.HasLeft l.management.places m.places n place' → ByChange me (Some (Left n place')) ns
+            subst (λ n. HasLeft l.management.places m.places n place' → ByChange me (Some (Left n place')) ns
             → Leaves (of_change c (Some (Left n place')) (told_of_management (teis.told me l.management)) at).told.notes) (sym it) (its-own place') gone is
         go false other =
-            let apart : (tei == by) ≡ false = not-same (tei == by) refl other in
+            let apart = false_from_ne_true (tei == by) (λ is. true≢false (sym (eq-eqb by tei (sym (eqb-true tei by is))) ∙ other)) in
             absurd (true≢false (sym (ap (is_on tei) gone.is_free ∙ ap (λ o. is_on tei (Rattle.lapd_tei.specs.Words.freed l.management.places o)) (sym (has-place l.management.places by place' s.management.table gone.was_there))
             ∙ on-leaving l.management.places by tei s.management.table ∙ ap (λ b. not b && is_on tei l.management.places) apart ∙ there) ∙ off))
-          where
-            not-same : (b : Bool) → (tei == by) ≡ b → (by == tei) ≡ false → b ≡ false
-            not-same true is apart = absurd (true≢false (sym (eq-eqb by tei (sym (eqb-true tei by is))) ∙ apart))
-            not-same false is apart = refl
 
     managed : Gone (at_management me)
-    managed off = changed (teis.told me l.management).change (tei_lemmas.changes_are_told me l.management fits s.management) (noted me l.management s.management) off
+    managed off = changed (teis.told me l.management).change (changes_are_told me l.management fits s.management) (noted me l.management s.management) off
 
   timer-gone : (its : Service) (by : ℕ) (timer : LinkTimer) (o : Option ℕ) → Gone (at_timer its by timer o)
   timer-gone its by timer None = stays (at_timer its by timer None) refl
@@ -185,7 +163,7 @@ module _ (service : Service) (tei : ℕ) (c : Config) (l : Line) (s : IsSound c 
 
 -- Any event of a line.
 leaves : (service : Service) (tei : ℕ) (c : Config) (e : Event) (l : Line) → IsSound c l → (place : ℕ) → place_in l tei ≡ Some place → has_tei tei (after c e l) ≡ false
-    → filter (is_news service tei) (notes_of (answer c e l)) ≡ filter (is_news service tei) (links.told (terms c service tei) link.cleared (link_of service tei l)).notes
+    → filter (is_news service tei) (notes_of (answer c e l)) ≡ filter (is_news service tei) (told (terms c service tei) link.cleared (link_of service tei l)).notes
 unfolding after answer
 leaves service tei c (hears what) l s place on off = heard-gone service tei c l s place on what off
 leaves service tei c (expiry timer) l s place on off = expiry-gone service tei c l s place on timer off
@@ -193,7 +171,7 @@ leaves service tei c (request r) l s place on off = go (refusal c false r l) (re
   where
     go : (o : Option Refusal) → IsProper c l (unless_refused o (aim_of_request r l)) → has_tei tei (of_aim c (unless_refused o (aim_of_request r l)) l).line ≡ false
         → filter (is_news service tei) (notes_of (unless_refused_told o (of_aim c (unless_refused o (aim_of_request r l)) l)))
-        ≡ filter (is_news service tei) (links.told (terms c service tei) link.cleared (link_of service tei l)).notes
+        ≡ filter (is_news service tei) (told (terms c service tei) link.cleared (link_of service tei l)).notes
     go None proper off = request-gone service tei c l s place on r proper off
     go (Some why) proper off = absurd (true≢false (sym (is_on-at l.management.places place tei (place_of-is l.management.places tei place on).1) ∙ off))
 leaves service tei c next l s place on off =
@@ -207,25 +185,13 @@ leaving-due service tei c e l s place on off was outstanding =
 -- No request to release a link takes its TEI off the line.
 pub none-released : (service : Service) (tei : ℕ) (c : Config) (e : Event) (l : Line) → has_tei tei l ≡ true → has_tei tei (after c e l) ≡ false → (a : Answer) → releases service tei e a ≡ false
 unfolding after
-none-released service tei c (hears what) l on off a = refl
-none-released service tei c (expiry timer) l on off a = refl
-none-released service tei c next l on off a = refl
-none-released service tei c (request (Establish its by)) l on off a = refl
-none-released service tei c (request (Data its by contents)) l on off a = refl
-none-released service tei c (request (Request.Unit its by contents)) l on off a = refl
-none-released service tei c (request (Assign by)) l on off a = refl
-none-released service tei c (request (Remove by)) l on off a = refl
-none-released service tei c (request (Check by)) l on off a = refl
-none-released service tei c (request (SetBusy its by)) l on off a = refl
-none-released service tei c (request (ClearBusy its by)) l on off a = refl
-none-released service tei c (request (Deactivate its by)) l on off a = refl
-none-released service tei c (request Down) l on off a = refl
 none-released service tei c (request (Release its by)) l on off a = go (refusal c false (Release its by) l) (place_in l by) off
   where
     go : (why : Option Refusal) (o : Option ℕ) → has_tei tei (of_aim c (unless_refused why (at_requested its by link.Release o)) l).line ≡ false → releases service tei (request (Release its by)) a ≡ false
     go (Some why) o off = absurd (true≢false (sym on ∙ off))
     go None None off = absurd (true≢false (sym on ∙ off))
     go None (Some place) off = absurd (true≢false (sym on ∙ off))
+none-released service tei c other l on off a = refl
 
 -- An event of a link keeps its TEI on the line.
 pub one-stays : (service : Service) (tei : ℕ) (c : Config) (e : Event) (l : Line) → IsSound c l → has_tei tei l ≡ true → (place : ℕ) (event : link.Event)

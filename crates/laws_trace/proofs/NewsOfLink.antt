@@ -1,102 +1,41 @@
 -- What a link tells of establishments and releases: each event of it; and who asked for the establishment that it awaits.
-use Rattle.laws_trace.proofs.Vocabulary.{◌≡◌, ◌==◌, ◌&&◌, not, Bool, true, false, cond, List, [], refl, sym, ◌∙◌, subst, filter, Parts, State, TeiAssigned, AwaitingEstablishment, AwaitingRelease, Established, TimerRecovery, Terms, LinkTimer, Received, undefined, wrong_size, overlong, received, expired, requested, offer, cleared, Link, state_number, may_repeat, runs, notes-own, asked_left, asks_establishment, as_heard, state_after, moves, by_expiry, told_by, told_expired, event-follows, Note}
-use Rattle.model_link.specs.declared.timers.LinkTimer.TheVariants.{T200, T203}
-use Rattle.model_link.specs.Events.{Event, Request, frame, Establish, Release, Data, SetBusy, ClearBusy}
+use Rattle.laws_trace.proofs.Vocabulary.{◌≡◌, ◌==◌, ◌&&◌, not, Bool, true, false, cond, List, [], refl, sym, ◌∙◌, subst, filter, Parts, State, TeiAssigned, AwaitingEstablishment, Terms, LinkTimer, Received, undefined, wrong_size, overlong, received, expired, requested, offer, cleared, Link, state_number, may_repeat, runs, notes-own, asked_left, asks_establishment, as_heard, state_after, moves, by_expiry, told_by, told_expired, event-follows, Note, T200, T203, LinkEvent as Event, LinkRequest as Request, frame, LinkEstablish as Establish, is_news, given_up}
 use Rattle.model_link.specs.Machine as links
-use Rattle.laws_trace.specs.News.{is_news, given_up}
 use Rattle.laws_trace.proofs.NewsWatched.{due}
 use Rattle.laws_trace.proofs.NewsRows.{all-news, errors_of, xid_of, sabme_of, released_of, Fits, Told, nothing-fits, by-control}
 
 module _ (t : Terms) (l : Link) where
   malformed : (here : State) (what : Received) → ((f : Parts) → what ≡ frame f → ⊥) → Told t l here (received what)
   malformed here (frame f) none = absurd (none f refl)
-  malformed TeiAssigned undefined none = refl
-  malformed AwaitingEstablishment undefined none = refl
-  malformed AwaitingRelease undefined none = refl
-  malformed Established undefined none = refl
-  malformed TimerRecovery undefined none = refl
-  malformed TeiAssigned wrong_size none = refl
-  malformed AwaitingEstablishment wrong_size none = refl
-  malformed AwaitingRelease wrong_size none = refl
-  malformed Established wrong_size none = refl
-  malformed TimerRecovery wrong_size none = refl
-  malformed TeiAssigned overlong none = refl
-  malformed AwaitingEstablishment overlong none = refl
-  malformed AwaitingRelease overlong none = refl
-  malformed Established overlong none = refl
-  malformed TimerRecovery overlong none = refl
+  malformed TeiAssigned other none = refl
+  malformed here other none = refl
 
   abbrev Expires : State → LinkTimer → Bool → Bool → Type 0
   Expires here timer runs again = let to = cond runs (by_expiry here timer again) here in Fits t l (given_up (state_number here) (state_number to)) false false false here to (told_expired here t to)
 
   expires : (here : State) (timer : LinkTimer) (runs again : Bool) → Expires here timer runs again
   expires TeiAssigned T200 true true = refl
-  expires TeiAssigned T200 true false = refl
+  expires here T200 true true = refl
+  expires TeiAssigned T200 true again = refl
+  expires here T200 true again = refl
   expires TeiAssigned T200 false true = refl
-  expires TeiAssigned T200 false false = refl
+  expires here T200 false true = refl
+  expires TeiAssigned T200 runs again = refl
+  expires here T200 runs again = refl
   expires TeiAssigned T203 true true = refl
-  expires TeiAssigned T203 true false = refl
-  expires TeiAssigned T203 false true = refl
-  expires TeiAssigned T203 false false = refl
-  expires AwaitingEstablishment T200 true true = refl
-  expires AwaitingEstablishment T200 true false = refl
-  expires AwaitingEstablishment T200 false true = refl
-  expires AwaitingEstablishment T200 false false = refl
-  expires AwaitingEstablishment T203 true true = refl
-  expires AwaitingEstablishment T203 true false = refl
-  expires AwaitingEstablishment T203 false true = refl
-  expires AwaitingEstablishment T203 false false = refl
-  expires AwaitingRelease T200 true true = refl
-  expires AwaitingRelease T200 true false = refl
-  expires AwaitingRelease T200 false true = refl
-  expires AwaitingRelease T200 false false = refl
-  expires AwaitingRelease T203 true true = refl
-  expires AwaitingRelease T203 true false = refl
-  expires AwaitingRelease T203 false true = refl
-  expires AwaitingRelease T203 false false = refl
-  expires Established T200 true true = refl
-  expires Established T200 true false = refl
-  expires Established T200 false true = refl
-  expires Established T200 false false = refl
-  expires Established T203 true true = refl
-  expires Established T203 true false = refl
-  expires Established T203 false true = refl
-  expires Established T203 false false = refl
-  expires TimerRecovery T200 true true = refl
-  expires TimerRecovery T200 true false = refl
-  expires TimerRecovery T200 false true = refl
-  expires TimerRecovery T200 false false = refl
-  expires TimerRecovery T203 true true = refl
-  expires TimerRecovery T203 true false = refl
-  expires TimerRecovery T203 false true = refl
-  expires TimerRecovery T203 false false = refl
+  expires here T203 true true = refl
+  expires TeiAssigned T203 true again = refl
+  expires here T203 true again = refl
+  expires TeiAssigned timer false true = refl
+  expires here timer false true = refl
+  expires TeiAssigned timer runs again = refl
+  expires here timer runs again = refl
 
   asks : (here : State) (r : Request) (full : Bool) → Told t l here (requested r full)
   asks TeiAssigned Establish full = refl
-  asks AwaitingEstablishment Establish full = refl
-  asks AwaitingRelease Establish full = refl
-  asks Established Establish full = refl
-  asks TimerRecovery Establish full = refl
-  asks TeiAssigned Release full = refl
-  asks AwaitingEstablishment Release full = refl
-  asks AwaitingRelease Release full = refl
-  asks Established Release full = refl
-  asks TimerRecovery Release full = refl
-  asks TeiAssigned (Data octets) full = refl
-  asks AwaitingEstablishment (Data octets) full = refl
-  asks AwaitingRelease (Data octets) full = refl
-  asks Established (Data octets) full = refl
-  asks TimerRecovery (Data octets) full = refl
-  asks TeiAssigned SetBusy full = refl
-  asks AwaitingEstablishment SetBusy full = refl
-  asks AwaitingRelease SetBusy full = refl
-  asks Established SetBusy full = refl
-  asks TimerRecovery SetBusy full = refl
-  asks TeiAssigned ClearBusy full = refl
-  asks AwaitingEstablishment ClearBusy full = refl
-  asks AwaitingRelease ClearBusy full = refl
-  asks Established ClearBusy full = refl
-  asks TimerRecovery ClearBusy full = refl
+  asks here Establish full = refl
+  asks TeiAssigned other full = refl
+  asks here other full = refl
 
   told : (e : Event) → (e ≡ cleared → ⊥) → let to = state_after t (as_heard t e) l in
       Fits t l (errors_of t e (state_number l.state) (state_number to)) (xid_of e) (sabme_of e) (released_of e) l.state to (told_by t (as_heard t e) l to)

@@ -1,28 +1,10 @@
 -- Where no event is one of a link, and its TEI stays on the line, nothing is told of its establishment or its release.
-use Rattle.laws_trace.proofs.Vocabulary.{◌≡◌, ℕ, ◌==◌, ◌&&◌, Bool, true, false, cond, List, [], ◌∷◌, ◌++◌, Option, Some, None, refl, sym, ap, ◌∙◌, subst, true≢false, ◌⊎◌, inl, inr, All, filter, All-nil, All-cons, All-append, All-head, All-tail, All-weaker, Note, Refusal, Service, Call, Packet, Timer, T201, same_service, is_on-at, Management, IsAt, IsSoundTable, Change, Gained, Left, Terms, LinkTimer, Link, notes-own, Config, Aim, at_link, at_management, of_aim, of_change, told_of_management, hears, expiry, request, next, at_timer, aim_of_expiry, Line, has_tei, link_in, place_in, terms, aim_of, unless_refused, unless_refused_told, aim_of_heard, group_tei, Assign, Remove, Deactivate, at_requested, at_deactivated, aim_of_request, IsProper, heard_aims, request_proper, notes_of, is-off, has-no-place, ByChange, noted, Down}
-use Rattle.std.proofs.Common.{eqb-true}
+use Rattle.laws_trace.proofs.Vocabulary.{◌≡◌, ℕ, ◌==◌, ◌&&◌, Bool, true, false, cond, List, [], ◌∷◌, ◌++◌, Option, Some, None, refl, sym, ap, ◌∙◌, subst, true≢false, ◌⊎◌, inl, inr, All, filter, All-nil, All-cons, All-append, All-head, All-tail, All-weaker, Note, Refusal, Service, Call, Packet, Timer, T201, same_service, is_on-at, Management, IsAt, IsSoundTable, Change, Gained, Left, Terms, LinkTimer, Link, notes-own, Config, Aim, at_link, at_management, of_aim, of_change, told_of_management, hears, expiry, request, next, at_timer, aim_of_expiry, Line, has_tei, link_in, place_in, terms, aim_of, unless_refused, unless_refused_told, aim_of_heard, group_tei, Assign, Remove, Deactivate, at_requested, at_deactivated, aim_of_request, IsProper, heard_aims, request_proper, notes_of, is-off, has-no-place, ByChange, noted, Down, eqb-true, TimerT200 as T200, TimerT203 as T203, IsOwn, fresh_link as fresh, line_of_link as of_link, Event, line_after as after, answer, refusal, Request, Establish, Release, Data, Checking as Check, SetBusy, ClearBusy, IsSound, is_own, is_news, by-down, Assigned, Doubled, Error, EstablishConfirm, EstablishIndication, ReleaseConfirm, ReleaseIndication, Removed, Unit, NoteXid as Xid, changes_are_told, sound-after, HasLeft, TeiIsInRange as IsInRange, Moves, link_told as told, emptied}
 use Rattle.model_bits.specs.Stream as stream
-use Rattle.lapd_frame.specs.declared.notes.Note.TheVariants as notes
-use Rattle.lapd_frame.specs.declared.timers.Timer.TheVariants.{T200, T203}
 use Rattle.lapd_tei.specs.Events as teis
-use Rattle.lapd_tei.proofs.LawLemmas as tei_lemmas
-use Rattle.lapd_tei.specs.Laws as tei_laws
 use Rattle.model_link.specs.declared.timers.LinkTimer.TheVariants as link_timer
 use Rattle.model_link.specs.Events as link
-use Rattle.model_link.specs.Notes.{IsOwn}
-use Rattle.model_link.specs.Link.{fresh}
-use Rattle.model_link.specs.Machine as links
-use Rattle.model_line.specs.Effect.{of_link}
-use Rattle.model_line.specs.Event.{Event}
-use Rattle.model_line.specs.Machine.{after, answer}
-use Rattle.model_line.specs.Refusal.{refusal}
-use Rattle.model_line.specs.Request.{Request, Establish, Release, Data, Check, SetBusy, ClearBusy}
-use Rattle.model_line.specs.Sound.{IsSound}
-use Rattle.laws_line.proofs.Readings as read
-use Rattle.laws_trace.specs.Trace.{is_own}
-use Rattle.laws_trace.specs.News.{is_news}
 use Rattle.laws_trace.proofs.OneLink.{is_at_link}
-use Rattle.laws_line.proofs.Downs.{by-down}
 
 module _ (service : Service) (tei : ℕ) where
   abbrev No : Note → Type 0
@@ -37,24 +19,24 @@ module _ (service : Service) (tei : ℕ) where
   away t other s n own = ap (λ z. is_own service tei z n) own.0 ∙ ap (λ m. is_own service tei t.service m) own.1 ∙ other
 
   other-note : (t : Terms) → is_own service tei t.service t.tei ≡ false → (n : Note) → IsOwn t n → No n
-  other-note t other (notes.EstablishIndication s n) own = away t other s n own
-  other-note t other (notes.EstablishConfirm s n) own = away t other s n own
-  other-note t other (notes.ReleaseIndication s n) own = away t other s n own
-  other-note t other (notes.ReleaseConfirm s n) own = away t other s n own
-  other-note t other (notes.Error s n k) own = away t other s n own
-  other-note t other (notes.Xid s n) own = away t other s n own
+  other-note t other (EstablishIndication s n) own = away t other s n own
+  other-note t other (EstablishConfirm s n) own = away t other s n own
+  other-note t other (ReleaseIndication s n) own = away t other s n own
+  other-note t other (ReleaseConfirm s n) own = away t other s n own
+  other-note t other (Error s n k) own = away t other s n own
+  other-note t other (Xid s n) own = away t other s n own
   other-note t other any own = refl
 
-  pub other-link : (t : Terms) → is_own service tei t.service t.tei ≡ false → (what : link.Event) (x : Link) → All No (links.told t what x).notes
-  other-link t other what x = All-weaker (IsOwn t) No (other-note t other) (links.told t what x).notes (notes-own t what x)
+  pub other-link : (t : Terms) → is_own service tei t.service t.tei ≡ false → (what : link.Event) (x : Link) → All No (told t what x).notes
+  other-link t other what x = All-weaker (IsOwn t) No (other-note t other) (told t what x).notes (notes-own t what x)
 
   pub tei-note : (e : teis.Event) (o : Option Change) (ns : List Note) → ByChange e o ns → All No ns
   tei-note e None ns is = subst (All No) (sym is) (All-nil No)
-  tei-note (teis.message octets) (Some (Gained by place)) ns is = subst (All No) (sym is) (All-cons No (notes.Assigned by) [] refl (All-nil No))
+  tei-note (teis.message octets) (Some (Gained by place)) ns is = subst (All No) (sym is) (All-cons No (Assigned by) [] refl (All-nil No))
   tei-note (teis.assign asked) (Some (Gained by place)) ns is = subst (All No) (sym is.1) (All-nil No)
   tei-note other (Some (Gained by place)) ns is = absurd is
-  tei-note (teis.message octets) (Some (Left by place)) ns is = subst (All No) (sym is) (All-cons No (notes.Doubled by) [] refl (All-nil No))
-  tei-note teis.expiry (Some (Left by place)) ns is = subst (All No) (sym is) (All-cons No (notes.Removed by) [] refl (All-nil No))
+  tei-note (teis.message octets) (Some (Left by place)) ns is = subst (All No) (sym is) (All-cons No (Doubled by) [] refl (All-nil No))
+  tei-note teis.expiry (Some (Left by place)) ns is = subst (All No) (sym is) (All-cons No (Removed by) [] refl (All-nil No))
   tei-note (teis.remove asked) (Some (Left by place)) ns is = subst (All No) (sym is.1) (All-nil No)
   tei-note other (Some (Left by place)) ns is = absurd is
 
@@ -67,7 +49,7 @@ module _ (service : Service) (tei : ℕ) where
     Silent aim = is_at_link service tei aim ≡ false → Stays (of_aim c aim l).line → All No (of_aim c aim l).told.notes
 
     -- An event of TEI management: links of another TEI are cleared.
-    module _ (me : teis.Event) (fits : tei_laws.IsInRange me) where
+    module _ (me : teis.Event) (fits : IsInRange me) where
       abbrev m : Management
       m = teis.after me l.management
 
@@ -78,12 +60,12 @@ module _ (service : Service) (tei : ℕ) where
       ns = (teis.told me l.management).notes
 
       table : IsSoundTable m.places
-      table = (tei_lemmas.sound-after me l.management fits s.management).table
+      table = (sound-after me l.management fits s.management).table
 
       abbrev itself : Link → Link
       itself x = x
 
-      gone-off : (by place : ℕ) → tei_laws.HasLeft l.management.places m.places by place → (b : Bool) → (by == tei) ≡ b → Stays at → b ≡ false
+      gone-off : (by place : ℕ) → HasLeft l.management.places m.places by place → (b : Bool) → (by == tei) ≡ b → Stays at → b ≡ false
       gone-off by place gone false other there = refl
       gone-off by place gone true same there = go there
         where
@@ -94,13 +76,13 @@ module _ (service : Service) (tei : ℕ) where
           go (inl off) = absurd (true≢false (sym (is_on-at l.management.places place tei was-there) ∙ off))
           go (inr there) =
               absurd (true≢false (sym there
-              ∙ is-off m.places tei (has-no-place m.places tei (read.emptied fresh itself refl c l s m table place None gone.is_free gone.within tei refl was-there))))
+              ∙ is-off m.places tei (has-no-place m.places tei (emptied fresh itself refl c l s m table place None gone.is_free gone.within tei refl was-there))))
 
       and-none : (a b : Bool) → b ≡ false → (a && b) ≡ false
       and-none true b none = none
       and-none false b none = refl
 
-      changed : (o : Option Change) → tei_laws.Moves l.management.places o m.places → ByChange me o ns
+      changed : (o : Option Change) → Moves l.management.places o m.places → ByChange me o ns
           → Stays (of_change c o (told_of_management (teis.told me l.management)) at).line → All No (of_change c o (told_of_management (teis.told me l.management)) at).told.notes
       changed (Some (Left by place)) gone is there =
           let call = of_link c Call by place link.cleared at in
@@ -114,7 +96,7 @@ module _ (service : Service) (tei : ℕ) where
 
       managed : Silent (at_management me)
       managed aims there =
-          changed (teis.told me l.management).change (tei_lemmas.changes_are_told me l.management fits s.management) (noted me l.management s.management) there
+          changed (teis.told me l.management).change (changes_are_told me l.management fits s.management) (noted me l.management s.management) there
 
     of-link : (its : Service) (by place : ℕ) (what : link.Event) → Silent (at_link its by place what)
     of-link its by place what aims there = other-link (terms c its by) aims what (link_in l its place)
@@ -134,7 +116,7 @@ module _ (service : Service) (tei : ℕ) where
     pub heard-silent : (e : stream.Event) → Silent (aim_of_heard c l e)
     heard-silent e =
         heard_aims c l Silent (λ cause aims there. All-nil No) (λ its by place what on. of-link its by place (link.received what)) (λ info. managed (teis.message info) tt)
-        (λ parts its to aims there. All-cons No (notes.Unit its group_tei) [] refl (All-nil No)) e
+        (λ parts its to aims there. All-cons No (Unit its group_tei) [] refl (All-nil No)) e
 
     pub expiry-silent : (timer : Timer) → Silent (aim_of_expiry timer l)
     expiry-silent (T200 its by) = timer-silent its by link_timer.T200 (place_in l by)

@@ -1,17 +1,8 @@
 -- Whether layer 3 asked, and whether I-frames are outstanding: a part of what an observer knows; and by it the news.
-use Rattle.laws_trace.proofs.Vocabulary.{◌≡◌, ℕ, ◌==◌, ◌&&◌, ◌||◌, not, Bool, false, List, [], ◌∷◌, ◌++◌, fold, map, filter, Some, if◌then◌else◌, list_any, ErrorCode, Note, EstablishIndication, EstablishConfirm, ReleaseIndication, ReleaseConfirm, Error, Service, Config, request, Answer, notes_of, is_granted, at, moments}
-use Rattle.std.specs.Option.{unwrap_or}
-use Rattle.lapd_frame.specs.declared.notes.Note.TheVariants.{Xid}
+use Rattle.laws_trace.proofs.Vocabulary.{◌≡◌, ℕ, ◌==◌, ◌&&◌, ◌||◌, not, Bool, false, List, [], ◌∷◌, ◌++◌, fold, map, filter, Some, if◌then◌else◌, list_any, ErrorCode, Note, EstablishIndication, EstablishConfirm, ReleaseIndication, ReleaseConfirm, Error, Service, Config, request, Answer, notes_of, is_granted, at, moments, unwrap_or, NoteXid as Xid, Establish, fresh, CardEvent as Event, card_answer as answer, Moment, after_all, is_news, is_sabme, is_xid, releases, wrong, is_own, seen_in}
 use Rattle.model_line.specs.Event as line_event
-use Rattle.model_line.specs.Request.{Establish}
-use Rattle.model_card.specs.Card.{fresh}
-use Rattle.model_card.specs.Event.{Event}
-use Rattle.model_card.specs.Machine.{answer}
-use Rattle.model_card.specs.Run.{Moment, after_all}
-use Rattle.laws_trace.specs.News.{is_news, is_sabme, is_xid, releases, wrong}
 use Rattle.laws_trace.proofs.TimersWatched.{Known, nothing_yet, watch, brings}
 use Rattle.laws_trace.proofs.States.{is_state, state_before, state_after, differ}
-use Rattle.laws_trace.specs.Trace.{is_own, seen_in}
 
 -- Layer 3 asks for the establishment of a link, or for its release; and the terminal begins to establish it, or sends XID.
 abbrev pub establishes : Service → ℕ → line_event.Event → Answer → Bool

@@ -1,28 +1,14 @@
 -- Nothing is told as lost in vain: the law.
-use Rattle.laws_trace.proofs.Vocabulary.{◌≡◌, ℕ, zero, suc, ◌+◌, ◌-◌, ◌<◌, ◌≤◌, ◌==◌, ◌&&◌, ◌||◌, not, Bool, true, false, cond, List, [], ◌++◌, length, get_or, Option, Some, None, refl, sym, ap, ◌∙◌, subst, ◌⊎◌, inl, inr, arith, eq-eqb, true≢false, fold, nat_lt, le-ltb, and_parts, option_map_or, get_or-set_same, PoolFull, Refusal, Service, Call, Timer, place_of-is, is_on-at, service-same, LinkTimer, ControlFrame, Config, Aim, at_none, at_link, at_management, at_units, of_aim, at_timer, aim_of_expiry, aim_of_heard, hears, expiry, request, next, Answer, refused, Line, fresh_line, has_tei, link_of, place_in, aim_of, unless_refused, unless_refused_told, Deactivate, at_requested, at_deactivated, aim_of_request, heard_aims, IsInRange, lost_in, deactivates, is_granted, IsBy, HaveTheirTimers, AllHaveTheirTimers, Card, line_at, is_full, at, fresh_is_sound, has_lines, by_room, line_sound, config-stays, at_no_link}
+use Rattle.laws_trace.proofs.Vocabulary.{◌≡◌, ℕ, zero, suc, ◌+◌, ◌-◌, ◌<◌, ◌≤◌, ◌==◌, ◌&&◌, ◌||◌, not, Bool, true, false, cond, List, [], ◌++◌, length, get_or, Option, Some, None, refl, sym, ap, ◌∙◌, subst, ◌⊎◌, inl, inr, arith, eq-eqb, true≢false, fold, nat_lt, le-ltb, and_parts, option_map_or, get_or-set_same, PoolFull, Refusal, Service, Call, Timer, place_of-is, is_on-at, service-same, LinkTimer, ControlFrame, Config, Aim, at_none, at_link, at_management, at_units, of_aim, at_timer, aim_of_expiry, aim_of_heard, hears, expiry, request, next, Answer, refused, Line, fresh_line, has_tei, link_of, place_in, aim_of, unless_refused, unless_refused_told, Deactivate, at_requested, at_deactivated, aim_of_request, heard_aims, IsInRange, lost_in, deactivates, is_granted, IsBy, HaveTheirTimers, AllHaveTheirTimers, Card, line_at, is_full, at, fresh_is_sound, has_lines, by_room, line_sound, config-stays, at_no_link, Event, refusal, Request, Establish, Release, Data, SetBusy, ClearBusy, IsSound, after, card_answer as answer, Moment, after_all, AreAtLines, always_sound, put_in, managing_is_on as is_on, due, managed_after, Observed, View, in_state, by_event, enters, view_of, view_behind, moment_of, is_empty, outgoing_of, is_own, seen, trace_of, Always, by-down, TimerT200 as T200, T201, TimerT203 as T203, fresh}
 use Rattle.model_bits.specs.Stream as stream
-use Rattle.lapd_frame.specs.declared.timers.Timer.TheVariants as timers
 use Rattle.model_link.specs.declared.timers.LinkTimer.TheVariants as link_timer
 use Rattle.model_link.specs.Events as link
-use Rattle.model_line.specs.Event.{Event}
 use Rattle.model_line.specs.Machine as lines
-use Rattle.model_line.specs.Refusal.{refusal}
-use Rattle.model_line.specs.Request.{Request, Establish, Release, Data, SetBusy, ClearBusy}
-use Rattle.model_line.specs.Sound.{IsSound}
-use Rattle.model_card.specs.Card as cards
 use Rattle.model_card.specs.Event as card_event
-use Rattle.model_card.specs.Machine.{after, answer}
-use Rattle.model_card.specs.Run.{Moment, after_all, AreAtLines}
 use Rattle.model_card.specs.Sound as card_sound
-use Rattle.model_card.proofs.CardSound.{always_sound}
 use Rattle.laws_trace.specs.ControlFrames as now_due
-use Rattle.laws_trace.specs.ControlFrames.{put_in}
-use Rattle.laws_trace.specs.Managing.{is_on, due, managed_after}
 use Rattle.laws_trace.specs.NoLossInVain.{puts_by, NoLossInVain}
 use Rattle.laws_trace.proofs.ObservedControls.{unchanged}
-use Rattle.laws_trace.specs.Observer.{Observed, View, in_state, by_event, enters, view_of, view_behind, moment_of}
-use Rattle.laws_trace.specs.Outgoing.{is_empty, outgoing_of}
-use Rattle.laws_trace.specs.Trace.{is_own, seen, trace_of, Always}
 use Rattle.laws_trace.proofs.Addressed.{at-some-place}
 use Rattle.laws_trace.proofs.CommandsCaused.{IsNoOther}
 use Rattle.laws_trace.proofs.DeliveriesKept.{run-stands}
@@ -43,9 +29,9 @@ use Rattle.laws_trace.proofs.Standing.{standing, stand-is}
 use Rattle.laws_trace.proofs.StandingOfLink.{calm, IsStanding}
 use Rattle.laws_trace.proofs.States.{one_more}
 use Rattle.laws_trace.proofs.TeisAreManaged.{shows-behind}
-use Rattle.laws_line.proofs.Downs.{by-down}
 use Rattle.laws_trace.proofs.TimersAreTimely.{timely-now}
 use Rattle.laws_trace.proofs.WaitingNow.{waiting-now}
+use Rattle.laws_trace.proofs.Facts.{either-none}
 
 -- One event of a line.
 abbrev NoLoss : Aim → Type 0
@@ -61,9 +47,9 @@ module _ (c : Config) (l : Line) where
   timer-none its by k (Some place) = tt
 
   expiry-none : (timer : Timer) → NoLoss (aim_of_expiry timer l)
-  expiry-none (timers.T200 its by) = timer-none its by link_timer.T200 (place_in l by)
-  expiry-none (timers.T203 its by) = timer-none its by link_timer.T203 (place_in l by)
-  expiry-none timers.T201 = tt
+  expiry-none (T200 its by) = timer-none its by link_timer.T200 (place_in l by)
+  expiry-none (T203 its by) = timer-none its by link_timer.T203 (place_in l by)
+  expiry-none T201 = tt
 
   asked-none : (its : Service) (by : ℕ) (asked : link.Request) (o : Option ℕ) → NoLoss (at_requested its by asked o)
   asked-none its by asked None = refl
@@ -210,18 +196,14 @@ down-none c service tei o (request (Deactivate its by)) a m is down =
     stays : enters o o ≡ false
     stays = ap (λ b. not b || nat_lt o.expiries o.expiries) (eq-eqb o.state o.state refl) ∙ le-ltb o.expiries o.expiries (omega arith)
 
-    either : (b : Bool) → cond {A = List ControlFrame} b [] [] ≡ []
-    either true = refl
-    either false = refl
-
     go : (g : Bool) → let q = cond g (cond (is_own service tei its by) (in_state 4) o) o in now_due.changed o q ++ cond (enters o q) (now_due.command_of q) [] ≡ []
-    go true = ap (λ b. let q = cond b (in_state 4) o in now_due.changed o q ++ cond (enters o q) (now_due.command_of q) []) down ∙ either (enters o (in_state 4))
+    go true = ap (λ b. let q = cond b (in_state 4) o in now_due.changed o q ++ cond (enters o q) (now_due.command_of q) []) down ∙ either-none (enters o (in_state 4))
     go false = ap (λ xs. xs ++ cond (enters o o) (now_due.command_of o) []) (unchanged o o (λ up. refl)) ∙ ap (λ b. cond b (now_due.command_of o) []) stays
 down-none c service tei o other a m is down = absurd (true≢false (sym down))
 
-module _ (c : Config) (events : List card_event.Event) (number : ℕ) (ranged : IsInRange c) (all : AreAtLines (cards.fresh c) events) (within : number < c.lines) (what : Event) where
+module _ (c : Config) (events : List card_event.Event) (number : ℕ) (ranged : IsInRange c) (all : AreAtLines (fresh c) events) (within : number < c.lines) (what : Event) where
   abbrev k : Card
-  k = after_all (cards.fresh c) events
+  k = after_all (fresh c) events
 
   abbrev l : Line
   l = line_at number k
@@ -236,10 +218,10 @@ module _ (c : Config) (events : List card_event.Event) (number : ℕ) (ranged : 
   messages = (due c what (managed_after c number events)).lost
 
   kept : k.config ≡ c
-  kept = config-stays (cards.fresh c) events
+  kept = config-stays (fresh c) events
 
   sound : card_sound.IsSound k
-  sound = always_sound (cards.fresh c) events (fresh_is_sound c ranged) all
+  sound = always_sound (fresh c) events (fresh_is_sound c ranged) all
 
   here : number < k.config.lines
   here = subst (λ (d : Config). number < d.lines) (sym kept) within

@@ -1,9 +1,5 @@
 -- No UI waits on a link: what a link gives is no unit data.
-use Rattle.laws_trace.proofs.Vocabulary.{◌≡◌, ℕ, ◌+◌, ◌&&◌, ◌||◌, Bool, true, false, cond, List, [], ◌∷◌, take, refl, All, not, All-nil, All-cons, All-append, All-take, All-drop, Information, ReceiveReady, ReceiveNotReady, Reject, Sabme, Disc, State, TeiAssigned, AwaitingEstablishment, AwaitingRelease, TimerRecovery, ControlFrame, Terms, Link, is_multiple_frame, received, requested, offer, cleared, moves, receipt_as, is_next, is_taken, to_information, to_supervisory, to_sabme, to_disc, answers_up, answers_to, answers, command_in, is_time, commands, put, behind, waiting_left}
-use Rattle.lapd_frame.specs.declared.controls.Control.{Control}
-use Rattle.model_link.specs.Events.{Event, frame, SetBusy, ClearBusy}
-use Rattle.laws_link.specs.Waiting.{room}
-use Rattle.laws_trace.specs.Units.{is_ui}
+use Rattle.laws_trace.proofs.Vocabulary.{◌≡◌, ℕ, ◌+◌, ◌&&◌, ◌||◌, Bool, true, false, cond, List, [], ◌∷◌, take, refl, All, not, All-nil, All-cons, All-append, All-take, All-drop, Information, ReceiveReady, ReceiveNotReady, Reject, Sabme, Disc, State, TeiAssigned, AwaitingEstablishment, AwaitingRelease, TimerRecovery, ControlFrame, Terms, Link, is_multiple_frame, received, requested, offer, cleared, moves, receipt_as, is_next, is_taken, to_information, to_supervisory, to_sabme, to_disc, answers_up, answers_to, answers, command_in, is_time, commands, put, behind, waiting_left, Control, LinkEvent as Event, frame, LinkSetBusy as SetBusy, LinkClearBusy as ClearBusy, room, is_ui}
 
 abbrev pub IsPlain : ControlFrame → Type 0
 IsPlain f = is_ui f.control ≡ false

@@ -1,12 +1,7 @@
 -- What an observer knows of a link is what follows its parts: over runs.
-use Rattle.laws_trace.proofs.Vocabulary.{◌≡◌, ℕ, ◌+◌, ◌==◌, ◌&&◌, ◌||◌, not, Bool, true, false, cond, Option, Some, None, is_some, refl, sym, ap, ◌∙◌, subst, arith, eq-eqb, true≢false, fold, nat_lt, IfSome, option_map_or, Service, State, TeiAssigned, AwaitingEstablishment, AwaitingRelease, TimerRecovery, LinkTimer, state_number, Config, expiry, Answer}
-use Rattle.std.proofs.Common.{eqb-true}
+use Rattle.laws_trace.proofs.Vocabulary.{◌≡◌, ℕ, ◌+◌, ◌==◌, ◌&&◌, ◌||◌, not, Bool, true, false, cond, Option, Some, None, is_some, refl, sym, ap, ◌∙◌, subst, arith, eq-eqb, true≢false, fold, nat_lt, IfSome, option_map_or, Service, State, TeiAssigned, AwaitingEstablishment, AwaitingRelease, TimerRecovery, LinkTimer, state_number, Config, expiry, Answer, eqb-true, T200, T203, Observed, in_state, by_event, is_own, seen, Event, cond_both}
 use Rattle.lapd_frame.specs.declared.timers.Timer.TheVariants as timers
-use Rattle.model_link.specs.declared.timers.LinkTimer.TheVariants.{T200, T203}
-use Rattle.model_line.specs.Event as line_event
-use Rattle.laws_trace.specs.Observer.{Observed, in_state, by_event}
 use Rattle.laws_trace.proofs.States as states
-use Rattle.laws_trace.specs.Trace.{is_own, seen}
 use Rattle.laws_trace.proofs.TimersWatched.{Known, learned}
 use Rattle.laws_trace.proofs.States.{is_state, differ}
 use Rattle.laws_trace.proofs.ObservedMoves.{grown, event-moves}
@@ -90,27 +85,24 @@ module _ (c : Config) (service : Service) (tei : ℕ) where
   count-counts k TimerRecovery n m h timer = ap (λ n. option_map_or (moves.by_expiry c.n200 k n 8) timer 8) (sym h)
   count-counts k other n m h any = refl
 
-  abbrev pub counted_by : line_event.Event → ℕ
+  abbrev pub counted_by : Event → ℕ
   counted_by what = option_map_or states.one_more (states.expired_of service tei what) 0
 
   nothing-more : (n : ℕ) → n ≡ n + 0
   nothing-more n = omega arith
 
-  grown-is : (what : line_event.Event) (n : ℕ) → grown c service tei what n ≡ n + counted_by what
+  grown-is : (what : Event) (n : ℕ) → grown c service tei what n ≡ n + counted_by what
   grown-is (expiry (timers.T200 of by)) n = go (is_own service tei of by)
     where
       go : (b : Bool) → cond b one_more none_more n ≡ n + option_map_or states.one_more (cond b (Some T200) None) 0
       go true = refl
       go false = nothing-more n
-  grown-is (expiry (timers.T203 of by)) n = go (is_own service tei of by)
-    where
-      go : (b : Bool) → n ≡ n + option_map_or states.one_more (cond b (Some T203) None) 0
-      go true = nothing-more n
-      go false = nothing-more n
+  grown-is (expiry (timers.T203 of by)) n =
+      cond_both (is_own service tei of by) (Some T203) None (λ o. n ≡ n + option_map_or states.one_more o 0) (λ own. nothing-more n) (λ other. nothing-more n)
   grown-is other n = nothing-more n
 
   -- An event of the line, where the TEI is on it before and behind.
-  module _ (x : State) (k : Known) (shape : Shape x k) (asked owed : Bool) (n : ℕ) (o : Observed) (h : IsObserved (state_number x) k asked owed n o) (what : line_event.Event) (a : Answer) where
+  module _ (x : State) (k : Known) (shape : Shape x k) (asked owed : Bool) (n : ℕ) (o : Observed) (h : IsObserved (state_number x) k asked owed n o) (what : Event) (a : Answer) where
     abbrev s : ℕ
     s = state_number x
 
@@ -147,7 +139,7 @@ module _ (c : Config) (service : Service) (tei : ℕ) where
     goes-on (Some to) led = subst (λ to. Follows to (n + counted_by what) (by_event c service tei what a o)) (sym led) observed
 
   -- One that comes to the line.
-  pub comes : (to : ℕ) → to ≡ 4 → (k : Known) (new asked owed : Bool) (n : ℕ) (what : line_event.Event) (a : Answer) → let l = learned c service tei None (Some to) k (seen what a) in
+  pub comes : (to : ℕ) → to ≡ 4 → (k : Known) (new asked owed : Bool) (n : ℕ) (what : Event) (a : Answer) → let l = learned c service tei None (Some to) k (seen what a) in
       IsObserved to l (cond (is_state 5 (Some to) && differ None (Some to)) new asked) (cond (is_state 5 (Some to)) owed (not (l.next == l.acknowledged))) n (in_state 4)
   comes to is k new asked owed n what a =
       subst (λ to. let l = learned c service tei None (Some to) k (seen what a) in

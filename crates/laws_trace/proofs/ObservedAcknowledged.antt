@@ -1,11 +1,6 @@
 -- What the observer knows of this side of a link from the start on.
-use Rattle.laws_trace.proofs.Vocabulary.{ℕ, ◌<◌, false, List, refl, sym, ap, subst, true≢false, fold, Service, Link, Config, IsInRange, fresh_is_sound, begins-timely-card}
-use Rattle.model_card.specs.Card.{fresh}
-use Rattle.model_card.specs.Event.{Event}
-use Rattle.model_card.specs.Run.{AreAtLines}
+use Rattle.laws_trace.proofs.Vocabulary.{ℕ, ◌<◌, false, List, refl, sym, ap, subst, true≢false, fold, Service, Link, Config, IsInRange, fresh_is_sound, begins-timely-card, fresh, CardEvent as Event, AreAtLines, view_of, trace_of}
 use Rattle.laws_trace.specs.Observer as observer
-use Rattle.laws_trace.specs.Observer.{view_of}
-use Rattle.laws_trace.specs.Trace.{trace_of}
 use Rattle.laws_trace.proofs.DeliveriesWatched.{at_first, stand}
 use Rattle.laws_trace.proofs.NewsWatched.{none_owed}
 use Rattle.laws_trace.proofs.ObservedCount.{Agree}
@@ -21,4 +16,4 @@ module _ (c : Config) (events : List Event) (number : ℕ) (ranged : IsInRange c
       let off = off-link c events number ranged all within service tei in
       run-agrees service tei number (fresh c) events (fresh_is_sound c ranged) (begins-timely-card c) all known.nothing_yet false none_owed refl 0 observer.at_first
       (at-start c events number ranged all within service tei) 0 false false
-      ((λ up. ap (λ (k : Link). k.r) off), subst (λ (k : Link). IsStanding k false false) (sym off) fresh-stands) (λ up. absurd (true≢false (sym up)))
+      ((λ up. ap (λ (k : Link). k.r) off), subst (λ (k : Link). IsStanding k false false) (sym off) (fresh-stands false false)) (λ up. absurd (true≢false (sym up)))

@@ -1,19 +1,9 @@
 -- How the observer's link stands behind a frame that is answered in states 7 and 8, whatever state it leads to.
-use Rattle.laws_trace.proofs.Vocabulary.{◌≡◌, ℕ, ◌+◌, ◌==◌, ◌&&◌, ◌||◌, not, Bool, true, false, cond, length, Some, None, refl, sym, ap, ◌∙◌, subst, true≢false, nat_lt, is_some, Result, Ok, Err, list_any, option_map_or, and_parts, none-some, Information, ReceiveReady, ReceiveNotReady, Reject, ReadFault, Service, Parts, reading, State, state_number, Config, hears, Answer, heard_side, Line, link_of, place_in, IsInRange, notes_of, is_data_of, Card, line_at, is_full, at, has_lines, by_room, line_sound}
+use Rattle.laws_trace.proofs.Vocabulary.{◌≡◌, ℕ, ◌+◌, ◌==◌, ◌&&◌, ◌||◌, not, Bool, true, false, cond, length, Some, None, refl, sym, ap, ◌∙◌, subst, true≢false, nat_lt, is_some, Result, Ok, Err, list_any, option_map_or, and_parts, none-some, Information, ReceiveReady, ReceiveNotReady, Reject, ReadFault, Service, Parts, reading, State, state_number, Config, hears, Answer, heard_side, Line, link_of, place_in, IsInRange, notes_of, is_data_of, Card, line_at, is_full, at, has_lines, by_room, line_sound, Control, IsSound, card_answer as answer, IsAtLine, option_and_then, result_ok, result_err, frame_of, its_frame, malformed, fault_of, Observed, observer_is_next as is_next, observer_is_invalid as is_invalid, observer_takes as takes, anew, while_up, while_down, observer_by_frame as by_frame, by_heard, brings_next, is_up, seen, and-false}
 use Rattle.model_bits.specs.Stream as stream
-use Rattle.lapd_frame.specs.declared.controls.Control.{Control}
 use Rattle.model_line.specs.Machine as lines
-use Rattle.model_line.specs.Sound.{IsSound}
-use Rattle.model_card.specs.Machine.{answer}
-use Rattle.model_card.specs.Run.{IsAtLine}
 use Rattle.model_card.specs.Sound as card_sound
 use Rattle.laws_trace.proofs.Counting.{begins}
-use Rattle.std.specs.Option.{option_and_then}
-use Rattle.std.specs.Result.{result_ok, result_err}
-use Rattle.laws_trace.specs.LinkFrames.{frame_of, its_frame, malformed, fault_of}
-use Rattle.laws_trace.specs.Observer.{Observed, is_next, is_invalid, takes, anew, while_up, while_down, by_frame, by_heard}
-use Rattle.laws_trace.specs.Deliveries.{brings_next}
-use Rattle.laws_trace.specs.Trace.{is_up, seen}
 use Rattle.laws_trace.proofs.Deliveries.{frame_by}
 use Rattle.laws_trace.proofs.DeliveriesRun.{IsCount}
 use Rattle.laws_trace.proofs.DeliveriesWatched.{is_information, brings_information}
@@ -80,15 +70,11 @@ module _ (c : Config) (service : Service) (tei : ℕ) where
       go (Err fault) is = absurd (none-some f is)
   clean other f is = absurd (none-some f is)
 
-  and-none : (b : Bool) → (b && false) ≡ false
-  and-none true = refl
-  and-none false = refl
-
   heard-so : (e : stream.Event) (f : Parts) (o : Observed) → its_frame service tei (frame_of c e) ≡ Some f → is_up o.state ≡ true
       → by_heard c service tei e o ≡ while_up (nat_lt c.n201 (length f.info)) f.address.command f.control o
   heard-so e f o is up =
       ap (λ m. cond (is_up o.state && is_some m) (anew o) (option_map_or (by_frame c o) (its_frame service tei (frame_of c e)) o)) (clean e f is)
-      ∙ ap (λ b. cond b (anew o) (option_map_or (by_frame c o) (its_frame service tei (frame_of c e)) o)) (and-none (is_up o.state))
+      ∙ ap (λ b. cond b (anew o) (option_map_or (by_frame c o) (its_frame service tei (frame_of c e)) o)) (and-false (is_up o.state))
       ∙ ap (λ g. option_map_or (by_frame c o) g o) is
       ∙ ap (λ b. cond b (while_up (nat_lt c.n201 (length f.info)) f.address.command f.control o) (while_down f.control o)) up
 

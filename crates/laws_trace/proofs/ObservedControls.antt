@@ -1,30 +1,14 @@
 -- The control frames of a link that are due by what the observer knows are those that are due by how the link stands.
-use Rattle.laws_trace.proofs.Vocabulary.{◌≡◌, ℕ, ◌+◌, ◌%◌, ◌==◌, ◌&&◌, not, Bool, true, false, cond, length, List, [], ◌++◌, Option, Some, None, is_some, refl, sym, ap, ◌∙◌, subst, true≢false, nat_lt, Result, Ok, Err, option_map_or, seq, Information, ReceiveReady, ReceiveNotReady, Reject, Sabme, Disc, ReadFault, Service, Timer, Parts, reading, ControlFrame, Config, hears, expiry, request, next, Answer, gave, heard_side, Deactivate, as_response, is_granted}
+use Rattle.laws_trace.proofs.Vocabulary.{◌≡◌, ℕ, ◌+◌, ◌%◌, ◌==◌, ◌&&◌, not, Bool, true, false, cond, length, List, [], ◌++◌, Option, Some, None, is_some, refl, sym, ap, ◌∙◌, subst, true≢false, nat_lt, Result, Ok, Err, option_map_or, seq, Information, ReceiveReady, ReceiveNotReady, Reject, Sabme, Disc, ReadFault, Service, Timer, Parts, reading, Config, hears, expiry, request, next, Answer, gave, heard_side, Deactivate, as_response, is_granted, Control, told, Request, Establish, Release, SetBusy, ClearBusy, result_ok, brought, frame_of, its_frame, is_for, malformed, Managed, due, Observed, in_state, awaits, anew, enquires, observer_by_frame as by_frame, by_t200, observer_by_expiry as by_expiry, observer_by_request as by_request, by_event, sends, is_own, is_up, heard, seen_told, seen_granted, TimerT200 as T200, T201, TimerT203 as T203, cond_both}
 use Rattle.model_bits.specs.Stream as stream
-use Rattle.lapd_frame.specs.declared.controls.Control.{Control}
-use Rattle.lapd_frame.specs.declared.timers.Timer.TheVariants as timers
 use Rattle.model_line.specs.Event as line_event
-use Rattle.model_line.specs.Event.{told}
-use Rattle.model_line.specs.Request.{Request, Establish, Release, SetBusy, ClearBusy}
 use Rattle.laws_trace.specs.ControlFrames as now_due
-use Rattle.std.specs.Result.{result_ok}
-use Rattle.laws_trace.specs.LinkFrames.{brought, frame_of, its_frame, is_for, malformed}
-use Rattle.laws_trace.specs.Managing.{Managed, due}
-use Rattle.laws_trace.specs.Observer.{Observed, in_state, awaits, anew, enquires, by_frame, by_t200, by_expiry, by_request, by_event, sends}
-use Rattle.laws_trace.specs.Trace.{is_own, is_up, heard, seen_told, seen_granted}
 use Rattle.laws_trace.proofs.ControlsSeen.{answers_seen, asked-answers}
 use Rattle.laws_trace.proofs.ControlsWatched as old
 use Rattle.laws_trace.proofs.DeliveriesWatched.{Standing, busy_asked}
 use Rattle.laws_trace.proofs.ObservedAnswers.{is_answered}
 use Rattle.laws_trace.proofs.ObservedCount.{Same}
-
-pub either-none : (b : Bool) → cond {A = List ControlFrame} b [] [] ≡ []
-either-none true = refl
-either-none false = refl
-
-pub as-busy : (b : Bool) (frames : List ControlFrame) → cond (cond b (not b) b) frames [] ≡ []
-as-busy true frames = refl
-as-busy false frames = refl
+use Rattle.laws_trace.proofs.Facts.{either-none, as-busy}
 
 -- What the link says, by the observer and by how it stands.
 module _ (q : Observed) (u : Standing) (same : Same q u.told.count u.busy u.rejected) where
@@ -123,31 +107,12 @@ module _ (c : Config) (service : Service) (tei : ℕ) (o q : Observed) (w u : St
 -- What is kept while layer 3 asks for something else.
 module _ (service : Service) (tei : ℕ) where
   pub stays-down : (r : Request) (o : Observed) → is_up o.state ≡ false → is_up (by_request service tei r o).state ≡ false
-  stays-down (Establish of by) o down = go (is_own service tei of by && o.state == 4)
-    where
-      go : (b : Bool) → is_up (cond b (record (in_state 5) { asked = true }) o).state ≡ false
-      go true = refl
-      go false = down
-  stays-down (Release of by) o down = go (is_own service tei of by && is_up o.state)
-    where
-      go : (b : Bool) → is_up (cond b (in_state 6) o).state ≡ false
-      go true = refl
-      go false = down
-  stays-down (Deactivate of by) o down = go (is_own service tei of by)
-    where
-      go : (b : Bool) → is_up (cond b (in_state 4) o).state ≡ false
-      go true = refl
-      go false = down
-  stays-down (SetBusy of by) o down = go (is_own service tei of by)
-    where
-      go : (b : Bool) → is_up (cond b (record o { own_busy = true }) o).state ≡ false
-      go true = down
-      go false = down
-  stays-down (ClearBusy of by) o down = go (is_own service tei of by)
-    where
-      go : (b : Bool) → is_up (cond b (record o { own_busy = false }) o).state ≡ false
-      go true = down
-      go false = down
+  stays-down (Establish of by) o down =
+      cond_both (is_own service tei of by && o.state == 4) (record (in_state 5) { asked = true }) o (λ (q : Observed). is_up q.state ≡ false) (λ own. refl) (λ other. down)
+  stays-down (Release of by) o down = cond_both (is_own service tei of by && is_up o.state) (in_state 6) o (λ (q : Observed). is_up q.state ≡ false) (λ own. refl) (λ other. down)
+  stays-down (Deactivate of by) o down = cond_both (is_own service tei of by) (in_state 4) o (λ (q : Observed). is_up q.state ≡ false) (λ own. refl) (λ other. down)
+  stays-down (SetBusy of by) o down = cond_both (is_own service tei of by) (record o { own_busy = true }) o (λ (q : Observed). is_up q.state ≡ false) (λ own. down) (λ other. down)
+  stays-down (ClearBusy of by) o down = cond_both (is_own service tei of by) (record o { own_busy = false }) o (λ (q : Observed). is_up q.state ≡ false) (λ own. down) (λ other. down)
   stays-down other o down = down
 
   -- layer 3 is as busy as before, unless it says so
@@ -168,16 +133,8 @@ module _ (service : Service) (tei : ℕ) where
 
   -- where it says so, the link stays up
   pub stays-up : (r : Request) (o : Observed) → busies r ≡ true → (by_request service tei r o).state ≡ o.state
-  stays-up (SetBusy of by) o is = go (is_own service tei of by)
-    where
-      go : (b : Bool) → (cond b (record o { own_busy = true }) o).state ≡ o.state
-      go true = refl
-      go false = refl
-  stays-up (ClearBusy of by) o is = go (is_own service tei of by)
-    where
-      go : (b : Bool) → (cond b (record o { own_busy = false }) o).state ≡ o.state
-      go true = refl
-      go false = refl
+  stays-up (SetBusy of by) o is = cond_both (is_own service tei of by) (record o { own_busy = true }) o (λ (q : Observed). q.state ≡ o.state) (λ own. refl) (λ other. refl)
+  stays-up (ClearBusy of by) o is = cond_both (is_own service tei of by) (record o { own_busy = false }) o (λ (q : Observed). q.state ≡ o.state) (λ own. refl) (λ other. refl)
   stays-up other o is = absurd (true≢false (sym is))
 
 -- Where no frame comes, and nothing is granted, layer 3 is as busy as before.
@@ -202,9 +159,9 @@ unchanged o q same = go (is_up q.state) refl
 
 module _ (c : Config) (service : Service) (tei : ℕ) (o : Observed) where
   ran-out : (timer : Timer) → AsBusy o (by_expiry c service tei timer o)
-  ran-out timers.T201 = λ up. refl
-  ran-out (timers.T203 of by) = either-so o (is_own service tei of by && (o.state == 7 && not (awaits o))) (enquires o) o (λ up. refl) (λ up. refl)
-  ran-out (timers.T200 of by) =
+  ran-out T201 = λ up. refl
+  ran-out (T203 of by) = either-so o (is_own service tei of by && (o.state == 7 && not (awaits o))) (enquires o) o (λ up. refl) (λ up. refl)
+  ran-out (T200 of by) =
       either-so o (is_own service tei of by) (by_t200 c.n200 o) o
       (either-so o (o.state == 7) (cond (awaits o) (enquires o) o) (cond (not (awaits o)) o last) (either-so o (awaits o) (enquires o) o (λ up. refl) (λ up. refl))
       (either-so o (not (awaits o)) o last (λ up. refl)

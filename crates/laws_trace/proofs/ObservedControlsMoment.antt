@@ -1,22 +1,8 @@
 -- The control frames of a link that are due in a moment, by what the observer knows.
-use Rattle.laws_trace.proofs.Vocabulary.{◌≡◌, inl, inr, ℕ, ◌<◌, ◌+◌, ◌-◌, ◌==◌, ◌&&◌, ◌||◌, not, Bool, true, false, cond, length, take, List, [], ◌++◌, Option, Some, None, is_some, refl, sym, ap, ◌∙◌, subst, eq-eqb, arith, le-ltb, true≢false, nat_lt, list_any, option_map_or, none-some, Sabme, Disc, Service, Parts, State, AwaitingEstablishment, AwaitingRelease, TimerRecovery, LinkTimer, state_number, Config, hears, expiry, request, next, Answer, Line, link_of, place_in, state_of, ControlFrame, as_response, as_command, lost_in, is_granted, AllHaveTheirTimers, Card, line_at, at}
-use Rattle.std.proofs.Common.{eqb-true}
-use Rattle.std.proofs.lemmas.Bool.{lt-ltb}
-use Rattle.model_link.specs.declared.timers.LinkTimer.TheVariants.{T200}
+use Rattle.laws_trace.proofs.Vocabulary.{◌≡◌, inl, inr, ℕ, ◌<◌, ◌+◌, ◌-◌, ◌==◌, ◌&&◌, ◌||◌, not, Bool, true, false, cond, length, take, List, [], ◌++◌, Option, Some, None, is_some, refl, sym, ap, ◌∙◌, subst, eq-eqb, arith, le-ltb, true≢false, nat_lt, list_any, option_map_or, none-some, Sabme, Disc, Service, Parts, State, AwaitingEstablishment, AwaitingRelease, TimerRecovery, LinkTimer, state_number, Config, hears, expiry, request, next, Answer, Line, link_of, place_in, state_of, ControlFrame, as_response, as_command, lost_in, is_granted, AllHaveTheirTimers, Card, line_at, at, eqb-true, lt-ltb, T200, Request, CardEvent as Event, after, card_answer as answer, Moment, IsAtLine, brought, frame_of, its_frame, managing_is_on as is_on, led, due, Observed, View, in_state, by_event, by_heard, observer_by_request as by_request, enters, views, is_up, Seen, trace_frame_in as frame_in, seen, seen_told, seen_granted, seen_in, CardIsSound as IsSound}
 use Rattle.model_bits.specs.Stream as stream
 use Rattle.model_line.specs.Event as line_event
-use Rattle.model_line.specs.Event.{told}
-use Rattle.model_line.specs.Request.{Request}
-use Rattle.model_card.specs.Event.{Event}
-use Rattle.model_card.specs.Machine.{after, answer}
-use Rattle.model_card.specs.Run.{Moment, IsAtLine}
-use Rattle.model_card.specs.Sound as card_sound
 use Rattle.laws_trace.specs.ControlFrames as now_due
-use Rattle.laws_trace.specs.LinkFrames.{brought, frame_of, its_frame}
-use Rattle.laws_trace.specs.Managing.{is_on, led, due}
-use Rattle.laws_trace.specs.Observer.{Observed, View, in_state, by_event, by_heard, by_request, enters, views}
-use Rattle.laws_trace.specs.Trace.{is_up, Seen, frame_in, seen, seen_told, seen_granted, seen_in}
-use Rattle.laws_trace.proofs.CallRuns.{apart}
 use Rattle.laws_trace.proofs.ControlsSeen.{answers_seen, heard-answers, told-none, begun-none}
 use Rattle.laws_trace.proofs.ControlsWatched as old
 use Rattle.laws_trace.proofs.DeliveriesWatched.{Standing, busy_asked}
@@ -25,7 +11,7 @@ use Rattle.laws_trace.proofs.MovesWatched.{repeated}
 use Rattle.laws_trace.proofs.NewsWatched as news
 use Rattle.laws_trace.proofs.NewsWatched.{Owing, owing}
 use Rattle.laws_trace.proofs.ObservedAnswers.{is_answered, card-answered}
-use Rattle.laws_trace.proofs.ObservedControls.{either-none, as-busy, receipt-is, by-heard, asked-answers-is, busies, still-busy, none-led, stays-up, AsBusy, unchanged, as-busy-before}
+use Rattle.laws_trace.proofs.ObservedControls.{receipt-is, by-heard, asked-answers-is, busies, still-busy, none-led, stays-up, AsBusy, unchanged, as-busy-before}
 use Rattle.laws_trace.proofs.ObservedCount.{Same, Agree, when-holds}
 use Rattle.laws_trace.proofs.ObservedCounted.{Stands, agrees-then}
 use Rattle.laws_trace.proofs.ObservedFacts.{Facts, facts, state-is, differs-is}
@@ -36,10 +22,12 @@ use Rattle.laws_trace.proofs.StandingOfLink.{calm}
 use Rattle.laws_trace.proofs.States.{is_state, differ, expired_of, one_more}
 use Rattle.laws_trace.proofs.TimersOfEvent.{state-on, off-state}
 use Rattle.laws_trace.proofs.TimersWatched.{Known, watch}
-use Rattle.laws_trace.proofs.ObservedControlsSeen.{none-mapped, not-one, frame-leads, granted-busy, asked-moves}
+use Rattle.laws_trace.proofs.ObservedControlsSeen.{none-mapped, frame-leads, granted-busy, asked-moves}
+use Rattle.laws_trace.proofs.Facts.{either-none, as-busy, not-one}
+use Rattle.laws_trace.proofs.Runs.{apart}
 
 module _ (service : Service) (tei number : ℕ) where
-  module _ (card : Card) (s : card_sound.IsSound card) (timely : AllHaveTheirTimers card) (e : Event) (here : IsAtLine card e)
+  module _ (card : Card) (s : IsSound card) (timely : AllHaveTheirTimers card) (e : Event) (here : IsAtLine card e)
       (k : Known) (asked : Bool) (w : Owing) (known_is : w.known ≡ k) (m : ℕ) (v : View) (h : Holds service tei k asked w.outstanding m (line_at number card) v)
       (n : ℕ) (busy rejected : Bool) (stands : Stands service tei number n busy rejected (line_at number card)) (agree : Agree v.link (calm n busy rejected)) where
     abbrev c : Config

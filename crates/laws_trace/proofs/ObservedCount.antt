@@ -1,12 +1,6 @@
 -- What an observer knows of this side of a link is how the link stands by what is heard and noted: over runs.
-use Rattle.laws_trace.proofs.Vocabulary.{◌≡◌, ℕ, ◌+◌, ◌&&◌, ◌||◌, not, Bool, true, false, cond, Some, refl, sym, ap, ◌∙◌, subst, true≢false, list_any, Service, State, TeiAssigned, is_multiple_frame, state_number, Config, hears, Answer, Line, link_of, place_in, IsInRange, notes_of, is_data_of}
-use Rattle.model_line.specs.Event.{Event}
-use Rattle.model_line.specs.Machine as lines
-use Rattle.model_line.specs.Sound.{IsSound}
+use Rattle.laws_trace.proofs.Vocabulary.{◌≡◌, ℕ, ◌+◌, ◌&&◌, ◌||◌, not, Bool, true, false, cond, Some, refl, sym, ap, ◌∙◌, subst, true≢false, list_any, Service, State, is_multiple_frame, state_number, Config, hears, Answer, Line, link_of, place_in, IsInRange, notes_of, is_data_of, Event, IsSound, brought, Observed, by_event, is_up, answer}
 use Rattle.laws_trace.proofs.Counting.{begins}
-use Rattle.laws_trace.specs.LinkFrames.{brought}
-use Rattle.laws_trace.specs.Observer.{Observed, by_event}
-use Rattle.laws_trace.specs.Trace.{is_up}
 use Rattle.laws_trace.proofs.Deliveries.{frame_by}
 use Rattle.laws_trace.proofs.DeliveriesRun.{IsCount}
 use Rattle.laws_trace.proofs.DeliveriesWatched.{Standing, brings_information}
@@ -15,6 +9,7 @@ use Rattle.laws_trace.proofs.ObservedStanding.{Stood, in_number, begins_by, take
 use Rattle.laws_trace.proofs.ObservedTold.{begins-so, informs-so, data-so}
 use Rattle.laws_trace.proofs.Standing.{asked_busy, behind}
 use Rattle.laws_trace.proofs.StandingOfLink.{IsStanding}
+use Rattle.laws_trace.proofs.Facts.{number-up}
 
 pub record Same (o : Observed) (n : ℕ) (busy rejected : Bool) : Type 0 where
   pub count_is : o.count ≡ n
@@ -34,23 +29,19 @@ module _ (service : Service) (tei : ℕ) (c : Config) (ranged : IsInRange c) (l 
     (count : IsCount (link_of service tei l) n) (busy rejected : Bool) (stands : IsStanding (link_of service tei l) busy rejected) (o : Observed)
     (is : o.state ≡ state_number (link_of service tei l).state) (agree : is_up o.state ≡ true → Same o n busy rejected) where
   abbrev a : Answer
-  a = lines.answer c e l
+  a = answer c e l
 
   abbrev its : State
   its = (link_of service tei l).state
 
   abbrev q : Observed
-  q = by_event c service tei e (lines.answer c e l) o
+  q = by_event c service tei e (answer c e l) o
 
   abbrev now : Standing
-  now = behind service tei c e l (lines.answer c e l) n busy rejected
+  now = behind service tei c e l (answer c e l) n busy rejected
 
   up-here : is_multiple_frame its ≡ true → is_up o.state ≡ true
   up-here up = ap is_up is ∙ number-up its ∙ up
-    where
-      number-up : (x : State) → is_up (state_number x) ≡ is_multiple_frame x
-      number-up TeiAssigned = refl
-      number-up other = refl
 
   abbrev B : Bool
   B = begins service tei (frame_by c e) (notes_of a)

@@ -1,15 +1,7 @@
 -- What an observer knows of this side of a link, after a list of events.
-use Rattle.laws_trace.proofs.Vocabulary.{◌≡◌, ℕ, ◌==◌, not, Bool, true, false, cond, List, [], ◌∷◌, Option, Some, None, is_some, refl, sym, ap, ◌∙◌, subst, true≢false, inl, inr, fold, and_parts, All-head, All-tail, fold-append, PoolFull, Service, state_number, Config, refused, Line, link_of, place_in, state_of, Card, line_at, is_full, moments, after_is_sound, has_lines, by_room, line_sound, AllHaveTheirTimers, timely-after}
-use Rattle.std.proofs.Common.{eqb-true}
+use Rattle.laws_trace.proofs.Vocabulary.{◌≡◌, ℕ, ◌==◌, not, Bool, true, false, cond, List, [], ◌∷◌, Option, Some, None, is_some, refl, sym, ap, ◌∙◌, subst, true≢false, inl, inr, fold, and_parts, All-head, All-tail, fold-append, PoolFull, Service, state_number, Config, refused, Line, link_of, place_in, state_of, Card, line_at, is_full, moments, after_is_sound, has_lines, by_room, line_sound, AllHaveTheirTimers, timely-after, eqb-true, CardEvent as Event, after, card_answer as answer, Moment, after_all, IsAtLine, AreAtLines, managing_is_on as is_on, led, Observed, View, in_state, by_event, views, seen, seen_in, trace, CardIsSound as IsSound}
 use Rattle.model_line.specs.Event as line_event
 use Rattle.model_line.specs.Machine as lines
-use Rattle.model_card.specs.Event.{Event}
-use Rattle.model_card.specs.Machine.{after, answer}
-use Rattle.model_card.specs.Run.{Moment, after_all, IsAtLine, AreAtLines}
-use Rattle.model_card.specs.Sound as card_sound
-use Rattle.laws_trace.specs.Managing.{is_on, led}
-use Rattle.laws_trace.specs.Observer.{Observed, View, in_state, by_event, views}
-use Rattle.laws_trace.specs.Trace.{seen, seen_in, trace}
 use Rattle.laws_trace.proofs.ControlFrames.{moment, as-calm}
 use Rattle.laws_trace.proofs.DeliveriesRun.{IsCount}
 use Rattle.laws_trace.proofs.DeliveriesWatched.{stand}
@@ -36,7 +28,7 @@ module _ (service : Service) (tei number : ℕ) where
   Stands n busy rejected l = IsCount (link_of service tei l) n × IsStanding (link_of service tei l) busy rejected
 
   -- One event of the line.
-  own-behind : (card : Card) → card_sound.IsSound card → (e : Event) → IsAtLine card e → (n : ℕ) (busy rejected : Bool) → let l = line_at e.line card in Stands n busy rejected l
+  own-behind : (card : Card) → IsSound card → (e : Event) → IsAtLine card e → (n : ℕ) (busy rejected : Bool) → let l = line_at e.line card in Stands n busy rejected l
       → (place : ℕ) → place_in l tei ≡ Some place → (o : Observed) → o.state ≡ state_number (link_of service tei l).state → Agree o (calm n busy rejected)
       → Agree (by_event card.config service tei e.what (answer e card) o) (standing service tei card.config (calm n busy rejected) (seen e.what (answer e card)))
   own-behind card s e here n busy rejected stands place on o is agree =
@@ -51,7 +43,7 @@ module _ (service : Service) (tei number : ℕ) where
       subst (Agree (by_event c service tei e.what (lines.answer c e.what l) o)) (sym (stand-is service tei c e.what l n busy rejected))
       (stands-behind service tei c s.config l (line_sound card e.line (has_lines card s) here) e.what place on n stands.0 busy rejected stands.1 o is agree))
 
-  module _ (card : Card) (s : card_sound.IsSound card) (timely : AllHaveTheirTimers card) (e : Event) (here : IsAtLine card e)
+  module _ (card : Card) (s : IsSound card) (timely : AllHaveTheirTimers card) (e : Event) (here : IsAtLine card e)
       (k : Known) (asked : Bool) (w : Owing) (known_is : w.known ≡ k) (m : ℕ) (v : View) (h : Holds service tei k asked w.outstanding m (line_at number card) v)
       (n : ℕ) (busy rejected : Bool) (stands : Stands n busy rejected (line_at number card)) (agree : Agree v.link (calm n busy rejected)) where
     abbrev c : Config
@@ -89,7 +81,7 @@ module _ (service : Service) (tei number : ℕ) where
     agrees-then =
         by-line (e.line == number) refl (is_on tei (led c number v.teis e)) (is_on tei v.teis) (on-is service tei number k asked w.outstanding m (line_at number card) v h)
 
-  pub run-agrees : (card : Card) (events : List Event) → card_sound.IsSound card → AllHaveTheirTimers card → AreAtLines card events
+  pub run-agrees : (card : Card) (events : List Event) → IsSound card → AllHaveTheirTimers card → AreAtLines card events
       → (k : Known) (asked : Bool) (w : Owing) → w.known ≡ k → (m : ℕ) (v : View) → Holds service tei k asked w.outstanding m (line_at number card) v
       → (n : ℕ) (busy rejected : Bool) → Stands n busy rejected (line_at number card) → Agree v.link (calm n busy rejected)
       → Agree (fold (views card.config service tei number) v (moments card events)).link (standing service tei card.config (calm n busy rejected) (trace number (moments card events)))

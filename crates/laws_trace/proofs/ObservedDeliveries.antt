@@ -1,19 +1,8 @@
 -- What layer 3 is told of what is heard, by what the observer knows of the link.
-use Rattle.laws_trace.proofs.Vocabulary.{List, nat_le, ◌&&◌, ◌≡◌, ℕ, ◌<◌, ◌||◌, Bool, true, false, cond, Option, Some, None, option_map, refl, sym, ap, ◌∙◌, subst, true≢false, inl, inr, fold, count_by, length, option_to_list, list_any, option_map_or, and_parts, none-some, PoolFull, Service, Parts, State, TeiAssigned, is_multiple_frame, state_number, Config, hears, request, Answer, refused, Line, link_of, place_in, state_of, IsInRange, notes_of, contents_in, is_data_of, is_unit_of, tells_contents, line_at, is_full, at, has_lines, by_room, line_sound}
-use Rattle.model_line.specs.Event as line_event
+use Rattle.laws_trace.proofs.Vocabulary.{List, nat_le, ◌&&◌, ◌≡◌, ℕ, ◌<◌, ◌||◌, Bool, true, false, cond, Option, Some, None, option_map, refl, sym, ap, ◌∙◌, subst, true≢false, inl, inr, fold, count_by, length, option_to_list, list_any, option_map_or, and_parts, none-some, PoolFull, Service, Parts, state_number, Config, hears, request, Answer, refused, Line, link_of, place_in, state_of, IsInRange, notes_of, contents_in, is_data_of, is_unit_of, tells_contents, line_at, is_full, at, has_lines, by_room, line_sound, IsSound, fresh, card_answer as answer, after_all, AreAtLines, is_unit_for, is_unit_taken, Deliveries, brought, its_frame, is_for, Observed, in_state, view_of, is_up, trace_of, Always, is_ui, Managed, Event}
 use Rattle.model_line.specs.Machine as lines
-use Rattle.model_line.specs.Sound.{IsSound}
-use Rattle.model_card.specs.Card.{fresh}
-use Rattle.model_card.specs.Machine.{answer}
-use Rattle.model_card.specs.Run.{after_all, AreAtLines}
-use Rattle.laws_trace.specs.Deliveries.{is_unit_for, is_unit_taken, Deliveries}
-use Rattle.laws_trace.specs.LinkFrames.{brought, its_frame, is_for}
-use Rattle.laws_trace.specs.Observer.{Observed, in_state, view_of}
-use Rattle.laws_trace.specs.Trace.{is_up, trace_of, Always}
-use Rattle.laws_trace.specs.Units.{is_ui}
 use Rattle.laws_trace.proofs.Deliveries.{frame_by}
 use Rattle.laws_trace.proofs.DeliveriesKept.{run-stands}
-use Rattle.laws_trace.specs.Managing.{Managed}
 use Rattle.laws_trace.proofs.DeliveriesRun.{IsCount, IsSmall, no-data, event-small, event-told}
 use Rattle.laws_trace.proofs.DeliveriesWatched.{at_first, stand, IsHeard}
 use Rattle.laws_trace.proofs.ObservedAcknowledged.{agrees-now}
@@ -28,10 +17,7 @@ use Rattle.laws_trace.proofs.TimersAreTimely.{sound-now, config-now, front-at}
 use Rattle.laws_trace.proofs.TimersOfEvent.{state-on, off-state}
 use Rattle.laws_trace.proofs.TimersWatched.{Known}
 use Rattle.laws_trace.proofs.UnitsAreFor.{unit-is, units-are}
-
-number-up : (x : State) → is_up (state_number x) ≡ is_multiple_frame x
-number-up TeiAssigned = refl
-number-up other = refl
+use Rattle.laws_trace.proofs.Facts.{number-up}
 
 -- All but to whom unit data is told.
 record Told (c : Config) (service : Service) (tei : ℕ) (o : Observed) (frame : Option Parts) (a : Answer) : Type 0 where
@@ -43,12 +29,12 @@ record Told (c : Config) (service : Service) (tei : ℕ) (o : Observed) (frame :
   small : list_any (is_unit_of service tei) (notes_of a) ≡ true → IsSmall c.n201 (contents_in a)
 
 -- One event of a line.
-module _ (service : Service) (tei : ℕ) (c : Config) (ranged : IsInRange c) (l : Line) (s : IsSound c l) (e : line_event.Event) (n : ℕ) (count : IsCount (link_of service tei l) n)
+module _ (service : Service) (tei : ℕ) (c : Config) (ranged : IsInRange c) (l : Line) (s : IsSound c l) (e : Event) (n : ℕ) (count : IsCount (link_of service tei l) n)
     (busy rejected : Bool) (stands : IsStanding (link_of service tei l) busy rejected) (o : Observed) (agree : is_up o.state ≡ true → Same o n busy rejected) where
   abbrev a : Answer
   a = lines.answer c e l
 
-  brought-is : (e : line_event.Event) (f : Parts) → frame_by c e ≡ Some f → is_for service tei f.address ≡ true → brought c service tei e ≡ Some f
+  brought-is : (e : Event) (f : Parts) → frame_by c e ≡ Some f → is_for service tei f.address ≡ true → brought c service tei e ≡ Some f
   brought-is (hears what) f is for = ap (its_frame service tei) is ∙ ap (λ b. cond b (Some f) None) for
   brought-is other f is for = absurd (none-some f is)
 
@@ -108,7 +94,7 @@ module _ (service : Service) (tei : ℕ) (c : Config) (ranged : IsInRange c) (l 
           on-told place on (y.2.state_is ∙ inner)
 
 -- A request that finds the pool full tells nothing.
-none-told : (c : Config) (service : Service) (tei : ℕ) (o : Observed) (e : line_event.Event) (l : Line) → lines.takes_slot c e l ≡ true → Told c service tei o (brought c service tei e) (refused PoolFull)
+none-told : (c : Config) (service : Service) (tei : ℕ) (o : Observed) (e : Event) (l : Line) → lines.takes_slot c e l ≡ true → Told c service tei o (brought c service tei e) (refused PoolFull)
 unfolding lines.takes_slot
 none-told c service tei o (request r) l takes =
     record { data_is = refl; unit_is = λ some. absurd (true≢false (sym some)); contents_are = λ some. absurd (true≢false (sym some)); once = refl; small = λ some. absurd (true≢false (sym some)) }

@@ -1,16 +1,5 @@
 -- How often T200 of a link expired, to an observer: it rises by an expiry of it alone.
-use Rattle.laws_trace.proofs.Vocabulary.{◌≡◌, ℕ, ◌+◌, ◌%◌, ◌==◌, ◌&&◌, ◌||◌, not, Bool, true, false, cond, length, Option, Some, None, refl, sym, ap, ◌∙◌, subst, arith, true≢false, is_some, nat_lt, le-ltb, option_map_or, Information, ReceiveReady, ReceiveNotReady, Reject, Sabme, Ui, Ua, Dm, Service, Parts, reading, Seq, Config, hears, expiry, request, next, Answer, refused, gave, Deactivate, is_granted}
-use Rattle.std.proofs.Common.{eqb-true}
-use Rattle.std.proofs.lemmas.Bool.{lt-ltb}
-use Rattle.std.specs.Result.{result_ok}
-use Rattle.lapd_frame.specs.declared.controls.Control.{Control}
-use Rattle.lapd_frame.specs.declared.controls.Control.TheVariants.{Xid}
-use Rattle.lapd_frame.specs.declared.timers.Timer.TheVariants as timers
-use Rattle.model_line.specs.Event.{Event, told}
-use Rattle.model_line.specs.Request.{Request, Establish, Release, SetBusy, ClearBusy}
-use Rattle.laws_trace.specs.LinkFrames.{frame_of, its_frame, malformed}
-use Rattle.laws_trace.specs.Observer.{Observed, in_state, awaits, anew, takes, is_invalid, numbered, receipt, while_up, while_down, by_frame, by_request, by_t200, enquires, enters, sends, by_event}
-use Rattle.laws_trace.specs.Trace.{is_own, is_up}
+use Rattle.laws_trace.proofs.Vocabulary.{◌≡◌, ℕ, ◌+◌, ◌%◌, ◌==◌, ◌&&◌, ◌||◌, not, Bool, true, false, cond, length, Option, Some, None, refl, sym, ap, ◌∙◌, subst, arith, true≢false, is_some, nat_lt, le-ltb, option_map_or, Information, ReceiveReady, ReceiveNotReady, Reject, Sabme, Ui, Ua, Dm, Service, Parts, reading, Seq, Config, hears, expiry, request, next, Answer, refused, gave, Deactivate, is_granted, eqb-true, lt-ltb, result_ok, Control, Xid, Event, told, Request, Establish, Release, SetBusy, ClearBusy, frame_of, its_frame, malformed, Observed, in_state, awaits, anew, observer_takes as takes, observer_is_invalid as is_invalid, numbered, receipt, while_up, while_down, observer_by_frame as by_frame, observer_by_request as by_request, by_t200, enquires, enters, sends, by_event, is_own, is_up, or-true, TimerT200 as T200, T201, TimerT203 as T203}
 
 abbrev pub IsNoMore : Observed → Observed → Type 0
 IsNoMore o q = nat_lt o.expiries q.expiries ≡ false
@@ -79,7 +68,7 @@ module _ (o : Observed) where
     asked other = same o
 
     -- by another event than an expiry of T200
-    pub no-more : (what : Event) (a : Answer) → ((of : Service) (by : ℕ) → what ≡ expiry (timers.T200 of by) → is_own service tei of by ≡ false) → IsNoMore o (by_event c service tei what a o)
+    pub no-more : (what : Event) (a : Answer) → ((of : Service) (by : ℕ) → what ≡ expiry (T200 of by) → is_own service tei of by ≡ false) → IsNoMore o (by_event c service tei what a o)
     no-more (hears e) a other =
         either o (is_up o.state && is_some (malformed c service tei e)) (anew o) (option_map_or (by_frame c o) (its_frame service tei (frame_of c e)) o) (zero o)
         (framed (its_frame service tei (frame_of c e)))
@@ -88,15 +77,11 @@ module _ (o : Observed) where
     no-more next (refused why) other = same o
     no-more next (gave None) other = same o
     no-more next (gave (Some f)) other = begun (its_frame service tei (result_ok (reading c.side f.octets)))
-    no-more (expiry timers.T201) a other = same o
-    no-more (expiry (timers.T203 of by)) a other = either o (is_own service tei of by && (o.state == 7 && not (awaits o))) (enquires o) o (zero o) (same o)
-    no-more (expiry (timers.T200 of by)) a other = subst (λ b. IsNoMore o (cond b (by_t200 c.n200 o) o)) (sym (other of by refl)) (same o)
+    no-more (expiry T201) a other = same o
+    no-more (expiry (T203 of by)) a other = either o (is_own service tei of by && (o.state == 7 && not (awaits o))) (enquires o) o (zero o) (same o)
+    no-more (expiry (T200 of by)) a other = subst (λ b. IsNoMore o (cond b (by_t200 c.n200 o) o)) (sym (other of by refl)) (same o)
 
   -- An expiry of the timer that runs leads on, or is counted.
-  or-true : (b : Bool) → (b || true) ≡ true
-  or-true true = refl
-  or-true false = refl
-
   moved : (n : ℕ) (q : Observed) → o.state ≡ n → (n == q.state) ≡ false → enters o q ≡ true
   moved n q is other = ap (λ s. not (s == q.state) || nat_lt o.expiries q.expiries) is ∙ ap (λ b. not b || nat_lt o.expiries q.expiries) other
 

@@ -1,11 +1,5 @@
 -- What an observer knows of a link, by whether its TEI is on the line, and what follows for the words of the laws.
-use Rattle.laws_trace.proofs.Vocabulary.{◌≡◌, ℕ, ◌==◌, ◌&&◌, ◌||◌, ◌⊎◌, inl, inr, not, Bool, true, false, cond, Option, Some, None, is_some, refl, sym, ap, ◌∙◌, subst, nat_le, list_any, option_map_or, Service, Parts, State, TeiAssigned, state_number, Config, hears, Line, state_of}
-use Rattle.std.specs.Option.{unwrap_or}
-use Rattle.lapd_frame.specs.declared.controls.Control.{Control}
-use Rattle.model_line.specs.Event as line_event
-use Rattle.laws_trace.specs.LinkFrames.{frame_of, its_frame, is_for}
-use Rattle.laws_trace.specs.Observer.{Observed, View, in_state, is_outstanding, awaits}
-use Rattle.laws_trace.specs.Trace.{seen}
+use Rattle.laws_trace.proofs.Vocabulary.{◌≡◌, ℕ, ◌==◌, ◌&&◌, ◌||◌, ◌⊎◌, inl, inr, not, Bool, true, false, cond, Option, Some, None, is_some, refl, sym, ap, ◌∙◌, subst, nat_le, list_any, option_map_or, Service, Parts, State, TeiAssigned, state_number, Config, hears, Line, state_of, unwrap_or, Control, frame_of, its_frame, is_for, Observed, View, in_state, is_outstanding, awaits, seen, Answer, Event, brings}
 use Rattle.laws_trace.proofs.Deliveries.{frame_by}
 use Rattle.laws_trace.proofs.LinksMove.{same-way}
 use Rattle.laws_trace.proofs.NewsWatched.{owing}
@@ -15,7 +9,6 @@ use Rattle.laws_trace.proofs.ObservedRun.{Holds, IsFrom, from-is}
 use Rattle.laws_trace.proofs.TimersOfLine.{seen-brings}
 use Rattle.laws_trace.proofs.TimersWatched.{Known, nothing_yet}
 use Rattle.laws_trace.proofs.States.{is_state, differ}
-use Rattle.laws_trace.specs.News as now_news
 use Rattle.laws_trace.proofs.TimersWatched as known
 
 -- The numbers of the states.
@@ -100,8 +93,8 @@ differs-is st to k l asked anew owed owing n m o p (inr y) (inr z) =
     ∙ sym (ap (λ st. differ st to) y.1 ∙ ap (differ (Some (state_number y.0))) z.1)
 
 -- What an event brings.
-pub brings-is : (c : Config) (service : Service) (tei : ℕ) (is : Control → Bool) (what : line_event.Event) (a : line_event.Answer)
-    → list_any (known.brings is c service tei) (seen what a) ≡ now_news.brings is c service tei what
+pub brings-is : (c : Config) (service : Service) (tei : ℕ) (is : Control → Bool) (what : Event) (a : Answer)
+    → list_any (known.brings is c service tei) (seen what a) ≡ brings is c service tei what
 brings-is c service tei is what a = seen-brings c service tei is what a ∙ by-event what
   where
     by-address : (f : Parts) (b : Bool) → option_map_or is (cond b (Some f.control) None) false ≡ option_map_or (λ (f : Parts). is f.control) (cond b (Some f) None) false
@@ -112,6 +105,6 @@ brings-is c service tei is what a = seen-brings c service tei is what a ∙ by-e
     by-frame None = refl
     by-frame (Some f) = by-address f (is_for service tei f.address)
 
-    by-event : (what : line_event.Event) → option_map_or is (known.control_in service tei (frame_by c what)) false ≡ now_news.brings is c service tei what
+    by-event : (what : Event) → option_map_or is (known.control_in service tei (frame_by c what)) false ≡ brings is c service tei what
     by-event (hears e) = by-frame (frame_of c e)
     by-event other = refl

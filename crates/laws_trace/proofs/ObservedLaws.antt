@@ -1,37 +1,25 @@
 -- What the observer knows of a link gives the laws of it, by what follows its parts.
-use Rattle.laws_trace.proofs.Vocabulary.{◌≡◌, ℕ, ◌<◌, ◌==◌, ◌&&◌, ◌||◌, inl, inr, not, Bool, false, cond, List, [], ◌∷◌, ◌++◌, map, Option, Some, None, is_some, refl, sym, ap, ◌∙◌, subst, fold, filter, nat_le, if◌then◌else◌, list_any, Note, EstablishIndication, EstablishConfirm, ReleaseIndication, ReleaseConfirm, Error, Service, State, TeiAssigned, LinkTimer, state_number, Config, orders_in, Line, state_of, IsInRange, obeyed, notes_of, timer_of, left_by, runs_at_callers, line_at, at, moments}
-use Rattle.std.specs.Option.{unwrap_or}
-use Rattle.lapd_frame.specs.declared.notes.Note.TheVariants.{Xid}
+use Rattle.laws_trace.proofs.Vocabulary.{◌≡◌, ℕ, ◌<◌, ◌==◌, ◌&&◌, ◌||◌, inl, inr, not, Bool, false, cond, List, [], ◌∷◌, ◌++◌, map, Option, Some, None, is_some, refl, sym, ap, ◌∙◌, subst, fold, filter, nat_le, if◌then◌else◌, list_any, Note, EstablishIndication, EstablishConfirm, ReleaseIndication, ReleaseConfirm, Error, Service, State, LinkTimer, state_number, Config, orders_in, Line, state_of, IsInRange, obeyed, notes_of, timer_of, left_by, runs_at_callers, line_at, at, moments, unwrap_or, NoteXid as Xid, fresh, CardEvent as Event, after, Moment, after_all, AreAtLines, managing_is_on as is_on, NewsIsTold, Observed, View, is_outstanding, awaits, view_of, moment_of, view_behind, TimersRun, Seen, seen, Always, renews}
 use Rattle.model_line.specs.Event as line_event
-use Rattle.model_card.specs.Card.{fresh}
-use Rattle.model_card.specs.Event.{Event}
-use Rattle.model_card.specs.Machine.{after}
-use Rattle.model_card.specs.Run.{Moment, after_all, AreAtLines}
 use Rattle.laws_trace.specs.LinksMove.{LinksMove}
-use Rattle.laws_trace.specs.Managing.{is_on}
-use Rattle.laws_trace.specs.News.{NewsIsTold}
-use Rattle.laws_trace.specs.Observer.{Observed, View, is_outstanding, awaits, view_of, moment_of, view_behind}
-use Rattle.laws_trace.specs.TimersAreTimely.{TimersRun}
-use Rattle.laws_trace.specs.Trace.{Seen, seen, Always}
 use Rattle.laws_trace.proofs.MovesWatched.{repeated}
 use Rattle.laws_trace.proofs.NewsWatched.{Owing, none_owed, owing}
 use Rattle.laws_trace.proofs.Observed.{IsObserved}
 use Rattle.laws_trace.proofs.ObservedFacts.{Facts, facts, told-so, numbers-are, state-is, awaits-are, owed-is, asked-is, down-is, up-is, seen-is, differs-is, brings-is}
 use Rattle.laws_trace.proofs.ObservedShape.{known_of}
 use Rattle.laws_trace.proofs.ObservedRun.{Holds, on-is, holds-now, holds-behind}
-use Rattle.laws_trace.proofs.TimersAreTimely.{front-at, itself}
+use Rattle.laws_trace.proofs.TimersAreTimely.{front-at, itself, config-now, started-law, timers-run}
 use Rattle.laws_trace.proofs.TimersWatched.{Known, nothing_yet, watch}
 use Rattle.laws_trace.proofs.States.{is_state, differ}
 use Rattle.laws_trace.specs.News as now_news
-use Rattle.laws_trace.specs.TimersAreTimely as timely
 use Rattle.laws_trace.proofs.News as old_news
 use Rattle.laws_trace.proofs.NewsWatched as news
-use Rattle.laws_trace.proofs.TimersAreTimely as old
 use Rattle.laws_trace.proofs.TimersWatched as known
+use Rattle.laws_trace.proofs.Facts.{not-one}
 
 -- The link moves to another state, or the frame that comes starts its timer anew.
 abbrev pub moved_or_renewed : Config → Service → ℕ → LinkTimer → Observed → Observed → line_event.Event → Bool
-moved_or_renewed c service tei timer was now what = not (was.state == now.state) || (was.state == 7 && now_news.brings (timely.renews timer was.acknowledged was.busy) c service tei what)
+moved_or_renewed c service tei timer was now what = not (was.state == now.state) || (was.state == 7 && now_news.brings (renews timer was.acknowledged was.busy) c service tei what)
 
 -- The laws.
 module _ (c : Config) (events : List Event) (number : ℕ) (ranged : IsInRange c) (all : AreAtLines (fresh c) events) (within : number < c.lines) (service : Service) (tei : ℕ) where
@@ -105,7 +93,7 @@ links-move-so c events number ranged all within service tei = moved-so c events 
 pub timers-run-so : Always TimersRun
 timers-run-so c events number ranged all within service tei =
     let is = known-now c events number ranged all within service tei in
-    let h = old.timers-run c events number ranged all within service tei in
+    let h = timers-run c events number ranged all within service tei in
     let st = state_of service tei (line_at number (after_all (fresh c) events)) in
     let o = (view_of c service tei number events).link in
     let waits = awaits-are st (k c events number ranged all within service tei) (was_asked c events number ranged all within service tei) (w c events number ranged all within service tei).outstanding
@@ -151,9 +139,9 @@ module _ (c : Config) (before : List Event) (number : ℕ) (ranged : IsInRange c
 
   pub anew-is : (timer : LinkTimer) → moved_or_renewed c service tei timer was now what ≡ old_anew timer (seen what its_moment.answer)
   anew-is timer =
-      ap (λ b. b || (was.state == 7 && now_news.brings (timely.renews timer was.acknowledged was.busy) c service tei what)) (moves-so c before number ranged all within service tei what)
-      ∙ ap (λ b. differ from to || (b && now_news.brings (timely.renews timer was.acknowledged was.busy) c service tei what)) (state-is from its_numbers its_asked its_owed its_count was 7 refl is-before)
-      ∙ ap (λ (z : Known). differ from to || (is_state 7 from && now_news.brings (timely.renews timer z.acknowledged z.busy) c service tei what)) (numbers-are from its_numbers its_asked its_owed its_count was is-before)
+      ap (λ b. b || (was.state == 7 && now_news.brings (renews timer was.acknowledged was.busy) c service tei what)) (moves-so c before number ranged all within service tei what)
+      ∙ ap (λ b. differ from to || (b && now_news.brings (renews timer was.acknowledged was.busy) c service tei what)) (state-is from its_numbers its_asked its_owed its_count was 7 refl is-before)
+      ∙ ap (λ (z : Known). differ from to || (is_state 7 from && now_news.brings (renews timer z.acknowledged z.busy) c service tei what)) (numbers-are from its_numbers its_asked its_owed its_count was is-before)
       ∙ ap (λ b. differ from to || (is_state 7 from && b)) (sym (brings-is c service tei (known.renews timer its_numbers) what its_moment.answer))
 
   -- what is due of news
@@ -209,8 +197,8 @@ started-so c before number ranged all within service tei timer what =
     let its = timer_of service tei timer in
     let m = moment_of c before number what in
     let ran = left_by what its (runs_at_callers number its false (moments (fresh c) before)) in
-    let here : number < (after_all (fresh c) before).config.lines = subst (λ (c : Config). number < c.lines) (sym (old.config-now c before number ranged all within service tei)) within in
-    old.started-law c before number ranged all within service tei what timer here
+    let here : number < (after_all (fresh c) before).config.lines = subst (λ (c : Config). number < c.lines) (sym (config-now c before number ranged all within service tei)) within in
+    started-law c before number ranged all within service tei what timer here
     ∙ ap (λ b. obeyed its ran (orders_in m.answer) && (not ran || b)) (sym (anew-is c before number ranged all within service tei what timer))
 
 module _ (c : Config) (events : List Event) (number : ℕ) (ranged : IsInRange c) (all : AreAtLines (fresh c) events) (within : number < c.lines) (service : Service) (tei : ℕ)
@@ -235,14 +223,10 @@ module _ (c : Config) (events : List Event) (number : ℕ) (ranged : IsInRange c
   news-so (inl y) =
       subst IsDue (sym (ap (λ (o : Observed). o.state == 1) y.2)) (old_news.none-is-told c before number ranged front within service tei what y.0)
   news-so (inr y) =
-      subst IsDue (sym (ap (λ s. s == 1) y.2.state_is ∙ not-one' y.0))
+      subst IsDue (sym (ap (λ s. s == 1) y.2.state_is ∙ not-one y.0))
       (old_news.news-is-told c events number ranged all within service tei before what behind is o.state (y.1 ∙ ap (λ s. Some s) (sym y.2.state_is))
       ∙ ap (λ b. old_due c before number ranged front within service tei what (cond b (seen what (moment_of c before number what).answer) [])) (itself number)
       ∙ sym (due-is c before number ranged front within service tei what y.0 y.2))
-    where
-      not-one' : (x : State) → (state_number x == 1) ≡ false
-      not-one' TeiAssigned = refl
-      not-one' other = refl
 
 pub news-is-told-so : Always NewsIsTold
 news-is-told-so c events number ranged all within service tei before what behind is =

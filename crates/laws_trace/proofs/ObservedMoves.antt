@@ -1,20 +1,10 @@
 -- How an event moves what an observer knows of a link: the state, the numbers, what layer 3 asked and how often T200 expired.
-use Rattle.laws_trace.proofs.Vocabulary.{◌≡◌, ℕ, ◌+◌, ◌==◌, ◌&&◌, ◌||◌, not, Bool, true, false, cond, List, length, Option, Some, None, Result, Ok, Err, ReadFault, refl, sym, subst, is_some, nat_lt, option_map_or, Information, ReceiveReady, ReceiveNotReady, Reject, Ui, Ua, Dm, Frmr, Service, Timer, Parts, reading, Seq, State, TeiAssigned, AwaitingEstablishment, AwaitingRelease, Established, TimerRecovery, LinkTimer, state_number, Config, hears, expiry, request, next, Answer, LineTold, refused, gave, Deactivate}
-use Rattle.lapd_frame.specs.declared.controls.Control.{Control}
-use Rattle.lapd_frame.specs.declared.controls.Control.TheVariants.{Xid}
+use Rattle.laws_trace.proofs.Vocabulary.{◌≡◌, ℕ, ◌+◌, ◌==◌, ◌&&◌, ◌||◌, not, Bool, true, false, cond, List, length, Option, Some, None, Result, Ok, Err, ReadFault, refl, sym, subst, is_some, nat_lt, option_map_or, Information, ReceiveReady, ReceiveNotReady, Reject, Ui, Ua, Dm, Frmr, Service, Timer, Parts, reading, Seq, State, TeiAssigned, AwaitingEstablishment, AwaitingRelease, Established, TimerRecovery, LinkTimer, state_number, Config, hears, expiry, request, next, Answer, LineTold, gave, Deactivate, Control, Xid, T200, T203, Event, told, Request, Establish, Release, SetBusy, ClearBusy, result_ok, frame_of, its_frame, is_for, malformed, Observed, in_state, awaits, anew, while_up, while_down, observer_by_frame as by_frame, by_t200, observer_by_expiry as by_expiry, enquires, sends, by_event, observer_takes as takes, is_own, is_up, seen}
 use Rattle.lapd_frame.specs.declared.timers.Timer.TheVariants as timers
-use Rattle.model_link.specs.declared.timers.LinkTimer.TheVariants.{T200, T203}
-use Rattle.model_line.specs.Event.{Event, told}
-use Rattle.model_line.specs.Request.{Request, Establish, Release, SetBusy, ClearBusy}
-use Rattle.std.specs.Result.{result_ok}
-use Rattle.laws_trace.specs.LinkFrames.{frame_of, its_frame, is_for, malformed}
-use Rattle.laws_trace.proofs.TimersWatched.{Sent, sent_by, sent_in}
-use Rattle.laws_trace.specs.Observer.{Observed, in_state, awaits, anew, while_up, while_down, by_frame, by_t200, by_expiry, enquires, sends, by_event, takes}
+use Rattle.laws_trace.proofs.TimersWatched.{Sent, sent_by, sent_in, Known, nothing_yet}
 use Rattle.laws_trace.proofs.States as states
-use Rattle.laws_trace.specs.Trace.{is_own, is_up, seen}
 use Rattle.laws_trace.proofs.MovesWatched as moves
 use Rattle.laws_trace.proofs.TimersWatched as known
-use Rattle.laws_trace.proofs.TimersWatched.{Known, nothing_yet}
 use Rattle.laws_trace.proofs.NewsWatched as news
 use Rattle.laws_trace.proofs.ObservedShape.{When, at_state, Shape, Moved, none_more, one_more}
 
@@ -31,8 +21,6 @@ Frame x k long command control =
 in_4 : (long command : Bool) (control : Control) → Frame TeiAssigned nothing_yet long command control
 in_4 long command (Ua true) o = record { state_is = refl; known_is = refl; asks = tt; owes = tt; counts = tt }
 in_4 long command (Dm true) o = record { state_is = refl; known_is = refl; asks = tt; owes = tt; counts = tt }
-in_4 long command (Ua false) o = record { state_is = refl; known_is = refl; asks = tt; owes = tt; counts = tt }
-in_4 long command (Dm false) o = record { state_is = refl; known_is = refl; asks = tt; owes = tt; counts = tt }
 in_4 long command other o = record { state_is = refl; known_is = refl; asks = tt; owes = tt; counts = tt }
 
 -- In state 5.
@@ -61,62 +49,30 @@ module _ (k : Known) where
   info_8 ns nr p count rejected true o = record { state_is = refl; known_is = refl; asks = refl; owes = refl; counts = refl }
   info_8 ns nr p count rejected false o = record { state_is = refl; known_is = refl; asks = tt; owes = tt; counts = refl }
 
-  receiveready_7 : (nr : Seq) (f invalid final : Bool) (o : Observed) → let to = cond {A = ℕ} invalid 5 (cond {A = ℕ} (7 == 8 && final) 7 7) in let q = at_state 7 k o in
-      Moved 7 to (heard_known 7 to k (Some (ReceiveReady nr f))) false none_more q
-      (cond invalid (anew q) (cond (7 == 8 && final) (record q { state = 7; acknowledged = nr.value; next = nr.value; busy = false })
-      (record q { acknowledged = nr.value; next = cond {A = ℕ} (false && 7 == 7) nr.value q.next; busy = false })))
-  receiveready_7 nr f true final o = record { state_is = refl; known_is = refl; asks = refl; owes = refl; counts = refl }
-  receiveready_7 nr f false final o = record { state_is = refl; known_is = refl; asks = tt; owes = tt; counts = tt }
+  -- RR, RNR and REJ.
+  receipt_7 : (nr : Seq) (again busy invalid final : Bool) (o : Observed) → let to = cond {A = ℕ} invalid 5 (cond {A = ℕ} (7 == 8 && final) 7 7) in let q = at_state 7 k o in
+      Moved 7 to (cond (to == 7 || to == 8) (known.number_heard nr.value (again && to == 7) busy k) nothing_yet) false none_more q
+      (cond invalid (anew q) (cond (7 == 8 && final) (record q { state = 7; acknowledged = nr.value; next = nr.value; busy = busy })
+      (record q { acknowledged = nr.value; next = cond {A = ℕ} (again && 7 == 7) nr.value q.next; busy = busy })))
+  receipt_7 nr again busy true final o = record { state_is = refl; known_is = refl; asks = refl; owes = refl; counts = refl }
+  receipt_7 nr again busy false final o = record { state_is = refl; known_is = refl; asks = tt; owes = tt; counts = tt }
 
-  receiveready_8 : (nr : Seq) (f invalid final : Bool) (o : Observed) → let to = cond {A = ℕ} invalid 5 (cond {A = ℕ} (8 == 8 && final) 7 8) in let q = at_state 8 k o in
-      Moved 8 to (heard_known 8 to k (Some (ReceiveReady nr f))) false none_more q
-      (cond invalid (anew q) (cond (8 == 8 && final) (record q { state = 7; acknowledged = nr.value; next = nr.value; busy = false })
-      (record q { acknowledged = nr.value; next = cond {A = ℕ} (false && 8 == 7) nr.value q.next; busy = false })))
-  receiveready_8 nr f true final o = record { state_is = refl; known_is = refl; asks = refl; owes = refl; counts = refl }
-  receiveready_8 nr f false true o = record { state_is = refl; known_is = refl; asks = tt; owes = tt; counts = tt }
-  receiveready_8 nr f false false o = record { state_is = refl; known_is = refl; asks = tt; owes = tt; counts = refl }
-
-  receivenotready_7 : (nr : Seq) (f invalid final : Bool) (o : Observed) → let to = cond {A = ℕ} invalid 5 (cond {A = ℕ} (7 == 8 && final) 7 7) in let q = at_state 7 k o in
-      Moved 7 to (heard_known 7 to k (Some (ReceiveNotReady nr f))) false none_more q
-      (cond invalid (anew q) (cond (7 == 8 && final) (record q { state = 7; acknowledged = nr.value; next = nr.value; busy = true })
-      (record q { acknowledged = nr.value; next = cond {A = ℕ} (false && 7 == 7) nr.value q.next; busy = true })))
-  receivenotready_7 nr f true final o = record { state_is = refl; known_is = refl; asks = refl; owes = refl; counts = refl }
-  receivenotready_7 nr f false final o = record { state_is = refl; known_is = refl; asks = tt; owes = tt; counts = tt }
-
-  receivenotready_8 : (nr : Seq) (f invalid final : Bool) (o : Observed) → let to = cond {A = ℕ} invalid 5 (cond {A = ℕ} (8 == 8 && final) 7 8) in let q = at_state 8 k o in
-      Moved 8 to (heard_known 8 to k (Some (ReceiveNotReady nr f))) false none_more q
-      (cond invalid (anew q) (cond (8 == 8 && final) (record q { state = 7; acknowledged = nr.value; next = nr.value; busy = true })
-      (record q { acknowledged = nr.value; next = cond {A = ℕ} (false && 8 == 7) nr.value q.next; busy = true })))
-  receivenotready_8 nr f true final o = record { state_is = refl; known_is = refl; asks = refl; owes = refl; counts = refl }
-  receivenotready_8 nr f false true o = record { state_is = refl; known_is = refl; asks = tt; owes = tt; counts = tt }
-  receivenotready_8 nr f false false o = record { state_is = refl; known_is = refl; asks = tt; owes = tt; counts = refl }
-
-  reject_7 : (nr : Seq) (f invalid final : Bool) (o : Observed) → let to = cond {A = ℕ} invalid 5 (cond {A = ℕ} (7 == 8 && final) 7 7) in let q = at_state 7 k o in
-      Moved 7 to (heard_known 7 to k (Some (Reject nr f))) false none_more q
-      (cond invalid (anew q) (cond (7 == 8 && final) (record q { state = 7; acknowledged = nr.value; next = nr.value; busy = false })
-      (record q { acknowledged = nr.value; next = cond {A = ℕ} (true && 7 == 7) nr.value q.next; busy = false })))
-  reject_7 nr f true final o = record { state_is = refl; known_is = refl; asks = refl; owes = refl; counts = refl }
-  reject_7 nr f false final o = record { state_is = refl; known_is = refl; asks = tt; owes = tt; counts = tt }
-
-  reject_8 : (nr : Seq) (f invalid final : Bool) (o : Observed) → let to = cond {A = ℕ} invalid 5 (cond {A = ℕ} (8 == 8 && final) 7 8) in let q = at_state 8 k o in
-      Moved 8 to (heard_known 8 to k (Some (Reject nr f))) false none_more q
-      (cond invalid (anew q) (cond (8 == 8 && final) (record q { state = 7; acknowledged = nr.value; next = nr.value; busy = false })
-      (record q { acknowledged = nr.value; next = cond {A = ℕ} (true && 8 == 7) nr.value q.next; busy = false })))
-  reject_8 nr f true final o = record { state_is = refl; known_is = refl; asks = refl; owes = refl; counts = refl }
-  reject_8 nr f false true o = record { state_is = refl; known_is = refl; asks = tt; owes = tt; counts = tt }
-  reject_8 nr f false false o = record { state_is = refl; known_is = refl; asks = tt; owes = tt; counts = refl }
+  receipt_8 : (nr : Seq) (busy invalid final : Bool) (o : Observed) → let to = cond {A = ℕ} invalid 5 (cond {A = ℕ} final 7 8) in let q = at_state 8 k o in
+      Moved 8 to (cond (to == 7 || to == 8) (known.number_heard nr.value (to == 7) busy k) nothing_yet) false none_more q
+      (cond invalid (anew q) (cond final (record q { state = 7; acknowledged = nr.value; next = nr.value; busy = busy }) (record q { acknowledged = nr.value; busy = busy })))
+  receipt_8 nr busy true final o = record { state_is = refl; known_is = refl; asks = refl; owes = refl; counts = refl }
+  receipt_8 nr busy false true o = record { state_is = refl; known_is = refl; asks = tt; owes = tt; counts = tt }
+  receipt_8 nr busy false false o = record { state_is = refl; known_is = refl; asks = tt; owes = tt; counts = refl }
 
   -- In state 7.
   in_7 : (long command : Bool) (control : Control) → Frame Established k long command control
   in_7 true command (Information ns nr p) o = record { state_is = refl; known_is = refl; asks = refl; owes = refl; counts = refl }
   in_7 false command (Information ns nr p) o = info_7 ns nr p (takes ns o).count (takes ns o).rejected (moves.is_invalid k nr) o
-  in_7 long command (ReceiveReady nr f) o = receiveready_7 nr f (moves.is_invalid k nr) (not command && f) o
-  in_7 long command (ReceiveNotReady nr f) o = receivenotready_7 nr f (moves.is_invalid k nr) (not command && f) o
-  in_7 long command (Reject nr f) o = reject_7 nr f (moves.is_invalid k nr) (not command && f) o
+  in_7 long command (ReceiveReady nr f) o = receipt_7 nr false false (moves.is_invalid k nr) (not command && f) o
+  in_7 long command (ReceiveNotReady nr f) o = receipt_7 nr false true (moves.is_invalid k nr) (not command && f) o
+  in_7 long command (Reject nr f) o = receipt_7 nr true false (moves.is_invalid k nr) (not command && f) o
   in_7 long command (Frmr f) o = record { state_is = refl; known_is = refl; asks = refl; owes = refl; counts = refl }
   in_7 long command (Ua true) o = record { state_is = refl; known_is = refl; asks = tt; owes = tt; counts = tt }
-  in_7 long command (Ua false) o = record { state_is = refl; known_is = refl; asks = tt; owes = tt; counts = tt }
-  in_7 long command (Dm true) o = record { state_is = refl; known_is = refl; asks = tt; owes = tt; counts = tt }
   in_7 long command (Dm false) o = record { state_is = refl; known_is = refl; asks = refl; owes = refl; counts = refl }
   in_7 long command other o = record { state_is = refl; known_is = refl; asks = tt; owes = tt; counts = tt }
 
@@ -124,9 +80,9 @@ module _ (k : Known) where
   in_8 : (long command : Bool) (control : Control) → Frame TimerRecovery k long command control
   in_8 true command (Information ns nr p) o = record { state_is = refl; known_is = refl; asks = refl; owes = refl; counts = refl }
   in_8 false command (Information ns nr p) o = info_8 ns nr p (takes ns o).count (takes ns o).rejected (moves.is_invalid k nr) o
-  in_8 long command (ReceiveReady nr f) o = receiveready_8 nr f (moves.is_invalid k nr) (not command && f) o
-  in_8 long command (ReceiveNotReady nr f) o = receivenotready_8 nr f (moves.is_invalid k nr) (not command && f) o
-  in_8 long command (Reject nr f) o = reject_8 nr f (moves.is_invalid k nr) (not command && f) o
+  in_8 long command (ReceiveReady nr f) o = receipt_8 nr false (moves.is_invalid k nr) (not command && f) o
+  in_8 long command (ReceiveNotReady nr f) o = receipt_8 nr true (moves.is_invalid k nr) (not command && f) o
+  in_8 long command (Reject nr f) o = receipt_8 nr false (moves.is_invalid k nr) (not command && f) o
   in_8 long command (Ui p) o = record { state_is = refl; known_is = refl; asks = tt; owes = tt; counts = refl }
   in_8 long command (Xid p) o = record { state_is = refl; known_is = refl; asks = tt; owes = tt; counts = refl }
   in_8 long command (Frmr f) o = record { state_is = refl; known_is = refl; asks = refl; owes = refl; counts = refl }
@@ -317,15 +273,10 @@ module _ (c : Config) (service : Service) (tei : ℕ) where
 
   pub event-moves : (x : State) (k : Known) → Shape x k → (o : Observed) (what : Event) (a : Answer) → EventMoves x k o what a
   event-moves x k shape o (hears e) (told t) = heard-moves x k shape o (is_some (malformed c service tei e)) (frame_of c e)
-  event-moves x k shape o (hears e) (refused why) = heard-moves x k shape o (is_some (malformed c service tei e)) (frame_of c e)
-  event-moves x k shape o (hears e) (gave given) = heard-moves x k shape o (is_some (malformed c service tei e)) (frame_of c e)
+  event-moves x k shape o (hears e) other = heard-moves x k shape o (is_some (malformed c service tei e)) (frame_of c e)
   event-moves x k shape o (expiry timer) (told t) = timer-moves x k shape o timer
-  event-moves x k shape o (expiry timer) (refused why) = timer-moves x k shape o timer
-  event-moves x k shape o (expiry timer) (gave given) = timer-moves x k shape o timer
+  event-moves x k shape o (expiry timer) other = timer-moves x k shape o timer
   event-moves x k shape o (request r) (told t) = asked-moves x k shape o r t
-  event-moves x k shape o (request r) (refused why) = stays x k shape (news.establishes service tei (request r) (refused why)) o
-  event-moves x k shape o (request r) (gave given) = stays x k shape (news.establishes service tei (request r) (gave given)) o
-  event-moves x k shape o next (told t) = stays x k shape false o
-  event-moves x k shape o next (refused why) = stays x k shape false o
-  event-moves x k shape o next (gave None) = stays x k shape false o
+  event-moves x k shape o (request r) other = stays x k shape (news.establishes service tei (request r) other) o
   event-moves x k shape o next (gave (Some frame)) = sent-moves x k shape o (reading c.side frame.octets)
+  event-moves x k shape o next other = stays x k shape false o

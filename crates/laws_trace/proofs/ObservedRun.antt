@@ -1,21 +1,10 @@
 -- What an observer knows of a link after a list of events.
-use Rattle.laws_trace.proofs.Vocabulary.{◌≡◌, ℕ, ◌+◌, ◌<◌, ◌==◌, ◌&&◌, ◌⊎◌, inl, inr, not, Bool, true, false, cond, List, [], ◌∷◌, Option, Some, None, is_some, refl, sym, ap, ◌∙◌, subst, eq-eqb, true≢false, fold, IfSome, option_map_or, get_or-replicate, All-head, All-tail, Service, State, Established, TimerRecovery, Link, state_number, Config, Line, fresh_line, link_of, place_in, state_of, has_tei, IsInRange, is-off, nowhere, Card, line_at, at, moments, fresh_is_sound, after_is_sound, AllHaveTheirTimers, timely-after, begins-timely-card}
-use Rattle.std.proofs.Common.{eqb-true}
-use Rattle.model_link.specs.Link.{fresh as fresh_link}
+use Rattle.laws_trace.proofs.Vocabulary.{◌≡◌, ℕ, ◌+◌, ◌<◌, ◌==◌, ◌&&◌, ◌⊎◌, inl, inr, not, Bool, true, false, cond, List, [], ◌∷◌, Option, Some, None, is_some, refl, sym, ap, ◌∙◌, subst, eq-eqb, true≢false, fold, IfSome, option_map_or, get_or-replicate, All-head, All-tail, Service, State, Established, TimerRecovery, Link, state_number, Config, Line, fresh_line, link_of, place_in, state_of, has_tei, IsInRange, is-off, nowhere, Card, line_at, at, moments, fresh_is_sound, after_is_sound, AllHaveTheirTimers, timely-after, begins-timely-card, eqb-true, fresh_link, fresh, CardEvent as Event, after, card_answer as answer, Moment, after_all, IsAtLine, AreAtLines, managing_is_on as is_on, led, Observed, View, at_first, in_state, by_event, views, view_of, moment_of, view_behind, seen, CardIsSound as IsSound}
 use Rattle.model_line.specs.Event as line_event
-use Rattle.model_card.specs.Card.{fresh}
-use Rattle.model_card.specs.Event.{Event}
-use Rattle.model_card.specs.Machine.{after, answer}
-use Rattle.model_card.specs.Run.{Moment, after_all, IsAtLine, AreAtLines}
-use Rattle.model_card.specs.Sound as card_sound
-use Rattle.laws_trace.specs.Managing.{is_on, led}
-use Rattle.laws_trace.specs.Observer.{Observed, View, at_first, in_state, by_event, views, view_of, moment_of, view_behind}
-use Rattle.laws_trace.specs.Trace.{seen}
 use Rattle.laws_trace.proofs.MovesWatched.{repeated}
 use Rattle.laws_trace.proofs.TimersWatched.{Known, nothing_yet, learned, watch}
 use Rattle.laws_trace.proofs.States.{is_state, differ}
 use Rattle.laws_trace.proofs.NewsWatched.{Owing, none_owed, owing}
-use Rattle.laws_trace.proofs.CallRuns.{apart}
 use Rattle.laws_trace.proofs.LinkLed.{on-line}
 use Rattle.laws_trace.proofs.LinksMove.{IsCountOf, own-led, moment-counted}
 use Rattle.laws_trace.proofs.MovesOfLink.{Counts}
@@ -28,6 +17,7 @@ use Rattle.laws_trace.proofs.TimersAreTimely.{none-learned, moment-known, begins
 use Rattle.laws_trace.proofs.TimersOfEvent.{IsTrueOf, state-on, off-fresh, off-state}
 use Rattle.laws_trace.proofs.MovesWatched as moves
 use Rattle.laws_trace.proofs.NewsWatched as news
+use Rattle.laws_trace.proofs.Runs.{apart}
 
 -- A state is told where the TEI is on the line.
 shape-of : (x : State) (k : Known) (a s : ℕ) (busy : Bool) → Agrees x k a s busy → Shape x k
@@ -113,7 +103,7 @@ module _ (service : Service) (tei number : ℕ) where
   pub on-is : (k : Known) (asked owed : Bool) (n : ℕ) (l : Line) (v : View) → Holds service tei k asked owed n l v → is_on tei v.teis ≡ is_some (state_of service tei l)
   on-is k asked owed n l v h = h.follows.on.same tei ∙ is-told service tei l
 
-  module _ (card : Card) (s : card_sound.IsSound card) (timely : AllHaveTheirTimers card) (e : Event) (here : IsAtLine card e)
+  module _ (card : Card) (s : IsSound card) (timely : AllHaveTheirTimers card) (e : Event) (here : IsAtLine card e)
       (k : Known) (asked : Bool) (w : Owing) (known_is : w.known ≡ k) (n : ℕ) (v : View) (h : Holds service tei k asked w.outstanding n (line_at number card) v) where
     abbrev c : Config
     c = card.config
@@ -187,7 +177,7 @@ module _ (service : Service) (tei number : ℕ) where
     pub known-then : (owing c service tei number w m).known ≡ watch c service tei number k m
     known-then = ap (λ x. watch c service tei number x m) known_is
 
-  pub run-holds : (card : Card) (events : List Event) → card_sound.IsSound card → AllHaveTheirTimers card → AreAtLines card events
+  pub run-holds : (card : Card) (events : List Event) → IsSound card → AllHaveTheirTimers card → AreAtLines card events
       → (k : Known) (asked : Bool) (w : Owing) → w.known ≡ k → (n : ℕ) (v : View) → Holds service tei k asked w.outstanding n (line_at number card) v
       → let ms = moments card events in let c = card.config in
       Holds service tei (fold (watch c service tei number) k ms) (fold (news.asked service tei number) asked ms) (fold (owing c service tei number) w ms).outstanding (fold (repeated service tei number) n ms)

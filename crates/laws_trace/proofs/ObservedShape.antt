@@ -1,6 +1,5 @@
 -- What an observer knows of a link in a state, and what of it moves.
-use Rattle.laws_trace.proofs.Vocabulary.{◌≡◌, ℕ, ◌+◌, ◌==◌, ◌||◌, not, Bool, true, false, cond, State, Established, TimerRecovery}
-use Rattle.laws_trace.specs.Observer.{Observed}
+use Rattle.laws_trace.proofs.Vocabulary.{◌≡◌, ℕ, ◌+◌, ◌==◌, ◌||◌, not, Bool, true, false, cond, State, Established, TimerRecovery, Observed}
 use Rattle.laws_trace.proofs.TimersWatched.{Known, nothing_yet}
 
 -- What is only said where it is asked.

@@ -1,16 +1,7 @@
 -- How an event of a line moves what an observer knows of this side of a link: how many contents were told, whether layer 3
 -- is busy, and whether an I-frame is rejected.
-use Rattle.laws_trace.proofs.Vocabulary.{◌≡◌, ℕ, ◌+◌, ◌==◌, ◌&&◌, ◌||◌, not, Bool, true, false, cond, length, Option, Some, None, refl, ap, is_some, nat_lt, option_map_or, Information, ReceiveReady, ReceiveNotReady, Reject, Sabme, Ui, Ua, Dm, Service, Timer, Parts, reading, State, TeiAssigned, AwaitingEstablishment, AwaitingRelease, Established, TimerRecovery, state_number, Config, hears, expiry, request, next, Answer, LineTold, gave, Deactivate}
-use Rattle.lapd_frame.specs.declared.controls.Control.{Control}
-use Rattle.lapd_frame.specs.declared.controls.Control.TheVariants.{Xid}
-use Rattle.lapd_frame.specs.declared.timers.Timer.TheVariants as timers
-use Rattle.model_line.specs.Event.{Event, told}
-use Rattle.model_line.specs.Request.{Request, Establish, Release, SetBusy, ClearBusy}
-use Rattle.laws_trace.specs.Deliveries.{brings_next, is_taken}
-use Rattle.std.specs.Result.{result_ok}
-use Rattle.laws_trace.specs.LinkFrames.{brought, frame_of, its_frame, malformed}
-use Rattle.laws_trace.specs.Observer.{Observed, in_state, awaits, anew, takes, is_next, is_invalid, while_up, while_down, by_frame, by_t200, by_expiry, enquires, sends, by_event}
-use Rattle.laws_trace.specs.Trace.{is_own, is_up}
+use Rattle.laws_trace.proofs.Vocabulary.{◌≡◌, ℕ, ◌+◌, ◌==◌, ◌&&◌, ◌||◌, not, Bool, true, false, cond, length, Option, Some, None, refl, ap, is_some, nat_lt, option_map_or, Information, ReceiveReady, ReceiveNotReady, Reject, Sabme, Ua, Dm, Service, Timer, Parts, reading, State, TeiAssigned, AwaitingEstablishment, AwaitingRelease, Established, TimerRecovery, state_number, Config, hears, expiry, request, next, Answer, LineTold, gave, Deactivate, Control, Event, told, Request, Establish, Release, SetBusy, ClearBusy, brings_next, result_ok, brought, frame_of, its_frame, malformed, Observed, in_state, awaits, anew, observer_takes as takes, observer_is_next as is_next, observer_is_invalid as is_invalid, while_up, while_down, observer_by_frame as by_frame, by_t200, observer_by_expiry as by_expiry, enquires, sends, by_event, is_own, is_up, TimerT200 as T200, T201, TimerT203 as T203, Disc, Frmr}
+use Rattle.laws_trace.specs.Deliveries.{is_taken}
 use Rattle.laws_trace.proofs.ObservedShape.{When}
 use Rattle.laws_trace.proofs.Standing.{asked_busy}
 use Rattle.laws_trace.proofs.DeliveriesWatched.{is_information}
@@ -39,23 +30,17 @@ Frame x long command control =
 in_4 : (long command : Bool) (control : Control) → Frame TeiAssigned long command control
 in_4 long command (Sabme p) o = record { before = refl; count_is = refl; busy_is = refl; rejected_is = refl }
 in_4 long command (Ua true) o = tt
-in_4 long command (Ua false) o = tt
 in_4 long command (Dm true) o = tt
-in_4 long command (Dm false) o = tt
 in_4 long command other o = tt
 
 in_5 : (long command : Bool) (control : Control) → Frame AwaitingEstablishment long command control
 in_5 long command (Ua true) o = record { before = refl; count_is = refl; busy_is = refl; rejected_is = refl }
-in_5 long command (Ua false) o = tt
 in_5 long command (Dm true) o = tt
-in_5 long command (Dm false) o = tt
 in_5 long command other o = tt
 
 in_6 : (long command : Bool) (control : Control) → Frame AwaitingRelease long command control
 in_6 long command (Ua true) o = tt
-in_6 long command (Ua false) o = tt
 in_6 long command (Dm true) o = tt
-in_6 long command (Dm false) o = tt
 in_6 long command other o = tt
 
 when-so : {P : Type 0} → (b : Bool) → P → When b P
@@ -84,19 +69,14 @@ in_7 true command (ReceiveNotReady nr f) o = receipt-so 7 refl true (is_invalid 
 in_7 false command (ReceiveNotReady nr f) o = receipt-so 7 refl true (is_invalid (in_number 7 o) nr) (7 == 8 && (not command && f)) nr.value (cond (false && 7 == 7) nr.value o.next) (in_number 7 o)
 in_7 true command (Reject nr f) o = receipt-so 7 refl false (is_invalid (in_number 7 o) nr) (7 == 8 && (not command && f)) nr.value (cond (true && 7 == 7) nr.value o.next) (in_number 7 o)
 in_7 false command (Reject nr f) o = receipt-so 7 refl false (is_invalid (in_number 7 o) nr) (7 == 8 && (not command && f)) nr.value (cond (true && 7 == 7) nr.value o.next) (in_number 7 o)
+in_7 long command (Disc p) o = tt
+in_7 long command (Frmr f) o = tt
+in_7 long command (Dm false) o = tt
 in_7 long command (Sabme p) o = record { before = refl; count_is = refl; busy_is = refl; rejected_is = refl }
-in_7 true command (Ui p) o = record { before = refl; count_is = refl; busy_is = refl; rejected_is = refl }
-in_7 false command (Ui p) o = record { before = refl; count_is = refl; busy_is = refl; rejected_is = refl }
-in_7 true command (Xid p) o = record { before = refl; count_is = refl; busy_is = refl; rejected_is = refl }
-in_7 false command (Xid p) o = record { before = refl; count_is = refl; busy_is = refl; rejected_is = refl }
 in_7 true command (Ua true) o = record { before = refl; count_is = refl; busy_is = refl; rejected_is = refl }
 in_7 false command (Ua true) o = record { before = refl; count_is = refl; busy_is = refl; rejected_is = refl }
-in_7 true command (Ua false) o = record { before = refl; count_is = refl; busy_is = refl; rejected_is = refl }
-in_7 false command (Ua false) o = record { before = refl; count_is = refl; busy_is = refl; rejected_is = refl }
-in_7 true command (Dm true) o = record { before = refl; count_is = refl; busy_is = refl; rejected_is = refl }
-in_7 false command (Dm true) o = record { before = refl; count_is = refl; busy_is = refl; rejected_is = refl }
-in_7 long command (Dm false) o = tt
-in_7 long command other o = tt
+in_7 true command other o = record { before = refl; count_is = refl; busy_is = refl; rejected_is = refl }
+in_7 false command other o = record { before = refl; count_is = refl; busy_is = refl; rejected_is = refl }
 
 in_8 : (long command : Bool) (control : Control) → Frame TimerRecovery long command control
 in_8 true command (Information ns nr p) o = tt
@@ -107,16 +87,14 @@ in_8 true command (ReceiveNotReady nr f) o = receipt-so 8 refl true (is_invalid 
 in_8 false command (ReceiveNotReady nr f) o = receipt-so 8 refl true (is_invalid (in_number 8 o) nr) (8 == 8 && (not command && f)) nr.value (cond (false && 8 == 7) nr.value o.next) (in_number 8 o)
 in_8 true command (Reject nr f) o = receipt-so 8 refl false (is_invalid (in_number 8 o) nr) (8 == 8 && (not command && f)) nr.value (cond (true && 8 == 7) nr.value o.next) (in_number 8 o)
 in_8 false command (Reject nr f) o = receipt-so 8 refl false (is_invalid (in_number 8 o) nr) (8 == 8 && (not command && f)) nr.value (cond (true && 8 == 7) nr.value o.next) (in_number 8 o)
+in_8 long command (Disc p) o = tt
+in_8 long command (Frmr f) o = tt
+in_8 long command (Dm f) o = tt
 in_8 long command (Sabme p) o = record { before = refl; count_is = refl; busy_is = refl; rejected_is = refl }
-in_8 true command (Ui p) o = record { before = refl; count_is = refl; busy_is = refl; rejected_is = refl }
-in_8 false command (Ui p) o = record { before = refl; count_is = refl; busy_is = refl; rejected_is = refl }
-in_8 true command (Xid p) o = record { before = refl; count_is = refl; busy_is = refl; rejected_is = refl }
-in_8 false command (Xid p) o = record { before = refl; count_is = refl; busy_is = refl; rejected_is = refl }
 in_8 true command (Ua true) o = record { before = refl; count_is = refl; busy_is = refl; rejected_is = refl }
 in_8 false command (Ua true) o = record { before = refl; count_is = refl; busy_is = refl; rejected_is = refl }
-in_8 true command (Ua false) o = record { before = refl; count_is = refl; busy_is = refl; rejected_is = refl }
-in_8 false command (Ua false) o = record { before = refl; count_is = refl; busy_is = refl; rejected_is = refl }
-in_8 long command other o = tt
+in_8 true command other o = record { before = refl; count_is = refl; busy_is = refl; rejected_is = refl }
+in_8 false command other o = record { before = refl; count_is = refl; busy_is = refl; rejected_is = refl }
 
 pub frame-stands : (x : State) (long command : Bool) (control : Control) → Frame x long command control
 frame-stands TeiAssigned = in_4
@@ -168,16 +146,10 @@ module _ (c : Config) (service : Service) (tei : ℕ) where
 
   again : (x : State) (o : Observed) (b : Bool) → let s = state_number x in let p = in_number s o in
       Quiet x o (cond b (record p { expiries = p.expiries + 1 }) (cond (s == 8) (anew p) (in_state 4)))
-  again TeiAssigned o true = tt
-  again TeiAssigned o false = tt
-  again AwaitingEstablishment o true = tt
-  again AwaitingEstablishment o false = tt
-  again AwaitingRelease o true = tt
-  again AwaitingRelease o false = tt
   again Established o true = record { before = refl; count_is = refl; busy_is = refl; rejected_is = refl }
-  again Established o false = tt
   again TimerRecovery o true = record { before = refl; count_is = refl; busy_is = refl; rejected_is = refl }
-  again TimerRecovery o false = tt
+  again other o true = tt
+  again other o b = tt
 
   t200 : (x : State) (o : Observed) (b : Bool) → let p = in_number (state_number x) o in Quiet x o (cond b (by_t200 c.n200 p) p)
   t200 x o false = rests x o
@@ -192,9 +164,9 @@ module _ (c : Config) (service : Service) (tei : ℕ) where
   t203 other o true = tt
 
   timer-stands : (x : State) (o : Observed) (timer : Timer) → Quiet x o (by_expiry c service tei timer (in_number (state_number x) o))
-  timer-stands x o (timers.T200 of by) = t200 x o (is_own service tei of by)
-  timer-stands x o (timers.T203 of by) = t203 x o (is_own service tei of by)
-  timer-stands x o timers.T201 = rests x o
+  timer-stands x o (T200 of by) = t200 x o (is_own service tei of by)
+  timer-stands x o (T203 of by) = t203 x o (is_own service tei of by)
+  timer-stands x o T201 = rests x o
 
   establish : (x : State) (o : Observed) (b : Bool) → let p = in_number (state_number x) o in Quiet x o (cond (b && p.state == 4) (record (in_state 5) { asked = true }) p)
   establish x o false = rests x o

@@ -1,26 +1,16 @@
 -- What an event of a line tells of data, by what an observer knows of the link; and when the numbers begin.
-use Rattle.laws_trace.proofs.Vocabulary.{◌≡◌, ℕ, ◌%◌, ◌==◌, ◌&&◌, ◌≤◌, ◌<◌, not, Bool, true, false, cond, List, length, Option, Some, None, refl, sym, ap, ◌∙◌, arith, inl, inr, true≢false, nat_lt, nat_le, is_some, list_any, option_map_or, leb-true, leb-false, none-some, Information, ReceiveReady, ReceiveNotReady, Reject, Sabme, Disc, Ui, Ua, Dm, Frmr, Service, Parts, Seq, State, TeiAssigned, Terms, restarts, eligible, eligible_of, Link, is_multiple_frame, state_number, in_sequence, as_heard, state_after, numbers_begin, event-follows, data-is, establishes, Config, hears, Answer, Line, link_of, place_in, terms, IsInRange, notes_of, is_data_of, IsBy}
-use Rattle.std.proofs.Common.{ltb-true, ltb-false}
-use Rattle.lapd_frame.specs.declared.controls.Control.{Control}
-use Rattle.lapd_frame.specs.declared.controls.Control.TheVariants.{Xid}
-use Rattle.model_link.specs.Deliveries.{information_of}
+use Rattle.laws_trace.proofs.Vocabulary.{◌≡◌, ℕ, ◌%◌, ◌==◌, ◌&&◌, ◌≤◌, ◌<◌, not, Bool, true, false, cond, List, length, Option, Some, None, refl, sym, ap, ◌∙◌, arith, inl, inr, true≢false, nat_lt, nat_le, is_some, list_any, option_map_or, leb-true, leb-false, none-some, Information, ReceiveReady, ReceiveNotReady, Reject, Sabme, Disc, Ui, Ua, Dm, Frmr, Service, Parts, Seq, State, TeiAssigned, Terms, restarts, eligible, eligible_of, Link, is_multiple_frame, state_number, in_sequence, as_heard, state_after, numbers_begin, event-follows, data-is, establishes, Config, hears, Answer, Line, link_of, place_in, terms, IsInRange, notes_of, is_data_of, IsBy, ltb-true, ltb-false, Control, Xid, link_information_of as information_of, Event, IsSound, brings_next, brought, frame_of, its_frame, is_for, Observed, is_up, link_after as after}
 use Rattle.model_link.specs.Events as link
-use Rattle.model_link.specs.Machine as links
-use Rattle.model_line.specs.Event.{Event}
 use Rattle.model_line.specs.Machine as lines
-use Rattle.model_line.specs.Sound.{IsSound}
 use Rattle.laws_trace.proofs.Counting as counting
 use Rattle.laws_trace.proofs.Counting.{begins}
-use Rattle.laws_trace.specs.Deliveries.{brings_next}
-use Rattle.laws_trace.specs.LinkFrames.{brought, frame_of, its_frame, is_for}
-use Rattle.laws_trace.specs.Observer.{Observed}
-use Rattle.laws_trace.specs.Trace.{is_up}
 use Rattle.laws_trace.proofs.Begins.{in-state, unless}
 use Rattle.laws_trace.proofs.Deliveries.{frame_by, brings-frame, brings-none, one-begins}
 use Rattle.laws_trace.proofs.DeliveriesRun.{IsCount, event-aims, data-noted, no-data, ended-notes}
 use Rattle.laws_trace.proofs.DeliveriesWatched.{is_information, brings_information}
 use Rattle.laws_trace.proofs.ObservedStanding.{begun_by, begins_by, taken_by, informs}
 use Rattle.laws_trace.proofs.OneLink.{HasNone, Goes, event-goes}
+use Rattle.laws_trace.proofs.Facts.{number-up}
 
 -- The numbers begin anew, by the state before.
 module _ (t : Terms) (f : Parts) where
@@ -43,8 +33,8 @@ module _ (t : Terms) (f : Parts) where
   followed control l heard is =
       let e = link.received (link.frame (record f { control = control })) in
       let x = event-follows t e l in
-      let state : (links.after t e l).state ≡ state_after t e l = x.leaves.state ∙ ap (λ e. state_after t e l) heard in
-      x.numbers ∙ ap (λ e. numbers_begin e l.state (links.after t (link.received (link.frame (record f { control = control }))) l).state) heard ∙ ap (numbers_begin e l.state) state ∙ is
+      let state : (after t e l).state ≡ state_after t e l = x.leaves.state ∙ ap (λ e. state_after t e l) heard in
+      x.numbers ∙ ap (λ e. numbers_begin e l.state (after t (link.received (link.frame (record f { control = control }))) l).state) heard ∙ ap (numbers_begin e l.state) state ∙ is
 
   by-control : (control : Control) (l : Link) → Restarts control l
   by-control (Sabme p) l = followed (Sabme p) l refl (in-state (Numbers (Sabme p)) l (λ here. by-sabme p here l))
@@ -74,10 +64,6 @@ size-fits n m = go (nat_le n m) refl (nat_lt m n) refl
 
 module _ (t : Terms) (own : Link) (p : Observed) (is : p.state ≡ state_number own.state) (count_is : is_multiple_frame own.state ≡ true → own.r ≡ p.count)
     (busy_is : is_multiple_frame own.state ≡ true → own.own_busy ≡ p.own_busy) where
-  up-so : (x : State) → is_up (state_number x) ≡ is_multiple_frame x
-  up-so TeiAssigned = refl
-  up-so other = refl
-
   by-bits : (ns : Seq) (info : List ℕ) (n : ℕ) (fit up busy : Bool) → is_some (in_sequence n (cond (fit && up && not busy) (Some (record { ns = ns; contents = info })) None))
       ≡ (up && (fit && (not busy && ns.value == n % 128)))
   by-bits ns info n true true true = refl
@@ -109,7 +95,7 @@ module _ (t : Terms) (own : Link) (p : Observed) (is : p.state ≡ state_number 
       by-bits ns info own.r (nat_le (length info) t.n201) (is_multiple_frame own.state) own.own_busy
       ∙ by-up (is_multiple_frame own.state) refl ns (nat_le (length info) t.n201)
       ∙ ap (λ b. is_multiple_frame own.state && (b && (not p.own_busy && ns.value == p.count % 128))) (size-fits (length info) t.n201)
-      ∙ ap (λ b. b && (not (nat_lt t.n201 (length info)) && (not p.own_busy && ns.value == p.count % 128))) (sym (up-so own.state) ∙ ap is_up (sym is))
+      ∙ ap (λ b. b && (not (nat_lt t.n201 (length info)) && (not p.own_busy && ns.value == p.count % 128))) (sym (number-up own.state) ∙ ap is_up (sym is))
   due-so other info = sym (and-none (is_up p.state) (not (nat_lt t.n201 (length info))))
 
 -- One event of a line, where the TEI is on it.

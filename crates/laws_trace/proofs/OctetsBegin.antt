@@ -1,33 +1,17 @@
 -- Where the contents that are granted, and the frames that are heard, are octets, so are those of each frame that
 -- begins: the law.
-use Rattle.laws_trace.proofs.Vocabulary.{◌≡◌, ℕ, zero, suc, ◌<◌, ◌≤◌, Bool, true, false, cond, List, [], ◌∷◌, ◌++◌, drop, get_or, replicate, slice_get, Option, Some, None, IfSome, option_map, refl, sym, ap, ◌∙◌, subst, arith, ◌⊎◌, inl, inr, All, is_some, option_or, option_map_or, flat_map-append, get_or-replicate, All-nil, All-cons, All-head, All-tail, All-append, All-drop, AreOctets, Address, Side, Ui, Refusal, Service, sapi_of, action_of, Message, accepted, share, IsOffered, Carries, number_sent, kept-after, given-is-offered, Seq, Link, queue_of, address_at, Given, Terms, Config, request, next, Answer, gave, Line, UnitData, link_count, link_number, service_at, place_at, place_in, tei_at, link_at, link_in, link_of, terms, fresh_line, Taken, with_unit, unit_frame, first_taken, round, taken, next_of, line_of, IsInRange, IsSoundAt, IsUnitData, sound_in, round_below, place_of-is, unit_asked, units_asked, is_granted, IsBy, OfLink, of-links, IsOne, taken-one, has-place, units-wait, number-is, fresh_is_sound, head, Call, Packet}
-use Rattle.std.specs.Option.{unwrap_or}
-use Rattle.lapd_frame.specs.declared.controls.Control.{Control}
-use Rattle.lapd_frame.specs.Grammar.{head_of}
-use Rattle.lapd_tei.specs.Messages.{information_of, frame_of as message_frame}
+use Rattle.laws_trace.proofs.Vocabulary.{◌≡◌, ℕ, zero, suc, ◌<◌, ◌≤◌, Bool, true, false, cond, List, [], ◌∷◌, ◌++◌, drop, get_or, replicate, slice_get, Option, Some, None, IfSome, option_map, refl, sym, ap, ◌∙◌, subst, arith, ◌⊎◌, inl, inr, All, is_some, option_or, option_map_or, flat_map-append, get_or-replicate, All-nil, All-cons, All-head, All-tail, All-append, All-drop, AreOctets, Address, Side, Ui, Refusal, Service, sapi_of, action_of, Message, accepted, share, IsOffered, Carries, number_sent, kept-after, given-is-offered, Seq, Link, queue_of, address_at, Given, Terms, Config, request, next, Answer, gave, Line, UnitData, link_count, link_number, service_at, place_at, place_in, tei_at, link_at, link_in, link_of, terms, fresh_line, Taken, with_unit, unit_frame, first_taken, round, taken, next_of, line_of, IsInRange, IsSoundAt, IsUnitData, round_below, unit_asked, units_asked, is_granted, IsBy, OfLink, of-links, IsOne, taken-one, has-place, units-wait, number-is, fresh_is_sound, head, unwrap_or, Control, head_of, information_of, message_frame, fresh_link, Event, told, line_after as after, answer, with_message, Request, IsSound, fresh, all-left as all-front, all-right as all-back, contents_given, GivesOctets, FramesAreOctets, trace_frame_in as frame_in, Seen, granted, seen_told, seen, frames_begun, Always, units_behind, units_left, link_refusal as refusal, Data, Down, LineUnit as Unit, frame_begun, seen_granted}
 use Rattle.model_link.specs.Events as link
-use Rattle.model_link.specs.Link.{fresh as fresh_link}
 use Rattle.model_link.specs.Machine as links
-use Rattle.model_link.specs.Requests as link_requests
 use Rattle.model_link.specs.Sound as link_sound
-use Rattle.model_line.specs.Event.{Event, told}
-use Rattle.model_line.specs.Machine.{after, answer}
-use Rattle.model_line.specs.Taken.{with_message}
-use Rattle.model_line.specs.Request as asked
-use Rattle.model_line.specs.Request.{Request}
-use Rattle.model_line.specs.Sound.{IsSound}
-use Rattle.model_card.specs.Card.{fresh}
-use Rattle.laws_line.proofs.OfCard.Wherever.{all-left as all-front, all-right as all-back}
-use Rattle.laws_trace.specs.FramesAreRead.{contents_given, GivesOctets, FramesAreOctets}
-use Rattle.laws_trace.specs.Trace.{frame_in, Seen, granted, seen_told, seen, frames_begun, Always}
 use Rattle.laws_trace.proofs.OneLink.{Goes, event-goes}
 use Rattle.laws_trace.proofs.Runs.{run-shows}
 use Rattle.laws_trace.proofs.SmallMessages.{IsSmall, message-octets}
 use Rattle.laws_trace.proofs.SmallMessagesWait.{messages-after}
 use Rattle.laws_trace.proofs.Units.{none-told, none-requested, given-frames}
 use Rattle.laws_trace.proofs.Spelled.{Anything}
-use Rattle.laws_trace.specs.Trace as traces
-use Rattle.laws_line.specs.Served.{units_behind, units_left}
+use Rattle.laws_trace.proofs.Facts.{small-sapi}
+use Rattle.laws_trace.proofs.LineAtEnd.{link-at-end}
 
 abbrev IsUnit : UnitData → Type 0
 IsUnit u = AreOctets u.contents
@@ -39,10 +23,6 @@ record AreKept (l : Line) : Type 0 where
   links : (service : Service) (tei : ℕ) → All AreOctets (queue_of (link_of service tei l))
 
 -- What begins: a head, and information of octets.
-few-sapi : (service : Service) → sapi_of service < 64
-few-sapi Call = omega arith
-few-sapi Packet = omega arith
-
 whole-octets : (side : Side) (a : Address) (c : Control) (info : List ℕ) → a.sapi < 64 → a.tei < 128 → AreOctets info → AreOctets (head_of side a c ++ info)
 whole-octets side a c info sapi tei h = All-append (λ octet. octet < 256) (head_of side a c) info (head side a c sapi tei) h
 
@@ -74,7 +54,7 @@ module _ (c : Config) (ranged : IsInRange c) (l : Line) (s : IsSound c l) (k : A
 
   unit-exact : (u : UnitData) → u.tei ≤ 127 → IsUnit u → AreOctets (unit_frame c u)
   unit-exact u low h =
-      whole-octets c.side (record { sapi = sapi_of u.service; command = true; tei = u.tei }) (Ui false) u.contents (few-sapi u.service) (omega (arith, low)) h
+      whole-octets c.side (record { sapi = sapi_of u.service; command = true; tei = u.tei }) (Ui false) u.contents (small-sapi u.service) (omega (arith, low)) h
 
   -- the link at its number is that of its service with its TEI
   kept-at : (number tei : ℕ) → tei_at (place_at number) l ≡ Some tei → All AreOctets (queue_of (link_at number l))
@@ -94,7 +74,7 @@ module _ (c : Config) (ranged : IsInRange c) (l : Line) (s : IsSound c l) (k : A
       let range = s.management.table.range (place_at x.number) x.tei x.on_line in
       let offered = from-offered own own-link (links.given own own-link) x.what x.given (given-is-offered own own-link sound) in
       subst IsExact (sym x.is)
-      (whole-octets c.side (address_at own x.what.frame.command) x.what.frame.control (unwrap_or x.what.contents []) (few-sapi (service_at x.number)) (omega (arith, range))
+      (whole-octets c.side (address_at own x.what.frame.command) x.what.frame.control (unwrap_or x.what.contents []) (small-sapi (service_at x.number)) (omega (arith, range))
       (offered-octets own-link.contents own-link.a own-link.s (number_sent x.what.frame.control) x.what.contents (kept-at x.number x.tei x.on_line) sound.ordered offered))
 
   first-exact : (o : Option Taken) → IfSome o (OfLink c l) → IfSome o IsExact
@@ -121,7 +101,7 @@ event-exact c ranged next l s k = subst (All AreOctets) (sym (given-frames (opti
 event-exact c ranged other l s k = subst (All AreOctets) (sym (none-told (answer c other l))) (All-nil AreOctets)
 
 -- What a link keeps, where what is granted are octets.
-granted-seen : (r : Request) (a : Answer) → is_granted a ≡ true → All GivesOctets (traces.seen_granted r a ++ seen_told a) → AreOctets (contents_given r)
+granted-seen : (r : Request) (a : Answer) → is_granted a ≡ true → All GivesOctets (seen_granted r a ++ seen_told a) → AreOctets (contents_given r)
 granted-seen r (told t) is h = All-head GivesOctets (granted r) (seen_told (told t)) h
 granted-seen r other is h = absurd (cc is)
 
@@ -136,12 +116,12 @@ module _ (c : Config) (e : Event) (l : Line) (s : IsSound c l) (ranged : IsInRan
 
   accepted-octets : (t : Terms) (x : Link) (event : link.Event) → IsBy c e (answer c e l) service tei event → All AreOctets (accepted t event x)
   accepted-octets t x (link.requested (link.Data contents) full) by =
-      by-refusal (link_requests.refusal t x full (link.Data contents)) contents
-      (granted-seen (asked.Data service tei contents) (answer c e l) by.1 (subst (λ event. All GivesOctets (seen event (answer c e l))) by.0 gives))
-  accepted-octets t x (link.requested link.Establish full) by = none-accepted (link_requests.refusal t x full link.Establish)
-  accepted-octets t x (link.requested link.Release full) by = none-accepted (link_requests.refusal t x full link.Release)
-  accepted-octets t x (link.requested link.SetBusy full) by = none-accepted (link_requests.refusal t x full link.SetBusy)
-  accepted-octets t x (link.requested link.ClearBusy full) by = none-accepted (link_requests.refusal t x full link.ClearBusy)
+      by-refusal (refusal t x full (link.Data contents)) contents
+      (granted-seen (Data service tei contents) (answer c e l) by.1 (subst (λ event. All GivesOctets (seen event (answer c e l))) by.0 gives))
+  accepted-octets t x (link.requested link.Establish full) by = none-accepted (refusal t x full link.Establish)
+  accepted-octets t x (link.requested link.Release full) by = none-accepted (refusal t x full link.Release)
+  accepted-octets t x (link.requested link.SetBusy full) by = none-accepted (refusal t x full link.SetBusy)
+  accepted-octets t x (link.requested link.ClearBusy full) by = none-accepted (refusal t x full link.ClearBusy)
   accepted-octets t x other by = All-nil AreOctets
 
   left-octets : (b : Bool) (n : ℕ) (kept more : List (List ℕ)) → All AreOctets kept → All AreOctets more → All AreOctets (cond b [] (drop n kept ++ more))
@@ -152,9 +132,7 @@ module _ (c : Config) (e : Event) (l : Line) (s : IsSound c l) (ranged : IsInRan
   own = link_of service tei l
 
   sound : (place : ℕ) → place_in l tei ≡ Some place → link_sound.IsSound (terms c service tei) own
-  sound place is =
-      subst (link_sound.IsSound (terms c service tei)) (sym (ap (λ o. option_map_or (link_in l service) o fresh_link) is))
-      (sound_in c ranged l s service tei place (place_of-is l.management.places tei place is).1)
+  sound place is = link-at-end c l ranged s service tei place is
 
   stays : (link_of service tei (after c e l) ≡ own) ⊎ (link_of service tei (after c e l) ≡ fresh_link) → All AreOctets (queue_of (link_of service tei (after c e l)))
   stays (inl same) = subst (λ (x : Link). All AreOctets (queue_of x)) (sym same) (k.links service tei)
@@ -171,10 +149,10 @@ module _ (c : Config) (e : Event) (l : Line) (s : IsSound c l) (ranged : IsInRan
 
 -- The unit data that waits then.
 asked-exact : (r : Request) → AreOctets (contents_given r) → All IsUnit (unit_asked r)
-asked-exact (asked.Unit service tei contents) h = All-cons IsUnit (record { service = service; tei = tei; contents = contents }) [] h (All-nil IsUnit)
+asked-exact (Unit service tei contents) h = All-cons IsUnit (record { service = service; tei = tei; contents = contents }) [] h (All-nil IsUnit)
 asked-exact other h = All-nil IsUnit
 
-by-grant : (r : Request) (a : Answer) → All GivesOctets (traces.seen_granted r a ++ seen_told a) → All IsUnit (units_asked (request r) a)
+by-grant : (r : Request) (a : Answer) → All GivesOctets (seen_granted r a ++ seen_told a) → All IsUnit (units_asked (request r) a)
 by-grant r (told t) h = asked-exact r (granted-seen r (told t) refl h)
 by-grant r other h = All-nil IsUnit
 
@@ -182,7 +160,7 @@ left-exact : (r : Request) (a : Answer) (us : List UnitData) → All IsUnit us �
 left-exact r (told t) us h = behind r
   where
     behind : (r : Request) → All IsUnit (units_behind r us)
-    behind asked.Down = All-nil IsUnit
+    behind Down = All-nil IsUnit
     behind other = h
 left-exact r other us h = h
 
@@ -216,7 +194,7 @@ joins : (c : Config) (k l m : Line) (t u : List Seen) → AreExact c k t l → A
 joins c k l m t u h i gives kept =
     let first = h (all-front GivesOctets t u gives) kept in
     let second = i (all-back GivesOctets t u gives) first.1 in (
-      subst (All AreOctets) (sym (flat_map-append traces.frame_begun t u)) (All-append AreOctets (frames_begun t) (frames_begun u) first.0 second.0),
+      subst (All AreOctets) (sym (flat_map-append frame_begun t u)) (All-append AreOctets (frames_begun t) (frames_begun u) first.0 second.0),
       second.1,
     )
 

@@ -1,11 +1,5 @@
 -- An offer of a link tells layer 3 nothing.
-use Rattle.laws_trace.proofs.Vocabulary.{◌≡◌, Bool, true, false, cond, List, [], ◌∷◌, None, refl, ControlFrame, Terms, Link, ◌then◌, changed}
-use Rattle.model_link.specs.Events as link
-use Rattle.model_link.specs.Machine as links
-use Rattle.model_link.specs.Offers
-use Rattle.model_link.specs.Steps.{Course, begun as course_begun}
-use Rattle.model_link.specs.Words
-use Rattle.model_link.specs.declared.timers.LinkTimer.TheVariants.{T200}
+use Rattle.laws_trace.proofs.Vocabulary.{◌≡◌, Bool, true, false, cond, List, [], ◌∷◌, None, refl, ControlFrame, Terms, Link, ◌then◌, changed, Course, begun as course_begun, T200, offer, course, give_information, is_awaiting_acknowledgement, may_send_information, offer_among, with_one_sent, pending_is, start}
 
 module _ (t : Terms) (x : Link) where
   abbrev pub TellsNothing : Course → Type 0
@@ -15,13 +9,13 @@ module _ (t : Terms) (x : Link) where
   choose true u v h k = h
   choose false u v h k = k
 
-  offers : (ws : List ControlFrame) → TellsNothing (Offers.offer_among t ws (course_begun x))
+  offers : (ws : List ControlFrame) → TellsNothing (offer_among t ws (course_begun x))
   offers (f ∷ fs) = (refl, refl, refl, refl)
   offers [] =
-      let sent = (Offers.give_information then changed Offers.with_one_sent then Words.pending_is false) (course_begun x) in
-      choose (Offers.may_send_information t x) _ _
-      (choose (Offers.is_awaiting_acknowledgement sent.link) sent (Words.start T200 sent) (refl, refl, refl, refl) (refl, refl, refl, refl))
+      let sent = (give_information then changed with_one_sent then pending_is false) (course_begun x) in
+      choose (may_send_information t x) _ _
+      (choose (is_awaiting_acknowledgement sent.link) sent (start T200 sent) (refl, refl, refl, refl) (refl, refl, refl, refl))
       (choose x.pending _ _ (refl, refl, refl, refl) (refl, refl, refl, refl))
 
-  pub offer-tells_nothing : TellsNothing (links.course t link.offer x)
+  pub offer-tells_nothing : TellsNothing (course t offer x)
   offer-tells_nothing = offers x.waiting

@@ -1,22 +1,7 @@
 -- What a link gives next is what an observer has it offer.
-use Rattle.laws_trace.proofs.Vocabulary.{◌≡◌, ℕ, zero, suc, ◌+◌, ◌%◌, ◌<◌, ◌≤◌, ◌==◌, ◌&&◌, not, nat_lt, Bool, true, false, cond, List, [], ◌∷◌, drop, length, slice_get, Option, Some, None, refl, sym, ap, ◌∙◌, subst, inl, inr, arith, true≢false, IfSome, and_parts, fold, Service, place_of-is, Information, ReceiveReady, Seq, seq, given-in-order, given-is-offered, IsInOrder, IsOffered, State, Established, ControlFrame, Terms, Link, is_multiple_frame, is_information, state_number, Given, Config, Line, link_of, place_in, terms, window, IsInRange, IsSilent, terms_in_range, line_at, moments, take, map, ◌++◌}
-use Rattle.std.proofs.lemmas.Bool.{ltb-true, lt-ltb}
-use Rattle.lapd_frame.specs.declared.controls.Control.{Control}
-use Rattle.model_link.specs.Events as link
-use Rattle.model_link.specs.Machine as links
+use Rattle.laws_trace.proofs.Vocabulary.{◌≡◌, ℕ, zero, suc, ◌+◌, ◌%◌, ◌<◌, ◌≤◌, ◌==◌, ◌&&◌, not, nat_lt, Bool, true, false, cond, List, [], ◌∷◌, drop, length, slice_get, Option, Some, None, refl, sym, ap, ◌∙◌, subst, inl, inr, arith, true≢false, and_parts, fold, Service, place_of-is, Information, ReceiveReady, Seq, seq, given-in-order, given-is-offered, IsInOrder, IsOffered, State, Established, ControlFrame, Terms, Link, is_multiple_frame, is_information, state_number, Given, Config, Line, link_of, place_in, terms, window, IsInRange, IsSilent, terms_in_range, line_at, moments, take, map, ◌++◌, ltb-true, lt-ltb, Control, line_frame_of as frame_of, IsSound, fresh, CardEvent as Event, after_all, AreAtLines, is_seq, number_sent, Carries, text, may_go, offers, View, steps, view_of, Outgoing, outgoing_of, is_up, offer, link_after as after, given}
 use Rattle.model_link.specs.Sound as link_sound
-use Rattle.model_line.specs.Taken.{frame_of}
-use Rattle.model_line.specs.Sound.{IsSound}
-use Rattle.model_card.specs.Card.{fresh}
-use Rattle.model_card.specs.Event.{Event}
-use Rattle.model_card.specs.Run.{after_all, AreAtLines}
-use Rattle.lapd_seq.proofs.Callers.{is_seq}
-use Rattle.laws_link.specs.Offered.{number_sent, Carries}
 use Rattle.laws_link.specs.Sending.{MayGo}
-use Rattle.laws_trace.specs.FramesAreDue.{text, may_go, offers}
-use Rattle.laws_trace.specs.Observer.{View, steps, view_of}
-use Rattle.laws_trace.specs.Outgoing.{Outgoing, outgoing_of}
-use Rattle.laws_trace.specs.Trace.{is_up}
 use Rattle.laws_trace.proofs.LineAtEnd.{line-at-end, link-at-end}
 use Rattle.laws_trace.proofs.DeliveriesKept.{run-stands}
 use Rattle.laws_trace.proofs.ObservedAcknowledged.{agrees-now}
@@ -30,6 +15,7 @@ use Rattle.laws_trace.proofs.TimerClaims.{IsKnown}
 use Rattle.laws_trace.proofs.TimersAreTimely.{true-now}
 use Rattle.laws_trace.proofs.TimersWatched.{Known, nothing_yet, watch}
 use Rattle.laws_trace.proofs.WaitingNow.{waiting-now}
+use Rattle.laws_trace.proofs.Facts.{some-of, not-so}
 
 -- What a link offers, one after the other.
 abbrev unsent : Outgoing → List (List ℕ)
@@ -96,10 +82,6 @@ some-left [] n x rest is = absurd (no-first (sym (drop-none n) ∙ is))
     no-first e = cc e
 some-left (y ∷ xs) zero x rest is = omega arith
 some-left (y ∷ xs) (suc n) x rest is = let few = some-left xs n x rest is in omega (arith, few)
-
--- What holds of what is there.
-some-of : {X : Type 0} (P : X → Type 0) (o : Option X) (x : X) → o ≡ Some x → IfSome o P → P x
-some-of P o x is h = subst (λ o. IfSome o P) is h
 
 none-numbered : (control : Control) → link_sound.is_information control ≡ false → number_sent control ≡ None
 none-numbered (Information ns nr p) e = absurd (true≢false e)
@@ -220,10 +202,6 @@ module _ (c : Config) (events : List Event) (number : ℕ) (ranged : IsInRange c
         window = omega (arith, whole, few);
         unsent = some-left own.contents own.s contents rest (sym (unsent-is up) ∙ left);
       }
-    where
-      not-so : (b : Bool) → not b ≡ true → b ≡ false
-      not-so true is = absurd (true≢false (sym is))
-      not-so false is = refl
 
   -- where none may go, it is the acknowledgement,
   none-sent : (MayGo t own → ⊥) → sends c service tei o (unsent o) ≡ by_itself c service tei o
@@ -255,7 +233,7 @@ module _ (c : Config) (events : List Event) (number : ℕ) (ranged : IsInRange c
   unfolding seq
   seq-again n = is_seq (seq (n % 128)) n (omega arith)
 
-  in-order : (g : Given) → IsInOrder t own (links.after t link.offer own) g.frame → IsOffered own.contents own.s g.frame g.contents → Offers g
+  in-order : (g : Given) → IsInOrder t own (after t offer own) g.frame → IsOffered own.contents own.s g.frame g.contents → Offers g
   in-order g (inl oldest) offered =
       offers-are c service tei o ∙ ap (offers_behind c service tei o) (waits-are ∙ oldest.waited)
       ∙ ap (λ f. f ∷ []) (sym (with-frame g g.frame None refl (bare-contents own.contents own.s g.frame g.contents oldest.bare offered)))
@@ -283,7 +261,7 @@ module _ (c : Config) (events : List Event) (number : ℕ) (ranged : IsInRange c
       pends-up-now : own.pending ≡ true → is_multiple_frame own.state ≡ true
       pends-up-now = (run-stands c events number ranged all within service tei).2.pends_up
 
-  pub given-is-offered-so : (g : Given) → links.given t own ≡ Some g → Offers g
+  pub given-is-offered-so : (g : Given) → given t own ≡ Some g → Offers g
   given-is-offered-so g some =
-      in-order g (some-of (λ g. IsInOrder t own (links.after t link.offer own) g.frame) (links.given t own) g some (given-in-order t own safe))
-      (some-of (λ g. IsOffered own.contents own.s g.frame g.contents) (links.given t own) g some (given-is-offered t own safe))
+      in-order g (some-of (λ g. IsInOrder t own (after t offer own) g.frame) (given t own) g some (given-in-order t own safe))
+      (some-of (λ g. IsOffered own.contents own.s g.frame g.contents) (given t own) g some (given-is-offered t own safe))

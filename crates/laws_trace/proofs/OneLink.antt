@@ -1,25 +1,58 @@
 -- What an event of a line is to the link of a service with a TEI, at whatever place the TEI is: one event of this link,
 -- its deactivation, or none.
-use Rattle.laws_trace.proofs.Vocabulary.{◌≡◌, ℕ, ◌==◌, ◌&&◌, Bool, true, false, List, [], ◌∷◌, map, slice_get, Option, Some, None, IfSome, option_map, refl, sym, ap, ◌∙◌, subst, ◌⊎◌, inl, inr, ⊎_elim, All, option_to_list, option_or, option_map_or, All-nil, All-cons, none-some, Refusal, Service, Order, same_service, IsAt, Message, Terms, Link, Sent, Given, Config, hears, expiry, request, next, Answer, gave, Aim, at_none, at_link, at_management, at_units, of_aim, aim_of_expiry, orders_in, Line, UnitData, link_number, service_at, place_at, place_in, has_tei, link_at, link_in, link_of, terms, with_link, aim_of, unless_refused, unless_refused_told, aim_of_heard, Taken, taken, with_unit, unit_frame, with_given_frame, first_taken, round, next_of, line_of, aim_of_request, IsProper, heard_proper, expiry_proper, request_proper, round_below, lost_in, notes_of, contents_in, IsBy, IsDeactivated, IsOf, by-or-down, OfLink, of-links, services-equal, both-true, has-place, Ties, heard-ties, expiry-ties, request-ties, number-is, at_no_link, orders_for}
-use Rattle.std.proofs.Common.{eqb-true}
-use Rattle.lapd_tei.specs.Messages.{frame_of as message_frame}
+use Rattle.laws_trace.proofs.Vocabulary.{◌≡◌, ℕ, ◌==◌, ◌&&◌, Bool, true, false, List, [], ◌∷◌, map, slice_get, Option, Some, None, IfSome, option_map, refl, sym, ap, ◌∙◌, subst, ◌⊎◌, inl, inr, ⊎_elim, All, option_to_list, option_or, option_map_or, All-nil, All-cons, none-some, Refusal, Service, Order, same_service, IsAt, Message, Terms, Link, Sent, Given, Config, hears, expiry, request, next, Answer, gave, Aim, at_none, at_link, at_management, at_units, of_aim, aim_of_expiry, orders_in, Line, UnitData, link_number, service_at, place_at, place_in, has_tei, link_at, link_in, link_of, terms, with_link, aim_of, unless_refused, unless_refused_told, aim_of_heard, Taken, taken, with_unit, unit_frame, with_given_frame, first_taken, round, next_of, line_of, aim_of_request, IsProper, heard_proper, expiry_proper, request_proper, round_below, lost_in, notes_of, contents_in, IsBy, IsDeactivated, IsOf, by-or-down, OfLink, of-links, services-equal, both-true, has-place, Ties, heard-ties, expiry-ties, request-ties, number-is, at_no_link, orders_for, eqb-true, message_frame, fresh_link as fresh, Event, told, line_after as after, answer, with_message, line_frame_of as frame_of, refusal, IsSound, trace_frame_in as frame_in, by-down, Timer, LinkTimer, at_timer, Deactivate, at_requested, at_deactivated, heard_aims, Request, Establish, Release, Data, SetBusy, ClearBusy, TimerT200 as T200, T201, TimerT203 as T203, given}
 use Rattle.model_link.specs.Events as link
-use Rattle.model_link.specs.Link.{fresh}
 use Rattle.model_link.specs.Machine as links
-use Rattle.model_line.specs.Event.{Event, told}
-use Rattle.model_line.specs.Machine.{after, answer}
-use Rattle.model_line.specs.Taken.{with_message, frame_of}
-use Rattle.model_line.specs.Refusal.{refusal}
-use Rattle.model_line.specs.Sound.{IsSound}
 use Rattle.laws_line.proofs.Readings as read
-use Rattle.laws_trace.specs.Trace.{frame_in}
 use Rattle.laws_trace.proofs.ClearedTells.{none-delivered, none-lost}
-pub use Rattle.laws_trace.proofs.FramesGiven.{frames_given}
-use Rattle.laws_trace.proofs.FramesGiven.{Silent, heard-silent, expiry-silent, request-silent}
 use Rattle.laws_trace.proofs.ManagedLink.{alike, Remains, managed, management-ordered}
 use Rattle.laws_trace.proofs.OfferTells.{offer-tells_nothing}
 use Rattle.laws_trace.proofs.OrdersOfLink.{its_orders, none-ordered, stop-orders-none, other-ordered}
-use Rattle.laws_line.proofs.Downs.{given_up, by-down}
+use Rattle.laws_line.proofs.Downs.{given_up}
+use Rattle.model_bits.specs.Stream as stream
+use Rattle.model_link.specs.declared.timers.LinkTimer.TheVariants as link_timer
+
+-- Which events of a line give a frame: of a link, only an offer.
+-- The frame that an offer of a link gives; no other event gives one.
+abbrev pub frames_given : Config → Terms → link.Event → Link → List (List ℕ)
+frames_given c t link.offer x = map (frame_of c t) (option_to_list (given t x))
+frames_given c t other x = []
+
+-- No other event gives a frame; and what concerns no part orders nothing.
+module _ (c : Config) (l : Line) where
+  abbrev pub Silent : Aim → Type 0
+  Silent (at_link its by place event) = frames_given c (terms c its by) event (link_of its by l) ≡ []
+  Silent (at_none what) = what.orders ≡ []
+  Silent other = Unit {0}
+
+  pub heard-silent : (what : stream.Event) → Silent (aim_of_heard c l what)
+  heard-silent what = heard_aims c l Silent (λ cause. refl) (λ its by place what at. refl) (λ info. tt) (λ parts service to. refl) what
+
+  timer-silent : (its : Service) (by : ℕ) (k : LinkTimer) (o : Option ℕ) → Silent (at_timer its by k o)
+  timer-silent its by k None = refl
+  timer-silent its by k (Some place) = refl
+
+  pub expiry-silent : (timer : Timer) → Silent (aim_of_expiry timer l)
+  expiry-silent (T200 its by) = timer-silent its by link_timer.T200 (place_in l by)
+  expiry-silent (T203 its by) = timer-silent its by link_timer.T203 (place_in l by)
+  expiry-silent T201 = tt
+
+  asked-silent : (its : Service) (by : ℕ) (asked : link.Request) (o : Option ℕ) → Silent (at_requested its by asked o)
+  asked-silent its by asked None = refl
+  asked-silent its by asked (Some place) = refl
+
+  deactivated-silent : (its : Service) (by : ℕ) (o : Option ℕ) → Silent (at_deactivated its by o)
+  deactivated-silent its by None = refl
+  deactivated-silent its by (Some place) = refl
+
+  pub request-silent : (r : Request) → Silent (aim_of_request r l)
+  request-silent (Establish its by) = asked-silent its by link.Establish (place_in l by)
+  request-silent (Release its by) = asked-silent its by link.Release (place_in l by)
+  request-silent (Data its by contents) = asked-silent its by (link.Data contents) (place_in l by)
+  request-silent (SetBusy its by) = asked-silent its by link.SetBusy (place_in l by)
+  request-silent (ClearBusy its by) = asked-silent its by link.ClearBusy (place_in l by)
+  request-silent (Deactivate its by) = deactivated-silent its by (place_in l by)
+  request-silent other = tt
 
 -- Whether an event of the line is one at this link.
 abbrev pub is_at_link : Service → ℕ → Aim → Bool

@@ -1,14 +1,7 @@
 -- The orders of a link, among those of an answer.
-use Rattle.laws_trace.proofs.Vocabulary.{◌≡◌, ℕ, ◌==◌, ◌&&◌, Bool, true, false, cond, not, List, [], ◌∷◌, ◌++◌, Option, Some, None, refl, sym, ap, ◌∙◌, filter, filter-append, Service, Call, Packet, Order, Start, Stop, Timer, same_service, Follows, Terms, LinkTimer, Link, is_same, obeyed, runs, timer_at, order_for, orders_for, timer_of, obeyed-append, eq-eqb}
+use Rattle.laws_trace.proofs.Vocabulary.{◌≡◌, ℕ, ◌==◌, ◌&&◌, Bool, true, false, cond, not, List, [], ◌∷◌, ◌++◌, Option, Some, None, refl, sym, ap, ◌∙◌, filter, filter-append, Service, Order, Start, Stop, Timer, same_service, Follows, Terms, LinkTimer, Link, is_same, obeyed, runs, timer_at, order_for, orders_for, timer_of, obeyed-append, T200, T203, is_timer, stop_of, Check, obey, is_timer_of, is_order_of, LinkEvent as Event, course, link_told as told, cond_both}
 use Rattle.lapd_frame.specs.declared.timers.Timer.TheVariants as timers
-use Rattle.model_link.specs.declared.timers.LinkTimer.TheVariants.{T200, T203}
-use Rattle.model_link.specs.Events as link
-use Rattle.model_link.specs.Machine as links
-use Rattle.model_link.specs.Told.{is_timer}
-use Rattle.lapd_tei.specs.Laws.{stop_of}
-use Rattle.lapd_tei.specs.declared.check.Check.{Check}
-use Rattle.laws_link.specs.Timed.{obey}
-use Rattle.laws_trace.specs.TimersAreTimely.{is_timer_of, is_order_of}
+use Rattle.laws_trace.proofs.Facts.{its-own}
 
 -- Its orders among others, or none.
 abbrev pub its_orders : Service → ℕ → List Order → List Order
@@ -40,12 +33,8 @@ of-event t service tei d is before started after =
     join true = refl
     join false = refl
 
-pub other-ordered : (t : Terms) (e : link.Event) (x : Link) (service : Service) (tei : ℕ) → (same_service t.service service && t.tei == tei) ≡ false → its_orders service tei (links.told t e x).orders ≡ []
-other-ordered t e x service tei other = let c = links.course t e x in of-event t service tei false other x.running c.started c.link.running
-
-pub its-own : (service : Service) (tei : ℕ) → (same_service service service && tei == tei) ≡ true
-its-own Call tei = eq-eqb tei tei refl
-its-own Packet tei = eq-eqb tei tei refl
+pub other-ordered : (t : Terms) (e : Event) (x : Link) (service : Service) (tei : ℕ) → (same_service t.service service && t.tei == tei) ≡ false → its_orders service tei (told t e x).orders ≡ []
+other-ordered t e x service tei other = let c = course t e x in of-event t service tei false other x.running c.started c.link.running
 
 pub own-ordered : (t : Terms) (before started after : Option LinkTimer) → its_orders t.service t.tei (orders_for t before started after) ≡ orders_for t before started after
 own-ordered t before started after = of-event t t.service t.tei true (its-own t.service t.tei) before started after
@@ -105,11 +94,7 @@ obeys-one : (t : Terms) (timer other : LinkTimer) (running p q : Bool)
     → obeyed (timer_at t timer) running (cond p (Start (timer_at t other) ∷ []) (cond q (Stop (timer_at t other) ∷ []) [])) ≡ cond (is_timer other timer) (cond p true (cond q false running)) running
 obeys-one t timer other running true q = ap (λ b. cond b true running) (same-own t other timer)
 obeys-one t timer other running false true = ap (λ b. cond b false running) (same-own t other timer)
-obeys-one t timer other running false false = go (is_timer other timer)
-  where
-    go : (b : Bool) → running ≡ cond b running running
-    go true = refl
-    go false = refl
+obeys-one t timer other running false false = cond_both (is_timer other timer) running running (λ b. running ≡ b) (λ same. refl) (λ apart. refl)
 
 alone : (p q : Bool) → cond p true (cond q false false) ≡ p
 alone true q = refl

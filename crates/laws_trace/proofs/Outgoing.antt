@@ -1,33 +1,20 @@
 -- What a link has to send is what an observer has: what it keeps.
-use Rattle.laws_trace.proofs.Vocabulary.{◌≡◌, ℕ, ◌%◌, ◌<◌, ◌==◌, ◌&&◌, Bool, true, false, cond, not, List, [], ◌∷◌, ◌++◌, drop, get_or, Option, Some, None, refl, sym, ap, ◌∙◌, subst, arith, eq-eqb, true≢false, append-nil, append_assoc, fold, and_parts, get_or-set_same, get_or-replicate, fold-append, none-some, Service, Link, queue_of, state_number, Config, Answer, Line, fresh_line, has_tei, link_of, place_in, IsInRange, is-off, nowhere, Card, line_at, is_full, at, moments, has_lines, by_room, line_sound, all-left, notes_of}
-use Rattle.std.proofs.Common.{eqb-true}
-use Rattle.model_link.specs.Link.{fresh as fresh_link}
+use Rattle.laws_trace.proofs.Vocabulary.{◌≡◌, ℕ, ◌%◌, ◌<◌, ◌==◌, ◌&&◌, Bool, true, false, cond, not, List, [], ◌∷◌, ◌++◌, drop, get_or, Option, Some, None, refl, sym, ap, ◌∙◌, subst, arith, eq-eqb, true≢false, append-nil, append_assoc, fold, and_parts, get_or-set_same, get_or-replicate, fold-append, none-some, Service, Link, queue_of, state_number, Config, Answer, Line, fresh_line, has_tei, link_of, place_in, IsInRange, is-off, nowhere, Card, line_at, is_full, at, moments, has_lines, by_room, line_sound, all-left, notes_of, eqb-true, fresh_link, fresh, CardEvent as Event, after, card_answer as answer, Moment, after_all, IsAtLine, AreAtLines, managing_is_on as is_on, due, brings, is_sabme, Observed, View, steps, views, view_of, moment_of, view_behind, Outgoing, data_granted, went_on, keeps, watches, nothing_yet, outgoing_of, is_up, seen, CardIsSound as IsSound}
 use Rattle.model_line.specs.Event as line_event
 use Rattle.model_line.specs.Machine as lines
-use Rattle.model_card.specs.Card.{fresh}
-use Rattle.model_card.specs.Event.{Event}
-use Rattle.model_card.specs.Machine.{after, answer}
-use Rattle.model_card.specs.Run.{Moment, after_all, IsAtLine, AreAtLines}
-use Rattle.model_card.specs.Sound as card_sound
-use Rattle.laws_trace.specs.Managing.{is_on, due}
-use Rattle.laws_trace.specs.News.{brings, is_sabme}
-use Rattle.laws_trace.specs.Observer.{Observed, View, steps, views, view_of, moment_of, view_behind}
-use Rattle.laws_trace.specs.Outgoing.{Outgoing, data_granted, went_on, keeps, watches, nothing_yet, outgoing_of}
-use Rattle.laws_trace.specs.Trace.{is_up, seen}
-use Rattle.laws_trace.proofs.CallRuns.{apart}
 use Rattle.laws_trace.proofs.KeptOfLine.{left, still, left-so, comes-so}
 use Rattle.laws_trace.proofs.KeptOfLink.{went_by}
 use Rattle.laws_trace.proofs.LinkLed.{on-line}
 use Rattle.laws_trace.proofs.ObservedRun.{holds-behind}
 use Rattle.laws_trace.proofs.PlacesSeen.{granted_in, lost_in, granted-so, lost-so}
-use Rattle.laws_trace.proofs.Runs.{nothing-seen}
+use Rattle.laws_trace.proofs.Runs.{nothing-seen, apart}
 use Rattle.laws_trace.proofs.SeenAs.{up-number, IsSeenAs, seen-before, seen-behind, tei-seen}
 use Rattle.laws_trace.proofs.TimersAreTimely.{config-now, sound-now}
 use Rattle.laws_trace.proofs.TimersOfEvent.{off-fresh}
 use Rattle.laws_trace.proofs.WaitedBegins.{moments-both, after-both}
 
 -- An event of a card.
-module _ (card : Card) (number : ℕ) (what : line_event.Event) (s : card_sound.IsSound card) (here : number < card.config.lines) (service : Service) (tei : ℕ) where
+module _ (card : Card) (number : ℕ) (what : line_event.Event) (s : IsSound card) (here : number < card.config.lines) (service : Service) (tei : ℕ) where
   abbrev l : Line
   l = line_at number card
 

@@ -1,18 +1,10 @@
 -- Whether a link owes an acknowledgement behind one event of its line.
-use Rattle.laws_trace.proofs.Vocabulary.{◌≡◌, ℕ, ◌&&◌, ◌||◌, not, Bool, true, false, List, [], ◌∷◌, map, Option, Some, None, IfSome, is_some, list_any, option_to_list, refl, sym, ap, ◌∙◌, subst, inl, inr, Service, place_of-is, as_heard, state_after, put, owed_behind, event-follows, given-in-order, IsInOrder, ControlFrame, Terms, Link, is_multiple_frame, Given, given_is_frame, Config, next, Answer, Line, has_tei, link_of, place_in, terms, IsInRange, terms_in_range, notes_of, is_data_of, IsBy, HaveTheirTimers}
+use Rattle.laws_trace.proofs.Vocabulary.{◌≡◌, ℕ, ◌&&◌, ◌||◌, not, Bool, true, false, List, [], ◌∷◌, map, Option, Some, None, is_some, list_any, option_to_list, refl, sym, ap, ◌∙◌, subst, inl, inr, Service, place_of-is, as_heard, state_after, put, owed_behind, event-follows, given-in-order, IsInOrder, ControlFrame, Terms, Link, is_multiple_frame, Given, given_is_frame, Config, next, Answer, Line, has_tei, link_of, place_in, terms, IsInRange, terms_in_range, notes_of, is_data_of, IsBy, HaveTheirTimers, Event, line_after as after, answer, line_frame_of as frame_of, IsSound, is_frame_of, is_empty, trace_frame_in as frame_in, seen, is_ui, and-false, false_from_ne_true}
 use Rattle.model_link.specs.Events as link
 use Rattle.model_link.specs.Machine as links
 use Rattle.model_link.specs.Sound as link_sound
-use Rattle.model_line.specs.Event.{Event}
-use Rattle.model_line.specs.Machine.{after, answer}
-use Rattle.model_line.specs.Taken.{frame_of}
-use Rattle.model_line.specs.Sound.{IsSound}
 use Rattle.laws_link.proofs.OfTwo.Waiting.{nothing-given}
 use Rattle.laws_line.proofs.Silence.{silent}
-use Rattle.laws_trace.specs.LinkFrames.{is_frame_of}
-use Rattle.laws_trace.specs.Outgoing.{is_empty}
-use Rattle.laws_trace.specs.Trace.{frame_in, seen}
-use Rattle.laws_trace.specs.Units.{is_ui}
 use Rattle.laws_trace.proofs.Addressed.{at-some-place}
 use Rattle.laws_trace.proofs.CommandsCaused.{IsNoOther}
 use Rattle.laws_trace.proofs.ControlsAtLine.{time_at, put_here, none-puts, put-is, none-due, numbered, own-timed, sound}
@@ -25,6 +17,7 @@ use Rattle.laws_trace.proofs.OneLink.{frames_given, HasOne, HasNone, Goes, event
 use Rattle.laws_trace.proofs.OwedOfLink.{pends-then}
 use Rattle.laws_trace.proofs.Standing.{behind}
 use Rattle.laws_trace.proofs.StandingOfLink.{calm, IsStanding}
+use Rattle.laws_trace.proofs.Facts.{some-of}
 
 -- What stays owed, by what an observer sees.
 abbrev pub Owed : Bool → Bool → List ControlFrame → Bool → Bool → Bool
@@ -40,26 +33,15 @@ never-down : (was : Bool) (puts : List ControlFrame) (begins owes : Bool) → fa
 never-down true puts begins owes = refl
 never-down false puts begins owes = refl
 
-and-none : (b : Bool) → (b && false) ≡ false
-and-none true = refl
-and-none false = refl
-
 never-owed : (was now : Bool) (puts : List ControlFrame) (begins : Bool) → false ≡ Owed was now puts begins false
-never-owed was now puts begins = sym (and-none (was && now && is_empty puts && not begins))
+never-owed was now puts begins = sym (and-false (was && now && is_empty puts && not begins))
 
 never-begun : (was now : Bool) (puts : List ControlFrame) (owes : Bool) → false ≡ Owed was now puts true owes
-never-begun was now puts owes = sym (ap (λ b. b && owes) (and-none (was && now && is_empty puts)))
-
-if-told : (b : Bool) → (b ≡ true → ⊥) → b ≡ false
-if-told true h = absurd (h refl)
-if-told false h = refl
+never-begun was now puts owes = sym (ap (λ b. b && owes) (and-false (was && now && is_empty puts)))
 
 none-noted : (c : Config) (l : Line) (service : Service) (tei : ℕ) → list_any (is_data_of service tei) (notes_of (answer c next l)) ≡ false
 unfolding answer
 none-noted c l service tei = refl
-
-some-of : {X : Type 0} (P : X → Type 0) (o : Option X) (x : X) → o ≡ Some x → IfSome o P → P x
-some-of P o x is h = subst (λ o. IfSome o P) is h
 
 module _ (service : Service) (tei : ℕ) (c : Config) (ranged : IsInRange c) (e : Event) (l : Line) (s : IsSound c l) (timed : HaveTheirTimers l) (m : ℕ) (busy rejected : Bool)
     (count : IsCount (link_of service tei l) m) (stands : IsStanding (link_of service tei l) busy rejected) where
@@ -100,9 +82,9 @@ module _ (service : Service) (tei : ℕ) (c : Config) (ranged : IsInRange c) (e 
     none-pends : Pends
     none-pends was-on is-on =
         ap (λ (k : Link). k.pending) (x.stays was-on is-on) ∙ stays-owed (up own) own.pending stands.pends_up
-        ∙ ap (λ b. Owed (up own) (up own) [] b (own.pending || false)) (sym (and-none (is_empty own.waiting)))
+        ∙ ap (λ b. Owed (up own) (up own) [] b (own.pending || false)) (sym (and-false (is_empty own.waiting)))
         ∙ ap (λ b. Owed (up own) (up own) [] (is_empty own.waiting && b) (own.pending || false)) (sym (any-foreign c service tei (frame_in a) x.begins))
-        ∙ ap (λ b. Owed (up own) (up own) [] (is_empty own.waiting && begins) (own.pending || b)) (sym (if-told told (no-data c ranged l s e service tei m count x)))
+        ∙ ap (λ b. Owed (up own) (up own) [] (is_empty own.waiting && begins) (own.pending || b)) (sym (false_from_ne_true told (no-data c ranged l s e service tei m count x)))
         ∙ ap (λ puts. Owed (up own) (up own) puts (is_empty own.waiting && begins) (own.pending || told)) (sym (none-puts service tei c ranged e l s timed m busy rejected count stands x was-on is-on))
         ∙ ap (λ (k : Link). Owed (up own) (up k) Put (is_empty own.waiting && begins) (own.pending || told)) (sym (x.stays was-on is-on))
 
@@ -133,7 +115,7 @@ module _ (service : Service) (tei : ℕ) (c : Config) (ranged : IsInRange c) (e 
         (ap (list_any (is_frame_of c service tei)) (x.begins ∙ none)) (data-noted c ranged l s e service tei m count x)
         (pends-then t x.event own other stands.pends_up
         ∙ ap (λ b. (b && (own.pending || is_some (links.told t x.event own).delivered))) (with-none (up own && up later && is_empty (put heard own (state_after t heard own))))
-        ∙ ap (λ b. Owed (up own) (up later) (put heard own (state_after t heard own)) b (own.pending || is_some (links.told t x.event own).delivered)) (sym (and-none (is_empty own.waiting))))
+        ∙ ap (λ b. Owed (up own) (up later) (put heard own (state_after t heard own)) b (own.pending || is_some (links.told t x.event own).delivered)) (sym (and-false (is_empty own.waiting))))
       where
         heard : link.Event
         heard = as_heard (terms c service tei) x.event

@@ -1,20 +1,8 @@
 -- A link owes an acknowledgement where an observer has it so.
-use Rattle.laws_trace.proofs.Vocabulary.{◌≡◌, ℕ, ◌<◌, ◌==◌, ◌&&◌, ◌||◌, not, Bool, true, false, cond, List, [], ◌++◌, get_or, Some, None, refl, sym, ap, ◌∙◌, subst, arith, eq-eqb, fold, and_parts, list_any, option_map_or, get_or-set_same, PoolFull, Service, ControlFrame, Link, is_multiple_frame, state_number, Config, Answer, refused, Line, fresh_line, has_tei, link_of, place_in, state_of, IsInRange, notes_of, is_data_of, Card, line_at, is_full, at, moments, has_lines, by_room, line_sound, AllHaveTheirTimers}
+use Rattle.laws_trace.proofs.Vocabulary.{◌≡◌, ℕ, ◌<◌, ◌==◌, ◌&&◌, ◌||◌, not, Bool, true, false, cond, List, [], ◌++◌, get_or, Some, None, refl, sym, ap, ◌∙◌, subst, arith, eq-eqb, fold, and_parts, list_any, option_map_or, get_or-set_same, PoolFull, Service, ControlFrame, Link, is_multiple_frame, state_number, Config, Answer, refused, Line, fresh_line, has_tei, link_of, place_in, state_of, IsInRange, notes_of, is_data_of, Card, line_at, is_full, at, moments, has_lines, by_room, line_sound, AllHaveTheirTimers, fresh, CardEvent as Event, Moment, after_all, IsAtLine, AreAtLines, put_in, is_frame_of, managing_is_on as is_on, Observed, View, views, view_of, moment_of, view_behind, Outgoing, outgoing_of, is_empty, still_owes, trace_frame_in as frame_in, is_up, Seen, seen, trace_of, and-false, line_after as after, answer, takes_slot, CardIsSound as IsSound}
 use Rattle.model_line.specs.Event as line_event
-use Rattle.model_line.specs.Machine as lines
-use Rattle.model_card.specs.Card.{fresh}
-use Rattle.model_card.specs.Event as card
-use Rattle.model_card.specs.Event.{Event}
 use Rattle.model_card.specs.Machine as cards
-use Rattle.model_card.specs.Run.{Moment, after_all, IsAtLine, AreAtLines}
-use Rattle.model_card.specs.Sound as card_sound
-use Rattle.laws_trace.specs.ControlFrames.{put_in}
-use Rattle.laws_trace.specs.LinkFrames.{is_frame_of}
-use Rattle.laws_trace.specs.Managing.{is_on}
-use Rattle.laws_trace.specs.Observer.{Observed, View, views, view_of, moment_of, view_behind}
 use Rattle.laws_trace.specs.Outgoing as outgoing
-use Rattle.laws_trace.specs.Outgoing.{Outgoing, outgoing_of, is_empty, still_owes}
-use Rattle.laws_trace.specs.Trace.{frame_in, is_up, Seen, seen, trace_of}
 use Rattle.laws_trace.proofs.ControlsAtLine.{waits, put_here}
 use Rattle.laws_trace.proofs.ControlsDue.{controls}
 use Rattle.laws_trace.proofs.ControlsWatched.{command_of}
@@ -24,11 +12,10 @@ use Rattle.laws_trace.proofs.DeliveriesWatched.{Standing, at_first as watched_fi
 use Rattle.laws_trace.proofs.LinkLed.{on-line}
 use Rattle.laws_trace.proofs.LinksMove.{differ-self, none-expires}
 use Rattle.laws_trace.proofs.MovesWatched.{repeated}
-use Rattle.laws_trace.proofs.NewsWatched as news
-use Rattle.laws_trace.proofs.NewsWatched.{none_owed, owing}
+use Rattle.laws_trace.proofs.NewsWatched.{none_owed, owing, asked}
 use Rattle.laws_trace.proofs.ObservedAcknowledged.{agrees-now}
 use Rattle.laws_trace.proofs.ObservedControlsMoment.{puts-by}
-use Rattle.laws_trace.proofs.ObservedControlsSeen.{none-mapped, not-one}
+use Rattle.laws_trace.proofs.ObservedControlsSeen.{none-mapped}
 use Rattle.laws_trace.proofs.ObservedRun.{holds-now, known-is}
 use Rattle.laws_trace.proofs.Outgoing.{comes, its, behind_of, here-at, has-now}
 use Rattle.laws_trace.proofs.OwedAtLine.{Owed, stays-owed, event-pends}
@@ -41,10 +28,7 @@ use Rattle.laws_trace.proofs.States.{expired_of, one_more, differ}
 use Rattle.laws_trace.proofs.TimersAreTimely.{config-now, sound-now, timely-now}
 use Rattle.laws_trace.proofs.TimersWatched.{nothing_yet as known_first, watch}
 use Rattle.laws_trace.proofs.WaitingNow.{waits-stay}
-
-and-none : (b : Bool) → (b && false) ≡ false
-and-none true = refl
-and-none false = refl
+use Rattle.laws_trace.proofs.Facts.{not-one}
 
 -- An event of a line of a card.
 module _ (service : Service) (tei n : ℕ) (busy rejected : Bool) where
@@ -76,12 +60,12 @@ module _ (service : Service) (tei n : ℕ) (busy rejected : Bool) where
   idle c l what why none silent stands no-time was-on is-on =
       let own = link_of service tei l in
       stays-owed (up l) own.pending stands.pends_up
-      ∙ ap (λ b. Owed (up l) (up l) [] b (own.pending || false)) (sym (and-none (is_empty own.waiting)))
+      ∙ ap (λ b. Owed (up l) (up l) [] b (own.pending || false)) (sym (and-false (is_empty own.waiting)))
       ∙ ap (λ fs. Owed (up l) (up l) [] (is_empty own.waiting && list_any (is_frame_of c service tei) fs) (own.pending || false)) (sym none)
       ∙ ap (λ ns. Owed (up l) (up l) [] (is_empty own.waiting && list_any (is_frame_of c service tei) (frame_in why)) (own.pending || list_any (is_data_of service tei) ns)) (sym silent)
       ∙ ap (λ puts. Owed (up l) (up l) puts (is_empty own.waiting && list_any (is_frame_of c service tei) (frame_in why)) (own.pending || list_any (is_data_of service tei) (notes_of why))) (sym (no-put c l what no-time))
 
-  pub own-pends : (m : Card) (e : card.Event) → card_sound.IsSound m → AllHaveTheirTimers m → IsAtLine m e → let l = line_at e.line m in
+  pub own-pends : (m : Card) (e : Event) → IsSound m → AllHaveTheirTimers m → IsAtLine m e → let l = line_at e.line m in
       IsCount (link_of service tei l) n → IsStanding (link_of service tei l) busy rejected → let a = cards.answer e m in
       Pends m.config (standing service tei m.config was (seen e.what a)) l e.what (seen e.what a) a (line_at e.line (cards.after e m))
   own-pends m e s timely here count stands =
@@ -89,15 +73,15 @@ module _ (service : Service) (tei n : ℕ) (busy rejected : Bool) where
       let l = line_at e.line m in
       by_room (λ ls a. Pends c (standing service tei c was (seen e.what a)) l e.what (seen e.what a) a (get_or ls e.line (fresh_line c))) e m
       (λ full.
-      let takes = (and_parts (lines.takes_slot c e.what l) (is_full m) full).0 in
+      let takes = (and_parts (takes_slot c e.what l) (is_full m) full).0 in
       subst (λ t. Pends c (standing service tei c was t) l e.what t (refused PoolFull) l) (sym (nothing-seen c e.what l takes))
       (idle c l e.what (refused PoolFull) refl refl stands (ap (λ o. option_map_or one_more o 0) (none-expires c service tei e.what l takes))))
       (λ room.
-      let t = seen e.what (lines.answer c e.what l) in
-      let next = lines.after c e.what l in
-      subst (λ (x : Line). Pends c (standing service tei c was t) l e.what t (lines.answer c e.what l) x)
+      let t = seen e.what (answer c e.what l) in
+      let next = after c e.what l in
+      subst (λ (x : Line). Pends c (standing service tei c was t) l e.what t (answer c e.what l) x)
       (sym (get_or-set_same m.lines e.line next (fresh_line c) (omega (arith, s.count, here))))
-      (subst (λ w. Pends c w l e.what t (lines.answer c e.what l) next) (sym (stand-is service tei c e.what l n busy rejected))
+      (subst (λ w. Pends c w l e.what t (answer c e.what l) next) (sym (stand-is service tei c e.what l n busy rejected))
       (event-pends service tei c s.config e.what l (line_sound m e.line (has_lines m s) here) (timely.lines e.line here) n busy rejected count stands)))
 
 -- What waits, and is owed.
@@ -165,7 +149,7 @@ module _ (c : Config) (number : ℕ) (ranged : IsInRange c) (within : number < c
         let ms = moments (fresh c) before in
         subst (λ (d : Config). Puts d ≡ put_in d service tei o (views d service tei number v its-moment).link its-moment) same-config
         (puts-by service tei number m (sound-now c before number ranged all within service tei) (timely-now c before number ranged all within service tei) (at number what) (here-at c number ranged within service tei before all)
-        (fold (watch c service tei number) known_first ms) (fold (news.asked service tei number) false ms) (fold (owing c service tei number) none_owed ms)
+        (fold (watch c service tei number) known_first ms) (fold (asked service tei number) false ms) (fold (owing c service tei number) none_owed ms)
         (known-is c before number ranged all within service tei ms known_first none_owed refl) (fold (repeated service tei number) 0 ms) v (holds-now c before number ranged all within service tei)
         w.told.count w.busy w.rejected (stands.1, stands.2) (agrees-now c before number ranged all within service tei) true (eq-eqb number number refl)
         ∙ ap (λ b. cond (not b) (put_in m.config service tei o (views m.config service tei number v its-moment).link its-moment) []) (ap (λ s. s == 1) was-state ∙ not-one (link_of service tei l).state))

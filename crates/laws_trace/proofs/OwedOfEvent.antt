@@ -1,13 +1,7 @@
 -- Whether I-frames are outstanding, as an observer knows it: one event of a line.
-use Rattle.laws_trace.proofs.Vocabulary.{◌≡◌, ℕ, ◌+◌, ◌%◌, ◌≤◌, ◌==◌, not, Bool, true, false, length, Option, Some, None, refl, sym, ap, ◌∙◌, subst, arith, eq-eqb, true≢false, ◌⊎◌, inl, inr, option_map_or, Service, place_of-is, State, TeiAssigned, AwaitingEstablishment, Established, TimerRecovery, Link, Config, Line, link_in, link_of, place_in, state_of, terms, IsInRange, sound_in, terms_in_range, HaveTheirTimers}
-use Rattle.model_link.specs.Events as link
-use Rattle.model_link.specs.Link.{fresh}
+use Rattle.laws_trace.proofs.Vocabulary.{◌≡◌, ℕ, ◌+◌, ◌%◌, ◌≤◌, ◌==◌, not, Bool, true, false, length, Option, Some, None, refl, sym, ap, ◌∙◌, subst, arith, eq-eqb, true≢false, ◌⊎◌, inl, inr, Service, place_of-is, State, TeiAssigned, AwaitingEstablishment, Established, TimerRecovery, Link, Config, Line, link_of, place_in, state_of, terms, IsInRange, terms_in_range, HaveTheirTimers, fresh_link as fresh, Event, line_after as after, answer, IsSound, offer, begun}
 use Rattle.model_link.specs.Machine as links
 use Rattle.model_link.specs.Sound as link_sound
-use Rattle.model_link.specs.Steps as steps
-use Rattle.model_line.specs.Event.{Event}
-use Rattle.model_line.specs.Machine.{after, answer}
-use Rattle.model_line.specs.Sound.{IsSound}
 use Rattle.laws_trace.proofs.TimersWatched.{Known}
 use Rattle.laws_trace.proofs.States.{is_state}
 use Rattle.laws_trace.proofs.OneLink.{HasOne, Goes, event-goes}
@@ -17,6 +11,7 @@ use Rattle.laws_trace.proofs.TimerEvents.{event-good}
 use Rattle.laws_trace.proofs.TimersAreTimely.{outstanding-is}
 use Rattle.laws_trace.proofs.TimersOfEvent.{IsTrueOf, state-on, off-fresh, off-state}
 use Rattle.laws_trace.proofs.TimersOfEvent as events
+use Rattle.laws_trace.proofs.LineAtEnd.{link-at-end}
 
 abbrev pub IsOwed : Service → ℕ → Bool → Line → Type 0
 IsOwed service tei outstanding l = let x = link_of service tei l in outstanding ≡ not (x.s == x.a)
@@ -53,8 +48,7 @@ module _ (c : Config) (ranged : IsInRange c) (l : Line) (s : IsSound c l) (servi
           none-owed (subst (λ (x : Link). Agrees x.state k x.a x.s x.peer_busy) new agrees) (ap (λ (x : Link). x.s) new ∙ sym (ap (λ (x : Link). x.a) new))
       go (Some place) on =
           let placed = (place_of-is l.management.places tei place on).1 in
-          let sound : link_sound.IsSound (terms c service tei) own =
-          subst (link_sound.IsSound (terms c service tei)) (sym (ap (λ o. option_map_or (link_in l service) o fresh) on)) (sound_in c ranged l s service tei place placed) in
+          let sound : link_sound.IsSound (terms c service tei) own = link-at-end c l ranged s service tei place on in
           let high : own.s ≤ own.a + (terms c service tei).k = sound.within in
           let small : (terms c service tei).k ≤ 127 = (terms_in_range c ranged service tei (s.management.table.range place tei placed)).k_high in
           by-state own.state (sym (ap (is_state 5) (state-on service tei l place on)) ∙ off) agrees sound.settled sound (omega (arith, high, small))
@@ -70,14 +64,14 @@ module _ (c : Config) (ranged : IsInRange c) (l : Line) (s : IsSound c l) (timed
   abbrev Same : Link → Type 0
   Same y = not (y.s == y.a) ≡ not (was.s == was.a)
 
-  by-kept : (y : Link) → is_state 5 (told_state y.state) ≡ true → Kept y.state (timing (steps.begun was)) (record (timing (steps.begun was)) { a = y.a; s = y.s }) → Same y
+  by-kept : (y : Link) → is_state 5 (told_state y.state) ≡ true → Kept y.state (timing (begun was)) (record (timing (begun was)) { a = y.a; s = y.s }) → Same y
   by-kept y in_5 kept = go y.state in_5 kept
     where
-      go : (here : State) → is_state 5 (told_state here) ≡ true → Kept here (timing (steps.begun was)) (record (timing (steps.begun was)) { a = y.a; s = y.s }) → Same y
+      go : (here : State) → is_state 5 (told_state here) ≡ true → Kept here (timing (begun was)) (record (timing (begun was)) { a = y.a; s = y.s }) → Same y
       go AwaitingEstablishment is kept = ap (λ n. not (n == y.a)) kept.1 ∙ ap (λ n. not (was.s == n)) kept.0
       go other is kept = absurd (true≢false (sym is))
 
-  shape : (here : State) (y : Timing) → Kept here (timing (steps.begun was)) y → Kept here (timing (steps.begun was)) (record (timing (steps.begun was)) { a = y.a; s = y.s })
+  shape : (here : State) (y : Timing) → Kept here (timing (begun was)) y → Kept here (timing (begun was)) (record (timing (begun was)) { a = y.a; s = y.s })
   shape AwaitingEstablishment y kept = kept
   shape other y kept = tt
 
@@ -104,8 +98,8 @@ module _ (c : Config) (ranged : IsInRange c) (l : Line) (s : IsSound c l) (timed
               (events.own-timed c ranged l s timed service tei k agrees e x.place x.placed) agrees x.event o.no_offer o.no_cleared).kept))
               (λ is offered.
               subst (λ event. Same (links.after t event was)) (sym offered)
-              (by-kept (links.after t link.offer was) (ap (λ event. is_state 5 (told_state (links.after t event was).state)) (sym offered) ∙ then)
-              (shape (links.after t link.offer was).state (timing (links.course t link.offer was)) (events.offers c ranged l s timed service tei k agrees e x).kept))))
+              (by-kept (links.after t offer was) (ap (λ event. is_state 5 (told_state (links.after t event was).state)) (sym offered) ∙ then)
+              (shape (links.after t offer was).state (timing (links.course t offer was)) (events.offers c ranged l s timed service tei k agrees e x).kept))))
 
           by-goes : Goes c service tei e l (after c e l) (answer c e l) → Same next
           by-goes (inr (inl x)) = by-one x

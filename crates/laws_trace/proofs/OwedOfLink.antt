@@ -1,16 +1,10 @@
 -- Whether a link owes an acknowledgement behind one of its events.
-use Rattle.laws_trace.proofs.Vocabulary.{◌≡◌, ◌&&◌, ◌||◌, Bool, true, false, cond, List, [], ◌∷◌, refl, sym, ap, ◌∙◌, true≢false, inl, inr, is_some, Sabme, Ua, Parts, flag_left, takes_contents, unless_put, owed_in, pending_left, as_heard, is_overlong, numbers_begin, state_after, put, event-follows, State, AwaitingEstablishment, Established, TimerRecovery, ControlFrame, Terms, restarts, eligible, overlong, received, offer, cleared, Link, is_multiple_frame, delivery, event-delivers}
-use Rattle.lapd_frame.specs.declared.controls.Control.{Control}
-use Rattle.model_link.specs.Events.{Event, frame}
-use Rattle.model_link.specs.Machine as links
-use Rattle.laws_trace.specs.Outgoing.{is_empty}
+use Rattle.laws_trace.proofs.Vocabulary.{◌≡◌, ◌&&◌, ◌||◌, Bool, true, false, List, [], ◌∷◌, refl, sym, ap, ◌∙◌, true≢false, inl, inr, is_some, Sabme, Ua, Parts, flag_left, takes_contents, unless_put, owed_in, pending_left, as_heard, is_overlong, numbers_begin, state_after, put, event-follows, State, AwaitingEstablishment, Established, TimerRecovery, ControlFrame, Terms, restarts, eligible, overlong, received, offer, cleared, Link, is_multiple_frame, delivery, event-delivers, Control, LinkEvent as Event, frame, is_empty, or_comm, link_after as after, link_told as told, cond_both, false_from_ne_true}
 use Rattle.laws_trace.proofs.Begins.{in-state, up-before}
 use Rattle.laws_trace.proofs.CommandsCaused.{IsNoOther}
 use Rattle.laws_trace.proofs.ReceiptsNumbered.{PendsUp, pends-up, taken-is}
 use Rattle.laws_trace.proofs.StandingOfLink.{is_awaiting, off-where-begun, as-left}
-
-no : {A : Type 0} → false ≡ true → A
-no e = absurd (true≢false (sym e))
+use Rattle.laws_trace.proofs.Facts.{never}
 
 -- Where the numbers begin in states 7 and 8, UA is put.
 module _ (t : Terms) where
@@ -18,42 +12,33 @@ module _ (t : Terms) where
   Puts e l = is_multiple_frame l.state ≡ true → numbers_begin e l.state (state_after t e l) ≡ true → is_empty (put e l (state_after t e l)) ≡ false
 
   puts-ua : (f : Parts) (here : State) (l : Link) → Puts (received (frame (record f { control = Ua true }))) (record l { state = here })
-  puts-ua f Established l up is = no is
-  puts-ua f TimerRecovery l up is = no is
-  puts-ua f other l up is = no up
+  puts-ua f Established l up is = never is
+  puts-ua f TimerRecovery l up is = never is
+  puts-ua f other l up is = never up
 
   puts-frame : (f : Parts) (control : Control) (l : Link) → Puts (received (frame (record f { control = control }))) l
   puts-frame f (Sabme p) l = λ up is. refl
   puts-frame f (Ua true) l = in-state (Puts (received (frame (record f { control = Ua true })))) l (λ here. puts-ua f here l)
-  puts-frame f other l = λ up is. no is
+  puts-frame f other l = λ up is. never is
 
   puts-begun : (e : Event) (l : Link) → IsNoOther e → Puts (as_heard t e) l
-  puts-begun (received (frame f)) l other = go (is_overlong t f.control f.info)
-    where
-      go : (long : Bool) → Puts (received (cond long overlong (frame f))) l
-      go true = λ up is. no is
-      go false = puts-frame f f.control l
+  puts-begun (received (frame f)) l other =
+      cond_both (is_overlong t f.control f.info) overlong (frame f) (λ what. Puts (received what) l) (λ long up is. never is) (λ short. puts-frame f f.control l)
   puts-begun offer l other = absurd other
   puts-begun cleared l other = absurd other
-  puts-begun any l other = λ up is. no is
+  puts-begun any l other = λ up is. never is
 
 awaiting-down : (s : State) → is_awaiting s ≡ true → is_multiple_frame s ≡ false
 awaiting-down AwaitingEstablishment is = refl
-awaiting-down other is = no is
+awaiting-down other is = never is
 
 unless-empty : (frames : List ControlFrame) (owed : Bool) → unless_put frames owed ≡ (is_empty frames && owed)
 unless-empty [] owed = refl
 unless-empty (f ∷ frames) owed = refl
 
-either-way : (a b : Bool) → (a || b) ≡ (b || a)
-either-way true true = refl
-either-way true false = refl
-either-way false true = refl
-either-way false false = refl
-
 module _ (t : Terms) (e : Event) (l : Link) (other : IsNoOther e) (owed : PendsUp l) where
   abbrev next : Link
-  next = links.after t e l
+  next = after t e l
 
   abbrev heard : Event
   heard = as_heard t e
@@ -62,7 +47,7 @@ module _ (t : Terms) (e : Event) (l : Link) (other : IsNoOther e) (owed : PendsU
   to = state_after t heard l
 
   abbrev delivers : Bool
-  delivers = is_some (links.told t e l).delivered
+  delivers = is_some (told t e l).delivered
 
   abbrev owes : Bool
   owes = unless_put (put heard l to) (takes_contents heard l || l.pending)
@@ -84,11 +69,7 @@ module _ (t : Terms) (e : Event) (l : Link) (other : IsNoOther e) (owed : PendsU
 
   -- it is false
   none-down : (k : Link) → PendsUp k → is_multiple_frame k.state ≡ false → k.pending ≡ false
-  none-down k h down = go k.pending refl
-    where
-      go : (b : Bool) → k.pending ≡ b → b ≡ false
-      go false is = refl
-      go true is = absurd (true≢false (sym (h is) ∙ down))
+  none-down k h down = false_from_ne_true k.pending (λ is. true≢false (sym (h is) ∙ down))
 
   none-begun : restarts t e l ≡ true → next.pending ≡ false
   none-begun begins = left-is ∙ off-where-begun t (owed_in to owes) l.pending heard l (sym begin-is ∙ begins) (λ waits. none-down l owed (awaiting-down l.state waits))
@@ -117,4 +98,4 @@ module _ (t : Terms) (e : Event) (l : Link) (other : IsNoOther e) (owed : PendsU
           let stays : is_multiple_frame to ≡ true = ap is_multiple_frame (sym state-is) ∙ up in
           left-is ∙ as-left t (owed_in to owes) l.pending heard l to was stays (sym begin-is ∙ on)
           ∙ ap (λ b. b && owes) stays ∙ unless-empty (put heard l to) (takes_contents heard l || l.pending)
-          ∙ ap (λ b. is_empty (put heard l to) && (b || l.pending)) (takes was on) ∙ ap (λ b. is_empty (put heard l to) && b) (either-way delivers l.pending)
+          ∙ ap (λ b. is_empty (put heard l to) && (b || l.pending)) (takes was on) ∙ ap (λ b. is_empty (put heard l to) && b) (or_comm delivers l.pending)

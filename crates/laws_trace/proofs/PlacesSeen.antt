@@ -1,14 +1,8 @@
 -- What an event shows of the places of a link: data that is granted, and that layer 3 learns of a loss.
-use Rattle.laws_trace.proofs.Vocabulary.{◌≡◌, ℕ, Bool, true, false, cond, List, [], ◌++◌, ◌∷◌, ◌&&◌, ◌||◌, map, Some, None, refl, sym, ap, ◌∙◌, append-nil, flat_map, list_any, Service, Timer, is_release, Answer, hears, expiry, request, next, refused, gave, Deactivate, deactivates, notes_of, is_loss_of, is_granted}
+use Rattle.laws_trace.proofs.Vocabulary.{◌≡◌, ℕ, Bool, true, false, cond, List, [], ◌++◌, ◌∷◌, ◌&&◌, ◌||◌, map, Some, None, refl, sym, ap, ◌∙◌, append-nil, flat_map, list_any, Service, Timer, is_release, Answer, hears, expiry, request, next, refused, gave, Deactivate, deactivates, notes_of, is_loss_of, is_granted, Event, LineTold, told, Request, Release, Data, of_link, releases, Seen, data_asked, granted, trace_noted as noted, is_own, seen, seen_told, seen_granted, trace_frame_in as frame_in, and-false, or-false, and-true, trace_begun as begun}
 use Rattle.model_bits.specs.Stream as stream
 use Rattle.model_link.specs.Events as link
-use Rattle.model_line.specs.Event.{Event, LineTold, told}
-use Rattle.model_line.specs.Request.{Request, Release, Data}
-use Rattle.laws_line.specs.Requests.{of_link}
-use Rattle.laws_trace.specs.News.{releases}
 use Rattle.laws_trace.specs.Outgoing as outgoing
-use Rattle.laws_trace.specs.Trace as traces
-use Rattle.laws_trace.specs.Trace.{Seen, data_asked, granted, noted, is_own, seen, seen_told, seen_granted, frame_in}
 use Rattle.laws_trace.proofs.LinkLed.{own-is}
 
 -- Data that is granted, as it is seen; and that layer 3 learns of a loss.
@@ -27,17 +21,17 @@ shows_loss service tei (noted ns contents) = list_any (is_loss_of service tei) n
 shows_loss service tei other = false
 
 module _ (service : Service) (tei : ℕ) where
-  abbrev pub granted_in : List traces.Seen → List (List ℕ)
+  abbrev pub granted_in : List Seen → List (List ℕ)
   granted_in t = flat_map (data_granted service tei) t
 
-  abbrev pub lost_in : List traces.Seen → Bool
+  abbrev pub lost_in : List Seen → Bool
   lost_in t = list_any (shows_loss service tei) t
 
   pub told-grants : (a : Answer) → granted_in (seen_told a) ≡ []
   told-grants (told t) = refl
   told-grants other = refl
 
-  pub begun-grants : (a : Answer) → granted_in (map traces.begun (frame_in a)) ≡ []
+  pub begun-grants : (a : Answer) → granted_in (map begun (frame_in a)) ≡ []
   begun-grants (gave None) = refl
   begun-grants (gave (Some f)) = refl
   begun-grants other = refl
@@ -88,21 +82,9 @@ module _ (service : Service) (tei : ℕ) where
   granted-so (request r) (gave frame) = asked-grants r (gave frame) ∙ sym (none-granted r (gave frame) refl)
   granted-so other a = told-grants a
 
-  or-none : (b : Bool) → (b || false) ≡ b
-  or-none true = refl
-  or-none false = refl
-
-  and-all : (b : Bool) → (b && true) ≡ b
-  and-all true = refl
-  and-all false = refl
-
-  and-none : (b : Bool) → (b && false) ≡ false
-  and-none true = refl
-  and-none false = refl
-
   released-is : (r : Request) (t : LineTold) → is_release_of service tei r ≡ (releases service tei (request r) (told t) || (deactivates service tei (request r) && true))
-  released-is (Release of by) t = sym (or-none (is_own service tei of by))
-  released-is (Deactivate of by) t = sym (and-all (is_own service tei of by))
+  released-is (Release of by) t = sym (or-false (is_own service tei of by))
+  released-is (Deactivate of by) t = sym (and-true (is_own service tei of by))
   released-is other t = refl
 
   none-released : (r : Request) (a : Answer) → is_granted a ≡ false → releases service tei (request r) a ≡ false
@@ -117,7 +99,7 @@ module _ (service : Service) (tei : ℕ) where
   untold r a none quiet =
       ap (λ b. b || (deactivates service tei (request r) && is_granted a) || list_any (is_loss_of service tei) (notes_of a)) (none-released r a none)
       ∙ ap (λ b. (deactivates service tei (request r) && b) || list_any (is_loss_of service tei) (notes_of a)) none
-      ∙ ap (λ b. b || list_any (is_loss_of service tei) (notes_of a)) (and-none (deactivates service tei (request r))) ∙ quiet
+      ∙ ap (λ b. b || list_any (is_loss_of service tei) (notes_of a)) (and-false (deactivates service tei (request r))) ∙ quiet
 
   pub lost-so : (what : Event) (a : Answer) → (what ≡ next → notes_of a ≡ []) → lost_in (seen what a) ≡ outgoing.loses service tei what a
   lost-so (hears e) a quiet = heard-loses e a

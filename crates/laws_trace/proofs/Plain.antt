@@ -1,27 +1,18 @@
 -- All that waits on a link are control frames: neither I-frames nor UI.
-use Rattle.laws_trace.proofs.Vocabulary.{◌≡◌, ℕ, ◌<◌, Bool, true, false, List, [], ◌∷◌, Some, refl, sym, ap, subst, arith, true≢false, All, option_map_or, get_or-replicate, All-nil, All-cons, All-head, All-tail, Information, Ui, Service, place_of-is, at-within, ControlFrame, Link, Config, Line, fresh_line, link_in, link_number, link_of, place_in, terms, number_within, IsInRange, line_at, fresh_is_sound}
-use Rattle.lapd_frame.specs.declared.controls.Control.{Control}
-use Rattle.model_link.specs.Link.{fresh as fresh_link}
-use Rattle.model_link.specs.Sound as link_sound
-use Rattle.model_card.specs.Card.{fresh}
-use Rattle.model_card.specs.Event.{Event}
-use Rattle.model_card.specs.Run.{after_all, AreAtLines}
+use Rattle.laws_trace.proofs.Vocabulary.{◌≡◌, ℕ, ◌<◌, Bool, false, List, [], ◌∷◌, Some, refl, sym, ap, subst, arith, All, option_map_or, get_or-replicate, All-nil, All-cons, All-head, All-tail, Information, Ui, Service, place_of-is, at-within, ControlFrame, Link, Config, Line, fresh_line, link_in, link_number, link_of, place_in, terms, number_within, IsInRange, line_at, fresh_is_sound, Control, fresh_link, fresh, CardEvent as Event, after_all, AreAtLines, is_ui, IsWaitingFrame, is_information}
 use Rattle.laws_trace.proofs.ControlsWatched.{control_in}
-use Rattle.laws_trace.specs.Units.{is_ui}
 use Rattle.laws_trace.proofs.LineAtEnd.{link-at-end, line-at-end}
 use Rattle.laws_trace.proofs.ControlsAtLine.{waits}
 use Rattle.laws_trace.proofs.ControlsDue.{IsControl, all-controls}
 use Rattle.laws_trace.proofs.NoUi.{IsPlain}
 use Rattle.laws_trace.proofs.Runs.{run-shows}
 use Rattle.laws_trace.proofs.Units.{NoneWaits, fresh-none, Passes, rests, joins, steps}
+use Rattle.laws_trace.proofs.Facts.{never}
 
-no : {A : Type 0} → false ≡ true → A
-no e = absurd (true≢false (sym e))
-
-pub control-of : (command : Bool) (control : Control) → is_ui control ≡ false → link_sound.is_information control ≡ false
+pub control-of : (command : Bool) (control : Control) → is_ui control ≡ false → is_information control ≡ false
     → control_in command control ≡ record { command = command; control = control } ∷ []
-control-of command (Information ns nr p) plain bare = no (sym bare)
-control-of command (Ui p) plain bare = no (sym plain)
+control-of command (Information ns nr p) plain bare = never (sym bare)
+control-of command (Ui p) plain bare = never (sym plain)
 control-of command other plain bare = refl
 
 module _ (c : Config) (events : List Event) (number : ℕ) (ranged : IsInRange c) (all : AreAtLines (fresh c) events) (within : number < c.lines) (service : Service) (tei place : ℕ)
@@ -44,12 +35,12 @@ module _ (c : Config) (events : List Event) (number : ℕ) (ranged : IsInRange c
       subst (λ (k : Link). All IsPlain k.waiting) (sym (ap (λ o. option_map_or (link_in line service) o fresh_link) on))
       (none-waits (link_number place service) (number_within place c.terminals service (omega (arith, s.places, at-within line.management.places place tei at))))
 
-  both : (ws : List ControlFrame) → All IsPlain ws → All (link_sound.IsWaitingFrame (terms c service tei)) ws → All IsControl ws
+  both : (ws : List ControlFrame) → All IsPlain ws → All (IsWaitingFrame (terms c service tei)) ws → All IsControl ws
   both [] plain bare = All-nil IsControl
   both (f ∷ fs) plain bare =
       All-cons IsControl f fs
-      (control-of f.command f.control (All-head IsPlain f fs plain) (All-head (link_sound.IsWaitingFrame (terms c service tei)) f fs bare).without_contents)
-      (both fs (All-tail IsPlain f fs plain) (All-tail (link_sound.IsWaitingFrame (terms c service tei)) f fs bare))
+      (control-of f.command f.control (All-head IsPlain f fs plain) (All-head (IsWaitingFrame (terms c service tei)) f fs bare).without_contents)
+      (both fs (All-tail IsPlain f fs plain) (All-tail (IsWaitingFrame (terms c service tei)) f fs bare))
 
   -- So what an observer has of those is all that waits.
   pub all-wait : waits service tei line ≡ own.waiting

@@ -1,9 +1,5 @@
 -- V(R) of a link behind an event, and when an acknowledgement is owed.
-use Rattle.laws_trace.proofs.Vocabulary.{◌≡◌, ℕ, ◌%◌, ◌==◌, ◌&&◌, ◌||◌, Bool, true, false, cond, List, [], ◌∷◌, length, Some, None, refl, sym, ap, ◌∙◌, arith, true≢false, is_some, nat_le, nat_lt, not, leb-true, leb-false, Information, Parts, Seq, seq, ControlFrame, State, Terms, Arrived, eligible, overlong, received, offer, Link, is_multiple_frame, delivery, takes_contents, owed_in, owed_behind, unless_put, pending_left, as_heard, is_anew, state_after, put, event-follows}
-use Rattle.std.proofs.lemmas.Bool.{ltb-true, ltb-false}
-use Rattle.lapd_frame.specs.declared.controls.Control.{Control}
-use Rattle.model_link.specs.Events.{Event, frame}
-use Rattle.model_link.specs.Machine as links
+use Rattle.laws_trace.proofs.Vocabulary.{◌≡◌, ℕ, ◌%◌, ◌==◌, ◌&&◌, ◌||◌, Bool, true, false, cond, List, [], ◌∷◌, length, Some, None, refl, sym, ap, ◌∙◌, arith, true≢false, is_some, nat_le, nat_lt, not, leb-true, leb-false, Information, Parts, Seq, seq, ControlFrame, State, Terms, Arrived, eligible, overlong, received, offer, Link, is_multiple_frame, delivery, takes_contents, owed_in, owed_behind, unless_put, pending_left, as_heard, is_anew, state_after, put, event-follows, ltb-true, ltb-false, Control, LinkEvent as Event, frame, link_after as after}
 
 -- Contents that are next are delivered.
 not-less : (n m : ℕ) → (b : Bool) → nat_lt n m ≡ b → nat_le m n ≡ not b
@@ -76,7 +72,7 @@ left-up t other l h is =
     let to = state_after t other l in
     flag-up (is_anew other l.state to) (is_multiple_frame l.state) to (unless_put (put other l to) (takes_contents other l || l.pending)) l.pending h is
 
-pub pends-up : (t : Terms) (e : Event) (l : Link) → PendsUp l → PendsUp (links.after t e l)
+pub pends-up : (t : Terms) (e : Event) (l : Link) → PendsUp l → PendsUp (after t e l)
 pends-up t e l h is =
     let leaves = (event-follows t e l).leaves in
     let heard = as_heard t e in

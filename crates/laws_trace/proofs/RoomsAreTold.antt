@@ -1,17 +1,7 @@
 -- What is told of the room of a link: the law.
-use Rattle.laws_trace.proofs.Vocabulary.{◌≡◌, ℕ, ◌≤◌, Bool, true, false, not, cond, length, Option, Some, None, Ok, refl, sym, ap, ◌∙◌, subst, arith, true≢false, nat_lt, le-ltb, Refusal, BadTei, NoLink, place_of-is, is_on-at, Room, queue_of, is_multiple_frame, room_of, Config, Effect, Line, link_of, place_in, terms, has_tei, unless_refused_told, unless, Card, line_at, is_full, free, answer_is, refuses_by, is-off}
-use Rattle.lapd_frame.specs.declared.refusals.Refusal.TheVariants.{WrongState}
-use Rattle.model_line.specs.Machine as lines
-use Rattle.model_line.specs.Request.{Data}
-use Rattle.model_line.specs.Refusal.{refusal}
-use Rattle.model_card.specs.Card.{fresh}
+use Rattle.laws_trace.proofs.Vocabulary.{◌≡◌, ℕ, ◌≤◌, Bool, true, false, not, cond, length, Option, Some, None, Ok, refl, sym, ap, ◌∙◌, subst, arith, true≢false, nat_lt, le-ltb, Refusal, BadTei, NoLink, place_of-is, is_on-at, Room, queue_of, is_multiple_frame, room_of, Config, Effect, Line, link_of, place_in, terms, has_tei, unless_refused_told, unless, Card, line_at, is_full, free, answer_is, refuses_by, is-off, WrongState, Data, refusal, fresh, after_all, managing_is_on as is_on, View, view_of, Outgoing, outgoing_of, Always, is_up, of_request}
 use Rattle.model_card.specs.Room.{room}
-use Rattle.model_card.specs.Run.{after_all}
-use Rattle.laws_trace.specs.Managing.{is_on}
-use Rattle.laws_trace.specs.Observer.{View, view_of}
-use Rattle.laws_trace.specs.Outgoing.{Outgoing, outgoing_of}
 use Rattle.laws_trace.specs.RoomsAreTold.{refusal_in, IsRoom, RoomsAreTold}
-use Rattle.laws_trace.specs.Trace.{Always, is_up}
 use Rattle.laws_trace.proofs.LineAtEnd.{line-at-end, link-at-end}
 use Rattle.laws_trace.proofs.Outgoing.{view-is, kept-now}
 use Rattle.laws_trace.proofs.SeenAs.{seen-before, tei-seen, up-number}
@@ -80,11 +70,11 @@ rooms-are-told c events number ranged all within service tei is_on_line = told p
           va = λ up. sym (ap (λ (v : View). v.link.acknowledged) view ∙ seen.acknowledged_is (sym state ∙ up));
           refuses = λ up contents short.
               ap refusal_in (answer_is card number (Data service tei contents))
-              ∙ refused-so (refusal card.config (is_full card) (Data service tei contents) l) (lines.of_request card.config (Data service tei contents) l)
+              ∙ refused-so (refusal card.config (is_full card) (Data service tei contents) l) (of_request card.config (Data service tei contents) l)
               ∙ refuses_by card number service tei left is contents (sym state ∙ up) (subst (λ (d : Config). length contents ≤ d.n201) (sym same) short);
           down = λ off contents.
               ap refusal_in (answer_is card number (Data service tei contents))
-              ∙ refused-so (refusal card.config (is_full card) (Data service tei contents) l) (lines.of_request card.config (Data service tei contents) l)
+              ∙ refused-so (refusal card.config (is_full card) (Data service tei contents) l) (of_request card.config (Data service tei contents) l)
               ∙ while-down tei (has_tei tei l) (is_multiple_frame own.state) _ (le-ltb 126 tei tei_low)
               (is_on-at l.management.places place tei at) (sym state ∙ off);
         }

@@ -1,20 +1,20 @@
 -- What holds of every event of a line, and of what it shows, holds of the trace of a run.
-use Rattle.laws_trace.proofs.Vocabulary.{◌≡◌, ◌≢◌, ℕ, ◌==◌, Bool, true, false, cond, List, [], ◌∷◌, ◌++◌, get_or, refl, sym, ◌∙◌, subst, arith, eq-eqb, true≢false, and_parts, get_or-set_same, get_or-set_other, All-head, All-tail, PoolFull, Config, refused, Line, fresh_line, Card, line_at, is_full, moments, after_is_sound, has_lines, by_room, line_sound}
-use Rattle.std.proofs.Common.{eqb-true}
+use Rattle.laws_trace.proofs.Vocabulary.{◌≡◌, ◌≢◌, ℕ, ◌==◌, Bool, true, false, cond, List, [], ◌∷◌, ◌++◌, get_or, refl, sym, ◌∙◌, subst, arith, eq-eqb, true≢false, and_parts, get_or-set_same, get_or-set_other, All-head, All-tail, PoolFull, Config, refused, Line, fresh_line, Card, line_at, is_full, moments, after_is_sound, has_lines, by_room, line_sound, eqb-true, CardEvent as Event, after, card_answer as answer, after_all, IsAtLine, AreAtLines, CardIsSound as IsSound, Seen, seen, trace}
 use Rattle.model_line.specs.Event as line_event
 use Rattle.model_line.specs.Machine as lines
 use Rattle.model_line.specs.Sound as line
-use Rattle.model_card.specs.Event.{Event}
-use Rattle.model_card.specs.Machine.{after, answer}
-use Rattle.model_card.specs.Run.{after_all, IsAtLine, AreAtLines}
-use Rattle.model_card.specs.Sound.{IsSound}
-use Rattle.laws_trace.specs.Trace.{Seen, seen, trace}
 
 -- A request that finds the pool full shows nothing, and no other event does find it.
 pub nothing-seen : (c : Config) (e : line_event.Event) (l : Line) → lines.takes_slot c e l ≡ true → seen e (refused PoolFull) ≡ []
 unfolding lines.takes_slot
 nothing-seen c (line_event.request r) l takes = refl
 nothing-seen c other l takes = absurd (true≢false (sym takes))
+
+-- An event of one line leaves the others as they are.
+pub apart : (card : Card) (e : Event) (other : ℕ) → other ≢ e.line → line_at other (after e card) ≡ line_at other card
+apart card e other away =
+    by_room (λ ls a. get_or ls other (fresh_line card.config) ≡ line_at other card) e card (λ full. refl)
+    (λ room. get_or-set_other card.lines e.line other (lines.after card.config e.what (line_at e.line card)) (fresh_line card.config) away)
 
 -- An invariant of lines, and what a trace is to the line before it and the one after it.
 module _ (Stands : Config → Line → Type 0) (Shows : Config → Line → List Seen → Line → Type 0)
@@ -39,11 +39,6 @@ module _ (Stands : Config → Line → Type 0) (Shows : Config → Line → List
       subst (λ (x : Line). Both c l (seen e.what (lines.answer c e.what l)) x)
       (sym (get_or-set_same card.lines e.line (lines.after c e.what l) (fresh_line c) (omega (arith, s.count, here))))
       (steps c s.config e.what l (line_sound card e.line (has_lines card s) here) stands))
-
-  apart : (card : Card) (e : Event) (other : ℕ) → other ≢ e.line → line_at other (after e card) ≡ line_at other card
-  apart card e other away =
-      by_room (λ ls a. get_or ls other (fresh_line card.config) ≡ line_at other card) e card (λ full. refl)
-      (λ room. get_or-set_other card.lines e.line other (lines.after card.config e.what (line_at e.line card)) (fresh_line card.config) away)
 
   moment : (card : Card) (e : Event) (number : ℕ) → IsSound card → IsAtLine card e → Stands card.config (line_at number card)
       → (b : Bool) → (e.line == number) ≡ b

@@ -1,13 +1,6 @@
 -- What an observer knows of a link of a TEI on the line: its state, and in states 7 and 8 V(A).
-use Rattle.laws_trace.proofs.Vocabulary.{◌≡◌, ℕ, ◌%◌, ◌<◌, ◌==◌, Bool, true, false, List, Some, refl, sym, ap, ◌∙◌, subst, true≢false, fold, Service, State, TeiAssigned, AwaitingEstablishment, Established, TimerRecovery, Link, is_multiple_frame, state_number, Config, Line, has_tei, link_of, place_in, IsInRange, line_at, at, moments}
+use Rattle.laws_trace.proofs.Vocabulary.{◌≡◌, ℕ, ◌%◌, ◌<◌, ◌==◌, Bool, true, false, List, Some, refl, sym, ap, ◌∙◌, subst, true≢false, fold, Service, State, TeiAssigned, AwaitingEstablishment, Established, TimerRecovery, Link, is_multiple_frame, state_number, Config, Line, has_tei, link_of, place_in, IsInRange, line_at, at, moments, fresh, CardEvent as Event, after, after_all, AreAtLines, managing_is_on as is_on, Observed, View, view_of, moment_of, view_behind, is_up}
 use Rattle.model_line.specs.Event as line_event
-use Rattle.model_card.specs.Card.{fresh}
-use Rattle.model_card.specs.Event.{Event}
-use Rattle.model_card.specs.Machine.{after}
-use Rattle.model_card.specs.Run.{after_all, AreAtLines}
-use Rattle.laws_trace.specs.Managing.{is_on}
-use Rattle.laws_trace.specs.Observer.{Observed, View, view_of, moment_of, view_behind}
-use Rattle.laws_trace.specs.Trace.{is_up}
 use Rattle.laws_trace.proofs.MovesWatched.{repeated}
 use Rattle.laws_trace.proofs.NewsWatched as news
 use Rattle.laws_trace.proofs.NewsWatched.{Owing, none_owed, owing}

@@ -1,11 +1,8 @@
 -- The Ri of each message of TEI management that waits on a line has two octets.
-use Rattle.laws_trace.proofs.Vocabulary.{ℕ, ◌+◌, ◌*◌, ◌/◌, ◌%◌, ◌<◌, ◌≤◌, ◌==◌, ◌&&◌, Bool, true, false, cond, List, [], ◌∷◌, ◌++◌, nat_le, Option, Some, None, arith, All, All-nil, All-cons, All-head, All-tail, All-append, AreOctets, Refusal, Management, Message, IdentityAssigned, IdentityDenied, IdentityCheckRequest, IdentityRemove, Period, First, Second, heard_of_type, heard_in, action_of, free_place, free_tei, no_room}
+use Rattle.laws_trace.proofs.Vocabulary.{ℕ, ◌+◌, ◌*◌, ◌/◌, ◌%◌, ◌<◌, ◌≤◌, ◌==◌, ◌&&◌, Bool, true, false, cond, List, [], ◌∷◌, ◌++◌, nat_le, Option, Some, None, arith, All, All-nil, All-cons, All-head, All-tail, All-append, AreOctets, Refusal, Management, Message, IdentityAssigned, IdentityDenied, IdentityCheckRequest, IdentityRemove, Period, First, Second, heard_of_type, heard_in, action_of, free_place, free_tei, no_room, Check, information_of, TeiCourse as Course, tei_begun as begun, begin_check, check_is, end_check, lose_one, send, unserved, withdraw, cond_both}
 use Rattle.lapd_tei.specs.Events as teis
-use Rattle.lapd_tei.specs.declared.check.Check.{Check}
-use Rattle.lapd_tei.specs.Messages.{information_of}
 use Rattle.lapd_tei.specs.Rows as rows
-use Rattle.lapd_tei.specs.Words as words
-use Rattle.lapd_tei.specs.Words.{Course, begun, with_message}
+use Rattle.lapd_tei.specs.Words.{with_message}
 
 abbrev pub ri_of : Message → ℕ
 ri_of (IdentityAssigned ri tei) = ri
@@ -19,11 +16,8 @@ abbrev AreSmall : Course → Type 0
 AreSmall c = All IsSmall c.now.waiting
 
 sent : (m : Message) (waiting : List Message) → IsSmall m → All IsSmall waiting → All IsSmall (with_message m waiting)
-sent m waiting small h = go (no_room waiting)
-  where
-    go : (b : Bool) → All IsSmall (cond b waiting (waiting ++ m ∷ []))
-    go true = h
-    go false = All-append IsSmall waiting (m ∷ []) h (All-cons IsSmall m [] small (All-nil IsSmall))
+sent m waiting small h =
+    cond_both (no_room waiting) waiting (waiting ++ m ∷ []) (All IsSmall) (λ full. h) (λ room. All-append IsSmall waiting (m ∷ []) h (All-cons IsSmall m [] small (All-nil IsSmall)))
 
 -- The rows.
 request-small : (ri : ℕ) (c : Course) → ri < 65536 → AreSmall c → AreSmall (rows.request ri c)
@@ -39,7 +33,7 @@ request-small ri c small h = go (no_room c.now.waiting)
     known (Some tei) = sent (IdentityAssigned ri tei) c.now.waiting small h
     known None = new (free_place c.now.places) (free_tei c.now.places)
 
-    go : (b : Bool) → AreSmall ((cond b words.lose_one (rows.assign ri (rows.remembered_in ri c.now.remembered))) c)
+    go : (b : Bool) → AreSmall ((cond b lose_one (rows.assign ri (rows.remembered_in ri c.now.remembered))) c)
     go true = h
     go false = known (rows.remembered_in ri c.now.remembered)
 
@@ -49,7 +43,7 @@ none = omega arith
 verify-small : (tei : ℕ) (c : Course) → AreSmall c → AreSmall (rows.verify tei c)
 verify-small tei c h = go (rows.may_be_checked tei c.now)
   where
-    go : (b : Bool) → AreSmall ((cond b (words.begin_check tei) words.unserved) c)
+    go : (b : Bool) → AreSmall ((cond b (begin_check tei) unserved) c)
     go true = sent (IdentityCheckRequest tei) c.now.waiting none h
     go false = h
 
@@ -57,7 +51,7 @@ respond-small : (tei : ℕ) (o : Option Check) (c : Course) → AreSmall c → A
 respond-small tei None c h = h
 respond-small tei (Some check) c h = go (check.tei == tei) (nat_le 2 (rows.responses (rows.counted check)))
   where
-    go : (own second : Bool) → AreSmall ((cond own (cond second (rows.doubled tei) (words.check_is (Some (rows.counted check)))) words.unserved) c)
+    go : (own second : Bool) → AreSmall ((cond own (cond second (rows.doubled tei) (check_is (Some (rows.counted check)))) unserved) c)
     go true true = sent (IdentityRemove tei) c.now.waiting none h
     go true false = h
     go false second = h
@@ -86,7 +80,7 @@ expire-small : (o : Option Check) (c : Course) → AreSmall c → AreSmall (rows
 expire-small None c h = h
 expire-small (Some check) c h = by-period check.period
   where
-    over : (b : Bool) → AreSmall ((cond b (rows.removed check.tei) words.end_check) c)
+    over : (b : Bool) → AreSmall ((cond b (rows.removed check.tei) end_check) c)
     over true = h
     over false = h
 
@@ -104,12 +98,12 @@ take-small tei c h = go (rows.is_checked tei c.now.check)
     w : All IsSmall (with_message (IdentityRemove tei) c.now.waiting)
     w = sent (IdentityRemove tei) c.now.waiting none h
 
-    go : (b : Bool) → All IsSmall ((cond b words.end_check rows.nothing_happens) (words.send (IdentityRemove tei) c)).now.waiting
+    go : (b : Bool) → All IsSmall ((cond b end_check rows.nothing_happens) (send (IdentityRemove tei) c)).now.waiting
     go true = w
     go false = w
 
 -- none is left
-end-small : (o : Option Check) (c : Course) → AreSmall (rows.end_if_any o (words.withdraw c))
+end-small : (o : Option Check) (c : Course) → AreSmall (rows.end_if_any o (withdraw c))
 end-small None c = All-nil IsSmall
 end-small (Some check) c = All-nil IsSmall
 

@@ -1,25 +1,11 @@
 -- The messages of TEI management that wait stay small: what it hears are octets.
-use Rattle.laws_trace.proofs.Vocabulary.{◌≡◌, ℕ, ◌<◌, ◌==◌, Bool, true, false, cond, List, [], ◌∷◌, ◌++◌, length, drop, Option, Some, None, IfSome, refl, sym, subst, inl, inr, Result, Ok, Err, All, option_map_or, All-drop, All-head, AreOctets, Tei, Unserved, Address, ReadFault, Undefined, WrongSize, Long, Refusal, Service, Timer, Parts, reading, long_reading, service_of, reading-found, Change, Gained, Left, Config, Aim, at_management, told_of_management, of_change, of_aim, LineTold, hears, expiry, request, next, Answer, aim_of_expiry, at_timer, Line, place_in, unless_refused, management_sapi, group_tei, drop_for, at_place, to_service, addressed, message_of, aim_of_reading, unless_at_link, aim_of_long, aim_of_heard, heard_side, Taken, taken, line_of, aim_of_request, at_requested, at_deactivated, side_aims, IsOne, taken-one, at_no_link, All-nil}
+use Rattle.laws_trace.proofs.Vocabulary.{◌≡◌, ℕ, ◌<◌, ◌==◌, Bool, true, false, cond, List, [], ◌∷◌, ◌++◌, length, drop, Option, Some, None, IfSome, refl, sym, subst, inl, inr, Result, Ok, Err, All, option_map_or, All-drop, All-head, AreOctets, Tei, Unserved, Address, ReadFault, Undefined, WrongSize, Long, Refusal, Service, Timer, Parts, reading, long_reading, service_of, reading-found, Change, Gained, Left, Config, Aim, at_management, told_of_management, of_change, of_aim, LineTold, hears, expiry, request, next, Answer, aim_of_expiry, at_timer, Line, place_in, unless_refused, management_sapi, group_tei, drop_for, at_place, to_service, addressed, message_of, aim_of_reading, unless_at_link, aim_of_long, aim_of_heard, heard_side, Taken, taken, line_of, aim_of_request, at_requested, at_deactivated, side_aims, IsOne, taken-one, at_no_link, All-nil, Control, head_of, Event, line_after as after, refusal, Request, IsSound, HasOctets, GivesOctets, seen, by-down, Ui, TimerT200 as T200, T201, TimerT203 as T203, ClearBusy, Data, Deactivate, Establish, Release, SetBusy, heard, seen_told}
 use Rattle.model_bits.specs.Stream as stream
-use Rattle.lapd_frame.specs.declared.controls.Control.{Control}
-use Rattle.lapd_frame.specs.declared.controls.Control.TheVariants as control
 use Rattle.lapd_frame.specs.declared.overlong.Long.TheVariants as long
-use Rattle.lapd_frame.specs.declared.timers.Timer.TheVariants as timers
-use Rattle.lapd_frame.specs.Grammar.{head_of}
 use Rattle.lapd_tei.specs.Events as teis
 use Rattle.model_link.specs.Events as link
 use Rattle.model_link.specs.declared.timers.LinkTimer.TheVariants as link_timer
-use Rattle.model_line.specs.Event.{Event}
-use Rattle.model_line.specs.Machine.{after}
-use Rattle.model_line.specs.Refusal.{refusal}
-use Rattle.model_line.specs.Request as asked
-use Rattle.model_line.specs.Request.{Request}
-use Rattle.model_line.specs.Sound.{IsSound}
 use Rattle.laws_trace.proofs.SmallMessages.{IsSmall, IsOfOctets, after-small}
-use Rattle.laws_trace.specs.FramesAreRead.{HasOctets, GivesOctets}
-use Rattle.laws_trace.specs.Trace.{seen}
-use Rattle.laws_trace.specs.Trace as traces
-use Rattle.laws_line.proofs.Downs.{by-down}
 
 -- What TEI management hears are octets.
 abbrev IsOfOctetsAt : Aim → Type 0
@@ -44,7 +30,7 @@ module _ (c : Config) (l : Line) where
       go false group = service-aims address.tei what (service_of address.sapi)
 
   message-aims : (k : Control) (info : List ℕ) → AreOctets info → IsOfOctetsAt (message_of k info)
-  message-aims (control.Ui p) info h = h
+  message-aims (Ui p) info h = h
   message-aims other info h = tt
 
   info-octets : (octets : List ℕ) (parts : Parts) → AreOctets octets → reading (heard_side c) octets ≡ Ok parts → AreOctets parts.info
@@ -82,17 +68,17 @@ module _ (c : Config) (l : Line) where
   heard-aims (stream.dropped cause) h = tt
 
 timer-aims : (l : Line) (timer : Timer) → IsOfOctetsAt (aim_of_expiry timer l)
-timer-aims l (timers.T200 service tei) = by-place (place_in l tei)
+timer-aims l (T200 service tei) = by-place (place_in l tei)
   where
     by-place : (o : Option ℕ) → IsOfOctetsAt (at_timer service tei link_timer.T200 o)
     by-place None = tt
     by-place (Some place) = tt
-timer-aims l (timers.T203 service tei) = by-place (place_in l tei)
+timer-aims l (T203 service tei) = by-place (place_in l tei)
   where
     by-place : (o : Option ℕ) → IsOfOctetsAt (at_timer service tei link_timer.T203 o)
     by-place None = tt
     by-place (Some place) = tt
-timer-aims l timers.T201 = tt
+timer-aims l T201 = tt
 
 at-asked : (service : Service) (tei : ℕ) (what : link.Request) (o : Option ℕ) → IsOfOctetsAt (at_requested service tei what o)
 at-asked service tei what None = tt
@@ -103,12 +89,12 @@ at-down service tei None = tt
 at-down service tei (Some place) = tt
 
 asked-aims : (l : Line) (r : Request) → IsOfOctetsAt (aim_of_request r l)
-asked-aims l (asked.Establish service tei) = at-asked service tei link.Establish (place_in l tei)
-asked-aims l (asked.Release service tei) = at-asked service tei link.Release (place_in l tei)
-asked-aims l (asked.Data service tei contents) = at-asked service tei (link.Data contents) (place_in l tei)
-asked-aims l (asked.SetBusy service tei) = at-asked service tei link.SetBusy (place_in l tei)
-asked-aims l (asked.ClearBusy service tei) = at-asked service tei link.ClearBusy (place_in l tei)
-asked-aims l (asked.Deactivate service tei) = at-down service tei (place_in l tei)
+asked-aims l (Establish service tei) = at-asked service tei link.Establish (place_in l tei)
+asked-aims l (Release service tei) = at-asked service tei link.Release (place_in l tei)
+asked-aims l (Data service tei contents) = at-asked service tei (link.Data contents) (place_in l tei)
+asked-aims l (SetBusy service tei) = at-asked service tei link.SetBusy (place_in l tei)
+asked-aims l (ClearBusy service tei) = at-asked service tei link.ClearBusy (place_in l tei)
+asked-aims l (Deactivate service tei) = at-down service tei (place_in l tei)
 asked-aims l other = tt
 
 request-aims : (l : Line) (r : Request) (o : Option Refusal) → IsOfOctetsAt (unless_refused o (aim_of_request r l))
@@ -142,7 +128,7 @@ next-small c l s h = go (taken c l) (taken-one c l s)
 
 pub messages-after : (c : Config) (e : Event) (l : Line) (a : Answer) → IsSound c l → All GivesOctets (seen e a) → All IsSmall l.management.waiting → All IsSmall (after c e l).management.waiting
 unfolding after
-messages-after c (hears what) l a s gives h = aim-small c (aim_of_heard c l what) l (heard-aims c l what (All-head GivesOctets (traces.heard what) (traces.seen_told a) gives)) h
+messages-after c (hears what) l a s gives h = aim-small c (aim_of_heard c l what) l (heard-aims c l what (All-head GivesOctets (heard what) (seen_told a) gives)) h
 messages-after c (expiry timer) l a s gives h = aim-small c (aim_of_expiry timer l) l (timer-aims l timer) h
 messages-after c (request r) l a s gives h = aim-small c (unless_refused (refusal c false r l) (aim_of_request r l)) l (request-aims l r (refusal c false r l)) h
 messages-after c next l a s gives h = next-small c l s h

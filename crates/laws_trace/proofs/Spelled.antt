@@ -1,26 +1,11 @@
 -- Each frame that begins on a line is one that the grammar has, of a service or of TEI management: the law.
-use Rattle.laws_trace.proofs.Vocabulary.{◌≡◌, ◌<◌, ◌≤◌, true, false, List, [], ◌∷◌, ◌++◌, slice_get, Option, Some, None, IfSome, option_map, refl, sym, subst, arith, All, option_or, flat_map-append, All-nil, All-cons, All-head, All-append, Service, Call, Packet, Parts, Spells, Ui, sapi_of, Message, address_at, IsGiven, Given, Terms, given_is_frame, Config, request, next, gave, Line, UnitData, service_at, place_at, terms, link_at, Taken, with_unit, unit_frame, first_taken, round, taken, next_of, IsInRange, IsSoundAt, IsUnitData, round_below, terms_in_range, OfLink, of-links, fresh_is_sound, Card, ℕ, moments}
-use Rattle.std.specs.Option.{unwrap_or}
-use Rattle.lapd_tei.specs.Messages.{information_of, frame_of as message_frame}
-use Rattle.model_link.specs.Machine as links
+use Rattle.laws_trace.proofs.Vocabulary.{◌≡◌, ◌≤◌, true, false, List, [], ◌∷◌, ◌++◌, slice_get, Option, Some, None, IfSome, option_map, refl, sym, subst, arith, All, option_or, flat_map-append, All-nil, All-cons, All-head, All-append, Service, Call, Packet, Parts, Spells, Ui, sapi_of, Message, address_at, IsGiven, Given, Terms, given_is_frame, Config, request, next, gave, Line, UnitData, service_at, place_at, terms, link_at, Taken, with_unit, unit_frame, first_taken, round, taken, next_of, IsInRange, IsSoundAt, IsUnitData, round_below, terms_in_range, OfLink, of-links, fresh_is_sound, Card, ℕ, moments, unwrap_or, information_of, message_frame, Event, line_after as after, answer, with_message, line_frame_of as frame_of, IsSound, fresh, is_of_use, IsSpelled, FramesAreRead, AreAtLines, trace_frame_in as frame_in, Seen, seen, trace, frames_begun, Always, given, frame_begun}
 use Rattle.model_link.specs.Sound as link_sound
-use Rattle.model_line.specs.Event.{Event}
-use Rattle.model_line.specs.Machine.{after, answer}
-use Rattle.model_line.specs.Taken.{with_message, frame_of}
-use Rattle.model_line.specs.Sound.{IsSound}
-use Rattle.model_card.specs.Card.{fresh}
-use Rattle.laws_trace.specs.FramesAreRead.{is_of_use, IsSpelled, FramesAreRead}
 use Rattle.model_card.specs.Event as card_event
-use Rattle.model_card.specs.Run.{AreAtLines}
 use Rattle.model_card.specs.Sound as card_sound
-use Rattle.laws_trace.specs.Trace.{frame_in, Seen, seen, trace, frames_begun, Always}
 use Rattle.laws_trace.proofs.Runs.{run-shows}
 use Rattle.laws_trace.proofs.Units.{given-frames, none-told, none-requested}
-use Rattle.laws_trace.specs.Trace as traces
-
-small-sapi : (service : Service) → sapi_of service < 64
-small-sapi Call = omega arith
-small-sapi Packet = omega arith
+use Rattle.laws_trace.proofs.Facts.{small-sapi}
 
 of-a-service : (service : Service) → is_of_use (sapi_of service) ≡ true
 of-a-service Call = refl
@@ -59,7 +44,7 @@ module _ (c : Config) (ranged : IsInRange c) (l : Line) (s : IsSound c l) where
       let own = terms c (service_at x.number) x.tei in
       let range = terms_in_range c ranged (service_at x.number) x.tei (s.management.table.range (place_at x.number) x.tei x.on_line) in
       let sound : link_sound.IsSound own (link_at x.number l) = subst (IsSoundAt c x.number (link_at x.number l)) x.on_line (s.links x.number x.few) in
-      known (links.given own (link_at x.number l)) x.what own x.given (given_is_frame own range (link_at x.number l) sound)
+      known (given own (link_at x.number l)) x.what own x.given (given_is_frame own range (link_at x.number l) sound)
 
   link-spelled : (t : Taken) → OfLink c l t → Spelled t
   link-spelled t x =
@@ -87,7 +72,7 @@ rests : (c : Config) (l : Line) → AreSpelled c l [] l
 rests c l = All-nil (IsSpelled c)
 
 joins : (c : Config) (k l m : Line) (t u : List Seen) → AreSpelled c k t l → AreSpelled c l u m → AreSpelled c k (t ++ u) m
-joins c k l m t u h i = subst (All (IsSpelled c)) (sym (flat_map-append traces.frame_begun t u)) (All-append (IsSpelled c) (frames_begun t) (frames_begun u) h i)
+joins c k l m t u h i = subst (All (IsSpelled c)) (sym (flat_map-append frame_begun t u)) (All-append (IsSpelled c) (frames_begun t) (frames_begun u) h i)
 
 by-next : (c : Config) (o : Option Taken) → IfSome o (λ t. IsSpelled c t.frame) → All (IsSpelled c) (frame_in (gave (option_map next_of o)))
 by-next c None h = All-nil (IsSpelled c)

@@ -1,29 +1,28 @@
 -- How a link stands, to whoever watches it: over runs.
-use Rattle.laws_trace.proofs.Vocabulary.{◌≡◌, ℕ, ◌==◌, ◌&&◌, ◌||◌, Bool, true, false, cond, List, [], ◌∷◌, ◌++◌, map, Option, Some, None, refl, sym, ap, ◌∙◌, subst, eq-eqb, ◌⊎◌, inl, inr, true≢false, fold, not, is_some, list_any, option_map_or, and_parts, Service, Parts, same_service, Terms, restarts, Link, is_multiple_frame, Config, hears, expiry, request, next, Answer, LineTold, Line, place_in, link_in, link_of, terms, aim_of, unless_refused, of_heard, at_requested, IsInRange, notes_of, is_data_of, is_granted, IsBy, not-refused}
-use Rattle.std.proofs.Common.{eqb-true}
+use Rattle.laws_trace.proofs.Vocabulary.{◌≡◌, ℕ, ◌==◌, ◌&&◌, ◌||◌, Bool, true, false, cond, List, [], ◌∷◌, ◌++◌, map, Option, Some, None, refl, sym, ap, ◌∙◌, subst, eq-eqb, ◌⊎◌, inl, inr, true≢false, fold, not, is_some, list_any, option_map_or, and_parts, Service, Parts, same_service, Terms, restarts, Link, is_multiple_frame, Config, hears, expiry, request, next, Answer, LineTold, Line, place_in, link_in, link_of, terms, aim_of, unless_refused, of_heard, at_requested, IsInRange, notes_of, is_data_of, is_granted, IsBy, not-refused, eqb-true, fresh_link as fresh, Event, told, line_after as after, answer, Request, SetBusy, ClearBusy, IsSound, of_link, trace_frame_in as frame_in, is_own, Seen, heard, trace_noted as noted, lost, seen, seen_told, seen_granted, frame_of, is_for, trace_begun as begun}
 use Rattle.model_bits.specs.Stream as stream
 use Rattle.laws_link.specs.Flags as flags
 use Rattle.model_link.specs.Events as link
-use Rattle.model_link.specs.Link.{fresh}
 use Rattle.model_link.specs.Machine as links
-use Rattle.model_line.specs.Event.{Event, told}
-use Rattle.model_line.specs.Machine.{after, answer}
-use Rattle.model_line.specs.Request.{Request, SetBusy, ClearBusy}
-use Rattle.model_line.specs.Sound.{IsSound}
-use Rattle.laws_line.specs.Requests.{of_link}
-use Rattle.laws_trace.specs.Trace as traces
-use Rattle.laws_trace.specs.Trace.{frame_in, is_own, Seen, heard, noted, lost, seen, seen_told, seen_granted}
 use Rattle.laws_trace.proofs.DeliveriesWatched.{Standing, busy_asked, is_information, brings_information, stand}
 use Rattle.laws_trace.proofs.Counting.{begins_by, begins, counted}
-use Rattle.laws_trace.specs.LinkFrames.{frame_of, is_for}
 use Rattle.laws_trace.proofs.CommandsCaused.{same-itself}
 use Rattle.laws_trace.proofs.Deliveries.{frame_by, brings-frame, brings-none, one-begins, heard-by}
 use Rattle.laws_trace.proofs.DeliveriesRun.{IsCount, event-aims, data-noted, event-told, no-data, ended-notes}
 use Rattle.laws_trace.proofs.OneLink.{HasOne, HasNone, Goes, is_at_link, event-goes}
 use Rattle.laws_trace.proofs.StandingOfLink.{quiet, calm, IsStanding, brings, busy_behind, rejected_behind, link-stands, delivers-free}
+use Rattle.laws_trace.proofs.Facts.{never}
 
-no : {A : Type 0} → false ≡ true → A
-no e = absurd (true≢false (sym e))
+-- However a fresh link is said to stand.
+pub fresh-stands : (busy rejected : Bool) → IsStanding fresh busy rejected
+fresh-stands busy rejected = record {
+  busy_is = λ up. never up;
+  rejected_is = λ up. never up;
+  not_busy = λ at. never at;
+  not_rejecting = λ at. never at;
+  pends_up = λ is. never is;
+  pends_free = λ is. never is;
+}
 
 module _ (service : Service) (tei : ℕ) where
   abbrev pub granted_busy : Request → Answer → Bool → Bool
@@ -76,7 +75,7 @@ module _ (service : Service) (tei : ℕ) where
     asked-stand r m busy rejected (told t) = refl
     asked-stand r m busy rejected other = refl
 
-    pub begun-stand : (frames : List (List ℕ)) (m : ℕ) (busy rejected : Bool) → standing (calm m busy rejected) (map traces.begun frames) ≡ calm m busy rejected
+    pub begun-stand : (frames : List (List ℕ)) (m : ℕ) (busy rejected : Bool) → standing (calm m busy rejected) (map begun frames) ≡ calm m busy rejected
     begun-stand [] m busy rejected = refl
     begun-stand (f ∷ frames) m busy rejected = begun-stand frames m busy rejected
 
@@ -108,7 +107,7 @@ module _ (service : Service) (tei : ℕ) where
     asked-by link.SetBusy full (told t) busy g = ap (λ b. b || busy) own-true
     asked-by link.ClearBusy full (told t) busy g = ap (λ b. not b && busy) own-true
     asked-by other full (told t) busy g = refl
-    asked-by what full other busy g = no g
+    asked-by what full other busy g = never g
 
     asked-is : (le : link.Event) (busy : Bool) → IsBy c e a service tei le → asked_busy e a busy ≡ flags.busy_asked le busy
     asked-is (link.received (link.frame f)) busy by = ap (λ e. asked_busy e a busy) by.by
@@ -206,16 +205,7 @@ module _ (service : Service) (tei : ℕ) where
               asked-is c e a x.event busy x.by ∙ y.2 ∙ sym (stands.busy_is y.0) ∙ y.1
 
     anew-stands : link_of service tei (after c e l) ≡ fresh → Stands (link_of service tei (after c e l))
-    anew-stands new =
-        subst Stands (sym new)
-        (record {
-          busy_is = λ up. no up;
-          rejected_is = λ up. no up;
-          not_busy = λ at. no at;
-          not_rejecting = λ at. no at;
-          pends_up = λ is. no is;
-          pends_free = λ is. no is;
-        })
+    anew-stands new = subst Stands (sym new) (fresh-stands now.busy now.rejected)
 
     module _ (x : HasNone c service tei e l (after c e l) a) where
       on-line : (o : Option ℕ) → place_in l tei ≡ o → is_multiple_frame own.state ≡ true → (place : ℕ) × (place_in l tei ≡ Some place)
@@ -282,13 +272,3 @@ module _ (service : Service) (tei : ℕ) where
 
     pub event-counts : IsCount (link_of service tei (after c e l)) now.told.count
     event-counts = (event-told c ranged l s e service tei m count).1
-
-pub fresh-stands : IsStanding fresh false false
-fresh-stands = record {
-  busy_is = λ up. no up;
-  rejected_is = λ up. no up;
-  not_busy = λ at. no at;
-  not_rejecting = λ at. no at;
-  pends_up = λ is. no is;
-  pends_free = λ is. no is;
-}

@@ -1,12 +1,11 @@
 -- How a link stands behind an event: own busy, and whether REJ stands.
-use Rattle.laws_trace.proofs.Vocabulary.{◌≡◌, ℕ, ◌&&◌, ◌||◌, Bool, true, false, cond, List, [], ◌∷◌, ◌++◌, length, Option, Some, None, refl, sym, ap, ◌∙◌, true≢false, inl, inr, not, is_some, nat_lt, nat_le, and_parts, and_right, or_parts, or_from, or_right, none-some, Seq, Information, Sabme, Ua, Parts, State, TeiAssigned, AwaitingEstablishment, AwaitingRelease, Established, TimerRecovery, ControlFrame, Terms, Arrived, information_in, is_eligible, eligible_of, restarts, eligible, Received, overlong, received, expired, requested, offer, cleared, Link, is_multiple_frame, delivery, event-delivers, delivered-at_once, flag_left, busy_asked, own_busy_left, rejecting_heard, takes_contents, unless_put, owed_in, owed_behind, pending_left, as_heard, is_anew, is_clearing, leads_by_sabme, leads_by_agreement, comes_to, moves, numbers_begin, state_after, is_next, as_response, receipt_as, commands, put, event-follows}
-use Rattle.lapd_frame.specs.declared.controls.Control.{Control}
-use Rattle.model_link.specs.Events.{Event, frame, Establish, Release, Data, SetBusy, ClearBusy}
+use Rattle.laws_trace.proofs.Vocabulary.{◌≡◌, ℕ, ◌&&◌, ◌||◌, Bool, true, false, cond, List, [], ◌∷◌, ◌++◌, length, Option, Some, None, refl, sym, ap, ◌∙◌, true≢false, inl, inr, not, is_some, nat_lt, nat_le, and_parts, and_right, or_parts, or_from, or_right, none-some, Seq, Information, Sabme, Ua, Parts, State, TeiAssigned, AwaitingEstablishment, AwaitingRelease, Established, TimerRecovery, ControlFrame, Terms, Arrived, information_in, is_eligible, eligible_of, restarts, eligible, Received, overlong, received, expired, requested, offer, cleared, Link, is_multiple_frame, delivery, event-delivers, delivered-at_once, flag_left, busy_asked, own_busy_left, rejecting_heard, takes_contents, unless_put, owed_in, owed_behind, pending_left, as_heard, is_anew, is_clearing, leads_by_sabme, leads_by_agreement, comes_to, moves, numbers_begin, state_after, is_next, as_response, receipt_as, commands, put, event-follows, Control, LinkEvent as Event, frame, LinkEstablish as Establish, LinkRelease as Release, LinkData as Data, LinkSetBusy as SetBusy, LinkClearBusy as ClearBusy}
 use Rattle.model_link.specs.Machine as links
 use Rattle.laws_trace.proofs.Counting.{Watched}
 use Rattle.laws_trace.proofs.DeliveriesWatched.{Standing, is_information}
 use Rattle.laws_trace.proofs.Begins.{in-state, up-before}
 use Rattle.laws_trace.proofs.ReceiptsNumbered.{PendsUp, pends-up, taken-is}
+use Rattle.laws_trace.proofs.Facts.{never}
 
 -- What whoever watches a link has in mind between events.
 abbrev pub quiet : ℕ → Watched
@@ -20,9 +19,6 @@ abbrev pub is_awaiting : State → Bool
 is_awaiting AwaitingEstablishment = true
 is_awaiting other = false
 
-no : {A : Type 0} → false ≡ true → A
-no e = absurd (true≢false (sym e))
-
 -- Where the numbers begin a flag is off,
 module _ (t : Terms) (x flag : Bool) where
   abbrev Off : Event → Link → Type 0
@@ -30,23 +26,23 @@ module _ (t : Terms) (x flag : Bool) where
       numbers_begin e l.state (state_after t e l) ≡ true → (is_awaiting l.state ≡ true → flag ≡ false) → flag_left e l (state_after t e l) x flag ≡ false
 
   off-sabme : (f : Parts) (p : Bool) (here : State) (l : Link) → Off (received (frame (record f { control = Sabme p }))) (record l { state = here })
-  off-sabme f p AwaitingEstablishment l is h = no is
-  off-sabme f p AwaitingRelease l is h = no is
+  off-sabme f p AwaitingEstablishment l is h = never is
+  off-sabme f p AwaitingRelease l is h = never is
   off-sabme f p other l is h = refl
 
   off-ua : (f : Parts) (here : State) (l : Link) → Off (received (frame (record f { control = Ua true }))) (record l { state = here })
   off-ua f AwaitingEstablishment l is h = h refl
-  off-ua f other l is h = no is
+  off-ua f other l is h = never is
 
   off-frame : (f : Parts) (control : Control) (l : Link) → Off (received (frame (record f { control = control }))) l
   off-frame f (Sabme p) l = in-state (Off (received (frame (record f { control = Sabme p })))) l (λ here. off-sabme f p here l)
   off-frame f (Ua true) l = in-state (Off (received (frame (record f { control = Ua true })))) l (λ here. off-ua f here l)
-  off-frame f other l = λ is h. no is
+  off-frame f other l = λ is h. never is
 
   pub off-where-begun : (e : Event) (l : Link) → Off e l
   off-where-begun (received (frame f)) l is h = off-frame f f.control l is h
   off-where-begun cleared l is h = ap (λ b. cond b false (cond (is_multiple_frame l.state) x flag)) (or_right (comes_to 5 l.state TeiAssigned) true refl)
-  off-where-begun other l is h = no is
+  off-where-begun other l is h = never is
 
   -- and so it is in state 5;
   either-off : (b : Bool) → flag ≡ false → cond b false flag ≡ false
@@ -56,13 +52,13 @@ module _ (t : Terms) (x flag : Bool) where
   off-awaiting : (e : Event) (from to : State) (l : Link) → is_awaiting to ≡ true → (is_awaiting from ≡ true → flag ≡ false) → flag_left e (record l { state = from }) to x flag ≡ false
   off-awaiting e AwaitingEstablishment AwaitingEstablishment l is h = either-off (leads_by_sabme e AwaitingEstablishment || is_clearing e) (h refl)
   off-awaiting e other AwaitingEstablishment l is h = refl
-  off-awaiting e from other l is h = no is
+  off-awaiting e from other l is h = never is
 
   -- while the link stays up, it is as the event leaves it.
   not-five : (from to : State) → is_multiple_frame to ≡ true → comes_to 5 from to ≡ false
   not-five from Established up = and_right (moves from Established) false refl
   not-five from TimerRecovery up = and_right (moves from TimerRecovery) false refl
-  not-five from other up = no up
+  not-five from other up = never up
 
   not-anew : (e : Event) (from to : State) → is_multiple_frame to ≡ true → numbers_begin e from to ≡ false → is_anew e from to ≡ false
   not-anew e from to up on =
@@ -85,13 +81,13 @@ taken-free : (r : Received) (l : Link) → takes_contents (received r) l ≡ tru
 taken-free (frame f) l is = by f.control is
   where
     off : (busy next : Bool) → (not busy && next) ≡ true → busy ≡ false
-    off true next is = no is
+    off true next is = never is
     off false next is = refl
 
     by : (control : Control) → takes_contents (received (frame (record f { control = control }))) l ≡ true → l.own_busy ≡ false
     by (Information ns nr p) is = off l.own_busy (is_next ns l) is
-    by other is = no is
-taken-free other l is = no is
+    by other is = never is
+taken-free other l is = never is
 
 module _ (t : Terms) (l : Link) (to : State) (pends : l.pending ≡ true → l.own_busy ≡ false) where
   abbrev Owed : Event → Bool
@@ -102,7 +98,7 @@ module _ (t : Terms) (l : Link) (to : State) (pends : l.pending ≡ true → l.o
 
   unput : (frames : List ControlFrame) (owed : Bool) → unless_put frames owed ≡ true → (frames ≡ []) × (owed ≡ true)
   unput [] owed is = (refl, is)
-  unput (f ∷ frames) owed is = no is
+  unput (f ∷ frames) owed is = never is
 
   owed-so : (e : Event) → Owed e ≡ true → (put e l to ≡ []) × ((takes_contents e l || l.pending) ≡ true)
   owed-so e is = unput (put e l to) (takes_contents e l || l.pending) (second (is_multiple_frame to) (unless_put (put e l to) (takes_contents e l || l.pending)) is)
@@ -117,7 +113,7 @@ module _ (t : Terms) (l : Link) (to : State) (pends : l.pending ≡ true → l.o
   off-all false false busy off = off
 
   owed-is : (frames : List ControlFrame) (owed : Bool) → owed_behind frames owed ≡ true → owed ≡ true
-  owed-is [] owed is = no is
+  owed-is [] owed is = never is
   owed-is (f ∷ frames) owed is = is
 
   set-put : (up busy : Bool) (rest : List ControlFrame) → up ≡ true → busy ≡ false → cond (up && not busy) (as_response (receipt_as true l.r false)) [] ++ rest ≡ [] → ⊥
@@ -194,7 +190,7 @@ module _ (t : Terms) (l : Link) (up : is_multiple_frame l.state ≡ true) where
   by-size : (f : Parts) (ns nr : Seq) (p b : Bool) → let r = cond b overlong (frame (record f { control = Information ns nr p })) in
       is_multiple_frame (state_after t (received r) l) ≡ true
       → rejecting_heard (received r) l ≡ rejected_behind false (takes_contents (received r) l) (received (frame (record f { control = Information ns nr p }))) l.own_busy l.rejecting
-  by-size f ns nr p true stays = no (sym (ap (λ b. is_multiple_frame (cond (b && true) AwaitingEstablishment l.state)) up) ∙ stays)
+  by-size f ns nr p true stays = never (sym (ap (λ b. is_multiple_frame (cond (b && true) AwaitingEstablishment l.state)) up) ∙ stays)
   by-size f ns nr p false stays = in-information l.own_busy (is_next ns l) l.rejecting
 
   by-control : (f : Parts) (control : Control) → Same (received (frame (record f { control = control })))
@@ -271,7 +267,7 @@ module _ (t : Terms) (l : Link) (busy : Bool) where
   Free e = (is_multiple_frame l.state ≡ true) × (l.own_busy ≡ false) × (busy_asked e busy ≡ busy)
 
   not-true : (b : Bool) → not b ≡ true → b ≡ false
-  not-true true is = no is
+  not-true true is = never is
   not-true false is = refl
 
   fits : (b : Bool) (j i : Arrived) → is_eligible t l j ≡ b → cond b (Some j) None ≡ Some i → (is_multiple_frame l.state ≡ true) × (l.own_busy ≡ false)

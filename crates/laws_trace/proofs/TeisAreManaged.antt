@@ -1,25 +1,12 @@
 -- TEIs are managed as the procedures say: runs of a card, and the law.
-use Rattle.laws_trace.proofs.Vocabulary.{◌≡◌, ℕ, ◌<◌, ◌==◌, Bool, true, false, cond, List, [], ◌∷◌, get_or, refl, sym, ◌∙◌, subst, arith, eq-eqb, true≢false, inl, fold, and_parts, get_or-replicate, get_or-set_same, All-head, All-tail, PoolFull, Config, Answer, refused, Line, fresh_line, IsInRange, Card, line_at, is_full, at, after_is_sound, fresh_is_sound, has_lines, by_room, config-stays}
-use Rattle.std.proofs.Common.{eqb-true}
+use Rattle.laws_trace.proofs.Vocabulary.{◌≡◌, ℕ, ◌<◌, ◌==◌, Bool, true, false, cond, List, [], ◌∷◌, get_or, refl, sym, ◌∙◌, subst, arith, eq-eqb, true≢false, inl, fold, and_parts, get_or-replicate, get_or-set_same, All-head, All-tail, PoolFull, Config, Answer, refused, Line, fresh_line, IsInRange, Card, line_at, is_full, at, after_is_sound, fresh_is_sound, has_lines, by_room, config-stays, eqb-true, Data, fresh, CardEvent as Event, after, card_answer as answer, after_all, IsAtLine, AreAtLines, always_sound, line_sound as sound-at, Managed, none_on, nothing_due, due, led, managed_after, TeisAreManaged, Always, LineUnit as Unit, CardIsSound as IsSound}
 use Rattle.model_line.specs.Event as line_event
-use Rattle.model_line.specs.Request as request
 use Rattle.model_line.specs.Machine as lines
-use Rattle.model_line.specs.Request.{Data}
-use Rattle.model_card.specs.Card.{fresh}
-use Rattle.model_card.specs.Event.{Event}
-use Rattle.model_card.specs.Machine.{after, answer}
-use Rattle.model_card.specs.Run.{after_all, IsAtLine, AreAtLines}
-use Rattle.model_card.specs.Sound as card_sound
-use Rattle.model_card.proofs.CardSound.{always_sound}
-use Rattle.model_card.proofs.Steps.{line_sound as sound-at}
-use Rattle.laws_trace.specs.Managing.{Managed, none_on, nothing_due, due, led, managed_after}
-use Rattle.laws_trace.specs.TeisAreManaged.{TeisAreManaged}
-use Rattle.laws_trace.specs.Trace.{Always}
-use Rattle.laws_trace.proofs.CallRuns.{apart}
 use Rattle.laws_trace.proofs.Follows.{Follows}
 use Rattle.laws_trace.proofs.FollowsLine.{Shows, none-granted}
 use Rattle.laws_trace.proofs.FollowsRequests.{event-shows}
 use Rattle.laws_trace.proofs.ManagingTables.{none-on}
+use Rattle.laws_trace.proofs.Runs.{apart}
 
 -- A request that finds the pool full shows nothing, and is none of management.
 abbrev Answers : Config → Line → Managed → line_event.Event → Answer → Line → Type 0
@@ -28,10 +15,10 @@ Answers c l w e a new = Shows c l e (due c e w) a new.management
 refused-shows : (c : Config) (e : line_event.Event) (l : Line) (w : Managed) → lines.takes_slot c e l ≡ true → Follows w l.management → Answers c l w e (refused PoolFull) l
 unfolding lines.takes_slot
 refused-shows c (line_event.request (Data service tei contents)) l w takes h = record { as_due = record { notes = refl; orders = refl; begins = refl; granted = none-granted (nothing_due w) refl false }; lost = inl refl; follows = record { is = h.is; on = h.on; order = h.order } }
-refused-shows c (line_event.request (request.Unit service tei contents)) l w takes h = record { as_due = record { notes = refl; orders = refl; begins = refl; granted = none-granted (nothing_due w) refl false }; lost = inl refl; follows = record { is = h.is; on = h.on; order = h.order } }
+refused-shows c (line_event.request (Unit service tei contents)) l w takes h = record { as_due = record { notes = refl; orders = refl; begins = refl; granted = none-granted (nothing_due w) refl false }; lost = inl refl; follows = record { is = h.is; on = h.on; order = h.order } }
 refused-shows c other l w takes h = absurd (true≢false (sym takes))
 
-pub own-shows : (k : Card) (e : Event) (w : Managed) → card_sound.IsSound k → IsAtLine k e → Follows w (line_at e.line k).management
+pub own-shows : (k : Card) (e : Event) (w : Managed) → IsSound k → IsAtLine k e → Follows w (line_at e.line k).management
     → Answers k.config (line_at e.line k) w e.what (answer e k) (line_at e.line (after e k))
 own-shows k e w s here h =
     let c = k.config in
@@ -43,7 +30,7 @@ own-shows k e w s here h =
     (event-shows c l (sound-at k e.line (has_lines k s) here) w h e.what))
 
 -- The observer follows each moment,
-pub moment-follows : (k : Card) (e : Event) (number : ℕ) (w : Managed) → card_sound.IsSound k → IsAtLine k e → Follows w (line_at number k).management
+pub moment-follows : (k : Card) (e : Event) (number : ℕ) (w : Managed) → IsSound k → IsAtLine k e → Follows w (line_at number k).management
     → Follows (cond (e.line == number) (due k.config e.what w) w) (line_at number (after e k)).management
 moment-follows k e number w s here h = go (e.line == number) refl
   where
@@ -56,7 +43,7 @@ moment-follows k e number w s here h = go (e.line == number) refl
         subst (λ (x : Line). Follows w x.management) (sym (apart k e number (λ same. true≢false (sym (eq-eqb e.line number (sym same)) ∙ other)))) h
 
 -- and so a run.
-run-follows : (k : Card) (events : List Event) (number : ℕ) (w : Managed) → card_sound.IsSound k → AreAtLines k events → Follows w (line_at number k).management
+run-follows : (k : Card) (events : List Event) (number : ℕ) (w : Managed) → IsSound k → AreAtLines k events → Follows w (line_at number k).management
     → Follows (fold (led k.config number) w events) (line_at number (after_all k events)).management
 unfolding after_all
 run-follows k [] number w s all h = h

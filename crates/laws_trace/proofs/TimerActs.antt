@@ -1,10 +1,6 @@
 -- What the steps of the tables do to what timers depend on: the state, V(A), V(S), whether the terminal is busy, and the timer.
-use Rattle.laws_trace.proofs.Vocabulary.{◌≡◌, ℕ, ◌==◌, ◌&&◌, Bool, true, false, cond, List, [], Option, Some, None, refl, ap, ◌∙◌, nat_lt, length, Ua, ErrorCode, Seq, named, State, TeiAssigned, AwaitingEstablishment, Established, Terms, LinkTimer, Link, is_asked, has_outstanding, is_own_busy, is_rejecting, ◌then◌, depending_on, by_bit}
+use Rattle.laws_trace.proofs.Vocabulary.{◌≡◌, ℕ, ◌==◌, ◌&&◌, Bool, true, false, cond, List, [], Option, Some, None, refl, ap, ◌∙◌, nat_lt, length, Ua, ErrorCode, Seq, named, State, TeiAssigned, AwaitingEstablishment, Established, Terms, LinkTimer, Link, is_asked, has_outstanding, is_own_busy, is_rejecting, ◌then◌, depending_on, by_bit, T200, T203, Course, Step, nothing, acknowledge, link_answer as answer, by_number, clear_flags, count_received, deliver, discard, enter, error, establish_confirm, establish_indication, peer_busy_is, pending_is, re_establish, reject, rejecting_is, response, link_send as send, start, zero_numbers, Particulars, answered, contents_in_7_8, link_dropped as dropped, failed, link_in_sequence as in_sequence, information_in_7_8, is_final, link_is_next as is_next, out_of_sequence, sabme_in_7_8, supervisory}
 use Rattle.lapd_frame.specs.declared.notes.ErrorCode.TheVariants as code
-use Rattle.model_link.specs.declared.timers.LinkTimer.TheVariants.{T200, T203}
-use Rattle.model_link.specs.Steps.{Course, Step, nothing}
-use Rattle.model_link.specs.Words
-use Rattle.model_link.specs.MultipleFrame
 use Rattle.model_link.specs.Established as seven
 use Rattle.model_link.specs.TimerRecovery as eight
 use Rattle.model_link.specs.AwaitingEstablishment as five
@@ -103,70 +99,70 @@ by-choice test t same f g F G h k = record { acts = λ c. go c (test c.link) ∙
     go c false = k.acts c
 
 module _ (t : Terms) where
-  pub failed-acts : (e : ErrorCode) → Acts (MultipleFrame.failed t e) fails
+  pub failed-acts : (e : ErrorCode) → Acts (failed t e) fails
   failed-acts e = record { acts = λ c. refl }
 
   pub by-number : (nr : Seq) (step : ℕ → Step) (F : ℕ → Timing → Timing) → ((n : ℕ) → Acts (step n) (F n))
-      → Acts (Words.by_number t nr step) (λ x. by_name (named x.a x.s nr) fails F x)
+      → Acts (by_number t nr step) (λ x. by_name (named x.a x.s nr) fails F x)
   by-number nr step F h = record { acts = λ c. go c (named c.link.a c.link.s nr) }
     where
       go : (c : Course) (o : Option ℕ)
-          → timing (elim o as (λ o. Course) [ None ↦ (Words.error t code.J then Words.re_establish t) c | Some n ↦ step n c ]) ≡ by_name o fails F (timing c)
+          → timing (elim o as (λ o. Course) [ None ↦ (error t code.J then re_establish t) c | Some n ↦ step n c ]) ≡ by_name o fails F (timing c)
       go c None = refl
       go c (Some n) = (h n).acts c
 
-  pub answers : (b : Bool) → Acts (by_bit b (Words.answer t) nothing) itself
-  answers b = either-bit b (Words.answer t) nothing itself (record { acts = λ c. refl }) (record { acts = λ c. refl })
+  pub answers : (b : Bool) → Acts (by_bit b (answer t) nothing) itself
+  answers b = either-bit b (answer t) nothing itself (record { acts = λ c. refl }) (record { acts = λ c. refl })
 
   -- what comes of contents
-  pub contents-acts : (ns : Seq) (p : Bool) (octets : List ℕ) → Acts (MultipleFrame.contents_in_7_8 t ns p octets) itself
+  pub contents-acts : (ns : Seq) (p : Bool) (octets : List ℕ) → Acts (contents_in_7_8 t ns p octets) itself
   contents-acts ns p octets =
-      whichever is_own_busy (MultipleFrame.dropped t p) (depending_on (MultipleFrame.is_next ns) (MultipleFrame.in_sequence t p octets) (MultipleFrame.out_of_sequence t p)) itself
+      whichever is_own_busy (dropped t p) (depending_on (is_next ns) (in_sequence t p octets) (out_of_sequence t p)) itself
       (answers p)
-      (whichever (MultipleFrame.is_next ns) (MultipleFrame.in_sequence t p octets) (MultipleFrame.out_of_sequence t p) itself in-sequence out-of-sequence)
+      (whichever (is_next ns) (in_sequence t p octets) (out_of_sequence t p) itself in-sequence out-of-sequence)
     where
-      in-sequence : Acts (MultipleFrame.in_sequence t p octets) itself
+      in-sequence : Acts (in_sequence t p octets) itself
       in-sequence =
-          both (Words.count_received then Words.rejecting_is false then Words.deliver t octets) (by_bit p (Words.answer t) (Words.pending_is true)) itself itself
+          both (count_received then rejecting_is false then deliver t octets) (by_bit p (answer t) (pending_is true)) itself itself
           (record { acts = λ c. refl })
-          (either-bit p (Words.answer t) (Words.pending_is true) itself (record { acts = λ c. refl }) (record { acts = λ c. refl }))
+          (either-bit p (answer t) (pending_is true) itself (record { acts = λ c. refl }) (record { acts = λ c. refl }))
 
-      out-of-sequence : Acts (MultipleFrame.out_of_sequence t p) itself
+      out-of-sequence : Acts (out_of_sequence t p) itself
       out-of-sequence =
-          whichever is_rejecting (by_bit p (Words.answer t) nothing) (Words.rejecting_is true then Words.reject t p) itself (answers p) (record { acts = λ c. refl })
+          whichever is_rejecting (by_bit p (answer t) nothing) (rejecting_is true then reject t p) itself (answers p) (record { acts = λ c. refl })
 
   -- an I-frame, and a supervisory frame
   pub information-acts : (ns nr : Seq) (p : Bool) (octets : List ℕ) (effect : ℕ → Step) (F : ℕ → Timing → Timing) → ((n : ℕ) → Acts (effect n) (F n))
-      → Acts (MultipleFrame.information_in_7_8 t ns nr p octets effect) (informs (nat_lt t.n201 (length octets)) nr F)
+      → Acts (information_in_7_8 t ns nr p octets effect) (informs (nat_lt t.n201 (length octets)) nr F)
   information-acts ns nr p octets effect F h =
-      by-bit (nat_lt t.n201 (length octets)) (MultipleFrame.failed t code.O) (MultipleFrame.contents_in_7_8 t ns p octets then Words.by_number t nr effect) fails
+      by-bit (nat_lt t.n201 (length octets)) (failed t code.O) (contents_in_7_8 t ns p octets then by_number t nr effect) fails
       (λ x. by_name (named x.a x.s nr) fails F x) (failed-acts code.O)
-      (both (MultipleFrame.contents_in_7_8 t ns p octets) (Words.by_number t nr effect) itself (λ x. by_name (named x.a x.s nr) fails F x) (contents-acts ns p octets)
+      (both (contents_in_7_8 t ns p octets) (by_number t nr effect) itself (λ x. by_name (named x.a x.s nr) fails F x) (contents-acts ns p octets)
       (by-number nr effect F h))
 
-  pub supervisory-acts : (own : MultipleFrame.Particulars) (busy command pf : Bool) (nr : Seq) (effect : Bool → ℕ → Step) (F : ℕ → Timing → Timing)
-      → ((b : Bool) → Acts (own.told_of b) itself) → ((n : ℕ) → Acts (effect (MultipleFrame.is_final command pf) n) (F n))
-      → Acts (MultipleFrame.supervisory t own busy command pf nr effect) (supervises busy nr F)
+  pub supervisory-acts : (own : Particulars) (busy command pf : Bool) (nr : Seq) (effect : Bool → ℕ → Step) (F : ℕ → Timing → Timing)
+      → ((b : Bool) → Acts (own.told_of b) itself) → ((n : ℕ) → Acts (effect (is_final command pf) n) (F n))
+      → Acts (supervisory t own busy command pf nr effect) (supervises busy nr F)
   supervisory-acts own busy command pf nr effect F told h =
-      let final = MultipleFrame.is_final command pf in
-      both (Words.peer_busy_is busy) (MultipleFrame.answered t command pf then own.told_of final then Words.by_number t nr (effect final)) (with_busy busy)
+      let final = is_final command pf in
+      both (peer_busy_is busy) (answered t command pf then own.told_of final then by_number t nr (effect final)) (with_busy busy)
       (λ x. by_name (named x.a x.s nr) fails F x) (record { acts = λ c. refl })
-      (both (MultipleFrame.answered t command pf) (own.told_of final then Words.by_number t nr (effect final)) itself (λ x. by_name (named x.a x.s nr) fails F x)
+      (both (answered t command pf) (own.told_of final then by_number t nr (effect final)) itself (λ x. by_name (named x.a x.s nr) fails F x)
       (answers (command && pf))
-      (both (own.told_of final) (Words.by_number t nr (effect final)) itself (λ x. by_name (named x.a x.s nr) fails F x) (told final)
+      (both (own.told_of final) (by_number t nr (effect final)) itself (λ x. by_name (named x.a x.s nr) fails F x) (told final)
       (by-number nr (effect final) F h)))
 
   -- What a valid N(R) does.
   pub acknowledged-acts : (n : ℕ) → Acts (seven.acknowledged_in_7 n) (acknowledged n)
   acknowledged-acts n =
-      by-choice (seven.is_all_sent n) (λ x. n == x.s) (λ c. refl) (Words.acknowledge n then Words.start T203) _ (λ x. starts T203 (acknowledges n x)) _
+      by-choice (seven.is_all_sent n) (λ x. n == x.s) (λ c. refl) (acknowledge n then start T203) _ (λ x. starts T203 (acknowledges n x)) _
       (record { acts = λ c. refl })
-      (by-choice (seven.is_beyond_acknowledged n) (λ x. nat_lt x.a n) (λ c. refl) (Words.acknowledge n then Words.start T200) nothing (λ x. starts T200 (acknowledges n x)) itself
+      (by-choice (seven.is_beyond_acknowledged n) (λ x. nat_lt x.a n) (λ c. refl) (acknowledge n then start T200) nothing (λ x. starts T200 (acknowledges n x)) itself
       (record { acts = λ c. refl }) (record { acts = λ c. refl }))
 
   pub informed-acts : (n : ℕ) → Acts (seven.acknowledged_by_information_in_7 n) (informed n)
   informed-acts n =
-      by-choice (λ l. l.peer_busy) (λ x. x.busy) (λ c. refl) (Words.acknowledge n) (seven.acknowledged_in_7 n) (acknowledges n) (acknowledged n) (record { acts = λ c. refl })
+      by-choice (λ l. l.peer_busy) (λ x. x.busy) (λ c. refl) (acknowledge n) (seven.acknowledged_in_7 n) (acknowledges n) (acknowledged n) (record { acts = λ c. refl })
       (acknowledged-acts n)
 
   pub recovers-acts : (timer : LinkTimer) (final : Bool) (n : ℕ) → Acts (eight.acknowledged_in_8 timer final n) (recovers timer final n)
@@ -174,11 +170,11 @@ module _ (t : Terms) where
   recovers-acts timer false n = record { acts = λ c. refl }
 
   -- SABME in states 7 and 8, and UA in state 5
-  pub sabme-acts : (p : Bool) → Acts (MultipleFrame.sabme_in_7_8 t p) (λ x. with_busy false (begins x))
+  pub sabme-acts : (p : Bool) → Acts (sabme_in_7_8 t p) (λ x. with_busy false (begins x))
   sabme-acts p = record { acts = λ c. go c (has_outstanding c.link) }
     where
-      go : (c : Course) (b : Bool) → let d = (Words.send t (Words.response (Ua p)) then Words.clear_flags then Words.error t code.F) c in
-          timing ((Words.zero_numbers then Words.start T203 then Words.enter Established) (cond b ((Words.discard then Words.establish_indication t) d) d))
+      go : (c : Course) (b : Bool) → let d = (send t (response (Ua p)) then clear_flags then error t code.F) c in
+          timing ((zero_numbers then start T203 then enter Established) (cond b ((discard then establish_indication t) d) d))
           ≡ with_busy false (begins (timing c))
       go c true = refl
       go c false = refl
@@ -187,8 +183,8 @@ module _ (t : Terms) where
   agreed-acts = record { acts = λ c. go c (is_asked c.link) (has_outstanding c.link) }
     where
       go : (c : Course) (asked outstanding : Bool) →
-          timing ((Words.zero_numbers then Words.start T203 then Words.enter Established)
-          (cond asked (Words.establish_confirm t c) (cond outstanding ((Words.discard then Words.establish_indication t) c) c)))
+          timing ((zero_numbers then start T203 then enter Established)
+          (cond asked (establish_confirm t c) (cond outstanding ((discard then establish_indication t) c) c)))
           ≡ begins (timing c)
       go c true b = refl
       go c false true = refl

@@ -1,8 +1,5 @@
 -- What an observer knows of a link, and when its timers are started anew: what each row comes to, over plain values.
-use Rattle.laws_trace.proofs.Vocabulary.{◌≡◌, ℕ, ◌+◌, ◌%◌, ◌≤◌, ◌<◌, ◌==◌, ◌&&◌, ◌||◌, Bool, true, false, cond, not, Option, Some, None, refl, sym, ap, ◌∙◌, subst, arith, eq-eqb, true≢false, nat_lt, option_map_or, Information, ReceiveReady, ReceiveNotReady, Reject, Sabme, Ua, Seq, named, seq-value, State, TeiAssigned, AwaitingEstablishment, AwaitingRelease, Established, TimerRecovery, LinkTimer, state_number, runs, named-within, named-is_seq}
-use Rattle.std.proofs.Common.{eqb-true, ltb-true, ltb-false}
-use Rattle.lapd_frame.specs.declared.controls.Control.{Control}
-use Rattle.model_link.specs.declared.timers.LinkTimer.TheVariants.{T200, T203}
+use Rattle.laws_trace.proofs.Vocabulary.{◌≡◌, ℕ, ◌+◌, ◌%◌, ◌≤◌, ◌<◌, ◌==◌, ◌&&◌, ◌||◌, Bool, true, false, cond, not, Option, Some, None, refl, sym, ap, ◌∙◌, subst, arith, eq-eqb, true≢false, nat_lt, option_map_or, Information, ReceiveReady, ReceiveNotReady, Reject, Sabme, Ua, Seq, named, seq-value, State, TeiAssigned, AwaitingEstablishment, AwaitingRelease, Established, TimerRecovery, LinkTimer, state_number, runs, named-within, named-is_seq, eqb-true, ltb-true, ltb-false, Control, T200, T203}
 use Rattle.laws_trace.proofs.TimersWatched.{Known, nothing_yet, number_heard, listens, renews}
 use Rattle.laws_trace.proofs.States.{is_state, differ}
 use Rattle.laws_trace.proofs.TimerActs.{Timing, by_name, starts, begins, ends, awaits, fails, acknowledges, with_busy, informs, supervises, informed, recovers}
@@ -155,44 +152,24 @@ module _ (k : Known) (ran : LinkTimer → Bool) (a s : ℕ) (busy : Bool) (r : O
           go (Some n) is =
               record { agrees = record { acknowledged = named-value nr n is; next = known.next; busy_is = known.busy_is }; anew = λ timer was now. refl; kept = tt }
 
-      pub ready-8 : (final : Bool) (nr : Seq) (p : Bool) → Good k ran (at TimerRecovery) (supervises false nr (recovers T203 final) (at TimerRecovery)) (Some (ReceiveReady nr p))
-      ready-8 final nr p = go final (named a s nr) refl
+      -- RR, RNR and REJ: a response with F=1 ends the recovery
+      pub supervised-8 : (b : Bool) (timer : LinkTimer) (o : Option Control) (nr : Seq) → option_map_or (listens false false k) o k ≡ number_heard nr.value false b k
+          → option_map_or (listens true true k) o k ≡ number_heard nr.value true b k → (final : Bool)
+          → Good k ran (at TimerRecovery) (supervises b nr (recovers timer final) (at TimerRecovery)) o
+      supervised-8 b timer o nr stays leads final = go final (named a s nr) refl
         where
-          go : (final : Bool) (o : Option ℕ) → named a s nr ≡ o
-              → Good k ran (at TimerRecovery) (by_name o fails (recovers T203 final) (with_busy false (at TimerRecovery))) (Some (ReceiveReady nr p))
-          go final None is = failed-8 false (Some (ReceiveReady nr p))
+          go : (final : Bool) (m : Option ℕ) → named a s nr ≡ m → Good k ran (at TimerRecovery) (by_name m fails (recovers timer final) (with_busy b (at TimerRecovery))) o
+          go final None is = failed-8 b o
           go true (Some n) is = record {
-            agrees = record { acknowledged = named-value nr n is; next = named-value nr n is; busy_is = refl };
-            anew = by-t200 (recovers T203 true n (with_busy false (at TimerRecovery))) TimerRecovery (Some (ReceiveReady nr p)) (λ was now. not-t200 now);
+            agrees = subst (λ k. IsKnown k n n b) (sym leads) (record { acknowledged = named-value nr n is; next = named-value nr n is; busy_is = refl });
+            anew = by-t200 (recovers timer true n (with_busy b (at TimerRecovery))) TimerRecovery o (λ was now. now);
             kept = tt;
           }
-          go false (Some n) is = record { agrees = record { acknowledged = named-value nr n is; next = known.next; busy_is = refl }; anew = λ timer was now. refl; kept = tt }
-
-      pub not-ready-8 : (final : Bool) (nr : Seq) (p : Bool) → Good k ran (at TimerRecovery) (supervises true nr (recovers T200 final) (at TimerRecovery)) (Some (ReceiveNotReady nr p))
-      not-ready-8 final nr p = go final (named a s nr) refl
-        where
-          go : (final : Bool) (o : Option ℕ) → named a s nr ≡ o
-              → Good k ran (at TimerRecovery) (by_name o fails (recovers T200 final) (with_busy true (at TimerRecovery))) (Some (ReceiveNotReady nr p))
-          go final None is = failed-8 true (Some (ReceiveNotReady nr p))
-          go true (Some n) is = record {
-            agrees = record { acknowledged = named-value nr n is; next = named-value nr n is; busy_is = refl };
-            anew = by-t200 (recovers T200 true n (with_busy true (at TimerRecovery))) TimerRecovery (Some (ReceiveNotReady nr p)) (λ was now. refl);
+          go false (Some n) is = record {
+            agrees = subst (λ k. IsKnown k n s b) (sym stays) (record { acknowledged = named-value nr n is; next = known.next; busy_is = refl });
+            anew = λ timer was now. refl;
             kept = tt;
           }
-          go false (Some n) is = record { agrees = record { acknowledged = named-value nr n is; next = known.next; busy_is = refl }; anew = λ timer was now. refl; kept = tt }
-
-      pub reject-8 : (final : Bool) (nr : Seq) (p : Bool) → Good k ran (at TimerRecovery) (supervises false nr (recovers T203 final) (at TimerRecovery)) (Some (Reject nr p))
-      reject-8 final nr p = go final (named a s nr) refl
-        where
-          go : (final : Bool) (o : Option ℕ) → named a s nr ≡ o
-              → Good k ran (at TimerRecovery) (by_name o fails (recovers T203 final) (with_busy false (at TimerRecovery))) (Some (Reject nr p))
-          go final None is = failed-8 false (Some (Reject nr p))
-          go true (Some n) is = record {
-            agrees = record { acknowledged = named-value nr n is; next = named-value nr n is; busy_is = refl };
-            anew = by-t200 (recovers T203 true n (with_busy false (at TimerRecovery))) TimerRecovery (Some (Reject nr p)) (λ was now. not-t200 now);
-            kept = tt;
-          }
-          go false (Some n) is = record { agrees = record { acknowledged = named-value nr n is; next = known.next; busy_is = refl }; anew = λ timer was now. refl; kept = tt }
 
   -- State 7: T200 runs where an acknowledgement is awaited, or the terminal is busy, else T203.
   module _ (ordered : a ≤ s) (within : s ≤ a + 127) (known : IsKnown k a s busy) (idle : ran T203 ≡ true → (s ≡ a) × (busy ≡ false)) where

@@ -1,22 +1,9 @@
 -- What is known of a link, and when its timers are started anew: any event of a link but an offer.
-use Rattle.laws_trace.proofs.Vocabulary.{◌≡◌, ℕ, ◌≤◌, ◌+◌, ◌==◌, ◌||◌, not, Bool, true, false, cond, List, Option, Some, None, refl, sym, ap, ◌∙◌, subst, arith, true≢false, nat_lt, if◌then◌else◌, Sabme, Disc, Refusal, HasItsTimer, IsCalmIn, needed_in, State, TeiAssigned, AwaitingEstablishment, AwaitingRelease, Established, TimerRecovery, Terms, LinkTimer, received, expired, requested, offer, cleared, undefined, wrong_size, overlong, Link, is_own_busy, course, ◌then◌, runs, is_timer}
-use Rattle.std.proofs.Common.{eqb-true}
-use Rattle.lapd_frame.specs.declared.controls.Control.{Control}
-use Rattle.lapd_frame.specs.declared.notes.ErrorCode.TheVariants as code
-use Rattle.model_link.specs.declared.timers.LinkTimer.TheVariants.{T200, T203}
-use Rattle.model_link.specs.Events
-use Rattle.model_link.specs.Events.{Event, frame}
-use Rattle.model_link.specs.Machine
-use Rattle.model_link.specs.MultipleFrame
-use Rattle.model_link.specs.Requests
-use Rattle.model_link.specs.Sound.{IsSound}
-use Rattle.model_link.specs.Steps.{Course, Step, begun, nothing}
-use Rattle.model_link.specs.Words
+use Rattle.laws_trace.proofs.Vocabulary.{◌≡◌, ℕ, ◌≤◌, ◌+◌, ◌==◌, ◌||◌, not, Bool, true, false, cond, List, Option, Some, None, refl, sym, ap, ◌∙◌, subst, arith, true≢false, nat_lt, if◌then◌else◌, Sabme, Disc, Refusal, HasItsTimer, IsCalmIn, needed_in, State, TeiAssigned, AwaitingEstablishment, AwaitingRelease, Established, TimerRecovery, Terms, LinkTimer, received, expired, requested, offer, cleared, undefined, wrong_size, overlong, Link, is_own_busy, course, ◌then◌, runs, is_timer, eqb-true, Control, T200, T203, LinkEvent as Event, frame, LinkIsSound as IsSound, Course, Step, begun, nothing, G, H, I, L, N, O, LinkClearBusy as ClearBusy, LinkData as Data, LinkEstablish as Establish, LinkRelease as Release, LinkRequest as Request, LinkSetBusy as SetBusy, expired_step, clear_busy_in_7_8, data_in_7_8, failed, set_busy_in_7_8, refusal_of_contents, request_step, command, discard, enquire, enter, error, no_timer, release_confirm, release_indication, repeated, link_send as send, start}
 use Rattle.laws_trace.proofs.TimersWatched.{Known}
 use Rattle.laws_trace.proofs.TimerActs.{timing, Acts, itself, whichever}
-use Rattle.laws_trace.proofs.TimerClaims.{IsKnown, Agrees, Good}
+use Rattle.laws_trace.proofs.TimerClaims.{IsKnown, Agrees, Good, again-5, again-6, again-8, asked-4, ended, expired-7, failed-8, released-7, released-8, same-4, same-5, same-6, same-7, same-8, stopped}
 use Rattle.laws_trace.proofs.TimerRows.{in_state}
-use Rattle.laws_trace.proofs.TimerClaims as claims
 use Rattle.laws_trace.proofs.TimerRows as rows
 
 -- The timers that ran, and had not just expired.
@@ -43,36 +30,36 @@ module _ (t : Terms) (k : Known) (l : Link) where
   refused ran here facts = rows.unchanged t k ran l here facts (λ c. c) (record { acts = λ c. refl })
 
   data-acts : (octets : List ℕ) (o : Option Refusal) (c : Course)
-      → timing (elim o as (λ o. Course) [ None ↦ MultipleFrame.data_in_7_8 octets c | Some _ ↦ c ]) ≡ timing c
+      → timing (elim o as (λ o. Course) [ None ↦ data_in_7_8 octets c | Some _ ↦ c ]) ≡ timing c
   data-acts octets None c = refl
   data-acts octets (Some why) c = refl
 
-  content : (ran : LinkTimer → Bool) (octets : List ℕ) (full : Bool) (here : State) → Facts ran here → Row ran here (Requests.request_step t (Events.Data octets) full) None
+  content : (ran : LinkTimer → Bool) (octets : List ℕ) (full : Bool) (here : State) → Facts ran here → Row ran here (request_step t (Data octets) full) None
   content ran octets full Established facts =
       subst (λ y. Good k ran (timing (begun (in_state Established l))) y None)
-      (sym (data-acts octets (Requests.refusal_of_contents t (in_state Established l) full octets) (begun (in_state Established l)))) (refused ran Established facts)
+      (sym (data-acts octets (refusal_of_contents t (in_state Established l) full octets) (begun (in_state Established l)))) (refused ran Established facts)
   content ran octets full TimerRecovery facts =
       subst (λ y. Good k ran (timing (begun (in_state TimerRecovery l))) y None)
-      (sym (data-acts octets (Requests.refusal_of_contents t (in_state TimerRecovery l) full octets) (begun (in_state TimerRecovery l)))) (refused ran TimerRecovery facts)
+      (sym (data-acts octets (refusal_of_contents t (in_state TimerRecovery l) full octets) (begun (in_state TimerRecovery l)))) (refused ran TimerRecovery facts)
   content ran octets full other facts = refused ran other facts
 
-  sets-busy : Acts (MultipleFrame.set_busy_in_7_8 t) itself
+  sets-busy : Acts (set_busy_in_7_8 t) itself
   sets-busy = whichever is_own_busy nothing _ itself (record { acts = λ c. refl }) (record { acts = λ c. refl })
 
-  clears-busy : Acts (MultipleFrame.clear_busy_in_7_8 t) itself
+  clears-busy : Acts (clear_busy_in_7_8 t) itself
   clears-busy = whichever is_own_busy _ nothing itself (record { acts = λ c. refl }) (record { acts = λ c. refl })
 
-  asked : (ran : LinkTimer → Bool) (asks : Events.Request) (full : Bool) (here : State) → Facts ran here → Row ran here (Requests.request_step t asks full) None
-  asked ran Events.Establish full TeiAssigned facts = claims.asked-4 k ran l.a l.s l.peer_busy l.running facts
-  asked ran Events.Establish full Established facts = refused ran Established facts
-  asked ran Events.Establish full TimerRecovery facts = refused ran TimerRecovery facts
-  asked ran Events.Release full Established facts = claims.released-7 k ran l.a l.s l.peer_busy l.running
-  asked ran Events.Release full TimerRecovery facts = claims.released-8 k ran l.a l.s l.peer_busy l.running
-  asked ran (Events.Data octets) full here facts = content ran octets full here facts
-  asked ran Events.SetBusy full Established facts = rows.unchanged t k ran l Established facts (MultipleFrame.set_busy_in_7_8 t) sets-busy
-  asked ran Events.SetBusy full TimerRecovery facts = rows.unchanged t k ran l TimerRecovery facts (MultipleFrame.set_busy_in_7_8 t) sets-busy
-  asked ran Events.ClearBusy full Established facts = rows.unchanged t k ran l Established facts (MultipleFrame.clear_busy_in_7_8 t) clears-busy
-  asked ran Events.ClearBusy full TimerRecovery facts = rows.unchanged t k ran l TimerRecovery facts (MultipleFrame.clear_busy_in_7_8 t) clears-busy
+  asked : (ran : LinkTimer → Bool) (asks : Request) (full : Bool) (here : State) → Facts ran here → Row ran here (request_step t asks full) None
+  asked ran Establish full TeiAssigned facts = asked-4 k ran l.a l.s l.peer_busy l.running facts
+  asked ran Establish full Established facts = refused ran Established facts
+  asked ran Establish full TimerRecovery facts = refused ran TimerRecovery facts
+  asked ran Release full Established facts = released-7 k ran l.a l.s l.peer_busy l.running
+  asked ran Release full TimerRecovery facts = released-8 k ran l.a l.s l.peer_busy l.running
+  asked ran (Data octets) full here facts = content ran octets full here facts
+  asked ran SetBusy full Established facts = rows.unchanged t k ran l Established facts (set_busy_in_7_8 t) sets-busy
+  asked ran SetBusy full TimerRecovery facts = rows.unchanged t k ran l TimerRecovery facts (set_busy_in_7_8 t) sets-busy
+  asked ran ClearBusy full Established facts = rows.unchanged t k ran l Established facts (clear_busy_in_7_8 t) clears-busy
+  asked ran ClearBusy full TimerRecovery facts = rows.unchanged t k ran l TimerRecovery facts (clear_busy_in_7_8 t) clears-busy
   asked ran other full any facts = refused ran any facts
 
   -- Expiries, by the timer that runs.
@@ -82,7 +69,7 @@ module _ (t : Terms) (k : Known) (l : Link) where
   abbrev Expires : LinkTimer → State → Option LinkTimer → Type 0
   Expires timer here r =
       let c = begun (with_running here r) in
-      Good k (ran_before (expired timer) r) (timing c) (timing (Machine.expired_step t timer c)) None
+      Good k (ran_before (expired timer) r) (timing c) (timing (expired_step t timer c)) None
 
   none-runs : (timer other : LinkTimer) → ran_before (expired timer) None other ≡ false
   none-runs T200 T200 = refl
@@ -95,58 +82,58 @@ module _ (t : Terms) (k : Known) (l : Link) where
   t200-gone T203 = refl
 
   expires-4 : (timer : LinkTimer) → Expires timer TeiAssigned None
-  expires-4 T200 = claims.same-4 k (ran_before (expired T200) None) l.a l.s l.peer_busy None (none-runs T200) None
-  expires-4 T203 = claims.same-4 k (ran_before (expired T203) None) l.a l.s l.peer_busy None (none-runs T203) None
+  expires-4 T200 = same-4 k (ran_before (expired T200) None) l.a l.s l.peer_busy None (none-runs T200) None
+  expires-4 T203 = same-4 k (ran_before (expired T203) None) l.a l.s l.peer_busy None (none-runs T203) None
 
   -- T200 in states 5 and 6
   expires-5 : (timer : LinkTimer) → Expires timer AwaitingEstablishment (Some T200)
-  expires-5 T203 = claims.same-5 k (ran_before (expired T203) (Some T200)) l.a l.s l.peer_busy (Some T200) refl None
+  expires-5 T203 = same-5 k (ran_before (expired T203) (Some T200)) l.a l.s l.peer_busy (Some T200) refl None
   expires-5 T200 = go (nat_lt l.repeats t.n200)
     where
       c : Course
       c = begun (with_running AwaitingEstablishment (Some T200))
 
       go : (again : Bool) → Good k (ran_before (expired T200) (Some T200)) (timing c)
-          (timing (cond again ((Words.send t (Words.command (Sabme true)) then Words.repeated then Words.start T200) c)
-          ((Words.discard then Words.error t code.G then Words.release_indication t then Words.no_timer then Words.enter TeiAssigned) c))) None
-      go true = claims.again-5 k (ran_before (expired T200) (Some T200)) l.a l.s l.peer_busy (Some T200) t200-gone
-      go false = claims.ended k (ran_before (expired T200) (Some T200)) l.a l.s l.peer_busy (Some T200) AwaitingEstablishment None
+          (timing (cond again ((send t (command (Sabme true)) then repeated then start T200) c)
+          ((discard then error t G then release_indication t then no_timer then enter TeiAssigned) c))) None
+      go true = again-5 k (ran_before (expired T200) (Some T200)) l.a l.s l.peer_busy (Some T200) t200-gone
+      go false = ended k (ran_before (expired T200) (Some T200)) l.a l.s l.peer_busy (Some T200) AwaitingEstablishment None
 
   expires-6 : (timer : LinkTimer) → Expires timer AwaitingRelease (Some T200)
-  expires-6 T203 = claims.same-6 k (ran_before (expired T203) (Some T200)) l.a l.s l.peer_busy (Some T200) refl None
+  expires-6 T203 = same-6 k (ran_before (expired T203) (Some T200)) l.a l.s l.peer_busy (Some T200) refl None
   expires-6 T200 = go (nat_lt l.repeats t.n200)
     where
       c : Course
       c = begun (with_running AwaitingRelease (Some T200))
 
       go : (again : Bool) → Good k (ran_before (expired T200) (Some T200)) (timing c)
-          (timing (cond again ((Words.send t (Words.command (Disc true)) then Words.repeated then Words.start T200) c)
-          ((Words.error t code.H then Words.release_confirm t then Words.no_timer then Words.enter TeiAssigned) c))) None
-      go true = claims.again-6 k (ran_before (expired T200) (Some T200)) l.a l.s l.peer_busy (Some T200) t200-gone
-      go false = claims.stopped k (ran_before (expired T200) (Some T200)) l.a l.s l.peer_busy (Some T200) AwaitingRelease None
+          (timing (cond again ((send t (command (Disc true)) then repeated then start T200) c)
+          ((error t H then release_confirm t then no_timer then enter TeiAssigned) c))) None
+      go true = again-6 k (ran_before (expired T200) (Some T200)) l.a l.s l.peer_busy (Some T200) t200-gone
+      go false = stopped k (ran_before (expired T200) (Some T200)) l.a l.s l.peer_busy (Some T200) AwaitingRelease None
 
   -- and in state 8
   expires-8 : IsKnown k l.a l.s l.peer_busy → (timer : LinkTimer) → Expires timer TimerRecovery (Some T200)
-  expires-8 known T203 = claims.same-8 k (ran_before (expired T203) (Some T200)) l.a l.s l.peer_busy (Some T200) refl known None refl
+  expires-8 known T203 = same-8 k (ran_before (expired T203) (Some T200)) l.a l.s l.peer_busy (Some T200) refl known None refl
   expires-8 known T200 = go (nat_lt l.repeats t.n200)
     where
       c : Course
       c = begun (with_running TimerRecovery (Some T200))
 
       go : (again : Bool) → Good k (ran_before (expired T200) (Some T200)) (timing c)
-          (timing (cond again ((Words.enquire t then Words.repeated then Words.start T200) c) (MultipleFrame.failed t code.I c))) None
-      go true = claims.again-8 k (ran_before (expired T200) (Some T200)) l.a l.s l.peer_busy (Some T200) t200-gone known
-      go false = claims.failed-8 k (ran_before (expired T200) (Some T200)) l.a l.s l.peer_busy (Some T200) refl known l.peer_busy None
+          (timing (cond again ((enquire t then repeated then start T200) c) (failed t I c))) None
+      go true = again-8 k (ran_before (expired T200) (Some T200)) l.a l.s l.peer_busy (Some T200) t200-gone known
+      go false = failed-8 k (ran_before (expired T200) (Some T200)) l.a l.s l.peer_busy (Some T200) refl known l.peer_busy None
 
   -- either in state 7
   expires-7 : IsKnown k l.a l.s l.peer_busy → l.a ≤ l.s → l.s ≤ l.a + 127 → (timer running : LinkTimer) → (running ≡ T203 → (l.s ≡ l.a) × (l.peer_busy ≡ false))
       → Expires timer Established (Some running)
-  expires-7 known ordered within T200 T200 idle = claims.expired-7 k (ran_before (expired T200) (Some T200)) l.a l.s l.peer_busy (Some T200) known
-  expires-7 known ordered within T203 T203 idle = claims.expired-7 k (ran_before (expired T203) (Some T203)) l.a l.s l.peer_busy (Some T203) known
+  expires-7 known ordered within T200 T200 idle = expired-7 k (ran_before (expired T200) (Some T200)) l.a l.s l.peer_busy (Some T200) known
+  expires-7 known ordered within T203 T203 idle = expired-7 k (ran_before (expired T203) (Some T203)) l.a l.s l.peer_busy (Some T203) known
   expires-7 known ordered within T200 T203 idle =
-      claims.same-7 k (ran_before (expired T200) (Some T203)) l.a l.s l.peer_busy (Some T203) ordered within known (λ was. idle refl) None refl (λ timer. refl)
+      same-7 k (ran_before (expired T200) (Some T203)) l.a l.s l.peer_busy (Some T203) ordered within known (λ was. idle refl) None refl (λ timer. refl)
   expires-7 known ordered within T203 T200 idle =
-      claims.same-7 k (ran_before (expired T203) (Some T200)) l.a l.s l.peer_busy (Some T200) ordered within known (λ was. absurd (true≢false (sym was))) None refl (λ timer. refl)
+      same-7 k (ran_before (expired T203) (Some T200)) l.a l.s l.peer_busy (Some T200) ordered within known (λ was. absurd (true≢false (sym was))) None refl (λ timer. refl)
 
 -- A link that runs the timer that it needs.
 module _ (t : Terms) (k : Known) (l : Link) (s : IsSound t l) (small : t.k ≤ 127) (timed : HasItsTimer l) (agrees : Agrees l.state k l.a l.s l.peer_busy) where
@@ -191,9 +178,9 @@ module _ (t : Terms) (k : Known) (l : Link) (s : IsSound t l) (small : t.k ≤ 1
   pub event-good : (e : Event) → (e ≡ offer → ⊥) → (e ≡ cleared → ⊥)
       → Good k (ran_before e l.running) (timing (begun l)) (timing (course t e l)) (control_of e)
   event-good (received (frame f)) a b = rows.by-frame t k (ran_with l.running) l l.state facts f.address.command f.info f.control
-  event-good (received undefined) a b = rows.malformed t k (ran_with l.running) l l.state facts code.L
-  event-good (received wrong_size) a b = rows.malformed t k (ran_with l.running) l l.state facts code.N
-  event-good (received overlong) a b = rows.malformed t k (ran_with l.running) l l.state facts code.O
+  event-good (received undefined) a b = rows.malformed t k (ran_with l.running) l l.state facts L
+  event-good (received wrong_size) a b = rows.malformed t k (ran_with l.running) l l.state facts N
+  event-good (received overlong) a b = rows.malformed t k (ran_with l.running) l l.state facts O
   event-good (expired timer) a b = expires-in timer l.state timed.running agrees
   event-good (requested asks full) a b = asked t k l (ran_with l.running) asks full l.state facts
   event-good offer a b = absurd (a refl)

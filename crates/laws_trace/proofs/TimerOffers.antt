@@ -1,15 +1,6 @@
 -- What is known of a link, and its timers, over an offer; and what its orders start.
-use Rattle.laws_trace.proofs.Vocabulary.{◌≡◌, ℕ, ◌+◌, ◌%◌, ◌&&◌, ◌||◌, Bool, true, false, cond, List, [], ◌∷◌, Option, Some, None, refl, sym, ap, ◌∙◌, subst, arith, true≢false, All, not, nat_lt, length, option_map_or, All-head, seq, ControlFrame, State, AwaitingEstablishment, Established, TimerRecovery, Terms, LinkTimer, Link, outstanding, is_established, IsWaitingFrame, Given, runs}
-use Rattle.std.specs.Option.{unwrap_or}
-use Rattle.model_link.specs.declared.timers.LinkTimer.TheVariants.{T200, T203}
-use Rattle.model_link.specs.Events as link
-use Rattle.model_link.specs.Machine as links
-use Rattle.model_link.specs.Offers
-use Rattle.model_link.specs.Sound.{IsSound}
-use Rattle.model_link.specs.Steps.{Course, begun}
-use Rattle.model_link.specs.Words
-use Rattle.laws_trace.proofs.TimersWatched.{Sent, sent_by}
-use Rattle.laws_trace.proofs.TimersWatched.{Known, nothing_yet, sends}
+use Rattle.laws_trace.proofs.Vocabulary.{◌≡◌, ℕ, ◌+◌, ◌%◌, ◌&&◌, ◌||◌, Bool, true, false, cond, List, [], ◌∷◌, Option, Some, None, refl, sym, ap, ◌∙◌, subst, arith, true≢false, All, not, nat_lt, length, option_map_or, All-head, seq, ControlFrame, State, AwaitingEstablishment, Established, TimerRecovery, Terms, LinkTimer, Link, outstanding, is_established, IsWaitingFrame, Given, runs, unwrap_or, T200, T203, LinkIsSound as IsSound, Course, begun, offer, course, given, link_given_of as given_of, first_unsent, give_waiting, may_send_information, next_information, offer_among, send_acknowledgement, send_information, start}
+use Rattle.laws_trace.proofs.TimersWatched.{Sent, sent_by, Known, nothing_yet, sends}
 use Rattle.laws_trace.proofs.States.{is_state}
 use Rattle.laws_trace.proofs.DataGoesOut.{none-sent}
 use Rattle.laws_trace.proofs.TimerActs.{Timing, timing}
@@ -53,26 +44,26 @@ first-of false b c d e = absurd (true≢false (sym e))
 
 module _ (t : Terms) (k : Known) (l : Link) (s : IsSound t l) (agrees : Agrees l.state k l.a l.s l.peer_busy) where
   abbrev Claim : Course → Type 0
-  Claim c = Offered k l (timing c) (option_map_or given_sent (links.given_of t l c c.sent) None)
+  Claim c = Offered k l (timing c) (option_map_or given_sent (given_of t l c c.sent) None)
 
   -- nothing but what goes changes
-  stays : (c : Course) → timing c ≡ timing (begun l) → option_map_or given_sent (links.given_of t l c c.sent) None ≡ None → Claim c
+  stays : (c : Course) → timing c ≡ timing (begun l) → option_map_or given_sent (given_of t l c c.sent) None ≡ None → Claim c
   stays c same none =
-      subst (λ y. Offered k l y (option_map_or given_sent (links.given_of t l c c.sent) None)) (sym same)
+      subst (λ y. Offered k l y (option_map_or given_sent (given_of t l c c.sent) None)) (sym same)
       (subst (Offered k l (timing (begun l))) (sym none)
       (record { state = refl; agrees = same-known l.state k l.a l.s l.peer_busy agrees; quiet = λ timer was now. refl; kept = same-kept l.state (timing (begun l)) }))
 
-  by-waiting : (ws : List ControlFrame) → All (IsWaitingFrame t) ws → Claim (Offers.offer_among t ws (begun l))
+  by-waiting : (ws : List ControlFrame) → All (IsWaitingFrame t) ws → Claim (offer_among t ws (begun l))
   unfolding seq
   by-waiting (f ∷ fs) all =
-      stays (Offers.give_waiting f fs (begun l)) refl (none-sent f.control [] (All-head (IsWaitingFrame t) f fs all).without_contents)
-  by-waiting [] all = by-send (Offers.may_send_information t l) refl
+      stays (give_waiting f fs (begun l)) refl (none-sent f.control [] (All-head (IsWaitingFrame t) f fs all).without_contents)
+  by-waiting [] all = by-send (may_send_information t l) refl
     where
       sent : Course
-      sent = record (begun l) { link = record l { s = l.s + 1; pending = false }; sent = Some (record { frame = Offers.next_information l; contents = Offers.first_unsent l }) }
+      sent = record (begun l) { link = record l { s = l.s + 1; pending = false }; sent = Some (record { frame = next_information l; contents = first_unsent l }) }
 
-      by-pending : (b : Bool) → Claim (cond b (Offers.send_acknowledgement (begun l)) (begun l))
-      by-pending true = stays (Offers.send_acknowledgement (begun l)) refl refl
+      by-pending : (b : Bool) → Claim (cond b (send_acknowledgement (begun l)) (begun l))
+      by-pending true = stays (send_acknowledgement (begun l)) refl refl
       by-pending false = stays (begun l) refl refl
 
       went : is_established l.state ≡ true
@@ -83,14 +74,14 @@ module _ (t : Terms) (k : Known) (l : Link) (s : IsSound t l) (agrees : Agrees l
       newly T200 off was now = absurd (true≢false (sym was ∙ off))
       newly T203 off was now = refl
 
-      by-timer : is_established l.state ≡ true → (b : Bool) → runs T200 l.running ≡ b → Claim (cond b sent (Words.start T200 sent))
+      by-timer : is_established l.state ≡ true → (b : Bool) → runs T200 l.running ≡ b → Claim (cond b sent (start T200 sent))
       by-timer up true on = record { state = refl; agrees = went up; quiet = λ timer was now. refl; kept = up-kept l.state up (timing (begun l)) (timing sent) }
-      by-timer up false off = record { state = refl; agrees = went up; quiet = λ timer was now. newly timer off was now; kept = up-kept l.state up (timing (begun l)) (timing (Words.start T200 sent)) }
+      by-timer up false off = record { state = refl; agrees = went up; quiet = λ timer was now. newly timer off was now; kept = up-kept l.state up (timing (begun l)) (timing (start T200 sent)) }
 
-      by-send : (b : Bool) → Offers.may_send_information t l ≡ b
-          → Claim (cond b (Offers.send_information (begun l)) (cond l.pending (Offers.send_acknowledgement (begun l)) (begun l)))
+      by-send : (b : Bool) → may_send_information t l ≡ b
+          → Claim (cond b (send_information (begun l)) (cond l.pending (send_acknowledgement (begun l)) (begun l)))
       by-send true may = by-timer (first-of (is_established l.state) (not l.peer_busy) (nat_lt (outstanding l) t.k) (nat_lt l.s (length l.contents)) may) (runs T200 l.running) refl
       by-send false may = by-pending l.pending
 
-  pub offer-good : Offered k l (timing (links.course t link.offer l)) (option_map_or given_sent (links.given t l) None)
+  pub offer-good : Offered k l (timing (course t offer l)) (option_map_or given_sent (given t l) None)
   offer-good = by-waiting l.waiting s.frames

@@ -1,19 +1,10 @@
 -- What is known of a link, and when its timers are started anew: each row of the tables, except for offers.
-use Rattle.laws_trace.proofs.Vocabulary.{◌≡◌, ℕ, ◌≤◌, ◌+◌, Bool, true, false, List, Option, Some, None, refl, sym, subst, nat_lt, length, option_map_or, Information, ReceiveReady, ReceiveNotReady, Reject, Sabme, Disc, Ui, Ua, Dm, Frmr, ErrorCode, State, TeiAssigned, AwaitingEstablishment, AwaitingRelease, Established, TimerRecovery, Terms, LinkTimer, Link}
-use Rattle.lapd_frame.specs.declared.controls.Control.{Control}
-use Rattle.lapd_frame.specs.declared.controls.Control.TheVariants.{Xid}
-use Rattle.lapd_frame.specs.declared.notes.ErrorCode.TheVariants as code
-use Rattle.model_link.specs.declared.timers.LinkTimer.TheVariants.{T200, T203}
-use Rattle.model_link.specs.Machine
-use Rattle.model_link.specs.MultipleFrame
+use Rattle.laws_trace.proofs.Vocabulary.{◌≡◌, ℕ, ◌≤◌, ◌+◌, Bool, true, false, List, Option, Some, None, refl, sym, subst, nat_lt, length, option_map_or, Information, ReceiveReady, ReceiveNotReady, Reject, Sabme, Disc, Ui, Ua, Dm, Frmr, ErrorCode, State, TeiAssigned, AwaitingEstablishment, AwaitingRelease, Established, TimerRecovery, Terms, LinkTimer, Link, Control, Xid, T200, T203, Step, begun, nothing, A, C, D, frame_in, malformed_in, is_final, ua_in_7_8, acknowledge, deliver_unit, error, leave_unserved, unit_data}
 use Rattle.model_link.specs.Established as seven
 use Rattle.model_link.specs.TimerRecovery as eight
-use Rattle.model_link.specs.Steps.{Step, begun, nothing}
-use Rattle.model_link.specs.Words
 use Rattle.laws_trace.proofs.TimersWatched.{Known, nothing_yet, listens, renews}
-use Rattle.laws_trace.proofs.TimerActs.{Timing, timing, Acts, itself, either-bit}
+use Rattle.laws_trace.proofs.TimerActs.{Timing, timing, Acts, itself, either-bit, acknowledged, acknowledged-acts, acknowledges, agreed-acts, begins, fails, information-acts, informed, informed-acts, informs, recovers, recovers-acts, sabme-acts, starts, supervises, supervisory-acts, with_busy}
 use Rattle.laws_trace.proofs.TimerClaims.{IsKnown, Good}
-use Rattle.laws_trace.proofs.TimerActs as acts
 use Rattle.laws_trace.proofs.TimerClaims as claims
 
 abbrev pub in_state : State → Link → Link
@@ -24,9 +15,9 @@ each-timer P x y T200 = x
 each-timer P x y T203 = y
 
 -- UI in any state
-unit-acts : (t : Terms) (octets : List ℕ) → Acts (Words.unit_data t octets) itself
+unit-acts : (t : Terms) (octets : List ℕ) → Acts (unit_data t octets) itself
 unit-acts t octets =
-    either-bit (nat_lt t.n201 (length octets)) Words.leave_unserved (Words.deliver_unit t octets) itself (record { acts = λ c. refl }) (record { acts = λ c. refl })
+    either-bit (nat_lt t.n201 (length octets)) leave_unserved (deliver_unit t octets) itself (record { acts = λ c. refl }) (record { acts = λ c. refl })
 
 module _ (t : Terms) (k : Known) (ran : LinkTimer → Bool) (l : Link) where
   -- What holds of a link in each state.
@@ -50,11 +41,11 @@ module _ (t : Terms) (k : Known) (ran : LinkTimer → Bool) (l : Link) where
   same-4 : ((timer : LinkTimer) → ran timer ≡ false) → (o : Option Control) → Good k ran (at TeiAssigned) (at TeiAssigned) o
   same-4 none o = claims.same-4 k ran l.a l.s l.peer_busy l.running none o
 
-  in-4 : ((timer : LinkTimer) → ran timer ≡ false) → (b : Bool) (octets : List ℕ) (control : Control) → Row TeiAssigned (Machine.frame_in TeiAssigned t b octets control) (Some control)
+  in-4 : ((timer : LinkTimer) → ran timer ≡ false) → (b : Bool) (octets : List ℕ) (control : Control) → Row TeiAssigned (frame_in TeiAssigned t b octets control) (Some control)
   in-4 none b octets (Sabme p) = claims.sabme-4 k ran l.a l.s l.peer_busy l.running none p
   in-4 none b octets (Ua true) = same-4 none (Some (Ua true))
   in-4 none b octets (Ua false) = same-4 none (Some (Ua false))
-  in-4 none b octets (Ui p) = moved TeiAssigned (Some (Ui p)) (Words.unit_data t octets) itself (unit-acts t octets) (same-4 none (Some (Ui p)))
+  in-4 none b octets (Ui p) = moved TeiAssigned (Some (Ui p)) (unit_data t octets) itself (unit-acts t octets) (same-4 none (Some (Ui p)))
   in-4 none b octets other = same-4 none (Some other)
 
   -- State 5.
@@ -62,22 +53,22 @@ module _ (t : Terms) (k : Known) (ran : LinkTimer → Bool) (l : Link) where
   same-5 only o = claims.same-5 k ran l.a l.s l.peer_busy l.running only o
 
   in-5 : Facts AwaitingEstablishment → (b : Bool) (octets : List ℕ) (control : Control)
-      → Row AwaitingEstablishment (Machine.frame_in AwaitingEstablishment t b octets control) (Some control)
+      → Row AwaitingEstablishment (frame_in AwaitingEstablishment t b octets control) (Some control)
   in-5 facts b octets (Ua true) =
-      moved AwaitingEstablishment (Some (Ua true)) (Machine.frame_in AwaitingEstablishment t b octets (Ua true)) acts.begins (record { acts = (acts.agreed-acts t).acts })
+      moved AwaitingEstablishment (Some (Ua true)) (frame_in AwaitingEstablishment t b octets (Ua true)) begins (record { acts = (agreed-acts t).acts })
       (claims.agreed-5 k ran l.a l.s l.peer_busy l.running facts.0 facts.1 facts.2)
   in-5 facts b octets (Dm true) = claims.ended k ran l.a l.s l.peer_busy l.running AwaitingEstablishment (Some (Dm true))
-  in-5 facts b octets (Ui p) = moved AwaitingEstablishment (Some (Ui p)) (Words.unit_data t octets) itself (unit-acts t octets) (same-5 facts.0 (Some (Ui p)))
+  in-5 facts b octets (Ui p) = moved AwaitingEstablishment (Some (Ui p)) (unit_data t octets) itself (unit-acts t octets) (same-5 facts.0 (Some (Ui p)))
   in-5 facts b octets other = same-5 facts.0 (Some other)
 
   -- State 6.
   same-6 : ran T203 ≡ false → (o : Option Control) → Good k ran (at AwaitingRelease) (at AwaitingRelease) o
   same-6 only o = claims.same-6 k ran l.a l.s l.peer_busy l.running only o
 
-  in-6 : ran T203 ≡ false → (b : Bool) (octets : List ℕ) (control : Control) → Row AwaitingRelease (Machine.frame_in AwaitingRelease t b octets control) (Some control)
+  in-6 : ran T203 ≡ false → (b : Bool) (octets : List ℕ) (control : Control) → Row AwaitingRelease (frame_in AwaitingRelease t b octets control) (Some control)
   in-6 only b octets (Ua true) = claims.stopped k ran l.a l.s l.peer_busy l.running AwaitingRelease (Some (Ua true))
   in-6 only b octets (Dm true) = claims.stopped k ran l.a l.s l.peer_busy l.running AwaitingRelease (Some (Dm true))
-  in-6 only b octets (Ui p) = moved AwaitingRelease (Some (Ui p)) (Words.unit_data t octets) itself (unit-acts t octets) (same-6 only (Some (Ui p)))
+  in-6 only b octets (Ui p) = moved AwaitingRelease (Some (Ui p)) (unit_data t octets) itself (unit-acts t octets) (same-6 only (Some (Ui p)))
   in-6 only b octets other = same-6 only (Some other)
 
   -- State 7.
@@ -87,42 +78,42 @@ module _ (t : Terms) (k : Known) (ran : LinkTimer → Bool) (l : Link) where
     same-7 o same one two =
         claims.same-7 k ran l.a l.s l.peer_busy l.running facts.1 facts.2 facts.0 facts.3 o same (each-timer (λ timer. option_map_or (renews timer k) o false ≡ false) one two)
 
-    failed-7 : (o : Option Control) → Good k ran (at Established) (acts.fails (at Established)) o
+    failed-7 : (o : Option Control) → Good k ran (at Established) (fails (at Established)) o
     failed-7 o = claims.failed-7 k ran l.a l.s l.peer_busy l.running facts.1 facts.2 facts.0 facts.3 l.peer_busy o
 
     unsolicited : (b : Bool) → Acts (seven.unsolicited t b) itself
-    unsolicited b = either-bit b (Words.error t code.A) nothing itself (record { acts = λ c. refl }) (record { acts = λ c. refl })
+    unsolicited b = either-bit b (error t A) nothing itself (record { acts = λ c. refl }) (record { acts = λ c. refl })
 
-    in-7 : (b : Bool) (octets : List ℕ) (control : Control) → Row Established (Machine.frame_in Established t b octets control) (Some control)
+    in-7 : (b : Bool) (octets : List ℕ) (control : Control) → Row Established (frame_in Established t b octets control) (Some control)
     in-7 b octets (Information ns nr p) =
-        moved Established (Some (Information ns nr p)) (Machine.frame_in Established t b octets (Information ns nr p)) (acts.informs (nat_lt t.n201 (length octets)) nr acts.informed)
-        (acts.information-acts t ns nr p octets seven.acknowledged_by_information_in_7 acts.informed (acts.informed-acts t))
+        moved Established (Some (Information ns nr p)) (frame_in Established t b octets (Information ns nr p)) (informs (nat_lt t.n201 (length octets)) nr informed)
+        (information-acts t ns nr p octets seven.acknowledged_by_information_in_7 informed (informed-acts t))
         (claims.informed-7 k ran l.a l.s l.peer_busy l.running facts.1 facts.2 facts.0 facts.3 (nat_lt t.n201 (length octets)) ns nr p)
     in-7 b octets (ReceiveReady nr p) =
-        moved Established (Some (ReceiveReady nr p)) (Machine.frame_in Established t b octets (ReceiveReady nr p)) (acts.supervises false nr acts.acknowledged)
-        (acts.supervisory-acts t (seven.particulars_in_7 t) false b p nr (seven.either_way seven.acknowledged_in_7) acts.acknowledged unsolicited (acts.acknowledged-acts t))
+        moved Established (Some (ReceiveReady nr p)) (frame_in Established t b octets (ReceiveReady nr p)) (supervises false nr acknowledged)
+        (supervisory-acts t (seven.particulars_in_7 t) false b p nr (seven.either_way seven.acknowledged_in_7) acknowledged unsolicited (acknowledged-acts t))
         (claims.ready-7 k ran l.a l.s l.peer_busy l.running facts.1 facts.2 facts.0 facts.3 nr p)
     in-7 b octets (ReceiveNotReady nr p) =
-        moved Established (Some (ReceiveNotReady nr p)) (Machine.frame_in Established t b octets (ReceiveNotReady nr p))
-        (acts.supervises true nr (λ n x. acts.starts T200 (acts.acknowledges n x)))
-        (acts.supervisory-acts t (seven.particulars_in_7 t) true b p nr (seven.either_way seven.acknowledged_by_rnr_in_7) (λ n x. acts.starts T200 (acts.acknowledges n x)) unsolicited
+        moved Established (Some (ReceiveNotReady nr p)) (frame_in Established t b octets (ReceiveNotReady nr p))
+        (supervises true nr (λ n x. starts T200 (acknowledges n x)))
+        (supervisory-acts t (seven.particulars_in_7 t) true b p nr (seven.either_way seven.acknowledged_by_rnr_in_7) (λ n x. starts T200 (acknowledges n x)) unsolicited
         (λ n. record { acts = λ c. refl }))
         (claims.not-ready-7 k ran l.a l.s l.peer_busy l.running facts.1 facts.2 facts.0 facts.3 nr p)
     in-7 b octets (Reject nr p) =
-        moved Established (Some (Reject nr p)) (Machine.frame_in Established t b octets (Reject nr p)) (acts.supervises false nr (λ n x. record (acts.starts T203 x) { a = n; s = n }))
-        (acts.supervisory-acts t (seven.particulars_in_7 t) false b p nr (seven.either_way seven.acknowledged_by_rej_in_7) (λ n x. record (acts.starts T203 x) { a = n; s = n }) unsolicited
+        moved Established (Some (Reject nr p)) (frame_in Established t b octets (Reject nr p)) (supervises false nr (λ n x. record (starts T203 x) { a = n; s = n }))
+        (supervisory-acts t (seven.particulars_in_7 t) false b p nr (seven.either_way seven.acknowledged_by_rej_in_7) (λ n x. record (starts T203 x) { a = n; s = n }) unsolicited
         (λ n. record { acts = λ c. refl }))
         (claims.reject-7 k ran l.a l.s l.peer_busy l.running facts.1 facts.2 facts.0 facts.3 nr p)
     in-7 b octets (Sabme p) =
-        moved Established (Some (Sabme p)) (Machine.frame_in Established t b octets (Sabme p)) (λ x. acts.with_busy false (acts.begins x)) (acts.sabme-acts t p)
+        moved Established (Some (Sabme p)) (frame_in Established t b octets (Sabme p)) (λ x. with_busy false (begins x)) (sabme-acts t p)
         (claims.sabme-7 k ran l.a l.s l.peer_busy l.running facts.1 facts.2 facts.0 facts.3 p)
     in-7 b octets (Disc p) = claims.ended k ran l.a l.s l.peer_busy l.running Established (Some (Disc p))
     in-7 b octets (Ua f) =
-        moved Established (Some (Ua f)) (MultipleFrame.ua_in_7_8 t f) itself
-        (either-bit f (Words.error t code.C) (Words.error t code.D) itself (record { acts = λ c. refl }) (record { acts = λ c. refl })) (same-7 (Some (Ua f)) refl refl refl)
+        moved Established (Some (Ua f)) (ua_in_7_8 t f) itself
+        (either-bit f (error t C) (error t D) itself (record { acts = λ c. refl }) (record { acts = λ c. refl })) (same-7 (Some (Ua f)) refl refl refl)
     in-7 b octets (Dm false) = failed-7 (Some (Dm false))
     in-7 b octets (Frmr f) = failed-7 (Some (Frmr f))
-    in-7 b octets (Ui p) = moved Established (Some (Ui p)) (Words.unit_data t octets) itself (unit-acts t octets) (same-7 (Some (Ui p)) refl refl refl)
+    in-7 b octets (Ui p) = moved Established (Some (Ui p)) (unit_data t octets) itself (unit-acts t octets) (same-7 (Some (Ui p)) refl refl refl)
     in-7 b octets other = same-7 (Some other) refl refl refl
 
   -- State 8.
@@ -130,55 +121,55 @@ module _ (t : Terms) (k : Known) (ran : LinkTimer → Bool) (l : Link) where
     same-8 : (o : Option Control) → option_map_or (listens false false k) o k ≡ k → Good k ran (at TimerRecovery) (at TimerRecovery) o
     same-8 o same = claims.same-8 k ran l.a l.s l.peer_busy l.running facts.0 facts.1 o same
 
-    failed-8 : (o : Option Control) → Good k ran (at TimerRecovery) (acts.fails (at TimerRecovery)) o
+    failed-8 : (o : Option Control) → Good k ran (at TimerRecovery) (fails (at TimerRecovery)) o
     failed-8 o = claims.failed-8 k ran l.a l.s l.peer_busy l.running facts.0 facts.1 l.peer_busy o
 
     solicited : (b : Bool) → Acts (eight.solicited b) itself
     solicited b = record { acts = λ c. refl }
 
-    in-8 : (b : Bool) (octets : List ℕ) (control : Control) → Row TimerRecovery (Machine.frame_in TimerRecovery t b octets control) (Some control)
+    in-8 : (b : Bool) (octets : List ℕ) (control : Control) → Row TimerRecovery (frame_in TimerRecovery t b octets control) (Some control)
     in-8 b octets (Information ns nr p) =
-        moved TimerRecovery (Some (Information ns nr p)) (Machine.frame_in TimerRecovery t b octets (Information ns nr p))
-        (acts.informs (nat_lt t.n201 (length octets)) nr acts.acknowledges)
-        (acts.information-acts t ns nr p octets Words.acknowledge acts.acknowledges (λ n. record { acts = λ c. refl }))
+        moved TimerRecovery (Some (Information ns nr p)) (frame_in TimerRecovery t b octets (Information ns nr p))
+        (informs (nat_lt t.n201 (length octets)) nr acknowledges)
+        (information-acts t ns nr p octets acknowledge acknowledges (λ n. record { acts = λ c. refl }))
         (claims.informed-8 k ran l.a l.s l.peer_busy l.running facts.0 facts.1 (nat_lt t.n201 (length octets)) ns nr p)
     in-8 b octets (ReceiveReady nr p) =
-        let final = MultipleFrame.is_final b p in
-        moved TimerRecovery (Some (ReceiveReady nr p)) (Machine.frame_in TimerRecovery t b octets (ReceiveReady nr p)) (acts.supervises false nr (acts.recovers T203 final))
-        (acts.supervisory-acts t (eight.particulars_in_8 t) false b p nr (eight.acknowledged_in_8 T203) (acts.recovers T203 final) solicited (acts.recovers-acts t T203 final))
-        (claims.ready-8 k ran l.a l.s l.peer_busy l.running facts.0 facts.1 final nr p)
+        let final = is_final b p in
+        moved TimerRecovery (Some (ReceiveReady nr p)) (frame_in TimerRecovery t b octets (ReceiveReady nr p)) (supervises false nr (recovers T203 final))
+        (supervisory-acts t (eight.particulars_in_8 t) false b p nr (eight.acknowledged_in_8 T203) (recovers T203 final) solicited (recovers-acts t T203 final))
+        (claims.supervised-8 k ran l.a l.s l.peer_busy l.running facts.0 facts.1 false T203 (Some (ReceiveReady nr p)) nr refl refl final)
     in-8 b octets (ReceiveNotReady nr p) =
-        let final = MultipleFrame.is_final b p in
-        moved TimerRecovery (Some (ReceiveNotReady nr p)) (Machine.frame_in TimerRecovery t b octets (ReceiveNotReady nr p)) (acts.supervises true nr (acts.recovers T200 final))
-        (acts.supervisory-acts t (eight.particulars_in_8 t) true b p nr (eight.acknowledged_in_8 T200) (acts.recovers T200 final) solicited (acts.recovers-acts t T200 final))
-        (claims.not-ready-8 k ran l.a l.s l.peer_busy l.running facts.0 facts.1 final nr p)
+        let final = is_final b p in
+        moved TimerRecovery (Some (ReceiveNotReady nr p)) (frame_in TimerRecovery t b octets (ReceiveNotReady nr p)) (supervises true nr (recovers T200 final))
+        (supervisory-acts t (eight.particulars_in_8 t) true b p nr (eight.acknowledged_in_8 T200) (recovers T200 final) solicited (recovers-acts t T200 final))
+        (claims.supervised-8 k ran l.a l.s l.peer_busy l.running facts.0 facts.1 true T200 (Some (ReceiveNotReady nr p)) nr refl refl final)
     in-8 b octets (Reject nr p) =
-        let final = MultipleFrame.is_final b p in
-        moved TimerRecovery (Some (Reject nr p)) (Machine.frame_in TimerRecovery t b octets (Reject nr p)) (acts.supervises false nr (acts.recovers T203 final))
-        (acts.supervisory-acts t (eight.particulars_in_8 t) false b p nr (eight.acknowledged_in_8 T203) (acts.recovers T203 final) solicited (acts.recovers-acts t T203 final))
-        (claims.reject-8 k ran l.a l.s l.peer_busy l.running facts.0 facts.1 final nr p)
+        let final = is_final b p in
+        moved TimerRecovery (Some (Reject nr p)) (frame_in TimerRecovery t b octets (Reject nr p)) (supervises false nr (recovers T203 final))
+        (supervisory-acts t (eight.particulars_in_8 t) false b p nr (eight.acknowledged_in_8 T203) (recovers T203 final) solicited (recovers-acts t T203 final))
+        (claims.supervised-8 k ran l.a l.s l.peer_busy l.running facts.0 facts.1 false T203 (Some (Reject nr p)) nr refl refl final)
     in-8 b octets (Sabme p) =
-        moved TimerRecovery (Some (Sabme p)) (Machine.frame_in TimerRecovery t b octets (Sabme p)) (λ x. acts.with_busy false (acts.begins x)) (acts.sabme-acts t p)
+        moved TimerRecovery (Some (Sabme p)) (frame_in TimerRecovery t b octets (Sabme p)) (λ x. with_busy false (begins x)) (sabme-acts t p)
         (claims.sabme-8 k ran l.a l.s l.peer_busy l.running facts.0 facts.1 p)
     in-8 b octets (Disc p) = claims.ended k ran l.a l.s l.peer_busy l.running TimerRecovery (Some (Disc p))
     in-8 b octets (Ua f) =
-        moved TimerRecovery (Some (Ua f)) (MultipleFrame.ua_in_7_8 t f) itself
-        (either-bit f (Words.error t code.C) (Words.error t code.D) itself (record { acts = λ c. refl }) (record { acts = λ c. refl })) (same-8 (Some (Ua f)) refl)
+        moved TimerRecovery (Some (Ua f)) (ua_in_7_8 t f) itself
+        (either-bit f (error t C) (error t D) itself (record { acts = λ c. refl }) (record { acts = λ c. refl })) (same-8 (Some (Ua f)) refl)
     in-8 b octets (Dm true) = failed-8 (Some (Dm true))
     in-8 b octets (Dm false) = failed-8 (Some (Dm false))
     in-8 b octets (Frmr f) = failed-8 (Some (Frmr f))
-    in-8 b octets (Ui p) = moved TimerRecovery (Some (Ui p)) (Words.unit_data t octets) itself (unit-acts t octets) (same-8 (Some (Ui p)) refl)
+    in-8 b octets (Ui p) = moved TimerRecovery (Some (Ui p)) (unit_data t octets) itself (unit-acts t octets) (same-8 (Some (Ui p)) refl)
     in-8 b octets (Xid p) = same-8 (Some (Xid p)) refl
 
   -- Any frame, and what the grammar does not have.
-  pub by-frame : (here : State) → Facts here → (b : Bool) (octets : List ℕ) (control : Control) → Row here (Machine.frame_in here t b octets control) (Some control)
+  pub by-frame : (here : State) → Facts here → (b : Bool) (octets : List ℕ) (control : Control) → Row here (frame_in here t b octets control) (Some control)
   by-frame TeiAssigned facts b octets control = in-4 facts b octets control
   by-frame AwaitingEstablishment facts b octets control = in-5 facts b octets control
   by-frame AwaitingRelease facts b octets control = in-6 facts b octets control
   by-frame Established facts b octets control = in-7 facts b octets control
   by-frame TimerRecovery facts b octets control = in-8 facts b octets control
 
-  pub malformed : (here : State) → Facts here → (e : ErrorCode) → Row here (Machine.malformed_in here t e) None
+  pub malformed : (here : State) → Facts here → (e : ErrorCode) → Row here (malformed_in here t e) None
   malformed TeiAssigned facts e = same-4 facts None
   malformed AwaitingEstablishment facts e = same-5 facts.0 None
   malformed AwaitingRelease facts e = same-6 facts None

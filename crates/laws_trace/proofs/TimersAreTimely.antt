@@ -1,22 +1,12 @@
 -- When the timers of links run, and when they are started: the law.
-use Rattle.laws_trace.proofs.Vocabulary.{◌≡◌, ℕ, ◌+◌, ◌%◌, ◌==◌, ◌&&◌, ◌||◌, ◌<◌, ◌≤◌, not, Bool, true, false, cond, List, [], ◌∷◌, ◌++◌, get_or, set, Option, Some, None, refl, sym, ap, ◌∙◌, subst, arith, eq-eqb, true≢false, fold, option_map_or, and_parts, get_or-set_same, get_or-replicate, All-nil, All-cons, All-head, All-tail, PoolFull, Service, HasItsTimer, needed_in, State, TeiAssigned, Established, TimerRecovery, LinkTimer, Link, obeyed, runs, Config, refused, orders_in, Line, fresh_line, link_of, link_in, link_number, place_in, state_of, terms, IsInRange, sound_in, terms_in_range, place_of-is, Card, line_at, is_full, at, moments, fresh_is_sound, after_is_sound, has_lines, by_room, line_sound, runs_at_callers, AllHaveTheirTimers, needed-run, needs-none, timely-all, timely-after, begins-timely-card, timer_of, is_needed, left_by, HaveTheirTimers, nowhere, Timer}
-use Rattle.std.proofs.Common.{eqb-true}
+use Rattle.laws_trace.proofs.Vocabulary.{◌≡◌, ℕ, ◌+◌, ◌%◌, ◌==◌, ◌&&◌, ◌||◌, ◌<◌, ◌≤◌, not, Bool, true, false, cond, List, [], ◌∷◌, ◌++◌, get_or, set, Option, Some, None, refl, sym, ap, ◌∙◌, subst, arith, eq-eqb, true≢false, fold, option_map_or, and_parts, get_or-set_same, get_or-replicate, All-nil, All-cons, All-head, All-tail, PoolFull, Service, HasItsTimer, needed_in, State, TeiAssigned, Established, TimerRecovery, LinkTimer, Link, obeyed, runs, Config, refused, orders_in, Line, fresh_line, link_of, link_in, link_number, place_in, state_of, terms, IsInRange, sound_in, terms_in_range, place_of-is, Card, line_at, is_full, at, moments, fresh_is_sound, after_is_sound, has_lines, by_room, line_sound, runs_at_callers, AllHaveTheirTimers, needed-run, needs-none, timely-all, timely-after, begins-timely-card, timer_of, is_needed, left_by, HaveTheirTimers, nowhere, Timer, eqb-true, T200, T203, fresh_link, fresh, CardEvent as Event, after, card_answer as answer, Moment, after_all, IsAtLine, AreAtLines, CardIsSound as IsSound, seen, Always, or_comm}
 use Rattle.lapd_frame.specs.declared.timers.Timer.TheVariants as timers
-use Rattle.model_link.specs.declared.timers.LinkTimer.TheVariants.{T200, T203}
-use Rattle.model_link.specs.Link.{fresh as fresh_link}
 use Rattle.model_link.specs.Sound as link_sound
 use Rattle.model_line.specs.Event as line_event
 use Rattle.model_line.specs.Machine as lines
-use Rattle.model_card.specs.Card.{fresh}
-use Rattle.model_card.specs.Event.{Event}
-use Rattle.model_card.specs.Machine.{after, answer}
-use Rattle.model_card.specs.Run.{Moment, after_all, IsAtLine, AreAtLines}
-use Rattle.model_card.specs.Sound.{IsSound}
 use Rattle.laws_trace.proofs.TimersWatched.{Known, nothing_yet, learned, watch, awaits, is_anew, TimersRun}
 use Rattle.laws_trace.proofs.States.{is_state}
-use Rattle.laws_trace.specs.Trace.{seen, Always}
-use Rattle.laws_trace.proofs.CallRuns.{apart}
-use Rattle.laws_trace.proofs.Runs.{nothing-seen}
+use Rattle.laws_trace.proofs.Runs.{nothing-seen, apart}
 use Rattle.laws_trace.proofs.TimerClaims.{Agrees, told_state}
 use Rattle.laws_trace.proofs.TimersOfEvent.{IsTrueOf, state-on, off-fresh, off-state, needed-is, event-known}
 use Rattle.laws_trace.proofs.TimersStarted.{event-started, event-ordered}
@@ -223,17 +213,11 @@ module _ (service : Service) (tei : ℕ) (k : Known) where
       subst (λ b. (runs T200 (cond b (Some T200) (Some T203)) ≡ (k.busy || not (k.next == k.acknowledged)))
       × (runs T203 (cond b (Some T200) (Some T203)) ≡ not (k.busy || not (k.next == k.acknowledged)))) same (either (k.busy || not (k.next == k.acknowledged)))
     where
-      swap : (a b : Bool) → (a || b) ≡ (b || a)
-      swap true true = refl
-      swap true false = refl
-      swap false true = refl
-      swap false false = refl
-
       same : (k.busy || not (k.next == k.acknowledged)) ≡ (not (l.s == l.a) || l.peer_busy)
       same =
           ap (λ b. b || not (k.next == k.acknowledged)) h.busy_is
           ∙ ap (λ n. l.peer_busy || not (n == k.acknowledged)) h.next ∙ ap (λ n. l.peer_busy || not (l.s % 128 == n)) h.acknowledged
-          ∙ ap (λ b. l.peer_busy || not b) (outstanding-is l.a l.s ordered within) ∙ swap l.peer_busy (not (l.s == l.a))
+          ∙ ap (λ b. l.peer_busy || not b) (outstanding-is l.a l.s ordered within) ∙ or_comm l.peer_busy (not (l.s == l.a))
 
       either : (b : Bool) → (runs T200 (cond b (Some T200) (Some T203)) ≡ b) × (runs T203 (cond b (Some T200) (Some T203)) ≡ not b)
       either true = (refl, refl)

@@ -1,19 +1,11 @@
 -- What is known of a link stays true: each event of a line.
-use Rattle.laws_trace.proofs.Vocabulary.{◌≡◌, ℕ, ◌==◌, ◌&&◌, ◌||◌, Bool, true, false, cond, List, [], ◌∷◌, map, Option, Some, None, option_map, refl, sym, ap, ◌∙◌, subst, eq-eqb, true≢false, ◌⊎◌, inl, inr, All, option_to_list, option_map_or, All-head, Service, Call, Packet, same_service, Parts, place_of-is, HasItsTimer, needed, State, Terms, LinkTimer, Link, is_same, Given, runs, is_timer, Config, hears, next, Answer, NextFrame, gave, Line, link_in, link_of, link_number, place_in, state_of, state_in, terms, taken, next_of, IsInRange, sound_in, terms_in_range, IsBy, timer_of, is_needed, left_by, HaveTheirTimers}
+use Rattle.laws_trace.proofs.Vocabulary.{◌≡◌, ℕ, ◌&&◌, ◌||◌, Bool, true, false, cond, List, [], ◌∷◌, map, Option, Some, None, option_map, refl, sym, ap, ◌∙◌, subst, true≢false, ◌⊎◌, inl, inr, All, option_to_list, option_map_or, All-head, Service, Parts, place_of-is, HasItsTimer, needed, State, Terms, LinkTimer, Link, is_same, Given, runs, is_timer, Config, hears, next, Answer, NextFrame, gave, Line, link_in, link_of, link_number, place_in, state_of, state_in, terms, taken, next_of, IsInRange, terms_in_range, IsBy, timer_of, is_needed, left_by, HaveTheirTimers, T200, T203, fresh_link as fresh, Event, line_after as after, answer, line_frame_of as frame_of, IsSound, is_for, trace_frame_in as frame_in, seen, none-some}
 use Rattle.model_bits.specs.Stream as stream
-use Rattle.model_link.specs.declared.timers.LinkTimer.TheVariants.{T200, T203}
 use Rattle.model_link.specs.Events as link
-use Rattle.model_link.specs.Link.{fresh}
 use Rattle.model_link.specs.Machine as links
 use Rattle.model_link.specs.Sound as link_sound
-use Rattle.model_line.specs.Event.{Event}
-use Rattle.model_line.specs.Machine.{after, answer}
-use Rattle.model_line.specs.Taken.{frame_of}
-use Rattle.model_line.specs.Sound.{IsSound}
-use Rattle.laws_trace.specs.LinkFrames.{is_for}
 use Rattle.laws_trace.proofs.TimersWatched.{Known, nothing_yet, listens, sends, control_in, learned}
 use Rattle.laws_trace.proofs.States.{is_state}
-use Rattle.laws_trace.specs.Trace.{frame_in, seen}
 use Rattle.laws_trace.proofs.DataGoesOut.{foreign, own-sent, sent_of, sent_with}
 use Rattle.laws_trace.proofs.Deliveries.{heard-by, frame_by, brings-frame, brings-none}
 use Rattle.laws_trace.proofs.DeliveriesRun.{event-aims}
@@ -23,6 +15,8 @@ use Rattle.laws_trace.proofs.TimerClaims.{Agrees, told_state, heard_by}
 use Rattle.laws_trace.proofs.TimerEvents.{ran_before, control_of, event-good}
 use Rattle.laws_trace.proofs.TimerOffers.{Offered, sent_known, given_sent, same-known, offer-good}
 use Rattle.laws_trace.proofs.TimersOfLine.{sent_at, seen-learns}
+use Rattle.laws_trace.proofs.Facts.{its-own}
+use Rattle.laws_trace.proofs.LineAtEnd.{link-at-end}
 
 -- What is true of a link of a line, whose TEI may be on it or not.
 abbrev pub IsTrueOf : Service → ℕ → Known → Line → Type 0
@@ -60,15 +54,24 @@ module _ (service : Service) (tei : ℕ) where
           ∙ ap (runs T203) (sym (h.links (link_number place service)).running)
           ∙ sym (ap (λ o. runs T203 (option_map_or (link_in l service) o fresh).running) on)
 
--- the caller's timers that ran, by the event of the link
-own-timer : (service : Service) (tei : ℕ) → (same_service service service && tei == tei) ≡ true
-own-timer Call tei = eq-eqb tei tei refl
-own-timer Packet tei = eq-eqb tei tei refl
+-- The link of a TEI that comes to the line is a fresh one.
+pub comes : (c : Config) (e : Event) (l : Line) → IsSound c l → (service : Service) (tei : ℕ) → place_in l tei ≡ None → link_of service tei (after c e l) ≡ fresh
+comes c e l s service tei off = go (event-goes c e l service tei s)
+  where
+    go : Goes c service tei e l (after c e l) (answer c e l) → link_of service tei (after c e l) ≡ fresh
+    go (inr (inl x)) = absurd (none-some x.place (sym off ∙ x.placed))
+    go (inr (inr x)) = x.is
+    go (inl x) = either x.is
+      where
+        either : (link_of service tei (after c e l) ≡ link_of service tei l) ⊎ (link_of service tei (after c e l) ≡ fresh) → link_of service tei (after c e l) ≡ fresh
+        either (inl same) = same ∙ off-fresh service tei l off
+        either (inr new) = new
 
+-- the caller's timers that ran, by the event of the link
 same-timer : (service : Service) (tei : ℕ) (one other : LinkTimer) → is_same (timer_of service tei one) (timer_of service tei other) ≡ is_timer one other
 same-timer service tei T200 T203 = refl
 same-timer service tei T203 T200 = refl
-same-timer service tei other any = own-timer service tei
+same-timer service tei other any = its-own service tei
 
 module _ (c : Config) (ranged : IsInRange c) (l : Line) (s : IsSound c l) (timed : HaveTheirTimers l) (service : Service) (tei : ℕ) (k : Known)
     (agrees : IsTrueOf service tei k l) (e : Event) where
@@ -85,9 +88,7 @@ module _ (c : Config) (ranged : IsInRange c) (l : Line) (s : IsSound c l) (timed
   new = link_of service tei (after c e l)
 
   own-sound : (place : ℕ) → place_in l tei ≡ Some place → link_sound.IsSound t own
-  own-sound place is =
-      subst (link_sound.IsSound t) (sym (ap (λ o. option_map_or (link_in l service) o fresh) is))
-      (sound_in c ranged l s service tei place (place_of-is l.management.places tei place is).1)
+  own-sound place is = link-at-end c l ranged s service tei place is
 
   own-range : (place : ℕ) → place_in l tei ≡ Some place → link_sound.IsInRange t
   own-range place is = terms_in_range c ranged service tei (s.management.table.range place tei (place_of-is l.management.places tei place is).1)
@@ -203,12 +204,8 @@ module _ (c : Config) (ranged : IsInRange c) (l : Line) (s : IsSound c l) (timed
         sent = ap (λ e. sent_at c service tei k e l) by.by;
         left = λ timer. ap (λ e. left_by e (timer_of service tei timer) (runs timer own.running)) by.by;
       }
-  other (link.received link.undefined) not_offer by =
-      let x = heard-by c e a service tei link.undefined by in bare link.undefined not_offer (λ same. cc same) refl x.0 x.1 (brings-none c e a service tei link.undefined by) (λ timer. refl)
-  other (link.received link.wrong_size) not_offer by =
-      let x = heard-by c e a service tei link.wrong_size by in bare link.wrong_size not_offer (λ same. cc same) refl x.0 x.1 (brings-none c e a service tei link.wrong_size by) (λ timer. refl)
-  other (link.received link.overlong) not_offer by =
-      let x = heard-by c e a service tei link.overlong by in bare link.overlong not_offer (λ same. cc same) refl x.0 x.1 (brings-none c e a service tei link.overlong by) (λ timer. refl)
+  other (link.received what) not_offer by =
+      let x = heard-by c e a service tei what by in bare what not_offer (λ same. cc same) refl x.0 x.1 (brings-none c e a service tei what by) (λ timer. refl)
   other (link.expired expired) not_offer by = record {
     no_offer = not_offer;
     no_cleared = λ same. cc same;

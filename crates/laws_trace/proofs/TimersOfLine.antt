@@ -1,16 +1,8 @@
 -- What is known of a link, and what is heard of it: one event of a line.
-use Rattle.laws_trace.proofs.Vocabulary.{◌≡◌, List, [], ◌∷◌, ℕ, ◌||◌, Bool, true, false, ◌++◌, map, Option, Some, None, option_map, refl, ap, ◌∙◌, fold, list_any, option_map_or, Service, Config, hears, expiry, request, next, NextFrame, Answer, gave, Line, taken, next_of}
-use Rattle.lapd_frame.specs.declared.controls.Control.{Control}
-use Rattle.model_line.specs.Event.{Event, told}
-use Rattle.model_line.specs.Machine.{answer}
-use Rattle.model_line.specs.Request.{Request}
-use Rattle.laws_trace.specs.LinkFrames.{frame_of as frame_heard}
-use Rattle.laws_trace.proofs.TimersWatched.{Sent}
-use Rattle.laws_trace.proofs.TimersWatched.{Known, listens, sends, control_in, learns, brings}
-use Rattle.laws_trace.specs.Trace.{frame_in, seen, seen_told, seen_granted}
+use Rattle.laws_trace.proofs.Vocabulary.{◌≡◌, List, [], ◌∷◌, ℕ, ◌||◌, Bool, false, ◌++◌, map, Option, Some, None, option_map, refl, ap, ◌∙◌, fold, list_any, option_map_or, Service, Config, hears, expiry, request, next, NextFrame, Answer, gave, Line, taken, next_of, Control, Event, told, answer, Request, frame_of as frame_heard, trace_frame_in as frame_in, seen, seen_told, seen_granted, or-false, trace_begun as begun}
+use Rattle.laws_trace.proofs.TimersWatched.{Sent, Known, listens, sends, control_in, learns, brings}
 use Rattle.laws_trace.proofs.DataGoesOut.{sent_with}
 use Rattle.laws_trace.proofs.Deliveries.{frame_by}
-use Rattle.laws_trace.specs.Trace as traces
 
 -- What is seen of an event: what is learned by it.
 module _ (c : Config) (service : Service) (tei : ℕ) (k : Known) where
@@ -23,7 +15,7 @@ module _ (c : Config) (service : Service) (tei : ℕ) (k : Known) where
   asked-learns r i asked other = refl
 
   next-learns : (r i : Bool) (o : Option NextFrame)
-      → fold (learns c service tei r i) k (map traces.begun (frame_in (gave o))) ≡ option_map_or (sends k) (sent_with c service tei o) k
+      → fold (learns c service tei r i) k (map begun (frame_in (gave o))) ≡ option_map_or (sends k) (sent_with c service tei o) k
   next-learns r i None = refl
   next-learns r i (Some f) = refl
 
@@ -46,15 +38,11 @@ module _ (c : Config) (service : Service) (tei : ℕ) (which : Control → Bool)
   told-brings (told t) = refl
   told-brings other = refl
 
-  or-false : (b : Bool) → (b || false) ≡ b
-  or-false true = refl
-  or-false false = refl
-
   asked-brings : (asked : Request) (a : Answer) → list_any (brings which c service tei) (seen_granted asked a ++ seen_told a) ≡ false
   asked-brings asked (told t) = refl
   asked-brings asked other = refl
 
-  begun-brings : (frames : List (List ℕ)) → list_any (brings which c service tei) (map traces.begun frames) ≡ false
+  begun-brings : (frames : List (List ℕ)) → list_any (brings which c service tei) (map begun frames) ≡ false
   begun-brings [] = refl
   begun-brings (f ∷ frames) = begun-brings frames
 

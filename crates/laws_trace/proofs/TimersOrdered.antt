@@ -1,34 +1,18 @@
 -- What is ordered of the timers of a link is what is due: the law.
-use Rattle.laws_trace.proofs.Vocabulary.{◌≡◌, ℕ, ◌+◌, ◌<◌, ◌==◌, ◌&&◌, ◌||◌, not, Bool, true, false, cond, List, [], ◌∷◌, ◌++◌, refl, sym, ap, ◌∙◌, subst, ⊎_elim, eq-eqb, true≢false, and_parts, is_some, fold, fold-append, nat_lt, All-nil, All-cons, All-append, Service, Order, Timer, LinkTimer, obeyed, Config, hears, expiry, request, next, orders_in, IsInRange, timer_of, is_needed, left_by, Card, line_at, at, moments, runs_at_callers}
-use Rattle.std.proofs.Common.{eqb-true}
+use Rattle.laws_trace.proofs.Vocabulary.{◌≡◌, ℕ, ◌+◌, ◌<◌, ◌==◌, ◌&&◌, ◌||◌, not, Bool, true, false, cond, List, [], ◌∷◌, ◌++◌, refl, sym, ap, ◌∙◌, subst, ⊎_elim, eq-eqb, true≢false, and_parts, is_some, fold, fold-append, nat_lt, All-nil, All-cons, All-append, Service, Order, Timer, LinkTimer, obeyed, Config, hears, expiry, request, next, orders_in, IsInRange, timer_of, is_needed, left_by, Card, line_at, at, moments, runs_at_callers, eqb-true, T200, T203, fresh, CardEvent as Event, after, Moment, after_all, IsAtLine, AreAtLines, runs_then, one_more, Managed, managing_is_on as is_on, due, brings, Observed, View, in_state, at_first, anew, awaits, enquires, enters, by_t200, by_event, views, view_of, moment_of, view_behind, TimersAreTimely, is_own, Always, or-false}
 use Rattle.lapd_frame.specs.declared.timers.Timer.TheVariants as timers
-use Rattle.model_link.specs.declared.timers.LinkTimer.TheVariants.{T200, T203}
 use Rattle.model_line.specs.Event as line_event
-use Rattle.model_card.specs.Card.{fresh}
-use Rattle.model_card.specs.Event.{Event}
-use Rattle.model_card.specs.Machine.{after}
-use Rattle.model_card.specs.Run.{Moment, after_all, IsAtLine, AreAtLines}
-use Rattle.laws_line.specs.Timers.{runs_then}
-use Rattle.laws_line.specs.card.Timers.{one_more}
-use Rattle.laws_trace.specs.Managing.{Managed, is_on, due}
-use Rattle.laws_trace.specs.News.{brings}
-use Rattle.laws_trace.specs.Observer.{Observed, View, in_state, at_first, anew, awaits, enquires, enters, by_t200, by_event, views, view_of, moment_of, view_behind}
 use Rattle.laws_trace.specs.TimersAreTimely as timely
-use Rattle.laws_trace.specs.TimersAreTimely.{TimersAreTimely}
-use Rattle.laws_trace.specs.Trace.{is_own, Always}
 use Rattle.laws_trace.proofs.ObservedExpiries.{IsNoMore, same, zero, either, no-more, enquired, t200-enters}
 use Rattle.laws_trace.proofs.ObservedLaws.{known-now, on-line-now, timers-run-so, started-so, moved_or_renewed}
 use Rattle.laws_trace.proofs.OrdersOfLink.{order_by}
 use Rattle.laws_trace.proofs.TimersAreTimely.{config-now, sound-now, timely-now, true-now, callers-run, own-ordered}
 use Rattle.laws_trace.proofs.WaitedBegins.{moments-both, after-both}
-
-or-none : (b : Bool) → (b || false) ≡ b
-or-none true = refl
-or-none false = refl
+use Rattle.laws_trace.proofs.Facts.{not-so}
 
 -- Whether a timer is started, by whether it ran, the link moves, T200 was counted, or a frame starts it anew.
 plain : (w d x r : Bool) → x ≡ false → (not w || (d || r)) ≡ (not w || ((d || x) || r))
-plain w d x r none = ap (λ b. not w || (b || r)) (sym (or-none d)) ∙ ap (λ x. not w || ((d || x) || r)) (sym none)
+plain w d x r none = ap (λ b. not w || (b || r)) (sym (or-false d)) ∙ ap (λ x. not w || ((d || x) || r)) (sym none)
 
 ended : (w d x r : Bool) → (w ≡ true → (d || x) ≡ true) → true ≡ (not w || ((d || x) || r))
 ended false d x r leads = refl
@@ -194,17 +178,13 @@ module _ (c : Config) (events : List Event) (number : ℕ) (ranged : IsInRange c
       ∙ enquired was (eqb-true was.state 7 (and_parts (was.state == 7) (not (awaits was)) runs).0))
 
   -- While T203 runs an expiry of T200 does nothing.
-  no-wait : (b : Bool) → not b ≡ true → b ≡ false
-  no-wait true is = absurd (true≢false (sym is))
-  no-wait false is = refl
-
   idle-then : (of : Service) (by : ℕ) → is_own service tei of by ≡ true → timely.runs T203 was ≡ true → then_of (expiry (timers.T200 of by)) ≡ was
   idle-then of by own runs =
       let parts = and_parts (was.state == 7) (not (awaits was)) runs in
       let last = cond (nat_lt was.expiries c.n200) (record was { expiries = was.expiries + 1 }) (cond (was.state == 8) (anew was) (in_state 4)) in
       on-then T203 (expiry (timers.T200 of by)) (λ w. refl) runs ∙ ap (λ b. cond b (by_t200 c.n200 was) was) own
       ∙ ap (λ b. cond b (cond (awaits was) (enquires was) was) (cond (not (awaits was)) was last)) parts.0
-      ∙ ap (λ b. cond b (enquires was) was) (no-wait (awaits was) parts.1)
+      ∙ ap (λ b. cond b (enquires was) was) (not-so (awaits was) parts.1)
 
   t203-by-t200 : (of : Service) (by : ℕ) (b : Bool) → is_own service tei of by ≡ b → Due T203 (expiry (timers.T200 of by))
   t203-by-t200 of by false other = by-plain T203 (expiry (timers.T200 of by)) (other-t200 of by other)

@@ -1,17 +1,10 @@
 -- The timers of a link are started as they are due: each event of a line.
-use Rattle.laws_trace.proofs.Vocabulary.{◌≡◌, ℕ, ◌&&◌, ◌||◌, not, Bool, true, false, cond, Option, Some, None, refl, sym, ap, ◌∙◌, subst, true≢false, inl, inr, option_map_or, Service, Timer, place_of-is, is_on-at, HasItsTimer, State, TeiAssigned, Terms, LinkTimer, Link, is_same, obeyed, runs, timer_at, Config, expiry, Answer, orders_in, Line, link_of, place_in, has_tei, state_of, terms, IsInRange, timer_of, is_needed, left_by, HaveTheirTimers, followed, timely-line, List, ◌++◌, Order, order_for, orders_for}
-use Rattle.lapd_frame.specs.declared.controls.Control.{Control}
+use Rattle.laws_trace.proofs.Vocabulary.{◌≡◌, ℕ, ◌&&◌, ◌||◌, not, Bool, true, false, cond, Option, Some, None, refl, sym, ap, ◌∙◌, subst, true≢false, inl, inr, option_map_or, Service, Timer, place_of-is, is_on-at, HasItsTimer, State, TeiAssigned, Terms, LinkTimer, Link, is_same, obeyed, runs, timer_at, Config, expiry, Answer, orders_in, Line, link_of, place_in, has_tei, state_of, terms, IsInRange, timer_of, is_needed, left_by, HaveTheirTimers, followed, timely-line, List, ◌++◌, Order, order_for, orders_for, Control, T200, T203, Event, line_after as after, answer, IsSound, seen, and-false, and-true, offer}
 use Rattle.lapd_frame.specs.declared.timers.Timer.TheVariants as timers
-use Rattle.model_link.specs.declared.timers.LinkTimer.TheVariants.{T200, T203}
-use Rattle.model_link.specs.Events as link
 use Rattle.model_link.specs.Machine as links
 use Rattle.model_link.specs.Sound as link_sound
-use Rattle.model_line.specs.Event.{Event}
-use Rattle.model_line.specs.Machine.{after, answer}
-use Rattle.model_line.specs.Sound.{IsSound}
 use Rattle.laws_trace.proofs.TimersWatched.{Known, control_in, renews, is_anew}
 use Rattle.laws_trace.proofs.States.{is_state, differ}
-use Rattle.laws_trace.specs.Trace.{seen}
 use Rattle.laws_trace.proofs.Deliveries.{frame_by}
 use Rattle.laws_trace.proofs.OneLink.{HasOne, HasNone, Goes, event-goes}
 use Rattle.laws_trace.proofs.TimerActs.{timing}
@@ -22,10 +15,6 @@ use Rattle.laws_trace.proofs.TimersOfLine.{seen-brings}
 use Rattle.laws_trace.proofs.TimersOfEvent.{IsTrueOf, state-on, off-fresh, needed-is}
 use Rattle.laws_trace.proofs.TimersOfEvent as events
 use Rattle.laws_trace.proofs.OrdersOfLink.{its_orders, own-ordered, obeys-its, starts-own, order_by}
-
-and-true : (b : Bool) → (b && true) ≡ b
-and-true true = refl
-and-true false = refl
 
 module _ (c : Config) (ranged : IsInRange c) (l : Line) (s : IsSound c l) (timed : HaveTheirTimers l) (service : Service) (tei : ℕ) (k : Known)
     (agrees : IsTrueOf service tei k l) (e : Event) where
@@ -56,7 +45,7 @@ module _ (c : Config) (ranged : IsInRange c) (l : Line) (s : IsSound c l) (timed
   own-timed : (place : ℕ) → place_in l tei ≡ Some place → HasItsTimer own
   own-timed place is = events.own-timed c ranged l s timed service tei k agrees e place is
 
-  offers : One → Offered k own (timing (links.course t link.offer own)) (option_map_or given_sent (links.given t own) None)
+  offers : One → Offered k own (timing (links.course t offer own)) (option_map_or given_sent (links.given t own) None)
   offers x = events.offers c ranged l s timed service tei k agrees e x
 
   -- When a timer is started.
@@ -92,10 +81,6 @@ module _ (c : Config) (ranged : IsInRange c) (l : Line) (s : IsSound c l) (timed
     differ-same : (state : State) → differ (told_state state) (told_state state) ≡ false
     differ-same TeiAssigned = refl
     differ-same other = refl
-
-    and-false : (b : Bool) → (b && false) ≡ false
-    and-false true = refl
-    and-false false = refl
 
     due-so : (place there : ℕ) → place_in l tei ≡ Some place → place_in (after c e l) tei ≡ Some there → (to : State) → new.state ≡ to → (o : Option Control)
         → control_in service tei (frame_by c e) ≡ o → is_due ≡ anew_by timer own.state to k o

@@ -1,14 +1,6 @@
 -- A part of what an observer knows of a link, its numbers; and by it when timers run, and when they are started.
-use Rattle.laws_trace.proofs.Vocabulary.{◌≡◌, ℕ, ◌+◌, ◌%◌, ◌==◌, ◌&&◌, ◌||◌, not, Bool, true, false, List, fold, Option, Some, None, Result, Ok, Err, if◌then◌else◌, list_any, option_map_or, ReadFault, Information, ReceiveReady, ReceiveNotReady, Reject, Sabme, Service, Parts, reading, LinkTimer, Config, state_of, line_at, moments, runs_at_callers}
-use Rattle.lapd_frame.specs.declared.controls.Control.{Control}
-use Rattle.lapd_frame.specs.declared.timers.Timer.TheVariants as timers
-use Rattle.model_card.specs.Card.{fresh}
-use Rattle.model_card.specs.Event.{Event}
-use Rattle.model_card.specs.Machine.{after}
-use Rattle.model_card.specs.Run.{Moment, after_all}
-use Rattle.laws_trace.specs.LinkFrames.{is_for, frame_of}
+use Rattle.laws_trace.proofs.Vocabulary.{◌≡◌, ℕ, ◌+◌, ◌%◌, ◌==◌, ◌&&◌, ◌||◌, not, Bool, true, false, List, fold, Option, Some, None, Result, Ok, Err, if◌then◌else◌, list_any, option_map_or, ReadFault, Information, ReceiveReady, ReceiveNotReady, Reject, Sabme, Service, Parts, reading, LinkTimer, Config, state_of, line_at, moments, runs_at_callers, Control, fresh, CardEvent as Event, after, Moment, after_all, is_for, frame_of, Seen, heard, trace_begun as begun, seen_in, TimerT200 as T200, TimerT203 as T203}
 use Rattle.laws_trace.proofs.States.{is_state, state_before, state_after, differ}
-use Rattle.laws_trace.specs.Trace.{Seen, heard, begun, seen_in}
 use Rattle.laws_trace.specs.TimersAreTimely as timely
 
 -- Whoever watches a link while it is in state 7 or 8 keeps in mind the N(R) that was heard of it last, to which V(A) is
@@ -83,8 +75,8 @@ TimersRun c events number =
     let ms = moments (fresh c) events in
     let state = state_of service tei (line_at number (after_all (fresh c) events)) in
     let k = fold (watch c service tei number) nothing_yet ms in
-    (runs_at_callers number (timers.T200 service tei) false ms ≡ awaits k state)
-    × (runs_at_callers number (timers.T203 service tei) false ms ≡ (is_state 7 state && not (awaits k state)))
+    (runs_at_callers number (T200 service tei) false ms ≡ awaits k state)
+    × (runs_at_callers number (T203 service tei) false ms ≡ (is_state 7 state && not (awaits k state)))
 
 -- In state 7 T200 is started anew by RNR, and by RR, or I while the terminal is not busy, with an N(R) that
 -- acknowledges an I-frame: it is not the N(R) heard last; and T203 by RR, REJ, I and SABME (clauses 5.5.1.2, 5.6.3.2,

@@ -1,28 +1,17 @@
 -- A TEI that is on a line before an event and behind it keeps its place.
-use Rattle.laws_trace.proofs.Vocabulary.{◌≡◌, ◌≢◌, ℕ, ◌==◌, Bool, true, false, get_or, Option, Some, None, refl, sym, ap, ◌∙◌, subst, arith, eq-eqb, true≢false, none-some, get_or-set_same, get_or-set_other, Places, is_on, Change, Gained, Left, Refusal, Config, IsInRange, ranges_of, Aim, at_management, at_no_link, of_aim, of_change, told_of_management, IsProper, heard_proper, expiry_proper, request_proper, aim_of_heard, aim_of_request, unless_refused, hears, expiry, request, next, Line, fresh_line, next-moves, Card, line_at, by_room, has_lines}
-use Rattle.std.proofs.Common.{eqb-true}
+use Rattle.laws_trace.proofs.Vocabulary.{◌≡◌, ◌≢◌, ℕ, ◌==◌, Bool, true, false, get_or, Option, Some, None, refl, sym, ap, ◌∙◌, subst, arith, eq-eqb, true≢false, none-some, get_or-set_same, get_or-set_other, Places, is_on, Change, Gained, Left, Refusal, Config, IsInRange, ranges_of, Aim, at_management, at_no_link, of_aim, of_change, told_of_management, IsProper, heard_proper, expiry_proper, request_proper, aim_of_heard, aim_of_request, unless_refused, hears, expiry, request, next, Line, fresh_line, next-moves, Card, line_at, by_room, has_lines, eqb-true, aim_of_expiry, refusal, IsSound, CardEvent as Event, after, IsAtLine, line_sound, by-down, Moves, changes_are_told}
 use Rattle.lapd_tei.specs.Events as teis
-use Rattle.lapd_tei.specs.Laws as tei_laws
-use Rattle.lapd_tei.proofs.LawLemmas as tei_lemmas
 use Rattle.model_line.specs.Event as line_event
-use Rattle.model_line.specs.Expiry.{aim_of_expiry}
 use Rattle.model_line.specs.Machine as lines
-use Rattle.model_line.specs.Refusal.{refusal}
-use Rattle.model_line.specs.Sound.{IsSound}
-use Rattle.model_card.specs.Event.{Event}
-use Rattle.model_card.specs.Machine.{after}
-use Rattle.model_card.specs.Run.{IsAtLine}
 use Rattle.model_card.specs.Sound as card_sound
-use Rattle.model_card.proofs.Steps.{line_sound}
-use Rattle.laws_line.proofs.Downs.{by-down}
-use Rattle.laws_trace.proofs.CallRuns.{apart}
 use Rattle.laws_trace.proofs.ManagingTables.{clear-same}
+use Rattle.laws_trace.proofs.Runs.{apart}
 
 module _ (c : Config) (ranged : IsInRange c) (l : Line) (s : IsSound c l) (p tei : ℕ) (at : get_or l.management.places p None ≡ Some tei) where
   abbrev pub Keeps : Line → Type 0
   Keeps m = is_on tei m.management.places ≡ true → get_or m.management.places p None ≡ Some tei
 
-  by-change : (o : Option Change) (new : Places) → tei_laws.Moves l.management.places o new → is_on tei new ≡ true → get_or new p None ≡ Some tei
+  by-change : (o : Option Change) (new : Places) → Moves l.management.places o new → is_on tei new ≡ true → get_or new p None ≡ Some tei
   by-change None new same on = ap (λ ps. get_or ps p None) same ∙ at
   by-change (Some (Gained by place)) new joined on =
       let away : p ≢ place = λ same. none-some tei (sym joined.was_free ∙ ap (λ q. get_or l.management.places q None) (sym same) ∙ at) in
@@ -37,9 +26,9 @@ module _ (c : Config) (ranged : IsInRange c) (l : Line) (s : IsSound c l) (p tei
           ∙ clear-same tei l.management.places place gone.within (λ j also. s.management.table.once j place tei also there))
 
   by-aim : (aim : Aim) → IsProper c l aim → Keeps (of_aim c aim l).line
-  by-aim (at_management me) fits on = go (teis.told me l.management).change (tei_lemmas.changes_are_told me l.management fits s.management) on
+  by-aim (at_management me) fits on = go (teis.told me l.management).change (changes_are_told me l.management fits s.management) on
     where
-      go : (o : Option Change) → tei_laws.Moves l.management.places o (teis.after me l.management).places
+      go : (o : Option Change) → Moves l.management.places o (teis.after me l.management).places
           → Keeps (of_change c o (told_of_management (teis.told me l.management)) (record l { management = teis.after me l.management })).line
       go None m on = by-change None (teis.after me l.management).places m on
       go (Some (Gained by place)) m on = by-change (Some (Gained by place)) (teis.after me l.management).places m on

@@ -1,18 +1,8 @@
 -- Links take turns, whatever else happens meanwhile: the law.
-use Rattle.laws_trace.proofs.Vocabulary.{◌≡◌, ◌≢◌, ℕ, ◌<◌, ◌==◌, true, false, cond, List, [], ◌∷◌, ◌++◌, Some, refl, sym, ap, ◌∙◌, subst, arith, true≢false, All, get_or-replicate, All-head, All-tail, Service, sapi_of, Config, Line, fresh_line, service_at, place_at, tei_at, Card, line_at, at, moments, fresh_is_sound, all-left, all-right, config-stays, link_number, link_in, place_in, has_tei, at-within, place_of-is, number_within, place_at-number, service_at-number, append-nil, append_assoc, option_map_or, list_any, IsSilent, terms, link_at, length}
+use Rattle.laws_trace.proofs.Vocabulary.{◌≡◌, ◌≢◌, ℕ, ◌<◌, ◌==◌, true, false, cond, List, [], ◌∷◌, ◌++◌, Some, refl, sym, ap, ◌∙◌, subst, arith, true≢false, All, get_or-replicate, All-head, All-tail, Service, sapi_of, Config, Line, fresh_line, service_at, place_at, tei_at, Card, line_at, at, moments, fresh_is_sound, all-left, all-right, config-stays, link_number, link_in, place_in, has_tei, at-within, place_of-is, number_within, place_at-number, service_at-number, append-nil, append_assoc, option_map_or, list_any, IsSilent, terms, link_at, length, fresh, CardEvent as Event, after, card_answer as answer, after_all, IsAtLine, AreAtLines, CardIsSound as IsSound, always_sound, is_own, Always, seen, trace, frames_begun, IsAmong, IsSpelled, managed_after, fresh_link, All-cons, All-nil}
 use Rattle.model_line.specs.Sound as line
-use Rattle.model_card.specs.Card.{fresh}
-use Rattle.model_card.specs.Event.{Event}
-use Rattle.model_card.specs.Machine.{after, answer}
-use Rattle.model_card.specs.Run.{after_all, IsAtLine, AreAtLines}
-use Rattle.model_card.specs.Sound.{IsSound}
-use Rattle.model_card.proofs.CardSound.{always_sound}
 use Rattle.model_card.proofs.Runs.{after_all-append}
-use Rattle.laws_trace.specs.Trace.{is_own, Always, seen, trace, frames_begun, IsAmong}
-use Rattle.laws_trace.specs.FramesAreRead.{IsSpelled}
-use Rattle.laws_trace.specs.Managing.{managed_after}
 use Rattle.laws_trace.specs.TurnsMeanwhile.{IsKeptWaiting, LinksTakeTurnsMeanwhile}
-use Rattle.laws_trace.proofs.CallRuns.{none-after}
 use Rattle.laws_trace.proofs.Runs.{run-shows}
 use Rattle.laws_trace.proofs.Units.{NoneWaits, fresh-none, Passes, rests, joins, steps}
 use Rattle.laws_trace.proofs.LinkNames.{links_begun, named as name_of}
@@ -24,7 +14,6 @@ use Rattle.laws_trace.proofs.OffersOfLink.{nothing-offered}
 use Rattle.laws_trace.proofs.Spelled.{run-spelled}
 use Rattle.laws_trace.proofs.TeisAreManaged.{follows-now}
 use Rattle.laws_trace.proofs.TurnsKept.{keeps-there}
-use Rattle.model_link.specs.Link.{fresh as fresh_link}
 use Rattle.laws_trace.proofs.TurnsWalked.{some-same, Meets, Walk, ends, take-turns, names-both, WalkOf, moment-walk}
 
 -- While it is so before each event, as the observer has it.
@@ -102,7 +91,9 @@ module _ (c : Config) (number : ℕ) (ranged : line.IsInRange c) (within : numbe
       here = subst (λ (d : Config). e.line < d.lines) (sym kept) (All-head (IsAtLine (fresh c)) e es (all-right (IsAtLine (fresh c)) before (e ∷ es) all))
 
       plain-then : NoneWaits card.config (end before) → NoneWaits (after e card).config (line_at number (after e card))
-      plain-then plain = none-after card e number sound-there here plain
+      unfolding after_all
+      plain-then plain =
+          (run-shows NoneWaits Passes rests joins steps card (e ∷ []) number sound-there (All-cons (IsAtLine card) e [] here (All-nil (IsAtLine card))) plain).1
 
       then-card : after_all (fresh c) (before ++ e ∷ []) ≡ after e card
       unfolding after_all

@@ -1,23 +1,14 @@
 -- How the turn goes round the links of a line while whatever happens there: one keeps its place, and another has something to send.
-use Rattle.laws_trace.proofs.Vocabulary.{◌≡◌, ◌≢◌, ℕ, ◌+◌, ◌<◌, ◌≤◌, ◌==◌, ◌⊎◌, ⊎_elim, Bool, true, false, cond, List, [], ◌∷◌, ◌++◌, get_or, map, Option, Some, None, option_map, refl, sym, ap, ◌∙◌, subst, inl, inr, arith, eq-eqb, true≢false, All, filter, and_parts, flat_map-append, get_or-set_same, map-append, filter-append, Address, Service, Call, Packet, sapi_of, Config, request, next, Answer, gave, Line, fresh_line, link_count, service_at, place_at, tei_at, Taken, taken, next_of, way_round, in_turn, IsSilentAt, IsOfLink, IsOwed, IsIdle, contents_of, comes-first, served, turn-stays, Card, line_at, is_full, by_room}
-use Rattle.std.proofs.Common.{eqb-true}
-use Rattle.std.specs.Option.{unwrap_or}
-use Rattle.lapd_tei.specs.Messages.{information_of}
+use Rattle.laws_trace.proofs.Vocabulary.{◌≡◌, ◌≢◌, ℕ, ◌+◌, ◌<◌, ◌≤◌, ◌==◌, ◌⊎◌, ⊎_elim, Bool, true, false, cond, List, [], ◌∷◌, ◌++◌, get_or, map, Option, Some, None, option_map, refl, sym, ap, ◌∙◌, subst, inl, inr, arith, eq-eqb, true≢false, All, filter, and_parts, flat_map-append, get_or-set_same, map-append, filter-append, Address, sapi_of, Config, request, next, Answer, gave, Line, fresh_line, link_count, service_at, place_at, tei_at, Taken, taken, next_of, way_round, in_turn, IsSilentAt, IsOfLink, IsOwed, IsIdle, contents_of, comes-first, served, turn-stays, Card, line_at, is_full, by_room, eqb-true, unwrap_or, information_of, CardEvent as Event, after, card_answer as answer, IsAtLine, CardIsSound as IsSound, trace_frame_in as frame_in, Seen, seen, frames_begun, IsAmong, frame_begun}
 use Rattle.model_line.specs.Event as line_event
 use Rattle.model_line.specs.Machine as lines
 use Rattle.model_line.specs.Sound as line
-use Rattle.model_card.specs.Event.{Event}
-use Rattle.model_card.specs.Machine.{after, answer}
-use Rattle.model_card.specs.Run.{IsAtLine}
-use Rattle.model_card.specs.Sound.{IsSound}
-use Rattle.laws_trace.specs.Trace as traces
-use Rattle.laws_trace.specs.Trace.{frame_in, Seen, seen, frames_begun, IsAmong}
-use Rattle.laws_trace.proofs.CallRuns.{apart}
-use Rattle.laws_trace.proofs.Runs.{nothing-seen}
+use Rattle.laws_trace.proofs.Runs.{nothing-seen, apart}
 use Rattle.laws_trace.proofs.Turns.{link-frame, ui-frame, name-is}
 use Rattle.laws_trace.proofs.Units.{NoneWaits, plain-order, first-of, none-told, none-requested, given-frames}
 use Rattle.laws_trace.proofs.LinkNames.{LinkName, named_in, is_of_a_link, links_begun, named as name_of, same-number}
 use Rattle.laws_trace.proofs.NamedFrames.{names}
+use Rattle.laws_trace.proofs.Facts.{small-sapi}
 
 pub some-same : {n k : ℕ} → Some n ≡ Some k → n ≡ k
 some-same both = cc both
@@ -111,10 +102,6 @@ module _ (c : Config) (one tei other its : ℕ) where
     abbrev names-in : List (List ℕ) → List LinkName
     names-in frames = map named_in (filter (is_of_a_link c.side) frames)
 
-    small-sapi : (service : Service) → sapi_of service < 64
-    small-sapi Call = omega arith
-    small-sapi Packet = omega arith
-
     no-name : (frame : List ℕ) (names : List LinkName) → is_of_a_link c.side frame ≡ false → Walk l names → Walk l (names-in (frame ∷ []) ++ names)
     no-name frame names none walk = subst (λ b. Walk l (map named_in (cond b (frame ∷ []) []) ++ names)) (sym none) walk
 
@@ -166,7 +153,7 @@ module _ (c : Config) (one tei other its : ℕ) where
 
 pub names-both : (c : Config) (t u : List Seen) → links_begun c (t ++ u) ≡ links_begun c t ++ links_begun c u
 names-both c t u =
-    ap (map named_in) (ap (filter (is_of_a_link c.side)) (flat_map-append traces.frame_begun t u) ∙ filter-append (is_of_a_link c.side) (frames_begun t) (frames_begun u))
+    ap (map named_in) (ap (filter (is_of_a_link c.side)) (flat_map-append frame_begun t u) ∙ filter-append (is_of_a_link c.side) (frames_begun t) (frames_begun u))
     ∙ map-append named_in (filter (is_of_a_link c.side) (frames_begun t)) (filter (is_of_a_link c.side) (frames_begun u))
 
 -- A run.

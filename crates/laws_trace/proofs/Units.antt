@@ -1,17 +1,5 @@
 -- Unit data goes out in the order in which it was granted, over runs.
-use Rattle.laws_trace.proofs.Vocabulary.{◌≡◌, ℕ, ◌<◌, ◌≤◌, ◌==◌, ◌&&◌, Bool, true, false, cond, List, [], ◌∷◌, ◌++◌, drop, map, slice_get, Option, Some, None, option_map, refl, sym, ap, ◌∙◌, subst, inl, inr, append-nil, All, not, filter, get_or-replicate, map-append, All-nil, All-head, Ui, sapi_of, IsInOrder, Link, ControlFrame, Config, hears, expiry, request, next, NextFrame, Answer, gave, Line, UnitData, link_count, link_at, service_at, terms, fresh_line, management_sapi, Taken, taken, unit_frame, next_of, IsInRange, IsUnitData, IsOfLink, IsOwed, IsIdle, contents_of, units_asked, unit_asked, event-follows, event-happens, served, units-wait, fold}
-use Rattle.lapd_tei.specs.Messages.{information_of}
-use Rattle.model_link.specs.Link.{fresh}
-use Rattle.model_line.specs.Event.{Event, told}
-use Rattle.model_line.specs.Machine.{after, answer}
-use Rattle.model_line.specs.Request as asked
-use Rattle.model_line.specs.Request.{Request}
-use Rattle.model_line.specs.Sound.{IsSound}
-use Rattle.laws_trace.specs.Trace as traces
-use Rattle.laws_trace.specs.Trace.{frame_in, Seen, seen_told, seen_granted, seen, frames_begun, IsFront}
-use Rattle.laws_line.specs.Served.{units_behind, units_left}
-use Rattle.laws_trace.specs.Units.{is_ui, is_down}
-use Rattle.laws_trace.specs.UnitsGoOut.{is_unit, waits}
+use Rattle.laws_trace.proofs.Vocabulary.{◌≡◌, ℕ, ◌<◌, ◌≤◌, ◌==◌, ◌&&◌, Bool, true, false, cond, List, [], ◌∷◌, ◌++◌, drop, map, slice_get, Option, Some, None, option_map, refl, sym, ap, ◌∙◌, subst, inl, inr, append-nil, All, not, filter, get_or-replicate, map-append, All-nil, All-head, Ui, sapi_of, IsInOrder, Link, ControlFrame, Config, hears, expiry, request, next, NextFrame, Answer, gave, Line, UnitData, link_count, link_at, service_at, terms, fresh_line, management_sapi, Taken, taken, unit_frame, next_of, IsInRange, IsUnitData, IsOfLink, IsOwed, IsIdle, contents_of, units_asked, unit_asked, event-follows, event-happens, served, units-wait, fold, information_of, fresh_link as fresh, Event, told, line_after as after, answer, Request, IsSound, trace_frame_in as frame_in, Seen, seen_told, seen_granted, seen, frames_begun, IsFront, units_behind, units_left, is_ui, is_down, is_unit, waits, Down, LineUnit as Unit, trace_begun as begun, granted}
 use Rattle.laws_trace.proofs.NoUi.{IsPlain, all-left}
 use Rattle.laws_trace.proofs.Reading.{other-frame, unit-is}
 use Rattle.laws_trace.specs.Units as units
@@ -52,8 +40,8 @@ abbrev pub left_by : Config → Request → List (List ℕ) → List (List ℕ)
 left_by c r waiting = cond (is_down r) [] (waiting ++ units.unit_asked c r)
 
 abbrev pub Step : Config → List (List ℕ) → Seen → List (List ℕ) → Type 0
-Step c waiting (traces.begun octets) left = Begun (is_unit c.side octets) waiting octets left
-Step c waiting (traces.granted r) left = left ≡ left_by c r waiting
+Step c waiting (begun octets) left = Begun (is_unit c.side octets) waiting octets left
+Step c waiting (granted r) left = left ≡ left_by c r waiting
 Step c waiting other left = left ≡ waiting
 
 unfoldable pub Goes : Config → List (List ℕ) → List Seen → List (List ℕ) → Type 0
@@ -86,8 +74,8 @@ none-requested r other = refl
 
 -- what a request that is granted leaves of them
 left-is : (c : Config) (r : Request) (us : List UnitData) → map (unit_frame c) (units_behind r us ++ unit_asked r) ≡ left_by c r (map (unit_frame c) us)
-left-is c (asked.Unit service tei contents) us = map-append (unit_frame c) us (record { service = service; tei = tei; contents = contents } ∷ [])
-left-is c asked.Down us = refl
+left-is c (Unit service tei contents) us = map-append (unit_frame c) us (record { service = service; tei = tei; contents = contents } ∷ [])
+left-is c Down us = refl
 left-is c other us = map-append (unit_frame c) us []
 
 told-goes : (c : Config) (waiting left : List (List ℕ)) (a : Answer) → left ≡ waiting → Goes c waiting (seen_told a) left
@@ -103,7 +91,7 @@ request-goes c before after r (told t) is =
 request-goes c before after r other is = ap (map (unit_frame c)) (is ∙ append-nil before.units)
 
 -- A call begins the oldest unit data, or a frame that is none.
-pub given-frames : (o : Option NextFrame) → frames_begun (map traces.begun (frame_in (gave o))) ≡ frame_in (gave o)
+pub given-frames : (o : Option NextFrame) → frames_begun (map begun (frame_in (gave o))) ≡ frame_in (gave o)
 given-frames None = refl
 given-frames (Some f) = refl
 
@@ -130,13 +118,13 @@ of-link c l new frame h x =
     ap (is_unit c.side) x.spelled
     ∙ other-frame c.side (record { sapi = sapi_of (service_at x.number); command = x.command; tei = x.tei }) x.control (ap (λ b. b && not (sapi_of (service_at x.number) == management_sapi)) (plain-order c l new frame h x)) _
 
-begins : (c : Config) (waiting left : List (List ℕ)) (frame : List ℕ) (b : Bool) → is_unit c.side frame ≡ b → Begun b waiting frame left → Goes c waiting (traces.begun frame ∷ []) left
+begins : (c : Config) (waiting left : List (List ℕ)) (frame : List ℕ) (b : Bool) → is_unit c.side frame ≡ b → Begun b waiting frame left → Goes c waiting (begun frame ∷ []) left
 unfolding Goes
 begins c waiting left frame b is h = (left, subst (λ b. Begun b waiting frame left) (sym is) h, refl)
 
 next-passes : (c : Config) (l new : Line) → IsSound c l → NoneWaits c l → (o : Option Taken)
     → elim o as (λ o. Type 0) [ None ↦ IsIdle c l new | Some t ↦ IsOwed c (contents_of l) l new t.frame ]
-    → Goes c (frames c l) (map traces.begun (frame_in (gave (option_map next_of o)))) (frames c new)
+    → Goes c (frames c l) (map begun (frame_in (gave (option_map next_of o)))) (frames c new)
 unfolding Goes
 next-passes c l new s h None x = ap (λ (l : Line). map (unit_frame c) l.units) x.line
 next-passes c l new s h (Some t) (inl x) =
@@ -175,9 +163,9 @@ unfolding Goes
 left-is-waiting c [] waiting left same = sym same
 left-is-waiting c (s ∷ t) waiting left (kept, step, more) = ap (λ ws. fold (waits c) ws t) (one s step) ∙ left-is-waiting c t kept left more
   where
-    asks : (r : Request) → waits c waiting (traces.granted r) ≡ left_by c r waiting
-    asks (asked.Unit service tei contents) = refl
-    asks asked.Down = refl
+    asks : (r : Request) → waits c waiting (granted r) ≡ left_by c r waiting
+    asks (Unit service tei contents) = refl
+    asks Down = refl
     asks other = sym (append-nil waiting)
 
     goes : (octets : List ℕ) (b : Bool) → Begun b waiting octets kept → cond b (drop 1 waiting) waiting ≡ kept
@@ -185,12 +173,12 @@ left-is-waiting c (s ∷ t) waiting left (kept, step, more) = ap (λ ws. fold (w
     goes octets false is = sym is
 
     one : (s : Seen) → Step c waiting s kept → waits c waiting s ≡ kept
-    one (traces.begun octets) is = goes octets (is_unit c.side octets) is
-    one (traces.granted r) is = asks r ∙ sym is
+    one (begun octets) is = goes octets (is_unit c.side octets) is
+    one (granted r) is = asks r ∙ sym is
     one other is = sym is
 
 -- and of what begins the unit data is the first of them.
-pub begun-first : (c : Config) (fs : List (List ℕ)) (waiting left : List (List ℕ)) → Goes c waiting (map traces.begun fs) left → IsFront (filter (is_unit c.side) fs) waiting
+pub begun-first : (c : Config) (fs : List (List ℕ)) (waiting left : List (List ℕ)) → Goes c waiting (map begun fs) left → IsFront (filter (is_unit c.side) fs) waiting
 unfolding Goes
 begun-first c [] waiting left same = record { rest = waiting; whole_is = refl }
 begun-first c (f ∷ fs) waiting left (kept, step, more) = go (is_unit c.side f) step (begun-first c fs kept left more)

@@ -1,20 +1,8 @@
 -- Unit data is told of TEIs on the line, or of the group.
-use Rattle.laws_trace.proofs.Vocabulary.{◌≡◌, ℕ, ◌<◌, ◌==◌, ◌&&◌, ◌||◌, not, Bool, true, false, cond, length, List, ◌∷◌, ◌++◌, Option, Some, None, is_some, refl, sym, ap, ◌∙◌, subst, eq-eqb, true≢false, ◌⊎◌, inl, inr, nat_le, Result, Ok, Err, list_any, option_map_or, and_parts, leb-true, Side, User, Network, ReadFault, Service, Parts, reading, same_service, Config, Answer, hears, group_tei, heard_side, Line, has_tei, state_of, has_management, IsInRange, line_at, at, has_lines, by_room, line_sound, notes_of, is_unit_of}
-use Rattle.std.proofs.Common.{eqb-true}
+use Rattle.laws_trace.proofs.Vocabulary.{◌≡◌, ℕ, ◌<◌, ◌==◌, ◌&&◌, ◌||◌, not, Bool, true, false, cond, length, List, ◌∷◌, ◌++◌, Option, Some, None, is_some, refl, sym, ap, ◌∙◌, subst, eq-eqb, true≢false, ◌⊎◌, inl, inr, nat_le, Result, Ok, Err, list_any, option_map_or, and_parts, leb-true, Side, User, Network, ReadFault, Service, Parts, reading, same_service, Config, Answer, hears, group_tei, heard_side, Line, has_tei, state_of, has_management, IsInRange, line_at, at, has_lines, by_room, line_sound, notes_of, is_unit_of, eqb-true, IsSound, fresh, CardEvent as Event, card_answer as answer, after_all, AreAtLines, is_unit_for, result_ok, brought, frame_of, its_frame, is_for, managing_is_on as is_on, view_of, is_ui, or-true}
 use Rattle.model_bits.specs.Stream as stream
 use Rattle.model_line.specs.Event as line_event
 use Rattle.model_line.specs.Machine as lines
-use Rattle.model_line.specs.Sound.{IsSound}
-use Rattle.model_card.specs.Card.{fresh}
-use Rattle.model_card.specs.Event.{Event}
-use Rattle.model_card.specs.Machine.{answer}
-use Rattle.model_card.specs.Run.{after_all, AreAtLines}
-use Rattle.laws_trace.specs.Deliveries.{is_unit_for}
-use Rattle.std.specs.Result.{result_ok}
-use Rattle.laws_trace.specs.LinkFrames.{brought, frame_of, its_frame, is_for}
-use Rattle.laws_trace.specs.Managing.{is_on}
-use Rattle.laws_trace.specs.Observer.{view_of}
-use Rattle.laws_trace.specs.Units.{is_ui}
 use Rattle.laws_trace.proofs.Deliveries.{unit-tells, unit-own, none-noted, group-notes}
 use Rattle.laws_trace.proofs.LinkLed.{on-line}
 use Rattle.laws_trace.proofs.OneLink.{Goes, event-goes}
@@ -22,6 +10,7 @@ use Rattle.laws_trace.proofs.ObservedRun.{is-told}
 use Rattle.laws_trace.proofs.SeenAs.{tei-seen}
 use Rattle.laws_trace.proofs.TimersAreTimely.{config-now, sound-now, front-at}
 use Rattle.laws_trace.proofs.UnitsAreTold.{units-are-told}
+use Rattle.laws_trace.proofs.Facts.{only}
 
 abbrev IsForOne : Config → ℕ → Line → Type 0
 IsForOne c tei l = (has_tei tei l ≡ true) ⊎ ((c.side ≡ User) × (tei ≡ 127))
@@ -33,10 +22,6 @@ module _ (c : Config) (ranged : IsInRange c) (l : Line) (s : IsSound c l) (servi
   pub of-unit : list_any (is_unit_of service tei) (notes_of a) ≡ true → IsForOne c tei l
   of-unit some = go (event-goes c e l service tei s)
     where
-      only : (b : Bool) → (b || false) ≡ true → b ≡ true
-      only true is = refl
-      only false is = is
-
       go : Goes c service tei e l (lines.after c e l) a → IsForOne c tei l
       go (inr (inl x)) = inl (on-line l tei x.place x.placed)
       go (inr (inr x)) = inl (on-line l tei x.place x.placed)
@@ -78,11 +63,7 @@ here-so : (c : Config) (service : Service) (tei number : ℕ) (before : List Eve
 here-so c service tei number before (inl on) = ap (λ b. b || (not (has_management c.side) && tei == 127)) on
 here-so c service tei number before (inr y) =
     ap (λ side. is_on tei (view_of c service tei number before).teis || (not (has_management side) && tei == 127)) y.0
-    ∙ ap (λ b. is_on tei (view_of c service tei number before).teis || b) (eq-eqb tei 127 y.1) ∙ either (is_on tei (view_of c service tei number before).teis)
-  where
-    either : (b : Bool) → (b || true) ≡ true
-    either true = refl
-    either false = refl
+    ∙ ap (λ b. is_on tei (view_of c service tei number before).teis || b) (eq-eqb tei 127 y.1) ∙ or-true (is_on tei (view_of c service tei number before).teis)
 
 pub unit-is : (c : Config) (before : List Event) (number : ℕ) → IsInRange c → AreAtLines (fresh c) before → number < c.lines → (service : Service) (tei : ℕ) (what : line_event.Event)
     (frame : Option Parts) → (list_any (is_unit_of service tei) (notes_of (answer (at number what) (after_all (fresh c) before))) ≡ true → option_map_or (λ (f : Parts). is_ui f.control) frame false ≡ true)

@@ -1,25 +1,10 @@
 -- Unit data that is heard is told: the law.
-use Rattle.model_card.specs.Machine.{answer}
-use Rattle.laws_trace.proofs.Vocabulary.{◌≡◌, ℕ, ◌≤◌, ◌==◌, ◌&&◌, ◌||◌, Bool, true, false, cond, List, length, Option, Some, None, refl, sym, ap, ◌∙◌, subst, true≢false, ◌⊎◌, inl, inr, Ok, is_some, ◌∷◌, ◌++◌, list_any, option_or, option_map_or, le-leb, none-some, User, Ui, Service, Call, Packet, Parts, reading, sapi_of, service_of, place_of-is, in_ui_frame, in_sequence, within, event-unit, data-is, Terms, eligible_of, Link, notes-own, event-tells, Config, hears, Answer, heard_side, Line, link_in, link_of, place_in, state_of, terms, IsToGroup, IsInRange, sound_in, line_at, at, notes_of, contents_in, is_unit_of, group-read, own-all, service-same, both-true, IsBy}
-use Rattle.std.proofs.Common.{eqb-true}
+use Rattle.laws_trace.proofs.Vocabulary.{◌≡◌, ℕ, ◌≤◌, ◌==◌, ◌&&◌, ◌||◌, Bool, true, false, cond, List, length, Option, Some, None, refl, sym, ap, ◌∙◌, subst, true≢false, ◌⊎◌, inl, inr, Ok, is_some, ◌∷◌, ◌++◌, list_any, option_or, le-leb, none-some, User, Ui, Service, Call, Packet, Parts, reading, sapi_of, service_of, in_ui_frame, in_sequence, within, event-unit, data-is, Terms, eligible_of, Link, notes-own, event-tells, Config, hears, Answer, heard_side, Line, link_of, place_in, state_of, terms, IsToGroup, IsInRange, line_at, at, notes_of, contents_in, is_unit_of, group-read, own-all, service-same, both-true, IsBy, card_answer as answer, eqb-true, Control, link_information_of as information_of, Event as LineEvent, IsSound, fresh, CardEvent as Event, after_all, AreAtLines, result_ok, is_for, Always, is_ui, link_told as told}
 use Rattle.model_bits.specs.Stream as stream
-use Rattle.lapd_frame.specs.declared.controls.Control.{Control}
-use Rattle.model_link.specs.Deliveries.{information_of}
 use Rattle.model_link.specs.Events as link
-use Rattle.model_link.specs.Link.{fresh as fresh_link}
-use Rattle.model_link.specs.Machine as links
 use Rattle.model_link.specs.Sound as link_sound
-use Rattle.model_line.specs.Event.{Event as LineEvent}
 use Rattle.model_line.specs.Machine as lines
-use Rattle.model_line.specs.Sound.{IsSound}
-use Rattle.model_card.specs.Card.{fresh}
-use Rattle.model_card.specs.Event.{Event}
-use Rattle.model_card.specs.Run.{after_all, AreAtLines}
-use Rattle.std.specs.Result.{result_ok}
-use Rattle.laws_trace.specs.LinkFrames.{is_for}
-use Rattle.laws_trace.specs.Trace.{Always}
-use Rattle.laws_trace.specs.Units.{is_ui}
-use Rattle.laws_trace.proofs.LineAtEnd.{line-at-end}
+use Rattle.laws_trace.proofs.LineAtEnd.{line-at-end, link-at-end}
 use Rattle.laws_trace.proofs.Deliveries.{frame_by, brings-frame, brings-none}
 use Rattle.laws_trace.proofs.DeliveriesRun.{event-aims}
 use Rattle.laws_trace.proofs.OneLink.{HasOne, Goes, event-goes}
@@ -84,7 +69,7 @@ module _ (c : Config) (ranged : IsInRange c) (l : Line) (s : IsSound c l) (servi
       )
 
   -- to a link of a TEI on the line
-  its-unit : (links.told t (link.received (link.frame f)) k).delivered ≡ None
+  its-unit : (told t (link.received (link.frame f)) k).delivered ≡ None
   its-unit =
       data-is t k (link.received (link.frame f))
       ∙ ap (λ control. in_sequence k.r (eligible_of t k (information_of control f.info))) (which-ui f.control ui).1
@@ -96,13 +81,12 @@ module _ (c : Config) (ranged : IsInRange c) (l : Line) (s : IsSound c l) (servi
 
   one : (x : HasOne c service tei e l (lines.after c e l) (lines.answer c e l)) → Tells service tei f.info (lines.answer c e l)
   one x =
-      let sound : link_sound.IsSound t k = subst (link_sound.IsSound t) (sym (ap (λ o. option_map_or (link_in l service) o fresh_link) x.placed))
-      (sound_in c ranged l s service tei x.place (place_of-is l.management.places tei x.place x.placed).1) in
+      let sound : link_sound.IsSound t k = link-at-end c l ranged s service tei x.place x.placed in
       let is = is-frame c e (lines.answer c e l) service tei f (ap result_ok read) x.event x.by in
-      let unit : (links.told t x.event k).unit ≡ Some f.info = ap (λ le. (links.told t le k).unit) is ∙ event-unit t k sound (link.received (link.frame f)) ∙ due in
-      let none : (links.told t x.event k).delivered ≡ None = ap (λ le. (links.told t le k).delivered) is ∙ its-unit in (
-        ap (list_any (is_unit_of service tei)) x.notes ∙ (own-all t (links.told t x.event k).notes (notes-own t x.event k)).1 ∙ (event-tells t x.event k).3 ∙ ap is_some unit,
-        x.contents ∙ ap (λ o. option_or o (links.told t x.event k).unit) none ∙ unit,
+      let unit : (told t x.event k).unit ≡ Some f.info = ap (λ le. (told t le k).unit) is ∙ event-unit t k sound (link.received (link.frame f)) ∙ due in
+      let none : (told t x.event k).delivered ≡ None = ap (λ le. (told t le k).delivered) is ∙ its-unit in (
+        ap (list_any (is_unit_of service tei)) x.notes ∙ (own-all t (told t x.event k).notes (notes-own t x.event k)).1 ∙ (event-tells t x.event k).3 ∙ ap is_some unit,
+        x.contents ∙ ap (λ o. option_or o (told t x.event k).unit) none ∙ unit,
       )
 
   on-line : is_some (state_of service tei l) ≡ true → (o : Option ℕ) → place_in l tei ≡ o → (place : ℕ) × (place_in l tei ≡ Some place)

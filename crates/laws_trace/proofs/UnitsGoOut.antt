@@ -1,36 +1,23 @@
 -- Unit data goes out: the laws.
-use Rattle.laws_trace.proofs.Vocabulary.{◌≡◌, ℕ, ◌<◌, ◌≤◌, List, [], ◌++◌, map, sym, ap, ◌∙◌, subst, get_or-replicate, Config, Line, fresh_line, unit_frame, most_frames, line_at, fresh_is_sound, AreTakesAt, takes_at, refl, arith, true, false, not, ◌||◌, true≢false, Option, Some, None, option_map, list_any, inl, inr, Service, Call, Packet, sapi_of, next, next_of, gave, Taken, taken, IsIdle, IsOwed, contents_of, served, at, config-stays, Bool, filter, Parts}
-use Rattle.model_line.specs.Sound as line
-use Rattle.model_card.specs.Card.{fresh}
-use Rattle.model_card.specs.Event.{Event}
-use Rattle.model_card.specs.Run.{after_all, AreAtLines}
-use Rattle.laws_trace.specs.Trace.{frame_in, trace_of, IsFront, Always}
-use Rattle.laws_trace.specs.LinkFrames.{reads}
-use Rattle.laws_trace.specs.Units.{is_ui}
-use Rattle.laws_trace.specs.UnitsGoOut.{is_unit, units_of, UnitsGoOut, AllUnitsGoOut}
+use Rattle.laws_trace.proofs.Vocabulary.{◌≡◌, ℕ, ◌<◌, ◌≤◌, List, [], ◌++◌, map, sym, ap, ◌∙◌, subst, get_or-replicate, Config, Line, fresh_line, unit_frame, most_frames, line_at, fresh_is_sound, AreTakesAt, takes_at, refl, arith, true, false, not, ◌||◌, true≢false, Option, Some, None, option_map, list_any, inl, inr, sapi_of, next, next_of, gave, Taken, taken, IsIdle, IsOwed, contents_of, served, at, config-stays, Bool, filter, Parts, fresh, CardEvent as Event, after_all, AreAtLines, trace_frame_in as frame_in, trace_of, IsFront, Always, reads, is_ui, is_unit, units_of, UnitsGoOut, AllUnitsGoOut, information_of, IsInRange, IsSound, card_answer as answer}
 use Rattle.laws_trace.proofs.Runs.{run-shows}
 use Rattle.laws_trace.proofs.LineAtEnd.{line-at-end}
 use Rattle.laws_trace.proofs.Turns.{ui-frame}
 use Rattle.laws_trace.proofs.LinkNames.{is_of_a_link}
-use Rattle.lapd_tei.specs.Messages.{information_of}
 use Rattle.model_line.specs.Machine as lines
-use Rattle.model_card.specs.Machine as machine
 use Rattle.laws_trace.proofs.WaitedBegins.{drained}
 use Rattle.laws_trace.proofs.Units.{NoneWaits, first-of, fresh-none, Goes, Passes, rests, joins, steps, next-passes-on, left-is-waiting, begun-first}
+use Rattle.laws_trace.proofs.Facts.{small-sapi}
 
 -- What waits at the end.
 abbrev pub left-waiting : Config → List Event → ℕ → List (List ℕ)
 left-waiting c events number = map (unit_frame c) (line_at number (after_all (fresh c) events)).units
 
-small-sapi : (service : Service) → sapi_of service < 64
-small-sapi Call = omega arith
-small-sapi Packet = omega arith
-
 abbrev gives-ui : Config → List ℕ → Bool
 gives-ui c = reads c.side (λ (f : Parts). is_ui f.control)
 
 -- A call that gives no UI finds no unit data that waits.
-units-gone : (c : Config) (l : Line) → line.IsSound c l → list_any (gives-ui c) (frame_in (lines.answer c next l)) ≡ false → l.units ≡ []
+units-gone : (c : Config) (l : Line) → IsSound c l → list_any (gives-ui c) (frame_in (lines.answer c next l)) ≡ false → l.units ≡ []
 unfolding lines.answer
 units-gone c l s = go (taken c l) (served c l s)
   where
@@ -54,7 +41,7 @@ units-gone c l s = go (taken c l) (served c l s)
         ∙ ui-frame c.side (record { sapi = sapi_of x.unit.service; command = true; tei = x.unit.tei }) x.unit.contents (small-sapi x.unit.service) (omega (arith, small)) refl) none
     go (Some t) (inr (inr x)) none = x.its_turn.no_unit
 
-module _ (c : Config) (events : List Event) (number : ℕ) (ranged : line.IsInRange c) (all : AreAtLines (fresh c) events) (within : number < c.lines) where
+module _ (c : Config) (events : List Event) (number : ℕ) (ranged : IsInRange c) (all : AreAtLines (fresh c) events) (within : number < c.lines) where
   start : line_at number (fresh c) ≡ fresh_line c
   start = get_or-replicate c.lines number (fresh_line c) (fresh_line c) within
 
@@ -75,7 +62,7 @@ module _ (c : Config) (events : List Event) (number : ℕ) (ranged : line.IsInRa
   pub front : UnitsGoOut c events number
   unfolding lines.takes_slot
   front =
-      subst (IsFront (filter (is_unit c.side) (frame_in (machine.answer (at number next) (after_all (fresh c) events))))) (sym waiting-is)
+      subst (IsFront (filter (is_unit c.side) (frame_in (answer (at number next) (after_all (fresh c) events))))) (sym waiting-is)
       (subst (λ (d : Config). IsFront (filter (is_unit c.side) (frame_in (lines.answer d next end))) (map (unit_frame c) end.units)) (sym (config-stays (fresh c) events))
       (begun-first c (frame_in (lines.answer c next end)) (map (unit_frame c) end.units) (map (unit_frame c) (lines.after c next end).units)
       (next-passes-on c end (line-at-end c events number ranged all within) passed.1)))
@@ -83,7 +70,7 @@ module _ (c : Config) (events : List Event) (number : ℕ) (ranged : line.IsInRa
   pub nothing-left : (before calls : List Event) → events ≡ before ++ calls → AreTakesAt number calls → most_frames c ≤ takes_at number calls → end.units ≡ []
   nothing-left before calls split only enough = (drained c events number ranged all within before calls split only enough).units
 
-  none-left : list_any (gives-ui c) (frame_in (machine.answer (at number next) (after_all (fresh c) events))) ≡ false → end.units ≡ []
+  none-left : list_any (gives-ui c) (frame_in (answer (at number next) (after_all (fresh c) events))) ≡ false → end.units ≡ []
   unfolding lines.takes_slot
   none-left none =
       units-gone c end (line-at-end c events number ranged all within)

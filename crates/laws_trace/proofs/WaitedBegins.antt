@@ -1,15 +1,6 @@
 -- What waited on a link begins, where a line is only called for its next frame, as often as the configuration says: the law.
-use Rattle.laws_trace.proofs.Vocabulary.{◌≡◌, ℕ, ◌<◌, ◌≤◌, cond, List, [], ◌∷◌, ◌++◌, Some, option_map, refl, sym, ap, ◌∙◌, subst, inl, arith, eq-eqb, All, flat_map-append, ControlFrame, Config, next, gave, taken, next_of, frames_to_go, most_frames, control_text, HasNothing, to-go-few, Card, line_at, at, moments, fresh_is_sound, AreTakesAt, takes_at, IsTakenAmong, IsWaiting, line-sound, card-drains, card-waits, all-left, all-right, config-stays}
+use Rattle.laws_trace.proofs.Vocabulary.{◌≡◌, ℕ, ◌<◌, ◌≤◌, cond, List, [], ◌∷◌, ◌++◌, Some, option_map, refl, sym, ap, ◌∙◌, subst, inl, arith, eq-eqb, All, flat_map-append, ControlFrame, Config, next, gave, taken, next_of, frames_to_go, most_frames, control_text, HasNothing, to-go-few, Card, line_at, at, moments, fresh_is_sound, AreTakesAt, takes_at, IsTakenAmong, IsWaiting, line-sound, card-drains, card-waits, all-left, all-right, config-stays, fresh, CardEvent as Event, after, card_answer as answer, after_all, IsAtLine, AreAtLines, CardIsSound as IsSound, always_sound, Always, trace_frame_in as frame_in, trace, seen, frames_begun, IsAmong, IsInRange, frame_begun, seen_in}
 use Rattle.model_line.specs.Machine as lines
-use Rattle.model_line.specs.Sound as line
-use Rattle.model_card.specs.Card.{fresh}
-use Rattle.model_card.specs.Event.{Event}
-use Rattle.model_card.specs.Machine.{after, answer}
-use Rattle.model_card.specs.Run.{after_all, IsAtLine, AreAtLines}
-use Rattle.model_card.specs.Sound.{IsSound}
-use Rattle.model_card.proofs.CardSound.{always_sound}
-use Rattle.laws_trace.specs.Trace as traces
-use Rattle.laws_trace.specs.Trace.{Always, frame_in, trace, seen, frames_begun, IsAmong}
 use Rattle.laws_trace.specs.WaitedBegins.{AllThatWaitedBegins}
 use Rattle.laws_trace.proofs.Units.{given-frames}
 
@@ -29,8 +20,8 @@ frames-both : (number : ℕ) (card : Card) (front behind : List Event)
     → frames_begun (trace number (moments card (front ++ behind))) ≡ frames_begun (trace number (moments card front)) ++ frames_begun (trace number (moments (after_all card front) behind))
 frames-both number card front behind =
     ap (λ ms. frames_begun (trace number ms)) (moments-both card front behind)
-    ∙ ap frames_begun (flat_map-append (traces.seen_in number) (moments card front) (moments (after_all card front) behind))
-    ∙ flat_map-append traces.frame_begun (trace number (moments card front)) (trace number (moments (after_all card front) behind))
+    ∙ ap frames_begun (flat_map-append (seen_in number) (moments card front) (moments (after_all card front) behind))
+    ∙ flat_map-append frame_begun (trace number (moments card front)) (trace number (moments (after_all card front) behind))
 
 begun-here : (number : ℕ) (card : Card) (back : List Event) (frame : List ℕ) → frame_in (gave (option_map next_of (taken card.config (line_at number card)))) ≡ frame ∷ []
     → frames_begun (trace number (moments card (at number next ∷ back))) ≡ frame ∷ frames_begun (trace number (moments (after (at number next) card) back))
@@ -39,7 +30,7 @@ begun-here number card back frame is =
     let rest = trace number (moments (after (at number next) card) back) in
     let own = seen next (answer (at number next) card) in
     ap (λ b. frames_begun (cond b own [] ++ rest)) (eq-eqb number number refl)
-    ∙ flat_map-append traces.frame_begun own rest
+    ∙ flat_map-append frame_begun own rest
     ∙ ap (λ fs. fs ++ frames_begun rest) (given-frames (option_map next_of (taken card.config (line_at number card))) ∙ is)
 
 begun-is-seen : (number : ℕ) (card : Card) (events : List Event) (frame : List ℕ) → IsTakenAmong card number events frame → IsAmong frame (frames_begun (trace number (moments card events)))
@@ -58,7 +49,7 @@ begun-is-seen number card events frame x =
     kept : (front : List Event) → taken card.config (line_at number (after_all card front)) ≡ Some x.one → taken (after_all card front).config (line_at number (after_all card front)) ≡ Some x.one
     kept front is = ap (λ c. taken c (line_at number (after_all card front))) (config-stays card front) ∙ is
 
-module _ (c : Config) (events : List Event) (number : ℕ) (ranged : line.IsInRange c) (all : AreAtLines (fresh c) events) (within : number < c.lines)
+module _ (c : Config) (events : List Event) (number : ℕ) (ranged : IsInRange c) (all : AreAtLines (fresh c) events) (within : number < c.lines)
     (before calls : List Event) (split : events ≡ before ++ calls) (only : AreTakesAt number calls) (enough : most_frames c ≤ takes_at number calls) where
   abbrev card : Card
   card = after_all (fresh c) before

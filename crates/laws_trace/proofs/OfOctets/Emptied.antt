@@ -1,26 +1,15 @@
 -- Where a line was only pulled, as often as the configuration says, the latest call for its next frame gave none.
-use Rattle.laws_trace.proofs.Vocabulary.{◌≡◌, ℕ, zero, suc, ◌+◌, ◌<◌, ◌≤◌, ◌==◌, Bool, true, false, cond, List, [], ◌∷◌, ◌++◌, Option, None, option_map, refl, sym, ap, ◌∙◌, subst, arith, append_assoc, eq-eqb, All, option_to_list, flat_map-append, All-nil, All-cons, All-head, All-tail, Config, NextFrame, taken, next_of, most_frames, HasNothing, Card, line_at, AreTakesAt, takes_at, card-idles, all-left, all-right, config-stays, OctetCard, port_at, answer_of_call, call_answered, calls_answered, moments_meant, pulls_at, pulls_behind, asked_at, refines, pulls_are_takes, fresh_octets_sound, moments-append}
-use Rattle.std.proofs.lemmas.Bool.{eqb-true}
-use Rattle.model_line.specs.Event as line
-use Rattle.model_line.specs.Sound as line_sound
-unfoldable use Rattle.model_line.specs.Machine.{answer as line_answer, takes_slot}
+use Rattle.laws_trace.proofs.Vocabulary.{◌≡◌, ℕ, zero, suc, ◌+◌, ◌<◌, ◌≤◌, ◌==◌, Bool, true, false, cond, List, [], ◌∷◌, ◌++◌, Option, None, option_map, refl, sym, ap, ◌∙◌, subst, arith, append_assoc, eq-eqb, All, option_to_list, flat_map-append, All-nil, All-cons, All-head, All-tail, Config, NextFrame, taken, next_of, most_frames, HasNothing, Card, line_at, AreTakesAt, takes_at, card-idles, all-left, all-right, config-stays, OctetCard, port_at, answer_of_call, call_answered, calls_answered, moments_meant, pulls_at, pulls_behind, asked_at, refines, pulls_are_takes, fresh_octets_sound, moments-append, eqb-true, answer as line_answer, takes_slot, moments as frame_moments, after_all as frames_after, ports_fresh as fresh, ports_after as after, meant, PortsEvent as Event, PortsAreAtLines as AreAtLines, ports_after_all as after_all, meant_all, EndsInPulls, gave, next, IsInRange, config_stays}
 use Rattle.model_card.specs.Card as cards
 use Rattle.model_card.specs.Event as frames
 use Rattle.model_card.specs.Machine as machine
 use Rattle.model_card.specs.Run as runs
-unfoldable use Rattle.model_card.specs.Run.{moments as frame_moments, after_all as frames_after}
 use Rattle.model_card.proofs.CardSound as card_sound
 use Rattle.laws_trace.proofs.WaitedBegins.{drained}
-use Rattle.model_card.specs.ports.Card.{fresh}
-unfoldable use Rattle.model_card.specs.ports.Card.{after, meant}
-use Rattle.model_card.specs.ports.Event.{Event}
 use Rattle.model_card.specs.ports.Pulls as pulls
-use Rattle.model_card.specs.ports.Run.{AreAtLines, IsAtLine}
-unfoldable use Rattle.model_card.specs.ports.Run.{after_all, meant_all}
+use Rattle.model_card.specs.ports.Run.{IsAtLine}
 use Rattle.model_card.specs.ports.Sound.{IsSound}
 use Rattle.model_card.proofs.OfPorts.Sound.{always_sound}
-use Rattle.model_card.proofs.OfPorts.Steps as steps
-use Rattle.laws_trace.specs.octets.Pulled.{EndsInPulls}
 
 -- what events mean behind others
 meant_both : (m : OctetCard) (front behind : List Event) → meant_all m (front ++ behind) ≡ meant_all m front ++ meant_all (after_all m front) behind
@@ -41,15 +30,15 @@ same_takes number (f ∷ fs) = ap (λ n. cond (f.line == number) 1 0 + n) (same_
 pub record IsLatest (number : ℕ) (fs : List frames.Event) : Type 0 where
   pub front : List frames.Event
   pub back : List frames.Event
-  pub split : fs ≡ front ++ frames.at number line.next ∷ back
+  pub split : fs ≡ front ++ frames.at number next ∷ back
   pub only : AreTakesAt number front
   pub none : takes_at number back ≡ 0
   pub count : takes_at number fs ≡ 1 + takes_at number front
 
 abbrev IsTake : ℕ → frames.Event → Type 0
-IsTake number f = f.line ≡ number → f.what ≡ line.next
+IsTake number f = f.line ≡ number → f.what ≡ next
 
-is_next : (number : ℕ) (f : frames.Event) → IsTake number f → f.line ≡ number → f ≡ frames.at number line.next
+is_next : (number : ℕ) (f : frames.Event) → IsTake number f → f.line ≡ number → f ≡ frames.at number next
 is_next number f h same = let what = h same in λ i. record { line = same i; what = what i }
 
 at_front : (number : ℕ) (f : frames.Event) (fs : List frames.Event) → IsTake number f → takes_at number fs ≡ 0 → 0 < takes_at number (f ∷ fs)
@@ -108,32 +97,32 @@ none_behind number card (f ∷ fs) none =
     ap (λ b. cond b (answer_of_call (machine.answer f card)) [] ++ rest) (is_off (f.line == number) (takes_at number fs) none)
     ∙ none_behind number (machine.after f card) fs (none_left (f.line == number) (takes_at number fs) none)
 
-gives_none : (card : Card) (number : ℕ) → taken card.config (line_at number card) ≡ None → asked_at card number line.next ≡ line.gave None
+gives_none : (card : Card) (number : ℕ) → taken card.config (line_at number card) ≡ None → asked_at card number next ≡ gave None
 unfolding line_answer takes_slot
-gives_none card number none = ap (λ o. line.gave (option_map next_of o)) none
+gives_none card number none = ap (λ o. gave (option_map next_of o)) none
 
 call_gives_none : (number : ℕ) (card : Card) (back : List frames.Event) → taken card.config (line_at number card) ≡ None → takes_at number back ≡ 0
-    → calls_answered number (runs.moments card (frames.at number line.next ∷ back)) ≡ None ∷ []
+    → calls_answered number (runs.moments card (frames.at number next ∷ back)) ≡ None ∷ []
 unfolding frame_moments
 call_gives_none number card back nothing none =
-    let rest = calls_answered number (runs.moments (machine.after (frames.at number line.next) card) back) in
-    ap (λ b. cond b (answer_of_call (asked_at card number line.next)) [] ++ rest) (eq-eqb number number refl)
+    let rest = calls_answered number (runs.moments (machine.after (frames.at number next) card) back) in
+    ap (λ b. cond b (answer_of_call (asked_at card number next)) [] ++ rest) (eq-eqb number number refl)
     ∙ ap (λ a. answer_of_call a ++ rest) (gives_none card number nothing)
-    ∙ ap (λ os. None ∷ os) (none_behind number (machine.after (frames.at number line.next) card) back none)
+    ∙ ap (λ os. None ∷ os) (none_behind number (machine.after (frames.at number next) card) back none)
 
 gave_none : (number : ℕ) (card : Card) (front back : List frames.Event) → let there = runs.after_all card front in
     taken there.config (line_at number there) ≡ None → takes_at number back ≡ 0
-    → calls_answered number (runs.moments card (front ++ frames.at number line.next ∷ back)) ≡ calls_answered number (runs.moments card front) ++ None ∷ []
+    → calls_answered number (runs.moments card (front ++ frames.at number next ∷ back)) ≡ calls_answered number (runs.moments card front) ++ None ∷ []
 gave_none number card front back nothing none =
     let there = runs.after_all card front in
-    let rest = frames.at number line.next ∷ back in
+    let rest = frames.at number next ∷ back in
     ap (calls_answered number) (moments-append card front rest)
     ∙ flat_map-append (call_answered number) (runs.moments card front) (runs.moments there rest)
     ∙ ap (λ os. calls_answered number (runs.moments card front) ++ os) (call_gives_none number there back nothing none)
 
 -- ---- of a line that was only pulled
 
-module _ (c : Config) (events : List Event) (number : ℕ) (ranged : line_sound.IsInRange c) (all : AreAtLines (fresh c) events) (within : number < c.lines) (h : EndsInPulls c events number) where
+module _ (c : Config) (events : List Event) (number : ℕ) (ranged : IsInRange c) (all : AreAtLines (fresh c) events) (within : number < c.lines) (h : EndsInPulls c events number) where
   abbrev m : OctetCard
   m = after_all (fresh c) h.before
 
@@ -153,7 +142,7 @@ module _ (c : Config) (events : List Event) (number : ℕ) (ranged : line_sound.
   before_lines = all-left (IsAtLine (fresh c)) h.before h.pulls these
 
   same : m.card.config ≡ c
-  same = steps.config_stays (fresh c) h.before
+  same = config_stays (fresh c) h.before
 
   lines : AreAtLines m h.pulls
   lines = subst (λ (x : Config). All (λ (e : Event). e.line < x.lines) h.pulls) (sym same) (all-right (IsAtLine (fresh c)) h.before h.pulls these)
@@ -182,12 +171,12 @@ module _ (c : Config) (events : List Event) (number : ℕ) (ranged : line_sound.
   abbrev front : List frames.Event
   front = first ++ x.front
 
-  whole : meant_all (fresh c) events ≡ front ++ frames.at number line.next ∷ x.back
-  whole = meaning ∙ ap (λ fs. first ++ fs) x.split ∙ sym (append_assoc first x.front (frames.at number line.next ∷ x.back))
+  whole : meant_all (fresh c) events ≡ front ++ frames.at number next ∷ x.back
+  whole = meaning ∙ ap (λ fs. first ++ fs) x.split ∙ sym (append_assoc first x.front (frames.at number next ∷ x.back))
 
   front_lines : runs.AreAtLines (cards.fresh c) front
   front_lines =
-      all-left (runs.IsAtLine (cards.fresh c)) front (frames.at number line.next ∷ x.back)
+      all-left (runs.IsAtLine (cards.fresh c)) front (frames.at number next ∷ x.back)
       (subst (runs.AreAtLines (cards.fresh c)) whole ((refines (fresh c) events).at_lines all))
 
   abbrev there : Card

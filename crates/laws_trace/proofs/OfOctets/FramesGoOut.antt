@@ -1,16 +1,11 @@
 -- What a receiver hears of a line are frames, and in the end all of them: the laws.
-use Rattle.laws_trace.proofs.Vocabulary.{◌≡◌, ℕ, ◌<◌, List, [], ◌∷◌, map, sym, subst, All, All-nil, All-cons, All-head, All-tail, AreOctets, Config, IsInRange, all-left, as_octets, octets_given, frames_to_hear, OfEachLine, meant_all, refines, given_frames_are_heard, heard_frames_are_octets}
+use Rattle.laws_trace.proofs.Vocabulary.{◌≡◌, ℕ, ◌<◌, List, [], ◌∷◌, map, sym, subst, All, All-nil, All-cons, All-head, All-tail, AreOctets, Config, IsInRange, all-left, as_octets, octets_given, frames_to_hear, OfEachLine, meant_all, refines, given_frames_are_heard, heard_frames_are_octets, IsSpelled, contents_given, Seen, trace_of, frames_begun, ports_fresh as fresh, PortsEvent as Event, PortsAreAtLines as AreAtLines}
 use Rattle.model_bits.specs.Stream as stream
 use Rattle.model_card.specs.Card as cards
 use Rattle.model_card.specs.Event as frames
 use Rattle.model_card.specs.Run as runs
-use Rattle.laws_trace.specs.FramesAreRead.{IsSpelled, contents_given}
-use Rattle.laws_trace.specs.Trace.{Seen, trace_of, frames_begun}
 use Rattle.laws_trace.proofs.OctetsBegin.{frames-are-octets}
 use Rattle.laws_trace.proofs.Spelled.{frames-are-read}
-use Rattle.model_card.specs.ports.Card.{fresh}
-use Rattle.model_card.specs.ports.Event.{Event}
-use Rattle.model_card.specs.ports.Run.{AreAtLines}
 use Rattle.laws_trace.specs.octets.FramesGoOut.{IsReadable, OnlyFramesAreHeard, GivenAreOctets, GoOutAsTheyAre, AllFramesGoOut}
 use Rattle.laws_trace.proofs.OfOctets.AsOctets.{still_spelled}
 use Rattle.laws_trace.proofs.OfOctets.Emptied.{before_none, latest_gave_none}

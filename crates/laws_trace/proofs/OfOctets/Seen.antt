@@ -1,39 +1,28 @@
 -- What an observer sees of the events of frames that events of octets mean, in the words of ports.
-use Rattle.laws_trace.proofs.Vocabulary.{◌≡◌, ℕ, ◌==◌, Bool, true, false, cond, List, [], ◌∷◌, ◌++◌, map, Option, None, Some, option_map, refl, sym, ap, ◌∙◌, append-nil, All, flat_map, option_to_list, flat_map-append, All-nil, All-cons, All-head, All-tail, All-append, AreOctets, PoolFull, Card, OctetCard, port_at, answer_to, frame_moment, meant_in, frames_given, given_of, HearsOctets, Port, gained, given_in, is_due, answer_of, meant_all, asked_at, gives_at_next, neither, refines}
+use Rattle.laws_trace.proofs.Vocabulary.{◌≡◌, ℕ, ◌==◌, Bool, true, false, cond, List, [], ◌∷◌, ◌++◌, map, Option, None, Some, option_map, refl, sym, ap, ◌∙◌, append-nil, All, flat_map, option_to_list, flat_map-append, All-nil, All-cons, All-head, All-tail, All-append, AreOctets, PoolFull, Card, OctetCard, port_at, answer_to, frame_moment, meant_in, frames_given, given_of, HearsOctets, Port, gained, given_in, is_due, answer_of, meant_all, asked_at, gives_at_next, neither, refines, answer as line_answer, Request, moments as frame_moments, contents_given, GivesOctets, Seen, seen, seen_told, seen_granted, trace_frame_in as frame_in, seen_in, trace, frames_begun, ports_after as after, meant, PortsEvent as Event, if_granted, request_granted, requests_of, unless_refused_told, HasOctets, trace_begun as begun, frame_begun, granted, heard, lost, trace_noted as noted, octets_of}
 use Rattle.model_bits.specs.Stream as stream
 use Rattle.model_line.specs.Event as line
-use Rattle.model_line.specs.Machine as lines
-unfoldable use Rattle.model_line.specs.Machine.{answer as line_answer}
-use Rattle.model_line.specs.Request.{Request}
 use Rattle.model_card.specs.Event as frames
 use Rattle.model_card.specs.Machine as machine
 use Rattle.model_card.specs.Run as runs
-unfoldable use Rattle.model_card.specs.Run.{moments as frame_moments}
-use Rattle.laws_trace.specs.FramesAreRead as read
-use Rattle.laws_trace.specs.FramesAreRead.{contents_given, GivesOctets}
-use Rattle.laws_trace.specs.Trace as traces
-use Rattle.laws_trace.specs.Trace.{Seen, seen, seen_told, seen_granted, frame_in, seen_in, trace, frames_begun}
 use Rattle.laws_trace.proofs.Units.{none-told, none-requested}
-unfoldable use Rattle.model_card.specs.ports.Card.{after, answer, meant}
-use Rattle.model_card.specs.ports.Codec as codec
-use Rattle.model_card.specs.ports.Event.{Event}
+unfoldable use Rattle.model_card.specs.ports.Card.{answer}
 use Rattle.model_card.specs.ports.HeardOctets as comes
 use Rattle.model_card.specs.ports.Port as port
 use Rattle.model_card.specs.ports.Run.{Moment}
 unfoldable use Rattle.model_card.specs.ports.Run.{moments}
-use Rattle.laws_trace.specs.octets.Granted.{if_granted, request_granted, requests_of}
 
 -- ---- the frames that begin are those that the card of frames gives
 
-by_call : (a : line.Answer) → frames_begun (map traces.begun (frame_in a)) ≡ option_to_list (option_map codec.octets_of (given_in a))
+by_call : (a : line.Answer) → frames_begun (map begun (frame_in a)) ≡ option_to_list (option_map octets_of (given_in a))
 by_call (line.gave None) = refl
 by_call (line.gave (Some next)) = refl
 by_call other = refl
 
-by_none : (t : List Seen) (a : line.Answer) → frames_begun t ≡ [] → given_in a ≡ None → frames_begun t ≡ option_to_list (option_map codec.octets_of (given_in a))
-by_none t a none given = none ∙ ap (λ o. option_to_list (option_map codec.octets_of o)) (sym given)
+by_none : (t : List Seen) (a : line.Answer) → frames_begun t ≡ [] → given_in a ≡ None → frames_begun t ≡ option_to_list (option_map octets_of (given_in a))
+by_none t a none given = none ∙ ap (λ o. option_to_list (option_map octets_of o)) (sym given)
 
-by_event : (card : Card) (n : ℕ) (what : line.Event) → let a = asked_at card n what in frames_begun (seen what a) ≡ option_to_list (option_map codec.octets_of (given_in a))
+by_event : (card : Card) (n : ℕ) (what : line.Event) → let a = asked_at card n what in frames_begun (seen what a) ≡ option_to_list (option_map octets_of (given_in a))
 by_event card n (line.hears e) =
     let a = asked_at card n (line.hears e) in by_none (seen (line.hears e) a) a (none-told a) ((gives_at_next card n).hears e)
 by_event card n (line.expiry timer) =
@@ -49,7 +38,7 @@ by_moment : (number : ℕ) (card : Card) (f : frames.Event) → frames_begun (se
 by_moment number card f = go (f.line == number)
   where
     go : (b : Bool) → let a = machine.answer f card in
-        frames_begun (cond b (seen f.what a) []) ≡ cond b (option_to_list (option_map codec.octets_of (given_in a))) []
+        frames_begun (cond b (seen f.what a) []) ≡ cond b (option_to_list (option_map octets_of (given_in a))) []
     go true = by_event card f.line f.what
     go false = refl
 
@@ -58,14 +47,14 @@ unfolding frame_moments
 begun_given number card [] = refl
 begun_given number card (f ∷ fs) =
     let rest = trace number (runs.moments (machine.after f card) fs) in
-    flat_map-append traces.frame_begun (seen_in number (there card f)) rest
+    flat_map-append frame_begun (seen_in number (there card f)) rest
     ∙ ap (λ given. given ++ frames_begun rest) (by_moment number card f)
     ∙ ap (λ given. given_of number (there card f) ++ given) (begun_given number (machine.after f card) fs)
 
 -- ---- the requests that are seen to be granted are those whose answers grant them
 
 abbrev pub request_seen : Seen → List Request
-request_seen (traces.granted r) = r ∷ []
+request_seen (granted r) = r ∷ []
 request_seen other = []
 
 abbrev pub requests_seen : List Seen → List Request
@@ -82,12 +71,12 @@ none_asked : (a : line.Answer) → requests_seen (seen_told a) ≡ []
 none_asked (line.told t) = refl
 none_asked other = refl
 
-none_called : (given : List (List ℕ)) → requests_seen (map traces.begun given) ≡ []
+none_called : (given : List (List ℕ)) → requests_seen (map begun given) ≡ []
 none_called [] = refl
 none_called (octets ∷ given) = none_called given
 
 -- a request is answered by what it is told, or refused
-by_grant : (r : Request) (full : Bool) (o : Option _) (outcome : _) → let a = cond full (line.refused PoolFull) (lines.unless_refused_told o outcome) in
+by_grant : (r : Request) (full : Bool) (o : Option _) (outcome : _) → let a = cond full (line.refused PoolFull) (unless_refused_told o outcome) in
     requests_seen (seen_granted r a ++ seen_told a) ≡ if_granted r (answer_of a)
 by_grant r true o outcome = refl
 by_grant r false None outcome = refl
@@ -145,29 +134,29 @@ requests_are number m events =
 -- ---- what is heard, and the contents that are granted, are octets
 
 abbrev pub HearsIn : Seen → Type 0
-HearsIn (traces.heard e) = read.HasOctets e
+HearsIn (heard e) = HasOctets e
 HearsIn other = Unit {0}
 
-same_word : (e : stream.Event) → comes.HasOctets e → read.HasOctets e
+same_word : (e : stream.Event) → comes.HasOctets e → HasOctets e
 same_word (stream.frame octets) h = h
 same_word other h = tt
 
 told_hears : (a : line.Answer) → All HearsIn (seen_told a)
 told_hears (line.told t) =
-    All-cons HearsIn (traces.noted t.notes t.contents) (traces.lost t.lost ∷ []) tt (All-cons HearsIn (traces.lost t.lost) [] tt (All-nil HearsIn))
+    All-cons HearsIn (noted t.notes t.contents) (lost t.lost ∷ []) tt (All-cons HearsIn (lost t.lost) [] tt (All-nil HearsIn))
 told_hears other = All-nil HearsIn
 
 granted_hears : (r : Request) (a : line.Answer) → All HearsIn (seen_granted r a)
-granted_hears r (line.told t) = All-cons HearsIn (traces.granted r) [] tt (All-nil HearsIn)
+granted_hears r (line.told t) = All-cons HearsIn (granted r) [] tt (All-nil HearsIn)
 granted_hears r other = All-nil HearsIn
 
-begun_hears : (given : List (List ℕ)) → All HearsIn (map traces.begun given)
+begun_hears : (given : List (List ℕ)) → All HearsIn (map begun given)
 begun_hears [] = All-nil HearsIn
-begun_hears (octets ∷ given) = All-cons HearsIn (traces.begun octets) (map traces.begun given) tt (begun_hears given)
+begun_hears (octets ∷ given) = All-cons HearsIn (begun octets) (map begun given) tt (begun_hears given)
 
 event_hears : (b : Bool) (what : line.Event) (a : line.Answer) → HearsOctets what → All HearsIn (cond b (seen what a) [])
 event_hears false what a h = All-nil HearsIn
-event_hears true (line.hears e) a h = All-cons HearsIn (traces.heard e) (seen_told a) (same_word e h) (told_hears a)
+event_hears true (line.hears e) a h = All-cons HearsIn (heard e) (seen_told a) (same_word e h) (told_hears a)
 event_hears true (line.expiry timer) a h = told_hears a
 event_hears true (line.request r) a h = All-append HearsIn (seen_granted r a) (seen_told a) (granted_hears r a) (told_hears a)
 event_hears true line.next a h = begun_hears (frame_in a)
@@ -185,15 +174,15 @@ trace_hears number card (f ∷ fs) h =
 
 pub gives : (t : List Seen) → All HearsIn t → All AreOctets (map contents_given (requests_seen t)) → All GivesOctets t
 gives [] h k = All-nil GivesOctets
-gives (traces.heard e ∷ t) h k =
-    All-cons GivesOctets (traces.heard e) t (All-head HearsIn (traces.heard e) t h) (gives t (All-tail HearsIn (traces.heard e) t h) k)
-gives (traces.begun octets ∷ t) h k =
-    All-cons GivesOctets (traces.begun octets) t tt (gives t (All-tail HearsIn (traces.begun octets) t h) k)
-gives (traces.noted notes contents ∷ t) h k =
-    All-cons GivesOctets (traces.noted notes contents) t tt (gives t (All-tail HearsIn (traces.noted notes contents) t h) k)
-gives (traces.granted r ∷ t) h k =
+gives (heard e ∷ t) h k =
+    All-cons GivesOctets (heard e) t (All-head HearsIn (heard e) t h) (gives t (All-tail HearsIn (heard e) t h) k)
+gives (begun octets ∷ t) h k =
+    All-cons GivesOctets (begun octets) t tt (gives t (All-tail HearsIn (begun octets) t h) k)
+gives (noted notes contents ∷ t) h k =
+    All-cons GivesOctets (noted notes contents) t tt (gives t (All-tail HearsIn (noted notes contents) t h) k)
+gives (granted r ∷ t) h k =
     let rest = map contents_given (requests_seen t) in
-    All-cons GivesOctets (traces.granted r) t (All-head AreOctets (contents_given r) rest k)
-    (gives t (All-tail HearsIn (traces.granted r) t h) (All-tail AreOctets (contents_given r) rest k))
-gives (traces.lost n ∷ t) h k =
-    All-cons GivesOctets (traces.lost n) t tt (gives t (All-tail HearsIn (traces.lost n) t h) k)
+    All-cons GivesOctets (granted r) t (All-head AreOctets (contents_given r) rest k)
+    (gives t (All-tail HearsIn (granted r) t h) (All-tail AreOctets (contents_given r) rest k))
+gives (lost n ∷ t) h k =
+    All-cons GivesOctets (lost n) t tt (gives t (All-tail HearsIn (lost n) t h) k)

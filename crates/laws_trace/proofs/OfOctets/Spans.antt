@@ -1,11 +1,7 @@
 -- Unit data between times at which a line is down: what begins are fronts of what is granted, one behind the other.
-use Rattle.laws_trace.proofs.Vocabulary.{◌≡◌, ℕ, Bool, true, false, cond, List, [], ◌∷◌, ◌++◌, map, refl, sym, ap, ◌∙◌, subst, append_assoc, append-nil, filter, filter-append, flat_map-append, map-append, fold, Config, as_octets}
+use Rattle.laws_trace.proofs.Vocabulary.{◌≡◌, ℕ, Bool, true, false, cond, List, [], ◌∷◌, ◌++◌, map, refl, sym, ap, ◌∙◌, subst, append_assoc, append-nil, filter, filter-append, flat_map-append, map-append, fold, Config, as_octets, Seen, IsFront, frames_begun, is_down, is_unit, Asked, with_request, AreFronts}
 use Rattle.laws_trace.specs.Trace as traces
-use Rattle.laws_trace.specs.Trace.{Seen, IsFront, frames_begun}
-use Rattle.laws_trace.specs.Units.{unit_asked, is_down}
-use Rattle.laws_trace.specs.UnitsGoOut.{is_unit}
-use Rattle.laws_trace.specs.octets.Granted.{Asked, with_request}
-use Rattle.laws_trace.specs.octets.UnitsAreHeard.{AreFronts}
+use Rattle.laws_trace.specs.Units.{unit_asked}
 use Rattle.laws_trace.proofs.OfOctets.Seen.{requests_seen}
 use Rattle.laws_trace.proofs.Units.{units_begun, Begun, Step, Goes}
 

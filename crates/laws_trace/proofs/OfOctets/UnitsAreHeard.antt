@@ -1,14 +1,8 @@
 -- What a receiver hears of unit data: the laws.
-use Rattle.laws_trace.proofs.Vocabulary.{◌≡◌, ℕ, ◌<◌, List, [], ◌∷◌, ◌++◌, map, refl, sym, ap, ◌∙◌, arith, filter, flat_map, flat_map-append, map-append, filter-append, Config, IsInRange, most_frames, takes_at, as_octets, octets_given, frames_to_hear, OfEachLine, given_frames_are_heard, append-nil, fold, unit_frame, subst}
+use Rattle.laws_trace.proofs.Vocabulary.{◌≡◌, ℕ, ◌<◌, List, [], ◌∷◌, ◌++◌, map, refl, sym, ap, ◌∙◌, arith, filter, flat_map, flat_map-append, map-append, filter-append, Config, IsInRange, most_frames, takes_at, as_octets, octets_given, frames_to_hear, OfEachLine, given_frames_are_heard, append-nil, fold, unit_frame, subst, is_unit, ports_fresh as fresh, PortsEvent as Event, PortsAreAtLines as AreAtLines, Asked, none_asked, with_request, units_to_hear, AreFronts, whole_frame, whole_frames, UnitsAreHeard, AllUnitsAreHeard}
 use Rattle.model_bits.specs.Stream as stream
-use Rattle.laws_trace.specs.UnitsGoOut.{is_unit}
 use Rattle.laws_trace.proofs.Units.{units_begun}
 use Rattle.laws_trace.proofs.UnitsGoOut.{left-waiting, goes, nothing-left}
-use Rattle.model_card.specs.ports.Card.{fresh}
-use Rattle.model_card.specs.ports.Event.{Event}
-use Rattle.model_card.specs.ports.Run.{AreAtLines}
-use Rattle.laws_trace.specs.octets.Granted.{Asked, none_asked, with_request, units_to_hear}
-use Rattle.laws_trace.specs.octets.UnitsAreHeard.{AreFronts, whole_frame, whole_frames, UnitsAreHeard, AllUnitsAreHeard}
 use Rattle.laws_trace.proofs.OfOctets.AsOctets.{same_units}
 use Rattle.laws_trace.proofs.OfOctets.Emptied as emptied
 use Rattle.laws_trace.proofs.OfOctets.FramesGoOut.{meaning, t, lines, begun, spelled, all-frames-go-out}

@@ -1,14 +1,9 @@
 -- What waited on a link is heard at the other end: the law.
-use Rattle.laws_trace.proofs.Vocabulary.{◌≡◌, ℕ, ◌<◌, List, ◌∷◌, ◌++◌, map, sym, ap, ◌∙◌, subst, append_assoc, arith, flat_map-append, map-append, ControlFrame, Config, IsInRange, most_frames, control_text, Card, line_at, takes_at, IsWaiting, frames_given, given_of, as_octets, octets_given, frames_to_hear, OfEachLine, refined_card, given_frames_are_heard, moments-append}
+use Rattle.laws_trace.proofs.Vocabulary.{◌≡◌, ℕ, ◌<◌, List, ◌∷◌, ◌++◌, map, sym, ap, ◌∙◌, subst, append_assoc, arith, flat_map-append, map-append, ControlFrame, Config, IsInRange, most_frames, control_text, Card, line_at, takes_at, IsWaiting, frames_given, given_of, as_octets, octets_given, frames_to_hear, OfEachLine, refined_card, given_frames_are_heard, moments-append, IsAmong, ports_fresh as fresh, PortsEvent as Event, PortsAreAtLines as AreAtLines, ports_after_all as after_all, EndsInPulls}
 use Rattle.model_bits.specs.Stream as stream
 use Rattle.model_card.specs.Card as cards
 use Rattle.model_card.specs.Run as runs
-use Rattle.laws_trace.specs.Trace.{IsAmong}
 use Rattle.laws_trace.proofs.WaitedBegins.{all-that-waited-begins}
-use Rattle.model_card.specs.ports.Card.{fresh}
-use Rattle.model_card.specs.ports.Event.{Event}
-use Rattle.model_card.specs.ports.Run.{AreAtLines, after_all}
-use Rattle.laws_trace.specs.octets.Pulled.{EndsInPulls}
 use Rattle.laws_trace.specs.octets.WaitedIsHeard.{IsHeardSince, AllThatWaitedIsHeard}
 use Rattle.laws_trace.proofs.OfOctets.Emptied as emptied
 use Rattle.laws_trace.proofs.OfOctets.FramesGoOut.{meaning, lines, all-frames-go-out}

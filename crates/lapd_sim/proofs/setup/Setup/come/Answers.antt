@@ -31,9 +31,9 @@ returns-in-Octets g c = λ m h.
     (is_frame_is frame (omega (arith, c.if-frame-lt-SHORTEST_FRAME.false)) (omega (arith, c.if-frame-gt-LONGEST_FRAME.false))))
     (λ holds. record {
       exchange = holds;
-      terminals = subst (λ ts. Each Sends (set c.args.self.now.terminals.items line c.send.new.self) ts) (sym keep.0)
-          (each_set Sends c.args.self.now.terminals.items m.terminals line c.send.new.self (after_sending frame t) (c.send.ensures t sends).1 h.terminals);
+      terminals = subst (λ ts. Each Sends (set c.args.self.now.terminals.items line c.send-octets.new.self) ts) (sym keep.0)
+          (each_set Sends c.args.self.now.terminals.items m.terminals line c.send-octets.new.self (after_sending frame t) (c.send-octets.ensures t sends).1 h.terminals);
       listeners = subst (λ ts. Each Hears c.args.self.now.listeners.items ts) (sym keep.1) h.listeners;
     })
     (subst (λ octets. Tells c.receive.result (on g.T.Target.taken c.args.page.now) (on g.T.Target.taken c.receive.new.page) (Holds c.receive.new.exchange) (after_rx line octets (scene moved)))
-    (c.as_slice.ensures.value ∙ (c.send.ensures t sends).0) (c.receive.ensures.told moved holds))
+    (c.as_slice.ensures.value ∙ (c.send-octets.ensures t sends).0) (c.receive.ensures.told moved holds))

@@ -149,7 +149,7 @@ impl Deframer {
         let Some(gap) = &self.gap else {
             return are_ones_after_seven(self.ones, octet);
         };
-        let since = gap.since;
+        let since = gap.since();
         if since >= 8 {
             return false;
         }
@@ -318,7 +318,7 @@ impl Deframer {
             return Ended::Nothing;
         };
         self.gap = None;
-        if gap.since < 7 {
+        if gap.since() < 7 {
             return Ended::Nothing;
         }
         Ended::Dropped(Cause::Abort)
@@ -335,7 +335,7 @@ impl Deframer {
         let Some(gap) = self.gap else {
             return Ended::Nothing;
         };
-        if gap.since < 8 {
+        if gap.since() < 8 {
             return Ended::Nothing;
         }
         gap.closed(&self.octets)

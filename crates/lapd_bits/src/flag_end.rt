@@ -194,7 +194,7 @@ impl Deframer {
             return;
         };
         // Nothing stands between two flags that follow one another or share their 0.
-        if gap.since + before < 8 {
+        if gap.since() + before < 8 {
             self.ended = Latest::Nothing;
             return;
         }

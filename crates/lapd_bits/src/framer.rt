@@ -91,7 +91,7 @@ impl Framer {
         if self.busy() {
             OCTET_BITS
         } else {
-            self.after.count as u8
+            self.after.count() as u8
         }
     }
 

@@ -22,7 +22,7 @@ const OVERLONG_KEPT: usize = 4;
 #[derive(Clone, Copy, Debug)]
 pub(crate) struct Gap {
     /// The bits since the flag, stuffed 0s among them; 8 stands for 8 and more.
-    pub(crate) since: u8,
+    since: u8,
     /// The octets that lie in the room: all that have come, or as many as it takes.
     count: usize,
     /// Once more octets have come than there is room for, the frame check's register over all of them.
@@ -84,6 +84,13 @@ impl Gap {
             Some(_) => OVERLONG_KEPT,
             None => self.count,
         }
+    }
+
+    /// How many bits have come since the flag; 8 stands for 8 and more.
+    pub(crate) fn since(&self) -> u8
+        ensures { result ≡ self.now.since }
+    {
+        self.since
     }
 
     /// Counts a stuffed 0, which is no bit of an octet.

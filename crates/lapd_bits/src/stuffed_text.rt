@@ -137,7 +137,7 @@ impl StuffedText {
         } else {
             self.push(u64::from(four), FOUR_OCTETS);
             self.give_four(buffer);
-            if OCTET_BITS <= self.waiting.count {
+            if OCTET_BITS <= self.waiting.count() {
                 self.give(buffer);
             }
         }
@@ -189,10 +189,10 @@ impl StuffedText {
         ensures room { length buffer.new ≡ length buffer.old }
     {
         // four at once, which one store writes
-        if FOUR_OCTETS <= self.waiting.count {
+        if FOUR_OCTETS <= self.waiting.count() {
             self.give_four(buffer);
         }
-        while OCTET_BITS <= self.waiting.count {
+        while OCTET_BITS <= self.waiting.count() {
             self.give(buffer);
         }
     }

@@ -13,7 +13,7 @@ const FLAG_BITS: u64 = 8;
 pub(crate) struct Waiting {
     /// The first to go is the lowest.
     bits: u64,
-    pub(crate) count: u64,
+    count: u64,
     ghost below: { bits < 2 ^ count },
     ghost at_most: { count < 64 },
 }
@@ -27,6 +27,13 @@ impl Waiting {
         ensures count { result.count ≡ 0 }
     {
         Waiting { bits: 0, count: 0 }
+    }
+
+    /// How many bits wait.
+    pub(crate) fn count(&self) -> u64
+        ensures { result ≡ self.now.count }
+    {
+        self.count
     }
 
     /// Has more bits wait, after the others.

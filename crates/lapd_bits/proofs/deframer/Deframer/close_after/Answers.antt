@@ -10,11 +10,11 @@ returns-in_default-clause-told c past six h =
     told-young (length s.octets.items) c.args.before past six s.octets.items s.gap
     (subst (λ g. IfSome g (λ gap. gap.since + c.args.before < 8)) (sym (no_some s.gap c.in_default.not-Some)) tt) h
 
-pub returns-then-gap-before-lt8-clause-told : goal.returns-then-gap-before-lt8-clause-told
-returns-then-gap-before-lt8-clause-told c past six h =
+pub returns-then-since-before-lt8-clause-told : goal.returns-then-since-before-lt8-clause-told
+returns-then-since-before-lt8-clause-told c past six h =
     let s = c.args.self.now in
     told-young (length s.octets.items) c.args.before past six s.octets.items (Some c.in-Some.gap)
-    (omega (arith, c.if-gap-before-lt8.true))
+    (omega (arith, c.since.ensures, c.if-since-before-lt8.true))
     (subst (λ g. HoldsGap s.octets.items g (open_gap past)) c.in-Some.is h)
 
 pub returns-clause-told : goal.returns-clause-told
@@ -23,7 +23,7 @@ returns-clause-told c past six h =
     let new = c.join.new.octets in
     let same : length new.items ≡ length s.octets.items = sym new.ok.0 ∙ c.join.ensures.room ∙ s.octets.ok.0 in
     told-closed s.octets.items new.items c.in-Some.gap c.join.new.self c.args.before c.six_ones_of.result past
-    (event_in new.items (ended_of c.of-self.result)) six (omega (arith, c.if-gap-before-lt8.false))
+    (event_in new.items (ended_of c.of-self.result)) six (omega (arith, c.since.ensures, c.if-since-before-lt8.false))
     c.join.ensures.since c.six_ones_of.ensures.ones same c.join.ensures.stands
     (λ whole keeps. ap (event_in new.items) c.of-self.ensures ∙ c.closed.ensures.told whole keeps)
     (subst (λ g. HoldsGap s.octets.items g (open_gap past)) c.in-Some.is h)

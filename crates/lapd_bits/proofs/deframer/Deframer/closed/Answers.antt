@@ -7,5 +7,5 @@ pub returns-clause-told : goal.returns-clause-told
 returns-clause-told c past six held =
     let octets = c.args.self.now.octets.items in
     let here = subst (λ g. HoldsGap octets g (open_gap past)) c.in-Some.is held in
-    let long : 8 ≤ c.in-Some.gap.since = omega (arith, c.if-gap-lt8.false) in
+    let long : 8 ≤ c.in-Some.gap.since = omega (arith, c.since.ensures, c.if-since-lt8.false) in
     closed_told octets c.in-Some.gap past (event_in octets c.closed.result) six here long c.closed.ensures.told

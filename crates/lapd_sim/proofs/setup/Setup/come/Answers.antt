@@ -15,8 +15,8 @@ returns-in-Frames g c = λ m h.
     (subst (λ (k : Config). Tells c.frame.result (on g.T.Target.taken c.args.page.now) (on g.T.Target.taken c.frame.new.page) (Holds c.frame.new.self) (with_event (scene m) (at line (hears (came k.n201 frame)))))
     (sym h.exchange.config) (c.frame.ensures.told m h.exchange))
 
-pub returns-in-Octets : goal.returns-in-Octets
-returns-in-Octets g c = λ m h.
+pub returns-else-frame-gt-LONGEST_FRAME : goal.returns-else-frame-gt-LONGEST_FRAME
+returns-else-frame-gt-LONGEST_FRAME g c = λ m h.
     let line = c.in_ok-line.line in
     let frame = c.args.frame.now in
     let t = terminal_at line m in

@@ -12,7 +12,7 @@ ghost use Rattle.lapd_script.specs.Shown.{IsUnshown, ShowsFrame};
 use crate::values::octets;
 use lapd_frame::{ReadFault, Side, read};
 use lapd_transcript::{
-    LONGEST_FRAME, Target, WriteFailed, on_line, write_line_octets, write_shown,
+    LONGEST_FRAME, Target, Terminal, WriteFailed, write_line_octets, write_shown,
 };
 use std::alloc::{AllocError, Global};
 
@@ -85,7 +85,8 @@ pub fn show_frame<T: Target>(
         Ok(frame) => frame,
         Err(fault) => return Err(FrameFault::NoFrame(fault)),
     };
-    let line = on_line(alloc, octets)?;
+    let mut terminal = Terminal::start(alloc)?;
+    let line = terminal.send(octets);
     write_shown(target, &frame)?;
     write_line_octets(target, line.as_slice())?;
     Ok(())

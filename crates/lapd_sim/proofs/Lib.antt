@@ -2,7 +2,6 @@
 pub mod Vocabulary
 pub mod OneByOne
 pub mod GivingUp
-pub mod Terminals
 pub mod Scenes
 pub mod Eachs
 pub mod Ending

@@ -77,14 +77,13 @@ pub obeyed_told : (r : Result Unit WriteFailed) (result : Result Unit LineFault)
 obeyed_told (Ok u) result is a b P Q said s e f told = obeyed (Ok u) result is a b Q said s e told.0 (f told.1)
 obeyed_told (Err w) result is a b P Q said s e f told = obeyed (Err w) result is a b Q said s e told tt
 
-pub obeyed_sent : (r : Result Unit WriteFailed) (result : Result Unit LineFault) → result ≡ written r → (a b : Output) {A : Type 0} (P Q : Setup → Type 0) (said : Result Scene FaultKind) (s : Scene) → said ≡ Ok s
-    → (A → P s.setup → Q s.setup) → OnOk r A → Tells r a b P s → Obeys result a b Q said
-obeyed_sent (Ok u) result is a b P Q said s e f one told = obeyed_told (Ok u) result is a b P Q said s e (f one) told
-obeyed_sent (Err w) result is a b P Q said s e f one told = obeyed (Err w) result is a b Q said s e told tt
-
 pub when_ok : {A B : Type 0} (r : Result Unit WriteFailed) → OnOk r A → (A → B) → OnOk r B
 when_ok (Ok u) one f = f one
 when_ok (Err w) one f = tt
+
+pub on_ok : {E : Type 0} {P : Type 0} (r : Result Unit E) → P → OnOk r P
+on_ok (Ok u) p = p
+on_ok (Err e) p = tt
 
 pub pulls_keep : (n line : ℕ) (p : Pulls) → Keeps p.setup (pulls n line p).setup
 pulls_keep zero line p = (refl, refl, refl)

@@ -33,7 +33,6 @@ pub use Rattle.lapd_script.specs.declared.kind.FaultKind.{FaultKind}
 pub use Rattle.lapd_script.specs.declared.kind.FaultKind.TheVariants.{BadFrame, BadLine, BadNumber, TimeOver, TooLong}
 pub use Rattle.lapd_script.specs.declared.lines.ScriptLines.{ScriptLines}
 pub use Rattle.lapd_sim.specs.Boards.{Leads, OnBoard, as_store, config_of, counters_on, kind_of, reply_of_result}
-pub use Rattle.lapd_sim.specs.Gives.{Gives}
 pub use Rattle.lapd_sim.specs.Obeyed.{Does, Obeys, Said, StartsBy, Tells, said, said_by, said_of, said_with, said_without, scene, written}
 pub use Rattle.lapd_sim.specs.Pages.{PutsNone, PutsSome, Reaches, is_cut}
 pub use Rattle.lapd_sim.specs.Past.{HasPast}
@@ -52,10 +51,8 @@ pub use Rattle.lapd_transcript.specs.Streams.{IsBroken, IsPut, IsSent, IsStuck, 
 pub use Rattle.lapd_transcript.specs.Terminal.{Sends, after_sending, octets_sent, sending, with_frame}
 pub use Rattle.lapd_transcript.specs.declared.streams.WriteFailed.{WriteFailed}
 pub use Rattle.model_bits.specs.Bits.{octets_of}
-pub use Rattle.model_bits.specs.Framer.{Framing, with_idle}
 pub use Rattle.model_bits.specs.Stream.{dropped}
 pub use Rattle.model_bits.specs.Sent.{Item, frame, idle, line_text}
-pub use Rattle.model_bits.specs.StuffingLaws.{AreOctets}
 pub use Rattle.model_line.proofs.Ranges.{ranges_of}
 pub use Rattle.model_line.specs.Came.{came, cause_of}
 pub use Rattle.model_line.specs.Request.{request_of}

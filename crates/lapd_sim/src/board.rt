@@ -1,12 +1,8 @@
 //! The card of an exchange, of either kind.
 
 ghost use Rattle.std.specs.Prelude.{◌≡◌, ◌<◌, get_or, IfOk};
-ghost use Rattle.model_line.specs.Request.{request_of};
+ghost use Rattle.lapd_sim.specs.{request_of, at, told, expiry, reply, held, is_on_line, none_counted, report_told};
 ghost use Rattle.lapd_sim.specs.machine.Board as machine;
-ghost use Rattle.lapd_sim.specs.machine.Board.{at, told, expiry, reply};
-ghost use Rattle.lapd_sim.specs.machine.Steps.{held, is_on_line};
-ghost use Rattle.lapd_count.specs.Counters.{none_counted};
-ghost use Rattle.lapd_line.specs.Reports.{report_told};
 
 use lapd_card::{Card, Config, Counters, FrameCard, Report, Request};
 use lapd_frame::{Refusal, Service, Timer};
@@ -29,8 +25,7 @@ pub(crate) enum Board {
 }
 
 impl Board {
-    ghost use Rattle.lapd_sim.specs.Boards.{kind_of, config_of, line_count, counters_on, OnBoard, Leads, reply_of_result};
-    ghost use Rattle.lapd_sim.specs.Obeyed.{Begins};
+    ghost use Rattle.lapd_sim.specs.{kind_of, config_of, line_count, counters_on, OnBoard, Leads, reply_of_result, Begins};
 
     pub(crate) fn start(alloc: Global, plan: Plan) -> Result<Board, LineFault>
         ensures kind { IfOk result (λ board. kind_of board ≡ plan.kind) }

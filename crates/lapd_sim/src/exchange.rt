@@ -50,8 +50,7 @@ pub(crate) struct Exchange {
 }
 
 impl Exchange {
-    ghost use Rattle.lapd_sim.specs.Obeyed.{scene, Tells, Obeys, Begins};
-    ghost use Rattle.lapd_sim.specs.Stands.{Holds};
+    ghost use Rattle.lapd_sim.specs.{scene, Tells, Obeys, Begins, Holds};
 
     pub(crate) fn start(alloc: Global, plan: Plan) -> Result<Exchange, LineFault>
         ensures plan { IfOk result (λ exchange. exchange.plan ≡ plan) }

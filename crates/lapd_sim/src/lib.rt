@@ -2,16 +2,16 @@
 //! `docs/FORMAT.md` describes both texts.
 //!
 //! - `exchange`: the card that a script is played on, and its clock; `board`: the card, for octets or for frames.
-//! - `setup`: the card with the terminals and listeners of its lines; `parts`, what it begins with; `traffic`, what
-//!   comes from a line and what a line takes; `downs`, a line that goes down.
+//! - `setup`: the card with the terminals and listeners of its lines, which obeys the lines of a script; `parts`, what it
+//!   begins with; `traffic`, what comes from a line and what a line takes.
 //! - `player`: plays a script; `memory`, one that lies in memory.
 //! - `program`: the program's words and exit status.
 //! - `machine`: what a script means, and what holds of whole scripts.
 //!
 //! # Only tested
 //!
-//! That the answer to each line is written before more is read than that line needs; that `play_octets`,
-//! `show_frame` of `lapd_script` and `on_line` of `lapd_transcript` succeed where there is memory.
+//! That the answer to each line is written before more is read than that line needs; that `play_octets` and `show_frame`
+//! of `lapd_script` succeed where there is memory.
 //!
 //! # Open
 //!
@@ -19,7 +19,6 @@
 #![tactic(auto)]
 
 mod board;
-mod downs;
 mod exchange;
 mod machine;
 mod memory;

@@ -1,11 +1,8 @@
 //! What a setup begins with, and what the words of a script ask of it.
 
 ghost use Rattle.std.specs.Prelude.{◌≡◌, [], vec_len, replicate, IfOk};
+ghost use Rattle.lapd_sim.specs.{request_for, Each, Hears, Sends};
 ghost use Rattle.model_line.specs.Request as asking;
-ghost use Rattle.lapd_sim.specs.machine.Steps.{request_for};
-ghost use Rattle.lapd_sim.specs.Stands.{Each};
-ghost use Rattle.lapd_transcript.specs.Listened.{Hears};
-ghost use Rattle.lapd_transcript.specs.Terminal.{Sends};
 
 use lapd_bits::Deframer;
 use lapd_card::Request;

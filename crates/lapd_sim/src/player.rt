@@ -1,17 +1,17 @@
 //! Plays a script on a card.
 
 ghost use Rattle.std.specs.Prelude.{◌≡◌, ◌≤◌, ◌<◌, ℕ, List, [], Some, None, Option, length, vec_len, IfOk, IsTrue};
-ghost use Rattle.lapd_script.specs.Meaning.{meant, IsCounted};
+ghost use Rattle.lapd_script.specs.Meaning.{meant};
 ghost use Rattle.lapd_sim.specs.machine.Setup as machine;
-ghost use Rattle.lapd_sim.specs.machine.Steps.{with_card, without_card};
+ghost use Rattle.lapd_sim.specs.machine.Steps.{without_card};
 ghost use Rattle.lapd_script.specs.Faults.{reads_failed_by, writes_failed_by};
-ghost use Rattle.lapd_sim.specs.Obeyed.{Does, Obeys, StartsBy, said, scene};
+ghost use Rattle.lapd_sim.specs.Obeyed.{Does, StartsBy, said};
 ghost use Rattle.lapd_sim.specs.Pages.{PutsNone, PutsSome, Reaches, is_cut};
 ghost use Rattle.lapd_sim.specs.Plays.{Plays, PlaysOn};
 ghost use Rattle.lapd_script.specs.ScriptLines.{AreLeft};
 ghost use Rattle.lapd_transcript.specs.Pages.{on};
 ghost use Rattle.lapd_transcript.specs.Streams.{Output};
-ghost use Rattle.lapd_sim.specs.Stands.{Has, Stands};
+ghost use Rattle.lapd_sim.specs.Stands.{Has};
 
 use crate::board::Plan;
 use crate::exchange::Obeyed;
@@ -159,7 +159,7 @@ impl Player {
             Err(kind) => return Err(LineFault::Faulty(kind)),
         };
         match &mut self.setup {
-            Some(setup) => with_card(setup, command, self.octets.as_mut_slice(), page),
+            Some(setup) => setup.obey(command, self.octets.as_mut_slice(), page),
             None => {
                 self.setup = without_card(self.alloc, command)?;
                 Ok(())
@@ -176,39 +176,5 @@ fn without_card(alloc: Global, command: Command) -> Result<Option<Setup>, LineFa
         Command::Skip => Ok(None),
         Command::Card(kind, config) => Ok(Some(Setup::start(alloc, Plan { kind, config })?)),
         _ => Err(LineFault::Faulty(FaultKind::NoCard)),
-    }
-}
-
-/// Obeys a line where there is a card. The octets that it brings stand at the beginning of `room`.
-fn with_card<T: Target>(
-    setup: &mut Setup,
-    command: Command,
-    room: &mut [u8],
-    page: &mut Page<T>,
-) -> Obeyed
-    requires counted { IsCounted (length room.old) command }
-    requires room { 4096 ≤ length room.old }
-    ensures { (m : machine.Setup) → Stands setup.old m
-        → Obeys result (on T.taken page.old) (on T.taken page.new) (Stands setup.new) (with_card (meant room.old command) (scene m)) }
-{
-    match command {
-        Command::Skip => Ok(()),
-        Command::Card(_, _) => Err(LineFault::Faulty(FaultKind::SecondCard)),
-        Command::Rx { line, octets } => setup.receive(line, &room[..octets], page),
-        Command::In { line, octets } => setup.come(line, &room[..octets], page),
-        Command::Failed { line, fault } => setup.fail(line, fault, page),
-        Command::Next { line } => setup.take(line, room, page),
-        Command::Down { line } => setup.bring_down(line, room, page),
-        Command::Pull { line, count } => setup.pull(line, count as usize, room, page),
-        Command::Wait { milliseconds } => setup.wait(milliseconds, page),
-        Command::Timers { t200, t203, t201 } => setup.set_timers(t200, t203, t201),
-        Command::Stored => setup.show_stored(page),
-        Command::Counters { line, group } => setup.show_counters(line, group, page),
-        Command::Ask {
-            line,
-            tei,
-            what,
-            octets,
-        } => setup.ask(line, tei, what, &room[..octets], page),
     }
 }

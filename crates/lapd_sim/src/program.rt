@@ -1,16 +1,7 @@
 //! The program's work: what its words ask for, its fault lines and its exit status.
 
 ghost use Rattle.std.specs.Prelude.{◌≡◌, ◌≢◌, ◌≤◌, ◌↔◌, ◌++◌, ℕ, Bool, List, Result, Some, None, decimal, codes};
-ghost use Rattle.lapd_script.specs.Bound.{bound};
-ghost use Rattle.lapd_script.specs.Job.{job, run, frame, limits};
-ghost use Rattle.lapd_script.specs.Words.{texts};
-ghost use Rattle.lapd_script.specs.declared.faults.PlayFault.{PlayFault};
-ghost use Rattle.lapd_script.specs.declared.faults.PlayFault.TheVariants.{Write};
-ghost use Rattle.lapd_script.specs.declared.shown.FrameFault.{FrameFault};
-ghost use Rattle.lapd_script.specs.FaultLines.{frame_line, play_line, IsTold};
-ghost use Rattle.lapd_sim.specs.Plays.{Shows};
-ghost use Rattle.lapd_sim.specs.Serves.{Frames, Runs};
-ghost use Rattle.lapd_script.specs.Shown.{side_of};
+ghost use Rattle.lapd_sim.specs.{bound, job, run, frame, limits, texts, PlayFault, Write, FrameFault, frame_line, play_line, IsTold, Shows, Frames, Runs, side_of};
 
 use crate::player::play;
 use lapd_frame::Side;

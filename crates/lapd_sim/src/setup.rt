@@ -2,21 +2,18 @@
 
 ghost use Rattle.std.specs.Prelude.{◌≡◌, ◌≢◌, ◌<◌, ◌≤◌, length, vec_len, MatchResult};
 ghost use Rattle.lapd_script.specs.Meaning as meaning;
-ghost use Rattle.lapd_script.specs.declared.command.CardKind.TheVariants.{Octets, Frames};
 ghost use Rattle.lapd_script.specs.declared.kind.FaultKind.TheVariants.{BadLine, WrongCard};
 ghost use Rattle.lapd_sim.specs.machine.Setup as machine;
 ghost use Rattle.lapd_sim.specs.machine.Steps.{with_card};
 ghost use Rattle.lapd_transcript.specs.Pages.{on};
-ghost use Rattle.lapd_transcript.specs.Streams.{Output};
 
 use crate::board::Plan;
-use crate::downs::{bring_down, teis_on};
 use crate::exchange::{Exchange, Obeyed};
 use crate::parts::{listeners, request_for, terminals};
-use crate::traffic::{pull, receive, send, tell_next, written};
+use crate::traffic::{bring_down, pull, receive, teis_on, tell_next, written};
 use lapd_bits::Deframer;
 use lapd_card::Fault;
-use lapd_script::{Asked, CardKind, FaultKind, LineFault};
+use lapd_script::{Asked, CardKind, Command, FaultKind, LineFault};
 use lapd_transcript::{CounterGroup, LONGEST_FRAME, Page, SHORTEST_FRAME, Target, Terminal};
 use std::alloc::Global;
 
@@ -47,6 +44,40 @@ impl Setup {
         })
     }
 
+    /// Obeys a line of a script. The octets that it brings stand at the beginning of `room`.
+    pub(crate) fn obey<T: Target>(
+        &mut self,
+        command: Command,
+        room: &mut [u8],
+        page: &mut Page<T>,
+    ) -> Obeyed
+        requires counted { meaning.IsCounted (length room.old) command }
+        requires room { 4096 ≤ length room.old }
+        ensures { (m : machine.Setup) → Stands self.old m
+            → Obeys result (on T.taken page.old) (on T.taken page.new) (Stands self.new) (with_card (meaning.meant room.old command) (scene m)) }
+    {
+        match command {
+            Command::Skip => Ok(()),
+            Command::Card(_, _) => Err(LineFault::Faulty(FaultKind::SecondCard)),
+            Command::Rx { line, octets } => self.receive(line, &room[..octets], page),
+            Command::In { line, octets } => self.come(line, &room[..octets], page),
+            Command::Failed { line, fault } => self.fail(line, fault, page),
+            Command::Next { line } => self.take(line, room, page),
+            Command::Down { line } => self.bring_down(line, room, page),
+            Command::Pull { line, count } => self.pull(line, count as usize, room, page),
+            Command::Wait { milliseconds } => self.exchange.wait(milliseconds, page),
+            Command::Timers { t200, t203, t201 } => self.exchange.set_timers(t200, t203, t201),
+            Command::Stored => written(self.exchange.show_stored(page)),
+            Command::Counters { line, group } => self.show_counters(line, group, page),
+            Command::Ask {
+                line,
+                tei,
+                what,
+                octets,
+            } => self.ask(line, tei, what, &room[..octets], page),
+        }
+    }
+
     /// Tests that the card is of this kind.
     fn for_kind(&self, kind: CardKind) -> Result<(), FaultKind>
         ensures { MatchResult result (λ _. self.now.exchange.plan.kind ≡ kind)
@@ -73,12 +104,7 @@ impl Setup {
     }
 
     /// Octets come from a line.
-    pub(crate) fn receive<T: Target>(
-        &mut self,
-        line: u16,
-        octets: &[u8],
-        page: &mut Page<T>,
-    ) -> Obeyed
+    fn receive<T: Target>(&mut self, line: u16, octets: &[u8], page: &mut Page<T>) -> Obeyed
         ensures { (m : machine.Setup) → Stands self.old m
             → Obeys result (on T.taken page.old) (on T.taken page.new) (Stands self.new) (with_card (meaning.rx line octets.now) (scene m)) }
     {
@@ -89,27 +115,25 @@ impl Setup {
 
     /// A frame comes from a line. At a card for octets the terminal of the line sends it, up to and with the last bit of its
     /// closing flag.
-    pub(crate) fn come<T: Target>(&mut self, line: u16, frame: &[u8], page: &mut Page<T>) -> Obeyed
-        ensures { (m : machine.Setup) → Stands self.old m
-            → Obeys result (on T.taken page.old) (on T.taken page.new) (Stands self.new) (with_card (meaning.into line frame.now) (scene m)) }
-    {
-        match self.exchange.kind() {
-            CardKind::Octets => self.send(line, frame, page),
-            CardKind::Frames => self.frame(line, frame, page),
-        }
-    }
-
-    fn frame<T: Target>(&mut self, line: u16, frame: &[u8], page: &mut Page<T>) -> Obeyed
-        requires { self.old.exchange.plan.kind ≡ Frames }
+    fn come<T: Target>(&mut self, line: u16, frame: &[u8], page: &mut Page<T>) -> Obeyed
         ensures { (m : machine.Setup) → Stands self.old m
             → Obeys result (on T.taken page.old) (on T.taken page.new) (Stands self.new) (with_card (meaning.into line frame.now) (scene m)) }
     {
         let line = self.line(line)?;
-        written(self.exchange.frame(line, frame, page))
+        match self.exchange.kind() {
+            CardKind::Frames => written(self.exchange.frame(line, frame, page)),
+            CardKind::Octets => {
+                if frame.len() < SHORTEST_FRAME || frame.len() > LONGEST_FRAME {
+                    return Err(LineFault::Faulty(FaultKind::BadFrame));
+                }
+                let octets = self.terminals[line].send(frame);
+                written(receive(&mut self.exchange, line, octets.as_slice(), page))
+            }
+        }
     }
 
     /// The controller of a line tells a fault in place of a frame.
-    pub(crate) fn fail<T: Target>(&mut self, line: u16, fault: Fault, page: &mut Page<T>) -> Obeyed
+    fn fail<T: Target>(&mut self, line: u16, fault: Fault, page: &mut Page<T>) -> Obeyed
         ensures { (m : machine.Setup) → Stands self.old m
             → Obeys result (on T.taken page.old) (on T.taken page.new) (Stands self.new) (with_card (meaning.failed line fault) (scene m)) }
     {
@@ -119,12 +143,7 @@ impl Setup {
     }
 
     /// A line takes the next frame, which is put into the beginning of `room`.
-    pub(crate) fn take<T: Target>(
-        &mut self,
-        line: u16,
-        room: &mut [u8],
-        page: &mut Page<T>,
-    ) -> Obeyed
+    fn take<T: Target>(&mut self, line: u16, room: &mut [u8], page: &mut Page<T>) -> Obeyed
         requires { 264 ≤ length room.old }
         ensures { (m : machine.Setup) → Stands self.old m
             → Obeys result (on T.taken page.old) (on T.taken page.new) (Stands self.new) (with_card (meaning.next line) (scene m)) }
@@ -137,12 +156,7 @@ impl Setup {
 
     /// A line is down: its links are given up, and all that waits on it. The TEIs that are on it are put into the beginning of
     /// `room` meanwhile.
-    pub(crate) fn bring_down<T: Target>(
-        &mut self,
-        line: u16,
-        room: &mut [u8],
-        page: &mut Page<T>,
-    ) -> Obeyed
+    fn bring_down<T: Target>(&mut self, line: u16, room: &mut [u8], page: &mut Page<T>) -> Obeyed
         requires { 127 ≤ length room.old }
         ensures { (m : machine.Setup) → Stands self.old m
             → Obeys result (on T.taken page.old) (on T.taken page.new) (Stands self.new) (with_card (meaning.down line) (scene m)) }
@@ -153,21 +167,8 @@ impl Setup {
         written(bring_down(&mut self.exchange, line, teis, page))
     }
 
-    fn send<T: Target>(&mut self, line: u16, frame: &[u8], page: &mut Page<T>) -> Obeyed
-        requires { self.old.exchange.plan.kind ≡ Octets }
-        ensures { (m : machine.Setup) → Stands self.old m
-            → Obeys result (on T.taken page.old) (on T.taken page.new) (Stands self.new) (with_card (meaning.into line frame.now) (scene m)) }
-    {
-        let line = self.line(line)?;
-        if frame.len() < SHORTEST_FRAME || frame.len() > LONGEST_FRAME {
-            return Err(LineFault::Faulty(FaultKind::BadFrame));
-        }
-        let terminal = &mut self.terminals[line];
-        written(send(terminal, frame, &mut self.exchange, line, page))
-    }
-
     /// A line takes so many octets, which are put into the beginning of `room`.
-    pub(crate) fn pull<T: Target>(
+    fn pull<T: Target>(
         &mut self,
         line: u16,
         count: usize,
@@ -186,7 +187,7 @@ impl Setup {
     }
 
     /// Layer 3 asks for something, with the octets that it carries.
-    pub(crate) fn ask<T: Target>(
+    fn ask<T: Target>(
         &mut self,
         line: u16,
         tei: u8,
@@ -202,32 +203,8 @@ impl Setup {
         written(self.exchange.ask(line, request, page))
     }
 
-    /// So many milliseconds pass.
-    pub(crate) fn wait<T: Target>(&mut self, milliseconds: u32, page: &mut Page<T>) -> Obeyed
-        ensures { (m : machine.Setup) → Stands self.old m
-            → Obeys result (on T.taken page.old) (on T.taken page.new) (Stands self.new) (with_card (meaning.wait milliseconds) (scene m)) }
-    {
-        self.exchange.wait(milliseconds, page)
-    }
-
-    /// Timers run so long that are started from now on.
-    pub(crate) fn set_timers(&mut self, t200: u32, t203: u32, t201: u32) -> Obeyed
-        ensures { (m : machine.Setup) (before : Output) → Stands self.old m
-            → Obeys result before before (Stands self.new) (with_card (meaning.timers t200 t203 t201) (scene m)) }
-    {
-        self.exchange.set_timers(t200, t203, t201)
-    }
-
-    /// Shows what the card holds.
-    pub(crate) fn show_stored<T: Target>(&mut self, page: &mut Page<T>) -> Obeyed
-        ensures { (m : machine.Setup) → Stands self.old m
-            → Obeys result (on T.taken page.old) (on T.taken page.new) (Stands self.new) (with_card meaning.stored (scene m)) }
-    {
-        written(self.exchange.show_stored(page))
-    }
-
     /// Shows what was counted of a line.
-    pub(crate) fn show_counters<T: Target>(
+    fn show_counters<T: Target>(
         &mut self,
         line: u16,
         group: CounterGroup,

@@ -1,26 +1,18 @@
-//! What comes from a line, and what a line takes.
+//! What comes from a line, and what a line takes; a line that goes down.
 
-ghost use Rattle.std.specs.Prelude.{◌≡◌, ◌<◌, ◌≤◌, ℕ, List, [], length, OnOk};
-ghost use Rattle.model_bits.specs.Framer as framing;
-ghost use Rattle.model_bits.specs.Sent.{Item};
-ghost use Rattle.lapd_transcript.specs.Pages.{on};
-ghost use Rattle.lapd_transcript.specs.Streams.{Puts};
-ghost use Rattle.lapd_transcript.specs.Terminal as sending;
-ghost use Rattle.lapd_transcript.specs.Terminal.{Sends};
-ghost use Rattle.lapd_script.specs.declared.command.CardKind.TheVariants.{Octets};
+ghost use Rattle.std.specs.Prelude.{◌≡◌, ◌<◌, ◌≤◌, [], length, take};
+ghost use Rattle.lapd_sim.specs.{on, Puts, Octets, gave_in, reply_of_frames, after_rx, deactivations, downs, pulls, reply_text, teis_on, with_events, scene, written, Tells, Holds};
 ghost use Rattle.lapd_sim.specs.machine.Setup as machine;
 ghost use Rattle.lapd_line.specs.Reports as reports;
-ghost use Rattle.lapd_line.specs.Reports.{gave_in};
-ghost use Rattle.lapd_sim.specs.machine.Board.{reply_of_frames};
-ghost use Rattle.lapd_sim.specs.machine.Steps.{after_rx, pulls, reply_text};
-ghost use Rattle.lapd_sim.specs.Gives.{Gives};
-ghost use Rattle.lapd_sim.specs.Obeyed.{scene, written, Tells};
-ghost use Rattle.lapd_sim.specs.Stands.{Holds};
 
 use crate::exchange::{Exchange, Obeyed};
-use lapd_card::NextFrame;
+use lapd_card::{NextFrame, Request};
+use lapd_frame::Service;
 use lapd_script::LineFault;
-use lapd_transcript::{Page, Put, Target, Terminal, WriteFailed};
+use lapd_transcript::{Page, Put, Target, WriteFailed};
+
+/// How many TEIs of terminals there are (Q.921 clause 3.3.4).
+const TEIS: u8 = 127;
 
 /// Octets come from a line.
 pub(crate) fn receive<T: Target>(
@@ -37,60 +29,6 @@ pub(crate) fn receive<T: Target>(
 {
     for octet in octets {
         if let Err(WriteFailed) = exchange.octet(line, *octet, page) {
-            return Err(WriteFailed);
-        }
-    }
-    Ok(())
-}
-
-/// The terminal of a line sends a frame, up to and with the last bit of its closing flag.
-pub(crate) fn send<T: Target>(
-    terminal: &mut Terminal,
-    frame: &[u8],
-    exchange: &mut Exchange,
-    line: usize,
-    page: &mut Page<T>,
-) -> Put
-    requires kind { exchange.old.plan.kind ≡ Octets }
-    requires line { line < exchange.old.plan.config.lines }
-    requires short { 3 ≤ length frame.now }
-    requires long { length frame.now ≤ 1028 }
-    ensures plan { exchange.new.plan ≡ exchange.old.plan }
-    ensures told { (m : machine.Setup) (t : sending.Terminal) → Holds exchange.old m → Sends terminal.old t
-        → Tells result (on T.taken page.old) (on T.taken page.new) (Holds exchange.new) (after_rx line (sending.octets_sent frame.now t) (scene m)) }
-    ensures after { OnOk result ((t : sending.Terminal) → Sends terminal.old t → Sends terminal.new (sending.after_sending frame.now t)) }
-{
-    if let Err(WriteFailed) = give(terminal, exchange, line, page) {
-        return Err(WriteFailed);
-    }
-    terminal.load(frame);
-    if let Err(WriteFailed) = give(terminal, exchange, line, page) {
-        return Err(WriteFailed);
-    }
-    if terminal.has_rest() {
-        let octet = terminal.octet();
-        return exchange.octet(line, octet, page);
-    }
-    Ok(())
-}
-
-/// What a terminal has to send, except for the last bits that are no whole octet, comes from its line.
-fn give<T: Target>(
-    terminal: &mut Terminal,
-    exchange: &mut Exchange,
-    line: usize,
-    page: &mut Page<T>,
-) -> Put
-    requires kind { exchange.old.plan.kind ≡ Octets }
-    requires line { line < exchange.old.plan.config.lines }
-    ensures plan { exchange.new.plan ≡ exchange.old.plan }
-    ensures rest { OnOk result (length terminal.new.framer.left < 8) }
-    ensures told { (items : List Item) (given : List ℕ) → framing.Stands terminal.old.framer items given
-        → Gives result (on T.taken page.old) (on T.taken page.new) (Holds exchange.old) (Holds exchange.new) line items given terminal.new.framer }
-{
-    while terminal.is_busy() {
-        let octet = terminal.octet();
-        if let Err(WriteFailed) = exchange.octet(line, octet, page) {
             return Err(WriteFailed);
         }
     }
@@ -127,6 +65,58 @@ pub(crate) fn tell_next<T: Target>(
         Some(next) => page.put_frame(line as u16, &room[..next.length]),
         None => page.put_nothing(line as u16),
     }
+}
+
+/// The TEIs that are on a line, in order: they are put into the beginning of `room`. How many they are.
+pub(crate) fn teis_on(exchange: &Exchange, line: usize, room: &mut [u8]) -> usize
+    requires { 127 ≤ length room.old }
+    ensures size { length room.new ≡ length room.old }
+    ensures few { result ≤ 127 }
+    ensures teis { (m : machine.Setup) → Holds exchange.now m → take result room.new ≡ teis_on line m.board }
+{
+    let mut count = 0;
+    for tei in 0..TEIS {
+        if exchange.has_tei(line, tei) {
+            room[count] = tei;
+            count += 1;
+        }
+    }
+    count
+}
+
+/// The line is down: the links of its TEIs, which these are, are given up, and then what waits and is of no link.
+pub(crate) fn bring_down<T: Target>(
+    exchange: &mut Exchange,
+    line: usize,
+    teis: &[u8],
+    page: &mut Page<T>,
+) -> Put
+    requires line { line < exchange.old.plan.config.lines }
+    ensures plan { exchange.new.plan ≡ exchange.old.plan }
+    ensures told { (m : machine.Setup) → Holds exchange.old m
+        → Tells result (on T.taken page.old) (on T.taken page.new) (Holds exchange.new) (with_events (downs line teis.now) (scene m)) }
+{
+    for tei in teis {
+        if let Err(WriteFailed) = give_up(exchange, line, *tei, page) {
+            return Err(WriteFailed);
+        }
+    }
+    exchange.ask(line, Request::Down, page)
+}
+
+/// Both links of a TEI are given up.
+fn give_up<T: Target>(exchange: &mut Exchange, line: usize, tei: u8, page: &mut Page<T>) -> Put
+    requires line { line < exchange.old.plan.config.lines }
+    ensures plan { exchange.new.plan ≡ exchange.old.plan }
+    ensures told { (m : machine.Setup) → Holds exchange.old m
+        → Tells result (on T.taken page.old) (on T.taken page.new) (Holds exchange.new) (with_events (deactivations line tei) (scene m)) }
+{
+    let call = Request::Deactivate(Service::Call, tei);
+    if let Err(WriteFailed) = exchange.ask(line, call, page) {
+        return Err(WriteFailed);
+    }
+    let packet = Request::Deactivate(Service::Packet, tei);
+    exchange.ask(line, packet, page)
 }
 
 /// What a line comes to at which only a write can fail.

@@ -5,7 +5,5 @@ pub mod Digits
 pub mod Numerals
 pub mod Pieces
 pub mod CounterNames
-pub mod Left
 pub mod Sending
-pub mod OneFrame
 pub mod Listeners

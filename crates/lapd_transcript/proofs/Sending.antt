@@ -1,7 +1,8 @@
 -- What a terminal has put on its line, up to the octets of a frame that it sends.
-use Rattle.lapd_transcript.proofs.Vocabulary.{◌≡◌, ℕ, zero, suc, ◌+◌, ◌*◌, ◌%◌, ◌==◌, ◌<◌, Bool, true, false, if◌then◌else◌, List, [], ◌∷◌, ◌++◌, length, drop, refl, ap, sym, ◌∙◌, subst, arith, append_assoc, length-append, lt-ltb, ne_eqb, false≢true, append-nil, drop_at, All-head, All-tail, bits, flag, low_bits, octets_of, Framing, with_idle, Item, idle, frame, item_text, line_text, AreOctets, bits-append, length-bits, number_of-low_bits, line_text-push, with_frame, sending}
+use Rattle.lapd_transcript.proofs.Vocabulary.{◌≡◌, ℕ, zero, suc, ◌+◌, ◌*◌, ◌%◌, ◌==◌, ◌<◌, ◌≤◌, Bool, true, if◌then◌else◌, List, [], ◌∷◌, ◌++◌, length, drop, refl, ap, sym, ◌∙◌, subst, arith, append_assoc, length-append, le-ltb, lt-ltb, ne_eqb, append-nil, drop_at, All-append, All-head, All-tail, bits, flag, low_bits, octets_of, check, stuffed, Framing, refilled, with_idle, Item, idle, frame, item_text, line_text, AreOctets, bits-append, length-bits, length-low_bits, length-check, number_of-low_bits, HasPut, Sends, with_frame, sending}
 use Rattle.model_bits.specs.Framer as framing
-use Rattle.lapd_transcript.specs.Terminal.{Terminal}
+use Rattle.lapd_transcript.specs.Terminal.{Terminal, octets_sent, after_sending}
+use Rattle.lapd_transcript.specs.declared.terminal.Terminal as rust
 
 -- ---- octets of bits
 
@@ -14,12 +15,12 @@ octets_of-bits_then (octet ∷ octets) more h =
     ∙ ap (λ l. octet ∷ l) (octets_of-bits_then octets more (All-tail (λ x. x < 256) octet octets h))
 
 -- fewer than eight bits
-pub octets_of-few : (few : List Bool) → length few < 8 → octets_of few ≡ []
+octets_of-few : (few : List Bool) → length few < 8 → octets_of few ≡ []
 octets_of-few (a ∷ b ∷ c ∷ d ∷ e ∷ f ∷ g ∷ i ∷ more) h = absurd (omega arith)
 octets_of-few _ h = refl
 
 -- what is left of a line's octets after those that were given before
-pub octets_since : (framer : Framing) (items : List Item) (given octets : List ℕ) (tail : List Bool) → AreOctets octets → framing.Stands framer items (given ++ octets)
+octets_since : (framer : Framing) (items : List Item) (given octets : List ℕ) (tail : List Bool) → AreOctets octets → framing.Stands framer items (given ++ octets)
     → octets_of (drop (8 * length given) (line_text items ++ tail)) ≡ octets ++ octets_of (framer.left ++ tail)
 octets_since framer items given octets tail are_octets s =
     let text : line_text items ++ tail ≡ bits given ++ (bits octets ++ (framer.left ++ tail)) =
@@ -32,34 +33,17 @@ octets_since framer items given octets tail are_octets s =
 
 -- ---- the items of a terminal that sends a frame
 
-whole_tail : (whole : Bool) (items : List Item) → (tail : List Bool) × (line_text (if whole then items else items ++ idle ∷ []) ≡ line_text items ++ tail)
-whole_tail true items = ([], sym (append-nil (line_text items)))
-whole_tail false items = (flag, line_text-push items idle)
-
--- they begin with the frame, and with those before it
-pub frame_tail : (octets : List ℕ) (t : Terminal) → (tail : List Bool) × (line_text (sending octets t) ≡ line_text (with_frame octets t.items) ++ tail)
-frame_tail octets t = whole_tail (length (line_text (with_frame octets t.items)) % 8 == 0) (with_frame octets t.items)
-
-pub items_tail : (octets : List ℕ) (t : Terminal) → (tail : List Bool) × (line_text (sending octets t) ≡ line_text t.items ++ tail)
-items_tail octets t =
-    let tail = frame_tail octets t in (
-      item_text (frame octets) ++ tail.0,
-      tail.1
-          ∙ ap (λ l. l ++ tail.0) (line_text-push t.items (frame octets))
-          ∙ append_assoc (line_text t.items) (item_text (frame octets)) tail.0,
-    )
-
 -- how many bits are left tells whether the last octet is whole
-pub length-text : (framer : Framing) (items : List Item) (given : List ℕ) → framing.Stands framer items given → length (line_text items) ≡ 8 * length given + length framer.left
+length-text : (framer : Framing) (items : List Item) (given : List ℕ) → framing.Stands framer items given → length (line_text items) ≡ 8 * length given + length framer.left
 length-text framer items given s = ap length s.text ∙ length-append (bits given) framer.left ∙ ap (λ n. n + length framer.left) (length-bits given)
 
-pub whole_where : (framer : Framing) (octets : List ℕ) (t : Terminal) (given : List ℕ) → framing.Stands framer (with_frame octets t.items) given → length framer.left ≡ 0 → with_frame octets t.items ≡ sending octets t
+whole_where : (framer : Framing) (octets : List ℕ) (t : Terminal) (given : List ℕ) → framing.Stands framer (with_frame octets t.items) given → length framer.left ≡ 0 → with_frame octets t.items ≡ sending octets t
 whole_where framer octets t given s none =
     let items = with_frame octets t.items in
     let whole : length (line_text items) % 8 ≡ 0 = omega (arith, length-text framer items given s, none) in
     sym (ap (λ n. if n == 0 then items else items ++ idle ∷ []) whole)
 
-pub rest_where : (framer : Framing) (octets : List ℕ) (t : Terminal) (given : List ℕ) → framing.Stands framer (with_frame octets t.items) given → 0 < length framer.left → length framer.left < 8
+rest_where : (framer : Framing) (octets : List ℕ) (t : Terminal) (given : List ℕ) → framing.Stands framer (with_frame octets t.items) given → 0 < length framer.left → length framer.left < 8
     → with_idle framer.left (with_frame octets t.items) ≡ sending octets t
 rest_where framer octets t given s some few =
     let items = with_frame octets t.items in
@@ -68,16 +52,111 @@ rest_where framer octets t given s some few =
     ap (λ b. if b then items ++ idle ∷ [] else items) (lt-ltb (length framer.left) 8 few)
     ∙ sym (ap (λ b. if b then items else items ++ idle ∷ []) (ne_eqb (length (line_text items) % 8) 0 rest))
 
--- after an idle flag as many bits are left as before it
-pub rest_stays : (old new : Framing) (octet : ℕ) (items : List Item) (given : List ℕ) → framing.Stands old items given → length old.left < 8 → framing.Stands new (with_idle old.left items) (given ++ octet ∷ []) → length new.left < 8
-rest_stays old new octet items given s few after =
-    let with_flag : framing.Stands new (items ++ idle ∷ []) (given ++ octet ∷ []) =
-    subst (λ b. framing.Stands new (if b then items ++ idle ∷ [] else items) (given ++ octet ∷ [])) (lt-ltb (length old.left) 8 few) after in
-    let pushed : length (line_text (items ++ idle ∷ [])) ≡ length (line_text items) + 8 =
-    ap length (line_text-push items idle) ∙ length-append (line_text items) flag in
-    omega (arith, length-text old items given s, length-text new (items ++ idle ∷ []) (given ++ octet ∷ []) with_flag, length-append given (octet ∷ []), pushed)
+-- ---- how long it is
 
--- after a whole octet nothing is left
-pub none_left : (rest : Bool) (n : ℕ) → rest ≡ false → (0 < n → rest ≡ true) → n ≡ 0
-none_left rest zero e h = refl
-none_left rest (suc n) e h = absurd (false≢true (sym e ∙ h (omega arith)))
+-- a text grows by a fifth at most
+length-stuffed_most : (b : List Bool) → 5 * length (stuffed b) ≤ 6 * length b
+length-stuffed_most [] = omega arith
+length-stuffed_most (true ∷ true ∷ true ∷ true ∷ true ∷ b) = omega (arith, length-stuffed_most b)
+length-stuffed_most (x ∷ b) = omega (arith, length-stuffed_most b)
+
+frame_fits : (octets : List ℕ) → length octets ≤ 1028 → length (item_text (frame octets)) ≤ 9896
+frame_fits octets few =
+    let text = bits octets ++ check (bits octets) in
+    let size : length text ≡ 8 * length octets + 16 = length-append (bits octets) (check (bits octets)) ∙ ap (λ n. n + length (check (bits octets))) (length-bits octets) ∙ ap (λ n. 8 * length octets + n) (length-check (bits octets)) in
+    omega (arith, size, length-append (stuffed text) flag, length-stuffed_most text)
+
+-- an octet takes eight of the bits that are left
+pub octet_takes : (left new : List Bool) (octet : ℕ) → low_bits 8 octet ++ new ≡ refilled left → 8 ≤ length left → 8 + length new ≡ length left
+octet_takes left new octet is enough =
+    let taken : low_bits 8 octet ++ new ≡ left = rw (le-ltb (length left) 8 enough) at is in
+    omega (arith, ap length taken, length-append (low_bits 8 octet) new, length-low_bits 8 octet)
+
+-- and where none is left, an idle flag goes on first
+pub rest_stays : (left new : List Bool) (octet : ℕ) → low_bits 8 octet ++ new ≡ refilled left → length left < 8 → length new ≡ length left
+rest_stays left new octet is few =
+    let taken : low_bits 8 octet ++ new ≡ left ++ flag = rw (lt-ltb (length left) 8 few) at is in
+    omega (arith, ap length taken, length-append (low_bits 8 octet) new, length-low_bits 8 octet, length-append left flag)
+
+-- a frame that is loaded
+pub loaded_fits : (left new : List Bool) (sent octets : List ℕ) → new ≡ left ++ item_text (frame sent) → sent ≡ octets → length octets ≤ 1028 → length new ≤ length left + 9896
+loaded_fits left new sent octets is same few =
+    omega (arith, ap length is, length-append left (item_text (frame sent)), ap (λ l. length (item_text (frame l))) same, frame_fits octets few)
+
+-- ---- what is put
+
+with_one : (octets : List ℕ) (octet : ℕ) → AreOctets octets → octet < 256 → AreOctets (octets ++ octet ∷ [])
+with_one octets octet are small = All-append (λ x. x < 256) octets (octet ∷ []) are one
+  where
+    one : AreOctets (octet ∷ [])
+    one zero d k = small
+    one (suc n) d k = absurd (omega arith)
+
+-- nothing yet
+pub nothing_put : (framer : Framing) (items : List Item) (given : List ℕ) → framing.Stands framer items given → HasPut framer given [] items
+nothing_put framer items given s = record {
+  are_octets = λ k d h. absurd (omega arith);
+  stands = subst (λ l. framing.Stands framer items l) (sym (append-nil given)) s;
+}
+
+-- How an octet leads a framer on.
+abbrev pub Steps : Framing → Framing → ℕ → Type 0
+Steps old new octet = (items : List Item) (given : List ℕ) → framing.Stands old items given → framing.Stands new (with_idle old.left items) (given ++ octet ∷ [])
+
+-- one octet of a framer that is busy
+pub put_more : (old new : Framing) (before octets : List ℕ) (octet : ℕ) (items : List Item) → octet < 256 → 8 ≤ length old.left → Steps old new octet
+    → HasPut old before octets items → HasPut new before (octets ++ octet ∷ []) items
+put_more old new before octets octet items small busy steps put = record {
+  are_octets = with_one octets octet put.are_octets small;
+  stands = subst (λ l. framing.Stands new items l) (append_assoc before octets (octet ∷ []))
+      (subst (λ b. framing.Stands new (if b then items ++ idle ∷ [] else items) ((before ++ octets) ++ octet ∷ [])) (le-ltb (length old.left) 8 busy) (steps items (before ++ octets) put.stands));
+}
+
+-- a frame that is loaded
+pub loaded_put : (old loaded : Framing) (before octets sent given : List ℕ) (items : List Item) → sent ≡ given
+    → ((items : List Item) (given : List ℕ) → framing.Stands old items given → framing.Stands loaded (items ++ frame sent ∷ []) given)
+    → HasPut old before octets items → HasPut loaded before octets (items ++ frame given ∷ [])
+loaded_put old loaded before octets sent given items is loads put = record {
+  are_octets = put.are_octets;
+  stands = subst (λ l. framing.Stands loaded (items ++ frame l ∷ []) (before ++ octets)) is (loads items (before ++ octets) put.stands);
+}
+
+-- no bit is left after the closing flag
+pub whole_put : (framer : Framing) (sent : List ℕ) (t : Terminal) (before octets : List ℕ) → length framer.left ≡ 0 → HasPut framer before octets (with_frame sent t.items) → HasPut framer before octets (sending sent t)
+whole_put framer sent t before octets none put =
+    subst (λ items. HasPut framer before octets items) (whole_where framer sent t (before ++ octets) put.stands none) put
+
+-- some are, and then an idle flag begins
+pub rest_put : (old new : Framing) (sent : List ℕ) (t : Terminal) (before octets : List ℕ) (octet : ℕ) → octet < 256 → 0 < length old.left → length old.left < 8 → Steps old new octet
+    → HasPut old before octets (with_frame sent t.items) → HasPut new before (octets ++ octet ∷ []) (sending sent t)
+rest_put old new sent t before octets octet small some few steps put = record {
+  are_octets = with_one octets octet put.are_octets small;
+  stands = subst (λ l. framing.Stands new (sending sent t) l) (append_assoc before octets (octet ∷ []))
+      (subst (λ items. framing.Stands new items ((before ++ octets) ++ octet ∷ [])) (rest_where old sent t (before ++ octets) put.stands some few)
+      (steps (with_frame sent t.items) (before ++ octets) put.stands));
+}
+
+-- where no whole octet is left, that is what is sent
+sent_is : (framer : Framing) (sent : List ℕ) (t : Terminal) (before octets : List ℕ) → length before ≡ t.given → length framer.left < 8
+    → HasPut framer before octets (sending sent t) → octets ≡ octets_sent sent t
+sent_is framer sent t before octets many few put =
+    let items = sending sent t in
+    let none : octets_of (framer.left ++ []) ≡ [] = ap octets_of (append-nil framer.left) ∙ octets_of-few framer.left few in
+    sym
+    (ap (λ n. octets_of (drop (8 * n) (line_text items))) (sym many)
+    ∙ ap (λ l. octets_of (drop (8 * length before) l)) (sym (append-nil (line_text items)))
+    ∙ octets_since framer items before octets [] put.are_octets put.stands
+    ∙ ap (λ l. octets ++ l) none
+    ∙ append-nil octets)
+
+pub sent : (terminal : rust.Terminal) (octets : List ℕ) (t : Terminal) (before line : List ℕ) → length before ≡ t.given → length terminal.framer.left < 8
+    → HasPut terminal.framer before line (sending octets t) → (line ≡ octets_sent octets t) × Sends terminal (after_sending octets t)
+sent terminal octets t before line many few put =
+    let is = sent_is terminal.framer octets t before line many few put in (
+      is,
+      record {
+        octets = before ++ line;
+        stands = put.stands;
+        given = length-append before line ∙ ap (λ n. n + length line) many ∙ ap (λ l. t.given + length l) is;
+      },
+    )

@@ -22,17 +22,15 @@ pub use Rattle.lapd_seq.specs.declared.numbers.Seq.{Seq}
 pub use Rattle.lapd_transcript.specs.CounterNames.{row, row_text, value_text, with_name}
 pub use Rattle.lapd_transcript.specs.Counted.{counter_text, group_name, is_zero, names_of, own_name}
 pub use Rattle.lapd_transcript.specs.Listened.{Hears, found, frame_in}
-pub use Rattle.lapd_transcript.specs.OnLine.{HasPut, on_line}
 pub use Rattle.lapd_transcript.specs.Pages.{on}
+pub use Rattle.lapd_transcript.specs.Put.{HasPut}
 pub use Rattle.lapd_transcript.specs.Shown.{fields, number_text, shown_text}
 pub use Rattle.lapd_transcript.specs.Streams.{IsBroken, IsPut, IsStuck, IsWritten, Output, Puts, Taken, Writes, joined, one_failure_more}
 pub use Rattle.lapd_transcript.specs.Terminal.{Sends, sending, with_frame}
 pub use Rattle.lapd_transcript.specs.Text.{dropped_text, frame_text, lost_text, note_text, nothing_text, octets_text, sent_text}
 pub use Rattle.lapd_transcript.specs.declared.streams.WriteFailed.{WriteFailed}
-pub use Rattle.lapd_transcript.specs.declared.terminal.Terminal.{Terminal}
 pub use Rattle.model_bits.proofs.BitLemmas.{bits-append, length-bits, length-low_bits, number_of-low_bits}
 pub use Rattle.model_bits.proofs.Division.Unique.{length-check}
-pub use Rattle.model_bits.proofs.Items.{line_text-push}
 pub use Rattle.model_bits.proofs.OneEvent.{one_event_an_octet}
 pub use Rattle.model_bits.specs.Bits.{bits, flag, octets_of}
 unfoldable pub use Rattle.model_bits.specs.Bits.{low_bits}

@@ -9,5 +9,17 @@ pub mod Counted
 pub mod CounterNames
 pub mod WorkedCounted
 pub mod Terminal
+pub mod Put
 pub mod OnLine
 pub mod Listened
+-- the words of the contracts, from where they are defined
+pub use Rattle.hex.specs.Hex.{encode_upper}
+pub use Rattle.lapd_frame.specs.Grammar.{parts_of}
+pub use Rattle.lapd_frame.specs.Services.{letter_of}
+pub use Rattle.lapd_transcript.specs.Counted.{counters_text, is_zero, names_of}
+pub use Rattle.lapd_transcript.specs.CounterNames.{row, row_text, value_text, with_name}
+pub use Rattle.lapd_transcript.specs.Listened.{Hears, found, pulled_text}
+pub use Rattle.lapd_transcript.specs.Pages.{on}
+pub use Rattle.lapd_transcript.specs.Shown.{fields, number_text, on_line_text, shown_text}
+pub use Rattle.lapd_transcript.specs.Streams.{IsSent, Output, Puts, Writes, joined}
+pub use Rattle.lapd_transcript.specs.Text.{dropped_text, faulty_text, frame_text, line_text, link_words, lost_text, note_text, nothing_text, octets_text, refused_text, report_text, sent_text, stored_text, tei_words}

@@ -2,10 +2,7 @@
 
 ghost use Rattle.std.specs.Prelude.{◌≡◌, flat_map, map};
 ghost use Rattle.std.specs.List.{list_all};
-ghost use Rattle.lapd_transcript.specs.Streams.{Puts};
-ghost use Rattle.lapd_transcript.specs.Pages.{on};
-ghost use Rattle.lapd_transcript.specs.Counted.{is_zero, names_of, counters_text};
-ghost use Rattle.lapd_transcript.specs.CounterNames.{row, row_text, value_text, with_name};
+ghost use Rattle.lapd_transcript.specs.{Puts, on, is_zero, names_of, counters_text, row, row_text, value_text, with_name};
 
 use crate::output::{Page, decimal};
 use crate::streams::{Put, Target};

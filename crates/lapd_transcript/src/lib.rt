@@ -8,7 +8,7 @@
 //! - `notes`: what an event brought; `counters`: what was counted of a line.
 //! - `shown`: what a frame says, octets of a line, and the bound of a card.
 //! - `names`: the names that stand in them.
-//! - `terminal`: the sender of a terminal; `one_frame`: what one frame is on its line.
+//! - `terminal`: the sender of a terminal.
 //! - `listener`: tells the octets that a line takes, and the frames in them.
 //!
 //! # Only tested
@@ -26,7 +26,6 @@ mod lines;
 mod listener;
 mod names;
 mod notes;
-mod one_frame;
 mod output;
 mod read_from;
 mod shown;
@@ -36,7 +35,6 @@ mod write_to;
 
 pub use counters::CounterGroup;
 pub use lines::write_faulty;
-pub use one_frame::on_line;
 pub use output::Page;
 pub use read_from::ReadFrom;
 pub use shown::{write_bound, write_line_octets, write_shown};

@@ -1,9 +1,7 @@
 //! Puts the lines of a transcript onto a page, and writes what tells of a faulty line.
 
 ghost use Rattle.std.specs.Prelude.{◌++◌};
-ghost use Rattle.lapd_transcript.specs.Streams.{Puts, Writes};
-ghost use Rattle.lapd_transcript.specs.Pages.{on};
-ghost use Rattle.lapd_transcript.specs.Text.{line_text, octets_text, refused_text, sent_text, frame_text, nothing_text, faulty_text, stored_text};
+ghost use Rattle.lapd_transcript.specs.{Puts, Writes, on, line_text, octets_text, refused_text, sent_text, frame_text, nothing_text, faulty_text, stored_text};
 
 use crate::names::refusal_name;
 use crate::output::{Page, decimal};

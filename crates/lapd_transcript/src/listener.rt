@@ -1,10 +1,7 @@
 //! What is told of the octets that a line takes: the octets, and the frames that are complete in them.
 
 ghost use Rattle.std.specs.Prelude.{◌≡◌, ◌<◌, ℕ, List, ◌++◌, flat_map, OnOk};
-ghost use Rattle.lapd_transcript.specs.Listened.{Hears, found, pulled_text};
-ghost use Rattle.lapd_transcript.specs.Pages.{on};
-ghost use Rattle.lapd_transcript.specs.Streams.{Puts};
-ghost use Rattle.lapd_transcript.specs.Text.{frame_text};
+ghost use Rattle.lapd_transcript.specs.{Hears, found, pulled_text, on, Puts, frame_text};
 
 use crate::output::Page;
 use crate::streams::{Put, Target};

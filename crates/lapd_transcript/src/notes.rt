@@ -1,10 +1,7 @@
 //! Puts what an event brought onto a page.
 
 ghost use Rattle.std.specs.Prelude.{◌++◌, [], ◌∷◌, codes, flat_map, option_copied};
-ghost use Rattle.lapd_frame.specs.Services.{letter_of};
-ghost use Rattle.lapd_transcript.specs.Streams.{Puts};
-ghost use Rattle.lapd_transcript.specs.Pages.{on};
-ghost use Rattle.lapd_transcript.specs.Text.{octets_text, line_text, link_words, tei_words, note_text, report_text, dropped_text, lost_text};
+ghost use Rattle.lapd_transcript.specs.{letter_of, Puts, on, octets_text, line_text, link_words, tei_words, note_text, report_text, dropped_text, lost_text};
 
 use crate::names::{cause_name, suffix};
 use crate::output::{Page, decimal};

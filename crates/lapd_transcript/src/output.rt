@@ -1,10 +1,7 @@
 //! Puts pieces of text onto a page, which goes to a target once it is full.
 
 ghost use Rattle.std.specs.Prelude.{◌≡◌, [], ◌∷◌, ◌++◌, List, ℕ, codes, decimal};
-ghost use Rattle.hex.specs.Hex.{encode_upper};
-ghost use Rattle.lapd_transcript.specs.Pages.{on};
-ghost use Rattle.lapd_transcript.specs.Streams.{IsSent, Output, Puts, Writes, joined};
-ghost use Rattle.lapd_transcript.specs.Text.{line_text, octets_text};
+ghost use Rattle.lapd_transcript.specs.{encode_upper, on, IsSent, Output, Puts, Writes, joined, line_text, octets_text};
 
 use crate::streams::{Put, Target, WriteFailed};
 use arrayvec::ArrayVec;

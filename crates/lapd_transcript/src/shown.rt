@@ -1,10 +1,7 @@
 //! Writes what a frame says, octets of a line, and the bound of a card.
 
 ghost use Rattle.std.specs.Prelude.{◌≡◌, ◌++◌, if◌then◌else◌, [], decimal, codes, option_map};
-ghost use Rattle.lapd_frame.specs.Grammar.{parts_of};
-ghost use Rattle.lapd_transcript.specs.Shown.{fields, number_text, on_line_text, shown_text};
-ghost use Rattle.lapd_transcript.specs.Streams.{Writes, joined};
-ghost use Rattle.lapd_transcript.specs.Text.{octets_text};
+ghost use Rattle.lapd_transcript.specs.{parts_of, fields, number_text, on_line_text, shown_text, Writes, joined, octets_text};
 
 use crate::output::{Digits, Page, decimal};
 use crate::streams::{Put, Target};

@@ -1,11 +1,10 @@
-//! The sender of a terminal, which is put on a line octet by octet.
+//! The sender of a terminal.
 
-ghost use Rattle.std.specs.Prelude.{◌≡◌, ℕ, ◌+◌, ◌<◌, ◌≤◌, ◌↔◌, List, [], ◌∷◌, ◌++◌, length, IsTrue, IfOk};
-ghost use Rattle.model_bits.specs.Framer as framing;
-ghost use Rattle.model_bits.specs.Framer.{with_idle};
-ghost use Rattle.model_bits.specs.Sent as sent;
+ghost use Rattle.std.specs.Prelude.{◌≡◌, ◌+◌, ◌*◌, ◌<◌, ◌≤◌, ℕ, List, [], length, IfOk};
 ghost use Rattle.model_bits.specs.Sent.{Item};
+ghost use Rattle.lapd_transcript.specs.Put.{HasPut};
 
+use arrayvec::ArrayVec;
 use lapd_bits::Framer;
 use std::alloc::{AllocError, Global};
 
@@ -20,15 +19,23 @@ pub const SHORTEST_FRAME: usize = 3;
 
 pub const LONGEST_FRAME: usize = HEAD + LONGEST_INFORMATION as usize;
 
+/// More octets than the longest frame is on a line, with its check, stuffed bits and two flags.
+const MOST_ON_LINE: usize = 1300;
+
+/// What a terminal puts on its line to send a frame.
+pub type Sent = ArrayVec<u8, MOST_ON_LINE>;
+
 /// The sender of a terminal.
 #[derive(Drop)]
 pub struct Terminal {
     framer: Framer,
     ghost room: { framer.room ≡ 1024 },
+    ghost few: { length framer.left ≤ 8 },
 }
 
 impl Terminal {
-    ghost use Rattle.lapd_transcript.specs.Terminal.{Sends};
+    ghost use Rattle.lapd_transcript.specs.Terminal as machine;
+    ghost use Rattle.lapd_transcript.specs.Terminal.{Sends, octets_sent, after_sending};
 
     /// It has sent nothing yet.
     ///
@@ -44,39 +51,35 @@ impl Terminal {
         Ok(Terminal { framer })
     }
 
-    /// Whether a whole octet is left to send. No frame can be loaded then.
-    pub fn is_busy(&self) -> bool
-        ensures { IsTrue result ↔ (8 ≤ length self.now.framer.left) }
-    {
-        self.framer.busy()
-    }
-
-    /// Whether a part of an octet is left, where no whole one is.
-    pub fn has_rest(&self) -> bool
-        ensures { IsTrue result ↔ (0 < length self.now.framer.left) }
-    {
-        self.framer.left() > 0
-    }
-
-    /// Takes a frame to send.
-    pub fn load(&mut self, frame: &[u8])
-        requires not_busy { length self.old.framer.left < 8 }
+    /// Sends a frame: the octets that it puts on its line until the last bit of the frame's closing flag is out.
+    pub fn send(&mut self, frame: &[u8]) -> Sent
         requires short { 3 ≤ length frame.now }
         requires long { length frame.now ≤ 1028 }
-        ensures { (items : List Item) (given : List ℕ) → framing.Stands self.old.framer items given
-            → framing.Stands self.new.framer (items ++ sent.frame frame.now ∷ []) given }
+        ensures { (t : machine.Terminal) → Sends self.old t
+            → (result.items ≡ octets_sent frame.now t) × Sends self.new (after_sending frame.now t) }
     {
+        let mut line = ArrayVec::new();
+        give(&mut self.framer, &mut line);
         let (head, information) = frame.split_at(frame.len().min(HEAD));
         self.framer.load(head, information);
+        give(&mut self.framer, &mut line);
+        if self.framer.left() == 0 {
+            return line;
+        }
+        line.push(self.framer.octet());
+        line
     }
+}
 
-    /// The next octet that it puts on its line.
-    #[tactic(auto, using(crate::proofs::Left::octet_takes))]
-    pub fn octet(&mut self) -> u8
-        ensures goes_on { 8 ≤ length self.old.framer.left → length self.new.framer.left < length self.old.framer.left }
-        ensures stands { (items : List Item) (given : List ℕ) → framing.Stands self.old.framer items given
-            → framing.Stands self.new.framer (with_idle self.old.framer.left items) (given ++ result ∷ []) }
-    {
-        self.framer.octet()
+/// Puts what a framer has to give, except for the last bits that are no whole octet.
+fn give(framer: &mut Framer, line: &mut Sent)
+    requires room { 8 * length line.old.items + length framer.old.left ≤ 8 * 1300 }
+    ensures rest { length framer.new.left < 8 }
+    ensures moved { 8 * length line.new.items + length framer.new.left ≡ 8 * length line.old.items + length framer.old.left }
+    ensures same { framer.new.room ≡ framer.old.room }
+    ensures put { (before : List ℕ) (items : List Item) → HasPut framer.old before line.old.items items → HasPut framer.new before line.new.items items }
+{
+    while framer.busy() {
+        line.push(framer.octet());
     }
 }

@@ -15,4 +15,4 @@ returns-in-Some g c = λ m h.
     let len : length c.read_line.new.room ≡ c.args.self.now.octets.len = omega (arith, c.read_line.auto.room, c.as_mut_slice.ensures.len) in
     let same : room ≡ c.read_line.new.room = c.as_mut_slice-in-Some.ensures.value ∙ take_at c.read_line.new.room _ c.args.self.now.octets.len len in
     let is : Ok (meant room c.in-Ok.command) ≡ read c.args.line.now = subst (λ octets. Ok (meant octets c.in-Ok.command) ≡ read c.args.line.now) (sym same) c.in-Ok.ensures.read in
-    goes c.args.self.now.setup c.in-Some.setup c.with_card.new.setup c.with_card.result _ _ (meant room c.in-Ok.command) c.args.line.now m c.in-Some.is h is c.with_card.ensures
+    goes c.args.self.now.setup c.in-Some.setup c.obey.new.self c.obey.result _ _ (meant room c.in-Ok.command) c.args.line.now m c.in-Some.is h is c.obey.ensures

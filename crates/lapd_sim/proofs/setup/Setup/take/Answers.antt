@@ -1,7 +1,6 @@
 -- Hand-written answers for `Setup::take`.
 use Rattle.lapd_sim.proofs.Vocabulary.{refl, ◌∙◌, [], ◌∷◌, subst, at, next, Puts, on, reply_text, after_next, scene, Stands}
-use Rattle.lapd_sim.proofs.Scenes.{there_frames, events_keep, obeyed, within, stands_on}
-use Rattle.lapd_sim.proofs.Terminals.{on_ok}
+use Rattle.lapd_sim.proofs.Scenes.{there_frames, events_keep, obeyed, on_ok, within, stands_on}
 use Rattle.lapd_sim.proofs.setup.Setup.take.Goals as goal
 
 pub returns : goal.returns

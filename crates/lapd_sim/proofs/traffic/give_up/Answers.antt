@@ -3,7 +3,7 @@ use Rattle.lapd_sim.proofs.Vocabulary.{[], ◌∷◌, at, request, Holds}
 use Rattle.lapd_frame.specs.declared.services.Service.TheVariants.{Call, Packet}
 use Rattle.model_line.specs.Request.{Deactivate}
 use Rattle.lapd_sim.proofs.OneByOne.{tells_after, broken_after}
-use Rattle.lapd_sim.proofs.downs.give_up.Goals as goal
+use Rattle.lapd_sim.proofs.traffic.give_up.Goals as goal
 
 pub returns-in-Err-clause-told : goal.returns-in-Err-clause-told
 returns-in-Err-clause-told g c = λ m h.

@@ -4,8 +4,8 @@ use Rattle.lapd_sim.specs.machine.Steps.{teis_on}
 use Rattle.std.specs.List.{range_with_len}
 use Rattle.std.proofs.lemmas.List.{length-set}
 use Rattle.lapd_sim.proofs.GivingUp.{found, not_found}
-use Rattle.lapd_sim.proofs.downs.teis_on.Goals as goal
-use Rattle.lapd_sim.proofs.downs.teis_on.Goals.{then-has_tei, else-has_tei}
+use Rattle.lapd_sim.proofs.traffic.teis_on.Goals as goal
+use Rattle.lapd_sim.proofs.traffic.teis_on.Goals.{then-has_tei, else-has_tei}
 
 pub loop-tei-preserved : goal.loop-tei-preserved
 loop-tei-preserved c =

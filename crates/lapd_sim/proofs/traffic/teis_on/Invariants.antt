@@ -2,7 +2,7 @@
 use Rattle.lapd_sim.proofs.Vocabulary.{◌≡◌, ◌≤◌, length, take, filter, is_on_line, Holds}
 use Rattle.std.specs.List.{range_with_len}
 use Rattle.lapd_sim.specs.machine.Setup as machine
-use Rattle.lapd_sim.proofs.downs.teis_on.Given as goal
+use Rattle.lapd_sim.proofs.traffic.teis_on.Given as goal
 
 -- of the TEIs so far those are found that are on the line
 abbrev pub invariant-loop-tei : goal.invariant-loop-tei

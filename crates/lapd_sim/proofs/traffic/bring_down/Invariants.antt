@@ -1,7 +1,7 @@
 -- The invariants of the loops of `bring_down`.
 use Rattle.lapd_sim.proofs.Vocabulary.{◌≡◌, Ok, take, flat_map, deactivations, with_events, WriteFailed, scene, Tells, Holds, on}
 use Rattle.lapd_sim.specs.machine.Setup as machine
-use Rattle.lapd_sim.proofs.downs.bring_down.Given as goal
+use Rattle.lapd_sim.proofs.traffic.bring_down.Given as goal
 
 -- the lines are the same, and the links of the TEIs so far are given up
 abbrev pub invariant-loop-tei : goal.invariant-loop-tei

@@ -3,7 +3,7 @@ use Rattle.lapd_sim.proofs.Vocabulary.{[], ◌∷◌, ◌++◌, ◌+◌, Ok, Err
 use Rattle.model_line.specs.Request.{Down}
 use Rattle.lapd_sim.proofs.OneByOne.{tells_after, broken_after}
 use Rattle.lapd_sim.proofs.GivingUp.{one_tei_more, left_up}
-use Rattle.lapd_sim.proofs.downs.bring_down.Goals as goal
+use Rattle.lapd_sim.proofs.traffic.bring_down.Goals as goal
 
 pub returns-in-Err-clause-told : goal.returns-in-Err-clause-told
 returns-in-Err-clause-told g c = λ m h.

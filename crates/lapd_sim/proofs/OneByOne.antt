@@ -1,5 +1,5 @@
 -- What comes from a line and what a line takes, one octet more.
-use Rattle.lapd_sim.proofs.Vocabulary.{◌≡◌, ℕ, List, [], ◌∷◌, ◌++◌, map, Result, Ok, Err, refl, ap, sym, ◌∙◌, subst, append_assoc, append-nil, map-append, Event, at, octet, reply, WriteFailed, Output, IsPut, IsStuck, puts_then, stuck_more, puts_nothing, Setup, happened, Scene, with_event, with_events, reply_text, octets_at, after_rx, scene, Tells}
+use Rattle.lapd_sim.proofs.Vocabulary.{◌≡◌, ℕ, List, [], ◌∷◌, ◌++◌, Result, Ok, Err, refl, ap, sym, ◌∙◌, subst, append_assoc, append-nil, map-append, Event, at, octet, reply, WriteFailed, Output, IsPut, IsStuck, puts_then, stuck_more, Setup, happened, Scene, with_event, with_events, reply_text, octets_at, after_rx, scene, Tells}
 use Rattle.std.proofs.lemmas.List.Sums.{fold-append}
 
 -- ---- what is said after what was said before
@@ -56,6 +56,3 @@ tells_then r a b c P line octets more m before told =
 pub broken_then : (a b : Output) (line : ℕ) (octets more : List ℕ) (m : Setup) → IsStuck a b (after_rx line octets (scene m)).text → IsStuck a b (after_rx line (octets ++ more) (scene m)).text
 broken_then a b line octets more m broken =
     subst (λ events. IsStuck a b (with_events events (scene m)).text) (sym (octets_at-append line octets more)) (broken_after a b (octets_at line octets) (octets_at line more) m broken)
-
-pub tells_none : (a : Output) (P : Setup → Type 0) (m : Setup) → P m → Tells {E = WriteFailed} (Ok tt) a a P (scene m)
-tells_none a P m holds = (puts_nothing a, holds)

@@ -35,7 +35,9 @@ stuffed_after ones (true ∷ b) = stuffed_zero ones ++ true ∷ stuffed_after (s
 
 -- the counted text after five 1s begins with the stuffed 0
 stuffed_after_five : (b : List Bool) → stuffed_after 5 b ≡ false ∷ stuffed_after 0 b
-stuffed_after_five b = grind arith
+stuffed_after_five [] = refl
+stuffed_after_five (false ∷ b) = refl
+stuffed_after_five (true ∷ b) = refl
 
 -- Stuffing by patterns is stuffing by the count, also with 1s before.
 pub stuffed_alike : (n : ℕ) (b : List Bool) → n < 5 → stuffed (replicate n true ++ b) ≡ replicate n true ++ stuffed_after n b

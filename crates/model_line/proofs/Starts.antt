@@ -2,6 +2,7 @@
 use Rattle.model_line.proofs.Vocabulary.{◌≡◌, ℕ, ◌≤◌, List, [], ◌∷◌, ◌++◌, length, Option, Some, None, refl, ◌∙◌, arith, Service, Call, Packet, Order, Start, Stop, Timer, one-start, Link, orders_for, starts, Terms, LinkTimer, IsBrief, told_brief, Change, Gained, Left, Config, expiry, aim_of_expiry, orders_in, Line, link_in, terms, answer, told_of_management, of_link, of_change, of_aim}
 use Rattle.model_link.specs.Events as link
 use Rattle.model_link.specs.Machine as links
+use Rattle.model_link.specs.declared.timers.LinkTimer.TheVariants as link_timer
 use Rattle.lapd_tei.specs.Events as teis
 use Rattle.lapd_tei.specs.Machine as tei
 use Rattle.model_line.proofs.ProperAims.{expiry_aims}
@@ -26,7 +27,9 @@ none_starts = omega arith
 -- a link that is cleared starts nothing
 cleared_orders : (t : Terms) (before : Option LinkTimer) → starts (orders_for t before None None) ≡ 0
 unfolding starts
-cleared_orders t before = grind arith
+cleared_orders t None = refl
+cleared_orders t (Some link_timer.T200) = refl
+cleared_orders t (Some link_timer.T203) = refl
 
 cleared_starts : (t : Terms) (l : Link) → starts (links.told t link.cleared l).orders ≡ 0
 cleared_starts t l = cleared_orders t l.running

@@ -20,14 +20,13 @@ use Rattle.laws_link.proofs.Restarts.{establishes}
 use Rattle.laws_link.specs.Accepted.{acknowledged, empties}
 use Rattle.laws_link.specs.History.{share, with_share}
 use Rattle.laws_link.specs.States as states
-use Rattle.laws_trace.proofs.CallRuns.{apart}
 use Rattle.laws_trace.proofs.DataOfLink.{acknowledged-went}
 use Rattle.laws_trace.proofs.LineAtEnd.{link-at-end}
 use Rattle.laws_trace.proofs.NewsRows.{sabme_of}
 use Rattle.laws_trace.proofs.NewsSeen.{one-begins, none-begins}
 use Rattle.laws_trace.proofs.ObservedFacts.{brings-is}
 use Rattle.laws_trace.proofs.Outgoing.{its, comes, here-at}
-use Rattle.laws_trace.proofs.Runs.{nothing-seen}
+use Rattle.laws_trace.proofs.Runs.{apart, nothing-seen}
 use Rattle.laws_trace.proofs.SeenAs.{IsSeenAs, seen-before, up-number}
 use Rattle.laws_trace.proofs.TimersAreTimely.{config-now, sound-now}
 use Rattle.laws_trace.proofs.WaitedBegins.{moments-both, after-both}

@@ -1,9 +1,10 @@
 -- Two cards that face each other deliver what layer 3 hands over.
-use Rattle.laws_wire.proofs.Vocabulary.{◌≡◌, ℕ, ◌+◌, ◌*◌, ◌<◌, ◌≤◌, ◌||◌, Bool, true, false, cond, List, [], ◌∷◌, ◌++◌, length, map, take, drop, Option, Some, None, option_map, refl, sym, ap, subst, ◌∙◌, append-nil, append_assoc, length-append, map-append, take-append-drop, arith, All, All-nil, if◌then◌else◌, IsTrue, Service, Link, State, state_number, Established, Terms, spelling, other_side, End, Ends, Config, LineTold, link_in, state_in, place_in, terms, has_lines, line_sound, AreTurns, weight_at, IsReady, IsTaken, Pair, all-turns, Station, Wire, Doing, doing_all, turns, IsStill, IsBeginningOf, IsTold, calling, IsTalk, data_told, AreOpposite, Face, Speaks, own_link, granted_of}
+use Rattle.laws_wire.proofs.Vocabulary.{◌≡◌, ℕ, ◌+◌, ◌*◌, ◌≤◌, ◌||◌, Bool, true, false, cond, List, [], ◌++◌, length, map, take, drop, Option, Some, None, option_map, refl, sym, ap, subst, ◌∙◌, append-nil, append_assoc, length-append, map-append, take-append-drop, arith, All, All-nil, if◌then◌else◌, unwrap_or, Service, Link, State, state_number, Established, other_side, End, Ends, Config, LineTold, link_in, state_in, place_in, terms, has_lines, line_sound, AreTurns, weight_at, IsReady, IsTaken, Pair, all-turns, Station, Wire, Doing, doing_all, turns, IsStill, IsBeginningOf, IsTold, calling, IsTalk, data_told, Face, Speaks, own_link, granted_of}
 use Rattle.std.proofs.lemmas.List.{append_cancel_left}
 use Rattle.std.proofs.Math.Seq.{drop-append_seam}
 use Rattle.model_link.specs.TwoEnds as two_ends
 use Rattle.model_line.specs.Line.{Line}
+use Rattle.model_line.specs.Sound.{IsSound}
 use Rattle.model_link.specs.Sound as link_sound
 use Rattle.laws_wire.specs.Facing.{line_of, most_turns, unsent_at, due_since, IsToldSince, Delivers, CardsDeliver, CardsFaceAgain, CallsFace}
 use Rattle.laws_wire.proofs.Again.{faces-again}
@@ -28,7 +29,7 @@ seven-is other e = absurd (cc)
 
 is-up : (service : Service) (tei : ℕ) (l : Line) → (o : Option ℕ) → place_in l tei ≡ o → option_map (state_in l service) o ≡ Some 7 → IsUp service tei l
 is-up service tei l None is e = absurd (cc)
-is-up service tei l (Some place) is e = record { place = place; placed = is; state = seven-is (link_in l service place).state (ap (λ o. Rattle.std.specs.Prelude.unwrap_or o 0) e) }
+is-up service tei l (Some place) is e = record { place = place; placed = is; state = seven-is (link_in l service place).state (ap (λ o. unwrap_or o 0) e) }
 
 both-off : (a b : Bool) → (a || b) ≡ false → (a ≡ false) × (b ≡ false)
 both-off false false e = (refl, refl)
@@ -50,8 +51,8 @@ behind-all s cs more since is =
     append_cancel_left (take s cs) since (drop s cs ++ more) (is ∙ sym (ap (λ xs. xs ++ more) (take-append-drop s cs)) ∙ append_assoc (take s cs) (drop s cs) more)
 
 module _ (service : Service) (tei : ℕ) where
-  abbrev dt : List (List ℕ) → List LineTold
-  dt xs = map (data_told service tei) xs
+  abbrev data_notes : List (List ℕ) → List LineTold
+  data_notes xs = map (data_told service tei) xs
 
   -- a station without what was granted and told before
   abbrev bare : Station → Station
@@ -77,7 +78,7 @@ module _ (service : Service) (tei : ℕ) where
     up : IsUp service tei (line_of s)
     up = is-up service tei (line_of s) (place_in (line_of s) tei) refl h.state
 
-    sound : Rattle.model_line.specs.Sound.IsSound s.card.config (line_of s)
+    sound : IsSound s.card.config (line_of s)
     sound = line_sound s.card s.line (has_lines s.card h.card.0) h.card.1
 
     own : own_link service tei s ≡ link_in (line_of s) service up.place
@@ -158,20 +159,20 @@ module _ (service : Service) (tei : ℕ) where
     as-kept : take (own_link service tei u).s (own_link service tei u).contents ++ since ≡ n.delivered
     as-kept = ap (λ k. take k (own_link service tei u).contents ++ since) (sym received) ∙ sym delivered
 
-    told-first : IsBeginningOf (dt (unsent_at service tei u ++ more)) (dt since)
+    told-first : IsBeginningOf (data_notes (unsent_at service tei u ++ more)) (data_notes since)
     told-first =
         let rest = drop n.link.r ((own_link service tei u).contents ++ more) in
         let is = behind (own_link service tei u).s n.link.r (own_link service tei u).contents more since (as-kept ∙ agree ∙ ap (take n.link.r) (sym kept)) in
-        (dt rest, sym (map-append (data_told service tei) since rest) ∙ ap dt is)
+        (data_notes rest, sym (map-append (data_told service tei) since rest) ∙ ap data_notes is)
 
-    told-then : n.delivered ≡ m.link.contents → dt since ≡ dt (unsent_at service tei u ++ more)
-    told-then all = ap dt (behind-all (own_link service tei u).s (own_link service tei u).contents more since (as-kept ∙ all ∙ sym kept))
+    told-then : n.delivered ≡ m.link.contents → data_notes since ≡ data_notes (unsent_at service tei u ++ more)
+    told-then all = ap data_notes (behind-all (own_link service tei u).s (own_link service tei u).contents more since (as-kept ∙ all ∙ sym kept))
 
     -- with what the other was granted before
     pub is-told : (still : Type 0) → (still → n.delivered ≡ m.link.contents) → (granted : List (List ℕ))
-        → IsTold still (dt (unsent_at service tei u ++ drop (length granted) (granted ++ more))) (dt since)
+        → IsTold still (data_notes (unsent_at service tei u ++ drop (length granted) (granted ++ more))) (data_notes since)
     is-told still all granted =
-        subst (λ xs. IsTold still (dt (unsent_at service tei u ++ xs)) (dt since)) (sym (drop-append_seam granted more)) (told-first, λ e. told-then (all e))
+        subst (λ xs. IsTold still (data_notes (unsent_at service tei u ++ xs)) (data_notes since)) (sym (drop-append_seam granted more)) (told-first, λ e. told-then (all e))
 
   -- what was granted and told is nothing to how they face each other
   logs-aside : (g h g' h' : List (List ℕ)) (t r t' r' : List LineTold) (x y : Station) → Speaks service tei (logged g t x) (logged h r y) → Speaks service tei (logged g' t' x) (logged h' r' y)
@@ -259,7 +260,7 @@ module _ (service : Service) (tei : ℕ) where
     told-near : IsToldSince (IsStill (as_is last)) (due_since service tei u (as_is last).far) s (as_is last).near
     told-near =
         let x = talked in (
-          dt x.talk.near.since,
+          data_notes x.talk.near.since,
           ap (λ ts. s.told ++ ts) x.talk.near.told,
           is-told s u h.1.received x.n' x.m' x.talk.near.since last.far.granted x.talk.near.delivered x.talk.far.granted x.talk.pair.back.delivered (IsStill (as_is last)) (λ still. (all-arrived still).1)
               u.granted,
@@ -268,7 +269,7 @@ module _ (service : Service) (tei : ℕ) where
     told-far : IsToldSince (IsStill (as_is last)) (due_since service tei s (as_is last).near) u (as_is last).far
     told-far =
         let x = talked in (
-          dt x.talk.far.since,
+          data_notes x.talk.far.since,
           ap (λ ts. u.told ++ ts) x.talk.far.told,
           is-told u s h.0.received x.m' x.n' x.talk.far.since last.near.granted x.talk.far.delivered x.talk.near.granted x.talk.pair.there.delivered (IsStill (as_is last)) (λ still. (all-arrived still).0)
               s.granted,

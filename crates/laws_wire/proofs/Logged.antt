@@ -1,6 +1,7 @@
 -- What layer 3 was granted and told before changes nothing of what happens.
 use Rattle.laws_wire.proofs.Vocabulary.{◌≡◌, ℕ, ◌+◌, List, [], ◌∷◌, ◌++◌, refl, ap, ◌∙◌, append_assoc, if◌then◌else◌, LineTold, Event, Station, Wire, happens, with_first_of, with_first_lost, Act, requests, times_out, gives, takes, loses, Doing, at_near, at_far, acting, turned, doing, is_turn, is_turn_of}
 unfoldable use Rattle.laws_wire.specs.Wire.{doing_all, turns}
+use Rattle.laws_wire.specs.Wire.{answered, told_by, contents_in, unless_refused}
 use Rattle.model_line.specs.Event.{request, expiry, next, hears}
 use Rattle.model_line.specs.Came.{came}
 
@@ -10,8 +11,8 @@ logged granted told s = record s { granted = granted ++ s.granted; told = told +
 happens-logged : (granted : List (List ℕ)) (told : List LineTold) (e : Event) (s : Station) → happens e (logged granted told s) ≡ logged granted told (happens e s)
 happens-logged granted told e s =
     λ i. record (happens e s) {
-      granted = append_assoc granted s.granted (Rattle.laws_wire.specs.Wire.unless_refused (Rattle.laws_wire.specs.Wire.answered e s) (Rattle.laws_wire.specs.Wire.contents_in e)) i;
-      told = append_assoc told s.told (Rattle.laws_wire.specs.Wire.told_by (Rattle.laws_wire.specs.Wire.answered e s)) i;
+      granted = append_assoc granted s.granted (unless_refused (answered e s) (contents_in e)) i;
+      told = append_assoc told s.told (told_by (answered e s)) i;
     }
 
 first-logged : (granted : List (List ℕ)) (told : List LineTold) (way : List (List ℕ)) (s : Station) → with_first_of way (logged granted told s) ≡ logged granted told (with_first_of way s)

@@ -11,14 +11,14 @@ unfolding doing_all
 doing-append [] es w = refl
 doing-append (d ∷ ds) es w = doing-append ds es (doing d w)
 
-moves-append : (ds es : List Doing) (w : Wire) → moves (ds ++ es) w ≡ moves ds w + moves es (doing_all ds w)
+pub moves-append : (ds es : List Doing) (w : Wire) → moves (ds ++ es) w ≡ moves ds w + moves es (doing_all ds w)
 unfolding doing_all moves
 moves-append [] es w = omega arith
 moves-append (d ∷ ds) es w =
     let rest : moves (ds ++ es) (doing d w) ≡ moves ds (doing d w) + moves es (doing_all ds (doing d w)) = moves-append ds es (doing d w) in
     omega (arith, rest)
 
-expiries-append : (ds es : List Doing) → expiries (ds ++ es) ≡ expiries ds + expiries es
+pub expiries-append : (ds es : List Doing) → expiries (ds ++ es) ≡ expiries ds + expiries es
 unfolding expiries
 expiries-append [] es = omega arith
 expiries-append (d ∷ ds) es = let rest : expiries (ds ++ es) ≡ expiries ds + expiries es = expiries-append ds es in omega (arith, rest)
@@ -54,16 +54,16 @@ takes-grants : (way : List (List ℕ)) (s : Station) → (with_first_of way s).g
 takes-grants [] s = refl
 takes-grants (octets ∷ way) s = takes-granted octets s
 
-near-gives : (w : Wire) → granted_of (acting wire.gives w) ≡ granted_of w
+pub near-gives : (w : Wire) → granted_of (acting wire.gives w) ≡ granted_of w
 near-gives w = ap (λ (xs : List (List ℕ)). length xs + length w.far.granted) (gives-granted w.near)
 
-near-takes : (w : Wire) → granted_of (acting wire.takes w) ≡ granted_of w
+pub near-takes : (w : Wire) → granted_of (acting wire.takes w) ≡ granted_of w
 near-takes w = ap (λ (xs : List (List ℕ)). length xs + length w.far.granted) (takes-grants w.far.way w.near)
 
-far-gives : (w : Wire) → granted_of (turned (acting wire.gives (turned w))) ≡ granted_of w
+pub far-gives : (w : Wire) → granted_of (turned (acting wire.gives (turned w))) ≡ granted_of w
 far-gives w = ap (λ (xs : List (List ℕ)). length w.near.granted + length xs) (gives-granted w.far)
 
-far-takes : (w : Wire) → granted_of (turned (acting wire.takes (turned w))) ≡ granted_of w
+pub far-takes : (w : Wire) → granted_of (turned (acting wire.takes (turned w))) ≡ granted_of w
 far-takes w = ap (λ (xs : List (List ℕ)). length w.near.granted + length xs) (takes-grants w.near.way w.far)
 
 abbrev w1 : Wire → Wire

@@ -17,7 +17,7 @@ use Rattle.lapd_count.specs.Shown.{heard_shown, octets_shown, begun_shown, told_
 worked_poll : heard_shown Network (Some (frame (0x00 ∷ 0x81 ∷ 0x01 ∷ 0x01 ∷ []))) ≡ (Frames Heard ReceiveReady, 1) ∷ (Octets Heard, 4) ∷ (Polls Heard, 1) ∷ []
 worked_poll = refl
 
-worked_answer : octets_shown Network Heard (0x02 ∷ 0x81 ∷ 0x01 ∷ 0x01 ∷ []) ≡ (Frames Heard ReceiveReady, 1) ∷ (Octets Heard, 4) ∷ []
+worked_answer : octets_shown User Heard (0x02 ∷ 0x81 ∷ 0x01 ∷ 0x01 ∷ []) ≡ (Frames Heard ReceiveReady, 1) ∷ (Octets Heard, 4) ∷ []
 worked_answer = refl
 
 -- The network's command has C/R = 1.
@@ -25,14 +25,14 @@ worked_own_poll : octets_shown Network Begun (0x02 ∷ 0x81 ∷ 0x00 ∷ 0x01 �
 worked_own_poll = refl
 
 -- On the user's side it is the other way round.
-worked_users_poll : octets_shown User Heard (0x02 ∷ 0x81 ∷ 0x01 ∷ 0x01 ∷ []) ≡ (Frames Heard ReceiveReady, 1) ∷ (Octets Heard, 4) ∷ (Polls Heard, 1) ∷ []
+worked_users_poll : octets_shown Network Heard (0x02 ∷ 0x81 ∷ 0x01 ∷ 0x01 ∷ []) ≡ (Frames Heard ReceiveReady, 1) ∷ (Octets Heard, 4) ∷ (Polls Heard, 1) ∷ []
 worked_users_poll = refl
 
 worked_users_answer : octets_shown User Begun (0x02 ∷ 0x81 ∷ 0x01 ∷ 0x01 ∷ []) ≡ (Frames Begun ReceiveReady, 1) ∷ (Octets Begun, 4) ∷ []
 worked_users_answer = refl
 
 -- SABME with P=1 asks for an answer, too, but is no poll.
-worked_sabme : octets_shown Network Heard (0x00 ∷ 0x81 ∷ 0x7F ∷ []) ≡ (Frames Heard Sabme, 1) ∷ (Octets Heard, 3) ∷ []
+worked_sabme : octets_shown User Heard (0x00 ∷ 0x81 ∷ 0x7F ∷ []) ≡ (Frames Heard Sabme, 1) ∷ (Octets Heard, 3) ∷ []
 worked_sabme = refl
 
 -- A terminal asks for a TEI, and none is given: the octets of both messages. One with another entity identifier is no message.

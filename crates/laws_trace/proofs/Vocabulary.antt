@@ -6,7 +6,7 @@ pub use Rattle.std.proofs.lemmas.Bool.{and_parts, and_right, cond_both, eqb-fals
 pub use Rattle.std.proofs.lemmas.Grind.{flat_map-append}
 pub use Rattle.std.proofs.lemmas.List.{get_or-replicate, get_or-set_other, get_or-set_same, length-drop, length-replicate, map-append}
 pub use Rattle.std.proofs.lemmas.List.Elements.{All-append, All-cons, All-drop, All-head, All-nil, All-tail, All-take, All-weaker, filter-append}
-pub use Rattle.std.proofs.lemmas.List.Sums.{fold-append, sum_by-append, sum_by-cons}
+pub use Rattle.std.proofs.lemmas.List.Sums.{fold-append, sum_by-cons}
 pub use Rattle.std.proofs.lemmas.Map.Views.{any-filter_same}
 pub use Rattle.std.proofs.lemmas.Option.{none-some}
 pub use Rattle.std.specs.List.{find, list_any, prefix_len, range_with_len}

@@ -1,6 +1,5 @@
 -- Counters count what is seen.
 use Rattle.std.specs.Prelude.{◌≡◌, Bool, true, false, List, [], map, flat_map, filter, Some}
-use Rattle.lapd_count.specs.declared.counter.Counter.{Counter}
 use Rattle.lapd_count.specs.declared.counter.Counter.TheVariants.{Dropped}
 use Rattle.lapd_count.specs.Counters.{More}
 use Rattle.lapd_count.specs.Shown.{begun_shown, heard_shown, note_shown, lost_shown}

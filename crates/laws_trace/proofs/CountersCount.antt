@@ -1,13 +1,9 @@
 -- Counters count what is seen: the law.
-use Rattle.laws_trace.proofs.Vocabulary.{◌≡◌, ℕ, ◌==◌, Bool, true, false, cond, List, [], ◌∷◌, ◌++◌, map, Option, Some, None, option_map_or, refl, sym, ap, ◌∙◌, append-nil, filter, filter-append, flat_map, length, get_or, Note, Cause, Frames, Octets, Polls, Messages, Kind, More, heard_shown, note_shown, drop_shown, lost_shown, Side, Config, shown, answer_shown, Answer, refused, gave, Line, Refusal, PoolFull, Card, line_at, by_room, arith, told, refusal, CardEvent as Event, card_answer as answer, seen, seen_told}
+use Rattle.laws_trace.proofs.Vocabulary.{◌≡◌, ℕ, Bool, true, cond, List, [], ◌∷◌, ◌++◌, map, Option, Some, None, option_map_or, refl, sym, ap, ◌∙◌, append-nil, filter, filter-append, flat_map, length, get_or, Note, Cause, Frames, Octets, Polls, Messages, Kind, More, heard_shown, note_shown, drop_shown, lost_shown, Side, Config, shown, answer_shown, Answer, refused, gave, Line, Refusal, Card, by_room, arith, told, CardEvent as Event, card_answer as answer, seen, seen_told}
 use Rattle.lapd_count.specs.Kinds.{kind_of}
-use Rattle.lapd_count.specs.Messages.{has_message, message_of}
-use Rattle.lapd_count.specs.Shown.{begun_shown, is_poll, message_shown, octets_shown, type_shown}
-use Rattle.lapd_count.specs.declared.counter.Counter.TheVariants.{Lost}
+use Rattle.lapd_count.specs.Shown.{begun_shown, is_poll, message_shown, octets_shown}
 use Rattle.lapd_count.specs.declared.counter.Way.{Way}
-use Rattle.lapd_count.specs.declared.counter.Way.TheVariants as way
 use Rattle.lapd_count.specs.declared.messages.Message.{Message}
-use Rattle.lapd_frame.specs.Grammar.{other_side}
 use Rattle.model_bits.specs.Stream as stream
 use Rattle.model_line.specs.Event as line_event
 use Rattle.model_line.specs.Machine as lines
@@ -25,22 +21,14 @@ Answers line_event.next (gave frame) = Unit {0}
 Answers other a = Tells a
 
 refused-answers : (e : line_event.Event) (why : Refusal) → Answers e (refused why)
-refused-answers (line_event.hears what) why = tt
-refused-answers other why = tt
+refused-answers e why = grind arith
 
 line-answers : (c : Config) (e : line_event.Event) (l : Line) → Answers e (lines.answer c e l)
 unfolding lines.answer
-line-answers c (line_event.request r) l = go (refusal c false r l)
-  where
-    go : (o : Option Refusal) → Tells (lines.unless_refused_told o (lines.of_request c r l))
-    go None = tt
-    go (Some why) = tt
-line-answers c other l = tt
+line-answers c e l = grind arith
 
 card-answers : (e : Event) (card : Card) → Answers e.what (answer e card)
-card-answers e card =
-    by_room (λ ls a. Answers e.what a) e card (λ full. refused-answers e.what PoolFull)
-    (λ served. line-answers card.config e.what (line_at e.line card))
+card-answers e card = grind (arith, by_room, refused-answers, line-answers)
 
 -- All but a drop is seen.
 abbrev kept : List More → List More
@@ -60,30 +48,19 @@ notes-kept [] = refl
 notes-kept (n ∷ notes) = rw (note-seen n) (ap (λ xs. note_shown n ∷ xs) (notes-kept notes))
 
 lost-kept : (n : ℕ) → IsKept (lost_shown n)
-lost-kept n = go (n == 0)
-  where
-    go : (b : Bool) → IsKept (cond b [] ((Lost, n) ∷ []))
-    go true = refl
-    go false = refl
+lost-kept n = grind arith
 
 none-dropped : (o : Option Cause) → kept (drop_shown o) ≡ []
-none-dropped None = refl
-none-dropped (Some cause) = refl
+none-dropped o = grind arith
 
 polls-kept : (w : Way) (b : Bool) → IsKept (cond b ((Polls w, 1) ∷ []) [])
-polls-kept w true = refl
-polls-kept w false = refl
+polls-kept w b = grind arith
 
 type-kept : (w : Way) (o : Option Message) → IsKept (option_map_or (λ m. (Messages w m, 1) ∷ []) o [])
-type-kept w None = refl
-type-kept w (Some m) = refl
+type-kept w o = grind arith
 
 message-kept : (w : Way) (octets : List ℕ) → IsKept (message_shown w octets)
-message-kept w octets = go (has_message octets)
-  where
-    go : (b : Bool) → IsKept (cond b (type_shown w (get_or octets 6 0)) [])
-    go true = type-kept w (message_of (get_or octets 6 0))
-    go false = refl
+message-kept w octets = grind (arith, type-kept)
 
 octets-kept : (sender : Side) (w : Way) (octets : List ℕ) → IsKept (octets_shown sender w octets)
 octets-kept sender w octets =
@@ -93,26 +70,14 @@ octets-kept sender w octets =
     (joined (cond poll ((Polls w, 1) ∷ []) []) (message_shown w octets) (polls-kept w poll) (message-kept w octets))
 
 heard-kept : (side : Side) (e : stream.Event) → IsKept (heard_shown side (Some e))
-heard-kept side (stream.frame octets) = octets-kept (other_side side) way.Heard octets
-heard-kept side (stream.overlong head) = refl
-heard-kept side (stream.dropped cause) = refl
+heard-kept side e = grind (arith, octets-kept)
 
 begun-kept : (side : Side) (octets : List ℕ) → IsKept (begun_shown side octets)
-begun-kept side [] = refl
-begun-kept side (x ∷ xs) = octets-kept side way.Begun (x ∷ xs)
+begun-kept side octets = grind (arith, octets-kept)
 
 -- So what is told is seen, and what comes with it.
 of-told : (side : Side) (a : Answer) → Tells a → kept (answer_shown side a) ≡ flat_map (names side) (seen_told a)
-of-told side (told t) tells =
-    let notes : List More = map note_shown t.notes in
-    let lost : List More = lost_shown t.lost in
-    filter-append is_seen (notes ++ drop_shown t.cause) lost
-    ∙ ap (λ xs. xs ++ kept lost)
-    (filter-append is_seen notes (drop_shown t.cause) ∙ ap (λ xs. xs ++ kept (drop_shown t.cause)) (notes-kept t.notes)
-    ∙ ap (λ xs. notes ++ xs) (none-dropped t.cause) ∙ append-nil notes)
-    ∙ ap (λ xs. notes ++ xs) (lost-kept t.lost ∙ sym (append-nil lost))
-of-told side (refused why) tells = refl
-of-told side (gave frame) tells = absurd tells
+of-told side a tells = grind (arith, filter-append, notes-kept, none-dropped, lost-kept, append-nil)
 
 of-event : (c : Config) (e : line_event.Event) (a : Answer) → Answers e a → kept (shown c e a) ≡ flat_map (names c.side) (seen e a)
 of-event c (line_event.hears what) a answers =

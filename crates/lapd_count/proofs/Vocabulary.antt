@@ -1,14 +1,13 @@
 -- The words with which the proofs of this crate speak, from where they are defined.
-pub use Rattle.std.proofs.Common.{Bool, List, [], ap, arith, cond, false, get_or, length, length-set, map, min, refl, set, subst, sym, take, true, ℕ, ◌+◌, ◌<◌, ◌==◌, ◌∙◌, ◌∷◌, ◌≡◌, ◌≤◌}
-pub use Rattle.std.proofs.lemmas.Bool.{eqb-false, eqb-true}
+pub use Rattle.std.proofs.Common.{Bool, List, [], ap, arith, cond, false, get_or, length, length-set, map, min, refl, set, subst, sym, take, true, ℕ, ◌%◌, ◌*◌, ◌+◌, ◌<◌, ◌==◌, ◌∙◌, ◌∷◌, ◌≡◌, ◌≤◌}
+pub use Rattle.std.proofs.lemmas.Bool.{eq-eqb, eqb-false, eqb-true}
 pub use Rattle.std.proofs.lemmas.List.{get_or-set_other, get_or-set_same}
 pub use Rattle.std.proofs.lemmas.List.FromFn.{get_or-map-range_with_len}
 pub use Rattle.std.proofs.lemmas.List.Sums.{sum_by-cons}
 pub use Rattle.std.specs.List.{range_with_len}
-pub use Rattle.lapd_count.specs.Counters.{amount_in, amount_of, cause_place, count, error_place, most, place, value_in, with_all, with_more}
-pub use Rattle.lapd_count.specs.Kinds.{kind_of, kind_place}
-pub use Rattle.lapd_count.specs.Laws.{CountersAreNumbers, PlacesAreNames}
-pub use Rattle.lapd_count.specs.Messages.{message_place}
+pub use Rattle.lapd_count.specs.Counters.{amount_in, amount_of, count, most, place, value_in, with_all, with_more}
+pub use Rattle.lapd_count.specs.Kinds.{kind_of}
+pub use Rattle.lapd_count.specs.Laws.{ControlsHaveKinds, CountersAreNumbers, PlacesAreNames}
 pub use Rattle.lapd_count.specs.Shown.{note_shown}
 pub use Rattle.lapd_count.specs.declared.counter.Counter.{Counter}
 pub use Rattle.lapd_count.specs.declared.counter.Counter.TheVariants.{Assigned, Data, Doubled, Dropped, Errors, EstablishConfirms, EstablishIndications, Frames, Lost, Messages, Octets, Overlong, Polls, ReleaseConfirms, ReleaseIndications, Removed, Units, Xids}

@@ -1,38 +1,26 @@
 -- The counters of a line.
-use Rattle.std.specs.Prelude.{ℕ, ◌+◌, ◌==◌, List, fold, get_or, set, min, replicate, sum_by, if◌then◌else◌}
+use Rattle.std.specs.Prelude.{ℕ, ◌+◌, ◌*◌, ◌==◌, List, fold, get_or, set, min, replicate, sum_by, if◌then◌else◌}
 use denote.Enum.Declared.{tag_of}
 use Rattle.model_bits.specs.contracts.heard.Cause.{the_type as the_cause}
-use Rattle.model_bits.specs.declared.heard.Cause.{Cause}
 use Rattle.lapd_frame.specs.contracts.notes.ErrorCode.{the_type as the_code}
-use Rattle.lapd_frame.specs.declared.notes.ErrorCode.{ErrorCode}
 use Rattle.lapd_count.specs.contracts.counter.Counter.{the_type}
+use Rattle.lapd_count.specs.contracts.counter.Way.{the_type as the_way}
+use Rattle.lapd_count.specs.contracts.kinds.Kind.{the_type as the_kind}
+use Rattle.lapd_count.specs.contracts.messages.Message.{the_type as the_message}
 use Rattle.lapd_count.specs.declared.counter.Counter.{Counter}
 use Rattle.lapd_count.specs.declared.counter.Counter.TheVariants.{Frames, Octets, Polls, Overlong, Dropped, Errors, Messages}
-use Rattle.lapd_count.specs.declared.counter.Way.TheVariants.{Heard, Begun}
 use Rattle.lapd_count.specs.declared.counters.Counters.{Counters}
-use Rattle.lapd_count.specs.Kinds.{kind_place}
-use Rattle.lapd_count.specs.Messages.{message_place}
 
--- Causes, codes and names that have nothing beside them stand in the order of their declaration.
-abbrev pub cause_place : Cause → ℕ
-cause_place cause = tag_of the_cause cause
-
-abbrev pub error_place : ErrorCode → ℕ
-error_place code = tag_of the_code code
-
--- Where each stands: no two at one place.
+-- Where each stands, no two at one place: in the order of the declaration, heard before begun; and kinds, causes, codes and
+-- messages in that of theirs.
 abbrev pub place : Counter → ℕ
-place (Frames Heard kind) = kind_place kind
-place (Frames Begun kind) = 12 + kind_place kind
-place (Octets Heard) = 24
-place (Octets Begun) = 25
-place (Polls Heard) = 26
-place (Polls Begun) = 27
+place (Frames way kind) = 12 * tag_of the_way way + tag_of the_kind kind
+place (Octets way) = 24 + tag_of the_way way
+place (Polls way) = 26 + tag_of the_way way
 place Overlong = 28
-place (Dropped cause) = 29 + cause_place cause
-place (Errors code) = 37 + error_place code
-place (Messages Heard message) = 62 + message_place message
-place (Messages Begun message) = 69 + message_place message
+place (Dropped cause) = 29 + tag_of the_cause cause
+place (Errors code) = 37 + tag_of the_code code
+place (Messages way message) = 62 + 7 * tag_of the_way way + tag_of the_message message
 place other = 45 + tag_of the_type other
 
 abbrev pub count : ℕ

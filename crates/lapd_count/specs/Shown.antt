@@ -15,37 +15,32 @@ use Rattle.lapd_count.specs.declared.counter.Way.TheVariants.{Heard, Begun}
 use Rattle.lapd_count.specs.Counters.{More}
 use Rattle.lapd_count.specs.declared.kinds.Kind.{Kind}
 use Rattle.lapd_count.specs.Kinds.{kind_of, asks}
-use Rattle.lapd_count.specs.Messages.{has_message, message_of, message_type}
+use Rattle.lapd_count.specs.Messages.{has_message, message_of}
 
--- Who sends what a line hears, and what it begins: the line is this side's.
-abbrev pub sender : Side → Way → Side
-sender side Heard = other_side side
-sender side Begun = side
+-- A poll: a command (Q.921 clause 3.3.2) of its sender, of a kind that asks, whose P bit, the lowest of the second control
+-- octet, is 1.
+abbrev pub is_poll : Side → ℕ → Kind → ℕ → Bool
+is_poll sender first kind second = (first / 2 % 2 == cr_bit sender true) && asks kind && (second % 2 == 1)
 
--- A poll: a command (Q.921 clause 3.3.2) of a kind that asks whose P bit, the lowest of the second control octet, is 1.
-abbrev pub is_poll : Side → Way → ℕ → Kind → ℕ → Bool
-is_poll side way first kind second = (first / 2 % 2 == cr_bit (sender side way) true) && asks kind && (second % 2 == 1)
-
--- A frame whose first octet is `first`, and whose control field is these two octets, or the first of them.
-abbrev pub frame_shown : Side → Way → ℕ → ℕ → ℕ → ℕ → List More
-frame_shown side way first control second octets =
-    (Frames way (kind_of control), 1) ∷ (Octets way, octets)
-    ∷ (if is_poll side way first (kind_of control) second then (Polls way, 1) ∷ [] else [])
+-- A frame that begins with these octets, up to its control field, and has so many.
+abbrev pub frame_shown : Side → Way → List ℕ → ℕ → List More
+frame_shown sender way head length =
+    (Frames way (kind_of (get_or head 2 0)), 1) ∷ (Octets way, length)
+    ∷ (if is_poll sender (get_or head 0 0) (kind_of (get_or head 2 0)) (get_or head 3 0) then (Polls way, 1) ∷ [] else [])
 
 -- A message of TEI management in it, by its type.
 abbrev pub type_shown : Way → ℕ → List More
 type_shown way type = option_map_or (λ message. (Messages way message, 1) ∷ []) (message_of type) []
 
 abbrev pub message_shown : Way → List ℕ → List More
-message_shown way octets = if has_message octets then type_shown way (message_type octets) else []
+message_shown way octets = if has_message octets then type_shown way (get_or octets 6 0) else []
 
 -- A frame by its octets; one that begins also by its head, apart from its message.
 abbrev pub octets_shown : Side → Way → List ℕ → List More
-octets_shown side way octets =
-    frame_shown side way (get_or octets 0 0) (get_or octets 2 0) (get_or octets 3 0) (length octets) ++ message_shown way octets
+octets_shown sender way octets = frame_shown sender way octets (length octets) ++ message_shown way octets
 
 abbrev pub head_shown : Side → Head → List More
-head_shown side head = frame_shown side Begun (get_or head.octets 0 0) (get_or head.octets 2 0) (get_or head.octets 3 0) head.length
+head_shown side head = frame_shown side Begun head.octets head.length
 
 abbrev pub begun_shown : Side → List ℕ → List More
 begun_shown side [] = []
@@ -54,7 +49,7 @@ begun_shown side (octet ∷ octets) = octets_shown side Begun (octet ∷ octets)
 -- What is heard. (What is dropped is counted by what is told of it.)
 abbrev pub heard_shown : Side → Option Event → List More
 heard_shown side None = []
-heard_shown side (Some (frame octets)) = octets_shown side Heard octets
+heard_shown side (Some (frame octets)) = octets_shown (other_side side) Heard octets
 heard_shown side (Some (overlong head)) = (Overlong, 1) ∷ []
 heard_shown side (Some (dropped cause)) = []
 
@@ -76,8 +71,7 @@ abbrev pub note_shown : Note → More
 note_shown told = (counter_of told, 1)
 
 abbrev pub drop_shown : Option Cause → List More
-drop_shown None = []
-drop_shown (Some cause) = (Dropped cause, 1) ∷ []
+drop_shown cause = option_map_or (λ why. (Dropped why, 1) ∷ []) cause []
 
 abbrev pub lost_shown : ℕ → List More
 lost_shown lost = if lost == 0 then [] else (Lost, lost) ∷ []

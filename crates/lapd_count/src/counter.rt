@@ -1,7 +1,10 @@
 //! What is counted.
 
 ghost use Rattle.std.specs.Prelude.{◌≡◌, ◌<◌};
-ghost use Rattle.lapd_count.specs.Counters.{place, cause_place, error_place};
+ghost use denote.Enum.Declared.{tag_of};
+ghost use Rattle.model_bits.specs.contracts.heard.Cause.{the_type as the_cause};
+ghost use Rattle.lapd_frame.specs.contracts.notes.ErrorCode.{the_type as the_code};
+ghost use Rattle.lapd_count.specs.Counters.{place};
 
 use crate::kinds::Kind;
 use crate::messages::Message;
@@ -96,14 +99,14 @@ impl Counter {
 }
 
 fn cause_place(cause: Cause) -> usize
-    ensures value { result ≡ cause_place cause }
+    ensures value { result ≡ tag_of the_cause cause }
     ensures bound { result < 8 }
 {
     cause as usize - 1
 }
 
 fn error_place(code: ErrorCode) -> usize
-    ensures value { result ≡ error_place code }
+    ensures value { result ≡ tag_of the_code code }
     ensures bound { result < 14 }
 {
     code as usize

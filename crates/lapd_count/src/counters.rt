@@ -1,7 +1,7 @@
 //! The counters of a line.
 
 ghost use Rattle.std.specs.Option.{option_map_or};
-ghost use Rattle.std.specs.Prelude.{◌≡◌, ◌<◌, ◌++◌, [], get_or, map, set};
+ghost use Rattle.std.specs.Prelude.{◌≡◌, ◌<◌, ◌∷◌, ◌++◌, [], get_or, map, set};
 ghost use Rattle.lapd_count.specs.declared.counter.Way.TheVariants.{Begun};
 ghost use Rattle.model_bits.specs.Heard.{heard_of};
 ghost use Rattle.lapd_count.specs.Counters.{value_in, with_more, with_all, none_counted};
@@ -68,15 +68,15 @@ impl Counters {
         self.values[place] = u64::MAX;
     }
 
-    /// A frame, by the octets in which its C/R bit and its control field stand, and its length.
+    /// A frame of its sender, by the octets in which its C/R bit and its control field stand, and its length.
     #[inline(always)]
-    fn frame(&mut self, side: Side, way: Way, first: u8, control: u8, second: u8, length: usize)
-        ensures { self.new ≡ with_all self.old (frame_shown side way first control second length) }
+    fn frame(&mut self, sender: Side, way: Way, first: u8, control: u8, second: u8, length: usize)
+        ensures { self.new ≡ with_all self.old (frame_shown sender way (first ∷ 0 ∷ control ∷ second ∷ []) length) }
     {
         let kind = Kind::of(control);
         self.add(Counter::Frames(way, kind), 1);
         self.add(Counter::Octets(way), length as u64);
-        if is_poll(side, way, first, kind, second) {
+        if is_poll(sender, first, kind, second) {
             self.add(Counter::Polls(way), 1);
         }
     }
@@ -89,17 +89,17 @@ impl Counters {
         match heard {
             Heard::Nothing | Heard::Dropped(_) => {}
             Heard::Overlong(_) => self.add(Counter::Overlong, 1),
-            Heard::Frame(octets) => self.octets(side, Way::Heard, octets),
+            Heard::Frame(octets) => self.octets(side.other(), Way::Heard, octets),
         }
     }
 
     /// A frame whose octets are all there.
     #[inline(always)]
-    fn octets(&mut self, side: Side, way: Way, octets: &[u8])
-        ensures { self.new ≡ with_all self.old (octets_shown side way octets.now) }
+    fn octets(&mut self, sender: Side, way: Way, octets: &[u8])
+        ensures { self.new ≡ with_all self.old (octets_shown sender way octets.now) }
     {
         self.frame(
-            side,
+            sender,
             way,
             octet_at(octets, 0),
             octet_at(octets, 2),
@@ -203,13 +203,9 @@ fn counter_of(note: &Note) -> Counter
 }
 
 /// Whether it is a poll.
-fn is_poll(side: Side, way: Way, first: u8, kind: Kind, second: u8) -> bool
-    ensures { result ≡ is_poll side way first kind second }
+fn is_poll(sender: Side, first: u8, kind: Kind, second: u8) -> bool
+    ensures { result ≡ is_poll sender first kind second }
 {
-    let sender = match way {
-        Way::Heard => side.other(),
-        Way::Begun => side,
-    };
     let bit = match sender {
         Side::User => 0,
         Side::Network => 1,

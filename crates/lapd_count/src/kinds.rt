@@ -1,7 +1,9 @@
 //! The kinds of frames.
 
 ghost use Rattle.std.specs.Prelude.{◌≡◌, ◌<◌};
-ghost use Rattle.lapd_count.specs.Kinds.{kind_of, asks, kind_place};
+ghost use denote.Enum.Declared.{tag_of};
+ghost use Rattle.lapd_count.specs.contracts.kinds.Kind.{the_type};
+ghost use Rattle.lapd_count.specs.Kinds.{kind_of, asks};
 
 use Kind::{
     Disc as DISC, Dm as DM, Frmr as FRMR, Information as I, ReceiveNotReady as RNR,
@@ -70,7 +72,7 @@ impl Kind {
 
     /// Its place among the kinds.
     pub(crate) fn place(self) -> usize
-        ensures value { result ≡ kind_place self }
+        ensures value { result ≡ tag_of the_type self }
         ensures bound { result < 12 }
     {
         self as usize

@@ -1,7 +1,9 @@
 //! The messages of TEI management.
 
 ghost use Rattle.std.specs.Prelude.{◌≡◌, ◌<◌};
-ghost use Rattle.lapd_count.specs.Messages.{message_of, message_place};
+ghost use denote.Enum.Declared.{tag_of};
+ghost use Rattle.lapd_count.specs.contracts.messages.Message.{the_type};
+ghost use Rattle.lapd_count.specs.Messages.{message_of};
 
 /// A message of TEI management, as its type says (Q.921 clause 5.3.1, table 8). It is counted whether or not the message is
 /// otherwise well formed, and whether or not it is served.
@@ -42,7 +44,7 @@ impl Message {
 
     /// Its place among the messages.
     pub(crate) fn place(self) -> usize
-        ensures value { result ≡ message_place self }
+        ensures value { result ≡ tag_of the_type self }
         ensures bound { result < 7 }
     {
         self as usize

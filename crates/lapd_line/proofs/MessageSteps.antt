@@ -1,5 +1,5 @@
 -- Which message of TEI management a frame has that is taken.
-use Rattle.lapd_line.proofs.Vocabulary.{◌≡◌, ℕ, Bool, true, false, List, [], ◌∷◌, ◌++◌, Option, Some, None, option_map, option_map_or, option_or, slice_get, refl, sym, ap, ◌∙◌, subst, cond, head_of, head_shown, begun_shown, message_shown, type_shown, has_message, message_type, type_of, Side, Network, User, Service, Call, Packet, Control, Ui, unwrap_or, spelling, sapi_of, Config, Taken, taken}
+use Rattle.lapd_line.proofs.Vocabulary.{◌≡◌, ℕ, Bool, true, false, List, [], ◌∷◌, ◌++◌, get_or, Option, Some, None, option_map, option_map_or, option_or, slice_get, refl, sym, ap, ◌∙◌, subst, cond, head_of, head_shown, begun_shown, message_shown, type_shown, has_message, type_of, Side, Network, User, Service, Call, Packet, Control, Ui, unwrap_or, spelling, sapi_of, Config, Taken, taken}
 use Rattle.std.proofs.lemmas.Option.{none-some, same_Some}
 use Rattle.lapd_count.specs.Counters.{More}
 use Rattle.lapd_count.specs.declared.counter.Way.TheVariants.{Begun}
@@ -44,7 +44,7 @@ abbrev IsOfService : Taken → Type 0
 IsOfService k = has_message k.frame ≡ false
 
 abbrev none_shown : (octets : List ℕ) → has_message octets ≡ false → message_shown Begun octets ≡ []
-none_shown octets none = ap (λ b. cond b (type_shown Begun (message_type octets)) []) none
+none_shown octets none = ap (λ b. cond b (type_shown Begun (get_or octets 6 0)) []) none
 
 of_unit : (c : Config) (m : Line) {k : Taken} → unit_taken c m ≡ Some k → IsOfService k
 of_unit c m {k} is = go (slice_get m.units 0) is

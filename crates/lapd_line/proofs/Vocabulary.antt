@@ -18,7 +18,7 @@ pub use Rattle.std.specs.Prelude.{vec_capacity}
 pub use Rattle.circular_buffer.proofs.Places.{slice_get-set_other, slice_get-set_same}
 pub use Rattle.lapd_bits.specs.Ended.{without_octets}
 pub use Rattle.lapd_count.specs.Counters.{More, with_all}
-pub use Rattle.lapd_count.specs.Messages.{has_message, message_type}
+pub use Rattle.lapd_count.specs.Messages.{has_message}
 pub use Rattle.lapd_count.specs.Shown.{begun_shown, head_shown, heard_shown, message_shown, told_shown, type_shown}
 pub use Rattle.lapd_count.specs.declared.counters.Counters.{Counters}
 pub use Rattle.lapd_frame.specs.Grammar.{IsFrame, Parts, parts_of, spelling}

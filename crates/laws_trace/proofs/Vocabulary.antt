@@ -6,19 +6,16 @@ pub use Rattle.std.proofs.lemmas.Bool.{and_parts, and_right, cond_both, eqb-fals
 pub use Rattle.std.proofs.lemmas.Grind.{flat_map-append}
 pub use Rattle.std.proofs.lemmas.List.{get_or-replicate, get_or-set_other, get_or-set_same, length-drop, length-replicate, map-append}
 pub use Rattle.std.proofs.lemmas.List.Elements.{All-append, All-cons, All-drop, All-head, All-nil, All-tail, All-take, All-weaker, filter-append}
-pub use Rattle.std.proofs.lemmas.List.Sums.{fold-append, sum_by-append, sum_by-cons}
+pub use Rattle.std.proofs.lemmas.List.Sums.{fold-append, sum_by-cons}
 pub use Rattle.std.proofs.lemmas.Map.Views.{any-filter_same}
 pub use Rattle.std.proofs.lemmas.Option.{none-some}
 pub use Rattle.std.specs.List.{find, list_any, prefix_len, range_with_len}
 pub use Rattle.std.specs.Option.{option_and_then, option_map_or, option_or, unwrap_or}
 pub use Rattle.std.specs.Prelude.{IfOk, count_by, flat_map, fold, if◌then◌else◌, nat_lt, option_to_list}
 pub use Rattle.std.specs.Result.{result_err, result_ok}
-pub use Rattle.lapd_count.specs.Counters.{More, amount_in, amount_of, cause_place, place}
-pub use Rattle.lapd_count.specs.Kinds.{kind_place}
+pub use Rattle.lapd_count.specs.Counters.{More}
 pub use Rattle.lapd_count.specs.Shown.{drop_shown, heard_shown, lost_shown, note_shown}
-pub use Rattle.lapd_count.specs.declared.counter.Counter.{Counter}
-pub use Rattle.lapd_count.specs.declared.counter.Counter.TheVariants.{Dropped, Frames, Messages, Octets, Overlong, Polls}
-pub use Rattle.lapd_count.specs.declared.counter.Way.TheVariants.{Begun, Heard}
+pub use Rattle.lapd_count.specs.declared.counter.Counter.TheVariants.{Frames, Messages, Octets, Polls}
 pub use Rattle.lapd_count.specs.declared.kinds.Kind.{Kind}
 pub use Rattle.lapd_frame.proofs.AddressField.{address-again}
 pub use Rattle.lapd_frame.proofs.ControlField.{control-again}
@@ -157,7 +154,6 @@ pub use Rattle.model_card.proofs.Refusals.{answer_is}
 pub use Rattle.model_card.proofs.Rooms.{refuses_by}
 pub use Rattle.model_card.proofs.Steps.{by_room, has_lines, line_sound}
 pub use Rattle.model_card.specs.Card.{Card, fresh, is_full, line_at}
-pub use Rattle.model_card.specs.Counted.{all_shown}
 pub use Rattle.model_card.specs.Event.{Event as CardEvent, at}
 pub use Rattle.model_card.specs.Machine.{after, answer as card_answer}
 pub use Rattle.model_card.specs.Room.{free}

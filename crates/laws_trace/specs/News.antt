@@ -91,15 +91,19 @@ wrong c service tei (hears e) was to =
 wrong c service tei (expiry timer) was to = given_up was to
 wrong c service tei other was to = []
 
--- So the notes of a link, of these kinds, in the answer to an event at the line are exactly what is due, errors first; and
--- none are where its TEI was not on the line.
+-- So these notes are due by an event at the line, errors first; and none where the TEI was not on the line.
+abbrev pub notes_due : Config → Service → ℕ → Observed → Observed → line_event.Event → Answer → List Note
+notes_due c service tei was now what a =
+    if was.state == 1 then []
+    else map (Error service tei) (wrong c service tei what was.state now.state)
+    ++ due service tei (brings is_xid c service tei what) (brings is_sabme c service tei what) (releases service tei what a) was now.state
+
+-- And they are exactly those of a link, of these kinds, in the answer.
 abbrev pub NewsIsTold : Config → List Event → ℕ → Type 0
 NewsIsTold c events number =
     (service : Service) (tei : ℕ) (before : List Event) (what : line_event.Event) (behind : List Event) →
     events ≡ before ++ at number what ∷ behind →
     let a = (moment_of c before number what).answer in
     let was = (view_of c service tei number before).link in
-    let to = (view_behind c service tei number before what).link.state in
-    filter (is_news service tei) (notes_of a)
-    ≡ (if was.state == 1 then [] else map (Error service tei) (wrong c service tei what was.state to)
-    ++ due service tei (brings is_xid c service tei what) (brings is_sabme c service tei what) (releases service tei what a) was to)
+    let now = (view_behind c service tei number before what).link in
+    filter (is_news service tei) (notes_of a) ≡ notes_due c service tei was now what a

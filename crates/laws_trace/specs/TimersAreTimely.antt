@@ -50,6 +50,11 @@ order_due c service tei was now what timer its =
     if runs timer now && (not (runs timer was) || is_anew c service tei timer was now what) then Start its ∷ []
     else if runs timer was && not (runs timer now) then Stop its ∷ [] else []
 
+-- Both of them, T200's first.
+abbrev pub orders_due : Config → Service → ℕ → Observed → Observed → line_event.Event → List Order
+orders_due c service tei was now what =
+    order_due c service tei was now what T200 (timers.T200 service tei) ++ order_due c service tei was now what T203 (timers.T203 service tei)
+
 abbrev pub is_timer_of : Service → ℕ → Timer → Bool
 is_timer_of service tei (timers.T200 of by) = is_own service tei of by
 is_timer_of service tei (timers.T203 of by) = is_own service tei of by
@@ -65,8 +70,7 @@ TimersAreTimely c events number =
     (service : Service) (tei : ℕ) (what : line_event.Event) →
     let was = (view_of c service tei number events).link in
     let now = (view_behind c service tei number events what).link in
-    filter (is_order_of service tei) (orders_in (moment_of c events number what).answer)
-    ≡ order_due c service tei was now what T200 (timers.T200 service tei) ++ order_due c service tei was now what T203 (timers.T203 service tei)
+    filter (is_order_of service tei) (orders_in (moment_of c events number what).answer) ≡ orders_due c service tei was now what
 
 -- So at a caller's that obeys the orders each timer of a link runs where it is due, after every list of events.
 abbrev pub TimersRun : Config → List Event → ℕ → Type 0

@@ -1,11 +1,13 @@
 -- Worked values: what is counted of a trace, and counters that count nothing, which break the law.
-use Rattle.std.specs.Prelude.{◌≡◌, ℕ, [], ◌∷◌, ◌++◌, flat_map, refl}
+use Rattle.std.specs.Prelude.{◌≡◌, ℕ, List, [], ◌∷◌, ◌++◌, filter, flat_map, refl}
+use Rattle.model_bits.specs.Stream.{frame}
+use Rattle.model_bits.specs.declared.heard.Cause.TheVariants.{Fcs}
 use Rattle.lapd_count.specs.declared.counter.Counter.{Counter}
-use Rattle.lapd_count.specs.declared.counter.Counter.TheVariants.{Frames, Octets, EstablishIndications, Messages}
+use Rattle.lapd_count.specs.declared.counter.Counter.TheVariants.{Frames, Octets, Dropped, EstablishIndications, Lost, Messages}
 use Rattle.lapd_count.specs.declared.counter.Way.TheVariants.{Heard, Begun}
 use Rattle.lapd_count.specs.declared.kinds.Kind.TheVariants.{Sabme, Ua}
 use Rattle.lapd_count.specs.declared.messages.Message.TheVariants.{IdentityRequest, IdentityAssigned, IdentityDenied}
-use Rattle.lapd_count.specs.Counters.{amount_in}
+use Rattle.lapd_count.specs.Counters.{More, amount_in}
 use Rattle.lapd_frame.specs.Reading.{reading, header_of, control_of, unnumbered_of}
 use Rattle.lapd_tei.specs.Events as teis
 use Rattle.model_line.specs.declared.config.Config.{Config}
@@ -13,8 +15,8 @@ use Rattle.model_line.specs.Machine as lines
 use Rattle.model_card.specs.Event.{Event}
 use Rattle.model_card.specs.Run.{moments}
 use Rattle.laws_line.specs.card.Worked.{usual, up}
-use Rattle.laws_trace.specs.CountersCount.{names}
-use Rattle.laws_trace.specs.Trace.{trace_of}
+use Rattle.laws_trace.specs.CountersCount.{names, is_seen}
+use Rattle.laws_trace.specs.Trace.{trace_of, heard, lost}
 use Rattle.laws_trace.specs.WorkedUnits.{calls, comes}
 
 -- SABME of TEI 64, and two calls for the next frame: its UA goes.
@@ -59,6 +61,14 @@ one_denied : managed (Messages Begun IdentityDenied) ≡ 1
 unfolding moments lines.after lines.answer lines.takes_slot teis.course teis.refusal reading header_of control_of unnumbered_of
 one_denied = refl
 
--- Where the moments show nothing, the law is broken.
-none_shown : amount_in (Frames Heard Sabme) [] ≡ 1 → ⊥
+-- Where SABME is heard, and the event shows nothing, the law is broken.
+abbrev heard_sabme : List More
+heard_sabme = names usual.side (heard (frame (0x00 ∷ 0x81 ∷ 0x7F ∷ [])))
+
+none_shown : [] ≡ heard_sabme → ⊥
+unfolding control_of unnumbered_of
 none_shown e = cc e
+
+-- It need not show why something is dropped, and nothing else is left out.
+drops_apart : filter is_seen ((Dropped Fcs, 1) ∷ (Lost, 2) ∷ []) ≡ names usual.side (lost 2)
+drops_apart = refl

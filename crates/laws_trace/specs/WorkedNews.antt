@@ -1,5 +1,5 @@
 -- Worked values: what is told of establishments and releases, and errors; and answers that break the laws.
-use Rattle.std.specs.Prelude.{◌≡◌, ◌==◌, List, [], ◌∷◌, ◌++◌, map, filter, true, false, if◌then◌else◌, refl}
+use Rattle.std.specs.Prelude.{◌≡◌, List, [], ◌∷◌, ◌++◌, map, filter, true, false, refl}
 use Rattle.model_bits.specs.Stream as stream
 use Rattle.lapd_frame.specs.declared.notes.ErrorCode.TheVariants.{A, C, E, F, G, H, J, L}
 use Rattle.lapd_frame.specs.declared.notes.Note.{Note}
@@ -18,7 +18,7 @@ use Rattle.model_card.specs.Event as card
 use Rattle.model_card.specs.Event.{at}
 use Rattle.model_card.specs.Run.{moments, after_all}
 use Rattle.laws_line.specs.card.Worked.{usual, on_0, up}
-use Rattle.laws_trace.specs.News.{is_news, is_sabme, is_xid, brings, releases, due, wrong}
+use Rattle.laws_trace.specs.News.{is_news, notes_due, due, wrong}
 use Rattle.laws_trace.specs.Observer.{in_state, view_of, moment_of, view_behind}
 use Rattle.laws_trace.specs.WorkedUnits.{calls}
 
@@ -28,10 +28,7 @@ told before what = filter (is_news Call 64) (notes_of (moment_of usual before 0 
 -- As the law says it.
 abbrev said : List card.Event → Event → List Note
 said before what =
-    let was = (view_of usual Call 64 0 before).link in
-    let to = (view_behind usual Call 64 0 before what).link.state in
-    if was.state == 1 then [] else map (Error Call 64) (wrong usual Call 64 what was.state to)
-    ++ due Call 64 (brings is_xid usual Call 64 what) (brings is_sabme usual Call 64 what) (releases Call 64 what (moment_of usual before 0 what).answer) was to
+    notes_due usual Call 64 (view_of usual Call 64 0 before).link (view_behind usual Call 64 0 before what).link what (moment_of usual before 0 what).answer
 
 abbrev on : List card.Event
 on = on_0 (Assign 64) ∷ []

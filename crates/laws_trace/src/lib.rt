@@ -1,9 +1,11 @@
 //! Laws of the trace of a line: of what an observer of it sees, in order of time.
 //!
-//! Each law holds from a fresh card of a configuration in range, for every list of events at its lines, and for every
-//! line. `specs/` has the trace (`Trace`), what whoever watches the line knows of its TEIs (`Managing`), of a link
-//! (`Observer`) and of what it keeps (`Outgoing`), by the procedures of Q.921, and a file for each law, with worked values
-//! of it. Each law is the contract of a call that does nothing.
+//! Most laws hold from a fresh card of a configuration in range, for every list of events at its lines, and for every line;
+//! the others say of what. `specs/` has the trace (`Trace`), what whoever watches the line knows of its TEIs (`Managing`),
+//! of a link (`Observer`) and of what it keeps (`Outgoing`), by the procedures of Q.921; what is due of a link by that, a
+//! list for each part of an answer: notes (`News`), orders (`TimersAreTimely`), control frames (`ControlFrames`) and what
+//! goes next (`FramesAreDue`); and a file for each law, with worked values of it. Each law is the contract of a call that
+//! does nothing.
 //!
 //! - `laws`: the laws.
 //! - `octets`: what they come to in the octets of a line.

@@ -3,4 +3,4 @@ use Rattle.laws_trace.proofs.CountersCount.{counters-count}
 use Rattle.laws_trace.proofs.laws.counters_count.Goals as goal
 
 pub returns : goal.returns
-returns c = λ config events number ranged all within. counters-count config events number ranged all within
+returns c = counters-count

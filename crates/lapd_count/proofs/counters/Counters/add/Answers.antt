@@ -1,5 +1,5 @@
 -- Hand-written answers for `Counters::add`: a sum that passes the greatest number is less than what was added.
-use Rattle.lapd_count.proofs.Vocabulary.{◌≡◌, ◌+◌, ◌≤◌, min, ap, sym, set, get_or, arith, ◌∙◌, most}
+use Rattle.lapd_count.proofs.Vocabulary.{◌+◌, ◌≤◌, min, ap, sym, set, get_or, arith, ◌∙◌, most}
 use Rattle.std.proofs.Math.Nat.{min-eq_right}
 use Rattle.std.proofs.lemmas.List.{set-set}
 use Rattle.lapd_count.proofs.counters.Counters.add.Goals as goal

@@ -1,16 +1,13 @@
 -- An event accepts for a link what its request asks and its answer grants.
-use Rattle.laws_line.proofs.Vocabulary.{◌≡◌, ℕ, Bool, true, false, cond, ◌==◌, List, [], ◌∷◌, length, Option, Some, None, is_some, refl, sym, ap, ◌∙◌, nat_lt, option_map_or, Refusal, TooLong, QueueFull, PoolFull, WrongState, Service, Timer, T201, Link, LinkTimer, accepted, contents_of, share, not_not, Config, hears, request, next, Aim, at_link, at_timer, aim_of_expiry, Line, link_number, place_in, link_in, link_of, terms, unless_refused_told, of_request, aim_of_heard, Row, first_that_holds, bad_tei, no_link, wrong_state, too_long, queue_full, pool_full, Request, Establish, Release, SetBusy, ClearBusy, Deactivate, at_requested, at_deactivated, aim_of_request, heard_aims, Down, T200, T203, fresh, Event, expiry, answer, unless_refused, refusal, Data, Unit, no_share, ending, share_aimed, share_of, is_link, is_granted, asked_for, asked_by}
+use Rattle.laws_line.proofs.Vocabulary.{arith, ◌≡◌, ℕ, Bool, true, false, cond, ◌==◌, List, [], ◌∷◌, length, Option, Some, None, is_some, refl, sym, ap, ◌∙◌, nat_lt, option_map_or, Refusal, TooLong, QueueFull, PoolFull, WrongState, Service, Timer, T201, Link, LinkTimer, accepted, contents_of, share, not_not, Config, hears, request, next, Aim, at_link, at_timer, aim_of_expiry, Line, link_number, place_in, link_in, link_of, terms, unless_refused_told, of_request, aim_of_heard, Row, first_that_holds, bad_tei, no_link, wrong_state, too_long, queue_full, pool_full, Request, Establish, Release, SetBusy, ClearBusy, Deactivate, at_requested, at_deactivated, aim_of_request, heard_aims, Down, T200, T203, fresh, Event, expiry, answer, unless_refused, refusal, Data, Unit, no_share, ending, share_aimed, share_of, is_link, is_granted, asked_for, asked_by}
 use Rattle.model_bits.specs.Stream as stream
 use Rattle.model_link.specs.Events as link
 use Rattle.model_link.specs.Requests as requests
+use Rattle.model_line.proofs.ProperAims.{skipped}
 
 -- a row that does not hold is passed over
 pub passed : (row : Row) (rows : List Row) → first_that_holds (row ∷ rows) ≡ None → (row.holds ≡ false) × (first_that_holds rows ≡ None)
-passed row rows e = go row.holds e
-  where
-    go : (b : Bool) → cond b (Some row.why) (first_that_holds rows) ≡ None → (b ≡ false) × (first_that_holds rows ≡ None)
-    go true e = cc
-    go false e = (refl, e)
+passed row rows e = skipped row.holds row.why (first_that_holds rows) e
 
 -- contents that the line does not refuse are not refused by their link
 by-tests : (serves long full : Bool) (why why2 why3 why4 : Refusal) → serves ≡ true → long ≡ false → full ≡ false
@@ -48,8 +45,7 @@ module _ (c : Config) (l : Line) (number : ℕ) where
       go false = refl
 
   ends : (b : Bool) → (cond b ending no_share).accepted ≡ []
-  ends true = refl
-  ends false = refl
+  ends b = grind arith
 
   by-heard : (e : stream.Event) → Accepts [] (aim_of_heard c l e)
   by-heard = heard_aims c l (Accepts []) (λ cause. refl) (λ service tei place what at. at-link service tei place (link.received what) refl) (λ info. ends _) (λ parts service to. refl)
@@ -64,8 +60,7 @@ module _ (c : Config) (l : Line) (number : ℕ) where
   by-expiry T201 = ends _
 
   nothing-more : (b : Bool) → cond {A = List (List ℕ)} b [] [] ≡ []
-  nothing-more true = refl
-  nothing-more false = refl
+  nothing-more b = grind arith
 
   requested : (service : Service) (tei : ℕ) (what : link.Request) (o : Option ℕ) → contents_of what ≡ []
       → Accepts [] (at_requested service tei what o)

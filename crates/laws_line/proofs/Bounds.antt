@@ -1,19 +1,14 @@
 -- What a configuration gives: the most frames that are to go.
-use Rattle.laws_line.proofs.Vocabulary.{ℕ, ◌+◌, ◌-◌, ◌≤◌, ◌<◌, max, min, Bool, true, false, cond, not, ◌&&◌, length, Option, Some, None, sym, subst, arith, unwrap_or, Service, Call, Packet, Terms, Link, outstanding, unsent, is_established, Config, Line, link_count, service_at, place_at, tei_at, window, terms, link_at, IsSoundAt, sum_bounded, IsSound, link_to_go, to_go_at_link, frames_to_go, most_frames}
+use Rattle.laws_line.proofs.Vocabulary.{ℕ, ◌+◌, ◌-◌, ◌≤◌, ◌<◌, max, min, Bool, cond, not, ◌&&◌, length, Option, Some, None, sym, subst, arith, unwrap_or, Terms, Link, outstanding, unsent, is_established, Config, Line, link_count, service_at, place_at, tei_at, window, terms, link_at, IsSoundAt, sum_bounded, IsSound, link_to_go, to_go_at_link, frames_to_go, most_frames}
 use Rattle.model_link.specs.Sound as link_sound
+use Rattle.model_line.proofs.LineRises.{window_most}
 
 -- of a link
-window-most : (c : Config) (service : Service) → window c service ≤ max c.k c.k16
-window-most c Call = omega arith
-window-most c Packet = omega arith
-
-bit-most : (b : Bool) → cond b 1 0 ≤ 1
-bit-most true = omega arith
-bit-most false = omega arith
+pub bit-most : (b : Bool) → cond b 1 0 ≤ 1
+bit-most b = grind arith
 
 window-few : (b : Bool) (k used unsent : ℕ) → cond b (min (k - used) unsent) 0 ≤ k
-window-few true k used unsent = omega arith
-window-few false k used unsent = omega arith
+window-few b k used unsent = grind arith
 
 link-most : (t : Terms) (l : Link) → link_sound.IsSound t l → link_to_go t l ≤ t.control + t.k + 1
 link-most t l s =
@@ -29,7 +24,7 @@ at-most c l s n few = go (tei_at (place_at n) l) (s.links n few)
     go None is_fresh = subst (λ x. link_to_go (terms c (service_at n) 0) x ≤ c.control + max c.k c.k16 + 1) (sym is_fresh) (omega arith)
     go (Some tei) sound =
         let most = link-most (terms c (service_at n) tei) (link_at n l) sound in
-        let small = window-most c (service_at n) in
+        let small = window_most c (service_at n) in
         omega (arith, most, small)
 
 pub to-go-few : (c : Config) (l : Line) → IsSound c l → frames_to_go c l ≤ most_frames c

@@ -1,5 +1,5 @@
 -- Why a message of TEI management comes to wait: each event of a line.
-use Rattle.laws_line.proofs.Vocabulary.{◌≡◌, ◌⊎◌, inl, inr, ℕ, ◌<◌, ◌==◌, true, false, cond, List, [], ◌∷◌, length, Option, Some, None, refl, sym, ap, ◌∙◌, subst, arith, option_map_or, Tei, Address, Refusal, Service, T201, Parts, service_of, LinkTimer, Management, heard_in, Change, Gained, Left, Config, hears, request, next, Answer, Aim, at_management, told_of_management, of_change, of_aim, at_timer, Line, place_in, has_tei, unless_refused_told, management_sapi, drop_for, to_service, addressed, message_of, aim_of_reading, aim_of_heard, Taken, taken, line_of, wrong_side, bad_tei, no_link, tei_taken, table_full, check_running, control_full, at_side, managed_at, Request, Establish, Release, Assign, Remove, SetBusy, ClearBusy, Deactivate, at_requested, at_deactivated, aim_of_request, IsInRange, next_walk, ranges_of, not_not, Down, T200, T203, Event, expiry, after, answer, unless_refused, group_tei, refusal, Data, Unit, Check, IsSound, Hears, HasCause, IsTaken, HaveCauses, lost_in, Said, Says, Serves, Expires, Grants, is_granted, BringsMessage}
+use Rattle.laws_line.proofs.Vocabulary.{◌≡◌, ◌⊎◌, inl, inr, ℕ, ◌<◌, ◌==◌, true, false, cond, List, [], ◌∷◌, length, Option, Some, None, refl, sym, ap, ◌∙◌, subst, arith, option_map_or, Tei, Address, Refusal, Service, T201, Parts, service_of, LinkTimer, Management, heard_in, Change, Config, hears, request, next, Answer, Aim, at_management, told_of_management, of_change, of_aim, at_timer, Line, place_in, has_tei, unless_refused_told, management_sapi, drop_for, to_service, addressed, message_of, aim_of_reading, aim_of_heard, Taken, taken, line_of, wrong_side, bad_tei, no_link, tei_taken, table_full, check_running, control_full, at_side, managed_at, Request, Establish, Release, Assign, Remove, SetBusy, ClearBusy, Deactivate, at_requested, at_deactivated, aim_of_request, IsInRange, next_walk, ranges_of, not_not, Down, T200, T203, Event, expiry, after, answer, unless_refused, group_tei, refusal, Data, Unit, Check, IsSound, Hears, HasCause, IsTaken, HaveCauses, lost_in, Said, Says, Serves, Expires, Grants, is_granted, BringsMessage}
 use Rattle.model_bits.specs.Stream as stream
 use Rattle.model_link.specs.Events as link
 use Rattle.lapd_tei.specs.Events as teis
@@ -19,9 +19,7 @@ module _ (c : Config) (l : Line) (e : teis.Event) where
   lost-is = by-change (teis.told e l.management).change
     where
       by-change : (o : Option Change) → (of_change c o (told_of_management (teis.told e l.management)) (record l { management = teis.after e l.management })).told.lost ≡ (teis.told e l.management).lost
-      by-change None = refl
-      by-change (Some (Gained tei place)) = refl
-      by-change (Some (Left tei place)) = refl
+      by-change o = grind arith
 
 -- A message of a terminal is an event of TEI management.
 module _ (c : Config) (l : Line) where
@@ -139,16 +137,13 @@ module _ (c : Config) (l : Line) where
   FromCause e l' a = (l'.management ≡ l.management) ⊎ IsTaken e l.management l'.management ⊎ HasCause c e a
 
   by-timer : (service : Service) (tei : ℕ) (timer : LinkTimer) (o : Option ℕ) → (of_aim c (at_timer service tei timer o) l).line.management ≡ l.management
-  by-timer service tei timer None = refl
-  by-timer service tei timer (Some place) = refl
+  by-timer service tei timer o = grind arith
 
   by-asked : (service : Service) (tei : ℕ) (what : link.Request) (o : Option ℕ) → (of_aim c (at_requested service tei what o) l).line.management ≡ l.management
-  by-asked service tei what None = refl
-  by-asked service tei what (Some place) = refl
+  by-asked service tei what o = grind arith
 
   by-deactivated : (service : Service) (tei : ℕ) (o : Option ℕ) → (of_aim c (at_deactivated service tei o) l).line.management ≡ l.management
-  by-deactivated service tei None = refl
-  by-deactivated service tei (Some place) = refl
+  by-deactivated service tei o = grind arith
 
   asked-caused : (r : Request) (a : Answer) → is_granted a ≡ true → FromCause (request r) (of_aim c (aim_of_request r l) l).line a
   asked-caused (Establish service tei) a g = inl (by-asked service tei link.Establish (place_in l tei))

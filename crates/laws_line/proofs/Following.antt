@@ -18,8 +18,7 @@ each-timer P x y (T200 service tei) = y LinkTimer.T200 service tei
 each-timer P x y (T203 service tei) = y LinkTimer.T203 service tei
 
 pub running-of : (k : LinkTimer) (service : Service) (tei : ℕ) (l : Line) → is_running (timer_of k service tei) l ≡ runs_at service k (place_of tei l.management.places) l
-running-of LinkTimer.T200 service tei l = refl
-running-of LinkTimer.T203 service tei l = refl
+running-of k service tei l = grind arith
 
 -- lines with the same table, check and links run the same timers
 alike : (before after : Line) → after.links ≡ before.links → (k : LinkTimer) (service : Service) (o : Option ℕ) → runs_at service k o after ≡ runs_at service k o before
@@ -43,12 +42,10 @@ other-timers LinkTimer.T203 LinkTimer.T200 c s s' n n' e = refl
 other-timers LinkTimer.T203 LinkTimer.T203 c s s' n n' e = e
 
 pub t201-other : (k : LinkTimer) (s : Service) (n : ℕ) → is_same T201 (timer_of k s n) ≡ false
-t201-other LinkTimer.T200 s n = refl
-t201-other LinkTimer.T203 s n = refl
+t201-other k s n = grind arith
 
 its-timer : (c : Config) (k : LinkTimer) (s : Service) (n : ℕ) → timer_at (terms c s n) k ≡ timer_of k s n
-its-timer c LinkTimer.T200 s n = refl
-its-timer c LinkTimer.T203 s n = refl
+its-timer c k s n = grind arith
 
 -- a number is that of one service and one place
 pub same-number : (s s' : Service) (p p' : ℕ) → link_number p s ≡ link_number p' s' → (s ≡ s') × (p ≡ p')
@@ -116,8 +113,7 @@ module _ (c : Config) (l : Line) (s : IsSound c l) (service : Service) (tei plac
   one-steered = each-timer Steered (steers.others T201 (is_running T201 l) refl refl) link-timer
 
 pub and-false : (b : Bool) → (b && false) ≡ false
-and-false true = refl
-and-false false = refl
+and-false b = grind arith
 
 no-timer : (k : LinkTimer) → runs k None ≡ false
 no-timer k = refl

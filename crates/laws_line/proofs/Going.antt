@@ -4,14 +4,11 @@ use Rattle.model_link.specs.Events as link
 use Rattle.model_link.specs.Machine as links
 use Rattle.model_link.specs.Offers
 use Rattle.model_link.specs.Sound as link_sounds
+use Rattle.laws_line.proofs.Bounds.{bit-most}
 
 -- An offer takes one of a link's frames to go, or nothing is left there.
 Falls : Terms → Link → Link → Type 0
 Falls t l l' = (link_to_go t l' + 1 ≤ link_to_go t l) ⊎ HasNothingToSend t l
-
-one-less : (b : Bool) → cond b 1 0 ≤ 1
-one-less true = omega arith
-one-less false = omega arith
 
 -- the window, and what is unsent
 window-falls : (b : Bool) (k a s n : ℕ) → b ≡ true → a ≤ s → s - a < k → s < n → cond b (min (k - (s + 1 - a)) (n - (s + 1))) 0 + 1 ≤ cond b (min (k - (s - a)) (n - s)) 0
@@ -30,7 +27,7 @@ module _ (t : Terms) (l : Link) (ordered : l.a ≤ l.s) where
       let room : l.s - l.a < t.k = ltb-true (l.s - l.a) t.k may.1 in
       let less = window-falls (Offers.is_established l.state && not l.peer_busy) t.k l.a l.s (length l.contents) may.0 ordered room some in
       let size : length l.waiting ≡ zero = ap length w in
-      inl (rw e (by-timer awaits a (omega (arith, less, size, one-less l.pending))))
+      inl (rw e (by-timer awaits a (omega (arith, less, size, bit-most l.pending))))
     where
       by-timer : (awaits : Bool) → Offers.is_awaiting_acknowledgement (Offers.with_one_sent l) ≡ awaits
           → length l.waiting + cond (Offers.is_established l.state && not l.peer_busy) (min (t.k - (l.s + 1 - l.a)) (length l.contents - (l.s + 1))) 0 + 0 + 1 ≤ link_to_go t l

@@ -1,5 +1,5 @@
 -- What the user's side hears of the network for the group: unit data, and messages of TEI management.
-use Rattle.laws_line.proofs.Vocabulary.{◌≡◌, ℕ, ◌==◌, cond, List, length, Option, Some, None, Ok, refl, ap, ◌∙◌, arith, le-leb, Tei, Unserved, Address, Control, Service, Call, Packet, Parts, Spells, reading, service_of, sapi_of, reading-again, place_of-is, Config, LineTold, hears, Aim, at_none, Line, place_in, drop_for, management_sapi, to_service, addressed, message_of, aim_of_reading, heard_side, aim_of_heard, group_told, told_of_ui, told_of_group, told_at, at_side, IsToGroup, dropped, after, answer, at_place, line_group_tei as group_tei, IsSound, OnlyTells, IsToManagement}
+use Rattle.laws_line.proofs.Vocabulary.{◌≡◌, ℕ, ◌==◌, cond, List, length, Option, Some, None, Ok, refl, ap, ◌∙◌, arith, le-leb, Tei, Unserved, Address, Control, Service, Parts, Spells, reading, service_of, sapi_of, reading-again, place_of-is, Config, LineTold, hears, Aim, at_none, Line, place_in, drop_for, management_sapi, to_service, addressed, message_of, aim_of_reading, heard_side, aim_of_heard, group_told, told_of_ui, told_of_group, told_at, at_side, IsToGroup, dropped, after, answer, at_place, line_group_tei as group_tei, IsSound, OnlyTells, IsToManagement}
 use Rattle.model_bits.specs.Stream as stream
 use Rattle.lapd_tei.specs.Events as teis
 use Rattle.model_link.specs.Events as link
@@ -29,8 +29,7 @@ for-nobody c l a service what m s sapi group =
   where
     by-service : (by : Service) → cond (sapi_of by == management_sapi) (cond (a.tei == group_tei) m (drop_for Tei)) (to_service l a.tei what (service_of (sapi_of by)))
         ≡ at_place by a.tei what (place_in l a.tei)
-    by-service Call = refl
-    by-service Packet = refl
+    by-service by = grind arith
 
 -- and a UI of a service is unit data
 group-is : (c : Config) (parts : Parts) (service : Service) (t : LineTold) → IsToGroup c parts service → told_at c c.side parts t ≡ group_told service parts.info

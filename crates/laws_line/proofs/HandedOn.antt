@@ -1,5 +1,5 @@
 -- What is handed on of what is heard.
-use Rattle.laws_line.proofs.Vocabulary.{◌≡◌, ℕ, Bool, true, false, cond, ◌==◌, List, [], ◌∷◌, Option, Some, None, Result, Ok, Err, is_some, refl, sym, ap, ◌∙◌, ◌⊎◌, inl, inr, list_any, option_or, unwrap_or, All-head, All-tail, none-some, Cause, Extension, Sapi, Tei, Unserved, Address, Control, ReadFault, BadExtension, Undefined, WrongSize, Short, Long, Note, Refusal, Service, Call, Packet, Timer, T201, Parts, reading, long_reading, service_of, reading-found, Terms, LinkTimer, IsOwn, Link, is_data, is_unit, notes-own, event-tells, contents_heard, unit_heard, data_due, unit_due, delivered-was-heard, event-unit, data-is, within-is, Change, Gained, Left, place_of-is, Config, hears, request, next, nothing, Aim, at_none, at_link, at_management, at_units, told_of_management, of_change, of_aim, at_timer, aim_of_expiry, Line, place_in, link_in, terms, unless_refused_told, drop_for, management_sapi, to_service, addressed, message_of, aim_of_reading, unless_at_link, aim_of_long, heard_side, aim_of_heard, group_told, IsToGroup, side_aims, Request, Establish, Release, Assign, Remove, SetBusy, ClearBusy, Deactivate, at_requested, at_deactivated, aim_of_request, IsInRange, sound_in, Down, at_no_link, All, T200, T203, Event, expiry, answer, unless_refused, group_tei, at_place, refusal, Data, Unit, Check, IsSound, IsFor, IsTo, contents_in, due, is_data_of, is_unit_of, IsHeard}
+use Rattle.laws_line.proofs.Vocabulary.{arith, ◌≡◌, ℕ, Bool, true, false, cond, ◌==◌, List, [], ◌∷◌, Option, Some, None, Result, Ok, Err, is_some, refl, sym, ap, ◌∙◌, ◌⊎◌, inl, inr, list_any, option_or, unwrap_or, All-head, All-tail, none-some, Cause, Extension, Sapi, Tei, Unserved, Address, Control, ReadFault, BadExtension, Undefined, WrongSize, Short, Long, Note, Refusal, Service, Timer, T201, Parts, reading, long_reading, service_of, reading-found, Terms, LinkTimer, IsOwn, Link, is_data, is_unit, notes-own, event-tells, contents_heard, unit_heard, data_due, unit_due, delivered-was-heard, event-unit, data-is, within-is, Change, place_of-is, Config, hears, request, next, nothing, Aim, at_none, at_link, at_management, at_units, told_of_management, of_change, of_aim, at_timer, aim_of_expiry, Line, place_in, link_in, terms, unless_refused_told, drop_for, management_sapi, to_service, addressed, message_of, aim_of_reading, unless_at_link, aim_of_long, heard_side, aim_of_heard, group_told, IsToGroup, side_aims, Request, Establish, Release, Assign, Remove, SetBusy, ClearBusy, Deactivate, at_requested, at_deactivated, aim_of_request, IsInRange, sound_in, Down, at_no_link, All, T200, T203, Event, expiry, answer, unless_refused, group_tei, at_place, refusal, Data, Unit, Check, IsSound, IsFor, IsTo, contents_in, due, is_data_of, is_unit_of, IsHeard}
 use Rattle.model_bits.specs.Stream as stream
 use Rattle.model_link.specs.Events as link
 use Rattle.model_link.specs.Machine as links
@@ -66,8 +66,7 @@ handed-on t l s e contents h = go (links.told t e l).delivered refl h
         record { is = inr (within-is t.n201 (unit_heard e) contents due, own.1 ∙ (event-tells t e l).3 ∙ ap (λ o. is_some o) e') }
 
 unit-noted : (service : Service) → list_any (is_unit_of service group_tei) (Note.Unit service group_tei ∷ []) ≡ true
-unit-noted Call = refl
-unit-noted Packet = refl
+unit-noted service = grind arith
 
 -- Contents that are handed on.
 module _ (c : Config) (ranged : IsInRange c) (l : Line) (s : IsSound c l) where
@@ -105,9 +104,7 @@ module _ (c : Config) (ranged : IsInRange c) (l : Line) (s : IsSound c l) where
   managed e = dropped (at_management e) (go (teis.told e l.management).change)
     where
       go : (o : Option Change) → (of_change c o (told_of_management (teis.told e l.management)) (record l { management = teis.after e l.management })).told.contents ≡ None
-      go None = refl
-      go (Some (Gained tei place)) = refl
-      go (Some (Left tei place)) = refl
+      go o = grind arith
 
   placed : (service : Service) (tei : ℕ) (what : link.Received) → contents_heard (link.received what) ≡ None → unit_heard (link.received what) ≡ None
       → (o : Option ℕ) → place_in l tei ≡ o → Silent (at_place service tei what o)

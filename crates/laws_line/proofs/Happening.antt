@@ -5,7 +5,7 @@ use Rattle.model_link.specs.Machine as links
 use Rattle.lapd_tei.specs.Events as teis
 use Rattle.lapd_tei.specs.Laws as tei_laws
 use Rattle.lapd_tei.proofs.LawLemmas as tei_lemmas
-use Rattle.laws_line.proofs.Kept.{begin_here, begin_away}
+use Rattle.model_line.proofs.LinksSound.{begin_here, begin_away}
 use Rattle.laws_line.proofs.Tied.{Ties, heard-ties, expiry-ties, request-ties}
 use Rattle.laws_line.proofs.Told.{moved}
 use Rattle.laws_line.proofs.Downs.{by-down}

@@ -1,15 +1,12 @@
 -- What is heard brings to a link.
-use Rattle.laws_line.proofs.Vocabulary.{◌≡◌, ℕ, Bool, true, false, cond, ◌==◌, List, Some, None, Ok, refl, ap, ◌∙◌, none-some, Cause, Tei, Unserved, Address, Service, Call, Packet, Parts, reading, long_reading, service_of, sapi_of, same_service, reading-again, Config, LineTold, hears, told, Aim, at_none, at_link, told_of_link, of_aim, Line, place_in, link_in, terms, drop_for, management_sapi, to_service, addressed, message_of, aim_of_reading, aim_of_long, heard_side, aim_of_heard, at_side, eqb-true, dropped, after, answer, group_tei, at_place, IsFor, IsTo, IsMalformed, IsTooLong, IsOneHeard as IsOneEvent, OnlyTells}
+use Rattle.laws_line.proofs.Vocabulary.{arith, ◌≡◌, ℕ, Bool, true, false, cond, ◌==◌, List, Some, None, Ok, refl, ap, ◌∙◌, none-some, Cause, Tei, Unserved, Address, Service, Call, Packet, Parts, reading, long_reading, service_of, sapi_of, same_service, reading-again, Config, LineTold, hears, told, Aim, at_none, at_link, told_of_link, of_aim, Line, place_in, link_in, terms, drop_for, management_sapi, to_service, addressed, message_of, aim_of_reading, aim_of_long, heard_side, aim_of_heard, at_side, eqb-true, dropped, after, answer, group_tei, at_place, IsFor, IsTo, IsMalformed, IsTooLong, IsOneHeard as IsOneEvent, OnlyTells}
 use Rattle.model_bits.specs.Stream as stream
 use Rattle.model_link.specs.Events as link
 use Rattle.model_link.specs.Machine as links
 
 -- The SAPI of a service.
 pub same-sapi : (a b : Service) → (sapi_of a == sapi_of b) ≡ same_service a b
-same-sapi Call Call = refl
-same-sapi Call Packet = refl
-same-sapi Packet Call = refl
-same-sapi Packet Packet = refl
+same-sapi a b = grind arith
 
 pub sapi-is : (sapi : ℕ) (service : Service) → service_of sapi ≡ Some service → sapi ≡ sapi_of service
 sapi-is sapi service e = go (sapi == 0) (sapi == 16) refl refl e
@@ -30,8 +27,7 @@ addressed-is l address service tei place what m sapi tei-is on =
   where
     by-service : (s : Service) → cond (sapi_of s == management_sapi) (cond (address.tei == group_tei) m (drop_for Tei)) (to_service l address.tei what (service_of (sapi_of s)))
         ≡ at_place s address.tei what (place_in l address.tei)
-    by-service Call = refl
-    by-service Packet = refl
+    by-service s = grind arith
 
 -- what is heard that is aimed at a link comes to
 pub by-aim : (c : Config) (l : Line) (e : stream.Event) (service : Service) (tei place : ℕ) (what : link.Received)

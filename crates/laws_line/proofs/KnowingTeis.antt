@@ -15,6 +15,7 @@ use Rattle.laws_line.proofs.Readings as read
 use Rattle.laws_line.proofs.TeiNotes.{ByChange, GainedBy, LeftBy, noted}
 use Rattle.laws_line.proofs.TimersFollow.{nowhere}
 use Rattle.laws_line.proofs.Downs.{by-down}
+use Rattle.model_line.proofs.ProperAims.{skipped}
 
 -- A TEI is on the line where it has a place.
 on-placed : (tei : ℕ) (places : Places) → is_on tei places ≡ is_some (place_of tei places)
@@ -42,10 +43,6 @@ leaves-on tei by (teis.remove asked) ns is on = ap (λ xs. fold (on_by_note tei)
 leaves-on tei by other ns is on = absurd is
 
 -- An assignment and a removal that are granted change the table.
-not-refused : (b : Bool) (why : Refusal) (o : Option Refusal) → cond b (Some why) o ≡ None → (b ≡ false) × (o ≡ None)
-not-refused true why o e = absurd (none-some why (sym e))
-not-refused false why o e = (refl, e)
-
 not-not : (b : Bool) → not b ≡ false → b ≡ true
 not-not true e = refl
 not-not false e = absurd (true≢false e)
@@ -67,9 +64,9 @@ module _ (c : Config) (l : Line) where
   assigned : (tei : ℕ) → refusal c false (Assign tei) l ≡ None → (teis.told (teis.assign tei) l.management).change ≡ None → ⊥
   unfolding teis.course teis.refusal
   assigned tei granted e =
-      let bad = not-refused (nat_lt 126 tei) _ _ granted in
-      let taken = not-refused (has_tei tei l) _ _ bad.1 in
-      let full = not-refused (not (is_some (free_place l.management.places))) _ _ taken.1 in
+      let bad = skipped (nat_lt 126 tei) _ _ granted in
+      let taken = skipped (has_tei tei l) _ _ bad.1 in
+      let full = skipped (not (is_some (free_place l.management.places))) _ _ taken.1 in
       joined-some tei l.management (free_place l.management.places) (not-not (is_some (free_place l.management.places)) full.0)
       (subst (λ o. (teis.unless_refused o (put_on tei) l.management).told.change ≡ None)
       (ap (λ b. refusal_if b TeiTaken (refusal_if (not (is_some (free_place l.management.places))) TableFull None)) taken.0 ∙ ap (λ b. refusal_if b TableFull None) full.0) e)
@@ -77,10 +74,10 @@ module _ (c : Config) (l : Line) where
   removed : (tei : ℕ) → refusal c false (Remove tei) l ≡ None → (teis.told (teis.remove tei) l.management).change ≡ None → ⊥
   unfolding teis.course teis.refusal
   removed tei granted e =
-      let ours = not-refused (not (has_management c.side)) _ _ granted in
-      let bad = not-refused (nat_lt 126 tei) _ _ ours.1 in
-      let unknown = not-refused (not (has_tei tei l)) _ _ bad.1 in
-      let full = not-refused (no_room l.management.waiting) _ _ unknown.1 in
+      let ours = skipped (not (has_management c.side)) _ _ granted in
+      let bad = skipped (nat_lt 126 tei) _ _ ours.1 in
+      let unknown = skipped (not (has_tei tei l)) _ _ bad.1 in
+      let full = skipped (no_room l.management.waiting) _ _ unknown.1 in
       left-some tei (place_of tei l.management.places) (sym (on-placed tei l.management.places) ∙ not-not (has_tei tei l) unknown.0)
       (left-by tei l.management (is_checked tei l.management.check)
       (subst (λ o. (teis.unless_refused o (take_off tei) l.management).told.change ≡ None)

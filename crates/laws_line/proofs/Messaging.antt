@@ -278,8 +278,7 @@ puts-on tei m off some = go (free_place m.places) refl some
         }
 
 check-without : (tei : ℕ) (o : Option Check) → cond (rows.is_checked tei o) None o ≡ check_without tei o
-check-without tei None = refl
-check-without tei (Some check) = refl
+check-without tei o = grind arith
 
 pub takes-off : (tei : ℕ) (m : Management) → no_room m.waiting ≡ false → is_on tei m.places ≡ true
     → let c = rows.take_off tei (begun m) in Waits (IdentityRemove tei) m c.now c.told.lost × Leaves tei (check_without tei m.check) m c.now

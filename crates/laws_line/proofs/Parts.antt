@@ -10,7 +10,7 @@ use Rattle.laws_line.proofs.Alone.{is-alone}
 use Rattle.laws_line.proofs.Causing.{message-aim}
 use Rattle.laws_line.proofs.Granting.{not-refused}
 use Rattle.laws_line.proofs.GroupAims.{heard-aims-at}
-use Rattle.laws_line.proofs.Kept.{begin_here, begin_away}
+use Rattle.model_line.proofs.LinksSound.{begin_here, begin_away}
 use Rattle.laws_line.proofs.Places.{has-place}
 use Rattle.laws_line.proofs.Tied.{Ties, heard-ties, expiry-ties, request-ties}
 use Rattle.laws_line.proofs.Told.{moved}
@@ -56,12 +56,10 @@ module _ (c : Config) (l : Line) (s : IsSound c l) (me : teis.Event) (fits : tei
   of-links (Some (Left tei place)) moves = of-places (Some (Left tei place)) place None (λ number. refl) moves moves.within moves.is_free refl
 
   line-is : (o : Option Change) → there o ≡ record l { management = teis.after me l.management; links = (there o).links }
-  line-is (Some (Gained tei place)) = refl
-  line-is other = refl
+  line-is o = grind arith
 
   places-are : (o : Option Change) → (there o).management.places ≡ places
-  places-are (Some (Gained tei place)) = refl
-  places-are other = refl
+  places-are o = grind arith
 
   noted-is : (o : Option Change) → (of_change c o (told_of_management (teis.told me l.management)) (record l { management = teis.after me l.management })).told.notes
       ≡ (teis.told me l.management).notes ++ noted_behind c l o
@@ -75,8 +73,7 @@ module _ (c : Config) (l : Line) (s : IsSound c l) (me : teis.Event) (fits : tei
 
   lost-is : (o : Option Change) → (of_change c o (told_of_management (teis.told me l.management)) (record l { management = teis.after me l.management })).told.lost
       ≡ (teis.told me l.management).lost
-  lost-is (Some (Gained tei place)) = refl
-  lost-is other = refl
+  lost-is o = grind arith
 
   pub managed : IsManaged c l (of_aim c (at_management me) l).line (told (of_aim c (at_management me) l).told) me
   managed =

@@ -1,5 +1,5 @@
 -- What is taken.
-use Rattle.laws_line.proofs.Vocabulary.{◌≡◌, ℕ, ◌+◌, ◌<◌, false, cond, List, [], ◌∷◌, ◌++◌, drop, take, slice_get, get_or, set, Option, Some, None, refl, sym, ap, ◌∙◌, subst, arith, zero-add, append-nil, inl, inr, IfSome, range_with_len, option_or, option_map_or, unwrap_or, get_or-set_same, take-append-drop, All-head, All-tail, All-nil, All-cons, All-get_or, All-append, get_or-range_with_len, length-range_with_len, none-some, Refusal, Service, Timer, T201, LinkTimer, Change, Gained, Left, Terms, Link, is_information, Given, IsInOrder, IsOffered, given-in-order, given-is-offered, carried-is, offer-counts, nothing-given, Message, Config, hears, request, next, Aim, at_management, at_units, told_of_management, of_change, of_aim, at_timer, aim_of_expiry, aim_of_heard, Request, Establish, Release, SetBusy, ClearBusy, Deactivate, at_requested, at_deactivated, aim_of_request, heard_aims, Line, UnitData, link_count, service_at, place_at, place_in, tei_at, terms, terms_at, link_at, with_link, unless_refused_told, Taken, with_unit, with_given_frame, link_taken, first_taken, round, taken, line_of, IsSoundAt, round_below, at_no_link, option_map, All, T200, T203, fresh, link_one as one, frame_of, Event, expiry, refusal, Data, is_granted, after, answer, unless_refused, with_message, IsSound, IsSilent, IsSilentAt, IsItsTurn, IsOfLink, IsOwed, HasNothing, IsIdle, line_contents_of as contents_of, IsServed, unit_asked, units_behind, units_left, UnitsWait, TurnStays}
+use Rattle.laws_line.proofs.Vocabulary.{◌≡◌, ℕ, ◌+◌, ◌<◌, false, cond, List, [], ◌∷◌, ◌++◌, drop, take, slice_get, get_or, set, Option, Some, None, refl, sym, ap, ◌∙◌, subst, arith, zero-add, append-nil, inl, inr, IfSome, range_with_len, option_or, option_map_or, unwrap_or, get_or-set_same, take-append-drop, All-head, All-tail, All-nil, All-cons, All-get_or, All-append, get_or-range_with_len, length-range_with_len, none-some, Refusal, Service, Timer, T201, LinkTimer, Change, Terms, Link, is_information, Given, IsInOrder, IsOffered, given-in-order, given-is-offered, carried-is, offer-counts, nothing-given, Message, Config, hears, request, next, Aim, at_management, at_units, told_of_management, of_change, of_aim, at_timer, aim_of_expiry, aim_of_heard, Request, Establish, Release, SetBusy, ClearBusy, Deactivate, at_requested, at_deactivated, aim_of_request, heard_aims, Line, UnitData, link_count, service_at, place_at, place_in, tei_at, terms, terms_at, link_at, with_link, unless_refused_told, Taken, with_unit, with_given_frame, link_taken, first_taken, round, taken, line_of, IsSoundAt, round_below, at_no_link, option_map, All, T200, T203, fresh, link_one as one, frame_of, Event, expiry, refusal, Data, is_granted, after, answer, unless_refused, with_message, IsSound, IsSilent, IsSilentAt, IsItsTurn, IsOfLink, IsOwed, HasNothing, IsIdle, line_contents_of as contents_of, IsServed, unit_asked, units_behind, units_left, UnitsWait, TurnStays}
 use Rattle.model_bits.specs.Stream as stream
 use Rattle.lapd_tei.specs.Events as teis
 use Rattle.model_link.specs.Events as link
@@ -182,9 +182,7 @@ module _ (c : Config) where
   aim-units l m (at_management what) e = by-change (teis.told what m.management).change ∙ e ∙ sym (append-nil l.units)
     where
       by-change : (o : Option Change) → (of_change c o (told_of_management (teis.told what m.management)) (record m { management = teis.after what m.management })).line.units ≡ m.units
-      by-change None = refl
-      by-change (Some (Gained tei place)) = refl
-      by-change (Some (Left tei place)) = refl
+      by-change o = grind arith
   aim-units l m (at_units unit) e = ap (λ us. us ++ unit ∷ []) e
   aim-units l m at_no_link e = by-down c m (λ f. f.line.units ≡ []) refl
   aim-units l m other e = e ∙ sym (append-nil l.units)
@@ -204,12 +202,10 @@ module _ (c : Config) where
   by-expiry l T201 = append-nil l.units
 
   by-asked : (service : Service) (tei : ℕ) (what : link.Request) (o : Option ℕ) (units : List UnitData) → units_by (at_requested service tei what o) units ≡ units ++ []
-  by-asked service tei what None units = refl
-  by-asked service tei what (Some place) units = refl
+  by-asked service tei what o units = grind arith
 
   by-deactivated : (service : Service) (tei : ℕ) (o : Option ℕ) (units : List UnitData) → units_by (at_deactivated service tei o) units ≡ units ++ []
-  by-deactivated service tei None units = refl
-  by-deactivated service tei (Some place) units = refl
+  by-deactivated service tei o units = grind arith
 
   by-request : (l : Line) (r : Request) → units_by (aim_of_request r l) l.units ≡ units_behind r l.units ++ unit_asked r
   by-request l (Establish service tei) = by-asked service tei link.Establish (place_in l tei) l.units
@@ -238,9 +234,7 @@ aim-turn : (c : Config) (m : Line) (aim : Aim) → (of_aim c aim m).line.turn �
 aim-turn c m (at_management what) = by-change (teis.told what m.management).change
   where
     by-change : (o : Option Change) → (of_change c o (told_of_management (teis.told what m.management)) (record m { management = teis.after what m.management })).line.turn ≡ m.turn
-    by-change None = refl
-    by-change (Some (Gained tei place)) = refl
-    by-change (Some (Left tei place)) = refl
+    by-change o = grind arith
 aim-turn c m at_no_link = by-down c m (λ f. f.line.turn ≡ m.turn) refl
 aim-turn c m other = refl
 

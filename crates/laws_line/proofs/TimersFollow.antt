@@ -120,8 +120,7 @@ module _ (c : Config) (l : Line) (s : IsSound c l) where
   dead k service tei none = each-timer _ (by-t201 k) (λ k' s' n'. go k' s' n' (is_same (timer_of k service tei) (timer_of k' s' n')) refl)
     where
       by-t201 : (k : LinkTimer) → without (timer_of k service tei) T201 (is_running T201 l) ≡ is_running T201 l
-      by-t201 LinkTimer.T200 = refl
-      by-t201 LinkTimer.T203 = refl
+      by-t201 k = grind arith
 
       its-tei : (k k' : LinkTimer) (s' : Service) (n' : ℕ) → is_same (timer_of k service tei) (timer_of k' s' n') ≡ true → tei ≡ n'
       its-tei LinkTimer.T200 LinkTimer.T200 s' n' e = eqb-true tei n' (both-true _ _ e).1
@@ -142,16 +141,14 @@ module _ (c : Config) (l : Line) (s : IsSound c l) where
       (same k) (steers-expiry (terms c service tei) k (link_in l service place) (timed (link_number place service))))
     where
       same : (k : LinkTimer) → timer_at (terms c service tei) k ≡ timer_of k service tei
-      same LinkTimer.T200 = refl
-      same LinkTimer.T203 = refl
+      same k = grind arith
 
   -- and of T201
   pub t201-expired : Follow (without T201) l (of_aim c (at_management teis.expiry) l).told.orders (of_aim c (at_management teis.expiry) l).line
   t201-expired = management-followed c l s (without T201) (λ k service tei b. ours k service tei b) teis.expiry tt (expired_t201_follows l.management)
     where
       ours : (k : LinkTimer) (service : Service) (tei : ℕ) (b : Bool) → without T201 (timer_of k service tei) b ≡ b
-      ours LinkTimer.T200 service tei b = refl
-      ours LinkTimer.T203 service tei b = refl
+      ours k service tei b = grind arith
 
   -- A call for the next frame: what a link gives, it orders as well.
   given-orders : (t : Terms) (x : Link) (g : Given) → links.given t x ≡ Some g → g.orders ≡ (links.told t link.offer x).orders

@@ -1,5 +1,5 @@
 -- Where all that a link keeps goes, layer 3 learns it.
-use Rattle.laws_line.proofs.Vocabulary.{◌≡◌, ◌≢◌, ℕ, Bool, true, false, cond, ◌||◌, ◌&&◌, ◌==◌, List, [], ◌∷◌, get_or, Option, Some, None, is_some, refl, sym, ap, ◌∙◌, subst, true≢false, eq-eqb, ◌⊎◌, inl, inr, ⊎_elim, list_any, option_map_or, get_or-set_same, All-head, All-tail, none-some, Note, Refusal, Service, Call, Packet, Timer, T201, same_service, Terms, LinkTimer, IsOwn, notes-own, is_loss, tells_loss, is_release, ends, share, Management, IsAt, Change, Gained, Left, place_of-is, Config, request, LineTold, told, nothing, hears, next, is_change_at, Aim, at_none, at_link, at_management, at_units, told_of_management, of_change, of_aim, at_timer, aim_of_expiry, Line, link_number, service_at, place_at, tei_at, place_in, link_in, terms, unless_refused_told, aim_of_heard, Request, Establish, Release, Assign, Remove, SetBusy, ClearBusy, Deactivate, at_requested, at_deactivated, aim_of_request, IsProper, place_at-number, service_at-number, heard_aims, request_proper, Down, at_no_link, eqb-true, All, T200, T203, Event, expiry, after, answer, unless_refused, refusal, Data, Unit, Check, IsSound, no_share, ending, share_aimed, share_of, is_link, is_loss_of, IsTold}
+use Rattle.laws_line.proofs.Vocabulary.{arith, ◌≡◌, ◌≢◌, ℕ, Bool, true, false, cond, ◌||◌, ◌&&◌, ◌==◌, List, [], ◌∷◌, get_or, Option, Some, None, is_some, refl, sym, ap, ◌∙◌, subst, true≢false, eq-eqb, ◌⊎◌, inl, inr, ⊎_elim, list_any, option_map_or, get_or-set_same, All-head, All-tail, none-some, Note, Refusal, Service, Timer, T201, same_service, Terms, LinkTimer, IsOwn, notes-own, is_loss, tells_loss, is_release, ends, share, Management, IsAt, Change, Gained, Left, place_of-is, Config, request, LineTold, told, nothing, hears, next, is_change_at, Aim, at_none, at_link, at_management, at_units, told_of_management, of_change, of_aim, at_timer, aim_of_expiry, Line, link_number, service_at, place_at, tei_at, place_in, link_in, terms, unless_refused_told, aim_of_heard, Request, Establish, Release, Assign, Remove, SetBusy, ClearBusy, Deactivate, at_requested, at_deactivated, aim_of_request, IsProper, place_at-number, service_at-number, heard_aims, request_proper, Down, at_no_link, eqb-true, All, T200, T203, Event, expiry, after, answer, unless_refused, refusal, Data, Unit, Check, IsSound, no_share, ending, share_aimed, share_of, is_link, is_loss_of, IsTold}
 use Rattle.model_bits.specs.Stream as stream
 use Rattle.model_link.specs.Events as link
 use Rattle.model_link.specs.Machine as links
@@ -10,8 +10,7 @@ use Rattle.lapd_tei.proofs.LawLemmas as tei_lemmas
 
 -- A note of a link that tells a loss tells it of this link.
 pub same_of_itself : (s : Service) → same_service s s ≡ true
-same_of_itself Call = refl
-same_of_itself Packet = refl
+same_of_itself s = grind arith
 
 pub its-own : (t : Terms) (s : Service) (n : ℕ) → (s ≡ t.service) × (n ≡ t.tei) → (same_service s t.service && n == t.tei) ≡ true
 its-own t s n own =
@@ -91,8 +90,7 @@ module _ (c : Config) (l : Line) (s : IsSound c l) (number : ℕ) where
       at-it false e = e
 
       places-are : (o : Option Change) → get_or m.places (place_at number) None ≡ tei_at (place_at number) (of_change c o r (record l { management = m })).line
-      places-are (Some (Gained tei place)) = refl
-      places-are other = refl
+      places-are o = grind arith
 
   management : (event : Event) (e : teis.Event) → tei_laws.IsInRange e → Tells event (at_management e)
   management event e fits =

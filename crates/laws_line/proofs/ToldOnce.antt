@@ -1,5 +1,5 @@
 -- Contents that an answer hands on are noted once.
-use Rattle.laws_line.proofs.Vocabulary.{◌≡◌, ℕ, ◌+◌, false, cond, List, [], ◌∷◌, ◌++◌, length, Option, Some, None, option_to_list, refl, ap, ◌∙◌, ◌⊎◌, inl, inr, arith, count_by, option_or, sum_by-cons, sum_by-append, Note, Refusal, Service, Call, Packet, Timer, T201, State, TeiAssigned, Terms, LinkTimer, Link, is_data, is_unit, event-tells, Change, Gained, Left, place_of-is, Config, request, hears, next, Aim, at_link, at_management, told_of_management, of_link, of_change, of_aim, at_timer, aim_of_expiry, Line, place_in, link_in, terms, unless_refused_told, aim_of_heard, Request, Establish, Release, Assign, Remove, SetBusy, ClearBusy, Deactivate, at_requested, at_deactivated, aim_of_request, IsInRange, sound_in, heard_aims, Down, T200, T203, begun, Event, expiry, answer, unless_refused, refusal, Data, Unit, Check, IsSound, tells_contents, IsNotedOnce}
+use Rattle.laws_line.proofs.Vocabulary.{◌≡◌, ℕ, ◌+◌, false, cond, List, [], ◌∷◌, ◌++◌, length, Option, Some, None, option_to_list, refl, ap, ◌∙◌, ◌⊎◌, inl, inr, arith, count_by, option_or, sum_by-cons, sum_by-append, Note, Refusal, Service, Call, Packet, Timer, T201, State, Terms, LinkTimer, Link, is_data, is_unit, event-tells, Change, Gained, Left, place_of-is, Config, request, hears, next, Aim, at_link, at_management, told_of_management, of_link, of_change, of_aim, at_timer, aim_of_expiry, Line, place_in, link_in, terms, unless_refused_told, aim_of_heard, Request, Establish, Release, Assign, Remove, SetBusy, ClearBusy, Deactivate, at_requested, at_deactivated, aim_of_request, IsInRange, sound_in, heard_aims, Down, T200, T203, begun, Event, expiry, answer, unless_refused, refusal, Data, Unit, Check, IsSound, tells_contents, IsNotedOnce}
 use Rattle.model_bits.specs.Stream as stream
 use Rattle.model_link.specs.Events as link
 use Rattle.model_link.specs.Machine as links
@@ -11,8 +11,7 @@ use Rattle.laws_line.proofs.Downs.{by-down}
 
 -- Notes of contents are those of data and those of unit data.
 one-note : (n : Note) → cond {A = ℕ} (tells_contents n) 1 0 ≡ cond {A = ℕ} (is_data n) 1 0 + cond {A = ℕ} (is_unit n) 1 0
-one-note (Note.EstablishIndication s n) = refl
-one-note other = refl
+one-note n = grind arith
 
 both : (ns : List Note) → count_by tells_contents ns ≡ count_by is_data ns + count_by is_unit ns
 both [] = refl
@@ -43,8 +42,7 @@ cleared-none : (t : Terms) (l : Link) → count_by tells_contents (links.told t 
 cleared-none t l = go l.state
   where
     go : (here : State) → count_by tells_contents (links.told_of_clearing here t (begun l)).notes ≡ 0
-    go TeiAssigned = refl
-    go other = refl
+    go here = grind arith
 
 -- TEI management's: none is of contents.
 is-none : (ns : List Note) (known : List Note) → ns ≡ known → count_by tells_contents known ≡ 0 → count_by tells_contents ns ≡ 0

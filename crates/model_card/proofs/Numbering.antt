@@ -1,5 +1,5 @@
 -- Numbered deliveries, over whole runs.
-use Rattle.model_card.proofs.Vocabulary.{◌≡◌, ℕ, ◌+◌, ◌<◌, ◌&&◌, Bool, true, false, List, [], ◌∷◌, length, All, Option, Some, None, refl, ap, sym, ◌∙◌, cond, arith, true≢false, inl, inr, fold, option_to_list, get_or-replicate, All-nil, All-cons, All-head, All-tail, PoolFull, Arrived, Link, delivery, counted_on, Config, refused, Line, fresh_line, link_at, link_count, Part, brings_none, none_at, event_parts, slot_brings_nothing, Event, Card, fresh, line_at, DeliveriesNumbered, after, answer, LinkName, arrived, delivered, restarts, received_by, contents_of, IsNext, one_more, HasLink, Moment, moments, after_all, IsAtLine, AreAtLines}
+use Rattle.model_card.proofs.Vocabulary.{◌≡◌, ℕ, ◌+◌, ◌<◌, ◌&&◌, Bool, true, false, List, [], ◌∷◌, length, All, Option, Some, None, refl, ap, sym, ◌∙◌, cond, arith, true≢false, inl, inr, fold, option_to_list, get_or-replicate, All-nil, All-cons, All-head, All-tail, PoolFull, Arrived, Link, delivery, counted_on, Config, refused, Line, fresh_line, link_at, link_count, Part, brings_none, none_at, event_parts, slot_brings_nothing, Event, Card, fresh, line_at, DeliveriesNumbered, after, LinkName, arrived, delivered, restarts, received_by, contents_of, IsNext, one_more, HasLink, moments, after_all, IsAtLine, AreAtLines}
 use Rattle.model_link.specs.Link.{fresh as fresh_link}
 use Rattle.model_line.specs.Deliveries as line
 use Rattle.model_card.proofs.EachMoment.{moment_of}
@@ -30,8 +30,7 @@ event-seen name card e h here within few =
 
 -- the same contents in the words of a link
 contents-is : (i : ℕ) (o : Option Arrived) → delivery i o ≡ contents_of i o
-contents-is i None = refl
-contents-is i (Some frame) = refl
+contents-is i o = grind arith
 
 part-next : (r r' : ℕ) (a : Option Arrived) (d : Option (List ℕ)) (b : Bool) → Part r a r' d b → d ≡ cond b None (contents_of r a)
 part-next r r' a d true (inl x) = absurd (true≢false x.goes_on)

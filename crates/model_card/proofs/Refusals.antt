@@ -1,5 +1,5 @@
 -- Requests are refused by the table.
-use Rattle.model_card.proofs.Vocabulary.{◌≡◌, ℕ, Bool, true, false, not, ◌&&◌, List, [], ◌∷◌, ◌++◌, get_or, set, Option, Some, None, is_some, IsSome, refl, ap, sym, ◌∙◌, subst, cond, ◌↔◌, false≢true, set-get_or, Refusal, PoolFull, Config, Answer, request, refused, Line, fresh_line, unless_refused, unless_refused_told, Effect, of_aim, Row, first_that_holds, bad_tei, no_link, bad_tei_or_group, no_link_nor_group, wrong_state, too_long, queue_full, unit_queue_full, pool_full, refusal, Request, Data, Unit, aim_of_request, carries_contents, at, Card, line_at, is_full, RefusedByTheTable, after, answer}
+use Rattle.model_card.proofs.Vocabulary.{arith, ◌≡◌, ℕ, Bool, true, false, not, ◌&&◌, List, [], ◌∷◌, ◌++◌, get_or, set, Option, Some, None, is_some, IsSome, refl, ap, sym, ◌∙◌, subst, cond, ◌↔◌, false≢true, set-get_or, Refusal, PoolFull, Config, Answer, request, refused, Line, fresh_line, unless_refused, unless_refused_told, Effect, of_aim, Row, first_that_holds, bad_tei, no_link, bad_tei_or_group, no_link_nor_group, wrong_state, too_long, queue_full, unit_queue_full, pool_full, refusal, Request, Data, Unit, aim_of_request, carries_contents, at, Card, line_at, is_full, RefusedByTheTable, after, answer}
 use Rattle.model_link.specs.Events as link
 use Rattle.model_line.specs.Machine as lines
 
@@ -25,8 +25,7 @@ last_row full (r ∷ rs) = go r.holds (last_row full rs)
     go false rest = rest
 
 no_pool : (full : Bool) (o : Option Refusal) → o ≡ with_pool false full o
-no_pool full None = refl
-no_pool full (Some why) = refl
+no_pool full o = grind arith
 
 refusal_with_pool : (c : Config) (full : Bool) (r : Request) (l : Line) → refusal c full r l ≡ with_pool (carries_contents r) full (refusal c false r l)
 refusal_with_pool c full (Data service tei contents) l =
@@ -43,11 +42,7 @@ answer_by o outcome = unless_refused_told o outcome
 combined : (carries full : Bool) (o : Option Refusal) (outcome : Effect)
     → cond ((carries && not (is_some o)) && full) (refused PoolFull) (answer_by o outcome)
     ≡ answer_by (with_pool carries full o) outcome
-combined true true None outcome = refl
-combined true false None outcome = refl
-combined false full None outcome = refl
-combined true full (Some why) outcome = refl
-combined false full (Some why) outcome = refl
+combined carries full o outcome = grind arith
 
 pub answer_is : (card : Card) (number : ℕ) (r : Request)
     → answer (at number (request r)) card

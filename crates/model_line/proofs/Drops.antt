@@ -1,7 +1,6 @@
 -- What is dropped changes nothing, and costs nothing.
-use Rattle.model_line.proofs.Vocabulary.{◌≡◌, ℕ, Bool, true, false, [], Option, Some, None, IsSome, refl, ap, sym, ◌∙◌, unwrap_or, false≢true, set-get_or, none-some, Cause, Unserved, Service, Terms, LinkTimer, fresh, orders_for, Change, Gained, Left, Config, LineTold, hears, told, may_send, cause_in, Line, link_number, link_in, with_link, terms, aim_of_heard, Effect, unserved_cause, told_of_link, told_of_management, of_link, of_change, of_management, of_aim, unserved_leaves}
+use Rattle.model_line.proofs.Vocabulary.{arith, ◌≡◌, ℕ, Bool, true, false, [], Option, Some, None, IsSome, refl, ap, sym, ◌∙◌, unwrap_or, false≢true, set-get_or, none-some, Cause, Unserved, Service, Terms, LinkTimer, fresh, orders_for, Change, Config, LineTold, hears, told, may_send, cause_in, Line, link_number, link_in, with_link, terms, aim_of_heard, Effect, unserved_cause, told_of_link, told_of_management, of_link, of_change, of_management, of_aim, unserved_leaves}
 use Rattle.model_bits.specs.Stream as stream
-use Rattle.model_link.specs.declared.timers.LinkTimer.TheVariants.{T200, T203}
 use Rattle.model_link.specs.Events as link
 use Rattle.model_link.specs.Machine as links
 use Rattle.lapd_tei.specs.Events as teis
@@ -21,9 +20,7 @@ Leaves l out = (cause : Cause) → out.told.cause ≡ Some cause → (out.told �
 
 -- a timer that ran before and runs after is neither started nor stopped
 no_orders : (t : Terms) (running : Option LinkTimer) → orders_for t running None running ≡ []
-no_orders t None = refl
-no_orders t (Some T200) = refl
-no_orders t (Some T203) = refl
+no_orders t running = grind arith
 
 link_leaves : (c : Config) (service : Service) (tei place : ℕ) (what : link.Received) (l : Line) → Leaves l (of_link c service tei place (link.received what) l)
 link_leaves c service tei place what l cause h =
@@ -40,9 +37,7 @@ link_leaves c service tei place what l cause h =
 
 -- what becomes of a TEI adds no cause
 cause_stays : (c : Config) (change : Option Change) (t : LineTold) (l : Line) → (of_change c change t l).told.cause ≡ t.cause
-cause_stays c None t l = refl
-cause_stays c (Some (Gained tei place)) t l = refl
-cause_stays c (Some (Left tei place)) t l = refl
+cause_stays c change t l = grind arith
 
 management_leaves : (c : Config) (event : teis.Event) (l : Line) → Leaves l (of_management c event l)
 management_leaves c event l cause h =

@@ -50,8 +50,7 @@ abbrev Falls : Config → Line → Option Taken → Line → Type 0
 Falls c l o m = (one (is_some o) + may_send c m ≤ may_send c l) × (may_send c l ≤ may_send c m + 2 * one (is_some o))
 
 given_same : (o : Option Taken) → one (is_some (option_map next_of o)) ≡ one (is_some o)
-given_same None = refl
-given_same (Some t) = refl
+given_same o = grind arith
 
 pub next_falls : (c : Config) → IsInRange c → (l : Line) → IsSound c l → FallsByNext c l
 unfolding after answer

@@ -1,5 +1,5 @@
 -- A line by itself never finds the pool full: the pool is the card's.
-use Rattle.model_line.proofs.Vocabulary.{◌≡◌, ℕ, Bool, true, false, ◌&&◌, List, [], ◌∷◌, Option, Some, None, refl, list_any, ◌||◌, cond, Refusal, Config, Event, request, is_pool, is_pool_full, Line, answer, unless_refused_told, of_request, Effect, Row, first_that_holds, refusal, Request, Data, Unit}
+use Rattle.model_line.proofs.Vocabulary.{arith, ◌≡◌, ℕ, Bool, true, false, ◌&&◌, List, [], ◌∷◌, Option, Some, None, refl, list_any, ◌||◌, cond, Refusal, Config, Event, request, is_pool, is_pool_full, Line, answer, unless_refused_told, of_request, Effect, Row, first_that_holds, refusal, Request}
 use Rattle.model_line.specs.Refusal.{rows}
 
 -- The refusal is for another reason.
@@ -22,9 +22,7 @@ others (row ∷ more) none = go (is_pool row.why) row.holds refl none (others mo
     go false false is e rest = rest e
 
 refused_otherwise : (c : Config) (r : Request) (l : Line) → list_any pools (rows c false r l) ≡ false
-refused_otherwise c (Data service tei contents) l = refl
-refused_otherwise c (Unit service tei contents) l = refl
-refused_otherwise c other l = refl
+refused_otherwise c r l = grind arith
 
 not_pool : (o : Option Refusal) (outcome : Effect) → IsOther o → is_pool_full (unless_refused_told o outcome) ≡ false
 not_pool None outcome h = refl

@@ -53,8 +53,7 @@ none_in : (service : Service) (tei : ℕ) (t : LineTold) → t.contents ≡ None
 none_in service tei t e = ap (λ o. cond (list_any (is_data_of service tei) t.notes) o None) e ∙ either (list_any (is_data_of service tei) t.notes)
   where
     either : (b : Bool) → cond {A = Option (List ℕ)} b None None ≡ None
-    either true = refl
-    either false = refl
+    either b = grind arith
 
 pub none_at : (number : ℕ) (l : Line) (a : Answer) → ((service : Service) (tei : ℕ) → delivered_in service tei a ≡ None) → delivered number l a ≡ None
 none_at number l a none = go (tei_at (place_at number) l)
@@ -73,8 +72,7 @@ told_own t e l =
     ap (λ b. cond b (option_or (links.course t e l).delivered (links.course t e l).unit) None) has ∙ go (links.course t e l).delivered (links.course t e l).unit
   where
     go : (d u : Option (List ℕ)) → cond (is_some d) (option_or d u) None ≡ d
-    go None u = refl
-    go (Some x) u = refl
+    go d u = grind arith
 
 told_others : (t : Terms) (e : link.Event) (l : Link) (service : Service) (tei : ℕ) → ((service ≡ t.service) × (tei ≡ t.tei) → ⊥)
     → delivered_in service tei (told (told_of_link (links.told t e l))) ≡ None

@@ -27,9 +27,7 @@ none_starts = omega arith
 -- a link that is cleared starts nothing
 cleared_orders : (t : Terms) (before : Option LinkTimer) → starts (orders_for t before None None) ≡ 0
 unfolding starts
-cleared_orders t None = refl
-cleared_orders t (Some link_timer.T200) = refl
-cleared_orders t (Some link_timer.T203) = refl
+cleared_orders t before = grind arith
 
 cleared_starts : (t : Terms) (l : Link) → starts (links.told t link.cleared l).orders ≡ 0
 cleared_starts t l = cleared_orders t l.running

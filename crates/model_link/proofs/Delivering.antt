@@ -43,10 +43,7 @@ eligible-is false le multiple false i r e m = rw (e, m) refl
 
 next-is : (small own next : Bool) (octets : List ℕ) (r : ℕ)
     → cond small r (cond own r (cond next (r + 1) r)) ≡ counted_on r (cond small None (cond own None (cond next (Some octets) None)))
-next-is true own next octets r = refl
-next-is false true next octets r = refl
-next-is false false true octets r = refl
-next-is false false false octets r = refl
+next-is small own next octets r = grind arith
 
 not-over : (b : Bool) (n m : ℕ) → nat_lt n m ≡ b → nat_le m n ≡ not b
 not-over true n m e = false_from_ne_true (nat_le m n) (λ h. let one : n < m = ltb-true n m e in let two : m ≤ n = leb-true m n h in absurd (omega arith))

@@ -1,6 +1,6 @@
 -- The notes that an event tells are of its own link.
 pub use Rattle.model_link.specs.Notes.{IsOwn}
-use Rattle.model_link.proofs.Vocabulary.{◌≡◌, ℕ, Bool, true, false, cond, List, [], ◌∷◌, Option, Some, None, refl, All, All-nil, All-push, Refusal, ControlFrame, Terms, Link, Course, begun, granted, refusal, after, course, Data, Event, offer, requested, is_awaiting_acknowledgement, may_send_information, offer_among, with_one_sent}
+use Rattle.model_link.proofs.Vocabulary.{arith, ◌≡◌, ℕ, Bool, true, false, cond, List, [], ◌∷◌, Option, Some, None, refl, All, All-nil, All-push, Refusal, ControlFrame, Terms, Link, Course, begun, granted, refusal, after, course, Data, Event, offer, requested, is_awaiting_acknowledgement, may_send_information, offer_among, with_one_sent}
 use Rattle.model_link.proofs.Kept.{Kept}
 use Rattle.model_link.proofs.Rows.{every_event}
 
@@ -34,5 +34,4 @@ transfer-goes-on t octets full l = go (refusal t l full (Data octets))
   where
     go : (o : Option Refusal)
         → (elim o as (λ o. Course) [ None ↦ granted t (Data octets) (begun l) | Some _ ↦ begun l ]).zeroed ≡ false
-    go None = refl
-    go (Some w) = refl
+    go o = grind arith

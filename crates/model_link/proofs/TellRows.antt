@@ -128,9 +128,7 @@ starts-append (x ∷ xs) ys =
 
 starts-order : (a b : Bool) (x : Timer) → starts (cond a (Start x ∷ []) (cond b (Stop x ∷ []) [])) ≡ cond {A = ℕ} a 1 0
 unfolding starts
-starts-order true b x = refl
-starts-order false true x = refl
-starts-order false false x = refl
+starts-order a b x = grind arith
 
 at-most_one : (b : Bool) → cond {A = ℕ} b 1 0 ≤ 1
 at-most_one true = omega arith

@@ -1,5 +1,5 @@
 -- What is asked of the card of frames, and of what the answers are made.
-use Rattle.model_card.proofs.OfPorts.Vocabulary.{◌≡◌, ℕ, Bool, true, false, List, [], ◌∷◌, ◌++◌, flat_map, Option, None, Some, option_map, option_to_list, refl, ap, ◌∙◌, subst, cond, map, flat_map-append, All, PoolFull, Card, Event, OctetCard, Port, port_at, meant, answer, after, answer_of, answer_to, gained, is_due, next_octet, with_item, meant_all, moments}
+use Rattle.model_card.proofs.OfPorts.Vocabulary.{arith, ◌≡◌, ℕ, Bool, true, false, List, [], ◌∷◌, ◌++◌, flat_map, Option, None, Some, option_map, option_to_list, refl, ap, ◌∙◌, subst, cond, map, flat_map-append, All, PoolFull, Card, Event, OctetCard, Port, port_at, meant, answer, after, answer_of, answer_to, gained, is_due, next_octet, with_item, meant_all, moments}
 use Rattle.model_bits.specs.Stream as stream
 use Rattle.model_line.specs.Event as line
 use Rattle.model_line.specs.Machine as lines
@@ -16,15 +16,13 @@ asked_where : (n201 n : ℕ) (e : port.Event) (p : Port) → flat_map asked_amon
 asked_where n201 n (port.octet value) p = go (gained n201 p.received value)
   where
     go : (o : Option stream.Event) → flat_map asked_among (option_to_list (option_map (frames.at n) (option_map line.hears o))) ≡ []
-    go None = refl
-    go (Some heard) = refl
+    go o = grind arith
 asked_where n201 n (port.expiry timer) p = refl
 asked_where n201 n (port.request r) p = refl
 asked_where n201 n port.pull p = go (is_due p)
   where
     go : (due : Bool) → flat_map asked_among (option_to_list (option_map (frames.at n) (cond due (Some line.next) None))) ≡ []
-    go true = refl
-    go false = refl
+    go due = grind arith
 
 pub all_asked : (m : OctetCard) (events : List Event) → flat_map asked_among (meant_all m events) ≡ flat_map asked_with events
 unfolding meant_all meant
@@ -96,8 +94,7 @@ says_so n201 port.pull p ask h = go (is_due p)
 
 -- what the line says to what an event means
 said_of : (card : Card) (n : ℕ) (o : Option line.Event) → option_map (λ f. machine.answer (frames.at n f) card) o ≡ option_map (answer_to card) (option_map (frames.at n) o)
-said_of card n None = refl
-said_of card n (Some f) = refl
+said_of card n o = grind arith
 
 one_answered : (m : OctetCard) (e : Event) → IsAnswered (record { card = m; event = e; answer = answer e m })
 unfolding answer meant

@@ -23,9 +23,7 @@ record AnswersCalls (ask : line.Event → line.Answer) : Type 0 where
   next : answer_of_call (ask line.next) ≡ given_in (ask line.next) ∷ []
 
 no_call_unless : (b : Bool) (o : Option _) (outcome : _) → answer_of_call (cond b (line.refused PoolFull) (lines.unless_refused_told o outcome)) ≡ []
-no_call_unless true o outcome = refl
-no_call_unless false None outcome = refl
-no_call_unless false (Some why) outcome = refl
+no_call_unless b o outcome = grind arith
 
 answers_calls : (card : Card) (number : ℕ) → AnswersCalls (asked_at card number)
 unfolding line_answer takes_slot
@@ -73,8 +71,7 @@ calls_where card number n None = neither (n == number)
 calls_where card number n (Some f) = go (n == number)
   where
     go : (b : Bool) → cond b (answers_of (asked_at card n) f) [] ++ [] ≡ cond b (answers_of (asked_at card n) f ++ []) []
-    go true = refl
-    go false = refl
+    go b = grind arith
 
 own_puts : (m : OctetCard) (e : Event) → let p = port_at e.line m in
     (port.after e.what (said e m) p).items ≡ p.items ++ map item_of (answers_in_meaning (asked_at m.card e.line) (port.meant m.card.config.n201 e.what p))

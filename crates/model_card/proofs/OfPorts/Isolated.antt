@@ -29,13 +29,10 @@ unfolding line_answer takes_slot
 never_full card number = record { hears = λ e. refl; next = refl }
 
 answer_full : (a : line.Answer) → is_pool_full (answer_of a) ≡ line_counts.is_pool_full a
-answer_full (line.told t) = refl
-answer_full (line.refused why) = refl
-answer_full (line.gave next) = refl
+answer_full a = grind arith
 
 none_full : (e : port.Event) (p : Port) → is_pool_full (port.answer e None p) ≡ false
-none_full pull p = refl
-none_full other p = refl
+none_full e p = grind arith
 
 -- What an event means: nothing; or something that finds the pool full where the answer says so, and then leaves the port.
 by_meaning : (n201 : ℕ) (e : port.Event) (p : Port) (ask : line.Event → line.Answer) → IsNeverFull ask → (P : Option line.Event → Type 0) → P None

@@ -63,13 +63,11 @@ takes_where : (number n : ℕ) (o : Option line.Event) → takes_at number (opti
 takes_where number n None = go (n == number)
   where
     go : (b : Bool) → 0 ≡ cond {A = ℕ} b 0 0
-    go true = refl
-    go false = refl
+    go b = grind arith
 takes_where number n (Some f) = go (n == number)
   where
     go : (b : Bool) → cond {A = ℕ} b 1 0 + 0 ≡ cond b 1 0
-    go true = refl
-    go false = refl
+    go b = grind arith
 
 one_at_most : (b : Bool) (o : Option line.Event) → cond b (meant_count o) 0 ≤ cond b 1 0
 one_at_most true None = omega arith
@@ -144,8 +142,7 @@ take_count None = 0
 take_count (Some f) = cond (is_take f) 1 0
 
 call_counts : (due : Bool) → meant_count (cond due (Some line.next) None) ≡ take_count (cond due (Some line.next) None)
-call_counts true = refl
-call_counts false = refl
+call_counts due = grind arith
 
 -- A pull takes eight bits of those that are left and of the item that a call brings; other events take none, and bring none.
 abbrev Spent : ℕ → Port → Port → ℕ → ℕ → Type 0
@@ -178,8 +175,7 @@ calls_where : (number n : ℕ) (o : Option line.Event) → takes_of number (opti
 calls_where number n None = go (n == number)
   where
     go : (b : Bool) → 0 ≡ cond {A = ℕ} b 0 0
-    go true = refl
-    go false = refl
+    go b = grind arith
 calls_where number n (Some f) = go (n == number)
   where
     go : (b : Bool) → cond (b && is_take f) 1 0 + 0 ≡ cond b (cond (is_take f) 1 0) 0

@@ -1,5 +1,5 @@
 -- An event at a card of octets is one at one of its ports, and what it means is one at the card of frames.
-use Rattle.model_card.proofs.OfPorts.Vocabulary.{◌≡◌, ◌≢◌, ◌==◌, ℕ, ◌<◌, Bool, true, false, List, [], ◌∷◌, ◌++◌, length, get_or, set, Option, None, Some, option_map_or, option_to_list, refl, ap, sym, ◌∙◌, subst, true≢false, eqb-true, eq-eqb, get_or-set_same, get_or-set_other, length-set, Card, Event, OctetCard, Port, port_at, fresh_port, meant, said, after, after_all, card_after}
+use Rattle.model_card.proofs.OfPorts.Vocabulary.{arith, ◌≡◌, ◌≢◌, ◌==◌, ℕ, ◌<◌, Bool, true, false, List, [], ◌∷◌, ◌++◌, length, get_or, set, Option, option_map_or, option_to_list, refl, ap, sym, ◌∙◌, subst, true≢false, eqb-true, eq-eqb, get_or-set_same, get_or-set_other, length-set, Card, Event, OctetCard, Port, port_at, fresh_port, meant, said, after, after_all, card_after}
 use Rattle.model_card.specs.Event as frames
 use Rattle.model_card.specs.Machine as machine
 use Rattle.model_card.specs.Run as runs
@@ -10,12 +10,10 @@ use Rattle.model_card.specs.ports.Port as port
 
 pub card_step : (card : Card) (o : Option frames.Event) → option_map_or (card_after card) o card ≡ runs.after_all card (option_to_list o)
 unfolding frames_after
-card_step card None = refl
-card_step card (Some f) = refl
+card_step card o = grind arith
 
 pub config_step : (card : Card) (o : Option frames.Event) → (option_map_or (card_after card) o card).config ≡ card.config
-config_step card None = refl
-config_step card (Some f) = refl
+config_step card o = grind arith
 
 pub config_after : (m : OctetCard) (e : Event) → (after e m).card.config ≡ m.card.config
 unfolding after

@@ -80,11 +80,7 @@ quiet-more :
     → (run_of (onto text (b ∷ past)) ≡ ones_after n text)
     × (heard_until room (onto text (b ∷ past)) ≡ heard_until room past)
     × (open_gap (onto text (b ∷ past)) ≡ option_map (onto (b ∷ text)) (open_gap past))
-quiet-more room b text past n none grown run q = (
-  q.run ∙ ap (λ m. ones_after m text) run,
-  q.heard ∙ ap (λ o. heard_until room past ++ option_to_list o) none ∙ append-nil (heard_until room past),
-  q.gap ∙ ap (option_map (onto text)) grown ∙ option_map-more b text (open_gap past),
-)
+quiet-more room b text past n none grown run q = grind (arith, ones_after, option_to_list, append-nil, option_map, option_map-more)
 
 pub calm : (room n : ℕ) (text past : List Bool) → run_of past ≡ n → n ≤ 6 → Calm n text → IsQuiet room text past
 calm room n [] past e few p = record { heard = refl; run = refl; gap = option_map-none (open_gap past) }
@@ -112,11 +108,7 @@ unstuffed_after-ones m (suc n) = ap (λ t. true ∷ t) (unstuffed_after-ones (su
 
 -- what is unstuffed after `n` 1s
 pub unstuffed-ones : (n : ℕ) (text : List Bool) → unstuffed (replicate n true ++ text) ≡ replicate n true ++ unstuffed_after n text
-unstuffed-ones n text =
-    unstuffed-counted (replicate n true ++ text)
-    ∙ unstuffed_after-append 0 (replicate n true) text
-    ∙ ap (λ l. l ++ unstuffed_after (ones_after 0 (replicate n true)) text) (unstuffed_after-ones 0 n)
-    ∙ ap (λ k. replicate n true ++ unstuffed_after k text) (ones_after-ones 0 n ∙ omega arith)
+unstuffed-ones n text = grind (arith, unstuffed-counted, unstuffed_after-append, unstuffed_after, ones_after, unstuffed_after-ones, ones_after-ones)
 
 -- the run after `n` 1s
 pub run_of-ones : (n : ℕ) → n ≤ 5 → run_of (replicate n true ++ false ∷ []) ≡ n

@@ -8,11 +8,7 @@ stuffed_end n b h =
 
 -- after the 0 that is due
 stuffed_after-due : (ones : ℕ) (b : List Bool) → stuffed_after ones b ≡ stuffed_zero ones ++ stuffed_after (ones_left ones) b
-stuffed_after-due ones b =
-    ⊎_elim
-    (λ below. simp (lt-ltb ones 5 below) refl)
-    (λ at. stuffed_after_fifth ones b at ∙ sym (simp (le-ltb ones 5 at) refl))
-    (cases_lt ones 5)
+stuffed_after-due ones b = grind (arith, lt-ltb, stuffed_after_fifth, le-ltb, cases_lt)
 
 -- a text in two parts
 stuffed_after-append : (ones : ℕ) (s t : List Bool) → stuffed_after ones (s ++ t) ≡ stuffed_after ones s ++ stuffed_after (ones_sent ones s) t
@@ -31,14 +27,7 @@ text_after-none ones few = stuffed_end ones [] (omega arith) ∙ simp (lt-ltb on
 
 -- a text goes on with the stuffed bits, by the count of 1s
 pub Goes-sent : (before sent b : List Bool) (ones run : ℕ) → ones ≤ 4 → run ≤ 4 → stuffed_after ones b ≡ sent → run ≡ ones_sent ones b → Goes before ones b (before ++ sent) run
-Goes-sent before sent b ones run few after_few is run_is rest =
-    let more : text_after ones (b ++ rest) ≡ sent ++ text_after run rest =
-    stuffed_end ones (b ++ rest) (omega arith)
-    ∙ stuffed_after-append ones b rest
-    ∙ ap (λ n. stuffed_after ones b ++ stuffed_after n rest) (sym run_is)
-    ∙ ap (λ l. l ++ stuffed_after run rest) is
-    ∙ ap (λ l. sent ++ l) (sym (stuffed_end run rest (omega arith))) in
-    append_assoc before sent (text_after run rest) ∙ ap (λ l. before ++ l) (sym more)
+Goes-sent before sent b ones run few after_few is run_is rest = grind (arith, stuffed_end, stuffed_after-append, stuffed_after, append_assoc)
 
 -- ---- the latest four bits
 

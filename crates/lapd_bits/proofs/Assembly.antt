@@ -104,13 +104,7 @@ module _
 
     pub told-frame : is_good (bits whole) ≡ true → is_some beyond ≡ false
         → Some (frame (take (count - 2) octets)) ≡ Some (closing_event (length octets) whole (low_bits filled partial))
-    told-frame g none =
-        let all = Keeps-all octets whole count beyond none k in
-        let fits : nat_lt (length octets) (length whole) ≡ false = sym k.too_many ∙ none in
-        let judged_is : judged (length octets) whole ≡ frame (take (length whole - 2) whole) = rw (long_whole, g, fits) refl in
-        closing (frame (take (count - 2) octets))
-        (judged_is
-        ∙ ap frame (ap (λ n. take (n - 2) whole) (sym all.1) ∙ ap (take (count - 2)) (sym all.0) ∙ take-take (count - 2) count octets (omega arith)))
+    told-frame g none = search (arith, Keeps-all, nat_lt, long_whole, closing, take-take)
 
 -- all that a closing flag tells
 pub ruleset told_rules = (over_by_count, over_by_value, closing-ragged, told-short, told-wrong, told-overlong, told-frame)
@@ -119,8 +113,7 @@ pub ruleset told_rules = (over_by_count, over_by_value, closing-ragged, told-sho
 
 -- what holds of fields holds of fields that equal them
 pub Keeps_same : (octets whole : List ℕ) (count count' : ℕ) (beyond beyond' : Option ℕ) → count' ≡ count → beyond' ≡ beyond → Keeps octets count beyond whole → Keeps octets count' beyond' whole
-Keeps_same octets whole count count' beyond beyond' p q k =
-    subst (λ n. Keeps octets n beyond' whole) (sym p) (subst (λ b. Keeps octets count b whole) (sym q) k)
+Keeps_same octets whole count count' beyond beyond' p q k = grind arith
 
 -- a bit that fills one, which is kept
 pub Assembles-octet : (octets later_octets : List ℕ) (count later_count : ℕ) (beyond later_beyond : Option ℕ) (partial filled octet partial' filled' : ℕ) (text : List Bool) (b : Bool) → (a : Assembles octets count beyond partial filled text) → filled ≡ 7 → low_bits (filled + 1) octet ≡ low_bits filled partial ++ b ∷ [] → octet < 2 ^ (filled + 1) → partial' ≡ 0 → filled' ≡ 0 → Keeps later_octets later_count later_beyond (a.whole ++ octet ∷ []) → Assembles later_octets later_count later_beyond partial' filled' (text ++ b ∷ [])

@@ -9,8 +9,7 @@ use Rattle.lapd_bits.proofs.StuffingClosed.{unstuffed-push_one, unstuffed-push_z
 
 -- an open gap has no abort
 still_open : (g h : List Bool) → (if_closed : Bool) → cond if_closed None (Some g) ≡ Some h → (if_closed ≡ false) × (g ≡ h)
-still_open g h true e = cc
-still_open g h false e = (refl, cc)
+still_open g h if_closed e = grind arith
 
 opened_since : (o : Option (List Bool)) (g : List Bool) → option_and_then (λ h. cond (has_abort h) None (Some h)) o ≡ Some g → (o ≡ Some g) × (has_abort g ≡ false)
 opened_since o g e = grind (arith, still_open)
@@ -28,8 +27,7 @@ open_run past g e =
 
 -- a field that matches no gap has none
 pub no_some : (o : Option Gap) → ((g : Gap) → o ≡ Some g → ⊥) → o ≡ None
-no_some None f = refl
-no_some (Some g) f = absurd (f g refl)
+no_some o f = grind arith
 
 -- what holds of any open gap there is
 pub for_open : (past : List Bool) (P : List Bool → Type 0) → ((g : List Bool) → open_gap past ≡ Some g → P g) → IfSome (open_gap past) P
@@ -39,8 +37,7 @@ for_open past P h = grind arith
 
 -- a 1 is
 pub kept_one : (gap : Option (List Bool)) → IsKept true gap
-kept_one None = tt
-kept_one (Some g) = ap unstuffed (reverse-cons true g) ∙ unstuffed-push_one (reverse g)
+kept_one gap = grind (arith, reverse-cons, unstuffed-push_one)
 
 -- a 0 is, but after five 1s
 pub kept_zero : (past : List Bool) → run_of past ≢ 5 → run_of past ≢ 6 → IsKept false (open_gap past)
@@ -77,11 +74,7 @@ no_six_before g six long none =
 
 -- the event of a gap by the octets of which a sender makes it
 event_of_octets : (room : ℕ) (gap : List Bool) (whole : List ℕ) (over : List Bool) → octets_sent gap ≡ cond (same_bits over flag_front) (Some whole) None → gap_event room gap ≡ closing_event room whole over
-event_of_octets room gap whole over e = ap (text_event room) e ∙ by_choice (same_bits over flag_front)
-  where
-    by_choice : (same : Bool) → text_event room (cond same (Some whole) None) ≡ cond same (judged room whole) (dropped Ragged)
-    by_choice true = refl
-    by_choice false = refl
+event_of_octets room gap whole over e = search arith
 
 -- a gap that is closed is told as what its octets are
 pub closed_told : (octets : List ℕ) (gap : Gap) (past : List Bool) (event : Option Event) → run_of past ≡ 6 → HoldsGap octets (Some gap) (open_gap past) → 8 ≤ gap.since → ((whole : List ℕ) → KeepsIn octets gap whole → event ≡ Some (closing_event (length octets) whole (low_bits gap.filled gap.partial))) → event ≡ closed_event (length octets) (open_gap past)
@@ -139,8 +132,7 @@ told_event_more room past so_far b event heard e = grind (arith, option_to_list,
 
 -- a young gap stays young for longer
 pub IsYoung-le : (m n : ℕ) (gap : Option Gap) → m ≤ n → IsYoung m gap → IsYoung n gap
-IsYoung-le m n None h y = tt
-IsYoung-le m n (Some g) h y = omega arith
+IsYoung-le m n gap h y = grind arith
 
 -- nothing has ended, or what has ended lies in octets that stay while the gap is young
 abbrev pub EndedEarlier : ℕ → Ended → Option Gap → Type 0
@@ -151,10 +143,8 @@ event_stays octets octets' last gap place h o stay = grind (arith, IsYoung-le)
 
 -- what has ended earlier stays so
 pub ended_still : (place : ℕ) (last : Ended) (gap gap' : Option Gap) → EndedEarlier place last gap → (IsYoung place gap → IsYoung (place + 1) gap') → EndedEarlier (place + 1) last gap'
-ended_still place last gap gap' (inl nothing) grows = inl nothing
-ended_still place last gap gap' (inr young) grows = inr (grows young)
+ended_still place last gap gap' o grows = grind arith
 
 -- a second event in one octet cannot be
 pub nothing_before : (place : ℕ) (last next : Ended) (gap : Option Gap) → place < 8 → EndedEarlier place last gap → (IsYoung 7 gap → next ≡ ended.Nothing) → (next ≡ ended.Nothing → ⊥) → last ≡ ended.Nothing
-nothing_before place last next gap h (inl nothing) quiet some = nothing
-nothing_before place last next gap h (inr young) quiet some = absurd (some (quiet (IsYoung-le place 7 gap (omega arith) young)))
+nothing_before place last next gap h o quiet some = grind (arith, IsYoung-le)

@@ -43,13 +43,11 @@ fives-twos x =
 
 -- the next is a 1 after three at most
 one_more : (d c b a : Bool) → first_ones (d ∷ c ∷ b ∷ a ∷ []) ≤ 3 → first_ones (true ∷ d ∷ c ∷ b ∷ []) ≡ suc (first_ones (d ∷ c ∷ b ∷ a ∷ []))
-one_more true true true true h = absurd (omega (arith, h))
-one_more _ _ _ _ h = refl
+one_more d c b a h = grind arith
 
 -- three at most where they are not all 1s
 not_all : (d c b a : Bool) → (a ≡ true → b ≡ true → c ≡ true → d ≡ true → ⊥) → first_ones (d ∷ c ∷ b ∷ a ∷ []) ≤ 3
-not_all true true true true h = absurd (h refl refl refl refl)
-not_all _ _ _ _ h = omega arith
+not_all d c b a h = grind arith
 
 -- where no five begin, fewer than four are before a 1
 three_before : (x : ℕ) → fives x % 2 ≡ 0 → x / 16 % 2 ≡ 1 → last_ones x ≤ 3
@@ -89,8 +87,7 @@ behind_both a b p i = (sym (append_assoc a b p.0) i, p.1)
 
 -- a bit goes after four 1s at most
 bit_goes : (n : ℕ) (b : Bool) (rest : List Bool) → n ≤ 4 → going n (b ∷ rest) ≡ behind (b ∷ []) (going (if b then suc n else 0) rest)
-bit_goes n false rest few = simp (lt-ltb n 5 (omega arith)) refl
-bit_goes n true rest few = simp (lt-ltb n 5 (omega arith)) refl
+bit_goes n b rest few = grind (arith, lt-ltb)
 
 -- and so does one of a number where no five begin
 number_goes : (x m : ℕ) → fives x % 2 ≡ 0 → going (last_ones x) (low_bits (suc m) (x / 16)) ≡ behind (nat_eq (x / 16 % 2) 1 ∷ []) (going (last_ones (x / 2)) (low_bits m (x / 2 / 16)))

@@ -186,11 +186,7 @@ is_begun octet content count ones =
 
 IsFlagBegun-by_test : (ones octet content count : ℕ) → ones ≤ 5 → is_begun octet content count ones ≡ true
     → IsFlagBegun ones octet content count 6
-IsFlagBegun-by_test ones octet content count few h =
-    let a = and_parts (ends_nothing ones (low_bits 8 octet)) _ h in
-    let b =
-    and_parts (same_bits (unstuffed (replicate ones true ++ low_bits 8 octet)) (replicate ones true ++ low_bits count content)) _ a.1 in
-    record { few = few; quiet = a.0; brings = record { stays = same_from_test _ _ b.0; run_is = eqb-true _ _ b.1 } }
+IsFlagBegun-by_test ones octet content count few h = search (arith, and_parts, same_from_test, eqb-true)
 
 -- after fewer than five 1s its first 0 stays
 pub begun-whole : (ones octet : ℕ) → 252 ≤ octet → octet ≤ 253 → (octet < 253) ⊎ (253 ≤ octet) → ones + (octet - 252) < 5 → IsFlagBegun ones octet octet 8 6

@@ -22,8 +22,7 @@ to_give-octet octets next end d after more within =
 
 -- where no octets are left, the bits after them
 pub to_give-none : (octets : List ℕ) (next end : ℕ) (after : Waiting) → end ≤ next → end ≤ length octets → to_give octets next end after ≡ low_bits after.count after.bits
-to_give-none octets next end after none within =
-    ap (λ l. bits l ++ low_bits after.count after.bits) (drop_all next (take end octets) (omega (arith, length-take end octets)))
+to_give-none octets next end after none within = grind (arith, drop_all, length-take)
 
 -- ---- whether eight bits are left
 

@@ -5,8 +5,7 @@ use Rattle.lapd_bits.proofs.Vocabulary.{◌≡◌, ℕ, ◌+◌, ◌-◌, ◌*�
 
 -- the sum is below 2 ^ 16, and so is the number that is moved up
 pub above_fits : (number place more : ℕ) → place < 8 → number < 2 ^ place → more < 256 → number + more * 2 ^ place < 65536
-above_fits number place more small below few =
-    omega (arith, mul-add-lt more (2 ^ place) number 256 few below, pow_below place 8 small)
+above_fits number place more small below few = grind (arith, mul-add-lt, pow_below)
 
 pub above_is : (number place more : ℕ) → place < 8 → number < 2 ^ place → more < 256 → number + more * 2 ^ place % 4294967296 ≡ number + more * 2 ^ place
 above_is number place more small below few =
@@ -23,8 +22,7 @@ above_bits number place more n below =
     ∙ ap (λ y. low_bits place number ++ low_bits n y) (div-mul-add more (2 ^ place) number below)
 
 pub above_below : (number place more n : ℕ) → number < 2 ^ place → more < 2 ^ n → number + more * 2 ^ place < 2 ^ (place + n)
-above_below number place more n below few =
-    omega (arith, pow-add 2 place n, mul-add-lt more (2 ^ place) number (2 ^ n) few below)
+above_below number place more n below few = grind (arith, pow-add, mul-add-lt)
 
 -- the same in 64 bits
 pub above_fits_word : (number place more n : ℕ) → number < 2 ^ place → more < 2 ^ n → place + n < 64 → number + more * 2 ^ place < 18446744073709551616

@@ -8,13 +8,11 @@ use Rattle.lapd_bits.proofs.StuffingAtOnce.{text_after-none, last_ones_few}
 
 -- by some bits and then others
 pub Goes-then : (a b c : List Bool) (l m n : ℕ) (first second : List Bool) → Goes a l first b m → Goes b m second c n → Goes a l (first ++ second) c n
-Goes-then a b c l m n first second one two rest =
-    two rest ∙ one (second ++ rest) ∙ ap (λ o. a ++ text_after l o) (sym (append_assoc first second rest))
+Goes-then a b c l m n first second one two rest = grind (arith, append_assoc)
 
 -- after other bits
 Goes-behind : (front a b : List Bool) (l m : ℕ) (more : List Bool) → Goes a l more b m → Goes (front ++ a) l more (front ++ b) m
-Goes-behind front a b l m more goes rest =
-    append_assoc front b (text_after m rest) ∙ ap (λ t. front ++ t) (goes rest) ∙ sym (append_assoc front a (text_after l (more ++ rest)))
+Goes-behind front a b l m more goes rest = grind (arith, append_assoc)
 
 -- as its bits that wait do
 pub Goes-made : (text later : StuffedText) (buffer : List ℕ) (more : List Bool) → later.end ≡ text.end → Goes (waits text.waiting) (last_ones text.latest) more (waits later.waiting) (last_ones later.latest) → Goes (made text buffer) (last_ones text.latest) more (made later buffer) (last_ones later.latest)

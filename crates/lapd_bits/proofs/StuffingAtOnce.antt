@@ -3,8 +3,7 @@ use Rattle.lapd_bits.proofs.Vocabulary.{◌≡◌, ℕ, suc, ◌≤◌, Bool, tr
 
 -- the end of a stuffed text, by the count of 1s
 stuffed_end : (n : ℕ) (b : List Bool) → n ≤ 4 → drop n (stuffed (replicate n true ++ b)) ≡ stuffed_after n b
-stuffed_end n b h =
-    ap (drop n) (stuffed_alike n b (omega arith)) ∙ drop_at (replicate n true) (stuffed_after n b) n (length-replicate n true)
+stuffed_end n b h = grind (arith, stuffed_alike, drop_at, stuffed_after, length-replicate)
 
 -- after the 0 that is due
 stuffed_after-due : (ones : ℕ) (b : List Bool) → stuffed_after ones b ≡ stuffed_zero ones ++ stuffed_after (ones_left ones) b
@@ -33,8 +32,7 @@ Goes-sent before sent b ones run few after_few is run_is rest = grind (arith, st
 
 -- of four bits at most four are 1s
 four_few : (d c b a : Bool) → first_ones (d ∷ c ∷ b ∷ a ∷ []) ≤ 4
-four_few true true true true = omega arith
-four_few _ _ _ _ = omega arith
+four_few d c b a = grind arith
 
 pub last_ones_few : (x : ℕ) → last_ones x ≤ 4
 unfolding low_bits

@@ -19,8 +19,7 @@ pub unstuffed-push_zero : (text : List Bool) → ones_after 0 text < 5 → unstu
 unstuffed-push_zero text h = simp (lt-ltb (ones_after 0 text) 5 h) at (unstuffed-push text false)
 
 pub unstuffed-push_stuffed : (text : List Bool) → 5 ≤ ones_after 0 text → unstuffed (text ++ false ∷ []) ≡ unstuffed text
-unstuffed-push_stuffed text h =
-    simp (le-ltb (ones_after 0 text) 5 h) at (unstuffed-push text false) ∙ append-nil (unstuffed text)
+unstuffed-push_stuffed text h = grind (arith, le-ltb, ones_after, unstuffed-push, append-nil)
 
 -- a closing flag's first 0 is kept where the text does not end in five 1s, and taken out where it does
 pub unstuffed-flag_front : (text : List Bool) → ones_after 0 text < 5 → unstuffed (text ++ flag_front) ≡ unstuffed text ++ flag_front

@@ -77,8 +77,7 @@ module _ (ones : ℕ) (b : List Bool) (text total due : ℕ) (u : Underway ones 
       ∙ sym u.goes
     where
       no_product : (f p : ℕ) → 0 < p → f * p ≡ 0 → f ≡ 0
-      no_product zero p some none = refl
-      no_product (suc f) p some none = absurd (omega (arith, some, none))
+      no_product f p some none = grind arith
 
 -- ---- a 0 goes in
 

@@ -22,8 +22,7 @@ use Rattle.laws_trace.proofs.TimersOfEvent.{off-fresh}
 use Rattle.laws_trace.proofs.TimersWatched as known
 
 either-false : (b : Bool) → cond b false false ≡ false
-either-false true = refl
-either-false false = refl
+either-false b = grind arith
 
 pub still : (anew : Bool) (k : Link) → went_by anew k k ≡ 0
 still anew k = cond_both (is_up (state_number k.state) && is_up (state_number k.state) && not anew) (steps (k.a % 128) (k.a % 128)) 0 (λ n. n ≡ 0) (λ up. omega arith) (λ down. refl)
@@ -54,32 +53,18 @@ module _ (c : Config) (ranged : IsInRange c) (l : Line) (s : IsSound c l) (servi
     where
       aimed-so : (full : Bool) (contents : List ℕ) → refusal c false (Data service tei contents) l ≡ None
           → aim_of c (request (Data service tei contents)) l ≡ at_link service tei x.place (link.requested (link.Data contents) full) → full ≡ false
-      aimed-so full contents none is =
-          let there : at_link service tei x.place (link.requested (link.Data contents) false) ≡ at_link service tei x.place (link.requested (link.Data contents) full) =
-          sym (ap (λ o. unless_refused o (at_requested service tei (link.Data contents) (place_in l tei))) none ∙ ap (at_requested service tei (link.Data contents)) x.placed) ∙ is in
-          sym (cc there)
+      aimed-so full contents none is = grind arith
 
       not-full : (what : link.Request) (full : Bool) (contents : List ℕ) → what ≡ link.Data contents → x.event ≡ link.requested what full → r ≡ of_link service tei what
           → is_granted (lines.answer c (request r) l) ≡ true
           → (request r ≡ next) ⊎ (aim_of c (request r) l ≡ at_link service tei x.place x.event) → requests.refusal own_terms own full (link.Data contents) ≡ None
-      not-full what full contents is event asked g (inl e) = cc e
-      not-full what full contents is event asked g (inr aim) =
-          let named : r ≡ Data service tei contents = asked ∙ ap (of_link service tei) is in
-          let none : refusal c false (Data service tei contents) l ≡ None = not-refused c (Data service tei contents) l (subst (λ r. is_granted (lines.answer c (request r) l) ≡ true) named g) in
-          let full_is : full ≡ false =
-          aimed-so full contents none
-          (ap (λ r. aim_of c (request r) l) (sym named) ∙ aim ∙ ap (at_link service tei x.place) (event ∙ ap (λ w. link.requested w full) is)) in
-          let its : own ≡ link_in l service x.place = ap (λ o. option_map_or (link_in l service) o fresh_link) x.placed in
-          ap (λ b. requests.refusal own_terms own b (link.Data contents)) full_is ∙ ap (λ own. requests.refusal own_terms own false (link.Data contents)) its
-          ∙ link-grants c service tei x.place contents l x.placed none
+      not-full what full contents is event asked g o = grind (arith, not-refused, aimed-so, link-grants)
   accepted-asked other x =
       (no-data c other (lines.answer c other l) service tei own_terms own (λ r same. cc same) (λ same. cc same) x.event x.by).0
       ∙ sym (told-grants service tei (lines.answer c other l))
 
   no-end : (e : Event) → ((r : Request) → e ≡ request r → ⊥) → (le : link.Event) → IsBy c e (lines.answer c e l) service tei le → ends own_terms le own ≡ false
-  no-end e never (link.requested what full) by = absurd (never (of_link service tei what) by.0)
-  no-end e never link.cleared by = absurd by
-  no-end e never other by = refl
+  no-end e never le by = grind arith
 
   noted : (e : Event) → (x : One e) → list_any (is_loss_of service tei) (notes_of (lines.answer c e l)) ≡ tells_loss (told own_terms x.event own).notes
   noted e x =
@@ -99,8 +84,7 @@ module _ (c : Config) (ranged : IsInRange c) (l : Line) (s : IsSound c l) (servi
 
   released : (what : link.Request) (full : Bool) → (what ≡ link.Release → requests.refusal own_terms own full link.Release ≡ None)
       → is_release what ≡ ends own_terms (link.requested what full) own
-  released link.Release full h = sym (ap (λ o. cond (is_some o) false true) (h refl))
-  released other full h = sym (either-false (is_some (requests.refusal own_terms own full other)))
+  released what full h = grind (arith, is_some, either-false)
 
   pub lost-is : (e : Event) → (x : One e) → lost_in service tei (seen e (lines.answer c e l)) ≡ empties own_terms x.event own
   lost-is (hears what) x =
@@ -143,10 +127,7 @@ module _ (c : Config) (ranged : IsInRange c) (l : Line) (s : IsSound c l) (servi
         ∙ no-note ns (All-tail (λ n. is_news service tei n ≡ false) n ns all)
       where
         no-loss : (n : Note) → is_news service tei n ≡ false → is_loss_of service tei n ≡ false
-        no-loss (EstablishIndication of by) none = none
-        no-loss (ReleaseIndication of by) none = none
-        no-loss (ReleaseConfirm of by) none = none
-        no-loss other none = refl
+        no-loss n none = grind arith
 
     pub none-lost : (e : Event) → is_at_link service tei (aim_of c e l) ≡ false → has_tei tei (lines.after c e l) ≡ true → lost_in service tei (seen e (lines.answer c e l)) ≡ false
     none-lost e aims there = go e aims (no-note (notes_of (lines.answer c e l)) (others-silent service tei c e l s aims (inr there)))
@@ -240,12 +221,7 @@ module _ (c : Config) (ranged : IsInRange c) (l : Line) (s : IsSound c l) (servi
 
   -- Its deactivation.
   down-left : (x : IsGivenUp c service tei e l new a) → Left
-  down-left x =
-      ap (λ (y : Link). queue_of y) x.is
-      ∙ sym (ap (λ b. left b anew k k' (granted_in service tei (seen e a)))
-      (ap (λ e. lost_in service tei (seen e a)) x.by.0 ∙ asked-loses service tei (Deactivate service tei) a
-      ∙ ap (λ b. cond b (is_own service tei service tei || list_any (is_loss_of service tei) (notes_of a)) false) x.by.1
-      ∙ ap (λ b. b || list_any (is_loss_of service tei) (notes_of a)) (own-is service tei)))
+  down-left x = grind (arith, granted_in, lost_in, asked-loses, own-is)
 
   pub left-so : (p q : ℕ) → place_in l tei ≡ Some p → place_in new tei ≡ Some q → Left
   left-so p q on there = go (event-goes c e l service tei s)

@@ -4,9 +4,7 @@ use Rattle.laws_trace.proofs.Vocabulary.{◌≡◌, ℕ, zero, suc, ◌+◌, ◌
 
 -- A TEI that comes.
 swap : (a b c : Bool) → (a || (b || c)) ≡ (b || (a || c))
-swap true true c = refl
-swap true false c = refl
-swap false b c = refl
+swap a b c = grind arith
 
 set-any : (x tei : ℕ) (places : Places) (place : ℕ) → place < length places → get_or places place None ≡ None → is_on x (set places place (Some tei)) ≡ ((tei == x) || is_on x places)
 set-any x tei [] place within free = absurd (omega (arith, within))
@@ -19,8 +17,7 @@ on-coming places place tei x free = let at = free_place-is places place free in 
 
 -- A TEI that leaves.
 holder : (x : ℕ) (o : Option ℕ) → has x o ≡ true → o ≡ Some x
-holder x None is = absurd (true≢false (sym is))
-holder x (Some own) is = ap Some (eqb-true own x is)
+holder x o is = grind (arith, eqb-true)
 
 abbrev IsAlone : Places → ℕ → ℕ → Type 0
 IsAlone places place tei = (j : ℕ) → IsAt places j tei → j ≡ place
@@ -77,8 +74,7 @@ taken (None ∷ places) = taken places
 taken (Some tei ∷ places) = taken places + 1
 
 one-taken : (o : Option ℕ) (ps qs : Places) (n : ℕ) → taken ps ≡ taken qs + n → taken (o ∷ ps) ≡ taken (o ∷ qs) + n
-one-taken None ps qs n e = e
-one-taken (Some tei) ps qs n e = omega (arith, e)
+one-taken o ps qs n e = grind arith
 
 taken-coming : (places : Places) (place tei : ℕ) → place < length places → get_or places place None ≡ None → taken (set places place (Some tei)) ≡ taken places + 1
 taken-coming [] place tei within free = absurd (omega (arith, within))
@@ -111,12 +107,7 @@ all-taken (None ∷ places) e = absurd (omega (arith, e))
 all-taken (Some tei ∷ places) e = let rest = all-taken places (omega (arith, e)) in omega (arith, rest)
 
 pub none-free : (places : Places) → free_place places ≡ None → taken places ≡ length places
-none-free places = go (nat_lt (prefix_len (λ o. not (is_free o)) places) (length places)) refl
-  where
-    go : (b : Bool) → nat_lt (prefix_len (λ o. not (is_free o)) places) (length places) ≡ b
-        → cond b (Some (prefix_len (λ o. not (is_free o)) places)) None ≡ None → taken places ≡ length places
-    go true e h = absurd (none-some _ (sym h))
-    go false e h = all-taken places (ltb-false _ _ e)
+none-free places = grind (arith, none-some, all-taken, ltb-false)
 
 -- How often a list has a TEI.
 abbrev pub times : ℕ → List ℕ → ℕ
@@ -134,40 +125,34 @@ others-length x [] = refl
 others-length x (y ∷ ys) = go (y == x) (others-length x ys)
   where
     go : (b : Bool) → length ys ≡ length (others x ys) + times x ys → length (y ∷ ys) ≡ length (cond (not b) (y ∷ others x ys) (others x ys)) + cond b (times x ys + 1) (times x ys)
-    go true e = omega (arith, e)
-    go false e = omega (arith, e)
+    go b e = grind arith
 
 none-times : (x : ℕ) (ys : List ℕ) → among x ys ≡ false → times x ys ≡ 0
 none-times x [] off = refl
 none-times x (y ∷ ys) off = go (y == x) off (λ off. none-times x ys off)
   where
     go : (b : Bool) → (b || among x ys) ≡ false → (among x ys ≡ false → times x ys ≡ 0) → cond b (times x ys + 1) (times x ys) ≡ 0
-    go true off rest = absurd (true≢false off)
-    go false off rest = rest off
+    go b off rest = grind arith
 
 some-times : (x : ℕ) (ys : List ℕ) → among x ys ≡ true → 1 ≤ times x ys
 some-times x [] on = absurd (true≢false (sym on))
 some-times x (y ∷ ys) on = go (y == x) on (λ on. some-times x ys on)
   where
     go : (b : Bool) → (b || among x ys) ≡ true → (among x ys ≡ true → 1 ≤ times x ys) → 1 ≤ cond b (times x ys + 1) (times x ys)
-    go true on rest = omega arith
-    go false on rest = rest on
+    go b on rest = grind arith
 
 fewer-times : (x tei : ℕ) (ys : List ℕ) → times x (others tei ys) ≤ times x ys
 fewer-times x tei [] = omega arith
 fewer-times x tei (y ∷ ys) = go (y == tei) (fewer-times x tei ys)
   where
     more : (b : Bool) → times x (others tei ys) ≤ times x ys → cond b (times x (others tei ys) + 1) (times x (others tei ys)) ≤ cond b (times x ys + 1) (times x ys)
-    more true e = omega (arith, e)
-    more false e = e
+    more b e = grind arith
 
     less : (b : Bool) → times x (others tei ys) ≤ times x ys → times x (others tei ys) ≤ cond b (times x ys + 1) (times x ys)
-    less true e = omega (arith, e)
-    less false e = e
+    less b e = grind arith
 
     go : (a : Bool) → times x (others tei ys) ≤ times x ys → times x (cond (not a) (y ∷ others tei ys) (others tei ys)) ≤ cond (y == x) (times x ys + 1) (times x ys)
-    go true e = less (y == x) e
-    go false e = more (y == x) e
+    go a e = grind (arith, less, more)
 
 -- The TEIs on a line, as an observer has them: each once, and as many as places are taken.
 pub record AreOn (on : List ℕ) (places : Places) : Type 0 where
@@ -199,8 +184,7 @@ module _ (on : List ℕ) (places : Places) (h : AreOn on places) where
   }
     where
       go : (x : ℕ) (b : Bool) → (tei == x) ≡ b → cond b (times x on + 1) (times x on) ≤ 1
-      go x true is = let none : times x on ≡ 0 = none-times x on (subst (λ n. among n on ≡ false) (eqb-true tei x is) (h.same tei ∙ off)) in omega (arith, none)
-      go x false is = h.once x
+      go x b is = grind (arith, none-times, eqb-true)
 
   size-leaving : (tei : ℕ) (o : Option ℕ) → place_of tei places ≡ o → length (others tei on) ≡ taken (freed places o)
   size-leaving tei None is =

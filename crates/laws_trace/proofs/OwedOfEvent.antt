@@ -25,19 +25,14 @@ module _ (c : Config) (ranged : IsInRange c) (l : Line) (s : IsSound c l) (servi
   none-owed none same = ap (λ (k : Known). not (k.next == k.acknowledged)) none ∙ sym (ap not (eq-eqb own.s own.a same))
 
   while-known : own.a ≤ own.s → own.s ≤ own.a + 127 → IsKnown k own.a own.s own.peer_busy → not (k.next == k.acknowledged) ≡ not (own.s == own.a)
-  while-known ordered within known =
-      ap (λ n. not (n == k.acknowledged)) known.next ∙ ap (λ n. not (own.s % 128 == n)) known.acknowledged
-      ∙ ap not (outstanding-is service tei k own.a own.s ordered within)
+  while-known ordered within known = grind (arith, outstanding-is)
 
   settled : link_sound.IsSound (terms c service tei) own → length own.contents ≡ own.a → own.s ≡ own.a
   settled sound all = let low : own.a ≤ own.s = sound.ordered in let high : own.s ≤ length own.contents = sound.accepted in omega (arith, low, high, all)
 
   by-state : (here : State) → is_state 5 (told_state here) ≡ false → Agrees here k own.a own.s own.peer_busy → link_sound.IsSettledIn here own
       → link_sound.IsSound (terms c service tei) own → own.s ≤ own.a + 127 → not (k.next == k.acknowledged) ≡ not (own.s == own.a)
-  by-state AwaitingEstablishment off known rest sound within = absurd (true≢false off)
-  by-state Established off known rest sound within = while-known sound.ordered within known
-  by-state TimerRecovery off known rest sound within = while-known sound.ordered within known
-  by-state other off known rest sound within = none-owed known (settled sound rest)
+  by-state here off known rest sound within = grind (arith, while-known, none-owed, settled)
 
   pub known-owes : is_state 5 (state_of service tei l) ≡ false → IsOwed service tei (not (k.next == k.acknowledged)) l
   known-owes off = go (place_in l tei) refl
@@ -65,15 +60,10 @@ module _ (c : Config) (ranged : IsInRange c) (l : Line) (s : IsSound c l) (timed
   Same y = not (y.s == y.a) ≡ not (was.s == was.a)
 
   by-kept : (y : Link) → is_state 5 (told_state y.state) ≡ true → Kept y.state (timing (begun was)) (record (timing (begun was)) { a = y.a; s = y.s }) → Same y
-  by-kept y in_5 kept = go y.state in_5 kept
-    where
-      go : (here : State) → is_state 5 (told_state here) ≡ true → Kept here (timing (begun was)) (record (timing (begun was)) { a = y.a; s = y.s }) → Same y
-      go AwaitingEstablishment is kept = ap (λ n. not (n == y.a)) kept.1 ∙ ap (λ n. not (was.s == n)) kept.0
-      go other is kept = absurd (true≢false (sym is))
+  by-kept y in_5 kept = grind (arith, is_state, told_state, Kept, timing)
 
   shape : (here : State) (y : Timing) → Kept here (timing (begun was)) y → Kept here (timing (begun was)) (record (timing (begun was)) { a = y.a; s = y.s })
-  shape AwaitingEstablishment y kept = kept
-  shape other y kept = tt
+  shape here y kept = grind arith
 
   pub five-owes : (outstanding : Bool) → IsOwed service tei outstanding l → is_state 5 (state_of service tei (after c e l)) ≡ true → IsOwed service tei outstanding (after c e l)
   five-owes outstanding owes in_5 = go (place_in (after c e l) tei) refl

@@ -11,9 +11,7 @@ use Rattle.laws_trace.proofs.Facts.{never}
 
 pub control-of : (command : Bool) (control : Control) → is_ui control ≡ false → is_information control ≡ false
     → control_in command control ≡ record { command = command; control = control } ∷ []
-control-of command (Information ns nr p) plain bare = never (sym bare)
-control-of command (Ui p) plain bare = never (sym plain)
-control-of command other plain bare = refl
+control-of command control plain bare = grind (arith, never)
 
 module _ (c : Config) (events : List Event) (number : ℕ) (ranged : IsInRange c) (all : AreAtLines (fresh c) events) (within : number < c.lines) (service : Service) (tei place : ℕ)
     (on : place_in (line_at number (after_all (fresh c) events)) tei ≡ Some place) where

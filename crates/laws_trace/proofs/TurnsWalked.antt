@@ -48,8 +48,7 @@ module _ (c : Config) (one tei other its : ℕ) where
       turned (comes-first (link_count c) l.turn h.sound.turn (IsSilentAt c l) other number g.passed g.behind h.there.few g.place g.all_silent h.there.speaks)
     where
       turned : (number ≡ other) ⊎ (way (number + 1) + 1 ≤ way l.turn) → (other ≡ number) ⊎ (way (number + 1) + 1 ≤ way l.turn)
-      turned (inl same) = inl (sym same)
-      turned (inr less) = inr less
+      turned o = grind arith
 
   too-near : (a b w : ℕ) → a ≡ b → a + 1 ≤ w → w ≤ b → ⊥
   too-near a b w e f g = omega (arith, e, f, g)
@@ -106,8 +105,7 @@ module _ (c : Config) (one tei other its : ℕ) where
     no-name frame names none walk = subst (λ b. Walk l (map named_in (cond b (frame ∷ []) []) ++ names)) (sym none) walk
 
     a-name : (frame : List ℕ) (name : LinkName) (names : List LinkName) → is_of_a_link c.side frame ≡ true → named_in frame ≡ name → Walk l (name ∷ names) → Walk l (names-in (frame ∷ []) ++ names)
-    a-name frame name names is named walk =
-        subst (λ b. Walk l (map named_in (cond b (frame ∷ []) []) ++ names)) (sym is) (subst (λ n. Walk l (n ∷ names)) (sym named) walk)
+    a-name frame name names is named walk = grind (arith, named_in)
 
     abbrev new : Line
     new = lines.after c next l
@@ -152,9 +150,7 @@ module _ (c : Config) (one tei other its : ℕ) where
         none-begins other (lines.answer c other l) names (none-told (lines.answer c other l)) (turn-stays c other l) walk
 
 pub names-both : (c : Config) (t u : List Seen) → links_begun c (t ++ u) ≡ links_begun c t ++ links_begun c u
-names-both c t u =
-    ap (map named_in) (ap (filter (is_of_a_link c.side)) (flat_map-append frame_begun t u) ∙ filter-append (is_of_a_link c.side) (frames_begun t) (frames_begun u))
-    ∙ map-append named_in (filter (is_of_a_link c.side) (frames_begun t)) (filter (is_of_a_link c.side) (frames_begun u))
+names-both c t u = grind (arith, named_in, is_of_a_link, flat_map-append, filter-append, map-append)
 
 -- A run.
 module _ (number one tei other its : ℕ) where

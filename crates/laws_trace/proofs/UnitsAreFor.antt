@@ -1,5 +1,5 @@
 -- Unit data is told of TEIs on the line, or of the group.
-use Rattle.laws_trace.proofs.Vocabulary.{◌≡◌, ℕ, ◌<◌, ◌==◌, ◌&&◌, ◌||◌, not, Bool, true, false, cond, length, List, ◌∷◌, ◌++◌, Option, Some, None, is_some, refl, sym, ap, ◌∙◌, subst, eq-eqb, true≢false, ◌⊎◌, inl, inr, nat_le, Result, Ok, Err, list_any, option_map_or, and_parts, leb-true, Side, User, Network, ReadFault, Service, Parts, reading, same_service, Config, Answer, hears, group_tei, heard_side, Line, has_tei, state_of, has_management, IsInRange, line_at, at, has_lines, by_room, line_sound, notes_of, is_unit_of, eqb-true, IsSound, fresh, CardEvent as Event, card_answer as answer, after_all, AreAtLines, is_unit_for, result_ok, brought, frame_of, its_frame, is_for, managing_is_on as is_on, view_of, is_ui, or-true}
+use Rattle.laws_trace.proofs.Vocabulary.{arith, ◌≡◌, ℕ, ◌<◌, ◌==◌, ◌&&◌, ◌||◌, not, Bool, true, false, cond, length, List, ◌∷◌, ◌++◌, Option, Some, None, is_some, refl, sym, ap, ◌∙◌, subst, eq-eqb, true≢false, ◌⊎◌, inl, inr, nat_le, Result, Ok, Err, list_any, option_map_or, and_parts, leb-true, Side, User, Network, ReadFault, Service, Parts, reading, same_service, Config, Answer, hears, group_tei, heard_side, Line, has_tei, state_of, has_management, IsInRange, line_at, at, has_lines, by_room, line_sound, notes_of, is_unit_of, eqb-true, IsSound, fresh, CardEvent as Event, card_answer as answer, after_all, AreAtLines, is_unit_for, result_ok, brought, frame_of, its_frame, is_for, managing_is_on as is_on, view_of, is_ui, or-true}
 use Rattle.model_bits.specs.Stream as stream
 use Rattle.model_line.specs.Event as line_event
 use Rattle.model_line.specs.Machine as lines
@@ -56,8 +56,7 @@ abbrev IsHere : Config → Service → ℕ → ℕ → List Event → Bool
 IsHere c service tei number before = is_on tei (view_of c service tei number before).teis || (not (has_management c.side) && tei == 127)
 
 user-so : (side : Side) → not (has_management side) ≡ true → side ≡ User
-user-so User is = refl
-user-so Network is = absurd (true≢false (sym is))
+user-so side is = grind arith
 
 here-so : (c : Config) (service : Service) (tei number : ℕ) (before : List Event) → IsThere c service tei number before → IsHere c service tei number before ≡ true
 here-so c service tei number before (inl on) = ap (λ b. b || (not (has_management c.side) && tei == 127)) on
@@ -110,5 +109,4 @@ module _ (c : Config) (events : List Event) (number : ℕ) (ranged : IsInRange c
   by-heard other behind split some = absurd (true≢false (sym some))
 
   pub units-are : (what : line_event.Event) (behind : List Event) → events ≡ before ++ at number what ∷ behind → Comes (brought c service tei what) → Told what
-  units-are (hears e) behind split some = by-heard e behind split some
-  units-are other behind split some = absurd (true≢false (sym some))
+  units-are what behind split some = grind (arith, by-heard)

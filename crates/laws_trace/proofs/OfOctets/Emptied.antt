@@ -68,8 +68,7 @@ behind_one number f fs h x =
     }
   where
     go : (b : Bool) → takes_at number fs ≡ 1 + takes_at number x.front → cond b 1 0 + takes_at number fs ≡ 1 + (cond b 1 0 + takes_at number x.front)
-    go true counted = omega (arith, counted)
-    go false counted = omega (arith, counted)
+    go b counted = grind arith
 
 latest : (number : ℕ) (fs : List frames.Event) → AreTakesAt number fs → 0 < takes_at number fs → IsLatest number fs
 latest number [] only some = absurd (omega (arith, some))
@@ -82,12 +81,10 @@ latest number (f ∷ fs) only some = by_count (takes_at number fs) refl (latest 
 -- ---- what calls are answered with
 
 is_off : (b : Bool) (n : ℕ) → cond b 1 0 + n ≡ 0 → b ≡ false
-is_off true n h = let more : 1 + n ≡ 0 = h in absurd (omega (arith, more))
-is_off false n h = refl
+is_off b n h = grind arith
 
 none_left : (b : Bool) (n : ℕ) → cond b 1 0 + n ≡ 0 → n ≡ 0
-none_left true n h = let more : 1 + n ≡ 0 = h in absurd (omega (arith, more))
-none_left false n h = let less : 0 + n ≡ 0 = h in omega (arith, less)
+none_left b n h = grind arith
 
 none_behind : (number : ℕ) (card : Card) (fs : List frames.Event) → takes_at number fs ≡ 0 → calls_answered number (runs.moments card fs) ≡ []
 unfolding frame_moments
@@ -104,21 +101,12 @@ gives_none card number none = ap (λ o. gave (option_map next_of o)) none
 call_gives_none : (number : ℕ) (card : Card) (back : List frames.Event) → taken card.config (line_at number card) ≡ None → takes_at number back ≡ 0
     → calls_answered number (runs.moments card (frames.at number next ∷ back)) ≡ None ∷ []
 unfolding frame_moments
-call_gives_none number card back nothing none =
-    let rest = calls_answered number (runs.moments (machine.after (frames.at number next) card) back) in
-    ap (λ b. cond b (answer_of_call (asked_at card number next)) [] ++ rest) (eq-eqb number number refl)
-    ∙ ap (λ a. answer_of_call a ++ rest) (gives_none card number nothing)
-    ∙ ap (λ os. None ∷ os) (none_behind number (machine.after (frames.at number next) card) back none)
+call_gives_none number card back nothing none = grind (arith, asked_at, eq-eqb, gives_none, none_behind)
 
 gave_none : (number : ℕ) (card : Card) (front back : List frames.Event) → let there = runs.after_all card front in
     taken there.config (line_at number there) ≡ None → takes_at number back ≡ 0
     → calls_answered number (runs.moments card (front ++ frames.at number next ∷ back)) ≡ calls_answered number (runs.moments card front) ++ None ∷ []
-gave_none number card front back nothing none =
-    let there = runs.after_all card front in
-    let rest = frames.at number next ∷ back in
-    ap (calls_answered number) (moments-append card front rest)
-    ∙ flat_map-append (call_answered number) (runs.moments card front) (runs.moments there rest)
-    ∙ ap (λ os. calls_answered number (runs.moments card front) ++ os) (call_gives_none number there back nothing none)
+gave_none number card front back nothing none = grind (arith, moments-append, flat_map-append, call_gives_none)
 
 -- ---- of a line that was only pulled
 

@@ -157,10 +157,7 @@ module _ (service : Service) (tei : ℕ) where
           go other is = refl
 
       none-exact : has_tei tei l ≡ true → has_tei tei new ≡ true → waits new ≡ cond (deactivates service tei e) [] (drop (length begins) (waits l) ++ Due)
-      none-exact was-on is-on =
-          ap (λ (k : Link). controls k.waiting) (x.stays was-on is-on)
-          ∙ sym (ap (λ b. cond b [] (drop (length begins) (waits l) ++ Due)) (not-down was-on) ∙ ap (λ xs. drop (length xs) (waits l) ++ Due) none-begins
-          ∙ ap (λ xs. waits l ++ xs) (none-put (none-puts was-on is-on)) ∙ append-nil (waits l))
+      none-exact was-on is-on = grind (arith, controls, not-down, none-begins, none-put, none-puts, append-nil)
 
     -- An event of the link.
     module _ (x : HasOne c service tei e l new a) where

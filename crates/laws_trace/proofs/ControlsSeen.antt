@@ -161,8 +161,7 @@ module _ (c : Config) (service : Service) (tei : ℕ) where
           go b is = grind (arith, aimed)
 
       heard-none : (e : stream.Event) → is_at_link service tei (aim_of_heard c l e) ≡ false → answers_at c service tei was now state (heard e) ≡ []
-      heard-none (stream.frame octets) aims = read-none (reading (heard_side c) octets) aims
-      heard-none other aims = refl
+      heard-none e aims = grind (arith, read-none)
 
       request-none : (r : Request) (a : Answer) → while_up state (changed was now) ≡ [] → answers_seen (seen_granted r a ++ seen_told a) ≡ []
       request-none r a same = grind (arith, append-nil, while_up, changed)

@@ -167,17 +167,7 @@ module _ (c : Config) (e : Event) (a : Answer) (service : Service) (tei : ℕ) w
   pub data-of : (le : link.Event) → IsBy c e a service tei le → (k : Link) (n : ℕ) → (is_multiple_frame k.state ≡ true → k.r ≡ n) → (contents : List ℕ)
       → (i : Arrived) → eligible (terms c service tei) le k ≡ Some i → i.contents ≡ contents → i.ns.value ≡ k.r % 128
       → IsOfFrame service tei (record { frame = frame_by c e; count = n }) (λ control. number_in control ≡ Some (n % 128)) (Some contents)
-  data-of (link.received (link.frame f)) by k n up contents i h same number =
-      let x = brings-frame f by in
-      let y = carried (terms c service tei) k f.control f.info i h in
-      record {
-        frame = f;
-        heard = x.0;
-        whose = x.1;
-        control = ap number_in y.is ∙ ap (λ (s : Seq). Some s.value) (sym y.number) ∙ ap (λ m. Some m) (number ∙ ap (λ m. m % 128) (up y.up));
-        told = ap (λ o. Some o) (sym same ∙ y.contents);
-      }
-  data-of other by k n up contents i h same number = absurd (none-some i h)
+  data-of le by k n up contents i h same number = grind (arith, brings-frame, carried, number_in, none-some)
 
   -- a UI that is told
   ui-of : (f : Parts) (contents : List ℕ) → (ct : Control) → f.control ≡ ct → in_ui_frame ct f.info ≡ Some contents

@@ -186,12 +186,7 @@ module _ (c : Config) (ranged : IsInRange c) (l : Line) (s : IsSound c l) (e : E
 
         go : (link_of service tei (after c e l) ≡ k) ⊎ (link_of service tei (after c e l) ≡ fresh)
             → (link_of service tei (after c e l)).r ≡ counted service tei w (notes_of a)
-        go (inl same) =
-            let was = ap (λ (y : Link). is_multiple_frame y.state) (sym same) ∙ up in
-            ap (λ (y : Link). y.r) same ∙ before was
-            ∙ ap (λ b. cond b 0 n) (sym (by-frame (frame_by c e) refl was))
-            ∙ ap (λ d. cond (begins service tei (frame_by c e) (notes_of a)) 0 (cond d (n + 1) n)) (unless _ no-data)
-        go (inr new) = absurd (true≢false (sym up ∙ ap (λ (y : Link). is_multiple_frame y.state) new))
+        go o = grind (arith, by-frame, frame_by, begins, unless, no-data)
 
   -- Its deactivation.
   pub ended-notes : (q : Note → Bool) → ((s : Service) (n : ℕ) → q (ReleaseIndication s n) ≡ false) → ((s : Service) (n : ℕ) → q (ReleaseConfirm s n) ≡ false)

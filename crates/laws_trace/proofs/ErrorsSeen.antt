@@ -24,9 +24,7 @@ module _ (c : Config) (service : Service) (tei : ℕ) where
   -- no event of the link
   module _ (l : Line) (place : ℕ) (on : place_in l tei ≡ Some place) where
     no-fault : (r : Result Parts ReadFault) → is_at_link service tei (aim_of_reading c l r) ≡ false → option_and_then (fault_of service tei) (result_err r) ≡ None
-    no-fault (Err (Undefined address)) aims = no-letter (is_for service tei address) L (addressed-none c service tei nothing_yet l place on address link.undefined (drop_for Unserved) aims)
-    no-fault (Err (WrongSize address)) aims = no-letter (is_for service tei address) N (addressed-none c service tei nothing_yet l place on address link.wrong_size (drop_for Unserved) aims)
-    no-fault other aims = refl
+    no-fault r aims = grind (arith, no-letter, addressed-none, nothing_yet)
 
     no-long : (r : Result Long ReadFault) → is_at_link service tei (aim_of_long l r) ≡ false → faulty_long service tei r ≡ None
     no-long r aims = grind (arith, no-letter, addressed-none, nothing_yet)

@@ -141,10 +141,7 @@ module _ (c : Config) (ranged : IsInRange c) (l : Line) (s : IsSound c l) (servi
           where
             by-grant : (b : Bool) → is_granted (lines.answer c (request r) l) ≡ b
                 → cond b (is_release_of service tei r || list_any (is_loss_of service tei) (notes_of (lines.answer c (request r) l))) false ≡ false
-            by-grant false g = refl
-            by-grant true g =
-                ap (λ b. b || list_any (is_loss_of service tei) (notes_of (lines.answer c (request r) l)))
-                (none-asked r (sym (ap (λ o. is_at_link service tei (unless_refused o (aim_of_request r l))) (not-refused c r l g)) ∙ aims)) ∙ none
+            by-grant b g = grind (arith, none-asked, is_at_link, not-refused)
 
 -- One event of a line.
 module _ (c : Config) (ranged : IsInRange c) (l : Line) (s : IsSound c l) (service : Service) (tei : ℕ) (e : Event) where
@@ -236,10 +233,4 @@ module _ (c : Config) (ranged : IsInRange c) (l : Line) (s : IsSound c l) (servi
   comes-so off = go (event-goes c e l service tei s)
     where
       go : Goes c service tei e l new a → k' ≡ fresh_link
-      go (inr (inl x)) = absurd (none-some x.place (sym off ∙ x.placed))
-      go (inr (inr x)) = x.is
-      go (inl x) = either x.is
-        where
-          either : (k' ≡ k) ⊎ (k' ≡ fresh_link) → k' ≡ fresh_link
-          either (inl same) = same ∙ off-fresh service tei l off
-          either (inr new) = new
+      go o = grind (arith, none-some, off-fresh)

@@ -33,9 +33,7 @@ module _ (t : Terms) (k : Link) where
         go u down o names = grind (arith, leads, keeps-up)
 
     supervised : (ct : Control) → f.control ≡ ct → is_overlong t ct f.info ≡ false → (nr : Seq) → receipt_of ct ≡ Some nr → acknowledged_by (Some nr) k ≡ 0
-    supervised ct is short nr its =
-        by-number ct is nr its
-        (ap (λ ct. received (cond (is_overlong t ct f.info) overlong (frame f))) is ∙ ap (λ b. received (cond b overlong (frame f))) short)
+    supervised ct is short nr its = grind (arith, by-number)
 
     frame-acked : (ct : Control) → f.control ≡ ct → acknowledged_by (number_of t ct f.info) k ≡ 0
     frame-acked ct is = grind (arith, cond_both, supervised)
@@ -88,11 +86,7 @@ module _ (t : Terms) (k : Link) (s : IsSound t k) (small : t.k ≤ 127) (e : Eve
   went-is same some true up true to false on = by-bit (restarts t e k) refl
     where
       by-bit : (b : Bool) → restarts t e k ≡ b → steps (k.a % 128) (next.a % 128) ≡ gone
-      by-bit true anew = absurd (goes-on t k e (sym (up-number k.state) ∙ up) on same anew)
-      by-bit false numbers =
-          let went : k.a + gone ≤ k.s = acknowledged-went t e k s.ordered in
-          let window : k.s ≤ k.a + t.k = s.within in
-          stepped k.a next.a gone (a-is numbers some) (omega (arith, went, window, small))
+      by-bit b anew = grind (arith, goes-on, up-number, acknowledged-went, stepped, a-is)
 
   -- What is left.
   pub none-left : empties t e k ≡ true → queue_of next ≡ []
@@ -105,8 +99,7 @@ module _ (t : Terms) (k : Link) (s : IsSound t k) (small : t.k ≤ 127) (e : Eve
       (sym (went-is (neither (ends t e k) (tells_loss (told t e k).notes) some) some (is_up (state_number k.state)) refl (is_up (state_number next.state)) refl (sabme_of e) refl))
     where
       neither : (b c : Bool) → (b || c) ≡ false → b ≡ false
-      neither true c none = none
-      neither false c none = refl
+      neither b c none = grind arith
 
 -- A note of a link of a loss is one of this link.
 module _ (t : Terms) where

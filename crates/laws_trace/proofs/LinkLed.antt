@@ -90,15 +90,10 @@ module _ (c : Config) (service : Service) (tei : ℕ) (k : Known) where
     read-none x other aims = no-fault x x false L refl
 
     long-none : (x : ℕ) (r : Result Long ReadFault) → is_at_link service tei (aim_of_long l r) ≡ false → by_long x r ≡ x
-    long-none x (Err (Undefined address)) aims = no-fault x x (is_for service tei address) L (addressed-none address link.undefined (drop_for Unserved) aims)
-    long-none x (Err (WrongSize address)) aims = no-fault x x (is_for service tei address) N (addressed-none address link.wrong_size (drop_for Unserved) aims)
-    long-none x (Ok (long.Information address)) aims = no-fault x x (is_for service tei address) O (addressed-none address link.overlong (drop_for Unserved) aims)
-    long-none x other aims = no-fault x x false L refl
+    long-none x r aims = grind (arith, no-fault, addressed-none)
 
     heard-none : (x : ℕ) (e : stream.Event) → is_at_link service tei (aim_of_heard c l e) ≡ false → by_heard x e ≡ x
-    heard-none x (stream.frame octets) aims = read-none x (reading (heard_side c) octets) aims
-    heard-none x (stream.overlong head) aims = long-none x (long_reading (heard_side c) head) aims
-    heard-none x (stream.dropped cause) aims = no-fault x x false L refl
+    heard-none x e aims = grind (arith, read-none, long-none, no-fault)
 
     -- an expiry, or a request, of another link
     pub elsewhere : (its : Service) (by : ℕ) (what : link.Event) (to : Option ℕ → Aim) → ((p : ℕ) → to (Some p) ≡ at_link its by p what)
@@ -138,10 +133,7 @@ module _ (c : Config) (service : Service) (tei : ℕ) (k : Known) where
     none-led n x (request r) aims = go (is_granted (answer c (request r) l)) refl
       where
         go : (b : Bool) → is_granted (answer c (request r) l) ≡ b → by_all x (seen_granted r (answer c (request r) l) ++ seen_told (answer c (request r) l)) ≡ x
-        go false e = refused-leads x r (answer c (request r) l) e
-        go true e =
-            granted-leads x r (answer c (request r) l) e
-            ∙ none-asked x r (ap (λ o. is_at_link service tei (unless_refused o (aim_of_request r l))) (sym (none-refused c r l e)) ∙ aims)
+        go b e = grind (arith, refused-leads, granted-leads, none-asked, is_at_link, none-refused)
     none-led n x next aims = begun-leads x (frame_in (answer c next l))
 
   -- One event of the link.

@@ -97,14 +97,7 @@ module _ (c : Config) (l : Line) (s : IsSound c l) (service : Service) (tei : �
         go (Some place) on = absurd (true≢false (sym (is_on-at l.management.places place tei (place_of-is l.management.places tei place on).1) ∙ off))
 
     comes-ordered : (by place : ℕ) → HasJoined l.management.places m.places by place → (b : Bool) → (by == tei) ≡ b → Ordered (Some (Gained by place))
-    comes-ordered by place joined false other = own-orders-none ∙ as-before (Some (Gained by place)) (gained-elsewhere by place joined other)
-    comes-ordered by place joined true same = own-orders-none ∙ go (comes by place joined true same)
-      where
-        off : has_tei tei l ≡ false
-        off = ap (λ n. has_tei n l) (sym (eqb-true by tei same)) ∙ joined.was_off
-
-        go : Stays (Some (Gained by place)) → [] ≡ orders_for its (link_of service tei l).running None (link_of service tei (next (Some (Gained by place)))).running
-        go o = grind (arith, as-before, fresh-off, off)
+    comes-ordered by place joined b other = grind (arith, own-orders-none, as-before, gained-elsewhere, comes, eqb-true, fresh-off)
 
     -- but where the TEI leaves, that its timer stops.
     module _ (place : ℕ) where

@@ -202,8 +202,4 @@ module _ (on : List ℕ) (places : Places) (h : AreOn on places) where
       omega (arith, some, most, all, less, size)
 
   pub leaves-on : (tei : ℕ) → IsSoundTable places → AreOn (others tei on) (freed places (place_of tei places))
-  leaves-on tei sound = record {
-    same = λ x. on-filtered on tei x ∙ ap (λ b. not (x == tei) && b) (h.same x) ∙ sym (on-leaving places tei x sound);
-    size = size-leaving tei (place_of tei places) refl;
-    once = λ x. let fewer = fewer-times x tei on in let most = h.once x in omega (arith, fewer, most);
-  }
+  leaves-on tei sound = grind (arith, on-filtered, on-leaving, size-leaving, fewer-times)

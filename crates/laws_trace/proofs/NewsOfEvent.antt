@@ -210,8 +210,7 @@ module _ (c : Config) (l : Line) (s : IsSound c l) (service : Service) (tei : �
       number n m is = cc is
 
       left-line : (o : Option ℕ) → place_in (lines.after c e l) tei ≡ o → state_of service tei (lines.after c e l) ≡ None → place_in (lines.after c e l) tei ≡ None
-      left-line None off none = off
-      left-line (Some there) still none = absurd (none-some (state_number next.state) (sym none ∙ state-on service tei (lines.after c e l) there still))
+      left-line o off none = grind (arith, none-some, state-on)
 
       by-place : (o : Option ℕ) → place_in l tei ≡ o → state_of service tei (lines.after c e l) ≡ None → Due from 4 1
       by-place None off none = absurd (none-some from (sym (off-state service tei l off) ∙ was-in))

@@ -120,13 +120,4 @@ module _ (service : Service) (tei : ℕ) where
   -- Any event of a line.
   pub others-silent : (c : Config) (e : Event) (l : Line) → IsSound c l → is_at_link service tei (aim_of c e l) ≡ false → (has_tei tei l ≡ false) ⊎ (has_tei tei (after c e l) ≡ true) → All No (notes_of (answer c e l))
   unfolding after answer
-  others-silent c (hears what) l s aims there = heard-silent c l s what aims there
-  others-silent c (expiry timer) l s aims there = expiry-silent c l s timer aims there
-  others-silent c (request r) l s aims there = go (refusal c false r l) (request_proper c l r) aims there
-    where
-      go : (o : Option Refusal) → IsProper c l (unless_refused o (aim_of_request r l)) → is_at_link service tei (unless_refused o (aim_of_request r l)) ≡ false
-          → (has_tei tei l ≡ false) ⊎ (has_tei tei (of_aim c (unless_refused o (aim_of_request r l)) l).line ≡ true)
-          → All No (notes_of (unless_refused_told o (of_aim c (unless_refused o (aim_of_request r l)) l)))
-      go None proper aims there = request-silent c l s r proper aims there
-      go (Some why) proper aims there = All-nil No
-  others-silent c next l s aims there = All-nil No
+  others-silent c e l s aims there = grind (arith, heard-silent, expiry-silent, request_proper, is_at_link, request-silent)

@@ -72,8 +72,7 @@ module _ (c : Config) (service : Service) (tei : ℕ) (o q : Observed) (w u : St
           on false behind = refl
 
   pub by-heard : (e : stream.Event) → Behind e → Answers e
-  by-heard (stream.frame octets) behind = by-frame octets behind
-  by-heard other behind = refl
+  by-heard e behind = grind (arith, by-frame)
 
   -- A request.
   pub asked-answers-is : (r : Request) (a : Answer) → (is_up q.state ≡ true → Same q u.told.count u.busy u.rejected) → (is_up o.state ≡ false → is_up q.state ≡ false)

@@ -274,8 +274,7 @@ module _ (service : Service) (tei number : ℕ) where
     puts-by true mine = go before
       where
         go : Facts from k asked w.outstanding m o → Puts true
-        go (inl y) = off-puts y.0 y.2
-        go (inr y) = on-puts mine y.0 y.1 y.2
+        go o = grind (arith, off-puts, on-puts)
 
     abbrev u-then : Standing
     u-then = standing service tei c (calm n busy rejected) (seen_in number its)

@@ -134,9 +134,7 @@ module _ (c : Config) (events : List Event) (number : ℕ) (ranged : IsInRange c
     seen_up = ap is_up (seen-before c events number ranged all within service tei place on).state_is ∙ up-number own.state ∙ up
 
     count-is : o.view.link.count ≡ own.r
-    count-is =
-        ap (λ (v : View). v.link.count) view
-        ∙ ((agrees-now c events number ranged all within service tei) seen_up).count_is ∙ sym ((run-stands c events number ranged all within service tei).1 up)
+    count-is = grind (arith, view, agrees-now, seen_up, run-stands)
 
     acknowledged-is : o.view.link.acknowledged ≡ own.a % 128
     acknowledged-is = ap (λ (v : View). v.link.acknowledged) view ∙ ap (λ (z : Known). z.acknowledged) numbers ∙ known.acknowledged

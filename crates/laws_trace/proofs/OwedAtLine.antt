@@ -189,9 +189,7 @@ module _ (service : Service) (tei : ℕ) (c : Config) (ranged : IsInRange c) (e 
             ∙ ap (λ ws. Owed (up own) (up later) [] (is_empty ws && some-begins) (own.pending || false)) (sym some)
 
     by-event : (event : link.Event) → x.event ≡ event → IsBy c e a service tei event → Pends
-    by-event link.offer is by = offered is by
-    by-event link.cleared is by = absurd by
-    by-event other is by = quiet (subst IsNoOther (sym is) tt) (ap (λ e. frames_given c t e own) is)
+    by-event event is by = grind (arith, offered, quiet, IsNoOther, frames_given)
 
   pub event-pends : Pends
   event-pends = go (event-goes c e l service tei s)

@@ -79,12 +79,7 @@ IsOfOctets (teis.message octets) = AreOctets octets
 IsOfOctets other = Unit {0}
 
 step-small : (e : teis.Event) (c : Course) → IsOfOctets e → AreSmall c → AreSmall (teis.step e c)
-step-small (teis.message octets) c fits h = served octets c fits h
-step-small teis.expiry c fits h = expire-small c.now.check c h
-step-small (teis.assign tei) c fits h = put-small tei (free_place c.now.places) c h
-step-small (teis.remove tei) c fits h = take-small tei c h
-step-small (teis.check tei) c fits h = sent (IdentityCheckRequest tei) c.now.waiting none h
-step-small teis.down c fits h = end-small c.now.check c
+step-small e c o h = grind (arith, served, expire-small, put-small, take-small, sent, none, end-small)
 
 pub after-small : (e : teis.Event) (m : Management) → IsOfOctets e → All IsSmall m.waiting → All IsSmall (teis.after e m).waiting
 unfolding teis.course

@@ -72,11 +72,7 @@ changed-small : (c : Config) (o : Option Change) (t : LineTold) (l : Line) → A
 changed-small c o t l h = grind arith
 
 aim-small : (c : Config) (aim : Aim) (l : Line) → IsOfOctetsAt aim → All IsSmall l.management.waiting → All IsSmall (of_aim c aim l).line.management.waiting
-aim-small c (at_management e) l fits h =
-    changed-small c (teis.told e l.management).change (told_of_management (teis.told e l.management)) (record l { management = teis.after e l.management })
-    (after-small e l.management fits h)
-aim-small c at_no_link l fits h = by-down c l (λ f. All IsSmall f.line.management.waiting) (All-nil IsSmall)
-aim-small c other l fits h = h
+aim-small c aim l o h = grind (arith, changed-small, after-small, by-down, IsSmall)
 
 next-small : (c : Config) (l : Line) → IsSound c l → All IsSmall l.management.waiting → All IsSmall (option_map_or line_of (taken c l) l).management.waiting
 next-small c l s h = go (taken c l) (taken-one c l s)

@@ -243,8 +243,7 @@ module _ (k : Known) (ran : LinkTimer → Bool) (a s : ℕ) (busy : Bool) (r : O
 
         -- the terminal is busy, so T200 runs
         while-busy : busy ≡ true → (timer : LinkTimer) → ran timer ≡ true → false ≡ option_map_or (renews timer k) o false
-        while-busy is T200 was = sym (ap (λ b. not b && not (nr.value == k.acknowledged)) (known.busy_is ∙ is))
-        while-busy is T203 was = not-both busy (idle was).1 is
+        while-busy is timer was = grind (arith, not-both)
 
         by-busy : (b : Bool) → busy ≡ b → (n : ℕ) → named a s nr ≡ Some n → Good k ran (at Established) (cond b (acknowledges n (at Established)) (acts.acknowledged n (at Established))) o
         by-busy true is n names = record {
@@ -257,5 +256,4 @@ module _ (k : Known) (ran : LinkTimer → Bool) (a s : ℕ) (busy : Bool) (r : O
             (ap (λ b. not b && not (nr.value == k.acknowledged)) (known.busy_is ∙ is)) refl n names
 
         go : (m : Option ℕ) → named a s nr ≡ m → Good k ran (at Established) (by_name m fails informed (at Established)) o
-        go None is = failed-7 busy o
-        go (Some n) is = by-busy busy refl n is
+        go m is = grind (arith, failed-7, o, by-busy)

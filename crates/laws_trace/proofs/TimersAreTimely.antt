@@ -175,10 +175,7 @@ module _ (service : Service) (tei : ℕ) (k : Known) where
 
   -- an I-frame is outstanding where V(S) is not V(A), also modulo 128
   pub outstanding-is : (a s : ℕ) → a ≤ s → s ≤ a + 127 → (s % 128 == a % 128) ≡ (s == a)
-  outstanding-is a s ordered within = go (s == a) refl (s % 128 == a % 128) refl
-    where
-      go : (b : Bool) → (s == a) ≡ b → (d : Bool) → (s % 128 == a % 128) ≡ d → (s % 128 == a % 128) ≡ b
-      go b same d is = grind (arith, eq-eqb, eqb-true)
+  outstanding-is a s ordered within = grind (arith, eq-eqb, eqb-true)
 
   pub by-state : (state : State) (l : Link) → Agrees state k l.a l.s l.peer_busy → l.a ≤ l.s → l.s ≤ l.a + 127 → Run (told_state state) (needed_in state l)
   by-state state l h ordered within = grind (arith, outstanding-is, or_comm)

@@ -49,13 +49,7 @@ pub comes : (c : Config) (e : Event) (l : Line) → IsSound c l → (service : S
 comes c e l s service tei off = go (event-goes c e l service tei s)
   where
     go : Goes c service tei e l (after c e l) (answer c e l) → link_of service tei (after c e l) ≡ fresh
-    go (inr (inl x)) = absurd (none-some x.place (sym off ∙ x.placed))
-    go (inr (inr x)) = x.is
-    go (inl x) = either x.is
-      where
-        either : (link_of service tei (after c e l) ≡ link_of service tei l) ⊎ (link_of service tei (after c e l) ≡ fresh) → link_of service tei (after c e l) ≡ fresh
-        either (inl same) = same ∙ off-fresh service tei l off
-        either (inr new) = new
+    go o = grind (arith, none-some, off-fresh)
 
 -- the caller's timers that ran, by the event of the link
 same-timer : (service : Service) (tei : ℕ) (one other : LinkTimer) → is_same (timer_of service tei one) (timer_of service tei other) ≡ is_timer one other
@@ -286,10 +280,4 @@ module _ (c : Config) (ranged : IsInRange c) (l : Line) (s : IsSound c l) (timed
   event-known = go (event-goes c e l service tei s)
     where
       go : Goes c service tei e l (after c e l) a → IsTrueOf service tei now_known (after c e l)
-      go (inl x) = none-known x
-      go (inr (inl x)) = one-known x
-      go (inr (inr x)) = ended (place_in (after c e l) tei) refl
-        where
-          ended : (o : Option ℕ) → place_in (after c e l) tei ≡ o → IsTrueOf service tei now_known (after c e l)
-          ended None off = off-known off
-          ended (Some there) on = fresh-known there on x.is
+      go o = grind (arith, none-known, one-known, off-known, fresh-known)

@@ -209,12 +209,7 @@ module _ (c : Config) (events : List Event) (number : ℕ) (ranged : IsInRange c
     due_of = timely.runs timer now && (not (timely.runs timer was) || timely.is_anew c service tei timer was now what)
 
     started : obeyed its_timer false (orders_in (moment_of c events number what).answer) ≡ due_of
-    started =
-        started-so c events number ranged all within service tei timer what
-        ∙ ap (λ b. b && (not (left_by what its_timer (runs_at_callers number its_timer false (moments (fresh c) events))) || moves))
-        (obeys-then c events number ranged all within service tei what timer)
-        ∙ ap (λ r. timely.runs timer now && (not (left_by what its_timer r) || moves)) (its-run c events number ranged all within service tei what timer)
-        ∙ ap (λ b. timely.runs timer now && b) (due-so timer what)
+    started = grind (arith, started-so, obeys-then, its-run, due-so)
 
     ordered : order_by (obeyed its_timer false (orders_in (moment_of c events number what).answer)) (is_needed its_timer (line_at number (after_all (fresh c) events)))
         (is_needed its_timer (line_at number (after (at number what) (after_all (fresh c) events)))) its_timer

@@ -105,8 +105,7 @@ module _ (c : Config) (events : List Event) (number : ℕ) (ranged : IsInRange c
           (record { read = read; whose = for; control = y.0; size = leb-true (length f.info) c.n201 x.1; there = there y.1 })).0
 
   by-heard : (e : stream.Event) (behind : List Event) → events ≡ before ++ at number (hears e) ∷ behind → Comes (its_frame service tei (frame_of c e)) → Told (hears e)
-  by-heard (stream.frame octets) behind split some = by-frame octets behind split (reading (heard_side c) octets) refl some
-  by-heard other behind split some = absurd (true≢false (sym some))
+  by-heard e behind split some = grind (arith, by-frame)
 
   pub units-are : (what : line_event.Event) (behind : List Event) → events ≡ before ++ at number what ∷ behind → Comes (brought c service tei what) → Told what
   units-are what behind split some = grind (arith, by-heard)

@@ -40,10 +40,7 @@ module _ (c : Config) (events : List Event) (number : ℕ) (ranged : IsInRange c
       (subst (All (IsReadable c)) out.heard (all_readable c (frames_to_hear c events number) spelled))
 
   pub are_octets : GivenAreOctets c events number
-  are_octets granted =
-      let given = subst (λ rs. All AreOctets (map contents_given rs)) (sym (requests_are number (fresh c) events)) granted in
-      let heard = trace_hears number (cards.fresh c) meaning (heard_frames_are_octets (fresh c) events) in
-      subst (All AreOctets) begun (frames-are-octets c meaning number ranged lines within (gives t heard given))
+  are_octets granted = grind (arith, requests_are, trace_hears, heard_frames_are_octets, begun, frames-are-octets, lines, gives)
 
 pub only-frames-are-heard : OfEachLine OnlyFramesAreHeard
 only-frames-are-heard c events number ranged all within = readable c events number ranged all within

@@ -46,12 +46,6 @@ module _ (c : Config) (service : Service) (tei : ℕ) where
     by-letter : (b : Bool) (letter : ErrorCode) → b ≡ true → cond (is_up from) (option_to_list (cond b (Some letter) None)) [] ++ [] ≡ cond (is_up from) (letter ∷ []) []
     by-letter b letter is = ap (λ b. cond (is_up from) (option_to_list (cond b (Some letter) None)) [] ++ []) is ∙ append-nil (cond (is_up from) (letter ∷ []) [])
 
-    abbrev By-reading : Result Parts ReadFault → List ErrorCode
-    By-reading r = cond (is_up from) (option_to_list (option_and_then (fault_of service tei) (result_err r))) [] ++ option_map_or (wrong_parts c from to) (its_frame service tei (result_ok r)) []
-
-    abbrev By-long : Result Long ReadFault → List ErrorCode
-    By-long r = cond (is_up from) (option_to_list (faulty_long service tei r)) [] ++ []
-
     wrong-malformed : (address : Address) (octets : List ℕ) (what : link.Received) → is_for service tei address ≡ true
         → ((e ≡ hears (stream.frame octets)) × IsMalformed c address octets what) ⊎ ((e ≡ hears (stream.overlong octets)) × IsTooLong c address octets what) → Wrong (link.received what)
     wrong-malformed address octets what for o = grind (arith, errors_of, by-letter)

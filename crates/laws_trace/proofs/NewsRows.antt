@@ -60,9 +60,6 @@ module _ (t : Terms) (l : Link) where
   pub nothing-fits : (here : State) (ns : List Note) → filter is_kind ns ≡ [] → Fits [] false false false here here ns
   nothing-fits here ns none = none ∙ sym (stays here (not (l.s == l.a)))
 
-  unit-fits : (here : State) (long : Bool) → Fits [] false false false here here (cond long [] (Unit t.service t.tei ∷ []))
-  unit-fits here long = grind (arith, nothing-fits)
-
   -- An N(R) in state 7 or 8, behind what else is told.
   information-7 : (invalid taken : Bool) → let to = cond invalid AwaitingEstablishment Established in
       Fits (wrong_number false 7 (state_number to)) false false false Established to (cond taken (Data t.service t.tei ∷ []) [] ++ numbered_as t to)
@@ -83,13 +80,6 @@ module _ (t : Terms) (l : Link) where
   -- SABME in states 7 and 8, and UA with F=1 in state 5, by whether contents are outstanding.
   anew-7 : (none : Bool) → filter is_kind (Error t.service t.tei F ∷ cond none [] (EstablishIndication t.service t.tei ∷ [])) ≡ due t.service t.tei (F ∷ []) l.asked false true false (not none) 7 7
   anew-7 none = grind arith
-
-  anew-8 : (none : Bool) → filter is_kind (Error t.service t.tei F ∷ cond none [] (EstablishIndication t.service t.tei ∷ [])) ≡ due t.service t.tei (F ∷ []) l.asked false true false (not none) 8 7
-  anew-8 none = grind arith
-
-  agreed : (asked none : Bool) → let ns = cond asked (EstablishConfirm t.service t.tei ∷ []) (cond none [] (EstablishIndication t.service t.tei ∷ [])) in
-      filter is_kind ns ≡ due t.service t.tei [] asked false false false (not none) 5 7
-  agreed asked none = grind arith
 
   abbrev pub Told : State → Event → Type 0
   Told here e =

@@ -251,9 +251,6 @@ module _ (service : Service) (tei number : ℕ) where
       counted : (s : ℕ) → q.state ≡ s → (s == 5 || (s == 6 || s == 8)) ≡ true → q.expiries ≡ m' → Commands
       counted s is awaiting then = grind (arith, when-holds, eqb-true, count-is, more-is, expired_of)
 
-      abbrev command_at : ℕ → List ControlFrame
-      command_at s = cond (s == 5) (as_command (Sabme true)) (cond (s == 6) (as_command (Disc true)) (cond (s == 8) (as_command (now_due.receipt q true)) []))
-
       by-state : (y : State) → IsObserved (state_number y) l' asks' owes' m' q → Commands
       by-state y i = grind (arith, counted, silent)
 

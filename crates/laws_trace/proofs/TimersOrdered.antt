@@ -202,9 +202,6 @@ module _ (c : Config) (events : List Event) (number : ℕ) (ranged : IsInRange c
     abbrev now : Observed
     now = (view_behind c service tei number events what).link
 
-    abbrev moves : Bool
-    moves = moved_or_renewed c service tei timer was (view_behind c service tei number events what).link what
-
     abbrev due_of : Bool
     due_of = timely.runs timer now && (not (timely.runs timer was) || timely.is_anew c service tei timer was now what)
 

@@ -53,13 +53,7 @@ frames_sent (idle ∷ is) = frames_sent is
 frames_sent (frame octets ∷ is) = ap (λ fs. as_octets octets ∷ fs) (frames_sent is)
 
 pub cut_sent : (items : List Item) (given : List ℕ) → IsCut items given → IsCut (map sent items) given
-cut_sent items given (inl none) = inl (ap (map sent) none)
-cut_sent items given (inr h) = inr (record {
-  front = map sent h.front;
-  last = sent h.last;
-  items_are = ap (map sent) h.items_are ∙ map-append sent h.front (h.last ∷ []);
-  before = subst (λ text. length text ≤ length (bits given)) (sym (same_text h.front)) h.before;
-})
+cut_sent items given o = grind (arith, map-append, same_text)
 
 -- As octets each frame is heard whole.
 third_rest : (numbers : List ℕ) → slice_index (as_octets numbers) 2 % 4 ≡ slice_index numbers 2 % 4
@@ -69,8 +63,7 @@ third_rest (a ∷ b ∷ []) = refl
 third_rest (a ∷ b ∷ c ∷ rest) = let same : c % 256 % 4 ≡ c % 4 = omega arith in same
 
 still_not_short : (numbers : List ℕ) → IsNotShort numbers → IsNotShort (as_octets numbers)
-still_not_short numbers (inl long) = inl (omega (arith, long, as_many numbers))
-still_not_short numbers (inr x) = inr (as_many numbers ∙ x.0, third_rest numbers ∙ x.1)
+still_not_short numbers o = grind (arith, as_many, third_rest)
 
 pub heard_whole : (n201 : ℕ) (items : List Item) → All IsLongItem items → All (λ item. item_octets item ≤ n201 + 4) items → AreHeardWhole n201 (map sent items)
 heard_whole n201 [] long short = tt

@@ -50,8 +50,7 @@ abbrev IsBelow : ℕ → frames.Event → Type 0
 IsBelow n f = f.line < n
 
 meant_below : (n number : ℕ) (o : Option line.Event) → number < n → All (IsBelow n) (option_to_list (option_map (frames.at number) o))
-meant_below n number None few = All-nil (IsBelow n)
-meant_below n number (Some f) few = All-cons (IsBelow n) (frames.at number f) [] few (All-nil (IsBelow n))
+meant_below n number o few = grind arith
 
 pub all_below : (n : ℕ) (m : OctetCard) (events : List Event) → All (λ (e : Event). e.line < n) events → All (IsBelow n) (meant_all m events)
 unfolding meant meant_all
@@ -65,13 +64,7 @@ pub meant_at_lines : (m : OctetCard) (events : List Event) → AreAtLines m even
 meant_at_lines m events all = all_below m.card.config.lines m events all
 
 pub refines : (m : OctetCard) (events : List Event) → Refines m events
-refines m events = record {
-  card = refined_card m events;
-  moments = refined_moments m events;
-  at_lines = meant_at_lines m events;
-  asked = all_asked m events;
-  answered = all_answered m events;
-}
+refines m events = grind (arith, refined_card, refined_moments, meant_at_lines, all_asked, all_answered)
 
 -- ---- the ports
 
@@ -87,11 +80,7 @@ gives_unless b o outcome = grind arith
 
 pub gives_at_next : (card : Card) (number : ℕ) → GivesAtNext (asked_at card number)
 unfolding line_answer
-gives_at_next card number = record {
-  hears = λ e. gives_told (machine.wants_room (frames.at number (line.hears e)) card) _;
-  expiry = λ timer. gives_told (machine.wants_room (frames.at number (line.expiry timer)) card) _;
-  request = λ r. gives_unless (machine.wants_room (frames.at number (line.request r)) card) _ _;
-}
+gives_at_next card number = grind (arith, gives_told, gives_unless)
 
 pub neither : {X : Type 0} (b : Bool) → [] ≡ cond {A = List X} b [] []
 neither b = grind arith
@@ -99,20 +88,12 @@ neither b = grind arith
 -- what is heard and given at a line, where one event means this
 heard_where : (number n : ℕ) (o : Option line.Event)
     → codec.heard_at number (option_to_list (option_map (frames.at n) o)) ≡ cond (n == number) (heard_in_meaning o) []
-heard_where number n None = neither (n == number)
-heard_where number n (Some f) = go (n == number)
-  where
-    go : (b : Bool) → cond b (heard_by f) [] ++ [] ≡ cond b (heard_by f ++ []) []
-    go b = grind arith
+heard_where number n o = grind (arith, neither)
 
 given_where : (card : Card) (number n : ℕ) (o : Option line.Event)
     → frames_given number (runs.moments card (option_to_list (option_map (frames.at n) o))) ≡ cond (n == number) (given_in_meaning (asked_at card n) o) []
 unfolding frame_moments
-given_where card number n None = neither (n == number)
-given_where card number n (Some f) = go (n == number)
-  where
-    go : (b : Bool) → cond b (frame_given (asked_at card n) f) [] ++ [] ≡ cond b (frame_given (asked_at card n) f ++ []) []
-    go b = grind arith
+given_where card number n o = grind (arith, neither, frame_given)
 
 -- the same with lists that are equal
 with_lists : {n201 : ℕ} {a b : Port} {os rs : List ℕ} {hs is : List _} {fs gs : List (List ℕ)} → hs ≡ is → fs ≡ gs

@@ -57,19 +57,12 @@ IsIdle-IdleAt octets h = record { ones = h.ones; no_gap = h.no_gap }
 
 heard_as : (n201 : ℕ) (before octets : List ℕ) (event : Event) (past : List Bool) → reverse (bits (before ++ octets)) ≡ past
     → IdleAt past → heard_until (room_for n201) past ≡ heard_in n201 before ++ event ∷ [] → AreHeardAs n201 before octets event
-heard_as n201 before octets event past e idle heard =
-    record {
-      heard = ap (heard_until (room_for n201)) e ∙ heard;
-      idle = IdleAt-IsIdle (before ++ octets) (subst IdleAt (sym e) idle);
-    }
+heard_as n201 before octets event past e idle heard = grind (arith, IdleAt-IsIdle, IdleAt)
 
 -- ---- a frame
 
 some_text : (octets : List ℕ) → 0 < length (frame_text octets)
-some_text octets =
-    let c = check (bits octets) in
-    let all = bits octets ++ c in
-    omega (arith, ap length (stuffed-counted all), stuffed_after-at_least 0 all, length-append (bits octets) c, length-check (bits octets))
+some_text octets = grind (arith, stuffed-counted, stuffed_after-at_least, length-append, length-check)
 
 frame_heard : (n201 : ℕ) (before octets : List ℕ) → IsIdle before → AreOctets octets → AreHeardAs n201 before (line_octets octets) (came n201 octets)
 frame_heard n201 before octets idle are =
@@ -103,18 +96,15 @@ more_bits Short = bits (0x00 ∷ 0x7E ∷ 0xFF ∷ [])
 
 bits-fault : (fault : Fault) → bits (fault_octets fault) ≡ flag ++ more_bits fault
 unfolding low_bits
-bits-fault Fcs = refl
-bits-fault other = refl
+bits-fault fault = grind arith
 
 hears_fault : (room : ℕ) (past : List Bool) (fault : Fault) → hears room (after_flag past) (more_bits fault) ≡ dropped (cause_of fault) ∷ []
 unfolding low_bits
-hears_fault room past Fcs = refl
-hears_fault room past other = refl
+hears_fault room past fault = grind arith
 
 idle_after_fault : (past : List Bool) (fault : Fault) → IdleAt (reverse_aux (more_bits fault) (after_flag past))
 unfolding low_bits
-idle_after_fault past Fcs = record { ones = refl; no_gap = refl }
-idle_after_fault past other = record { ones = refl; no_gap = refl }
+idle_after_fault past fault = grind arith
 
 fault_heard : (n201 : ℕ) (before : List ℕ) (fault : Fault) → IsIdle before → AreHeardAs n201 before (fault_octets fault) (dropped (cause_of fault))
 fault_heard n201 before fault idle =

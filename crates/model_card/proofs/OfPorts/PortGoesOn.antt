@@ -38,36 +38,17 @@ heard_gained : (o : Option stream.Event) → heard_in_meaning (option_map line.h
 heard_gained o = grind arith
 
 given_gained : (ask : line.Event → line.Answer) → GivesAtNext ask → (o : Option stream.Event) → given_in_meaning ask (option_map line.hears o) ≡ []
-given_gained ask h None = refl
-given_gained ask h (Some e) = ap (λ g. option_to_list (option_map octets_of g) ++ []) (h.hears e)
+given_gained ask h o = grind (arith, option_to_list, option_map)
 
 -- an event that leaves the port
 stays_by : (n201 : ℕ) (p : Port) (pulled : List ℕ) (given : List (List ℕ)) → pulled ≡ [] → given ≡ [] → GoesOn n201 p p [] [] pulled given
-stays_by n201 p pulled given no_octet no_frame = record {
-  received = sym (append-nil p.received);
-  heard = sym (append-nil (stream.heard_in n201 p.received));
-  items = [];
-  put = sym (append-nil p.items);
-  given = sym (append-nil p.given) ∙ ap (λ l. p.given ++ l) (sym no_octet);
-  frames = sym no_frame;
-  text = λ h. h;
-}
+stays_by n201 p pulled given no_octet no_frame = grind (arith, append-nil)
 
 pub stays : (n201 : ℕ) (p : Port) → GoesOn n201 p p [] [] [] []
 stays n201 p = stays_by n201 p [] [] refl refl
 
 octet_goes_on : (n201 value : ℕ) (p : Port) (ask : line.Event → line.Answer) → GivesAtNext ask → GoesOnBy n201 (octet value) p ask
-octet_goes_on n201 value p ask h =
-    let g = gained n201 p.received value in
-    record {
-      received = refl;
-      heard = heard_with n201 p.received value ∙ ap (λ l. stream.heard_in n201 p.received ++ l) (sym (heard_gained g));
-      items = [];
-      put = sym (append-nil p.items);
-      given = sym (append-nil p.given) ∙ ap (λ l. p.given ++ l) (sym (quiet (option_map ask (option_map line.hears g))));
-      frames = sym (given_gained ask h g);
-      text = λ t. record { text = t.text };
-    }
+octet_goes_on n201 value p ask h = grind (arith, heard_with, heard_gained, append-nil, quiet, option_map, given_gained)
 
 -- the frame among what a call for the next frame puts on the line
 frames_put : (g : Option NextFrame) → frames_among (item_of g ∷ []) ≡ option_to_list (option_map octets_of g) ++ []

@@ -42,17 +42,4 @@ pub by_port : (m : OctetCard) (e : Event) (number : ℕ) → number < length m.p
     → (e.line ≡ number → P true (port_at e.line m) (port.after e.what (said e m) (port_at e.line m)))
     → P (e.line == number) (port_at number m) (port_at number (after e m))
 unfolding after
-by_port m e number within P elsewhere here = go (e.line == number) refl
-  where
-    x : Port
-    x = port.after e.what (said e m) (port_at e.line m)
-
-    go : (b : Bool) → (e.line == number) ≡ b → P b (port_at number m) (get_or (set m.ports e.line x) number fresh_port)
-    go false other =
-        let apart : number ≢ e.line = λ same. true≢false (sym (eq-eqb e.line number (sym same)) ∙ other) in
-        subst (P false (port_at number m)) (sym (get_or-set_other m.ports e.line number x fresh_port apart)) elsewhere
-    go true same =
-        let is : e.line ≡ number = eqb-true e.line number same in
-        let few : e.line < length m.ports = subst (λ n. n < length m.ports) (sym is) within in
-        subst (λ n. P true (port_at n m) (get_or (set m.ports e.line x) n fresh_port)) is
-        (subst (P true (port_at e.line m)) (sym (get_or-set_same m.ports e.line x fresh_port few)) (here is))
+by_port m e number within P elsewhere here = grind (arith, eq-eqb, get_or-set_other, eqb-true, get_or-set_same)

@@ -23,12 +23,8 @@ module _ (t : Terms) (f : Parts) where
   sabme p here l = grind arith
 
   -- by whether layer 3 asked for the establishment, and whether contents are outstanding
-  agreed : (asked none : Bool)
-      → not (list_any is_end (if asked then EstablishConfirm t.service t.tei ∷ [] else if none then [] else EstablishIndication t.service t.tei ∷ [])) ≡ true
-  agreed asked none = grind arith
-
   ua : (here : State) (l : Link) → IsSame (Ua true) (record l { state = here })
-  ua here l = grind (arith, agreed)
+  ua here l = grind arith
 
   -- What is heard and noted says whether the numbers begin.
   abbrev Says : Control → Link → Type 0
@@ -61,9 +57,6 @@ ComesUp from e to = IsUp to → numbers_begin e from to ≡ false → IsUp from
 by-frame : (from : State) (f : Parts) (control : Control) → let e = received (frame (record f { control = control })) in ComesUp from e (by_frame from f.address.command control)
 by-frame from f control up none = grind arith
 
-by-received : (from : State) (r : Received) → ComesUp from (received r) (by_received from r)
-by-received from r = grind (arith, by-frame)
-
 by-expiry : (from : State) (timer : LinkTimer) (again : Bool) → IsUp (by_expiry from timer again) → IsUp from
 by-expiry from timer again up = grind arith
 
@@ -74,7 +67,7 @@ either : (from : State) (e : Event) (b : Bool) (one other : State) → ComesUp f
 either from e b one other h k = grind arith
 
 by-state : (t : Terms) (e : Event) (l : Link) → ComesUp l.state e (state_after t e l)
-by-state t e l = grind (arith, either, by-received, by-expiry, by-request)
+by-state t e l = grind (arith, either, by-frame, by-expiry, by-request)
 
 pub up-before : (t : Terms) (e : Event) (l : Link) → IsUp (after t e l).state → restarts t e l ≡ false → IsUp l.state
 up-before t e l up none = grind (arith, event-follows, by-state)

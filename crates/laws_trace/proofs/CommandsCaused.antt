@@ -29,9 +29,6 @@ in-8 : (command : Bool) (control : Control) → Still TimerRecovery (by_frame Ti
 in-8 command control m h = grind arith
 
 -- An N(R) that is invalid leads to state 5.
-or-invalid : (s to : State) (b : Bool) → Still s to → Still s (cond b AwaitingEstablishment to)
-or-invalid s to b still m h = grind arith
-
 by-state : (s : State) (command : Bool) (control : Control) → Still s (by_frame s command control)
 by-state s command control = grind (arith, in-4, in-5, in-6, in-7, in-8)
 
@@ -50,7 +47,7 @@ IsNoOther other = Unit {0}
 
 -- So no frame and no request leads there.
 pub none-heard : (t : Terms) (what : Received) (l : Link) → Still l.state (state_after t (received what) l)
-none-heard t what l = grind (arith, or-invalid, by-state, malformed)
+none-heard t what l = grind (arith, by-state, malformed)
 
 pub none-asked : (t : Terms) (r : Request) (full : Bool) (l : Link) → Still l.state (state_after t (requested r full) l)
 none-asked t r full l = by-asked l.state r

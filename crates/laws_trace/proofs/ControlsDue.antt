@@ -39,11 +39,8 @@ all-up state xs h = if-all _ xs [] h none-at-all
 all-answers : (was now : Standing) (state : ℕ) (command too_long : Bool) (control : Control) → All IsControl (answer_to was now state command too_long control)
 all-answers was now state command too_long control = grind (arith, if-one, all-up, to_information, if-all, polled, one, all-polled)
 
-all-changed : (was now : Standing) → All IsControl (changed was now)
-all-changed was now = if-all (cond was.busy (not now.busy) now.busy) (as_response (receipt now false)) [] (if-one false now.busy _ _ refl refl) none-at-all
-
 all-answers-of : (n201 : ℕ) (was now : Standing) (state : ℕ) (e : Event) → All IsControl (answers_of n201 was now state e)
-all-answers-of n201 was now state e = grind (arith, all-answers, all-up, changed, all-changed, none-at-all)
+all-answers-of n201 was now state e = grind (arith, all-answers, if-all, none-at-all, changed, receipt, if-one)
 
 all-commands : (now : Standing) (to : State) → All IsControl (command_of now (Some (state_number to)))
 all-commands now to = grind (arith, one, if-one, none-at-all)

@@ -176,19 +176,12 @@ module _ (t : Terms) (l : Link) (m : ℕ) (busy rejected : Bool) (n : ℕ) (busy
   again : (e : Event) → l.running ≡ Some T200 → waiting.is_time e l ≡ (ticks e == 1)
   again e is = grind arith
 
-  if-same : (b d : Bool) → cond {A = List ControlFrame} b [] [] ≡ cond d [] []
-  if-same b d = either-none b ∙ sym (either-none d)
-
   abbrev Whenever : Event → State → State → Type 0
   Whenever e from to =
       cond (moves from to || waiting.is_time e l) (command_of now (Some (state_number to))) [] ≡ cond (moves from to || ticks e == 1) (command_of now (Some (state_number to))) []
 
-  while-there : (e : Event) (to : State) → l.running ≡ Some T200
-      → cond (waiting.is_time e l) (command_of now (Some (state_number to))) [] ≡ cond (ticks e == 1) (command_of now (Some (state_number to))) []
-  while-there e to is = ap (λ b. cond b (command_of now (Some (state_number to))) []) (again e is)
-
   whenever : (e : Event) (from to : State) → l.running ≡ needed_in from l → Whenever e from to
-  whenever e from to is = grind (arith, if-same, ticks, while-there)
+  whenever e from to is = grind (arith, either-none, ticks, to, is, command_of, now, again)
 
   pub put-is : (e : Event) → IsNoOther e → HasItsTimer l → Seen e → let to = state_after t (as_heard t e) l in put (as_heard t e) l to ≡ put_by t.n201 was now e l.state to
   put-is e other timed h =

@@ -33,13 +33,9 @@ module _ (c : Config) (service : Service) (tei : ℕ) where
   none-granted : (r : Request) (a : Answer) → controls_begun (seen_granted r a ++ seen_told a) ≡ []
   none-granted r a = grind arith
 
-  by-begun : (frames : List (List ℕ)) → controls_begun (map begun frames) ≡ flat_map begun_of frames
-  by-begun [] = refl
-  by-begun (f ∷ frames) = ap (λ xs. begun_of f ++ xs) (by-begun frames)
-
   pub begun-is : (e : Event) (l : Line) → controls_begun (seen e (answer c e l)) ≡ flat_map begun_of (frame_in (answer c e l))
   unfolding answer
-  begun-is e l = grind (arith, none-granted, none-given, by-begun, none-told)
+  begun-is e l = grind (arith, none-granted, none-given, none-told)
 
   -- Frames of others are no control frames of this link.
   foreign : (frame : List ℕ) → IsForeign c service tei frame → begun_of frame ≡ []

@@ -5,14 +5,8 @@ use Rattle.model_line.specs.Machine as lines
 use Rattle.laws_trace.specs.CountersCount.{names, is_drop, CountersCount}
 
 -- No other counter stands among those of drops.
-kind-low : (k : Kind) → kind_place k < 12
-kind-low k = grind arith
-
-cause-low : (cause : Cause) → cause_place cause < 8
-cause-low cause = grind arith
-
 outside : (counter : Counter) → is_drop counter ≡ false → (place counter < 29) ⊎ (36 < place counter)
-outside counter other = grind (arith, kind-low)
+outside counter other = grind arith
 
 -- A call for the next frame is answered with a frame or none, and any other event with what is told.
 abbrev Tells : Answer → Type 0
@@ -46,7 +40,7 @@ module _ (counter : Counter) (other : is_drop counter ≡ false) where
   apart at same low o = grind arith
 
   none-of : (cause : Cause) (b : Bool) → (29 + cause_place cause == place counter) ≡ b → cond {A = ℕ} b 1 0 ≡ 0
-  none-of cause b is = grind (arith, apart, eqb-true, cause-low, outside)
+  none-of cause b is = grind (arith, apart, eqb-true, outside)
 
   none-dropped : (o : Option Cause) → amount (drop_shown o) ≡ 0
   none-dropped None = refl

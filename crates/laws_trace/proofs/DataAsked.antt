@@ -28,8 +28,5 @@ granted-data service tei t k full what h = grind (arith, is_some, service-same, 
 
 -- and data for another link is none for this one.
 module _ (c : Config) (l : Line) (service : Service) (tei : ℕ) where
-  on-the-line : (its : Service) (by : ℕ) (contents : List ℕ) → refusal c false (Data its by contents) l ≡ None → has_tei by l ≡ true
-  on-the-line its by contents e = grind (arith, not_not)
-
   pub elsewhere : (r : Request) → is_granted (answer c (request r) l) ≡ true → is_at_link service tei (aim_of c (request r) l) ≡ false → data_asked service tei r ≡ []
-  elsewhere r g away = grind (arith, not-refused, is_at_link, on-the-line, is-off)
+  elsewhere r g away = grind (arith, not-refused, is_at_link, not_not, is-off)

@@ -4,11 +4,8 @@ use Rattle.model_link.specs.Requests.{refusal}
 use Rattle.laws_trace.proofs.Facts.{either-none}
 
 -- What is acknowledged had gone.
-acknowledged-number : (l : Link) → l.a ≤ l.s → (o : Option Seq) → l.a + acknowledged_by o l ≤ l.s
-acknowledged-number l ordered o = grind (arith, named-within)
-
 pub acknowledged-went : (t : Terms) (e : Event) (l : Link) → l.a ≤ l.s → l.a + acknowledged t e l ≤ l.s
-acknowledged-went t e l ordered = grind (arith, acknowledged-number)
+acknowledged-went t e l ordered = grind (arith, named-within)
 
 -- No data is accepted but in states 7 and 8.
 none-asked : (t : Terms) (request : Request) (full : Bool) (l : Link) → is_multiple_frame l.state ≡ false → accepted t (requested request full) l ≡ []

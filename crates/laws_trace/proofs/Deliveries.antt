@@ -105,11 +105,8 @@ module _ (c : Config) (e : Event) (a : Answer) (service : Service) (tei : ℕ) w
   pub brings-frame : (f : Parts) → Brings c e service tei f → (frame_by c e ≡ Some f) × (is_for service tei f.address ≡ true)
   brings-frame f x = (ap (frame_by c) x.by ∙ ap result_ok x.read, its-address f x.sapi x.tei_is)
 
-  is-fault : (address : Address) (octets : List ℕ) (what : link.Received) → IsMalformed c address octets what → result_ok (reading (heard_side c) octets) ≡ None
-  is-fault address octets what is = grind arith
-
   pub brings-none : (what : link.Received) → BringsMalformed c e service tei what → frame_by c e ≡ None
-  brings-none what x = grind (arith, is-fault)
+  brings-none what x = grind arith
 
   pub heard-by : (what : link.Received) → BringsMalformed c e service tei what → (heard : stream.Event) × (e ≡ hears heard)
   heard-by what x = grind arith
@@ -170,10 +167,6 @@ module _ (c : Config) (e : Event) (a : Answer) (service : Service) (tei : ℕ) w
   data-of le by k n up contents i h same number = grind (arith, brings-frame, carried, number_in, none-some)
 
   -- a UI that is told
-  ui-of : (f : Parts) (contents : List ℕ) → (ct : Control) → f.control ≡ ct → in_ui_frame ct f.info ≡ Some contents
-      → (p : Bool) × (f.control ≡ Ui p) × (Some contents ≡ Some f.info)
-  ui-of f contents ct is h = grind (arith, none-some)
-
   pub unit-of : (le : link.Event) → IsBy c e a service tei le → (n : ℕ) (contents : List ℕ) → unit_heard le ≡ Some contents
       → IsOfFrame service tei (record { frame = frame_by c e; count = n }) (λ control. is_ui control ≡ true) (Some contents)
-  unit-of le by n contents h = grind (arith, brings-frame, ui-of, none-some)
+  unit-of le by n contents h = grind (arith, brings-frame, none-some)

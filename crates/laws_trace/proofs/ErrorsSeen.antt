@@ -14,41 +14,26 @@ abbrev wrong_parts : Config → ℕ → ℕ → Parts → List ErrorCode
 wrong_parts c was to f = wrong_frame (nat_lt c.n201 (length f.info)) f.address.command f.control was to
 
 -- Where the state stays, or the TEI has left, T200 gave nothing up.
-none-given-up : (n m : ℕ) → (n ≡ m) ⊎ (m ≡ 1) → given_up n m ≡ []
-none-given-up n m o = grind (arith, and-false, eqb-true)
-
 module _ (c : Config) (service : Service) (tei : ℕ) where
-  no-letter : (b : Bool) (letter : ErrorCode) → b ≡ false → cond b (Some letter) None ≡ None
-  no-letter b letter none = ap (λ b. cond b (Some letter) None) none
-
   -- no event of the link
   module _ (l : Line) (place : ℕ) (on : place_in l tei ≡ Some place) where
     no-fault : (r : Result Parts ReadFault) → is_at_link service tei (aim_of_reading c l r) ≡ false → option_and_then (fault_of service tei) (result_err r) ≡ None
-    no-fault r aims = grind (arith, no-letter, addressed-none, nothing_yet)
+    no-fault r aims = grind (arith, addressed-none, nothing_yet)
 
     no-long : (r : Result Long ReadFault) → is_at_link service tei (aim_of_long l r) ≡ false → faulty_long service tei r ≡ None
-    no-long r aims = grind (arith, no-letter, addressed-none, nothing_yet)
-
-    none-malformed : (e : stream.Event) → is_at_link service tei (aim_of_heard c l e) ≡ false → malformed c service tei e ≡ None
-    none-malformed e aims = grind (arith, no-fault, no-long)
-
-    none-its : (e : stream.Event) → is_at_link service tei (aim_of_heard c l e) ≡ false → its_frame service tei (frame_of c e) ≡ None
-    none-its e aims = grind (arith, cond_both, heard-aims-at)
+    no-long r aims = grind (arith, addressed-none, nothing_yet)
 
     pub none-wrong : (e : Event) → is_at_link service tei (aim_of c e l) ≡ false → (n m : ℕ) → (n ≡ m) ⊎ (m ≡ 1) → wrong c service tei e n m ≡ []
-    none-wrong e aims n m stays = grind (arith, none-malformed, none-its, either-none, none-given-up)
+    none-wrong e aims n m stays = grind (arith, no-fault, no-long, cond_both, heard-aims-at, either-none, and-false, eqb-true)
 
   -- one event of it
   module _ (e : Event) (a : Answer) (from to : ℕ) where
     abbrev Wrong : link.Event → Type 0
     Wrong event = wrong c service tei e from to ≡ errors_of (terms c service tei) event from to
 
-    by-letter : (b : Bool) (letter : ErrorCode) → b ≡ true → cond (is_up from) (option_to_list (cond b (Some letter) None)) [] ++ [] ≡ cond (is_up from) (letter ∷ []) []
-    by-letter b letter is = ap (λ b. cond (is_up from) (option_to_list (cond b (Some letter) None)) [] ++ []) is ∙ append-nil (cond (is_up from) (letter ∷ []) [])
-
     wrong-malformed : (address : Address) (octets : List ℕ) (what : link.Received) → is_for service tei address ≡ true
         → ((e ≡ hears (stream.frame octets)) × IsMalformed c address octets what) ⊎ ((e ≡ hears (stream.overlong octets)) × IsTooLong c address octets what) → Wrong (link.received what)
-    wrong-malformed address octets what for o = grind (arith, errors_of, by-letter)
+    wrong-malformed address octets what for o = grind (arith, errors_of, append-nil)
 
     brings-malformed : (what : link.Received) → BringsMalformed c e service tei what → Wrong (link.received what)
     brings-malformed what y = wrong-malformed y.address y.octets what (own-address c service tei nothing_yet a y.address y.sapi y.tei_is) y.by

@@ -51,9 +51,6 @@ is_checked tei o = option_map_or (λ (check : Checked). check.tei == tei) o fals
 checked-seen : (tei : ℕ) (o : Option Check) → is_checked tei (option_map seen_check o) ≡ rows.is_checked tei o
 checked-seen tei o = grind arith
 
-more-than-none : (n : ℕ) → not (n + 1 == 0) ≡ true
-more-than-none n = grind (arith, eqb-true)
-
 three-of : (n k : ℕ) → k ≡ n + 1 → n - 3 ≡ k - 4
 three-of n k e = omega (arith, e)
 
@@ -86,9 +83,6 @@ module _ (on : List ℕ) (m : Management) (h : AreOn on m.places) (order : IfSom
   pub may-is : (tei : ℕ) → may_check tei w ≡ rows.may_be_checked tei m
   may-is tei = ap (λ b. b && not (is_some w.check)) (h.same tei) ∙ ap (λ b. table.is_on tei m.places && not b) (some-seen m.check)
 
-  pub verify-leads : (tei : ℕ) → Leads (cond (may_check tei w) (checks tei None w) w) (rows.verify tei (begun m))
-  verify-leads tei = grind (arith, may-is, begins-check, none-due)
-
   pub there : (check : Check) → m.check ≡ Some check → IsSoundCheck m.places check
   there check is = subst (λ o. IfSome o (IsSoundCheck m.places)) is s.checked
 
@@ -110,13 +104,10 @@ module _ (on : List ℕ) (m : Management) (h : AreOn on m.places) (order : IfSom
 
     one-more : (p : Period) → let k = record check { period = p } in
         Some (record { tei = k.tei; answered = true; before = earlier p k.first }) ≡ Some (seen_check (rows.counted k))
-    one-more p = grind (arith, more-than-none)
-
-    counted-order : (p : Period) → let k = record check { period = p } in InOrder k → InOrder (rows.counted k)
-    counted-order p k = grind arith
+    one-more p = grind (arith, eqb-true)
 
     answers-once : Leads answered (check_is (Some (rows.counted check)) (begun m))
-    answers-once = grind (arith, one-more, counted-order, in-order)
+    answers-once = grind (arith, one-more, in-order)
 
     is-second : nat_le 2 (rows.responses (rows.counted check)) ≡ not (rows.responses check == 0)
     is-second = grind (arith, there, nat_le, eqb-true, leb-true, leb-false, eq-eqb)
@@ -146,12 +137,9 @@ module _ (on : List ℕ) (m : Management) (h : AreOn on m.places) (order : IfSom
         subst (λ b. Leads (record (left b check.tei) { notes = Removed check.tei ∷ [] }) (rows.removed check.tei (begun m))) (sym (own-check check.tei check is (eq-eqb check.tei check.tei refl)))
         (record { notes = refl; orders = refl; lost = refl; begins = refl; granted = refl; follows = record { is = refl; on = leaves-on on m.places h check.tei s.table; order = tt } })
 
-    by-answers : (a b : Bool) → Leads (cond (not a || not b) (over w) unanswered) ((cond (a && b) (rows.removed check.tei) end_check) (begun m))
-    by-answers a b = grind (arith, removes, ends)
-
     by-period : (p : Period) → check.period ≡ p
         → Leads (ran_out w (record { tei = check.tei; answered = not (rows.responses (record check { period = p }) == 0); before = earlier p check.first })) (rows.expire_period check p (begun m))
-    by-period p at = grind (arith, asks-again, in-order, by-answers)
+    by-period p at = grind (arith, asks-again, in-order, removes, ends)
 
   pub expire-leads : Leads (option_map_or (ran_out w) w.check w) (rows.expire (begun m))
   expire-leads = go m.check refl
@@ -244,7 +232,7 @@ module _ (on : List ℕ) (m : Management) (h : AreOn on m.places) (order : IfSom
     otherwise P b u v x y h k = grind arith
 
     verifies : (action : ℕ) (b : Bool) → Leads (cond (b && may_check action w) (checks action None w) w) (rows.serve (cond b (heard_of_type 7 0 action) None) (begun m))
-    verifies action b = grind (arith, verify-leads, none-due)
+    verifies action b = grind (arith, may-is, begins-check, none-due)
 
     by-type-leads : (type ri action : ℕ)
         → Leads (cond (type == 1 && action == 127) (asked c ri w) (cond (type == 5) (option_map_or (responded action w) w.check w) (cond (type == 7 && may_check action w) (checks action None w) w)))

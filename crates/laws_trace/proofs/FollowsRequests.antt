@@ -8,9 +8,6 @@ use Rattle.laws_trace.proofs.ManagingNotes.{is_management}
 use Rattle.laws_trace.proofs.FollowsLine.{Shows, IsUnmanaged, none-granted, asked-aims, deactivated-aims, managed-shows, unmanaged-shows, hears-shows, expiry-shows, next-shows}
 
 -- The rows that refuse a request of management.
-refused-3 : (a b d : Bool) (x y z : Refusal) → is_some (cond a (Some x) (cond b (Some y) (cond d (Some z) None))) ≡ not (not a && not b && not d)
-refused-3 a b d x y z = grind arith
-
 refused-4 : (side bad on full : Bool) (x y z u : Refusal) → (on ≡ true → bad ≡ false)
     → is_some (cond (not side) (Some x) (cond bad (Some y) (cond (not on) (Some z) (cond full (Some u) None)))) ≡ not (side && on && not full)
 refused-4 side bad on full x y z u low = grind arith
@@ -18,9 +15,6 @@ refused-4 side bad on full x y z u low = grind arith
 refused-5 : (side bad on runs full : Bool) (x y z u v : Refusal) → (on ≡ true → bad ≡ false)
     → is_some (cond (not side) (Some x) (cond bad (Some y) (cond (not on) (Some z) (cond runs (Some u) (cond full (Some v) None))))) ≡ not (side && (on && not runs) && not full)
 refused-5 side bad on runs full x y z u v low = grind arith
-
-low-test : (tei : ℕ) → nat_le tei 126 ≡ not (nat_lt 126 tei)
-low-test tei = grind (arith, nat_le, leb-true, ltb-true, leb-false, ltb-false)
 
 module _ (c : Config) (l : Line) (s : IsSound c l) (on : List ℕ) (h : AreOn on l.management.places) (order : IfSome l.management.check InOrder) where
   abbrev m : Management
@@ -86,7 +80,7 @@ module _ (c : Config) (l : Line) (s : IsSound c l) (on : List ℕ) (h : AreOn on
   assign-shows tei = by-grant (Assign tei) (record w { on = tei ∷ on }) (nat_le tei 126 && not (list_any (λ y. y == tei) on) && nat_lt (length on) c.terminals) same granted
     where
       same : is_some (refusal c false (Assign tei) l) ≡ not (nat_le tei 126 && not (list_any (λ y. y == tei) on) && nat_lt (length on) c.terminals)
-      same = grind (arith, refused-3, is_some, low-test, room-is)
+      same = grind (arith, is_some, nat_le, leb-true, ltb-true, leb-false, ltb-false, room-is)
 
       granted : refusal c false (Assign tei) l ≡ None → Answers (Assign tei) (grants true (record w { on = tei ∷ on }) w) None
       granted none =

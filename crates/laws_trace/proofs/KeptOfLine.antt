@@ -58,7 +58,7 @@ module _ (c : Config) (ranged : IsInRange c) (l : Line) (s : IsSound c l) (servi
       not-full : (what : link.Request) (full : Bool) (contents : List ℕ) → what ≡ link.Data contents → x.event ≡ link.requested what full → r ≡ of_link service tei what
           → is_granted (lines.answer c (request r) l) ≡ true
           → (request r ≡ next) ⊎ (aim_of c (request r) l ≡ at_link service tei x.place x.event) → requests.refusal own_terms own full (link.Data contents) ≡ None
-      not-full what full contents is event asked g o = grind (arith, not-refused, aimed-so, link-grants)
+      not-full what full contents is event asked g o = grind (arith, not-refused, link-grants)
   accepted-asked other x =
       (no-data c other (lines.answer c other l) service tei own_terms own (λ r same. cc same) (λ same. cc same) x.event x.by).0
       ∙ sym (told-grants service tei (lines.answer c other l))

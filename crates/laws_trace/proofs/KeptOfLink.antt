@@ -5,9 +5,6 @@ use Rattle.laws_trace.proofs.NewsRows.{sabme_of}
 use Rattle.laws_trace.proofs.SeenAs.{up-number}
 
 -- In states 7 and 8, and behind what leaves a link there, V(A) goes on by what is acknowledged; otherwise nothing is.
-keeps-up : (here : State) (command : Bool) (ct : Control) (nr : Seq) → receipt_of ct ≡ Some nr → is_multiple_frame here ≡ true → is_multiple_frame (by_frame here command ct) ≡ true
-keeps-up here command ct nr is up = grind (arith, none-some)
-
 ua-goes-on : (t : Terms) (k : Link) (here : State) → is_multiple_frame here ≡ true → (command f : Bool) (info : List ℕ) → (frame_in here t command info (Ua f) (begun k)).zeroed ≡ true → ⊥
 ua-goes-on t k here up command f info e = grind arith
 
@@ -30,7 +27,7 @@ module _ (t : Terms) (k : Link) where
             ∙ ap (λ (o : Option ℕ). cond (not (is_some o)) AwaitingEstablishment (by_frame k.state f.address.command ct)) names
 
         go : (u : Bool) → is_multiple_frame k.state ≡ u → (o : Option ℕ) → named k.a k.s nr ≡ o → cond u (option_map_or (beyond k.a) o 0) 0 ≡ 0
-        go u down o names = grind (arith, leads, keeps-up)
+        go u down o names = grind (arith, leads, none-some)
 
     supervised : (ct : Control) → f.control ≡ ct → is_overlong t ct f.info ≡ false → (nr : Seq) → receipt_of ct ≡ Some nr → acknowledged_by (Some nr) k ≡ 0
     supervised ct is short nr its = grind (arith, by-number)

@@ -39,9 +39,6 @@ module _ (c : Config) (service : Service) (tei : ℕ) (k : Known) where
   granted-leads : (x : ℕ) (r : Request) (a : Answer) → is_granted a ≡ true → by_all x (seen_granted r a ++ seen_told a) ≡ by_request service tei x r
   granted-leads x r a e = grind arith
 
-  refused-leads : (x : ℕ) (r : Request) (a : Answer) → is_granted a ≡ false → by_all x (seen_granted r a ++ seen_told a) ≡ x
-  refused-leads x r a e = grind arith
-
   begun-leads : (x : ℕ) (frames : List (List ℕ)) → by_all x (map begun frames) ≡ x
   begun-leads x [] = refl
   begun-leads x (f ∷ frames) = begun-leads x frames
@@ -50,14 +47,8 @@ module _ (c : Config) (service : Service) (tei : ℕ) (k : Known) where
   abbrev by_reading : ℕ → Result Parts ReadFault → ℕ
   by_reading x r = cond (is_up x && is_some (option_and_then (fault_of service tei) (result_err r))) 5 (by_parts c service tei k x (result_ok r))
 
-  abbrev by_long : ℕ → Result Long ReadFault → ℕ
-  by_long x r = cond (is_up x && is_some (faulty_long service tei r)) 5 x
-
   no-fault : (x y : ℕ) (b : Bool) (code : ErrorCode) → b ≡ false → cond (is_up x && is_some (cond b (Some code) None)) 5 y ≡ y
   no-fault x y b code none = ap (λ b. cond (is_up x && is_some (cond b (Some code) None)) 5 y) none ∙ ap (λ b. cond b 5 y) (and-false (is_up x))
-
-  a-fault : (x y : ℕ) (b : Bool) (code : ErrorCode) → b ≡ true → cond (is_up x && is_some (cond b (Some code) None)) 5 y ≡ cond (is_up x) 5 y
-  a-fault x y b code some = ap (λ b. cond (is_up x && is_some (cond b (Some code) None)) 5 y) some ∙ ap (λ b. cond b 5 y) (and-true (is_up x))
 
   own-frame : (x : ℕ) (f : Parts) → is_for service tei f.address ≡ true → by_reading x (Ok f) ≡ by_frame k x f.address.command (nat_lt c.n201 (length f.info)) f.control
   own-frame x f for = grind (arith, no-fault, by_parts, by_frame)
@@ -89,11 +80,8 @@ module _ (c : Config) (service : Service) (tei : ℕ) (k : Known) where
             absurd (true≢false (sym (own-is service tei) ∙ sym (ap (λ aim. is_at_link service tei (at_side c f aim)) is) ∙ aims))
     read-none x other aims = no-fault x x false L refl
 
-    long-none : (x : ℕ) (r : Result Long ReadFault) → is_at_link service tei (aim_of_long l r) ≡ false → by_long x r ≡ x
-    long-none x r aims = grind (arith, no-fault, addressed-none)
-
     heard-none : (x : ℕ) (e : stream.Event) → is_at_link service tei (aim_of_heard c l e) ≡ false → by_heard x e ≡ x
-    heard-none x e aims = grind (arith, read-none, long-none, no-fault)
+    heard-none x e aims = grind (arith, read-none, no-fault, addressed-none)
 
     -- an expiry, or a request, of another link
     pub elsewhere : (its : Service) (by : ℕ) (what : link.Event) (to : Option ℕ → Aim) → ((p : ℕ) → to (Some p) ≡ at_link its by p what)
@@ -133,7 +121,7 @@ module _ (c : Config) (service : Service) (tei : ℕ) (k : Known) where
     none-led n x (request r) aims = go (is_granted (answer c (request r) l)) refl
       where
         go : (b : Bool) → is_granted (answer c (request r) l) ≡ b → by_all x (seen_granted r (answer c (request r) l) ++ seen_told (answer c (request r) l)) ≡ x
-        go b e = grind (arith, refused-leads, granted-leads, none-asked, is_at_link, none-refused)
+        go b e = grind (arith, granted-leads, none-asked, is_at_link, none-refused)
     none-led n x next aims = begun-leads x (frame_in (answer c next l))
 
   -- One event of the link.
@@ -148,7 +136,7 @@ module _ (c : Config) (service : Service) (tei : ℕ) (k : Known) where
     malformed-leads : (n x : ℕ) (e : Event) (address : Address) (octets : List ℕ) (what : link.Received) → is_for service tei address ≡ true
         → ((e ≡ hears (stream.frame octets)) × IsMalformed c address octets what) ⊎ ((e ≡ hears (stream.overlong octets)) × IsTooLong c address octets what)
         → led c service tei k n e (seen e a) x ≡ cond (is_up x) 5 x
-    malformed-leads n x e address octets what for o = grind (arith, led, told-leads, a-fault)
+    malformed-leads n x e address octets what for o = grind (arith, led, told-leads, is_some, and-true)
 
     abbrev Leads : ℕ → ℕ → Event → link.Event → Type 0
     Leads n x e event = led c service tei k n e (seen e a) x ≡ expected (terms c service tei) k n event x
@@ -182,8 +170,5 @@ module _ (c : Config) (service : Service) (tei : ℕ) (k : Known) where
     one-led n x e link.offer y = ap (λ e. led c service tei k n e (seen e a) x) y ∙ begun-leads x (frame_in a)
     one-led n x e link.cleared y = absurd y
 
-    malformed-ticks : (e : Event) (what : link.Received) → BringsMalformed c e service tei what → option_map_or one_more (expired_of service tei e) 0 ≡ 0
-    malformed-ticks e what y = ap (λ e. option_map_or one_more (expired_of service tei e) 0) (heard-by c e a service tei what y).1
-
     pub one-ticks : (e : Event) (event : link.Event) → IsBy c e a service tei event → option_map_or one_more (expired_of service tei e) 0 ≡ ticks event
-    one-ticks e event y = grind (arith, one_more, expired_of, malformed-ticks, ticked)
+    one-ticks e event y = grind (arith, one_more, expired_of, heard-by, ticked)

@@ -23,8 +23,5 @@ module _ (c : Config) where
   by-sapi : (b d : Bool) → sapi_of (cond b Call Packet) ≡ sapi_of (cond d Call Packet) → b ≡ d
   by-sapi b d e = grind arith
 
-  same-half : (n m : ℕ) (b : Bool) → (n % 2 == 0) ≡ b → (m % 2 == 0) ≡ b → n / 2 ≡ m / 2 → n ≡ m
-  same-half n m b e f half = grind (arith, eqb-true, eqb-false)
-
   pub same-number : (l : Line) → IsSound c l → (n m tei other : ℕ) → tei_at (place_at n) l ≡ Some tei → tei_at (place_at m) l ≡ Some other → named n tei ≡ named m other → n ≡ m
-  same-number l s n m tei other on on' e = grind (arith, by-sapi, same-half)
+  same-number l s n m tei other on on' e = grind (arith, by-sapi, eqb-true, eqb-false)

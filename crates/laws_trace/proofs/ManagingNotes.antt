@@ -26,11 +26,8 @@ none-of-teis [] h = refl
 none-of-teis (n ∷ ns) h = ap (λ b. cond b (n ∷ filter is_of_teis ns) (filter is_of_teis ns)) (All-head IsOther n ns h) ∙ none-of-teis ns (All-tail IsOther n ns h)
 
 -- The orders of a link are none of T201.
-own-orders : (t : Terms) (timer : LinkTimer) (before started after : Option LinkTimer) → filter is_of_t201 (order_for t timer before started after) ≡ []
-own-orders t timer before started after = grind arith
-
 pub link-orders : (t : Terms) (before started after : Option LinkTimer) → filter is_of_t201 (orders_for t before started after) ≡ []
-link-orders t before started after = grind (arith, filter-append, own-orders)
+link-orders t before started after = grind (arith, filter-append)
 
 pub told-orders : (t : Terms) (e : link.Event) (l : Link) → filter is_of_t201 (told t e l).orders ≡ []
 told-orders t e l = link-orders t l.running (course t e l).started (course t e l).link.running
@@ -107,11 +104,8 @@ no-place : (service : Service) (tei : ℕ) (what : link.Received) (o : Option �
 no-place service tei what o = grind arith
 
 module _ (c : Config) (l : Line) where
-  no-service : (tei : ℕ) (what : link.Received) (o : Option Service) → is_management (to_service l tei what o) ≡ false
-  no-service tei what o = grind (arith, no-place)
-
   no-message : (address : Address) (what : link.Received) (aim : Aim) → is_management aim ≡ false → is_management (addressed l address what aim) ≡ false
-  no-message address what aim none = grind (arith, no-service)
+  no-message address what aim none = grind (arith, no-place)
 
   by-control : (control : Control) (info : List ℕ) → Cases (message_of control info) (cond (is_ui control) (Some info) None)
   by-control control info = grind arith
@@ -126,16 +120,13 @@ module _ (c : Config) (l : Line) where
     where
       go : (a b : Bool) → Cases (cond a (cond b (message_of f.control f.info) (drop_for Tei)) (to_service l f.address.tei (link.frame f) (service_of f.address.sapi)))
           (cond ((a && b) && is_ui f.control) (Some f.info) None)
-      go a b = grind (arith, by-control, no-service)
+      go a b = grind (arith, by-control, no-place)
   by-reading (Err (Undefined address)) = inr (record { aim_is = no-message address link.undefined (drop_for Unserved) refl; said_is = refl })
   by-reading (Err (WrongSize address)) = inr (record { aim_is = no-message address link.wrong_size (drop_for Unserved) refl; said_is = refl })
   by-reading other = inr (record { aim_is = refl; said_is = refl })
 
-  not-linked : (aim : Aim) → is_management aim ≡ false → is_management (unless_at_link aim) ≡ false
-  not-linked aim none = grind arith
-
   by-long : (r : Result Long ReadFault) → is_management (aim_of_long l r) ≡ false
-  by-long r = grind (arith, no-message, not-linked)
+  by-long r = grind (arith, no-message)
 
   pub heard-cases : (e : stream.Event) → Cases (aim_of_heard c l e) (message_in c e)
   heard-cases (stream.frame octets) = by-reading (reading (heard_side c) octets)

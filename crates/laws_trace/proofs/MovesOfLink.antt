@@ -75,16 +75,11 @@ module _ (t : Terms) (k : Known) (l : Link) (n : ℕ) (ordered : l.a ≤ l.s) (w
       ≡ by_frame k 8 command false (ReceiveNotReady nr f)
   not-ready-8 known command f nr = grind (arith, numbered)
 
-  reject-8 : IsKnown k l.a l.s l.peer_busy → (command f : Bool) (nr : Seq)
-      → state_number (cond (not (is_some (named l.a l.s nr))) AwaitingEstablishment (states.by_frame TimerRecovery command (Reject nr f)))
-      ≡ by_frame k 8 command false (Reject nr f)
-  reject-8 known command f nr = grind (arith, numbered)
-
   abbrev Heard : State → Address → Control → List ℕ → Type 0
   Heard here address control info = Is here (received (frame (record { address = address; control = control; info = info })))
 
   by-control : (here : State) → Agrees here k l.a l.s l.peer_busy → (address : Address) (control : Control) (info : List ℕ) → Heard here address control info
-  by-control here known address control info = grind (arith, information, numbered, ready-8, not-ready-8, reject-8)
+  by-control here known address control info = grind (arith, information, numbered, ready-8, not-ready-8)
 
   malformed : (here : State) (what : Received) → ((f : Parts) → what ≡ frame f → ⊥) → Is here (received what)
   malformed here what none = grind arith
@@ -97,23 +92,11 @@ module _ (t : Terms) (k : Known) (l : Link) (n : ℕ) (ordered : l.a ≤ l.s) (w
   Expires here timer running repeats =
       state_number (cond (runs timer running) (states.by_expiry here timer (nat_lt repeats t.n200)) here) ≡ by_expiry t.n200 k n (state_number here) timer
 
-  same-either : (b : Bool) (m : ℕ) → m ≡ cond b m m
-  same-either b m = grind arith
-
-  gives-up-5 : (b : Bool) → state_number (states.by_expiry AwaitingEstablishment T200 b) ≡ cond b 5 4
-  gives-up-5 b = grind arith
-
-  gives-up-6 : (b : Bool) → state_number (states.by_expiry AwaitingRelease T200 b) ≡ cond b 6 4
-  gives-up-6 b = grind arith
-
-  gives-up-8 : (b : Bool) → state_number (states.by_expiry TimerRecovery T200 b) ≡ cond b 8 5
-  gives-up-8 b = grind arith
-
   enquires : (b : Bool) → state_number (cond b TimerRecovery Established) ≡ cond b 8 7
   enquires b = grind arith
 
   expires : (here : State) → l.running ≡ needed_in here l → Agrees here k l.a l.s l.peer_busy → Counts here n l.repeats → (timer : LinkTimer) → Expires here timer l.running l.repeats
-  expires here is known counts timer = grind (arith, same-either, gives-up-5, gives-up-6, gives-up-8, by-state, enquires, awaits)
+  expires here is known counts timer = grind (arith, by-state, enquires, awaits)
 
   -- Any event but the end of the TEI.
   pub event-leads : HasItsTimer l → Agrees l.state k l.a l.s l.peer_busy → Counts l.state n l.repeats → (e : Event) → (e ≡ cleared → ⊥)

@@ -120,9 +120,6 @@ module _ (service : Service) (tei : ℕ) (c : Config) (l : Line) (s : IsSound c 
     managed : Gone (at_management me)
     managed off = changed (teis.told me l.management).change (changes_are_told me l.management fits s.management) (noted me l.management s.management) off
 
-  timer-gone : (its : Service) (by : ℕ) (timer : LinkTimer) (o : Option ℕ) → Gone (at_timer its by timer o)
-  timer-gone its by timer o = grind (arith, stays)
-
   asked-gone : (its : Service) (by : ℕ) (what : link.Request) (o : Option ℕ) → Gone (at_requested its by what o)
   asked-gone its by what o = grind (arith, stays)
 
@@ -135,7 +132,7 @@ module _ (service : Service) (tei : ℕ) (c : Config) (l : Line) (s : IsSound c 
       (λ parts its to. stays (at_none (group_told its parts.info)) refl) e
 
   pub expiry-gone : (timer : Timer) → Gone (aim_of_expiry timer l)
-  expiry-gone timer = grind (arith, timer-gone, managed)
+  expiry-gone timer = grind (arith, stays, managed)
 
   pub request-gone : (r : Request) → IsProper c l (aim_of_request r l) → Gone (aim_of_request r l)
   request-gone (Establish its by) proper = asked-gone its by link.Establish (place_in l by)

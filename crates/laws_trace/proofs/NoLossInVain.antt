@@ -42,20 +42,14 @@ module _ (c : Config) (l : Line) where
   heard-none : (e : stream.Event) → NoLoss (aim_of_heard c l e)
   heard-none e = heard_aims c l NoLoss (λ cause. refl) (λ its by place what at. tt) (λ info. tt) (λ parts service to. refl) e
 
-  timer-none : (its : Service) (by : ℕ) (k : LinkTimer) (o : Option ℕ) → NoLoss (at_timer its by k o)
-  timer-none its by k o = grind arith
-
   expiry-none : (timer : Timer) → NoLoss (aim_of_expiry timer l)
-  expiry-none timer = grind (arith, timer-none)
+  expiry-none timer = grind arith
 
   asked-none : (its : Service) (by : ℕ) (asked : link.Request) (o : Option ℕ) → NoLoss (at_requested its by asked o)
   asked-none its by asked o = grind arith
 
-  deactivated-none : (its : Service) (by : ℕ) (o : Option ℕ) → NoLoss (at_deactivated its by o)
-  deactivated-none its by o = grind arith
-
   request-none : (r : Request) → NoLoss (aim_of_request r l)
-  request-none r = grind (arith, asked-none, deactivated-none)
+  request-none r = grind (arith, asked-none)
 
 no-next : (c : Config) (e : Event) (a : Answer) (service : Service) (tei : ℕ) (le : link.Event) → (e ≡ next → ⊥) → IsBy c e a service tei le → IsNoOther le
 no-next c e a service tei le other by = grind arith

@@ -34,11 +34,8 @@ for-sabme state p = grind arith
 for-disc : (state : State) (p : Bool) → IsPlain (record { command = false; control = to_disc state p })
 for-disc state p = grind arith
 
-to-frame : (command : Bool) (c : Control) (l : Link) → ArePlain (answers_to command c l)
-to-frame command c l = grind (arith, one, for-sabme, for-disc, either, up, none)
-
 all-answers : (e : Event) (l : Link) → ArePlain (answers e l)
-all-answers e l = grind (arith, to-frame, either, one, none)
+all-answers e l = grind (arith, one, for-sabme, for-disc, either, up, none)
 
 command-in : (state : State) (l : Link) → ArePlain (command_in state l)
 command-in state l = grind (arith, one, receipt, none)

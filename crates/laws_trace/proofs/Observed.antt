@@ -24,9 +24,6 @@ abbrev pub IsSeen : Option ℕ → Known → Bool → Bool → ℕ → Observed 
 IsSeen None k asked owed n o = o ≡ in_state 1
 IsSeen (Some s) k asked owed n o = IsObserved s k asked owed n o
 
-when-true : (b : Bool) (P : Type 0) → b ≡ true → When b P → P
-when-true b P e w = grind arith
-
 abbrev is_counted : ℕ → Bool
 is_counted s = s == 5 || (s == 6 || s == 8)
 
@@ -36,28 +33,18 @@ module _ (s to : ℕ) (k l : Known) (new asked owed : Bool) (more : ℕ → ℕ)
       → When a (q.asked ≡ cond (a && not d) new asked)
   asks-on a t b u d e x y = grind (arith, eq-eqb, eqb-true)
 
-  owes-on : (a b : Bool) → When a (q.outstanding ≡ cond b p.outstanding (not (p.next == p.acknowledged))) → When b (p.outstanding ≡ owed)
-      → When (not b) (owed ≡ not (k.next == k.acknowledged)) → When a (q.outstanding ≡ cond a owed (not (l.next == l.acknowledged)))
-  owes-on a b x y z = grind (arith, Known)
-
-  rests-on : (a : Bool) → When (not a) (cond a owed (not (l.next == l.acknowledged)) ≡ not (l.next == l.acknowledged))
-  rests-on a = grind arith
-
   counts-on : (d : Bool) → (s == to) ≡ d → (e : Bool) → (to == s) ≡ e → (a : Bool) → is_counted to ≡ a → When a (q.expiries ≡ cond d (more p.expiries) 0)
       → When (is_counted s) (p.expiries ≡ n) → When a (q.expiries ≡ cond (not e) 0 (more n))
-  counts-on d x e y a z u v = grind (arith, when-true, eqb-true, eq-eqb)
+  counts-on d x e y a z u v = grind (arith, eqb-true, eq-eqb)
 
   joined : IsObserved to l (cond (to == 5 && not (to == s)) new asked) (cond (to == 5) owed (not (l.next == l.acknowledged))) (cond (not (to == s)) 0 (more n)) q
-  joined = grind (arith, asks-on, owes-on, rests-on, counts-on)
+  joined = grind (arith, asks-on, Known, counts-on)
 
 module _ (c : Config) (service : Service) (tei : ℕ) where
   -- How often T200 expired counts in states 5, 6 and 8 alone.
-  either-4 : (a b : Bool) → cond {A = ℕ} a 4 4 ≡ cond {A = ℕ} b 4 4
-  either-4 a b = grind arith
-
   count-counts : (k : Known) (x : State) (n m : ℕ) → When (is_counted (state_number x)) (m ≡ n) → (timer : Option LinkTimer) → let s = state_number x in
       option_map_or (moves.by_expiry c.n200 k n s) timer s ≡ option_map_or (moves.by_expiry c.n200 k m s) timer s
-  count-counts k x n m h timer = grind (arith, either-4, moves.by_expiry)
+  count-counts k x n m h timer = grind (arith, moves.by_expiry)
 
   abbrev pub counted_by : Event → ℕ
   counted_by what = option_map_or states.one_more (states.expired_of service tei what) 0

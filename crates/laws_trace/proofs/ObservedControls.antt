@@ -15,14 +15,6 @@ module _ (q : Observed) (u : Standing) (same : Same q u.told.count u.busy u.reje
   pub receipt-is : (pf : Bool) → old.receipt u pf ≡ now_due.receipt q pf
   receipt-is pf = grind arith
 
-  polled-is : (p : Bool) → old.polled u p ≡ now_due.polled q p
-  polled-is p = grind (arith, receipt-is)
-
-  -- layer 3 comes to be busy, or is so no more
-  changed-is : (o : Observed) (w : Standing) → Same o w.told.count w.busy w.rejected
-      → old.changed w u ≡ cond (cond o.own_busy (not q.own_busy) q.own_busy) (as_response (now_due.receipt q false)) []
-  changed-is o w before = grind (arith, old.receipt, receipt-is)
-
 module _ (c : Config) (service : Service) (tei : ℕ) (o q : Observed) (w u : Standing) (before : is_up o.state ≡ true → Same o w.told.count w.busy w.rejected) where
   abbrev Answered : Parts → Control → Type 0
   Answered f control =
@@ -32,10 +24,10 @@ module _ (c : Config) (service : Service) (tei : ℕ) (o q : Observed) (w u : St
   informed : (p long up : Bool) → is_up o.state ≡ up → (up ≡ true → long ≡ false → Same q u.told.count u.busy u.rejected)
       → cond long [] (cond up (old.to_information p w u) [])
       ≡ cond up (cond long [] (cond (q.rejected && not o.rejected) (as_response (Reject (seq q.count) p)) (now_due.polled q p))) []
-  informed p long up is behind = grind (arith, old.polled, polled-is)
+  informed p long up is behind = grind (arith, old.polled, receipt-is)
 
   received : (p up : Bool) → (up ≡ true → Same q u.told.count u.busy u.rejected) → cond up (old.polled u p) [] ≡ cond up (now_due.polled q p) []
-  received p up behind = grind (arith, polled-is)
+  received p up behind = grind (arith, receipt-is)
 
   by-control : (f : Parts) (control : Control) → (is_up o.state ≡ true → is_answered (nat_lt c.n201 (length f.info)) control ≡ true → Same q u.told.count u.busy u.rejected) → Answered f control
   by-control f (Information ns nr p) behind = informed p (nat_lt c.n201 (length f.info)) (is_up o.state) refl (λ up short. behind up (ap not short))
@@ -78,7 +70,7 @@ module _ (c : Config) (service : Service) (tei : ℕ) (o q : Observed) (w u : St
   pub asked-answers-is : (r : Request) (a : Answer) → (is_up q.state ≡ true → Same q u.told.count u.busy u.rejected) → (is_up o.state ≡ false → is_up q.state ≡ false)
       → (is_granted a ≡ true → is_up o.state ≡ true → is_up q.state ≡ false → old.changed w u ≡ [])
       → answers_seen c service tei w u o.state (seen_granted r a ++ seen_told a) ≡ cond (is_granted a) (now_due.changed o q) []
-  asked-answers-is r a behind down as_before = grind (arith, asked-answers, old.changed, changed-is)
+  asked-answers-is r a behind down as_before = grind (arith, asked-answers, old.changed, old.receipt, receipt-is)
 
 -- What is kept while layer 3 asks for something else.
 module _ (service : Service) (tei : ℕ) where

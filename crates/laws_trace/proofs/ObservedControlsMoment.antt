@@ -261,7 +261,7 @@ module _ (service : Service) (tei number : ℕ) where
       time-so = grind (arith, differs-is, before, behind, commands-so)
 
       command-so : old.command_of u' to ≡ now_due.command_of q
-      command-so = grind (arith, is_state, old.receipt, state-is, behind, receipt-is, agrees-here, eqb-true)
+      command-so = grind (arith, is_state, old.receipt, state-is, behind, agrees-here, eqb-true)
 
       on-puts : Puts true
       on-puts = grind (arith, differ, old.command_of, answers_seen, from-is, answers-so, command-so, time-so)

@@ -72,8 +72,5 @@ module _ (o : Observed) where
   pub enquired : o.state ≡ 7 → enters o (enquires o) ≡ true
   enquired is = moved 7 (enquires o) is refl
 
-  not-four : awaits o ≡ true → (b : Bool) → (o.state == 4) ≡ b → (o.state == 4) ≡ false
-  not-four waits b is = grind (arith, eqb-true)
-
   pub t200-enters : (n200 : ℕ) → awaits o ≡ true → enters o (by_t200 n200 o) ≡ true
-  t200-enters n200 waits = grind (arith, moved, eqb-true, not-four, lt-ltb, or-true, enquired)
+  t200-enters n200 waits = grind (arith, moved, eqb-true, lt-ltb, or-true, enquired)

@@ -15,9 +15,6 @@ use Rattle.laws_trace.proofs.TimersWatched as known
 not-one : (x : State) → (1 == state_number x) ≡ false
 not-one x = grind arith
 
-at-most-4 : (x : State) → nat_le (state_number x) 4 ≡ (state_number x == 4)
-at-most-4 x = grind arith
-
 -- What is known, by whether the TEI is on the line.
 abbrev pub Facts : Option ℕ → Known → Bool → Bool → ℕ → Observed → Type 0
 Facts st k asked owed n o =
@@ -47,7 +44,7 @@ module _ (st : Option ℕ) (k : Known) (asked owed : Bool) (n : ℕ) (o : Observ
 
   -- a TEI that left is in state 4, or none
   pub down-is : Facts st k asked owed n o → nat_le o.state 4 ≡ (unwrap_or st 4 == 4)
-  down-is o = grind (arith, nat_le, at-most-4)
+  down-is o = grind (arith, nat_le)
 
   pub up-is : Facts st k asked owed n o → (o.state == 7) ≡ (unwrap_or st 4 == 7)
   up-is o = grind arith

@@ -144,10 +144,6 @@ module _ (c : Config) (service : Service) (tei : ℕ) where
   t200-moves : (x : State) (k : Known) → Shape x k → (o : Observed) → let p = at_state (state_number x) k o in Expires T200 x k one_more p (by_t200 c.n200 p)
   t200-moves x k shape o = grind (arith, not_counted, enquiry, one_more, known.awaits, repeated)
 
-  t203-moves : (x : State) (k : Known) → Shape x k → (o : Observed) → let p = at_state (state_number x) k o in
-      Expires T203 x k none_more p (cond (p.state == 7 && not (awaits p)) (enquires p) p)
-  t203-moves x k shape o = grind (arith, enquiry, none_more, known.awaits, stays)
-
   abbrev pub grown : Event → ℕ → ℕ
   grown (expiry (timers.T200 of by)) = cond (is_own service tei of by) one_more none_more
   grown other = none_more
@@ -169,7 +165,7 @@ module _ (c : Config) (service : Service) (tei : ℕ) where
 
   by-t203 : (x : State) (k : Known) → Shape x k → (o : Observed) (b : Bool) → let p = at_state (state_number x) k o in
       Timed x k none_more (cond b (Some T203) None) p (cond (b && (p.state == 7 && not (awaits p))) (enquires p) p)
-  by-t203 x k shape o b = grind (arith, t203-moves, stays)
+  by-t203 x k shape o b = grind (arith, enquiry, none_more, known.awaits, stays)
 
   timer-moves : (x : State) (k : Known) → Shape x k → (o : Observed) (timer : Timer) → let p = at_state (state_number x) k o in
       Timed x k (grown (expiry timer)) (states.expired_of service tei (expiry timer)) p (by_expiry c service tei timer p)
@@ -211,10 +207,6 @@ module _ (c : Config) (service : Service) (tei : ℕ) where
       Sends x k p (Some (record { ns = ns.value })) (sends p (Information ns nr pf))
   information-moves x k shape o ns nr pf = grind (arith, stays)
 
-  control-moves : (x : State) (k : Known) → Shape x k → (o : Observed) (control : Control) (info : List ℕ) → let p = at_state (state_number x) k o in
-      Sends x k p (sent_by control info) (sends p control)
-  control-moves x k shape o control info = grind (arith, information-moves, stays)
-
   sent-moves : (x : State) (k : Known) → Shape x k → (o : Observed) (r : Result Parts ReadFault) → let p = at_state (state_number x) k o in
       Sends x k p (sent_in service tei r) (option_map_or (λ (f : Parts). sends p f.control) (its_frame service tei (result_ok r)) p)
   sent-moves x k shape o (Err fault) = stays x k shape false o
@@ -222,7 +214,7 @@ module _ (c : Config) (service : Service) (tei : ℕ) where
     where
       go : (b : Bool) → let p = at_state (state_number x) k o in
           Sends x k p (cond b (sent_by f.control f.info) None) (option_map_or (λ (f : Parts). sends p f.control) (cond b (Some f) None) p)
-      go b = grind (arith, control-moves, stays)
+      go b = grind (arith, information-moves, stays)
 
   pub event-moves : (x : State) (k : Known) → Shape x k → (o : Observed) (what : Event) (a : Answer) → EventMoves x k o what a
   event-moves x k shape o (hears e) (told t) = heard-moves x k shape o (is_some (malformed c service tei e)) (frame_of c e)

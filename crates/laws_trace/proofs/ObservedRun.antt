@@ -20,9 +20,6 @@ use Rattle.laws_trace.proofs.NewsWatched as news
 use Rattle.laws_trace.proofs.Runs.{apart}
 
 -- A state is told where the TEI is on the line.
-shape-of : (x : State) (k : Known) (a s : ℕ) (busy : Bool) → Agrees x k a s busy → Shape x k
-shape-of x k a s busy h = grind arith
-
 abbrev pub IsFrom : Option ℕ → Known → Type 0
 IsFrom from k = ((from ≡ None) × (k ≡ nothing_yet)) ⊎ ((x : State) × (from ≡ Some (state_number x)) × Shape x k)
 
@@ -31,7 +28,7 @@ module _ (service : Service) (tei : ℕ) where
   from-is l k h = go (place_in l tei) refl
     where
       go : (o : Option ℕ) → place_in l tei ≡ o → IsFrom (state_of service tei l) k
-      go o off = grind (arith, off-state, Agrees, off-fresh, state-on, shape-of)
+      go o off = grind (arith, off-state, Agrees, off-fresh, state-on)
 
   pub is-told : (l : Line) → has_tei tei l ≡ is_some (state_of service tei l)
   is-told l = go (place_in l tei) refl

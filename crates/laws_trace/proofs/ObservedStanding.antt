@@ -36,18 +36,15 @@ in_5 long command control o = grind arith
 in_6 : (long command : Bool) (control : Control) → Frame AwaitingRelease long command control
 in_6 long command control o = grind arith
 
-when-so : {P : Type 0} → (b : Bool) → P → When b P
-when-so b x = grind arith
-
 -- An N(R) in states 7 and 8, by whether it is invalid.
 numbered-so : (s : ℕ) → is_up s ≡ true → (information taken invalid : Bool) (ack : ℕ) (p r : Observed) → r.state ≡ s → Stood (is_up s) false taken information p.own_busy p r
     → When (is_up (cond invalid (anew r) (record r { acknowledged = ack })).state) (Stood (is_up s) false taken information p.own_busy p (cond invalid (anew r) (record r { acknowledged = ack })))
-numbered-so s up information taken invalid ack p r is h = grind (arith, when-so)
+numbered-so s up information taken invalid ack p r is h = grind arith
 
 receipt-so : (s : ℕ) → is_up s ≡ true → (busy invalid final : Bool) (ack again : ℕ) (p : Observed)
     → let q = cond invalid (anew p) (cond final (record p { state = 7; acknowledged = ack; next = ack; busy = busy }) (record p { acknowledged = ack; next = again; busy = busy })) in
     When (is_up q.state) (Stood (is_up s) false false false p.own_busy p q)
-receipt-so s up busy invalid final ack again p = grind (arith, when-so)
+receipt-so s up busy invalid final ack again p = grind arith
 
 in_7 : (long command : Bool) (control : Control) → Frame Established long command control
 in_7 long command control o = grind (arith, numbered-so, receipt-so)
@@ -69,9 +66,6 @@ in_8 true command (Ua true) o = record { before = refl; count_is = refl; busy_is
 in_8 false command (Ua true) o = record { before = refl; count_is = refl; busy_is = refl; rejected_is = refl }
 in_8 true command other o = record { before = refl; count_is = refl; busy_is = refl; rejected_is = refl }
 in_8 false command other o = record { before = refl; count_is = refl; busy_is = refl; rejected_is = refl }
-
-pub frame-stands : (x : State) (long command : Bool) (control : Control) → Frame x long command control
-frame-stands x = grind (arith, in_4, in_5, in_6, in_7, in_8)
 
 -- Nothing moves.
 rests : (x : State) (o : Observed) → let p = in_number (state_number x) o in When (is_up (state_number x)) (Stood (is_up (state_number x)) false false false p.own_busy p p)
@@ -95,7 +89,7 @@ module _ (c : Config) (service : Service) (tei : ℕ) where
 
   parts : (x : State) (o : Observed) (f : Option Parts) → let p = in_number (state_number x) o in let q = option_map_or (by_frame c p) f p in
       When (is_up q.state) (Stood (is_up (state_number x)) (begins_by x f) (taken_by p f) (informs f) p.own_busy p q)
-  parts x o f = grind (arith, rests, frame-stands)
+  parts x o f = grind (arith, rests, in_4, in_5, in_6, in_7, in_8)
 
   heard-stands : (x : State) (o : Observed) (m : Bool) (f : Option Parts) → Heard x o m f
   heard-stands x o m f = grind (arith, parts)
@@ -131,9 +125,6 @@ module _ (c : Config) (service : Service) (tei : ℕ) where
   abbrev Busied : State → Observed → Bool → Observed → Type 0
   Busied x o busy q = let p = in_number (state_number x) o in When (is_up q.state) (Stood (is_up (state_number x)) false false false busy p q)
 
-  comes-busy : (x : State) (o : Observed) (b : Bool) → let p = in_number (state_number x) o in Busied x o (b || p.own_busy) (cond b (record p { own_busy = true }) p)
-  comes-busy x o b = grind (arith, rests)
-
   ends-busy : (x : State) (o : Observed) (b : Bool) → let p = in_number (state_number x) o in Busied x o (not b && p.own_busy) (cond b (record p { own_busy = false }) p)
   ends-busy x o b = grind (arith, rests)
 
@@ -144,13 +135,10 @@ module _ (c : Config) (service : Service) (tei : ℕ) where
       When (is_up q.state) (Stood (is_up (state_number x)) (begins_by x f) (taken_by p f) (informs f) (asked_busy service tei what a p.own_busy) p q)
 
   asked-stands : (x : State) (o : Observed) (r : Request) (t : LineTold) → EventStands x o (request r) (told t)
-  asked-stands x o r t = grind (arith, establish, release, deactivate, comes-busy, ends-busy, rests)
-
-  control-stands : (x : State) (o : Observed) (control : Control) → Quiet x o (sends (in_number (state_number x) o) control)
-  control-stands x o control = grind (arith, rests)
+  asked-stands x o r t = grind (arith, establish, release, deactivate, rests, ends-busy)
 
   sent-stands : (x : State) (o : Observed) (f : Option Parts) → let p = in_number (state_number x) o in Quiet x o (option_map_or (λ (f : Parts). sends p f.control) f p)
-  sent-stands x o f = grind (arith, rests, control-stands)
+  sent-stands x o f = grind (arith, rests)
 
   pub event-stands-so : (x : State) (o : Observed) (what : Event) (a : Answer) → EventStands x o what a
   event-stands-so x o (hears e) a = heard-stands x o (is_some (malformed c service tei e)) (its_frame service tei (frame_of c e))

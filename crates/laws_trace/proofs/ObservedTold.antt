@@ -41,15 +41,8 @@ module _ (t : Terms) (f : Parts) where
   restarts-so l = by-control f.control l
 
 -- What is due to be delivered, by what an observer knows.
-size-fits : (n m : ℕ) → nat_le n m ≡ not (nat_lt m n)
-size-fits n m = grind (arith, nat_le, leb-true, ltb-true, leb-false, ltb-false)
-
 module _ (t : Terms) (own : Link) (p : Observed) (is : p.state ≡ state_number own.state) (count_is : is_multiple_frame own.state ≡ true → own.r ≡ p.count)
     (busy_is : is_multiple_frame own.state ≡ true → own.own_busy ≡ p.own_busy) where
-  by-bits : (ns : Seq) (info : List ℕ) (n : ℕ) (fit up busy : Bool) → is_some (in_sequence n (cond (fit && up && not busy) (Some (record { ns = ns; contents = info })) None))
-      ≡ (up && (fit && (not busy && ns.value == n % 128)))
-  by-bits ns info n fit up busy = grind (arith, is_some)
-
   and-none : (a b : Bool) → (a && (b && false)) ≡ false
   and-none a b = grind arith
 
@@ -62,7 +55,7 @@ module _ (t : Terms) (own : Link) (p : Observed) (is : p.state ≡ state_number 
   by-up up down ns fit = grind arith
 
   due-so : (control : Control) (info : List ℕ) → Due control info
-  due-so control info = grind (arith, by-bits, nat_le, by-up, size-fits, number-up, and-none)
+  due-so control info = grind (arith, is_some, nat_le, by-up, leb-true, ltb-true, leb-false, ltb-false, number-up, and-none)
 
 -- One event of a line, where the TEI is on it.
 module _ (c : Config) (ranged : IsInRange c) (l : Line) (s : IsSound c l) (e : Event) (service : Service) (tei place : ℕ) (on : place_in l tei ≡ Some place) where

@@ -6,7 +6,7 @@ use Rattle.model_link.specs.Machine as links
 use Rattle.model_link.specs.Sound as link_sound
 use Rattle.laws_trace.proofs.OneLink.{Goes, event-goes}
 use Rattle.laws_trace.proofs.Runs.{run-shows}
-use Rattle.laws_trace.proofs.SmallMessages.{IsSmall, message-octets}
+use Rattle.laws_trace.proofs.SmallMessages.{IsSmall}
 use Rattle.laws_trace.proofs.SmallMessagesWait.{messages-after}
 use Rattle.laws_trace.proofs.Units.{none-told, none-requested, given-frames}
 use Rattle.laws_trace.proofs.Spelled.{Anything}
@@ -49,7 +49,7 @@ module _ (c : Config) (ranged : IsInRange c) (l : Line) (s : IsSound c l) (k : A
   IsExact t = AreOctets t.frame
 
   message-exact : (m : Message) → IsSmall m → action_of m ≤ 127 → AreOctets (message_frame c.side m)
-  message-exact m small low = grind (arith, whole-octets, message-octets)
+  message-exact m small low = grind (arith, whole-octets)
 
   unit-exact : (u : UnitData) → u.tei ≤ 127 → IsUnit u → AreOctets (unit_frame c u)
   unit-exact u low h = grind (arith, whole-octets, small-sapi)
@@ -84,15 +84,12 @@ module _ (c : Config) (ranged : IsInRange c) (l : Line) (s : IsSound c l) (k : A
   any-exact [] (u ∷ us) small low units octets = unit-exact u (All-head (IsUnitData c) u us units).tei (All-head IsUnit u us octets)
   any-exact [] [] small low units octets = first-exact (first_taken c l (round c l)) (of-links c l s (round c l) (round_below c l))
 
-  taken-exact : IfSome (taken c l) IsExact
-  taken-exact = any-exact l.management.waiting l.units k.messages s.management.queue.actions s.units k.units
-
 by-next : (o : Option Taken) → IfSome o (λ t. AreOctets t.frame) → All AreOctets (frame_in (gave (option_map next_of o)))
 by-next o h = grind arith
 
 event-exact : (c : Config) → IsInRange c → (e : Event) (l : Line) → IsSound c l → AreKept l → All AreOctets (frames_begun (seen e (answer c e l)))
 unfolding answer
-event-exact c ranged e l s k = grind (arith, none-requested, given-frames, option_map, by-next, taken-exact, none-told)
+event-exact c ranged e l s k = grind (arith, none-requested, given-frames, option_map, by-next, any-exact, none-told)
 
 -- What a link keeps, where what is granted are octets.
 granted-seen : (r : Request) (a : Answer) → is_granted a ≡ true → All GivesOctets (seen_granted r a ++ seen_told a) → AreOctets (contents_given r)
@@ -139,11 +136,8 @@ module _ (c : Config) (e : Event) (l : Line) (s : IsSound c l) (ranged : IsInRan
       (left-octets (share t x.event own).empties (share t x.event own).acknowledged (queue_of own) (accepted t x.event own) (k.links service tei) (accepted-octets t own x.event x.by)))
 
 -- The unit data that waits then.
-asked-exact : (r : Request) → AreOctets (contents_given r) → All IsUnit (unit_asked r)
-asked-exact r h = grind arith
-
 by-grant : (r : Request) (a : Answer) → All GivesOctets (seen_granted r a ++ seen_told a) → All IsUnit (units_asked (request r) a)
-by-grant r a h = grind (arith, asked-exact, granted-seen)
+by-grant r a h = grind (arith, granted-seen)
 
 left-exact : (r : Request) (a : Answer) (us : List UnitData) → All IsUnit us → All IsUnit (units_left r a us)
 left-exact r a us h = grind arith

@@ -37,11 +37,8 @@ module _ (c : Config) (service : Service) (tei : ℕ) (o : Outgoing) where
   abbrev information : List ℕ → List ℕ
   information contents = text c service tei true (Information (seq o.view.link.next) (seq o.view.link.count) false) contents
 
-  take-own : (b : Bool) (x : List ℕ) → take 1 (cond b (x ∷ []) []) ≡ cond b (x ∷ []) []
-  take-own b x = grind arith
-
   by-left : (left : List (List ℕ)) (b : Bool) → may_go c service o.view.link ≡ b → take 1 (map information (cond b left []) ++ by_itself c service tei o) ≡ sends c service tei o left
-  by-left left b may = grind (arith, take-own)
+  by-left left b may = grind arith
 
   offers-are : offers c service tei o ≡ offers_behind c service tei o o.waiting
   offers-are = grind (arith, by-left)
@@ -72,11 +69,8 @@ some-left [] n x rest is = absurd (no-first (sym (drop-none n) ∙ is))
 some-left (y ∷ xs) zero x rest is = omega arith
 some-left (y ∷ xs) (suc n) x rest is = let few = some-left xs n x rest is in omega (arith, few)
 
-none-numbered : (control : Control) → link_sound.is_information control ≡ false → number_sent control ≡ None
-none-numbered control e = grind arith
-
 bare-contents : (all : List (List ℕ)) (j : ℕ) (f : ControlFrame) (contents : Option (List ℕ)) → link_sound.is_information f.control ≡ false → IsOffered all j f contents → contents ≡ None
-bare-contents all j f contents bare offered = grind (arith, none-numbered)
+bare-contents all j f contents bare offered = grind arith
 
 seven : (s : State) → (state_number s == 7) ≡ true → s ≡ Established
 seven s is = grind arith

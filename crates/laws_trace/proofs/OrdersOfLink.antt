@@ -10,14 +10,10 @@ its_orders service tei orders = filter (is_order_of service tei) orders
 one-order : (t : Terms) (service : Service) (tei : ℕ) (timer : LinkTimer) → is_timer_of service tei (timer_at t timer) ≡ (same_service t.service service && t.tei == tei)
 one-order t service tei timer = grind arith
 
-of-one : (t : Terms) (service : Service) (tei : ℕ) (timer : LinkTimer) (d : Bool) → is_timer_of service tei (timer_at t timer) ≡ d → (p q : Bool) →
-    let orders = cond p (Start (timer_at t timer) ∷ []) (cond q (Stop (timer_at t timer) ∷ []) []) in its_orders service tei orders ≡ cond d orders []
-of-one t service tei timer d is p q = grind arith
-
 -- Those of an event of a link are its own, or of another one.
 pub of-event : (t : Terms) (service : Service) (tei : ℕ) (d : Bool) → (same_service t.service service && t.tei == tei) ≡ d → (before started after : Option LinkTimer)
     → its_orders service tei (orders_for t before started after) ≡ cond d (orders_for t before started after) []
-of-event t service tei d is before started after = grind (arith, filter-append, of-one, one-order)
+of-event t service tei d is before started after = grind (arith, filter-append, one-order)
 
 pub other-ordered : (t : Terms) (e : Event) (x : Link) (service : Service) (tei : ℕ) → (same_service t.service service && t.tei == tei) ≡ false → its_orders service tei (told t e x).orders ≡ []
 other-ordered t e x service tei other = let c = course t e x in of-event t service tei false other x.running c.started c.link.running
@@ -54,12 +50,9 @@ obeys-its service tei timer running (o ∷ orders) = go o (is_order_of service t
     go o b is more = grind (arith, its, same-timer)
 
 -- One is started by them where they start it.
-same-own : (t : Terms) (one other : LinkTimer) → is_same (timer_at t one) (timer_at t other) ≡ is_timer one other
-same-own t one other = grind (arith, its-own)
-
 obeys-one : (t : Terms) (timer other : LinkTimer) (running p q : Bool)
     → obeyed (timer_at t timer) running (cond p (Start (timer_at t other) ∷ []) (cond q (Stop (timer_at t other) ∷ []) [])) ≡ cond (is_timer other timer) (cond p true (cond q false running)) running
-obeys-one t timer other running p q = grind (arith, same-own, cond_both)
+obeys-one t timer other running p q = grind (arith, its-own, cond_both)
 
 alone : (p q : Bool) → cond p true (cond q false false) ≡ p
 alone p q = grind arith

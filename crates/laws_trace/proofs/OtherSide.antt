@@ -19,12 +19,8 @@ module _ (side : Side) (octets : List ℕ) where
   unless-short : (b : Bool) (r : Result Parts ReadFault) → Reads r → Reads (cond b (Err Short) r)
   unless-short b r h = grind arith
 
-  of-size : (b : Bool) (a : Address) (control : Control) (info : List ℕ) → IsTold a
-      → Reads (cond b (Ok (record { address = a; control = control; info = info })) (Err (WrongSize a)))
-  of-size b a control info h = grind arith
-
   whole : (r : Result (Address × Control) ReadFault) → Begins r → Reads (completed octets r)
-  whole r told = grind (arith, of-size)
+  whole r told = grind arith
 
   allowed : (b : Bool) (a : Address) (control : Control) → IsTold a → Begins (cond b (Ok (a, control)) (Err (Undefined a)))
   allowed b a control h = grind arith
@@ -32,12 +28,9 @@ module _ (side : Side) (octets : List ℕ) where
   begun : (a : Address) (o : Option Control) → IsTold a → Begins (checked a o)
   begun a o h = grind (arith, allowed)
 
-  extended : (b : Bool) (r : Result (Address × Control) ReadFault) → Begins r → Begins (cond b (Err BadExtension) r)
-  extended b r h = grind arith
-
   header-told : (second third fourth : ℕ) → Begins (header_of side first second third fourth)
   unfolding header_of
-  header-told second third fourth = grind (arith, extended, begun)
+  header-told second third fourth = grind (arith, begun)
 
   told : Reads (reading side octets)
   unfolding reading

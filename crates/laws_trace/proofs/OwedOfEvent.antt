@@ -24,15 +24,12 @@ module _ (c : Config) (ranged : IsInRange c) (l : Line) (s : IsSound c l) (servi
   none-owed : Agrees TeiAssigned k own.a own.s own.peer_busy → own.s ≡ own.a → not (k.next == k.acknowledged) ≡ not (own.s == own.a)
   none-owed none same = ap (λ (k : Known). not (k.next == k.acknowledged)) none ∙ sym (ap not (eq-eqb own.s own.a same))
 
-  while-known : own.a ≤ own.s → own.s ≤ own.a + 127 → IsKnown k own.a own.s own.peer_busy → not (k.next == k.acknowledged) ≡ not (own.s == own.a)
-  while-known ordered within known = grind (arith, outstanding-is)
-
   settled : link_sound.IsSound (terms c service tei) own → length own.contents ≡ own.a → own.s ≡ own.a
   settled sound all = let low : own.a ≤ own.s = sound.ordered in let high : own.s ≤ length own.contents = sound.accepted in omega (arith, low, high, all)
 
   by-state : (here : State) → is_state 5 (told_state here) ≡ false → Agrees here k own.a own.s own.peer_busy → link_sound.IsSettledIn here own
       → link_sound.IsSound (terms c service tei) own → own.s ≤ own.a + 127 → not (k.next == k.acknowledged) ≡ not (own.s == own.a)
-  by-state here off known rest sound within = grind (arith, while-known, none-owed, settled)
+  by-state here off known rest sound within = grind (arith, outstanding-is, none-owed, settled)
 
   pub known-owes : is_state 5 (state_of service tei l) ≡ false → IsOwed service tei (not (k.next == k.acknowledged)) l
   known-owes off = go (place_in l tei) refl

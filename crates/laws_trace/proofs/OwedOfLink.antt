@@ -14,11 +14,8 @@ module _ (t : Terms) where
   puts-ua : (f : Parts) (here : State) (l : Link) → Puts (received (frame (record f { control = Ua true }))) (record l { state = here })
   puts-ua f here l up is = grind (arith, never)
 
-  puts-frame : (f : Parts) (control : Control) (l : Link) → Puts (received (frame (record f { control = control }))) l
-  puts-frame f control l = grind (arith, in-state, puts-ua, never)
-
   puts-begun : (e : Event) (l : Link) → IsNoOther e → Puts (as_heard t e) l
-  puts-begun e l other = grind (arith, cond_both, never, puts-frame)
+  puts-begun e l other = grind (arith, cond_both, never, in-state, puts-ua)
 
 awaiting-down : (s : State) → is_awaiting s ≡ true → is_multiple_frame s ≡ false
 awaiting-down s is = grind (arith, never)

@@ -65,9 +65,6 @@ module _ (service : Service) (tei : ℕ) where
   pub granted-so : (what : Event) (a : Answer) → granted_in (seen what a) ≡ outgoing.data_granted service tei what a
   granted-so what a = grind (arith, begun-grants, asked-grants, granted-is, none-granted, told-grants)
 
-  released-is : (r : Request) (t : LineTold) → is_release_of service tei r ≡ (releases service tei (request r) (told t) || (deactivates service tei (request r) && true))
-  released-is r t = grind (arith, or-false, and-true)
-
   none-released : (r : Request) (a : Answer) → is_granted a ≡ false → releases service tei (request r) a ≡ false
   none-released r a none = grind arith
 
@@ -78,4 +75,4 @@ module _ (service : Service) (tei : ℕ) where
   untold r a none quiet = grind (arith, none-released, and-false)
 
   pub lost-so : (what : Event) (a : Answer) → (what ≡ next → notes_of a ≡ []) → lost_in (seen what a) ≡ outgoing.loses service tei what a
-  lost-so what a quiet = grind (arith, heard-loses, expiry-loses, begun-loses, asked-loses, released-is, group, untold)
+  lost-so what a quiet = grind (arith, heard-loses, expiry-loses, begun-loses, asked-loses, or-false, and-true, group, untold)

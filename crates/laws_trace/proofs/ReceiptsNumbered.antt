@@ -2,14 +2,8 @@
 use Rattle.laws_trace.proofs.Vocabulary.{◌≡◌, ℕ, ◌%◌, ◌==◌, ◌&&◌, ◌||◌, Bool, true, false, cond, List, [], ◌∷◌, length, Some, None, refl, sym, ap, ◌∙◌, arith, true≢false, is_some, nat_le, nat_lt, not, leb-true, leb-false, Information, Parts, Seq, seq, ControlFrame, State, Terms, Arrived, eligible, overlong, received, offer, Link, is_multiple_frame, delivery, takes_contents, owed_in, owed_behind, unless_put, pending_left, as_heard, is_anew, state_after, put, event-follows, ltb-true, ltb-false, Control, LinkEvent as Event, frame, link_after as after}
 
 -- Contents that are next are delivered.
-not-less : (n m : ℕ) → (b : Bool) → nat_lt n m ≡ b → nat_le m n ≡ not b
-not-less n m b is = grind (arith, nat_le, ltb-true, leb-true, ltb-false, leb-false)
-
-some-if : {X : Type 0} (b : Bool) (x : X) → is_some (cond b (Some x) None) ≡ b
-some-if b x = grind arith
-
 next-one : (b : Bool) (r : ℕ) (i : Arrived) → is_some (delivery r (cond b (Some i) None)) ≡ (b && (i.ns.value == r % 128))
-next-one b r i = grind (arith, some-if)
+next-one b r i = grind arith
 
 module _ (t : Terms) (l : Link) (up : is_multiple_frame l.state ≡ true) where
   abbrev Taken : Event → Type 0
@@ -17,7 +11,7 @@ module _ (t : Terms) (l : Link) (up : is_multiple_frame l.state ≡ true) where
 
   by-size : (f : Parts) (ns nr : Seq) (p b : Bool) → nat_lt t.n201 (length f.info) ≡ b → Taken (received (frame (record f { control = Information ns nr p })))
   unfolding seq
-  by-size f ns nr p b is = grind (arith, nat_le, not-less, next-one)
+  by-size f ns nr p b is = grind (arith, nat_le, ltb-true, leb-true, ltb-false, leb-false, next-one)
 
   by-control : (f : Parts) (control : Control) → Taken (received (frame (record f { control = control })))
   by-control f control = grind (arith, by-size)

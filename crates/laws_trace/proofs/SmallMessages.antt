@@ -78,16 +78,10 @@ abbrev pub IsOfOctets : teis.Event → Type 0
 IsOfOctets (teis.message octets) = AreOctets octets
 IsOfOctets other = Unit {0}
 
-step-small : (e : teis.Event) (c : Course) → IsOfOctets e → AreSmall c → AreSmall (teis.step e c)
-step-small e c o h = grind (arith, served, expire-small, put-small, take-small, sent, none, end-small)
-
 pub after-small : (e : teis.Event) (m : Management) → IsOfOctets e → All IsSmall m.waiting → All IsSmall (teis.after e m).waiting
 unfolding teis.course
-after-small e m o h = grind (arith, step-small)
+after-small e m o h = grind (arith, served, expire-small, put-small, take-small, sent, none, end-small)
 
 -- So a message is of octets.
 five : (ri type action : ℕ) → ri < 65536 → type < 256 → action ≤ 127 → AreOctets (0x0F ∷ (ri / 256) ∷ (ri % 256) ∷ type ∷ (2 * action + 1) ∷ [])
 five ri type action small few low = grind arith
-
-pub message-octets : (m : Message) → IsSmall m → action_of m ≤ 127 → AreOctets (information_of m)
-message-octets m small low = grind (arith, five, none)

@@ -16,11 +16,8 @@ module _ (c : Config) (l : Line) where
   place-aims : (service : Service) (tei : ℕ) (what : link.Received) (o : Option ℕ) → IsOfOctetsAt (at_place service tei what o)
   place-aims service tei what o = grind arith
 
-  service-aims : (tei : ℕ) (what : link.Received) (o : Option Service) → IsOfOctetsAt (to_service l tei what o)
-  service-aims tei what o = grind (arith, place-aims)
-
   addressed-aims : (address : Address) (what : link.Received) (message : Aim) → IsOfOctetsAt message → IsOfOctetsAt (addressed l address what message)
-  addressed-aims address what message h = grind (arith, service-aims)
+  addressed-aims address what message h = grind (arith, place-aims)
 
   message-aims : (k : Control) (info : List ℕ) → AreOctets info → IsOfOctetsAt (message_of k info)
   message-aims k info h = grind arith
@@ -43,11 +40,8 @@ module _ (c : Config) (l : Line) where
   reading-aims octets h (Err (WrongSize address)) is = addressed-aims address link.wrong_size (drop_for Unserved) tt
   reading-aims octets h other is = tt
 
-  unless-aims : (aim : Aim) → IsOfOctetsAt aim → IsOfOctetsAt (unless_at_link aim)
-  unless-aims aim h = grind arith
-
   long-aims : (r : Result Long ReadFault) → IsOfOctetsAt (aim_of_long l r)
-  long-aims r = grind (arith, addressed-aims, unless-aims)
+  long-aims r = grind (arith, addressed-aims)
 
   heard-aims : (e : stream.Event) → HasOctets e → IsOfOctetsAt (aim_of_heard c l e)
   heard-aims e h = grind (arith, reading-aims, long-aims)
@@ -55,14 +49,8 @@ module _ (c : Config) (l : Line) where
 timer-aims : (l : Line) (timer : Timer) → IsOfOctetsAt (aim_of_expiry timer l)
 timer-aims l timer = grind arith
 
-at-asked : (service : Service) (tei : ℕ) (what : link.Request) (o : Option ℕ) → IsOfOctetsAt (at_requested service tei what o)
-at-asked service tei what o = grind arith
-
-at-down : (service : Service) (tei : ℕ) (o : Option ℕ) → IsOfOctetsAt (at_deactivated service tei o)
-at-down service tei o = grind arith
-
 asked-aims : (l : Line) (r : Request) → IsOfOctetsAt (aim_of_request r l)
-asked-aims l r = grind (arith, at-asked, at-down)
+asked-aims l r = grind arith
 
 request-aims : (l : Line) (r : Request) (o : Option Refusal) → IsOfOctetsAt (unless_refused o (aim_of_request r l))
 request-aims l r o = grind (arith, asked-aims)

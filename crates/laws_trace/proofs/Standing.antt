@@ -41,39 +41,10 @@ module _ (service : Service) (tei : ℕ) where
     abbrev pub standing : Standing → List Seen → Standing
     standing w t = fold (stand c service tei) w t
 
-    heard-stand : (e : stream.Event) (m : ℕ) (busy rejected : Bool) (t : LineTold) →
-        let f = frame_of c e in
-        standing (calm m busy rejected) (heard e ∷ noted t.notes t.contents ∷ lost t.lost ∷ [])
-        ≡ record {
-          told = quiet (counted service tei (record { frame = f; count = m }) t.notes);
-          busy = cond (begins service tei f t.notes) false busy;
-          rejected = cond (begins service tei f t.notes || list_any (is_data_of service tei) t.notes) false (cond (brings_information service tei f && not busy) true rejected);
-        }
-    heard-stand e m busy rejected t = refl
-
-    abbrev ByNotes : Bool → ℕ → Bool → Answer → Standing
-    ByNotes busy m rejected a =
-        record {
-          told = quiet (counted service tei (quiet m) (notes_of a));
-          busy = busy;
-          rejected = cond (list_any (is_data_of service tei) (notes_of a)) false rejected;
-        }
-
-    told-stand : (m : ℕ) (busy rejected : Bool) (a : Answer) → standing (calm m busy rejected) (seen_told a) ≡ ByNotes busy m rejected a
-    told-stand m busy rejected a = grind arith
-
-    asked-stand : (r : Request) (m : ℕ) (busy rejected : Bool) (a : Answer)
-        → standing (calm m busy rejected) (seen_granted r a ++ seen_told a) ≡ ByNotes (granted_busy r a busy) m rejected a
-    asked-stand r m busy rejected a = grind arith
-
-    pub begun-stand : (frames : List (List ℕ)) (m : ℕ) (busy rejected : Bool) → standing (calm m busy rejected) (map begun frames) ≡ calm m busy rejected
-    begun-stand [] m busy rejected = refl
-    begun-stand (f ∷ frames) m busy rejected = begun-stand frames m busy rejected
-
     pub stand-is : (e : Event) (l : Line) (m : ℕ) (busy rejected : Bool)
         → standing (calm m busy rejected) (seen e (answer c e l)) ≡ behind c e l (answer c e l) m busy rejected
     unfolding answer
-    stand-is e l m busy rejected = grind (arith, heard-stand, told-stand, asked-stand, begun-stand)
+    stand-is e l m busy rejected = grind arith
 
   -- What an event of the line is to its link.
   module _ (c : Config) (e : Event) (a : Answer) where
@@ -91,11 +62,8 @@ module _ (service : Service) (tei : ℕ) where
     brings-is link.cleared by = absurd by
     brings-is other by = ap (λ e. brings_information service tei (frame_by c e)) by
 
-    asked-by : (what : link.Request) (full : Bool) (a : Answer) (busy : Bool) → is_granted a ≡ true → granted_busy (of_link service tei what) a busy ≡ flags.busy_asked (link.requested what full) busy
-    asked-by what full a busy g = grind (arith, own-true, never)
-
     asked-is : (le : link.Event) (busy : Bool) → IsBy c e a service tei le → asked_busy e a busy ≡ flags.busy_asked le busy
-    asked-is le busy by = grind (arith, heard-by, asked-by)
+    asked-is le busy by = grind (arith, heard-by, own-true, never)
 
   -- A request for a link that is on the line is an event of this link.
   module _ (c : Config) (l : Line) (place : ℕ) (on : place_in l tei ≡ Some place) where

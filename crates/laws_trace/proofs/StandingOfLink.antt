@@ -31,18 +31,12 @@ module _ (t : Terms) (x flag : Bool) where
   off-ua : (f : Parts) (here : State) (l : Link) → Off (received (frame (record f { control = Ua true }))) (record l { state = here })
   off-ua f here l is h = grind (arith, never)
 
-  off-frame : (f : Parts) (control : Control) (l : Link) → Off (received (frame (record f { control = control }))) l
-  off-frame f control l = grind (arith, in-state, off-sabme, off-ua, never)
-
   pub off-where-begun : (e : Event) (l : Link) → Off e l
-  off-where-begun e l is h = grind (arith, off-frame, or_right, never)
+  off-where-begun e l is h = grind (arith, in-state, off-sabme, off-ua, never, or_right)
 
   -- and so it is in state 5;
-  either-off : (b : Bool) → flag ≡ false → cond b false flag ≡ false
-  either-off b off = grind arith
-
   off-awaiting : (e : Event) (from to : State) (l : Link) → is_awaiting to ≡ true → (is_awaiting from ≡ true → flag ≡ false) → flag_left e (record l { state = from }) to x flag ≡ false
-  off-awaiting e from to l is h = grind (arith, either-off, never)
+  off-awaiting e from to l is h = grind (arith, never)
 
   -- while the link stays up, it is as the event leaves it.
   not-five : (from to : State) → is_multiple_frame to ≡ true → comes_to 5 from to ≡ false
@@ -62,9 +56,6 @@ free : (anew up owed pending x busy : Bool) → (up ≡ true → owed ≡ true �
     → cond anew false (cond up x busy) ≡ false
 free anew up owed pending x busy h k is = grind arith
 
-taken-free : (r : Received) (l : Link) → takes_contents (received r) l ≡ true → l.own_busy ≡ false
-taken-free r l is = grind (arith, never)
-
 module _ (t : Terms) (l : Link) (to : State) (pends : l.pending ≡ true → l.own_busy ≡ false) where
   abbrev Owed : Event → Bool
   Owed e = owed_in to (unless_put (put e l to) (takes_contents e l || l.pending))
@@ -79,7 +70,7 @@ module _ (t : Terms) (l : Link) (to : State) (pends : l.pending ≡ true → l.o
   owed-so e is = unput (put e l to) (takes_contents e l || l.pending) (second (is_multiple_frame to) (unless_put (put e l to) (takes_contents e l || l.pending)) is)
 
   by-either : (r : Received) (b : Bool) → takes_contents (received r) l ≡ b → (b || l.pending) ≡ true → l.own_busy ≡ false
-  by-either r b is any = grind (arith, taken-free)
+  by-either r b is any = grind (arith, never)
 
   off-all : (anew up busy : Bool) → busy ≡ false → cond anew false (cond up busy busy) ≡ false
   off-all anew up busy off = grind arith
@@ -140,9 +131,6 @@ busy_behind anew e busy = cond anew false (busy_asked e busy)
 abbrev pub rejected_behind : Bool → Bool → Event → Bool → Bool → Bool
 rejected_behind anew delivers e busy rejected = cond (anew || delivers) false (cond (brings e && not busy) true rejected)
 
-as-asked : (t : Terms) (e : Event) (busy : Bool) → busy_asked (as_heard t e) busy ≡ busy_asked e busy
-as-asked t e busy = grind arith
-
 -- REJ stands from an I-frame out of sequence on.
 module _ (t : Terms) (l : Link) (up : is_multiple_frame l.state ≡ true) where
   abbrev Same : Event → Type 0
@@ -150,13 +138,10 @@ module _ (t : Terms) (l : Link) (up : is_multiple_frame l.state ≡ true) where
       is_multiple_frame (state_after t (as_heard t e) l) ≡ true
       → rejecting_heard (as_heard t e) l ≡ rejected_behind false (takes_contents (as_heard t e) l) e l.own_busy l.rejecting
 
-  in-information : (busy next rejecting : Bool) → cond busy rejecting (not next) ≡ cond (not busy && next) false (cond (not busy) true rejecting)
-  in-information busy next rejecting = grind arith
-
   by-size : (f : Parts) (ns nr : Seq) (p b : Bool) → let r = cond b overlong (frame (record f { control = Information ns nr p })) in
       is_multiple_frame (state_after t (received r) l) ≡ true
       → rejecting_heard (received r) l ≡ rejected_behind false (takes_contents (received r) l) (received (frame (record f { control = Information ns nr p }))) l.own_busy l.rejecting
-  by-size f ns nr p b stays = grind (arith, never, in-information)
+  by-size f ns nr p b stays = grind (arith, never)
 
   by-control : (f : Parts) (control : Control) → Same (received (frame (record f { control = control })))
   by-control f control = grind (arith, by-size)
@@ -193,7 +178,7 @@ module _ (t : Terms) (e : Event) (l : Link) (busy rejected : Bool) (stands : IsS
   up-is up = ap is_multiple_frame (sym state-is) ∙ up
 
   busy-behind : is_multiple_frame next.state ≡ true → (b : Bool) → restarts t e l ≡ b → next.own_busy ≡ busy_behind b e busy
-  busy-behind up b is = grind (arith, own-is, off-where-begun, begin-is, up-before, as-left, up-is, as-asked)
+  busy-behind up b is = grind (arith, own-is, off-where-begun, begin-is, up-before, as-left, up-is)
 
   rejected-behind : is_multiple_frame next.state ≡ true → (b : Bool) → restarts t e l ≡ b → next.rejecting ≡ rejected_behind b delivers e busy rejected
   rejected-behind up true is = rejecting-is ∙ off-where-begun t (rejecting_heard heard l) l.rejecting heard l (sym begin-is ∙ is) stands.not_rejecting
@@ -222,17 +207,11 @@ module _ (t : Terms) (l : Link) (busy : Bool) where
   abbrev Free : Event → Type 0
   Free e = (is_multiple_frame l.state ≡ true) × (l.own_busy ≡ false) × (busy_asked e busy ≡ busy)
 
-  not-true : (b : Bool) → not b ≡ true → b ≡ false
-  not-true b is = grind (arith, never)
-
   fits : (b : Bool) (j i : Arrived) → is_eligible t l j ≡ b → cond b (Some j) None ≡ Some i → (is_multiple_frame l.state ≡ true) × (l.own_busy ≡ false)
-  fits b j i is e = grind (arith, none-some, and_parts, nat_le, not-true)
-
-  eligible-free : (o : Option Arrived) (i : Arrived) → eligible_of t l o ≡ Some i → (is_multiple_frame l.state ≡ true) × (l.own_busy ≡ false)
-  eligible-free o i e = grind (arith, none-some)
+  fits b j i is e = grind (arith, none-some, and_parts, nat_le, never)
 
   by-event : (e : Event) (i : Arrived) → eligible t e l ≡ Some i → Free e
-  by-event e i is = grind (arith, eligible-free, none-some)
+  by-event e i is = grind (arith, none-some)
 
   pub delivers-free : (e : Event) (contents : List ℕ) → (links.told t e l).delivered ≡ Some contents → Free e
   delivers-free e contents is = let x = delivered-at_once t e l contents is in by-event e x.0 x.1

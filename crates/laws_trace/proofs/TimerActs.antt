@@ -84,14 +84,7 @@ pub either-bit : (b : Bool) (f g : Step) (F : Timing → Timing) → Acts f F �
 either-bit b f g F h k = grind arith
 
 -- by a choice that depends on it
-pub by-choice : (test : Link → Bool) (t : Timing → Bool) → ((c : Course) → test c.link ≡ t (timing c)) → (f g : Step) (F G : Timing → Timing) → Acts f F → Acts g G
-    → Acts (depending_on test f g) (λ x. cond (t x) (F x) (G x))
-by-choice test t same f g F G h k = grind arith
-
 module _ (t : Terms) where
-  pub failed-acts : (e : ErrorCode) → Acts (failed t e) fails
-  failed-acts e = record { acts = λ c. refl }
-
   pub by-number : (nr : Seq) (step : ℕ → Step) (F : ℕ → Timing → Timing) → ((n : ℕ) → Acts (step n) (F n))
       → Acts (by_number t nr step) (λ x. by_name (named x.a x.s nr) fails F x)
   by-number nr step F h = grind arith
@@ -99,14 +92,10 @@ module _ (t : Terms) where
   pub answers : (b : Bool) → Acts (by_bit b (answer t) nothing) itself
   answers b = either-bit b (answer t) nothing itself (record { acts = λ c. refl }) (record { acts = λ c. refl })
 
-  -- what comes of contents
-  pub contents-acts : (ns : Seq) (p : Bool) (octets : List ℕ) → Acts (contents_in_7_8 t ns p octets) itself
-  contents-acts ns p octets = grind (arith, whichever, answers, both, either-bit)
-
   -- an I-frame, and a supervisory frame
   pub information-acts : (ns nr : Seq) (p : Bool) (octets : List ℕ) (effect : ℕ → Step) (F : ℕ → Timing → Timing) → ((n : ℕ) → Acts (effect n) (F n))
       → Acts (information_in_7_8 t ns nr p octets effect) (informs (nat_lt t.n201 (length octets)) nr F)
-  information-acts ns nr p octets effect F h = grind (arith, by-bit, failed-acts, both, contents-acts, by-number)
+  information-acts ns nr p octets effect F h = grind (arith, by-bit, both, whichever, answers, either-bit, by-number)
 
   pub supervisory-acts : (own : Particulars) (busy command pf : Bool) (nr : Seq) (effect : Bool → ℕ → Step) (F : ℕ → Timing → Timing)
       → ((b : Bool) → Acts (own.told_of b) itself) → ((n : ℕ) → Acts (effect (is_final command pf) n) (F n))
@@ -115,10 +104,10 @@ module _ (t : Terms) where
 
   -- What a valid N(R) does.
   pub acknowledged-acts : (n : ℕ) → Acts (seven.acknowledged_in_7 n) (acknowledged n)
-  acknowledged-acts n = grind (arith, by-choice)
+  acknowledged-acts n = grind arith
 
   pub informed-acts : (n : ℕ) → Acts (seven.acknowledged_by_information_in_7 n) (informed n)
-  informed-acts n = grind (arith, by-choice, acknowledged-acts)
+  informed-acts n = grind (arith, acknowledged-acts)
 
   pub recovers-acts : (timer : LinkTimer) (final : Bool) (n : ℕ) → Acts (eight.acknowledged_in_8 timer final n) (recovers timer final n)
   recovers-acts timer final n = grind arith

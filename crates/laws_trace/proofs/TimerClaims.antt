@@ -42,9 +42,6 @@ pub record Good (k : Known) (ran : LinkTimer → Bool) (x y : Timing) (o : Optio
 not-both : {X : Type 0} (b : Bool) → b ≡ false → b ≡ true → X
 not-both b none some = absurd (true≢false (sym some ∙ none))
 
-not-t203 : {X : Type 0} → runs T203 (Some T200) ≡ true → X
-not-t203 e = cc e
-
 not-t200 : {X : Type 0} → runs T200 (Some T203) ≡ true → X
 not-t200 e = cc e
 
@@ -63,17 +60,13 @@ module _ (k : Known) (ran : LinkTimer → Bool) (a s : ℕ) (busy : Bool) (r : O
   released-7 = record { agrees = refl; anew = go; kept = tt }
     where
       go : (timer : LinkTimer) → ran timer ≡ true → runs timer (Some T200) ≡ true → runs timer (Some T200) ≡ anew_by timer Established AwaitingRelease k None
-      go timer was now = grind (arith, not-t203)
+      go timer was now = grind arith
 
   pub released-8 : Good k ran (at TimerRecovery) (record (awaits AwaitingRelease (at TimerRecovery)) { s = a }) None
   released-8 = record { agrees = refl; anew = go; kept = tt }
     where
       go : (timer : LinkTimer) → ran timer ≡ true → runs timer (Some T200) ≡ true → runs timer (Some T200) ≡ anew_by timer TimerRecovery AwaitingRelease k None
-      go timer was now = grind (arith, not-t203)
-
-  -- T200 or T203 expires in state 7.
-  pub expired-7 : IsKnown k a s busy → Good k ran (at Established) (awaits TimerRecovery (at Established)) None
-  expired-7 known = grind (arith, not-t203)
+      go timer was now = grind arith
 
   -- The link is down: no timer ran.
   module _ (none : (timer : LinkTimer) → ran timer ≡ false) where
@@ -88,16 +81,6 @@ module _ (k : Known) (ran : LinkTimer → Bool) (a s : ℕ) (busy : Bool) (r : O
 
     pub asked-4 : Good k ran (at TeiAssigned) (fails (at TeiAssigned)) None
     asked-4 = record { agrees = refl; anew = λ timer was now. never timer was; kept = (refl, refl) }
-
-    -- T200 has expired, and awaits the answer to another command
-    pub again-5 : Good k ran (at AwaitingEstablishment) (awaits AwaitingEstablishment (at AwaitingEstablishment)) None
-    again-5 = record { agrees = refl; anew = λ timer was now. never timer was; kept = (refl, refl) }
-
-    pub again-6 : Good k ran (at AwaitingRelease) (awaits AwaitingRelease (at AwaitingRelease)) None
-    again-6 = record { agrees = refl; anew = λ timer was now. never timer was; kept = tt }
-
-    pub again-8 : IsKnown k a s busy → Good k ran (at TimerRecovery) (awaits TimerRecovery (at TimerRecovery)) None
-    again-8 known = record { agrees = known; anew = λ timer was now. never timer was; kept = tt }
 
   -- T200 runs, and it awaits an answer to SABME or DISC.
   module _ (only : ran T203 ≡ false) where
@@ -126,21 +109,18 @@ module _ (k : Known) (ran : LinkTimer → Bool) (a s : ℕ) (busy : Bool) (r : O
       pub sabme-8 : (p : Bool) → Good k ran (at TimerRecovery) (with_busy false (begins (at TimerRecovery))) (Some (Sabme p))
       sabme-8 p = grind (arith, by-t200, with_busy, begins, not-t200)
 
-      named-value : (nr : Seq) (n : ℕ) → named a s nr ≡ Some n → nr.value ≡ n % 128
-      named-value nr n is = seq-value nr n (named-is_seq a s n nr is)
-
       pub informed-8 : (over : Bool) (ns nr : Seq) (p : Bool) → Good k ran (at TimerRecovery) (informs over nr acknowledges (at TimerRecovery)) (Some (Information ns nr p))
       informed-8 true ns nr p = failed-8 busy (Some (Information ns nr p))
       informed-8 false ns nr p = go (named a s nr) refl
         where
           go : (o : Option ℕ) → named a s nr ≡ o → Good k ran (at TimerRecovery) (by_name o fails acknowledges (at TimerRecovery)) (Some (Information ns nr p))
-          go o is = grind (arith, failed-8, named-value)
+          go o is = grind (arith, failed-8, seq-value, named-is_seq)
 
       -- RR, RNR and REJ: a response with F=1 ends the recovery
       pub supervised-8 : (b : Bool) (timer : LinkTimer) (o : Option Control) (nr : Seq) → option_map_or (listens false false k) o k ≡ number_heard nr.value false b k
           → option_map_or (listens true true k) o k ≡ number_heard nr.value true b k → (final : Bool)
           → Good k ran (at TimerRecovery) (supervises b nr (recovers timer final) (at TimerRecovery)) o
-      supervised-8 b timer o nr stays leads final = grind (arith, by_name, fails, recovers, with_busy, failed-8, named-value, by-t200)
+      supervised-8 b timer o nr stays leads final = grind (arith, by_name, fails, recovers, with_busy, failed-8, seq-value, named-is_seq, by-t200)
 
   -- State 7: T200 runs where an acknowledgement is awaited, or the terminal is busy, else T203.
   module _ (ordered : a ≤ s) (within : s ≤ a + 127) (known : IsKnown k a s busy) (idle : ran T203 ≡ true → (s ≡ a) × (busy ≡ false)) where
@@ -149,7 +129,7 @@ module _ (k : Known) (ran : LinkTimer → Bool) (a s : ℕ) (busy : Bool) (r : O
     same-7 o same none = record { agrees = subst (λ k. IsKnown k a s busy) (sym same) known; anew = λ timer was now. sym (none timer); kept = tt }
 
     failing : (b : Bool) (o : Option Control) (timer : LinkTimer) → runs timer (Some T200) ≡ true → runs timer (Some T200) ≡ anew_by timer Established AwaitingEstablishment k o
-    failing b o timer now = grind (arith, not-t203)
+    failing b o timer now = grind arith
 
     pub failed-7 : (b : Bool) (o : Option Control) → Good k ran (at Established) (fails (with_busy b (at Established))) o
     failed-7 b o = record { agrees = refl; anew = λ timer was now. failing b o timer now; kept = (refl, refl) }
@@ -160,7 +140,7 @@ module _ (k : Known) (ran : LinkTimer → Bool) (a s : ℕ) (busy : Bool) (r : O
 
     by-t200-7 : (o : Option Control) (timer : LinkTimer) → option_map_or (renews T200 k) o false ≡ true → runs timer (Some T200) ≡ true
         → runs timer (Some T200) ≡ anew_by timer Established Established k o
-    by-t200-7 o timer renewed now = grind (arith, not-t203)
+    by-t200-7 o timer renewed now = grind arith
 
     pub sabme-7 : (p : Bool) → Good k ran (at Established) (with_busy false (begins (at Established))) (Some (Sabme p))
     sabme-7 p = grind (arith, by-t203)

@@ -2,7 +2,7 @@
 use Rattle.laws_trace.proofs.Vocabulary.{◌≡◌, ℕ, ◌≤◌, ◌+◌, ◌==◌, ◌||◌, not, Bool, true, false, cond, List, Option, Some, None, refl, sym, ap, ◌∙◌, subst, arith, true≢false, nat_lt, if◌then◌else◌, Sabme, Disc, Refusal, HasItsTimer, IsCalmIn, needed_in, State, TeiAssigned, AwaitingEstablishment, AwaitingRelease, Established, TimerRecovery, Terms, LinkTimer, received, expired, requested, offer, cleared, undefined, wrong_size, overlong, Link, is_own_busy, course, ◌then◌, runs, is_timer, eqb-true, Control, T200, T203, LinkEvent as Event, frame, LinkIsSound as IsSound, Course, Step, begun, nothing, G, H, I, L, N, O, LinkClearBusy as ClearBusy, LinkData as Data, LinkEstablish as Establish, LinkRelease as Release, LinkRequest as Request, LinkSetBusy as SetBusy, expired_step, clear_busy_in_7_8, data_in_7_8, failed, set_busy_in_7_8, refusal_of_contents, request_step, command, discard, enquire, enter, error, no_timer, release_confirm, release_indication, repeated, link_send as send, start}
 use Rattle.laws_trace.proofs.TimersWatched.{Known}
 use Rattle.laws_trace.proofs.TimerActs.{timing, Acts, itself, whichever}
-use Rattle.laws_trace.proofs.TimerClaims.{IsKnown, Agrees, Good, again-5, again-6, again-8, asked-4, ended, expired-7, failed-8, released-7, released-8, same-4, same-5, same-6, same-7, same-8, stopped}
+use Rattle.laws_trace.proofs.TimerClaims.{IsKnown, Agrees, Good, asked-4, ended, failed-8, released-7, released-8, same-4, same-5, same-6, same-7, same-8, stopped}
 use Rattle.laws_trace.proofs.TimerRows.{in_state}
 use Rattle.laws_trace.proofs.TimerRows as rows
 
@@ -29,12 +29,8 @@ module _ (t : Terms) (k : Known) (l : Link) where
   refused : (ran : LinkTimer → Bool) (here : State) → Facts ran here → Row ran here (λ c. c) None
   refused ran here facts = rows.unchanged t k ran l here facts (λ c. c) (record { acts = λ c. refl })
 
-  data-acts : (octets : List ℕ) (o : Option Refusal) (c : Course)
-      → timing (elim o as (λ o. Course) [ None ↦ data_in_7_8 octets c | Some _ ↦ c ]) ≡ timing c
-  data-acts octets o c = grind arith
-
   content : (ran : LinkTimer → Bool) (octets : List ℕ) (full : Bool) (here : State) → Facts ran here → Row ran here (request_step t (Data octets) full) None
-  content ran octets full here facts = grind (arith, Good, timing, in_state, data-acts, refused)
+  content ran octets full here facts = grind (arith, Good, timing, in_state, refused)
 
   sets-busy : Acts (set_busy_in_7_8 t) itself
   sets-busy = whichever is_own_busy nothing _ itself (record { acts = λ c. refl }) (record { acts = λ c. refl })
@@ -67,27 +63,24 @@ module _ (t : Terms) (k : Known) (l : Link) where
   none-runs : (timer other : LinkTimer) → ran_before (expired timer) None other ≡ false
   none-runs timer other = grind arith
 
-  t200-gone : (other : LinkTimer) → ran_before (expired T200) (Some T200) other ≡ false
-  t200-gone other = grind arith
-
   expires-4 : (timer : LinkTimer) → Expires timer TeiAssigned None
   expires-4 timer = grind (arith, same-4, none-runs)
 
   -- T200 in states 5 and 6
   expires-5 : (timer : LinkTimer) → Expires timer AwaitingEstablishment (Some T200)
-  expires-5 timer = grind (arith, same-5, Good, timing, again-5, t200-gone, ended)
+  expires-5 timer = grind (arith, same-5, Good, timing, ended)
 
   expires-6 : (timer : LinkTimer) → Expires timer AwaitingRelease (Some T200)
-  expires-6 timer = grind (arith, same-6, Good, timing, again-6, t200-gone, stopped)
+  expires-6 timer = grind (arith, same-6, Good, timing, stopped)
 
   -- and in state 8
   expires-8 : IsKnown k l.a l.s l.peer_busy → (timer : LinkTimer) → Expires timer TimerRecovery (Some T200)
-  expires-8 known timer = grind (arith, same-8, Good, timing, again-8, t200-gone, failed-8)
+  expires-8 known timer = grind (arith, same-8, Good, timing, failed-8)
 
   -- either in state 7
   expires-7 : IsKnown k l.a l.s l.peer_busy → l.a ≤ l.s → l.s ≤ l.a + 127 → (timer running : LinkTimer) → (running ≡ T203 → (l.s ≡ l.a) × (l.peer_busy ≡ false))
       → Expires timer Established (Some running)
-  expires-7 known ordered within timer running idle = grind (arith, expired-7, same-7)
+  expires-7 known ordered within timer running idle = grind (arith, same-7)
 
 -- A link that runs the timer that it needs.
 module _ (t : Terms) (k : Known) (l : Link) (s : IsSound t l) (small : t.k ≤ 127) (timed : HasItsTimer l) (agrees : Agrees l.state k l.a l.s l.peer_busy) where

@@ -19,12 +19,6 @@ pub record Offered (k : Known) (l : Link) (y : Timing) (o : Option Sent) : Type 
 abbrev pub given_sent : Given → Option Sent
 given_sent g = sent_by g.frame.control (unwrap_or g.contents [])
 
-same-kept : (here : State) (x : Timing) → Kept here x x
-same-kept here x = grind arith
-
-up-kept : (here : State) → is_established here ≡ true → (x y : Timing) → Kept here x y
-up-kept here up x y = grind arith
-
 pub same-known : (here : State) (k : Known) (a s : ℕ) (busy : Bool) → Agrees here k a s busy → Agrees here (sent_known here k None) a s busy
 same-known here k a s busy h = grind arith
 
@@ -41,7 +35,7 @@ module _ (t : Terms) (k : Known) (l : Link) (s : IsSound t l) (agrees : Agrees l
 
   -- nothing but what goes changes
   stays : (c : Course) → timing c ≡ timing (begun l) → option_map_or given_sent (given_of t l c c.sent) None ≡ None → Claim c
-  stays c same none = grind (arith, timing, same-known, same-kept)
+  stays c same none = grind (arith, timing, same-known)
 
   by-waiting : (ws : List ControlFrame) → All (IsWaitingFrame t) ws → Claim (offer_among t ws (begun l))
   unfolding seq
@@ -63,11 +57,11 @@ module _ (t : Terms) (k : Known) (l : Link) (s : IsSound t l) (agrees : Agrees l
       newly timer off was now = grind arith
 
       by-timer : is_established l.state ≡ true → (b : Bool) → runs T200 l.running ≡ b → Claim (cond b sent (start T200 sent))
-      by-timer up b on = grind (arith, went, up-kept, timing, sent, newly)
+      by-timer up b on = grind (arith, went, timing, sent)
 
       by-send : (b : Bool) → may_send_information t l ≡ b
           → Claim (cond b (send_information (begun l)) (cond l.pending (send_acknowledgement (begun l)) (begun l)))
-      by-send b may = grind (arith, by-timer, first-of, by-pending)
+      by-send b may = grind (arith, by-timer, first-of, stays)
 
   pub offer-good : Offered k l (timing (course t offer l)) (option_map_or given_sent (given t l) None)
   offer-good = by-waiting l.waiting s.frames

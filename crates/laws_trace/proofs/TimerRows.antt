@@ -48,7 +48,7 @@ module _ (t : Terms) (k : Known) (ran : LinkTimer → Bool) (l : Link) where
 
   in-5 : Facts AwaitingEstablishment → (b : Bool) (octets : List ℕ) (control : Control)
       → Row AwaitingEstablishment (frame_in AwaitingEstablishment t b octets control) (Some control)
-  in-5 facts b octets control = grind (arith, moved, begins, agreed-acts, claims.agreed-5, claims.ended, itself, unit-acts)
+  in-5 facts b octets control = grind (arith, moved, begins, claims.agreed-5, claims.ended, itself, unit-acts)
 
   -- State 6.
   same-6 : ran T203 ≡ false → (o : Option Control) → Good k ran (at AwaitingRelease) (at AwaitingRelease) o

@@ -27,8 +27,5 @@ by-bit bit few sapi = omega (arith, few)
 by-first : (side : Side) (sapi : ℕ) (command : Bool) → (4 * sapi + 2 * cr_bit side command) / 4 ≡ sapi
 by-first side sapi command = by-bit (cr_bit side command) (bit-few side command) sapi
 
-by-second : (tei : ℕ) → (2 * tei + 1) / 2 ≡ tei
-by-second tei = omega arith
-
 pub name-is : (side : Side) (a : Address) (c : Control) (info : List ℕ) → named_in (spelling side (record { address = a; control = c; info = info })) ≡ record { sapi = a.sapi; tei = a.tei }
-name-is side a c info = grind (arith, by-first, by-second)
+name-is side a c info = grind (arith, by-first)

@@ -63,10 +63,6 @@ in_trace number (m ∷ ms) = flat_map-append request_seen (seen_in number m) (tr
 none_asked : (a : line.Answer) → requests_seen (seen_told a) ≡ []
 none_asked a = grind arith
 
-none_called : (given : List (List ℕ)) → requests_seen (map begun given) ≡ []
-none_called [] = refl
-none_called (octets ∷ given) = none_called given
-
 -- a request is answered by what it is told, or refused
 by_grant : (r : Request) (full : Bool) (o : Option _) (outcome : _) → let a = cond full (line.refused PoolFull) (unless_refused_told o outcome) in
     requests_seen (seen_granted r a ++ seen_told a) ≡ if_granted r (answer_of a)
@@ -83,7 +79,7 @@ at_line b t rs h = grind (arith, append-nil)
 by_meaning : (number n n201 : ℕ) (m : OctetCard) (what : port.Event) (p : Port) → let o = option_map (frames.at n) (port.meant n201 what p) in
     flat_map (seen_at number) (option_to_list (option_map (frame_moment m) o))
     ≡ cond (n == number) (request_granted what (port.answer what (option_map (answer_to m.card) o) p)) []
-by_meaning number n n201 m what p = grind (arith, option_map, asked_at, at_line, none_asked, by_request, none_called)
+by_meaning number n n201 m what p = grind (arith, option_map, asked_at, at_line, none_asked, by_request)
 
 abbrev here : OctetCard → Event → Moment
 here m e = record { card = m; event = e; answer = answer e m }
@@ -114,21 +110,8 @@ abbrev pub HearsIn : Seen → Type 0
 HearsIn (heard e) = HasOctets e
 HearsIn other = Unit {0}
 
-same_word : (e : stream.Event) → comes.HasOctets e → HasOctets e
-same_word e h = grind arith
-
-told_hears : (a : line.Answer) → All HearsIn (seen_told a)
-told_hears a = grind arith
-
-granted_hears : (r : Request) (a : line.Answer) → All HearsIn (seen_granted r a)
-granted_hears r a = grind arith
-
-begun_hears : (given : List (List ℕ)) → All HearsIn (map begun given)
-begun_hears [] = All-nil HearsIn
-begun_hears (octets ∷ given) = All-cons HearsIn (begun octets) (map begun given) tt (begun_hears given)
-
 event_hears : (b : Bool) (what : line.Event) (a : line.Answer) → HearsOctets what → All HearsIn (cond b (seen what a) [])
-event_hears b what a h = grind (arith, same_word, told_hears, granted_hears, begun_hears)
+event_hears b what a h = grind arith
 
 abbrev pub HearsAt : frames.Event → Type 0
 HearsAt f = HearsOctets f.what

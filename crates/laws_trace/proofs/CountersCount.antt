@@ -5,8 +5,24 @@ use Rattle.model_line.specs.Machine as lines
 use Rattle.laws_trace.specs.CountersCount.{names, is_drop, CountersCount}
 
 -- No other counter stands among those of drops.
+kind-low : (k : Kind) → kind_place k < 12
+kind-low k = grind arith
+
+cause-low : (cause : Cause) → cause_place cause < 8
+cause-low cause = grind arith
+
 outside : (counter : Counter) → is_drop counter ≡ false → (place counter < 29) ⊎ (36 < place counter)
-outside counter other = grind arith
+outside (Frames Heard kind) other = let low = kind-low kind in inl (omega (arith, low))
+outside (Frames Begun kind) other = let low = kind-low kind in inl (omega (arith, low))
+outside (Octets Heard) other = inl (omega arith)
+outside (Octets Begun) other = inl (omega arith)
+outside (Polls Heard) other = inl (omega arith)
+outside (Polls Begun) other = inl (omega arith)
+outside Overlong other = inl (omega arith)
+outside (Dropped cause) other = absurd (true≢false other)
+outside (Messages Heard message) other = inr (omega arith)
+outside (Messages Begun message) other = inr (omega arith)
+outside any other = inr (omega arith)
 
 -- A call for the next frame is answered with a frame or none, and any other event with what is told.
 abbrev Tells : Answer → Type 0
@@ -20,14 +36,22 @@ Answers line_event.next (gave frame) = Unit {0}
 Answers other a = Tells a
 
 refused-answers : (e : line_event.Event) (why : Refusal) → Answers e (refused why)
-refused-answers e why = grind arith
+refused-answers (line_event.hears what) why = tt
+refused-answers other why = tt
 
 line-answers : (c : Config) (e : line_event.Event) (l : Line) → Answers e (lines.answer c e l)
 unfolding lines.answer
-line-answers c e l = grind arith
+line-answers c (line_event.request r) l = go (refusal c false r l)
+  where
+    go : (o : Option Refusal) → Tells (lines.unless_refused_told o (lines.of_request c r l))
+    go None = tt
+    go (Some why) = tt
+line-answers c other l = tt
 
 card-answers : (e : Event) (card : Card) → Answers e.what (answer e card)
-card-answers e card = grind (arith, by_room, refused-answers, line-answers)
+card-answers e card =
+    by_room (λ ls a. Answers e.what a) e card (λ full. refused-answers e.what PoolFull)
+    (λ served. line-answers card.config e.what (line_at e.line card))
 
 module _ (counter : Counter) (other : is_drop counter ≡ false) where
   abbrev amount : List More → ℕ
@@ -37,10 +61,12 @@ module _ (counter : Counter) (other : is_drop counter ≡ false) where
   both xs ys = sum_by-append (amount_of counter) xs ys
 
   apart : (at : ℕ) → 29 + at ≡ place counter → at < 8 → (place counter < 29) ⊎ (36 < place counter) → ⊥
-  apart at same low o = grind arith
+  apart at same low (inl less) = omega (arith, same, low, less)
+  apart at same low (inr more) = omega (arith, same, low, more)
 
   none-of : (cause : Cause) (b : Bool) → (29 + cause_place cause == place counter) ≡ b → cond {A = ℕ} b 1 0 ≡ 0
-  none-of cause b is = grind (arith, apart, eqb-true, outside)
+  none-of cause false is = refl
+  none-of cause true is = absurd (apart (cause_place cause) (eqb-true (29 + cause_place cause) (place counter) is) (cause-low cause) (outside counter other))
 
   none-dropped : (o : Option Cause) → amount (drop_shown o) ≡ 0
   none-dropped None = refl
@@ -51,10 +77,20 @@ module _ (counter : Counter) (other : is_drop counter ≡ false) where
     Same all t = amount all ≡ amount (flat_map (names side) t)
 
     of-told : (a : Answer) → Tells a → Same (answer_shown side a) (seen_told a)
-    of-told a tells = grind (arith, none-dropped, both, append-nil)
+    of-told (told t) tells =
+        let notes = map note_shown t.notes in
+        let none = none-dropped t.cause in
+        let dropped : amount notes + amount (drop_shown t.cause) ≡ amount notes = omega (arith, none) in
+        both (notes ++ drop_shown t.cause) (lost_shown t.lost)
+        ∙ ap (λ n. n + amount (lost_shown t.lost)) (both notes (drop_shown t.cause) ∙ dropped)
+        ∙ sym (both notes (lost_shown t.lost ++ []) ∙ ap (λ xs. amount notes + amount xs) (append-nil (lost_shown t.lost)))
+    of-told (refused why) tells = refl
+    of-told (gave frame) tells = absurd tells
 
     joined : (xs ys : List More) (t u : List Seen) → Same xs t → Same ys u → Same (xs ++ ys) (t ++ u)
-    joined xs ys t u one two = grind (arith, both, flat_map-append)
+    joined xs ys t u one two =
+        both xs ys ∙ ap (λ n. n + amount ys) one ∙ ap (λ n. amount (flat_map (names side) t) + n) two
+        ∙ sym (ap amount (flat_map-append (names side) t u) ∙ both (flat_map (names side) t) (flat_map (names side) u))
 
     alone : (all : List More) (x : Seen) → names side x ≡ all → Same all (x ∷ [])
     alone all x is = ap amount (sym is ∙ sym (append-nil (names side x)))
@@ -72,7 +108,8 @@ module _ (counter : Counter) (other : is_drop counter ≡ false) where
   of-event c line_event.next (gave (Some f)) answers = alone c.side (answer_shown c.side (gave (Some f))) (begun f.octets) refl
 
   at-line : (c : Config) (e : line_event.Event) (a : Answer) (b : Bool) → Answers e a → Same c.side (cond b (shown c e a) []) (cond b (seen e a) [])
-  at-line c e a b answers = grind (arith, of-event)
+  at-line c e a true answers = of-event c e a answers
+  at-line c e a false answers = refl
 
   run-counts : (number : ℕ) (card : Card) (events : List Event) → Same card.config.side (all_shown number (moments card events)) (trace number (moments card events))
   unfolding moments

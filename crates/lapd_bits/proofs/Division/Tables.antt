@@ -15,7 +15,8 @@ left_is = refl
 
 -- the bits of what is left are the remainder
 low_bits-left_with : (n octet : ℕ) → low_bits 16 (left_with n octet) ≡ remainder (low_bits 8 octet ++ replicate n false)
-low_bits-left_with n octet = grind (arith, low_bits-number_of_n, length-remainder)
+low_bits-left_with n octet =
+    low_bits-number_of_n 16 (remainder (low_bits 8 octet ++ replicate n false)) (length-remainder (low_bits 8 octet ++ replicate n false))
 
 pub left_at : (octet zeros : ℕ) → octet < 256 → zeros < 8 → low_bits 16 (get_or LEFT (zeros * 256 + octet) 0) ≡ remainder (low_bits 8 octet ++ replicate (8 * zeros + 16) false)
 left_at octet zeros small few =

@@ -5,12 +5,7 @@ use Rattle.model_link.specs.Machine as links
 
 -- What a link tells that is cleared.
 all-told : (t : Terms) (x : Link) → told_of_link (links.told t link.cleared x) ≡ record nothing { notes = told_cleared x.state t; orders = stopped t x.running }
-all-told t x = by-state x.state x.running
-  where
-    by-state : (here : State) (running : Option LinkTimer)
-        → told_of_link (links.told_of t (record x { running = running }) ((links.told_of_clearing here t then begin_anew) (begun x)))
-        ≡ record nothing { notes = told_cleared here t; orders = stopped t running }
-    by-state here running = grind arith
+all-told t x = grind arith
 
 -- It is granted wherever its TEI is on the line.
 granted : (c : Config) (l : Line) (service : Service) (tei place : ℕ) → IsSound c l → place_in l tei ≡ Some place → refusal c false (Deactivate service tei) l ≡ None

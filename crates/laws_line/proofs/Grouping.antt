@@ -33,10 +33,7 @@ for-nobody c l a service what m s sapi group =
 
 -- and a UI of a service is unit data
 group-is : (c : Config) (parts : Parts) (service : Service) (t : LineTold) → IsToGroup c parts service → told_at c c.side parts t ≡ group_told service parts.info
-group-is c parts service t to =
-    ap (λ side. told_at c side parts t) to.side ∙ ap (λ o. told_of_group c parts o t) to.sapi
-    ∙ ap (λ n. cond (n == group_tei) (told_of_ui c service parts.control parts.info t) t) to.group ∙ ap (λ k. told_of_ui c service k parts.info t) to.control
-    ∙ ap (λ b. cond b (group_told service parts.info) t) (le-leb (length parts.info) c.n201 to.size)
+group-is c parts service t to = grind (arith, le-leb)
 
 pub group-read : (c : Config) (l : Line) (parts : Parts) (octets : List ℕ) (service : Service) → IsSound c l → reading (heard_side c) octets ≡ Ok parts
     → IsToGroup c parts service → OnlyTells (group_told service parts.info) l (after c (hears (stream.frame octets)) l) (answer c (hears (stream.frame octets)) l)
@@ -53,13 +50,10 @@ group-unit c l parts octets service s spelled to = group-read c l parts octets s
 -- What is for TEI management is not served.
 module _ (c : Config) (parts : Parts) (to : IsToManagement c parts) where
   no-unit : at_none (told_at c c.side parts (dropped Unserved)) ≡ drop_for Unserved
-  no-unit =
-      ap (λ side. at_none (told_at c side parts (dropped Unserved))) to.side
-      ∙ ap (λ n. at_none (told_of_group c parts (service_of n) (dropped Unserved))) to.sapi
+  no-unit = grind arith
 
   by-control : (k : Control) → at_side c parts (message_of k parts.info) ≡ drop_for Unserved
-  by-control (Control.Ui p) = ap (λ side. Rattle.model_line.specs.Sides.managed_at side (teis.message parts.info)) to.side
-  by-control other = no-unit
+  by-control k = grind (arith, no-unit)
 
 pub managed-read : (c : Config) (l : Line) (parts : Parts) (octets : List ℕ) → reading (heard_side c) octets ≡ Ok parts
     → IsToManagement c parts → OnlyTells (dropped Unserved) l (after c (hears (stream.frame octets)) l) (answer c (hears (stream.frame octets)) l)

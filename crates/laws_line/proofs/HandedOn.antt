@@ -30,9 +30,7 @@ due-is c l service tei place parts octets ranged s f =
 
 -- Notes of data, and of unit data, are the link's own.
 own-data : (t : Terms) (n : Note) → IsOwn t n → (is_data_of t.service t.tei n ≡ is_data n) × (is_unit_of t.service t.tei n ≡ is_unit n)
-own-data t (Note.Data s n) own = (its-own t s n own, refl)
-own-data t (Note.Unit s n) own = (refl, its-own t s n own)
-own-data t other own = (refl, refl)
+own-data t n own = grind (arith, its-own)
 
 pub own-all : (t : Terms) (ns : List Note) → All (IsOwn t) ns
     → (list_any (is_data_of t.service t.tei) ns ≡ list_any is_data ns) × (list_any (is_unit_of t.service t.tei) ns ≡ list_any is_unit ns)
@@ -88,8 +86,7 @@ module _ (c : Config) (ranged : IsInRange c) (l : Line) (s : IsSound c l) where
     where
       by-case : ((contents_heard e ≡ Some contents) × (list_any (is_data_of service tei) (links.told (terms c service tei) e (link_in l service place)).notes ≡ true))
           ⊎ ((unit_heard e ≡ Some contents) × (list_any (is_unit_of service tei) (links.told (terms c service tei) e (link_in l service place)).notes ≡ true)) → ⊥
-      by-case (inl x) = none-some contents (sym no-contents ∙ x.0)
-      by-case (inr x) = none-some contents (sym no-unit ∙ x.0)
+      by-case o = grind (arith, none-some)
 
   abbrev Silent : Aim → Type 0
   Silent aim = (contents : List ℕ) → HandsOn contents aim → ⊥
@@ -101,10 +98,7 @@ module _ (c : Config) (ranged : IsInRange c) (l : Line) (s : IsSound c l) where
   drops why = dropped (drop_for why) refl
 
   managed : (e : teis.Event) → Silent (at_management e)
-  managed e = dropped (at_management e) (go (teis.told e l.management).change)
-    where
-      go : (o : Option Change) → (of_change c o (told_of_management (teis.told e l.management)) (record l { management = teis.after e l.management })).told.contents ≡ None
-      go o = grind arith
+  managed e = grind (arith, dropped)
 
   placed : (service : Service) (tei : ℕ) (what : link.Received) → contents_heard (link.received what) ≡ None → unit_heard (link.received what) ≡ None
       → (o : Option ℕ) → place_in l tei ≡ o → Silent (at_place service tei what o)
@@ -126,8 +120,7 @@ module _ (c : Config) (ranged : IsInRange c) (l : Line) (s : IsSound c l) where
       go false group = sent-to address.tei what no-contents no-unit (service_of address.sapi)
 
   unless-silent : (aim : Aim) → Silent aim → Silent (unless_at_link aim)
-  unless-silent (at_link service tei place event) x = drops Unserved
-  unless-silent other x = x
+  unless-silent aim x = grind (arith, drops)
 
   too-long : (r : Result Long ReadFault) → Silent (aim_of_long l r)
   too-long (Ok (Long.Information address)) = not-read address link.overlong (drop_for Unserved) (drops Unserved) refl refl
@@ -139,8 +132,7 @@ module _ (c : Config) (ranged : IsInRange c) (l : Line) (s : IsSound c l) where
   too-long (Err Short) = drops Unserved
 
   message-silent : (k : Control) (info : List ℕ) → Silent (message_of k info)
-  message-silent (Control.Ui p) info = managed (teis.message info)
-  message-silent other info = drops Unserved
+  message-silent k info = grind (arith, managed, drops)
 
   -- no contents by what is not heard
   timer-silent : (service : Service) (tei : ℕ) (timer : LinkTimer) (o : Option ℕ) → place_in l tei ≡ o → Silent (at_timer service tei timer o)
@@ -157,8 +149,7 @@ module _ (c : Config) (ranged : IsInRange c) (l : Line) (s : IsSound c l) where
   asked-silent service tei what (Some place) e = none-by-link service tei place (link.requested what false) e refl refl
 
   deactivated-silent : (service : Service) (tei : ℕ) (o : Option ℕ) → place_in l tei ≡ o → Silent (at_deactivated service tei o)
-  deactivated-silent service tei None e = dropped (at_none nothing) refl
-  deactivated-silent service tei (Some place) e = none-by-link service tei place link.cleared e refl refl
+  deactivated-silent service tei o e = grind (arith, dropped, none-by-link)
 
   pub request-silent : (r : Request) → Silent (aim_of_request r l)
   request-silent (Establish service tei) = asked-silent service tei link.Establish (place_in l tei) refl
@@ -208,14 +199,7 @@ module _ (c : Config) (ranged : IsInRange c) (l : Line) (s : IsSound c l) where
       (go (parts.address.sapi == management_sapi) (parts.address.tei == group_tei))
     where
       to-group : (service : Service) → IsToGroup c parts service → Hears octets (at_none (group_told service parts.info))
-      to-group service to contents h = inr (record {
-        parts = parts;
-        read = read;
-        service = service;
-        whose = to;
-        contents_are = ap (λ o. unwrap_or o parts.info) h;
-        told = unit-noted service;
-      })
+      to-group service to contents h = grind (arith, unit-noted)
 
       at-its-place : (service : Service) → service_of parts.address.sapi ≡ Some service → (o : Option ℕ) → place_in l parts.address.tei ≡ o
           → Hears octets (at_place service parts.address.tei (link.frame parts) o)
@@ -231,13 +215,10 @@ module _ (c : Config) (ranged : IsInRange c) (l : Line) (s : IsSound c l) where
       })
 
       of-service : (o : Option Service) → service_of parts.address.sapi ≡ o → Hears octets (to_service l parts.address.tei (link.frame parts) o)
-      of-service None e = silently octets (drop_for Sapi) (drops Sapi)
-      of-service (Some service) e = at-its-place service e (place_in l parts.address.tei) refl
+      of-service o e = grind (arith, silently, drops, at-its-place)
 
       go : (known group : Bool) → Hears octets (cond known (cond group (message_of parts.control parts.info) (drop_for Tei)) (to_service l parts.address.tei (link.frame parts) (service_of parts.address.sapi)))
-      go true true = silently octets (message_of parts.control parts.info) (message-silent parts.control parts.info)
-      go true false = silently octets (drop_for Tei) (drops Tei)
-      go false group = of-service (service_of parts.address.sapi) refl
+      go known group = grind (arith, silently, message-silent, drops, of-service)
   by-reading octets (Err BadExtension) read = silently octets (drop_for Extension) (drops Extension)
   by-reading octets (Err (Undefined address)) read = silently octets (addressed l address link.undefined (drop_for Unserved)) (not-read address link.undefined (drop_for Unserved) (drops Unserved) refl refl)
   by-reading octets (Err (WrongSize address)) read = silently octets (addressed l address link.wrong_size (drop_for Unserved)) (not-read address link.wrong_size (drop_for Unserved) (drops Unserved) refl refl)

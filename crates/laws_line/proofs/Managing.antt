@@ -9,7 +9,4 @@ pub by-three : (a b d : Bool) (x y z : Refusal) → a ≡ false → b ≡ false 
 by-three a b d x y z e e' e'' = rw (e, e', e'') refl
 
 pub managed : (c : Config) (l : Line) (e : teis.Event) → (of_aim c (at_management e) l).line.management ≡ teis.after e l.management
-managed c l e = by-change (teis.told e l.management).change
-  where
-    by-change : (o : Option Change) → (of_change c o (told_of_management (teis.told e l.management)) (record l { management = teis.after e l.management })).line.management ≡ teis.after e l.management
-    by-change o = grind arith
+managed c l e = grind arith

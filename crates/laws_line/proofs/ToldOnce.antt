@@ -24,11 +24,7 @@ both (n ∷ ns) =
 
 -- A link's.
 either-one : (d u : Option (List ℕ)) → (d ≡ None) ⊎ (u ≡ None) → length (option_to_list d) + length (option_to_list u) ≡ length (option_to_list (option_or d u))
-either-one None None one = refl
-either-one None (Some x) one = refl
-either-one (Some x) None one = refl
-either-one (Some x) (Some y) (inl none) = absurd (cc)
-either-one (Some x) (Some y) (inr none) = absurd (cc)
+either-one d u one = grind arith
 
 link-once : (t : Terms) (l : Link) → link_sound.IsSound t l → (e : link.Event)
     → count_by tells_contents (links.told t e l).notes ≡ length (option_to_list (option_or (links.told t e l).delivered (links.told t e l).unit))
@@ -39,31 +35,18 @@ link-once t l s e =
 
 -- A link whose TEI leaves the line tells of no contents.
 cleared-none : (t : Terms) (l : Link) → count_by tells_contents (links.told t link.cleared l).notes ≡ 0
-cleared-none t l = go l.state
-  where
-    go : (here : State) → count_by tells_contents (links.told_of_clearing here t (begun l)).notes ≡ 0
-    go here = grind arith
+cleared-none t l = grind arith
 
 -- TEI management's: none is of contents.
 is-none : (ns : List Note) (known : List Note) → ns ≡ known → count_by tells_contents known ≡ 0 → count_by tells_contents ns ≡ 0
 is-none ns known e none = ap (count_by tells_contents) e ∙ none
 
 management-none : (e : teis.Event) (o : Option Change) (ns : List Note) → ByChange e o ns → count_by tells_contents ns ≡ 0
-management-none e None ns by = is-none ns [] by refl
-management-none (teis.message octets) (Some (Gained tei place)) ns by = is-none ns (Note.Assigned tei ∷ []) by refl
-management-none (teis.assign asked) (Some (Gained tei place)) ns by = is-none ns [] by.1 refl
-management-none other (Some (Gained tei place)) ns by = absurd by
-management-none (teis.message octets) (Some (Left tei place)) ns by = is-none ns (Note.Doubled tei ∷ []) by refl
-management-none teis.expiry (Some (Left tei place)) ns by = is-none ns (Note.Removed tei ∷ []) by refl
-management-none (teis.remove asked) (Some (Left tei place)) ns by = is-none ns [] by.1 refl
-management-none other (Some (Left tei place)) ns by = absurd by
+management-none e o ns by = grind (arith, is-none)
 
 three-none : (a b c : List Note) → count_by tells_contents a ≡ 0 → count_by tells_contents b ≡ 0 → count_by tells_contents c ≡ 0
     → count_by tells_contents (a ++ b ++ c) ≡ 0
-three-none a b c one two three =
-    let first = sum_by-append (λ n. cond (tells_contents n) 1 0) (a ++ b) c in
-    let second = sum_by-append (λ n. cond (tells_contents n) 1 0) a b in
-    omega (arith, first, second, one, two, three)
+three-none a b c one two three = grind (arith, sum_by-append)
 
 -- What an event aims at.
 module _ (c : Config) (ranged : IsInRange c) (l : Line) (s : IsSound c l) where
@@ -80,14 +63,7 @@ module _ (c : Config) (ranged : IsInRange c) (l : Line) (s : IsSound c l) where
   changed-once : (e : teis.Event) (o : Option Change) → ByChange e o (teis.told e l.management).notes
       → let t = (of_change c o (told_of_management (teis.told e l.management)) (record l { management = teis.after e l.management })).told in
       count_by tells_contents t.notes ≡ length (option_to_list t.contents)
-  changed-once e (Some (Left tei place)) by =
-      let now = record l { management = teis.after e l.management } in
-      let call = of_link c Call tei place link.cleared now in
-      let packet = of_link c Packet tei place link.cleared call.line in
-      three-none (teis.told e l.management).notes call.told.notes packet.told.notes
-      (management-none e (Some (Left tei place)) (teis.told e l.management).notes by)
-      (cleared-none (terms c Call tei) (link_in now Call place)) (cleared-none (terms c Packet tei) (link_in call.line Packet place))
-  changed-once e other by = management-none e other (teis.told e l.management).notes by
+  changed-once e o by = grind (arith, three-none, management-none, cleared-none)
 
   managed : (e : teis.Event) → Once (at_management e)
   managed e = changed-once e (teis.told e l.management).change (noted e l.management s.management)
@@ -102,17 +78,14 @@ module _ (c : Config) (ranged : IsInRange c) (l : Line) (s : IsSound c l) where
   timer-once service tei timer (Some place) on = at-its-link service tei place (link.expired timer) on
 
   expiry-once : (timer : Timer) → Once (aim_of_expiry timer l)
-  expiry-once (T200 service tei) = timer-once service tei LinkTimer.T200 (place_in l tei) refl
-  expiry-once (T203 service tei) = timer-once service tei LinkTimer.T203 (place_in l tei) refl
-  expiry-once T201 = managed teis.expiry
+  expiry-once timer = grind (arith, timer-once, managed)
 
   asked-once : (service : Service) (tei : ℕ) (what : link.Request) (o : Option ℕ) → place_in l tei ≡ o → Once (at_requested service tei what o)
   asked-once service tei what None on = refl
   asked-once service tei what (Some place) on = at-its-link service tei place (link.requested what false) on
 
   deactivated-once : (service : Service) (tei : ℕ) (o : Option ℕ) → place_in l tei ≡ o → Once (at_deactivated service tei o)
-  deactivated-once service tei None on = refl
-  deactivated-once service tei (Some place) on = at-its-link service tei place link.cleared on
+  deactivated-once service tei o on = grind (arith, at-its-link)
 
   request-once : (r : Request) → Once (aim_of_request r l)
   request-once (Establish service tei) = asked-once service tei link.Establish (place_in l tei) refl

@@ -27,28 +27,13 @@ module _ (c : Config) (l : Line) (e : line_event.Event) (takes : lines.takes_slo
   no-down is = true≢false (sym takes ∙ ap (λ e. lines.takes_slot c e l) is)
 
   no-link : (service : Service) (tei : ℕ) (event : link.Event) → IsOf c e (refused PoolFull) service tei event → ⊥
-  no-link service tei (link.received (link.frame parts)) by = no-heard (stream.frame by.octets) by.by
-  no-link service tei (link.expired timer) by = no-expiry _ by
-  no-link service tei (link.requested asked full) by = true≢false (sym by.1)
-  no-link service tei link.offer by = no-take by
-  no-link service tei link.cleared by = true≢false (sym by.1)
-  no-link service tei other by = ⊎_elim (λ x. no-heard _ x.0) (λ x. no-heard _ x.0) by.by
+  no-link service tei event by = grind (arith, no-heard, no-expiry, no-take)
 
   no-management : (event : teis.Event) → IsOfManagement c e (refused PoolFull) event → ⊥
-  no-management (teis.message info) by = no-heard (stream.frame by.heard.octets) by.heard.by
-  no-management teis.expiry by = no-expiry _ by
-  no-management teis.down by = by
-  no-management other by = true≢false (sym by.1)
+  no-management event by = grind (arith, no-heard, no-expiry)
 
   pub no-event : IsOneEvent c e l l (refused PoolFull)
-  no-event = record {
-    link = λ service tei place event other on by. absurd (no-link service tei event by);
-    management = λ event by. absurd (no-management event by);
-    units = λ unit granted. absurd (true≢false (sym granted.granted));
-    down = λ is. absurd (no-down is);
-    takes = λ is. absurd (no-take is);
-    none = inr (refl, tt);
-  }
+  no-event = grind (arith, no-link, no-management, no-down, no-take)
 
 module _ (card : Card) (e : Event) (s : IsSound card) (here : IsAtLine card e) where
   abbrev l : Line

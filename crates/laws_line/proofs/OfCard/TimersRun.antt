@@ -18,8 +18,7 @@ module _ (card : Card) (e : Event) (s : IsSound card) (timely : AllHaveTheirTime
 
   left-by : (what : line_event.Event) → lines.takes_slot card.config what (line_at e.line card) ≡ true → (timer : Timer) (b : Bool) → left_by what timer b ≡ b
   unfolding lines.takes_slot
-  left-by (line_event.expiry other) takes timer b = absurd (true≢false (sym takes))
-  left-by other takes timer b = refl
+  left-by what takes timer b = grind arith
 
   -- at the event's line
   own-line : (timer : Timer) → runs_then timer (is_needed timer (line_at e.line card)) e.what (answer e card) ≡ is_needed timer (line_at e.line (after e card))
@@ -74,6 +73,4 @@ pub needs-none : (c : Config) (line : ℕ) (timer : Timer) → line < c.lines �
 needs-none c line timer within = ap (is_needed timer) (get_or-replicate c.lines line (fresh_line c) (fresh_line c) within) ∙ begins-with-none c timer
 
 pub begins-timely-card : (c : Config) → AllHaveTheirTimers (fresh c)
-begins-timely-card c = record {
-  lines = λ line within. subst (λ (l : Line). HaveTheirTimers l) (sym (get_or-replicate c.lines line (fresh_line c) (fresh_line c) within)) (begins-timely c);
-}
+begins-timely-card c = grind (arith, get_or-replicate, begins-timely)

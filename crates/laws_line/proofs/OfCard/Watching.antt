@@ -14,8 +14,7 @@ module _ {X : Type 0} (seen : Line → X) (watch : X → line_event.Event → An
   module _ (card : Card) (e : Event) (s : IsSound card) (here : IsAtLine card e) where
     full-rests : (what : line_event.Event) → lines.takes_slot card.config what (line_at e.line card) ≡ true → (x : X) → watch x what (refused PoolFull) ≡ x
     unfolding lines.takes_slot
-    full-rests (line_event.request r) takes x = rests x r
-    full-rests other takes x = absurd (true≢false (sym takes))
+    full-rests what takes x = grind arith
 
     own-line : watch (seen (line_at e.line card)) e.what (answer e card) ≡ seen (line_at e.line (after e card))
     own-line =
@@ -27,9 +26,7 @@ module _ {X : Type 0} (seen : Line → X) (watch : X → line_event.Event → An
 
     moment-seen : (number : ℕ) (b : Bool) → (e.line == number) ≡ b
         → cond b (watch (seen (line_at number card)) e.what (answer e card)) (seen (line_at number card)) ≡ seen (line_at number (after e card))
-    moment-seen number true is =
-        subst (λ n. watch (seen (line_at n card)) e.what (answer e card) ≡ seen (line_at n (after e card))) (eqb-true e.line number is) own-line
-    moment-seen number false other = ap seen (sym (at-another card number e (λ same. true≢false (sym (eq-eqb e.line number (sym same)) ∙ other))))
+    moment-seen number b is = grind (arith, eqb-true, own-line, at-another, eq-eqb)
 
   pub run-seen : (card : Card) (events : List Event) → IsSound card → AreAtLines card events → (number : ℕ)
       → fold (one_more number) (seen (line_at number card)) (moments card events) ≡ seen (line_at number (after_all card events))

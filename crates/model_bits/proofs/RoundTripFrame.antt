@@ -24,7 +24,7 @@ bits-check_octets octets =
 abbrev pub checked : List ℕ → List ℕ
 checked octets = octets ++ check_octets octets
 
-bits-checked : (octets : List ℕ) → bits (checked octets) ≡ bits octets ++ check (bits octets)
+pub bits-checked : (octets : List ℕ) → bits (checked octets) ≡ bits octets ++ check (bits octets)
 bits-checked octets = bits-append octets (check_octets octets) ∙ ap (λ l. bits octets ++ l) (bits-check_octets octets)
 
 two_octets : (x : ℕ) → x < 65536 → AreOctets (x % 256 ∷ x / 256 ∷ [])
@@ -32,7 +32,7 @@ two_octets x h =
     All-cons (λ y. y < 256) (x % 256) (x / 256 ∷ []) (omega arith)
     (All-cons (λ y. y < 256) (x / 256) [] (omega arith) (All-nil (λ y. y < 256)))
 
-AreOctets-checked : (octets : List ℕ) → AreOctets octets → AreOctets (checked octets)
+pub AreOctets-checked : (octets : List ℕ) → AreOctets octets → AreOctets (checked octets)
 AreOctets-checked octets h =
     let c = check (bits octets) in
     let below = number_of-lt c in
@@ -76,7 +76,7 @@ judged_with n201 octets x y h good =
     last_chosen (is_short whole) (is_good (bits whole)) (nat_lt (room_for n201) (length whole)) (dropped Short) (dropped Fcs) (overlong (take 4 whole)) (stream.frame (take (length whole - 2) whole)) (not_short_with n201 octets x y h) good fits
     ∙ ap (λ l. stream.frame l) (take_at octets (x ∷ y ∷ []) (length whole - 2) cut)
 
-gap_event_sent : (room : ℕ) (text : List Bool) (octets : List ℕ) → octets_sent text ≡ Some octets → gap_event room text ≡ judged room octets
+pub gap_event_sent : (room : ℕ) (text : List Bool) (octets : List ℕ) → octets_sent text ≡ Some octets → gap_event room text ≡ judged room octets
 gap_event_sent room text octets e = ap (λ o. elim o [ None ↦ dropped Ragged | Some l ↦ judged room l ]) e
 
 -- what its text is heard as between flags
@@ -94,7 +94,7 @@ stuffed_some [] h = absurd (omega arith)
 stuffed_some (false ∷ b) h = subst (λ t. 0 < length t) (sym (stuffed-counted (false ∷ b))) (omega arith)
 stuffed_some (true ∷ b) h = subst (λ t. 0 < length t) (sym (stuffed-counted (true ∷ b))) (omega arith)
 
-some_text : (octets : List ℕ) → 0 < length (frame_text octets)
+pub some_text : (octets : List ℕ) → 0 < length (frame_text octets)
 some_text octets =
     let c = check (bits octets) in
     stuffed_some (bits octets ++ c) (omega (arith, length-append (bits octets) c, length-check (bits octets)))

@@ -10,7 +10,7 @@ octets_are : (numbers : List ℕ) → AreOctets (as_octets numbers)
 octets_are [] = All-nil (λ octet. octet < 256)
 octets_are (x ∷ xs) = All-cons (λ octet. octet < 256) (x % 256) (as_octets xs) (omega arith) (octets_are xs)
 
-as_many : (numbers : List ℕ) → length (as_octets numbers) ≡ length numbers
+pub as_many : (numbers : List ℕ) → length (as_octets numbers) ≡ length numbers
 as_many [] = refl
 as_many (x ∷ xs) = let rest = as_many xs in omega (arith, rest)
 
@@ -19,7 +19,7 @@ same_bits [] = refl
 same_bits (x ∷ xs) = ap (λ b. b ++ bits (as_octets xs)) (low_bits-mod 8 x) ∙ ap (λ b. low_bits 8 x ++ b) (same_bits xs)
 
 -- octets go out as they are
-exact : (numbers : List ℕ) → AreOctets numbers → as_octets numbers ≡ numbers
+pub exact : (numbers : List ℕ) → AreOctets numbers → as_octets numbers ≡ numbers
 exact [] h = refl
 exact (x ∷ xs) h =
     let small : x < 256 = All-head (λ octet. octet < 256) x xs h in

@@ -1,19 +1,8 @@
 -- What the octets between two flags are judged to be, where they end in their check.
 use Rattle.model_card.proofs.OfPorts.Vocabulary.{◌≡◌, ℕ, ◌+◌, ◌-◌, ◌/◌, ◌%◌, ◌^◌, ◌<◌, ◌≤◌, Bool, true, false, not, ◌&&◌, List, [], ◌∷◌, ◌++◌, length, take, None, Some, cond, nat_eq, nat_lt, slice_index, refl, ap, sym, ◌∙◌, subst, arith, ⊎_elim, length-append, take_at, le-ltb, lt-ltb, ltb-true, ne_eqb, or_from, and_left, cases_lt, All-nil, All-cons, All-append, bits, number_of, stuffed, octets_sent, AreOctets, check, is_good, is_short, judged, gap_event, room_for, frame_text, bits-append, bits-two_octets, low_bits-number_of_n, number_of-lt, octets_sent-stuffed, length-check, is_good-check, check_octets, is_too_short, came, checked}
+use Rattle.model_bits.proofs.RoundTripFrame.{AreOctets-checked, bits-checked, gap_event_sent}
 use Rattle.model_bits.specs.Stream.{Event, frame, overlong, dropped}
 use Rattle.model_bits.specs.declared.heard.Cause.TheVariants.{Fcs, Ragged, Short}
-
-bits-checked : (octets : List ℕ) → bits (checked octets) ≡ bits octets ++ check (bits octets)
-bits-checked octets = grind (arith, bits-append, check_octets, bits-two_octets, low_bits-number_of_n, length-check)
-
-two_octets : (x : ℕ) → x < 65536 → AreOctets (x % 256 ∷ x / 256 ∷ [])
-two_octets x h = grind arith
-
-AreOctets-checked : (octets : List ℕ) → AreOctets octets → AreOctets (checked octets)
-AreOctets-checked octets h =
-    let c = check (bits octets) in
-    let small : number_of c < 65536 = subst (λ n. number_of c < 2 ^ n) (length-check (bits octets)) (number_of-lt c) in
-    All-append (λ x. x < 256) octets (check_octets octets) h (two_octets (number_of c) small)
 
 -- four octets are not too short
 four_are_enough : (a b c d : ℕ) (more : List ℕ) → is_too_short (a ∷ b ∷ c ∷ d ∷ more) ≡ false
@@ -54,9 +43,6 @@ judged_with n201 octets x y good =
     (short_with octets x y) good (long_with n201 (length whole) (length octets) size)
     (λ long. ap overlong (four_with octets x y (omega (arith, ltb-true (n201 + 4) (length octets) long))))
     (ap (λ l. frame l) (take_at octets (x ∷ y ∷ []) (length whole - 2) cut))
-
-gap_event_sent : (room : ℕ) (text : List Bool) (octets : List ℕ) → octets_sent text ≡ Some octets → gap_event room text ≡ judged room octets
-gap_event_sent room text octets e = ap (λ o. elim o [ None ↦ dropped Ragged | Some l ↦ judged room l ]) e
 
 -- what a frame's text is heard as between flags
 pub gap_event_came : (n201 : ℕ) (octets : List ℕ) → AreOctets octets → gap_event (room_for n201) (frame_text octets) ≡ came n201 octets

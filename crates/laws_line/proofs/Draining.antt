@@ -91,4 +91,8 @@ ends c ranged (suc n) l s few = go (taken c l) refl (ends c ranged n (after c ne
   where
     go : (o : Option Taken) → taken c l ≡ o → (may_send c (after c next l) ≤ n → taken c (after_takes c n (after c next l)) ≡ None)
         → taken c (after_takes c n (after c next l)) ≡ None
-    go o e more = grind (arith, same-after, all-stay, taken-given, next_falls)
+    go None e more = ap (λ x. taken c (after_takes c n x)) (same-after c l e) ∙ ap (taken c) (all-stay c n l e) ∙ e
+    go (Some t) e more =
+        let given = taken-given c l t e in
+        let falls = (next_falls c ranged l s).0 in
+        more (omega (arith, few, given, falls))

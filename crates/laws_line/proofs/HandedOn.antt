@@ -215,10 +215,13 @@ module _ (c : Config) (ranged : IsInRange c) (l : Line) (s : IsSound c l) where
       })
 
       of-service : (o : Option Service) → service_of parts.address.sapi ≡ o → Hears octets (to_service l parts.address.tei (link.frame parts) o)
-      of-service o e = grind (arith, silently, drops, at-its-place)
+      of-service None e = silently octets (drop_for Sapi) (drops Sapi)
+      of-service (Some service) e = at-its-place service e (place_in l parts.address.tei) refl
 
       go : (known group : Bool) → Hears octets (cond known (cond group (message_of parts.control parts.info) (drop_for Tei)) (to_service l parts.address.tei (link.frame parts) (service_of parts.address.sapi)))
-      go known group = grind (arith, silently, message-silent, drops, of-service)
+      go true true = silently octets (message_of parts.control parts.info) (message-silent parts.control parts.info)
+      go true false = silently octets (drop_for Tei) (drops Tei)
+      go false group = of-service (service_of parts.address.sapi) refl
   by-reading octets (Err BadExtension) read = silently octets (drop_for Extension) (drops Extension)
   by-reading octets (Err (Undefined address)) read = silently octets (addressed l address link.undefined (drop_for Unserved)) (not-read address link.undefined (drop_for Unserved) (drops Unserved) refl refl)
   by-reading octets (Err (WrongSize address)) read = silently octets (addressed l address link.wrong_size (drop_for Unserved)) (not-read address link.wrong_size (drop_for Unserved) (drops Unserved) refl refl)

@@ -148,7 +148,10 @@ module _ (c : Config) (l : Line) (s : IsSound c l) where
           (sym (given-orders (terms c (service_at x.number) x.tei) (link_at x.number l) x.what x.given)) (steers-event (terms c (service_at x.number) x.tei) link.offer (link_at x.number l))
 
       steered : (timer : Timer) → obeyed timer (is_running timer l) x.what.orders ≡ is_running timer (with_link x.number (links.after (terms c (service_at x.number) x.tei) link.offer (link_at x.number l)) l)
-      steered timer = grind (arith, number-is, one-steered, as_it_was, Steers, steers)
+      steered timer =
+          subst (λ n. obeyed timer (is_running timer l) x.what.orders ≡ is_running timer (with_link n (links.after (terms c (service_at x.number) x.tei) link.offer (link_at x.number l)) l)) (number-is x.number)
+          (one-steered c l s (service_at x.number) x.tei (place_at x.number) x.on_line as_it_was x.what.orders (links.after (terms c (service_at x.number) x.tei) link.offer (link_at x.number l))
+          (subst (λ y. Steers (terms c (service_at x.number) x.tei) as_it_was x.what.orders y (links.after (terms c (service_at x.number) x.tei) link.offer (link_at x.number l))) (ap (λ n. link_at n l) (sym (number-is x.number))) steers) timer)
 
   pub next-followed : Follow as_it_was l (orders_in (gave (option_map next_of (taken c l)))) (option_map_or line_of (taken c l) l)
   next-followed = next_walk c l (IsOne c l) (λ o m. Follow as_it_was l (orders_in (gave (option_map next_of o))) m) (taken-one c l s) (λ timer. refl) took

@@ -54,7 +54,11 @@ module _ (number link tei : ℕ) (f : ControlFrame) where
           )
 
       go : (b : Bool) → (e.line == number) ≡ b → (b && is_take e.what) ≡ false → (b && deactivates (service_at link) tei e.what) ≡ false → Farther card before (line_at number card) (line_at number (after e card))
-      go b is other stays = grind (arith, by-own, own-line, few-lines, eqb-true, unmoved, at-another, eqb-false)
+      go true is other stays =
+          by-own other stays (own-line card e (lines.after card.config e.what (line_at e.line card)) (wants_room e card) (few-lines number card s few) (eqb-true e.line number is)) (eqb-true e.line number is)
+      go false is other stays =
+          unmoved card before behind (line_at number card) (line_at number (after e card))
+          (at-another card number e (λ same. eqb-false e.line number is (sym same))) waits
 
   abbrev Less : Card → List Event → List ControlFrame → Type 0
   Less card events before =

@@ -1,20 +1,9 @@
 -- As octets a frame that the grammar has is one that it has, with the same address and control field.
 use Rattle.laws_trace.proofs.Vocabulary.{◌≡◌, ℕ, ◌%◌, ◌<◌, Bool, true, false, cond, List, [], ◌∷◌, ◌++◌, length, map, refl, sym, ap, ◌∙◌, subst, arith, IsTrue, All, filter, map-append, All-head, All-tail, AreOctets, Address, Side, Parts, Spells, row, spelling, takes, reading-again, Config, head, as_octets, Control, head_of, IsSpelled, is_unit}
+use Rattle.model_card.proofs.OfPorts.AsOctets.{as_many, exact}
 use Rattle.laws_trace.proofs.Reading.{carries_unit}
 
--- octets are as they were
-exact : (numbers : List ℕ) → AreOctets numbers → as_octets numbers ≡ numbers
-exact [] h = refl
-exact (x ∷ xs) h =
-    let small : x < 256 = All-head (λ octet. octet < 256) x xs h in
-    let same : x % 256 ≡ x = omega (arith, small) in
-    ap (λ n. n ∷ as_octets xs) same ∙ ap (λ ns. x ∷ ns) (exact xs (All-tail (λ octet. octet < 256) x xs h))
-
-as_many : (numbers : List ℕ) → length (as_octets numbers) ≡ length numbers
-as_many [] = refl
-as_many (x ∷ xs) = let rest = as_many xs in omega (arith, rest)
-
--- so a head is
+-- A head is as it was.
 sent : (side : Side) (a : Address) (c : Control) (info : List ℕ) → a.sapi < 64 → a.tei < 128
     → as_octets (spelling side (record { address = a; control = c; info = info })) ≡ spelling side (record { address = a; control = c; info = as_octets info })
 sent side a c info sapi tei =

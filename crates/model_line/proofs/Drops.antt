@@ -11,8 +11,7 @@ use Rattle.model_line.proofs.ProperAims.{heard_aims}
 
 -- a link or TEI management names a cause exactly where it does not serve
 unserved_is : (b : Bool) (cause : Cause) → unserved_cause b ≡ Some cause → (b ≡ true) × (Unserved ≡ cause)
-unserved_is true cause e = (refl, ap (λ o. unwrap_or o Unserved) e)
-unserved_is false cause e = absurd (none-some cause e)
+unserved_is b cause e = grind (arith, none-some)
 
 -- What is left where a cause is named: the cause is all that is told, and the line is as it was.
 abbrev Leaves : Line → Effect → Type 0
@@ -40,14 +39,7 @@ cause_stays : (c : Config) (change : Option Change) (t : LineTold) (l : Line) �
 cause_stays c change t l = grind arith
 
 management_leaves : (c : Config) (event : teis.Event) (l : Line) → Leaves l (of_management c event l)
-management_leaves c event l cause h =
-    let t = teis.told event l.management in
-    let next : Line = record l { management = teis.after event l.management } in
-    let known = unserved_is t.unserved cause (sym (cause_stays c t.change (told_of_management t) next) ∙ h) in
-    let still = tei_lemmas.unserved_changes_nothing event l.management known.0 in
-    let out : of_change c t.change (told_of_management t) next ≡ record { line = l; told = dropped Unserved } =
-    ap (λ x. of_change c x.change (told_of_management x) next) still.1 ∙ ap (λ m. record { line = record l { management = m }; told = dropped Unserved }) still.0 in
-    (ap (λ o. o.told) out ∙ ap dropped known.1, ap (λ o. o.line) out)
+management_leaves c event l cause h = grind (arith, unserved_is, cause_stays, tei_lemmas.unserved_changes_nothing)
 
 -- what is heard whose answer names a cause
 pub heard_leaves : (c : Config) (e : stream.Event) (l : Line) (cause : Cause) → cause_in (lines.answer c (hears e) l) ≡ Some cause
@@ -66,12 +58,9 @@ heard_leaves c e l cause h =
 
 -- a cause that is named
 pub named_cause : (o : Option Cause) → IsSome o → (cause : Cause) × (o ≡ Some cause)
-named_cause None h = absurd (false≢true h)
-named_cause (Some cause) h = (cause, refl)
+named_cause o h = grind arith
 
 -- and what may be sent stays
 pub drop_costs_nothing : (c : Config) (e : stream.Event) (l : Line) → IsSome (cause_in (lines.answer c (hears e) l))
     → may_send c (lines.after c (hears e) l) ≡ may_send c l
-drop_costs_nothing c e l h =
-    let some = named_cause (cause_in (lines.answer c (hears e) l)) h in
-    ap (may_send c) (heard_leaves c e l some.0 some.1).1
+drop_costs_nothing c e l h = grind (arith, named_cause, heard_leaves)

@@ -16,19 +16,14 @@ others (row ∷ more) none = go (is_pool row.why) row.holds refl none (others mo
   where
     go : (pool holds : Bool) → is_pool row.why ≡ pool → ((pool && holds) || list_any pools more) ≡ false
         → (list_any pools more ≡ false → IsOther (first_that_holds more)) → IsOther (cond holds (Some row.why) (first_that_holds more))
-    go true true is e rest = cc
-    go true false is e rest = rest e
-    go false true is e rest = is
-    go false false is e rest = rest e
+    go pool holds is e rest = grind arith
 
 refused_otherwise : (c : Config) (r : Request) (l : Line) → list_any pools (rows c false r l) ≡ false
 refused_otherwise c r l = grind arith
 
 not_pool : (o : Option Refusal) (outcome : Effect) → IsOther o → is_pool_full (unless_refused_told o outcome) ≡ false
-not_pool None outcome h = refl
-not_pool (Some why) outcome h = h
+not_pool o outcome h = grind arith
 
 pub line_not_pool : (c : Config) (e : Event) (l : Line) → is_pool_full (answer c e l) ≡ false
 unfolding answer
-line_not_pool c (request r) l = not_pool (refusal c false r l) (of_request c r l) (others (rows c false r l) (refused_otherwise c r l))
-line_not_pool c other l = refl
+line_not_pool c e l = grind (arith, not_pool, others, refused_otherwise)

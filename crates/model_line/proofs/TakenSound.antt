@@ -22,10 +22,7 @@ message_length side m = grind arith
 
 module _ (c : Config) (ranged : IsInRange c) (l : Line) (s : IsSound c l) where
   message_sound : (m : Message) (ms : List Message) → l.management.waiting ≡ m ∷ ms → TakesSoundly c l (with_message l (frame_of c.side m))
-  message_sound m ms e = record {
-    line = with_links c l s (teis.after_offer l.management) l.links l.turn (sound-after_offer l.management s.management) s.places s.count s.turn s.links;
-    size = omega (arith, message_length c.side m, (ranges_of c ranged).n201.least);
-  }
+  message_sound m ms e = grind (arith, with_links, sound-after_offer, message_length, ranges_of)
 
   unit_sound : (u : UnitData) (us : List UnitData) → l.units ≡ u ∷ us → TakesSoundly c l (with_unit c l u)
   unit_sound u us e = record {

@@ -41,8 +41,7 @@ plus_last_two p q r = plus-assoc p q r ∙ ap (λ l. plus p l) (plus-comm q r) �
 
 -- the inner two of four change places
 pub plus-swap : (p q r s : List Bool) → plus (plus p q) (plus r s) ≡ plus (plus p r) (plus q s)
-plus-swap p q r s =
-    sym (plus-assoc (plus p q) r s) ∙ ap (λ l. plus l s) (plus_last_two p q r) ∙ plus-assoc (plus p r) q s
+plus-swap p q r s = grind (arith, plus-assoc, plus_last_two)
 
 -- a sum is as long as its parts
 pub length-plus : (p q : List Bool) → length p ≡ length q → length (plus p q) ≡ length p
@@ -76,8 +75,7 @@ plus_self (a ∷ p) = rw (differ_self a, plus_self p) refl
 
 -- what is added twice falls out
 pub plus_twice : (p q : List Bool) → length p ≡ length q → plus (plus p q) q ≡ p
-plus_twice p q same =
-    plus-assoc p q q ∙ ap (λ l. plus p l) (plus_self q ∙ ap (λ n. replicate n false) (sym same)) ∙ plus-zeros p
+plus_twice p q same = grind (arith, plus-assoc, plus_self, plus-zeros)
 
 -- a sum and one of its parts determine the other
 pub plus-injective :

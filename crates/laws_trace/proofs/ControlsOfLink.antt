@@ -119,12 +119,8 @@ module _ (t : Terms) (l : Link) (m : ℕ) (busy rejected : Bool) (n : ℕ) (busy
   answers-are (requested Establish full) other h = sym (either-none (is_multiple_frame l.state)) ∙ by-request Establish full [] h (by-none l.own_busy l.rejecting l.r)
   answers-are (requested Release full) other h = sym (either-none (is_multiple_frame l.state)) ∙ by-request Release full [] h (by-none l.own_busy l.rejecting l.r)
   answers-are (requested (Data contents) full) other h = sym (either-none (is_multiple_frame l.state)) ∙ by-request (Data contents) full [] h (by-none l.own_busy l.rejecting l.r)
-  answers-are (requested SetBusy full) other h =
-      if-both (is_multiple_frame l.state) (not l.own_busy) (as_response (receipt_as true l.r false))
-      ∙ by-request SetBusy full (cond (not l.own_busy) (as_response (receipt_as true l.r false)) []) h (by-set l.own_busy l.rejecting l.r)
-  answers-are (requested ClearBusy full) other h =
-      if-both (is_multiple_frame l.state) l.own_busy (as_response (receipt_as false l.r false))
-      ∙ by-request ClearBusy full (cond l.own_busy (as_response (receipt_as false l.r false)) []) h (by-clear l.own_busy l.rejecting l.r)
+  answers-are (requested SetBusy full) other h = grind (arith, if-both, by-request, by-set)
+  answers-are (requested ClearBusy full) other h = grind (arith, if-both, by-request, by-clear)
   answers-are offer other h = absurd other
   answers-are cleared other h = absurd other
   answers-are any other h = refl
@@ -193,10 +189,7 @@ module _ (t : Terms) (l : Link) (m : ℕ) (busy rejected : Bool) (n : ℕ) (busy
 
 -- Of those that are put as many wait as there is room for.
 as-many : (n : ℕ) (xs : List ControlFrame) → take n xs ≡ take (length xs - length (drop n xs)) xs
-as-many zero xs = ap (λ n. take n xs) (none-left (length xs))
-  where
-    none-left : (n : ℕ) → 0 ≡ n - n
-    none-left n = omega arith
+as-many zero xs = grind arith
 as-many (suc n) [] = refl
 as-many (suc n) (x ∷ xs) =
     ap (λ ys. x ∷ ys) (as-many n xs)

@@ -61,10 +61,7 @@ module _ (c : Config) (ranged : IsInRange c) (l : Line) (s : IsSound c l) (e : E
   has-contents : (q : Note → Bool) → ((n : Note) → q n ≡ true → tells_contents n ≡ true) → list_any q (notes_of a) ≡ true
       → (o : Option (List ℕ)) → contents_in a ≡ o → (contents : List ℕ) × (contents_in a ≡ Some contents)
   has-contents q h some (Some contents) is = (contents, is)
-  has-contents q h some None is =
-      let many = any-counted q tells_contents h (notes_of a) some in
-      let none : count_by tells_contents (notes_of a) ≡ 0 = told-once c e l ranged s ∙ ap (λ o. length (option_to_list o)) is in
-      absurd (omega (arith, many, none))
+  has-contents q h some None is = grind (arith, any-counted, told-once)
 
   noted-aim : (q : Note → Bool) → ((t : Terms) (n : Note) → IsOwn t n → q n ≡ true → (same_service t.service service && t.tei == tei) ≡ true)
       → list_any q (notes_of a) ≡ true → (contents : List ℕ) → IsHeardAtLink c l e a contents → is_at_link service tei (aim_of c e l) ≡ true
@@ -118,11 +115,7 @@ module _ (c : Config) (e : Event) (a : Answer) (service : Service) (tei : ℕ) w
   -- whether the numbers begin with it
   pub one-begins : (le : link.Event) → IsBy c e a service tei le → (k : Link)
       → begins service tei (frame_by c e) (links.told (terms c service tei) le k).notes ≡ restarts (terms c service tei) le k
-  one-begins (link.received (link.frame f)) by k =
-      let t = terms c service tei in
-      let x = brings-frame f by in
-      let ns = (links.told t (link.received (link.frame f)) k).notes in
-      ap (λ o. begins service tei o ns) x.0 ∙ ap (λ b. b && begins_by f.control ns) x.1 ∙ begins-is t f k
+  one-begins (link.received (link.frame f)) by k = grind (arith, brings-frame, begins, begins_by, begins-is)
   one-begins (link.received link.undefined) by k = none-begins (link.received link.undefined) k (establishes (terms c service tei) k (link.received link.undefined)) (links.told (terms c service tei) (link.received link.undefined) k).notes (brings-none link.undefined by)
   one-begins (link.received link.wrong_size) by k = none-begins (link.received link.wrong_size) k (establishes (terms c service tei) k (link.received link.wrong_size)) (links.told (terms c service tei) (link.received link.wrong_size) k).notes (brings-none link.wrong_size by)
   one-begins (link.received link.overlong) by k = none-begins (link.received link.overlong) k (establishes (terms c service tei) k (link.received link.overlong)) (links.told (terms c service tei) (link.received link.overlong) k).notes (brings-none link.overlong by)

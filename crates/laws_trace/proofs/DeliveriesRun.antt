@@ -207,19 +207,6 @@ module _ (c : Config) (ranged : IsInRange c) (l : Line) (s : IsSound c l) (e : E
   event-told = go (event-goes c e l service tei s)
     where
       go : Goes c service tei e l (after c e l) a → IsHeard service tei w (notes_of a) (contents_in a) × IsCount (link_of service tei (after c e l)) (counted service tei w (notes_of a))
-      go (inl x) = (
-        record { data_is = λ some. absurd (no-data x some); unit_is = λ some. group-told x some; once = told-once c e l ranged s },
-        none-counts x,
-      )
-      go (inr (inr x)) = (
-        record {
-          data_is = λ some. absurd (true≢false (sym some ∙ ended-notes (is_data_of service tei) (λ s n. refl) (λ s n. refl) x));
-          unit_is = λ some. absurd (true≢false (sym some ∙ ended-notes (is_unit_of service tei) (λ s n. refl) (λ s n. refl) x));
-          once = told-once c e l ranged s;
-        },
-        λ up. absurd (true≢false (sym up ∙ ap (λ (y : Link). is_multiple_frame y.state) x.is)),
-      )
-      go (inr (inl x)) = (
-        record { data_is = one-data x; unit_is = one-unit x; once = told-once c e l ranged s },
-        one-counts x,
-      )
+      go (inl x) = grind (arith, no-data, group-told, told-once, none-counts)
+      go (inr (inr x)) = grind (arith, ended-notes, told-once)
+      go (inr (inl x)) = grind (arith, one-data, one-unit, told-once, one-counts)

@@ -59,9 +59,7 @@ module _ (c : Config) (ranged : IsInRange c) (l : Line) (s : IsSound c l) (servi
           → is_granted (lines.answer c (request r) l) ≡ true
           → (request r ≡ next) ⊎ (aim_of c (request r) l ≡ at_link service tei x.place x.event) → requests.refusal own_terms own full (link.Data contents) ≡ None
       not-full what full contents is event asked g o = grind (arith, not-refused, link-grants)
-  accepted-asked other x =
-      (no-data c other (lines.answer c other l) service tei own_terms own (λ r same. cc same) (λ same. cc same) x.event x.by).0
-      ∙ sym (told-grants service tei (lines.answer c other l))
+  accepted-asked other x = grind (arith, no-data, told-grants)
 
   no-end : (e : Event) → ((r : Request) → e ≡ request r → ⊥) → (le : link.Event) → IsBy c e (lines.answer c e l) service tei le → ends own_terms le own ≡ false
   no-end e never le by = grind arith
@@ -91,9 +89,7 @@ module _ (c : Config) (ranged : IsInRange c) (l : Line) (s : IsSound c l) (servi
       heard-loses service tei what (lines.answer c (hears what) l) ∙ by-notes (hears what) x (no-end (hears what) (λ r same. cc same) x.event x.by)
   lost-is (expiry timer) x =
       expiry-loses service tei timer (lines.answer c (expiry timer) l) ∙ by-notes (expiry timer) x (no-end (expiry timer) (λ r same. cc same) x.event x.by)
-  lost-is next x =
-      begun-loses service tei (lines.answer c next l)
-      ∙ sym (ap (λ le. empties own_terms le own) (only-offered c (lines.answer c next l) service tei x.event x.by) ∙ ap tells_loss (offer-tells_nothing own_terms own).0)
+  lost-is next x = grind (arith, begun-loses, only-offered, offer-tells_nothing)
   lost-is (request r) x =
       let y = only-requested c r (lines.answer c (request r) l) service tei x.event x.by in
       let ns = notes_of (lines.answer c (request r) l) in
@@ -108,9 +104,7 @@ module _ (c : Config) (ranged : IsInRange c) (l : Line) (s : IsSound c l) (servi
   -- No event of the link grants it data.
   pub none-granted : (e : Event) → HasNone c service tei e l (lines.after c e l) (lines.answer c e l) → granted_in service tei (seen e (lines.answer c e l)) ≡ []
   none-granted next x = begun-grants service tei (lines.answer c next l)
-  none-granted (request r) x =
-      asked-grants service tei r (lines.answer c (request r) l)
-      ∙ cond_both (is_granted (lines.answer c (request r) l)) (data_asked service tei r) [] (λ given. given ≡ []) (λ g. asks.elsewhere c l service tei r g x.aims) (λ g. refl)
+  none-granted (request r) x = grind (arith, asked-grants, cond_both, asks.elsewhere)
   none-granted other x = told-grants service tei (lines.answer c other l)
 
   -- and none loses what it keeps, while its TEI stays
@@ -137,11 +131,7 @@ module _ (c : Config) (ranged : IsInRange c) (l : Line) (s : IsSound c l) (servi
         go (hears what) aims none = heard-loses service tei what (lines.answer c (hears what) l) ∙ none
         go (expiry timer) aims none = expiry-loses service tei timer (lines.answer c (expiry timer) l) ∙ none
         go next aims none = begun-loses service tei (lines.answer c next l)
-        go (request r) aims none = asked-loses service tei r (lines.answer c (request r) l) ∙ by-grant (is_granted (lines.answer c (request r) l)) refl
-          where
-            by-grant : (b : Bool) → is_granted (lines.answer c (request r) l) ≡ b
-                → cond b (is_release_of service tei r || list_any (is_loss_of service tei) (notes_of (lines.answer c (request r) l))) false ≡ false
-            by-grant b g = grind (arith, none-asked, is_at_link, not-refused)
+        go (request r) aims none = grind (arith, asked-loses, is_release_of, none-asked, is_at_link, not-refused)
 
 -- One event of a line.
 module _ (c : Config) (ranged : IsInRange c) (l : Line) (s : IsSound c l) (service : Service) (tei : ℕ) (e : Event) where
@@ -210,11 +200,7 @@ module _ (c : Config) (ranged : IsInRange c) (l : Line) (s : IsSound c l) (servi
 
           by-state : (b : Bool) → is_multiple_frame k.state ≡ b → rest ≡ cond (is_up (state_number k.state)) rest (queue_of k)
           by-state true up = sym (ap (λ b. cond b rest (queue_of k)) (up-number k.state ∙ up))
-          by-state false down =
-              ap (λ more. drop (went_by (sabme_of x.event) k (after t x.event k)) (queue_of k) ++ more) (none-accepted t x.event k down)
-              ∙ append-nil (drop (went_by (sabme_of x.event) k (after t x.event k)) (queue_of k))
-              ∙ ap (λ b. drop (cond (b && is_up (state_number (after t x.event k).state) && not (sabme_of x.event)) (steps (k.a % 128) ((after t x.event k).a % 128)) 0) (queue_of k)) (up-number k.state ∙ down)
-              ∙ sym (ap (λ b. cond b rest (queue_of k)) (up-number k.state ∙ down))
+          by-state false down = grind (arith, went_by, sabme_of, none-accepted, append-nil, up-number, rest)
 
   -- Its deactivation.
   down-left : (x : IsGivenUp c service tei e l new a) → Left

@@ -80,10 +80,7 @@ module _ (t : Terms) (k : Link) (s : IsSound t k) (small : t.k ≤ 127) (e : Eve
   went-is same some false down v to z anew = sym (down-acked t k e (sym (up-number k.state) ∙ down))
   went-is same some true up false goes z anew = sym (going-acked t k e (sym (up-number next.state) ∙ goes))
   went-is same some true up true to true anew = sym (anew-acked t k e anew)
-  went-is same some true up true to false on = by-bit (restarts t e k) refl
-    where
-      by-bit : (b : Bool) → restarts t e k ≡ b → steps (k.a % 128) (next.a % 128) ≡ gone
-      by-bit b anew = grind (arith, goes-on, up-number, acknowledged-went, stepped, a-is)
+  went-is same some true up true to false on = grind (arith, goes-on, up-number, acknowledged-went, stepped, a-is)
 
   -- What is left.
   pub none-left : empties t e k ≡ true → queue_of next ≡ []

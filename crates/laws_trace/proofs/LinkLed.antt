@@ -115,13 +115,8 @@ module _ (c : Config) (service : Service) (tei : ℕ) (k : Known) where
 
     pub none-led : (n x : ℕ) (e : Event) → is_at_link service tei (aim_of c e l) ≡ false → led c service tei k n e (seen e (answer c e l)) x ≡ x
     none-led n x (hears what) aims = told-leads (by_heard x what) (answer c (hears what) l) ∙ heard-none x what aims
-    none-led n x (expiry timer) aims =
-        told-leads (option_map_or (by_expiry c.n200 k n x) (expired_of service tei (expiry timer)) x) (answer c (expiry timer) l)
-        ∙ ap (λ o. option_map_or (by_expiry c.n200 k n x) o x) (none-expired timer aims)
-    none-led n x (request r) aims = go (is_granted (answer c (request r) l)) refl
-      where
-        go : (b : Bool) → is_granted (answer c (request r) l) ≡ b → by_all x (seen_granted r (answer c (request r) l) ++ seen_told (answer c (request r) l)) ≡ x
-        go b e = grind (arith, granted-leads, none-asked, is_at_link, none-refused)
+    none-led n x (expiry timer) aims = grind (arith, told-leads, by_expiry, expired_of, none-expired)
+    none-led n x (request r) aims = grind (arith, granted-leads, none-asked, is_at_link, none-refused)
     none-led n x next aims = begun-leads x (frame_in (answer c next l))
 
   -- One event of the link.
@@ -154,19 +149,12 @@ module _ (c : Config) (service : Service) (tei : ℕ) (k : Known) where
     ticked timer = grind (arith, own-is)
 
     pub one-led : (n x : ℕ) (e : Event) (event : link.Event) → IsBy c e a service tei event → Leads n x e event
-    one-led n x e (link.received (link.frame f)) y =
-        ap (λ e. led c service tei k n e (seen e a) x) y.by
-        ∙ told-leads (by_heard x (stream.frame y.octets)) a ∙ ap (by_reading x) y.read ∙ own-frame x f (own-address f.address y.sapi y.tei_is)
+    one-led n x e (link.received (link.frame f)) y = grind (arith, led, told-leads, own-frame, own-address)
     one-led n x e (link.received link.undefined) y = brings-malformed n x e link.undefined y
     one-led n x e (link.received link.wrong_size) y = brings-malformed n x e link.wrong_size y
     one-led n x e (link.received link.overlong) y = brings-malformed n x e link.overlong y
-    one-led n x e (link.expired timer) y =
-        ap (λ e. led c service tei k n e (seen e a) x) y
-        ∙ told-leads (option_map_or (by_expiry c.n200 k n x) (expired_of service tei (expiry (timer_of service tei timer))) x) a
-        ∙ ap (λ o. option_map_or (by_expiry c.n200 k n x) o x) (ticked timer)
-    one-led n x e (link.requested asked full) y =
-        ap (λ e. led c service tei k n e (seen e a) x) y.0
-        ∙ granted-leads x (of_link service tei asked) a y.1 ∙ asked-leads x asked ∙ full-or-not n x asked full
+    one-led n x e (link.expired timer) y = grind (arith, led, told-leads, by_expiry, expired_of, ticked)
+    one-led n x e (link.requested asked full) y = grind (arith, led, granted-leads, asked-leads, full-or-not)
     one-led n x e link.offer y = ap (λ e. led c service tei k n e (seen e a) x) y ∙ begun-leads x (frame_in a)
     one-led n x e link.cleared y = absurd y
 

@@ -42,10 +42,7 @@ clear-same x (o ∷ places) (suc i) within alone =
 
 clear-other : (x tei : ℕ) (places : Places) (place : ℕ) → place < length places → get_or places place None ≡ Some tei → (x == tei) ≡ false → is_on x (set places place None) ≡ is_on x places
 clear-other x tei [] place within at other = absurd (omega (arith, within))
-clear-other x tei (o ∷ places) zero within at other = ap (λ b. b || is_on x places) (sym (ap (has x) at ∙ apart))
-  where
-    apart : (tei == x) ≡ false
-    apart = false_from_ne_true (tei == x) (λ is. true≢false (sym (eq-eqb x tei (sym (eqb-true tei x is))) ∙ other))
+clear-other x tei (o ∷ places) zero within at other = grind (arith, false_from_ne_true, eq-eqb, eqb-true)
 clear-other x tei (o ∷ places) (suc i) within at other = ap (λ b. has x o || b) (clear-other x tei places i (omega (arith, within)) at other)
 
 pub on-leaving : (places : Places) (tei x : ℕ) → IsSoundTable places → is_on x (freed places (place_of tei places)) ≡ (not (x == tei) && is_on x places)
@@ -122,10 +119,7 @@ others x ys = filter (λ y. not (y == x)) ys
 
 others-length : (x : ℕ) (ys : List ℕ) → length ys ≡ length (others x ys) + times x ys
 others-length x [] = refl
-others-length x (y ∷ ys) = go (y == x) (others-length x ys)
-  where
-    go : (b : Bool) → length ys ≡ length (others x ys) + times x ys → length (y ∷ ys) ≡ length (cond (not b) (y ∷ others x ys) (others x ys)) + cond b (times x ys + 1) (times x ys)
-    go b e = grind arith
+others-length x (y ∷ ys) = grind (arith, others-length x ys)
 
 none-times : (x : ℕ) (ys : List ℕ) → among x ys ≡ false → times x ys ≡ 0
 none-times x [] off = refl
@@ -143,16 +137,7 @@ some-times x (y ∷ ys) on = go (y == x) on (λ on. some-times x ys on)
 
 fewer-times : (x tei : ℕ) (ys : List ℕ) → times x (others tei ys) ≤ times x ys
 fewer-times x tei [] = omega arith
-fewer-times x tei (y ∷ ys) = go (y == tei) (fewer-times x tei ys)
-  where
-    more : (b : Bool) → times x (others tei ys) ≤ times x ys → cond b (times x (others tei ys) + 1) (times x (others tei ys)) ≤ cond b (times x ys + 1) (times x ys)
-    more b e = grind arith
-
-    less : (b : Bool) → times x (others tei ys) ≤ times x ys → times x (others tei ys) ≤ cond b (times x ys + 1) (times x ys)
-    less b e = grind arith
-
-    go : (a : Bool) → times x (others tei ys) ≤ times x ys → times x (cond (not a) (y ∷ others tei ys) (others tei ys)) ≤ cond (y == x) (times x ys + 1) (times x ys)
-    go a e = grind (arith, less, more)
+fewer-times x tei (y ∷ ys) = grind (arith, fewer-times x tei ys)
 
 -- The TEIs on a line, as an observer has them: each once, and as many as places are taken.
 pub record AreOn (on : List ℕ) (places : Places) : Type 0 where

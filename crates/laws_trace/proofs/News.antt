@@ -84,11 +84,7 @@ module _ (service : Service) (tei number : ℕ) where
       where
         go : (b : Bool) → (e.line == number) ≡ b
             → IsAskedOf service tei (cond (b && is_state 5 (state_of service tei later) && differ (state_of service tei (line_at number card)) (state_of service tei later)) (establishes service tei e.what (answer e card)) was) later
-        go true is =
-            let same = eqb-true e.line number is in
-            subst (λ m. IsAskedOf service tei (cond (is_state 5 (state_of service tei (line_at m (after e card)))
-            && differ (state_of service tei (line_at m card)) (state_of service tei (line_at m (after e card)))) (establishes service tei e.what (answer e card)) was) (line_at m (after e card))) same
-            (own-asked card s e here was (subst (λ m. IsAskedOf service tei was (line_at m card)) (sym same) asks) outstanding (subst (λ m. IsOwed service tei outstanding (line_at m card)) (sym same) owes))
+        go true is = grind (arith, eqb-true, IsAskedOf, is_state, differ, establishes, own-asked, IsOwed)
         go false other =
             subst (IsAskedOf service tei was) (sym (apart card e number (λ same. true≢false (sym (eq-eqb e.line number (sym same)) ∙ other)))) asks
 

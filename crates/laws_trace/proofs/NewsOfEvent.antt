@@ -214,9 +214,7 @@ module _ (c : Config) (l : Line) (s : IsSound c l) (service : Service) (tei : �
 
       by-place : (o : Option ℕ) → place_in l tei ≡ o → state_of service tei (lines.after c e l) ≡ None → Due from 4 1
       by-place None off none = absurd (none-some from (sym (off-state service tei l off) ∙ was-in))
-      by-place (Some place) on none =
-          subst (λ n. Due n 4 1) (number (state_number own.state) from (sym (state-on service tei l place on) ∙ was-in))
-          (gone-due place on (left-line (place_in (lines.after c e l) tei) refl none))
+      by-place (Some place) on none = grind (arith, number, state-on, gone-due, left-line)
 
       go : (o : Option ℕ) → state_of service tei (lines.after c e l) ≡ o → Due from (unwrap_or o 4) (unwrap_or o 1)
       go (Some to) is-in = both-due from to was-in is-in

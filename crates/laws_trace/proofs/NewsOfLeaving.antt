@@ -108,10 +108,7 @@ module _ (service : Service) (tei : ℕ) (c : Config) (l : Line) (s : IsSound c 
     changed (Some (Left by place')) gone is off = go (by == tei) refl
       where
         go : (b : Bool) → (by == tei) ≡ b → Leaves (of_change c (Some (Left by place')) (told_of_management (teis.told me l.management)) at).told.notes
-        go true same =
-            let it = eqb-true by tei same in
-            subst (λ n. HasLeft l.management.places m.places n place' → ByChange me (Some (Left n place')) ns
-            → Leaves (of_change c (Some (Left n place')) (told_of_management (teis.told me l.management)) at).told.notes) (sym it) (its-own place') gone is
+        go true same = grind (arith, eqb-true, its-own)
         go false other =
             let apart = false_from_ne_true (tei == by) (λ is. true≢false (sym (eq-eqb by tei (sym (eqb-true tei by is))) ∙ other)) in
             absurd (true≢false (sym (ap (is_on tei) gone.is_free ∙ ap (λ o. is_on tei (Rattle.lapd_tei.specs.Words.freed l.management.places o)) (sym (has-place l.management.places by place' s.management.table gone.was_there))
@@ -178,7 +175,4 @@ pub one-stays : (service : Service) (tei : ℕ) (c : Config) (e : Event) (l : Li
     → (e ≡ next) ⊎ (aim_of c e l ≡ at_link service tei place event) → has_tei tei (after c e l) ≡ true
 unfolding after
 one-stays service tei c e l s on place event (inl is) = subst (λ e. has_tei tei (after c e l) ≡ true) (sym is) (next-keeps tei c l s on)
-one-stays service tei c e l s on place event (inr aimed) = by-event e aimed
-  where
-    by-event : (e : Event) → aim_of c e l ≡ at_link service tei place event → has_tei tei (after c e l) ≡ true
-    by-event e aimed = grind (arith, next-keeps)
+one-stays service tei c e l s on place event (inr aimed) = grind (arith, next-keeps)

@@ -110,16 +110,7 @@ module _ (c : Config) (service : Service) (tei : ℕ) (o : Observed) where
   ran-out : (timer : Timer) → AsBusy o (by_expiry c service tei timer o)
   ran-out T201 = λ up. refl
   ran-out (T203 of by) = either-so o (is_own service tei of by && (o.state == 7 && not (awaits o))) (enquires o) o (λ up. refl) (λ up. refl)
-  ran-out (T200 of by) =
-      either-so o (is_own service tei of by) (by_t200 c.n200 o) o
-      (either-so o (o.state == 7) (cond (awaits o) (enquires o) o) (cond (not (awaits o)) o last) (either-so o (awaits o) (enquires o) o (λ up. refl) (λ up. refl))
-      (either-so o (not (awaits o)) o last (λ up. refl)
-      (either-so o (nat_lt o.expiries c.n200) (record o { expiries = o.expiries + 1 }) (cond (o.state == 8) (anew o) (in_state 4)) (λ up. refl)
-      (either-so o (o.state == 8) (anew o) (in_state 4) (λ up. refl) (down-so o 4 refl)))))
-      (λ up. refl)
-    where
-      last : Observed
-      last = cond (nat_lt o.expiries c.n200) (record o { expiries = o.expiries + 1 }) (cond (o.state == 8) (anew o) (in_state 4))
+  ran-out (T200 of by) = grind (arith, either-so, down-so)
 
   sent-so : (f : Option Parts) → AsBusy o (option_map_or (λ (f : Parts). sends o f.control) f o)
   sent-so f = grind (arith, either-so)

@@ -268,10 +268,7 @@ module _ (service : Service) (tei number : ℕ) where
 
     pub puts-by : (b : Bool) → (e.line == number) ≡ b → Puts b
     puts-by false other = other-puts (apart card e number (λ same. true≢false (sym (eq-eqb e.line number (sym same)) ∙ other)))
-    puts-by true mine = go before
-      where
-        go : Facts from k asked w.outstanding m o → Puts true
-        go o = grind (arith, off-puts, on-puts)
+    puts-by true mine = grind (arith, before, Facts, off-puts, on-puts)
 
     abbrev u-then : Standing
     u-then = standing service tei c (calm n busy rejected) (seen_in number its)

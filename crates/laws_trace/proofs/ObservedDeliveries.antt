@@ -85,11 +85,7 @@ module _ (service : Service) (tei : ℕ) (c : Config) (ranged : IsInRange c) (l 
       go None off (inl y) = off-told off y.2
       go None off (inr y) = absurd (none-some (state_number y.0) (sym (off-state service tei l off) ∙ y.1))
       go (Some place) on (inl y) = let x = link_of service tei l in absurd (none-some (state_number x.state) (sym y.0 ∙ state-on service tei l place on))
-      go (Some place) on (inr y) =
-          let x = link_of service tei l in
-          let some : Some (state_number y.0) ≡ Some (state_number x.state) = sym y.1 ∙ state-on service tei l place on in
-          let inner : state_number y.0 ≡ state_number x.state = cc some in
-          on-told place on (y.2.state_is ∙ inner)
+      go (Some place) on (inr y) = grind (arith, state-on, on-told)
 
 -- A request that finds the pool full tells nothing.
 none-told : (c : Config) (service : Service) (tei : ℕ) (o : Observed) (e : Event) (l : Line) → lines.takes_slot c e l ≡ true → Told c service tei o (brought c service tei e) (refused PoolFull)

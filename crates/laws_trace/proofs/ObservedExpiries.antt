@@ -19,9 +19,7 @@ module _ (o : Observed) where
 
   up : (long command : Bool) (control : Control) → IsNoMore o (while_up long command control o)
   up long command (Dm f) = either o (o.state == 8 || not f) (anew o) o (zero o) (same o)
-  up long command (Information ns nr p) =
-      either o long (anew o) (numbered nr (takes ns o)) (zero o)
-      (either o (is_invalid (takes ns o) nr) (anew (takes ns o)) (record (takes ns o) { acknowledged = nr.value }) (zero o) (same o))
+  up long command (Information ns nr p) = grind (arith, either, same)
   up long command (ReceiveReady nr pf) = received (not command && pf) false false nr
   up long command (ReceiveNotReady nr pf) = received (not command && pf) false true nr
   up long command (Reject nr pf) = received (not command && pf) true false nr
@@ -53,9 +51,7 @@ module _ (o : Observed) where
 
     -- by another event than an expiry of T200
     pub no-more : (what : Event) (a : Answer) → ((of : Service) (by : ℕ) → what ≡ expiry (T200 of by) → is_own service tei of by ≡ false) → IsNoMore o (by_event c service tei what a o)
-    no-more (hears e) a other =
-        either o (is_up o.state && is_some (malformed c service tei e)) (anew o) (option_map_or (by_frame c o) (its_frame service tei (frame_of c e)) o) (zero o)
-        (framed (its_frame service tei (frame_of c e)))
+    no-more (hears e) a other = grind (arith, either, is_some, framed)
     no-more (request r) a other = either o (is_granted a) (by_request service tei r o) o (asked r) (same o)
     no-more next (told t) other = same o
     no-more next (refused why) other = same o

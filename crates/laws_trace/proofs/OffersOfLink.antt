@@ -62,10 +62,7 @@ at-front (y ∷ xs) zero x is = (xs, ap (λ z. z ∷ xs) (some-same is))
 at-front (y ∷ xs) (suc n) x is = at-front xs n x is
 
 some-left : (xs : List (List ℕ)) (n : ℕ) (x : List ℕ) (rest : List (List ℕ)) → drop n xs ≡ x ∷ rest → n < length xs
-some-left [] n x rest is = absurd (no-first (sym (drop-none n) ∙ is))
-  where
-    no-first : [] ≡ x ∷ rest → ⊥
-    no-first e = cc e
+some-left [] n x rest is = grind (arith, drop-none)
 some-left (y ∷ xs) zero x rest is = omega arith
 some-left (y ∷ xs) (suc n) x rest is = let few = some-left xs n x rest is in omega (arith, few)
 

@@ -197,6 +197,4 @@ module _ (service : Service) (tei : ℕ) (c : Config) (ranged : IsInRange c) (e 
       go : Goes c service tei e l new a → Pends
       go (inl x) = none-pends x
       go (inr (inl x)) = by-event x x.event refl x.by
-      go (inr (inr x)) = λ was-on is-on.
-          ap (λ (k : Link). k.pending) x.is ∙ never-down (up own) Put (is_empty own.waiting && begins) (own.pending || told)
-          ∙ ap (λ (k : Link). Owed (up own) (up k) Put (is_empty own.waiting && begins) (own.pending || told)) (sym x.is)
+      go (inr (inr x)) = grind (arith, never-down)

@@ -35,9 +35,7 @@ module _ (c : Config) (ranged : IsInRange c) (l : Line) (s : IsSound c l) (servi
   known-owes off = go (place_in l tei) refl
     where
       go : (o : Option ℕ) → place_in l tei ≡ o → not (k.next == k.acknowledged) ≡ not (own.s == own.a)
-      go None gone =
-          let new : own ≡ fresh = off-fresh service tei l gone in
-          none-owed (subst (λ (x : Link). Agrees x.state k x.a x.s x.peer_busy) new agrees) (ap (λ (x : Link). x.s) new ∙ sym (ap (λ (x : Link). x.a) new))
+      go None gone = grind (arith, off-fresh, none-owed, Agrees)
       go (Some place) on =
           let placed = (place_of-is l.management.places tei place on).1 in
           let sound : link_sound.IsSound (terms c service tei) own = link-at-end c l ranged s service tei place on in
@@ -91,8 +89,4 @@ module _ (c : Config) (ranged : IsInRange c) (l : Line) (s : IsSound c l) (timed
           by-goes : Goes c service tei e l (after c e l) (answer c e l) → Same next
           by-goes (inr (inl x)) = by-one x
           by-goes (inr (inr x)) = absurd (true≢false (sym now ∙ ap (λ (y : Link). is_state 5 (told_state y.state)) x.is))
-          by-goes (inl x) = either x.is
-            where
-              either : (next ≡ was) ⊎ (next ≡ fresh) → Same next
-              either (inl same) = ap (λ (y : Link). not (y.s == y.a)) same
-              either (inr new) = absurd (true≢false (sym now ∙ ap (λ (y : Link). is_state 5 (told_state y.state)) new))
+          by-goes (inl x) = grind (arith, now, is_state, told_state)

@@ -71,8 +71,4 @@ module _ (t : Terms) (e : Event) (l : Link) (other : IsNoOther e) (owed : PendsU
       go false was true up true begins = none-begun begins
       go true was true up true begins = none-begun begins ∙ sym (ap (λ b. b && (l.pending || delivers)) (puts-begun t e l other was (sym begin-is ∙ begins)))
       go false was true up false on = absurd (true≢false (sym (up-before t e l up on) ∙ was))
-      go true was true up false on =
-          let stays : is_multiple_frame to ≡ true = ap is_multiple_frame (sym state-is) ∙ up in
-          left-is ∙ as-left t (owed_in to owes) l.pending heard l to was stays (sym begin-is ∙ on)
-          ∙ ap (λ b. b && owes) stays ∙ unless-empty (put heard l to) (takes_contents heard l || l.pending)
-          ∙ ap (λ b. is_empty (put heard l to) && (b || l.pending)) (takes was on) ∙ ap (λ b. is_empty (put heard l to) && b) (or_comm delivers l.pending)
+      go true was true up false on = grind (arith, state-is, left-is, as-left, begin-is, unless-empty, takes, or_comm)

@@ -35,10 +35,7 @@ module _ (c : Config) (events : List Event) (number : ℕ) (ranged : IsInRange c
 
   both : (ws : List ControlFrame) → All IsPlain ws → All (IsWaitingFrame (terms c service tei)) ws → All IsControl ws
   both [] plain bare = All-nil IsControl
-  both (f ∷ fs) plain bare =
-      All-cons IsControl f fs
-      (control-of f.command f.control (All-head IsPlain f fs plain) (All-head (IsWaitingFrame (terms c service tei)) f fs bare).without_contents)
-      (both fs (All-tail IsPlain f fs plain) (All-tail (IsWaitingFrame (terms c service tei)) f fs bare))
+  both (f ∷ fs) plain bare = grind (arith, both fs (All-tail IsPlain f fs plain), IsControl, control-of, IsPlain)
 
   -- So what an observer has of those is all that waits.
   pub all-wait : waits service tei line ≡ own.waiting

@@ -44,9 +44,7 @@ module _ (Stands : Config → Line → Type 0) (Shows : Config → Line → List
       let same = eqb-true e.line number is in
       subst (λ n. Both card.config (line_at n card) (seen e.what (answer e card)) (line_at n (after e card))) same
       (own-line card e s here (subst (λ n. Stands card.config (line_at n card)) (sym same) stands))
-  moment card e number s here stands false other =
-      let away : number ≢ e.line = λ same. true≢false (sym (eq-eqb e.line number (sym same)) ∙ other) in
-      subst (λ (x : Line). Both card.config (line_at number card) [] x) (sym (apart card e number away)) (rests card.config (line_at number card), stands)
+  moment card e number s here stands false other = grind (arith, eq-eqb, apart)
 
   pub run-shows : (card : Card) (events : List Event) (number : ℕ) → IsSound card → AreAtLines card events → Stands card.config (line_at number card)
       → Both card.config (line_at number card) (trace number (moments card events)) (line_at number (after_all card events))

@@ -86,27 +86,12 @@ module _ (t : Terms) (l : Link) (to : State) (pends : l.pending ≡ true → l.o
       let e = received r in
       free (is_anew e l.state to) (is_multiple_frame l.state) (Owed e) l.pending l.own_busy l.own_busy
       (λ up owed. by-either r (takes_contents e l) refl (owed-so e owed).1) pends is
-  still-free (expired timer) is =
-      let e = expired timer in
-      free (is_anew e l.state to) (is_multiple_frame l.state) (Owed e) l.pending l.own_busy l.own_busy (λ up owed. pends (owed-so e owed).1) pends is
-  still-free (requested Establish full) is =
-      let e = requested Establish full in
-      free (is_anew e l.state to) (is_multiple_frame l.state) (Owed e) l.pending l.own_busy l.own_busy (λ up owed. pends (owed-so e owed).1) pends is
-  still-free (requested Release full) is =
-      let e = requested Release full in
-      free (is_anew e l.state to) (is_multiple_frame l.state) (Owed e) l.pending l.own_busy l.own_busy (λ up owed. pends (owed-so e owed).1) pends is
-  still-free (requested (Data contents) full) is =
-      let e = requested (Data contents) full in
-      free (is_anew e l.state to) (is_multiple_frame l.state) (Owed e) l.pending l.own_busy l.own_busy (λ up owed. pends (owed-so e owed).1) pends is
-  still-free (requested SetBusy full) is =
-      let e = requested SetBusy full in
-      free (is_anew e l.state to) (is_multiple_frame l.state) (Owed e) l.pending true l.own_busy
-      (λ up owed.
-      let x = owed-so e owed in
-      absurd (set-put (is_multiple_frame l.state) l.own_busy (commands e l to) up (pends x.1) x.0)) pends is
-  still-free (requested ClearBusy full) is =
-      let e = requested ClearBusy full in
-      free (is_anew e l.state to) (is_multiple_frame l.state) (Owed e) l.pending false l.own_busy (λ up owed. refl) pends is
+  still-free (expired timer) is = grind (arith, free, owed-so)
+  still-free (requested Establish full) is = grind (arith, free, owed-so)
+  still-free (requested Release full) is = grind (arith, free, owed-so)
+  still-free (requested (Data contents) full) is = grind (arith, free, owed-so)
+  still-free (requested SetBusy full) is = grind (arith, free, owed-so, set-put)
+  still-free (requested ClearBusy full) is = grind (arith, free)
   still-free offer is = off-all (is_anew offer l.state to) (is_multiple_frame l.state) l.own_busy (pends (owed-is l.waiting l.pending is))
   still-free cleared is =
       free (is_anew cleared l.state to) (is_multiple_frame l.state) (Owed cleared) l.pending l.own_busy l.own_busy (λ up owed. pends (owed-so cleared owed).1) pends is

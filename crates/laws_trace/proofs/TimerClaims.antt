@@ -226,11 +226,7 @@ module _ (k : Known) (ran : LinkTimer → Bool) (a s : ℕ) (busy : Bool) (r : O
         while-busy is timer was = grind (arith, not-both)
 
         by-busy : (b : Bool) → busy ≡ b → (n : ℕ) → named a s nr ≡ Some n → Good k ran (at Established) (cond b (acknowledges n (at Established)) (acts.acknowledged n (at Established))) o
-        by-busy true is n names = record {
-          agrees = record { acknowledged = value-7 nr n names; next = known.next; busy_is = known.busy_is };
-          anew = λ timer was now. while-busy is timer was;
-          kept = tt;
-        }
+        by-busy true is n names = grind (arith, value-7, while-busy)
         by-busy false is n names =
             acknowledged-7 o nr busy (ap (λ b. number_heard nr.value false b k) known.busy_is)
             (ap (λ b. not b && not (nr.value == k.acknowledged)) (known.busy_is ∙ is)) refl n names

@@ -105,9 +105,7 @@ module _ (t : Terms) (k : Known) (l : Link) (s : IsSound t l) (small : t.k ≤ 1
   expires-in timer Established is known = go (not (l.s == l.a) || l.peer_busy) refl
     where
       go : (b : Bool) → (not (l.s == l.a) || l.peer_busy) ≡ b → Expires t k l timer Established l.running
-      go true waits =
-          subst (Expires t k l timer Established) (sym (is ∙ ap (λ b. cond b (Some T200) (Some T203)) waits))
-          (expires-7 t k l known s.ordered within timer T200 (λ e. cc e))
+      go true waits = grind (arith, expires-7, within)
       go false waits =
           let running : l.running ≡ Some T203 = is ∙ ap (λ b. cond b (Some T200) (Some T203)) waits in
           subst (Expires t k l timer Established) (sym running) (expires-7 t k l known s.ordered within timer T203 (λ e. idle l.running is (ap (runs T203) running)))

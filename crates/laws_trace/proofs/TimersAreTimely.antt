@@ -204,9 +204,7 @@ module _ (c : Config) (events : List Event) (number : ℕ) (ranged : IsInRange c
   runs-so timer = callers-run c events number ranged all within service tei timer ∙ needed-is service tei its_line its-timers timer
 
   run-in : (o : Option ℕ) → place_in its_line tei ≡ o → Run service tei is_known (state_of service tei its_line) its_link.running
-  run-in None off =
-      subst (λ state. Run service tei is_known state its_link.running) (sym (off-state service tei its_line off))
-      (subst (λ (x : Link). Run service tei is_known None x.running) (sym (off-fresh service tei its_line off)) (refl, refl))
+  run-in None off = grind (arith, off-state, off-fresh)
   run-in (Some place) on =
       let s = sound-now c events number ranged all within service tei in
       let sound_line = line_sound at_end number (has_lines at_end s) here-now in

@@ -176,21 +176,8 @@ module _ (c : Config) (ranged : IsInRange c) (l : Line) (s : IsSound c l) (timed
       }
   other (link.received what) not_offer by =
       let x = heard-by c e a service tei what by in bare what not_offer (λ same. cc same) refl x.0 x.1 (brings-none c e a service tei what by) (λ timer. refl)
-  other (link.expired expired) not_offer by = record {
-    no_offer = not_offer;
-    no_cleared = λ same. cc same;
-    control = ap (λ e. control_in service tei (frame_by c e)) by;
-    sent = ap (λ e. sent_at c service tei k e l) by;
-    left = λ timer. ap (λ e. left_by e (timer_of service tei timer) (runs timer own.running)) by
-        ∙ ap (λ b. cond b false (runs timer own.running)) (same-timer service tei expired timer);
-  }
-  other (link.requested asked full) not_offer by = record {
-    no_offer = not_offer;
-    no_cleared = λ same. cc same;
-    control = ap (λ e. control_in service tei (frame_by c e)) by.0;
-    sent = ap (λ e. sent_at c service tei k e l) by.0;
-    left = λ timer. ap (λ e. left_by e (timer_of service tei timer) (runs timer own.running)) by.0;
-  }
+  other (link.expired expired) not_offer by = grind (arith, control_in, frame_by, sent_at, same-timer)
+  other (link.requested asked full) not_offer by = grind (arith, control_in, frame_by, sent_at)
   other link.offer not_offer by = absurd (not_offer refl)
   other link.cleared not_offer by = absurd by
 

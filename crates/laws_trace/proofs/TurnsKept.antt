@@ -13,9 +13,7 @@ module _ (c : Config) (ranged : IsInRange c) (l : Line) (s : IsSound c l) (p tei
 
   by-change : (o : Option Change) (new : Places) → Moves l.management.places o new → is_on tei new ≡ true → get_or new p None ≡ Some tei
   by-change None new same on = ap (λ ps. get_or ps p None) same ∙ at
-  by-change (Some (Gained by place)) new joined on =
-      let away : p ≢ place = λ same. none-some tei (sym joined.was_free ∙ ap (λ q. get_or l.management.places q None) (sym same) ∙ at) in
-      ap (λ ps. get_or ps p None) joined.is_there ∙ get_or-set_other l.management.places place p (Some by) None away ∙ at
+  by-change (Some (Gained by place)) new joined on = grind (arith, none-some, get_or-set_other)
   by-change (Some (Left by place)) new gone on =
       let away : p ≢ place = λ same. left (ap (λ q. get_or l.management.places q None) (sym same) ∙ at) in
       ap (λ ps. get_or ps p None) gone.is_free ∙ get_or-set_other l.management.places place p None None away ∙ at
@@ -38,10 +36,7 @@ module _ (c : Config) (ranged : IsInRange c) (l : Line) (s : IsSound c l) (p tei
   unfolding lines.after
   keeps (hears what) = by-aim (aim_of_heard c l what) (heard_proper c l what)
   keeps (expiry timer) = by-aim (aim_of_expiry timer l) (expiry_proper c l timer)
-  keeps (request r) = go (refusal c false r l) refl
-    where
-      go : (o : Option Refusal) → refusal c false r l ≡ o → Keeps (of_aim c (unless_refused o (aim_of_request r l)) l).line
-      go o none = grind (arith, by-aim, request_proper)
+  keeps (request r) = grind (arith, by-aim, request_proper)
   keeps next = λ on. subst (λ ps. get_or ps p None ≡ Some tei) (sym (next-moves c 0 l s (omega (arith, (ranges_of c ranged).terminals.least))).places) at
 
 -- So it does on a card.

@@ -173,9 +173,6 @@ module _ (number one tei other its : ℕ) where
   pub moment-walk : (card : Card) (e : Event) → IsSound card → IsAtLine card e → Meets card.config one tei other its (line_at number card) → NoneWaits card.config (line_at number card)
       → (b : Bool) → (e.line == number) ≡ b → (names : List LinkName) → WalkOf card (line_at number (after e card)) names
       → WalkOf card (line_at number card) (links_begun card.config (cond b (seen e.what (answer e card)) []) ++ names)
-  moment-walk card e s here h plain true same names walk =
-      let is = eqb-true e.line number same in
-      subst (λ n. WalkOf card (line_at n (after e card)) names → WalkOf card (line_at n card) (links_begun card.config (seen e.what (answer e card)) ++ names)) is
-      (own-walk card e s here (subst (λ n. Meets card.config one tei other its (line_at n card)) (sym is) h) (subst (λ n. NoneWaits card.config (line_at n card)) (sym is) plain) names) walk
+  moment-walk card e s here h plain true same names walk = grind (arith, eqb-true, links_begun, own-walk, NoneWaits)
   moment-walk card e s here h plain false away names walk =
       subst (λ (x : Line). WalkOf card x names) (apart card e number (λ same. true≢false (sym (eq-eqb e.line number (sym same)) ∙ away))) walk

@@ -167,7 +167,4 @@ left-is-waiting c (s ∷ t) waiting left (kept, step, more) = ap (λ ws. fold (w
 pub begun-first : (c : Config) (fs : List (List ℕ)) (waiting left : List (List ℕ)) → Goes c waiting (map begun fs) left → IsFront (filter (is_unit c.side) fs) waiting
 unfolding Goes
 begun-first c [] waiting left same = record { rest = waiting; whole_is = refl }
-begun-first c (f ∷ fs) waiting left (kept, step, more) = go (is_unit c.side f) step (begun-first c fs kept left more)
-  where
-    go : (b : Bool) → Begun b waiting f kept → IsFront (filter (is_unit c.side) fs) kept → IsFront (cond b (f ∷ filter (is_unit c.side) fs) (filter (is_unit c.side) fs)) waiting
-    go b is x = grind arith
+begun-first c (f ∷ fs) waiting left (kept, step, more) = grind (arith, begun-first c fs kept left more)

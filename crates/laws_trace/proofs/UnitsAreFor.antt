@@ -60,9 +60,7 @@ user-so side is = grind arith
 
 here-so : (c : Config) (service : Service) (tei number : ℕ) (before : List Event) → IsThere c service tei number before → IsHere c service tei number before ≡ true
 here-so c service tei number before (inl on) = ap (λ b. b || (not (has_management c.side) && tei == 127)) on
-here-so c service tei number before (inr y) =
-    ap (λ side. is_on tei (view_of c service tei number before).teis || (not (has_management side) && tei == 127)) y.0
-    ∙ ap (λ b. is_on tei (view_of c service tei number before).teis || b) (eq-eqb tei 127 y.1) ∙ or-true (is_on tei (view_of c service tei number before).teis)
+here-so c service tei number before (inr y) = grind (arith, eq-eqb, or-true)
 
 pub unit-is : (c : Config) (before : List Event) (number : ℕ) → IsInRange c → AreAtLines (fresh c) before → number < c.lines → (service : Service) (tei : ℕ) (what : line_event.Event)
     (frame : Option Parts) → (list_any (is_unit_of service tei) (notes_of (answer (at number what) (after_all (fresh c) before))) ≡ true → option_map_or (λ (f : Parts). is_ui f.control) frame false ≡ true)

@@ -15,10 +15,7 @@ use Rattle.model_card.proofs.OfPorts.Sound.{always_sound}
 meant_both : (m : OctetCard) (front behind : List Event) → meant_all m (front ++ behind) ≡ meant_all m front ++ meant_all (after_all m front) behind
 unfolding after_all meant_all
 meant_both m [] behind = refl
-meant_both m (e ∷ front) behind =
-    let now = option_to_list (meant e m) in
-    ap (λ fs. now ++ fs) (meant_both (after e m) front behind)
-    ∙ sym (append_assoc now (meant_all (after e m) front) (meant_all (after_all (after e m) front) behind))
+meant_both m (e ∷ front) behind = grind (arith, meant_both (after e m) front behind, append_assoc)
 
 -- both count calls alike
 same_takes : (number : ℕ) (fs : List frames.Event) → pulls.takes_at number fs ≡ takes_at number fs
@@ -89,10 +86,7 @@ none_left b n h = grind arith
 none_behind : (number : ℕ) (card : Card) (fs : List frames.Event) → takes_at number fs ≡ 0 → calls_answered number (runs.moments card fs) ≡ []
 unfolding frame_moments
 none_behind number card [] none = refl
-none_behind number card (f ∷ fs) none =
-    let rest = calls_answered number (runs.moments (machine.after f card) fs) in
-    ap (λ b. cond b (answer_of_call (machine.answer f card)) [] ++ rest) (is_off (f.line == number) (takes_at number fs) none)
-    ∙ none_behind number (machine.after f card) fs (none_left (f.line == number) (takes_at number fs) none)
+none_behind number card (f ∷ fs) none = grind (arith, none_behind number (machine.after f card) fs, is_off, none_left)
 
 gives_none : (card : Card) (number : ℕ) → taken card.config (line_at number card) ≡ None → asked_at card number next ≡ gave None
 unfolding line_answer takes_slot

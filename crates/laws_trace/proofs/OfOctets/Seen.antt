@@ -38,11 +38,7 @@ by_moment number card f = grind (arith, option_map, by_event)
 pub begun_given : (number : ℕ) (card : Card) (fs : List frames.Event) → frames_begun (trace number (runs.moments card fs)) ≡ frames_given number (runs.moments card fs)
 unfolding frame_moments
 begun_given number card [] = refl
-begun_given number card (f ∷ fs) =
-    let rest = trace number (runs.moments (machine.after f card) fs) in
-    flat_map-append frame_begun (seen_in number (there card f)) rest
-    ∙ ap (λ given. given ++ frames_begun rest) (by_moment number card f)
-    ∙ ap (λ given. given_of number (there card f) ++ given) (begun_given number (machine.after f card) fs)
+begun_given number card (f ∷ fs) = grind (arith, begun_given number (machine.after f card) fs, flat_map-append, by_moment)
 
 -- ---- the requests that are seen to be granted are those whose answers grant them
 
@@ -91,11 +87,7 @@ by_octet number m e = by_meaning number e.line m.card.config.n201 m e.what (port
 by_octets : (number : ℕ) (m : OctetCard) (events : List Event) → flat_map (seen_at number) (flat_map meant_in (moments m events)) ≡ flat_map (requests_of number) (moments m events)
 unfolding moments
 by_octets number m [] = refl
-by_octets number m (e ∷ events) =
-    let rest = flat_map meant_in (moments (after e m) events) in
-    flat_map-append (seen_at number) (meant_in (here m e)) rest
-    ∙ ap (λ rs. rs ++ flat_map (seen_at number) rest) (by_octet number m e)
-    ∙ ap (λ rs. requests_of number (here m e) ++ rs) (by_octets number (after e m) events)
+by_octets number m (e ∷ events) = grind (arith, by_octets number (after e m) events, flat_map-append, by_octet)
 
 pub requests_are : (number : ℕ) (m : OctetCard) (events : List Event)
     → requests_seen (trace number (runs.moments m.card (meant_all m events))) ≡ flat_map (requests_of number) (moments m events)

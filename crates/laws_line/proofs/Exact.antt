@@ -4,27 +4,45 @@ use Rattle.laws_line.proofs.Silence.{silent, sends-none}
 
 -- Of a link.
 none-may : (b x y : Bool) (k o n s : ℕ) → nat_lt o k ≡ x → nat_lt s n ≡ y → cond b (min (k - o) (n - s)) 0 ≡ 0 → (b && x && y) ≡ false
-none-may b x y k o n s e f h = grind (arith, ltb-true)
+none-may false x y k o n s e f h = refl
+none-may true false y k o n s e f h = refl
+none-may true true false k o n s e f h = refl
+none-may true true true k o n s e f h =
+    let room = ltb-true o k e in
+    let some = ltb-true s n f in
+    absurd (omega (arith, h, room, some))
 
 none-go : (b x y : Bool) (k o n s : ℕ) → nat_lt o k ≡ x → nat_lt s n ≡ y → (b && x && y) ≡ false → cond b (min (k - o) (n - s)) 0 ≡ 0
-none-go b x y k o n s e f h = grind (arith, ltb-false)
+none-go false x y k o n s e f h = refl
+none-go true false y k o n s e f h = let full = ltb-false o k e in omega (arith, full)
+none-go true true false k o n s e f h = let sent = ltb-false s n f in omega (arith, sent)
+none-go true true true k o n s e f h = absurd (cc)
 
 empty : {X : Type 0} (xs : List X) → length xs ≡ 0 → xs ≡ []
 empty [] e = refl
 empty (x ∷ xs) e = absurd (omega (arith, e))
 
 off : (b : Bool) → cond {A = ℕ} b 1 0 ≡ 0 → b ≡ false
-off b e = grind arith
+off true e = absurd (omega (arith, e))
+off false e = refl
 
 module _ (t : Terms) (l : Link) where
   abbrev up : Bool
   up = is_established l.state && not l.peer_busy
 
   to-nothing : link_to_go t l ≡ 0 → HasNothingToSend t l
-  to-nothing e = grind (arith, empty, none-may, nat_lt, off)
+  to-nothing e = record {
+    waiting = empty l.waiting (omega (arith, e));
+    information = none-may up (nat_lt (outstanding l) t.k) (nat_lt l.s (length l.contents)) t.k (outstanding l) (length l.contents) l.s refl refl (omega (arith, e));
+    pending = off l.pending (omega (arith, e));
+  }
 
   from-nothing : HasNothingToSend t l → link_to_go t l ≡ 0
-  from-nothing h = grind (arith, none-go, nat_lt)
+  from-nothing h =
+      let waits : length l.waiting ≡ 0 = ap length h.waiting in
+      let goes = none-go up (nat_lt (outstanding l) t.k) (nat_lt l.s (length l.contents)) t.k (outstanding l) (length l.contents) l.s refl refl h.information in
+      let owed : cond {A = ℕ} l.pending 1 0 ≡ 0 = ap (λ b. cond {A = ℕ} b 1 0) h.pending in
+      omega (arith, waits, goes, owed)
 
 -- Of all links.
 each-none : (f : ℕ → ℕ) (a n : ℕ) → sum_by f (range_with_len a n) ≡ 0 → (j : ℕ) → a ≤ j → j < a + n → f j ≡ 0
@@ -54,10 +72,18 @@ module _ (c : Config) (l : Line) where
   }
 
   link-none : IsSound c l → HasNothing c l → (n : ℕ) → n < link_count c → to_go_at_link c l n ≡ 0
-  link-none s h n few = grind (arith, from-nothing, sends-none)
+  link-none s h n few = go (tei_at (place_at n) l) refl (s.links n few)
+    where
+      go : (o : Option ℕ) → tei_at (place_at n) l ≡ o → IsSoundAt c n (link_at n l) o → link_to_go (terms c (service_at n) 0) (link_at n l) ≡ 0
+      go None e is_fresh = ap (link_to_go (terms c (service_at n) 0)) is_fresh
+      go (Some tei) e sound = from-nothing (terms c (service_at n) tei) (link_at n l) (sends-none (terms c (service_at n) tei) (link_at n l) sound (h.links n few tei e))
 
   none-to-go : IsSound c l → HasNothing c l → frames_to_go c l ≡ 0
-  none-to-go s h = grind (arith, all-none, link-none)
+  none-to-go s h =
+      let messages : length l.management.waiting ≡ 0 = ap length h.messages in
+      let units : length l.units ≡ 0 = ap length h.units in
+      let all = all-none (to_go_at_link c l) 0 (link_count c) (λ j low high. link-none s h j (omega (arith, high))) in
+      omega (arith, messages, units, all)
 
   pub exactly-none : IsSound c l → (frames_to_go c l ≡ 0) ↔ HasNothing c l
   exactly-none s = (nothing-left s, none-to-go s)

@@ -28,12 +28,9 @@ module _ (c : Config) (l : Line) (service : Service) (tei place : ℕ) (on : pla
       (λ x. subst (λ e. Alone e (link.received what)) (sym x.0)
       (heard-alone (stream.overlong b.octets) (link.received what) (overlong-event c l service tei place b.address b.octets what whose x.1))) b.by
 
-  timer-aim : (timer : LinkTimer) → aim_of_expiry (timer_of service tei timer) l ≡ at_link service tei place (link.expired timer)
-  timer-aim timer = grind arith
-
   by-timer : (timer : LinkTimer) → Alone (expiry (timer_of service tei timer)) (link.expired timer)
   unfolding after answer
-  by-timer timer = grind (arith, timer-aim)
+  by-timer timer = grind arith
 
   request-aim : (asked : link.Request) → aim_of_request (of_link service tei asked) l ≡ at_link service tei place (link.requested asked false)
   request-aim asked = grind arith

@@ -5,7 +5,6 @@ use Rattle.model_link.specs.Machine as links
 use Rattle.lapd_tei.specs.Events as teis
 use Rattle.laws_line.proofs.Happening.{IsGivenUp, Happens, event-happens}
 use Rattle.laws_line.proofs.Ordered.{next-goes}
-use Rattle.laws_line.proofs.Told.{same_of_itself}
 use Rattle.laws_line.proofs.Downs.{by-down}
 
 -- What an event that is no call for the next frame leaves of whose turn it is, and what it brings.
@@ -54,7 +53,7 @@ module _ (c : Config) (ranged : IsInRange c) (number tei : ℕ) (few : number < 
   -- where a link is given up, that is asked for
   not-up : (e : Event) (l : Line) (a : Answer) → deactivates (service_at number) tei e ≡ false → tei_at (place_at number) l ≡ Some tei
       → IsGivenUp (service_at number) number e l a → ⊥
-  not-up e l a up at x = grind (arith, same_of_itself, eq-eqb)
+  not-up e l a up at x = grind (arith, eq-eqb)
 
   stays : (e : Event) (l : Line) → is_take e ≡ false → deactivates (service_at number) tei e ≡ false → tei_at (place_at number) l ≡ Some tei → tei_at (place_at number) (after c e l) ≡ Some tei
       → Happens c number e l (after c e l) (answer c e l) → Waits (frames l) (frames (after c e l))
@@ -77,12 +76,9 @@ module _ (c : Config) (ranged : IsInRange c) (number tei : ℕ) (few : number < 
   still-waits e l w before f behind waits = (behind ++ w.0, w.1 ∙ ap (λ ws. ws ++ w.0) waits ∙ append_assoc before (f ∷ behind) w.0)
 
   -- so it comes no nearer, and no farther than by what comes first
-  no-farther : (e : Event) (l : Line) (others : ℕ) → is_take e ≡ false → frames_before c (after c e l) number others ≤ frames_before c l number others + comes_first c e l
-  no-farther e l others apart = grind (arith, meanwhile)
-
   pub no-farther-off : (e : Event) (l : Line) (others : ℕ) → is_take e ≡ false
       → frames_before c (after c e l) number others ≤ frames_before c l number others + (go_first (after c e l) - go_first l)
-  no-farther-off e l others apart = grind (arith, no-farther)
+  no-farther-off e l others apart = grind (arith, meanwhile)
 
   pub other-waits : (e : Event) (l : Line) → is_take e ≡ false → deactivates (service_at number) tei e ≡ false → IsSound c l → tei_at (place_at number) l ≡ Some tei → tei_at (place_at number) (after c e l) ≡ Some tei
       → (before : List ControlFrame) (f : ControlFrame) (behind : List ControlFrame) → Waiting l before f behind → (behind' : List ControlFrame) × Waiting (after c e l) before f behind'
@@ -120,7 +116,7 @@ module _ (c : Config) (ranged : IsInRange c) (number tei : ℕ) (few : number < 
       → (before behind : List ControlFrame) → Waiting l before f behind
       → frames_before c l number (length before) + come_first c (e ∷ es) l < takes_in (e ∷ es) → Rest f e es l → IsTakenIn c (e ∷ es) l (control_text c number tei f)
   unfolding come_first Rest
-  by-other f e es l apart up s at at' before behind waits less more = grind (arith, other-waits, no-farther, sooner)
+  by-other f e es l apart up s at at' before behind waits less more = grind (arith, other-waits, meanwhile, sooner)
 
   on-first : (es : List Event) (l : Line) → StaysOnLine c number tei es l → tei_at (place_at number) l ≡ Some tei
   unfolding StaysOnLine

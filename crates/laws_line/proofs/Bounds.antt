@@ -10,11 +10,8 @@ bit-most b = grind arith
 window-few : (b : Bool) (k used unsent : ℕ) → cond b (min (k - used) unsent) 0 ≤ k
 window-few b k used unsent = grind arith
 
-link-most : (t : Terms) (l : Link) → link_sound.IsSound t l → link_to_go t l ≤ t.control + t.k + 1
-link-most t l s = grind (arith, window-few, bit-most)
-
 at-most : (c : Config) (l : Line) → IsSound c l → (n : ℕ) → n < link_count c → to_go_at_link c l n ≤ c.control + max c.k c.k16 + 1
-at-most c l s n few = grind (arith, link-most, window_most)
+at-most c l s n few = grind (arith, window-few, bit-most, window_most)
 
 pub to-go-few : (c : Config) (l : Line) → IsSound c l → frames_to_go c l ≤ most_frames c
 to-go-few c l s = grind (arith, sum_bounded, at-most)

@@ -23,11 +23,8 @@ module _ (c : Config) (l : Line) where
   pub to-group : (address : Address) (what : link.Received) (m : Aim) → address.sapi ≡ 63 → address.tei ≡ 127 → addressed l address what m ≡ m
   to-group address what m sapi group = grind arith
 
-  pub message-aim : (e : Event) (info : List ℕ) (h : BringsMessage c e info) → aim_of_heard c l (stream.frame h.heard.octets) ≡ at_management (teis.message info)
-  message-aim e info h = grind (arith, to-group)
-
   heard-aim : (e : Event) (said : Said) (h : Hears c e said) → aim_of_heard c l (stream.frame h.octets) ≡ at_management (teis.message h.parts.info)
-  heard-aim e said h = grind (arith, message-aim)
+  heard-aim e said h = grind (arith, to-group)
 
   served : (e : Event) (said : Said) → IsSound c l → length l.management.places < 63 → Hears c e said
       → Serves said l.management (after c e l).management (lost_in (answer c e l))

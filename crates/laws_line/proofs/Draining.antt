@@ -63,11 +63,6 @@ drains c ranged (suc n) l s few = go (take-fewer c l s) (drains c ranged n (afte
         → HasNothing c (after_takes c n (after c next l))
     go o more = grind (arith, nothing-stays, all-stay, nothing-taken)
 
-pub sound-after_takes : (c : Config) → IsInRange c → (n : ℕ) (l : Line) → IsSound c l → IsSound c (after_takes c n l)
-unfolding after_takes
-sound-after_takes c ranged zero l s = s
-sound-after_takes c ranged (suc n) l s = sound-after_takes c ranged n (after c next l) (after_sound c ranged next l s)
-
 -- Then no call takes a frame.
 pub idles : (c : Config) (n : ℕ) (l : Line) → IsSound c l → HasNothing c l → IsIdling c n l
 idles c n l s h = grind (arith, nothing-taken, all-stay)

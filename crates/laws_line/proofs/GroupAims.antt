@@ -23,30 +23,24 @@ module _ (c : Config) (l : Line) (e : stream.Event) (P : Aim → Type 0) (none :
     (to_management : (parts : Parts) → IsUi c e parts → P (at_management (teis.message parts.info)))
     (to_the_group : (parts : Parts) (octets : List ℕ) → e ≡ stream.frame octets → reading (heard_side c) octets ≡ Ok parts → (service : Service)
     → IsToGroup c parts service → P (at_none (group_told service parts.info))) where
-  at-service : (service : Service) (tei : ℕ) (what : link.Received) (o : Option ℕ) → P (at_place service tei what o)
-  at-service service tei what o = grind arith
-
   to-links : (tei : ℕ) (what : link.Received) (o : Option Service) → P (to_service l tei what o)
-  to-links tei what o = grind (arith, at-service)
+  to-links tei what o = grind arith
 
   to : (address : Address) (what : link.Received) (m : Aim) → (address.sapi ≡ 63 → address.tei ≡ 127 → WhereServed c P m) → WhereServed c P (addressed l address what m)
   to address what m h = grind (arith, eqb-true, to-links)
-
-  dropped-too : (address : Address) (what : link.Received) → P (addressed l address what (drop_for Unserved))
-  dropped-too address what = grind (arith, to-links)
 
   unless : (aim : Aim) → P aim → P (unless_at_link aim)
   unless aim h = grind arith
 
   too-long : (r : Result Long ReadFault) → P (aim_of_long l r)
-  too-long r = grind (arith, dropped-too, unless)
+  too-long r = grind (arith, to-links, unless)
 
   module _ (octets : List ℕ) (by : e ≡ stream.frame octets) (parts : Parts) (read : reading (heard_side c) octets ≡ Ok parts) (sapi : parts.address.sapi ≡ 63) (group : parts.address.tei ≡ 127) where
     by-control : (k : Control) → parts.control ≡ k → WhereServed c P (message_of k parts.info)
     by-control k is = grind arith
 
   by-reading : (octets : List ℕ) → e ≡ stream.frame octets → (r : Result Parts ReadFault) → reading (heard_side c) octets ≡ r → P (aim_of_reading c l r)
-  by-reading octets by r read = grind (arith, side_where, to, by-control, dropped-too)
+  by-reading octets by r read = grind (arith, side_where, to, by-control, to-links)
 
   by-event : (x : stream.Event) → e ≡ x → P (aim_of_heard c l x)
   by-event x by = grind (arith, by-reading, too-long)

@@ -49,10 +49,10 @@ module _ (c : Config) (l : Line) (s : IsSound c l) (number : ℕ) (few : number 
 
       ended : link_number place service ≡ number → le ≡ link.cleared → IsDeactivated e a service tei
           → IsGivenUp service (link_number place service) e l a × (link_at (link_number place service) (of_aim c (at_link service tei place le) l).line ≡ fresh)
-      ended same is down = grind (arith, there-is, get_or-set_same)
+      ended same is down = grind (arith, place_at-number, get_or-set_same)
 
       one : link_number place service ≡ number → IsBy c e a service tei le → HasOne c service (link_number place service) e l (of_aim c (at_link service tei place le) l).line a
-      one same by = grind (arith, get_or-set_same, there-is)
+      one same by = grind (arith, get_or-set_same, place_at-number)
 
       go : (b : Bool) → (link_number place service == number) ≡ b → Goes (of_aim c (at_link service tei place le) l).line
       go true same =
@@ -113,12 +113,9 @@ module _ (c : Config) (l : Line) (s : IsSound c l) (number : ℕ) where
   taken-fate : IfSome (taken c l) Fate
   taken-fate = taken_walk c l s Fate (λ m ms e. inl refl) (λ u us e. inl refl) (λ n tei few at sound g e. given-at n tei few at)
 
-  next-fate : Offered (link_at number (option_map_or line_of (taken c l) l))
-  next-fate = next_walk c l Fate (λ o m. Offered (link_at number m)) taken-fate (inl refl) (λ t h. h)
-
   pub next-happens : Happens c number next l (after c next l) (answer c next l)
   unfolding after answer
-  next-happens = grind (arith, next-fate, option_map)
+  next-happens = grind (arith, next_walk, taken-fate, option_map)
 
 -- Any event.
 pub event-happens : (c : Config) (e : Event) (l : Line) (number : ℕ) → IsSound c l → number < link_count c → Happens c number e l (after c e l) (answer c e l)

@@ -41,9 +41,6 @@ leaves-on tei by e ns is on = grind arith
 not-not : (b : Bool) → not b ≡ false → b ≡ true
 not-not b e = grind arith
 
-joined-some : (tei : ℕ) (m : Management) (o : Option ℕ) → is_some o ≡ true → (join_at tei o (words.begun m)).told.change ≡ None → ⊥
-joined-some tei m o some e = grind (arith, none-some)
-
 left-some : (tei : ℕ) (o : Option ℕ) → is_some o ≡ true → option_map (left tei) o ≡ None → ⊥
 left-some tei o some e = grind (arith, none-some)
 
@@ -54,7 +51,7 @@ left-by tei m b e = grind arith
 module _ (c : Config) (l : Line) where
   assigned : (tei : ℕ) → refusal c false (Assign tei) l ≡ None → (teis.told (teis.assign tei) l.management).change ≡ None → ⊥
   unfolding teis.course teis.refusal
-  assigned tei granted e = grind (arith, skipped, nat_lt, is_some, joined-some, not-not)
+  assigned tei granted e = grind (arith, skipped, nat_lt, is_some, none-some, not-not)
 
   removed : (tei : ℕ) → refusal c false (Remove tei) l ≡ None → (teis.told (teis.remove tei) l.management).change ≡ None → ⊥
   unfolding teis.course teis.refusal

@@ -52,12 +52,9 @@ module _ (P : Link → Type 0) (begins : P fresh) (keeps : (t : Terms) (e : link
   set_holds (y ∷ ys) (suc n) (suc number) x all h = set_holds ys n number x (λ m. all (suc m)) h
 
   -- both links of a place begin anew
-  both_hold : (all : List Link) (a b number : ℕ) → ((m : ℕ) → P (get_or all m fresh)) → P (get_or (set (set all a fresh) b fresh) number fresh)
-  both_hold all a b number h = set_holds (set all a fresh) b number fresh (λ m. set_holds all a m fresh h begins) begins
-
   module _ (c : Config) (ranged : IsInRange c) (l : Line) (s : IsSound c l) (h : (number : ℕ) → P (link_at number l)) (number : ℕ) where
     changed : (o : Option Change) (r : LineTold) (now : Line) → ((m : ℕ) → P (link_at m now)) → P (link_at number (of_change c o r now).line)
-    changed o r now all = grind (arith, both_hold)
+    changed o r now all = grind (arith, set_holds)
 
     aimed : (aim : Aim) → IsProper c l aim → P (link_at number (of_aim c aim l).line)
     aimed (at_link service tei place e) proper =

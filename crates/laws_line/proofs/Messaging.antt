@@ -108,15 +108,9 @@ gone tei check m after on places forgotten ends = go (place_of tei m.places) ref
 second-is : (n : ℕ) → nat_le 2 (n + 1) ≡ nat_lt 0 n
 second-is n = grind (arith, nat_tests)
 
-twice-is : (check : Check) → nat_le 2 (rows.responses (rows.counted check)) ≡ is_answered check
-twice-is check = grind (arith, nat_le, second-is)
-
-counted-is : (check : Check) → is_answered check ≡ false → rows.counted check ≡ answered check
-counted-is check = grind (arith, nat_lt, ltb-false)
-
 responds-to : (check : Check) (m : Management) → IsSound m → is_on check.tei m.places ≡ true
     → let c = rows.count check.tei (rows.counted check) (begun m) in RespondsTo true (is_answered check) check m c.now c.told.lost
-responds-to check m s on = grind (arith, twice-is, sent, gone, counted-is)
+responds-to check m s on = grind (arith, nat_le, second-is, sent, gone, nat_lt, ltb-false)
 
 responded : (tei : ℕ) (m : Management) → IsSound m → (o : Option Check) → IfSome o (IsSoundCheck m.places)
     → let c = rows.respond tei o (begun m) in Responds tei o m c.now c.told.lost
@@ -139,11 +133,8 @@ module _ (m : Management) where
   ai action = (omega arith, omega arith)
 
   -- a verify, and an answer, whatever its Ri
-  by-ai : (type high low action last : ℕ) → last % 2 ≡ 1 → last / 2 ≡ action → served_as (0x0F ∷ high ∷ low ∷ type ∷ last ∷ []) ≡ rows.serve (heard_of_type type (256 * high + low) action) (begun m)
-  by-ai type high low action last odd half = grind arith
-
   as-spelled : (info : List ℕ) (type ri action : ℕ) → IsSpelled info type ri action → served_as info ≡ rows.serve (heard_of_type type ri action) (begun m)
-  as-spelled info type ri action h = grind (arith, by-ai, ai)
+  as-spelled info type ri action h = grind (arith, ai)
 
   pub serves : (said : Said) (info : List ℕ) → IsSound m → length m.places < 63 → Says info said → let c = served_as info in Serves said m c.now c.told.lost
   serves (asks ri) info s few h = subst (λ (c : Course). Serves (asks ri) m c.now c.told.lost) (sym (as-spelled info 1 ri 127 h)) (requests ri m s few)
@@ -195,12 +186,9 @@ pub puts-on : (tei : ℕ) (m : Management) → is_on tei m.places ≡ false → 
     → let c = rows.put_on tei (begun m) in IsPutOn tei m c.now c.told.lost
 puts-on tei m off some = grind (arith, is_some, free_place-is)
 
-check-without : (tei : ℕ) (o : Option Check) → cond (rows.is_checked tei o) None o ≡ check_without tei o
-check-without tei o = grind arith
-
 pub takes-off : (tei : ℕ) (m : Management) → no_room m.waiting ≡ false → is_on tei m.places ≡ true
     → let c = rows.take_off tei (begun m) in Waits (IdentityRemove tei) m c.now c.told.lost × Leaves tei (check_without tei m.check) m c.now
-takes-off tei m room on = grind (arith, waits, gone, check-without)
+takes-off tei m room on = grind (arith, waits, gone)
 
 pub begins-asked : (tei : ℕ) (m : Management) → no_room m.waiting ≡ false
     → let c = begin_check tei (begun m) in Waits (IdentityCheckRequest tei) m c.now c.told.lost × KeepsTeis (Some (new_check tei)) m c.now

@@ -14,11 +14,8 @@ own-notes t up (n ∷ ns) all =
 
 -- and for another
 module _ (t : Terms) (service : Service) (tei : ℕ) (other : (same_service t.service service && (t.tei == tei)) ≡ false) where
-  not-its : (s : Service) (n : ℕ) → (s ≡ t.service) × (n ≡ t.tei) → (same_service s service && (n == tei)) ≡ false
-  not-its s n own = ap (λ x. same_service x service && (n == tei)) own.0 ∙ ap (λ m. same_service t.service service && (m == tei)) own.1 ∙ other
-
   other-note : (up : Bool) (n : Note) → IsOwn t n → up_by_note service tei up n ≡ up
-  other-note up n own = grind (arith, not-its)
+  other-note up n own = grind arith
 
   pub other-notes : (up : Bool) (ns : List Note) → All (IsOwn t) ns → fold (up_by_note service tei) up ns ≡ up
   other-notes up [] all = refl

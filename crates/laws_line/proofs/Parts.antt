@@ -7,7 +7,6 @@ use Rattle.lapd_tei.proofs.LawLemmas as tei_lemmas
 use Rattle.model_link.specs.Events as link
 use Rattle.model_link.specs.Machine as links
 use Rattle.laws_line.proofs.Alone.{is-alone}
-use Rattle.laws_line.proofs.Causing.{message-aim}
 use Rattle.laws_line.proofs.Granting.{not-refused}
 use Rattle.laws_line.proofs.GroupAims.{heard-aims-at}
 use Rattle.model_line.proofs.LinksSound.{begin_here, begin_away}
@@ -63,7 +62,7 @@ module _ (c : Config) (l : Line) (s : IsSound c l) where
 
   by-message : (e : Event) (info : List ℕ) → BringsMessage c e info → Managed e (teis.message info)
   unfolding after answer
-  by-message e info b = grind (arith, message-aim, managed)
+  by-message e info b = grind (arith, managed)
 
   by-request : (r : Request) (me : teis.Event) → tei_laws.IsInRange me → aim_of_request r l ≡ at_management me → refusal c false r l ≡ None → Managed (request r) me
   unfolding after answer

@@ -19,26 +19,17 @@ module _ (P : Note → Type 0) (m : Management) where
   new-noted : ((tei : ℕ) → P (Assigned tei)) → (ri : ℕ) (place tei : Option ℕ) → Each (rows.assign_new ri place tei (begun m))
   new-noted h ri place tei = grind (arith, one)
 
-  assign-noted : ((tei : ℕ) → P (Assigned tei)) → (ri : ℕ) (o : Option ℕ) → Each (rows.assign ri o (begun m))
-  assign-noted h ri o = grind (arith, new-noted)
-
   request-noted : ((tei : ℕ) → P (Assigned tei)) → (ri : ℕ) → Each (rows.request ri (begun m))
-  request-noted h ri = grind (arith, assign-noted)
+  request-noted h ri = grind (arith, new-noted)
 
   verify-noted : (tei : ℕ) → Each (rows.verify tei (begun m))
   verify-noted tei = grind arith
 
-  count-noted : (tei : ℕ) → P (Doubled tei) → (check : Check) → Each (rows.count tei check (begun m))
-  count-noted tei h check = grind (arith, nat_le, one)
-
   respond-noted : (tei : ℕ) → P (Doubled tei) → (o : Option Check) → Each (rows.respond tei o (begun m))
-  respond-noted tei h o = grind (arith, count-noted)
-
-  ends-noted : ((tei : ℕ) → P (Removed tei)) → (p : Period) (check : Check) → Each (rows.expire_period check p (begun m))
-  ends-noted h p check = grind (arith, one)
+  respond-noted tei h o = grind (arith, nat_le, one)
 
   expiry-noted : ((tei : ℕ) → P (Removed tei)) → (o : Option Check) → Each (rows.expire_check o (begun m))
-  expiry-noted h o = grind (arith, ends-noted)
+  expiry-noted h o = grind (arith, one)
 
   -- what a message of a terminal has noted is explained by its octets
   module _ (info : List ℕ) (when-asked : (ri tei : ℕ) → Says info (asks ri) → P (Assigned tei)) (when-answered : (tei : ℕ) → Says info (responds tei) → P (Doubled tei)) where
@@ -57,15 +48,6 @@ module _ (P : Note → Type 0) (m : Management) where
 
     message-noted : (octets : List ℕ) → info ≡ octets → Each (rows.serve (heard_in octets) (begun m))
     message-noted octets is = grind (arith, and_parts, by-type, eqb-true)
-
-  put-noted : (tei : ℕ) (o : Option ℕ) → Each (rows.join_at tei o (begun m))
-  put-noted tei o = grind arith
-
-  off-noted : (tei : ℕ) → Each (rows.take_off tei (begun m))
-  off-noted tei = grind arith
-
-  unless-noted : (o : Option Refusal) (e : teis.Event) → Each (teis.step e (begun m)) → Each (teis.unless_refused o (teis.step e) m)
-  unless-noted o e h = grind arith
 
 -- Each event of a line. Notes of links say nothing of TEIs.
 module _ (c : Config) (l : Line) (e : Event) where
@@ -101,7 +83,7 @@ module _ (c : Config) (l : Line) (e : Event) where
 
   granted-noted : (r : Request) → All P (of_aim c (aim_of_request r l) l).told.notes
   unfolding teis.course
-  granted-noted r = grind (arith, asked-noted, deactivated-noted, by-down, management-noted, unless-noted, put-noted, off-noted)
+  granted-noted r = grind (arith, asked-noted, deactivated-noted, by-down, management-noted)
 
 pub have-reasons : (c : Config) (e : Event) (l : Line) → HaveReasons c e (answer c e l)
 unfolding answer teis.course teis.refusal

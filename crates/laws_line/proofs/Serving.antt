@@ -182,9 +182,6 @@ units-wait c (request r) l = go (refusal c false r l)
 units-wait c next l = tt
 
 -- Whose turn it is stays.
-aim-turn : (c : Config) (m : Line) (aim : Aim) → (of_aim c aim m).line.turn ≡ m.turn
-aim-turn c m aim = grind (arith, by-down)
-
 pub turn-stays : (c : Config) (e : Event) (l : Line) → TurnStays e l (after c e l)
 unfolding after
-turn-stays c e l = grind (arith, aim-turn)
+turn-stays c e l = grind (arith, by-down)

@@ -106,16 +106,13 @@ module _ (c : Config) where
       go o h = grind arith
 
   -- any event
-  request_notes : (r : Request) (l : Line) (o : Option Refusal) → length (notes_in (unless_refused_told o (of_aim c (unless_refused o (aim_of_request r l)) l))) ≤ 4
-  request_notes r l o = grind (arith, request_short)
-
   request_orders : (r : Request) (l : Line) (o : Option Refusal) → length (orders_in (unless_refused_told o (of_aim c (unless_refused o (aim_of_request r l)) l))) ≤ 4
   request_orders r l None = (request_short l r).orders
   request_orders r l (Some why) = omega arith
 
   notes_few : (e : Event) (l : Line) → length (notes_in (answer c e l)) ≤ 4
   unfolding answer
-  notes_few e l = grind (arith, heard_short, expiry_short, request_notes)
+  notes_few e l = grind (arith, heard_short, expiry_short, request_short)
 
   orders_few : (e : Event) (l : Line) → length (orders_in (answer c e l)) ≤ 4
   unfolding answer

@@ -2,14 +2,10 @@
 use Rattle.laws_line.proofs.Vocabulary.{◌≡◌, ℕ, ◌+◌, ◌-◌, ◌*◌, ◌≤◌, ◌<◌, Bool, true, false, cond, List, ◌∷◌, ◌++◌, length, Option, Some, None, refl, ap, inr, arith, length-append, nat_le, mul-le-mul_right, leb-false, ControlFrame, Config, Line, link_count, place_at, tei_at, link_at, IsInRange, IsSoundAt, IsSound, way_round, frames_before, IsEnough, control_text, IsTakenWithin, most_frames_before}
 use Rattle.laws_line.proofs.Ordered.{enough-goes}
 
--- at most each other link comes before in the round
-way-few : (count turn number : ℕ) → number < count → way_round count turn number ≤ count - 1
-way-few count turn number few = grind (arith, nat_le, leb-false)
-
 -- by numbers alone
 pub few-before : (c : Config) (l : Line) → IsSound c l → (number others : ℕ) → number < link_count c → others + 1 ≤ c.control
     → frames_before c l number others ≤ most_frames_before c
-few-before c l s number others few room = grind (arith, way-few, mul-le-mul_right)
+few-before c l s number others few room = grind (arith, nat_le, leb-false, mul-le-mul_right)
 
 pub enough-before : (c : Config) (l : Line) → IsSound c l → (number others n : ℕ) → number < link_count c → others + 1 ≤ c.control
     → most_frames_before c < n → IsEnough c n l number others

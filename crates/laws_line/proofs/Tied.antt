@@ -14,12 +14,9 @@ module _ (c : Config) (l : Line) (e : Event) (answer : Answer) where
   placed : (service : Service) (tei : ℕ) (what : link.Received) → IsBy c e answer service tei (link.received what) → (o : Option ℕ) → Tied (at_place service tei what o)
   placed service tei what by o = grind arith
 
-  to-its : (tei : ℕ) (what : link.Received) (o : Option Service) → ((service : Service) → o ≡ Some service → IsBy c e answer service tei (link.received what)) → Tied (to_service l tei what o)
-  to-its tei what o by = grind (arith, placed)
-
   by-address : (address : Address) (what : link.Received) (m : Aim) → Tied m
       → ((service : Service) → service_of address.sapi ≡ Some service → IsBy c e answer service address.tei (link.received what)) → Tied (addressed l address what m)
-  by-address address what m ties by = grind (arith, to-its)
+  by-address address what m ties by = grind (arith, placed)
 
   message-ties : (k : Control) (info : List ℕ) → Tied (message_of k info)
   message-ties k info = grind arith
@@ -64,12 +61,8 @@ heard-ties c l (stream.overlong head) answer = long-ties c l answer head (long_r
 heard-ties c l (stream.dropped cause) answer = tt
 
 -- An expiry.
-timer-ties : (c : Config) (l : Line) (answer : Answer) (service : Service) (tei : ℕ) (timer : LinkTimer) (o : Option ℕ)
-    → Ties c (expiry (Rattle.laws_line.specs.Steady.timer_of service tei timer)) answer (at_timer service tei timer o)
-timer-ties c l answer service tei timer o = grind arith
-
 pub expiry-ties : (c : Config) (l : Line) (timer : Timer) (answer : Answer) → Ties c (expiry timer) answer (aim_of_expiry timer l)
-expiry-ties c l timer answer = grind (arith, timer-ties)
+expiry-ties c l timer answer = grind arith
 
 -- A request that is granted.
 module _ (c : Config) (l : Line) (answer : Answer) (granted : is_granted answer ≡ true) where

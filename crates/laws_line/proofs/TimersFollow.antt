@@ -175,11 +175,8 @@ runs-follow c (request r) l timer s timed = go (refusal c false r l) (request_pr
 runs-follow c next l timer s timed = next-followed c l s timer
 
 -- A timely line runs what it needs.
-needs-runs : (k : LinkTimer) (service : Service) (l : Line) → HaveTheirTimers l → (o : Option ℕ) → option_map_or (link_needs k service l) o false ≡ runs_at service k o l
-needs-runs k service l h o = grind arith
-
 pub needed-runs : (l : Line) → HaveTheirTimers l → (timer : Timer) → is_needed timer l ≡ is_running timer l
-needed-runs l h timer = grind (arith, needs-runs)
+needed-runs l h timer = grind arith
 
 pub timely-line : (c : Config) (e : Event) (l : Line) → IsInRange c → IsSound c l → HaveTheirTimers l → HaveTheirTimers (after c e l)
 timely-line c e l ranged s h = record {

@@ -9,11 +9,8 @@ use Rattle.lapd_tei.specs.Laws as tei_laws
 use Rattle.lapd_tei.proofs.LawLemmas as tei_lemmas
 
 -- A note of a link that tells a loss tells it of this link.
-pub same_of_itself : (s : Service) → same_service s s ≡ true
-same_of_itself s = grind arith
-
 pub its-own : (t : Terms) (s : Service) (n : ℕ) → (s ≡ t.service) × (n ≡ t.tei) → (same_service s t.service && n == t.tei) ≡ true
-its-own t s n own = grind (arith, same_of_itself, eq-eqb)
+its-own t s n own = grind (arith, eq-eqb)
 
 own-loss : (t : Terms) (n : Note) → IsOwn t n → is_loss_of t.service t.tei n ≡ is_loss n
 own-loss t n own = grind (arith, its-own)

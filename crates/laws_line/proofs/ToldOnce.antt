@@ -38,11 +38,8 @@ cleared-none : (t : Terms) (l : Link) → count_by tells_contents (links.told t 
 cleared-none t l = grind arith
 
 -- TEI management's: none is of contents.
-is-none : (ns : List Note) (known : List Note) → ns ≡ known → count_by tells_contents known ≡ 0 → count_by tells_contents ns ≡ 0
-is-none ns known e none = ap (count_by tells_contents) e ∙ none
-
 management-none : (e : teis.Event) (o : Option Change) (ns : List Note) → ByChange e o ns → count_by tells_contents ns ≡ 0
-management-none e o ns by = grind (arith, is-none)
+management-none e o ns by = grind arith
 
 three-none : (a b c : List Note) → count_by tells_contents a ≡ 0 → count_by tells_contents b ≡ 0 → count_by tells_contents c ≡ 0
     → count_by tells_contents (a ++ b ++ c) ≡ 0

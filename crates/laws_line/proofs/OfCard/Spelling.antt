@@ -11,11 +11,8 @@ both x y small few = All-cons (λ octet. octet < 256) x (y ∷ []) small (one y 
 second : (first : ℕ) (nr : Seq) (pf : Bool) → first < 256 → AreOctets (first ∷ second_octet nr pf ∷ [])
 second first nr pf small = grind (arith, both)
 
-by-pf : (without with_pf : ℕ) (pf : Bool) → without < 256 → with_pf < 256 → AreOctets (one_of without with_pf pf)
-by-pf without with_pf pf small few = grind (arith, one)
-
 field : (c : Control) → AreOctets (row c).field
-field c = grind (arith, second, by-pf)
+field c = grind (arith, second, one)
 
 few-cr : (side : Side) (command : Bool) → cr_bit side command ≤ 1
 few-cr side command = grind arith

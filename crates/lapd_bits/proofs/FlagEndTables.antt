@@ -26,8 +26,7 @@ mark_at ones octet small =
   where
     by_test : (before : ℕ) (quiet : Bool)
         → nat_eq (ones + (if quiet then before else 7)) 6 ≡ (nat_eq (ones + before) 6 && quiet)
-    by_test before true = sym (and-true (nat_eq (ones + before) 6))
-    by_test before false = ne_eqb (ones + 7) 6 (λ e. absurd (omega arith)) ∙ sym (and-false (nat_eq (ones + before) 6))
+    by_test before quiet = grind (arith, and-true, nat_eq, ne_eqb, and-false)
 
 -- ---- what is behind it
 
@@ -99,5 +98,4 @@ module _ (octet : ℕ) (small : octet < 256) where
       )
     where
       unmarked : (m b : Bool) → m ≡ false → (m || b) ≡ true → b ≡ true
-      unmarked true b none h = absurd (false≢true (sym none))
-      unmarked false b none h = h
+      unmarked m b none h = grind arith

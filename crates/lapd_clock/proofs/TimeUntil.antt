@@ -27,9 +27,4 @@ time_until-stop c line timer now end = left-without line timer end c.running
 -- a timer that is started adds at most what it runs itself
 pub time_until-start : (c : Timers) (line : ℕ) (timer : Timer) (now end : ℕ) → time_until end (with_order c line (Start timer) now) ≤ time_until end c + (end + 1 - (now + duration c.lengths timer))
 unfolding with_order
-time_until-start c line timer now end =
-    let e : Expiry = record { moment = now + duration c.lengths timer; line = line; timer = timer } in
-    elim (finds_place c line (Start timer)) as (λ b. time_until end (cond b (record c { running = put_in_order is_before e (without line timer c.running) }) c) ≤ time_until end c + (end + 1 - (now + duration c.lengths timer))) [
-      | true ↦ omega (arith, sum_by-put_in_order is_before (λ (x : Expiry). end + 1 - x.moment) e (without line timer c.running), left-without line timer end c.running)
-      | false ↦ omega arith
-    ]
+time_until-start c line timer now end = grind (arith, sum_by-put_in_order, left-without)

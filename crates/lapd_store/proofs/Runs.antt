@@ -17,6 +17,4 @@ run_of cs from xs within holds =
 
 -- and such a run was written
 pub holds_run : (cs : List (Option ℕ)) (from n : ℕ) (xs : List ℕ) → take n (drop from cs) ≡ map Some xs → Holds cs from xs
-holds_run cs from n xs run k lt =
-    let less : k < n = omega (arith, lt, ap length run, length-map xs Some, length-take n (drop from cs)) in
-    sym (get_or-drop from cs k None) ∙ sym (get_or-take n (drop from cs) k None less) ∙ ap (λ l. get_or l k None) run ∙ get_some xs k
+holds_run cs from n xs run k lt = grind (arith, length-map, length-take, get_or-drop, get_or-take, get_some)

@@ -33,7 +33,3 @@ unit-sound = after_sound small refl (request (Request.Unit Call 127 (0xAB ∷ []
 stays : StaysOnLine small 0 64 events asked
 unfolding StaysOnLine
 stays = (still_on_line, refl, (check-on_line, refl, takes-leave 4 unit_asked unit-sound unit-on_line))
-
-pub is-taken : IsTakenIn small events asked (control_text small 0 64 (response (ReceiveReady (seq 0) true)))
-is-taken =
-    taken-in small refl 0 64 (omega arith) (response (ReceiveReady (seq 0) true)) events asked asked-sound stays (response (Ua true) ∷ []) [] both_wait (omega (arith, one_comes, frames_first, takes_are))

@@ -10,10 +10,7 @@ given_up l = record {
 }
 
 pub down-is : (c : Config) (l : Line) → of_aim c at_no_link l ≡ given_up l
-down-is c l =
-    let g = down_gives_up l.management in
-    ap (λ (t : TeiTold). of_change c t.change (told_of_management t) (record l { management = teis.after teis.down l.management; units = [] })) g.told
-    ∙ ap (λ (m : Management). of_change c None (record nothing { orders = stop_of l.management.check }) (record l { management = m; units = [] })) g.after
+down-is c l = grind (arith, down_gives_up)
 
 -- What holds of that holds of what comes of it.
 pub by-down : (c : Config) (l : Line) (P : Effect → Type 0) → P (given_up l) → P (of_aim c at_no_link l)

@@ -26,21 +26,11 @@ module _ (c : Config) (l : Line) (s : IsSound c l) where
       offered = links.after its link.offer (link_at x.number l)
 
       go : starting.LeavesTimers its (link_at x.number l) offered x.what.orders → Leaves x.what.orders (with_given_frame c l x.number its x.what).line
-      go (inl none) = inl none
-      go (inr starts) =
-          inr (record {
-            number = x.number;
-            tei = x.tei;
-            on_line = x.on_line;
-            starts =
-                subst (λ y. starting.StartsT200 its (link_at x.number l) y x.what.orders)
-                (sym (get_or-set_same l.links x.number offered fresh (omega (arith, x.few, s.count)))) starts;
-          })
+      go o = grind (arith, its, get_or-set_same, offered)
 
   called : Leaves (orders_in (gives (option_map next_of (taken c l)))) (option_map_or line_of (taken c l) l)
   called = next_walk c l (IsOne c l) (λ o m. Leaves (orders_in (gives (option_map next_of o))) m) (taken-one c l s) (inl refl) took
 
 pub takes-leave : (c : Config) (e : Event) (l : Line) → IsSound c l → LeavesTimers c e l (after c e l) (answer c e l)
 unfolding after answer
-takes-leave c next l s = called c l s
-takes-leave c other l s = tt
+takes-leave c e l s = grind (arith, called)

@@ -15,8 +15,7 @@ module _ (t : Terms) where
   malformed here l = (grind arith, grind arith, grind arith)
 
   by-timer : (timer : LinkTimer) (here : State) (l : Link) (o : Option LinkTimer) → Row t (expired timer) (at-running here o l)
-  by-timer T200 here l o = grind arith
-  by-timer T203 here l o = grind arith
+  by-timer timer here l o = grind arith
 
   by-request : (request : Request) (full : Bool) (here : State) (l : Link) (own rej : Bool) → Row t (requested request full) (at-busy here own rej l)
   by-request request full here l own rej = grind arith

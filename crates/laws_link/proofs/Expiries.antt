@@ -19,5 +19,4 @@ module _ (t : Terms) (l : Link) where
   -- the timer that runs
   pub expires : (timer : LinkTimer) → runs timer l.running ≡ true
       → Expires timer t l (after t (expired timer) l) (told t (expired timer) l).notes (told t (expired timer) l).lost
-  expires timer running =
-      subst (λ b. Does l.state timer (cond b (expired_in l.state timer t (begun l)) (begun l))) (sym running) (expires-in l.state refl timer)
+  expires timer running = grind (arith, expires-in)

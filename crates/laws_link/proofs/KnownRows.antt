@@ -46,8 +46,7 @@ cleared-knows t here l = grind arith
 
 -- an establishment is granted in state 4 alone
 granted-in-4 : (here : State) → cond (Requests.is_down here) None (Some WrongState) ≡ None → here ≡ TeiAssigned
-granted-in-4 TeiAssigned e = refl
-granted-in-4 other e = cc
+granted-in-4 here e = grind arith
 
 module _ (t : Terms) (l : Link) where
   here : At (is_up l) l.state (begun l)
@@ -63,16 +62,11 @@ module _ (t : Terms) (l : Link) where
   establishes at = (establish_knows (is_up l) t).leads (begun l) (record { state_is = at; known_is = subst (λ x. is_up l ≡ up_by x l.asked) at (is-up-by l.state l) })
 
   granted : (request : Request) (full : Bool) → Requests.refusal t l full request ≡ None → Ends (is_up l) (Requests.granted t request (begun l))
-  granted Establish full e = establishes (granted-in-4 l.state e)
-  granted Release full e = (release_knows (is_up l) t l.state).leads (begun l) here
-  granted (Data octets) full e = (at_ends (is_up l) (leaves {f = data_in_7_8 octets} (λ c h. h))).leads (begun l) here
-  granted SetBusy full e = (set_busy_knows (is_up l) t l.state).leads (begun l) here
-  granted ClearBusy full e = (clear_busy_knows (is_up l) t l.state).leads (begun l) here
+  granted request full e = grind (arith, establishes, granted-in-4, release_knows, here, at_ends, set_busy_knows, clear_busy_knows)
 
   requests : (request : Request) (full : Bool) (o : Option Refusal) → Requests.refusal t l full request ≡ o
       → Ends (is_up l) (elim o as (λ o. Course) [ None ↦ Requests.granted t request (begun l) | Some _ ↦ begun l ])
-  requests request full None e = granted request full e
-  requests request full (Some w) e = unchanged
+  requests request full o e = grind (arith, granted, unchanged)
 
   event-knows : (e : Event) → Ends (is_up l) (course t e l)
   event-knows (received (frame f)) = frames f.address.command f.info f.control

@@ -49,16 +49,7 @@ module _ (all : List (List ℕ)) (a s : ℕ) (ordered : a ≤ s) (most : s ≤ l
   Stays all' a' s' loss zeroed unit = Same all a s all' a' s' loss zeroed unit
 
   pub stays : (c : Course) → On Stays c → On (Moves all a s 0) c
-  stays c h =
-      inl (record {
-        contents = h.contents;
-        acknowledged = omega (arith, h.acknowledged);
-        among = omega (arith, ordered, most);
-        sent = inl h.sent;
-        no_loss = h.no_loss;
-        goes_on = h.goes_on;
-        no_unit = h.no_unit;
-      })
+  stays c h = grind arith
 
   -- by an N(R): an invalid one, or one that names m
   by-number : (t : Terms) (f : ℕ → Step) → ((m : ℕ) → a ≤ m → m ≤ s → Leads (On Stays) (f m) (On (Moves all a s (m - a)))) → (c : Course) → On Stays c → (nr : Seq) (o : Option ℕ) → named a s nr ≡ o

@@ -11,8 +11,7 @@ delivery-is r o = grind arith
 
 module _ (t : Terms) (l : Link) where
   establishing : (control : Control) (octets : List ℕ) → MayEstablish control → information_of control octets ≡ None
-  establishing (Information ns nr p) octets may = absurd may
-  establishing other octets may = refl
+  establishing control octets may = grind arith
 
   none-due : (e : Event) → restarts t e l ≡ true → data_due t e l ≡ None
   none-due e begins = grind (arith, establishing, establishes)
@@ -60,8 +59,7 @@ module _ (t : Terms) (l : Link) where
 
   information : (ns nr : Seq) (p : Bool) (octets : List ℕ) (f : ℕ → Step) → ((n : ℕ) (c : Course) → (f n c).notes ≡ c.notes)
       → AtMostOne (MultipleFrame.information_in_7_8 t ns nr p octets f (begun l))
-  information ns nr p octets f keeps =
-      both_ways AtMostOne (nat_lt t.n201 (length octets)) _ _ (omega arith) (by-number nr f keeps (MultipleFrame.contents_in_7_8 t ns p octets (begun l)) (contents ns p octets))
+  information ns nr p octets f keeps = grind (arith, both_ways, nat_lt, by-number, contents)
 
   keeps-in-7 : (n : ℕ) (c : Course) → (acknowledged_by_information_in_7 n c).notes ≡ c.notes
   keeps-in-7 n c = grind (arith, both_ways)
@@ -70,8 +68,7 @@ module _ (t : Terms) (l : Link) where
   i-frame here b octets ns nr p = grind (arith, information, keeps-in-7)
 
   data-frame : (b : Bool) (octets : List ℕ) (control : Control) (contents : List ℕ) → in_i_frame control octets ≡ Some contents → AtMostOne (frame_step t b octets control (begun l))
-  data-frame b octets (Information ns nr p) contents h = i-frame l.state b octets ns nr p
-  data-frame b octets other contents h = absurd (none-some contents h)
+  data-frame b octets control contents h = grind (arith, i-frame, none-some)
 
   data-few : (e : Event) (contents : List ℕ) → contents_heard e ≡ Some contents → AtMostOne (course t e l)
   data-few (received (frame f)) contents h = data-frame f.address.command f.info f.control contents h
@@ -81,16 +78,13 @@ module _ (t : Terms) (l : Link) where
   OneUnit c = count_by is_unit c.notes ≤ 1
 
   ui-frame : (here : State) (b : Bool) (octets : List ℕ) (p : Bool) → OneUnit (frame_in here t b octets (Ui p) (begun l))
-  ui-frame TeiAssigned b octets p = both_ways OneUnit (nat_lt t.n201 (length octets)) _ _ (omega arith) (omega arith)
-  ui-frame other b octets p = both_ways OneUnit (nat_lt t.n201 (length octets)) _ _ (omega arith) (omega arith)
+  ui-frame here b octets p = grind (arith, both_ways, nat_lt)
 
   unit-frame : (b : Bool) (octets : List ℕ) (control : Control) (contents : List ℕ) → in_ui_frame control octets ≡ Some contents → OneUnit (frame_step t b octets control (begun l))
-  unit-frame b octets (Ui p) contents h = ui-frame l.state b octets p
-  unit-frame b octets other contents h = absurd (none-some contents h)
+  unit-frame b octets control contents h = grind (arith, ui-frame, none-some)
 
   unit-few : (e : Event) (contents : List ℕ) → unit_heard e ≡ Some contents → OneUnit (course t e l)
-  unit-few (received (frame f)) contents h = unit-frame f.address.command f.info f.control contents h
-  unit-few other contents h = absurd (none-some contents h)
+  unit-few e contents h = grind (arith, unit-frame, none-some)
 
   pub noted-once : IsSound t l → (e : Event) → IsNotedOnce (told t e l)
   noted-once s e = record {

@@ -29,8 +29,7 @@ module _ (l : Link) where
   begins = record { sent = refl; busy = inl refl; no_loss = refl }
 
   pub still-busy : (c : Course) (n : Note) → Busy l c → Busy l (note n c)
-  still-busy c n (inl e) = inl e
-  still-busy c n (inr x) = inr (x.0, told-still c.notes n x.1)
+  still-busy c n o = grind (arith, told-still)
 
   pub note_ordinary : (n : Note) → is_loss n ≡ false → Leads (Ordinary l) (note n) (Ordinary l)
   note_ordinary n e = record { leads = λ c h. record { sent = h.sent; busy = still-busy c n h.busy; no_loss = no_loss-note c.notes n e ∙ h.no_loss } }

@@ -20,12 +20,10 @@ module _ (most : ℕ) where
   no-room fs ws n e = let x = full fs ws n e in (x.0 ∙ none fs, x.1 ∙ all fs)
     where
       none : (fs : List ControlFrame) → ws ≡ ws ++ take zero fs
-      none [] = sym (append-nil ws)
-      none (f ∷ fs) = sym (append-nil ws)
+      none fs = grind (arith, append-nil)
 
       all : (fs : List ControlFrame) → n + length fs ≡ n + length (drop zero fs)
-      all [] = refl
-      all (f ∷ fs) = refl
+      all fs = grind arith
 
   -- room for m
   partly : (m : ℕ) (fs ws : List ControlFrame) (n : ℕ) → length ws + m ≡ most
@@ -53,6 +51,4 @@ module _ (most : ℕ) where
       (cases_lt (length ws) most)
     where
       none : most ≤ length ws → (m : ℕ) → zero ≡ m → (queued most ws fs ≡ ws ++ take m fs) × (unplaced most ws 0 fs ≡ length (drop m fs))
-      none more m e =
-          subst (λ m. (queued most ws fs ≡ ws ++ take m fs) × (unplaced most ws 0 fs ≡ length (drop m fs))) e
-          (from-none zero fs ws (no-room fs ws 0 (le-ltb (length ws) most more)))
+      none more m e = grind (arith, queued, unplaced, from-none, no-room, le-ltb)

@@ -48,8 +48,7 @@ module _ (t : Terms) (l : Link) (ordered : l.a ≤ l.s) (most : l.s ≤ length l
   frames_in_4 none octets control is = grind (arith, none-left, begins, still, words)
 
   pub released_in_4 : length l.contents ≡ l.a → On (Move 0) (release_in_4 t (begun l))
-  released_in_4 none =
-      inr (inl (record { contents = all-taken none; acknowledged = refl; sent = omega (arith, ordered, most, none); told = refl; goes_on = refl; no_unit = refl }))
+  released_in_4 none = grind (arith, all-taken)
 
   pub established_in_4 : On (Move 0) (establish_in_4 t (begun l))
   established_in_4 = still (establish_in_4 t) (search words)
@@ -86,12 +85,10 @@ module _ (t : Terms) (l : Link) (ordered : l.a ≤ l.s) (most : l.s ≤ length l
   went m from to all a s loss zeroed unit e e' sent no_loss on none = grind arith
 
   acknowledging : (m : ℕ) → l.a ≤ m → m ≤ l.s → Leads (On Stay) (acknowledge m) (On (Move (m - l.a)))
-  acknowledging m from to =
-      record { leads = λ c h. went m from to c.link.contents m c.link.s _ c.zeroed c.unit h.contents refl (inl h.sent) h.no_loss h.goes_on h.no_unit }
+  acknowledging m from to = grind (arith, went)
 
   acknowledging-then : (m : ℕ) → l.a ≤ m → m ≤ l.s → (timer : LinkTimer) → Leads (On Stay) (acknowledge m then start timer) (On (Move (m - l.a)))
-  acknowledging-then m from to timer =
-      record { leads = λ c h. went m from to c.link.contents m c.link.s _ c.zeroed c.unit h.contents refl (inl h.sent) h.no_loss h.goes_on h.no_unit }
+  acknowledging-then m from to timer = grind (arith, went)
 
   in-7 : (m : ℕ) → l.a ≤ m → m ≤ l.s → Leads (On Stay) (Established.acknowledged_in_7 m) (On (Move (m - l.a)))
   in-7 m from to = grind (arith, depending_leads, acknowledging-then, tested_leads, from_more, ltb-false, went)
@@ -100,8 +97,7 @@ module _ (t : Terms) (l : Link) (ordered : l.a ≤ l.s) (most : l.s ≤ length l
   in-7-by-information m from to = depending_leads is_peer_busy (acknowledging m from to) (in-7 m from to)
 
   in-7-by-rej : (m : ℕ) → l.a ≤ m → m ≤ l.s → Leads (On Stay) (Established.acknowledged_by_rej_in_7 m) (On (Move (m - l.a)))
-  in-7-by-rej m from to =
-      record { leads = λ c h. went m from to c.link.contents m m _ c.zeroed c.unit h.contents refl (inr refl) h.no_loss h.goes_on h.no_unit }
+  in-7-by-rej m from to = grind (arith, went)
 
   in-8 : (timer : LinkTimer) (final : Bool) (m : ℕ) → l.a ≤ m → m ≤ l.s → Leads (On Stay) (TimerRecovery.acknowledged_in_8 timer final m) (On (Move (m - l.a)))
   in-8 timer final m from to = grind (arith, bit_leads, went, acknowledging)

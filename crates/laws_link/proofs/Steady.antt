@@ -132,8 +132,7 @@ module _ (Asks : ℕ → Type 0) (t : Terms) (l : Link) where
   t200 here = grind (arith, ordinary, begins, Ordinary, words, both_ways, nat_lt, still)
 
   pub t203 : (here : State) → Row Asks ⊥ l (expired_in here T203 t (begun l))
-  t203 Established = still Asks ⊥ t l (timer_in_7 t) (search words)
-  t203 other = ordinary Asks ⊥ t l (begun l) (begins l)
+  t203 here = grind (arith, still, words, ordinary, begins)
 
 -- Any event.
 pub record Steady (t : Terms) (e : Event) (l : Link) : Type 0 where
@@ -143,8 +142,7 @@ pub record Steady (t : Terms) (e : Event) (l : Link) : Type 0 where
 
 module _ (t : Terms) (l : Link) where
   busy-by : (e : Event) (c : Course) → Busy l c → MovesBusy e l c.link c.notes
-  busy-by e c (inl x) = inl x
-  busy-by e c (inr x) = inr (inr (x.0, inr x.1))
+  busy-by e c o = grind arith
 
   -- of a row of a frame or of an expiry
   abbrev Sent : Event → Course → Type 0
@@ -157,10 +155,7 @@ module _ (t : Terms) (l : Link) where
       record { sent = sent x.sent; busy = busy-by e (course t e l) x.busy; loss = x.loss }
     where
       sent : Sent (received (frame f)) (course t (received (frame f)) l) → MovesSent t (received (frame f)) l (after t (received (frame f)) l)
-      sent (inl x) = inl x
-      sent (inr (inl x)) = inr (inr (inl x))
-      sent (inr (inr (inl x))) = inr (inr (inr (inl x)))
-      sent (inr (inr (inr x))) = inr (inr (inr (inr x)))
+      sent o = grind arith
 
   by-malformed : (what : Received) → Row (AsksFrom (received what) l) ⊥ l (received_step t what (begun l)) → Steady t (received what) l
   by-malformed what x = grind (arith, busy-by)
@@ -181,8 +176,7 @@ module _ (t : Terms) (l : Link) where
     loss : (cond refused false (is_release request) || tells_loss c.notes) ≡ true → MayLose (requested request full)
 
   one-of : (request : Request) (full : Bool) (b : Bool) (u v : Course) → Asked request full false u → Asked request full false v → Asked request full false (cond b u v)
-  one-of request full true u v x y = x
-  one-of request full false u v x y = y
+  one-of request full b u v x y = grind arith
 
   released : (full : Bool) (here : State) → Asked Release full false (Requests.release_in here t (begun l))
   released full here = grind arith

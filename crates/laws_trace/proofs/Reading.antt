@@ -13,8 +13,7 @@ other-frame side a c other info = read-again side (λ r. carries_unit r ≡ fals
 
 -- Unit data is, with the SAPI of its service.
 by-service : (service : Service) → not (sapi_of service == management_sapi) ≡ true
-by-service Call = refl
-by-service Packet = refl
+by-service service = grind arith
 
 pub unit-is : (c : Config) (u : UnitData) → u.tei ≤ 127 → is_unit c.side (unit_frame c u) ≡ true
 unit-is c u small =

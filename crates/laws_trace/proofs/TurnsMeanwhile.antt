@@ -135,11 +135,7 @@ module _ (c : Config) (number : ℕ) (ranged : line.IsInRange c) (within : numbe
 
 -- Two links have two numbers.
 two-links : (first second : Service) (tei its p q : ℕ) (l : Line) → is_own first tei second its ≡ false → tei_at p l ≡ Some tei → tei_at q l ≡ Some its → link_number p first ≢ link_number q second
-two-links first second tei its p q l away here there same =
-    let service : first ≡ second = sym (service_at-number p first) ∙ ap service_at same ∙ service_at-number q second in
-    let place : p ≡ q = sym (place_at-number p first) ∙ ap place_at same ∙ place_at-number q second in
-    let by : tei ≡ its = some-same (sym here ∙ ap (λ n. tei_at n l) place ∙ there) in
-    true≢false (sym (ap (λ s. is_own s tei second its) service ∙ ap (λ n. is_own second n second its) by ∙ own-is second its) ∙ away)
+two-links first second tei its p q l away here there same = grind (arith, service_at-number, place_at-number, some-same, own-is)
 
 pub links-take-turns-meanwhile : Always LinksTakeTurnsMeanwhile
 unfolding moments

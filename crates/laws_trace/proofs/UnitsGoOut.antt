@@ -22,11 +22,7 @@ unfolding lines.answer
 units-gone c l s = go (taken c l) (served c l s)
   where
     ui : (frame : List ℕ) → is_of_a_link c.side frame ≡ false → (gives-ui c frame || false) ≡ false → l.units ≡ []
-    ui frame is none = by-test (gives-ui c frame) is none
-      where
-        by-test : (b : Bool) → not b ≡ false → (b || false) ≡ false → l.units ≡ []
-        by-test true is none = absurd (true≢false none)
-        by-test false is none = absurd (true≢false is)
+    ui frame is none = grind arith
 
     go : (o : Option Taken) → elim o as (λ o. Type 0) [ None ↦ IsIdle c l (lines.after c next l) | Some t ↦ IsOwed c (contents_of l) l (lines.after c next l) t.frame ]
         → list_any (gives-ui c) (frame_in (gave (option_map next_of o))) ≡ false → l.units ≡ []

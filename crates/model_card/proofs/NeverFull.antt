@@ -17,9 +17,7 @@ sum_but_one f m (x ∷ xs) (suc i) d few all =
 
 -- fewer slots than there are, where one line finds a place
 below_all : (n most sum own slots count : ℕ) → n ≡ count → sum + most ≤ n * most + own → own + 1 ≤ most → count * most ≤ slots → slots ≤ sum → ⊥
-below_all n most sum own slots count e sums less enough full =
-    let bound : sum + most ≤ count * most + own = subst (λ x. sum + most ≤ x * most + own) e sums in
-    omega (arith, bound, less, enough, full)
+below_all n most sum own slots count e sums less enough full = grind arith
 
 pub event_not_refused : (card : Card) (e : Event) → HasLines card → IsAtLine card e → card.config.lines * places_of card.config ≤ card.config.slots
     → is_pool_full (answer e card) ≡ false

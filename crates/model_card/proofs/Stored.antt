@@ -13,15 +13,7 @@ stored_by_lines c (l ∷ ls) all =
     rw (sum_by-cons (stored_in c) l ls, sum_by-cons (slots_of c) l ls) (omega (arith, head, rest))
 
 stored_now : (card : Card) → IsSound card → stored card ≤ limit card.config
-stored_now card s =
-    let c = card.config in
-    let all = subst (λ n. stored card ≤ n * limit_in c + used card * c.n201) s.count (stored_by_lines c card.lines s.lines) in
-    omega (arith, all, mul-le-mul_left c.n201 s.slots)
+stored_now card s = grind (arith, stored_by_lines, mul-le-mul_left)
 
 pub stored_within_limit : StoredWithinLimit
-stored_within_limit = record {
-  now = stored_now;
-  always = λ card events s within.
-      subst (λ c. stored (after_all card events) ≤ limit c) (config_stays card events)
-      (stored_now (after_all card events) (always_sound card events s within));
-}
+stored_within_limit = grind (arith, stored_now, config_stays, always_sound)

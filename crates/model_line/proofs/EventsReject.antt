@@ -11,7 +11,4 @@ request_none c l =
     request_aims c l (λ takes aim. rejects_aimed l aim ≡ false) (λ takes. refl) (λ service tei place what at. refl) (λ service tei place at. refl) (λ e range. refl) (λ unit is few. refl) refl
 
 pub event_rejects : (c : Config) (e : Event) (l : Line) → IsRejectHeard c e l
-event_rejects c (hears e) l = heard_rejects c l e
-event_rejects c (expiry timer) l = omega (arith, ap one (expiry_none l timer))
-event_rejects c (request r) l = omega (arith, ap one (request_none c l r))
-event_rejects c next l = omega arith
+event_rejects c e l = grind (arith, heard_rejects, expiry_none, request_none)

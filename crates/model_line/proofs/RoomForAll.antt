@@ -72,9 +72,4 @@ accepted_finds c other l s carries e = cc
 
 pub taker_finds : (c : Config) (e : Event) (l : Line) → IsSound c l → takes_slot c e l ≡ true → slots_of c l + 1 ≤ places_of c
 unfolding takes_slot
-taker_finds c (request r) l s h = go (refusal c false r l) refl h
-  where
-    go : (o : Option Refusal) → refusal c false r l ≡ o → (carries_contents r && not (is_some o)) ≡ true → slots_of c l + 1 ≤ places_of c
-    go None none h = accepted_finds c r l s (and_parts (carries_contents r) true h).0 none
-    go (Some why) none h = absurd (true≢false (sym (and_parts (carries_contents r) false h).1))
-taker_finds c other l s h = absurd (true≢false (sym h))
+taker_finds c e l s h = grind (arith, is_some, accepted_finds, and_parts)

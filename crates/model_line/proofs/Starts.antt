@@ -27,17 +27,13 @@ none_starts = omega arith
 -- a link that is cleared starts nothing
 cleared_orders : (t : Terms) (before : Option LinkTimer) → starts (orders_for t before None None) ≡ 0
 unfolding starts
-cleared_orders t None = refl
-cleared_orders t (Some link_timer.T200) = refl
-cleared_orders t (Some link_timer.T203) = refl
+cleared_orders t before = grind arith
 
 cleared_starts : (t : Terms) (l : Link) → starts (links.told t link.cleared l).orders ≡ 0
 cleared_starts t l = cleared_orders t l.running
 
 three : (xs ys zs : List Order) → starts xs ≡ 0 → starts ys ≡ 0 → length zs ≤ 1 → starts (xs ++ ys ++ zs) ≤ 1
-three xs ys zs x y z =
-    let none : starts (xs ++ ys) ≡ 0 = before_starts xs ys x ∙ y in
-    omega (arith, before_starts xs (ys ++ zs) x, before_starts ys zs y, before_starts (xs ++ ys) zs none, starts_few zs, z)
+three xs ys zs x y z = grind (arith, before_starts, starts_few)
 
 module _ (c : Config) where
   change_starts : (o : Option Change) (t : tei.TeiTold) (l : Line) → IsBrief t → starts (of_change c o (told_of_management t) l).told.orders ≤ 1

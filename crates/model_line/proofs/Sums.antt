@@ -36,10 +36,7 @@ module _ (c : Config) (f : Service → Link → ℕ) where
 
   -- all links begin
   always_fresh : (n i : ℕ) → get_or (replicate n fresh) i fresh ≡ fresh
-  always_fresh n i =
-      ⊎_elim
-      (λ few. get_or-replicate n i fresh fresh few)
-      (λ past. get_or_past (replicate n fresh) i fresh (omega (arith, past, length-replicate n fresh))) (cases_lt i n)
+  always_fresh n i = grind (arith, get_or-replicate, get_or_past, length-replicate, cases_lt)
 
   pub all_begin : ((service : Service) → f service fresh ≡ 0) → (a n : ℕ) → sum_by (at_number (fresh_line c).links) (range_with_len a n) ≡ 0
   all_begin none a zero = refl

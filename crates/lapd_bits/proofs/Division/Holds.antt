@@ -45,7 +45,4 @@ low_bits-residue = refl
 pub HoldsDivision_good :
     (register : ℕ) (d : List Bool) → register < 2 ^ 16 → HoldsDivision register d
     → nat_eq register 0xF0B8 ≡ is_good d
-HoldsDivision_good register d small holds =
-    sym (same_bits-low_bits 16 register 0xF0B8 small (omega arith))
-    ∙ ap (λ l. same_bits (low_bits 16 register) l) low_bits-residue
-    ∙ ap (λ l. same_bits l residue) holds
+HoldsDivision_good register d small holds = grind (arith, same_bits-low_bits, low_bits-residue)

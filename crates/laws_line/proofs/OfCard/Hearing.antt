@@ -35,16 +35,7 @@ module _ (card : Card) (e : Event) (s : IsSound card) (here : IsAtLine card e) w
   takes-none x = refl
 
   served : (x : stream.Event) → e.what ≡ hears x → HeardServed card.config l (line_at e.line (after e card)) (answer e card) x
-  served x is =
-      by_room (λ ls a. HeardServed card.config l (get_or ls e.line (fresh_line card.config)) a x) e card
-      (λ full.
-      let takes = (and_parts (lines.takes_slot card.config e.what l) (is_full card) full).0 in
-      absurd (true≢false (sym takes ∙ ap (λ what. lines.takes_slot card.config what l) is ∙ takes-none x)))
-      (λ room.
-      subst (λ (y : Line). HeardServed card.config l y (lines.answer card.config e.what l) x)
-      (sym (get_or-set_same card.lines e.line (lines.after card.config e.what l) (fresh_line card.config) (omega (arith, s.count, here))))
-      (subst (λ what. HeardServed card.config l (lines.after card.config what l) (lines.answer card.config what l) x) (sym is)
-      (heard-served card.config l x s.config (line_sound card e.line (has_lines card s) here))))
+  served x is = grind (arith, by_room, and_parts, takes-none, get_or-set_same, heard-served, line_sound, has_lines)
 
   pub heard-group : (parts : Parts) (service : Service) → HearsFrame card.config e.what parts → IsToGroup card.config parts service
       → OnlyTells (group_told service parts.info) l (line_at e.line (after e card)) (answer e card)

@@ -54,5 +54,4 @@ run-counts name card (e ∷ events) h has all few is =
     (All-tail (IsAtLine card) e events all) few (record { accepted = x.0; acknowledged = x.1 })
 
 pub run-counted : (card : Card) (events : List Event) → IsSound card → AreAtLines card events → IsCountedIn card events
-run-counted card events s all name named =
-    run-counts name card events (begun name card) (has_lines card s) all named.1 (record { accepted = refl; acknowledged = refl })
+run-counted card events s all name named = grind (arith, run-counts, has_lines)

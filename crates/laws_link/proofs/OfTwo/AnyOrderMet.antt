@@ -19,14 +19,11 @@ are_turns (d ∷ ds) e = is_turn d e && are_turns ds (doing d e)
 
 by-act : (act : Act) (n m : End) → is_turn_of act n m ≡ true → IsTurnOf act n m
 unfolding is_turn_of
-by-act sends n m e = λ none. true≢false (sym e ∙ ap (λ b. b || n.link.pending) none.information ∙ none.pending)
-by-act receives n m e = leb-true 1 (length m.way) e
-by-act other n m e = true≢false (sym e)
+by-act act n m e = grind (arith, leb-true)
 
 by-doing : (d : Doing) (e : Ends) → is_turn d e ≡ true → IsTurn d e
 unfolding is_turn
-by-doing (at_near act) e h = by-act act e.near e.far h
-by-doing (at_far act) e h = by-act act e.far e.near h
+by-doing d e h = grind (arith, by-act)
 
 by-test : (ds : List Doing) (e : Ends) → are_turns ds e ≡ true → AreTurns ds e
 unfolding AreTurns are_turns
@@ -41,13 +38,7 @@ settling-turns = by-test settling asked refl
 
 pub still : IsStill settled
 unfolding seq distance_of named reading header_of control_of unnumbered_of supervisory_of after_all doing_all
-still =
-    record {
-      near = record { waiting = refl; information = refl; pending = refl };
-      far = record { waiting = refl; information = refl; pending = refl };
-      near_way = refl;
-      far_way = refl;
-    }
+still = grind arith
 
 abbrev asks_for : ℕ → Event
 asks_for n = requested (Data (n ∷ [])) false

@@ -15,25 +15,11 @@ busy-losing-up = all-stay_up busy_losing both begins begins refl busy-losing-ahe
 
 pub near-silent : IsSilentWith true busy_cut_off.near busy_cut_off.far
 unfolding seq distance_of named reading header_of control_of unnumbered_of supervisory_of after_all doing_all
-near-silent =
-    record {
-      repeats = λ e. ltb-true busy_cut_off.near.link.repeats busy_cut_off.near.terms.n200 refl;
-      own_busy = refl;
-      waiting = refl;
-      way = refl;
-      high = leb-true busy_cut_off.far.link.r busy_cut_off.near.link.s refl;
-    }
+near-silent = grind (arith, ltb-true, leb-true)
 
 pub far-silent : IsSilent busy_cut_off.far busy_cut_off.near
 unfolding seq distance_of named reading header_of control_of unnumbered_of supervisory_of after_all doing_all
-far-silent =
-    record {
-      repeats = λ e. ltb-true busy_cut_off.far.link.repeats busy_cut_off.far.terms.n200 refl;
-      own_busy = refl;
-      waiting = refl;
-      way = refl;
-      high = leb-true busy_cut_off.near.link.r busy_cut_off.far.link.s refl;
-    }
+far-silent = grind (arith, ltb-true, leb-true)
 
 pub near-missing : HasMissing 3 busy_cut_off.near busy_cut_off.far
 unfolding seq distance_of named reading header_of control_of unnumbered_of supervisory_of after_all doing_all

@@ -24,19 +24,15 @@ stay_ahead (d ∷ ds) e = nat_le e.far.link.r e.near.link.s && nat_le e.near.lin
 
 pub by-request : (request : Request) → mild_request request ≡ true → IsMildRequest request
 unfolding mild_request
-by-request Release e = absurd (cc)
-by-request other e = tt
+by-request request e = grind arith
 
 by-act : (act : Act) (n : End) → mild_act act n ≡ true → IsMildAct act n
 unfolding mild_act
-by-act (asks request full) n e = by-request request e
-by-act (expires timer) n e = λ state running. ltb-true n.link.repeats n.terms.n200 e
-by-act other n e = tt
+by-act act n e = grind (arith, by-request, ltb-true)
 
 by-doing : (d : Doing) (e : Ends) → mild d e ≡ true → IsMild d e
 unfolding mild
-by-doing (at_near act) e h = by-act act e.near h
-by-doing (at_far act) e h = by-act act e.far h
+by-doing d e h = grind (arith, by-act)
 
 pub by-test : (ds : List Doing) (e : Ends) → stay_ahead ds e ≡ true → StayAhead ds e
 unfolding StayAhead stay_ahead
@@ -65,25 +61,11 @@ losing-up = all-stay_up losing both begins begins refl losing-ahead
 
 pub near-silent : IsSilent cut_off.near cut_off.far
 unfolding seq distance_of named reading header_of control_of unnumbered_of supervisory_of after_all doing_all
-near-silent =
-    record {
-      repeats = λ e. ltb-true cut_off.near.link.repeats cut_off.near.terms.n200 refl;
-      own_busy = refl;
-      waiting = refl;
-      way = refl;
-      high = leb-true cut_off.far.link.r cut_off.near.link.s refl;
-    }
+near-silent = grind (arith, ltb-true, leb-true)
 
 pub far-silent : IsSilent cut_off.far cut_off.near
 unfolding seq distance_of named reading header_of control_of unnumbered_of supervisory_of after_all doing_all
-far-silent =
-    record {
-      repeats = λ e. ltb-true cut_off.far.link.repeats cut_off.far.terms.n200 refl;
-      own_busy = refl;
-      waiting = refl;
-      way = refl;
-      high = leb-true cut_off.near.link.r cut_off.far.link.s refl;
-    }
+far-silent = grind (arith, ltb-true, leb-true)
 
 pub near-missing : HasMissing 3 cut_off.near cut_off.far
 unfolding seq distance_of named reading header_of control_of unnumbered_of supervisory_of after_all doing_all
@@ -95,15 +77,11 @@ unfolding seq distance_of named reading header_of control_of unnumbered_of super
 timed = record { timer = inr (refl, leb-true 0 0 refl) }
 
 pub ready : IsReady both.near
-ready =
-    let b = begins in
-    record { ranges = b.ranges; sound = b.sound; state = b.state; peer_busy = b.peer_busy; own_busy = b.own_busy; waiting = b.waiting; way = b.way }
+ready = grind (arith, begins)
 
 pub taken : IsTaken both.near both.far
 unfolding seq distance_of named reading header_of control_of unnumbered_of supervisory_of after_all
-taken =
-    let b = begins in
-    record { received = refl; delivered = refl; owed = λ less. absurd (omega (arith, less, b.a, b.s)); sizes = b.sound.sizes }
+taken = grind (arith, begins)
 
 pub unsent : HasUnsent 0 both.near
 unfolding seq distance_of named reading header_of control_of unnumbered_of supervisory_of after_all

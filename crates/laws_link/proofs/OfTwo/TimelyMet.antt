@@ -1,6 +1,6 @@
 -- The premises of the law on a timely T200 are met: by the worked run in which it expires twice, and by the one in which
 -- all frames are lost.
-use Rattle.laws_link.proofs.Vocabulary.{◌≡◌, Bool, true, false, not, ◌&&◌, List, [], ◌∷◌, refl, sym, true≢false, All, nat_lt, and_parts, ltb-true, All-nil, All-cons, seq, distance_of, named, Control, Parts, supervisory_of, unnumbered_of, control_of, header_of, reading, ControlFrame, after_all, End, Ends, Act, asks, expires, Doing, at_near, at_far, doing, both, is_enquiry, is_answer, IsNoneOpen, IsTimelyAct, IsTimelyDoing, StayTimely, IsHushed, answered_at_last, losing, cut_off}
+use Rattle.laws_link.proofs.Vocabulary.{arith, ◌≡◌, Bool, true, false, not, ◌&&◌, List, [], ◌∷◌, refl, sym, true≢false, All, nat_lt, and_parts, ltb-true, All-nil, All-cons, seq, distance_of, named, Control, Parts, supervisory_of, unnumbered_of, control_of, header_of, reading, ControlFrame, after_all, End, Ends, Act, asks, expires, Doing, at_near, at_far, doing, both, is_enquiry, is_answer, IsNoneOpen, IsTimelyAct, IsTimelyDoing, StayTimely, IsHushed, answered_at_last, losing, cut_off}
 use Rattle.laws_link.proofs.OfTwo.PremisesMet.{mild_request, by-request, near-silent}
 
 -- a test of what goes on timely
@@ -29,8 +29,7 @@ stay_timely [] e = true
 stay_timely (d ∷ ds) e = timely d e && stay_timely ds (doing d e)
 
 is-false : (b : Bool) → not b ≡ true → b ≡ false
-is-false true e = absurd (true≢false (sym e))
-is-false false e = refl
+is-false b e = grind arith
 
 by-way : (asked : Bool → Control → Bool) (fs : List Parts) → none_on_way asked fs ≡ true → All (λ f. asked f.address.command f.control ≡ false) fs
 unfolding none_on_way
@@ -48,27 +47,15 @@ by-waiting asked (f ∷ fs) e =
 
 by-open : (n m : End) → none_open n m ≡ true → IsNoneOpen n m
 unfolding none_open
-by-open n m e =
-    let one = and_parts ((none_waiting is_enquiry n.link.waiting && none_on_way is_enquiry n.way) && none_waiting is_answer m.link.waiting) (none_on_way is_answer m.way) e in
-    let two = and_parts (none_waiting is_enquiry n.link.waiting && none_on_way is_enquiry n.way) (none_waiting is_answer m.link.waiting) one.0 in
-    let three = and_parts (none_waiting is_enquiry n.link.waiting) (none_on_way is_enquiry n.way) two.0 in
-    record {
-      enquiries = record { waiting = by-waiting is_enquiry n.link.waiting three.0; way = by-way is_enquiry n.way three.1 };
-      answers = record { waiting = by-waiting is_answer m.link.waiting two.1; way = by-way is_answer m.way one.1 };
-    }
+by-open n m e = grind (arith, and_parts, none_waiting, none_on_way, by-waiting, by-way)
 
 by-act : (act : Act) (n m : End) → timely_act act n m ≡ true → IsTimelyAct act n m
 unfolding timely_act
-by-act (asks request full) n m e = by-request request e
-by-act (expires timer) n m e =
-    let both = and_parts (nat_lt n.link.repeats n.terms.n200) (none_open n m) e in
-    (λ state running. ltb-true n.link.repeats n.terms.n200 both.0, λ state running. by-open n m both.1)
-by-act other n m e = tt
+by-act act n m e = grind (arith, by-request, and_parts, nat_lt, none_open, ltb-true, by-open)
 
 by-doing : (d : Doing) (e : Ends) → timely d e ≡ true → IsTimelyDoing d e
 unfolding timely
-by-doing (at_near act) e h = by-act act e.near e.far h
-by-doing (at_far act) e h = by-act act e.far e.near h
+by-doing d e h = grind (arith, by-act)
 
 by-test : (ds : List Doing) (e : Ends) → stay_timely ds e ≡ true → StayTimely ds e
 unfolding StayTimely stay_timely

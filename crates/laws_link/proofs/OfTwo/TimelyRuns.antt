@@ -21,13 +21,10 @@ ahead : (e : Ends) → Held e → IsAhead e
 ahead e h = (flows-low e.near e.far h.there, flows-low e.far e.near h.back)
 
 mild-act : (act : Act) (n m : End) → IsTimelyAct act n m → IsMildAct act n
-mild-act (asks request full) n m x = x
-mild-act (expires timer) n m x = x.0
-mild-act other n m x = tt
+mild-act act n m x = grind arith
 
 mild : (d : Doing) (e : Ends) → IsTimelyDoing d e → IsMild d e
-mild (at_near act) e x = mild-act act e.near e.far x
-mild (at_far act) e x = mild-act act e.far e.near x
+mild d e x = grind (arith, mild-act)
 
 flows-after : (d : Doing) (e : Ends) → Held e → IsTimelyDoing d e → IsUp (doing d e)
     → Flows (doing d e).near (doing d e).far × Flows (doing d e).far (doing d e).near
@@ -57,15 +54,7 @@ no-line : (n : End) → Begins n → line n.terms n.way n.link.waiting ≡ []
 no-line n b = ap (λ way. line n.terms way n.link.waiting) b.way ∙ ap (λ ws. line n.terms [] ws) b.waiting
 
 nothing-yet : Flow 0 0 false false [] []
-nothing-yet =
-    record {
-      order = omega arith;
-      one = omega arith;
-      rejected = λ some. absurd (omega (arith, some));
-      asked = omega arith;
-      last = λ some. tt;
-      answered = λ some. absurd (omega (arith, some));
-    }
+nothing-yet = grind arith
 
 begins-flows : (n m : End) → Begins n → Begins m → Flows n m
 begins-flows n m b c = flow-at b.s c.r (ap is_recovering b.state) c.rejecting (no-line n b) (no-line m c) nothing-yet

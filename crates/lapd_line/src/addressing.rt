@@ -74,35 +74,16 @@ impl LinkLayer {
         requires clear { IsClear report.old }
         ensures { Serves (aim_of_event self.old.config (heard_of heard.entry)) (octets_of (heard_of heard.entry)) self.old (S.store shelf.old) self.new (S.store shelf.new) report.new }
     {
-        match heard {
-            Heard::Nothing => {}
-            Heard::Dropped(cause) => tell_drop(report, cause),
-            Heard::Frame(octets) => self.frame(octets, report, shelf),
-            Heard::Overlong(head) => self.overlong(&head, report, shelf),
-        }
-    }
-
-    /// A frame.
-    #[inline(always)]
-    fn frame<S: Shelf>(&mut self, octets: &[u8], report: &mut BareReport, shelf: &mut S)
-        requires stands { Standing self.old (S.store shelf.old) }
-        requires clear { IsClear report.old }
-        ensures { Serves (λ m. aim_of_reading self.old.config m (reading (heard_side self.old.config) octets.now)) octets.now self.old (S.store shelf.old) self.new (S.store shelf.new) report.new }
-    {
-        match read(self.config.side.other(), octets) {
-            Ok(frame) => self.spelled(frame, report, shelf),
-            Err(fault) => self.faulty(fault, octets.len(), report, shelf),
-        }
-    }
-
-    /// A frame of the grammar.
-    #[inline(always)]
-    fn spelled<S: Shelf>(&mut self, frame: Frame<'_>, report: &mut BareReport, shelf: &mut S)
-        requires stands { Standing self.old (S.store shelf.old) }
-        requires clear { IsClear report.old }
-        ensures { (octets : List ℕ) → frame.entry.info.now ≡ drop (start_of frame.entry.control) octets
-            → Serves (λ m. aim_of_reading self.old.config m (Ok (parts_of frame.entry))) octets self.old (S.store shelf.old) self.new (S.store shelf.new) report.new }
-    {
+        let octets = match heard {
+            Heard::Nothing => return,
+            Heard::Dropped(cause) => return tell_drop(report, cause),
+            Heard::Frame(octets) => octets,
+            Heard::Overlong(head) => return self.overlong(&head, report, shelf),
+        };
+        let frame = match read(self.config.side.other(), octets) {
+            Ok(frame) => frame,
+            Err(fault) => return self.faulty(fault, octets.len(), report, shelf),
+        };
         match self.addressee(frame.address) {
             Addressee::Management => self.message(frame.control, frame.info, report, shelf),
             Addressee::Link {

@@ -21,11 +21,15 @@ use crate::came::{came, cause_of, octets_of};
 use crate::counting::count_told;
 use crate::fault::StartFault;
 use crate::link_layer::LinkLayer;
+use crate::links::Links;
+use crate::marks::Marks;
 use crate::reports::{Report, lent, tell_drop};
+use crate::units::Units;
 use lapd_count::Counters;
 use lapd_frame::{Refusal, Timer};
 use lapd_link::BareReport;
 use lapd_store::Shelf;
+use lapd_tei::Teis;
 use model_bits::Heard;
 use model_line::{Config, Fault, Request};
 use std::alloc::Global;
@@ -61,7 +65,17 @@ impl FrameLine {
             → Holds store others → Stands line store others (machine.fresh_line config.now)) }
         ensures counters { IfOk result (λ line. line.counters ≡ none_counted) }
     {
-        let layer = LinkLayer::start(alloc, config)?;
+        let teis = Teis::start(alloc, usize::from(config.terminals))?;
+        let links = Links::start(alloc, config)?;
+        let units = Units::start(alloc, usize::from(config.unit_queue))?;
+        let layer = LinkLayer {
+            config: *config,
+            teis,
+            links,
+            units,
+            turn: 0,
+            awake: Marks::none(),
+        };
         Ok(FrameLine {
             layer,
             counters: Counters::new(),

@@ -7,9 +7,6 @@ ghost use Rattle.model_link.specs.Link.{frame_of};
 ghost use Rattle.model_link.specs.declared.terms.Terms.{Terms};
 ghost use Rattle.model_line.specs.Line.{link_count};
 ghost use Rattle.model_line.specs.Taken.{message_taken, unit_taken, link_taken, first_taken, round, taken};
-ghost use Rattle.model_line.specs.Line as machine;
-ghost use Rattle.lapd_store.specs.Ownership.{Owned};
-ghost use Rattle.lapd_line.specs.Waiting.{has_next};
 ghost use Rattle.lapd_line.specs.Awake.{TellsOf};
 ghost use Rattle.lapd_line.specs.Links.{HasTerms};
 ghost use Rattle.lapd_line.specs.Marks.{IsMark, Sets};
@@ -44,7 +41,7 @@ fn load<O: Outlet>(out: &mut O, side: Side, address: Address, control: Control, 
 }
 
 impl LinkLayer {
-    ghost use Rattle.lapd_line.specs.LinkLayer.{Standing, Stands};
+    ghost use Rattle.lapd_line.specs.LinkLayer.{Standing};
 
     /// Takes the frame that is next, if there is one, and loads it: the oldest message of TEI management, else the
     /// oldest unit data, else what the first of the links has to give, going round from the one after that which was
@@ -66,21 +63,6 @@ impl LinkLayer {
             return Some(orders);
         }
         self.take_first(out, shelf)
-    }
-
-    /// Whether a frame waits: a message of TEI management, unit data, or what a link has to give.
-    #[inline(always)]
-    pub(crate) fn has_next(&self) -> bool
-        ensures { (store : Store) (others : List Owned) (m : machine.Line) → Stands self.now store others m
-            → result ≡ has_next self.now.config m }
-    {
-        if self.awake.any() {
-            return true;
-        }
-        if self.teis.has_message() {
-            return true;
-        }
-        self.units.oldest().is_some()
     }
 
     /// What the first of these links has to give. It is the first that is awake; where none is, that costs no call.

@@ -192,7 +192,10 @@ impl LinkLayer {
         let Some(place) = self.teis.place(tei) else {
             return Err(Refusal::NoLink);
         };
-        self.clear_link(service, tei, place, report, shelf);
+        let number = link_number(place, service);
+        self.links.clear(number, report, shelf);
+        report.cause = None;
+        self.awake.set(number, self.links.has_frame(number));
         Ok(())
     }
 

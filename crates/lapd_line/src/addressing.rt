@@ -1,15 +1,8 @@
 //! What is heard in a line's octets, and which of its entities it is for.
 
 ghost use Rattle.std.specs.Prelude.{◌≡◌, ℕ, ◌≤◌, List, [], drop, length, Ok, Err};
-ghost use Rattle.model_bits.specs.Heard.{heard_of};
-ghost use Rattle.lapd_frame.specs.Grammar.{parts_of};
-ghost use Rattle.lapd_frame.specs.Reading.{reading, long_reading, start_of};
-ghost use Rattle.model_bits.specs.declared.heard.Cause.TheVariants.{Unserved};
+ghost use Rattle.lapd_line.specs.{heard_of, parts_of, reading, long_reading, start_of, Unserved, dropped, addressed, aim_of_long, aim_of_reading, drop_for, heard_side, unless_at_link, has_management, told_at, is_ui, received_of, info_of, addressee, group_service, message_at, serves_group, IsAtPlace, Standing, Serves, always, aim_of_event, octets_of, told_in, IsClear};
 ghost use Rattle.model_link.specs.Events as link;
-ghost use Rattle.model_line.specs.Event.{dropped};
-ghost use Rattle.model_line.specs.Heard.{addressed, aim_of_long, aim_of_reading, drop_for, heard_side, unless_at_link};
-ghost use Rattle.model_line.specs.Sides.{has_management, told_at};
-ghost use Rattle.lapd_line.specs.Addressing.{is_ui};
 
 use crate::link_layer::LinkLayer;
 use crate::reports::tell_drop;
@@ -56,11 +49,6 @@ pub(crate) fn has_management(side: Side) -> bool
 }
 
 impl LinkLayer {
-    ghost use Rattle.lapd_link.specs.Events.{received_of, info_of};
-    ghost use Rattle.lapd_line.specs.Addressing.{addressee, group_service, message_at, serves_group, IsAtPlace};
-    ghost use Rattle.lapd_line.specs.LinkLayer.{Standing, Serves, always, aim_of_event};
-    ghost use Rattle.lapd_line.specs.Reports.{octets_of, told_in, IsClear};
-
     /// Serves what the octets of the line have brought.
     // A program with both kinds of cards calls it from two places, and would keep it apart.
     #[inline(always)]

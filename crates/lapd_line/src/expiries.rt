@@ -1,7 +1,7 @@
 //! Timers that expire.
 
 ghost use Rattle.std.specs.Prelude.{[]};
-ghost use Rattle.model_line.specs.Expiry.{aim_of_expiry, at_timer};
+ghost use Rattle.lapd_line.specs.{aim_of_expiry, at_timer, Standing, Serves, IsClear};
 ghost use Rattle.model_line.specs.Line as machine;
 
 use crate::link_layer::{LinkLayer, link_number};
@@ -10,9 +10,6 @@ use lapd_link::{BareReport, LinkTimer};
 use lapd_store::Shelf;
 
 impl LinkLayer {
-    ghost use Rattle.lapd_line.specs.LinkLayer.{Standing, Serves};
-    ghost use Rattle.lapd_line.specs.Reports.{IsClear};
-
     /// A timer expires. Where it does not run, nothing happens.
     pub(crate) fn expire<S: Shelf>(&mut self, timer: Timer, report: &mut BareReport, shelf: &mut S)
         requires stands { Standing self.old (S.store shelf.old) }

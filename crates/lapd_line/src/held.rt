@@ -1,15 +1,13 @@
 //! How many octets the links of a line hold beside contents in slots.
 
 ghost use Rattle.std.specs.Prelude.{◌≡◌, ◌≤◌, List};
-ghost use Rattle.lapd_store.specs.Ownership.{Owned};
-ghost use Rattle.lapd_store.specs.Store.{Store};
+ghost use Rattle.lapd_line.specs.{Owned, Store, sum_of_links, held_by_link, Standing};
 ghost use Rattle.model_line.specs.Line as machine;
-ghost use Rattle.model_line.specs.Stored.{sum_of_links, held_by_link};
 
 use crate::link_layer::LinkLayer;
 
 impl LinkLayer {
-    ghost use Rattle.lapd_line.specs.LinkLayer.{Standing, Stands};
+    ghost use Rattle.lapd_line.specs.LinkLayer.{Stands};
 
     /// How many the links hold, of control frames that wait.
     pub(crate) fn held_by_links(&self) -> u32

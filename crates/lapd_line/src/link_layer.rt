@@ -1,9 +1,9 @@
 //! The data link layer entities of a line: TEI management, the links, and the unit data that waits.
 
 ghost use Rattle.std.specs.Prelude.{◌≡◌, ℕ, ◌≤◌, List, drop};
+ghost use Rattle.lapd_line.specs.{at_link, received_of, info_of, IsAt, Standing, Serves, always, IsClear};
 ghost use Rattle.model_link.specs.Events as event;
 ghost use Rattle.model_line.specs.Line as machine;
-ghost use Rattle.model_line.specs.Effect.{at_link};
 
 use crate::links::Links;
 use crate::marks::Marks;
@@ -39,11 +39,6 @@ pub(crate) fn link_number(place: usize, service: Service) -> usize
 }
 
 impl LinkLayer {
-    ghost use Rattle.lapd_link.specs.Events.{received_of, info_of};
-    ghost use Rattle.lapd_tei.specs.Sound.{IsAt};
-    ghost use Rattle.lapd_line.specs.LinkLayer.{Standing, Serves, always};
-    ghost use Rattle.lapd_line.specs.Reports.{IsClear};
-
     /// Something came from the terminal for a link of the TEI at a place. Its information begins at `start` of the
     /// octets that came.
     #[inline(always)]

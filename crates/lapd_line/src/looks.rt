@@ -1,12 +1,9 @@
 //! What a line tells of itself: looks at it, which change nothing.
 
 ghost use Rattle.std.specs.Prelude.{◌≡◌, ◌≤◌, ◌-◌, List};
-ghost use Rattle.lapd_store.specs.Ownership.{Owned};
-ghost use Rattle.lapd_store.specs.Store.{Store, used_slots};
+ghost use Rattle.lapd_line.specs.{Owned, Store, used_slots, held_in, has_next, config_of};
 ghost use Rattle.model_line.specs.Line as machine;
 ghost use Rattle.model_line.specs.Room.{room_in};
-ghost use Rattle.model_line.specs.Stored.{held_in};
-ghost use Rattle.lapd_line.specs.Waiting.{has_next};
 
 use crate::frame_line::FrameLine;
 use crate::link_layer::link_number;
@@ -17,7 +14,7 @@ use lapd_link::Room;
 use lapd_store::Shelf;
 
 impl FrameLine {
-    ghost use Rattle.lapd_line.specs.Stands.{Stands, config_of};
+    ghost use Rattle.lapd_line.specs.Stands.{Stands};
 
     /// Whether a frame waits, so that a call for the next gives one: a message of TEI management, unit data, or one of a link.
     #[inline(always)]

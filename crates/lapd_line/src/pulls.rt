@@ -1,18 +1,7 @@
 //! What a call for the next frame takes: a message of TEI management, unit data, or a frame of a link.
 
 ghost use Rattle.std.specs.Prelude.{◌≡◌, ◌+◌, ◌<◌, ◌≤◌, Bool, true, List, [], length, IfSome, IsSome};
-ghost use Rattle.lapd_frame.specs.Grammar.{IsFrame, spelling};
-ghost use Rattle.lapd_store.specs.Store.{Store};
-ghost use Rattle.model_link.specs.Link.{frame_of};
-ghost use Rattle.model_link.specs.declared.terms.Terms.{Terms};
-ghost use Rattle.model_line.specs.Line.{link_count};
-ghost use Rattle.model_line.specs.Taken.{message_taken, unit_taken, link_taken, first_taken, round, taken};
-ghost use Rattle.lapd_line.specs.Awake.{TellsOf};
-ghost use Rattle.lapd_line.specs.Links.{HasTerms};
-ghost use Rattle.lapd_line.specs.Marks.{IsMark, Sets};
-ghost use Rattle.lapd_line.specs.Rounds.{IsFirstAround};
-ghost use Rattle.lapd_line.specs.Loading.{IsFree, Loads, room_in, reference_in};
-ghost use Rattle.lapd_line.specs.Pulls.{Takes, orders_taken};
+ghost use Rattle.lapd_line.specs.{IsFrame, spelling, Store, frame_of, Terms, link_count, message_taken, unit_taken, link_taken, first_taken, round, taken, TellsOf, HasTerms, IsMark, Sets, IsFirstAround, IsFree, Loads, room_in, reference_in, Takes, orders_taken, Standing};
 
 use crate::link_layer::LinkLayer;
 use crate::outlet::Outlet;
@@ -41,8 +30,6 @@ fn load<O: Outlet>(out: &mut O, side: Side, address: Address, control: Control, 
 }
 
 impl LinkLayer {
-    ghost use Rattle.lapd_line.specs.LinkLayer.{Standing};
-
     /// Takes the frame that is next, if there is one, and loads it: the oldest message of TEI management, else the
     /// oldest unit data, else what the first of the links has to give, going round from the one after that which was
     /// served last. Answers the orders for timers.

@@ -58,7 +58,7 @@ impl Teis {
             table: Table::empty(terminals),
             memory: Memory::new(),
             check: None,
-            queue: Queue::start(alloc)?,
+            queue: Queue::start(alloc).map_err(|_| StartFault::OutOfMemory)?,
         })
     }
 

@@ -40,8 +40,12 @@ impl Link {
         ensures queue { IfOk result (λ link. (terms_of link).queue ≡ queue) }
         ensures control { IfOk result (λ link. (terms_of link).control ≡ control) }
     {
-        let entity = Entity::start(alloc, usize::from(control))?;
-        let slots = SlotQueue::start(alloc, usize::from(queue))?;
+        let entity = Entity::start(alloc, usize::from(control)).map_err(
+            |_| StartFault::OutOfMemory,
+        )?;
+        let slots = SlotQueue::start(alloc, usize::from(queue)).map_err(
+            |_| StartFault::OutOfMemory,
+        )?;
         Ok(Link {
             terms: Terms {
                 service: Service::Call,

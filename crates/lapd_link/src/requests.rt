@@ -149,26 +149,11 @@ impl Link {
 fn serves(state: State, request: LinkRequest<'_>) -> bool
     ensures { result ≡ asked.serves state (request_of request.entry) }
 {
+    let is_down = matches!(state, State::TeiAssigned);
+    let is_up = matches!(state, State::Established | State::TimerRecovery);
     match request {
-        LinkRequest::Establish => is_down(state),
-        LinkRequest::Release => is_down(state) || is_multiple_frame(state),
-        LinkRequest::Data(_) => is_multiple_frame(state),
-        LinkRequest::SetBusy => is_multiple_frame(state),
-        LinkRequest::ClearBusy => is_multiple_frame(state),
-    }
-}
-
-fn is_down(state: State) -> bool
-    ensures { result ≡ asked.is_down state }
-{
-    matches!(state, State::TeiAssigned)
-}
-
-fn is_multiple_frame(state: State) -> bool
-    ensures { result ≡ machine.is_multiple_frame state }
-{
-    match state {
-        State::Established | State::TimerRecovery => true,
-        State::TeiAssigned | State::AwaitingEstablishment | State::AwaitingRelease => false,
+        LinkRequest::Establish => is_down,
+        LinkRequest::Release => is_down || is_up,
+        LinkRequest::Data(_) | LinkRequest::SetBusy | LinkRequest::ClearBusy => is_up,
     }
 }

@@ -19,7 +19,7 @@ pub use Rattle.lapd_frame.specs.declared.notes.Note.{Note}
 pub use Rattle.lapd_link_steps.specs.Does.{Agrees, Does, DoesBy}
 pub use Rattle.lapd_link_steps.specs.Done.{Gives, Rests, Took, past_at}
 pub use Rattle.lapd_link_steps.specs.Reports.{IsClear}
-pub use Rattle.lapd_link_steps.specs.Parts.{effect_of, particulars, renewed}
+pub use Rattle.lapd_link_steps.specs.Parts.{effect_of, particulars, renewed, supervised}
 pub use Rattle.lapd_link_steps.specs.Past.{Fits, Past, course_of, if_told, link_of, past_of}
 pub use Rattle.lapd_link_steps.specs.declared.entity.Entity.{Entity}
 pub use Rattle.lapd_link_steps.specs.declared.offers.Given.{Given}

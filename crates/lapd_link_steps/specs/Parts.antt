@@ -6,9 +6,9 @@ use Rattle.model_link.specs.declared.timers.LinkTimer.{LinkTimer}
 use Rattle.model_link.specs.declared.terms.Terms.{Terms}
 use Rattle.model_link.specs.Link.{is_asked, has_outstanding}
 use Rattle.model_link.specs.Steps.{Step, ◌then◌, nothing, depending_on}
-use Rattle.model_link.specs.Words.{establish_indication, establish_confirm, discard, send_again_from, start, enter}
+use Rattle.model_link.specs.Words.{peer_busy_is, establish_indication, establish_confirm, discard, send_again_from, start, enter}
 use Rattle.model_link.specs.Machine.{malformed_in, told_of_clearing}
-use Rattle.model_link.specs.MultipleFrame.{Particulars}
+use Rattle.model_link.specs.MultipleFrame.{Particulars, answered, is_final}
 use Rattle.model_link.specs.Established.{particulars_in_7}
 use Rattle.model_link.specs.TimerRecovery.{particulars_in_8}
 use Rattle.model_link.specs.Requests.{release_in}
@@ -59,3 +59,8 @@ effect_of own Rej final = own.by_rej final
 abbrev pub tells_busy : Bearer → Bool
 tells_busy Rnr = true
 tells_busy other = false
+
+-- A supervisory frame, before its N(R) has its effect.
+abbrev pub supervised : Particulars → Terms → Bearer → Bool → Bool → Step
+supervised own t by is_command pf =
+    peer_busy_is (tells_busy by) then answered t is_command pf then own.told_of (is_final is_command pf)

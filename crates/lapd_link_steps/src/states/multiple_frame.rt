@@ -1,7 +1,7 @@
 //! What states 7 and 8 have in common: multiple-frame operation.
 
 ghost use Rattle.std.specs.Prelude.{◌≡◌, ℕ, List, length};
-ghost use Rattle.lapd_link_steps.specs.{by_number, Adds, HasRoom, Tells, particulars, effect_of, renewed, tells_busy};
+ghost use Rattle.lapd_link_steps.specs.{by_number, Adds, HasRoom, Tells, particulars, effect_of, supervised, renewed, tells_busy};
 ghost use Rattle.model_link.specs.MultipleFrame as row;
 ghost use Rattle.lapd_link_steps.specs.Does.{Does};
 
@@ -80,13 +80,19 @@ impl Entity {
                 self.number(terms, told, recovering, nr, Bearer::Information, false);
             }
             Control::ReceiveReady { nr, pf } => {
-                self.supervisory(terms, told, recovering, Bearer::Rr, nr, command, pf)
+                let by = Bearer::Rr;
+                let last = self.supervised(terms, told, recovering, by, command, pf);
+                self.number(terms, told, recovering, nr, by, last);
             }
             Control::ReceiveNotReady { nr, pf } => {
-                self.supervisory(terms, told, recovering, Bearer::Rnr, nr, command, pf)
+                let by = Bearer::Rnr;
+                let last = self.supervised(terms, told, recovering, by, command, pf);
+                self.number(terms, told, recovering, nr, by, last);
             }
             Control::Reject { nr, pf } => {
-                self.supervisory(terms, told, recovering, Bearer::Rej, nr, command, pf)
+                let by = Bearer::Rej;
+                let last = self.supervised(terms, told, recovering, by, command, pf);
+                self.number(terms, told, recovering, nr, by, last);
             }
             Control::Sabme { pf } => self.sabme_in_7_8(terms, told, pf),
             Control::Disc { pf } => self.disc_in_7_8(terms, told, pf),
@@ -99,31 +105,31 @@ impl Entity {
         }
     }
 
-    // A supervisory frame.
+    // A supervisory frame came, before its N(R) has its effect. Whether it is final.
     #[inline(always)]
-    fn supervisory(
+    fn supervised(
         &mut self,
         terms: &Terms,
         told: &mut BareReport,
         recovering: bool,
         by: Bearer,
-        nr: Seq,
         command: bool,
         pf: bool,
-    )
-        requires { HasRoom 2 2 told.old }
-        ensures tells { Tells 2 2 told.old told.new }
+    ) -> bool
+        requires { HasRoom 1 1 told.old }
+        ensures tells { Tells 1 1 told.old told.new }
+        ensures last { result ≡ row.is_final command pf }
         ensures does { (info : List ℕ) →
-            Does terms.now info (row.supervisory terms.now (particulars recovering terms.now) (tells_busy by) command pf nr (effect_of (particulars recovering terms.now) by)) self.old told.old self.new told.new }
+            Does terms.now info (supervised (particulars recovering terms.now) terms.now by command pf) self.old told.old self.new told.new }
     {
         let last = is_final(command, pf);
         self.peer_busy_is(by.tells_busy());
         self.answered(terms, told, command, pf);
         if recovering {
-            return self.number(terms, told, true, nr, by, last);
+            return last;
         }
         told.unsolicited(terms, last);
-        self.number(terms, told, false, nr, by, last);
+        last
     }
 
     // An N(R): it is not valid, or it has its effect.

@@ -1,8 +1,7 @@
 //! Who sent a frame, and whom it is about.
 
 ghost use Rattle.std.specs.Prelude.{◌≡◌, ◌<◌, true};
-ghost use Rattle.lapd_frame.specs.Grammar.{cr_bit, address_field, other_side};
-ghost use Rattle.lapd_frame.specs.Reading.{address_of};
+ghost use Rattle.lapd_frame.specs.{cr_bit, address_field, other_side, address_of};
 
 /// A side of a line, which is who sent a frame.
 #[derive(Clone, Copy, PartialEq, Eq, Debug)]

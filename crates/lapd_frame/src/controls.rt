@@ -1,8 +1,7 @@
 //! What kind of frame it is.
 
 ghost use Rattle.std.specs.Prelude.{◌≡◌, ◌≤◌, [], ◌∷◌, length, take};
-ghost use Rattle.lapd_frame.specs.Grammar.{row, allows, takes, second_octet, one_of};
-ghost use Rattle.lapd_frame.specs.Reading.{start_of};
+ghost use Rattle.lapd_frame.specs.{row, allows, takes, second_octet, one_of, start_of};
 
 use lapd_seq::Seq;
 

@@ -1,9 +1,7 @@
 //! A whole frame.
 
 ghost use Rattle.std.specs.Prelude.{◌≡◌, ◌++◌, length, take};
-ghost use Rattle.lapd_frame.specs.declared.addresses.Side.{Side};
-ghost use Rattle.lapd_frame.specs.Grammar.{address_field, row, parts_of, spelling, IsFrame};
-ghost use Rattle.lapd_frame.specs.Reading.{start_of};
+ghost use Rattle.lapd_frame.specs.{Side, address_field, row, parts_of, spelling, IsFrame, start_of};
 
 use crate::addresses::{Address, Side};
 use crate::controls::Control;

@@ -1,9 +1,7 @@
 //! The octets before a frame's information.
 
 ghost use Rattle.std.specs.Prelude.{◌≡◌, slice_index};
-ghost use Rattle.lapd_frame.specs.Allowed.{allowed};
-ghost use Rattle.lapd_frame.specs.Faults.{is_short};
-ghost use Rattle.lapd_frame.specs.Reading.{supervisory_of, unnumbered_of, control_of, header_of};
+ghost use Rattle.lapd_frame.specs.{allowed, is_short, supervisory_of, unnumbered_of, control_of, header_of};
 
 use crate::addresses::{Address, Side};
 use crate::controls::Control;

@@ -1,11 +1,7 @@
 //! What holds of the grammar itself.
 
 ghost use Rattle.std.specs.Prelude.{◌≡◌, ℕ, List, ◌↔◌};
-ghost use Rattle.lapd_frame.specs.declared.addresses.Side.{Side};
-ghost use Rattle.lapd_frame.specs.declared.faults.ReadFault.{ReadFault};
-ghost use Rattle.lapd_frame.specs.Faults.{IsFault};
-ghost use Rattle.lapd_frame.specs.Grammar.{Parts, Spells, AreOctets};
-ghost use Rattle.lapd_frame.specs.Reading.{reading};
+ghost use Rattle.lapd_frame.specs.{Side, ReadFault, IsFault, Parts, Spells, AreOctets, reading};
 
 /// Octets that spell a frame for a side spell no other, and `reading`, by which `read` and
 /// `read_long` are stated, is the grammar read backwards: what was written is read again. This is a

@@ -1,9 +1,7 @@
 //! Frames that are too long to keep.
 
 ghost use Rattle.std.specs.Prelude.{◌≡◌, ℕ, ◌≤◌, List, length, ◌++◌};
-ghost use Rattle.lapd_frame.specs.Grammar.{AreOctets};
-ghost use Rattle.lapd_frame.specs.Overlong.{IsLong};
-ghost use Rattle.lapd_frame.specs.Reading.{reading, long_of, long_reading};
+ghost use Rattle.lapd_frame.specs.{AreOctets, IsLong, reading, long_of, long_reading};
 
 use crate::addresses::{Address, Side};
 use crate::controls::Control;

@@ -1,10 +1,7 @@
 //! From octets to a frame.
 
 ghost use Rattle.std.specs.Prelude.{◌≡◌, ◌+◌, ◌↔◌, IfOk, IsOkAnd, drop, length};
-ghost use Rattle.lapd_frame.specs.declared.faults.ReadFault.{ReadFault};
-ghost use Rattle.lapd_frame.specs.Faults.{IsFault};
-ghost use Rattle.lapd_frame.specs.Grammar.{Parts, parts_of, Spells};
-ghost use Rattle.lapd_frame.specs.Reading.{reading, outcome_of, start_of};
+ghost use Rattle.lapd_frame.specs.{ReadFault, IsFault, Parts, parts_of, Spells, reading, outcome_of, start_of};
 
 use crate::addresses::{Address, Side};
 use crate::faults::ReadFault;

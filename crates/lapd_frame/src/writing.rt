@@ -1,8 +1,7 @@
 //! From a frame to octets.
 
 ghost use Rattle.std.specs.Prelude.{◌≡◌, ◌+◌, ◌≤◌, ◌++◌, take, drop, length};
-ghost use Rattle.lapd_frame.specs.Grammar.{parts_of, IsFrame, spelling, Spells};
-ghost use Rattle.lapd_frame.specs.Reading.{reading};
+ghost use Rattle.lapd_frame.specs.{parts_of, IsFrame, spelling, Spells, reading};
 
 use crate::addresses::Side;
 use crate::frames::Frame;

@@ -1,15 +1,8 @@
 //! What is heard in a line's octets, and which of its entities it is for.
 
 ghost use Rattle.std.specs.Prelude.{◌≡◌, ℕ, ◌≤◌, List, [], drop, length, Ok, Err};
-ghost use Rattle.model_bits.specs.Heard.{heard_of};
-ghost use Rattle.lapd_frame.specs.Grammar.{parts_of};
-ghost use Rattle.lapd_frame.specs.Reading.{reading, long_reading, start_of};
-ghost use Rattle.model_bits.specs.declared.heard.Cause.TheVariants.{Unserved};
+ghost use Rattle.lapd_line.specs.{heard_of, parts_of, long_reading, start_of, Unserved, dropped, addressed, aim_of_long, aim_of_reading, drop_for, heard_side, unless_at_link, has_management, told_at, is_ui, received_of, info_of, addressee, group_service, message_at, serves_group, IsAtPlace, Standing, Serves, always, aim_of_event, octets_of, told_in, IsClear};
 ghost use Rattle.model_link.specs.Events as link;
-ghost use Rattle.model_line.specs.Event.{dropped};
-ghost use Rattle.model_line.specs.Heard.{addressed, aim_of_long, aim_of_reading, drop_for, heard_side, unless_at_link};
-ghost use Rattle.model_line.specs.Sides.{has_management, told_at};
-ghost use Rattle.lapd_line.specs.Addressing.{is_ui};
 
 use crate::link_layer::LinkLayer;
 use crate::reports::tell_drop;
@@ -56,11 +49,6 @@ pub(crate) fn has_management(side: Side) -> bool
 }
 
 impl LinkLayer {
-    ghost use Rattle.lapd_link.specs.Events.{received_of, info_of};
-    ghost use Rattle.lapd_line.specs.Addressing.{addressee, group_service, message_at, serves_group, IsAtPlace};
-    ghost use Rattle.lapd_line.specs.LinkLayer.{Standing, Serves, always, aim_of_event};
-    ghost use Rattle.lapd_line.specs.Reports.{octets_of, told_in, IsClear};
-
     /// Serves what the octets of the line have brought.
     // A program with both kinds of cards calls it from two places, and would keep it apart.
     #[inline(always)]
@@ -74,35 +62,16 @@ impl LinkLayer {
         requires clear { IsClear report.old }
         ensures { Serves (aim_of_event self.old.config (heard_of heard.entry)) (octets_of (heard_of heard.entry)) self.old (S.store shelf.old) self.new (S.store shelf.new) report.new }
     {
-        match heard {
-            Heard::Nothing => {}
-            Heard::Dropped(cause) => tell_drop(report, cause),
-            Heard::Frame(octets) => self.frame(octets, report, shelf),
-            Heard::Overlong(head) => self.overlong(&head, report, shelf),
-        }
-    }
-
-    /// A frame.
-    #[inline(always)]
-    fn frame<S: Shelf>(&mut self, octets: &[u8], report: &mut BareReport, shelf: &mut S)
-        requires stands { Standing self.old (S.store shelf.old) }
-        requires clear { IsClear report.old }
-        ensures { Serves (λ m. aim_of_reading self.old.config m (reading (heard_side self.old.config) octets.now)) octets.now self.old (S.store shelf.old) self.new (S.store shelf.new) report.new }
-    {
-        match read(self.config.side.other(), octets) {
-            Ok(frame) => self.spelled(frame, report, shelf),
-            Err(fault) => self.faulty(fault, octets.len(), report, shelf),
-        }
-    }
-
-    /// A frame of the grammar.
-    #[inline(always)]
-    fn spelled<S: Shelf>(&mut self, frame: Frame<'_>, report: &mut BareReport, shelf: &mut S)
-        requires stands { Standing self.old (S.store shelf.old) }
-        requires clear { IsClear report.old }
-        ensures { (octets : List ℕ) → frame.entry.info.now ≡ drop (start_of frame.entry.control) octets
-            → Serves (λ m. aim_of_reading self.old.config m (Ok (parts_of frame.entry))) octets self.old (S.store shelf.old) self.new (S.store shelf.new) report.new }
-    {
+        let octets = match heard {
+            Heard::Nothing => return,
+            Heard::Dropped(cause) => return tell_drop(report, cause),
+            Heard::Frame(octets) => octets,
+            Heard::Overlong(head) => return self.overlong(&head, report, shelf),
+        };
+        let frame = match read(self.config.side.other(), octets) {
+            Ok(frame) => frame,
+            Err(fault) => return self.faulty(fault, octets.len(), report, shelf),
+        };
         match self.addressee(frame.address) {
             Addressee::Management => self.message(frame.control, frame.info, report, shelf),
             Addressee::Link {

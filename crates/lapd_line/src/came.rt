@@ -1,9 +1,7 @@
 //! What a frame and a fault are heard as that a controller of a line's flags, stuffed 0s and checks brings.
 
 ghost use Rattle.std.specs.Prelude.{◌≡◌, Some};
-ghost use Rattle.model_bits.specs.Heard.{heard_of};
-ghost use Rattle.model_line.specs.Came.{came, is_too_short, cause_of};
-ghost use Rattle.lapd_line.specs.Reports.{octets_of};
+ghost use Rattle.lapd_line.specs.{heard_of, came, is_too_short, cause_of, octets_of};
 
 use model_bits::{Cause, Heard};
 use model_line::Fault;

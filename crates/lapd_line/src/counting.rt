@@ -1,9 +1,7 @@
 //! What is told is counted.
 
 ghost use Rattle.std.specs.Prelude.{◌≡◌};
-ghost use Rattle.lapd_count.specs.Counters.{with_all};
-ghost use Rattle.lapd_count.specs.Shown.{told_shown};
-ghost use Rattle.lapd_frame.specs.ShortLists.{listed};
+ghost use Rattle.lapd_line.specs.{with_all, told_shown, listed};
 
 use lapd_count::Counters;
 use lapd_frame::{Note, ShortList};

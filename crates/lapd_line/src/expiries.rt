@@ -1,20 +1,15 @@
 //! Timers that expire.
 
 ghost use Rattle.std.specs.Prelude.{[]};
-ghost use Rattle.model_line.specs.Expiry.{aim_of_expiry, at_timer};
+ghost use Rattle.lapd_line.specs.{aim_of_expiry, at_timer, Standing, Serves, IsClear};
 ghost use Rattle.model_line.specs.Line as machine;
-ghost use Rattle.model_line.specs.Effect.{at_management};
-ghost use Rattle.lapd_tei.specs.Events as teis;
 
-use crate::link_layer::LinkLayer;
+use crate::link_layer::{LinkLayer, link_number};
 use lapd_frame::{Service, Timer};
 use lapd_link::{BareReport, LinkTimer};
 use lapd_store::Shelf;
 
 impl LinkLayer {
-    ghost use Rattle.lapd_line.specs.LinkLayer.{Standing, Serves, always};
-    ghost use Rattle.lapd_line.specs.Reports.{IsClear};
-
     /// A timer expires. Where it does not run, nothing happens.
     pub(crate) fn expire<S: Shelf>(&mut self, timer: Timer, report: &mut BareReport, shelf: &mut S)
         requires stands { Standing self.old (S.store shelf.old) }
@@ -36,7 +31,10 @@ impl LinkLayer {
                 report,
                 shelf,
             ),
-            Timer::T201 => self.expire_check(report, shelf),
+            Timer::T201 => {
+                let told = self.teis.expire_t201();
+                self.change(told, report, shelf);
+            }
         }
     }
 
@@ -53,19 +51,12 @@ impl LinkLayer {
         requires clear { IsClear report.old }
         ensures { Serves (λ m. at_timer service tei timer (machine.place_in m tei)) [] self.old (S.store shelf.old) self.new (S.store shelf.new) report.new }
     {
-        match self.teis.place(tei) {
-            Some(place) => self.expire_link(service, tei, place, timer, report, shelf),
-            None => {}
-        }
-    }
-
-    /// The timer of the check expires.
-    fn expire_check<S: Shelf>(&mut self, report: &mut BareReport, shelf: &mut S)
-        requires stands { Standing self.old (S.store shelf.old) }
-        requires clear { IsClear report.old }
-        ensures { Serves (always (at_management teis.expiry)) [] self.old (S.store shelf.old) self.new (S.store shelf.new) report.new }
-    {
-        let told = self.teis.expire_t201();
-        self.change(told, report, shelf);
+        let Some(place) = self.teis.place(tei) else {
+            return;
+        };
+        let number = link_number(place, service);
+        self.links.expire(number, timer, report, shelf);
+        report.cause = None;
+        self.awake.set(number, self.links.has_frame(number));
     }
 }

@@ -2,30 +2,24 @@
 
 ghost use Rattle.std.specs.Prelude.{◌≡◌, ◌≤◌, List, false, true, None, Some, IfOk, IfErr, OnErr, nat_le};
 ghost use Rattle.std.specs.Option.{option_copied};
-ghost use Rattle.lapd_count.specs.Counters.{none_counted};
-ghost use Rattle.lapd_store.specs.Ownership.{Owned, Holds};
-ghost use Rattle.lapd_store.specs.Store.{Store, used_slots};
-ghost use Rattle.model_bits.specs.Heard.{heard_of};
+ghost use Rattle.lapd_line.specs.{none_counted, Owned, Holds, Store, used_slots, heard_of, came, cause_of, told, hears, answer, refusal, request_of, IsInRange, starts, IsQuiet, bare_shown, with_counted, report_told, told_in, octets_of, IsClear, Leads, LeadsIfHeard, answer_if_heard, config_of};
 ghost use Rattle.model_bits.specs.Stream as stream;
-ghost use Rattle.model_line.specs.Came.{came, cause_of};
 ghost use Rattle.model_line.specs.Event as line_event;
-ghost use Rattle.model_line.specs.Event.{told, hears};
 ghost use Rattle.model_line.specs.Line as machine;
-ghost use Rattle.model_line.specs.Machine.{answer};
-ghost use Rattle.model_line.specs.Refusal.{refusal};
-ghost use Rattle.model_line.specs.Request.{request_of};
-ghost use Rattle.model_line.specs.Sound.{IsInRange};
-ghost use Rattle.model_link.specs.Told.{starts};
 
 use crate::came::{came, cause_of, octets_of};
 use crate::counting::count_told;
 use crate::fault::StartFault;
 use crate::link_layer::LinkLayer;
+use crate::links::Links;
+use crate::marks::Marks;
 use crate::reports::{Report, lent, tell_drop};
+use crate::units::Units;
 use lapd_count::Counters;
 use lapd_frame::{Refusal, Timer};
 use lapd_link::BareReport;
 use lapd_store::Shelf;
+use lapd_tei::Teis;
 use model_bits::Heard;
 use model_line::{Config, Fault, Request};
 use std::alloc::Global;
@@ -43,10 +37,7 @@ pub struct FrameLine {
 }
 
 impl FrameLine {
-    ghost use Rattle.lapd_link_steps.specs.Quiet.{IsQuiet};
-    ghost use Rattle.lapd_line.specs.Counted.{bare_shown, with_counted};
-    ghost use Rattle.lapd_line.specs.Reports.{report_told, told_in, octets_of, IsClear};
-    ghost use Rattle.lapd_line.specs.Stands.{Stands, Leads, LeadsIfHeard, answer_if_heard, config_of};
+    ghost use Rattle.lapd_line.specs.Stands.{Stands};
 
     /// A line of a card with these sizes and limits, all in range. No TEI is on it.
     ///
@@ -61,7 +52,17 @@ impl FrameLine {
             → Holds store others → Stands line store others (machine.fresh_line config.now)) }
         ensures counters { IfOk result (λ line. line.counters ≡ none_counted) }
     {
-        let layer = LinkLayer::start(alloc, config)?;
+        let teis = Teis::start(alloc, usize::from(config.terminals))?;
+        let links = Links::start(alloc, config)?;
+        let units = Units::start(alloc, usize::from(config.unit_queue))?;
+        let layer = LinkLayer {
+            config: *config,
+            teis,
+            links,
+            units,
+            turn: 0,
+            awake: Marks::none(),
+        };
         Ok(FrameLine {
             layer,
             counters: Counters::new(),

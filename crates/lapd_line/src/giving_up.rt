@@ -1,18 +1,14 @@
 //! What waits on a line and is of no link is given up, as the line is down.
 
 ghost use Rattle.std.specs.Prelude.{◌≡◌, List, [], drop};
-ghost use Rattle.lapd_store.specs.Ownership.{Owned};
-ghost use Rattle.lapd_store.specs.Store.{SameLimits};
-ghost use Rattle.model_line.specs.Effect.{at_no_link, without_units};
-ghost use Rattle.model_line.specs.Line.{Line};
+ghost use Rattle.lapd_line.specs.{Owned, SameLimits, at_no_link, without_units, Line, Standing, Serves, always, IsClear};
 
 use crate::link_layer::LinkLayer;
 use lapd_link::BareReport;
 use lapd_store::Shelf;
 
 impl LinkLayer {
-    ghost use Rattle.lapd_line.specs.LinkLayer.{Standing, Stands, Serves, always};
-    ghost use Rattle.lapd_line.specs.Reports.{IsClear};
+    ghost use Rattle.lapd_line.specs.LinkLayer.{Stands};
 
     /// Gives up the unit data that waits, and what TEI management has going. Links and TEIs stay.
     pub(crate) fn give_up<S: Shelf>(&mut self, report: &mut BareReport, shelf: &mut S)

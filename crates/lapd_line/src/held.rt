@@ -1,29 +1,16 @@
-//! How many octets the entities of a line hold beside contents in slots.
+//! How many octets the links of a line hold beside contents in slots.
 
-ghost use Rattle.std.specs.Prelude.{◌≡◌, ◌+◌, ◌≤◌, List};
-ghost use Rattle.lapd_store.specs.Ownership.{Owned};
-ghost use Rattle.lapd_store.specs.Store.{Store};
+ghost use Rattle.std.specs.Prelude.{◌≡◌, ◌≤◌, List};
+ghost use Rattle.lapd_line.specs.{Owned, Store, sum_of_links, held_by_link, Standing};
 ghost use Rattle.model_line.specs.Line as machine;
-ghost use Rattle.model_line.specs.Stored.{sum_of_links, held_by_link};
-ghost use Rattle.lapd_tei.specs.Machine.{held};
 
 use crate::link_layer::LinkLayer;
 
 impl LinkLayer {
-    ghost use Rattle.lapd_line.specs.LinkLayer.{Standing, Stands};
+    ghost use Rattle.lapd_line.specs.LinkLayer.{Stands};
 
-    /// How many octets they hold: of messages and control frames that wait, and of assignments that are remembered.
-    pub(crate) fn held(&self) -> u32
-        requires { (store : Store) × Standing self.now store }
-        ensures held { (store : Store) (others : List Owned) (m : machine.Line) → Stands self.now store others m
-            → result ≡ held m.management + sum_of_links self.now.config (held_by_link self.now.config m) }
-        ensures few { result ≤ 1068 }
-    {
-        self.teis.held() + self.held_by_links()
-    }
-
-    // How many the links hold, of control frames that wait.
-    fn held_by_links(&self) -> u32
+    /// How many the links hold, of control frames that wait.
+    pub(crate) fn held_by_links(&self) -> u32
         requires { (store : Store) × Standing self.now store }
         ensures held { (store : Store) (others : List Owned) (m : machine.Line) → Stands self.now store others m
             → result ≡ sum_of_links self.now.config (held_by_link self.now.config m) }

@@ -11,10 +11,9 @@
 //!   heard as; `next_frame`, what goes out, and `outlet`, where to; `looks`: the state of a link, how much room it has, and how
 //!   many octets the line stores.
 //! - `port`: the octets of a line; `line`: a line with its port.
-//! - `link_layer`: what the calls change: TEI management, links and units; `starts`, how they begin; `addressing`, what is
-//!   heard; `expiries`, timers; `tei_changes`, links that open and are cleared; `requests`, what is requested of a link, of TEI
-//!   management and as unit data; `giving_up`, what waits and is of no link; `pulls`, which frame is next; `held`, what they
-//!   store; `rooms`, how much more contents they take.
+//! - `link_layer`: what the calls change: TEI management, links and units; `addressing`, what is heard; `expiries`, timers;
+//!   `tei_changes`, links that open and are cleared; `requests`, what is requested of a link, of TEI management and as unit data;
+//!   `giving_up`, what waits and is of no link; `pulls`, which frame is next; `held`, what the links store.
 //! - `links`, `units`: the links of all places of the TEI table, and the unit data that waits; `marks`, which links have
 //!   something to give.
 //! - `reports`, `pulled`: the answers; `counting`: what they tell is counted; `fault`: why a line can't be started.
@@ -44,8 +43,6 @@ mod pulled;
 mod pulls;
 mod reports;
 mod requests;
-mod rooms;
-mod starts;
 mod tei_changes;
 mod units;
 

@@ -1,20 +1,10 @@
 //! A line of octets: a line, and its port.
 
 ghost use Rattle.std.specs.Prelude.{◌≡◌, ◌≤◌, ◌+◌, List, Some, None, IsSome, IfOk, IfErr, OnErr, nat_le};
-ghost use Rattle.lapd_count.specs.Counters.{none_counted};
-ghost use Rattle.lapd_store.specs.Ownership.{Owned, Holds};
-ghost use Rattle.lapd_store.specs.Store.{Store, used_slots};
-ghost use Rattle.model_line.specs.Counts.{may_send};
-ghost use Rattle.model_line.specs.Line.{state_of};
-ghost use Rattle.model_line.specs.Refusal.{refusal};
-ghost use Rattle.model_line.specs.Request.{request_of};
-ghost use Rattle.model_line.specs.Sound.{IsInRange};
-ghost use Rattle.model_line.specs.Stored.{held_in};
-ghost use Rattle.model_link.specs.Told.{starts};
-ghost use Rattle.model_card.specs.ports.Line.{OctetLine, fresh_octet_line, after, answer};
+ghost use Rattle.lapd_line.specs.{none_counted, Owned, Holds, Store, used_slots, may_send, state_of, refusal, request_of, IsInRange, held_in, starts, OctetLine, fresh_octet_line, after, held_at, OctetsStand, OctetsLead, octets_config, latest_frame, report_told, told_in, pulled_of};
+ghost use Rattle.model_card.specs.ports.Line.{answer};
 ghost use Rattle.model_card.specs.ports.Port as port;
 ghost use Rattle.model_card.specs.ports.Port.{told};
-ghost use Rattle.model_card.specs.ports.Stored.{held_at};
 
 use crate::fault::StartFault;
 use crate::frame_line::FrameLine;
@@ -41,9 +31,6 @@ impl Line {
     ghost use Rattle.std.specs.Borrow.{sem};
     ghost use Rattle.std.specs.Io.BufRead.{Rests};
     ghost use Rattle.lapd_line.specs.contracts.line.Line.{the_row};
-    ghost use Rattle.lapd_line.specs.Octets.{OctetsStand, OctetsLead, octets_config};
-    ghost use Rattle.lapd_line.specs.Ports.{latest_frame};
-    ghost use Rattle.lapd_line.specs.Reports.{report_told, told_in, pulled_of};
 
     /// A line of a card with these sizes and limits, all in range. No TEI is on it, and no octet has come.
     ///

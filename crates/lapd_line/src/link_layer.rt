@@ -1,17 +1,15 @@
 //! The data link layer entities of a line: TEI management, the links, and the unit data that waits.
 
-ghost use Rattle.std.specs.Prelude.{◌≡◌, ℕ, ◌≤◌, List, [], drop};
-ghost use Rattle.lapd_store.specs.Ownership.{Owned};
-ghost use Rattle.lapd_store.specs.Store.{Store};
+ghost use Rattle.std.specs.Prelude.{◌≡◌, ℕ, ◌≤◌, List, drop};
+ghost use Rattle.lapd_line.specs.{at_link, received_of, info_of, IsAt, Standing, Serves, always, IsClear};
 ghost use Rattle.model_link.specs.Events as event;
 ghost use Rattle.model_line.specs.Line as machine;
-ghost use Rattle.model_line.specs.Effect.{at_link};
 
 use crate::links::Links;
 use crate::marks::Marks;
 use crate::units::Units;
 use lapd_frame::Service;
-use lapd_link::{BareReport, LinkTimer, Received};
+use lapd_link::{BareReport, Received};
 use lapd_store::Shelf;
 use lapd_tei::Teis;
 use model_line::Config;
@@ -41,11 +39,6 @@ pub(crate) fn link_number(place: usize, service: Service) -> usize
 }
 
 impl LinkLayer {
-    ghost use Rattle.lapd_link.specs.Events.{received_of, info_of};
-    ghost use Rattle.lapd_tei.specs.Sound.{IsAt};
-    ghost use Rattle.lapd_line.specs.LinkLayer.{Standing, Stands, Serves, always};
-    ghost use Rattle.lapd_line.specs.Reports.{IsClear};
-
     /// Something came from the terminal for a link of the TEI at a place. Its information begins at `start` of the
     /// octets that came.
     #[inline(always)]
@@ -70,55 +63,5 @@ impl LinkLayer {
         report.start = start;
         report.cause = None;
         self.awake.set(number, self.links.has_frame(number));
-    }
-
-    /// A timer of a link of the TEI at a place expires.
-    pub(crate) fn expire_link<S: Shelf>(
-        &mut self,
-        service: Service,
-        tei: u8,
-        place: usize,
-        timer: LinkTimer,
-        report: &mut BareReport,
-        shelf: &mut S,
-    )
-        requires at { IsAt self.old.teis.places place tei }
-        requires clear { IsClear report.old }
-        requires stands { Standing self.old (S.store shelf.old) }
-        ensures { Serves (always (at_link service tei place (event.expired timer))) [] self.old (S.store shelf.old) self.new (S.store shelf.new) report.new }
-    {
-        let number = link_number(place, service);
-        self.links.expire(number, timer, report, shelf);
-        report.cause = None;
-        self.awake.set(number, self.links.has_frame(number));
-    }
-
-    /// A link of the TEI at a place is left as one that begins, while the TEI stays.
-    pub(crate) fn clear_link<S: Shelf>(
-        &mut self,
-        service: Service,
-        tei: u8,
-        place: usize,
-        report: &mut BareReport,
-        shelf: &mut S,
-    )
-        requires at { IsAt self.old.teis.places place tei }
-        requires clear { IsClear report.old }
-        requires stands { Standing self.old (S.store shelf.old) }
-        ensures { Serves (always (at_link service tei place event.cleared)) [] self.old (S.store shelf.old) self.new (S.store shelf.new) report.new }
-    {
-        let number = link_number(place, service);
-        self.links.clear(number, report, shelf);
-        report.cause = None;
-        self.awake.set(number, self.links.has_frame(number));
-    }
-
-    /// The state of the link of a service with this TEI; none where the TEI is not on the line.
-    pub(crate) fn state(&self, service: Service, tei: u8) -> Option<u8>
-        ensures { (store : Store) (others : List Owned) (m : machine.Line) → Stands self.now store others m
-            → result ≡ machine.state_of service tei m }
-    {
-        let place = self.teis.place(tei)?;
-        self.links.state(link_number(place, service))
     }
 }

@@ -1,17 +1,9 @@
 //! The links of a line.
 
 ghost use Rattle.std.specs.Prelude.{◌≡◌, ◌-◌, ◌<◌, ◌≤◌, List, [], length, set, nat_le, Some, None, IfOk, IfErr, OnOk, OnErr};
-ghost use Rattle.lapd_store.specs.Ownership.{Owned};
-ghost use Rattle.lapd_store.specs.Store.{Store, used_slots};
+ghost use Rattle.lapd_line.specs.{Owned, Store, used_slots, held, room_of, address_at, Terms, Config, terms, window, IsInRange, received_of, info_of, TellsOf, IsClear, LinksStand, Offers, Refuses, HasTerms, machine_at, terms_in, AreBegun};
 ghost use Rattle.model_link.specs.Events as event;
 ghost use Rattle.model_link.specs.Link as machine;
-ghost use Rattle.model_link.specs.Rises.{held};
-ghost use Rattle.model_link.specs.Room.{room_of};
-ghost use Rattle.model_link.specs.Link.{address_at};
-ghost use Rattle.model_link.specs.declared.terms.Terms.{Terms};
-ghost use Rattle.model_line.specs.declared.config.Config.{Config};
-ghost use Rattle.model_line.specs.Line.{terms, window};
-ghost use Rattle.model_line.specs.Sound.{IsInRange};
 
 use crate::fault::StartFault;
 use lapd_frame::{Address, Refusal, Service};
@@ -37,11 +29,8 @@ impl Model for Links {
 }
 
 impl Links {
-    ghost use Rattle.lapd_link.specs.Events.{received_of, request_of, info_of};
-    ghost use Rattle.lapd_line.specs.Awake.{TellsOf};
-    ghost use Rattle.lapd_line.specs.Reports.{IsClear};
-    ghost use Rattle.lapd_line.specs.Links.{LinksStand, Offers, Serves, Refuses, HasTerms, machine_at, terms_in};
-    ghost use Rattle.lapd_line.specs.Starts.{AreBegun};
+    ghost use Rattle.lapd_link.specs.Events.{request_of};
+    ghost use Rattle.lapd_line.specs.Links.{Serves};
 
     /// The links of a line on which no TEI is: two for each place.
     pub(crate) fn start(alloc: Global, config: &Config) -> Result<Links, StartFault>

@@ -1,29 +1,34 @@
 //! What a line tells of itself: looks at it, which change nothing.
 
 ghost use Rattle.std.specs.Prelude.{◌≡◌, ◌≤◌, ◌-◌, List};
-ghost use Rattle.lapd_store.specs.Ownership.{Owned};
-ghost use Rattle.lapd_store.specs.Store.{Store, used_slots};
+ghost use Rattle.lapd_line.specs.{Owned, Store, used_slots, held_in, has_next, config_of};
 ghost use Rattle.model_line.specs.Line as machine;
 ghost use Rattle.model_line.specs.Room.{room_in};
-ghost use Rattle.model_line.specs.Stored.{held_in};
-ghost use Rattle.lapd_line.specs.Waiting.{has_next};
 
 use crate::frame_line::FrameLine;
+use crate::link_layer::link_number;
+use crate::requests::LAST_TEI;
 use lapd_count::Counters;
 use lapd_frame::{Refusal, Service};
 use lapd_link::Room;
 use lapd_store::Shelf;
 
 impl FrameLine {
-    ghost use Rattle.lapd_line.specs.Stands.{Stands, config_of};
+    ghost use Rattle.lapd_line.specs.Stands.{Stands};
 
-    /// Whether a frame waits: whether a call for the next frame gives one.
+    /// Whether a frame waits, so that a call for the next gives one: a message of TEI management, unit data, or one of a link.
     #[inline(always)]
     pub fn has_next(&self) -> bool
         ensures { (store : Store) (others : List Owned) (m : machine.Line) → Stands self.now store others m
             → result ≡ has_next (config_of self.now) m }
     {
-        self.layer.has_next()
+        if self.layer.awake.any() {
+            return true;
+        }
+        if self.layer.teis.has_message() {
+            return true;
+        }
+        self.layer.units.oldest().is_some()
     }
 
     /// The state of the link of a service with this TEI, by its number in Q.921 (annex B): 4 to 8. None where the TEI is
@@ -32,7 +37,8 @@ impl FrameLine {
         ensures { (store : Store) (others : List Owned) (m : machine.Line) → Stands self.now store others m
             → result ≡ machine.state_of service tei m }
     {
-        self.layer.state(service, tei)
+        let place = self.layer.teis.place(tei)?;
+        self.layer.links.state(link_number(place, service))
     }
 
     /// How much room the link of a service with this TEI has for contents, and its V(A). The whole card may hold `slots`.
@@ -50,7 +56,17 @@ impl FrameLine {
         ensures { (others : List Owned) (m : machine.Line) → Stands self.now (S.store shelf.now) others m
             → result ≡ room_in (config_of self.now) (slots - used_slots (S.store shelf.now)) service tei m }
     {
-        self.layer.room(service, tei, shelf, slots)
+        if tei > LAST_TEI {
+            return Err(Refusal::BadTei);
+        }
+        let Some(place) = self.layer.teis.place(tei) else {
+            return Err(Refusal::NoLink);
+        };
+        // The link is there, as its TEI has a place.
+        self.layer
+            .links
+            .room(link_number(place, service), shelf, slots)
+            .ok_or(Refusal::NoLink)
     }
 
     /// What was counted of the line since its start.
@@ -68,6 +84,6 @@ impl FrameLine {
             → result ≡ held_in (config_of self.now) m }
         ensures few { result ≤ 1068 }
     {
-        self.layer.held()
+        self.layer.teis.held() + self.layer.held_by_links()
     }
 }

@@ -1,9 +1,8 @@
 //! Which of up to 64 numbers are marked.
 
 ghost use Rattle.std.specs.Prelude.{◌≡◌, ◌<◌, ◌≤◌, ℕ, false, true, IfSome, MatchOption};
-ghost use Rattle.std.specs.Int.{bit_at};
 ghost use Rattle.std.specs.Option.{unwrap_or};
-ghost use Rattle.lapd_line.specs.Marks.{NoneFrom, IsLowestFrom};
+ghost use Rattle.lapd_line.specs.{NoneFrom, IsLowestFrom, AreMarked, IsMark, IsMarkedAmong, Sets, IsFirstAround};
 
 /// Which of the numbers below 64 are marked: of a line the links that have a frame to give, of a card the lines.
 #[derive(Clone, Copy, Debug)]
@@ -13,9 +12,6 @@ pub struct Marks {
 }
 
 impl Marks {
-    ghost use Rattle.lapd_line.specs.Marks.{AreMarked, IsMark, IsMarkedAmong, Sets};
-    ghost use Rattle.lapd_line.specs.Rounds.{IsFirstAround};
-
     /// No number is marked.
     pub fn none() -> Marks
         ensures { AreMarked result (λ number. false) }

@@ -1,12 +1,9 @@
 //! The next frame of a line: it is written as octets, or loaded into a port.
 
 ghost use Rattle.std.specs.Prelude.{◌≡◌, ◌+◌, ◌<◌, ◌≤◌, ◌++◌, List, length, take, drop};
-ghost use Rattle.lapd_store.specs.Ownership.{Owned};
+ghost use Rattle.lapd_line.specs.{Owned, answer, IsFree, in_octets, room_in, TakesNext, orders_taken};
 ghost use Rattle.model_line.specs.Event as line_event;
 ghost use Rattle.model_line.specs.Line as machine;
-ghost use Rattle.model_line.specs.Machine.{answer};
-ghost use Rattle.lapd_line.specs.Loading.{IsFree, in_octets, room_in};
-ghost use Rattle.lapd_line.specs.Pulls.{TakesNext, orders_taken};
 
 use crate::frame_line::FrameLine;
 use crate::outlet::Outlet;
@@ -85,9 +82,8 @@ fn put(out: &mut [u8], at: usize, octets: &[u8])
 }
 
 impl FrameLine {
-    ghost use Rattle.lapd_line.specs.Ports.{IsLoaded};
-    ghost use Rattle.lapd_line.specs.Reports.{gave_in, written};
-    ghost use Rattle.lapd_line.specs.Stands.{Stands, Leads, config_of};
+    ghost use Rattle.lapd_line.specs.{IsLoaded, gave_in, written, Leads, config_of};
+    ghost use Rattle.lapd_line.specs.Stands.{Stands};
 
     /// Writes the next frame to be sent in front of `out`, without its check: a message of TEI management, else unit data,
     /// else a frame of a link, each link in its turn (profile); none where none waits. There is room for the longest.

@@ -1,17 +1,8 @@
 //! The port of a line: what stands between its octets and its frames.
 
 ghost use Rattle.std.specs.Prelude.{◌≡◌, ℕ, ◌+◌, ◌*◌, ◌<◌, ◌≤◌, ◌^◌, ◌∷◌, ◌++◌, [], length, get_or, IsTrue, Option, IfOk};
-ghost use Rattle.lapd_bits.specs.Ended.{without_octets};
-ghost use Rattle.model_bits.specs.Heads.{head_of};
-ghost use Rattle.model_bits.specs.Heard.{heard_of};
-ghost use Rattle.model_line.specs.Event.{Answer};
-ghost use Rattle.model_card.specs.ports.Begun.{head_begun};
-ghost use Rattle.model_card.specs.ports.HeadHeard.{head_heard};
+ghost use Rattle.lapd_line.specs.{without_octets, head_of, heard_of, Answer, head_begun, head_heard, gained, is_due, fresh_port, held_at, orders_taken, report_told, told_in, PortStands, IsSaid, latest_in, latest_frame, or_latest, with_frame};
 ghost use Rattle.model_card.specs.ports.Port as machine;
-ghost use Rattle.model_card.specs.ports.Port.{gained, is_due, fresh_port};
-ghost use Rattle.model_card.specs.ports.Stored.{held_at};
-ghost use Rattle.lapd_line.specs.Pulls.{orders_taken};
-ghost use Rattle.lapd_line.specs.Reports.{report_told, told_in};
 
 use crate::came::octets_of;
 use crate::fault::StartFault;
@@ -40,7 +31,7 @@ pub struct Port {
 }
 
 impl Port {
-    ghost use Rattle.lapd_line.specs.Ports.{PortStands, IsSaid, Pulls, latest_in, latest_frame, or_latest, with_frame};
+    ghost use Rattle.lapd_line.specs.Ports.{Pulls};
 
     /// A port for information fields of `n201` octets at most, which is 1,024 at most. No octet has come, and none was given.
     ///

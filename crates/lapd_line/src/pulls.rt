@@ -1,21 +1,7 @@
 //! What a call for the next frame takes: a message of TEI management, unit data, or a frame of a link.
 
-ghost use Rattle.std.specs.Prelude.{◌≡◌, ◌+◌, ◌<◌, ◌≤◌, Bool, true, List, [], length, IfSome, IsSome};
-ghost use Rattle.lapd_frame.specs.Grammar.{IsFrame, spelling};
-ghost use Rattle.lapd_store.specs.Store.{Store};
-ghost use Rattle.model_link.specs.Link.{frame_of};
-ghost use Rattle.model_link.specs.declared.terms.Terms.{Terms};
-ghost use Rattle.model_line.specs.Line.{link_count};
-ghost use Rattle.model_line.specs.Taken.{message_taken, unit_taken, link_taken, first_taken, round, taken};
-ghost use Rattle.model_line.specs.Line as machine;
-ghost use Rattle.lapd_store.specs.Ownership.{Owned};
-ghost use Rattle.lapd_line.specs.Waiting.{has_next};
-ghost use Rattle.lapd_line.specs.Awake.{TellsOf};
-ghost use Rattle.lapd_line.specs.Links.{HasTerms};
-ghost use Rattle.lapd_line.specs.Marks.{IsMark, Sets};
-ghost use Rattle.lapd_line.specs.Rounds.{IsFirstAround};
-ghost use Rattle.lapd_line.specs.Loading.{IsFree, Loads, room_in, reference_in};
-ghost use Rattle.lapd_line.specs.Pulls.{Takes, orders_taken};
+ghost use Rattle.std.specs.Prelude.{◌≡◌, ◌+◌, ◌<◌, ◌≤◌, Bool, true, [], length, IsSome};
+ghost use Rattle.lapd_line.specs.{IsFrame, spelling, Store, frame_of, Terms, link_count, message_taken, unit_taken, link_taken, first_taken, round, taken, TellsOf, HasTerms, IsMark, Sets, IsFree, Loads, room_in, reference_in, Takes, orders_taken, Standing};
 
 use crate::link_layer::LinkLayer;
 use crate::outlet::Outlet;
@@ -44,8 +30,6 @@ fn load<O: Outlet>(out: &mut O, side: Side, address: Address, control: Control, 
 }
 
 impl LinkLayer {
-    ghost use Rattle.lapd_line.specs.LinkLayer.{Standing, Stands};
-
     /// Takes the frame that is next, if there is one, and loads it: the oldest message of TEI management, else the
     /// oldest unit data, else what the first of the links has to give, going round from the one after that which was
     /// served last. Answers the orders for timers.
@@ -68,22 +52,8 @@ impl LinkLayer {
         self.take_first(out, shelf)
     }
 
-    /// Whether a frame waits: a message of TEI management, unit data, or what a link has to give.
-    #[inline(always)]
-    pub(crate) fn has_next(&self) -> bool
-        ensures { (store : Store) (others : List Owned) (m : machine.Line) → Stands self.now store others m
-            → result ≡ has_next self.now.config m }
-    {
-        if self.awake.any() {
-            return true;
-        }
-        if self.teis.has_message() {
-            return true;
-        }
-        self.units.oldest().is_some()
-    }
-
     /// What the first of these links has to give. It is the first that is awake; where none is, that costs no call.
+    #[tactic(auto, using(crate::proofs::PullTakesRound::first_within, crate::proofs::PullTakesRound::first_marked))]
     #[inline(always)]
     fn take_first<O: Outlet, S: Shelf>(
         &mut self,
@@ -95,20 +65,8 @@ impl LinkLayer {
         requires room { self.old.config.n201 ≤ room_in (O.loading out.old) }
         ensures { Takes (λ c m. first_taken c m (round c m)) self.old (S.store shelf.now) (O.loading out.old) self.new (S.store shelf.now) (O.loading out.new) (orders_taken result) }
     {
-        let number = self.first_awake()?;
+        let number = self.awake.first_around(self.turn)?;
         self.take_link(number, out, shelf)
-    }
-
-    /// The first of the links that is awake, going round from the turn.
-    #[tactic(auto, using(crate::proofs::PullTakesRound::first_within, crate::proofs::PullTakesRound::first_marked, crate::proofs::PullTakesRound::first_of_links))]
-    #[inline(always)]
-    fn first_awake(&self) -> Option<usize>
-        requires { (store : Store) × Standing self.now store }
-        ensures within { IfSome result (λ number. number < link_count self.now.config) }
-        ensures awake { IfSome result (λ number. IsMark self.now.awake number true) }
-        ensures first { IsFirstAround self.now.awake self.now.turn (length self.now.links) result }
-    {
-        self.awake.first_around(self.turn)
     }
 
     /// What a link that is awake has to give.

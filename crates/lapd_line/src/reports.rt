@@ -2,8 +2,7 @@
 
 ghost use Rattle.std.specs.Prelude.{◌≡◌, ℕ, List};
 ghost use Rattle.std.specs.Option.{option_copied};
-ghost use Rattle.model_line.specs.Event.{dropped};
-ghost use Rattle.lapd_line.specs.Reports.{IsClear, told_in};
+ghost use Rattle.lapd_line.specs.{dropped, IsClear, told_in, nothing, report_told, without_contents};
 
 use lapd_frame::{Note, Order, ShortList};
 use lapd_link::BareReport;
@@ -24,9 +23,6 @@ pub struct Report<'a> {
 }
 
 impl Report<'_> {
-    ghost use Rattle.model_line.specs.Event.{nothing};
-    ghost use Rattle.lapd_line.specs.Reports.{report_told, without_contents};
-
     /// Of something that led to nothing.
     pub fn nothing() -> Report<'static>
         ensures { report_told result ≡ nothing }
@@ -70,8 +66,6 @@ impl Report<'_> {
 }
 
 impl<'a> Report<'a> {
-    ghost use Rattle.lapd_line.specs.Reports.{report_told, told_in};
-
     /// What a report without references says, with contents lent from the octets of a frame.
     pub(crate) fn of(bare: &BareReport, octets: &'a [u8]) -> Report<'a>
         ensures { report_told result ≡ told_in octets.now bare.now }

@@ -1,22 +1,11 @@
 //! What layer 3 and management ask for.
 
 ghost use Rattle.std.specs.Prelude.{◌≡◌, ◌≤◌, ◌==◌, ◌||◌, ℕ, false, List, [], length, Some, None, IfOk, IfErr, OnOk, OnErr, nat_le};
-ghost use Rattle.lapd_frame.specs.declared.services.Service.{Service};
-ghost use Rattle.lapd_store.specs.Ownership.{Owned};
-ghost use Rattle.lapd_store.specs.Store.{Store, used_slots};
+ghost use Rattle.lapd_line.specs.{Service, Owned, Store, used_slots, told_of, IsShort, is_on, Line, at_management, at_units, refusal, request_of, aim_of_request, at_deactivated, at_requested, last_unit_tei, event_of, link_refusal, management_refusal, may_ask, Standing, Serves, always, IsClear};
 ghost use Rattle.lapd_tei.specs.Events as teis;
 ghost use Rattle.lapd_tei.specs.Laws.{IsInRange};
-ghost use Rattle.lapd_tei.specs.Outcome.{told_of, IsShort};
-ghost use Rattle.lapd_tei.specs.Table.{is_on};
-ghost use Rattle.model_line.specs.Line.{Line};
 ghost use Rattle.model_line.specs.Line as machine;
-ghost use Rattle.model_line.specs.Effect.{at_management, at_units};
-ghost use Rattle.model_line.specs.Refusal.{refusal};
 ghost use Rattle.model_line.specs.Request as asked;
-ghost use Rattle.model_line.specs.Request.{request_of};
-ghost use Rattle.model_line.specs.Requested.{aim_of_request, at_deactivated, at_requested};
-ghost use Rattle.model_line.specs.Sides.{last_unit_tei};
-ghost use Rattle.lapd_line.specs.Requests.{event_of, link_refusal, management_refusal, may_ask};
 
 use crate::addressing::{GROUP, has_management};
 use crate::link_layer::{LinkLayer, link_number};
@@ -80,8 +69,7 @@ impl TeiRequest {
 
 impl LinkLayer {
     ghost use Rattle.lapd_link.specs.Events as link;
-    ghost use Rattle.lapd_line.specs.LinkLayer.{Standing, Stands, Serves, always};
-    ghost use Rattle.lapd_line.specs.Reports.{IsClear};
+    ghost use Rattle.lapd_line.specs.LinkLayer.{Stands};
 
     /// Serves a request, or refuses it and changes nothing.
     #[inline(always)]
@@ -192,7 +180,10 @@ impl LinkLayer {
         let Some(place) = self.teis.place(tei) else {
             return Err(Refusal::NoLink);
         };
-        self.clear_link(service, tei, place, report, shelf);
+        let number = link_number(place, service);
+        self.links.clear(number, report, shelf);
+        report.cause = None;
+        self.awake.set(number, self.links.has_frame(number));
         Ok(())
     }
 

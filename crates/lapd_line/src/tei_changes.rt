@@ -1,15 +1,9 @@
 //! What TEI management leads to: links that open and links that are cleared.
 
 ghost use Rattle.std.specs.Prelude.{◌≡◌, ℕ, ◌≤◌, ◌++◌, ◌+◌, List, [], length, Some};
-ghost use Rattle.lapd_frame.specs.ShortLists.{listed};
+ghost use Rattle.lapd_line.specs.{listed, Management, Gained, Left, told_of, IsShort, at_management, told_of_link, told_of_management, with_cleared, IsClear, told_in, IsAnswerTo, Changing, with_management, Serves, always};
 ghost use Rattle.lapd_link.specs.Outcome as link;
 ghost use Rattle.lapd_tei.specs.Events as teis;
-ghost use Rattle.lapd_tei.specs.Machine.{Management};
-ghost use Rattle.lapd_tei.specs.declared.outcome.Change.TheVariants.{Gained, Left};
-ghost use Rattle.lapd_tei.specs.Outcome.{told_of, IsShort};
-ghost use Rattle.model_line.specs.Effect.{at_management, told_of_link, told_of_management, with_cleared};
-ghost use Rattle.lapd_line.specs.Reports.{IsClear, told_in};
-ghost use Rattle.lapd_line.specs.TeiChanges.{IsAnswerTo, Changing, with_management};
 
 use crate::link_layer::{LinkLayer, link_number};
 use lapd_frame::{Service, ShortList};
@@ -54,8 +48,6 @@ fn joined<T: Copy>(first: ShortList<T>, second: ShortList<T>, third: ShortList<T
 }
 
 impl LinkLayer {
-    ghost use Rattle.lapd_line.specs.LinkLayer.{Serves, always};
-
     /// TEI management has served an event: what it told leads to changes of the links.
     pub(crate) fn change<S: Shelf>(
         &mut self,

@@ -1,18 +1,9 @@
 //! Frames, timers, and the end of the TEI.
 
 ghost use Rattle.std.specs.Prelude.{◌≡◌, ℕ, ◌≤◌, true, List, []};
-ghost use Rattle.lapd_store.specs.Store.{SameLimits};
-ghost use Rattle.lapd_store.specs.Ownership.{Owned, Keeps};
-ghost use Rattle.lapd_frame.specs.ShortLists.{listed};
+ghost use Rattle.lapd_link.specs.{SameLimits, Owned, Keeps, listed, Course, after, told, received_step, starts, RisesByEvent, Agrees, Does, HasRoom, IsClear, info_of, received_of, Stays, Reaches, terms_of, told_with, told_of};
 ghost use Rattle.model_link.specs.Link as machine;
 ghost use Rattle.model_link.specs.Events as event;
-ghost use Rattle.model_link.specs.Steps.{Course};
-ghost use Rattle.model_link.specs.Machine.{after, told, received_step};
-ghost use Rattle.model_link.specs.Told.{starts};
-ghost use Rattle.model_link.specs.Rises.{RisesByEvent};
-ghost use Rattle.lapd_link_steps.specs.Does.{Agrees, Does, HasRoom};
-ghost use Rattle.lapd_link_steps.specs.Reports.{IsClear};
-ghost use Rattle.lapd_link.specs.Events.{info_of, received_of};
 
 use crate::link::Link;
 use crate::orders::orders;
@@ -24,8 +15,7 @@ use lapd_store::Shelf;
 use model_link::{LinkTimer, Terms};
 
 impl Link {
-    ghost use Rattle.lapd_link.specs.Stands.{Stands, Stays, Reaches, terms_of};
-    ghost use Rattle.lapd_link.specs.Outcome.{told_with, told_of};
+    ghost use Rattle.lapd_link.specs.Stands.{Stands};
 
     /// Something came from the terminal with the link's address. What is delivered is lent from the frame.
     pub fn frame<'a, S: Shelf>(&mut self, received: Received<'a>, shelf: &mut S) -> Outcome<'a>

@@ -1,7 +1,5 @@
 //! Why a start can fail.
-ghost use Rattle.std.specs.Prelude.{◌≡◌};
 
-use std::alloc::AllocError;
 use thiserror::Error;
 
 /// Why a link could not be started.
@@ -10,24 +8,4 @@ pub enum StartFault {
     /// There is no memory for all the room that it needs. What was taken by then is given back (tested).
     #[error("out of memory")]
     OutOfMemory = 1,
-}
-
-impl From<AllocError> for StartFault {
-    ghost use Rattle.lapd_link.specs.declared.fault.StartFault.TheVariants.{OutOfMemory};
-
-    ghost from_gives = { λ _ fault. fault ≡ OutOfMemory };
-
-    fn from(_error: AllocError) -> StartFault {
-        StartFault::OutOfMemory
-    }
-}
-
-impl From<lapd_store::StartFault> for StartFault {
-    ghost use Rattle.lapd_link.specs.declared.fault.StartFault.TheVariants.{OutOfMemory};
-
-    ghost from_gives = { λ _ fault. fault ≡ OutOfMemory };
-
-    fn from(_fault: lapd_store::StartFault) -> StartFault {
-        StartFault::OutOfMemory
-    }
 }

@@ -1,12 +1,8 @@
 //! A link.
 
 ghost use Rattle.std.specs.Prelude.{◌≡◌, List, ◌≤◌, IfOk};
-ghost use Rattle.lapd_store.specs.Store.{Store};
-ghost use Rattle.lapd_store.specs.Ownership.{Owned, Holds};
-ghost use Rattle.model_link.specs.declared.states.State.TheVariants.{TeiAssigned};
+ghost use Rattle.lapd_link.specs.{Store, Owned, Holds, TeiAssigned, address_at, held, terms_of};
 ghost use Rattle.model_link.specs.Link as machine;
-ghost use Rattle.model_link.specs.Link.{address_at};
-ghost use Rattle.model_link.specs.Rises.{held};
 
 use crate::fault::StartFault;
 use lapd_frame::{Address, Service};
@@ -27,7 +23,7 @@ pub struct Link {
 }
 
 impl Link {
-    ghost use Rattle.lapd_link.specs.Stands.{Stands, terms_of};
+    ghost use Rattle.lapd_link.specs.Stands.{Stands};
 
     /// A link that is down, with room for `queue` contents (1 to 127) and `control` control frames that wait (2 to 16).
     /// It is opened before it serves: until then its service and its TEI are any.
@@ -44,8 +40,12 @@ impl Link {
         ensures queue { IfOk result (λ link. (terms_of link).queue ≡ queue) }
         ensures control { IfOk result (λ link. (terms_of link).control ≡ control) }
     {
-        let entity = Entity::start(alloc, usize::from(control))?;
-        let slots = SlotQueue::start(alloc, usize::from(queue))?;
+        let entity = Entity::start(alloc, usize::from(control)).map_err(
+            |_| StartFault::OutOfMemory,
+        )?;
+        let slots = SlotQueue::start(alloc, usize::from(queue)).map_err(
+            |_| StartFault::OutOfMemory,
+        )?;
         Ok(Link {
             terms: Terms {
                 service: Service::Call,

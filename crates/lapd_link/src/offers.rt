@@ -1,16 +1,9 @@
 //! The next frame that is sent.
 
 ghost use Rattle.std.specs.Prelude.{◌≡◌, ◌+◌, ◌*◌, ◌≤◌, List, None, is_some, slice_get, IfSome, MatchOption};
-ghost use Rattle.lapd_store.specs.Store.{Store, IsUsed};
-ghost use Rattle.lapd_store.specs.Ownership.{Owned};
-ghost use Rattle.lapd_frame.specs.Grammar.{IsFrame};
+ghost use Rattle.lapd_link.specs.{Store, IsUsed, Owned, IsFrame, frame_of, after, given, RisesByEvent, sent, may_send, orders_for, listed, terms_of, given_by, HasMessage};
 ghost use Rattle.model_link.specs.Link as machine;
-ghost use Rattle.model_link.specs.Link.{frame_of};
 ghost use Rattle.model_link.specs.Events as event;
-ghost use Rattle.model_link.specs.Machine.{after, given};
-ghost use Rattle.model_link.specs.Rises.{RisesByEvent, sent, may_send};
-ghost use Rattle.model_link.specs.Told.{orders_for};
-ghost use Rattle.lapd_frame.specs.ShortLists.{listed};
 
 use crate::link::Link;
 use crate::orders::orders;
@@ -31,8 +24,7 @@ pub struct Offer {
 }
 
 impl Link {
-    ghost use Rattle.lapd_link.specs.Stands.{Stands, terms_of};
-    ghost use Rattle.lapd_link.specs.Outcome.{given_by, HasMessage};
+    ghost use Rattle.lapd_link.specs.Stands.{Stands};
 
     /// The next frame to be sent, if there is one: the control frame that has waited longest; else, in state 7, an I-frame
     /// with the first contents that are unsent, where the terminal is not busy and the window is open; else the

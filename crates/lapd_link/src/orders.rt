@@ -1,8 +1,7 @@
 //! Orders for the timers.
 
 ghost use Rattle.std.specs.Prelude.{◌≡◌, Some};
-ghost use Rattle.lapd_frame.specs.ShortLists.{listed};
-ghost use Rattle.model_link.specs.Told.{timer_at, orders_for};
+ghost use Rattle.lapd_link.specs.{listed, timer_at, orders_for};
 
 use lapd_frame::{Order, ShortList, Timer};
 use lapd_link_steps::is_the;

@@ -1,15 +1,10 @@
 //! What layer 3 asks for.
 
-ghost use Rattle.std.specs.Prelude.{◌≡◌, ℕ, ◌<◌, ◌≤◌, nat_le, false, List, [], length, None, Some, ◌++◌, ◌∷◌, IfOk, IfErr, IfNone, OnOk, OnErr};
-ghost use Rattle.lapd_store.specs.Store.{Store, used_slots, SameLimits};
-ghost use Rattle.lapd_store.specs.Ownership.{Owned, Keeps};
+ghost use Rattle.std.specs.Prelude.{◌≡◌, ℕ, ◌<◌, ◌≤◌, nat_le, false, List, [], length, None, Some, ◌++◌, ◌∷◌, IfErr, IfNone, OnOk, OnErr};
+ghost use Rattle.lapd_link.specs.{Store, used_slots, SameLimits, Owned, Keeps, begun, after, told, RisesByEvent, IsClear, Stays, Reaches, HasPlace, terms_of, request_of, told_with};
 ghost use Rattle.model_link.specs.Link as machine;
 ghost use Rattle.model_link.specs.Events as event;
-ghost use Rattle.model_link.specs.Steps.{begun};
 ghost use Rattle.model_link.specs.Requests as asked;
-ghost use Rattle.model_link.specs.Machine.{after, told};
-ghost use Rattle.model_link.specs.Rises.{RisesByEvent};
-ghost use Rattle.lapd_link_steps.specs.Reports.{IsClear};
 
 use crate::link::Link;
 use lapd_frame::Refusal;
@@ -33,9 +28,7 @@ pub enum LinkRequest<'a> {
 }
 
 impl Link {
-    ghost use Rattle.lapd_link.specs.Stands.{Stands, Stays, Reaches, HasRoom, HasPlace, terms_of};
-    ghost use Rattle.lapd_link.specs.Events.{request_of};
-    ghost use Rattle.lapd_link.specs.Outcome.{told_with};
+    ghost use Rattle.lapd_link.specs.Stands.{Stands, HasRoom};
 
     /// Layer 3 asks for something, where all users of the shelf together may hold `slots` contents, at most as many as
     /// the shelf has slots. In the report nothing is told yet.
@@ -152,32 +145,15 @@ impl Link {
     }
 }
 
-ghost use Rattle.lapd_link.specs.Events.{request_of};
-
 // Whether the state serves the request.
 fn serves(state: State, request: LinkRequest<'_>) -> bool
     ensures { result ≡ asked.serves state (request_of request.entry) }
 {
+    let is_down = matches!(state, State::TeiAssigned);
+    let is_up = matches!(state, State::Established | State::TimerRecovery);
     match request {
-        LinkRequest::Establish => is_down(state),
-        LinkRequest::Release => is_down(state) || is_multiple_frame(state),
-        LinkRequest::Data(_) => is_multiple_frame(state),
-        LinkRequest::SetBusy => is_multiple_frame(state),
-        LinkRequest::ClearBusy => is_multiple_frame(state),
-    }
-}
-
-fn is_down(state: State) -> bool
-    ensures { result ≡ asked.is_down state }
-{
-    matches!(state, State::TeiAssigned)
-}
-
-fn is_multiple_frame(state: State) -> bool
-    ensures { result ≡ machine.is_multiple_frame state }
-{
-    match state {
-        State::Established | State::TimerRecovery => true,
-        State::TeiAssigned | State::AwaitingEstablishment | State::AwaitingRelease => false,
+        LinkRequest::Establish => is_down,
+        LinkRequest::Release => is_down || is_up,
+        LinkRequest::Data(_) | LinkRequest::SetBusy | LinkRequest::ClearBusy => is_up,
     }
 }

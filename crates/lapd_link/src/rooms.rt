@@ -1,17 +1,15 @@
 //! How much room a link has.
 
 ghost use Rattle.std.specs.Prelude.{◌≡◌, ◌-◌, List, length};
-ghost use Rattle.lapd_store.specs.Store.{Store, used_slots};
-ghost use Rattle.lapd_store.specs.Ownership.{Owned};
+ghost use Rattle.lapd_link.specs.{used_slots, Owned, room_of, terms_of};
 ghost use Rattle.model_link.specs.Link as machine;
-ghost use Rattle.model_link.specs.Room.{room_of};
 
 use crate::link::Link;
 use lapd_store::Shelf;
 use model_link::Room;
 
 impl Link {
-    ghost use Rattle.lapd_link.specs.Stands.{Stands, terms_of};
+    ghost use Rattle.lapd_link.specs.Stands.{Stands};
 
     /// How much room the link has for contents, where all users of the shelf together may hold `slots`, and V(A). It
     /// says what a request to send more will be refused for; each acknowledgement of contents lets `queue` and V(A)

@@ -34,8 +34,7 @@ pub struct Entity {
 
 impl Entity {
     ghost use Rattle.std.specs.Prelude.{◌≡◌, IfOk};
-    ghost use Rattle.lapd_link_steps.specs.Done.{IsFresh};
-    ghost use Rattle.lapd_seq.specs.Windows.{va_of};
+    ghost use Rattle.lapd_link_steps.specs.{IsFresh, va_of};
 
     /// An entity as it begins, with room for `control` control frames that wait.
     ///
@@ -85,12 +84,7 @@ impl Entity {
 
 impl Entity {
     ghost use Rattle.std.specs.Prelude.{◌≡◌, ◌≤◌, length, slice_get, Some, sum_by};
-    ghost use Rattle.lapd_frame.specs.declared.addresses.Side.TheVariants.{Network};
-    ghost use Rattle.lapd_frame.specs.Grammar.{spelling};
-    ghost use Rattle.lapd_frame.specs.Reading.{start_of};
-    ghost use Rattle.model_link.specs.declared.frames.ControlFrame.{ControlFrame};
-    ghost use Rattle.model_link.specs.declared.terms.Terms.{Terms};
-    ghost use Rattle.model_link.specs.Link.{frame_of};
+    ghost use Rattle.lapd_link_steps.specs.{Network, spelling, start_of, ControlFrame, Terms, frame_of};
 
     /// The octets of the control frames that wait, of which there are at most 16.
     pub fn held(&self) -> u32

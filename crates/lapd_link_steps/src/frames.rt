@@ -1,9 +1,8 @@
 //! What comes from the terminal.
 
 ghost use Rattle.std.specs.Prelude.{◌≡◌, ℕ, List, length};
-ghost use Rattle.model_link.specs.Machine.{frame_step};
-ghost use Rattle.lapd_link_steps.specs.Does.{Does, HasRoom, Tells};
-ghost use Rattle.lapd_link_steps.specs.Parts.{malformed_by_state};
+ghost use Rattle.lapd_link_steps.specs.{frame_step, HasRoom, Tells, malformed_by_state};
+ghost use Rattle.lapd_link_steps.specs.Does.{Does};
 
 use crate::entity::Entity;
 use crate::report::BareReport;

@@ -1,16 +1,10 @@
 //! The next frame that is sent.
 
 ghost use Rattle.std.specs.Prelude.{◌≡◌, [], ℕ, ◌<◌, ◌≤◌, true, List, length, None, Some, IfSome, IsTrue, is_some};
-ghost use Rattle.lapd_seq.specs.Windows.{outstanding_of};
-ghost use Rattle.model_link.specs.declared.terms.Terms.{Terms};
-ghost use Rattle.model_link.specs.Link.{Link, queue_of};
-ghost use Rattle.model_link.specs.Machine.{given};
+ghost use Rattle.lapd_link_steps.specs.{outstanding_of, Terms, Link, queue_of, given, BareReport, changed, awaiting, link_of, Fits, Changes, Gives, Rests, given_of};
 ghost use Rattle.model_link.specs.Offers as offers;
-ghost use Rattle.lapd_link_steps.specs.declared.report.BareReport.{BareReport};
-ghost use Rattle.model_link.specs.Steps.{changed};
-ghost use Rattle.lapd_link_steps.specs.Parts.{awaiting};
-ghost use Rattle.lapd_link_steps.specs.Past.{Past, link_of, Fits};
-ghost use Rattle.lapd_link_steps.specs.Does.{Does, Changes};
+ghost use Rattle.lapd_link_steps.specs.Past.{Past};
+ghost use Rattle.lapd_link_steps.specs.Does.{Does};
 
 use crate::entity::Entity;
 use crate::report::BareReport;
@@ -27,8 +21,6 @@ pub struct Given {
 }
 
 impl Entity {
-    ghost use Rattle.lapd_link_steps.specs.Done.{Gives, Rests, given_of};
-
     /// The next frame, if there is one, while so many contents are queued: the control frame that has waited longest; else
     /// an I-frame; else the acknowledgement that is owed.
     #[inline(always)]

@@ -39,8 +39,7 @@ pub struct BareReport {
 }
 
 impl BareReport {
-    ghost use Rattle.lapd_link_steps.specs.Quiet.{IsQuiet};
-    ghost use Rattle.lapd_link_steps.specs.Reports.{IsClear, cause_in, has_contents};
+    ghost use Rattle.lapd_link_steps.specs.{IsQuiet, IsClear, cause_in, has_contents};
 
     /// Nothing is told yet.
     #[inline(always)]

@@ -1,12 +1,8 @@
 //! What layer 3 asks for, and the end of a TEI.
 
 ghost use Rattle.std.specs.Prelude.{ℕ, List};
-ghost use Rattle.model_link.specs.Machine.{cleared_step};
-ghost use Rattle.model_link.specs.Words.{begin_anew};
-ghost use Rattle.model_link.specs.declared.terms.Terms.{Terms};
-ghost use Rattle.lapd_link_steps.specs.Done.{IsFresh};
-ghost use Rattle.lapd_link_steps.specs.Does.{Does, HasRoom, Tells};
-ghost use Rattle.lapd_link_steps.specs.Parts.{released_by_state, told_of_clearing_by_state};
+ghost use Rattle.lapd_link_steps.specs.{cleared_step, begin_anew, Terms, IsFresh, HasRoom, Tells, released_by_state, told_of_clearing_by_state};
+ghost use Rattle.lapd_link_steps.specs.Does.{Does};
 
 use crate::entity::Entity;
 use crate::report::{ALL, BareReport};

@@ -1,9 +1,8 @@
 //! Timers that expire.
 
 ghost use Rattle.std.specs.Prelude.{◌≡◌, ℕ, List};
-ghost use Rattle.model_link.specs.Told.{runs};
-ghost use Rattle.model_link.specs.Machine.{expired_step, expire_running};
-ghost use Rattle.lapd_link_steps.specs.Does.{Does, HasRoom, Tells};
+ghost use Rattle.lapd_link_steps.specs.{runs, expired_step, expire_running, HasRoom, Tells};
+ghost use Rattle.lapd_link_steps.specs.Does.{Does};
 
 use crate::entity::Entity;
 use crate::report::BareReport;

@@ -1,8 +1,7 @@
 //! The check of a TEI.
 
 ghost use Rattle.std.specs.Prelude.{◌≡◌, ◌≤◌};
-ghost use Rattle.lapd_tei.specs.Machine.{First};
-ghost use Rattle.lapd_tei.specs.Rows.{counted, responses, is_unanswered};
+ghost use Rattle.lapd_tei.specs.{First, counted, responses, is_unanswered};
 
 /// A check of a TEI that is under way (Q.921 clause 5.3.3.2).
 #[derive(Clone, Copy, PartialEq, Eq, Debug)]

@@ -38,8 +38,7 @@ pub struct TeiOutcome {
 
 impl TeiOutcome {
     ghost use Rattle.std.specs.Prelude.{◌≡◌, true};
-    ghost use Rattle.lapd_tei.specs.Outcome.{told_of, IsShort};
-    ghost use Rattle.lapd_tei.specs.Machine.{nothing};
+    ghost use Rattle.lapd_tei.specs.{told_of, IsShort, nothing};
 
     // Nothing happened.
     pub(crate) fn nothing() -> TeiOutcome

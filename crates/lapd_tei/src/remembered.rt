@@ -1,8 +1,7 @@
 //! The assignments that are remembered.
 
 ghost use Rattle.std.specs.Prelude.{◌≡◌, ◌≤◌, List, [], ◌∷◌, ◌++◌, length, filter};
-ghost use Rattle.lapd_tei.specs.Rows.{remembered_in};
-ghost use Rattle.lapd_tei.specs.Words.{latest, is_of_other};
+ghost use Rattle.lapd_tei.specs.{remembered_in, latest, is_of_other};
 
 use arrayvec::ArrayVec;
 use std::marker::Model;

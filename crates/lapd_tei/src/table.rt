@@ -1,8 +1,7 @@
 //! The table of the TEIs of a line.
 
 ghost use Rattle.std.specs.Prelude.{◌≡◌, ◌<◌, ◌≤◌, Some, None, length, replicate, set, IfSome};
-ghost use Rattle.lapd_tei.specs.Table.{Places, is_on, place_of, free_place, free_tei};
-ghost use Rattle.lapd_tei.specs.Words.{freed};
+ghost use Rattle.lapd_tei.specs.{Places, is_on, place_of, free_place, free_tei, freed};
 
 use arrayvec::ArrayVec;
 use std::marker::Model;

@@ -1,14 +1,8 @@
 //! TEI management of one line.
 
 ghost use Rattle.std.specs.Prelude.{◌≡◌, ◌≤◌, ◌<◌, true, Some, None, length, option_map, slice_get, is_some, false, IfOk, IfErr, IfSome, OnOk, OnErr};
+ghost use Rattle.lapd_tei.specs.{type_of, empty, place, held, is_on, begun, leave, left, request, take_off, is_checked, message, expiry, assign, remove, check, down, refusal, after, told, offered, after_offer, told_of, led_to, IsShort};
 ghost use Rattle.lapd_frame.specs.declared.addresses.Side.{Side as Spelt};
-ghost use Rattle.lapd_tei.specs.Messages.{type_of};
-ghost use Rattle.lapd_tei.specs.Machine.{empty, place, held};
-ghost use Rattle.lapd_tei.specs.Table.{is_on};
-ghost use Rattle.lapd_tei.specs.Words.{begun, leave, left};
-ghost use Rattle.lapd_tei.specs.Rows.{request, take_off, is_checked};
-ghost use Rattle.lapd_tei.specs.Events.{message, expiry, assign, remove, check, down, refusal, after, told, offered, after_offer};
-ghost use Rattle.lapd_tei.specs.Outcome.{told_of, led_to, IsShort};
 
 mod checks;
 
@@ -64,7 +58,7 @@ impl Teis {
             table: Table::empty(terminals),
             memory: Memory::new(),
             check: None,
-            queue: Queue::start(alloc)?,
+            queue: Queue::start(alloc).map_err(|_| StartFault::OutOfMemory)?,
         })
     }
 

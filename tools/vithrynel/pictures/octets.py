@@ -59,7 +59,7 @@ COMES = [
         Note("Card::hear goes on with what ended"), back("does a frame wait on the line?", "waiting")], "Card::hear"),
     Call("FrameLine::heard", "lapd_line/src/frame_line.rt", [
         Note("what is heard is counted", code="counters"), back("so is what is told", "count")]),
-    Call("LinkLayer::serve, frame, spelled", "lapd_line/src/addressing.rt", [
+    Call("LinkLayer::serve", "lapd_line/src/addressing.rt", [
         Note("lapd_frame/src/reading.rt", code="read"), Note("SAPI 63, lapd_tei/src/teis.rt", code="message"),
         drop("extension, sapi, tei, unserved")]),
     Call("LinkLayer::receive", "lapd_line/src/link_layer.rt", [
@@ -68,7 +68,7 @@ COMES = [
     Call("Link::receive, hear", "lapd_link/src/events.rt", [
         back("contents leave the shelf, and", "settle"), back("timers get their orders")]),
     Call("Entity::frame", "lapd_link_steps/src/frames.rt", [Note("by the state: 4, 5, 6, or 7 and 8")]),
-    Call("Entity::frame_in_7_8, contents_in_7_8, in_sequence", "lapd_link_steps/src/states/multiple_frame.rt", [
+    Call("Entity::frame_in_7_8, contents_in_7_8", "lapd_link_steps/src/states/multiple_frame.rt", [
         Note("the row, here of an I-frame in sequence"), drop("unserved"),
         back("writes what is told into the report")]),
 ]

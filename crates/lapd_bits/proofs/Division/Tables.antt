@@ -8,8 +8,8 @@ use Rattle.lapd_bits.proofs.Division.Word.{low_bits-xor}
 abbrev left_with : ℕ → ℕ → ℕ
 left_with n octet = number_of (remainder (low_bits 8 octet ++ replicate n false))
 
--- the entries for no octet of zeros after each octet, then for one, and so on
-left_is : LEFT ≡ map (λ place. left_with (8 * (place / 256) + 16) (place % 256)) (range_with_len 0 2048)
+-- a table for no octet of zeros after each octet, then for one, and so on
+left_is : LEFT ≡ map (λ zeros. map (left_with (8 * zeros + 16)) (range_with_len 0 256)) (range_with_len 0 8)
 unfolding low_bits
 left_is = refl
 
@@ -18,15 +18,11 @@ low_bits-left_with : (n octet : ℕ) → low_bits 16 (left_with n octet) ≡ rem
 low_bits-left_with n octet =
     low_bits-number_of_n 16 (remainder (low_bits 8 octet ++ replicate n false)) (length-remainder (low_bits 8 octet ++ replicate n false))
 
-pub left_at : (octet zeros : ℕ) → octet < 256 → zeros < 8 → low_bits 16 (get_or LEFT (zeros * 256 + octet) 0) ≡ remainder (low_bits 8 octet ++ replicate (8 * zeros + 16) false)
+pub left_at : (octet zeros : ℕ) → octet < 256 → zeros < 8 → low_bits 16 (get_or (get_or LEFT zeros []) octet 0) ≡ remainder (low_bits 8 octet ++ replicate (8 * zeros + 16) false)
 left_at octet zeros small few =
-    let at = zeros * 256 + octet in
-    let row : at / 256 ≡ zeros = omega arith in
-    let column : at % 256 ≡ octet = omega arith in
-    ap (λ t. low_bits 16 (get_or t at 0)) left_is
-    ∙ ap (low_bits 16) (get_or-map-range_with_len (λ place. left_with (8 * (place / 256) + 16) (place % 256)) 0 2048 at at 0 (omega arith) (omega arith))
-    ∙ ap (λ n. low_bits 16 (left_with (8 * n + 16) (at % 256))) row
-    ∙ ap (λ o. low_bits 16 (left_with (8 * zeros + 16) o)) column
+    ap (λ t. low_bits 16 (get_or (get_or t zeros []) octet 0)) left_is
+    ∙ ap (λ t. low_bits 16 (get_or t octet 0)) (get_or-map-range_with_len (λ n. map (left_with (8 * n + 16)) (range_with_len 0 256)) 0 8 zeros zeros [] few (omega arith))
+    ∙ ap (low_bits 16) (get_or-map-range_with_len (left_with (8 * zeros + 16)) 0 256 octet octet 0 small (omega arith))
     ∙ low_bits-left_with (8 * zeros + 16) octet
 
 -- an octet moved down in a register, with zeros above

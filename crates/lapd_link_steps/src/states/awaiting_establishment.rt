@@ -1,10 +1,9 @@
 //! State 5, awaiting establishment: SABME was sent.
 
 ghost use Rattle.std.specs.Prelude.{◌≡◌, ℕ, List, true, length};
-ghost use Rattle.lapd_frame.specs.declared.controls.Control.TheVariants.{Ua, Dm};
+ghost use Rattle.lapd_link_steps.specs.{Ua, Dm, HasRoom, Tells, told_of_establishment};
 ghost use Rattle.model_link.specs.AwaitingEstablishment as row;
-ghost use Rattle.lapd_link_steps.specs.Does.{Does, HasRoom, Tells};
-ghost use Rattle.lapd_link_steps.specs.Parts.{told_of_establishment};
+ghost use Rattle.lapd_link_steps.specs.Does.{Does};
 
 use crate::entity::Entity;
 use crate::report::BareReport;

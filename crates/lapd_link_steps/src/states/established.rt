@@ -1,13 +1,9 @@
 //! State 7, multiple frame established.
 
 ghost use Rattle.std.specs.Prelude.{ℕ, Bool, List};
-ghost use Rattle.lapd_seq.specs.Circle.{IsValid};
-ghost use Rattle.lapd_seq.specs.Windows.{va_of, vs_of};
-ghost use Rattle.model_link.specs.declared.terms.Terms.{Terms};
+ghost use Rattle.lapd_link_steps.specs.{IsValid, va_of, vs_of, Terms, Entity, DoesBy, HasRoom, Tells, effect_of};
 ghost use Rattle.model_link.specs.Established as row;
-ghost use Rattle.lapd_link_steps.specs.declared.entity.Entity.{Entity};
-ghost use Rattle.lapd_link_steps.specs.Does.{Does, DoesBy, HasRoom, Tells};
-ghost use Rattle.lapd_link_steps.specs.Parts.{effect_of};
+ghost use Rattle.lapd_link_steps.specs.Does.{Does};
 
 use crate::entity::Entity;
 use crate::report::BareReport;

@@ -1,10 +1,9 @@
 //! What states 7 and 8 have in common: multiple-frame operation.
 
 ghost use Rattle.std.specs.Prelude.{◌≡◌, ℕ, List, length};
-ghost use Rattle.model_link.specs.Words.{by_number};
+ghost use Rattle.lapd_link_steps.specs.{by_number, Adds, HasRoom, Tells, particulars, effect_of, supervised, renewed, tells_busy};
 ghost use Rattle.model_link.specs.MultipleFrame as row;
-ghost use Rattle.lapd_link_steps.specs.Does.{Does, Adds, HasRoom, Tells};
-ghost use Rattle.lapd_link_steps.specs.Parts.{particulars, effect_of, supervised, renewed, tells_busy};
+ghost use Rattle.lapd_link_steps.specs.Does.{Does};
 
 use crate::entity::Entity;
 use crate::report::BareReport;
@@ -279,14 +278,8 @@ impl Entity {
         }
     }
 
-    // The contents of an I-frame.
-    pub(crate) fn contents_in_7_8(
-        &mut self,
-        terms: &Terms,
-        told: &mut BareReport,
-        ns: Seq,
-        pf: bool,
-    )
+    // The contents of an I-frame: those next in sequence are delivered.
+    fn contents_in_7_8(&mut self, terms: &Terms, told: &mut BareReport, ns: Seq, pf: bool)
         requires { HasRoom 1 1 told.old }
         ensures tells { Tells 1 1 told.old told.new }
         ensures does { (info : List ℕ) → Does terms.now info (row.contents_in_7_8 terms.now ns pf info) self.old told.old self.new told.new }
@@ -294,10 +287,17 @@ impl Entity {
         if self.own_busy {
             return self.answer_if(terms, told, pf);
         }
-        if ns.value == self.vr.value {
-            return self.in_sequence(terms, told, pf);
+        if ns.value != self.vr.value {
+            return self.out_of_sequence(terms, told, pf);
         }
-        self.out_of_sequence(terms, told, pf);
+        self.count_received();
+        self.rejecting_is(false);
+        told.deliver(terms);
+        if pf {
+            self.answer(terms, told);
+        } else {
+            self.pending_is(true);
+        }
     }
 
     // P=1 is answered.
@@ -309,22 +309,6 @@ impl Entity {
     {
         if pf {
             self.answer(terms, told);
-        }
-    }
-
-    // The next in sequence is delivered.
-    fn in_sequence(&mut self, terms: &Terms, told: &mut BareReport, pf: bool)
-        requires { HasRoom 1 1 told.old }
-        ensures tells { Tells 1 1 told.old told.new }
-        ensures does { (info : List ℕ) → Does terms.now info (row.in_sequence terms.now pf info) self.old told.old self.new told.new }
-    {
-        self.count_received();
-        self.rejecting_is(false);
-        told.deliver(terms);
-        if pf {
-            self.answer(terms, told);
-        } else {
-            self.pending_is(true);
         }
     }
 

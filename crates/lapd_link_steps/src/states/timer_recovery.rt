@@ -1,12 +1,9 @@
 //! State 8, timer recovery: multiple-frame operation while this side asks how far the terminal has received.
 
 ghost use Rattle.std.specs.Prelude.{ℕ, List};
-ghost use Rattle.lapd_seq.specs.Circle.{IsValid};
-ghost use Rattle.lapd_seq.specs.Windows.{va_of, vs_of};
-ghost use Rattle.model_link.specs.declared.terms.Terms.{Terms};
+ghost use Rattle.lapd_link_steps.specs.{IsValid, va_of, vs_of, Terms, DoesBy, HasRoom, Tells, effect_of, sent_again};
 ghost use Rattle.model_link.specs.TimerRecovery as row;
-ghost use Rattle.lapd_link_steps.specs.Does.{Does, DoesBy, HasRoom, Tells};
-ghost use Rattle.lapd_link_steps.specs.Parts.{effect_of, sent_again};
+ghost use Rattle.lapd_link_steps.specs.Does.{Does};
 
 use crate::entity::Entity;
 use crate::report::BareReport;

@@ -1,11 +1,9 @@
 //! V(A), V(S), V(R), and the contents that they count.
 
 ghost use Rattle.std.specs.Prelude.{◌≡◌, ℕ, List, ◌↔◌, IsTrue, false, MatchOption};
-ghost use Rattle.lapd_seq.specs.Circle.{IsNamed, IsValid, named};
-ghost use Rattle.lapd_seq.specs.Windows.{va_of, vs_of, Stands};
-ghost use Rattle.model_link.specs.declared.terms.Terms.{Terms};
+ghost use Rattle.lapd_link_steps.specs.{IsNamed, IsValid, named, va_of, vs_of, Stands, Terms, DoesBy, Changes, Tells};
 ghost use Rattle.model_link.specs.Words as word;
-ghost use Rattle.lapd_link_steps.specs.Does.{Does, DoesBy, Changes, Tells};
+ghost use Rattle.lapd_link_steps.specs.Does.{Does};
 
 use crate::entity::Entity;
 use crate::report::{ALL, BareReport};

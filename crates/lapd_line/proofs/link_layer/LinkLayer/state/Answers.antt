@@ -1,9 +1,0 @@
--- Hand-written answers for `LinkLayer::state`.
-use Rattle.lapd_line.proofs.Vocabulary.{sym}
-use Rattle.lapd_line.proofs.LayerSteps.{state_is, beside_links}
-use Rattle.lapd_line.proofs.link_layer.LinkLayer.state.Goals as goal
-
-pub returns : goal.returns
-returns c = λ store others m st.
-    state_is c.args.self.now store others m c.args.service c.args.tei c.in_ok-place.place c.link_number.result c.state.result st (sym c.in_ok-place.ensures.place) c.link_number.ensures
-    (λ within stand. c.state.ensures c.args.self.now.config store (beside_links c.args.self.now m others) m.links within stand)

@@ -3,16 +3,13 @@
 ghost use Rattle.std.specs.Borrow.{sem};
 ghost use Rattle.std.specs.Option.{option_copied_mut};
 ghost use Rattle.std.specs.Prelude.{◌≡◌, ◌≤◌, ◌<◌, ◌⊎◌, Some, None, IfSome, IfNone, option_map};
-ghost use Rattle.lapd_clock.specs.Timers.{due_at, after_due, next_moment, idle, with_lengths};
-ghost use Rattle.lapd_clock.specs.Timer.{first_out_of_range};
-ghost use Rattle.lapd_c.specs.Config.{config_fault};
+ghost use Rattle.lapd_c.specs.{due_at, after_due, next_moment, idle, with_lengths, first_out_of_range, config_fault, order_in};
 ghost use Rattle.lapd_c.specs.Statuses as status;
-ghost use Rattle.lapd_c.specs.Timers.{order_in};
 ghost use Rattle.lapd_c.specs.Clocks.{clock_of, IsHandle, plain_due, order_status, after_order, apply_status, after_apply, lengths_given};
 
 use crate::clock_slot::ClockSlot;
 use crate::plain::{
-    NO_CLOCK, NO_MEMORY, NO_PLACE, NO_TIMER, OK, PlainConfig, PlainDue, PlainOrder, PlainTimer,
+    NO_CLOCK, NO_MEMORY, NO_PLACE, NO_TIMER, OK, PlainConfig, PlainDue, PlainOrder,
     SECOND_START, WRONG_LINE, WRONG_TIME,
 };
 use lapd_clock::{Clock, Lengths};
@@ -223,10 +220,8 @@ pub extern "C" fn lapd_clock_due(handle: &mut ClockHandle, now: u64, due: &mut P
     let first = clock.due(now);
     match first {
         Some((line, timer)) => {
-            *due = PlainDue {
-                line: line as u32,
-                timer: PlainTimer::of(timer),
-            };
+            due.line = line as u32;
+            due.timer.show(timer);
             OK
         }
         None => NO_TIMER,

@@ -1,6 +1,6 @@
 //! The orders of a report, carried out on a clock.
 
-ghost use Rattle.std.specs.Prelude.{◌≡◌, ◌≤◌, ◌<◌, ◌^◌, [], Some, None, IfSome, option_map};
+ghost use Rattle.std.specs.Prelude.{◌≡◌, ◌≤◌, ◌<◌, ◌^◌, [], None, IfSome, option_map};
 ghost use Rattle.lapd_c.specs.Statuses as status;
 ghost use Rattle.lapd_c.specs.Timers.{order_in};
 ghost use Rattle.lapd_c.specs.Clocks.{clock_of, IsHandle};

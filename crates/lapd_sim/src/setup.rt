@@ -1,11 +1,9 @@
 //! What a script is played on: a card, and for each of its lines a terminal and a listener.
 
 ghost use Rattle.std.specs.Prelude.{◌≡◌, ◌≢◌, ◌<◌, ◌≤◌, length, vec_len, MatchResult};
+ghost use Rattle.lapd_sim.specs.{BadLine, WrongCard, with_card, on};
 ghost use Rattle.lapd_script.specs.Meaning as meaning;
-ghost use Rattle.lapd_script.specs.declared.kind.FaultKind.TheVariants.{BadLine, WrongCard};
 ghost use Rattle.lapd_sim.specs.machine.Setup as machine;
-ghost use Rattle.lapd_sim.specs.machine.Steps.{with_card};
-ghost use Rattle.lapd_transcript.specs.Pages.{on};
 
 use crate::board::Plan;
 use crate::exchange::{Exchange, Obeyed};
@@ -28,7 +26,7 @@ pub(crate) struct Setup {
 }
 
 impl Setup {
-    ghost use Rattle.lapd_sim.specs.Obeyed.{scene, Obeys, Begins};
+    ghost use Rattle.lapd_sim.specs.{scene, Obeys, Begins};
     ghost use Rattle.lapd_sim.specs.Stands.{Stands};
 
     pub(crate) fn start(alloc: Global, plan: Plan) -> Result<Setup, LineFault>

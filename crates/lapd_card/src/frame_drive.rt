@@ -5,14 +5,13 @@ ghost use Rattle.model_card.specs.Card as machine;
 ghost use Rattle.model_card.specs.Counted.{all_counted, CountersAreNumbers};
 ghost use Rattle.model_card.specs.Event.{at, event_of};
 ghost use Rattle.model_card.specs.Laws.{RefusedByTheTable, RunIsMoments};
-ghost use Rattle.model_card.specs.Machine.{answer};
 ghost use Rattle.model_card.specs.Run.{run, moments};
 ghost use Rattle.model_line.specs.Event as line_event;
 ghost use Rattle.model_line.specs.Request.{request_of};
 ghost use Rattle.lapd_card.specs.Counted.{counters_in};
 ghost use Rattle.lapd_card.specs.FrameCard.{line_count};
-ghost use Rattle.lapd_card.specs.FrameDrive.{line_of, events_of, MissesAt};
-ghost use Rattle.lapd_card.specs.FrameStands.{Stands, Leads};
+ghost use Rattle.lapd_card.specs.FrameDrive.{line_of, events_of, Hands, MissesAt};
+ghost use Rattle.lapd_card.specs.FrameStands.{Stands};
 ghost use Rattle.lapd_card.specs.Sink.{Taken, one_failure_more};
 
 use crate::frame_card::FrameCard;
@@ -85,13 +84,7 @@ impl<S: Shelf> FrameCard<S> {
         sink: &mut K,
     ) -> Result<(), SinkFailed>
         requires { line_of event < line_count self.old }
-        ensures failed { OnErr result (K.failures sink.new ≡ one_failure_more (K.failures sink.old)) }
-        ensures not_failed { OnOk result (K.failures sink.new ≡ K.failures sink.old) }
-        ensures leads { Leads S.store (event_of self.old.config.n201 event.entry) self.old self.new }
-        ensures taken { OnOk result ((m : machine.Card) → Stands S.store self.old m
-            → K.takes sink.old (event_of self.old.config.n201 event.entry).line (answer (event_of self.old.config.n201 event.entry) m) sink.new) }
-        ensures not_taken { OnErr result ((m : machine.Card) → Stands S.store self.old m
-            → K.misses sink.old (event_of self.old.config.n201 event.entry).line (answer (event_of self.old.config.n201 event.entry) m) sink.new) }
+        ensures { Hands S.store K.takes K.misses K.failures (event_of self.old.config.n201 event.entry) self.old self.new sink.old sink.new result }
     {
         match event {
             FrameEvent::Frame(line, octets) => sink.take(
@@ -113,13 +106,7 @@ impl<S: Shelf> FrameCard<S> {
 
     fn hand_on<K: FrameSink>(&mut self, line: usize, sink: &mut K) -> Result<(), SinkFailed>
         requires { line < line_count self.old }
-        ensures failed { OnErr result (K.failures sink.new ≡ one_failure_more (K.failures sink.old)) }
-        ensures not_failed { OnOk result (K.failures sink.new ≡ K.failures sink.old) }
-        ensures leads { Leads S.store (at line line_event.next) self.old self.new }
-        ensures taken { OnOk result ((m : machine.Card) → Stands S.store self.old m
-            → K.takes sink.old line (answer (at line line_event.next) m) sink.new) }
-        ensures not_taken { OnErr result ((m : machine.Card) → Stands S.store self.old m
-            → K.misses sink.old line (answer (at line line_event.next) m) sink.new) }
+        ensures { Hands S.store K.takes K.misses K.failures (at line line_event.next) self.old self.new sink.old sink.new result }
     {
         let _ = &self.config;
         let mut octets = [0; LONGEST];
@@ -142,13 +129,7 @@ impl<S: Shelf> FrameCard<S> {
         sink: &mut K,
     ) -> Result<(), SinkFailed>
         requires { line < line_count self.old }
-        ensures failed { OnErr result (K.failures sink.new ≡ one_failure_more (K.failures sink.old)) }
-        ensures not_failed { OnOk result (K.failures sink.new ≡ K.failures sink.old) }
-        ensures leads { Leads S.store (at line (line_event.request (request_of request.entry))) self.old self.new }
-        ensures taken { OnOk result ((m : machine.Card) → Stands S.store self.old m
-            → K.takes sink.old line (answer (at line (line_event.request (request_of request.entry))) m) sink.new) }
-        ensures not_taken { OnErr result ((m : machine.Card) → Stands S.store self.old m
-            → K.misses sink.old line (answer (at line (line_event.request (request_of request.entry))) m) sink.new) }
+        ensures { Hands S.store K.takes K.misses K.failures (at line (line_event.request (request_of request.entry))) self.old self.new sink.old sink.new result }
     {
         match self.request(line, request) {
             Ok(report) => sink.take(line, &FrameReply::Report(report)),

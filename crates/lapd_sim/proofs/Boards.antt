@@ -1,5 +1,5 @@
 -- What happens on a card of either kind.
-use Rattle.lapd_sim.proofs.Vocabulary.{◌≡◌, ◌+◌, ◌<◌, ◌≤◌, ℕ, Some, refl, sym, ap, ◌∙◌, subst, arith, ∥∥₁_map, Store, Config, ranges_of, Reply, Event, What, at, of_octets, of_frames, reply, after, card_after, meant_by, reply_in, reply_of_octets, reply_of_frames, told, Setup, Scene, happened, ordered, fold, orders_in, reply_text, with_event, Output, IsPut, IsStuck, Puts, Octets, Frames, HasPast, shelf_of, kind_of, config_of, counters_of, OnBoard, Leads, [], Exchange, scene, Tells, Holds, AnyCard, AnyLeads, AnyStands, CardStands, FrameCardStands, Machine, alone, with_ports, card_in, expiry, request, List, Result, Ok, Err}
+use Rattle.lapd_sim.proofs.Vocabulary.{◌≡◌, ◌+◌, ◌<◌, ◌≤◌, ℕ, Some, refl, sym, ap, ◌∙◌, subst, arith, ∥∥₁_map, Store, Config, ranges_of, Reply, Event, What, at, of_octets, of_frames, reply, after, card_after, meant_by, reply_in, reply_of_octets, reply_of_frames, told, Setup, Scene, happened, ordered, fold, orders_in, reply_text, with_event, Output, IsPut, IsStuck, Puts, Octets, Frames, HasPast, shelf_of, kind_of, config_of, counters_of, OnBoard, Leads, [], Exchange, scene, Tells, Holds, AnyCard, AnyLeads, AnyStands, CardStands, FrameCardStands, Machine, alone, with_ports, card_in, frames_of, expiry, request, List, Result, Ok, Err}
 use Rattle.std.specs.Option.{option_map_or}
 use Rattle.lapd_card.specs.Card as octets_card
 use Rattle.lapd_card.specs.Stands as octets
@@ -11,7 +11,6 @@ use Rattle.lapd_count.specs.declared.counters.Counters.{Counters}
 use Rattle.lapd_frame.specs.declared.timers.Timer.{Timer}
 use Rattle.lapd_script.specs.declared.command.CardKind.TheVariants as kind
 use Rattle.std.specs.Prelude.{option_map, option_to_list}
-use Rattle.model_card.specs.Card.{Card}
 use Rattle.model_card.specs.Counted as counts
 use Rattle.model_card.specs.Event as frame_event
 use Rattle.model_card.specs.Machine as frame_machine
@@ -139,12 +138,12 @@ module _ {w : What} {e : port.Event} {f : line_event.Event} (both : IsOfBoth w e
   says_on (Frames card) b on a same says =
       ap reply_of_frames (says (alone b.card.card) on.stands) ∙ sym (frames_say b on.kind line w f both.frames)
 
--- so are questions about the card of frames
-pub inside : (P : Card → Type 0) (card : AnyCard) (b : machine.Board) → OnBoard card b → ((m : Machine) → AnyStands card m → P (card_in m)) → P b.card.card
-inside P (Octets card) b on holds = holds (with_ports b.card) on.stands
-inside P (Frames card) b on holds = holds (alone b.card.card) on.stands
+-- the card of frames stands for that of the board
+pub inside : (card : AnyCard) (b : machine.Board) → OnBoard card b → FrameCardStands (frames_of card) b.card.card
+inside (Octets card) b on = on.stands.frames
+inside (Frames card) b on = on.stands
 
--- and so are octets that are stored
+-- what is stored there is what the board holds
 pub held_on : (card : AnyCard) (b : machine.Board) → OnBoard card b → (n : ℕ) → ((m : Machine) → AnyStands card m → n ≡ kinds.stored m) → n ≡ held b
 held_on (Octets card) b on n is = is (with_ports b.card) on.stands ∙ ap (λ k. held_in k b.card) (sym on.kind)
 held_on (Frames card) b on n is = is (alone b.card.card) on.stands ∙ ap (λ k. held_in k b.card) (sym on.kind)

@@ -32,7 +32,7 @@ pub use Rattle.lapd_script.specs.declared.faults.PlayFault.TheVariants.{OutOfMem
 pub use Rattle.lapd_script.specs.declared.kind.FaultKind.{FaultKind}
 pub use Rattle.lapd_script.specs.declared.kind.FaultKind.TheVariants.{BadFrame, BadLine, BadNumber, TimeOver, TooLong}
 pub use Rattle.lapd_script.specs.declared.lines.ScriptLines.{ScriptLines}
-pub use Rattle.lapd_card.specs.Kinds.{AnyLeads, AnyStands, CardStands, FrameCardStands, Machine, alone, card_in, config_of, counters_of, shelf_of, with_ports}
+pub use Rattle.lapd_card.specs.Kinds.{AnyLeads, AnyStands, CardStands, FrameCardStands, Machine, alone, card_in, config_of, counters_of, frames_of, shelf_of, with_ports}
 pub use Rattle.lapd_card.specs.declared.kinds.AnyCard.{AnyCard}
 pub use Rattle.lapd_card.specs.declared.kinds.AnyCard.TheVariants.{Frames, Octets}
 pub use Rattle.lapd_sim.specs.Boards.{Leads, OnBoard, kind_of}

@@ -182,7 +182,8 @@ impl Exchange {
     pub(crate) fn has_tei(&self, line: usize, tei: u8) -> bool
         ensures { (m : machine.Setup) → Holds self.now m → result ≡ is_on_line line m.board tei }
     {
-        self.board.state(line, Service::Call, tei).is_some()
+        let state = self.board.frames().state(line, Service::Call, tei);
+        state.is_some()
     }
 
     /// Timers that are started from now on run so long; each has to run a millisecond to an hour.
@@ -273,7 +274,8 @@ impl Exchange {
         ensures { (m : machine.Setup) → Holds self.now m
             → Tells result (on T.taken page.old) (on T.taken page.new) (Holds self.now) (after_counters group line (scene m)) }
     {
-        page.put_counters(line as u16, group, self.board.counters(line))
+        let counters = self.board.frames().counters(line);
+        page.put_counters(line as u16, group, counters)
     }
 }
 

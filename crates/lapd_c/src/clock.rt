@@ -9,8 +9,8 @@ ghost use Rattle.lapd_c.specs.Clocks.{clock_of, IsHandle, plain_due, order_statu
 
 use crate::clock_slot::ClockSlot;
 use crate::plain::{
-    NO_CLOCK, NO_MEMORY, NO_PLACE, NO_TIMER, OK, PlainConfig, PlainDue, PlainOrder,
-    SECOND_START, WRONG_LINE, WRONG_TIME,
+    NO_CLOCK, NO_MEMORY, NO_PLACE, NO_TIMER, OK, PlainConfig, PlainDue, PlainOrder, SECOND_START,
+    WRONG_LINE, WRONG_TIME,
 };
 use lapd_clock::{Clock, Lengths};
 use std::alloc::Global;

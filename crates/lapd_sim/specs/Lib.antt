@@ -12,10 +12,9 @@ pub mod Serves
 pub mod machine
 -- the words of the contracts, from where they are defined
 pub use Rattle.lapd_card.specs.Kinds.{config_of, counters_of}
-pub use Rattle.lapd_clock.specs.Timer.{AreInRange}
 pub use Rattle.lapd_line.specs.Reports.{gave_in}
 pub use Rattle.lapd_script.specs.Bound.{bound}
-pub use Rattle.lapd_script.specs.FaultLines.{frame_line, IsTold, play_line}
+pub use Rattle.lapd_script.specs.FaultLines.{IsTold, play_line}
 pub use Rattle.lapd_script.specs.Faults.{reads_failed_by, writes_failed_by}
 pub use Rattle.lapd_script.specs.Job.{frame, job, limits, run}
 pub use Rattle.lapd_script.specs.Meaning.{meant}
@@ -34,16 +33,14 @@ pub use Rattle.lapd_transcript.specs.Terminal.{Sends}
 pub use Rattle.model_bits.specs.Stream.{dropped}
 pub use Rattle.model_line.specs.Came.{came, cause_of}
 pub use Rattle.model_line.specs.Request.{request_of}
-pub use Rattle.model_line.specs.Sound.{IsInRange}
 pub use Rattle.lapd_sim.specs.Boards.{kind_of, OnBoard}
 pub use Rattle.lapd_sim.specs.Obeyed.{Begins, Does, Obeys, said, scene, StartsBy, Tells, written}
 pub use Rattle.lapd_sim.specs.Pages.{is_cut, PutsNone, PutsSome, Reaches}
-pub use Rattle.lapd_sim.specs.Past.{HasPast}
 pub use Rattle.lapd_sim.specs.Plays.{Shows}
 pub use Rattle.lapd_sim.specs.Serves.{Frames, Runs}
 pub use Rattle.lapd_sim.specs.Stands.{Each, Has, Holds}
 pub use Rattle.lapd_sim.specs.machine.Asked.{LimitsAreOfCards}
-pub use Rattle.lapd_sim.specs.machine.Board.{at, expiry, hears, next, orders_in, pull, reply, reply_of_frames, told}
+pub use Rattle.lapd_sim.specs.machine.Board.{at, expiry, hears, next, pull, reply, reply_of_frames}
 pub use Rattle.lapd_sim.specs.machine.Events.{RunsOnBoards, ScriptsAreRuns}
 pub use Rattle.lapd_sim.specs.machine.Heard.{FramesAreHeard}
 pub use Rattle.lapd_sim.specs.machine.Replies.{TranscriptsAreReplies}

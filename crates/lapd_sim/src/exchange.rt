@@ -1,12 +1,20 @@
 //! The card that a script is played on, with the clock of its lines.
 
 ghost use Rattle.std.specs.Prelude.{◌≡◌, ◌<◌, ◌≤◌, ◌^◌, length, fold, IfOk, IfSome, IfNone};
-ghost use Rattle.lapd_sim.specs.{AreInRange, dropped, came, cause_of, request_of, IsInRange, config_of, kind_of, HasPast, at, told, pull, hears, next, expiry, reply, reply_of_frames, orders_in, reply_text, with_event, octet_in, at_expiry, until, in_time, with_timers, after_stored, after_counters, is_on_line, on, Output, Puts};
+ghost use Rattle.lapd_card.specs.Kinds.{config_of};
+ghost use Rattle.lapd_clock.specs.Timer.{AreInRange};
 ghost use Rattle.lapd_clock.specs.Timers as clocks;
 ghost use Rattle.lapd_line.specs.Reports.{report_told, gave_in, written};
+ghost use Rattle.model_line.specs.Sound.{IsInRange};
 ghost use Rattle.lapd_script.specs.declared.command.CardKind.TheVariants.{Octets, Frames};
+ghost use Rattle.lapd_sim.specs.Boards.{kind_of};
+ghost use Rattle.lapd_sim.specs.Past.{HasPast};
 ghost use Rattle.lapd_sim.specs.machine.Board as event;
+ghost use Rattle.lapd_sim.specs.machine.Board.{told, orders_in};
 ghost use Rattle.lapd_sim.specs.machine.Setup as machine;
+ghost use Rattle.lapd_sim.specs.machine.Steps.{reply_text};
+ghost use Rattle.lapd_transcript.specs.Pages.{on};
+ghost use Rattle.lapd_transcript.specs.Streams.{Puts};
 
 use crate::board::{Plan, begin};
 use crate::traffic::written;
@@ -40,7 +48,7 @@ pub(crate) struct Exchange {
 }
 
 impl Exchange {
-    ghost use Rattle.lapd_sim.specs.{scene, Tells, Obeys, Begins, Holds};
+    ghost use Rattle.lapd_sim.specs.{Begins, Holds, Obeys, Output, Tells, after_counters, after_stored, at, at_expiry, came, cause_of, dropped, expiry, hears, in_time, is_on_line, next, octet_in, pull, reply, reply_of_frames, request_of, scene, until, with_event, with_timers};
 
     pub(crate) fn start(alloc: Global, plan: Plan) -> Result<Exchange, LineFault>
         ensures plan { IfOk result (λ exchange. exchange.plan ≡ plan) }

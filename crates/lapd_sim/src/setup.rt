@@ -1,7 +1,6 @@
 //! What a script is played on: a card, and for each of its lines a terminal and a listener.
 
 ghost use Rattle.std.specs.Prelude.{◌≡◌, ◌≢◌, ◌<◌, ◌≤◌, length, vec_len, MatchResult};
-ghost use Rattle.lapd_sim.specs.{BadLine, WrongCard, with_card, on};
 ghost use Rattle.lapd_script.specs.Meaning as meaning;
 ghost use Rattle.lapd_sim.specs.machine.Setup as machine;
 
@@ -26,7 +25,7 @@ pub(crate) struct Setup {
 }
 
 impl Setup {
-    ghost use Rattle.lapd_sim.specs.{scene, Obeys, Begins};
+    ghost use Rattle.lapd_sim.specs.{BadLine, Begins, Obeys, WrongCard, on, scene, with_card};
     ghost use Rattle.lapd_sim.specs.Stands.{Stands};
 
     pub(crate) fn start(alloc: Global, plan: Plan) -> Result<Setup, LineFault>

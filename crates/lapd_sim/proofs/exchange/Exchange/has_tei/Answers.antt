@@ -5,6 +5,6 @@ use Rattle.lapd_sim.proofs.Boards.{inside}
 use Rattle.lapd_sim.proofs.exchange.Exchange.has_tei.Goals as goal
 
 pub returns : goal.returns
-returns g c = λ m h.
+returns c = λ m h.
     c.is_some.ensures
-    ∙ ap is_some (c.state.ensures m.board.card.card (subst (λ f. FrameCardStands f m.board.card.card) (sym c.frames.ensures.card) (inside c.args.self.now.board m.board h.board)))
+    ∙ ap is_some (c.state-state.ensures m.board.card.card (subst (λ f. FrameCardStands f m.board.card.card) (sym c.frames.ensures.card) (inside c.args.self.now.board m.board h.board)))

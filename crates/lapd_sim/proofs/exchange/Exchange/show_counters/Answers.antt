@@ -7,7 +7,7 @@ use Rattle.lapd_sim.proofs.exchange.Exchange.show_counters.Goals as goal
 
 pub returns : goal.returns
 returns g c = λ m h.
-    told_as c.put_counters.result _ _ (Holds c.args.self.now) (after_counters c.args.group c.args.line (scene m)) (record (scene m) { text = counters_text c.args.line c.args.group c.counters.result.now })
+    told_as c.put_counters.result _ _ (Holds c.args.self.now) (after_counters c.args.group c.args.line (scene m)) (record (scene m) { text = counters_text c.args.line c.args.group c.counters-counters.result.now })
     (ap (λ k. record (scene m) { text = counters_text c.args.line c.args.group k }) (ap (λ all. get_or all c.args.line none_counted) (sym h.counters)
-    ∙ ap (λ (f : Held Store). get_or (counters_in f.lines) c.args.line none_counted) (sym c.frames.ensures.card) ∙ sym c.counters.ensures))
+    ∙ ap (λ (f : Held Store). get_or (counters_in f.lines) c.args.line none_counted) (sym c.frames.ensures.card) ∙ sym c.counters-counters.ensures))
     c.put_counters.ensures h

@@ -2,6 +2,6 @@
 pub mod Vocabulary
 pub mod Kept
 mod Telling
-pub mod Laws
+pub mod FrameLaws
 pub mod OctetsKept
 pub mod Linear

@@ -3,7 +3,7 @@ use Rattle.laws_promises.proofs.Vocabulary.{ap, sym, subst, take, All, All-take,
 use Rattle.lapd_card.specs.FrameDrive.{events_of}
 use Rattle.lapd_card.proofs.Headline.{events_at_lines}
 use Rattle.laws_promises.proofs.Kept.{promises-kept}
-use Rattle.laws_promises.proofs.Laws.{laws_of}
+use Rattle.laws_promises.proofs.FrameLaws.{laws_of}
 use Rattle.laws_promises.proofs.Linear.{TakesItsOctets, all_take, is_linear}
 use Rattle.laws_promises.proofs.frame_call.drive_frames.Goals as goal
 

@@ -1,28 +1,17 @@
 -- What every call of a card comes to, served or not. Its tests come in the order of the fields.
-use Rattle.std.specs.Prelude.{◌≡◌, ◌⊎◌, ◌≤◌, ◌<◌, ℕ, Some, None, IfSome, replicate}
+use Rattle.std.specs.Prelude.{◌≡◌, ◌≤◌, ◌<◌, ℕ, Some, None, replicate}
 use Rattle.lapd_count.specs.Counters.{none_counted}
 use Rattle.model_card.specs.Card.{Card}
 use Rattle.model_card.specs.ports.Card.{OctetCard}
 use Rattle.lapd_card.specs.Kinds.{Machine, card_in, AnyStands, counters_of, for_octets, for_frames}
 use Rattle.lapd_c.specs.declared.card.CardHandle.{CardHandle}
 use Rattle.lapd_c.specs.declared.kept.KeptCard.{KeptCard}
-use Rattle.lapd_c.specs.declared.plain.config.PlainConfig.{PlainConfig}
 use Rattle.lapd_c.specs.declared.plain.reports.PlainReport.{PlainReport}
 use Rattle.lapd_c.specs.CardSlots.{HeldCard}
 use Rattle.lapd_c.specs.Cards.{card_of, kind_in, marks_at, IsHandle, Stands, OctetsStand, FramesStand}
-use Rattle.lapd_c.specs.Config.{config_fault}
 use Rattle.lapd_c.specs.LinkMarks.{AreUnmarked}
 use Rattle.lapd_c.specs.Reopened.{TellsReopened}
 use Rattle.lapd_c.specs.Statuses as status
-
--- A start: where a card is there already, or the configuration is out of range, this is told; else it starts, or there is no
--- memory. Where it does not start, nothing changes.
-pub record IsStart (config : PlainConfig) (old new : CardHandle) (result : ℕ) : Type 0 where
-  pub handle : IsHandle new
-  pub second : IfSome (card_of old) (λ _. (result ≡ status.second_start) × (new ≡ old))
-  pub fault : card_of old ≡ None → IfSome (config_fault config) (λ wrong. (result ≡ wrong) × (new ≡ old))
-  pub otherwise : card_of old ≡ None → config_fault config ≡ None → (result ≡ status.ok) ⊎ (result ≡ status.no_memory)
-  pub no_memory : result ≡ status.no_memory → new ≡ old
 
 -- As a card begins, it stands for a machine, nothing is counted, and no link waits for room.
 pub record Begins (m : Machine) (kept : KeptCard) : Type 0 where

@@ -95,7 +95,8 @@ pub extern "C" fn lapd_card_start(
     config: &PlainConfig,
 ) -> u32
     requires { IsHandle handle.old }
-    ensures start { IsStart config.now handle.old handle.new result }
+    ensures handle { IsHandle handle.new }
+    ensures start { IsStart card_of config.now handle.old handle.new result }
     ensures begun { result ≡ status.ok → HasBegun (with_ports (octets.fresh (config_in config.now))) (card_of handle.new) }
 {
     let config = match startable(handle, config) {
@@ -127,7 +128,8 @@ pub extern "C" fn lapd_card_start_frames(
     config: &PlainConfig,
 ) -> u32
     requires { IsHandle handle.old }
-    ensures start { IsStart config.now handle.old handle.new result }
+    ensures handle { IsHandle handle.new }
+    ensures start { IsStart card_of config.now handle.old handle.new result }
     ensures begun { result ≡ status.ok → HasBegun (alone (frames.fresh (config_in config.now))) (card_of handle.new) }
 {
     let config = match startable(handle, config) {

@@ -23,7 +23,7 @@ module _ (w : ℕ) (t : Terms) (l : Link) where
 
   by-state : (here : State) → l.state ≡ here → (timer : LinkTimer) → Fair (Machine.expired_in here timer t (begun l))
   by-state AwaitingEstablishment at T200 =
-      let one = one-waits w (Words.has_room t l) l.waiting (Words.command (Sabme true)) 0 refl in
+      let one = one-waits w (Words.has_room t l) l.waiting (Words.command (Sabme true)) 2 refl in
       either (may_repeat t l) _ _ (inr (record { contents = refl; received = refl; within = omega (arith, one) })) (inl refl)
   by-state AwaitingRelease at T200 =
       let one = one-waits w (Words.has_room t l) l.waiting (Words.command (Disc true)) 0 refl in

@@ -75,6 +75,7 @@ module _ (service : Service) (tei : ℕ) (c d : Config) (p q : ℕ) (face : Face
         far = subst (λ s. Held d service tei q past s (whole h)) (sym (far-same act not w)) h.far;
         rising = h.rising;
         loose = h.loose;
+        rejecting = h.rejecting;
         flag = h.flag;
       })))
     where

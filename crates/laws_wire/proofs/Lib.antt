@@ -73,6 +73,8 @@ pub mod RestedRun
 pub mod RestedRounds
 pub mod RestedTimely
 pub mod LeftToDo
+pub mod Heft
+pub mod UaWeighs
 pub mod PremisesMet
 pub mod BothMet
 pub mod RecoveryMet

@@ -56,24 +56,26 @@ module _ (w : ℕ) (t : Terms) (l : Link) where
   timer-expires timer = either (Machine.is_running timer l) _ _ (by-state l.state refl timer) (inr idle)
 
   -- no error is told where it may go again
-  module _ (may : awaits_answer l.state ≡ true → Machine.is_running T200 l ≡ true → l.repeats < t.n200) where
-    first : (b : Bool) (u v : Course) → b ≡ true → Expires u → Expires (cond b u v)
-    first true u v e x = x
-    first false u v e x = absurd (true≢false (sym e))
+  abbrev pub May : LinkTimer → Type 0
+  May timer = timer ≡ T200 → awaits_answer l.state ≡ true → Machine.is_running T200 l ≡ true → l.repeats < t.n200
 
-    if-runs : (b : Bool) (u v : Course) → (b ≡ true → Expires u) → Expires v → Expires (cond b u v)
-    if-runs true u v x y = x refl
-    if-runs false u v x y = y
+  first : (b : Bool) (u v : Course) → b ≡ true → Expires u → Expires (cond b u v)
+  first true u v e x = x
+  first false u v e x = absurd (true≢false (sym e))
 
-    repeats : (here : State) → l.state ≡ here → awaits_answer here ≡ true → Machine.is_running T200 l ≡ true → may_repeat t l ≡ true
-    repeats here at awaits run = lt-ltb l.repeats t.n200 (may (ap awaits_answer at ∙ awaits) run)
+  if-runs : (b : Bool) (u v : Course) → (b ≡ true → Expires u) → Expires v → Expires (cond b u v)
+  if-runs true u v x y = x refl
+  if-runs false u v x y = y
 
-    fairly-by-state : (here : State) → l.state ≡ here → (timer : LinkTimer) → Machine.is_running timer l ≡ true → Expires (Machine.expired_in here timer t (begun l))
-    fairly-by-state AwaitingEstablishment at T200 run = first (may_repeat t l) _ _ (repeats AwaitingEstablishment at refl run) sabme-again
-    fairly-by-state AwaitingRelease at T200 run = first (may_repeat t l) _ _ (repeats AwaitingRelease at refl run) disc-again
-    fairly-by-state Established at timer run = asks-first
-    fairly-by-state TimerRecovery at T200 run = first (may_repeat t l) _ _ (repeats TimerRecovery at refl run) (asks-again at)
-    fairly-by-state other at any run = idle
+  repeats : May T200 → (here : State) → l.state ≡ here → awaits_answer here ≡ true → Machine.is_running T200 l ≡ true → may_repeat t l ≡ true
+  repeats may here at awaits run = lt-ltb l.repeats t.n200 (may refl (ap awaits_answer at ∙ awaits) run)
 
-    pub timer-fairly : (timer : LinkTimer) → Expires (course t (expired timer) l)
-    timer-fairly timer = if-runs (Machine.is_running timer l) _ _ (fairly-by-state l.state refl timer) idle
+  fairly-by-state : (here : State) → l.state ≡ here → (timer : LinkTimer) → May timer → Machine.is_running timer l ≡ true → Expires (Machine.expired_in here timer t (begun l))
+  fairly-by-state AwaitingEstablishment at T200 may run = first (may_repeat t l) _ _ (repeats may AwaitingEstablishment at refl run) sabme-again
+  fairly-by-state AwaitingRelease at T200 may run = first (may_repeat t l) _ _ (repeats may AwaitingRelease at refl run) disc-again
+  fairly-by-state Established at timer may run = asks-first
+  fairly-by-state TimerRecovery at T200 may run = first (may_repeat t l) _ _ (repeats may TimerRecovery at refl run) (asks-again at)
+  fairly-by-state other at any may run = idle
+
+  pub timer-fairly : (timer : LinkTimer) → May timer → Expires (course t (expired timer) l)
+  timer-fairly timer may = if-runs (Machine.is_running timer l) _ _ (fairly-by-state l.state refl timer may) idle

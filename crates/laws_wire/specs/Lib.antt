@@ -10,6 +10,7 @@ pub mod Facing
 pub mod Resting
 pub mod Arriving
 pub mod Answering
+pub mod Settling
 pub mod Ending
 pub mod Worked
 pub mod BothWorked

@@ -75,6 +75,7 @@ pub mod RestedTimely
 pub mod LeftToDo
 pub mod Heft
 pub mod UaWeighs
+pub mod UaMoves
 pub mod PremisesMet
 pub mod BothMet
 pub mod RecoveryMet

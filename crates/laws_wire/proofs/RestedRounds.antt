@@ -11,14 +11,14 @@ unfolding doing_all
 doing-append [] es w = refl
 doing-append (d ∷ ds) es w = doing-append ds es (doing d w)
 
-moves-append : (ds es : List Doing) (w : Wire) → moves (ds ++ es) w ≡ moves ds w + moves es (doing_all ds w)
+pub moves-append : (ds es : List Doing) (w : Wire) → moves (ds ++ es) w ≡ moves ds w + moves es (doing_all ds w)
 unfolding doing_all moves
 moves-append [] es w = omega arith
 moves-append (d ∷ ds) es w =
     let rest : moves (ds ++ es) (doing d w) ≡ moves ds (doing d w) + moves es (doing_all ds (doing d w)) = moves-append ds es (doing d w) in
     omega (arith, rest)
 
-expiries-append : (ds es : List Doing) → expiries (ds ++ es) ≡ expiries ds + expiries es
+pub expiries-append : (ds es : List Doing) → expiries (ds ++ es) ≡ expiries ds + expiries es
 unfolding expiries
 expiries-append [] es = omega arith
 expiries-append (d ∷ ds) es = let rest : expiries (ds ++ es) ≡ expiries ds + expiries es = expiries-append ds es in omega (arith, rest)

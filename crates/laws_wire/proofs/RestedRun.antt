@@ -15,7 +15,7 @@ use Rattle.laws_wire.proofs.Standing.{Stands}
 use Rattle.laws_wire.proofs.Talking.{Face}
 use Rattle.laws_wire.proofs.Weighing.{same-link, same-way, weigh_of, weigh, Fell, fell-turned}
 
-times-sum : (d x y : ℕ) → d * (x + y) ≡ d * x + d * y
+pub times-sum : (d x y : ℕ) → d * (x + y) ≡ d * x + d * y
 times-sum d x y = omega arith
 
 module _ (service : Service) (tei v : ℕ) where

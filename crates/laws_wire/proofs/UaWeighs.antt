@@ -298,7 +298,7 @@ module _ (service : Service) (tei : ℕ) (c d : Config) (p q : ℕ) (face : Face
 
   -- ---- each step
 
-  abbrev Steps : Doing → Wire → Type 0
+  abbrev pub Steps : Doing → Wire → Type 0
   Steps k w = P (cond {A = ℕ} (is_move k w) 1 0) (expiries_in k) (reports_in k w) w (doing k w)
 
   module _ (x : Called) (w : Wire) (h : Phase service tei c d p q face back rt ru x w) where
@@ -313,10 +313,10 @@ module _ (service : Service) (tei : ℕ) (c d : Config) (p q : ℕ) (face : Face
         pays-turned service tei v _ _ _ w (acting act (turned w))
         (acts-pays service tei d c q p s.past_m s.past_n back v (turned w) s.m s.n s.far s.near s.here act not is timely)
 
-    near-pays : (act : Act) → IsFullTalkOf service tei act → IsTimelyOf act w → Steps (at_near act) w
+    pub near-pays : (act : Act) → IsFullTalkOf service tei act → IsTimelyOf act w → Steps (at_near act) w
     near-pays takes is timely = near-takes x w h
     near-pays other is timely = near-but other (λ e. cc e) is timely
 
-    far-pays : (act : Act) → IsFullTalkOf service tei act → IsTimelyOf act (turned w) → Steps (at_far act) w
+    pub far-pays : (act : Act) → IsFullTalkOf service tei act → IsTimelyOf act (turned w) → Steps (at_far act) w
     far-pays takes is timely = far-takes x w h
     far-pays other is timely = far-but other (λ e. cc e) is timely

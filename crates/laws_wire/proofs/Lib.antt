@@ -76,6 +76,7 @@ pub mod LeftToDo
 pub mod Heft
 pub mod UaWeighs
 pub mod UaMoves
+pub mod UaKnown
 pub mod PremisesMet
 pub mod BothMet
 pub mod RecoveryMet

@@ -1,5 +1,5 @@
 -- A station at whose line one link alone speaks stands for an end of two links that face each other.
-use Rattle.laws_wire.proofs.Vocabulary.{◌≡◌, ℕ, ◌+◌, ◌<◌, ◌≤◌, Bool, true, false, cond, List, [], ◌++◌, length, map, set, Option, Some, None, IfSome, option_map, Ok, refl, sym, ap, subst, ◌∙◌, ◌⊎◌, inl, inr, append-nil, All, get_or-set_same, set-get_or, map-append, All-nil, All-cons, All-append, Refusal, PoolFull, Service, Timer, Parts, spelling, reading, sapi_of, Terms, LinkTimer, frame_of, Given, End, with_link, with_sent, frame_given, given_is_frame, Config, came, hears, expiry, request, next, Answer, refused, gave, at_timer, aim_of_expiry, Line, fresh_line, place_in, link_number, terms, unless_refused, unless_refused_told, of_request, heard_side, with_given_frame, next_of, Request, at_requested, aim_of_request, sound_in, given_short, terms_in_range, Card, line_at, wants_room, after_is_sound, has_lines, line_sound, Event, Station, answered, happens, comes, told_by, frames_by, contents_of}
+use Rattle.laws_wire.proofs.Vocabulary.{◌≡◌, true≢false, ℕ, ◌+◌, ◌<◌, ◌≤◌, Bool, true, false, cond, List, [], ◌++◌, length, map, set, Option, Some, None, IfSome, option_map, Ok, refl, sym, ap, subst, ◌∙◌, ◌⊎◌, inl, inr, append-nil, All, get_or-set_same, set-get_or, map-append, All-nil, All-cons, All-append, Refusal, PoolFull, Service, Timer, Parts, spelling, reading, sapi_of, Terms, LinkTimer, frame_of, Given, End, with_link, with_sent, frame_given, given_is_frame, Config, came, hears, expiry, request, next, Answer, refused, gave, at_timer, aim_of_expiry, Line, fresh_line, place_in, link_number, terms, unless_refused, unless_refused_told, of_request, heard_side, with_given_frame, next_of, Request, at_requested, aim_of_request, sound_in, given_short, terms_in_range, Card, line_at, wants_room, after_is_sound, has_lines, line_sound, Event, Station, answered, happens, comes, told_by, frames_by, contents_of}
 use Rattle.std.specs.Option.{unwrap_or}
 use Rattle.model_bits.specs.Stream.{frame}
 use Rattle.model_link.specs.Events as link
@@ -233,6 +233,23 @@ module _ (service : Service) (tei place : ℕ) (s : Station) (n : End) (h : Stan
             inl (ap (λ b. made (record m { lines = cond b m.lines (set m.lines s.line (lines.after c asks l)) }) (cond b (refused PoolFull) (lines.answer c asks l))) is
             ∙ same-station m PoolFull refl)
         by-room false is = by-line is (refusal c false r l) refl (found-room is)
+
+    -- as it is answered
+    pub asks-answered : is_granted (wire.answered asks s) ≡ true → Granted (happens asks s)
+    unfolding own-answer own-card lines.after lines.answer
+    asks-answered granted = by-room (wants_room (event_at s.line asks) m) refl
+      where
+        no : false ≡ true → Granted (happens asks s)
+        no wrong = absurd (true≢false (sym wrong))
+
+        by-line : wants_room (event_at s.line asks) m ≡ false → (o : Option Refusal) → refusal c false r l ≡ o → Granted (happens asks s)
+        by-line room (Some why) is =
+            no (sym (ap (λ b. is_granted (cond b (refused PoolFull) (lines.answer c asks l))) room ∙ ap (λ o. is_granted (unless_refused_told o (of_request c r l))) is) ∙ granted)
+        by-line room None is = granted-by room is (found-room room)
+
+        by-room : (b : Bool) → wants_room (event_at s.line asks) m ≡ b → Granted (happens asks s)
+        by-room true is = no (sym (ap (λ b. is_granted (cond b (refused PoolFull) (lines.answer c asks l))) is) ∙ granted)
+        by-room false is = by-line is (refusal c false r l) refl
 
   -- ---- a timer of it expires
 

@@ -41,6 +41,10 @@ module _ (service : Service) (tei : ℕ) (c d : Config) (p q : ℕ) (face : Face
 
   -- ---- the two ends, whatever the phase
 
+  -- a link is up, or free
+  abbrev pub IsUpOrFree : End → Type 0
+  IsUpOrFree n = IsTrue (is_multiple_frame n.link.state) ⊎ (n.link.own_busy ≡ false)
+
   pub record Seen (w : Wire) : Type 0 where
     pub n : End
     pub m : End
@@ -50,6 +54,8 @@ module _ (service : Service) (tei : ℕ) (c d : Config) (p q : ℕ) (face : Face
     pub far : Held d service tei q past_m w.far m
     pub there : m.link.r ≤ length n.link.contents
     pub here : n.link.r ≤ length m.link.contents
+    pub near_up : IsUpOrFree n
+    pub far_up : IsUpOrFree m
 
   -- an end that has received nothing
   record FarEnd (s : Station) : Type 0 where
@@ -57,22 +63,23 @@ module _ (service : Service) (tei : ℕ) (c d : Config) (p q : ℕ) (face : Face
     past : List LineTold
     held : Held d service tei q past s m
     none : m.link.r ≤ 0
+    up : IsUpOrFree m
 
   abbrev of-away : (past : List LineTold) (b : Bool) (s : Station) → Away service tei c d p q face back rt ru past b s → FarEnd s
-  of-away past b s h = let none = h.r in record { m = h.M; past = past; held = h.held; none = omega (arith, none) }
+  of-away past b s h = let none = h.r in record { m = h.M; past = past; held = h.held; none = omega (arith, none); up = inl h.up }
 
   abbrev of-waiting : (past : List LineTold) (b : Bool) (s : Station) → Waiting service tei c d p q face back rt ru past b s → FarEnd s
-  of-waiting past b s h = let none = h.poised.r in record { m = h.M; past = past; held = h.held; none = omega (arith, none) }
+  of-waiting past b s h = let none = h.poised.r in record { m = h.M; past = past; held = h.held; none = omega (arith, none); up = inl h.poised.up }
 
   abbrev of-down : (s : Station) → Down service tei c d p q face back rt ru s → FarEnd s
-  of-down s h = record { m = end u fresh []; past = []; held = h; none = omega arith }
+  of-down s h = record { m = end u fresh []; past = []; held = h; none = omega arith; up = inr refl }
 
   abbrev of-coming : (past : List LineTold) (b : Bool) (w : Wire) → Coming service tei c d p q face back rt ru past b w → FarEnd w.far
-  of-coming past b w h = record { m = behind (h.stale ++ ua u ∷ []) h.m; past = past; held = h.far; none = h.loose.joined.there.accepted }
+  of-coming past b w h = record { m = behind (h.stale ++ ua u ∷ []) h.m; past = past; held = h.far; none = h.loose.joined.there.accepted; up = inl h.loose.joined.far_up }
 
   rung : (k : ℕ) (ws : List ControlFrame) (way : List Parts) (w : Wire) → Rung k ws way w.near → FarEnd w.far → Seen w
   rung k ws way w near f =
-      record { n = end t (ringing k ws) way; m = f.m; past_n = []; past_m = f.past; near = near; far = f.held; there = f.none; here = omega arith }
+      record { n = end t (ringing k ws) way; m = f.m; past_n = []; past_m = f.past; near = near; far = f.held; there = f.none; here = omega arith; near_up = inr refl; far_up = f.up }
 
   all-rung : (Q : Station → Type 0) (w : Wire) → ((s : Station) → Q s → FarEnd s) → Rs service tei c d p q face back rt ru Q w → Seen w
   all-rung Q w of (inl h) = rung h.repeats [] [] w h.near (of w.far h.far)
@@ -81,7 +88,18 @@ module _ (service : Service) (tei : ℕ) (c d : Config) (p q : ℕ) (face : Face
 
   of-up : (past : List LineTold) (w : Wire) → Up service tei c d p q face back rt ru past w → Seen w
   of-up past w h =
-      record { n = h.n; m = h.m; past_n = _; past_m = past; near = h.near; far = h.far; there = h.loose.joined.there.accepted; here = h.loose.joined.back.accepted }
+      record {
+        n = h.n;
+        m = h.m;
+        past_n = _;
+        past_m = past;
+        near = h.near;
+        far = h.far;
+        there = h.loose.joined.there.accepted;
+        here = h.loose.joined.back.accepted;
+        near_up = inl h.loose.joined.near_up;
+        far_up = inl h.loose.joined.far_up;
+      }
 
   called-seen : (past : List LineTold) (b : Bool) (w : Wire) → IsCalled service tei c d p q face back rt ru past b w → Seen w
   called-seen past b w (inl h) = all-rung (Away service tei c d p q face back rt ru past b) w (of-away past b) h

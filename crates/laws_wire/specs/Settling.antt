@@ -1,17 +1,21 @@
 -- How many turns there are at most in a call as `Answering` has it, where UA is lost and an end is busy, too; and that rest comes.
-use Rattle.std.specs.Prelude.{ℕ, ◌+◌, ◌*◌, ◌≤◌, Bool, true, false, ◌&&◌, List, [], ◌∷◌, All, if◌then◌else◌}
+use Rattle.std.specs.Prelude.{◌≡◌, ◌≢◌, ℕ, ◌+◌, ◌*◌, ◌≤◌, Bool, true, false, ◌&&◌, ◌||◌, not, List, [], ◌∷◌, length, All, if◌then◌else◌}
 use Rattle.lapd_frame.specs.declared.services.Service.{Service}
+use Rattle.lapd_frame.specs.declared.timers.Timer.TheVariants.{T200}
 use Rattle.model_line.specs.declared.config.Config.{Config}
 use Rattle.model_line.specs.Event.{request}
 use Rattle.model_line.specs.Line.{terms}
 use Rattle.model_line.specs.Request.{Request, SetBusy, ClearBusy}
 use Rattle.laws_line.specs.Share.{is_granted}
-use Rattle.laws_wire.specs.Wire.{answered, Wire, Act, requests, turned, Doing, at_near, at_far, doing, doing_all, IsStill}
-use Rattle.laws_wire.specs.Call.{calling, CanCall}
+use Rattle.laws_wire.specs.Wire.{Station, answered, Wire, Act, requests, times_out, acting, turned, Doing, at_near, at_far, doing, doing_all, IsStill}
+use Rattle.laws_wire.specs.Call.{calling, CanCall, confirmed}
+use Rattle.laws_wire.specs.Losing.{heard_in}
 use Rattle.laws_wire.specs.Facing.{granted_of}
-use Rattle.laws_wire.specs.Recovering.{rounds}
+use Rattle.laws_wire.specs.Recovering.{rounds, both_expire, with_t200_expired, BothMayRepeat}
+use Rattle.laws_wire.specs.Timely.{MayRepeat}
+use Rattle.laws_wire.specs.Arriving.{runs_t200}
 use Rattle.laws_wire.specs.Resting.{moves, expiries, most_frames}
-use Rattle.laws_wire.specs.Answering.{IsFullTalk, StayPatient}
+use Rattle.laws_wire.specs.Answering.{IsFullTalk, StayPatient, Called, uncalled, seen, all_kept, all_of_calls}
 
 -- How often layer 3 of an end was granted to say that it is busy, or ready again: for each RNR or RR goes, at most once.
 abbrev pub is_of_busy : Request → Bool
@@ -48,3 +52,52 @@ LossyRoundsComeToRest =
     (service : Service) (c d : Config) (line other tei k : ℕ) (ds : List Doing) → CanCall c line d other tei → All (IsFullTalk service tei) ds →
     (terms c service tei).k ≤ k → (terms d service tei).k ≤ k → let begun = calling service tei c line d other in
     StayPatient ds begun → (n : ℕ) × (n ≤ most_moves k ds begun) × IsStill (rounds n (doing_all ds begun))
+
+-- Whether layer 3 of either end was granted last to say that it is busy, or that it is ready again.
+pub record Busy : Type 0 where
+  pub near : Bool
+  pub far : Bool
+
+abbrev pub none_busy : Busy
+none_busy = record { near = false; far = false }
+
+abbrev pub busy_by : Act → Station → Bool → Bool
+busy_by (requests (SetBusy service tei)) s b = b || is_granted (answered (request (SetBusy service tei)) s)
+busy_by (requests (ClearBusy service tei)) s b = b && not (is_granted (answered (request (ClearBusy service tei)) s))
+busy_by other s b = b
+
+abbrev pub busy_behind : Doing → Wire → Busy → Busy
+busy_behind (at_near act) w x = record x { near = busy_by act w.near x.near }
+busy_behind (at_far act) w x = record x { far = busy_by act w.far x.far }
+
+unfoldable pub busy : List Doing → Wire → Busy → Busy
+busy [] w x = x
+busy (d ∷ ds) w x = busy ds (doing d w) (busy_behind d w x)
+
+-- Of what each is to be told in the end, at most so much is missing.
+pub record HasLeft (service : Service) (tei u : ℕ) (x : Called) (w : Wire) : Type 0 where
+  pub near : length (all_kept service tei x w.far) ≤ length (heard_in w.near) + u
+  pub far : length (all_of_calls service tei x w.near) ≤ length (heard_in w.far) + u
+
+-- All is told, no turn is left, and T200 runs at neither end.
+pub record HasSettled (service : Service) (tei : ℕ) (x : Called) (before w : Wire) : Type 0 where
+  pub near : heard_in w.near ≡ all_kept service tei x before.far
+  pub far : heard_in w.far ≡ all_of_calls service tei x before.near
+  pub still : IsStill w
+  pub near_stops : runs_t200 service tei w.near ≡ false
+  pub far_stops : runs_t200 service tei w.far ≡ false
+
+-- So it comes to be from where no turn is left, if neither end is busy: where the end that calls was told of the establishment, once
+-- T200 expires at both ends; else it is told in one round, once its T200 expires. So T200 does not run on without end.
+pub record Settles (service : Service) (tei : ℕ) (x : Called) (w : Wire) : Type 0 where
+  pub goes_on : IsStill w → BothMayRepeat service tei w → StayPatient (both_expire service tei) w
+  pub settles : (u : ℕ) → IsStill w → heard_in w.near ≢ [] → BothMayRepeat service tei w → HasLeft service tei u x w →
+      HasSettled service tei x w (rounds (u + 3) (with_t200_expired service tei w))
+  pub rings : IsStill w → heard_in w.near ≡ [] → MayRepeat service tei w.near →
+      heard_in (rounds 1 (acting (times_out (T200 service tei)) w)).near ≡ confirmed service tei ∷ []
+
+abbrev pub LossyCallsSettle : Type 0
+LossyCallsSettle =
+    (service : Service) (c d : Config) (line other tei : ℕ) (ds : List Doing) → CanCall c line d other tei → All (IsFullTalk service tei) ds →
+    let begun = calling service tei c line d other in StayPatient ds begun → busy ds begun none_busy ≡ none_busy →
+    Settles service tei (seen service tei ds begun uncalled) (doing_all ds begun)

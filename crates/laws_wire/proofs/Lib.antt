@@ -77,6 +77,7 @@ pub mod Heft
 pub mod UaWeighs
 pub mod UaMoves
 pub mod UaKnown
+pub mod LooseRounds
 pub mod PremisesMet
 pub mod BothMet
 pub mod RecoveryMet

@@ -78,6 +78,8 @@ pub mod UaWeighs
 pub mod UaMoves
 pub mod UaKnown
 pub mod LooseRounds
+pub mod UaSettled
+pub mod UaRings
 pub mod PremisesMet
 pub mod BothMet
 pub mod RecoveryMet

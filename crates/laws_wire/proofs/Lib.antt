@@ -80,6 +80,7 @@ pub mod UaKnown
 pub mod LooseRounds
 pub mod UaSettled
 pub mod UaRings
+pub mod UaSettles
 pub mod PremisesMet
 pub mod BothMet
 pub mod RecoveryMet

@@ -170,6 +170,9 @@ module _ (service : Service) (tei : ℕ) where
 
   -- ---- and in a whole call
 
+  abbrev pub BothKnown : Busy → Wire → Type 0
+  BothKnown y w = Known y.near w.near × Known y.far w.far
+
   module _ (c d : Config) (p q : ℕ) (face : Face c d) (back : Face d c) (rt : IsInRange (terms c service tei)) (ru : IsInRange (terms d service tei)) (v : ℕ)
       (wide_c : 2 * (terms c service tei).k ≤ v) (wide_d : 2 * (terms d service tei).k ≤ v) where
     record Stood (w : Wire) : Type 0 where
@@ -191,9 +194,6 @@ module _ (service : Service) (tei : ℕ) where
           near_up = s.near_up;
           far_up = s.far_up;
         })
-
-    abbrev pub BothKnown : Busy → Wire → Type 0
-    BothKnown y w = Known y.near w.near × Known y.far w.far
 
     one-known : (k : Doing) → IsFullTalk service tei k → (w : Wire) → Stood w → (y : Busy) → BothKnown y w → BothKnown (busy_behind k w y) (doing k w)
     one-known (at_near act) is w s y h = (near-known c d p q face w s.n s.m s.near s.far s.near_up y.near h.0 act is, far-known act w y.far h.1)

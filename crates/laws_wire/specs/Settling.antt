@@ -90,7 +90,7 @@ pub record HasSettled (service : Service) (tei : ℕ) (x : Called) (before w : W
 -- So it comes to be from where no turn is left, if neither end is busy: where the end that calls was told of the establishment, once
 -- T200 expires at both ends; else it is told in one round, once its T200 expires. So T200 does not run on without end.
 pub record Settles (service : Service) (tei : ℕ) (x : Called) (w : Wire) : Type 0 where
-  pub goes_on : IsStill w → BothMayRepeat service tei w → StayPatient (both_expire service tei) w
+  pub goes_on : IsStill w → heard_in w.near ≢ [] → BothMayRepeat service tei w → StayPatient (both_expire service tei) w
   pub settles : (u : ℕ) → IsStill w → heard_in w.near ≢ [] → BothMayRepeat service tei w → HasLeft service tei u x w →
       HasSettled service tei x w (rounds (u + 3) (with_t200_expired service tei w))
   pub rings : IsStill w → heard_in w.near ≡ [] → MayRepeat service tei w.near →

@@ -4,7 +4,7 @@ use Rattle.lapd_frame.specs.declared.timers.Timer.TheVariants as timers
 use Rattle.laws_link.specs.two.Needed.{HasItsTimer}
 use Rattle.laws_link.proofs.OfTwo.Needing.{timely-fresh}
 use Rattle.laws_wire.specs.Answering.{Called, uncalled, seen, all_kept, all_of_calls}
-use Rattle.laws_wire.specs.Settling.{none_busy, busy, HasLeft, HasSettled, Settles, LossyCallsSettle}
+use Rattle.laws_wire.specs.Settling.{none_busy, busy, HasLeft, HasSettled, Settles, LossyCallsAreAnswered, LossyCallsSettle}
 use Rattle.laws_wire.proofs.Acting.{ranges}
 use Rattle.laws_wire.proofs.Awaited.{link-is}
 use Rattle.laws_wire.proofs.Calling.{end, asked, its_ua, sabme, ua}
@@ -128,6 +128,12 @@ module _ (service : Service) (tei : ℕ) (c d : Config) (p q : ℕ) (face : Face
     abbrev Timed : Wire → Type 0
     Timed w = HasItsTimer (end_of service tei w.near).link × HasItsTimer (end_of service tei w.far).link
 
+    pub rings : IsStill here → heard_in v.near ≡ [] → MayRepeat service tei v.near → heard_in (rounds 1 (acting (times_out (timers.T200 service tei)) here)).near ≡ confirmed service tei ∷ []
+    rings still none may =
+        let same = ap (rounds 1) (near-before (times_out (timers.T200 service tei)) g v) ∙ rounds-before g 1 (acting (times_out (timers.T200 service tei)) v) in
+        ap (λ y. heard_in y.near) same
+        ∙ phase-tells v (still-there service tei c d p q face back rt ru x v g given_up phase still) may x phase none
+
     module _ (known : BothKnown service tei none_busy here) (timed : StayPatient (both_expire service tei) here → (u : ℕ) → Timed (last u)) where
       module _ (still : IsStill here) (heard : heard_in v.near ≢ []) (may : BothMayRepeat service tei here) where
         up : Its x.told v
@@ -166,14 +172,8 @@ module _ (service : Service) (tei : ℕ) (c d : Config) (p q : ℕ) (face : Face
               far_stops = y.far_stops its.1;
             })
 
-      rings : IsStill here → heard_in v.near ≡ [] → MayRepeat service tei v.near → heard_in (rounds 1 (acting (times_out (timers.T200 service tei)) here)).near ≡ confirmed service tei ∷ []
-      rings still none may =
-          let same = ap (rounds 1) (near-before (times_out (timers.T200 service tei)) g v) ∙ rounds-before g 1 (acting (times_out (timers.T200 service tei)) v) in
-          ap (λ y. heard_in y.near) same
-          ∙ phase-tells v (still-there service tei c d p q face back rt ru x v g given_up phase still) may x phase none
-
       pub settles-so : Settles service tei x here
-      settles-so = record { goes_on = λ still heard may. goes-on still heard may; settles = λ u still heard may left. settles still heard may u left; rings = rings }
+      settles-so = record { goes_on = λ still heard may. goes-on still heard may; settles = λ u still heard may left. settles still heard may u left }
 
 -- ---- the call
 
@@ -238,6 +238,14 @@ module _ (service : Service) (c d : Config) (line other tei : ℕ) (ds : List Do
         subst (Settles service tei x) (sym on.is)
         (settles-so service tei c d 0 0 s.face s.back s.near s.far x on.v on.earlier on.given_up on.phase (subst Both on.is known)
         (subst (λ y. StayPatient expires y → (u : ℕ) → HasItsTimer (end_of service tei (rounds (u + 3) (with_t200_expired service tei y)).near).link × HasItsTimer (end_of service tei (rounds (u + 3) (with_t200_expired service tei y)).far).link) on.is timed))
+
+pub lossy-calls-are-answered : LossyCallsAreAnswered
+lossy-calls-are-answered service c d line other tei ds can talk = λ patient.
+    let s = setting service c d line other tei can in
+    let w = doing_all ds (calling service tei c line d other) in
+    let on = patient-goes service c d line other tei ds can talk patient in
+    subst (λ w. IsStill w → heard_in w.near ≡ [] → MayRepeat service tei w.near → heard_in (rounds 1 (acting (times_out (timers.T200 service tei)) w)).near ≡ confirmed service tei ∷ []) (sym on.is)
+    (rings service tei c d 0 0 s.face s.back s.near s.far (seen service tei ds (calling service tei c line d other) uncalled) on.v on.earlier on.given_up on.phase)
 
 pub lossy-calls-settle : LossyCallsSettle
 unfolding seen doing_all StayPatient

@@ -87,14 +87,20 @@ pub record HasSettled (service : Service) (tei : ℕ) (x : Called) (before w : W
   pub near_stops : runs_t200 service tei w.near ≡ false
   pub far_stops : runs_t200 service tei w.far ≡ false
 
--- So it comes to be from where no turn is left, if neither end is busy: where the end that calls was told of the establishment, once
--- T200 expires at both ends; else it is told in one round, once its T200 expires. So T200 does not run on without end.
+-- Where no turn is left and the end that calls was told nothing yet, it is told of the establishment in one round, once its T200 expires.
+abbrev pub LossyCallsAreAnswered : Type 0
+LossyCallsAreAnswered =
+    (service : Service) (c d : Config) (line other tei : ℕ) (ds : List Doing) → CanCall c line d other tei → All (IsFullTalk service tei) ds →
+    let begun = calling service tei c line d other in let w = doing_all ds begun in
+    StayPatient ds begun → IsStill w → heard_in w.near ≡ [] → MayRepeat service tei w.near →
+    heard_in (rounds 1 (acting (times_out (T200 service tei)) w)).near ≡ confirmed service tei ∷ []
+
+-- And where it was told, and neither end is busy, all settles once T200 expires at both ends, in as many rounds as notes are missing,
+-- and three more.
 pub record Settles (service : Service) (tei : ℕ) (x : Called) (w : Wire) : Type 0 where
   pub goes_on : IsStill w → heard_in w.near ≢ [] → BothMayRepeat service tei w → StayPatient (both_expire service tei) w
   pub settles : (u : ℕ) → IsStill w → heard_in w.near ≢ [] → BothMayRepeat service tei w → HasLeft service tei u x w →
       HasSettled service tei x w (rounds (u + 3) (with_t200_expired service tei w))
-  pub rings : IsStill w → heard_in w.near ≡ [] → MayRepeat service tei w.near →
-      heard_in (rounds 1 (acting (times_out (T200 service tei)) w)).near ≡ confirmed service tei ∷ []
 
 abbrev pub LossyCallsSettle : Type 0
 LossyCallsSettle =

@@ -22,6 +22,7 @@ mod answering;
 mod arriving;
 mod laws;
 mod resting;
+mod settling;
 
 pub use answering::{a_call_ends, a_call_with_losses_comes_through};
 pub use arriving::it_arrives_under_traffic;
@@ -30,3 +31,4 @@ pub use laws::{
     what_is_lost_arrives_from_rest,
 };
 pub use resting::{rounds_come_to_rest, turns_come_to_an_end};
+pub use settling::a_call_with_losses_comes_to_rest;

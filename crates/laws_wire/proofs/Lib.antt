@@ -89,3 +89,4 @@ pub mod RestingMet
 pub mod ArrivingMet
 pub mod AnsweringMet
 pub mod EndingMet
+pub mod SettlingMet

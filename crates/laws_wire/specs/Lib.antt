@@ -20,5 +20,6 @@ pub mod WorkedCounted
 pub mod WorkedResting
 pub mod WorkedArriving
 pub mod WorkedAnswering
+pub mod WorkedSettling
 pub mod WorkedEnding
 pub mod WorkedBroken

@@ -194,7 +194,6 @@ module _ (service : Service) (tei : ℕ) (c d : Config) (p q : ℕ) (past_n past
       grants [] = refl
       grants (octets ∷ more) = takes-granted octets w.near
 
-
   abbrev m1 : End
   m1 = two_ends.with_first_lost m
 

@@ -1,10 +1,10 @@
 -- The premises of the law that a call with losses comes to rest are met by the worked calls.
-use Rattle.laws_wire.proofs.Vocabulary.{◌≡◌, ℕ, ◌≤◌, List, [], ◌∷◌, refl, sym, subst, arith, All, Call, reading, header_of, control_of, unnumbered_of, supervisory_of, distance_of, named, seq, Data, SetBusy, ClearBusy, Wire, requests, times_out, at_near, at_far, doing, doing_all, acting, IsStill, confirmed, heard_in, IsFullTalk, StayPatient, MayRepeat, BothMayRepeat, rounds, with_t200_expired, moves, begins, user, network}
+use Rattle.laws_wire.proofs.Vocabulary.{◌≡◌, ℕ, ◌≤◌, List, [], ◌∷◌, refl, sym, subst, arith, All, Call, reading, header_of, control_of, unnumbered_of, supervisory_of, distance_of, named, seq, Data, SetBusy, ClearBusy, Wire, requests, times_out, at_near, at_far, doing_all, IsStill, confirmed, heard_in, IsFullTalk, StayPatient, MayRepeat, BothMayRepeat, rounds, with_t200_expired, moves, begins, user, network}
 use Rattle.lapd_frame.specs.declared.timers.Timer.TheVariants.{T200}
 use Rattle.lapd_tei.specs.Events as teis
 use Rattle.model_line.specs.Machine as lines
 use Rattle.laws_wire.specs.Answering.{uncalled, error_f, seen}
-use Rattle.laws_wire.specs.Settling.{most_moves, HasLeft, HasSettled, Settles}
+use Rattle.laws_wire.specs.Settling.{most_moves, near_expires, HasLeft, HasSettled}
 use Rattle.laws_wire.specs.WorkedAnswering.{loses_ua}
 use Rattle.laws_wire.specs.WorkedSettling.{is_ready, ready, ready_seen, ready_free, ready_still, ready_near, ready_left, ua_lost, lost_near, lost_still}
 use Rattle.laws_wire.proofs.AnsweringMet.{only-turns, patient-first}
@@ -47,6 +47,6 @@ may-lost : MayRepeat Call 0 (doing_all ua_lost begins).near
 unfolding lines.after lines.answer lines.takes_slot reading header_of control_of unnumbered_of supervisory_of teis.course teis.refusal seq distance_of named doing_all
 may-lost = none-told
 
-told-again : heard_in (rounds 1 (acting (times_out (T200 Call 0)) (doing_all ua_lost begins))).near ≡ confirmed Call 0 ∷ []
+told-again : heard_in (rounds 1 (doing_all (near_expires Call 0) (doing_all ua_lost begins))).near ≡ confirmed Call 0 ∷ []
 told-again =
-    lossy-calls-are-answered Call user network 0 0 0 ua_lost can full-lost (only-turns ua_lost refl begins) lost_still lost_near may-lost
+    (lossy-calls-are-answered Call user network 0 0 0 ua_lost can full-lost (only-turns ua_lost refl begins) lost_still lost_near may-lost).1

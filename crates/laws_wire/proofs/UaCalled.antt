@@ -386,21 +386,3 @@ module _ (t : Terms) (l : Link) (sound : IsSound t l) where
       go (inr (some, more)) =
           let low : l.a ≤ l.s = sound.ordered in
           ap (λ x. b || x) some ∙ or-true b ∙ sym (ap not (ne_eqb (after t offer l).s (after t offer l).a (λ same. let same' : (after t offer l).s ≡ (after t offer l).a = same in omega (arith, low, more, kept, same'))))
-
--- and what REJ asked for is awaited as before
-module _ (t : Terms) (l : Link) where
-  abbrev Keeps : Course → Type 0
-  Keeps c = c.link.rejecting ≡ l.rejecting
-
-  either-keeps : (b : Bool) (u v : Course) → Keeps u → Keeps v → Keeps (cond b u v)
-  either-keeps true u v x y = x
-  either-keeps false u v x y = y
-
-  among-keeps : (ws : List ControlFrame) → Keeps (Offers.offer_among t ws (begun l))
-  among-keeps [] =
-      either-keeps (Offers.may_send_information t l) _ _ (either-keeps (Offers.is_awaiting_acknowledgement (Offers.with_one_sent l)) _ _ refl refl)
-      (either-keeps l.pending _ _ refl refl)
-  among-keeps (f ∷ fs) = refl
-
-  pub offer-rejecting : (after t offer l).rejecting ≡ l.rejecting
-  offer-rejecting = among-keeps l.waiting

@@ -19,8 +19,8 @@ use Rattle.laws_wire.proofs.LooseUp.{LooseUp}
 use Rattle.laws_wire.proofs.LossyPhases.{first-way}
 use Rattle.laws_wire.proofs.Ringing.{ringing, answered}
 use Rattle.laws_wire.proofs.Talking.{Face}
-use Rattle.laws_wire.proofs.UaCalled.{sane-after, Poised, PoisedOn, poised-on, loose-poised, offer-rejecting}
-use Rattle.laws_wire.proofs.UaCalledAt.{FreeAs, StirsAt, asked-at, expired-at, flagged-at}
+use Rattle.laws_wire.proofs.UaCalled.{sane-after, Poised, PoisedOn, poised-on, loose-poised}
+use Rattle.laws_wire.proofs.UaCalledAt.{offer-rejecting, same-flag, FreeAs, StirsAt, asked-at, expired-at, flagged-at}
 use Rattle.laws_wire.proofs.UaLost.{behind, IsNoPoll, none-asked, rising-drop, taken-none, first_near, ignores-frame}
 
 module _ (service : Service) (tei : ℕ) (c d : Config) (p q : ℕ) (face : Face c d) (back : Face d c) (rt : IsInRange (terms c service tei)) (ru : IsInRange (terms d service tei)) (past : List LineTold) where
@@ -69,9 +69,6 @@ module _ (service : Service) (tei : ℕ) (c d : Config) (p q : ℕ) (face : Face
     pub loose : Loose (end t (answered repeats []) []) m
     pub rejecting : m.link.rejecting ≡ false
     pub flag : b ≡ has_outstanding m.link
-
-  same-flag : (b : Bool) (l l' : Link) → l'.s ≡ l.s → l'.a ≡ l.a → b ≡ has_outstanding l → b ≡ has_outstanding l'
-  same-flag b l l' s a e = e ∙ (λ i. not (sym s i == sym a i))
 
   -- ---- where no UA is to come
 
@@ -284,18 +281,14 @@ module _ (service : Service) (tei : ℕ) (c d : Config) (p q : ℕ) (face : Face
     abbrev whole : End
     whole = behind before h.m
 
-    sane-there : Sane whole.link
-    sane-there = h.loose.far_sane
-
     up-there : IsTrue (is_multiple_frame whole.link.state)
     up-there = h.loose.joined.far_up
 
     with-far : (w' : Wire) → Held c service tei p [] w'.near (end t (ringing h.repeats []) []) → (m : End) (b' : Bool) → Its w'.far (behind before m) → Loose n m → m.link.rejecting ≡ false → b' ≡ has_outstanding m.link → Comes b' w'
-    with-far w' near m b' far loose rejecting flag =
-        record { repeats = h.repeats; near = near; m = m; stale = h.stale; far = far; rising = h.rising; loose = loose; rejecting = rejecting; flag = flag }
+    with-far w' near m b' far loose rejecting flag = record { repeats = h.repeats; near = near; m = m; stale = h.stale; far = far; rising = h.rising; loose = loose; rejecting = rejecting; flag = flag }
 
     comes-stirs : (act : two_ends.Act) (e : link.Event) → (two_ends.acting act (record { near = h.m; far = n })) ≡ (record { near = two_ends.with_link e h.m; far = n })
-        → two_links_timely.IsTimelyAct act h.m n → (s' : Station) → StirsAt service tei d q past (turned w) whole h.far up-there sane-there e s' → Comes b (record w { far = s' })
+        → two_links_timely.IsTimelyAct act h.m n → (s' : Station) → StirsAt service tei d q past (turned w) whole h.far up-there h.loose.far_sane e s' → Comes b (record w { far = s' })
     comes-stirs act e is timely s' x =
         let m' = record h.m { link = x.left } in
         let becomes : two_ends.with_link e h.m ≡ m' = (λ i. record h.m { link = (x.becomes i).link; delivered = (x.becomes i).delivered }) in
@@ -303,7 +296,7 @@ module _ (service : Service) (tei : ℕ) (c d : Config) (p q : ℕ) (face : Face
         let loose = loose-turned (two_ends.with_link e h.m) n (subst (λ (y : two_ends.Ends). Loose y.near y.far) is other) in
         with-far (record w { far = s' }) h.near m' b x.held (subst (Loose n) becomes loose) (x.stirs.rejecting ∙ h.rejecting) (same-flag b h.m.link x.left x.stirs.s x.stirs.a h.flag)
 
-    timely-there : (its : LinkTimer) → FreeAs service tei d q past (turned w) whole h.far up-there sane-there its → two_links_timely.IsTimely its h.m n
+    timely-there : (its : LinkTimer) → FreeAs service tei d q past (turned w) whole h.far up-there h.loose.far_sane its → two_links_timely.IsTimely its h.m n
     timely-there its free state running =
         let asked = free state running in
         closed h.m n (record {
@@ -314,10 +307,10 @@ module _ (service : Service) (tei : ℕ) (c d : Config) (p q : ℕ) (face : Face
     pub comes-acts : (act : Act) → (act ≡ takes → ⊥) → (act ≡ gives → ⊥) → (act ≡ loses → ⊥) → IsFullTalkOf service tei act → IsTimelyOf act (turned w)
         → Comes b (turned (acting act (turned w)))
     comes-acts (requests r) untaken not nor is x =
-        asked-at service tei d q past (turned w) whole h.far up-there sane-there (λ s. Comes b (record w { far = s })) h
+        asked-at service tei d q past (turned w) whole h.far up-there h.loose.far_sane (λ s. Comes b (record w { far = s })) h
         (λ rq s' mild y. comes-stirs (two_ends.asks rq false) (link.requested rq false) refl mild s' y) r is
     comes-acts (times_out timer) untaken not nor is x =
-        expired-at service tei d q past (turned w) whole h.far up-there sane-there (λ s. Comes b (record w { far = s }))
+        expired-at service tei d q past (turned w) whole h.far up-there h.loose.far_sane (λ s. Comes b (record w { far = s }))
         (λ its s' can free y. comes-stirs (two_ends.expires its) (link.expired its) refl (can, timely-there its free) s' y) timer is x
     comes-acts gives untaken not nor is x = absurd (not refl)
     comes-acts takes untaken not nor is x = absurd (untaken refl)
@@ -364,7 +357,7 @@ module _ (service : Service) (tei : ℕ) (c d : Config) (p q : ℕ) (face : Face
               r = omega (arith, not-beyond);
               rejecting = h.rejecting;
               delivered = comes-none;
-              sane = sane-there;
+              sane = h.loose.far_sane;
               rising = h.loose.joined.there.rising;
               flag = h.flag;
             })

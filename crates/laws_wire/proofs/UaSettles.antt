@@ -4,9 +4,9 @@ use Rattle.lapd_frame.specs.declared.timers.Timer.TheVariants as timers
 use Rattle.laws_link.specs.two.Needed.{HasItsTimer}
 use Rattle.laws_link.proofs.OfTwo.Needing.{timely-fresh}
 use Rattle.laws_wire.specs.Answering.{Called, uncalled, seen, all_kept, all_of_calls}
-use Rattle.laws_wire.specs.Settling.{none_busy, busy, HasLeft, HasSettled, Settles, LossyCallsAreAnswered, LossyCallsSettle}
+use Rattle.laws_wire.specs.Settling.{none_busy, busy, HasLeft, HasSettled, Settles, near_expires, LossyCallsAreAnswered, LossyCallsSettle}
 use Rattle.laws_wire.proofs.Acting.{ranges}
-use Rattle.laws_wire.proofs.Awaited.{link-is}
+use Rattle.laws_wire.proofs.Awaited.{open-here, link-is}
 use Rattle.laws_wire.proofs.Calling.{end, asked, its_ua, sabme, ua}
 use Rattle.laws_wire.proofs.Held.{Held}
 use Rattle.laws_wire.proofs.LooseUp.{LooseAt}
@@ -14,7 +14,7 @@ use Rattle.laws_wire.proofs.LossyRun.{Setting, setting}
 use Rattle.laws_wire.proofs.RestedRounds.{doing-append, many, many-rounds}
 use Rattle.laws_wire.proofs.Ringing.{ringing, its_sabme}
 use Rattle.laws_wire.proofs.Talking.{Face}
-use Rattle.laws_wire.proofs.TimelyUp.{IsHushed, hushed, none-waits}
+use Rattle.laws_wire.proofs.TimelyUp.{IsHushed, hushed, none-waits, none-open}
 use Rattle.laws_wire.proofs.UaBefore.{before, with_before, near-before, far-before, timely-with}
 use Rattle.laws_wire.proofs.UaKnown.{Known, BothKnown, runs-known}
 use Rattle.laws_wire.proofs.UaLost.{Rings, behind, not-told}
@@ -77,7 +77,7 @@ module _ (service : Service) (tei : ℕ) (c d : Config) (p q : ℕ) (face : Face
   -- it was not: it rings, and nothing waits
   module _ (v : Wire) (still : IsStill v) (may : MayRepeat service tei v.near) where
     abbrev Tells : Type 0
-    Tells = heard_in (rounds 1 (acting (times_out (timers.T200 service tei)) v)).near ≡ confirmed service tei ∷ []
+    Tells = StayPatient (near_expires service tei) v × (heard_in (rounds 1 (acting (times_out (timers.T200 service tei)) v)).near ≡ confirmed service tei ∷ [])
 
     far-quiet : (past : List LineTold) (M : End) → Held d service tei q past v.far M → IsHushed service tei M
     far-quiet past M held = hushed service tei d q past v.far M held still.far still.far_way
@@ -86,6 +86,14 @@ module _ (service : Service) (tei : ℕ) (c d : Config) (p q : ℕ) (face : Face
     near-quiet k ws way held =
         let x = hushed service tei c p [] v.near (end (terms c service tei) (ringing k ws) way) held still.near still.near_way in
         (none-waits service tei (end (terms c service tei) (ringing k ws) way) x, x.way)
+
+    -- no answer is to come
+    long : (P : Station → Type 0) → Rings service tei c d p q face back rt ru P [] [] v → (past : List LineTold) (M : End) → Held d service tei q past v.far M → StayPatient (near_expires service tei) v
+    unfolding StayPatient
+    long P h past M held =
+        let n = end (terms c service tei) (ringing h.repeats []) [] in
+        let quiet = hushed service tei c p [] v.near n h.near still.near still.near_way in
+        ((λ awaits. open-here service tei c d p q v.near v.far n M h.near.stands held.stands (none-open service tei n M quiet (far-quiet past M held)), may), tt)
 
     ringing-tells : (P : Station → Type 0) → Rs service tei c d p q face back rt ru P v → (Rings service tei c d p q face back rt ru P [] [] v → Tells) → Tells
     ringing-tells P (inl h) does = does h
@@ -96,9 +104,11 @@ module _ (service : Service) (tei : ℕ) (c d : Config) (p q : ℕ) (face : Face
     called-tells past b none (inl h) =
         ringing-tells (Away service tei c d p q face back rt ru past b) h (λ h.
         let M = h.far.M in
-        let quiet = far-quiet past M h.far.held in
-        rings-again service tei c d p q face back rt ru (Away service tei c d p q face back rt ru past b) v h may past M h.far.held quiet.way
-        (answers-again service tei c d p q face back rt ru M.link M.terms (ranges service tei q past d v.far M h.far.held) h.far.up h.far.a (none-waits service tei M quiet)))
+        let quiet = far-quiet past M h.far.held in (
+          long (Away service tei c d p q face back rt ru past b) h past M h.far.held,
+          rings-again service tei c d p q face back rt ru (Away service tei c d p q face back rt ru past b) v h may past M h.far.held quiet.way
+              (answers-again service tei c d p q face back rt ru M.link M.terms (ranges service tei q past d v.far M h.far.held) h.far.up h.far.a (none-waits service tei M quiet)),
+        ))
     called-tells past b none (inr (inl h)) =
         let M = h.far.M in
         absurd (some-waits h.far.old h.far.post its_ua (sym h.far.waits ∙ none-waits service tei M (far-quiet past M h.far.held)))
@@ -111,9 +121,11 @@ module _ (service : Service) (tei : ℕ) (c d : Config) (p q : ℕ) (face : Face
 
     pub phase-tells : (x : Called) → Phase service tei c d p q face back rt ru x v → heard_in v.near ≡ [] → Tells
     phase-tells x (inl (told, sent, h)) none =
-        ringing-tells (Down service tei c d p q face back rt ru) h (λ h.
-        rings-again service tei c d p q face back rt ru (Down service tei c d p q face back rt ru) v h may [] (end (terms d service tei) fresh []) h.far refl
-        (answers-first service tei c d p q face back rt ru))
+        ringing-tells (Down service tei c d p q face back rt ru) h (λ h. (
+          long (Down service tei c d p q face back rt ru) h [] (end (terms d service tei) fresh []) h.far,
+          rings-again service tei c d p q face back rt ru (Down service tei c d p q face back rt ru) v h may [] (end (terms d service tei) fresh []) h.far refl
+              (answers-first service tei c d p q face back rt ru),
+        ))
     phase-tells x (inr (some, h)) none = called-tells x.told x.sent none h
 
   -- ---- it settles
@@ -128,11 +140,15 @@ module _ (service : Service) (tei : ℕ) (c d : Config) (p q : ℕ) (face : Face
     abbrev Timed : Wire → Type 0
     Timed w = HasItsTimer (end_of service tei w.near).link × HasItsTimer (end_of service tei w.far).link
 
-    pub rings : IsStill here → heard_in v.near ≡ [] → MayRepeat service tei v.near → heard_in (rounds 1 (acting (times_out (timers.T200 service tei)) here)).near ≡ confirmed service tei ∷ []
+    abbrev TellsSo : Wire → Type 0
+    TellsSo w = StayPatient (near_expires service tei) w × (heard_in (rounds 1 (doing_all (near_expires service tei) w)).near ≡ confirmed service tei ∷ [])
+
+    pub rings : IsStill here → heard_in v.near ≡ [] → MayRepeat service tei v.near → TellsSo here
+    unfolding doing_all
     rings still none may =
         let same = ap (rounds 1) (near-before (times_out (timers.T200 service tei)) g v) ∙ rounds-before g 1 (acting (times_out (timers.T200 service tei)) v) in
-        ap (λ y. heard_in y.near) same
-        ∙ phase-tells v (still-there service tei c d p q face back rt ru x v g given_up phase still) may x phase none
+        let tells = phase-tells v (still-there service tei c d p q face back rt ru x v g given_up phase still) may x phase none in
+        (patient-before g (near_expires service tei) v tells.0, ap (λ y. heard_in y.near) same ∙ tells.1)
 
     module _ (known : BothKnown service tei none_busy here) (timed : StayPatient (both_expire service tei) here → (u : ℕ) → Timed (last u)) where
       module _ (still : IsStill here) (heard : heard_in v.near ≢ []) (may : BothMayRepeat service tei here) where
@@ -244,7 +260,7 @@ lossy-calls-are-answered service c d line other tei ds can talk = λ patient.
     let s = setting service c d line other tei can in
     let w = doing_all ds (calling service tei c line d other) in
     let on = patient-goes service c d line other tei ds can talk patient in
-    subst (λ w. IsStill w → heard_in w.near ≡ [] → MayRepeat service tei w.near → heard_in (rounds 1 (acting (times_out (timers.T200 service tei)) w)).near ≡ confirmed service tei ∷ []) (sym on.is)
+    subst (λ w. IsStill w → heard_in w.near ≡ [] → MayRepeat service tei w.near → StayPatient (near_expires service tei) w × (heard_in (rounds 1 (doing_all (near_expires service tei) w)).near ≡ confirmed service tei ∷ [])) (sym on.is)
     (rings service tei c d 0 0 s.face s.back s.near s.far (seen service tei ds (calling service tei c line d other) uncalled) on.v on.earlier on.given_up on.phase)
 
 pub lossy-calls-settle : LossyCallsSettle

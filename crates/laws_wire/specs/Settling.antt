@@ -7,7 +7,7 @@ use Rattle.model_line.specs.Event.{request}
 use Rattle.model_line.specs.Line.{terms}
 use Rattle.model_line.specs.Request.{Request, SetBusy, ClearBusy}
 use Rattle.laws_line.specs.Share.{is_granted}
-use Rattle.laws_wire.specs.Wire.{Station, answered, Wire, Act, requests, times_out, acting, turned, Doing, at_near, at_far, doing, doing_all, IsStill}
+use Rattle.laws_wire.specs.Wire.{Station, answered, Wire, Act, requests, times_out, turned, Doing, at_near, at_far, doing, doing_all, IsStill}
 use Rattle.laws_wire.specs.Call.{calling, CanCall, confirmed}
 use Rattle.laws_wire.specs.Losing.{heard_in}
 use Rattle.laws_wire.specs.Facing.{granted_of}
@@ -88,12 +88,15 @@ pub record HasSettled (service : Service) (tei : ℕ) (x : Called) (before w : W
   pub far_stops : runs_t200 service tei w.far ≡ false
 
 -- Where no turn is left and the end that calls was told nothing yet, it is told of the establishment in one round, once its T200 expires.
+abbrev pub near_expires : Service → ℕ → List Doing
+near_expires service tei = at_near (times_out (T200 service tei)) ∷ []
+
 abbrev pub LossyCallsAreAnswered : Type 0
 LossyCallsAreAnswered =
     (service : Service) (c d : Config) (line other tei : ℕ) (ds : List Doing) → CanCall c line d other tei → All (IsFullTalk service tei) ds →
     let begun = calling service tei c line d other in let w = doing_all ds begun in
     StayPatient ds begun → IsStill w → heard_in w.near ≡ [] → MayRepeat service tei w.near →
-    heard_in (rounds 1 (acting (times_out (T200 service tei)) w)).near ≡ confirmed service tei ∷ []
+    StayPatient (near_expires service tei) w × (heard_in (rounds 1 (doing_all (near_expires service tei) w)).near ≡ confirmed service tei ∷ [])
 
 -- And where it was told, and neither end is busy, all settles once T200 expires at both ends, in as many rounds as notes are missing,
 -- and three more.

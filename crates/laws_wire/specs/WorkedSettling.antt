@@ -2,21 +2,20 @@
 use Rattle.std.specs.Prelude.{◌≡◌, ◌≤◌, ◌*◌, true, false, List, [], ◌∷◌, ◌++◌, refl}
 use Rattle.std.proofs.Common.{arith}
 use Rattle.lapd_frame.specs.declared.services.Service.TheVariants.{Call}
-use Rattle.lapd_frame.specs.declared.timers.Timer.TheVariants.{T200}
 use Rattle.lapd_frame.specs.Reading.{reading, header_of, control_of, unnumbered_of, supervisory_of}
 use Rattle.lapd_seq.specs.Circle.{distance_of, named}
 use Rattle.lapd_seq.specs.Numbers.{seq}
 use Rattle.lapd_tei.specs.Events as teis
 use Rattle.model_line.specs.Machine as lines
 use Rattle.model_line.specs.Request.{Data, SetBusy, ClearBusy}
-use Rattle.laws_wire.specs.Wire.{Wire, requests, times_out, gives, takes, loses, Doing, at_near, at_far, acting, doing_all, IsStill}
+use Rattle.laws_wire.specs.Wire.{Wire, requests, gives, takes, loses, Doing, at_near, at_far, doing_all, IsStill}
 use Rattle.laws_wire.specs.Call.{confirmed, indicated, data_told}
 use Rattle.laws_wire.specs.Losing.{heard_in}
 use Rattle.laws_wire.specs.Recovering.{rounds, with_t200_expired}
 use Rattle.laws_wire.specs.Resting.{moves, expiries, most_frames}
 use Rattle.laws_wire.specs.Arriving.{runs_t200}
 use Rattle.laws_wire.specs.Answering.{uncalled, error_f, seen}
-use Rattle.laws_wire.specs.Settling.{reports, most_moves, none_busy, busy, HasLeft}
+use Rattle.laws_wire.specs.Settling.{reports, most_moves, none_busy, busy, HasLeft, near_expires}
 use Rattle.laws_wire.specs.WorkedAnswering.{loses_ua}
 use Rattle.laws_wire.specs.Worked.{begins, establishes}
 
@@ -114,7 +113,7 @@ pub lost_near : heard_in (doing_all ua_lost begins).near ≡ []
 unfolding lines.after lines.answer lines.takes_slot reading header_of control_of unnumbered_of supervisory_of teis.course teis.refusal seq distance_of named doing_all
 lost_near = refl
 
-told_again : heard_in (rounds 1 (acting (times_out (T200 Call 0)) (doing_all ua_lost begins))).near ≡ confirmed Call 0 ∷ []
+told_again : heard_in (rounds 1 (doing_all (near_expires Call 0) (doing_all ua_lost begins))).near ≡ confirmed Call 0 ∷ []
 unfolding lines.after lines.answer lines.takes_slot reading header_of control_of unnumbered_of supervisory_of teis.course teis.refusal seq distance_of named doing_all rounds
 told_again = refl
 

@@ -1,8 +1,7 @@
 //! That a call with losses comes to rest. Each law is the contract of a call that does nothing.
 
-ghost use Rattle.laws_wire.specs.Settling.{
-    LossyCallsAreAnswered, LossyCallsSettle, LossyMovesComeToAnEnd, LossyRoundsComeToRest,
-};
+ghost use Rattle.laws_wire.specs.Settling.{LossyCallsAreAnswered, LossyCallsSettle};
+ghost use Rattle.laws_wire.specs.Settling.{LossyMovesComeToAnEnd, LossyRoundsComeToRest};
 
 /// A call with losses comes to rest. In a call as [`crate::a_call_with_losses_comes_through`] has it, where UA may be
 /// lost and either end may be busy, turns come to an end once nothing more is asked for and no timer expires (`turns`):

@@ -13,8 +13,8 @@ ghost use Rattle.laws_wire.specs.Settling.{LossyMovesComeToAnEnd, LossyRoundsCom
 /// it was told, and neither end is busy, as its layer 3 was granted last to say, T200 expires at both ends, which does
 /// nothing where it does not run, and is in time (`goes_on`); then u + 3 rounds are enough, where at either end at most
 /// u notes are missing of what that law says (`settles`): all of it is told, no turn is left, and T200 runs at neither
-/// end. No error but F is told, so N200 is not used up as it expires. While an end is busy T200 of the other runs on,
-/// which asks it again (`specs/WorkedSettling`).
+/// end. As T200 expires N200 is not used up, that is, no error is told. T200 of an end that takes the other for busy
+/// runs on (`specs/WorkedSettling`), so that neither is busy is needed.
 pub fn a_call_with_losses_comes_to_rest()
     ensures turns { LossyMovesComeToAnEnd }
     ensures rounds { LossyRoundsComeToRest }

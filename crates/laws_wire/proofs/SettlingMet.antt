@@ -4,7 +4,7 @@ use Rattle.lapd_frame.specs.declared.timers.Timer.TheVariants.{T200}
 use Rattle.lapd_tei.specs.Events as teis
 use Rattle.model_line.specs.Machine as lines
 use Rattle.laws_wire.specs.Answering.{uncalled, error_f, seen}
-use Rattle.laws_wire.specs.Settling.{most_moves, near_expires, HasLeft, HasSettled}
+use Rattle.laws_wire.specs.Settling.{most_moves, near_expires, HasLeft, HasTold, IsAtRest}
 use Rattle.laws_wire.specs.WorkedAnswering.{loses_ua}
 use Rattle.laws_wire.specs.WorkedSettling.{is_ready, ready, ready_seen, ready_free, ready_still, ready_near, ready_left, ua_lost, lost_near, lost_still}
 use Rattle.laws_wire.proofs.AnsweringMet.{only-turns, patient-first}
@@ -34,10 +34,10 @@ may : BothMayRepeat Call 0 ready
 unfolding lines.after lines.answer lines.takes_slot reading header_of control_of unnumbered_of supervisory_of teis.course teis.refusal seq distance_of named doing_all
 may = (none-told, none-told)
 
-settles : HasSettled Call 0 (seen Call 0 is_ready begins uncalled) ready (rounds 4 (with_t200_expired Call 0 ready))
+settles : HasTold Call 0 (seen Call 0 is_ready begins uncalled) ready (rounds 4 (with_t200_expired Call 0 ready)) × IsAtRest Call 0 (rounds 4 (with_t200_expired Call 0 ready))
 settles =
-    (lossy-calls-settle Call user network 0 0 0 is_ready can full patient ready_free).settles 1 ready_still (heard-it (heard_in ready.near) (confirmed Call 0) ready_near) may
-    (subst (λ x. HasLeft Call 0 1 x ready) (sym ready_seen) ready_left)
+    (lossy-calls-settle Call user network 0 0 0 is_ready can full patient ready_free).settles 1
+    (ready_still, heard-it (heard_in ready.near) (confirmed Call 0) ready_near, may) (subst (λ x. HasLeft Call 0 1 x ready) (sym ready_seen) ready_left)
 
 -- and where UA is lost
 full-lost : All (IsFullTalk Call 0) ua_lost

@@ -4,7 +4,7 @@ use Rattle.lapd_frame.specs.declared.timers.Timer.TheVariants as timers
 use Rattle.laws_link.specs.two.Needed.{HasItsTimer}
 use Rattle.laws_link.proofs.OfTwo.Needing.{timely-fresh}
 use Rattle.laws_wire.specs.Answering.{Called, uncalled, seen, all_kept, all_of_calls}
-use Rattle.laws_wire.specs.Settling.{none_busy, busy, HasLeft, HasSettled, Settles, near_expires, LossyCallsAreAnswered, LossyCallsSettle}
+use Rattle.laws_wire.specs.Settling.{none_busy, busy, HasLeft, HasTold, IsAtRest, Settles, near_expires, LossyCallsAreAnswered, LossyCallsSettle}
 use Rattle.laws_wire.proofs.Acting.{ranges}
 use Rattle.laws_wire.proofs.Awaited.{open-here, link-is}
 use Rattle.laws_wire.proofs.Calling.{end, asked, its_ua, sabme, ua}
@@ -173,23 +173,18 @@ module _ (service : Service) (tei : ℕ) (c d : Config) (p q : ℕ) (face : Face
         kept : (confirmed service tei ∷ []) ++ map (data_told service tei) v.far.granted ≡ all_kept service tei x here.far
         kept = all-is service tei c d p q face back rt ru x v g given_up phase
 
-        settles : (u : ℕ) → HasLeft service tei u x here → HasSettled service tei x here (last u)
+        settles : (u : ℕ) → HasLeft service tei u x here → HasTold service tei x here (last u) × IsAtRest service tei (last u)
         settles u left =
             let lasts = rounds (u + 3) (with_t200_expired service tei v) in
             let same : last u ≡ with_before g lasts = ap (rounds (u + 3)) (expired-before g service tei v) ∙ rounds-before g (u + 3) (with_t200_expired service tei v) in
-            let few = subst (λ ts. length ts ≤ length (heard_in v.near) + u) (sym kept) left.near in
-            let y = loose-settles service tei c d p q face back (confirmed service tei ∷ []) x.told v up.n up.m at quiet may near_free far_free u few left.far in
+            let few = subst (λ ts. length ts ≤ length (heard_in v.near) + u) (sym kept) left.0 in
+            let y = loose-settles service tei c d p q face back (confirmed service tei ∷ []) x.told v up.n up.m at quiet may near_free far_free u few left.1 in
             let its = subst Timed same (timed goes-on u) in
-            subst (HasSettled service tei x here) (sym same) (record {
-              near = y.near ∙ kept;
-              far = y.far;
-              still = record { near = y.rests.near; far = y.rests.far; near_way = y.rests.near_way; far_way = y.rests.far_way };
-              near_stops = y.near_stops its.0;
-              far_stops = y.far_stops its.1;
-            })
+            let rests : IsStill (with_before g lasts) = record { near = y.rests.near; far = y.rests.far; near_way = y.rests.near_way; far_way = y.rests.far_way } in
+            subst (λ w. HasTold service tei x here w × IsAtRest service tei w) (sym same) ((y.near ∙ kept, y.far), (rests, y.near_stops its.0, y.far_stops its.1))
 
       pub settles-so : Settles service tei x here
-      settles-so = record { goes_on = λ still heard may. goes-on still heard may; settles = λ u still heard may left. settles still heard may u left }
+      settles-so = record { goes_on = λ can. goes-on can.0 can.1 can.2; settles = λ u can left. settles can.0 can.1 can.2 u left }
 
 -- ---- the call
 

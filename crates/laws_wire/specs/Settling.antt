@@ -74,19 +74,6 @@ unfoldable pub busy : List Doing → Wire → Busy → Busy
 busy [] w x = x
 busy (d ∷ ds) w x = busy ds (doing d w) (busy_behind d w x)
 
--- Of what each is to be told in the end, at most so much is missing.
-pub record HasLeft (service : Service) (tei u : ℕ) (x : Called) (w : Wire) : Type 0 where
-  pub near : length (all_kept service tei x w.far) ≤ length (heard_in w.near) + u
-  pub far : length (all_of_calls service tei x w.near) ≤ length (heard_in w.far) + u
-
--- All is told, no turn is left, and T200 runs at neither end.
-pub record HasSettled (service : Service) (tei : ℕ) (x : Called) (before w : Wire) : Type 0 where
-  pub near : heard_in w.near ≡ all_kept service tei x before.far
-  pub far : heard_in w.far ≡ all_of_calls service tei x before.near
-  pub still : IsStill w
-  pub near_stops : runs_t200 service tei w.near ≡ false
-  pub far_stops : runs_t200 service tei w.far ≡ false
-
 -- Where no turn is left and the end that calls was told nothing yet, it is told of the establishment in one round, once its T200 expires.
 abbrev pub near_expires : Service → ℕ → List Doing
 near_expires service tei = at_near (times_out (T200 service tei)) ∷ []
@@ -98,12 +85,27 @@ LossyCallsAreAnswered =
     StayPatient ds begun → IsStill w → heard_in w.near ≡ [] → MayRepeat service tei w.near →
     StayPatient (near_expires service tei) w × (heard_in (rounds 1 (doing_all (near_expires service tei) w)).near ≡ confirmed service tei ∷ [])
 
--- And where it was told, and neither end is busy, all settles once T200 expires at both ends, in as many rounds as notes are missing,
--- and three more.
+-- Of what each is to be told in the end, at most so much is missing; and all of it was told.
+abbrev pub HasLeft : Service → ℕ → ℕ → Called → Wire → Type 0
+HasLeft service tei u x w =
+    (length (all_kept service tei x w.far) ≤ length (heard_in w.near) + u) × (length (all_of_calls service tei x w.near) ≤ length (heard_in w.far) + u)
+
+abbrev pub HasTold : Service → ℕ → Called → Wire → Wire → Type 0
+HasTold service tei x before w = (heard_in w.near ≡ all_kept service tei x before.far) × (heard_in w.far ≡ all_of_calls service tei x before.near)
+
+-- No turn is left, and T200 runs at neither end.
+abbrev pub IsAtRest : Service → ℕ → Wire → Type 0
+IsAtRest service tei w = IsStill w × (runs_t200 service tei w.near ≡ false) × (runs_t200 service tei w.far ≡ false)
+
+-- No turn is left, the end that calls was told of the establishment, and no error is told as T200 expires at both ends.
+abbrev pub MayExpire : Service → ℕ → Wire → Type 0
+MayExpire service tei w = IsStill w × (heard_in w.near ≢ []) × BothMayRepeat service tei w
+
+-- There, if neither end is busy, all settles once T200 expires, in as many rounds as notes are missing, and three more.
 pub record Settles (service : Service) (tei : ℕ) (x : Called) (w : Wire) : Type 0 where
-  pub goes_on : IsStill w → heard_in w.near ≢ [] → BothMayRepeat service tei w → StayPatient (both_expire service tei) w
-  pub settles : (u : ℕ) → IsStill w → heard_in w.near ≢ [] → BothMayRepeat service tei w → HasLeft service tei u x w →
-      HasSettled service tei x w (rounds (u + 3) (with_t200_expired service tei w))
+  pub goes_on : MayExpire service tei w → StayPatient (both_expire service tei) w
+  pub settles : (u : ℕ) → MayExpire service tei w → HasLeft service tei u x w →
+      let last = rounds (u + 3) (with_t200_expired service tei w) in HasTold service tei x w last × IsAtRest service tei last
 
 abbrev pub LossyCallsSettle : Type 0
 LossyCallsSettle =

@@ -67,7 +67,7 @@ ready_seen = refl
 
 pub ready_left : HasLeft Call 0 1 (record { told = indicated Call 0 ∷ error_f Call 0 ∷ []; sent = false; given_up = 0 }) ready
 unfolding lines.after lines.answer lines.takes_slot reading header_of control_of unnumbered_of supervisory_of teis.course teis.refusal seq distance_of named doing_all
-ready_left = record { near = omega arith; far = omega arith }
+ready_left = (omega arith, omega arith)
 
 ready_runs : runs_t200 Call 0 ready.near ≡ true
 unfolding lines.after lines.answer lines.takes_slot reading header_of control_of unnumbered_of supervisory_of teis.course teis.refusal seq distance_of named doing_all

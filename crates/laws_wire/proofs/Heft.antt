@@ -1,8 +1,9 @@
 -- What is left to do on a wire, as its stations are; and what is done at an end makes it less, whatever its phase.
-use Rattle.laws_wire.proofs.Vocabulary.{◌≡◌, ℕ, ◌+◌, ◌*◌, ◌-◌, ◌≤◌, Bool, true, false, cond, List, [], ◌∷◌, ◌++◌, length, map, Option, None, Some, refl, sym, ap, subst, ◌∙◌, ◌⊎◌, inl, inr, append-nil, arith, Refusal, Service, Timer, Parts, ReceiveReady, ReceiveNotReady, seq, LinkTimer, T200, T203, Terms, Link, Course, course, begun, End, with_link, Config, LineTold, expiry, request, Line, place_in, Request, Data, SetBusy, ClearBusy, at_requested, aim_of_request, contents_of, Station, Wire, happens, Act, requests, times_out, gives, takes, loses, acting, turned, granted_of, end_of, is_granted, answered, IsAsked, IsOfLink, IsFullTalkOf, IsTimelyOf, is_move_of, expiries_of, response, has_room}
+use Rattle.laws_wire.proofs.Vocabulary.{◌≡◌, ℕ, ◌+◌, ◌*◌, ◌-◌, ◌≤◌, Bool, true, false, cond, List, [], ◌∷◌, ◌++◌, length, map, Option, None, Some, refl, sym, ap, subst, ◌∙◌, ◌⊎◌, inl, inr, append-nil, arith, Refusal, Service, Timer, Parts, ReceiveReady, ReceiveNotReady, seq, LinkTimer, T200, T203, Terms, Link, Course, course, begun, End, with_link, Config, LineTold, expiry, request, Line, place_in, Request, Data, SetBusy, ClearBusy, at_requested, aim_of_request, contents_of, Station, Wire, happens, Act, requests, times_out, gives, takes, loses, acting, turned, granted_of, link_of, flat_map, is_granted, answered, IsAsked, IsOfLink, IsFullTalkOf, IsTimelyOf, is_move_of, expiries_of, response, has_room}
 use Rattle.lapd_frame.specs.declared.timers.Timer.TheVariants as timers
 use Rattle.model_link.specs.Events as link
 use Rattle.model_link.specs.Requests as link_requests
+use Rattle.laws_wire.specs.Facing.{line_of, read_as}
 use Rattle.laws_wire.specs.Settling.{reports_of}
 use Rattle.laws_wire.proofs.Awaited.{link-is, way-is, may-there}
 use Rattle.laws_wire.proofs.Held.{Held}
@@ -49,8 +50,14 @@ module _ (w : ℕ) (t : Terms) (l : Link) where
       (either l.own_busy _ _ (record { contents = refl; received = refl; within = omega (arith, one) }) nothing-said)
 
 module _ (service : Service) (tei : ℕ) where
+  abbrev its_link : Station → Link
+  its_link s = link_of service tei (line_of s)
+
+  abbrev its_way : Station → List Parts
+  its_way s = flat_map (read_as s.card.config) s.way
+
   abbrev pub heft : ℕ → Wire → ℕ
-  heft v w = weigh v (end_of service tei w.near) (end_of service tei w.far)
+  heft v w = weigh_of v (its_link w.near) (its_way w.near) (its_link w.far) (its_way w.far)
 
   pub heft-is : (v : ℕ) (c d : Config) (p q : ℕ) (w : Wire) (n m : End) → Stands c service tei p w.near n → Stands d service tei q w.far m → heft v w ≡ weigh v n m
   heft-is v c d p q w n m near far =
@@ -70,10 +77,10 @@ module _ (service : Service) (tei : ℕ) where
   other-way a b c d more e = omega (arith, e)
 
   abbrev its : ℕ → Station → ℕ
-  its v s = load v (end_of service tei s).link + load_way v (end_of service tei s).way
+  its v s = load v (its_link s) + load_way v (its_way s)
 
   abbrev between : ℕ → Station → Station → ℕ
-  between v s u = (v + 4) * undelivered (end_of service tei s).link (end_of service tei u).link
+  between v s u = (v + 4) * undelivered (its_link s) (its_link u)
 
   pub pays-turned : (v moved expired reported : ℕ) (w w' : Wire) → Pays v moved expired reported (turned w) w' → Pays v moved expired reported w (turned w')
   pays-turned v moved expired reported w w' h = record {

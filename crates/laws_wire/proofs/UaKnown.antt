@@ -1,11 +1,12 @@
 -- What is known of the links of a call in which UA may be lost: each runs the timer that it needs, and is busy only as it was asked.
-use Rattle.laws_wire.proofs.Vocabulary.{◌≡◌, ℕ, ◌*◌, ◌≤◌, Bool, true, false, cond, not, ◌&&◌, ◌||◌, IsTrue, List, [], ◌∷◌, ◌++◌, map, None, refl, sym, ap, subst, ◌∙◌, ◌⊎◌, inl, inr, true≢false, All, All-head, All-tail, Service, Timer, Parts, spelling, LinkTimer, Terms, Link, is_multiple_frame, after, IsInRange, End, with_link, Config, LineTold, expiry, request, terms, next, Line, place_in, Request, Data, SetBusy, ClearBusy, at_requested, aim_of_request, IsSound, sound-after, Station, Wire, happens, comes, with_first_of, with_first_lost, Act, requests, times_out, gives, takes, loses, acting, turned, Doing, at_near, at_far, doing, doing_all, end_of, is_granted, answered, IsAsked, IsFullTalkOf, IsFullTalk, StayPatient}
+use Rattle.laws_wire.proofs.Vocabulary.{◌≡◌, ℕ, ◌*◌, ◌≤◌, Bool, true, false, cond, not, ◌&&◌, ◌||◌, IsTrue, List, [], ◌∷◌, ◌++◌, map, None, refl, sym, ap, subst, ◌∙◌, ◌⊎◌, inl, inr, true≢false, All, All-head, All-tail, Service, Timer, Parts, spelling, LinkTimer, Terms, Link, is_multiple_frame, after, IsInRange, End, with_link, Config, LineTold, expiry, request, terms, next, Line, place_in, Request, Data, SetBusy, ClearBusy, at_requested, aim_of_request, IsSound, sound-after, Station, Wire, happens, comes, with_first_of, with_first_lost, Act, requests, times_out, gives, takes, loses, acting, turned, Doing, at_near, at_far, doing, doing_all, link_of, is_granted, answered, IsAsked, IsFullTalkOf, IsFullTalk, StayPatient}
 use Rattle.model_link.specs.Events as link
 use Rattle.laws_link.specs.Flags.{busy_asked}
 use Rattle.laws_link.specs.States.{as_heard, state_after, is_anew}
 use Rattle.laws_link.specs.two.Needed.{HasItsTimer}
 use Rattle.laws_link.proofs.EachRow.{each-row}
 use Rattle.laws_link.proofs.OfTwo.Needing.{timely-after}
+use Rattle.laws_wire.specs.Facing.{line_of}
 use Rattle.laws_wire.specs.Answering.{IsPatient, Called, seeing}
 use Rattle.laws_wire.specs.Settling.{Busy, busy_by, busy_behind, busy}
 use Rattle.laws_wire.proofs.Awaited.{link-is}
@@ -57,8 +58,8 @@ and-not a b e none = and-true a (ap (λ b. a && not b) (sym none) ∙ e)
 
 module _ (service : Service) (tei : ℕ) where
   pub record Known (b : Bool) (s : Station) : Type 0 where
-    pub timed : HasItsTimer (end_of service tei s).link
-    pub free : b ≡ false → (end_of service tei s).link.own_busy ≡ false
+    pub timed : HasItsTimer (link_of service tei (line_of s))
+    pub free : b ≡ false → (link_of service tei (line_of s)).own_busy ≡ false
 
   -- ---- what is done at a station
 
@@ -66,7 +67,7 @@ module _ (service : Service) (tei : ℕ) where
     own : Stands s.card.config service tei p s n
     own = subst (λ k. Stands k service tei p s n) (sym stands.config) stands
 
-    is : (end_of service tei s).link ≡ n.link
+    is : (link_of service tei (line_of s)) ≡ n.link
     is = link-is service tei c p s n stands
 
     free : b ≡ false → n.link.own_busy ≡ false
@@ -77,7 +78,7 @@ module _ (service : Service) (tei : ℕ) where
         let sound = link-sound service tei p s n own in
         timely-after n.terms e n.link sound (sound-after n.terms (link-ranges service tei p s n own) e n.link sound) (subst HasItsTimer is known.timed)
 
-    by-event : (e : link.Event) (s' : Station) (b' : Bool) → (end_of service tei s').link ≡ after n.terms e n.link → (b' ≡ false → (after n.terms e n.link).own_busy ≡ false) → Known b' s'
+    by-event : (e : link.Event) (s' : Station) (b' : Bool) → (link_of service tei (line_of s')) ≡ after n.terms e n.link → (b' ≡ false → (after n.terms e n.link).own_busy ≡ false) → Known b' s'
     by-event e s' b' to calm =
         record { timed = subst HasItsTimer (sym to) (timed e); free = λ none. ap (λ l. l.own_busy) to ∙ calm none }
 

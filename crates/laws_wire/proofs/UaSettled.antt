@@ -1,5 +1,5 @@
 -- Where both ends are up, neither is busy and no turn is left: once T200 expires, so many rounds are enough for all that is missing, and it stops.
-use Rattle.laws_wire.proofs.Vocabulary.{◌≡◌, ℕ, ◌+◌, ◌≤◌, false, cond, not, ◌||◌, List, [], ◌∷◌, ◌++◌, length, map, take, None, Some, refl, sym, ap, subst, ◌∙◌, arith, length-map, length-append, length-take-le, eq-eqb, Service, Timer, spelling, Established, TimerRecovery, T200, T203, Link, given, End, Ends, with_link, Config, LineTold, next, gave, runs, is_running, IsCutOff, all-recovered, nothing-to_send, awaits_answer, Station, Wire, times_out, acting, turned, answered, IsStill, end_of, data_told, heard_in, is_poll, runs_t200, rounds, with_t200_expired, both_expire, BothMayRepeat, StayPatient}
+use Rattle.laws_wire.proofs.Vocabulary.{◌≡◌, ℕ, ◌+◌, ◌≤◌, false, cond, not, ◌||◌, List, [], ◌∷◌, ◌++◌, length, map, take, None, Some, refl, sym, ap, subst, ◌∙◌, arith, length-map, length-append, length-take-le, eq-eqb, Service, Timer, spelling, Established, TimerRecovery, T200, T203, Link, given, End, Ends, with_link, Config, LineTold, next, gave, runs, is_running, IsCutOff, all-recovered, nothing-to_send, awaits_answer, Station, Wire, times_out, acting, turned, answered, IsStill, link_of, data_told, heard_in, is_poll, runs_t200, rounds, with_t200_expired, both_expire, BothMayRepeat, StayPatient}
 use Rattle.lapd_frame.specs.declared.timers.Timer.TheVariants as timers
 use Rattle.model_link.specs.Events as link
 use Rattle.laws_link.specs.two.CutOff as cut_off
@@ -7,6 +7,7 @@ use Rattle.laws_link.specs.two.Needed.{needed_in, HasItsTimer}
 use Rattle.laws_link.specs.two.Rounds as two_links
 use Rattle.laws_link.proofs.OfTwo.Arriving.{AreFree}
 use Rattle.laws_link.proofs.OfTwo.Recovery.{free-recovered}
+use Rattle.laws_wire.specs.Facing.{line_of}
 use Rattle.laws_wire.proofs.Awaited.{NoneOpen, closed, may-there, open-here, link-is, runs-up}
 use Rattle.laws_wire.proofs.Held.{Held}
 use Rattle.laws_wire.proofs.Loose.{Loose, loose-turned}
@@ -104,8 +105,8 @@ module _ (service : Service) (tei : ℕ) (c d : Config) (p q : ℕ) (face : Face
       pub near : heard_in last.near ≡ past ++ map (data_told service tei) w.far.granted
       pub far : heard_in last.far ≡ other ++ map (data_told service tei) w.near.granted
       pub rests : IsStill last
-      pub near_stops : HasItsTimer (end_of service tei last.near).link → runs_t200 service tei last.near ≡ false
-      pub far_stops : HasItsTimer (end_of service tei last.far).link → runs_t200 service tei last.far ≡ false
+      pub near_stops : HasItsTimer (link_of service tei (line_of last.near)) → runs_t200 service tei last.near ≡ false
+      pub far_stops : HasItsTimer (link_of service tei (line_of last.far)) → runs_t200 service tei last.far ≡ false
 
     settled : (last : Wire) (x : Ends) → At last x.near x.far → two_links.HasArrived n.link.contents x.near x.far → two_links.HasArrived m.link.contents x.far x.near → AreFree x → Settled last
     settled last x at near far free = record {

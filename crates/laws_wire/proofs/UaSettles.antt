@@ -1,8 +1,9 @@
 -- A call in which UA may be lost and an end may be busy comes to where no turn is left and T200 runs at neither end.
-use Rattle.laws_wire.proofs.Vocabulary.{◌≡◌, ◌≢◌, ℕ, ◌+◌, ◌≤◌, ◌*◌, Bool, false, List, [], ◌∷◌, ◌++◌, length, map, drop, refl, sym, ap, subst, ◌∙◌, ◌⊎◌, inl, inr, arith, All, All-cons, All-nil, All-append, Service, Parts, ControlFrame, fresh, IsInRange, End, Config, LineTold, T203, terms, Station, Wire, times_out, at_near, at_far, acting, turned, Doing, doing, doing_all, IsStill, end_of, calling, CanCall, confirmed, data_told, heard_in, IsFullTalk, StayPatient, MayRepeat, BothMayRepeat, both_expire, with_t200_expired, rounds, runs_t200}
+use Rattle.laws_wire.proofs.Vocabulary.{◌≡◌, ◌≢◌, ℕ, ◌+◌, ◌≤◌, ◌*◌, Bool, false, List, [], ◌∷◌, ◌++◌, length, map, drop, refl, sym, ap, subst, ◌∙◌, ◌⊎◌, inl, inr, arith, All, All-cons, All-nil, All-append, Service, Parts, ControlFrame, fresh, IsInRange, End, Config, LineTold, T203, terms, Station, Wire, times_out, at_near, at_far, acting, turned, Doing, doing, doing_all, IsStill, link_of, calling, CanCall, confirmed, data_told, heard_in, IsFullTalk, StayPatient, MayRepeat, BothMayRepeat, both_expire, with_t200_expired, rounds, runs_t200}
 use Rattle.lapd_frame.specs.declared.timers.Timer.TheVariants as timers
 use Rattle.laws_link.specs.two.Needed.{HasItsTimer}
 use Rattle.laws_link.proofs.OfTwo.Needing.{timely-fresh}
+use Rattle.laws_wire.specs.Facing.{line_of}
 use Rattle.laws_wire.specs.Answering.{Called, uncalled, seen, all_kept, all_of_calls}
 use Rattle.laws_wire.specs.Settling.{none_busy, busy, HasLeft, HasTold, IsAtRest, Settles, near_expires, LossyCallsAreAnswered, LossyCallsSettle}
 use Rattle.laws_wire.proofs.Acting.{ranges}
@@ -138,7 +139,7 @@ module _ (service : Service) (tei : ℕ) (c d : Config) (p q : ℕ) (face : Face
     last u = rounds (u + 3) (with_t200_expired service tei here)
 
     abbrev Timed : Wire → Type 0
-    Timed w = HasItsTimer (end_of service tei w.near).link × HasItsTimer (end_of service tei w.far).link
+    Timed w = HasItsTimer (link_of service tei (line_of w.near)) × HasItsTimer (link_of service tei (line_of w.far))
 
     abbrev TellsSo : Wire → Type 0
     TellsSo w = StayPatient (near_expires service tei) w × (heard_in (rounds 1 (doing_all (near_expires service tei) w)).near ≡ confirmed service tei ∷ [])
@@ -235,20 +236,20 @@ module _ (service : Service) (c d : Config) (line other tei : ℕ) (ds : List Do
         All-cons (IsFullTalk service tei) (at_near (times_out (timers.T200 service tei))) (at_far (times_out (timers.T200 service tei)) ∷ []) (refl, refl)
         (All-cons (IsFullTalk service tei) (at_far (times_out (timers.T200 service tei))) [] (refl, refl) (All-nil (IsFullTalk service tei)))
 
-    timed : StayPatient expires w → (u : ℕ) → HasItsTimer (end_of service tei (rounds (u + 3) (with_t200_expired service tei w)).near).link × HasItsTimer (end_of service tei (rounds (u + 3) (with_t200_expired service tei w)).far).link
+    timed : StayPatient expires w → (u : ℕ) → HasItsTimer (link_of service tei (line_of (rounds (u + 3) (with_t200_expired service tei w)).near)) × HasItsTimer (link_of service tei (line_of (rounds (u + 3) (with_t200_expired service tei w)).far))
     unfolding doing_all
     timed goes-on u =
         let es = expires ++ many (u + 3) in
         let k = runs-known service tei c d 0 0 s.face s.back s.near s.far wide narrow.0 narrow.1 es (All-append (IsFullTalk service tei) expires (many (u + 3)) full (many-full service tei (u + 3))) w
         (both-patient expires (many (u + 3)) w goes-on (many-patient (u + 3) (doing_all expires w))) x on none_busy known in
         let same : doing_all es w ≡ rounds (u + 3) (with_t200_expired service tei w) = doing-append expires (many (u + 3)) w ∙ many-rounds (u + 3) (with_t200_expired service tei w) in
-        subst (λ y. HasItsTimer (end_of service tei y.near).link × HasItsTimer (end_of service tei y.far).link) same (k.0.timed, k.1.timed)
+        subst (λ y. HasItsTimer (link_of service tei (line_of y.near)) × HasItsTimer (link_of service tei (line_of y.far))) same (k.0.timed, k.1.timed)
 
     pub call-settles : Settles service tei x w
     call-settles =
         subst (Settles service tei x) (sym on.is)
         (settles-so service tei c d 0 0 s.face s.back s.near s.far x on.v on.earlier on.given_up on.phase (subst Both on.is known)
-        (subst (λ y. StayPatient expires y → (u : ℕ) → HasItsTimer (end_of service tei (rounds (u + 3) (with_t200_expired service tei y)).near).link × HasItsTimer (end_of service tei (rounds (u + 3) (with_t200_expired service tei y)).far).link) on.is timed))
+        (subst (λ y. StayPatient expires y → (u : ℕ) → HasItsTimer (link_of service tei (line_of (rounds (u + 3) (with_t200_expired service tei y)).near)) × HasItsTimer (link_of service tei (line_of (rounds (u + 3) (with_t200_expired service tei y)).far))) on.is timed))
 
 pub lossy-calls-are-answered : LossyCallsAreAnswered
 lossy-calls-are-answered service c d line other tei ds can talk = λ patient.

@@ -1,5 +1,5 @@
 -- Two stations that are up, either of which may be busy, are so round after round, as the ends for which they stand.
-use Rattle.laws_wire.proofs.Vocabulary.{ℕ, zero, suc, List, Service, End, Ends, with_sent, Config, LineTold, Wire, gives, takes, acting, turned, doing_all, round, rounds}
+use Rattle.laws_wire.proofs.Vocabulary.{ℕ, zero, suc, List, Service, Ends, with_sent, Config, LineTold, Wire, gives, takes, acting, turned, doing_all, round, rounds}
 use Rattle.model_link.specs.TwoEnds as two_ends
 use Rattle.laws_link.specs.two.Rounds as two_links
 use Rattle.laws_wire.proofs.LooseUp.{LooseAt, at-turned, at-gives, at-takes}

@@ -1,9 +1,9 @@
 -- The premises of the law that a call with losses comes to rest are met by the worked calls.
-use Rattle.laws_wire.proofs.Vocabulary.{◌≡◌, ℕ, ◌≤◌, List, [], ◌∷◌, refl, sym, subst, arith, All, Call, reading, header_of, control_of, unnumbered_of, supervisory_of, distance_of, named, seq, Data, SetBusy, ClearBusy, Wire, requests, times_out, at_near, at_far, doing_all, IsStill, confirmed, heard_in, IsFullTalk, StayPatient, MayRepeat, BothMayRepeat, rounds, with_t200_expired, moves, begins, user, network}
+use Rattle.laws_wire.proofs.Vocabulary.{◌≡◌, ℕ, ◌≤◌, [], ◌∷◌, refl, sym, subst, arith, All, Call, reading, header_of, control_of, unnumbered_of, supervisory_of, distance_of, named, seq, Data, SetBusy, ClearBusy, requests, times_out, at_near, at_far, doing_all, IsStill, confirmed, heard_in, IsFullTalk, StayPatient, MayRepeat, BothMayRepeat, rounds, with_t200_expired, moves, begins, user, network}
 use Rattle.lapd_frame.specs.declared.timers.Timer.TheVariants.{T200}
 use Rattle.lapd_tei.specs.Events as teis
 use Rattle.model_line.specs.Machine as lines
-use Rattle.laws_wire.specs.Answering.{uncalled, error_f, seen}
+use Rattle.laws_wire.specs.Answering.{uncalled, seen}
 use Rattle.laws_wire.specs.Settling.{most_moves, near_expires, HasLeft, HasTold, IsAtRest}
 use Rattle.laws_wire.specs.WorkedAnswering.{loses_ua}
 use Rattle.laws_wire.specs.WorkedSettling.{is_ready, ready, ready_seen, ready_free, ready_still, ready_near, ready_left, ua_lost, lost_near, lost_still}

@@ -5,7 +5,7 @@ use Rattle.model_link.specs.Events as link
 use Rattle.laws_link.specs.two.CutOff as cut_off
 use Rattle.laws_link.specs.two.Rounds as two_links
 use Rattle.laws_wire.proofs.Awaited.{NoneOpen, closed, gives-none-of, may-there, open-here}
-use Rattle.laws_wire.proofs.Firm.{Firm, not-behind}
+use Rattle.laws_wire.proofs.Firm.{not-behind}
 use Rattle.laws_wire.proofs.Held.{Held}
 use Rattle.laws_wire.proofs.Loose.{Loose, as-loose}
 use Rattle.laws_wire.proofs.Standing.{Stands, gives-none}

@@ -1,5 +1,5 @@
 -- What is known of the links of a call in which UA may be lost: each runs the timer that it needs, and is busy only as it was asked.
-use Rattle.laws_wire.proofs.Vocabulary.{◌≡◌, ℕ, ◌*◌, ◌≤◌, Bool, true, false, cond, not, ◌&&◌, ◌||◌, IsTrue, List, [], ◌∷◌, ◌++◌, map, None, refl, sym, ap, subst, ◌∙◌, ◌⊎◌, inl, inr, true≢false, All, All-head, All-tail, Service, Timer, Parts, spelling, LinkTimer, Terms, Link, is_multiple_frame, after, IsInRange, End, with_link, Config, LineTold, expiry, request, terms, next, Line, place_in, Request, Data, SetBusy, ClearBusy, at_requested, aim_of_request, IsSound, sound-after, Station, Wire, happens, comes, with_first_of, with_first_lost, Act, requests, times_out, gives, takes, loses, acting, turned, Doing, at_near, at_far, doing, doing_all, link_of, is_granted, answered, IsAsked, IsFullTalkOf, IsFullTalk, StayPatient}
+use Rattle.laws_wire.proofs.Vocabulary.{◌≡◌, ℕ, ◌*◌, ◌≤◌, Bool, true, false, cond, not, ◌&&◌, ◌||◌, IsTrue, List, [], ◌∷◌, ◌++◌, map, refl, sym, ap, subst, ◌∙◌, ◌⊎◌, inl, inr, true≢false, All, All-head, All-tail, Service, Timer, Parts, spelling, LinkTimer, Terms, Link, is_multiple_frame, after, IsInRange, End, with_link, Config, expiry, request, terms, next, Line, place_in, Request, Data, SetBusy, ClearBusy, at_requested, aim_of_request, sound-after, Station, Wire, happens, comes, with_first_of, Act, requests, times_out, gives, takes, loses, acting, turned, Doing, at_near, at_far, doing, doing_all, link_of, is_granted, answered, IsAsked, IsFullTalkOf, IsFullTalk, StayPatient}
 use Rattle.model_link.specs.Events as link
 use Rattle.laws_link.specs.Flags.{busy_asked}
 use Rattle.laws_link.specs.States.{as_heard, state_after, is_anew}
@@ -7,7 +7,7 @@ use Rattle.laws_link.specs.two.Needed.{HasItsTimer}
 use Rattle.laws_link.proofs.EachRow.{each-row}
 use Rattle.laws_link.proofs.OfTwo.Needing.{timely-after}
 use Rattle.laws_wire.specs.Facing.{line_of}
-use Rattle.laws_wire.specs.Answering.{IsPatient, Called, seeing}
+use Rattle.laws_wire.specs.Answering.{Called, seeing}
 use Rattle.laws_wire.specs.Settling.{Busy, busy_by, busy_behind, busy}
 use Rattle.laws_wire.proofs.Awaited.{link-is}
 use Rattle.laws_wire.proofs.LooseUp.{for-asked}
@@ -16,7 +16,7 @@ use Rattle.laws_wire.proofs.Standing.{IsCarried, Stands, link-sound, link-ranges
 use Rattle.laws_wire.proofs.Talking.{Face, unheard, Took, takes as takes_frame}
 use Rattle.laws_wire.proofs.UaBefore.{regranted}
 use Rattle.laws_wire.proofs.UaLostRun.{Goes, step}
-use Rattle.laws_wire.proofs.UaWeighs.{Seen, IsUpOrFree, seen-in}
+use Rattle.laws_wire.proofs.UaWeighs.{seen-in}
 
 -- ---- own busy of a link
 

@@ -1,18 +1,17 @@
 -- A whole call in which UA may be lost and an end may be busy: its moves are bounded, and rounds lead to where no turn is left.
-use Rattle.laws_wire.proofs.Vocabulary.{◌≡◌, ℕ, zero, suc, ◌+◌, ◌*◌, ◌<◌, ◌≤◌, List, [], ◌∷◌, ◌++◌, length, refl, sym, ap, subst, ◌∙◌, arith, length-append, All, All-nil, All-cons, All-append, All-head, All-tail, Service, fresh, IsInRange, Config, terms, cond, Wire, Act, requests, times_out, gives, takes, loses, Doing, at_near, at_far, turned, doing, doing_all, IsStill, calling, CanCall, granted_of, IsFullTalk, StayPatient, rounds, is_move_of, moves, expiries_of, expiries, most_frames}
+use Rattle.laws_wire.proofs.Vocabulary.{◌≡◌, ℕ, zero, suc, ◌+◌, ◌*◌, ◌≤◌, List, [], ◌∷◌, ◌++◌, length, refl, sym, ap, subst, ◌∙◌, arith, length-append, All, All-nil, All-cons, All-append, All-head, All-tail, Service, fresh, IsInRange, Config, terms, cond, Wire, Act, requests, times_out, gives, takes, loses, Doing, at_near, at_far, turned, doing, doing_all, IsStill, calling, CanCall, granted_of, IsFullTalk, StayPatient, rounds, is_move_of, moves, expiries_of, expiries, most_frames}
 use Rattle.laws_wire.specs.Answering.{IsPatient, Called, uncalled, seeing, seen}
 use Rattle.laws_wire.specs.Settling.{reports_of, reports, most_moves, LossyMovesComeToAnEnd, LossyRoundsComeToRest}
 use Rattle.laws_wire.proofs.Calling.{asked, end}
 use Rattle.laws_wire.proofs.Heft.{heft, heft-is, Pays}
-use Rattle.laws_wire.proofs.LossyRun.{Setting, setting}
-use Rattle.laws_wire.proofs.RestedRounds.{doing-append, moves-append, expiries-append, many, many-rounds, none-expires, none-more, finds}
+use Rattle.laws_wire.proofs.LossyRun.{setting}
+use Rattle.laws_wire.proofs.RestedRounds.{doing-append, moves-append, expiries-append, many, none-expires, none-more, finds}
 use Rattle.laws_wire.proofs.RestedRun.{times-sum, twice}
 use Rattle.laws_wire.proofs.Talking.{Face}
 use Rattle.laws_wire.proofs.UaBefore.{with_before, far-before, near-before, timely-with}
 use Rattle.laws_wire.proofs.UaLostRun.{Phase, Goes, step}
 use Rattle.laws_wire.proofs.UaTold.{patient-goes}
 use Rattle.laws_wire.proofs.UaWeighs.{Steps, near-pays, far-pays}
-use Rattle.laws_wire.proofs.Weighing.{weigh}
 
 module _ (service : Service) (tei v : ℕ) where
   abbrev P : ℕ → ℕ → ℕ → Wire → Wire → Type 0

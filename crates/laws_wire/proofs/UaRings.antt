@@ -1,9 +1,8 @@
 -- Where one end rings, no turn is left and its T200 expires, one round is enough for it to be told of the establishment.
-use Rattle.laws_wire.proofs.Vocabulary.{◌≡◌, ℕ, ◌+◌, ◌<◌, ◌≤◌, IsTrue, true, cond, List, [], ◌∷◌, ◌++◌, length, map, refl, sym, ap, subst, ◌∙◌, ◌⊎◌, inl, inr, nat_lt, lt-ltb, append_assoc, arith, All, All-head, Service, Timer, Parts, spelling, ControlFrame, Terms, Link, fresh, is_multiple_frame, frame_of, frames_of, has_room, after, course, given, given_of, begun, frame_given, IsInRange, End, with_link, with_sent, Config, LineTold, next, terms, nothing-given, Station, Wire, happens, comes, with_first_of, with_first_lost, times_out, gives, takes, acting, turned, doing_all, answered, IsStill, confirmed, heard_in, MayRepeat, rounds, round}
+use Rattle.laws_wire.proofs.Vocabulary.{◌≡◌, ℕ, ◌+◌, ◌<◌, ◌≤◌, IsTrue, true, cond, List, [], ◌∷◌, ◌++◌, length, map, refl, sym, ap, subst, ◌∙◌, nat_lt, lt-ltb, arith, All, All-head, Service, Timer, Parts, spelling, ControlFrame, Terms, Link, fresh, is_multiple_frame, frame_of, after, course, given, given_of, begun, frame_given, IsInRange, End, with_link, with_sent, Config, LineTold, next, terms, Station, Wire, happens, comes, with_first_of, with_first_lost, times_out, gives, takes, acting, turned, doing_all, confirmed, heard_in, MayRepeat, rounds}
 use Rattle.lapd_frame.specs.declared.timers.Timer.TheVariants as timers
 use Rattle.model_link.specs.Events as link
 use Rattle.model_link.specs.Offers
-use Rattle.model_link.specs.TwoEnds as two_ends
 use Rattle.laws_wire.proofs.Acting.{ranges}
 use Rattle.laws_wire.proofs.Answered.{takes-granted}
 use Rattle.laws_wire.proofs.Awaited.{may-there}
@@ -13,7 +12,6 @@ use Rattle.laws_wire.proofs.LossyPhases.{first-way}
 use Rattle.laws_wire.proofs.Ringing.{ringing, answered as answered_link, its_sabme}
 use Rattle.laws_wire.proofs.Standing.{IsCarried, Stands, gives-stands}
 use Rattle.laws_wire.proofs.Talking.{Face}
-use Rattle.laws_wire.proofs.TimelyUp.{IsHushed, hushed, none-waits}
 use Rattle.laws_wire.proofs.UaCalled.{renews}
 use Rattle.laws_wire.proofs.UaLost.{Rings, repeats-sabme}
 

@@ -1,10 +1,10 @@
 -- A call in which UA may be lost and an end may be busy comes to where no turn is left and T200 runs at neither end.
-use Rattle.laws_wire.proofs.Vocabulary.{◌≡◌, ◌≢◌, ℕ, ◌+◌, ◌≤◌, ◌*◌, Bool, false, List, [], ◌∷◌, ◌++◌, length, map, drop, refl, sym, ap, subst, ◌∙◌, ◌⊎◌, inl, inr, arith, All, All-cons, All-nil, All-append, Service, Parts, ControlFrame, fresh, IsInRange, End, Config, LineTold, T203, terms, Station, Wire, times_out, at_near, at_far, acting, turned, Doing, doing, doing_all, IsStill, link_of, calling, CanCall, confirmed, data_told, heard_in, IsFullTalk, StayPatient, MayRepeat, BothMayRepeat, both_expire, with_t200_expired, rounds, runs_t200}
+use Rattle.laws_wire.proofs.Vocabulary.{◌≡◌, ◌≢◌, ℕ, ◌+◌, ◌≤◌, ◌*◌, Bool, false, List, [], ◌∷◌, ◌++◌, length, map, refl, sym, ap, subst, ◌∙◌, inl, inr, arith, All, All-cons, All-nil, All-append, Service, Parts, ControlFrame, fresh, IsInRange, End, Config, LineTold, terms, Station, Wire, times_out, at_near, at_far, acting, Doing, doing, doing_all, IsStill, link_of, calling, CanCall, confirmed, data_told, heard_in, IsFullTalk, StayPatient, MayRepeat, BothMayRepeat, both_expire, with_t200_expired, rounds}
 use Rattle.lapd_frame.specs.declared.timers.Timer.TheVariants as timers
 use Rattle.laws_link.specs.two.Needed.{HasItsTimer}
 use Rattle.laws_link.proofs.OfTwo.Needing.{timely-fresh}
 use Rattle.laws_wire.specs.Facing.{line_of}
-use Rattle.laws_wire.specs.Answering.{Called, uncalled, seen, all_kept, all_of_calls}
+use Rattle.laws_wire.specs.Answering.{Called, uncalled, seen, all_kept}
 use Rattle.laws_wire.specs.Settling.{none_busy, busy, HasLeft, HasTold, IsAtRest, Settles, near_expires, LossyCallsAreAnswered, LossyCallsSettle}
 use Rattle.laws_wire.proofs.Acting.{ranges}
 use Rattle.laws_wire.proofs.Awaited.{open-here, link-is}
@@ -18,11 +18,11 @@ use Rattle.laws_wire.proofs.Talking.{Face}
 use Rattle.laws_wire.proofs.TimelyUp.{IsHushed, hushed, none-waits, none-open}
 use Rattle.laws_wire.proofs.UaBefore.{before, with_before, near-before, far-before, timely-with}
 use Rattle.laws_wire.proofs.UaKnown.{Known, BothKnown, runs-known}
-use Rattle.laws_wire.proofs.UaLost.{Rings, behind, not-told}
+use Rattle.laws_wire.proofs.UaLost.{Rings, not-told}
 use Rattle.laws_wire.proofs.UaLostRun.{Away, Rs, Down, Up, IsCalled, Phase, Goes}
 use Rattle.laws_wire.proofs.UaMoves.{both-patient, many-full, many-patient}
 use Rattle.laws_wire.proofs.UaRings.{answers-again, answers-first, rings-again}
-use Rattle.laws_wire.proofs.UaSettled.{loose-goes_on, Settled, loose-settles}
+use Rattle.laws_wire.proofs.UaSettled.{loose-goes_on, loose-settles}
 use Rattle.laws_wire.proofs.UaTold.{all-is, still-there, patient-goes}
 
 -- ---- what was granted before does not matter

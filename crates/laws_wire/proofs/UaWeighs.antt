@@ -1,9 +1,9 @@
 -- Each step of a call in which UA may be lost makes what is left to do less; so its moves are bounded.
-use Rattle.laws_wire.proofs.Vocabulary.{◌≡◌, ℕ, ◌+◌, ◌-◌, ◌*◌, ◌≤◌, ◌==◌, Bool, true, false, cond, not, IsTrue, List, [], ◌∷◌, ◌++◌, length, refl, sym, ap, subst, ◌∙◌, ◌⊎◌, inl, inr, true≢false, length-append, eqb-true, arith, All, All-head, All-tail, Service, Parts, spelling, ControlFrame, Terms, Link, fresh, has_outstanding, has_room, is_multiple_frame, frames_of, after, Means, IsInRange, End, with_link, Config, LineTold, terms, Rising, Station, Wire, comes, with_first_of, with_first_lost, Act, requests, times_out, gives, takes, loses, acting, turned, Doing, at_near, at_far, doing, doing_all, granted_of, IsFullTalkOf, IsFullTalk, IsTimelyOf, StayPatient, is_move, is_move_of, moves, expiries_in, expiries, is_any}
+use Rattle.laws_wire.proofs.Vocabulary.{◌≡◌, ℕ, ◌+◌, ◌-◌, ◌*◌, ◌≤◌, ◌==◌, Bool, true, false, cond, not, IsTrue, List, [], ◌∷◌, ◌++◌, length, refl, sym, ap, subst, ◌∙◌, ◌⊎◌, inl, inr, true≢false, eqb-true, arith, Service, Parts, spelling, ControlFrame, Terms, Link, fresh, has_outstanding, has_room, is_multiple_frame, frames_of, after, Means, IsInRange, End, with_link, Config, LineTold, terms, Rising, Station, Wire, comes, with_first_of, with_first_lost, Act, takes, acting, turned, Doing, at_near, at_far, doing, IsFullTalkOf, IsTimelyOf, is_move, is_move_of, expiries_in, is_any}
 use Rattle.model_link.specs.Events as link
 use Rattle.model_link.specs.TwoEnds as two_ends
-use Rattle.laws_wire.specs.Answering.{IsPatient, Called}
-use Rattle.laws_wire.specs.Settling.{reports_in, reports}
+use Rattle.laws_wire.specs.Answering.{Called}
+use Rattle.laws_wire.specs.Settling.{reports_in}
 use Rattle.laws_wire.proofs.Answered.{takes-granted}
 use Rattle.laws_wire.proofs.Calling.{end, its_ua, sabme, ua, takes-sabme}
 use Rattle.laws_wire.proofs.Heft.{heft, heft-is, Pays, pays-turned, from-then, acts-pays}
@@ -16,10 +16,9 @@ use Rattle.laws_wire.proofs.Rested.{TakesWell, takes-nothing, takes-well}
 use Rattle.laws_wire.proofs.Ringing.{ringing, its_sabme, ignores}
 use Rattle.laws_wire.proofs.Standing.{IsCarried, Stands}
 use Rattle.laws_wire.proofs.Talking.{Face}
-use Rattle.laws_wire.proofs.UaBefore.{with_before, far-before, near-before, timely-with}
 use Rattle.laws_wire.proofs.UaCalled.{again, renews}
 use Rattle.laws_wire.proofs.UaLost.{behind}
-use Rattle.laws_wire.proofs.UaLostRun.{Away, Waiting, Coming, R, Rs, Down, Up, IsCalled, Phase, Goes, step}
+use Rattle.laws_wire.proofs.UaLostRun.{Away, Waiting, Coming, Rs, Down, Up, IsCalled, Phase}
 use Rattle.laws_wire.proofs.Weighing.{undelivered, weigh_of}
 
 module _ (service : Service) (tei : ℕ) (c d : Config) (p q : ℕ) (face : Face c d) (back : Face d c) (rt : IsInRange (terms c service tei)) (ru : IsInRange (terms d service tei)) (v : ℕ)

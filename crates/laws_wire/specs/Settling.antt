@@ -53,7 +53,8 @@ LossyRoundsComeToRest =
     (terms c service tei).k ≤ k → (terms d service tei).k ≤ k → let begun = calling service tei c line d other in
     StayPatient ds begun → (n : ℕ) × (n ≤ most_moves k ds begun) × IsStill (rounds n (doing_all ds begun))
 
--- Whether layer 3 of either end was granted last to say that it is busy, or that it is ready again.
+-- Whether layer 3 of either end was granted last to say that it is busy, or that it is ready again. That SABME, too, ends own busy
+-- does not matter here.
 pub record Busy : Type 0 where
   pub near : Bool
   pub far : Bool

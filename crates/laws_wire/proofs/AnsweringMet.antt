@@ -7,6 +7,7 @@ use Rattle.laws_wire.specs.Answering.{IsFullTalk, StayPatient, uncalled, error_f
 use Rattle.laws_wire.specs.WorkedAnswering.{loses_ua, is_busy, repeated, repeated_seen, repeated_still, repeated_rests, asks_early, rings_again, kept, kept_seen, kept_still, kept_rests, grants_early, dropped, dropped_seen, dropped_still, dropped_rests}
 use Rattle.laws_wire.proofs.PremisesMet.{can, all-of}
 use Rattle.laws_wire.proofs.RecoveryMet.{none-told, still-open}
+use Rattle.laws_wire.proofs.UaMoves.{both-patient}
 use Rattle.laws_wire.proofs.UaTold.{lossy-calls-come-through}
 
 full : All (IsFullTalk Call 0) (loses_ua ++ is_busy)
@@ -32,7 +33,7 @@ without_timers (at_near (times_out timer) ∷ ds) = false
 without_timers (at_far (times_out timer) ∷ ds) = false
 without_timers (d ∷ ds) = without_timers ds
 
-only-turns : (ds : List Doing) → without_timers ds ≡ true → (w : Wire) → StayPatient ds w
+pub only-turns : (ds : List Doing) → without_timers ds ≡ true → (w : Wire) → StayPatient ds w
 unfolding StayPatient
 only-turns [] e w = tt
 only-turns (at_near (requests r) ∷ ds) e w = (tt, only-turns ds e (doing (at_near (requests r)) w))
@@ -46,11 +47,6 @@ only-turns (at_far loses ∷ ds) e w = (tt, only-turns ds e (doing (at_far loses
 only-turns (at_near (times_out timer) ∷ ds) e w = absurd (true≢false (sym e))
 only-turns (at_far (times_out timer) ∷ ds) e w = absurd (true≢false (sym e))
 
-both-patient : (ds es : List Doing) (w : Wire) → StayPatient ds w → StayPatient es (doing_all ds w) → StayPatient (ds ++ es) w
-unfolding StayPatient doing_all
-both-patient [] es w h g = g
-both-patient (d ∷ ds) es w h g = (h.0, both-patient ds es (doing d w) h.1 g)
-
 -- UA was lost
 abbrev ua_goes : List Doing
 ua_goes = at_near gives ∷ at_far takes ∷ at_far gives ∷ at_far loses ∷ []
@@ -62,7 +58,7 @@ lost-idle : IsStill ua-lost × MayRepeat Call 0 ua-lost.near
 unfolding lines.after lines.answer lines.takes_slot reading header_of control_of unnumbered_of supervisory_of teis.course teis.refusal seq distance_of named doing_all turns ua-lost
 lost-idle = (record { near = refl; far = refl; near_way = refl; far_way = refl }, none-told)
 
-patient-first : StayPatient loses_ua begins
+pub patient-first : StayPatient loses_ua begins
 unfolding doing_all StayPatient ua-lost
 patient-first =
     both-patient ua_goes (at_near (times_out (T200 Call 0)) ∷ round) begins (only-turns ua_goes refl begins)

@@ -246,6 +246,9 @@ module _ (service : Service) (tei : ℕ) (c : Config) (place : ℕ) (s : Station
   pub link-is : own_link service tei s ≡ n.link
   link-is = ap (λ o. option_map_or (link_in (line_of s) service) o fresh) h.speaks.placed ∙ h.speaks.link
 
+  pub way-is : flat_map (read_as s.card.config) s.way ≡ n.way
+  way-is = way-read service tei place s n own
+
   pub state-is : state_of service tei (line_of s) ≡ Some (state_number n.link.state)
   state-is = ap (option_map (state_in (line_of s) service)) h.speaks.placed ∙ ap (λ (l : Link). Some (state_number l.state)) h.speaks.link
 

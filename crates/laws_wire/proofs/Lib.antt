@@ -76,6 +76,15 @@ pub mod RestedRounds
 pub mod RestedTimely
 pub mod Turning
 pub mod LeftToDo
+pub mod Heft
+pub mod UaWeighs
+pub mod UaMoves
+pub mod UaKnown
+pub mod LooseRounds
+pub mod UaSettled
+pub mod UaRings
+pub mod UaSettles
+pub mod UaComes
 pub mod PremisesMet
 pub mod BothMet
 pub mod RecoveryMet
@@ -84,3 +93,4 @@ pub mod RestingMet
 pub mod ArrivingMet
 pub mod AnsweringMet
 pub mod EndingMet
+pub mod SettlingMet

@@ -1,6 +1,6 @@
 -- What a link has to send, in turns, where w turns go again at most: what waits, what is unsent, an acknowledgement that is owed,
 -- a REJ that may still be sent, and in state 8 what the answer may bring back.
-use Rattle.laws_wire.proofs.Vocabulary.{◌≡◌, ℕ, ◌+◌, ◌-◌, ◌*◌, ◌<◌, ◌≤◌, Bool, true, false, cond, not, ◌&&◌, List, [], ◌∷◌, ◌++◌, length, refl, ap, arith, nat_lt, and_parts, ltb-true, Control, Information, ReceiveReady, ReceiveNotReady, Reject, Parts, seq, State, TeiAssigned, TimerRecovery, ControlFrame, Terms, Link, unsent, offer, course, given_of, begun, frame_given, Course}
+use Rattle.laws_wire.proofs.Vocabulary.{◌≡◌, ℕ, ◌+◌, ◌-◌, ◌*◌, ◌<◌, ◌≤◌, Bool, true, false, cond, not, ◌&&◌, List, [], ◌∷◌, ◌++◌, length, refl, ap, arith, nat_lt, and_parts, ltb-true, Control, Information, ReceiveReady, ReceiveNotReady, Reject, Sabme, Parts, seq, State, TimerRecovery, ControlFrame, Terms, Link, unsent, offer, course, given_of, begun, frame_given, Course}
 use Rattle.model_link.specs.Offers
 use Rattle.model_link.specs.Words
 
@@ -13,6 +13,7 @@ brings w command (Information ns nr p) = answer_to p
 brings w command (ReceiveReady nr pf) = answer_to (command && pf)
 brings w command (ReceiveNotReady nr pf) = answer_to (command && pf)
 brings w command (Reject nr pf) = w + answer_to (command && pf)
+brings w command (Sabme p) = 2
 brings w command other = 0
 
 -- a frame that waits is still to be given and taken, one on its way to be taken
@@ -25,7 +26,6 @@ load_way w [] = 0
 load_way w (f ∷ fs) = 1 + brings w f.address.command f.control + load_way w fs
 
 abbrev pub back : ℕ → State → ℕ
-back w TeiAssigned = 2
 back w TimerRecovery = w
 back w other = 0
 

@@ -1,7 +1,8 @@
 -- A timer that expires lets a link send w turns more, and an enquiry and its answer; or an error is told.
-use Rattle.laws_wire.proofs.Vocabulary.{◌≡◌, ℕ, ◌+◌, ◌≤◌, Bool, true, false, cond, refl, ap, ◌⊎◌, inl, inr, arith, Sabme, Disc, State, AwaitingEstablishment, AwaitingRelease, Established, TimerRecovery, LinkTimer, Terms, Link, may_repeat, expired, course, begun, T200, Course}
+use Rattle.laws_wire.proofs.Vocabulary.{◌≡◌, ℕ, ◌+◌, ◌<◌, ◌≤◌, Bool, true, false, cond, refl, sym, ap, ◌∙◌, ◌⊎◌, inl, inr, true≢false, lt-ltb, arith, Sabme, Disc, State, AwaitingEstablishment, AwaitingRelease, Established, TimerRecovery, LinkTimer, Terms, Link, may_repeat, expired, course, begun, ◌then◌, awaits_answer, T200, Course}
 use Rattle.model_link.specs.Machine
 use Rattle.model_link.specs.Words
+use Rattle.model_link.specs.Established
 use Rattle.laws_wire.proofs.Fair.{HasError}
 use Rattle.laws_wire.proofs.Loads.{load, back, one-waits, ready-brings}
 
@@ -21,22 +22,60 @@ module _ (w : ℕ) (t : Terms) (l : Link) where
   idle : Expires (begun l)
   idle = record { contents = refl; received = refl; within = omega arith }
 
-  by-state : (here : State) → l.state ≡ here → (timer : LinkTimer) → Fair (Machine.expired_in here timer t (begun l))
-  by-state AwaitingEstablishment at T200 =
-      let one = one-waits w (Words.has_room t l) l.waiting (Words.command (Sabme true)) 0 refl in
-      either (may_repeat t l) _ _ (inr (record { contents = refl; received = refl; within = omega (arith, one) })) (inl refl)
-  by-state AwaitingRelease at T200 =
+  -- a command goes again
+  sabme-again : Expires ((Words.send t (Words.command (Sabme true)) then Words.repeated then Words.start T200) (begun l))
+  sabme-again =
+      let one = one-waits w (Words.has_room t l) l.waiting (Words.command (Sabme true)) 2 refl in
+      record { contents = refl; received = refl; within = omega (arith, one) }
+
+  disc-again : Expires ((Words.send t (Words.command (Disc true)) then Words.repeated then Words.start T200) (begun l))
+  disc-again =
       let one = one-waits w (Words.has_room t l) l.waiting (Words.command (Disc true)) 0 refl in
-      either (may_repeat t l) _ _ (inr (record { contents = refl; received = refl; within = omega (arith, one) })) (inl refl)
-  by-state Established at timer =
+      record { contents = refl; received = refl; within = omega (arith, one) }
+
+  asks-first : Expires (Established.timer_in_7 t (begun l))
+  asks-first =
       let l' = Words.with_repeats 0 l in
       let one = one-waits w (Words.has_room t l') l.waiting (Words.command (Words.ready_to_receive true l')) 2 (ready-brings w true l.own_busy l' refl) in
-      inr (record { contents = refl; received = refl; within = omega (arith, one) })
-  by-state TimerRecovery at T200 =
+      record { contents = refl; received = refl; within = omega (arith, one) }
+
+  asks-again : l.state ≡ TimerRecovery → Expires ((Words.enquire t then Words.repeated then Words.start T200) (begun l))
+  asks-again at =
       let one = one-waits w (Words.has_room t l) l.waiting (Words.command (Words.ready_to_receive true l)) 2 (ready-brings w true l.own_busy l refl) in
       let pays : back w l.state ≡ w = ap (back w) at in
-      either (may_repeat t l) _ _ (inr (record { contents = refl; received = refl; within = omega (arith, one, pays) })) (inl refl)
+      record { contents = refl; received = refl; within = omega (arith, one, pays) }
+
+  by-state : (here : State) → l.state ≡ here → (timer : LinkTimer) → Fair (Machine.expired_in here timer t (begun l))
+  by-state AwaitingEstablishment at T200 = either (may_repeat t l) _ _ (inr sabme-again) (inl refl)
+  by-state AwaitingRelease at T200 = either (may_repeat t l) _ _ (inr disc-again) (inl refl)
+  by-state Established at timer = inr asks-first
+  by-state TimerRecovery at T200 = either (may_repeat t l) _ _ (inr (asks-again at)) (inl refl)
   by-state other at any = inr idle
 
   pub timer-expires : (timer : LinkTimer) → Fair (course t (expired timer) l)
   timer-expires timer = either (Machine.is_running timer l) _ _ (by-state l.state refl timer) (inr idle)
+
+  -- no error is told where it may go again
+  abbrev pub May : LinkTimer → Type 0
+  May timer = timer ≡ T200 → awaits_answer l.state ≡ true → Machine.is_running T200 l ≡ true → l.repeats < t.n200
+
+  first : (b : Bool) (u v : Course) → b ≡ true → Expires u → Expires (cond b u v)
+  first true u v e x = x
+  first false u v e x = absurd (true≢false (sym e))
+
+  if-runs : (b : Bool) (u v : Course) → (b ≡ true → Expires u) → Expires v → Expires (cond b u v)
+  if-runs true u v x y = x refl
+  if-runs false u v x y = y
+
+  repeats : May T200 → (here : State) → l.state ≡ here → awaits_answer here ≡ true → Machine.is_running T200 l ≡ true → may_repeat t l ≡ true
+  repeats may here at awaits run = lt-ltb l.repeats t.n200 (may refl (ap awaits_answer at ∙ awaits) run)
+
+  fairly-by-state : (here : State) → l.state ≡ here → (timer : LinkTimer) → May timer → Machine.is_running timer l ≡ true → Expires (Machine.expired_in here timer t (begun l))
+  fairly-by-state AwaitingEstablishment at T200 may run = first (may_repeat t l) _ _ (repeats may AwaitingEstablishment at refl run) sabme-again
+  fairly-by-state AwaitingRelease at T200 may run = first (may_repeat t l) _ _ (repeats may AwaitingRelease at refl run) disc-again
+  fairly-by-state Established at timer may run = asks-first
+  fairly-by-state TimerRecovery at T200 may run = first (may_repeat t l) _ _ (repeats may TimerRecovery at refl run) (asks-again at)
+  fairly-by-state other at any may run = idle
+
+  pub timer-fairly : (timer : LinkTimer) → May timer → Expires (course t (expired timer) l)
+  timer-fairly timer may = if-runs (Machine.is_running timer l) _ _ (fairly-by-state l.state refl timer may) idle

@@ -64,6 +64,37 @@ module _ (service : Service) (tei : ℕ) where
     pub far : Held d service tei q other w.far m
     pub loose : Loose n m
 
+  -- and the ends are these
+  pub record LooseAt (c d : Config) (p q : ℕ) (past other : List LineTold) (w : Wire) (n m : End) : Type 0 where
+    pub near : Held c service tei p past w.near n
+    pub far : Held d service tei q other w.far m
+    pub loose : Loose n m
+
+  pub at-turned : (c d : Config) (p q : ℕ) (past other : List LineTold) (w : Wire) (n m : End) → LooseAt c d p q past other w n m → LooseAt d c q p other past (turned w) m n
+  at-turned c d p q past other w n m h = record { near = h.far; far = h.near; loose = loose-turned n m h.loose }
+
+  module _ (c d : Config) (p q : ℕ) (face : Face c d) (past other : List LineTold) (w : Wire) (n m : End) (h : LooseAt c d p q past other w n m) where
+    abbrev Then : Wire → End → End → Type 0
+    Then w' n' m' = LooseAt c d p q past other w' n' m'
+
+    pub at-gives : Then (acting gives w) (with_sent n) m
+    at-gives =
+        let kept = (offer-gave n.terms h.loose.joined.near_ranges n.link h.loose.joined.near_sound n.link.waiting refl).same in
+        record { near = held-given service tei p past c w.near n h.near kept; far = h.far; loose = loose-after n m h.loose two_ends.sends tt }
+
+    pub at-takes : Then (acting takes w) (two_ends.with_first_of m.way n) (two_ends.with_first_lost m)
+    at-takes = record {
+      near = took-held service tei c d p q face past other w.near w.far n m h.near h.far h.loose.joined h.loose.same h.loose.there h.loose.back;
+      far = held-lost service tei q other d w.far m h.far;
+      loose = loose-after n m h.loose two_ends.receives tt;
+    }
+
+    pub at-expires : (timer : Timer) (its : LinkTimer) → Aims service tei timer its → CanRepeat its n → two_links_timely.IsTimely its n m
+        → Then (acting (times_out timer) w) (with_link (link.expired its) n) m
+    at-expires timer its aims can timely =
+        let loose = loose-after n m h.loose (two_ends.expires its) (can, timely) in
+        record { near = timer-held service tei c p past w.near n h.near h.loose.joined.near_up timer its aims loose.joined.near_up; far = h.far; loose = loose }
+
   pub loose-turned-up : (c d : Config) (p q : ℕ) (past other : List LineTold) (w : Wire) → LooseUp c d p q past other w → LooseUp d c q p other past (turned w)
   loose-turned-up c d p q past other w h = record { n = h.m; m = h.n; near = h.far; far = h.near; loose = loose-turned h.n h.m h.loose }
 
@@ -110,10 +141,14 @@ module _ (service : Service) (tei : ℕ) where
     abbrev Now : Wire → Type 0
     Now w' = LooseUp c d p q past other w'
 
+    abbrev at : LooseAt c d p q past other w n m
+    at = record { near = h.near; far = h.far; loose = h.loose }
+
+    up : (w' : Wire) (n' m' : End) → LooseAt c d p q past other w' n' m' → Now w'
+    up w' n' m' x = record { n = n'; m = m'; near = x.near; far = x.far; loose = x.loose }
+
     loose-gives : Now (acting gives w)
-    loose-gives =
-        let kept = (offer-gave n.terms h.loose.joined.near_ranges n.link h.loose.joined.near_sound n.link.waiting refl).same in
-        record { n = with_sent n; m = m; near = held-given service tei p past c w.near n h.near kept; far = h.far; loose = loose-after n m h.loose two_ends.sends tt }
+    loose-gives = up (acting gives w) (with_sent n) m (at-gives c d p q face past other w n m at)
 
     loose-loses : Now (acting loses w)
     loose-loses = record {
@@ -125,13 +160,7 @@ module _ (service : Service) (tei : ℕ) where
     }
 
     loose-takes : Now (acting takes w)
-    loose-takes = record {
-      n = two_ends.with_first_of m.way n;
-      m = two_ends.with_first_lost m;
-      near = took-held service tei c d p q face past other w.near w.far n m h.near h.far h.loose.joined h.loose.same h.loose.there h.loose.back;
-      far = held-lost service tei q other d w.far m h.far;
-      loose = loose-after n m h.loose two_ends.receives tt;
-    }
+    loose-takes = up (acting takes w) (two_ends.with_first_of m.way n) (two_ends.with_first_lost m) (at-takes c d p q face past other w n m at)
 
     loose-asks : (octets : List ℕ) → Now (acting (requests (Data service tei octets)) w)
     loose-asks octets = go (held-asked service tei p past c w.near n h.near octets)
@@ -159,14 +188,7 @@ module _ (service : Service) (tei : ℕ) where
 
     loose-expires : (timer : Timer) (its : LinkTimer) → Aims service tei timer its → CanRepeat its n → two_links_timely.IsTimely its n m → Now (acting (times_out timer) w)
     loose-expires timer its aims can timely =
-        let loose = loose-after n m h.loose (two_ends.expires its) (can, timely) in
-        record {
-          n = with_link (link.expired its) n;
-          m = m;
-          near = timer-held service tei c p past w.near n h.near h.loose.joined.near_up timer its aims loose.joined.near_up;
-          far = h.far;
-          loose = loose;
-        }
+        up (acting (times_out timer) w) (with_link (link.expired its) n) m (at-expires c d p q face past other w n m at timer its aims can timely)
 
     loose-t200 : IsTimelyOf (times_out (timers.T200 service tei)) w → Now (acting (times_out (timers.T200 service tei)) w)
     loose-t200 (long, may) =

@@ -1,7 +1,8 @@
 -- What is done at one end of a call in which frames are lost and timers expire makes what is still to do less, or tells an error.
-use Rattle.laws_wire.proofs.Vocabulary.{◌≡◌, ℕ, ◌+◌, ◌-◌, ◌*◌, ◌≤◌, cond, List, [], ◌∷◌, ◌++◌, length, map, drop, refl, sym, ap, subst, ◌∙◌, ◌⊎◌, inl, inr, length-append, arith, Service, Timer, Parts, spelling, LinkTimer, Link, course, given, End, with_link, with_sent, frame_given, Config, LineTold, expiry, request, after, Course, Data, Station, Wire, happens, with_first_of, with_first_lost, Act, requests, times_out, gives, takes, loses, acting, is_any, comes, IsRoughTalkOf, is_move_of, expiries_of}
+use Rattle.laws_wire.proofs.Vocabulary.{◌≡◌, ℕ, ◌+◌, ◌-◌, ◌*◌, ◌≤◌, cond, List, [], ◌∷◌, ◌++◌, length, map, drop, refl, sym, ap, subst, ◌∙◌, ◌⊎◌, inl, inr, length-append, arith, Service, Timer, Parts, spelling, LinkTimer, Link, course, given, End, with_link, with_sent, frame_given, Config, LineTold, expiry, request, after, Course, Data, Station, Wire, happens, with_first_of, with_first_lost, Act, requests, times_out, gives, takes, loses, acting, is_any, comes, granted_of, next, IsRoughTalkOf, is_move_of, expiries_of}
 use Rattle.model_link.specs.Events as link
 use Rattle.model_link.specs.TwoEnds as two_ends
+use Rattle.laws_wire.proofs.Answered.{gives-granted, takes-granted, same-granted}
 use Rattle.laws_wire.proofs.Asking.{with_more}
 use Rattle.laws_wire.proofs.Fair.{HasError}
 use Rattle.laws_wire.proofs.Held.{Held, Erred, now-erred, held-given, held-lost, taken-told, taken-stands, expired-told, Grants, held-asked}
@@ -33,7 +34,16 @@ module _ (service : Service) (tei : ℕ) (c d : Config) (p q : ℕ) (past_n past
     pub m' : End
     pub near' : Stands c service tei p w'.near n'
     pub far' : Stands d service tei q w'.far m'
-    pub fell : Fell v moved expired n m n' m'
+    pub more : ℕ
+    pub fell : Fell v moved expired more n m n' m'
+    pub granted : granted_of w' ≡ granted_of w + more
+
+  -- nothing more is granted
+  none-more : (a b x y : ℕ) → a ≡ x → b ≡ y → a + b ≡ x + y + 0
+  none-more a b x y e f = omega (arith, e, f)
+
+  near-same : (s : Station) → s.granted ≡ w.near.granted → granted_of (record w { near = s }) ≡ granted_of w + 0
+  near-same s e = none-more (length s.granted) (length w.far.granted) (length w.near.granted) (length w.far.granted) (ap length e) refl
 
   abbrev moved_by : Act → ℕ
   moved_by act = cond {A = ℕ} (is_move_of act w) 1 0
@@ -46,16 +56,18 @@ module _ (service : Service) (tei : ℕ) (c d : Config) (p q : ℕ) (past_n past
 
   -- ---- it gives
 
-  then-gives : Leads gives
-  then-gives = inl (record {
+  pub then-gives : Then (acting gives w) (moved_by gives) 0
+  then-gives = record {
     n' = with_sent n;
     m' = m;
     near' = (held-given service tei p past_n c w.near n near x.contents).stands;
     far' = far.stands;
+    more = 0;
     fell = goes_on v n m (with_sent n) m x.contents refl (moved_by gives) 0 x.received
         (total (moved_by gives) (load v (with_sent n).link) (load_way v n.way) (load_way v news) (load_way v (n.way ++ news)) (load v m.link + load_way v m.way) (load v n.link) (length news) ((v + 4) * 0)
         (way-append v n.way news) (subst (λ xs. cond {A = ℕ} (is_any xs) 1 0 ≤ length news) (sym (gives-frames service tei p w.near n own)) (any-mapped (spelling w.near.card.config.side) news)) x.falls);
-  })
+    granted = near-same (happens next w.near) (gives-granted w.near);
+  }
     where
       news : List Parts
       news = frame_given n.terms (given n.terms n.link)
@@ -68,54 +80,61 @@ module _ (service : Service) (tei : ℕ) (c d : Config) (p q : ℕ) (past_n past
 
   -- ---- the first on its way is lost
 
-  then-loses : Leads loses
-  then-loses = inl (record {
+  pub then-loses : Then (acting loses w) (moved_by loses) 0
+  then-loses = record {
     n' = two_ends.with_first_lost n;
     m' = m;
     near' = (held-lost service tei p past_n c w.near n near).stands;
     far' = far.stands;
+    more = 0;
     fell = goes_on v n m (two_ends.with_first_lost n) m refl refl (moved_by loses) 0 refl
         (total (moved_by loses) (load v n.link) (load_way v (drop 1 n.way)) (load_way v n.way) (load v m.link + load_way v m.way) ((v + 4) * 0)
         (subst (λ way. cond {A = ℕ} (is_any way) 1 0 + load_way v (drop 1 n.way) ≤ load_way v n.way) (sym near.stands.way) (any-lost v (spelling c.side) n.way)));
-  })
+    granted = near-same (with_first_lost w.near) refl;
+  }
     where
       total : (moved l way way' other z : ℕ) → moved + way ≤ way' → moved + (l + way) + other ≤ l + way' + other + z
       total moved l way way' other z less = omega (arith, less)
 
   -- ---- a timer expires
 
-  then-expires : (timer : Timer) (its : LinkTimer) → Aims service tei timer its → Leads (times_out timer)
-  then-expires timer its aims = go (timer-expires v n.terms n.link its)
-    where
-      s' : Station
-      s' = happens (expiry timer) w.near
+  module _ (timer : Timer) (its : LinkTimer) (aims : Aims service tei timer its) where
+    abbrev left : Station
+    left = happens (expiry timer) w.near
 
-      x : Course
-      x = course n.terms (link.expired its) n.link
+    abbrev went : Course
+    went = course n.terms (link.expired its) n.link
 
-      n1 : End
-      n1 = with_link (link.expired its) n
+    abbrev n2 : End
+    n2 = with_link (link.expired its) n
 
-      total : (l' l way other : ℕ) → l' ≤ l + (v + 4) → 0 + (l' + way) + other ≤ l + way + other + (v + 4) * 1
-      total l' l way other less = omega (arith, less)
+    total : (l' l way other : ℕ) → l' ≤ l + (v + 4) → 0 + (l' + way) + other ≤ l + way + other + (v + 4) * 1
+    total l' l way other less = omega (arith, less)
 
-      go : HasError x.notes ⊎ Expires v n.terms n.link x → Leads (times_out timer)
-      go (inl error) = inr (now-erred w.near s' x (expired-told service tei p past_n c w.near n near timer its aims) error)
-      go (inr y) = inl (record {
-        n' = n1;
-        m' = m;
-        near' = subst (λ k. Stands k service tei p s' n1) near.stands.config (expires-stands service tei p w.near n own timer its aims);
-        far' = far.stands;
-        fell = goes_on v n m n1 m y.contents refl 0 1 y.received (total (load v x.link) (load v n.link) (load_way v n.way) (load v m.link + load_way v m.way) y.within);
-      })
+    pub fairly-expires : Expires v n.terms n.link went → Then (acting (times_out timer) w) 0 1
+    fairly-expires y = record {
+      n' = n2;
+      m' = m;
+      near' = subst (λ k. Stands k service tei p left n2) near.stands.config (expires-stands service tei p w.near n own timer its aims);
+      far' = far.stands;
+      more = 0;
+      fell = goes_on v n m n2 m y.contents refl 0 1 y.received (total (load v went.link) (load v n.link) (load_way v n.way) (load v m.link + load_way v m.way) y.within);
+      granted = near-same left (same-granted (expiry timer) w.near refl);
+    }
+
+    then-expires : Leads (times_out timer)
+    then-expires = go (timer-expires v n.terms n.link its)
+      where
+        go : HasError went.notes ⊎ Expires v n.terms n.link went → Leads (times_out timer)
+        go (inl error) = inr (now-erred w.near left went (expired-told service tei p past_n c w.near n near timer its aims) error)
+        go (inr y) = inl (fairly-expires y)
 
   -- ---- its layer 3 asks for more
 
-  more-accepted : (octets : List ℕ) → Fell v 0 0 n m (with_more octets n) m
+  more-accepted : (octets : List ℕ) → Fell v 0 0 1 n m (with_more octets n) m
   more-accepted octets =
       let long : length (n.link.contents ++ octets ∷ []) ≡ length n.link.contents + 1 = length-append n.link.contents (octets ∷ []) in
       record {
-        more = 1;
         grown = sum (length (n.link.contents ++ octets ∷ [])) (length n.link.contents) (length m.link.contents) long;
         falls =
             total (load v (with_more octets n).link) (load v n.link) (load_way v n.way) (load v m.link + load_way v m.way) ((v + 4) * undelivered (with_more octets n).link m.link)
@@ -135,23 +154,117 @@ module _ (service : Service) (tei : ℕ) (c d : Config) (p q : ℕ) (past_n past
       total : (l' l way other u' u z y : ℕ) → l' ≤ l + 2 → u' ≡ u + (v + 4) → 0 + ((l' + way) + other + (u' + z)) ≤ (l + way) + other + (u + z) + y + (v + 6) * 1
       total l' l way other u' u z y less e = omega (arith, less, e)
 
-  then-asks : (octets : List ℕ) → Leads (requests (Data service tei octets))
+  pub then-asks : (octets : List ℕ) → Then (acting (requests (Data service tei octets)) w) 0 0
   then-asks octets = go (held-asked service tei p past_n c w.near n near octets)
     where
       s' : Station
       s' = happens (request (Data service tei octets)) w.near
 
-      go : (s' ≡ w.near) ⊎ Grants service tei p past_n c w.near n near octets s' → Leads (requests (Data service tei octets))
-      go (inl same) = inl (record {
+      one-more : (a b x y : ℕ) → a ≡ x + 1 → x ≡ y → a + b ≡ y + b + 1
+      one-more a b x y e f = omega (arith, e, f)
+
+      go : (s' ≡ w.near) ⊎ Grants service tei p past_n c w.near n near octets s' → Then (acting (requests (Data service tei octets)) w) 0 0
+      go (inl same) = record {
         n' = n;
         m' = m;
         near' = subst (λ s. Stands c service tei p s n) (sym same) near.stands;
         far' = far.stands;
+        more = 0;
         fell = goes_on v n m n m refl refl 0 0 refl (omega arith);
-      })
-      go (inr x) = inl (record { n' = with_more octets n; m' = m; near' = x.held.stands; far' = far.stands; fell = more-accepted octets })
+        granted = near-same s' (ap (λ (s : Station). s.granted) same);
+      }
+      go (inr x) = record {
+        n' = with_more octets n;
+        m' = m;
+        near' = x.held.stands;
+        far' = far.stands;
+        more = 1;
+        fell = more-accepted octets;
+        granted =
+            one-more (length s'.granted) (length w.far.granted) (length n.link.contents) (length w.near.granted)
+            (ap length x.held.granted ∙ length-append n.link.contents (octets ∷ [])) (sym (ap length near.granted));
+      }
 
   -- ---- it takes
+
+  taken-grants : granted_of (acting takes w) ≡ granted_of w + 0
+  taken-grants = none-more (length (with_first_of w.far.way w.near).granted) (length w.far.granted) (length w.near.granted) (length w.far.granted) (ap length (grants w.far.way)) refl
+    where
+      grants : (ways : List (List ℕ)) → (with_first_of ways w.near).granted ≡ w.near.granted
+      grants [] = refl
+      grants (octets ∷ more) = takes-granted octets w.near
+
+  abbrev m1 : End
+  m1 = two_ends.with_first_lost m
+
+  lost : Stands d service tei q (with_first_lost w.far) m1
+  lost = (held-lost service tei q past_m d w.far m far).stands
+
+  pub takes-nothing : m.way ≡ [] → Then (acting takes w) (moved_by takes) 0
+  takes-nothing e' = record {
+    n' = n;
+    m' = m1;
+    near' = subst (λ ways. Stands c service tei p (with_first_of ways w.near) n) (sym e) near.stands;
+    far' = lost;
+    more = 0;
+    fell = subst (λ ways. Fell v (cond {A = ℕ} (is_any ways) 1 0) 0 0 n m n m1) (sym e) (goes_on v n m n m1 refl refl 0 0 refl (same (load_way v (drop 1 m.way)) (load_way v m.way) ((v + 4) * 0) (ap (λ way. load_way v (drop 1 way)) e' ∙ sym (ap (load_way v) e'))));
+    granted = taken-grants;
+  }
+    where
+      e : w.far.way ≡ []
+      e = far.stands.way ∙ ap (map (spelling d.side)) e'
+
+      same : (x y z : ℕ) → x ≡ y → 0 + (load v n.link + load_way v n.way) + (load v m.link + x) ≤ load v n.link + load_way v n.way + (load v m.link + y) + z
+      same x y z e = omega (arith, e)
+
+  module _ (f : Parts) (fs : List Parts) (e : m.way ≡ f ∷ fs) where
+    way-there : (w.far.way ≡ spelling d.side f ∷ map (spelling d.side) fs) × IsCarried d service tei f
+    way-there = first-way service tei d q past_m w.far m f fs e far
+
+    abbrev s' : Station
+    s' = comes (spelling d.side f) w.near
+
+    abbrev x : Course
+    x = course n.terms (link.received (link.frame f)) n.link
+
+    abbrev n1 : End
+    n1 = with_link (link.received (link.frame f)) n
+
+    behind : load_way v m.way ≡ 1 + brings v f.address.command f.control + load_way v (drop 1 m.way)
+    behind = ap (load_way v) e ∙ sym (ap (λ way. 1 + brings v f.address.command f.control + load_way v (drop 1 way)) e)
+
+    stays : (l' l way m' back rest b z : ℕ) → back ≡ 1 + b + rest → l' ≤ l + b → 1 + (l' + way) + (m' + rest) ≤ l + way + (m' + back) + z
+    stays l' l way m' back rest b z e less = omega (arith, e, less)
+
+    counts : (l' l way m' back rest b : ℕ) → back ≡ 1 + b + rest → l' ≤ l + b + (v + 4) → 1 + (l' + way) + (m' + rest) ≤ l + way + (m' + back) + (v + 4)
+    counts l' l way m' back rest b e less = omega (arith, e, less)
+
+    fell : TakesWell v n.link x.link f → x.link.r ≤ length m.link.contents → Fell v 1 0 0 n m n1 m1
+    fell y few = which y.falls
+      where
+        which : ((x.link.r ≡ n.link.r) × (load v x.link ≤ load v n.link + brings v f.address.command f.control))
+            ⊎ ((x.link.r ≡ n.link.r + 1) × (load v x.link ≤ load v n.link + brings v f.address.command f.control + (v + 4))) → Fell v 1 0 0 n m n1 m1
+        which (inl (r, less)) =
+            goes_on v n m n1 m1 y.contents refl 1 0 r
+            (stays (load v x.link) (load v n.link) (load_way v n.way) (load v m.link) (load_way v m.way) (load_way v (drop 1 m.way)) (brings v f.address.command f.control) ((v + 4) * 0) behind less)
+        which (inr (r, less)) =
+            delivers v n m n1 m1 y.contents refl r few
+            (counts (load v x.link) (load v n.link) (load_way v n.way) (load v m.link) (load_way v m.way) (load_way v (drop 1 m.way)) (brings v f.address.command f.control) behind less)
+
+    pub takes-well : TakesWell v n.link x.link f → x.link.r ≤ length m.link.contents → Then (acting takes w) (moved_by takes) 0
+    takes-well y few = record {
+      n' = n1;
+      m' = m1;
+      near' = subst (λ ways. Stands c service tei p (with_first_of ways w.near) n1) (sym way-there.0) (taken-stands service tei p past_n c w.near n near d face f way-there.1);
+      far' = lost;
+      more = 0;
+      fell = subst (λ ways. Fell v (cond {A = ℕ} (is_any ways) 1 0) 0 0 n m n1 m1) (sym way-there.0) (fell y few);
+      granted = taken-grants;
+    }
+
+    takes-error : HasError x.notes → Erred (acting takes w).near
+    takes-error error =
+        subst (λ ways. Erred (with_first_of ways w.near)) (sym way-there.0) (now-erred w.near s' x (taken-told service tei p past_n c w.near n near d face f way-there.1) error)
 
   then-takes : ((f : Parts) (fs : List Parts) → m.way ≡ f ∷ fs
       → HasError (course n.terms (link.received (link.frame f)) n.link).notes
@@ -159,79 +272,24 @@ module _ (service : Service) (tei : ℕ) (c d : Config) (p q : ℕ) (past_n past
       → Leads takes
   then-takes well = go m.way refl
     where
-      m1 : End
-      m1 = two_ends.with_first_lost m
-
-      lost : Stands d service tei q (with_first_lost w.far) m1
-      lost = (held-lost service tei q past_m d w.far m far).stands
-
-      none : w.far.way ≡ [] → (m.way ≡ []) → Leads takes
-      none e e' = inl (record {
-        n' = n;
-        m' = m1;
-        near' = subst (λ ways. Stands c service tei p (with_first_of ways w.near) n) (sym e) near.stands;
-        far' = lost;
-        fell = subst (λ ways. Fell v (cond {A = ℕ} (is_any ways) 1 0) 0 n m n m1) (sym e) (goes_on v n m n m1 refl refl 0 0 refl (same (load_way v (drop 1 m.way)) (load_way v m.way) ((v + 4) * 0) (ap (λ way. load_way v (drop 1 way)) e' ∙ sym (ap (load_way v) e'))));
-      })
-        where
-          same : (x y z : ℕ) → x ≡ y → 0 + (load v n.link + load_way v n.way) + (load v m.link + x) ≤ load v n.link + load_way v n.way + (load v m.link + y) + z
-          same x y z e = omega (arith, e)
-
-      hears : (f : Parts) (fs : List Parts) → m.way ≡ f ∷ fs → w.far.way ≡ spelling d.side f ∷ map (spelling d.side) fs → IsCarried d service tei f → Leads takes
-      hears f fs e way from = by (well f fs e)
-        where
-          s' : Station
-          s' = comes (spelling d.side f) w.near
-
-          x : Course
-          x = course n.terms (link.received (link.frame f)) n.link
-
-          n1 : End
-          n1 = with_link (link.received (link.frame f)) n
-
-          behind : load_way v m.way ≡ 1 + brings v f.address.command f.control + load_way v (drop 1 m.way)
-          behind = ap (load_way v) e ∙ sym (ap (λ way. 1 + brings v f.address.command f.control + load_way v (drop 1 way)) e)
-
-          stays : (l' l way m' back rest b z : ℕ) → back ≡ 1 + b + rest → l' ≤ l + b → 1 + (l' + way) + (m' + rest) ≤ l + way + (m' + back) + z
-          stays l' l way m' back rest b z e less = omega (arith, e, less)
-
-          counts : (l' l way m' back rest b : ℕ) → back ≡ 1 + b + rest → l' ≤ l + b + (v + 4) → 1 + (l' + way) + (m' + rest) ≤ l + way + (m' + back) + (v + 4)
-          counts l' l way m' back rest b e less = omega (arith, e, less)
-
-          fell : TakesWell v n.link x.link f → x.link.r ≤ length m.link.contents → Fell v 1 0 n m n1 m1
-          fell y few = which y.falls
-            where
-              which : ((x.link.r ≡ n.link.r) × (load v x.link ≤ load v n.link + brings v f.address.command f.control))
-                  ⊎ ((x.link.r ≡ n.link.r + 1) × (load v x.link ≤ load v n.link + brings v f.address.command f.control + (v + 4))) → Fell v 1 0 n m n1 m1
-              which (inl (r, less)) =
-                  goes_on v n m n1 m1 y.contents refl 1 0 r
-                  (stays (load v x.link) (load v n.link) (load_way v n.way) (load v m.link) (load_way v m.way) (load_way v (drop 1 m.way)) (brings v f.address.command f.control) ((v + 4) * 0) behind less)
-              which (inr (r, less)) =
-                  delivers v n m n1 m1 y.contents refl r few
-                  (counts (load v x.link) (load v n.link) (load_way v n.way) (load v m.link) (load_way v m.way) (load_way v (drop 1 m.way)) (brings v f.address.command f.control) behind less)
-
-          by : HasError x.notes ⊎ (TakesWell v n.link x.link f × x.link.r ≤ length m.link.contents) → Leads takes
-          by (inl error) =
-              inr (subst (λ ways. Erred (with_first_of ways w.near)) (sym way) (now-erred w.near s' x (taken-told service tei p past_n c w.near n near d face f from) error))
-          by (inr y) = inl (record {
-            n' = n1;
-            m' = m1;
-            near' = subst (λ ways. Stands c service tei p (with_first_of ways w.near) n1) (sym way) (taken-stands service tei p past_n c w.near n near d face f from);
-            far' = lost;
-            fell = subst (λ ways. Fell v (cond {A = ℕ} (is_any ways) 1 0) 0 n m n1 m1) (sym way) (fell y.0 y.1);
-          })
+      by : (f : Parts) (fs : List Parts) → m.way ≡ f ∷ fs
+          → HasError (course n.terms (link.received (link.frame f)) n.link).notes
+          ⊎ (TakesWell v n.link (after n.terms (link.received (link.frame f)) n.link) f × (after n.terms (link.received (link.frame f)) n.link).r ≤ length m.link.contents)
+          → Leads takes
+      by f fs e (inl error) = inr (takes-error f fs e error)
+      by f fs e (inr y) = inl (takes-well f fs e y.0 y.1)
 
       go : (way : List Parts) → m.way ≡ way → Leads takes
-      go [] e = none (far.stands.way ∙ ap (map (spelling d.side)) e) e
-      go (f ∷ fs) e = let y = first-way service tei d q past_m w.far m f fs e far in hears f fs e y.0 y.1
+      go [] e = inl (takes-nothing e)
+      go (f ∷ fs) e = by f fs e (well f fs e)
 
   pub then-acts : (act : Act) → IsRoughTalkOf service tei act
       → ((f : Parts) (fs : List Parts) → m.way ≡ f ∷ fs
       → HasError (course n.terms (link.received (link.frame f)) n.link).notes
       ⊎ (TakesWell v n.link (after n.terms (link.received (link.frame f)) n.link) f × (after n.terms (link.received (link.frame f)) n.link).r ≤ length m.link.contents))
       → Leads act
-  then-acts (requests r) is well = for-data service tei (λ r. Leads (requests r)) then-asks r is
+  then-acts (requests r) is well = for-data service tei (λ r. Leads (requests r)) (λ octets. inl (then-asks octets)) r is
   then-acts (times_out timer) is well = for-timer service tei (λ timer. Leads (times_out timer)) then-expires timer is
-  then-acts gives is well = then-gives
+  then-acts gives is well = inl then-gives
   then-acts takes is well = then-takes well
-  then-acts loses is well = then-loses
+  then-acts loses is well = inl then-loses

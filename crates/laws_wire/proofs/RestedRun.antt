@@ -15,7 +15,7 @@ use Rattle.laws_wire.proofs.Standing.{Stands}
 use Rattle.laws_wire.proofs.Talking.{Face}
 use Rattle.laws_wire.proofs.Weighing.{same-link, same-way, weigh_of, weigh, Fell, fell-turned}
 
-times-sum : (d x y : ℕ) → d * (x + y) ≡ d * x + d * y
+pub times-sum : (d x y : ℕ) → d * (x + y) ≡ d * x + d * y
 times-sum d x y = omega arith
 
 module _ (service : Service) (tei v : ℕ) where
@@ -154,7 +154,8 @@ module _ (service : Service) (tei : ℕ) (c d : Config) (p q : ℕ) (face : Face
     m' : End
     near : Stands c service tei p w'.near n'
     far : Stands d service tei q w'.far m'
-    fell : Fell v moved expired n m n' m'
+    more : ℕ
+    fell : Fell v moved expired more n m n' m'
 
   abbrev Errs : Wire → Type 0
   Errs w = HasErred service tei c d p q w
@@ -164,7 +165,7 @@ module _ (service : Service) (tei : ℕ) (c d : Config) (p q : ℕ) (face : Face
   step (at_near act) is w h =
       let x : Seen w = seen w h in
       elim (then-acts service tei c d p q x.past_n x.past_m face v w x.n x.m x.near x.far x.there act is (near-well w h)) [
-        | inl y ↦ inl (record { n' = y.n'; m' = y.m'; near = y.near'; far = y.far'; fell = y.fell })
+        | inl y ↦ inl (record { n' = y.n'; m' = y.m'; near = y.near'; far = y.far'; more = y.more; fell = y.fell })
         | inr e ↦ inr (inl e)
       ]
   step (at_far act) is w h =
@@ -176,7 +177,8 @@ module _ (service : Service) (tei : ℕ) (c d : Config) (p q : ℕ) (face : Face
               m' = y.n';
               near = y.far';
               far = y.near';
-              fell = fell-turned v (cond {A = ℕ} (is_move (at_far act) w) 1 0) (expiries_in (at_far act)) x.m x.n y.n' y.m' y.fell;
+              more = y.more;
+              fell = fell-turned v (cond {A = ℕ} (is_move (at_far act) w) 1 0) (expiries_in (at_far act)) y.more x.m x.n y.n' y.m' y.fell;
             })
         | inr e ↦ inr (inr e)
       ]
@@ -212,15 +214,15 @@ module _ (service : Service) (tei : ℕ) (c d : Config) (p q : ℕ) (face : Face
   joins moved rest expired others w' last n m y x z =
       let same = weighs-same w' x y.n' y.m' y.near y.far in
       record {
-        more = y.fell.more + z.more;
+        more = y.more + z.more;
         granted =
-            more-granted (granted_of last) (length n.link.contents) (length m.link.contents) (length x.n.link.contents) (length x.m.link.contents) y.fell.more z.more
-            (subst (λ (l : Link). length l.contents + length x.m.link.contents ≡ length n.link.contents + length m.link.contents + y.fell.more) same.0
-            (subst (λ (l : Link). length y.n'.link.contents + length l.contents ≡ length n.link.contents + length m.link.contents + y.fell.more) same.1 y.fell.grown))
+            more-granted (granted_of last) (length n.link.contents) (length m.link.contents) (length x.n.link.contents) (length x.m.link.contents) y.more z.more
+            (subst (λ (l : Link). length l.contents + length x.m.link.contents ≡ length n.link.contents + length m.link.contents + y.more) same.0
+            (subst (λ (l : Link). length y.n'.link.contents + length l.contents ≡ length n.link.contents + length m.link.contents + y.more) same.1 y.fell.grown))
             z.granted;
         falls =
-            sum moved rest (weigh v n m) (weigh v y.n' y.m') (weigh v x.n x.m) ((v + 4) * expired) ((v + 6) * y.fell.more) ((v + 4) * others) ((v + 6) * z.more)
-            ((v + 4) * (expired + others)) ((v + 6) * (y.fell.more + z.more)) same.2 (times-sum (v + 4) expired others) (times-sum (v + 6) y.fell.more z.more) y.fell.falls z.falls;
+            sum moved rest (weigh v n m) (weigh v y.n' y.m') (weigh v x.n x.m) ((v + 4) * expired) ((v + 6) * y.more) ((v + 4) * others) ((v + 6) * z.more)
+            ((v + 4) * (expired + others)) ((v + 6) * (y.more + z.more)) same.2 (times-sum (v + 4) expired others) (times-sum (v + 6) y.more z.more) y.fell.falls z.falls;
       }
 
   runs : (ds : List Doing) → All (IsRoughTalk service tei) ds → (w : Wire) (h : Goes service tei c d p q w)

@@ -1,5 +1,5 @@
 -- A station at whose line one link alone speaks stands for an end of two links that face each other.
-use Rattle.laws_wire.proofs.Vocabulary.{◌≡◌, ℕ, ◌+◌, ◌<◌, ◌≤◌, Bool, true, false, cond, List, [], ◌++◌, length, map, set, Option, Some, None, IfSome, option_map, Ok, refl, sym, ap, subst, ◌∙◌, ◌⊎◌, inl, inr, append-nil, All, get_or-set_same, set-get_or, map-append, All-nil, All-cons, All-append, Refusal, PoolFull, Service, Timer, Parts, spelling, reading, sapi_of, Terms, LinkTimer, frame_of, Given, End, with_link, with_sent, frame_given, given_is_frame, Config, came, hears, expiry, request, next, Answer, refused, gave, at_timer, aim_of_expiry, Line, fresh_line, place_in, link_number, terms, unless_refused, unless_refused_told, of_request, heard_side, with_given_frame, next_of, Request, at_requested, aim_of_request, sound_in, given_short, terms_in_range, Card, line_at, wants_room, after_is_sound, has_lines, line_sound, Event, Station, answered, happens, comes, told_by, frames_by, contents_of}
+use Rattle.laws_wire.proofs.Vocabulary.{◌≡◌, true≢false, ℕ, ◌+◌, ◌<◌, ◌≤◌, Bool, true, false, cond, List, [], ◌++◌, length, map, set, Option, Some, None, IfSome, option_map, Ok, refl, sym, ap, subst, ◌∙◌, ◌⊎◌, inl, inr, append-nil, All, get_or-set_same, set-get_or, map-append, All-nil, All-cons, All-append, Refusal, PoolFull, Service, Timer, Parts, spelling, reading, sapi_of, Terms, LinkTimer, frame_of, Given, End, with_link, with_sent, frame_given, given_is_frame, Config, came, hears, expiry, request, next, Answer, refused, gave, at_timer, aim_of_expiry, Line, fresh_line, place_in, link_number, terms, unless_refused, unless_refused_told, of_request, heard_side, with_given_frame, next_of, Request, at_requested, aim_of_request, sound_in, given_short, terms_in_range, Card, line_at, wants_room, after_is_sound, has_lines, line_sound, Event, Station, answered, happens, comes, told_by, frames_by, contents_of}
 use Rattle.std.specs.Option.{unwrap_or}
 use Rattle.model_bits.specs.Stream.{frame}
 use Rattle.model_link.specs.Events as link
@@ -11,6 +11,7 @@ use Rattle.model_line.specs.Sound as line_sound
 use Rattle.model_card.specs.Event.{at as event_at}
 use Rattle.model_card.specs.Machine.{after}
 use Rattle.model_card.specs.Sound as card_sound
+use Rattle.laws_line.specs.Share.{is_granted}
 use Rattle.laws_wire.specs.Wire as wire
 use Rattle.laws_wire.proofs.Answered.{gives-taken, takes-way, expires-way, asks-way}
 use Rattle.laws_wire.proofs.LineSpeaks.{Speaks, at, takes-own, goes-on, comes-told, comes-on, asks-on, asks-told, expires-on, expires-told}
@@ -165,6 +166,7 @@ module _ (service : Service) (tei place : ℕ) (s : Station) (n : End) (h : Stan
     -- granted, or nothing comes of it
     pub record Granted (s' : Station) : Type 0 where
       pub none : refusal c false r l ≡ None
+      pub answer : is_granted (wire.answered asks s) ≡ true
       pub stands : Stands c service tei place s' (with_link e n)
       pub granted : s'.granted ≡ s.granted ++ contents_of r
       pub told : s'.told ≡ s.told ++ said_by (links.course n.terms e n.link)
@@ -191,13 +193,16 @@ module _ (service : Service) (tei place : ℕ) (s : Station) (n : End) (h : Stan
     unfolding own-answer own-card lines.after lines.answer
     found-room is = ap (λ b. made (record m { lines = cond b m.lines (set m.lines s.line (lines.after c asks l)) }) (cond b (refused PoolFull) (lines.answer c asks l))) is
 
-    granted-by : refusal c false r l ≡ None → happens asks s ≡ made (own-card (refusal c false r l)) (own-answer (refusal c false r l)) → Granted (happens asks s)
+    granted-by : wants_room (event_at s.line asks) m ≡ false → refusal c false r l ≡ None → happens asks s ≡ made (own-card (refusal c false r l)) (own-answer (refusal c false r l)) → Granted (happens asks s)
     unfolding own-answer own-card lines.after lines.answer
-    granted-by none is =
+    granted-by room none is =
         let its : line_at s.line (after (event_at s.line asks) m) ≡ lines.after c asks l =
         ap (λ k. line_at s.line k.card) is ∙ there (lines.after c asks l) (own-card (refusal c false r l)) refl in
         record {
           none = none;
+          answer =
+              ap (λ b. is_granted (cond b (refused PoolFull) (lines.answer c asks l))) room
+              ∙ ap (λ o. is_granted (unless_refused_told o (of_request c r l))) none;
           stands =
               stands-then asks (with_link e n) refl
               (subst (λ u. Speaks c service tei place (links.after u e n.link) (line_at s.line (after (event_at s.line asks) m))) (sym h.terms)
@@ -212,22 +217,39 @@ module _ (service : Service) (tei place : ℕ) (s : Station) (n : End) (h : Stan
 
     -- where there is room and the line does not refuse it
     pub asks-granted : wants_room (event_at s.line asks) m ≡ false → refusal c false r l ≡ None → Granted (happens asks s)
-    asks-granted room none = granted-by none (found-room room)
+    asks-granted room none = granted-by room none (found-room room)
 
     pub asks-stands : (happens asks s ≡ s) ⊎ Granted (happens asks s)
     unfolding own-answer own-card lines.after lines.answer
     asks-stands = by-room (wants_room (event_at s.line asks) m) refl
       where
-        by-line : (o : Option Refusal) → refusal c false r l ≡ o → happens asks s ≡ made (own-card (refusal c false r l)) (own-answer (refusal c false r l))
+        by-line : wants_room (event_at s.line asks) m ≡ false → (o : Option Refusal) → refusal c false r l ≡ o → happens asks s ≡ made (own-card (refusal c false r l)) (own-answer (refusal c false r l))
             → (happens asks s ≡ s) ⊎ Granted (happens asks s)
-        by-line (Some why) is e = inl (e ∙ ap (λ o. made (own-card o) (own-answer o)) is ∙ same-station (own-card (Some why)) why (ap (λ ls. record m { lines = ls }) (set-get_or m.lines s.line (fresh_line c))))
-        by-line None is e = inr (granted-by is e)
+        by-line room (Some why) is e = inl (e ∙ ap (λ o. made (own-card o) (own-answer o)) is ∙ same-station (own-card (Some why)) why (ap (λ ls. record m { lines = ls }) (set-get_or m.lines s.line (fresh_line c))))
+        by-line room None is e = inr (granted-by room is e)
 
         by-room : (b : Bool) → wants_room (event_at s.line asks) m ≡ b → (happens asks s ≡ s) ⊎ Granted (happens asks s)
         by-room true is =
             inl (ap (λ b. made (record m { lines = cond b m.lines (set m.lines s.line (lines.after c asks l)) }) (cond b (refused PoolFull) (lines.answer c asks l))) is
             ∙ same-station m PoolFull refl)
-        by-room false is = by-line (refusal c false r l) refl (found-room is)
+        by-room false is = by-line is (refusal c false r l) refl (found-room is)
+
+    -- as it is answered
+    pub asks-answered : is_granted (wire.answered asks s) ≡ true → Granted (happens asks s)
+    unfolding own-answer own-card lines.after lines.answer
+    asks-answered granted = by-room (wants_room (event_at s.line asks) m) refl
+      where
+        no : false ≡ true → Granted (happens asks s)
+        no wrong = absurd (true≢false (sym wrong))
+
+        by-line : wants_room (event_at s.line asks) m ≡ false → (o : Option Refusal) → refusal c false r l ≡ o → Granted (happens asks s)
+        by-line room (Some why) is =
+            no (sym (ap (λ b. is_granted (cond b (refused PoolFull) (lines.answer c asks l))) room ∙ ap (λ o. is_granted (unless_refused_told o (of_request c r l))) is) ∙ granted)
+        by-line room None is = granted-by room is (found-room room)
+
+        by-room : (b : Bool) → wants_room (event_at s.line asks) m ≡ b → Granted (happens asks s)
+        by-room true is = no (sym (ap (λ b. is_granted (cond b (refused PoolFull) (lines.answer c asks l))) is) ∙ granted)
+        by-room false is = by-line is (refusal c false r l) refl
 
   -- ---- a timer of it expires
 

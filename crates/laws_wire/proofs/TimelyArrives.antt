@@ -5,22 +5,23 @@ use Rattle.model_link.specs.Events as link
 use Rattle.laws_link.specs.two.CutOff as cut_off
 use Rattle.laws_link.specs.two.Rounds as two_links
 use Rattle.laws_wire.proofs.Awaited.{NoneOpen, closed, gives-none-of, may-there, open-here}
-use Rattle.laws_wire.proofs.Firm.{Firm, not-behind}
+use Rattle.laws_wire.proofs.Firm.{not-behind}
 use Rattle.laws_wire.proofs.Held.{Held}
+use Rattle.laws_wire.proofs.Loose.{Loose, as-loose}
 use Rattle.laws_wire.proofs.Standing.{Stands, gives-none}
 use Rattle.laws_wire.proofs.Talking.{Face}
 use Rattle.laws_wire.proofs.TimelyUp.{IsHushed, hushed, none-waits, none-of, none-open, BothUp, turned-up, up-expires, rounds-up, timed-8}
 
 -- all frames on the way were lost
-cut-off : (n m : End) → Firm n m → n.link.waiting ≡ [] → n.way ≡ [] → (n.link.state ≡ TimerRecovery → n.link.repeats < n.terms.n200) → IsCutOff n m
-cut-off n m h waiting way repeats = record {
+pub cut-off : (n m : End) → Loose n m → n.link.own_busy ≡ false → n.link.waiting ≡ [] → n.way ≡ [] → (n.link.state ≡ TimerRecovery → n.link.repeats < n.terms.n200) → IsCutOff n m
+cut-off n m h free waiting way repeats = record {
   ranges = h.joined.near_ranges;
   sound = h.joined.near_sound;
   timed = h.near_sane.timed;
   heeds = h.near_sane.heeds;
   up = h.joined.near_up;
   repeats = repeats;
-  own_busy = h.near_free;
+  own_busy = free;
   waiting = waiting;
   way = way;
   low = rising-low n.link.a m.link.r (line_of m) h.joined.there.rising;
@@ -33,7 +34,7 @@ abbrev IsNone : ControlFrame → Type 0
 IsNone f = is_final f.command f.control ≡ false
 
 -- once it expires nothing waits but an enquiry
-no-answer : (n m : End) → IsCutOff n m → HasNo is_final (with_link (link.expired T200) n)
+pub no-answer : (n m : End) → IsCutOff n m → HasNo is_final (with_link (link.expired T200) n)
 no-answer n m h = go (expires-one false n m h)
   where
     n' : End
@@ -107,12 +108,12 @@ module _ (service : Service) (tei : ℕ) where
 
       near-cut : IsCutOff n m
       near-cut =
-          cut-off n m h.firm (none-waits service tei n near-hushed) near-hushed.way
+          cut-off n m (as-loose n m h.firm) h.firm.near_free (none-waits service tei n near-hushed) near-hushed.way
           (λ state. may-there service tei c p w.near n h.near.stands may.0 (ap awaits_answer state) (ap (runs T200) (timed-8 service tei c p _ w.near n h.near h.firm.near_sane.timed state)))
 
       far-cut : IsCutOff m n
       far-cut =
-          cut-off m n other.firm (none-waits service tei m far-hushed) far-hushed.way
+          cut-off m n (as-loose m n other.firm) other.firm.near_free (none-waits service tei m far-hushed) far-hushed.way
           (λ state. may-there service tei d q w.far m h.far.stands may.1 (ap awaits_answer state) (ap (runs T200) (timed-8 service tei d q _ w.far m h.far h.firm.far_sane.timed state)))
 
       -- at the first end, and then at the other, which has no answer to come

@@ -1,8 +1,9 @@
 -- The station of the end that is called, whose link is up: what requests, timers and calls for the next frame do there.
-use Rattle.laws_wire.proofs.Vocabulary.{◌≡◌, ℕ, Bool, true, false, ◌||◌, IsTrue, List, [], ◌∷◌, ◌++◌, None, refl, sym, ap, subst, ◌∙◌, ◌⊎◌, inl, inr, arith, Service, Timer, TimerRecovery, LinkTimer, T203, Link, is_multiple_frame, has_outstanding, given, is_running, awaits_answer, no-reports, End, with_link, frame_given, Config, LineTold, expiry, request, Line, place_in, Request, at_requested, aim_of_request, IsMildRequest, CanRepeat, HasNo, Sane, T200, Data, SetBusy, ClearBusy, Station, Wire, happens, times_out, contents_of, IsOfLink, is_poll, IsTimelyOf}
+use Rattle.laws_wire.proofs.Vocabulary.{◌≡◌, ℕ, ◌==◌, Bool, true, false, cond, not, ◌||◌, IsTrue, List, [], ◌∷◌, ◌++◌, None, refl, sym, ap, subst, ◌∙◌, ◌⊎◌, inl, inr, arith, Service, Timer, TimerRecovery, LinkTimer, T203, ControlFrame, Terms, Link, Course, begun, after, is_multiple_frame, has_outstanding, given, is_running, awaits_answer, no-reports, End, with_link, frame_given, Config, LineTold, expiry, request, Line, place_in, Request, at_requested, aim_of_request, IsMildRequest, CanRepeat, HasNo, Sane, T200, Data, SetBusy, ClearBusy, Station, Wire, happens, times_out, contents_of, IsOfLink, is_poll, IsTimelyOf}
 use Rattle.lapd_frame.specs.declared.timers.Timer.TheVariants as timers
 use Rattle.model_link.specs.Events as link
 use Rattle.model_link.specs.Machine as links
+use Rattle.model_link.specs.Offers
 use Rattle.laws_link.proofs.OfTwo.Staying.{timer-stays}
 use Rattle.laws_wire.specs.Answering.{IsAsked, gives_information}
 use Rattle.laws_wire.proofs.Acting.{ranges, sound}
@@ -14,6 +15,27 @@ use Rattle.laws_wire.proofs.LooseUp.{Mute, busy-mute, ready-mute, for-asked, hel
 use Rattle.laws_wire.proofs.LossyPhases.{Aims}
 use Rattle.laws_wire.proofs.TimelyUp.{each-timer, timer-held, never}
 use Rattle.laws_wire.proofs.UaCalled.{sane-after, Stirs, busy-stirs, busy-goes, ready-goes, timer-stirs, informs, flagged}
+
+pub same-flag : (b : Bool) (l l' : Link) → l'.s ≡ l.s → l'.a ≡ l.a → b ≡ has_outstanding l → b ≡ has_outstanding l'
+same-flag b l l' s a e = e ∙ (λ i. not (sym s i == sym a i))
+
+-- As it gives, a link awaits what REJ asked for as before.
+module _ (t : Terms) (l : Link) where
+  abbrev Keeps : Course → Type 0
+  Keeps c = c.link.rejecting ≡ l.rejecting
+
+  either-keeps : (b : Bool) (u v : Course) → Keeps u → Keeps v → Keeps (cond b u v)
+  either-keeps true u v x y = x
+  either-keeps false u v x y = y
+
+  among-keeps : (ws : List ControlFrame) → Keeps (Offers.offer_among t ws (begun l))
+  among-keeps [] =
+      either-keeps (Offers.may_send_information t l) _ _ (either-keeps (Offers.is_awaiting_acknowledgement (Offers.with_one_sent l)) _ _ refl refl)
+      (either-keeps l.pending _ _ refl refl)
+  among-keeps (f ∷ fs) = refl
+
+  pub offer-rejecting : (after t link.offer l).rejecting ≡ l.rejecting
+  offer-rejecting = among-keeps l.waiting
 
 module _ (service : Service) (tei : ℕ) (d : Config) (q : ℕ) (past : List LineTold) (v : Wire) (M : End) (h : Held d service tei q past v.near M) where
   abbrev s : Station

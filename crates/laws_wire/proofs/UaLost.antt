@@ -159,7 +159,7 @@ module _ (service : Service) (tei : ℕ) (c d : Config) (p q : ℕ) (face : Face
       nothing-asked x = none-there service tei c p w.near n h.near.stands is_poll (x.0 (awaits-is service tei c p w.near n h.near.stands)).commands
 
     -- T200 expires, and SABME goes again
-    repeats-sabme : (w : Wire) (h : R [] [] w) → h.repeats < t.n200 → R (its_sabme ∷ []) [] (acting (times_out (timers.T200 service tei)) w)
+    pub repeats-sabme : (w : Wire) (h : R [] [] w) → h.repeats < t.n200 → R (its_sabme ∷ []) [] (acting (times_out (timers.T200 service tei)) w)
     repeats-sabme w h few =
         let rung = end t (ringing h.repeats []) [] in
         let s' = happens (expiry (timers.T200 service tei)) w.near in

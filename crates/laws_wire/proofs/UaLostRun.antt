@@ -32,7 +32,7 @@ module _ (service : Service) (tei : ℕ) (c d : Config) (p q : ℕ) (face : Face
   abbrev pub Waiting : List LineTold → Bool → Station → Type 0
   Waiting past b s = IsWaiting service tei c d p q face back rt ru past b s
 
-  abbrev Coming : List LineTold → Bool → Wire → Type 0
+  abbrev pub Coming : List LineTold → Bool → Wire → Type 0
   Coming past b w = Comes service tei c d p q face back rt ru past b w
 
   abbrev pub R : (Station → Type 0) → List ControlFrame → List Parts → Wire → Type 0
@@ -75,6 +75,7 @@ module _ (service : Service) (tei : ℕ) (c d : Config) (p q : ℕ) (face : Face
         far = subst (λ s. Held d service tei q past s (whole h)) (sym (far-same act not w)) h.far;
         rising = h.rising;
         loose = h.loose;
+        rejecting = h.rejecting;
         flag = h.flag;
       })))
     where
@@ -370,7 +371,7 @@ module _ (service : Service) (tei : ℕ) (c d : Config) (p q : ℕ) (face : Face
         go (inl (e, y)) = subst After (sym e) (far-goes takes (inr (some, y)))
         go (inr (e, y)) = subst After (sym e) (sabme-goes y some)
 
-  step : (x : Called) (k : Doing) → IsFullTalk service tei k → (w : Wire) → IsPatient k w → Goes x w → Goes (seeing service tei k w x) (doing k w)
+  pub step : (x : Called) (k : Doing) → IsFullTalk service tei k → (w : Wire) → IsPatient k w → Goes x w → Goes (seeing service tei k w x) (doing k w)
   step x k is w patient h = subst (λ w. IsPatient k w → Goes (seeing service tei k w x) (doing k w)) (sym h.is) (by k is) patient
     where
       by : (k : Doing) → IsFullTalk service tei k → IsPatient k (with_before h.earlier h.v) → Goes (seeing service tei k (with_before h.earlier h.v) x) (doing k (with_before h.earlier h.v))

@@ -1,5 +1,5 @@
 -- The end that is called, once it took SABME: its UA is not to come, waits, or is on its way behind what went before.
-use Rattle.laws_wire.proofs.Vocabulary.{◌≡◌, ℕ, ◌≤◌, Bool, false, not, ◌==◌, ◌||◌, IsTrue, List, [], ◌∷◌, ◌++◌, refl, sym, ap, subst, ◌∙◌, ◌⊎◌, inl, inr, append_assoc, append-nil, true≢false, arith, All, All-head, All-nil, Service, Parts, spelling, ControlFrame, LinkTimer, Terms, Link, is_multiple_frame, has_outstanding, frame_of, frames_of, course, given, IsInRange, End, with_sent, Config, LineTold, next, terms, Rising, Sane, HasNo, offer-gave, Station, Wire, happens, comes, with_first_of, with_first_lost, Act, requests, times_out, gives, takes, loses, acting, turned, confirmed, is_poll, is_final, IsTimelyOf}
+use Rattle.laws_wire.proofs.Vocabulary.{◌≡◌, ℕ, ◌≤◌, Bool, false, not, ◌||◌, IsTrue, List, [], ◌∷◌, ◌++◌, refl, sym, ap, subst, ◌∙◌, ◌⊎◌, inl, inr, append_assoc, append-nil, true≢false, arith, All, All-head, All-nil, Service, Parts, spelling, ControlFrame, LinkTimer, Terms, is_multiple_frame, has_outstanding, frame_of, frames_of, course, given, IsInRange, End, with_sent, Config, LineTold, next, terms, Rising, Sane, HasNo, offer-gave, Station, Wire, happens, comes, with_first_of, with_first_lost, Act, requests, times_out, gives, takes, loses, acting, turned, confirmed, is_poll, is_final, IsTimelyOf}
 use Rattle.model_link.specs.Events as link
 use Rattle.model_link.specs.Machine as links
 use Rattle.model_link.specs.TwoEnds as two_ends
@@ -20,7 +20,7 @@ use Rattle.laws_wire.proofs.LossyPhases.{first-way}
 use Rattle.laws_wire.proofs.Ringing.{ringing, answered}
 use Rattle.laws_wire.proofs.Talking.{Face}
 use Rattle.laws_wire.proofs.UaCalled.{sane-after, Poised, PoisedOn, poised-on, loose-poised}
-use Rattle.laws_wire.proofs.UaCalledAt.{FreeAs, StirsAt, asked-at, expired-at, flagged-at}
+use Rattle.laws_wire.proofs.UaCalledAt.{offer-rejecting, same-flag, FreeAs, StirsAt, asked-at, expired-at, flagged-at}
 use Rattle.laws_wire.proofs.UaLost.{behind, IsNoPoll, none-asked, rising-drop, taken-none, first_near, ignores-frame}
 
 module _ (service : Service) (tei : ℕ) (c d : Config) (p q : ℕ) (face : Face c d) (back : Face d c) (rt : IsInRange (terms c service tei)) (ru : IsInRange (terms d service tei)) (past : List LineTold) where
@@ -40,6 +40,7 @@ module _ (service : Service) (tei : ℕ) (c d : Config) (p q : ℕ) (face : Face
     pub up : IsTrue (is_multiple_frame M.link.state)
     pub a : M.link.a ≡ 0
     pub r : M.link.r ≡ 0
+    pub rejecting : M.link.rejecting ≡ false
     pub delivered : M.delivered ≡ []
     pub sane : Sane M.link
     pub rising : Rising 0 M.link.r (line_of M)
@@ -66,10 +67,8 @@ module _ (service : Service) (tei : ℕ) (c d : Config) (p q : ℕ) (face : Face
     pub far : Its w.far (behind (stale ++ ua u ∷ []) m)
     pub rising : Rising 0 0 stale
     pub loose : Loose (end t (answered repeats []) []) m
+    pub rejecting : m.link.rejecting ≡ false
     pub flag : b ≡ has_outstanding m.link
-
-  same-flag : (b : Bool) (l l' : Link) → l'.s ≡ l.s → l'.a ≡ l.a → b ≡ has_outstanding l → b ≡ has_outstanding l'
-  same-flag b l l' s a e = e ∙ (λ i. not (sym s i == sym a i))
 
   -- ---- where no UA is to come
 
@@ -86,6 +85,7 @@ module _ (service : Service) (tei : ℕ) (c d : Config) (p q : ℕ) (face : Face
           up = x.stirs.up;
           a = x.stirs.a ∙ h.a;
           r = x.stirs.r ∙ h.r;
+          rejecting = x.stirs.rejecting ∙ h.rejecting;
           delivered = h.delivered;
           sane = x.stirs.sane;
           rising =
@@ -101,6 +101,7 @@ module _ (service : Service) (tei : ℕ) (c d : Config) (p q : ℕ) (face : Face
       up = h.up;
       a = h.a;
       r = h.r;
+      rejecting = h.rejecting;
       delivered = h.delivered;
       sane = h.sane;
       rising = rising-drop M.link.r M.way (frames_of M.terms M.link.waiting) h.rising;
@@ -116,6 +117,7 @@ module _ (service : Service) (tei : ℕ) (c d : Config) (p q : ℕ) (face : Face
           up = offer-stays M.terms M.link h.up;
           a = g.acknowledged ∙ h.a;
           r = g.received ∙ h.r;
+          rejecting = offer-rejecting M.terms M.link ∙ h.rejecting;
           delivered = h.delivered;
           sane = sane-after M.terms link.offer M.link h.sane;
           rising =
@@ -254,6 +256,7 @@ module _ (service : Service) (tei : ℕ) (c d : Config) (p q : ℕ) (face : Face
             loose =
                 loose-poised t u rt ru face.n201 repeats m.link h.post refl (sound service tei q past d (happens next v.near) (went its_ua h.post e) its)
                 (rest-poised its_ua h.post e);
+            rejecting = h.poised.rejecting;
             flag = rest-flag its_ua h.post e;
           }
 
@@ -278,25 +281,22 @@ module _ (service : Service) (tei : ℕ) (c d : Config) (p q : ℕ) (face : Face
     abbrev whole : End
     whole = behind before h.m
 
-    sane-there : Sane whole.link
-    sane-there = h.loose.far_sane
-
     up-there : IsTrue (is_multiple_frame whole.link.state)
     up-there = h.loose.joined.far_up
 
-    with-far : (w' : Wire) → Held c service tei p [] w'.near (end t (ringing h.repeats []) []) → (m : End) (b' : Bool) → Its w'.far (behind before m) → Loose n m → b' ≡ has_outstanding m.link → Comes b' w'
-    with-far w' near m b' far loose flag = record { repeats = h.repeats; near = near; m = m; stale = h.stale; far = far; rising = h.rising; loose = loose; flag = flag }
+    with-far : (w' : Wire) → Held c service tei p [] w'.near (end t (ringing h.repeats []) []) → (m : End) (b' : Bool) → Its w'.far (behind before m) → Loose n m → m.link.rejecting ≡ false → b' ≡ has_outstanding m.link → Comes b' w'
+    with-far w' near m b' far loose rejecting flag = record { repeats = h.repeats; near = near; m = m; stale = h.stale; far = far; rising = h.rising; loose = loose; rejecting = rejecting; flag = flag }
 
     comes-stirs : (act : two_ends.Act) (e : link.Event) → (two_ends.acting act (record { near = h.m; far = n })) ≡ (record { near = two_ends.with_link e h.m; far = n })
-        → two_links_timely.IsTimelyAct act h.m n → (s' : Station) → StirsAt service tei d q past (turned w) whole h.far up-there sane-there e s' → Comes b (record w { far = s' })
+        → two_links_timely.IsTimelyAct act h.m n → (s' : Station) → StirsAt service tei d q past (turned w) whole h.far up-there h.loose.far_sane e s' → Comes b (record w { far = s' })
     comes-stirs act e is timely s' x =
         let m' = record h.m { link = x.left } in
         let becomes : two_ends.with_link e h.m ≡ m' = (λ i. record h.m { link = (x.becomes i).link; delivered = (x.becomes i).delivered }) in
         let other = loose-after h.m n (loose-turned n h.m h.loose) act timely in
         let loose = loose-turned (two_ends.with_link e h.m) n (subst (λ (y : two_ends.Ends). Loose y.near y.far) is other) in
-        with-far (record w { far = s' }) h.near m' b x.held (subst (Loose n) becomes loose) (same-flag b h.m.link x.left x.stirs.s x.stirs.a h.flag)
+        with-far (record w { far = s' }) h.near m' b x.held (subst (Loose n) becomes loose) (x.stirs.rejecting ∙ h.rejecting) (same-flag b h.m.link x.left x.stirs.s x.stirs.a h.flag)
 
-    timely-there : (its : LinkTimer) → FreeAs service tei d q past (turned w) whole h.far up-there sane-there its → two_links_timely.IsTimely its h.m n
+    timely-there : (its : LinkTimer) → FreeAs service tei d q past (turned w) whole h.far up-there h.loose.far_sane its → two_links_timely.IsTimely its h.m n
     timely-there its free state running =
         let asked = free state running in
         closed h.m n (record {
@@ -307,10 +307,10 @@ module _ (service : Service) (tei : ℕ) (c d : Config) (p q : ℕ) (face : Face
     pub comes-acts : (act : Act) → (act ≡ takes → ⊥) → (act ≡ gives → ⊥) → (act ≡ loses → ⊥) → IsFullTalkOf service tei act → IsTimelyOf act (turned w)
         → Comes b (turned (acting act (turned w)))
     comes-acts (requests r) untaken not nor is x =
-        asked-at service tei d q past (turned w) whole h.far up-there sane-there (λ s. Comes b (record w { far = s })) h
+        asked-at service tei d q past (turned w) whole h.far up-there h.loose.far_sane (λ s. Comes b (record w { far = s })) h
         (λ rq s' mild y. comes-stirs (two_ends.asks rq false) (link.requested rq false) refl mild s' y) r is
     comes-acts (times_out timer) untaken not nor is x =
-        expired-at service tei d q past (turned w) whole h.far up-there sane-there (λ s. Comes b (record w { far = s }))
+        expired-at service tei d q past (turned w) whole h.far up-there h.loose.far_sane (λ s. Comes b (record w { far = s }))
         (λ its s' can free y. comes-stirs (two_ends.expires its) (link.expired its) refl (can, timely-there its free) s' y) timer is x
     comes-acts gives untaken not nor is x = absurd (not refl)
     comes-acts takes untaken not nor is x = absurd (untaken refl)
@@ -323,7 +323,7 @@ module _ (service : Service) (tei : ℕ) (c d : Config) (p q : ℕ) (face : Face
         let is : with_sent whole ≡ behind before (with_sent h.m) = (λ i. record (with_sent h.m) { way = append_assoc before h.m.way given i }) in
         with-far (record w { far = happens next w.far }) h.near (with_sent h.m) (b || gives_information w.far)
         (subst (Its (happens next w.far)) is (held-given service tei q past d w.far whole h.far kept))
-        (loose-turned (with_sent h.m) n (loose-after h.m n (loose-turned n h.m h.loose) two_ends.sends tt))
+        (loose-turned (with_sent h.m) n (loose-after h.m n (loose-turned n h.m h.loose) two_ends.sends tt)) (offer-rejecting h.m.terms h.m.link ∙ h.rejecting)
         (flagged-at service tei d q past (turned w) whole h.far b h.flag)
 
     -- a response with F=1 is open
@@ -346,7 +346,7 @@ module _ (service : Service) (tei : ℕ) (c d : Config) (p q : ℕ) (face : Face
         go : (stale : List Parts) → Rising 0 0 stale → Its (with_first_lost w.far) (two_ends.with_first_lost (behind (stale ++ ua u ∷ []) h.m))
             → Comes b (turned (acting loses (turned w))) ⊎ IsAway b (with_first_lost w.far)
         go (f ∷ fs) rising far =
-            inl (record { repeats = h.repeats; near = h.near; m = h.m; stale = fs; far = far; rising = rising-lower rising.0 0 0 fs (omega arith) rising.3; loose = h.loose; flag = h.flag })
+            inl (record { repeats = h.repeats; near = h.near; m = h.m; stale = fs; far = far; rising = rising-lower rising.0 0 0 fs (omega arith) rising.3; loose = h.loose; rejecting = h.rejecting; flag = h.flag })
         go [] rising far =
             let low : h.m.link.a ≤ 0 = h.loose.joined.back.rising in
             inr (record {
@@ -355,8 +355,9 @@ module _ (service : Service) (tei : ℕ) (c d : Config) (p q : ℕ) (face : Face
               up = up-there;
               a = omega (arith, low);
               r = omega (arith, not-beyond);
+              rejecting = h.rejecting;
               delivered = comes-none;
-              sane = sane-there;
+              sane = h.loose.far_sane;
               rising = h.loose.joined.there.rising;
               flag = h.flag;
             })
@@ -367,7 +368,7 @@ module _ (service : Service) (tei : ℕ) (c d : Config) (p q : ℕ) (face : Face
         let far : Its w.far (behind ((f ∷ fs) ++ ua u ∷ []) h.m) = subst (λ stale. Its w.far (behind (stale ++ ua u ∷ []) h.m)) e h.far in
         let lost : Its (with_first_lost w.far) (behind (fs ++ ua u ∷ []) h.m) = held-lost service tei q past d w.far (behind ((f ∷ fs) ++ ua u ∷ []) h.m) far in
         let near = ignores-frame service tei c d p q face back rt ru [] [] w h.repeats h.near past (behind ((f ∷ fs) ++ ua u ∷ []) h.m) far f ((fs ++ ua u ∷ []) ++ h.m.way) refl rising.0 rising.2 in
-        record { repeats = h.repeats; near = near; m = h.m; stale = fs; far = lost; rising = rising-lower rising.0 0 0 fs (omega arith) rising.3; loose = h.loose; flag = h.flag }
+        record { repeats = h.repeats; near = near; m = h.m; stale = fs; far = lost; rising = rising-lower rising.0 0 0 fs (omega arith) rising.3; loose = h.loose; rejecting = h.rejecting; flag = h.flag }
 
     confirms : h.stale ≡ [] → LooseUp service tei c d p q (first_near service tei c d p q face back rt ru) past (acting takes w)
     confirms e =

@@ -110,7 +110,7 @@ module _ (service : Service) (tei : ℕ) (c d : Config) (p q : ℕ) (face : Face
       poised = record { up = refl; a = refl; s = refl; r = refl; rejecting = refl; sane = sane true e; reports = tt; idle = tt; one = omega arith };
       flag = refl;
     })
-    by-room false e = inr (record { M = left false; held = held false e; up = refl; a = refl; r = refl; delivered = refl; sane = sane false e; rising = line; flag = refl })
+    by-room false e = inr (record { M = left false; held = held false e; up = refl; a = refl; r = refl; rejecting = refl; delivered = refl; sane = sane false e; rising = line; flag = refl })
 
     renewed-so : TookSabme past b w (turned (acting takes (turned w)))
     renewed-so = record {

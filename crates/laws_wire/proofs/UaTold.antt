@@ -108,12 +108,12 @@ module _ (service : Service) (tei : ℕ) (c d : Config) (p q : ℕ) (face : Face
     abbrev w : Wire
     w = with_before g v
 
-    all-is : first_near ++ map (data_told service tei) v.far.granted ≡ all_kept service tei x w.far
+    pub all-is : first_near ++ map (data_told service tei) v.far.granted ≡ all_kept service tei x w.far
     all-is =
         ap (λ xs. confirmed service tei ∷ map (data_told service tei) xs)
         (sym (ap (λ k. drop k (g ++ v.far.granted)) given_up ∙ front_rest (g ++ v.far.granted) g v.far.granted refl))
 
-    still-there : IsStill w → IsStill v
+    pub still-there : IsStill w → IsStill v
     still-there still = record { near = still.near; far = still.far; near_way = still.near_way; far_way = still.far_way }
 
     still-turned : IsStill v → IsStill (turned v)

@@ -39,22 +39,20 @@ abbrev pub weigh : ℕ → End → End → ℕ
 weigh v n m = weigh_of v n.link n.way m.link m.way
 
 -- So many turns or losses are made, and so many timers expire, while more contents are accepted.
-pub record Fell (v moved expired : ℕ) (n m n' m' : End) : Type 0 where
-  pub more : ℕ
+pub record Fell (v moved expired more : ℕ) (n m n' m' : End) : Type 0 where
   pub grown : length n'.link.contents + length m'.link.contents ≡ length n.link.contents + length m.link.contents + more
   pub falls : moved + weigh v n' m' ≤ weigh v n m + (v + 4) * expired + (v + 6) * more
 
 swapped : (moved a b p q a' b' p' q' x y : ℕ) → moved + ((a + b) + (p + q)) ≤ ((a' + b') + (p' + q')) + x + y → moved + ((b + a) + (q + p)) ≤ ((b' + a') + (q' + p')) + x + y
 swapped moved a b p q a' b' p' q' x y h = omega (arith, h)
 
-pub fell-turned : (v moved expired : ℕ) (n m n' m' : End) → Fell v moved expired n m n' m' → Fell v moved expired m n m' n'
-fell-turned v moved expired n m n' m' h = record {
-  more = h.more;
+pub fell-turned : (v moved expired more : ℕ) (n m n' m' : End) → Fell v moved expired more n m n' m' → Fell v moved expired more m n m' n'
+fell-turned v moved expired more n m n' m' h = record {
   grown = let e = h.grown in omega (arith, e);
   falls =
       swapped moved (load v n'.link + load_way v n'.way) (load v m'.link + load_way v m'.way) ((v + 4) * undelivered n'.link m'.link) ((v + 4) * undelivered m'.link n'.link)
       (load v n.link + load_way v n.way) (load v m.link + load_way v m.way) ((v + 4) * undelivered n.link m.link) ((v + 4) * undelivered m.link n.link)
-      ((v + 4) * expired) ((v + 6) * h.more) h.falls;
+      ((v + 4) * expired) ((v + 6) * more) h.falls;
 }
 
 -- ---- what becomes of the weight of one end, while the other stays
@@ -81,9 +79,8 @@ module _ (v : ℕ) (n m n' m' : End) (same : n'.link.contents ≡ n.link.content
   there e =
       (λ i. (v + 4) * (length (same i) - (kept i).r) + (v + 4) * (length (kept i).contents - e i))
 
-  pub goes : (moved expired : ℕ) → n'.link.r ≡ n.link.r → moved + its n' + its m' ≤ its n + its m + (v + 4) * expired → Fell v moved expired n m n' m'
+  pub goes : (moved expired : ℕ) → n'.link.r ≡ n.link.r → moved + its n' + its m' ≤ its n + its m + (v + 4) * expired → Fell v moved expired 0 n m n' m'
   goes moved expired e less = record {
-    more = 0;
     grown = sum (length n'.link.contents) (length m'.link.contents) (length n.link.contents) (length m.link.contents) (ap length same) (ap (λ (l : Link). length l.contents) kept);
     falls =
         lighter moved (its n') (its m') ((v + 4) * undelivered n'.link m'.link + (v + 4) * undelivered m'.link n'.link) (its n) (its m)
@@ -94,9 +91,8 @@ module _ (v : ℕ) (n m n' m' : End) (same : n'.link.contents ≡ n.link.content
       lighter moved x y z x' y' z' a b e less = omega (arith, e, less)
 
   -- one contents are delivered
-  pub delivers : n'.link.r ≡ n.link.r + 1 → n'.link.r ≤ length m.link.contents → 1 + its n' + its m' ≤ its n + its m + (v + 4) → Fell v 1 0 n m n' m'
+  pub delivers : n'.link.r ≡ n.link.r + 1 → n'.link.r ≤ length m.link.contents → 1 + its n' + its m' ≤ its n + its m + (v + 4) → Fell v 1 0 0 n m n' m'
   delivers e low less = record {
-    more = 0;
     grown = sum (length n'.link.contents) (length m'.link.contents) (length n.link.contents) (length m.link.contents) (ap length same) (ap (λ (l : Link). length l.contents) kept);
     falls =
         lighter (its n') (its m') ((v + 4) * undelivered n'.link m'.link) ((v + 4) * undelivered m'.link n'.link) (its n) (its m) ((v + 4) * undelivered n.link m.link)

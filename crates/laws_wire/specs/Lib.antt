@@ -10,6 +10,7 @@ pub mod Facing
 pub mod Resting
 pub mod Arriving
 pub mod Answering
+pub mod Settling
 pub mod Ending
 pub mod Worked
 pub mod BothWorked
@@ -19,5 +20,6 @@ pub mod WorkedCounted
 pub mod WorkedResting
 pub mod WorkedArriving
 pub mod WorkedAnswering
+pub mod WorkedSettling
 pub mod WorkedEnding
 pub mod WorkedBroken

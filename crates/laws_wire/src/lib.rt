@@ -4,24 +4,27 @@
 //! `specs/` has the wire and what can happen at its ends (`Wire`), a call between two cards that have just begun, in
 //! the words of the events and answers of a card alone (`Call`), the same where frames are lost and timers expire
 //! (`Losing`), a T200 that is long enough (`Timely`), what it recovers (`Recovering`; `StillTimely`, where it expires
-//! as no turn is left), also under traffic (`Arriving`), and where UA is lost or an end is busy (`Answering`), the end
-//! of such a call (`Ending`), how often T200 may expire (`Counted`), how many turns there are at most (`Resting`), two
-//! cards that face each other by links in state 7 (`Facing`), and worked values that compute (`Worked`, `WorkedLosing`,
-//! `WorkedRecovering`, `WorkedArriving`, `WorkedAnswering`, `WorkedEnding`, `WorkedCounted`, `WorkedResting`). What a
-//! card does at an event is the machine of `model_card`, of frames; the laws of two links are those of `laws_link`.
+//! as no turn is left), also under traffic (`Arriving`), and where UA is lost or an end is busy (`Answering`), that such
+//! a call comes to rest (`Settling`), its end (`Ending`), how often T200 may expire (`Counted`), how many turns there
+//! are at most (`Resting`), two cards that face each other by links in state 7 (`Facing`), and worked values that
+//! compute (`Worked`, `WorkedLosing`, `WorkedRecovering`, `WorkedArriving`, `WorkedAnswering`, `WorkedSettling`,
+//! `WorkedEnding`, `WorkedCounted`, `WorkedResting`). What a card does at an event is the machine of `model_card`, of
+//! frames; the laws of two links are those of `laws_link`.
 //!
 //! # Open
 //!
-//! What is told after an error other than F of a lost UA. Whether rest is reached after an error, with an end busy, or
-//! behind a release: that the weight which bounds the turns (`proofs/Weighing`) falls there, too, was not tried. Losses
-//! where both ends call, with other requests, links or lines, or from elsewhere than nothing. That a given T200 is long
-//! enough.
+//! What is told after an error other than F of a lost UA. Whether rest is reached after such an error, or behind a
+//! release: that the weight which bounds the turns (`proofs/Weighing`) falls there, too, was not tried. What arrives
+//! where UA is lost or an end is busy, while data is asked for on and on (while an end is heard to be busy T200 of the
+//! other runs on). Losses where both ends call, with other requests, links or lines, or from elsewhere than nothing. That a given
+//! T200 is long enough.
 #![tactic(auto)]
 
 mod answering;
 mod arriving;
 mod laws;
 mod resting;
+mod settling;
 
 pub use answering::{a_call_ends, a_call_with_losses_comes_through};
 pub use arriving::it_arrives_under_traffic;
@@ -30,3 +33,4 @@ pub use laws::{
     what_is_lost_arrives_from_rest,
 };
 pub use resting::{rounds_come_to_rest, turns_come_to_an_end};
+pub use settling::a_call_with_losses_comes_to_rest;

@@ -10,7 +10,8 @@ ghost use Rattle.laws_wire.specs.Resting.{MovesComeToAnEnd, RoundsComeToRest, Ti
 /// for each request that was granted. That is two for each of these frames: for the establishment SABME and UA, and at
 /// each end a REJ for which k go again; for an expiry an enquiry and its answer, for which k go again; for a request an
 /// I-frame, its acknowledgement, and a REJ for which k go again. So with no further request and no further expiry moves
-/// come to an end. So it is as long as neither end tells an error: of the moves after an error no law speaks.
+/// come to an end. So it is as long as neither end tells an error: of the moves after error F of a lost UA
+/// [`crate::a_call_with_losses_comes_to_rest`] speaks, and of those after another no law.
 pub fn turns_come_to_an_end()
     ensures { MovesComeToAnEnd }
 {}

@@ -142,3 +142,22 @@ unfolding rounds
 all-arrived u e hn hm there back un um =
     subst (λ i. Arrived e.near.link.contents e.far.link.contents (rounds i e)) (one-more u)
     (then-arrived u e.near.link.contents e.far.link.contents (near_moves e) (first-turn u e.near e.far hn hm there back un um))
+
+-- and neither takes the other for busy
+abbrev pub AreFree : Ends → Type 0
+AreFree e = (e.near.link.peer_busy ≡ false) × (e.far.link.peer_busy ≡ false)
+
+then-free : (u : ℕ) (cn cm : List (List ℕ)) (e : Ends) → Turn u u cn cm e.near e.far → AreFree (rounds u (far_moves e))
+unfolding rounds
+then-free zero cn cm e h =
+    ((ready-taker e.far e.near h.taker h.giver h.back h.there).peer_busy, (ready-giver e.far e.near h.taker h.giver h.back h.there).peer_busy)
+then-free (suc u) cn cm e h =
+    let one = next-turn u (suc u) cn cm e.near e.far h in
+    let two = next-turn u u cm cn (giver_of e.far) (taker_of e.far e.near) one in
+    then-free u cn cm (near_moves (far_moves e)) two
+
+pub all-free : (u : ℕ) (e : Ends) → IsReady e.near → IsReady e.far → IsTaken e.near e.far → IsTaken e.far e.near → HasUnsent u e.near → HasUnsent u e.far → AreFree (rounds (u + 1) e)
+unfolding rounds
+all-free u e hn hm there back un um =
+    subst (λ i. AreFree (rounds i e)) (one-more u)
+    (then-free u e.near.link.contents e.far.link.contents (near_moves e) (first-turn u e.near e.far hn hm there back un um))

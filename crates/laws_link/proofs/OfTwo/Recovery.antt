@@ -1,6 +1,6 @@
 -- Losses are recovered, from the expiry of T200 on.
 use Rattle.laws_link.proofs.Vocabulary.{◌≡◌, ℕ, suc, ◌+◌, ◌≤◌, Bool, false, List, [], ◌∷◌, refl, sym, subst, ◌∙◌, ◌⊎◌, inl, inr, arith, T200, expired, End, Ends, sound-after, rounds, IsCutOff, IsCutOffWith, HasMissing, with_t200_expired}
-use Rattle.laws_link.proofs.OfTwo.Arriving.{Arrived, near_moves, far_moves, all-arrived}
+use Rattle.laws_link.proofs.OfTwo.Arriving.{Arrived, near_moves, far_moves, all-arrived, AreFree, all-free}
 use Rattle.laws_link.proofs.OfTwo.Shapes.{enquiry, in_8, in_7}
 use Rattle.laws_link.proofs.OfTwo.Expiring.{Asking, Resting, with_count, expires-one}
 use Rattle.laws_link.proofs.OfTwo.Recovering.{Sounds, Between, Recovered, both-recover, near-recovers, far-recovers, ready-7}
@@ -45,83 +45,91 @@ module _ (u : ℕ) (e : Ends) (hn : IsCutOff e.near e.far) (hm : IsCutOff e.far 
         far = sound-after e.far.terms hm.ranges (expired T200) e.far.link hm.sound;
       }
 
-  by-two : (e0 : Ends) → with_t200_expired e ≡ e0 → Recovered u cn cm (far_moves (near_moves (far_moves (near_moves e0)))) → Arrived cn cm (rounds (u + 3) (with_t200_expired e))
-  by-two e0 is h =
-      let count : suc (suc (u + 1)) ≡ u + 3 = omega arith in
-      let two : rounds (suc (suc (u + 1))) e0 ≡ rounds (u + 1) (far_moves (near_moves (far_moves (near_moves e0)))) = after-round (suc (u + 1)) e0 ∙ after-round (u + 1) (far_moves (near_moves e0)) in
-      subst (λ e'. Arrived cn cm (rounds (u + 3) e')) (sym is)
-      (subst (λ i. Arrived cn cm (rounds i e0)) count (subst (Arrived cn cm) (sym two) (finish u cn cm _ h)))
+  -- whatever comes of it where both are ready, and nothing is missing
+  module _ (Q : Ends → Type 0) (fin : (v : ℕ) (e' : Ends) → Recovered v cn cm e' → Q (rounds (v + 1) e')) where
+    by-two : (e0 : Ends) → with_t200_expired e ≡ e0 → Recovered u cn cm (far_moves (near_moves (far_moves (near_moves e0)))) → Q (rounds (u + 3) (with_t200_expired e))
+    by-two e0 is h =
+        let count : suc (suc (u + 1)) ≡ u + 3 = omega arith in
+        let two : rounds (suc (suc (u + 1))) e0 ≡ rounds (u + 1) (far_moves (near_moves (far_moves (near_moves e0)))) = after-round (suc (u + 1)) e0 ∙ after-round (u + 1) (far_moves (near_moves e0)) in
+        subst (λ e'. Q (rounds (u + 3) e')) (sym is)
+        (subst (λ i. Q (rounds i e0)) count (subst Q (sym two) (fin u _ h)))
 
-  by-one : (e0 : Ends) → with_t200_expired e ≡ e0 → Recovered (u + 1) cn cm (far_moves (near_moves e0)) → Arrived cn cm (rounds (u + 3) (with_t200_expired e))
-  by-one e0 is h =
-      let count : suc ((u + 1) + 1) ≡ u + 3 = omega arith in
-      subst (λ e'. Arrived cn cm (rounds (u + 3) e')) (sym is)
-      (subst (λ i. Arrived cn cm (rounds i e0)) count (subst (Arrived cn cm) (sym (after-round ((u + 1) + 1) e0)) (finish (u + 1) cn cm _ h)))
+    by-one : (e0 : Ends) → with_t200_expired e ≡ e0 → Recovered (u + 1) cn cm (far_moves (near_moves e0)) → Q (rounds (u + 3) (with_t200_expired e))
+    by-one e0 is h =
+        let count : suc ((u + 1) + 1) ≡ u + 3 = omega arith in
+        subst (λ e'. Q (rounds (u + 3) e')) (sym is)
+        (subst (λ i. Q (rounds i e0)) count (subst Q (sym (after-round ((u + 1) + 1) e0)) (fin (u + 1) _ h)))
 
-  at-once : (e0 : Ends) → with_t200_expired e ≡ e0 → Recovered (u + 2) cn cm e0 → Arrived cn cm (rounds (u + 3) (with_t200_expired e))
-  at-once e0 is h =
-      let count : (u + 2) + 1 ≡ u + 3 = omega arith in
-      subst (λ e'. Arrived cn cm (rounds (u + 3) e')) (sym is) (subst (λ i. Arrived cn cm (rounds i e0)) count (finish (u + 2) cn cm e0 h))
+    at-once : (e0 : Ends) → with_t200_expired e ≡ e0 → Recovered (u + 2) cn cm e0 → Q (rounds (u + 3) (with_t200_expired e))
+    at-once e0 is h =
+        let count : (u + 2) + 1 ≡ u + 3 = omega arith in
+        subst (λ e'. Q (rounds (u + 3) e')) (sym is) (subst (λ i. Q (rounds i e0)) count (fin (u + 2) e0 h))
 
-  -- what each end is
-  both-ask : (x : Asking false e.near (with_t200_expired e).near) (y : Asking false e.far (with_t200_expired e).far) → Arrived cn cm (rounds (u + 3) (with_t200_expired e))
-  both-ask x y =
-      let n = with_count x.count e.near in
-      let m = with_count y.count e.far in
-      let e0 : Ends = record { near = in_8 n (enquiry n.link.r ∷ []) n.link.peer_busy n.link.a false n.delivered; far = in_8 m (enquiry m.link.r ∷ []) m.link.peer_busy m.link.a false m.delivered } in
-      let is : with_t200_expired e ≡ e0 = λ i. record { near = x.is i; far = y.is i } in
-      by-two e0 is (both-recover u cn cm n m (between false u u e.near e.far x.count y.count hn un (omega arith)) (between false u u e.far e.near y.count x.count hm um (omega arith)) n.link.peer_busy m.link.peer_busy (subst Sounds is sounds))
+    -- what each end is
+    both-ask : (x : Asking false e.near (with_t200_expired e).near) (y : Asking false e.far (with_t200_expired e).far) → Q (rounds (u + 3) (with_t200_expired e))
+    both-ask x y =
+        let n = with_count x.count e.near in
+        let m = with_count y.count e.far in
+        let e0 : Ends = record { near = in_8 n (enquiry n.link.r ∷ []) n.link.peer_busy n.link.a false n.delivered; far = in_8 m (enquiry m.link.r ∷ []) m.link.peer_busy m.link.a false m.delivered } in
+        let is : with_t200_expired e ≡ e0 = λ i. record { near = x.is i; far = y.is i } in
+        by-two e0 is (both-recover u cn cm n m (between false u u e.near e.far x.count y.count hn un (omega arith)) (between false u u e.far e.near y.count x.count hm um (omega arith)) n.link.peer_busy m.link.peer_busy (subst Sounds is sounds))
 
-  near-asks : (x : Asking false e.near (with_t200_expired e).near) (y : Resting false e.far (with_t200_expired e).far) → Arrived cn cm (rounds (u + 3) (with_t200_expired e))
-  near-asks x y =
-      let n = with_count x.count e.near in
-      let m = with_count e.far.link.repeats e.far in
-      let e0 : Ends = record { near = in_8 n (enquiry n.link.r ∷ []) n.link.peer_busy n.link.a false n.delivered; far = in_7 m [] m.link.a m.link.s m.link.pending y.running m.delivered } in
-      let is : with_t200_expired e ≡ e0 = λ i. record { near = x.is i; far = y.is i } in
-      by-one e0 is (near-recovers (u + 1) cn cm n m (between false u (u + 1) e.near e.far x.count e.far.link.repeats hn un (omega arith)) (between false u (u + 1) e.far e.near e.far.link.repeats x.count hm um (omega arith)) n.link.peer_busy m.link.pending y.running y.all (subst Sounds is sounds))
+    near-asks : (x : Asking false e.near (with_t200_expired e).near) (y : Resting false e.far (with_t200_expired e).far) → Q (rounds (u + 3) (with_t200_expired e))
+    near-asks x y =
+        let n = with_count x.count e.near in
+        let m = with_count e.far.link.repeats e.far in
+        let e0 : Ends = record { near = in_8 n (enquiry n.link.r ∷ []) n.link.peer_busy n.link.a false n.delivered; far = in_7 m [] m.link.a m.link.s m.link.pending y.running m.delivered } in
+        let is : with_t200_expired e ≡ e0 = λ i. record { near = x.is i; far = y.is i } in
+        by-one e0 is (near-recovers (u + 1) cn cm n m (between false u (u + 1) e.near e.far x.count e.far.link.repeats hn un (omega arith)) (between false u (u + 1) e.far e.near e.far.link.repeats x.count hm um (omega arith)) n.link.peer_busy m.link.pending y.running y.all (subst Sounds is sounds))
 
-  far-asks : (x : Resting false e.near (with_t200_expired e).near) (y : Asking false e.far (with_t200_expired e).far) → Arrived cn cm (rounds (u + 3) (with_t200_expired e))
-  far-asks x y =
-      let n : End = record e.near { link = record e.near.link { running = x.running } } in
-      let m = with_count y.count e.far in
-      let e0 : Ends = record { near = in_7 e.near [] e.near.link.a e.near.link.s e.near.link.pending x.running e.near.delivered; far = in_8 m (enquiry m.link.r ∷ []) m.link.peer_busy m.link.a false m.delivered } in
-      let is : with_t200_expired e ≡ e0 = λ i. record { near = x.is i; far = y.is i } in
-      let there : Between u cn n m =
-      let b = between false u u e.near e.far e.near.link.repeats y.count hn un (omega arith) in
-      record { ranges = b.ranges; kept = b.kept; low = b.low; high = b.high; near = b.near; delivered = b.delivered; sizes = b.sizes; left = b.left } in
-      let back : Between u cm m n =
-      let b = between false u u e.far e.near y.count e.near.link.repeats hm um (omega arith) in
-      record { ranges = b.ranges; kept = b.kept; low = b.low; high = b.high; near = b.near; delivered = b.delivered; sizes = b.sizes; left = b.left } in
-      by-two e0 is (far-recovers u cn cm n m there back x.all m.link.peer_busy (subst Sounds is sounds))
+    far-asks : (x : Resting false e.near (with_t200_expired e).near) (y : Asking false e.far (with_t200_expired e).far) → Q (rounds (u + 3) (with_t200_expired e))
+    far-asks x y =
+        let n : End = record e.near { link = record e.near.link { running = x.running } } in
+        let m = with_count y.count e.far in
+        let e0 : Ends = record { near = in_7 e.near [] e.near.link.a e.near.link.s e.near.link.pending x.running e.near.delivered; far = in_8 m (enquiry m.link.r ∷ []) m.link.peer_busy m.link.a false m.delivered } in
+        let is : with_t200_expired e ≡ e0 = λ i. record { near = x.is i; far = y.is i } in
+        let there : Between u cn n m =
+        let b = between false u u e.near e.far e.near.link.repeats y.count hn un (omega arith) in
+        record { ranges = b.ranges; kept = b.kept; low = b.low; high = b.high; near = b.near; delivered = b.delivered; sizes = b.sizes; left = b.left } in
+        let back : Between u cm m n =
+        let b = between false u u e.far e.near y.count e.near.link.repeats hm um (omega arith) in
+        record { ranges = b.ranges; kept = b.kept; low = b.low; high = b.high; near = b.near; delivered = b.delivered; sizes = b.sizes; left = b.left } in
+        by-two e0 is (far-recovers u cn cm n m there back x.all m.link.peer_busy (subst Sounds is sounds))
 
-  none-asks : (x : Resting false e.near (with_t200_expired e).near) (y : Resting false e.far (with_t200_expired e).far) → Arrived cn cm (rounds (u + 3) (with_t200_expired e))
-  none-asks x y =
-      let n = e.near in
-      let m = e.far in
-      let e0 : Ends = record { near = in_7 n [] n.link.a n.link.s n.link.pending x.running n.delivered; far = in_7 m [] m.link.a m.link.s m.link.pending y.running m.delivered } in
-      let is : with_t200_expired e ≡ e0 = λ i. record { near = x.is i; far = y.is i } in
-      let s = subst Sounds is sounds in
-      let nl : n.link.a ≤ m.link.r = hn.low in
-      let nh : m.link.r ≤ n.link.s = hn.high in
-      let ml : m.link.a ≤ n.link.r = hm.low in
-      let mh : n.link.r ≤ m.link.s = hm.high in
-      at-once e0 is (record {
-        near = ready-7 n n.link.a n.link.s n.link.pending x.running n.delivered hn.ranges s.near;
-        far = ready-7 m m.link.a m.link.s m.link.pending y.running m.delivered hm.ranges s.far;
-        there = record { received = omega (arith, x.all); delivered = hn.delivered; owed = λ less. absurd (omega (arith, less, x.all)); sizes = hn.sizes };
-        back = record { received = omega (arith, y.all); delivered = hm.delivered; owed = λ less. absurd (omega (arith, less, y.all)); sizes = hm.sizes };
-        near_left = omega (arith, un);
-        far_left = omega (arith, um);
-        near_kept = refl;
-        far_kept = refl;
-      })
+    none-asks : (x : Resting false e.near (with_t200_expired e).near) (y : Resting false e.far (with_t200_expired e).far) → Q (rounds (u + 3) (with_t200_expired e))
+    none-asks x y =
+        let n = e.near in
+        let m = e.far in
+        let e0 : Ends = record { near = in_7 n [] n.link.a n.link.s n.link.pending x.running n.delivered; far = in_7 m [] m.link.a m.link.s m.link.pending y.running m.delivered } in
+        let is : with_t200_expired e ≡ e0 = λ i. record { near = x.is i; far = y.is i } in
+        let s = subst Sounds is sounds in
+        let nl : n.link.a ≤ m.link.r = hn.low in
+        let nh : m.link.r ≤ n.link.s = hn.high in
+        let ml : m.link.a ≤ n.link.r = hm.low in
+        let mh : n.link.r ≤ m.link.s = hm.high in
+        at-once e0 is (record {
+          near = ready-7 n n.link.a n.link.s n.link.pending x.running n.delivered hn.ranges s.near;
+          far = ready-7 m m.link.a m.link.s m.link.pending y.running m.delivered hm.ranges s.far;
+          there = record { received = omega (arith, x.all); delivered = hn.delivered; owed = λ less. absurd (omega (arith, less, x.all)); sizes = hn.sizes };
+          back = record { received = omega (arith, y.all); delivered = hm.delivered; owed = λ less. absurd (omega (arith, less, y.all)); sizes = hm.sizes };
+          near_left = omega (arith, un);
+          far_left = omega (arith, um);
+          near_kept = refl;
+          far_kept = refl;
+        })
 
-  either : Asking false e.near (with_t200_expired e).near ⊎ Resting false e.near (with_t200_expired e).near → Asking false e.far (with_t200_expired e).far ⊎ Resting false e.far (with_t200_expired e).far
-      → Arrived cn cm (rounds (u + 3) (with_t200_expired e))
-  either (inl x) (inl y) = both-ask x y
-  either (inl x) (inr y) = near-asks x y
-  either (inr x) (inl y) = far-asks x y
-  either (inr x) (inr y) = none-asks x y
+    either : Asking false e.near (with_t200_expired e).near ⊎ Resting false e.near (with_t200_expired e).near → Asking false e.far (with_t200_expired e).far ⊎ Resting false e.far (with_t200_expired e).far
+        → Q (rounds (u + 3) (with_t200_expired e))
+    either (inl x) (inl y) = both-ask x y
+    either (inl x) (inr y) = near-asks x y
+    either (inr x) (inl y) = far-asks x y
+    either (inr x) (inr y) = none-asks x y
+
+    recovered-so : Q (rounds (u + 3) (with_t200_expired e))
+    recovered-so = either (expires-one false e.near e.far hn) (expires-one false e.far e.near hm)
 
   pub all-recovered : Arrived cn cm (rounds (u + 3) (with_t200_expired e))
-  all-recovered = either (expires-one false e.near e.far hn) (expires-one false e.far e.near hm)
+  all-recovered = recovered-so (Arrived cn cm) (λ v e' h. finish v cn cm e' h)
+
+  pub free-recovered : AreFree (rounds (u + 3) (with_t200_expired e))
+  free-recovered = recovered-so AreFree (λ v e' h. all-free v e' h.near h.far h.there h.back h.near_left h.far_left)

@@ -1,0 +1,187 @@
+-- What is left to do on a wire, as its stations are; and what is done at an end makes it less, whatever its phase.
+use Rattle.laws_wire.proofs.Vocabulary.{◌≡◌, ℕ, ◌+◌, ◌*◌, ◌-◌, ◌≤◌, Bool, true, false, cond, List, [], ◌++◌, length, Option, None, Some, refl, sym, ap, subst, ◌∙◌, inl, inr, append-nil, arith, Refusal, Service, Timer, Parts, ReceiveReady, ReceiveNotReady, seq, LinkTimer, T200, T203, Terms, Link, Course, course, begun, End, with_link, Config, LineTold, request, Line, place_in, Request, SetBusy, ClearBusy, at_requested, aim_of_request, contents_of, Station, Wire, happens, Act, requests, times_out, gives, takes, loses, acting, turned, granted_of, link_of, flat_map, is_granted, answered, IsAsked, IsOfLink, IsFullTalkOf, IsTimelyOf, is_move_of, expiries_of, response, has_room}
+use Rattle.lapd_frame.specs.declared.timers.Timer.TheVariants as timers
+use Rattle.model_link.specs.Events as link
+use Rattle.model_link.specs.Requests as link_requests
+use Rattle.laws_wire.specs.Facing.{line_of, read_as}
+use Rattle.laws_wire.specs.Settling.{reports_of}
+use Rattle.laws_wire.proofs.Awaited.{link-is, way-is, may-there}
+use Rattle.laws_wire.proofs.Held.{Held}
+use Rattle.laws_wire.proofs.Loads.{load, load_way, one-waits}
+use Rattle.laws_wire.proofs.LoadsTimed.{May, timer-fairly}
+use Rattle.laws_wire.proofs.LooseUp.{for-asked}
+use Rattle.laws_wire.proofs.LossyPhases.{Aims}
+use Rattle.laws_wire.proofs.Rested.{Then, then-gives, then-loses, then-asks, fairly-expires}
+use Rattle.laws_wire.proofs.Standing.{Stands, Granted, asks-stands}
+use Rattle.laws_wire.proofs.Talking.{Face}
+use Rattle.laws_wire.proofs.TimelyUp.{each-timer}
+use Rattle.laws_wire.proofs.Weighing.{undelivered, weigh_of, weigh}
+
+-- ---- own busy begins or ends: one frame waits
+
+pub record Reports (w : ℕ) (l : Link) (c : Course) : Type 0 where
+  pub contents : c.link.contents ≡ l.contents
+  pub received : c.link.r ≡ l.r
+  pub within : load w c.link ≤ load w l + 2
+
+module _ (w : ℕ) (t : Terms) (l : Link) where
+  either : (b : Bool) (u v : Course) → Reports w l u → Reports w l v → Reports w l (cond b u v)
+  either true u v x y = x
+  either false u v x y = y
+
+  nothing-said : Reports w l (begun l)
+  nothing-said = record { contents = refl; received = refl; within = omega arith }
+
+  unless-refused : (rq : link.Request) (o : Option Refusal) → Reports w l (link_requests.granted t rq (begun l))
+      → Reports w l (elim o as (λ o. Course) [ None ↦ link_requests.granted t rq (begun l) | Some _ ↦ begun l ])
+  unless-refused rq None h = h
+  unless-refused rq (Some why) h = nothing-said
+
+  pub busy-reports : Reports w l (course t (link.requested link.SetBusy false) l)
+  busy-reports =
+      let one = one-waits w (has_room t l) l.waiting (response (ReceiveNotReady (seq l.r) false)) 0 refl in
+      unless-refused link.SetBusy (link_requests.refusal t l false link.SetBusy)
+      (either l.own_busy _ _ nothing-said (record { contents = refl; received = refl; within = omega (arith, one) }))
+
+  pub ready-reports : Reports w l (course t (link.requested link.ClearBusy false) l)
+  ready-reports =
+      let one = one-waits w (has_room t l) l.waiting (response (ReceiveReady (seq l.r) false)) 0 refl in
+      unless-refused link.ClearBusy (link_requests.refusal t l false link.ClearBusy)
+      (either l.own_busy _ _ (record { contents = refl; received = refl; within = omega (arith, one) }) nothing-said)
+
+module _ (service : Service) (tei : ℕ) where
+  abbrev its_link : Station → Link
+  its_link s = link_of service tei (line_of s)
+
+  abbrev its_way : Station → List Parts
+  its_way s = flat_map (read_as s.card.config) s.way
+
+  abbrev pub heft : ℕ → Wire → ℕ
+  heft v w = weigh_of v (its_link w.near) (its_way w.near) (its_link w.far) (its_way w.far)
+
+  pub heft-is : (v : ℕ) (c d : Config) (p q : ℕ) (w : Wire) (n m : End) → Stands c service tei p w.near n → Stands d service tei q w.far m → heft v w ≡ weigh v n m
+  heft-is v c d p q w n m near far =
+      λ i. weigh_of v (link-is service tei c p w.near n near i) (way-is service tei c p w.near n near i) (link-is service tei d q w.far m far i) (way-is service tei d q w.far m far i)
+
+  -- So many turns or losses are made, so many timers expire, and so often own busy begins or ends, while more contents are granted.
+  pub record Pays (v moved expired reported : ℕ) (w w' : Wire) : Type 0 where
+    pub more : ℕ
+    pub granted : granted_of w' ≡ granted_of w + more
+    pub falls : moved + heft v w' ≤ heft v w + (v + 4) * expired + (v + 6) * more + 2 * reported
+
+  swapped : (moved a b p q a' b' p' q' x y z : ℕ) → moved + ((a + b) + (p + q)) ≤ ((a' + b') + (p' + q')) + x + y + z
+      → moved + ((b + a) + (q + p)) ≤ ((b' + a') + (q' + p')) + x + y + z
+  swapped moved a b p q a' b' p' q' x y z h = omega (arith, h)
+
+  other-way : (a b c d more : ℕ) → a + b ≡ c + d + more → b + a ≡ d + c + more
+  other-way a b c d more e = omega (arith, e)
+
+  abbrev its : ℕ → Station → ℕ
+  its v s = load v (its_link s) + load_way v (its_way s)
+
+  abbrev between : ℕ → Station → Station → ℕ
+  between v s u = (v + 4) * undelivered (its_link s) (its_link u)
+
+  pub pays-turned : (v moved expired reported : ℕ) (w w' : Wire) → Pays v moved expired reported (turned w) w' → Pays v moved expired reported w (turned w')
+  pays-turned v moved expired reported w w' h = record {
+    more = h.more;
+    granted = other-way (length w'.near.granted) (length w'.far.granted) (length w.far.granted) (length w.near.granted) h.more h.granted;
+    falls =
+        swapped moved (its v w'.near) (its v w'.far) (between v w'.near w'.far) (between v w'.far w'.near) (its v w.far) (its v w.near) (between v w.far w.near)
+        (between v w.near w.far) ((v + 4) * expired) ((v + 6) * h.more) (2 * reported) h.falls;
+  }
+
+  module _ (c d : Config) (p q : ℕ) (past_n past_m : List LineTold) (face : Face c d) (v : ℕ) (w : Wire) (n m : End) (near : Held c service tei p past_n w.near n)
+      (far : Held d service tei q past_m w.far m) (low : m.link.r ≤ length n.link.contents) where
+    abbrev Does : Wire → ℕ → ℕ → Type 0
+    Does w' moved expired = Then service tei c d p q past_n past_m face v w n m near far low w' moved expired
+
+    here : heft v w ≡ weigh v n m
+    here = heft-is v c d p q w n m near.stands far.stands
+
+    pub from-then : (w' : Wire) (moved expired : ℕ) → Does w' moved expired → Pays v moved expired 0 w w'
+    from-then w' moved expired h = record {
+      more = h.more;
+      granted = h.granted;
+      falls =
+          sum moved (heft v w') (weigh v h.n' h.m') (heft v w) (weigh v n m) ((v + 4) * expired) ((v + 6) * h.more)
+          (heft-is v c d p q w' h.n' h.m' h.near' h.far') here h.fell.falls;
+    }
+      where
+        sum : (moved a a' b b' x y : ℕ) → a ≡ a' → b ≡ b' → moved + a' ≤ b' + x + y → moved + a ≤ b + x + y + 2 * 0
+        sum moved a a' b b' x y e f less = omega (arith, e, f, less)
+
+    abbrev moved_by : Act → ℕ
+    moved_by act = cond {A = ℕ} (is_move_of act w) 1 0
+
+    -- ---- layer 3 asks
+
+    module _ (r : Request) (rq : link.Request) (aims : (l : Line) → aim_of_request r l ≡ at_requested service tei rq (place_in l tei)) (none : contents_of r ≡ [])
+        (said : Reports v n.link (course n.terms (link.requested rq false) n.link)) where
+      abbrev s' : Station
+      s' = happens (request r) w.near
+
+      own : Stands w.near.card.config service tei p w.near n
+      own = subst (λ k. Stands k service tei p w.near n) (sym near.stands.config) near.stands
+
+      abbrev n' : End
+      n' = with_link (link.requested rq false) n
+
+      abbrev bit : Bool
+      bit = is_granted (answered (request r) w.near)
+
+      same : s' ≡ w.near → Pays v 0 0 (cond {A = ℕ} bit 1 0) w (record w { near = s' })
+      same e = record {
+        more = 0;
+        granted = let all = ap (λ (s : Station). length s.granted + length w.far.granted) e in omega (arith, all);
+        falls = kept (heft v (record w { near = s' })) (heft v w) ((v + 4) * 0) ((v + 6) * 0) (2 * cond {A = ℕ} bit 1 0) (ap (λ s. heft v (record w { near = s })) e);
+      }
+        where
+          kept : (a b x y z : ℕ) → a ≡ b → 0 + a ≤ b + x + y + z
+          kept a b x y z e = omega (arith, e)
+
+      reported : Granted service tei p w.near n own r rq aims s' → Pays v 0 0 (cond {A = ℕ} bit 1 0) w (record w { near = s' })
+      reported g = record {
+        more = 0;
+        granted = let all = ap (λ (xs : List (List ℕ)). length xs + length w.far.granted) (g.granted ∙ ap (λ xs. w.near.granted ++ xs) none ∙ append-nil w.near.granted) in omega (arith, all);
+        falls =
+            subst (λ b. 0 + heft v (record w { near = s' }) ≤ heft v w + (v + 4) * 0 + (v + 6) * 0 + 2 * cond {A = ℕ} b 1 0) (sym g.answer)
+            (sum (heft v (record w { near = s' })) (heft v w) (load v n'.link) (load v n.link) (load_way v n.way) (load v m.link + load_way v m.way) ((v + 4) * undelivered n'.link m.link)
+            ((v + 4) * undelivered m.link n'.link) ((v + 4) * undelivered n.link m.link) ((v + 4) * undelivered m.link n.link) ((v + 4) * 0) ((v + 6) * 0)
+            (heft-is v c d p q (record w { near = s' }) n' m (subst (λ k. Stands k service tei p s' n') near.stands.config g.stands) far.stands) here
+            (ap (λ (cs : List (List ℕ)). (v + 4) * (length cs - m.link.r)) said.contents) (ap (λ r. (v + 4) * (length m.link.contents - r)) said.received) said.within);
+      }
+        where
+          sum : (a b l' l way other u' z' u z x y : ℕ) → a ≡ (l' + way) + other + (u' + z') → b ≡ (l + way) + other + (u + z) → u' ≡ u → z' ≡ z → l' ≤ l + 2 → 0 + a ≤ b + x + y + 2 * 1
+          sum a b l' l way other u' z' u z x y e f g h less = omega (arith, e, f, g, h, less)
+
+      busy-pays : Pays v 0 0 (cond {A = ℕ} bit 1 0) w (acting (requests r) w)
+      busy-pays = elim (asks-stands service tei p w.near n own r rq aims) [ inl e ↦ same e | inr g ↦ reported g ]
+
+    asks-pays : (r : Request) → IsAsked service tei r → Pays v 0 0 (reports_of (requests r) w) w (acting (requests r) w)
+    asks-pays r is =
+        for-asked service tei (λ r. Pays v 0 0 (reports_of (requests r) w) w (acting (requests r) w))
+        (λ octets. from-then _ 0 0 (then-asks service tei c d p q past_n past_m face v w n m near far low octets))
+        (busy-pays (SetBusy service tei) link.SetBusy (λ l. refl) refl (busy-reports v n.terms n.link))
+        (busy-pays (ClearBusy service tei) link.ClearBusy (λ l. refl) refl (ready-reports v n.terms n.link)) r is
+
+    -- ---- a timer expires
+
+    expires-so : (timer : Timer) (its : LinkTimer) → Aims service tei timer its → May v n.terms n.link its → Pays v 0 1 0 w (acting (times_out timer) w)
+    expires-so timer its aims may =
+        from-then (acting (times_out timer) w) 0 1 (fairly-expires service tei c d p q past_n past_m face v w n m near far low timer its aims (timer-fairly v n.terms n.link its may))
+
+    pub expires-pays : (timer : Timer) → IsOfLink service tei timer → IsTimelyOf (times_out timer) w → Pays v 0 1 0 w (acting (times_out timer) w)
+    expires-pays timer is x =
+        each-timer service tei (λ timer. IsTimelyOf (times_out timer) w → Pays v 0 1 0 w (acting (times_out timer) w))
+        (λ x. expires-so (timers.T200 service tei) T200 (λ l. refl) (λ e. may-there service tei c p w.near n near.stands x.1))
+        (λ x. expires-so (timers.T203 service tei) T203 (λ l. refl) (λ e. cc e)) timer is x
+
+    -- ---- each act, but that it takes
+
+    pub acts-pays : (act : Act) → (act ≡ takes → ⊥) → IsFullTalkOf service tei act → IsTimelyOf act w → Pays v (moved_by act) (expiries_of act) (reports_of act w) w (acting act w)
+    acts-pays (requests r) not is x = asks-pays r is
+    acts-pays (times_out timer) not is x = expires-pays timer is x
+    acts-pays gives not is x = from-then (acting gives w) (moved_by gives) 0 (then-gives service tei c d p q past_n past_m face v w n m near far low)
+    acts-pays takes not is x = absurd (not refl)
+    acts-pays loses not is x = from-then (acting loses w) (moved_by loses) 0 (then-loses service tei c d p q past_n past_m face v w n m near far low)

@@ -1,0 +1,136 @@
+-- Where one end rings, no turn is left and its T200 expires, one round is enough for it to be told of the establishment.
+use Rattle.laws_wire.proofs.Vocabulary.{◌≡◌, ℕ, ◌+◌, ◌<◌, ◌≤◌, IsTrue, true, cond, List, [], ◌∷◌, ◌++◌, length, map, refl, sym, ap, subst, ◌∙◌, nat_lt, lt-ltb, arith, All, All-head, Service, Timer, Parts, spelling, ControlFrame, Terms, Link, fresh, is_multiple_frame, frame_of, after, course, given, given_of, begun, frame_given, IsInRange, End, with_link, with_sent, Config, LineTold, next, terms, Station, Wire, happens, comes, with_first_of, with_first_lost, times_out, gives, takes, acting, turned, doing_all, confirmed, heard_in, MayRepeat, rounds}
+use Rattle.lapd_frame.specs.declared.timers.Timer.TheVariants as timers
+use Rattle.model_link.specs.Events as link
+use Rattle.model_link.specs.Offers
+use Rattle.laws_wire.proofs.Acting.{ranges}
+use Rattle.laws_wire.proofs.Answered.{takes-granted}
+use Rattle.laws_wire.proofs.Awaited.{may-there}
+use Rattle.laws_wire.proofs.Calling.{end, its_ua, sabme, ua, takes-sabme}
+use Rattle.laws_wire.proofs.Held.{Held, held-given, held-lost, held-first, taken-told, taken-stands}
+use Rattle.laws_wire.proofs.LossyPhases.{first-way}
+use Rattle.laws_wire.proofs.Ringing.{ringing, answered as answered_link, its_sabme}
+use Rattle.laws_wire.proofs.Standing.{IsCarried, Stands, gives-stands}
+use Rattle.laws_wire.proofs.Talking.{Face}
+use Rattle.laws_wire.proofs.UaCalled.{renews}
+use Rattle.laws_wire.proofs.UaLost.{Rings, repeats-sabme}
+
+-- the frame that waits goes
+pub gives-waiting : (t : Terms) (l : Link) (f : ControlFrame) (fs : List ControlFrame) → l.waiting ≡ f ∷ fs → frame_given t (given t l) ≡ frame_of t f ∷ []
+gives-waiting t l f fs e =
+    ap (λ ws. frame_given t (given_of t l (Offers.offer_among t ws (begun l)) (Offers.offer_among t ws (begun l)).sent)) e
+
+module _ (service : Service) (tei : ℕ) (c d : Config) (p q : ℕ) (face : Face c d) (back : Face d c) (rt : IsInRange (terms c service tei)) (ru : IsInRange (terms d service tei)) where
+  abbrev t : Terms
+  t = terms c service tei
+
+  abbrev u : Terms
+  u = terms d service tei
+
+  abbrev Rung : ℕ → List ControlFrame → List Parts → Station → Type 0
+  Rung k ws way s = Held c service tei p [] s (end t (ringing k ws) way)
+
+  abbrev event : link.Event
+  event = link.received (link.frame (sabme t))
+
+  -- ---- the other end answers SABME
+
+  room : (control : ℕ) → 2 ≤ control → nat_lt 0 control ≡ true
+  room control low = lt-ltb 0 control (omega (arith, low))
+
+  pub answers-again : (l : Link) (s : Terms) → IsInRange s → IsTrue (is_multiple_frame l.state) → l.a ≡ 0 → l.waiting ≡ [] → (after s event l).waiting ≡ its_ua ∷ []
+  answers-again l s ranges up zero quiet =
+      ap (λ l. l.waiting) (renews s t l up zero).link
+      ∙ (λ i. cond (nat_lt (length (quiet i)) s.control) (quiet i ++ its_ua ∷ []) (quiet i))
+      ∙ ap (λ b. cond b ([] ++ its_ua ∷ []) []) (room s.control ranges.control_low)
+
+  pub answers-first : (after u event fresh).waiting ≡ its_ua ∷ []
+  answers-first = ap (λ l. l.waiting) (takes-sabme u ru t)
+
+  -- ---- a round
+
+  -- SABME waits at the one, and nothing at the other
+  module _ (k : ℕ) (w : Wire) (near : Rung k (its_sabme ∷ []) [] w.near) (past : List LineTold) (M : End) (held : Held d service tei q past w.far M) (way : M.way ≡ []) (answers : (after M.terms event M.link).waiting ≡ its_ua ∷ []) where
+    -- SABME goes
+    abbrev w1 : Wire
+    w1 = acting gives w
+
+    near1 : Rung k [] (sabme t ∷ []) w1.near
+    near1 = held-given service tei p [] c w.near (end t (ringing k (its_sabme ∷ [])) []) near refl
+
+    way1 : (w1.near.way ≡ spelling c.side (sabme t) ∷ []) × IsCarried c service tei (sabme t)
+    way1 = first-way service tei c p [] w1.near (end t (ringing k []) (sabme t ∷ [])) (sabme t) [] refl near1
+
+    -- and comes
+    abbrev reached : Station
+    reached = comes (spelling c.side (sabme t)) w.far
+
+    abbrev w2 : Wire
+    w2 = record { near = with_first_lost w1.near; far = reached }
+
+    taken : turned (acting takes (turned w1)) ≡ w2
+    taken = ap (λ ways. record { near = with_first_lost w1.near; far = with_first_of ways w.far }) way1.0
+
+    near2 : Rung k [] [] w2.near
+    near2 = held-lost service tei p [] c w1.near (end t (ringing k []) (sabme t ∷ [])) near1
+
+    abbrev m : End
+    m = with_link event M
+
+    far2 : Stands d service tei q reached m
+    far2 = taken-stands service tei q past d w.far M held c back (sabme t) way1.1
+
+    -- UA goes
+    abbrev w3 : Wire
+    w3 = record { near = w2.near; far = happens next reached }
+
+    far3 : Stands reached.card.config service tei q w3.far (with_sent m)
+    far3 = gives-stands service tei q reached m (subst (λ k. Stands k service tei q reached m) (sym far2.config) far2)
+
+    gone : (with_sent m).way ≡ ua u ∷ []
+    gone =
+        ap (λ before. before ++ frame_given m.terms (given m.terms m.link)) way ∙ gives-waiting m.terms m.link its_ua [] answers
+        ∙ ap (λ (s : Terms). frame_of s its_ua ∷ []) held.stands.terms
+
+    far-config : reached.card.config ≡ d
+    far-config = far2.config
+
+    way3 : w3.far.way ≡ spelling d.side (ua u) ∷ []
+    way3 = far3.way ∙ (λ i. map (spelling (far-config i).side) (gone i))
+
+    carried : IsCarried d service tei (ua u)
+    carried =
+        All-head (IsCarried d service tei) (ua u) []
+        (subst (All (IsCarried d service tei)) gone (subst (λ k. All (IsCarried k service tei) (with_sent m).way) far-config far3.carried))
+
+    -- and comes
+    abbrev told : Station
+    told = comes (spelling d.side (ua u)) w2.near
+
+    near4 : Held c service tei p (confirmed service tei ∷ []) told (end t (answered_link k []) [])
+    near4 =
+        let rung = end t (ringing k []) [] in
+        held-first service tei p [] c w2.near rung near2 (confirmed service tei) told (end t (answered_link k []) []) (course t (link.received (link.frame (ua u))) rung.link) refl refl refl
+        (taken-stands service tei p [] c w2.near rung near2 d face (ua u) carried) (takes-granted (spelling d.side (ua u)) w2.near) refl
+        (taken-told service tei p [] c w2.near rung near2 d face (ua u) carried) refl refl
+
+    pub round-tells : heard_in (rounds 1 w).near ≡ confirmed service tei ∷ []
+    unfolding rounds doing_all
+    round-tells =
+        ap (λ y. heard_in (acting takes (turned (acting gives (turned y)))).near) taken
+        ∙ ap (λ ways. heard_in (with_first_of ways w2.near)) way3 ∙ near4.heard
+
+  -- ---- T200 expires before it
+
+  module _ (P : Station → Type 0) (w : Wire) (h : Rings service tei c d p q face back rt ru P [] [] w) (may : MayRepeat service tei w.near) (past : List LineTold) (M : End) (held : Held d service tei q past w.far M)
+      (way : M.way ≡ []) (answers : (after M.terms event M.link).waiting ≡ its_ua ∷ []) where
+    abbrev timer : Timer
+    timer = timers.T200 service tei
+
+    few : h.repeats < t.n200
+    few = may-there service tei c p w.near (end t (ringing h.repeats []) []) h.near.stands may refl refl
+
+    pub rings-again : heard_in (rounds 1 (acting (times_out timer) w)).near ≡ confirmed service tei ∷ []
+    rings-again =
+        let x = repeats-sabme service tei c d p q face back rt ru P w h few in
+        round-tells x.repeats (acting (times_out timer) w) x.near past M held way answers

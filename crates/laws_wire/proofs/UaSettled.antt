@@ -1,0 +1,141 @@
+-- Where both ends are up, neither is busy and no turn is left: once T200 expires, so many rounds are enough for all that is missing, and it stops.
+use Rattle.laws_wire.proofs.Vocabulary.{◌≡◌, ℕ, ◌+◌, ◌≤◌, false, cond, not, ◌||◌, List, ◌++◌, length, map, take, None, Some, refl, sym, ap, subst, ◌∙◌, arith, length-map, length-append, length-take-le, eq-eqb, Service, Timer, spelling, Established, T200, T203, Link, given, End, Ends, with_link, Config, LineTold, next, gave, runs, is_running, IsCutOff, all-recovered, nothing-to_send, awaits_answer, Station, Wire, times_out, acting, turned, answered, IsStill, link_of, data_told, heard_in, is_poll, runs_t200, rounds, with_t200_expired, both_expire, BothMayRepeat, StayPatient}
+use Rattle.lapd_frame.specs.declared.timers.Timer.TheVariants as timers
+use Rattle.model_link.specs.Events as link
+use Rattle.laws_link.specs.two.CutOff as cut_off
+use Rattle.laws_link.specs.two.Needed.{needed_in, HasItsTimer}
+use Rattle.laws_link.specs.two.Rounds as two_links
+use Rattle.laws_link.proofs.OfTwo.Arriving.{AreFree}
+use Rattle.laws_link.proofs.OfTwo.Recovery.{free-recovered}
+use Rattle.laws_wire.specs.Facing.{line_of}
+use Rattle.laws_wire.proofs.Awaited.{NoneOpen, closed, may-there, open-here, link-is, runs-up}
+use Rattle.laws_wire.proofs.Held.{Held}
+use Rattle.laws_wire.proofs.Loose.{loose-turned}
+use Rattle.laws_wire.proofs.LooseRounds.{rounds-at}
+use Rattle.laws_wire.proofs.LooseUp.{LooseAt, at-turned, at-expires}
+use Rattle.laws_wire.proofs.Standing.{Stands, gives-none}
+use Rattle.laws_wire.proofs.Talking.{Face}
+use Rattle.laws_wire.proofs.TimelyArrives.{cut-off, no-answer}
+use Rattle.laws_wire.proofs.TimelyUp.{IsHushed, hushed, none-waits, none-of, none-open, timed-8}
+
+-- what is missing at layer 3 is missing at the link
+fewer : (told granted delivered r all u : ℕ) → all ≡ told + granted → delivered ≡ r → all ≤ told + delivered + u → granted ≤ r + u
+fewer told granted delivered r all u e f less = omega (arith, e, f, less)
+
+-- a link that has had all acknowledged, and takes the other for free, does not run T200
+stops : (l : Link) → HasItsTimer l → l.state ≡ Established → l.s ≡ l.a → l.peer_busy ≡ false → is_running T200 l ≡ false
+stops l h state all free =
+    ap (runs T200) (h.running ∙ ap (λ here. needed_in here l) state)
+    ∙ ap (λ b. runs T200 (cond (not b || l.peer_busy) (Some T200) (Some T203))) (eq-eqb l.s l.a all)
+    ∙ ap (λ b. runs T200 (cond b (Some T200) (Some T203))) free
+
+module _ (service : Service) (tei : ℕ) (c d : Config) (p q : ℕ) (face : Face c d) (back : Face d c) (past other : List LineTold) where
+  abbrev At : Wire → End → End → Type 0
+  At w n m = LooseAt service tei c d p q past other w n m
+
+  missing : (told : List LineTold) (r u : ℕ) (granted delivered : List (List ℕ)) (heard : List LineTold) → r ≤ length granted → delivered ≡ take r granted
+      → heard ≡ told ++ map (data_told service tei) delivered → length (told ++ map (data_told service tei) granted) ≤ length heard + u → length granted ≤ r + u
+  missing told r u granted delivered heard low is here h =
+      fewer (length told) (length granted) (length delivered) r (length (told ++ map (data_told service tei) granted)) u
+      (length-append told (map (data_told service tei) granted) ∙ ap (λ x. length told + x) (length-map granted (data_told service tei))) (ap length is ∙ length-take-le r granted low)
+      (subst (λ x. length (told ++ map (data_told service tei) granted) ≤ x + u)
+      (ap length here ∙ length-append told (map (data_told service tei) delivered) ∙ ap (λ x. length told + x) (length-map delivered (data_told service tei))) h)
+
+  nothing-said : (k : Config) (place : ℕ) (its : List LineTold) (s : Station) (n : End) → Held k service tei place its s n → given n.terms n.link ≡ None
+      → answered next s ≡ gave None
+  nothing-said k place its s n h none = gives-none service tei place s n (subst (λ k. Stands k service tei place s n) (sym h.stands.config) h.stands) none
+
+  module _ (w : Wire) (n m : End) (h : At w n m) (still : IsStill w) (may : BothMayRepeat service tei w) (near_free : n.link.own_busy ≡ false) (far_free : m.link.own_busy ≡ false) where
+    abbrev timer : Timer
+    timer = timers.T200 service tei
+
+    abbrev e : Ends
+    e = record { near = n; far = m }
+
+    abbrev n' : End
+    n' = with_link (link.expired T200) n
+
+    abbrev m' : End
+    m' = with_link (link.expired T200) m
+
+    near-hushed : IsHushed service tei n
+    near-hushed = hushed service tei c p past w.near n h.near still.near still.near_way
+
+    far-hushed : IsHushed service tei m
+    far-hushed = hushed service tei d q other w.far m h.far still.far still.far_way
+
+    near-cut : IsCutOff n m
+    near-cut =
+        cut-off n m h.loose near_free (none-waits service tei n near-hushed) near-hushed.way
+        (λ state. may-there service tei c p w.near n h.near.stands may.0 (ap awaits_answer state) (ap (runs T200) (timed-8 service tei c p past w.near n h.near h.loose.near_sane.timed state)))
+
+    far-cut : IsCutOff m n
+    far-cut =
+        cut-off m n (loose-turned n m h.loose) far_free (none-waits service tei m far-hushed) far-hushed.way
+        (λ state. may-there service tei d q w.far m h.far.stands may.1 (ap awaits_answer state) (ap (runs T200) (timed-8 service tei d q other w.far m h.far h.loose.far_sane.timed state)))
+
+    -- at the first end, and then at the other, which has no answer to come
+    abbrev w' : Wire
+    w' = acting (times_out timer) w
+
+    near-expired : At w' n' m
+    near-expired =
+        at-expires service tei c d p q face past other w n m h timer T200 (λ l. refl) (λ state running. near-cut.repeats state)
+        (λ state running. closed n m (none-open service tei n m near-hushed far-hushed))
+
+    far-open : NoneOpen m n'
+    far-open = record { commands = none-of service tei is_poll m (none-waits service tei m far-hushed) far-hushed.way; responses = no-answer n m near-cut }
+
+    both-expired : At (with_t200_expired service tei w) n' m'
+    both-expired =
+        at-turned service tei d c q p other past (acting (times_out timer) (turned w')) m' n'
+        (at-expires service tei d c q p back other past (turned w') m n' (at-turned service tei c d p q past other w' n' m near-expired) timer T200 (λ l. refl) (λ state running. far-cut.repeats state)
+        (λ state running. closed m n' far-open))
+
+    -- so both are timely
+    pub loose-goes_on : StayPatient (both_expire service tei) w
+    unfolding StayPatient
+    loose-goes_on = (
+      (λ no. open-here service tei c d p q w.near w.far n m h.near.stands h.far.stands (none-open service tei n m near-hushed far-hushed), may.0),
+      ((λ no. open-here service tei d c q p w'.far w'.near m n' near-expired.far.stands near-expired.near.stands far-open, may.1), tt),
+    )
+
+    -- what comes of it
+    pub record Settled (last : Wire) : Type 0 where
+      pub near : heard_in last.near ≡ past ++ map (data_told service tei) w.far.granted
+      pub far : heard_in last.far ≡ other ++ map (data_told service tei) w.near.granted
+      pub rests : IsStill last
+      pub near_stops : HasItsTimer (link_of service tei (line_of last.near)) → runs_t200 service tei last.near ≡ false
+      pub far_stops : HasItsTimer (link_of service tei (line_of last.far)) → runs_t200 service tei last.far ≡ false
+
+    settled : (last : Wire) (x : Ends) → At last x.near x.far → two_links.HasArrived n.link.contents x.near x.far → two_links.HasArrived m.link.contents x.far x.near → AreFree x → Settled last
+    settled last x at near far free = record {
+      near = at.near.heard ∙ ap (λ xs. past ++ map (data_told service tei) xs) (far.delivered ∙ sym h.far.granted);
+      far = at.far.heard ∙ ap (λ xs. other ++ map (data_told service tei) xs) (near.delivered ∙ sym h.near.granted);
+      rests = record {
+        near = nothing-said c p past last.near x.near at.near (nothing-to_send x.near.terms x.near.link near.nothing);
+        far = nothing-said d q other last.far x.far at.far (nothing-to_send x.far.terms x.far.link far.nothing);
+        near_way = at.near.stands.way ∙ ap (map (spelling c.side)) near.way;
+        far_way = at.far.stands.way ∙ ap (map (spelling d.side)) far.way;
+      };
+      near_stops = λ timed.
+          runs-up service tei c p last.near x.near at.near.stands at.loose.joined.near_up
+          ∙ stops x.near.link (subst HasItsTimer (link-is service tei c p last.near x.near at.near.stands) timed) near.state (near.sent ∙ sym near.acknowledged) free.0;
+      far_stops = λ timed.
+          runs-up service tei d q last.far x.far at.far.stands at.loose.joined.far_up
+          ∙ stops x.far.link (subst HasItsTimer (link-is service tei d q last.far x.far at.far.stands) timed) far.state (far.sent ∙ sym far.acknowledged) free.1;
+    }
+
+    pub loose-settles : (u : ℕ) → length (past ++ map (data_told service tei) w.far.granted) ≤ length (heard_in w.near) + u → length (other ++ map (data_told service tei) w.near.granted) ≤ length (heard_in w.far) + u
+        → Settled (rounds (u + 3) (with_t200_expired service tei w))
+    loose-settles u few-near few-far =
+        let e' = cut_off.with_t200_expired e in
+        let there : cut_off.HasMissing u n m =
+        missing other m.link.r u n.link.contents m.delivered (heard_in w.far) h.loose.joined.there.accepted h.loose.joined.there.delivered h.far.heard
+        (subst (λ xs. length (other ++ map (data_told service tei) xs) ≤ length (heard_in w.far) + u) h.near.granted few-far) in
+        let back_ : cut_off.HasMissing u m n =
+        missing past n.link.r u m.link.contents n.delivered (heard_in w.near) h.loose.joined.back.accepted h.loose.joined.back.delivered h.near.heard
+        (subst (λ xs. length (past ++ map (data_told service tei) xs) ≤ length (heard_in w.near) + u) h.far.granted few-near) in
+        let all = all-recovered u e near-cut far-cut there back_ in
+        settled (rounds (u + 3) (with_t200_expired service tei w)) (two_links.rounds (u + 3) e')
+        (rounds-at service tei c d p q face back past other (u + 3) (with_t200_expired service tei w) e' both-expired) all.0 all.1 (free-recovered u e near-cut far-cut there back_)

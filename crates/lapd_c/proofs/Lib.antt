@@ -5,7 +5,7 @@ pub mod Places
 pub mod ClockPlaces
 pub mod CardPlaces
 pub mod Contents
-pub mod Kinded
+pub mod WholeFrames
 pub mod Served
 pub mod Exchanging
 pub mod Linking

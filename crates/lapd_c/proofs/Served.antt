@@ -4,7 +4,7 @@ use Rattle.lapd_card.specs.Card as octets
 use Rattle.lapd_card.specs.FrameCard as frames
 use Rattle.lapd_c.specs.Cards.{StandsIn}
 use Rattle.lapd_c.specs.Counted.{counters_held}
-use Rattle.lapd_c.specs.Kinds.{counters_of}
+use Rattle.lapd_card.specs.Kinds.{counters_of}
 use Rattle.std.proofs.Common.{Some}
 use Rattle.model_card.specs.ports.Card as octet_card
 use Rattle.model_card.specs.ports.Event as octet_event

@@ -22,13 +22,13 @@ pub use Rattle.lapd_c.specs.ClockSlots.{HeldClock, clock_owns, heap}
 pub use Rattle.lapd_c.specs.Exchange.{answer_after, card_after, is_quiet, step_event, with_step}
 unfoldable pub use Rattle.lapd_c.specs.Exchange.{AllQuiet, given_after, steps_made}
 pub use Rattle.lapd_c.specs.Frames.{comes, fails, goes, next_at}
-pub use Rattle.lapd_c.specs.Kinds.{AnyLeads, AnyStands, CardStands, FrameCardStands, Machine, alone, card_in, line_count, shelf_of, with_ports}
+pub use Rattle.lapd_card.specs.Kinds.{AnyLeads, AnyStands, CardStands, FrameCardStands, Machine, alone, card_in, line_count, shelf_of, with_ports}
 pub use Rattle.lapd_c.specs.Laws.{ContentsFit, contents_in}
 pub use Rattle.lapd_c.specs.Links.{AreFree, state_at}
 pub use Rattle.lapd_c.specs.Orders.{after_orders, all_placed, first_fault_in}
 pub use Rattle.lapd_c.specs.declared.kept.KeptCard.{KeptCard}
-pub use Rattle.lapd_c.specs.declared.kinds.AnyCard.{AnyCard}
-pub use Rattle.lapd_c.specs.declared.kinds.AnyCard.TheVariants.{Frames, Octets}
+pub use Rattle.lapd_card.specs.declared.kinds.AnyCard.{AnyCard}
+pub use Rattle.lapd_card.specs.declared.kinds.AnyCard.TheVariants.{Frames, Octets}
 pub use Rattle.lapd_card.proofs.OctetsTaken.{meanings-count, octets-more}
 pub use Rattle.lapd_card.specs.Counted.{counters_in}
 pub use Rattle.lapd_card.specs.FrameReply.{answer_of_result}

@@ -4,10 +4,10 @@ use Rattle.model_card.specs.Card.{Card}
 use Rattle.model_card.specs.ports.Card.{OctetCard}
 use Rattle.lapd_c.specs.declared.card.CardHandle.{CardHandle}
 use Rattle.lapd_c.specs.declared.kept.KeptCard.{KeptCard}
-use Rattle.lapd_c.specs.declared.kinds.AnyCard.{AnyCard}
+use Rattle.lapd_card.specs.declared.kinds.AnyCard.{AnyCard}
 use Rattle.lapd_c.specs.declared.link_marks.LinkMarks.{LinkMarks}
 use Rattle.lapd_c.specs.CardSlots.{HeldCard}
-use Rattle.lapd_c.specs.Kinds.{Kind, kind_of, Machine, with_ports, alone, AnyStands}
+use Rattle.lapd_card.specs.Kinds.{Kind, kind_of, Machine, with_ports, alone, AnyStands}
 
 -- The card that is there, with the marks of its links that wait for room, or none; that card alone; and its kind.
 abbrev pub card_of : CardHandle → HeldCard

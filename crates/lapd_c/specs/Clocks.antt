@@ -1,10 +1,10 @@
 -- A clock as C holds it.
-use Rattle.std.specs.Prelude.{◌≡◌, ◌≤◌, ◌^◌, ℕ, nat_lt, is_some, IfSome, Result, Ok, Err, if◌then◌else◌}
+use Rattle.std.specs.Prelude.{◌≡◌, ◌≤◌, ◌^◌, ℕ, nat_lt, is_some, None, IfSome, Result, Ok, Err, if◌then◌else◌}
 use Rattle.lapd_frame.specs.declared.timers.Order.{Order}
 use Rattle.lapd_frame.specs.declared.timers.Timer.{Timer}
 use Rattle.lapd_clock.specs.Timer.{Lengths}
 use Rattle.lapd_clock.specs.Timers.{Timers, finds_place, with_order}
-use Rattle.lapd_c.specs.Statuses.{ok, wrong_line, wrong_time, no_place}
+use Rattle.lapd_c.specs.Statuses.{ok, no_clock, wrong_line, wrong_time, no_place}
 use Rattle.lapd_c.specs.declared.plain.timers.PlainDue.{PlainDue}
 use Rattle.lapd_c.specs.Timers.{plain_timer}
 use Rattle.lapd_c.specs.declared.clock.ClockHandle.{ClockHandle}
@@ -18,6 +18,11 @@ clock_of h = h.slot.clock
 pub record IsHandle (h : ClockHandle) : Type 0 where
   pub said : h.started ≡ is_some (clock_of h)
   pub lines : IfSome (clock_of h) (λ c. c.lines ≤ 64)
+
+-- Where there is no clock, this is told, and nothing changes.
+pub record IsCall (old new : ClockHandle) (result : ℕ) : Type 0 where
+  pub handle : IsHandle new
+  pub none : clock_of old ≡ None → (result ≡ no_clock) × (new ≡ old)
 
 -- A timer that fell due, with its line.
 abbrev pub plain_due : ℕ × Timer → PlainDue

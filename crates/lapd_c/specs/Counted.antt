@@ -10,7 +10,7 @@ use Rattle.lapd_card.specs.Stands.{meaning_counted}
 use Rattle.lapd_c.specs.declared.card.CardHandle.{CardHandle}
 use Rattle.lapd_c.specs.CardSlots.{HeldCard}
 use Rattle.lapd_c.specs.Cards.{card_of}
-use Rattle.lapd_c.specs.Kinds.{counters_of}
+use Rattle.lapd_card.specs.Kinds.{counters_of}
 
 -- The counters of its lines; of no card, none.
 abbrev pub counters_held : HeldCard → List Counters

@@ -8,11 +8,11 @@ use Rattle.model_card.specs.ports.Run.{run}
 use Rattle.lapd_store.specs.Store.{Store}
 use Rattle.lapd_card.specs.Card.{Held}
 use Rattle.lapd_c.specs.declared.plain.reports.PlainReport.{PlainReport}
-use Rattle.lapd_c.specs.declared.kinds.AnyCard.{AnyCard}
-use Rattle.lapd_c.specs.declared.kinds.AnyCard.TheVariants.{Octets, Frames}
+use Rattle.lapd_card.specs.declared.kinds.AnyCard.{AnyCard}
+use Rattle.lapd_card.specs.declared.kinds.AnyCard.TheVariants.{Octets, Frames}
 use Rattle.lapd_c.specs.Answers.{ShowsReply, octet_of}
 use Rattle.lapd_c.specs.CardSlots.{HeldCard}
-use Rattle.lapd_c.specs.Kinds.{CardStands}
+use Rattle.lapd_card.specs.Kinds.{CardStands}
 
 -- An answer has nothing to tell.
 abbrev pub is_quiet : Answer → Bool

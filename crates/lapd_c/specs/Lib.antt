@@ -2,6 +2,7 @@
 pub mod Statuses
 pub mod Services
 pub mod Config
+pub mod Starts
 pub mod Timers
 pub mod LinkPlaces
 pub mod Rooms
@@ -20,7 +21,6 @@ pub mod RefusedLines
 pub mod Reopened
 pub mod WorkedReopened
 pub mod CardSlots
-pub mod Kinds
 pub mod Cards
 pub mod CardLends
 pub mod Laws
@@ -29,3 +29,44 @@ pub mod Orders
 pub mod Frames
 pub mod Exchange
 pub mod Counted
+pub mod Calls
+-- the words of the contracts, from where they are defined
+pub use Rattle.lapd_card.specs.Counted.{counters_in}
+pub use Rattle.lapd_card.specs.Kinds.{alone, card_in, CardStands, for_octets, FrameCardStands, Machine, shelf_of, with_ports}
+pub use Rattle.lapd_card.specs.Ports.{told_at}
+pub use Rattle.lapd_card.specs.Stands.{Leads}
+pub use Rattle.lapd_card.specs.Waiting.{has_next, next_waiting}
+pub use Rattle.lapd_clock.specs.Timer.{first_out_of_range}
+pub use Rattle.lapd_clock.specs.Timers.{after_due, due_at, idle, next_moment, with_lengths}
+pub use Rattle.lapd_count.specs.Counters.{none_counted}
+pub use Rattle.lapd_frame.specs.ShortLists.{listed}
+pub use Rattle.lapd_line.specs.Reports.{report_told, told_in}
+pub use Rattle.model_card.specs.Counted.{all_counted, moment_counted, moment_of}
+pub use Rattle.model_card.specs.Run.{moments}
+pub use Rattle.model_card.specs.ports.Begun.{head_begun_at}
+pub use Rattle.model_card.specs.ports.HeadHeard.{head_heard_at}
+pub use Rattle.model_card.specs.ports.Run.{meant_all}
+pub use Rattle.model_card.specs.ports.Stored.{limit}
+pub use Rattle.model_line.specs.Config.{first_fault}
+pub use Rattle.model_line.specs.Event.{nothing}
+pub use Rattle.model_line.specs.Refusal.{refusal}
+pub use Rattle.lapd_c.specs.Answers.{octet_of, ShowsAnswer, ShowsReply}
+pub use Rattle.lapd_c.specs.Calls.{Begins, HasBegun, IsCall, IsCallAt, IsFramesCall, IsOctetsCall, IsReopened}
+pub use Rattle.lapd_c.specs.Starts.{IsStart}
+pub use Rattle.lapd_c.specs.Cards.{card_of, FramesStand, IsHandle, kind_in, marks_at, OctetsStand, served_card, Stands}
+pub use Rattle.lapd_c.specs.Config.{config_fault, config_in, side_in}
+pub use Rattle.lapd_c.specs.Counted.{counters_at, Counts, CountsMeaning}
+pub use Rattle.lapd_c.specs.Counters.{plain_counters}
+pub use Rattle.lapd_c.specs.Exchange.{Exchanged, ExchangedIn, is_exchange, is_quiet, step_event, steps_made, with_step}
+pub use Rattle.lapd_c.specs.Frames.{comes, fails, goes, IsGiven, next_at}
+pub use Rattle.lapd_c.specs.Heads.{plain_head}
+pub use Rattle.lapd_c.specs.LinkMarks.{AreMarked, AreUnmarked, marks_of, MarksBecome}
+pub use Rattle.lapd_c.specs.Links.{FirstFrom, IsNext, NoneFrom}
+pub use Rattle.lapd_c.specs.Notes.{plain_note}
+pub use Rattle.lapd_c.specs.Reopened.{is_open, is_there, IsFirstOpen, refused_place, ShowsReopened, TellsReopened, waits_on, waits_there, WaitsFor, with_reopened}
+pub use Rattle.lapd_c.specs.Reports.{contents_in, contents_of, mark_of, orders_of, SameButContents, Shows, ShowsPull}
+pub use Rattle.lapd_c.specs.Requests.{request_in}
+pub use Rattle.lapd_c.specs.Rooms.{plain_room}
+pub use Rattle.lapd_c.specs.Services.{service_in}
+pub use Rattle.lapd_c.specs.Statuses.{field_status, refusal_status}
+pub use Rattle.lapd_c.specs.Timers.{link_in, order_in, plain_order, timer_in}

@@ -2,23 +2,16 @@
 
 ghost use Rattle.std.specs.Borrow.{sem};
 ghost use Rattle.std.specs.Option.{option_copied_mut};
-ghost use Rattle.std.specs.Prelude.{◌≡◌, ◌⊎◌, ◌<◌, Some, None, Ok, Err, IfOk, IfErr, IfSome, IfNone, option_map, replicate};
+ghost use Rattle.std.specs.Prelude.{◌≡◌, ◌<◌, Some, None, Ok, Err, IfOk, IfErr, IfSome, IfNone, option_map};
+ghost use Rattle.lapd_c.specs.{first_fault, config_in, config_fault, with_ports, alone, Begins, HasBegun, IsCall, IsStart, card_of, IsHandle};
 ghost use Rattle.model_card.specs.Card as frames;
-ghost use Rattle.model_line.specs.Config.{first_fault};
 ghost use Rattle.model_card.specs.ports.Card as octets;
-ghost use Rattle.lapd_c.specs.Config.{config_in, config_fault};
 ghost use Rattle.lapd_c.specs.Statuses as status;
-ghost use Rattle.lapd_count.specs.Counters.{none_counted};
-ghost use Rattle.lapd_c.specs.Counted.{counters_at};
-ghost use Rattle.lapd_c.specs.Kinds.{AnyStands, with_ports, alone, counters_of};
-ghost use Rattle.lapd_c.specs.Cards.{card_of, marks_at, IsHandle, OctetsStand, FramesStand};
-ghost use Rattle.lapd_c.specs.LinkMarks.{AreUnmarked};
 
 use crate::card_slot::CardSlot;
 use crate::kept::KeptCard;
-use crate::kinds::AnyCard;
 use crate::plain::{NO_CARD, NO_MEMORY, OK, PlainConfig, SECOND_START};
-use lapd_card::{Card, FrameCard};
+use lapd_card::{AnyCard, Card, FrameCard};
 use lapd_store::RawShelf;
 use model_line::Config;
 use std::alloc::Global;
@@ -103,15 +96,8 @@ pub extern "C" fn lapd_card_start(
 ) -> u32
     requires { IsHandle handle.old }
     ensures handle { IsHandle handle.new }
-    ensures second { IfSome (card_of handle.old) (λ _. (result ≡ status.second_start) × (handle.new ≡ handle.old)) }
-    ensures fault { card_of handle.old ≡ None → IfSome (config_fault config.now)
-        (λ wrong. (result ≡ wrong) × (handle.new ≡ handle.old)) }
-    ensures otherwise { card_of handle.old ≡ None → config_fault config.now ≡ None
-        → (result ≡ status.ok) ⊎ (result ≡ status.no_memory) }
-    ensures fresh { result ≡ status.ok → OctetsStand handle.new (octets.fresh (config_in config.now)) }
-    ensures counters { result ≡ status.ok → counters_at handle.new ≡ replicate (config_in config.now).lines none_counted }
-    ensures marks { result ≡ status.ok → AreUnmarked (config_in config.now).lines (marks_at handle.new) }
-    ensures no_memory { result ≡ status.no_memory → handle.new ≡ handle.old }
+    ensures start { IsStart card_of config.now handle.old handle.new result }
+    ensures begun { result ≡ status.ok → HasBegun (with_ports (octets.fresh (config_in config.now))) (card_of handle.new) }
 {
     let config = match startable(handle, config) {
         Ok(config) => config,
@@ -127,9 +113,7 @@ pub extern "C" fn lapd_card_start(
 // A card for octets of a configuration that is in range, if there is memory for it.
 fn octets_started(alloc: Global, config: Config) -> Option<Box<KeptCard>>
     requires { first_fault config ≡ None }
-    ensures fresh { IfSome result (λ kept. AnyStands kept.value.card (with_ports (octets.fresh config))) }
-    ensures counters { IfSome result (λ kept. counters_of kept.value.card ≡ replicate config.lines none_counted) }
-    ensures marks { IfSome result (λ kept. AreUnmarked config.lines kept.value.refused) }
+    ensures { IfSome result (λ kept. Begins (with_ports (octets.fresh config)) kept.value) }
 {
     let shelf = RawShelf::start(alloc, u32::from(config.slots), config.n201).ok()?;
     let card = Card::start(alloc, config, shelf).ok()?;
@@ -145,15 +129,8 @@ pub extern "C" fn lapd_card_start_frames(
 ) -> u32
     requires { IsHandle handle.old }
     ensures handle { IsHandle handle.new }
-    ensures second { IfSome (card_of handle.old) (λ _. (result ≡ status.second_start) × (handle.new ≡ handle.old)) }
-    ensures fault { card_of handle.old ≡ None → IfSome (config_fault config.now)
-        (λ wrong. (result ≡ wrong) × (handle.new ≡ handle.old)) }
-    ensures otherwise { card_of handle.old ≡ None → config_fault config.now ≡ None
-        → (result ≡ status.ok) ⊎ (result ≡ status.no_memory) }
-    ensures fresh { result ≡ status.ok → FramesStand handle.new (frames.fresh (config_in config.now)) }
-    ensures counters { result ≡ status.ok → counters_at handle.new ≡ replicate (config_in config.now).lines none_counted }
-    ensures marks { result ≡ status.ok → AreUnmarked (config_in config.now).lines (marks_at handle.new) }
-    ensures no_memory { result ≡ status.no_memory → handle.new ≡ handle.old }
+    ensures start { IsStart card_of config.now handle.old handle.new result }
+    ensures begun { result ≡ status.ok → HasBegun (alone (frames.fresh (config_in config.now))) (card_of handle.new) }
 {
     let config = match startable(handle, config) {
         Ok(config) => config,
@@ -169,9 +146,7 @@ pub extern "C" fn lapd_card_start_frames(
 // A card for frames of a configuration that is in range, if there is memory for it.
 fn frames_started(alloc: Global, config: Config) -> Option<Box<KeptCard>>
     requires { first_fault config ≡ None }
-    ensures fresh { IfSome result (λ kept. AnyStands kept.value.card (alone (frames.fresh config))) }
-    ensures counters { IfSome result (λ kept. counters_of kept.value.card ≡ replicate config.lines none_counted) }
-    ensures marks { IfSome result (λ kept. AreUnmarked config.lines kept.value.refused) }
+    ensures { IfSome result (λ kept. Begins (alone (frames.fresh config)) kept.value) }
 {
     let shelf = RawShelf::start(alloc, u32::from(config.slots), config.n201).ok()?;
     let card = FrameCard::start(alloc, config, shelf).ok()?;
@@ -182,8 +157,7 @@ fn frames_started(alloc: Global, config: Config) -> Option<Box<KeptCard>>
 #[unsafe(no_mangle)]
 pub extern "C" fn lapd_card_free(alloc: Global, handle: &mut CardHandle) -> u32
     requires { IsHandle handle.old }
-    ensures handle { IsHandle handle.new }
-    ensures no_card { card_of handle.old ≡ None → (result ≡ status.no_card) × (handle.new ≡ handle.old) }
+    ensures call { IsCall handle.old handle.new result }
     ensures freed { IfSome (card_of handle.old) (λ _. (result ≡ status.ok) × (card_of handle.new ≡ None)) }
 {
     match handle.take(alloc) {

@@ -2,18 +2,15 @@
 
 ghost use Rattle.std.specs.Borrow.{sem};
 ghost use Rattle.std.specs.Option.{option_copied_mut};
-ghost use Rattle.std.specs.Prelude.{◌≡◌, ◌≤◌, ◌<◌, ◌⊎◌, Some, None, IfSome, IfNone, option_map};
-ghost use Rattle.lapd_clock.specs.Timers.{due_at, after_due, next_moment, idle, with_lengths};
-ghost use Rattle.lapd_clock.specs.Timer.{first_out_of_range};
-ghost use Rattle.lapd_c.specs.Config.{config_fault};
+ghost use Rattle.std.specs.Prelude.{◌≡◌, ◌≢◌, ◌≤◌, ◌<◌, Some, None, IfSome, IfNone, option_map};
+ghost use Rattle.lapd_c.specs.{due_at, after_due, next_moment, idle, with_lengths, first_out_of_range, order_in, IsStart};
 ghost use Rattle.lapd_c.specs.Statuses as status;
-ghost use Rattle.lapd_c.specs.Timers.{order_in};
-ghost use Rattle.lapd_c.specs.Clocks.{clock_of, IsHandle, plain_due, order_status, after_order, apply_status, after_apply, lengths_given};
+ghost use Rattle.lapd_c.specs.Clocks.{clock_of, IsCall, IsHandle, plain_due, order_status, after_order, apply_status, after_apply, lengths_given};
 
 use crate::clock_slot::ClockSlot;
 use crate::plain::{
-    NO_CLOCK, NO_MEMORY, NO_PLACE, NO_TIMER, OK, PlainConfig, PlainDue, PlainOrder, PlainTimer,
-    SECOND_START, WRONG_LINE, WRONG_TIME,
+    NO_CLOCK, NO_MEMORY, NO_PLACE, NO_TIMER, OK, PlainConfig, PlainDue, PlainOrder, SECOND_START,
+    WRONG_LINE, WRONG_TIME,
 };
 use lapd_clock::{Clock, Lengths};
 use std::alloc::Global;
@@ -84,13 +81,8 @@ pub extern "C" fn lapd_clock_start(
 ) -> u32
     requires { IsHandle handle.old }
     ensures handle { IsHandle handle.new }
-    ensures second { IfSome (clock_of handle.old) (λ _. (result ≡ status.second_start) × (handle.new ≡ handle.old)) }
-    ensures fault { clock_of handle.old ≡ None → IfSome (config_fault config.now)
-        (λ status. (result ≡ status) × (handle.new ≡ handle.old)) }
-    ensures otherwise { clock_of handle.old ≡ None → config_fault config.now ≡ None
-        → (result ≡ status.ok) ⊎ (result ≡ status.no_memory) }
+    ensures start { IsStart clock_of config.now handle.old handle.new result }
     ensures idle { result ≡ status.ok → clock_of handle.new ≡ Some (idle config.now.lines config.now.terminals) }
-    ensures no_memory { result ≡ status.no_memory → handle.new ≡ handle.old }
 {
     if handle.started {
         return SECOND_START;
@@ -122,8 +114,7 @@ pub extern "C" fn lapd_clock_set_lengths(
     t201: u32,
 ) -> u32
     requires { IsHandle handle.old }
-    ensures handle { IsHandle handle.new }
-    ensures no_clock { clock_of handle.old ≡ None → (result ≡ status.no_clock) × (handle.new ≡ handle.old) }
+    ensures call { IsCall handle.old handle.new result }
     ensures out_of_range { IfSome (first_out_of_range (lengths_given t200 t203 t201)) (λ _. IfSome (clock_of handle.old)
         (λ _. (result ≡ status.wrong_time) × (clock_of handle.new ≡ clock_of handle.old))) }
     ensures set { first_out_of_range (lengths_given t200 t203 t201) ≡ None → IfSome (clock_of handle.old)
@@ -145,8 +136,7 @@ pub extern "C" fn lapd_clock_set_lengths(
 #[unsafe(no_mangle)]
 pub extern "C" fn lapd_clock_free(alloc: Global, handle: &mut ClockHandle) -> u32
     requires { IsHandle handle.old }
-    ensures handle { IsHandle handle.new }
-    ensures no_clock { clock_of handle.old ≡ None → (result ≡ status.no_clock) × (handle.new ≡ handle.old) }
+    ensures call { IsCall handle.old handle.new result }
     ensures freed { IfSome (clock_of handle.old) (λ _. (result ≡ status.ok) × (clock_of handle.new ≡ None)) }
 {
     match handle.take(alloc) {
@@ -167,8 +157,7 @@ pub extern "C" fn lapd_clock_apply(
     now: u64,
 ) -> u32
     requires { IsHandle handle.old }
-    ensures handle { IsHandle handle.new }
-    ensures no_clock { clock_of handle.old ≡ None → (result ≡ status.no_clock) × (handle.new ≡ handle.old) }
+    ensures call { IsCall handle.old handle.new result }
     ensures applied { IfSome (clock_of handle.old) (λ c. result ≡ apply_status c line (order_in order.now) now) }
     ensures after { clock_of handle.new ≡ option_map (λ c. after_apply c line (order_in order.now) now) (clock_of handle.old) }
 {
@@ -208,12 +197,10 @@ pub(crate) fn carry_out_one(clock: &mut Clock, line: usize, order: &PlainOrder, 
 #[unsafe(no_mangle)]
 pub extern "C" fn lapd_clock_due(handle: &mut ClockHandle, now: u64, due: &mut PlainDue) -> u32
     requires { IsHandle handle.old }
-    ensures handle { IsHandle handle.new }
-    ensures no_clock { clock_of handle.old ≡ None
-        → (result ≡ status.no_clock) × (handle.new ≡ handle.old) × (due.new ≡ due.old) }
+    ensures call { IsCall handle.old handle.new result }
+    ensures untold { result ≢ status.ok → due.new ≡ due.old }
     ensures after { clock_of handle.new ≡ option_map (λ c. after_due c now) (clock_of handle.old) }
-    ensures none { IfSome (clock_of handle.old) (λ c. due_at c now ≡ None
-        → (result ≡ status.no_timer) × (due.new ≡ due.old)) }
+    ensures none { IfSome (clock_of handle.old) (λ c. due_at c now ≡ None → result ≡ status.no_timer) }
     ensures due { IfSome (clock_of handle.old) (λ c. IfSome (due_at c now)
         (λ first. (result ≡ status.ok) × (due.new ≡ plain_due first))) }
 {
@@ -223,10 +210,8 @@ pub extern "C" fn lapd_clock_due(handle: &mut ClockHandle, now: u64, due: &mut P
     let first = clock.due(now);
     match first {
         Some((line, timer)) => {
-            *due = PlainDue {
-                line: line as u32,
-                timer: PlainTimer::of(timer),
-            };
+            due.line = line as u32;
+            due.timer.show(timer);
             OK
         }
         None => NO_TIMER,
@@ -237,12 +222,10 @@ pub extern "C" fn lapd_clock_due(handle: &mut ClockHandle, now: u64, due: &mut P
 #[unsafe(no_mangle)]
 pub extern "C" fn lapd_clock_next(handle: &mut ClockHandle, moment: &mut u64) -> u32
     requires { IsHandle handle.old }
-    ensures handle { IsHandle handle.new }
-    ensures no_clock { clock_of handle.old ≡ None
-        → (result ≡ status.no_clock) × (handle.new ≡ handle.old) × (moment.new ≡ moment.old) }
+    ensures call { IsCall handle.old handle.new result }
+    ensures untold { result ≢ status.ok → moment.new ≡ moment.old }
     ensures unchanged { clock_of handle.new ≡ clock_of handle.old }
-    ensures none { IfSome (clock_of handle.old) (λ c. next_moment c ≡ None
-        → (result ≡ status.no_timer) × (moment.new ≡ moment.old)) }
+    ensures none { IfSome (clock_of handle.old) (λ c. next_moment c ≡ None → result ≡ status.no_timer) }
     ensures next { IfSome (clock_of handle.old) (λ c. IfSome (next_moment c)
         (λ first. (result ≡ status.ok) × (moment.new ≡ first))) }
 {

@@ -1,19 +1,12 @@
 //! What happens at a card of either kind: a timer that expires, a request.
 
-ghost use Rattle.std.specs.Prelude.{◌≡◌, ◌≢◌, ◌≤◌, ◌<◌, None, IfSome, IfOk, IfErr};
+ghost use Rattle.std.specs.Prelude.{◌≡◌, ◌≢◌, ◌<◌, None, IfSome, IfOk, IfErr};
+ghost use Rattle.lapd_c.specs.{refusal, IsCallAt, IsReopened, ShowsAnswer, WaitsFor, refused_place, refusal_status, request_in, timer_in, card_of, kind_in, marks_at, served_card, IsHandle, Stands, Counts, counters_at};
 ghost use Rattle.model_card.specs.Card as machine;
 ghost use Rattle.model_card.specs.Event.{at};
 ghost use Rattle.model_line.specs.Event as line_event;
-ghost use Rattle.model_line.specs.Refusal.{refusal};
-ghost use Rattle.lapd_c.specs.Answers.{ShowsAnswer};
-ghost use Rattle.lapd_c.specs.Reopened.{TellsReopened, WaitsFor, refused_place};
 ghost use Rattle.lapd_c.specs.Statuses as status;
-ghost use Rattle.lapd_c.specs.Statuses.{refusal_status};
-ghost use Rattle.lapd_c.specs.Requests.{request_in};
-ghost use Rattle.lapd_c.specs.Timers.{timer_in};
-ghost use Rattle.lapd_c.specs.Cards.{card_of, kind_in, marks_at, served_card, IsHandle, Stands};
-ghost use Rattle.lapd_c.specs.Counted.{Counts, counters_at};
-ghost use Rattle.lapd_c.specs.Kinds.{Machine, card_in, after, answer};
+ghost use Rattle.lapd_card.specs.Kinds.{Machine, card_in, after, answer};
 
 use crate::card::CardHandle;
 use crate::plain::{
@@ -30,12 +23,9 @@ pub extern "C" fn lapd_expire(
     report: &mut PlainReport,
 ) -> u32
     requires { IsHandle handle.old }
-    ensures handle { IsHandle handle.new }
+    ensures call { IsCallAt line handle.old handle.new result }
     ensures kind { kind_in handle.new ≡ kind_in handle.old }
     ensures unchanged { result ≢ status.ok → (card_of handle.new ≡ card_of handle.old) × (report.new ≡ report.old) }
-    ensures no_card { card_of handle.old ≡ None → (result ≡ status.no_card) × (handle.new ≡ handle.old) }
-    ensures wrong_line { (m : Machine) → Stands handle.old m → (card_in m).config.lines ≤ line
-        → result ≡ status.wrong_line }
     ensures wrong_timer { (m : Machine) → Stands handle.old m → line < (card_in m).config.lines
         → IfErr (timer_in timer.now) (λ wrong. result ≡ wrong) }
     ensures served { (m : Machine) → Stands handle.old m → line < (card_in m).config.lines
@@ -44,8 +34,7 @@ pub extern "C" fn lapd_expire(
         × ShowsAnswer report.new (answer (at line (line_event.expiry expired)) m)) }
     ensures counted { (m : Machine) → Stands handle.old m → line < (card_in m).config.lines
         → IfOk (timer_in timer.now) (λ expired. Counts (at line (line_event.expiry expired)) (card_in m) (counters_at handle.old) (counters_at handle.new)) }
-    ensures reopened { (m : Machine) → Stands handle.new m → line < (card_in m).config.lines → result ≡ status.ok
-        → TellsReopened line (card_in m) (marks_at handle.old) (marks_at handle.new) report.new }
+    ensures reopened { IsReopened line handle.old handle.new result report.new }
 {
     let Some(kept) = handle.card() else {
         return NO_CARD;
@@ -77,14 +66,11 @@ pub extern "C" fn lapd_request(
     report: &mut PlainReport,
 ) -> u32
     requires { IsHandle handle.old }
-    ensures handle { IsHandle handle.new }
+    ensures call { IsCallAt line handle.old handle.new result }
     ensures kind { kind_in handle.new ≡ kind_in handle.old }
     ensures unchanged { result ≢ status.ok → (served_card handle.new ≡ served_card handle.old) × (report.new ≡ report.old) }
     ensures waits { result ≢ status.ok
         → WaitsFor (refused_place result request service tei) line (marks_at handle.old) (marks_at handle.new) }
-    ensures no_card { card_of handle.old ≡ None → (result ≡ status.no_card) × (handle.new ≡ handle.old) }
-    ensures wrong_line { (m : Machine) → Stands handle.old m → (card_in m).config.lines ≤ line
-        → result ≡ status.wrong_line }
     ensures wrong_request { (m : Machine) → Stands handle.old m → line < (card_in m).config.lines
         → IfErr (request_in request service tei contents.now) (λ wrong. result ≡ wrong) }
     ensures refused { (m : Machine) → Stands handle.old m → line < (card_in m).config.lines
@@ -99,8 +85,7 @@ pub extern "C" fn lapd_request(
         → IfOk (request_in request service tei contents.now) (λ asked.
         refusal (card_in m).config (machine.is_full (card_in m)) asked (machine.line_at line (card_in m)) ≡ None
         → Counts (at line (line_event.request asked)) (card_in m) (counters_at handle.old) (counters_at handle.new)) }
-    ensures reopened { (m : Machine) → Stands handle.new m → line < (card_in m).config.lines → result ≡ status.ok
-        → TellsReopened line (card_in m) (marks_at handle.old) (marks_at handle.new) report.new }
+    ensures reopened { IsReopened line handle.old handle.new result report.new }
 {
     let Some(kept) = handle.card() else {
         return NO_CARD;

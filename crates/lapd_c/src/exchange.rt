@@ -1,31 +1,17 @@
 //! Octets taken and given in turn.
 
-ghost use Rattle.std.specs.Prelude.{◌≡◌, ◌≢◌, ◌≤◌, ◌<◌, ◌*◌, ◌-◌, true, false, not, length, Some, None};
+ghost use Rattle.std.specs.Prelude.{◌≡◌, ◌≢◌, ◌≤◌, ◌<◌, ◌*◌, ◌-◌, true, false, not, length};
+ghost use Rattle.lapd_c.specs.{meant_all, told_at, Leads, report_told, IsOctetsCall, IsReopened, ShowsReply, octet_of, Shows, contents_of, card_of, IsHandle, OctetsStand, CardStands, shelf_of, counters_at, is_quiet, is_exchange, step_event, steps_made, with_step, Exchanged, ExchangedIn, counters_in, all_counted, moments};
 ghost use Rattle.model_card.specs.ports.Card as machine;
 ghost use Rattle.model_card.specs.ports.Card.{answer};
 ghost use Rattle.model_card.specs.ports.Event.{at};
 ghost use Rattle.model_card.specs.ports.Port as port;
-ghost use Rattle.model_card.specs.ports.Run.{meant_all};
 ghost use Rattle.lapd_card.specs.Card.{line_count};
-ghost use Rattle.lapd_card.specs.Ports.{told_at};
-ghost use Rattle.lapd_card.specs.Stands.{Leads};
-ghost use Rattle.lapd_line.specs.Reports.{report_told};
-ghost use Rattle.lapd_c.specs.Answers.{ShowsReply, octet_of};
-ghost use Rattle.lapd_c.specs.Reports.{Shows, contents_of};
-ghost use Rattle.lapd_c.specs.Reopened.{TellsReopened};
 ghost use Rattle.lapd_c.specs.Statuses as status;
-ghost use Rattle.lapd_c.specs.Cards.{card_of, kind_in, marks_at, IsHandle, OctetsStand};
-ghost use Rattle.lapd_c.specs.Kinds.{CardStands, for_frames, shelf_of};
-ghost use Rattle.lapd_c.specs.Counted.{counters_at};
-ghost use Rattle.lapd_c.specs.Exchange.{is_quiet, is_exchange, step_event, steps_made, with_step, Exchanged, ExchangedIn};
-ghost use Rattle.lapd_card.specs.Counted.{counters_in};
-ghost use Rattle.model_card.specs.Counted.{all_counted};
-ghost use Rattle.model_card.specs.Run.{moments};
 
 use crate::card::CardHandle;
-use crate::kinds::AnyCard;
 use crate::plain::{NO_CARD, OK, PlainReport, WRONG_CARD, WRONG_LENGTH, WRONG_LINE};
-use lapd_card::{BareReport, Card, Report};
+use lapd_card::{AnyCard, BareReport, Card, Report};
 use lapd_store::RawShelf;
 
 /// Takes and gives octets in turn: step 2i takes octet i of those taken, step 2i + 1 gives octet i of those given. Goes
@@ -40,13 +26,9 @@ pub extern "C" fn lapd_exchange(
     report: &mut PlainReport,
 ) -> u32
     requires { IsHandle handle.old }
-    ensures handle { IsHandle handle.new }
+    ensures call { IsOctetsCall line handle.old handle.new result }
     ensures unchanged { result ≢ status.ok
         → (card_of handle.new ≡ card_of handle.old) × (given.new ≡ given.old) × (steps.new ≡ steps.old) × (report.new ≡ report.old) }
-    ensures no_card { card_of handle.old ≡ None → (result ≡ status.no_card) × (handle.new ≡ handle.old) }
-    ensures wrong_card { kind_in handle.old ≡ Some for_frames → result ≡ status.wrong_card }
-    ensures wrong_line { (m : machine.OctetCard) → OctetsStand handle.old m → m.card.config.lines ≤ line
-        → result ≡ status.wrong_line }
     ensures wrong_length { (m : machine.OctetCard) → OctetsStand handle.old m → line < m.card.config.lines
         → is_exchange taken.now given.old steps.old ≡ false → result ≡ status.wrong_length }
     ensures served { (m : machine.OctetCard) → OctetsStand handle.old m → line < m.card.config.lines
@@ -55,8 +37,7 @@ pub extern "C" fn lapd_exchange(
     ensures counted { (m : machine.OctetCard) → OctetsStand handle.old m → line < m.card.config.lines
         → is_exchange taken.now given.old steps.old ≡ true
         → counters_at handle.new ≡ all_counted (counters_at handle.old) (moments m.card (meant_all m (steps_made line taken.now steps.old (steps.new - steps.old)))) }
-    ensures reopened { (m : machine.OctetCard) → OctetsStand handle.new m → line < m.card.config.lines → result ≡ status.ok
-        → TellsReopened line m.card (marks_at handle.old) (marks_at handle.new) report.new }
+    ensures reopened { IsReopened line handle.old handle.new result report.new }
 {
     let Some(kept) = handle.card() else {
         return NO_CARD;

@@ -1,28 +1,19 @@
-//! What happens at a card for frames: a frame that comes, a fault in place of one, and the frame that goes next.
+//! What happens at a card for frames: a frame that comes, a fault in place of one, and the frame that goes next; and on which
+//! lines one waits.
 
 ghost use Rattle.std.specs.Prelude.{◌≡◌, ◌≢◌, ◌+◌, ◌≤◌, ◌<◌, true, length, Some, None, IfSome, IfOk, IfErr};
+ghost use Rattle.lapd_c.specs.{moment_counted, moment_of, counters_in, has_next, next_waiting, IsCall, IsFramesCall, IsReopened, ShowsAnswer, ShowsPull, card_of, kind_in, marks_at, IsHandle, FramesStand, Counts, counters_at, for_octets, FrameCardStands, comes, fails, goes, next_at, IsGiven};
 ghost use Rattle.model_card.specs.Card as machine;
-ghost use Rattle.model_card.specs.Counted.{moment_counted, moment_of};
 ghost use Rattle.model_card.specs.Machine.{after, answer};
-ghost use Rattle.lapd_card.specs.Counted.{counters_in};
 ghost use Rattle.lapd_card.specs.FrameCard.{line_count};
-ghost use Rattle.lapd_card.specs.Waiting.{has_next};
-ghost use Rattle.lapd_c.specs.Answers.{ShowsAnswer};
 ghost use Rattle.lapd_c.specs.Faults.{fault_in};
-ghost use Rattle.lapd_c.specs.Reopened.{TellsReopened};
-ghost use Rattle.lapd_c.specs.Reports.{ShowsPull};
 ghost use Rattle.lapd_c.specs.Statuses as status;
-ghost use Rattle.lapd_c.specs.Cards.{card_of, kind_in, marks_at, IsHandle, FramesStand};
-ghost use Rattle.lapd_c.specs.Counted.{Counts, counters_at};
-ghost use Rattle.lapd_c.specs.Kinds.{for_octets, FrameCardStands};
-ghost use Rattle.lapd_c.specs.Frames.{comes, fails, goes, next_at, IsGiven};
 
 use crate::card::CardHandle;
-use crate::kinds::AnyCard;
 use crate::plain::{
     NO_CARD, NO_FRAME, OK, PlainReport, WRONG_CARD, WRONG_LENGTH, WRONG_LINE, fault_in,
 };
-use lapd_card::{BareReport, FrameCard};
+use lapd_card::{AnyCard, BareReport, FrameCard};
 use lapd_store::RawShelf;
 
 /// Takes a frame that came from a line, from its address to its information, without its check.
@@ -34,19 +25,14 @@ pub extern "C" fn lapd_frame(
     report: &mut PlainReport,
 ) -> u32
     requires { IsHandle handle.old }
-    ensures handle { IsHandle handle.new }
+    ensures call { IsFramesCall line handle.old handle.new result }
     ensures unchanged { result ≢ status.ok → (card_of handle.new ≡ card_of handle.old) × (report.new ≡ report.old) }
-    ensures no_card { card_of handle.old ≡ None → (result ≡ status.no_card) × (handle.new ≡ handle.old) }
-    ensures wrong_card { kind_in handle.old ≡ Some for_octets → result ≡ status.wrong_card }
-    ensures wrong_line { (m : machine.Card) → FramesStand handle.old m → m.config.lines ≤ line
-        → result ≡ status.wrong_line }
     ensures served { (m : machine.Card) → FramesStand handle.old m → line < m.config.lines
         → (result ≡ status.ok) × FramesStand handle.new (after (comes line octets.now m) m)
         × ShowsAnswer report.new (answer (comes line octets.now m) m) }
     ensures counted { (m : machine.Card) → FramesStand handle.old m → line < m.config.lines
         → Counts (comes line octets.now m) m (counters_at handle.old) (counters_at handle.new) }
-    ensures reopened { (m : machine.Card) → FramesStand handle.new m → line < m.config.lines → result ≡ status.ok
-        → TellsReopened line m (marks_at handle.old) (marks_at handle.new) report.new }
+    ensures reopened { IsReopened line handle.old handle.new result report.new }
 {
     let Some(kept) = handle.card() else {
         return NO_CARD;
@@ -91,12 +77,8 @@ pub extern "C" fn lapd_frame_failed(
     report: &mut PlainReport,
 ) -> u32
     requires { IsHandle handle.old }
-    ensures handle { IsHandle handle.new }
+    ensures call { IsFramesCall line handle.old handle.new result }
     ensures unchanged { result ≢ status.ok → (card_of handle.new ≡ card_of handle.old) × (report.new ≡ report.old) }
-    ensures no_card { card_of handle.old ≡ None → (result ≡ status.no_card) × (handle.new ≡ handle.old) }
-    ensures wrong_card { kind_in handle.old ≡ Some for_octets → result ≡ status.wrong_card }
-    ensures wrong_line { (m : machine.Card) → FramesStand handle.old m → m.config.lines ≤ line
-        → result ≡ status.wrong_line }
     ensures wrong_cause { (m : machine.Card) → FramesStand handle.old m → line < m.config.lines
         → IfErr (fault_in cause) (λ wrong. result ≡ wrong) }
     ensures served { (m : machine.Card) → FramesStand handle.old m → line < m.config.lines
@@ -105,8 +87,7 @@ pub extern "C" fn lapd_frame_failed(
         × ShowsAnswer report.new (answer (fails line fault) m)) }
     ensures counted { (m : machine.Card) → FramesStand handle.old m → line < m.config.lines
         → IfOk (fault_in cause) (λ fault. Counts (fails line fault) m (counters_at handle.old) (counters_at handle.new)) }
-    ensures reopened { (m : machine.Card) → FramesStand handle.new m → line < m.config.lines → result ≡ status.ok
-        → TellsReopened line m (marks_at handle.old) (marks_at handle.new) report.new }
+    ensures reopened { IsReopened line handle.old handle.new result report.new }
 {
     let Some(kept) = handle.card() else {
         return NO_CARD;
@@ -140,16 +121,12 @@ pub extern "C" fn lapd_next_frame(
     report: &mut PlainReport,
 ) -> u32
     requires { IsHandle handle.old }
-    ensures handle { IsHandle handle.new }
+    ensures call { IsFramesCall line handle.old handle.new result }
     ensures untold { result ≢ status.ok → (out.new ≡ out.old) × (count.new ≡ count.old) × (report.new ≡ report.old) }
     ensures stays { (m : machine.Card) → FramesStand handle.old m → result ≢ status.ok → FramesStand handle.new m }
     ensures uncounted { (m : machine.Card) → FramesStand handle.old m → result ≢ status.ok
         → counters_at handle.new ≡ counters_at handle.old }
-    ensures no_card { card_of handle.old ≡ None → (result ≡ status.no_card) × (handle.new ≡ handle.old) }
-    ensures wrong_card { kind_in handle.old ≡ Some for_octets
-        → (result ≡ status.wrong_card) × (card_of handle.new ≡ card_of handle.old) }
-    ensures wrong_line { (m : machine.Card) → FramesStand handle.old m → m.config.lines ≤ line
-        → result ≡ status.wrong_line }
+    ensures other_card { kind_in handle.old ≡ Some for_octets → card_of handle.new ≡ card_of handle.old }
     ensures wrong_length { (m : machine.Card) → FramesStand handle.old m → line < m.config.lines
         → length out.old < m.config.n201 + 4 → result ≡ status.wrong_length }
     ensures none { (m : machine.Card) → FramesStand handle.old m → line < m.config.lines
@@ -160,8 +137,7 @@ pub extern "C" fn lapd_next_frame(
         × IsGiven next out.old out.new count.new × ShowsPull report.new true (has_next line (after (goes line) m)) next.orders) }
     ensures counted { (m : machine.Card) → FramesStand handle.old m → line < m.config.lines
         → m.config.n201 + 4 ≤ length out.old → Counts (goes line) m (counters_at handle.old) (counters_at handle.new) }
-    ensures reopened { (m : machine.Card) → FramesStand handle.new m → line < m.config.lines → result ≡ status.ok
-        → TellsReopened line m (marks_at handle.old) (marks_at handle.new) report.new }
+    ensures reopened { IsReopened line handle.old handle.new result report.new }
     ensures unmarked { result ≢ status.ok → marks_at handle.new ≡ marks_at handle.old }
 {
     let Some(kept) = handle.card() else {
@@ -183,5 +159,32 @@ pub extern "C" fn lapd_next_frame(
         }
         Ok(None) => NO_FRAME,
         Err(_) => WRONG_LENGTH,
+    }
+}
+
+/// The first line on which a frame waits, of those from one on.
+#[unsafe(no_mangle)]
+pub extern "C" fn lapd_next_waiting(handle: &mut CardHandle, from: u32, line: &mut u32) -> u32
+    requires { IsHandle handle.old }
+    ensures call { IsCall handle.old handle.new result }
+    ensures unchanged { card_of handle.new ≡ card_of handle.old }
+    ensures untold { result ≢ status.ok → line.new ≡ line.old }
+    ensures wrong_card { kind_in handle.old ≡ Some for_octets → result ≡ status.wrong_card }
+    ensures none { (m : machine.Card) → FramesStand handle.old m → next_waiting from m ≡ None → result ≡ status.no_frame }
+    ensures told { (m : machine.Card) → FramesStand handle.old m
+        → IfSome (next_waiting from m) (λ next. (result ≡ status.ok) × (line.new ≡ next)) }
+{
+    let Some(kept) = handle.card() else {
+        return NO_CARD;
+    };
+    let AnyCard::Frames(card) = &kept.card else {
+        return WRONG_CARD;
+    };
+    match card.next_waiting(from as usize) {
+        Some(next) => {
+            *line = next as u32;
+            OK
+        }
+        None => NO_FRAME,
     }
 }

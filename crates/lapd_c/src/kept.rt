@@ -2,15 +2,16 @@
 //! when it has room again.
 
 ghost use Rattle.std.specs.Prelude.{◌≡◌, ◌<◌, None, IfSome};
-ghost use Rattle.model_line.specs.Config.{first_fault};
-ghost use Rattle.lapd_c.specs.Kinds.{Machine, card_in, line_count, AnyStands};
-ghost use Rattle.lapd_c.specs.LinkMarks.{AreMarked, AreUnmarked, MarksBecome, marks_of};
-ghost use Rattle.lapd_c.specs.Reopened.{IsFirstOpen, TellsReopened, WaitsFor, is_open, is_there, waits_on, waits_there, with_reopened};
+ghost use Rattle.lapd_c.specs.{first_fault, AreMarked, AreUnmarked, MarksBecome, marks_of, IsFirstOpen, TellsReopened, WaitsFor, is_open, is_there, waits_on, waits_there, with_reopened};
+ghost use Rattle.model_card.specs.Card as machine;
+ghost use Rattle.lapd_card.specs.FrameCard.{line_count};
+ghost use Rattle.lapd_card.specs.Kinds.{Machine, card_in, AnyStands, FrameCardStands};
 
-use crate::kinds::AnyCard;
 use crate::link_marks::LinkMarks;
 use crate::plain::{PlainReport, service_at};
 use crate::refused::Refused;
+use lapd_card::{AnyCard, FrameCard};
+use lapd_store::RawShelf;
 use model_line::Config;
 use std::alloc::Global;
 
@@ -84,8 +85,9 @@ impl KeptCard {
             return None;
         }
         let mut links = self.refused.of(line)?;
-        let told = first_open(&self.card, line, &links);
-        drop_gone(&self.card, line, &mut links);
+        let frames = self.card.frames();
+        let told = first_open(frames, line, &links);
+        drop_gone(frames, line, &mut links);
         if let Some(place) = told {
             links.set(place, false);
         }
@@ -95,9 +97,9 @@ impl KeptCard {
 }
 
 // The first link of a line that waits and has room.
-fn first_open(card: &AnyCard, line: usize, links: &LinkMarks) -> Option<u8>
+fn first_open(card: &FrameCard<RawShelf>, line: usize, links: &LinkMarks) -> Option<u8>
     requires { line < line_count card.now }
-    ensures { (m : Machine) → AnyStands card.now m → IsFirstOpen result line (card_in m) links.now }
+    ensures { (m : machine.Card) → FrameCardStands card.now m → IsFirstOpen result line m links.now }
 {
     let mut from = 0;
     while let Some(place) = links.next(from) {
@@ -109,9 +111,9 @@ fn first_open(card: &AnyCard, line: usize, links: &LinkMarks) -> Option<u8>
     None
 }
 
-fn has_room(card: &AnyCard, line: usize, place: u8) -> bool
+fn has_room(card: &FrameCard<RawShelf>, line: usize, place: u8) -> bool
     requires { line < line_count card.now }
-    ensures { (m : Machine) → AnyStands card.now m → result ≡ is_open line (card_in m) place }
+    ensures { (m : machine.Card) → FrameCardStands card.now m → result ≡ is_open line m place }
 {
     match card.room(line, service_at(place), place / 2) {
         Ok(room) => room.queue > 0,
@@ -120,9 +122,9 @@ fn has_room(card: &AnyCard, line: usize, place: u8) -> bool
 }
 
 // Takes the marks of links away whose TEI is no longer on the line.
-fn drop_gone(card: &AnyCard, line: usize, links: &mut LinkMarks)
+fn drop_gone(card: &FrameCard<RawShelf>, line: usize, links: &mut LinkMarks)
     requires { line < line_count card.now }
-    ensures { (m : Machine) → AnyStands card.now m → AreMarked links.new (waits_there line (card_in m) links.old) }
+    ensures { (m : machine.Card) → FrameCardStands card.now m → AreMarked links.new (waits_there line m links.old) }
 {
     let mut from = 0;
     while let Some(place) = links.next(from) {
@@ -131,9 +133,9 @@ fn drop_gone(card: &AnyCard, line: usize, links: &mut LinkMarks)
     }
 }
 
-fn is_there(card: &AnyCard, line: usize, place: u8) -> bool
+fn is_there(card: &FrameCard<RawShelf>, line: usize, place: u8) -> bool
     requires { line < line_count card.now }
-    ensures { (m : Machine) → AnyStands card.now m → result ≡ is_there line (card_in m) place }
+    ensures { (m : machine.Card) → FrameCardStands card.now m → result ≡ is_there line m place }
 {
     card.room(line, service_at(place), place / 2).is_ok()
 }

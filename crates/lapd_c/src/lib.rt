@@ -4,12 +4,11 @@
 //! serves it where it lies; a ghost field says which card it is, so that the contracts speak of the card's machine
 //! (`model_card`, and for octets `model_card::ports`) and of the clock's timers (`lapd_clock`).
 //!
-//! - `card`: a card in C, how it begins and ends; `kinds`, what a card for octets and one for frames do alike; `kept`, a
-//!   card with its links that wait for room, which `refused` and, of a line, `link_marks` mark; `card_slot`, where it lies.
-//!   `events`, what happens at one of either kind; for octets `octets`, one that comes and one that goes, `exchange`, octets
-//!   taken and given in turn, `begun` and `heard`, which frame a pull began and which was heard last; for frames `frames`,
-//!   which come and go, and `waiting`, on which lines one waits to go. `questions`, what it answers about itself; `counters`,
-//!   what was counted of a line; `links`, which links it has, and `rooms`, how many contents more one takes.
+//! - `card`: a card in C, how it begins and ends; `kept`, a card with its links that wait for room, which `refused` and, of a line,
+//!   `link_marks` mark; `card_slot`, where it lies. `events`, what happens at one of either kind; for octets `octets`, one that
+//!   comes and one that goes, with the frames that these begin and end, and `exchange`, octets taken and given in turn; for frames
+//!   `frames`, which come and go, and on which lines one waits to go. `questions`, what it answers about itself, with what was
+//!   counted of a line, and how many contents more a link takes; `links`, which links it has.
 //! - `clock`: a clock in C, and its exports; `clock_reports`, the orders of a report; `clock_slot`, where it lies.
 //! - `laws`: what holds of the machine's answers, so that a report has room for each.
 //! - `plain`: the structs and numbers of C, and what they mean.
@@ -28,19 +27,15 @@
 //! What a C compiler makes of `lapd.h`; what becomes of a caller that breaks the conditions at its top.
 #![tactic(auto)]
 
-mod begun;
 mod card;
 mod card_slot;
 mod clock;
 mod clock_reports;
 mod clock_slot;
-mod counters;
 mod events;
 mod exchange;
 mod frames;
-mod heard;
 mod kept;
-mod kinds;
 mod laws;
 mod link_marks;
 mod links;
@@ -49,6 +44,4 @@ mod octets;
 mod plain;
 mod questions;
 mod refused;
-mod rooms;
 mod version;
-mod waiting;

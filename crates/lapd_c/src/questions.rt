@@ -1,16 +1,15 @@
 //! What a card answers about itself.
 
-ghost use Rattle.std.specs.Prelude.{◌≡◌, ◌≢◌, ◌≤◌, ◌<◌, None, IfOk, IfErr};
+ghost use Rattle.std.specs.Prelude.{◌≡◌, ◌≢◌, ◌≤◌, ◌<◌, IfSome, IfOk, IfErr, get_or};
 ghost use Rattle.std.specs.Option.{unwrap_or};
+ghost use Rattle.lapd_c.specs.{limit, none_counted, IsCall, IsCallAt, plain_counters, plain_room, refusal_status, link_in, card_of, served_card, IsHandle, Stands};
 ghost use Rattle.model_card.specs.Card as machine;
-ghost use Rattle.model_card.specs.ports.Stored.{limit};
+ghost use Rattle.model_card.specs.Room.{room as machine_room};
 ghost use Rattle.lapd_c.specs.Statuses as status;
-ghost use Rattle.lapd_c.specs.Timers.{link_in};
-ghost use Rattle.lapd_c.specs.Cards.{card_of, IsHandle, Stands};
-ghost use Rattle.lapd_c.specs.Kinds.{Machine, card_in, stored};
+ghost use Rattle.lapd_card.specs.Kinds.{Machine, card_in, counters_of, line_count, stored};
 
 use crate::card::CardHandle;
-use crate::plain::{NO_CARD, OK, WRONG_LINE, link_in};
+use crate::plain::{NO_CARD, OK, PlainCounters, PlainRoom, WRONG_LINE, link_in, refusal_status};
 
 /// The most lines of a card.
 const MOST_LINES: usize = 64;
@@ -25,12 +24,9 @@ pub extern "C" fn lapd_state(
     state: &mut u8,
 ) -> u32
     requires { IsHandle handle.old }
-    ensures handle { IsHandle handle.new }
-    ensures no_card { card_of handle.old ≡ None → (result ≡ status.no_card) × (handle.new ≡ handle.old) }
+    ensures call { IsCallAt line handle.old handle.new result }
     ensures unchanged { card_of handle.new ≡ card_of handle.old }
     ensures untold { result ≢ status.ok → state.new ≡ state.old }
-    ensures wrong_line { (m : Machine) → Stands handle.old m → (card_in m).config.lines ≤ line
-        → result ≡ status.wrong_line }
     ensures wrong_link { (m : Machine) → Stands handle.old m → line < (card_in m).config.lines
         → IfErr (link_in service tei) (λ wrong. result ≡ wrong) }
     ensures told { (m : Machine) → Stands handle.old m → line < (card_in m).config.lines
@@ -46,7 +42,7 @@ pub extern "C" fn lapd_state(
     }
     match link_in(service, tei) {
         Ok((service, tei)) => {
-            *state = kept.card.state(line, service, tei).unwrap_or(0);
+            *state = kept.card.frames().state(line, service, tei).unwrap_or(0);
             OK
         }
         Err(wrong) => wrong,
@@ -57,8 +53,7 @@ pub extern "C" fn lapd_state(
 #[unsafe(no_mangle)]
 pub extern "C" fn lapd_stored(handle: &mut CardHandle, octets: &mut u32) -> u32
     requires { IsHandle handle.old }
-    ensures handle { IsHandle handle.new }
-    ensures no_card { card_of handle.old ≡ None → (result ≡ status.no_card) × (handle.new ≡ handle.old) }
+    ensures call { IsCall handle.old handle.new result }
     ensures unchanged { card_of handle.new ≡ card_of handle.old }
     ensures untold { result ≢ status.ok → octets.new ≡ octets.old }
     ensures told { (m : Machine) → Stands handle.old m → (result ≡ status.ok) × (octets.new ≡ stored m) }
@@ -74,8 +69,7 @@ pub extern "C" fn lapd_stored(handle: &mut CardHandle, octets: &mut u32) -> u32
 #[unsafe(no_mangle)]
 pub extern "C" fn lapd_limit(handle: &mut CardHandle, octets: &mut u32) -> u32
     requires { IsHandle handle.old }
-    ensures handle { IsHandle handle.new }
-    ensures no_card { card_of handle.old ≡ None → (result ≡ status.no_card) × (handle.new ≡ handle.old) }
+    ensures call { IsCall handle.old handle.new result }
     ensures unchanged { card_of handle.new ≡ card_of handle.old }
     ensures untold { result ≢ status.ok → octets.new ≡ octets.old }
     ensures told { (m : Machine) → Stands handle.old m → (result ≡ status.ok) × (octets.new ≡ limit (card_in m).config) }
@@ -83,7 +77,7 @@ pub extern "C" fn lapd_limit(handle: &mut CardHandle, octets: &mut u32) -> u32
     let Some(kept) = handle.card() else {
         return NO_CARD;
     };
-    *octets = kept.card.limit();
+    *octets = kept.card.frames().limit();
     OK
 }
 
@@ -91,8 +85,7 @@ pub extern "C" fn lapd_limit(handle: &mut CardHandle, octets: &mut u32) -> u32
 #[unsafe(no_mangle)]
 pub extern "C" fn lapd_lines(handle: &mut CardHandle, lines: &mut u32) -> u32
     requires { IsHandle handle.old }
-    ensures handle { IsHandle handle.new }
-    ensures no_card { card_of handle.old ≡ None → (result ≡ status.no_card) × (handle.new ≡ handle.old) }
+    ensures call { IsCall handle.old handle.new result }
     ensures unchanged { card_of handle.new ≡ card_of handle.old }
     ensures untold { result ≢ status.ok → lines.new ≡ lines.old }
     ensures told { (m : Machine) → Stands handle.old m → (result ≡ status.ok) × (lines.new ≡ (card_in m).config.lines) }
@@ -101,5 +94,73 @@ pub extern "C" fn lapd_lines(handle: &mut CardHandle, lines: &mut u32) -> u32
         return NO_CARD;
     };
     *lines = kept.card.lines().min(MOST_LINES) as u32;
+    OK
+}
+
+/// The room of the link of a service with a TEI, and its V(A).
+#[unsafe(no_mangle)]
+pub extern "C" fn lapd_room(
+    handle: &mut CardHandle,
+    line: u32,
+    service: u8,
+    tei: u8,
+    room: &mut PlainRoom,
+) -> u32
+    requires { IsHandle handle.old }
+    ensures call { IsCallAt line handle.old handle.new result }
+    ensures unchanged { card_of handle.new ≡ card_of handle.old }
+    ensures untold { result ≢ status.ok → room.new ≡ room.old }
+    ensures wrong_link { (m : Machine) → Stands handle.old m → line < (card_in m).config.lines
+        → IfErr (link_in service tei) (λ wrong. result ≡ wrong) }
+    ensures no_link { (m : Machine) → Stands handle.old m → line < (card_in m).config.lines
+        → IfOk (link_in service tei) (λ link. IfErr (machine_room line link.0 link.1 (card_in m)) (λ why.
+        result ≡ refusal_status why)) }
+    ensures told { (m : Machine) → Stands handle.old m → line < (card_in m).config.lines
+        → IfOk (link_in service tei) (λ link. IfOk (machine_room line link.0 link.1 (card_in m)) (λ is.
+        (result ≡ status.ok) × (room.new ≡ plain_room is))) }
+{
+    let Some(kept) = handle.card() else {
+        return NO_CARD;
+    };
+    let line = line as usize;
+    if line >= kept.card.lines() {
+        return WRONG_LINE;
+    }
+    let (service, tei) = match link_in(service, tei) {
+        Ok(link) => link,
+        Err(wrong) => return wrong,
+    };
+    match kept.card.frames().room(line, service, tei) {
+        Ok(is) => {
+            *room = PlainRoom::of(is);
+            OK
+        }
+        Err(why) => refusal_status(why),
+    }
+}
+
+/// What was counted of a line since the card began.
+#[unsafe(no_mangle)]
+pub extern "C" fn lapd_counters(
+    handle: &mut CardHandle,
+    line: u32,
+    counters: &mut PlainCounters,
+) -> u32
+    requires { IsHandle handle.old }
+    ensures call { IsCall handle.old handle.new result }
+    ensures unchanged { card_of handle.new ≡ card_of handle.old }
+    ensures untold { result ≢ status.ok → counters.new ≡ counters.old }
+    ensures wrong_line { IfSome (served_card handle.old) (λ card. line_count card ≤ line → result ≡ status.wrong_line) }
+    ensures told { IfSome (served_card handle.old) (λ card. line < line_count card
+        → (result ≡ status.ok) × (counters.new ≡ plain_counters (get_or (counters_of card) line none_counted))) }
+{
+    let Some(kept) = handle.card() else {
+        return NO_CARD;
+    };
+    let line = line as usize;
+    if line >= kept.card.lines() {
+        return WRONG_LINE;
+    }
+    *counters = PlainCounters::of(kept.card.frames().counters(line));
     OK
 }

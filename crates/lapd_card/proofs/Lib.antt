@@ -1,4 +1,4 @@
--- Lemmas: one line of a card in a call; one port of a card of octets; what drive has done and counted; rooms.
+-- Lemmas: one line of a card in a call; one port of a card of octets; what drive has done and counted; rooms; a card of either kind.
 pub mod Vocabulary
 pub mod Served
 pub mod Waiting
@@ -15,3 +15,4 @@ pub mod OctetsBegin
 pub mod OctetHeadline
 pub mod OctetAmounts
 pub mod OctetsTaken
+pub mod Kinded

@@ -6,14 +6,17 @@
 -- machine counts (`proofs/OneEvent.antt`). A list: the loop keeps that the configuration stays, that the sink has
 -- not failed, that the card stands for the machine of the run so far, and that the sink has taken the replies of
 -- that run. The laws: they speak of the machine alone, and the card stands for it.
-use Rattle.std.specs.Prelude.{ℕ, List, map, take, slice_get, Option, Some, None}
+use Rattle.std.specs.Prelude.{◌≡◌, ℕ, List, map, take, slice_get, Option, Some, None, Result, OnOk, OnErr}
 use Rattle.model_line.specs.Event.{Answer}
 use Rattle.model_card.specs.declared.events.FrameEvent as rust
 use Rattle.model_card.specs.Card.{Card}
 use Rattle.model_card.specs.Event.{Event, event_of}
 use Rattle.model_card.specs.Machine.{answer}
 use Rattle.model_card.specs.Run.{run}
-use Rattle.lapd_card.specs.Sink.{Taken}
+use Rattle.lapd_card.specs.FrameCard.{Held}
+use Rattle.lapd_card.specs.FrameStands.{Stands, Leads}
+use Rattle.lapd_card.specs.Sink.{Taken, one_failure_more}
+use Rattle.lapd_store.specs.Store.{Store}
 
 abbrev pub line_of : rust.FrameEvent → ℕ
 line_of (rust.TheVariants.Frame line octets) = line
@@ -35,3 +38,12 @@ pub record MissesAt {K : Type 0} (takes misses : K → ℕ → Answer → K → 
   pub before : K
   pub taken : Taken takes old (run m (take at events)).replies before
   pub missed : MissesReply misses (run m (take at events)).card (slice_get events at) before new
+
+-- An event is served: the card is led on by it, and the sink has taken the reply, or has missed it and counts one failure more.
+pub record Hands {S K E : Type 0} (store : S → Store) (takes misses : K → ℕ → Answer → K → Type 0) (failures : K → ℕ) (event : Event)
+    (old new : Held S) (before after : K) (result : Result Unit E) : Type 0 where
+  pub failed : OnErr result (failures after ≡ one_failure_more (failures before))
+  pub not_failed : OnOk result (failures after ≡ failures before)
+  pub leads : Leads store event old new
+  pub taken : OnOk result ((m : Card) → Stands store old m → takes before event.line (answer event m) after)
+  pub not_taken : OnErr result ((m : Card) → Stands store old m → misses before event.line (answer event m) after)

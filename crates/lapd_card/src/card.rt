@@ -1,20 +1,11 @@
 //! The card of octets: a card, and a port for each of its lines.
 
 ghost use Rattle.std.specs.Prelude.{◌≡◌, ◌≤◌, ◌<◌, Some, None, IsSome, IfOk, IfErr, IfSome, OnErr, get_or, slice_get, length};
-ghost use Rattle.lapd_count.specs.Counters.{none_counted};
-ghost use Rattle.lapd_line.specs.Reports.{report_told, pulled_of};
-ghost use Rattle.model_card.specs.ByEvent.{RisesByExpiry, RisesByRequest};
+ghost use Rattle.lapd_card.specs.{none_counted, report_told, pulled_of, RisesByExpiry, RisesByRequest, may_send, room, RefusesBy, refusal, request_of, starts, head_begun_at, head_heard_at};
 ghost use Rattle.model_card.specs.Card as frames;
-ghost use Rattle.model_card.specs.Counts.{may_send};
-ghost use Rattle.model_card.specs.Room.{room, RefusesBy};
-ghost use Rattle.model_line.specs.Refusal.{refusal};
-ghost use Rattle.model_line.specs.Request.{request_of};
-ghost use Rattle.model_link.specs.Told.{starts};
-ghost use Rattle.model_card.specs.ports.Begun.{head_begun_at};
 ghost use Rattle.model_card.specs.ports.Card as machine;
 ghost use Rattle.model_card.specs.ports.Card.{after, answer};
 ghost use Rattle.model_card.specs.ports.Event.{at};
-ghost use Rattle.model_card.specs.ports.HeadHeard.{head_heard_at};
 ghost use Rattle.model_card.specs.ports.Port as port;
 ghost use Rattle.model_card.specs.ports.Port.{told};
 
@@ -55,11 +46,9 @@ impl<S: Shelf> Model for Card<S> {
 impl<S: Shelf> Card<S> {
     ghost use Rattle.std.specs.Borrow.{sem};
     ghost use Rattle.std.specs.Io.BufRead.{Rests};
+    ghost use Rattle.lapd_card.specs.{counters_in, IsPriced, told_at, told_if_at};
     ghost use Rattle.lapd_card.specs.contracts.card.Card.{the_row};
     ghost use Rattle.lapd_card.specs.Card.{line_count};
-    ghost use Rattle.lapd_card.specs.Counted.{counters_in};
-    ghost use Rattle.lapd_card.specs.Drive.{IsPriced};
-    ghost use Rattle.lapd_card.specs.Ports.{told_at, told_if_at};
     ghost use Rattle.lapd_card.specs.Reply.{answer_of_result};
     ghost use Rattle.lapd_card.specs.Stands.{Stands, Leads};
 

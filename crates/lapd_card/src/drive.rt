@@ -7,7 +7,6 @@ ghost use Rattle.model_card.specs.Promises.{IsAmortised, IsAmortisedFromZero, Is
 ghost use Rattle.model_card.specs.Run.{moments};
 ghost use Rattle.model_line.specs.Request.{request_of};
 ghost use Rattle.model_card.specs.ports.Card as machine;
-ghost use Rattle.model_card.specs.ports.Card.{answer};
 ghost use Rattle.model_card.specs.ports.Codec.{Refines};
 ghost use Rattle.model_card.specs.ports.Drops.{AreDropsWithoutCost, AreDropsWithoutEffect};
 ghost use Rattle.model_card.specs.ports.Event.{at, event_of};
@@ -17,9 +16,9 @@ ghost use Rattle.model_card.specs.ports.Promises.{IsWithinLimit, HasSixOctetsAFr
 ghost use Rattle.model_card.specs.ports.Run.{run, meant_all};
 ghost use Rattle.lapd_card.specs.Card.{line_count};
 ghost use Rattle.lapd_card.specs.Counted.{counters_in};
-ghost use Rattle.lapd_card.specs.Drive.{line_of, events_of, MissesAt, RefusedByTheTable, IsTextual};
+ghost use Rattle.lapd_card.specs.Drive.{line_of, events_of, Hands, MissesAt, RefusedByTheTable, IsTextual};
 ghost use Rattle.lapd_card.specs.Sink.{Taken, one_failure_more};
-ghost use Rattle.lapd_card.specs.Stands.{Stands, Leads};
+ghost use Rattle.lapd_card.specs.Stands.{Stands};
 
 use crate::card::Card;
 use crate::replies::Reply;
@@ -159,13 +158,7 @@ impl<S: Shelf> Card<S> {
     /// Serves one event, and hands its reply to the sink.
     fn answer<K: Sink>(&mut self, event: Event<'_>, sink: &mut K) -> Result<(), SinkFailed>
         requires { line_of event < line_count self.old }
-        ensures failed { OnErr result (K.failures sink.new ≡ one_failure_more (K.failures sink.old)) }
-        ensures not_failed { OnOk result (K.failures sink.new ≡ K.failures sink.old) }
-        ensures leads { Leads S.store (event_of event.entry) self.old self.new }
-        ensures taken { OnOk result ((m : machine.OctetCard) → Stands S.store self.old m
-            → K.takes sink.old (event_of event.entry).line (answer (event_of event.entry) m) sink.new) }
-        ensures not_taken { OnErr result ((m : machine.OctetCard) → Stands S.store self.old m
-            → K.misses sink.old (event_of event.entry).line (answer (event_of event.entry) m) sink.new) }
+        ensures { Hands S.store K.takes K.misses K.failures (event_of event.entry) self.old self.new sink.old sink.new result }
     {
         match event {
             Event::Octet(line, octet) => sink.take(line, &Reply::Report(self.octet(line, octet))),
@@ -182,13 +175,7 @@ impl<S: Shelf> Card<S> {
         sink: &mut K,
     ) -> Result<(), SinkFailed>
         requires { line < line_count self.old }
-        ensures failed { OnErr result (K.failures sink.new ≡ one_failure_more (K.failures sink.old)) }
-        ensures not_failed { OnOk result (K.failures sink.new ≡ K.failures sink.old) }
-        ensures leads { Leads S.store (at line (port.request (request_of request.entry))) self.old self.new }
-        ensures taken { OnOk result ((m : machine.OctetCard) → Stands S.store self.old m
-            → K.takes sink.old line (answer (at line (port.request (request_of request.entry))) m) sink.new) }
-        ensures not_taken { OnErr result ((m : machine.OctetCard) → Stands S.store self.old m
-            → K.misses sink.old line (answer (at line (port.request (request_of request.entry))) m) sink.new) }
+        ensures { Hands S.store K.takes K.misses K.failures (at line (port.request (request_of request.entry))) self.old self.new sink.old sink.new result }
     {
         match self.request(line, request) {
             Ok(report) => sink.take(line, &Reply::Report(report)),

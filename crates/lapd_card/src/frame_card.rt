@@ -1,29 +1,16 @@
 //! The card: one call an event.
 
-ghost use Rattle.std.specs.Prelude.{◌≡◌, ◌+◌, ◌≤◌, ◌<◌, ◌↔◌, true, length, drop, Some, None, IsSome, IfOk, IfErr, IfSome, IsErr, OnOk, OnErr, get_or};
+ghost use Rattle.std.specs.Prelude.{◌≡◌, ◌≤◌, ◌<◌, ◌↔◌, true, length, drop, Some, None, IsSome, IfOk, IfErr, IfSome, IsErr, OnOk, OnErr, get_or};
 ghost use Rattle.std.specs.Option.{option_copied};
-ghost use Rattle.lapd_count.specs.Counters.{none_counted};
-ghost use Rattle.lapd_link_steps.specs.Quiet.{IsQuiet};
-ghost use Rattle.lapd_line.specs.Reports.{report_told, told_in, octets_of, gave_in, written, IsClear};
-ghost use Rattle.model_bits.specs.Heard.{heard_of};
+ghost use Rattle.lapd_card.specs.{none_counted, IsQuiet, report_told, told_in, octets_of, gave_in, written, IsClear, heard_of, RisesByHeard, RisesByExpiry, RisesByRequest, FallsByNext, room, RefusesBy, has_next, next_waiting, came, cause_of, refusal, request_of, starts, limit, IsLoaded, orders_taken};
 ghost use Rattle.model_bits.specs.Stream as stream;
-ghost use Rattle.model_card.specs.ByEvent.{RisesByHeard, RisesByExpiry, RisesByRequest, FallsByNext};
 ghost use Rattle.model_card.specs.Card as machine;
 ghost use Rattle.model_card.specs.Event.{at};
 ghost use Rattle.model_card.specs.Machine.{answer};
-ghost use Rattle.model_card.specs.Room.{room, RefusesBy};
 ghost use Rattle.model_card.specs.Stored.{stored};
-ghost use Rattle.lapd_card.specs.Waiting.{has_next, next_waiting};
 ghost use Rattle.model_card.specs.Stored as frame_limits;
-ghost use Rattle.model_line.specs.Came.{came, cause_of};
 ghost use Rattle.model_line.specs.Event as line_event;
 ghost use Rattle.model_line.specs.Event.{told, hears, expiry, next};
-ghost use Rattle.model_line.specs.Refusal.{refusal};
-ghost use Rattle.model_line.specs.Request.{request_of};
-ghost use Rattle.model_link.specs.Told.{starts};
-ghost use Rattle.model_card.specs.ports.Stored.{limit};
-ghost use Rattle.lapd_line.specs.Ports.{IsLoaded};
-ghost use Rattle.lapd_line.specs.Pulls.{orders_taken};
 
 use crate::stored::frame_limit;
 use lapd_count::Counters;

@@ -1,21 +1,17 @@
 //! A whole list of events at a card, with the replies handed to a sink.
 
-ghost use Rattle.std.specs.Prelude.{◌≡◌, ◌<◌, ◌+◌, ℕ, length, take, All, IfOk, IfErr, OnOk, OnErr};
+ghost use Rattle.std.specs.Prelude.{◌≡◌, ◌<◌, ◌+◌, length, take, All, IfOk, IfErr, OnOk, OnErr};
 ghost use Rattle.model_card.specs.Card as machine;
-ghost use Rattle.model_card.specs.ByEvent.{ArePriced};
 ghost use Rattle.model_card.specs.Counted.{all_counted, CountersAreNumbers};
-ghost use Rattle.model_card.specs.Drops.{AreDropsWithoutCost, AreDropsWithoutEffect};
 ghost use Rattle.model_card.specs.Event.{at, event_of};
 ghost use Rattle.model_card.specs.Laws.{RefusedByTheTable, RunIsMoments};
-ghost use Rattle.model_card.specs.Machine.{answer};
-ghost use Rattle.model_card.specs.Promises.{IsWithinLimit, IsAmortised, IsAmortisedFromZero, AreRejectsLong, IsIsolated, IsNeverFull, IsNumbered, IsNumberedFromZero};
 ghost use Rattle.model_card.specs.Run.{run, moments};
 ghost use Rattle.model_line.specs.Event as line_event;
 ghost use Rattle.model_line.specs.Request.{request_of};
 ghost use Rattle.lapd_card.specs.Counted.{counters_in};
 ghost use Rattle.lapd_card.specs.FrameCard.{line_count};
-ghost use Rattle.lapd_card.specs.FrameDrive.{line_of, events_of, MissesAt};
-ghost use Rattle.lapd_card.specs.FrameStands.{Stands, Leads};
+ghost use Rattle.lapd_card.specs.FrameDrive.{line_of, events_of, Hands, MissesAt};
+ghost use Rattle.lapd_card.specs.FrameStands.{Stands};
 ghost use Rattle.lapd_card.specs.Sink.{Taken, one_failure_more};
 
 use crate::frame_card::FrameCard;
@@ -32,10 +28,9 @@ const LONGEST: usize = 264;
 impl<S: Shelf> FrameCard<S> {
     /// Runs a list of events, and hands each reply to the sink, in order. Answers how many events there were.
     ///
-    /// Its clauses are those of [`crate::Card::drive`], of frames: what is heard is a frame that came or a fault, and what goes is
-    /// a frame that was given. Those that speak of octets are not here; `rejects_are_long` says that each REJ with a valid N(R)
-    /// is one of the frames heard that have four octets or more. What else is promised of the same list is in the record
-    /// `Promises` of the crate `laws_promises`.
+    /// Its clauses say what a run is: those of [`crate::Card::drive`] with the same names, of a frame that came or a fault in place
+    /// of an octet, and of a call for the next frame in place of a pull. What follows of every run of the machine are laws of
+    /// `model_card`; `drive_frames` of the crate `laws_promises` is this call, with them and its record `Promises`.
     ///
     /// # Errors
     ///
@@ -69,34 +64,10 @@ impl<S: Shelf> FrameCard<S> {
         ensures counters_before { IfErr result (λ fault. (m : machine.Card) → Stands S.store self.old m
             → counters_in self.new.lines ≡ all_counted (counters_in self.old.lines) (moments m (take (fault.at + 1) (events_of self.old.config.n201 events.now)))) }
 
-        // The replies of `run` are the answers of `moments`, and its card is that of `after_all`: all below speaks of
-        // those.
+        // The replies of `run` are the answers of `moments`, and its card is that of `after_all`: the laws speak of those.
         ensures moments { RunIsMoments }
         ensures refused { RefusedByTheTable }
         ensures counters_add_up { CountersAreNumbers }
-
-        // In every moment of the run of all events.
-        ensures by_event { (m : machine.Card) → Stands S.store self.old m → ArePriced m (events_of self.old.config.n201 events.now) }
-        ensures drops { (m : machine.Card) → Stands S.store self.old m → AreDropsWithoutCost m (events_of self.old.config.n201 events.now) }
-        ensures without_effect { (m : machine.Card) → Stands S.store self.old m → AreDropsWithoutEffect m (events_of self.old.config.n201 events.now) }
-
-        // After every front of the list, from every card or, where it says `fresh`, from one that has just begun.
-        ensures within_limit { (m : machine.Card) (count : ℕ) → Stands S.store self.old m
-            → IsWithinLimit m (take count (events_of self.old.config.n201 events.now)) }
-        ensures amortised { (m : machine.Card) (count : ℕ) → Stands S.store self.old m
-            → IsAmortised m (take count (events_of self.old.config.n201 events.now)) }
-        ensures amortised_from_zero { (count : ℕ) → Stands S.store self.old (machine.fresh self.old.config)
-            → IsAmortisedFromZero self.old.config (take count (events_of self.old.config.n201 events.now)) }
-        ensures rejects_are_long { (m : machine.Card) (count : ℕ) → Stands S.store self.old m
-            → AreRejectsLong m (take count (events_of self.old.config.n201 events.now)) }
-        ensures isolated { (count : ℕ) → Stands S.store self.old (machine.fresh self.old.config)
-            → IsIsolated self.old.config (take count (events_of self.old.config.n201 events.now)) }
-        ensures never_full { (count : ℕ) → Stands S.store self.old (machine.fresh self.old.config)
-            → IsNeverFull self.old.config (take count (events_of self.old.config.n201 events.now)) }
-        ensures numbered { (m : machine.Card) (count : ℕ) → Stands S.store self.old m
-            → IsNumbered m (take count (events_of self.old.config.n201 events.now)) }
-        ensures from_zero { (count : ℕ) → Stands S.store self.old (machine.fresh self.old.config)
-            → IsNumberedFromZero self.old.config (take count (events_of self.old.config.n201 events.now)) }
     {
         for (at, event) in events.iter().enumerate() {
             if self.answer(*event, sink).is_err() {
@@ -113,13 +84,7 @@ impl<S: Shelf> FrameCard<S> {
         sink: &mut K,
     ) -> Result<(), SinkFailed>
         requires { line_of event < line_count self.old }
-        ensures failed { OnErr result (K.failures sink.new ≡ one_failure_more (K.failures sink.old)) }
-        ensures not_failed { OnOk result (K.failures sink.new ≡ K.failures sink.old) }
-        ensures leads { Leads S.store (event_of self.old.config.n201 event.entry) self.old self.new }
-        ensures taken { OnOk result ((m : machine.Card) → Stands S.store self.old m
-            → K.takes sink.old (event_of self.old.config.n201 event.entry).line (answer (event_of self.old.config.n201 event.entry) m) sink.new) }
-        ensures not_taken { OnErr result ((m : machine.Card) → Stands S.store self.old m
-            → K.misses sink.old (event_of self.old.config.n201 event.entry).line (answer (event_of self.old.config.n201 event.entry) m) sink.new) }
+        ensures { Hands S.store K.takes K.misses K.failures (event_of self.old.config.n201 event.entry) self.old self.new sink.old sink.new result }
     {
         match event {
             FrameEvent::Frame(line, octets) => sink.take(
@@ -141,13 +106,7 @@ impl<S: Shelf> FrameCard<S> {
 
     fn hand_on<K: FrameSink>(&mut self, line: usize, sink: &mut K) -> Result<(), SinkFailed>
         requires { line < line_count self.old }
-        ensures failed { OnErr result (K.failures sink.new ≡ one_failure_more (K.failures sink.old)) }
-        ensures not_failed { OnOk result (K.failures sink.new ≡ K.failures sink.old) }
-        ensures leads { Leads S.store (at line line_event.next) self.old self.new }
-        ensures taken { OnOk result ((m : machine.Card) → Stands S.store self.old m
-            → K.takes sink.old line (answer (at line line_event.next) m) sink.new) }
-        ensures not_taken { OnErr result ((m : machine.Card) → Stands S.store self.old m
-            → K.misses sink.old line (answer (at line line_event.next) m) sink.new) }
+        ensures { Hands S.store K.takes K.misses K.failures (at line line_event.next) self.old self.new sink.old sink.new result }
     {
         let _ = &self.config;
         let mut octets = [0; LONGEST];
@@ -170,13 +129,7 @@ impl<S: Shelf> FrameCard<S> {
         sink: &mut K,
     ) -> Result<(), SinkFailed>
         requires { line < line_count self.old }
-        ensures failed { OnErr result (K.failures sink.new ≡ one_failure_more (K.failures sink.old)) }
-        ensures not_failed { OnOk result (K.failures sink.new ≡ K.failures sink.old) }
-        ensures leads { Leads S.store (at line (line_event.request (request_of request.entry))) self.old self.new }
-        ensures taken { OnOk result ((m : machine.Card) → Stands S.store self.old m
-            → K.takes sink.old line (answer (at line (line_event.request (request_of request.entry))) m) sink.new) }
-        ensures not_taken { OnErr result ((m : machine.Card) → Stands S.store self.old m
-            → K.misses sink.old line (answer (at line (line_event.request (request_of request.entry))) m) sink.new) }
+        ensures { Hands S.store K.takes K.misses K.failures (at line (line_event.request (request_of request.entry))) self.old self.new sink.old sink.new result }
     {
         match self.request(line, request) {
             Ok(report) => sink.take(line, &FrameReply::Report(report)),

@@ -1,9 +1,8 @@
 //! A sink that keeps replies.
 
 ghost use Rattle.std.specs.Prelude.{◌≡◌, ◌≤◌, ◌↔◌, [], length, IsSome, IfSome, IfOk};
-ghost use Rattle.lapd_card.specs.Kept.{kept_of, IsShort};
+ghost use Rattle.lapd_card.specs.{kept_of, IsShort, report_told};
 ghost use Rattle.lapd_card.specs.Reply.{answer_of};
-ghost use Rattle.lapd_line.specs.Reports.{report_told};
 ghost use Rattle.model_card.specs.ports.Port.{told};
 
 use crate::replies::Reply;

@@ -27,7 +27,8 @@
 //! that is needed.
 //!
 //! - `frame_card`: the card, one call an event, and what it tells of a line: a link's state and room, what was counted.
-//! - `card`: the card of octets: its octets and pulls; what else happens is passed on to the card of frames.
+//! - `card`: the card of octets: its octets and pulls; what else happens is passed on to the card of frames. `kinds`: a card of
+//!   either kind, over a shelf of raw memory.
 //! - `frame_drive` with `frame_sink` and `frame_replies`: whole lists of events at a card of frames; `drive` with `sink` and
 //!   `replies`: of octets; `kept`: a sink that keeps the replies.
 //! - `start` with `fault`: how a card begins, and why it does not.
@@ -53,6 +54,7 @@ mod frame_drive;
 mod frame_replies;
 mod frame_sink;
 mod kept;
+mod kinds;
 mod replies;
 mod sink;
 mod start;
@@ -64,6 +66,7 @@ pub use frame_card::{FrameCard, RoomTooSmall};
 pub use frame_replies::{FrameReply, SentFrame};
 pub use frame_sink::FrameSink;
 pub use kept::{Kept, KeptReply};
+pub use kinds::AnyCard;
 pub use lapd_count::{Counter, Counters, Kind, Way};
 pub use lapd_frame::Side;
 pub use lapd_line::{BareReport, Config, Field, NextFrame, Pulled, Report, Request, Room};

@@ -1,16 +1,9 @@
 //! How a card begins.
 
 ghost use Rattle.std.specs.Prelude.{◌≡◌, ◌≤◌, replicate, IfOk, IfSome, IfNone, Err, IsOkUnless};
+ghost use Rattle.lapd_card.specs.{IsInRange, fresh_port, none_counted, OutOfMemory, counters_in, AreFresh, PortsStand, start_fault, is_too_small};
 ghost use Rattle.model_card.specs.Card as machine;
-ghost use Rattle.model_line.specs.Sound.{IsInRange};
 ghost use Rattle.model_card.specs.ports.Card as octets;
-ghost use Rattle.model_card.specs.ports.Port.{fresh_port};
-ghost use Rattle.lapd_count.specs.Counters.{none_counted};
-ghost use Rattle.lapd_card.specs.declared.fault.CardFault.TheVariants.{OutOfMemory};
-ghost use Rattle.lapd_card.specs.Counted.{counters_in};
-ghost use Rattle.lapd_card.specs.Lines.{AreFresh};
-ghost use Rattle.lapd_card.specs.Ports.{PortsStand};
-ghost use Rattle.lapd_card.specs.Start.{start_fault, is_too_small};
 
 use crate::card::Card;
 use crate::fault::CardFault;

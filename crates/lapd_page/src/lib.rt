@@ -1,8 +1,7 @@
 //! The simulator for a page in a browser: one export plays a script that lies in the page's memory, as `lapdsim run` plays
 //! one, and answers its transcript, its fault and its exit status. `tools/page` makes the page.
 //!
-//! - `play`: the export; `end`, what it ends with; `room`, a text in a room of the caller's.
-//! - `text`: a fault line in memory.
+//! - `play`: the export; `end`, what it ends with.
 //!
 //! # Only tested
 //!
@@ -16,5 +15,3 @@
 
 mod end;
 mod play;
-mod room;
-mod text;

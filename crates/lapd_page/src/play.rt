@@ -2,12 +2,11 @@
 
 ghost use Rattle.std.specs.Prelude.{◌≡◌, ◌⊎◌, IfSome};
 ghost use Rattle.lapd_page.specs.Ends.{IsDone, IsFaulty, done, faulty, no_memory};
+ghost use Rattle.lapd_page.specs.Rooms.{in_room};
 ghost use Rattle.lapd_script.specs.FaultLines.{play_line};
 
 use crate::end::{DONE, FAULTY, NO_MEMORY, PlainEnd};
-use crate::room::put;
-use crate::text::Text;
-use lapd_sim::{PlayFault, play_octets, refuse};
+use lapd_sim::{PlayFault, Text, play_octets, refuse};
 use std::alloc::Global;
 
 /// Plays a script. Puts its transcript and its fault line into rooms of the caller's, as much of them as fits, and
@@ -53,11 +52,22 @@ pub extern "C" fn lapd_page_play(
 fn words_of(alloc: Global, fault: PlayFault) -> Option<Vec<u8>>
     ensures { IfSome result (λ words. words.items ≡ play_line fault) }
 {
-    let mut text = Text::new(alloc);
+    let mut text = Text {
+        octets: Vec::new(alloc),
+        failures: 0,
+    };
     refuse(fault, &mut text);
     if text.failures == 0 {
         Some(text.octets)
     } else {
         None
     }
+}
+
+/// Puts a text at the beginning of a room, as much of it as fits.
+fn put(text: &[u8], room: &mut [u8])
+    ensures { room.new ≡ in_room text.now room.old }
+{
+    let count = text.len().min(room.len());
+    room[..count].copy_from_slice(&text[..count]);
 }

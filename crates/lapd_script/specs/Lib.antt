@@ -16,3 +16,16 @@ pub mod Faults
 pub mod ScriptLines
 pub mod FaultLines
 pub mod Shown
+-- the words of the contracts, from where they are defined
+pub use Rattle.lapd_frame.specs.declared.addresses.Side.{Side}
+pub use Rattle.lapd_transcript.specs.Streams.{Writes}
+pub use Rattle.lapd_script.specs.Cause.{cause}
+pub use Rattle.lapd_script.specs.FaultLines.{frame_line, IsTold, play_line}
+pub use Rattle.lapd_script.specs.Job.{job, job_or_none, limits_of, seen}
+pub use Rattle.lapd_script.specs.Meaning.{into, IsCounted, meant_by, rx}
+pub use Rattle.lapd_script.specs.Number.{number, within}
+pub use Rattle.lapd_script.specs.Octets.{octets}
+pub use Rattle.lapd_script.specs.Read.{card_numbers, for_user, is_user, lengths, nine_numbers, read, read_as, read_words, ten_numbers, three_numbers}
+pub use Rattle.lapd_script.specs.Shown.{IsUnshown, ShowsFrame}
+pub use Rattle.lapd_script.specs.Words.{texts}
+pub use Rattle.lapd_script.specs.declared.word.Word.TheVariants.{Ask, Failed, In, Pull, Rx}

@@ -1,8 +1,7 @@
 //! What the words after the program's name ask for.
 
 ghost use Rattle.std.specs.Prelude.{◌≡◌};
-ghost use Rattle.lapd_script.specs.Job.{job, seen, limits_of, job_or_none};
-ghost use Rattle.lapd_script.specs.Words.{texts};
+ghost use Rattle.lapd_script.specs.{job, seen, limits_of, job_or_none, texts};
 
 use crate::jobs::{Job, Limits};
 use crate::values::number;

@@ -1,8 +1,7 @@
 //! The lines that tell why the program has not done what its words ask for, and its exit status then.
 
 ghost use Rattle.std.specs.Prelude.{◌≡◌, codes};
-ghost use Rattle.lapd_script.specs.FaultLines.{frame_line, play_line, IsTold};
-ghost use Rattle.lapd_transcript.specs.Streams.{Writes};
+ghost use Rattle.lapd_script.specs.{frame_line, play_line, IsTold, Writes};
 
 use crate::faults::PlayFault;
 use crate::shown::FrameFault;

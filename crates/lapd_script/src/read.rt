@@ -1,10 +1,7 @@
 //! Reads a line of a script.
 
 ghost use Rattle.std.specs.Prelude.{◌≡◌, ◌*◌, ◌/◌, ◌≤◌, ℕ, List, take, drop, length, All, Ok, Err, IfOk, MatchResult};
-ghost use Rattle.lapd_script.specs.Words.{texts};
-ghost use Rattle.lapd_script.specs.Meaning.{rx, into, meant_by, IsCounted};
-ghost use Rattle.lapd_script.specs.Read.{read, read_words, read_as, lengths, card_numbers, for_user, is_user, nine_numbers, ten_numbers, three_numbers};
-ghost use Rattle.lapd_script.specs.declared.word.Word.TheVariants.{Rx, In, Failed, Pull, Ask};
+ghost use Rattle.lapd_script.specs.{texts, rx, into, meant_by, IsCounted, read, read_words, read_as, lengths, card_numbers, for_user, is_user, nine_numbers, ten_numbers, three_numbers, Rx, In, Failed, Pull, Ask};
 
 use crate::command::{Asked, Command};
 use crate::kind::FaultKind;

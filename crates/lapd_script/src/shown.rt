@@ -1,13 +1,10 @@
 //! Shows one frame: what it says, and what it is on a line.
 
-ghost use Rattle.std.specs.Prelude.{◌≡◌, ◌*◌, ◌<◌, ◌≤◌, List, length, take, Ok, IfOk, IfErr};
+ghost use Rattle.std.specs.Prelude.{◌≡◌, ◌≤◌, take, Ok, IfOk, IfErr};
 ghost use Rattle.std.specs.List.{list_all};
 ghost use Rattle.std.specs.Char.{is_ascii_hexdigit};
-ghost use Rattle.lapd_frame.specs.declared.addresses.Side.{Side};
-ghost use Rattle.lapd_script.specs.Octets.{octets};
-ghost use Rattle.lapd_script.specs.FaultLines.{frame_line};
+ghost use Rattle.lapd_script.specs.{Side, octets, frame_line, IsUnshown, ShowsFrame};
 ghost use Rattle.lapd_script.specs.declared.shown.FrameFault.TheVariants as frame;
-ghost use Rattle.lapd_script.specs.Shown.{IsUnshown, ShowsFrame};
 
 use crate::values::octets;
 use lapd_frame::{ReadFault, Side, read};

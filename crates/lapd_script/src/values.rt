@@ -3,9 +3,7 @@
 ghost use Rattle.std.specs.Prelude.{◌≡◌, ℕ, ◌*◌, ◌/◌, ◌^◌, ◌<◌, ◌≤◌, length, take, drop, IfOk, MatchResult};
 ghost use Rattle.std.specs.List.{list_all};
 ghost use Rattle.std.specs.Char.{is_ascii_digit};
-ghost use Rattle.lapd_script.specs.Cause.{cause};
-ghost use Rattle.lapd_script.specs.Number.{number, within};
-ghost use Rattle.lapd_script.specs.Octets.{octets};
+ghost use Rattle.lapd_script.specs.{cause, number, within, octets};
 
 use crate::kind::FaultKind;
 use model_line::Fault;

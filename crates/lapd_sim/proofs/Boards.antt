@@ -1,22 +1,28 @@
 -- What happens on a card of either kind.
-use Rattle.lapd_sim.proofs.Vocabulary.{◌≡◌, ◌+◌, ◌<◌, ◌≤◌, ℕ, Result, Ok, Err, Some, refl, sym, ap, ◌∙◌, subst, arith, ∥∥₁_map, Refusal, Report, Store, Config, ranges_of, Reply, Event, What, at, of_octets, of_frames, reply, after, card_after, meant_by, reply_in, reply_of_octets, reply_of_frames, told, Setup, Scene, happened, ordered, fold, orders_in, reply_text, with_event, Output, IsPut, IsStuck, Puts, Board, Octets, Frames, HasPast, as_store, kind_of, config_of, counters_on, reply_of_result, OnBoard, Leads, [], Exchange, scene, Tells, Holds}
+use Rattle.lapd_sim.proofs.Vocabulary.{◌≡◌, ◌+◌, ◌<◌, ◌≤◌, ℕ, Some, refl, sym, ap, ◌∙◌, subst, arith, ∥∥₁_map, Store, Config, ranges_of, Reply, Event, What, at, of_octets, of_frames, reply, after, card_after, meant_by, reply_in, reply_of_octets, reply_of_frames, told, Setup, Scene, happened, ordered, fold, orders_in, reply_text, with_event, Output, IsPut, IsStuck, Puts, Octets, Frames, HasPast, shelf_of, kind_of, config_of, counters_of, OnBoard, Leads, [], Exchange, scene, Tells, Holds, AnyCard, AnyLeads, AnyStands, CardStands, FrameCardStands, Machine, alone, with_ports, card_in, frames_of, expiry, request, List, Result, Ok, Err}
 use Rattle.std.specs.Option.{option_map_or}
 use Rattle.lapd_card.specs.Card as octets_card
 use Rattle.lapd_card.specs.Stands as octets
 use Rattle.lapd_card.specs.FrameCard as frames_card
 use Rattle.lapd_card.specs.FrameStands as frames
-use Rattle.lapd_card.specs.Reply as octets_replies
-use Rattle.lapd_card.specs.FrameReply as frames_replies
+use Rattle.lapd_card.specs.Kinds as kinds
+use Rattle.lapd_card.proofs.OneOctet.{IsPassedOn, expiry_passes, request_passes, meant_is, passed_after, passed_answer}
+use Rattle.lapd_count.specs.declared.counters.Counters.{Counters}
+use Rattle.lapd_frame.specs.declared.timers.Timer.{Timer}
 use Rattle.lapd_script.specs.declared.command.CardKind.TheVariants as kind
+use Rattle.std.specs.Prelude.{option_map, option_to_list}
 use Rattle.model_card.specs.Counted as counts
 use Rattle.model_card.specs.Event as frame_event
 use Rattle.model_card.specs.Machine as frame_machine
 use Rattle.model_line.specs.Event as line_event
+use Rattle.model_line.specs.Request.{Request}
 use Rattle.model_card.specs.ports.Card as ports
+use Rattle.model_card.specs.ports.Codec.{frame_moment}
 use Rattle.model_card.specs.ports.Event as octet_event
 use Rattle.model_card.specs.ports.Port as port
 use Rattle.lapd_sim.specs.machine.Board as machine
 unfoldable use Rattle.lapd_sim.specs.machine.Board.{counted}
+use Rattle.lapd_sim.specs.machine.Steps.{held, held_in}
 
 -- ---- what is said on a card of its kind
 
@@ -34,85 +40,134 @@ frames_say b is line w e means =
     ap (λ k. reply_in k (at line w) b.card) is
     ∙ ap (λ o. option_map_or (machine.frames_reply line b.card) o (told line_event.nothing)) means
 
--- so of a request
-pub octets_answered : (r : Result Report Refusal) → reply_of_result r ≡ reply_of_octets (octets_replies.answer_of_result r)
-octets_answered (Ok report) = refl
-octets_answered (Err why) = refl
-
-pub frames_answered : (r : Result Report Refusal) → reply_of_result r ≡ reply_of_frames (frames_replies.answer_of_result r)
-frames_answered (Ok report) = refl
-frames_answered (Err why) = refl
-
 -- ---- a card of either kind goes on
 
-module _ (line : ℕ) (w : What) (e : port.Event) (means : of_octets w ≡ Some e) (old new : octets_card.Held Store)
-    (leads : octets.Leads as_store (octet_event.at line e) old new) where
+module _ (line : ℕ) (w : What) (e : port.Event) (means : of_octets w ≡ Some e) where
   octets_after : (b : machine.Board) → b.kind ≡ kind.Octets → ports.after (octet_event.at line e) b.card ≡ card_after b.kind (at line w) b.card
   octets_after b is =
       ap (λ o. option_map_or (machine.octets_after line b.card) o b.card) (sym means) ∙ ap (λ k. card_after k (at line w) b.card) (sym is)
 
-  octets_counted : (b : machine.Board) → b.kind ≡ kind.Octets → octets.meaning_counted (counters_on (Octets old)) b.card (octet_event.at line e) ≡ counted (counters_on (Octets old)) (at line w) b
+  octets_counted : (all : List Counters) (b : machine.Board) → b.kind ≡ kind.Octets → octets.meaning_counted all b.card (octet_event.at line e) ≡ counted all (at line w) b
   unfolding counted
-  octets_counted b is =
-      ap (λ o. counts.all_counted (counters_on (Octets old)) (option_map_or (machine.octets_meant line b.card) o [])) (sym means)
-      ∙ ap (λ k. counts.all_counted (counters_on (Octets old)) (meant_by k (at line w) b.card)) (sym is)
+  octets_counted all b is =
+      ap (λ o. counts.all_counted all (option_map_or (machine.octets_meant line b.card) o [])) (sym means)
+      ∙ ap (λ k. counts.all_counted all (meant_by k (at line w) b.card)) (sym is)
 
-  pub octets_lead : Leads (at line w) (Octets old) (Octets new)
-  octets_lead = record {
+  pub octets_lead : (old new : octets_card.Held Store) → octets.Leads shelf_of (octet_event.at line e) old new → Leads (at line w) (Octets old) (Octets new)
+  octets_lead old new leads = record {
     kind = refl;
     config = leads.config;
     stands = λ b on. record {
       kind = on.kind;
       config = on.config ∙ sym leads.config;
-      stands = subst (octets.Stands as_store new) (octets_after b on.kind) (leads.stands b.card on.stands);
+      stands = subst (CardStands new) (octets_after b on.kind) (leads.stands b.card on.stands);
     };
-    counted = λ b on. leads.counted b.card on.stands ∙ octets_counted b on.kind;
+    counted = λ b on. leads.counted b.card on.stands ∙ octets_counted (counters_of (Octets old)) b on.kind;
   }
 
-module _ (line : ℕ) (w : What) (e : line_event.Event) (means : of_frames w ≡ Some e) (old new : frames_card.Held Store)
-    (leads : frames.Leads as_store (frame_event.at line e) old new) where
+module _ (line : ℕ) (w : What) (e : line_event.Event) (means : of_frames w ≡ Some e) where
   frames_after : (b : machine.Board) → b.kind ≡ kind.Frames → machine.frames_after line b.card e ≡ card_after b.kind (at line w) b.card
   frames_after b is =
       ap (λ o. option_map_or (machine.frames_after line b.card) o b.card) (sym means) ∙ ap (λ k. card_after k (at line w) b.card) (sym is)
 
-  frames_counted : (b : machine.Board) → b.kind ≡ kind.Frames → counts.moment_counted (counters_on (Frames old)) (counts.moment_of b.card.card (frame_event.at line e)) ≡ counted (counters_on (Frames old)) (at line w) b
+  frames_counted : (all : List Counters) (b : machine.Board) → b.kind ≡ kind.Frames → counts.moment_counted all (counts.moment_of b.card.card (frame_event.at line e)) ≡ counted all (at line w) b
   unfolding counted
-  frames_counted b is =
-      ap (λ o. counts.all_counted (counters_on (Frames old)) (option_map_or (machine.frames_meant line b.card) o [])) (sym means)
-      ∙ ap (λ k. counts.all_counted (counters_on (Frames old)) (meant_by k (at line w) b.card)) (sym is)
+  frames_counted all b is =
+      ap (λ o. counts.all_counted all (option_map_or (machine.frames_meant line b.card) o [])) (sym means)
+      ∙ ap (λ k. counts.all_counted all (meant_by k (at line w) b.card)) (sym is)
 
-  pub frames_lead : Leads (at line w) (Frames old) (Frames new)
-  frames_lead = record {
+  pub frames_lead : (old new : frames_card.Held Store) → frames.Leads shelf_of (frame_event.at line e) old new → Leads (at line w) (Frames old) (Frames new)
+  frames_lead old new leads = record {
     kind = refl;
     config = leads.config;
     stands = λ b on. record {
       kind = on.kind;
       config = on.config ∙ sym leads.config;
-      stands = subst (λ (c : ports.OctetCard). frames.Stands as_store new c.card) (frames_after b on.kind) (leads.stands b.card.card on.stands);
+      stands = subst (λ (c : ports.OctetCard). FrameCardStands new c.card) (frames_after b on.kind) (leads.stands b.card.card on.stands);
     };
-    counted = λ b on. leads.counted b.card.card on.stands ∙ frames_counted b on.kind;
+    counted = λ b on. leads.counted b.card.card on.stands ∙ frames_counted (counters_of (Frames old)) b on.kind;
   }
 
+-- ---- what happens alike at both kinds
+
+pub record IsOfBoth (w : What) (e : port.Event) (f : line_event.Event) : Type 0 where
+  pub octets : of_octets w ≡ Some e
+  pub frames : of_frames w ≡ Some f
+  pub passes : IsPassedOn e f
+
+pub expiry_of_both : (timer : Timer) → IsOfBoth (expiry timer) (port.expiry timer) (line_event.expiry timer)
+expiry_of_both timer = record { octets = refl; frames = refl; passes = expiry_passes timer }
+
+pub request_of_both : (r : Request) → IsOfBoth (request r) (port.request r) (line_event.request r)
+request_of_both r = record { octets = refl; frames = refl; passes = request_passes r }
+
+module _ {w : What} {e : port.Event} {f : line_event.Event} (both : IsOfBoth w e f) (line : ℕ) where
+  pub lead_on : (old new : AnyCard) → AnyLeads (frame_event.at line f) old new → Leads (at line w) old new
+  lead_on (Octets old) (Octets new) leads = record {
+    kind = refl;
+    config = leads.config;
+    stands = λ b on. record {
+      kind = on.kind;
+      config = on.config ∙ sym leads.config;
+      stands = subst (CardStands new) (sym (passed_after both.passes line b.card) ∙ octets_after line w e both.octets b on.kind) (leads.stands (with_ports b.card) on.stands);
+    };
+    counted = λ b on.
+        leads.counted (with_ports b.card) on.stands
+        ∙ ap (λ o. counts.all_counted (counters_of (Octets old)) (option_to_list (option_map (frame_moment b.card) o))) (sym (meant_is both.passes line b.card))
+        ∙ octets_counted line w e both.octets (counters_of (Octets old)) b on.kind;
+  }
+  lead_on (Octets old) (Frames new) leads = let is : kinds.for_frames ≡ kinds.for_octets = leads.kind in absurd (cc)
+  lead_on (Frames old) (Octets new) leads = let is : kinds.for_octets ≡ kinds.for_frames = leads.kind in absurd (cc)
+  lead_on (Frames old) (Frames new) leads = record {
+    kind = refl;
+    config = leads.config;
+    stands = λ b on. record {
+      kind = on.kind;
+      config = on.config ∙ sym leads.config;
+      stands = subst (λ (c : ports.OctetCard). FrameCardStands new c.card) (frames_after line w f both.frames b on.kind) (leads.stands (alone b.card.card) on.stands);
+    };
+    counted = λ b on. leads.counted (alone b.card.card) on.stands ∙ frames_counted line w f both.frames (counters_of (Frames old)) b on.kind;
+  }
+
+  -- it is answered alike
+  pub says_on : (card : AnyCard) (b : machine.Board) → OnBoard card b → (a : line_event.Answer) → reply_of_octets (port.answer_of a) ≡ reply_of_frames a
+      → ((m : Machine) → AnyStands card m → a ≡ frame_machine.answer (frame_event.at line f) (card_in m)) → reply_of_frames a ≡ reply (at line w) b
+  says_on (Octets card) b on a same says =
+      sym same ∙ ap (λ x. reply_of_octets (port.answer_of x)) (says (with_ports b.card) on.stands)
+      ∙ ap reply_of_octets (sym (passed_answer both.passes line b.card)) ∙ sym (octets_say b on.kind line w e both.octets)
+  says_on (Frames card) b on a same says =
+      ap reply_of_frames (says (alone b.card.card) on.stands) ∙ sym (frames_say b on.kind line w f both.frames)
+
+-- the card of frames stands for that of the board
+pub inside : (card : AnyCard) (b : machine.Board) → OnBoard card b → FrameCardStands (frames_of card) b.card.card
+inside (Octets card) b on = on.stands.frames
+inside (Frames card) b on = on.stands
+
+-- what is stored there is what the board holds
+pub held_on : (card : AnyCard) (b : machine.Board) → OnBoard card b → (n : ℕ) → ((m : Machine) → AnyStands card m → n ≡ kinds.stored m) → n ≡ held b
+held_on (Octets card) b on n is = is (with_ports b.card) on.stands ∙ ap (λ k. held_in k b.card) (sym on.kind)
+held_on (Frames card) b on n is = is (alone b.card.card) on.stands ∙ ap (λ k. held_in k b.card) (sym on.kind)
+
 -- the same of a board that is such a card
-pub leads_from : (e : Event) (board old new : Board) → board ≡ old → Leads e old new → Leads e board new
-leads_from e board old new is leads = subst (λ (b : Board). Leads e b new) (sym is) leads
+pub leads_from : (e : Event) (board old new : AnyCard) → board ≡ old → Leads e old new → Leads e board new
+leads_from e board old new is leads = subst (λ (b : AnyCard). Leads e b new) (sym is) leads
 
 -- ---- an exchange goes on
 
 -- a card that an event leads on has a past again
-pub past_on : (e : Event) (old new : Board) → Leads e old new → ∥ HasPast old ∥₁ → ∥ HasPast new ∥₁
+pub past_on : (e : Event) (old new : AnyCard) → Leads e old new → ∥ HasPast old ∥₁ → ∥ HasPast new ∥₁
 past_on e old new leads past = ∥∥₁_map past (λ p. let (b, on) = p in (after e b, leads.stands b on))
 
-module _ (board : Board) (card : octets_card.Held Store) (is : board ≡ Octets card) (b : machine.Board) (on : OnBoard board b) where
-  pub on_octets : octets.Stands as_store card b.card
+module _ (board : AnyCard) (card : octets_card.Held Store) (is : board ≡ Octets card) (b : machine.Board) (on : OnBoard board b) where
+  pub on_octets : CardStands card b.card
   on_octets = (subst (λ old. OnBoard old b) is on).stands
 
   pub octets_told : (line : ℕ) (w : What) (event : port.Event) → of_octets w ≡ Some event → (a : port.Answer)
       → a ≡ ports.answer (octet_event.at line event) b.card → reply_of_octets a ≡ reply (at line w) b
   octets_told line w event means a says = ap reply_of_octets says ∙ sym (octets_say b (on.kind ∙ ap kind_of is) line w event means)
 
-module _ (board : Board) (card : frames_card.Held Store) (is : board ≡ Frames card) (b : machine.Board) (on : OnBoard board b) where
-  pub on_frames : frames.Stands as_store card b.card.card
+module _ (board : AnyCard) (card : frames_card.Held Store) (is : board ≡ Frames card) (b : machine.Board) (on : OnBoard board b) where
+  pub on_frames : FrameCardStands card b.card.card
   on_frames = (subst (λ old. OnBoard old b) is on).stands
 
   pub frames_told : (line : ℕ) (w : What) (event : line_event.Event) → of_frames w ≡ Some event → (a : line_event.Answer)

@@ -32,14 +32,15 @@ pub use Rattle.lapd_script.specs.declared.faults.PlayFault.TheVariants.{OutOfMem
 pub use Rattle.lapd_script.specs.declared.kind.FaultKind.{FaultKind}
 pub use Rattle.lapd_script.specs.declared.kind.FaultKind.TheVariants.{BadFrame, BadLine, BadNumber, TimeOver, TooLong}
 pub use Rattle.lapd_script.specs.declared.lines.ScriptLines.{ScriptLines}
-pub use Rattle.lapd_sim.specs.Boards.{Leads, OnBoard, as_store, config_of, counters_on, kind_of, reply_of_result}
+pub use Rattle.lapd_card.specs.Kinds.{AnyLeads, AnyStands, CardStands, FrameCardStands, Machine, alone, card_in, config_of, counters_of, frames_of, shelf_of, with_ports}
+pub use Rattle.lapd_card.specs.declared.kinds.AnyCard.{AnyCard}
+pub use Rattle.lapd_card.specs.declared.kinds.AnyCard.TheVariants.{Frames, Octets}
+pub use Rattle.lapd_sim.specs.Boards.{Leads, OnBoard, kind_of}
 pub use Rattle.lapd_sim.specs.Obeyed.{Does, Obeys, Said, StartsBy, Tells, said, said_by, said_of, said_with, said_without, scene, written}
 pub use Rattle.lapd_sim.specs.Pages.{PutsNone, PutsSome, Reaches, is_cut}
 pub use Rattle.lapd_sim.specs.Past.{HasPast}
 pub use Rattle.lapd_sim.specs.Plays.{AreAnswered, Plays, PlaysOctets, PlaysOn, is_whole, whole_lines}
 pub use Rattle.lapd_sim.specs.Stands.{Each, Has, Holds, Stands}
-pub use Rattle.lapd_sim.specs.declared.board.Board.{Board}
-pub use Rattle.lapd_sim.specs.declared.board.Board.TheVariants.{Frames, Octets}
 pub use Rattle.lapd_sim.specs.declared.board.Plan.{Plan}
 pub use Rattle.lapd_sim.specs.declared.exchange.Exchange.{Exchange}
 pub use Rattle.lapd_store.specs.Store.{Store}

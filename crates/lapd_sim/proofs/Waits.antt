@@ -1,5 +1,5 @@
 -- What has been written, and what an exchange stands for, while it waits.
-use Rattle.lapd_sim.proofs.Vocabulary.{◌≡◌, ℕ, ◌<◌, List, [], ◌++◌, Some, None, Ok, Err, refl, sym, ap, ◌∙◌, subst, ∥∥₁_elim, props, at, expiry, reply, AreInRange, Timer, Timers, due_at, time_until, Setup, happened, Scene, reply_text, with_event, at_expiry, expired, until, scene, Tells, OnBoard, counters_on, Holds, Plan, Board, Exchange, puts_nothing, puts_then, stuck_more, Output, IsPut, IsStuck, WriteFailed, expiry_lowers, until-expired, until-over, text_grows}
+use Rattle.lapd_sim.proofs.Vocabulary.{◌≡◌, ℕ, ◌<◌, List, [], ◌++◌, Some, None, Ok, Err, refl, sym, ap, ◌∙◌, subst, ∥∥₁_elim, props, at, expiry, reply, AreInRange, Timer, Timers, due_at, time_until, Setup, happened, Scene, reply_text, with_event, at_expiry, expired, until, scene, Tells, OnBoard, counters_of, Holds, Plan, AnyCard, Exchange, puts_nothing, puts_then, stuck_more, Output, IsPut, IsStuck, WriteFailed, expiry_lowers, until-expired, until-over, text_grows}
 
 -- From a setup, some timers have expired, and what they say has been written; what falls due until the end is the same.
 pub record Waits (e : Exchange) (before after : Output) (end : ℕ) (m : Setup) : Type 0 where
@@ -50,7 +50,7 @@ wait_lowers e middle new end due is out event =
     let prop : IsProp (time_until end new.clock < time_until end e.clock) = hlevel props in
     ∥∥₁_elim e.past prop (λ p.
     let (now, stands) = p in
-    let m : Setup = record { board = now; counters = counters_on e.board; clock = e.clock; now = e.moment; terminals = []; taken = [] } in
+    let m : Setup = record { board = now; counters = counters_of e.board; clock = e.clock; now = e.moment; terminals = []; taken = [] } in
     let held : Holds new (happened (at_expiry end m) (at due.0 (expiry due.1))) =
     event (at_expiry end m) (out m (record { kind = stands.kind ∙ e.same_kind; config = stands.config ∙ e.same_config; board = stands; counters = refl; clock = refl; now = refl })) in
     subst (λ c. time_until end c < time_until end e.clock) (sym held.clock) (expiry_lowers end due.0 due.1 due m e.lengths (sym is)))
@@ -66,8 +66,8 @@ waits_over e new before after end m u is w plan board clock now =
       record {
         kind = w.holds.kind ∙ ap (λ (p : Plan). p.kind) (sym plan);
         config = w.holds.config ∙ ap (λ (p : Plan). p.config) (sym plan);
-        board = subst (λ (b : Board). OnBoard b w.by_now.setup.board) (sym board) w.holds.board;
-        counters = ap counters_on board ∙ w.holds.counters;
+        board = subst (λ (b : AnyCard). OnBoard b w.by_now.setup.board) (sym board) w.holds.board;
+        counters = ap counters_of board ∙ w.holds.counters;
         clock = clock ∙ w.holds.clock;
         now = now;
       },

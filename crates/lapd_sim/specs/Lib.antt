@@ -11,26 +11,39 @@ pub mod Plays
 pub mod Serves
 pub mod machine
 -- the words of the contracts, from where they are defined
-pub use Rattle.lapd_count.specs.Counters.{none_counted}
-pub use Rattle.lapd_line.specs.Reports.{gave_in, report_told}
+pub use Rattle.lapd_card.specs.Kinds.{config_of, counters_of}
+pub use Rattle.lapd_line.specs.Reports.{gave_in}
 pub use Rattle.lapd_script.specs.Bound.{bound}
-pub use Rattle.lapd_script.specs.FaultLines.{IsTold, frame_line, play_line}
+pub use Rattle.lapd_script.specs.FaultLines.{IsTold, play_line}
+pub use Rattle.lapd_script.specs.Faults.{reads_failed_by, writes_failed_by}
 pub use Rattle.lapd_script.specs.Job.{frame, job, limits, run}
+pub use Rattle.lapd_script.specs.Meaning.{meant}
+pub use Rattle.lapd_script.specs.ScriptLines.{AreLeft}
 pub use Rattle.lapd_script.specs.Shown.{side_of}
 pub use Rattle.lapd_script.specs.Words.{texts}
 pub use Rattle.lapd_script.specs.declared.command.CardKind.TheVariants.{Octets}
 pub use Rattle.lapd_script.specs.declared.faults.PlayFault.{PlayFault}
 pub use Rattle.lapd_script.specs.declared.faults.PlayFault.TheVariants.{Write}
+pub use Rattle.lapd_script.specs.declared.kind.FaultKind.TheVariants.{BadLine, WrongCard}
 pub use Rattle.lapd_script.specs.declared.shown.FrameFault.{FrameFault}
 pub use Rattle.lapd_transcript.specs.Listened.{Hears}
 pub use Rattle.lapd_transcript.specs.Pages.{on}
-pub use Rattle.lapd_transcript.specs.Streams.{Puts}
+pub use Rattle.lapd_transcript.specs.Streams.{Output, Puts}
 pub use Rattle.lapd_transcript.specs.Terminal.{Sends}
+pub use Rattle.model_bits.specs.Stream.{dropped}
+pub use Rattle.model_line.specs.Came.{came, cause_of}
 pub use Rattle.model_line.specs.Request.{request_of}
-pub use Rattle.lapd_sim.specs.Boards.{Leads, OnBoard, config_of, counters_on, kind_of, line_count, reply_of_result}
-pub use Rattle.lapd_sim.specs.Obeyed.{Begins, Obeys, Tells, scene, written}
+pub use Rattle.lapd_sim.specs.Boards.{kind_of, OnBoard}
+pub use Rattle.lapd_sim.specs.Obeyed.{Begins, Does, Obeys, said, scene, StartsBy, Tells, written}
+pub use Rattle.lapd_sim.specs.Pages.{is_cut, PutsNone, PutsSome, Reaches}
 pub use Rattle.lapd_sim.specs.Plays.{Shows}
 pub use Rattle.lapd_sim.specs.Serves.{Frames, Runs}
-pub use Rattle.lapd_sim.specs.Stands.{Each, Holds}
-pub use Rattle.lapd_sim.specs.machine.Board.{at, expiry, reply, reply_of_frames, told}
-pub use Rattle.lapd_sim.specs.machine.Steps.{after_rx, deactivations, downs, held, is_on_line, pulls, reply_text, request_for, teis_on, with_events}
+pub use Rattle.lapd_sim.specs.Stands.{Each, Has, Holds}
+pub use Rattle.lapd_sim.specs.machine.Asked.{LimitsAreOfCards}
+pub use Rattle.lapd_sim.specs.machine.Board.{at, expiry, hears, next, pull, reply, reply_of_frames}
+pub use Rattle.lapd_sim.specs.machine.Events.{RunsOnBoards, ScriptsAreRuns}
+pub use Rattle.lapd_sim.specs.machine.Heard.{FramesAreHeard}
+pub use Rattle.lapd_sim.specs.machine.Replies.{TranscriptsAreReplies}
+pub use Rattle.lapd_sim.specs.machine.Steps.{after_counters, after_rx, after_stored, at_expiry, deactivations, downs, in_time, is_on_line, octet_in, pulls, reply_text, request_for, teis_on, until, with_card, with_event, with_events, with_timers, without_card}
+pub use Rattle.lapd_sim.specs.machine.Waits.{WaitsLeaveNothingDue}
+pub use Rattle.lapd_sim.specs.machine.Within.{ScriptsStayWithin}

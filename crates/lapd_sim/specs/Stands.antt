@@ -6,7 +6,8 @@ use Rattle.std.specs.Prelude.{◌≡◌, List, [], ◌∷◌, Option, None, Some
 use Rattle.lapd_transcript.specs.Listened.{Hears}
 use Rattle.lapd_transcript.specs.Terminal.{Sends}
 use Rattle.lapd_sim.specs.machine.Setup as machine
-use Rattle.lapd_sim.specs.Boards.{OnBoard, counters_on}
+use Rattle.lapd_card.specs.Kinds.{counters_of}
+use Rattle.lapd_sim.specs.Boards.{OnBoard}
 use Rattle.lapd_sim.specs.declared.setup.Setup.{Setup}
 use Rattle.lapd_sim.specs.declared.exchange.Exchange.{Exchange}
 
@@ -15,7 +16,7 @@ pub record Holds (e : Exchange) (m : machine.Setup) : Type 0 where
   pub kind : m.board.kind ≡ e.plan.kind
   pub config : m.board.config ≡ e.plan.config
   pub board : OnBoard e.board m.board
-  pub counters : counters_on e.board ≡ m.counters
+  pub counters : counters_of e.board ≡ m.counters
   pub clock : e.clock ≡ m.clock
   pub now : e.moment ≡ m.now
 

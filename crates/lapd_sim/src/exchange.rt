@@ -1,28 +1,26 @@
 //! The card that a script is played on, with the clock of its lines.
 
 ghost use Rattle.std.specs.Prelude.{◌≡◌, ◌<◌, ◌≤◌, ◌^◌, length, fold, IfOk, IfSome, IfNone};
+ghost use Rattle.lapd_card.specs.Kinds.{config_of};
 ghost use Rattle.lapd_clock.specs.Timer.{AreInRange};
 ghost use Rattle.lapd_clock.specs.Timers as clocks;
 ghost use Rattle.lapd_line.specs.Reports.{report_told, gave_in, written};
-ghost use Rattle.model_bits.specs.Stream.{dropped};
-ghost use Rattle.model_line.specs.Came.{came, cause_of};
-ghost use Rattle.model_line.specs.Request.{request_of};
 ghost use Rattle.model_line.specs.Sound.{IsInRange};
 ghost use Rattle.lapd_script.specs.declared.command.CardKind.TheVariants.{Octets, Frames};
-ghost use Rattle.lapd_sim.specs.Boards.{kind_of, config_of};
+ghost use Rattle.lapd_sim.specs.Boards.{kind_of};
 ghost use Rattle.lapd_sim.specs.Past.{HasPast};
 ghost use Rattle.lapd_sim.specs.machine.Board as event;
-ghost use Rattle.lapd_sim.specs.machine.Board.{at, told, pull, hears, next, expiry, reply, reply_of_frames, orders_in};
+ghost use Rattle.lapd_sim.specs.machine.Board.{told, orders_in};
 ghost use Rattle.lapd_sim.specs.machine.Setup as machine;
-ghost use Rattle.lapd_sim.specs.machine.Steps.{reply_text, with_event, octet_in, at_expiry, until, in_time, with_timers, after_stored, after_counters, is_on_line};
+ghost use Rattle.lapd_sim.specs.machine.Steps.{reply_text};
 ghost use Rattle.lapd_transcript.specs.Pages.{on};
-ghost use Rattle.lapd_transcript.specs.Streams.{Output, Puts};
+ghost use Rattle.lapd_transcript.specs.Streams.{Puts};
 
-use crate::board::{Board, Plan};
+use crate::board::{Plan, begin};
 use crate::traffic::written;
-use lapd_card::{Fault, NextFrame, Report, Request, limit};
+use lapd_card::{AnyCard, Fault, NextFrame, Report, Request, limit};
 use lapd_clock::{Clock, Lengths};
-use lapd_frame::{Order, Timer};
+use lapd_frame::{Order, Service, Timer};
 use lapd_script::{CardKind, FaultKind, LineFault};
 use lapd_transcript::{CounterGroup, Page, Put, Target, WriteFailed};
 use std::alloc::Global;
@@ -37,7 +35,7 @@ pub(crate) type Obeyed = Result<(), LineFault>;
 #[derive(Drop)]
 pub(crate) struct Exchange {
     plan: Plan,
-    board: Board,
+    board: AnyCard,
     clock: Clock,
     moment: u64,
     ghost in_range: { IsInRange plan.config },
@@ -50,15 +48,16 @@ pub(crate) struct Exchange {
 }
 
 impl Exchange {
-    ghost use Rattle.lapd_sim.specs.{scene, Tells, Obeys, Begins, Holds};
+    ghost use Rattle.lapd_sim.specs.{Begins, Holds, Obeys, Output, Tells, after_counters, after_stored, at, at_expiry, came, cause_of, dropped, expiry, hears, in_time, is_on_line, next, octet_in, pull, reply, reply_of_frames, request_of, scene, until, with_event, with_timers};
 
     pub(crate) fn start(alloc: Global, plan: Plan) -> Result<Exchange, LineFault>
         ensures plan { IfOk result (λ exchange. exchange.plan ≡ plan) }
         ensures begun { Begins result plan.kind plan.config Holds }
     {
-        let board = Board::start(alloc, plan)?;
+        let board = begin(alloc, plan)?;
+        let lines = usize::from(plan.config.lines);
         let terminals = usize::from(plan.config.terminals);
-        let Ok(clock) = Clock::start(alloc, board.lines(), terminals) else {
+        let Ok(clock) = Clock::start(alloc, lines, terminals) else {
             return Err(LineFault::OutOfMemory);
         };
         Ok(Exchange {
@@ -80,7 +79,7 @@ impl Exchange {
     pub(crate) fn lines(&self) -> usize
         ensures { result ≡ self.now.plan.config.lines }
     {
-        self.board.lines()
+        usize::from(self.plan.config.lines)
     }
 
     /// An octet comes from a line of a card for octets.
@@ -91,7 +90,7 @@ impl Exchange {
         ensures told { (m : machine.Setup) → Holds self.old m
             → Tells result (on T.taken page.old) (on T.taken page.new) (Holds self.new) (with_event (scene m) (at line (event.octet octet))) }
     {
-        let Board::Octets(card) = &mut self.board else {
+        let AnyCard::Octets(card) = &mut self.board else {
             unreachable!();
         };
         let report = card.octet(line, octet);
@@ -106,7 +105,7 @@ impl Exchange {
         ensures pulled { (m : machine.Setup) → Holds self.old m → result ≡ octet_in (reply (at line pull) m.board) }
         ensures after { (m : machine.Setup) → Holds self.old m → Holds self.new (machine.happened m (at line pull)) }
     {
-        let Board::Octets(card) = &mut self.board else {
+        let AnyCard::Octets(card) = &mut self.board else {
             unreachable!();
         };
         let pulled = card.pull(line);
@@ -122,7 +121,7 @@ impl Exchange {
         ensures told { (m : machine.Setup) → Holds self.old m
             → Tells result (on T.taken page.old) (on T.taken page.new) (Holds self.new) (with_event (scene m) (at line (hears (came self.old.plan.config.n201 octets.now)))) }
     {
-        let Board::Frames(card) = &mut self.board else {
+        let AnyCard::Frames(card) = &mut self.board else {
             unreachable!();
         };
         let report = card.frame(line, octets);
@@ -137,7 +136,7 @@ impl Exchange {
         ensures told { (m : machine.Setup) → Holds self.old m
             → Tells result (on T.taken page.old) (on T.taken page.new) (Holds self.new) (with_event (scene m) (at line (hears (dropped (cause_of fault))))) }
     {
-        let Board::Frames(card) = &mut self.board else {
+        let AnyCard::Frames(card) = &mut self.board else {
             unreachable!();
         };
         let report = card.failed(line, fault);
@@ -156,7 +155,7 @@ impl Exchange {
         ensures after { (m : machine.Setup) → Holds self.old m → Holds self.new (machine.happened m (at line next)) }
     {
         match &mut self.board {
-            Board::Frames(card) => match card.next_frame(line, room) {
+            AnyCard::Frames(card) => match card.next_frame(line, room) {
                 Ok(Some(next)) => {
                     order(&mut self.clock, line, next.orders(), self.moment);
                     Some(next)
@@ -164,7 +163,7 @@ impl Exchange {
                 Ok(None) => None,
                 Err(_) => unreachable!(),
             },
-            Board::Octets(_) => unreachable!(),
+            AnyCard::Octets(_) => unreachable!(),
         }
     }
 
@@ -191,7 +190,8 @@ impl Exchange {
     pub(crate) fn has_tei(&self, line: usize, tei: u8) -> bool
         ensures { (m : machine.Setup) → Holds self.now m → result ≡ is_on_line line m.board tei }
     {
-        self.board.has_tei(line, tei)
+        let state = self.board.frames().state(line, Service::Call, tei);
+        state.is_some()
     }
 
     /// Timers that are started from now on run so long; each has to run a millisecond to an hour.
@@ -282,7 +282,8 @@ impl Exchange {
         ensures { (m : machine.Setup) → Holds self.now m
             → Tells result (on T.taken page.old) (on T.taken page.new) (Holds self.now) (after_counters group line (scene m)) }
     {
-        page.put_counters(line as u16, group, self.board.counters(line))
+        let counters = self.board.frames().counters(line);
+        page.put_counters(line as u16, group, counters)
     }
 }
 

@@ -34,6 +34,6 @@ pub use machine::{
     frames_are_heard, limits_are_of_cards, runs_on_boards, scripts_are_runs, scripts_stay_within,
     transcripts_are_replies, waits_leave_nothing_due,
 };
-pub use memory::play_octets;
+pub use memory::{Text, play_octets};
 pub use player::play;
 pub use program::serve;

@@ -9,12 +9,7 @@
 //!
 //! Here is what holds of whole scripts. Each law is the contract of a call that does nothing; it holds for every text.
 
-ghost use Rattle.lapd_sim.specs.machine.Asked.{LimitsAreOfCards};
-ghost use Rattle.lapd_sim.specs.machine.Events.{RunsOnBoards, ScriptsAreRuns};
-ghost use Rattle.lapd_sim.specs.machine.Heard.{FramesAreHeard};
-ghost use Rattle.lapd_sim.specs.machine.Replies.{TranscriptsAreReplies};
-ghost use Rattle.lapd_sim.specs.machine.Waits.{WaitsLeaveNothingDue};
-ghost use Rattle.lapd_sim.specs.machine.Within.{ScriptsStayWithin};
+ghost use Rattle.lapd_sim.specs.{LimitsAreOfCards, RunsOnBoards, ScriptsAreRuns, FramesAreHeard, TranscriptsAreReplies, WaitsLeaveNothingDue, ScriptsStayWithin};
 
 /// A script is a run of the card. Where it has come to a card, that card is the one of the card line, fresh, after the
 /// events of the script's lines up to the first faulty one: an octet for each that comes from a line, a pull for each

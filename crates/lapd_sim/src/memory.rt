@@ -1,4 +1,4 @@
-//! Plays a script that lies in memory.
+//! Scripts and texts in memory, and how such a script is played.
 
 ghost use Rattle.lapd_sim.specs.Plays.{PlaysOctets};
 
@@ -30,17 +30,19 @@ impl Source for Script<'_> {
     }
 }
 
-/// A transcript in memory, which grows. A write for which it can't puts nothing.
+/// A text in memory, which grows. A write for which it can't puts nothing.
 #[derive(Drop)]
-struct Transcript {
-    octets: Vec<u8>,
-    failures: u64,
+pub struct Text {
+    /// What was put.
+    pub octets: Vec<u8>,
+    /// How many writes have failed.
+    pub failures: u64,
 }
 
-impl Target for Transcript {
+impl Target for Text {
     ghost use Rattle.std.specs.Prelude.{Some, true};
 
-    ghost taken = { λ transcript. record { contents = Some transcript.octets.items; failures = transcript.failures; leaves_out = true } };
+    ghost taken = { λ text. record { contents = Some text.octets.items; failures = text.failures; leaves_out = true } };
 
     fn write(&mut self, octets: &[u8]) -> Result<(), WriteFailed> {
         if octets.is_empty() || self.octets.extend_from_slice(octets).is_ok() {
@@ -65,7 +67,7 @@ pub fn play_octets(
     ensures { PlaysOctets result.1 script.now transcript.items result.0.items }
 {
     let mut source = Script { left: script };
-    let mut target = Transcript {
+    let mut target = Text {
         octets: transcript,
         failures: 0,
     };

@@ -1,17 +1,9 @@
 //! Plays a script on a card.
 
 ghost use Rattle.std.specs.Prelude.{◌≡◌, ◌≤◌, ◌<◌, ℕ, List, [], Some, None, Option, length, vec_len, IfOk, IsTrue};
-ghost use Rattle.lapd_script.specs.Meaning.{meant};
-ghost use Rattle.lapd_sim.specs.machine.Setup as machine;
-ghost use Rattle.lapd_sim.specs.machine.Steps.{without_card};
-ghost use Rattle.lapd_script.specs.Faults.{reads_failed_by, writes_failed_by};
-ghost use Rattle.lapd_sim.specs.Obeyed.{Does, StartsBy, said};
-ghost use Rattle.lapd_sim.specs.Pages.{PutsNone, PutsSome, Reaches, is_cut};
+ghost use Rattle.lapd_sim.specs.{meant, without_card, reads_failed_by, writes_failed_by, Does, StartsBy, said, PutsNone, PutsSome, Reaches, is_cut, AreLeft, on, Output, Has};
 ghost use Rattle.lapd_sim.specs.Plays.{Plays, PlaysOn};
-ghost use Rattle.lapd_script.specs.ScriptLines.{AreLeft};
-ghost use Rattle.lapd_transcript.specs.Pages.{on};
-ghost use Rattle.lapd_transcript.specs.Streams.{Output};
-ghost use Rattle.lapd_sim.specs.Stands.{Has};
+ghost use Rattle.lapd_sim.specs.machine.Setup as machine;
 
 use crate::board::Plan;
 use crate::exchange::Obeyed;

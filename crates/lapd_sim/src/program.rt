@@ -1,7 +1,7 @@
 //! The program's work: what its words ask for, its fault lines and its exit status.
 
 ghost use Rattle.std.specs.Prelude.{◌≡◌, ◌≢◌, ◌≤◌, ◌↔◌, ◌++◌, ℕ, Bool, List, Result, Some, None, decimal, codes};
-ghost use Rattle.lapd_sim.specs.{bound, job, run, frame, limits, texts, PlayFault, Write, FrameFault, frame_line, play_line, IsTold, Shows, Frames, Runs, side_of};
+ghost use Rattle.lapd_sim.specs.{bound, job, run, frame, limits, texts, PlayFault, Write, FrameFault, play_line, IsTold, Shows, Frames, Runs, side_of};
 
 use crate::player::play;
 use lapd_frame::Side;

@@ -2,10 +2,7 @@
 
 ghost use Rattle.std.specs.Prelude.{◌≡◌, ◌≢◌, ◌<◌, ◌≤◌, length, vec_len, MatchResult};
 ghost use Rattle.lapd_script.specs.Meaning as meaning;
-ghost use Rattle.lapd_script.specs.declared.kind.FaultKind.TheVariants.{BadLine, WrongCard};
 ghost use Rattle.lapd_sim.specs.machine.Setup as machine;
-ghost use Rattle.lapd_sim.specs.machine.Steps.{with_card};
-ghost use Rattle.lapd_transcript.specs.Pages.{on};
 
 use crate::board::Plan;
 use crate::exchange::{Exchange, Obeyed};
@@ -28,7 +25,7 @@ pub(crate) struct Setup {
 }
 
 impl Setup {
-    ghost use Rattle.lapd_sim.specs.Obeyed.{scene, Obeys, Begins};
+    ghost use Rattle.lapd_sim.specs.{BadLine, Begins, Obeys, WrongCard, on, scene, with_card};
     ghost use Rattle.lapd_sim.specs.Stands.{Stands};
 
     pub(crate) fn start(alloc: Global, plan: Plan) -> Result<Setup, LineFault>

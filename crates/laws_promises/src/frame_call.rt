@@ -19,8 +19,10 @@ ghost use Rattle.laws_promises.specs.Promises.{Promises};
 use lapd_card::{FrameCard, FrameEvent, FrameSink, SinkFault};
 use lapd_store::Shelf;
 
-/// Runs a list of events, as [`FrameCard::drive`] does, whose clauses these are, and keeps all promises (`promises`). The frames
-/// that it gives, with those still to be sent, are linear in the octets of the frames that came (`linear`).
+/// Runs a list of events, as [`FrameCard::drive`] does, with its clauses. From `by_event` to `from_zero` are laws of every run, as
+/// [`lapd_card::Card::drive`] has them of what its octets mean (`rejects_are_long`: each REJ with a valid N(R) is one of the frames
+/// heard that have four octets or more). The frames that it gives, with those still to be sent, are linear in the octets of the
+/// frames that came (`linear`). And it keeps all promises (`promises`).
 ///
 /// # Errors
 ///

@@ -1,8 +1,7 @@
 //! The configuration of a card.
 
 ghost use Rattle.std.specs.Prelude.{◌≡◌, ◌<◌, None, IfSome, IfNone};
-ghost use Rattle.model_line.specs.Config.{first_fault};
-ghost use Rattle.lapd_c.specs.Config.{config_in, side_in, config_fault};
+ghost use Rattle.lapd_c.specs.{first_fault, config_in, side_in, config_fault};
 
 use crate::plain::statuses::field_status;
 use lapd_frame::Side;

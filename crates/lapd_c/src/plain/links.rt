@@ -1,6 +1,6 @@
 //! The links of a line, in order.
 
-ghost use Rattle.std.specs.Prelude.{◌≡◌, ◌<◌};
+ghost use Rattle.std.specs.Prelude.{◌≡◌};
 ghost use Rattle.lapd_c.specs.LinkPlaces.{plain_link, service_at};
 
 use lapd_frame::Service;

@@ -2,13 +2,7 @@
 
 ghost use Rattle.std.specs.Prelude.{◌≡◌, ◌≤◌, [], true, false, length, take, map};
 ghost use Rattle.std.specs.Option.{option_copied};
-ghost use Rattle.lapd_frame.specs.ShortLists.{listed};
-ghost use Rattle.lapd_line.specs.Reports.{report_told, told_in};
-ghost use Rattle.model_line.specs.Event.{nothing};
-ghost use Rattle.lapd_c.specs.Notes.{plain_note};
-ghost use Rattle.lapd_c.specs.Timers.{plain_order};
-ghost use Rattle.lapd_c.specs.Reopened.{ShowsReopened, with_reopened};
-ghost use Rattle.lapd_c.specs.Reports.{Shows, ShowsPull, SameButContents, contents_in, contents_of, mark_of, orders_of};
+ghost use Rattle.lapd_c.specs.{listed, report_told, told_in, nothing, plain_note, plain_order, ShowsReopened, with_reopened, Shows, ShowsPull, SameButContents, contents_in, contents_of, mark_of, orders_of};
 
 use crate::plain::links::service_at;
 use crate::plain::notes::{PlainNote, cause_number};
@@ -135,14 +129,9 @@ impl PlainReport {
         requires { length orders.now ≤ 4 }
         ensures { ShowsPull self.new begun false orders.now }
     {
-        self.note_count = 0;
+        self.show_nothing();
         self.order_count = write_orders(&mut self.orders, orders);
-        self.cause = 0;
-        self.lost = 0;
         self.begun = u8::from(begun);
-        self.delivered = 0;
-        self.length = 0;
-        self.more = 0;
     }
 
     /// Shows which link of its line has room again, by its place, or that none has that waited for it.

@@ -1,8 +1,7 @@
 //! What a call answers, as a number.
 
 ghost use Rattle.std.specs.Prelude.{◌≡◌, ◌<◌, IfErr};
-ghost use Rattle.lapd_c.specs.Statuses.{refusal_status, field_status};
-ghost use Rattle.lapd_c.specs.Services.{service_in};
+ghost use Rattle.lapd_c.specs.{refusal_status, field_status, service_in};
 
 use lapd_frame::{Refusal, Service};
 use model_line::Field;

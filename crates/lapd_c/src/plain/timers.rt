@@ -1,7 +1,6 @@
 //! Timers, and what is to be done with them.
 
 ghost use Rattle.std.specs.Prelude.{◌≡◌};
-ghost use Rattle.lapd_frame.specs.declared.timers.Timer.{Timer};
 ghost use Rattle.lapd_c.specs.Timers.{plain_timer, plain_order, timer_in, order_in, link_in};
 
 use crate::plain::statuses::{WRONG_ORDER, WRONG_TEI, WRONG_TIMER, service_in};
@@ -43,29 +42,6 @@ pub struct PlainDue {
 }
 
 impl PlainTimer {
-    /// A timer in C.
-    pub fn of(timer: Timer) -> PlainTimer
-        ensures { result ≡ plain_timer timer }
-    {
-        match timer {
-            Timer::T200(service, tei) => PlainTimer {
-                timer: 1,
-                service: service.sapi(),
-                tei,
-            },
-            Timer::T203(service, tei) => PlainTimer {
-                timer: 2,
-                service: service.sapi(),
-                tei,
-            },
-            Timer::T201 => PlainTimer {
-                timer: 3,
-                service: 0,
-                tei: 0,
-            },
-        }
-    }
-
     /// Shows a timer.
     #[inline(always)]
     pub fn show(&mut self, timer: Timer)

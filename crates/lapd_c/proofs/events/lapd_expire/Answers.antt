@@ -1,8 +1,8 @@
 -- Hand-written answers for `lapd_expire`.
 use Rattle.lapd_c.proofs.Vocabulary.{card_in, refl, sym, ◌∙◌, at}
 use Rattle.model_line.specs.Event as line_event
-use Rattle.lapd_c.proofs.Kinded.{ranges_in}
-use Rattle.lapd_c.specs.Kinds.{after}
+use Rattle.lapd_card.proofs.Kinded.{ranges_in}
+use Rattle.lapd_card.specs.Kinds.{after}
 use Rattle.lapd_c.proofs.Reopening.{still_answered, still_stands}
 use Rattle.lapd_c.proofs.Served.{if_ok, shown, there}
 use Rattle.lapd_c.proofs.events.lapd_expire.Goals as goal

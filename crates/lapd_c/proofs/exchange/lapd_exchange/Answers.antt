@@ -1,5 +1,5 @@
 -- Hand-written answers for `lapd_exchange`: what was exchanged is told, also where a link has room again.
-use Rattle.lapd_c.proofs.Vocabulary.{refl, sym, subst, AnyCard, Octets, with_ports}
+use Rattle.lapd_c.proofs.Vocabulary.{refl, sym, subst, AnyCard, Octets}
 use Rattle.lapd_c.specs.Exchange.{ExchangedBy}
 use Rattle.lapd_c.proofs.Reopening.{still_exchanged, tells_after}
 use Rattle.lapd_c.proofs.Served.{octets_there}
@@ -16,4 +16,4 @@ returns-clause-served c = λ m s w ok.
     )
 
 pub returns-clause-reopened : goal.returns-clause-reopened
-returns-clause-reopened c = λ m s w ok. tells_after (with_ports m) c.in-Some.ensures.card c.tell_reopened.ensures.card c.tell_reopened.ensures.tells s w
+returns-clause-reopened c = λ m s w ok. tells_after m c.in-Some.ensures.card c.tell_reopened.ensures.card c.tell_reopened.ensures.tells s w

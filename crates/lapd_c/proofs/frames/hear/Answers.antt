@@ -6,7 +6,7 @@ use Rattle.lapd_line.specs.Reports.{told_in, octets_of}
 use Rattle.model_card.specs.Machine.{after}
 use Rattle.model_line.specs.Came.{came}
 use Rattle.model_line.specs.Event.{nothing}
-use Rattle.lapd_c.proofs.Kinded.{comes_at}
+use Rattle.lapd_c.proofs.WholeFrames.{comes_at}
 use Rattle.lapd_c.proofs.Served.{shown_told}
 use Rattle.lapd_c.proofs.frames.hear.Goals as goal
 

@@ -1,7 +1,7 @@
 -- Hand-written answers for `lapd_frame`.
 use Rattle.lapd_c.proofs.Vocabulary.{refl, ap, ◌∙◌, moment_counted, moment_of, alone, comes}
 use Rattle.model_card.specs.Machine.{after}
-use Rattle.lapd_c.specs.Kinds.{counters_of}
+use Rattle.lapd_card.specs.Kinds.{counters_of}
 use Rattle.lapd_c.proofs.Reopening.{still_answered, still_stands, tells_after}
 use Rattle.lapd_c.proofs.Served.{frames_there, frames_counted}
 use Rattle.lapd_c.proofs.frames.lapd_frame.Goals as goal
@@ -21,4 +21,4 @@ returns-clause-counted c = λ m s w.
     ∙ (λ i. moment_counted (frames_counted c.in-Some.ensures.card c.in-Frames.is i) (moment_of m (comes c.args.line c.args.octets.now m)))
 
 pub returns-clause-reopened : goal.returns-clause-reopened
-returns-clause-reopened c = λ m s w ok. tells_after (alone m) c.in-Some.ensures.card c.tell_reopened.ensures.card c.tell_reopened.ensures.tells s w
+returns-clause-reopened c = λ m s w ok. tells_after m c.in-Some.ensures.card c.tell_reopened.ensures.card c.tell_reopened.ensures.tells s w

@@ -14,4 +14,4 @@ returns-in-Ok-clause-served c = λ m s w. let t = frames_there c.in-Some.ensures
 )
 
 pub returns-in-Ok-clause-reopened : goal.returns-in-Ok-clause-reopened
-returns-in-Ok-clause-reopened c = λ m s w ok. tells_after (alone m) c.in-Some.ensures.card c.tell_reopened.ensures.card c.tell_reopened.ensures.tells s w
+returns-in-Ok-clause-reopened c = λ m s w ok. tells_after m c.in-Some.ensures.card c.tell_reopened.ensures.card c.tell_reopened.ensures.tells s w

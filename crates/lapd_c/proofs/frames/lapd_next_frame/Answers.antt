@@ -4,7 +4,7 @@ use Rattle.std.proofs.Common.{◌≤◌, length, true}
 use Rattle.model_card.specs.Machine.{after}
 use Rattle.lapd_frame.specs.ShortLists.{listed}
 use Rattle.lapd_c.specs.Reports.{ShowsPull}
-use Rattle.lapd_c.proofs.Kinded.{next_is, none_goes, none_counted, given_shown, none_said}
+use Rattle.lapd_c.proofs.WholeFrames.{next_is, none_goes, none_counted, given_shown, none_said}
 use Rattle.lapd_c.proofs.Reopening.{still_pulled, still_stands, tells_after}
 use Rattle.lapd_c.proofs.Served.{frames_there, frames_counted}
 use Rattle.lapd_c.proofs.frames.lapd_next_frame.Goals as goal
@@ -35,4 +35,4 @@ returns-in-Ok-Some-clause-given c = λ m s within room. let t = frames_there c.i
     (subst (λ os. ShowsPull c.show_next.new.self true c.has_next.result (listed os)) c.order_list.ensures c.show_next.ensures))
 
 pub returns-in-Ok-Some-clause-reopened : goal.returns-in-Ok-Some-clause-reopened
-returns-in-Ok-Some-clause-reopened c = λ m s w ok. tells_after (alone m) c.in-Some.ensures.card c.tell_reopened.ensures.card c.tell_reopened.ensures.tells s w
+returns-in-Ok-Some-clause-reopened c = λ m s w ok. tells_after m c.in-Some.ensures.card c.tell_reopened.ensures.card c.tell_reopened.ensures.tells s w

@@ -1,9 +1,10 @@
 -- No link was met so far.
-use Rattle.lapd_c.proofs.Vocabulary.{◌≤◌, Machine, card_in, AnyStands, AreFree}
+use Rattle.model_card.specs.Card.{Card}
+use Rattle.lapd_c.proofs.Vocabulary.{◌≤◌, FrameCardStands, AreFree}
 use Rattle.lapd_c.proofs.links.first_link.Given as goal
 
 abbrev pub invariant-loop-place : goal.invariant-loop-place
 invariant-loop-place l = record {
   place : l.initial.from ≤ l.place;
-  free : (m : Machine) → AnyStands l.card m → AreFree l.line (card_in m) l.initial.from l.place;
+  free : (m : Card) → FrameCardStands l.card m → AreFree l.line m l.initial.from l.place;
 }

@@ -17,7 +17,7 @@ returns-in-Some-hear-clause-served c = λ m s w. let t = octets_there c.in-Some.
 
 pub returns-in-Some-hear-clause-reopened : goal.returns-in-Some-hear-clause-reopened
 returns-in-Some-hear-clause-reopened c = λ m s w ok.
-    tells_after (with_ports m) c.in-Some.ensures.card c.tell_reopened-in-Some-hear.ensures.card c.tell_reopened-in-Some-hear.ensures.tells s w
+    tells_after m c.in-Some.ensures.card c.tell_reopened-in-Some-hear.ensures.card c.tell_reopened-in-Some-hear.ensures.tells s w
 
 pub returns-in-None-clause-reopened : goal.returns-in-None-clause-reopened
-returns-in-None-clause-reopened c = λ m s w ok. tells_after (with_ports m) c.in-Some.ensures.card c.tell_reopened.ensures.card c.tell_reopened.ensures.tells s w
+returns-in-None-clause-reopened c = λ m s w ok. tells_after m c.in-Some.ensures.card c.tell_reopened.ensures.card c.tell_reopened.ensures.tells s w

@@ -13,7 +13,7 @@ pub returns-clause-marks : goal.returns-clause-marks
 returns-clause-marks c = λ m s w.
     let line = c.args.line in let met = c.in_ok-links.ensures.there in
     let before : AreMarked c.drop_gone.new.links (waits_there line (card_in m) (marks_of c.args.self.now.refused line)) =
-    subst (λ links. AreMarked c.drop_gone.new.links (waits_there line (card_in m) links)) met.1 (c.drop_gone.ensures m s) in
+    subst (λ links. AreMarked c.drop_gone.new.links (waits_there line (card_in m) links)) met.1 (c.drop_gone.ensures (card_in m) (c.frames-frames.ensures.stands m s)) in
     record {
       links = c.match-told.links;
       all = c.put.ensures;

@@ -5,7 +5,6 @@ use Rattle.model_card.specs.declared.events.FrameEvent.TheVariants.{Frame}
 use Rattle.lapd_card.specs.FrameDrive.{events_of, MissesReply, MissesAt}
 use Rattle.lapd_card.proofs.Taken.{Taken-more, one-further, one-at, run-more, moments-count, at_ok, at_err}
 use Rattle.lapd_card.proofs.Counting.{numbers_in_runs}
-use Rattle.lapd_card.proofs.Headline.{events_at_lines, laws}
 use Rattle.lapd_card.proofs.frame_card.FrameCard.drive.Goals as goal
 
 pub loop-at-init : goal.loop-at-init
@@ -35,7 +34,7 @@ returns-then-is_err g c =
     let stopped : (m : Card) → Stands g.S.Shelf.store c.args.self.now m → Stands g.S.Shelf.store c.answer.new.self (run m (take (c.loop-at.at + 1) (events_of c.args.self.now.config.n201 c.args.events.now))).card = λ m s. subst (λ r. Stands g.S.Shelf.store c.answer.new.self r.card) (sym (one-further (event_of c.args.self.now.config.n201) (run m) (λ es e. one_more (run m es) e) (run-more m) c.args.events.now c.loop-at.at _ is)) (leads.stands _ (c.loop-at.invariant.ran m s)) in
     let missed : (m : Card) → Stands g.S.Shelf.store c.args.self.now m → MissesAt g.K.FrameSink.takes g.K.FrameSink.misses m (events_of c.args.self.now.config.n201 c.args.events.now) c.loop-at.at c.args.sink.now c.answer.new.sink = λ m s. record { before = c.loop-at.sink; taken = c.loop-at.invariant.taken m s; missed = subst (λ o. MissesReply g.K.FrameSink.misses (run m (take c.loop-at.at (events_of c.args.self.now.config.n201 c.args.events.now))).card o c.loop-at.sink c.answer.new.sink) (sym (one-at (event_of c.args.self.now.config.n201) c.args.events.now c.loop-at.at _ is)) (subst (λ n. g.K.FrameSink.misses c.loop-at.sink (event_of n (get_or c.args.events.now c.loop-at.at (Frame 0 (record { ref_ptr = (0, 0); now = [] })))).line (answer (event_of n (get_or c.args.events.now c.loop-at.at (Frame 0 (record { ref_ptr = (0, 0); now = [] })))) (run m (take c.loop-at.at (events_of c.args.self.now.config.n201 c.args.events.now))).card) c.answer.new.sink) same (at_err c.answer.result _ yes c.answer.ensures.not_taken _ (c.loop-at.invariant.ran m s))) } in
     let counters : (m : Card) → Stands g.S.Shelf.store c.args.self.now m → counters_in c.answer.new.self.lines ≡ all_counted (counters_in c.args.self.now.lines) (moments m (take (c.loop-at.at + 1) (events_of c.args.self.now.config.n201 c.args.events.now))) = λ m s. leads.counted _ (c.loop-at.invariant.ran m s) ∙ ap (λ k. moment_counted k (moment_of (run m (take c.loop-at.at (events_of c.args.self.now.config.n201 c.args.events.now))).card ((event_of c.args.self.now.config.n201) (get_or c.args.events.now c.loop-at.at (Frame 0 (record { ref_ptr = (0, 0); now = [] })))))) (c.loop-at.invariant.counted m s) ∙ (sym (one-further (event_of c.args.self.now.config.n201) (λ es. all_counted (counters_in c.args.self.now.lines) (moments m es)) (λ es e. moment_counted (all_counted (counters_in c.args.self.now.lines) (moments m es)) (moment_of (run m es).card e)) (moments-count (counters_in c.args.self.now.lines) m) c.args.events.now c.loop-at.at _ is)) in
-    search (rules, laws g.S.Shelf.store c.args.self.now (events_of c.args.self.now.config.n201 c.args.events.now) (events_at_lines g.S.Shelf.store c.args.self.now c.args.self.now.config.n201 c.args.events.now c.requires), stopped, missed, counters, run_is_moments, refused_by_the_table, numbers_in_runs)
+    search (rules, stopped, missed, counters, run_is_moments, refused_by_the_table, numbers_in_runs)
 
 pub returns : goal.returns
 returns g c =
@@ -43,4 +42,4 @@ returns g c =
     let ran : (m : Card) → Stands g.S.Shelf.store c.args.self.now m → Stands g.S.Shelf.store c.loop-at.self (run m (events_of c.args.self.now.config.n201 c.args.events.now)).card = λ m s. subst (λ es. Stands g.S.Shelf.store c.loop-at.self (run m es).card) all (c.loop-at.invariant.ran m s) in
     let taken : (m : Card) → Stands g.S.Shelf.store c.args.self.now m → Taken g.K.FrameSink.takes c.args.sink.now (run m (events_of c.args.self.now.config.n201 c.args.events.now)).replies c.loop-at.sink = λ m s. subst (λ es. Taken g.K.FrameSink.takes c.args.sink.now (run m es).replies c.loop-at.sink) all (c.loop-at.invariant.taken m s) in
     let counters : (m : Card) → Stands g.S.Shelf.store c.args.self.now m → counters_in c.loop-at.self.lines ≡ all_counted (counters_in c.args.self.now.lines) (moments m (events_of c.args.self.now.config.n201 c.args.events.now)) = λ m s. c.loop-at.invariant.counted m s ∙ ap (λ es. all_counted (counters_in c.args.self.now.lines) (moments m es)) all in
-    search (rules, laws g.S.Shelf.store c.args.self.now (events_of c.args.self.now.config.n201 c.args.events.now) (events_at_lines g.S.Shelf.store c.args.self.now c.args.self.now.config.n201 c.args.events.now c.requires), ran, taken, counters, run_is_moments, refused_by_the_table, numbers_in_runs)
+    search (rules, ran, taken, counters, run_is_moments, refused_by_the_table, numbers_in_runs)

@@ -1,5 +1,5 @@
 -- Hand-written answers for `Exchange::frame`.
-use Rattle.lapd_sim.proofs.Vocabulary.{◌≡◌, refl, subst, report_told, Config, came, at, hears, told, Frames, as_store}
+use Rattle.lapd_sim.proofs.Vocabulary.{◌≡◌, refl, subst, report_told, Config, came, at, hears, told, Frames, shelf_of}
 use Rattle.lapd_card.specs.FrameStands as frames
 use Rattle.model_card.specs.Event as frame_event
 use Rattle.model_card.specs.Machine as frame_machine
@@ -18,7 +18,7 @@ pub returns-clause-told : goal.returns-clause-told
 returns-clause-told g c = λ m h.
     let e = came c.args.self.now.plan.config.n201 c.args.octets.now in
     let same = same_config c.args.self.now c.in-Frames.card c.in-Frames.is in
-    let after = subst (λ (k : Config). frames.Leads as_store (frame_event.at c.args.line (line_event.hears (came k.n201 c.args.octets.now))) c.in-Frames.card c.frame-report.new.self) same c.frame-report.ensures.after in
+    let after = subst (λ (k : Config). frames.Leads shelf_of (frame_event.at c.args.line (line_event.hears (came k.n201 c.args.octets.now))) c.in-Frames.card c.frame-report.new.self) same c.frame-report.ensures.after in
     let says = subst (λ (k : Config). line_event.told (report_told c.frame-report.result) ≡ frame_machine.answer (frame_event.at c.args.line (line_event.hears (came k.n201 c.args.octets.now))) m.board.card.card) same
     (c.frame-report.ensures.told m.board.card.card (on_frames c.args.self.now.board c.in-Frames.card c.in-Frames.is m.board h.board)) in
     let leads = leads_from (at c.args.line (hears e)) c.args.self.now.board (Frames c.in-Frames.card) (Frames c.frame-report.new.self) c.in-Frames.is

@@ -1,9 +1,10 @@
 -- Hand-written answers for `AnyCard::expire`.
-use Rattle.lapd_c.proofs.Vocabulary.{◌≡◌, told, report_told, Machine, at, expiry}
+use Rattle.lapd_card.proofs.Vocabulary.{◌≡◌, report_told, at}
+use Rattle.model_line.specs.Event.{told, expiry}
 use Rattle.lapd_card.proofs.OneOctet.{expiry_passes}
-use Rattle.lapd_c.specs.Kinds.{answer}
-use Rattle.lapd_c.proofs.Kinded.{by_octets, expiry_told, frames_lead, octets_lead}
-use Rattle.lapd_c.proofs.kinds.AnyCard.expire.Goals as goal
+use Rattle.lapd_card.specs.Kinds.{Machine, answer}
+use Rattle.lapd_card.proofs.Kinded.{by_octets, expiry_told, frames_lead, octets_lead}
+use Rattle.lapd_card.proofs.kinds.AnyCard.expire.Goals as goal
 
 pub returns-in-Octets-clause-told : goal.returns-in-Octets-clause-told
 returns-in-Octets-clause-told c =

@@ -1,11 +1,11 @@
 -- Hand-written answers for `AnyCard::request`.
-use Rattle.lapd_c.proofs.Vocabulary.{◌≡◌, Machine, card_in, line_at, refusal, None, at, request, request_of, answer_of_result}
-use Rattle.std.proofs.Common.{Some}
-use Rattle.model_card.specs.Card.{is_full}
+use Rattle.lapd_card.proofs.Vocabulary.{◌≡◌, None, Some, line_at, is_full, refusal, at, answer_of_result}
+use Rattle.model_line.specs.Event.{request}
+use Rattle.model_line.specs.Request.{request_of}
 use Rattle.lapd_card.proofs.OneOctet.{request_passes}
-use Rattle.lapd_c.specs.Kinds.{answer}
-use Rattle.lapd_c.proofs.Kinded.{by_octets, if_err_then, if_ok_then, request_told, frames_lead, octets_lead}
-use Rattle.lapd_c.proofs.kinds.AnyCard.request.Goals as goal
+use Rattle.lapd_card.specs.Kinds.{Machine, card_in, answer}
+use Rattle.lapd_card.proofs.Kinded.{by_octets, if_err_then, if_ok_then, request_told, frames_lead, octets_lead}
+use Rattle.lapd_card.proofs.kinds.AnyCard.request.Goals as goal
 
 pub returns-in-Octets-clause-refused : goal.returns-in-Octets-clause-refused
 returns-in-Octets-clause-refused c =

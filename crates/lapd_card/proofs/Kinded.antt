@@ -1,16 +1,10 @@
 -- A card of either kind.
-use Rattle.lapd_c.proofs.Vocabulary.{◌≡◌, ℕ, Bool, true, false, cond, List, drop, Option, Result, Ok, Err, IfOk, IfErr, sym, ap, refl, subst, ◌∙◌, None, option_map, option_to_list, Config, IsInRange, Timer, Refusal, refusal, Request, Report, NextFrame, written, gave_in, next_in, Card, line_at, Event, at, moment_counted, moment_of, all_counted, Counters, Store, counters_in, AnyCard, Octets, Frames, OctetCard, Machine, with_ports, alone, card_in, AnyStands, AnyLeads, CardStands, FrameCardStands, shelf_of, comes, goes, next_at, report_told}
-use Rattle.std.proofs.Common.{Some, IfSome, length, take, ◌≤◌}
-use Rattle.std.proofs.Math.Nat.{min-eq_left}
-use Rattle.std.proofs.lemmas.List.{length-take}
-use Rattle.lapd_frame.specs.ShortLists.{listed}
-use Rattle.lapd_card.specs.Waiting.{has_next}
-use Rattle.lapd_c.specs.declared.plain.reports.PlainReport.{PlainReport}
-use Rattle.lapd_c.specs.Frames.{IsGiven}
-use Rattle.lapd_c.specs.Reports.{ShowsPull}
-use Rattle.lapd_c.specs.Statuses.{ok}
+use Rattle.lapd_card.proofs.Vocabulary.{◌≡◌, ℕ, Bool, true, false, cond, Option, Result, Ok, Err, IfOk, IfErr, sym, ap, refl, subst, ◌∙◌, None, option_map, option_to_list, IsInRange, Timer, Refusal, refusal, Request, Report, Card, line_at, Event, at, moment_counted, moment_of, all_counted, Store, counters_in, OctetCard, report_told}
+use Rattle.lapd_card.specs.declared.kinds.AnyCard.{AnyCard}
+use Rattle.lapd_card.specs.declared.kinds.AnyCard.TheVariants.{Octets, Frames}
+use Rattle.lapd_card.specs.Kinds.{Machine, with_ports, alone, card_in, AnyStands, AnyLeads, CardStands, FrameCardStands, shelf_of}
+use Rattle.std.proofs.Common.{Some}
 use Rattle.lapd_frame.specs.declared.refusals.Refusal.TheVariants.{PoolFull}
-use Rattle.model_line.specs.Came.{came}
 use Rattle.model_line.specs.Event as line
 use Rattle.model_line.specs.Machine.{of_request, unless_refused_told}
 unfoldable use Rattle.model_line.specs.Machine.{answer as line_answer, takes_slot}
@@ -26,8 +20,8 @@ use Rattle.lapd_card.specs.FrameReply as frame_reply
 use Rattle.lapd_card.specs.FrameStands as frame_stands
 use Rattle.lapd_card.specs.Reply as reply
 use Rattle.lapd_card.specs.Stands as octets_stand
-use Rattle.lapd_card.proofs.OneOctet.{IsPassedOn, expiry_passes, request_passes, meant_is, passed_after, passed_answer, none_leaves, none_counts, same_result}
-use Rattle.lapd_c.specs.Kinds as kinds
+use Rattle.lapd_card.proofs.OneOctet.{IsPassedOn, expiry_passes, request_passes, meant_is, passed_after, passed_answer, same_result}
+use Rattle.lapd_card.specs.Kinds as kinds
 
 -- what holds of each machine for which a card for octets stands, or one for frames
 pub by_octets : (P : Machine → Type 0) {card : AnyCard} {c : octets.Held Store} → card ≡ Octets c → ((m : OctetCard) → CardStands c m → P (with_ports m)) → (m : Machine) → AnyStands card m → P m
@@ -54,6 +48,7 @@ ranges_in (Frames c) m s = by_frames (λ m. IsInRange (card_in m).config) refl (
 pub frames_lead : {e : Event} {card : AnyCard} {old new : frames.Held Store} → card ≡ Frames old → frame_stands.Leads shelf_of e old new → AnyLeads e card (Frames new)
 frames_lead {e} {card} {old} {new} is leads = subst (λ card. AnyLeads e card (Frames new)) (sym is) (record {
   kind = refl;
+  config = leads.config;
   stands = by_frames (λ m. AnyStands (Frames new) (kinds.after e m)) refl leads.stands;
   counted = by_frames (λ m. counters_in new.lines ≡ moment_counted (counters_in old.lines) (moment_of (card_in m) e)) refl leads.counted;
 })
@@ -63,6 +58,7 @@ module _ {e : port.Event} {f : line.Event} (on : IsPassedOn e f) where
   pub octets_lead : {i : ℕ} {card : AnyCard} {old new : octets.Held Store} → card ≡ Octets old → octets_stand.Leads shelf_of (octet_event.at i e) old new → AnyLeads (at i f) card (Octets new)
   octets_lead {i} {card} {old} {new} is leads = subst (λ card. AnyLeads (at i f) card (Octets new)) (sym is) (record {
     kind = refl;
+    config = leads.config;
     stands = by_octets (λ m. AnyStands (Octets new) (kinds.after (at i f) m)) refl (λ m s. subst (CardStands new) (passed_after on i m) (leads.stands m s));
     counted = by_octets (λ m. counters_in new.frames.lines ≡ moment_counted (counters_in old.frames.lines) (moment_of (card_in m) (at i f))) refl
         (λ m s. leads.counted m s ∙ ap (λ o. all_counted (counters_in old.frames.lines) (option_to_list (option_map (frame_moment m) o))) (meant_is on i m));
@@ -118,48 +114,3 @@ if_ok_then (Err e) h p = tt
 pub if_err_then : {X E : Type 0} {P Q : E → Type 0} (r : Result X E) → ((e : E) → P e → Q e) → IfErr r P → IfErr r Q
 if_err_then (Ok x) h p = tt
 if_err_then (Err e) h p = h e p
-
--- ---- whole frames
-
--- a frame that comes at a card is heard by the configuration of its machine
-pub comes_at : (i : ℕ) (frame : List ℕ) (c : frames.Held Store) (m : Card) → FrameCardStands c m → at i (line.hears (came c.config.n201 frame)) ≡ comes i frame m
-comes_at i frame c m s = ap (λ (config : Config). at i (line.hears (came config.n201 frame))) (sym s.config)
-
--- what is written is the frame that is next
-pub next_is : (i : ℕ) (m : Card) (out : List ℕ) (given : Option NextFrame) → gave_in out given ≡ machine.answer (goes i) m → next_at i m ≡ option_map (next_in out) given
-next_is i m out given is = ap port.given_in (sym is)
-
--- where no frame waits, the card stays, and nothing is counted
-pub none_goes : (i : ℕ) (m : Card) (c : frames.Held Store) → next_at i m ≡ None → FrameCardStands c (machine.after (goes i) m) → FrameCardStands c m
-none_goes i m c none s = subst (FrameCardStands c) (none_leaves m i none) s
-
-pub none_counted : (i : ℕ) (m : Card) (all : List Counters) → next_at i m ≡ None → moment_counted all (moment_of m (goes i)) ≡ all
-none_counted i m all none = none_counts m i all none
-
--- and nothing is written
-pub unwritten : (given : Option NextFrame) (out out' : List ℕ) → given ≡ None → drop (written given) out' ≡ drop (written given) out → out' ≡ out
-unwritten given out out' none rest = subst (λ (n : Option NextFrame). drop (written n) out' ≡ drop (written n) out) none rest
-
--- what is written is given, where it fits, and shown with whether another waits
-pub given_shown : (i : ℕ) (m : Card) (new : AnyCard) (out out' : List ℕ) (count status : ℕ) (r : PlainReport) (next : NextFrame) (more : Bool)
-    → next_at i m ≡ Some (next_in out' next) → status ≡ ok → AnyStands new (alone (machine.after (goes i) m)) → more ≡ has_next i (machine.after (goes i) m)
-    → count ≡ next.length → next.length ≤ length out' → drop next.length out' ≡ drop next.length out → ShowsPull r true more (listed next.orders)
-    → IfSome (next_at i m) (λ n. (status ≡ ok) × AnyStands new (alone (machine.after (goes i) m)) × IsGiven n out out' count × ShowsPull r true (has_next i (machine.after (goes i) m)) n.orders)
-given_shown i m new out out' count status r next more is fine stands waits same fits rest shows =
-    subst (λ o. IfSome o (λ n. (status ≡ ok) × AnyStands new (alone (machine.after (goes i) m)) × IsGiven n out out' count × ShowsPull r true (has_next i (machine.after (goes i) m)) n.orders)) (sym is)
-    (fine, stands, given, subst (λ b. ShowsPull r true b (listed next.orders)) waits shows)
-  where
-    whole : length (take next.length out') ≡ next.length
-    whole = length-take next.length out' ∙ min-eq_left fits
-
-    given : IsGiven (next_in out' next) out out' count
-    given = record {
-      whole = same ∙ sym whole;
-      octets = ap (λ n. take n out') same;
-      rest = ap (λ n. drop n out') same ∙ rest ∙ ap (λ n. drop n out) (sym same);
-    }
-
--- where there is none, nothing is said
-pub none_said : {X : Type 0} (P : X → Type 0) (o : Option X) → o ≡ None → IfSome o P
-none_said P None is = tt
-none_said P (Some x) is = absurd (cc)

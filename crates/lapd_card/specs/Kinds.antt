@@ -7,6 +7,7 @@ use Rattle.model_card.specs.Event.{Event}
 use Rattle.model_card.specs.Machine as machine
 use Rattle.model_card.specs.Stored as of_frames
 use Rattle.model_line.specs.Event.{Answer}
+use Rattle.model_line.specs.declared.config.Config.{Config}
 use Rattle.model_card.specs.ports.Card.{OctetCard}
 use Rattle.model_card.specs.ports.Stored as of_octets
 use Rattle.lapd_store.specs.Store.{Store}
@@ -15,8 +16,8 @@ use Rattle.lapd_card.specs.Counted.{counters_in}
 use Rattle.lapd_card.specs.FrameCard as frames
 use Rattle.lapd_card.specs.FrameStands as frame_card
 use Rattle.lapd_card.specs.Stands as octet_card
-use Rattle.lapd_c.specs.declared.kinds.AnyCard.{AnyCard}
-use Rattle.lapd_c.specs.declared.kinds.AnyCard.TheVariants.{Octets, Frames}
+use Rattle.lapd_card.specs.declared.kinds.AnyCard.{AnyCard}
+use Rattle.lapd_card.specs.declared.kinds.AnyCard.TheVariants.{Octets, Frames}
 
 pub data Kind : Type 0 where
   for_octets : Kind
@@ -26,14 +27,19 @@ abbrev pub kind_of : AnyCard → Kind
 kind_of (Octets card) = for_octets
 kind_of (Frames card) = for_frames
 
-abbrev pub line_count : AnyCard → ℕ
-line_count (Octets card) = octets.line_count card
-line_count (Frames card) = frames.line_count card
+-- The card of frames: itself, or the one inside; its configuration, and the counters of its lines.
+abbrev pub frames_of : AnyCard → frames.Held Store
+frames_of (Octets card) = card.frames
+frames_of (Frames card) = card
 
--- The counters of its lines.
+abbrev pub config_of : AnyCard → Config
+config_of card = (frames_of card).config
+
+abbrev pub line_count : AnyCard → ℕ
+line_count card = (config_of card).lines
+
 abbrev pub counters_of : AnyCard → List Counters
-counters_of (Octets card) = counters_in card.frames.lines
-counters_of (Frames card) = counters_in card.lines
+counters_of card = counters_in (frames_of card).lines
 
 -- The card's shelf, as its contracts see it.
 abbrev pub shelf_of : Store → Store
@@ -78,5 +84,6 @@ AnyStands (Frames c) (alone m) = FrameCardStands c m
 -- An event at the card of frames leads a card from one value to another, of the same kind, and is counted.
 pub record AnyLeads (e : Event) (old new : AnyCard) : Type 0 where
   pub kind : kind_of new ≡ kind_of old
+  pub config : config_of new ≡ config_of old
   pub stands : (m : Machine) → AnyStands old m → AnyStands new (after e m)
   pub counted : (m : Machine) → AnyStands old m → counters_of new ≡ moment_counted (counters_of old) (moment_of (card_in m) e)

@@ -1,0 +1,60 @@
+-- Whole frames: one that comes, and one that is given.
+use Rattle.lapd_c.proofs.Vocabulary.{◌≡◌, ℕ, Bool, true, List, drop, Option, sym, ap, subst, ◌∙◌, None, option_map, Config, NextFrame, written, gave_in, next_in, Card, at, moment_counted, moment_of, Counters, Store, AnyCard, alone, AnyStands, FrameCardStands, comes, goes, next_at}
+use Rattle.std.proofs.Common.{Some, IfSome, length, take, ◌≤◌}
+use Rattle.std.proofs.Math.Nat.{min-eq_left}
+use Rattle.std.proofs.lemmas.List.{length-take}
+use Rattle.lapd_frame.specs.ShortLists.{listed}
+use Rattle.lapd_card.specs.Waiting.{has_next}
+use Rattle.lapd_c.specs.declared.plain.reports.PlainReport.{PlainReport}
+use Rattle.lapd_c.specs.Frames.{IsGiven}
+use Rattle.lapd_c.specs.Reports.{ShowsPull}
+use Rattle.lapd_c.specs.Statuses.{ok}
+use Rattle.model_line.specs.Came.{came}
+use Rattle.model_line.specs.Event as line
+use Rattle.model_card.specs.Machine as machine
+use Rattle.model_card.specs.ports.Port as port
+use Rattle.lapd_card.specs.FrameCard as frames
+use Rattle.lapd_card.proofs.OneOctet.{none_leaves, none_counts}
+
+-- a frame that comes at a card is heard by the configuration of its machine
+pub comes_at : (i : ℕ) (frame : List ℕ) (c : frames.Held Store) (m : Card) → FrameCardStands c m → at i (line.hears (came c.config.n201 frame)) ≡ comes i frame m
+comes_at i frame c m s = ap (λ (config : Config). at i (line.hears (came config.n201 frame))) (sym s.config)
+
+-- what is written is the frame that is next
+pub next_is : (i : ℕ) (m : Card) (out : List ℕ) (given : Option NextFrame) → gave_in out given ≡ machine.answer (goes i) m → next_at i m ≡ option_map (next_in out) given
+next_is i m out given is = ap port.given_in (sym is)
+
+-- where no frame waits, the card stays, and nothing is counted
+pub none_goes : (i : ℕ) (m : Card) (c : frames.Held Store) → next_at i m ≡ None → FrameCardStands c (machine.after (goes i) m) → FrameCardStands c m
+none_goes i m c none s = subst (FrameCardStands c) (none_leaves m i none) s
+
+pub none_counted : (i : ℕ) (m : Card) (all : List Counters) → next_at i m ≡ None → moment_counted all (moment_of m (goes i)) ≡ all
+none_counted i m all none = none_counts m i all none
+
+-- and nothing is written
+pub unwritten : (given : Option NextFrame) (out out' : List ℕ) → given ≡ None → drop (written given) out' ≡ drop (written given) out → out' ≡ out
+unwritten given out out' none rest = subst (λ (n : Option NextFrame). drop (written n) out' ≡ drop (written n) out) none rest
+
+-- what is written is given, where it fits, and shown with whether another waits
+pub given_shown : (i : ℕ) (m : Card) (new : AnyCard) (out out' : List ℕ) (count status : ℕ) (r : PlainReport) (next : NextFrame) (more : Bool)
+    → next_at i m ≡ Some (next_in out' next) → status ≡ ok → AnyStands new (alone (machine.after (goes i) m)) → more ≡ has_next i (machine.after (goes i) m)
+    → count ≡ next.length → next.length ≤ length out' → drop next.length out' ≡ drop next.length out → ShowsPull r true more (listed next.orders)
+    → IfSome (next_at i m) (λ n. (status ≡ ok) × AnyStands new (alone (machine.after (goes i) m)) × IsGiven n out out' count × ShowsPull r true (has_next i (machine.after (goes i) m)) n.orders)
+given_shown i m new out out' count status r next more is fine stands waits same fits rest shows =
+    subst (λ o. IfSome o (λ n. (status ≡ ok) × AnyStands new (alone (machine.after (goes i) m)) × IsGiven n out out' count × ShowsPull r true (has_next i (machine.after (goes i) m)) n.orders)) (sym is)
+    (fine, stands, given, subst (λ b. ShowsPull r true b (listed next.orders)) waits shows)
+  where
+    whole : length (take next.length out') ≡ next.length
+    whole = length-take next.length out' ∙ min-eq_left fits
+
+    given : IsGiven (next_in out' next) out out' count
+    given = record {
+      whole = same ∙ sym whole;
+      octets = ap (λ n. take n out') same;
+      rest = ap (λ n. drop n out') same ∙ rest ∙ ap (λ n. drop n out) (sym same);
+    }
+
+-- where there is none, nothing is said
+pub none_said : {X : Type 0} (P : X → Type 0) (o : Option X) → o ≡ None → IfSome o P
+none_said P None is = tt
+none_said P (Some x) is = absurd (cc)

@@ -1,0 +1,54 @@
+-- What every call of a card comes to, served or not. Its tests come in the order of the fields.
+use Rattle.std.specs.Prelude.{◌≡◌, ◌≤◌, ◌<◌, ℕ, Some, None, replicate}
+use Rattle.lapd_count.specs.Counters.{none_counted}
+use Rattle.model_card.specs.Card.{Card}
+use Rattle.model_card.specs.ports.Card.{OctetCard}
+use Rattle.lapd_card.specs.Kinds.{Machine, card_in, AnyStands, counters_of, for_octets, for_frames}
+use Rattle.lapd_c.specs.declared.card.CardHandle.{CardHandle}
+use Rattle.lapd_c.specs.declared.kept.KeptCard.{KeptCard}
+use Rattle.lapd_c.specs.declared.plain.reports.PlainReport.{PlainReport}
+use Rattle.lapd_c.specs.CardSlots.{HeldCard}
+use Rattle.lapd_c.specs.Cards.{card_of, kind_in, marks_at, IsHandle, Stands, OctetsStand, FramesStand}
+use Rattle.lapd_c.specs.LinkMarks.{AreUnmarked}
+use Rattle.lapd_c.specs.Reopened.{TellsReopened}
+use Rattle.lapd_c.specs.Statuses as status
+
+-- As a card begins, it stands for a machine, nothing is counted, and no link waits for room.
+pub record Begins (m : Machine) (kept : KeptCard) : Type 0 where
+  pub stands : AnyStands kept.card m
+  pub counters : counters_of kept.card ≡ replicate (card_in m).config.lines none_counted
+  pub marks : AreUnmarked (card_in m).config.lines kept.refused
+
+abbrev pub HasBegun : Machine → HeldCard → Type 0
+HasBegun m None = ⊥
+HasBegun m (Some kept) = Begins m kept
+
+-- Where there is no card, this is told, and nothing changes.
+pub record IsCall (old new : CardHandle) (result : ℕ) : Type 0 where
+  pub handle : IsHandle new
+  pub no_card : card_of old ≡ None → (result ≡ status.no_card) × (new ≡ old)
+
+-- The same of a line: where the card does not have it, this is told.
+pub record IsCallAt (line : ℕ) (old new : CardHandle) (result : ℕ) : Type 0 where
+  pub handle : IsHandle new
+  pub no_card : card_of old ≡ None → (result ≡ status.no_card) × (new ≡ old)
+  pub wrong_line : (m : Machine) → Stands old m → (card_in m).config.lines ≤ line → result ≡ status.wrong_line
+
+-- The same of a line of a card for octets, and of one for frames: where it is one of the other kind, this is told.
+pub record IsOctetsCall (line : ℕ) (old new : CardHandle) (result : ℕ) : Type 0 where
+  pub handle : IsHandle new
+  pub no_card : card_of old ≡ None → (result ≡ status.no_card) × (new ≡ old)
+  pub wrong_card : kind_in old ≡ Some for_frames → result ≡ status.wrong_card
+  pub wrong_line : (m : OctetCard) → OctetsStand old m → m.card.config.lines ≤ line → result ≡ status.wrong_line
+
+pub record IsFramesCall (line : ℕ) (old new : CardHandle) (result : ℕ) : Type 0 where
+  pub handle : IsHandle new
+  pub no_card : card_of old ≡ None → (result ≡ status.no_card) × (new ≡ old)
+  pub wrong_card : kind_in old ≡ Some for_octets → result ≡ status.wrong_card
+  pub wrong_line : (m : Card) → FramesStand old m → m.config.lines ≤ line → result ≡ status.wrong_line
+
+-- Where a call of a line is served, its report tells of a link that has room again, if one waits that has.
+abbrev pub IsReopened : ℕ → CardHandle → CardHandle → ℕ → PlainReport → Type 0
+IsReopened line old new result report =
+    (m : Machine) → Stands new m → line < (card_in m).config.lines → result ≡ status.ok
+    → TellsReopened line (card_in m) (marks_at old) (marks_at new) report

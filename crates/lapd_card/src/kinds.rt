@@ -1,0 +1,89 @@
+//! A card of either kind, and what both do alike.
+
+ghost use Rattle.std.specs.Prelude.{◌≡◌, ◌≤◌, ◌<◌, Some, None, IfOk, IfErr, OnErr};
+ghost use Rattle.lapd_card.specs.{refusal, request_of, report_told};
+ghost use Rattle.model_card.specs.Card as machine;
+ghost use Rattle.model_card.specs.Event.{at};
+ghost use Rattle.model_line.specs.Event as line_event;
+ghost use Rattle.model_line.specs.Event.{told};
+ghost use Rattle.lapd_card.specs.FrameReply.{answer_of_result};
+ghost use Rattle.lapd_card.specs.Kinds.{Machine, card_in, answer, stored, frames_of, line_count, FrameCardStands, AnyStands, AnyLeads};
+
+use crate::card::Card;
+use crate::frame_card::FrameCard;
+use lapd_frame::{Refusal, Timer};
+use lapd_line::{Report, Request};
+use lapd_store::RawShelf;
+
+/// A card that takes and gives octets, or one that takes and gives whole frames, over a shelf of raw memory.
+#[derive(Debug, Drop)]
+pub enum AnyCard {
+    Octets(Card<RawShelf>),
+    Frames(FrameCard<RawShelf>),
+}
+
+impl AnyCard {
+    /// How many lines the card has.
+    pub fn lines(&self) -> usize
+        ensures count { result ≡ line_count self.now }
+        ensures machine { (m : Machine) → AnyStands self.now m → result ≡ (card_in m).config.lines }
+        ensures few { (m : Machine) → AnyStands self.now m → result ≤ 64 }
+    {
+        match self {
+            AnyCard::Octets(card) => card.lines(),
+            AnyCard::Frames(card) => card.lines(),
+        }
+    }
+
+    /// The card of frames: itself, or the one inside. It answers what both kinds answer alike.
+    pub fn frames(&self) -> &FrameCard<RawShelf>
+        ensures card { result.now ≡ frames_of self.now }
+        ensures stands { (m : Machine) → AnyStands self.now m → FrameCardStands result.now (card_in m) }
+    {
+        match self {
+            AnyCard::Octets(card) => &card.frames,
+            AnyCard::Frames(card) => card,
+        }
+    }
+
+    /// A timer of a line expired.
+    pub fn expire(&mut self, line: usize, timer: Timer) -> Report<'static>
+        requires { line < line_count self.old }
+        ensures told { (m : Machine) → AnyStands self.old m
+            → told (report_told result) ≡ answer (at line (line_event.expiry timer)) m }
+        ensures after { AnyLeads (at line (line_event.expiry timer)) self.old self.new }
+    {
+        match self {
+            AnyCard::Octets(card) => card.expire(line, timer),
+            AnyCard::Frames(card) => card.expire(line, timer),
+        }
+    }
+
+    /// Serves a request at a line.
+    pub fn request(&mut self, line: usize, request: Request<'_>) -> Result<Report<'static>, Refusal>
+        requires { line < line_count self.old }
+        ensures refused { IfErr result (λ why. (m : Machine) → AnyStands self.old m
+            → refusal (card_in m).config (machine.is_full (card_in m)) (request_of request.entry) (machine.line_at line (card_in m)) ≡ Some why) }
+        ensures unchanged { OnErr result (self.new ≡ self.old) }
+        ensures accepted { IfOk result (λ report. (m : Machine) → AnyStands self.old m
+            → refusal (card_in m).config (machine.is_full (card_in m)) (request_of request.entry) (machine.line_at line (card_in m)) ≡ None) }
+        ensures told { (m : Machine) → AnyStands self.old m
+            → answer_of_result result ≡ answer (at line (line_event.request (request_of request.entry))) m }
+        ensures after { AnyLeads (at line (line_event.request (request_of request.entry))) self.old self.new }
+    {
+        match self {
+            AnyCard::Octets(card) => card.request(line, request),
+            AnyCard::Frames(card) => card.request(line, request),
+        }
+    }
+
+    /// How many octets the card stores now.
+    pub fn stored(&self) -> u32
+        ensures { (m : Machine) → AnyStands self.now m → result ≡ stored m }
+    {
+        match self {
+            AnyCard::Octets(card) => card.stored(),
+            AnyCard::Frames(card) => card.stored(),
+        }
+    }
+}

@@ -1,0 +1,65 @@
+-- The laws of the machine hold of the events of a card's list, and of every front of it.
+use Rattle.laws_promises.proofs.Vocabulary.{ℕ, ◌<◌, List, take, All, All-take, Card, IsAtLine, IsSound, reached-sound, frames_amortised, rejects_are_long}
+use Rattle.model_line.specs.Sound.{IsInRange}
+use Rattle.model_line.specs.declared.config.Config.{Config}
+use Rattle.model_card.specs.ByEvent.{ArePriced}
+use Rattle.model_card.specs.Card.{fresh}
+use Rattle.model_card.specs.Drops.{AreDropsWithoutCost, AreDropsWithoutEffect}
+use Rattle.model_card.specs.Event.{Event}
+use Rattle.model_card.specs.Promises.{IsWithinLimit, IsAmortised, IsAmortisedFromZero, AreRejectsLong, IsIsolated, IsNeverFull, IsNumbered, IsNumberedFromZero}
+use Rattle.model_card.specs.Run.{AreAtLines}
+use Rattle.model_card.specs.declared.events.FrameEvent.{FrameEvent}
+use Rattle.model_card.proofs.Amortised.{frames_amortised_from_zero}
+use Rattle.model_card.proofs.ByEvent.{frames_by_event}
+use Rattle.model_card.proofs.Drops.{drops_change_nothing, drops_cost_nothing}
+use Rattle.model_card.proofs.Isolated.{lines_isolated}
+use Rattle.model_card.proofs.NeverFull.{pool_never_full}
+use Rattle.model_card.proofs.Numbering.{deliveries_numbered}
+use Rattle.model_card.proofs.Stored.{stored_within_limit}
+use Rattle.lapd_store.specs.Store.{Store}
+use Rattle.lapd_card.specs.FrameCard.{Held, line_count}
+use Rattle.lapd_card.specs.FrameDrive.{line_of, events_of}
+use Rattle.lapd_card.specs.FrameStands.{Stands}
+use Rattle.lapd_card.proofs.Headline.{events_at_lines}
+
+-- The laws hold of the events of a list, of each front of it, and of each front of that of a card as it begins.
+pub record Laws {S : Type 0} (store : S → Store) (card : Held S) (list : List Event) : Type 0 where
+  pub by_event : (m : Card) → Stands store card m → ArePriced m list
+  pub drops : (m : Card) → Stands store card m → AreDropsWithoutCost m list
+  pub without_effect : (m : Card) → Stands store card m → AreDropsWithoutEffect m list
+  pub within_limit : (m : Card) (count : ℕ) → Stands store card m → IsWithinLimit m (take count list)
+  pub amortised : (m : Card) (count : ℕ) → Stands store card m → IsAmortised m (take count list)
+  pub amortised_from_zero : (count : ℕ) → Stands store card (fresh card.config) → IsAmortisedFromZero card.config (take count list)
+  pub rejects_are_long : (m : Card) (count : ℕ) → Stands store card m → AreRejectsLong m (take count list)
+  pub isolated : (count : ℕ) → Stands store card (fresh card.config) → IsIsolated card.config (take count list)
+  pub never_full : (count : ℕ) → Stands store card (fresh card.config) → IsNeverFull card.config (take count list)
+  pub numbered : (m : Card) (count : ℕ) → Stands store card m → IsNumbered m (take count list)
+  pub from_zero : (count : ℕ) → Stands store card (fresh card.config) → IsNumberedFromZero card.config (take count list)
+
+laws : {S : Type 0} (store : S → Store) (card : Held S) (list : List Event) → ((m : Card) → Stands store card m → AreAtLines m list) → Laws store card list
+laws store card list within = record {
+  by_event = whole ArePriced frames_by_event.in_runs;
+  drops = whole AreDropsWithoutCost drops_cost_nothing;
+  without_effect = whole AreDropsWithoutEffect (λ m es s within. drops_change_nothing m es);
+  within_limit = front IsWithinLimit stored_within_limit.always;
+  amortised = front IsAmortised frames_amortised;
+  amortised_from_zero = first IsAmortisedFromZero frames_amortised_from_zero;
+  rejects_are_long = front AreRejectsLong (λ m es s within. rejects_are_long m es);
+  isolated = first IsIsolated lines_isolated;
+  never_full = first IsNeverFull pool_never_full;
+  numbered = front IsNumbered deliveries_numbered.numbered;
+  from_zero = first IsNumberedFromZero deliveries_numbered.from_zero;
+}
+  where
+    whole : (P : Card → List Event → Type 0) → ((m : Card) (es : List Event) → IsSound m → AreAtLines m es → P m es) → (m : Card) → Stands store card m → P m list
+    whole P law m s = law m list (reached-sound m s.reached) (within m s)
+
+    front : (P : Card → List Event → Type 0) → ((m : Card) (es : List Event) → IsSound m → AreAtLines m es → P m es) → (m : Card) (count : ℕ) → Stands store card m → P m (take count list)
+    front P law m count s = law m (take count list) (reached-sound m s.reached) (All-take (IsAtLine m) count list (within m s))
+
+    first : (P : Config → List Event → Type 0) → ((c : Config) (es : List Event) → IsInRange c → AreAtLines (fresh c) es → P c es) → (count : ℕ) → Stands store card (fresh card.config) → P card.config (take count list)
+    first P law count s = law card.config (take count list) s.reached.config (All-take (IsAtLine (fresh card.config)) count list (within (fresh card.config) s))
+
+-- so of the events with which a card is driven
+pub laws_of : {S : Type 0} (store : S → Store) (card : Held S) (n201 : ℕ) (events : List FrameEvent) → All (λ e. line_of e < line_count card) events → Laws store card (events_of n201 events)
+laws_of store card n201 events within = laws store card (events_of n201 events) (events_at_lines store card n201 events within)

@@ -8,8 +8,7 @@ use Rattle.lapd_tei.specs.Messages.{frame_of}
 use Rattle.lapd_tei.specs.declared.messages.Message.{Message}
 use Rattle.lapd_tei.specs.declared.messages.Message.TheVariants.{IdentityAssigned, IdentityDenied, IdentityCheckRequest, IdentityRemove}
 use Rattle.model_line.specs.Line.{Line, UnitData, terms_at, link_at}
-use Rattle.model_line.specs.Taken.{message_taken, unit_taken, link_taken, first_taken, with_message, with_unit, with_given_frame, round}
-use Rattle.model_link.specs.declared.terms.Terms.{Terms}
+use Rattle.model_line.specs.Taken.{unit_taken, link_taken, first_taken, with_message, with_unit, with_given_frame, round}
 use Rattle.model_link.specs.Machine as links
 use Rattle.model_link.specs.Told.{Given}
 

@@ -1,5 +1,5 @@
 -- A report that tells nothing but orders.
-use Rattle.lapd_line.proofs.Vocabulary.{◌≡◌, ℕ, [], List, drop, listed, LineTold, nothing, told_in, bare_shown, BareReport}
+use Rattle.lapd_line.proofs.Vocabulary.{◌≡◌, ℕ, [], List, drop, listed, nothing, told_in, bare_shown, BareReport}
 use Rattle.std.specs.Option.{option_or}
 use Rattle.std.specs.Prelude.{None, Some, if◌then◌else◌}
 use Rattle.lapd_count.specs.Shown.{told_shown}

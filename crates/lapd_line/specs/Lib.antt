@@ -26,7 +26,7 @@ pub use Rattle.lapd_bits.specs.Ended.{without_octets}
 pub use Rattle.lapd_count.specs.Counters.{none_counted, with_all}
 pub use Rattle.lapd_count.specs.Shown.{told_shown}
 pub use Rattle.lapd_frame.specs.Grammar.{IsFrame, parts_of, spelling}
-pub use Rattle.lapd_frame.specs.Reading.{long_reading, reading, start_of}
+pub use Rattle.lapd_frame.specs.Reading.{long_reading, start_of}
 pub use Rattle.lapd_frame.specs.ShortLists.{listed}
 pub use Rattle.lapd_frame.specs.declared.services.Service.{Service}
 pub use Rattle.lapd_link.specs.Events.{info_of, received_of}

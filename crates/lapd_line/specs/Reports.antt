@@ -3,7 +3,7 @@
 -- An answer has room for four notes and four orders, by value. No clause needs to speak of that room: an answer
 -- equals what the machine tells, so a list that was cut would break the clause. That four suffice is
 -- `answers_are_short` of `laws_line`.
-use Rattle.std.specs.Prelude.{◌≡◌, ℕ, List, [], take, drop, Option, Some, None, option_map, if◌then◌else◌}
+use Rattle.std.specs.Prelude.{ℕ, List, [], take, drop, Option, Some, None, option_map, if◌then◌else◌}
 use Rattle.std.specs.Option.{option_copied, option_or}
 use Rattle.model_bits.specs.Stream as stream
 use Rattle.lapd_frame.specs.ShortLists.{listed}

@@ -1,7 +1,7 @@
 //! What is heard in a line's octets, and which of its entities it is for.
 
 ghost use Rattle.std.specs.Prelude.{◌≡◌, ℕ, ◌≤◌, List, [], drop, length, Ok, Err};
-ghost use Rattle.lapd_line.specs.{heard_of, parts_of, reading, long_reading, start_of, Unserved, dropped, addressed, aim_of_long, aim_of_reading, drop_for, heard_side, unless_at_link, has_management, told_at, is_ui, received_of, info_of, addressee, group_service, message_at, serves_group, IsAtPlace, Standing, Serves, always, aim_of_event, octets_of, told_in, IsClear};
+ghost use Rattle.lapd_line.specs.{heard_of, parts_of, long_reading, start_of, Unserved, dropped, addressed, aim_of_long, aim_of_reading, drop_for, heard_side, unless_at_link, has_management, told_at, is_ui, received_of, info_of, addressee, group_service, message_at, serves_group, IsAtPlace, Standing, Serves, always, aim_of_event, octets_of, told_in, IsClear};
 ghost use Rattle.model_link.specs.Events as link;
 
 use crate::link_layer::LinkLayer;

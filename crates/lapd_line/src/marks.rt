@@ -1,7 +1,6 @@
 //! Which of up to 64 numbers are marked.
 
 ghost use Rattle.std.specs.Prelude.{◌≡◌, ◌<◌, ◌≤◌, ℕ, false, true, IfSome, MatchOption};
-ghost use Rattle.std.specs.Int.{bit_at};
 ghost use Rattle.std.specs.Option.{unwrap_or};
 ghost use Rattle.lapd_line.specs.{NoneFrom, IsLowestFrom, AreMarked, IsMark, IsMarkedAmong, Sets, IsFirstAround};
 

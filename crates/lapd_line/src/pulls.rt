@@ -1,7 +1,7 @@
 //! What a call for the next frame takes: a message of TEI management, unit data, or a frame of a link.
 
-ghost use Rattle.std.specs.Prelude.{◌≡◌, ◌+◌, ◌<◌, ◌≤◌, Bool, true, List, [], length, IfSome, IsSome};
-ghost use Rattle.lapd_line.specs.{IsFrame, spelling, Store, frame_of, Terms, link_count, message_taken, unit_taken, link_taken, first_taken, round, taken, TellsOf, HasTerms, IsMark, Sets, IsFirstAround, IsFree, Loads, room_in, reference_in, Takes, orders_taken, Standing};
+ghost use Rattle.std.specs.Prelude.{◌≡◌, ◌+◌, ◌<◌, ◌≤◌, Bool, true, [], length, IsSome};
+ghost use Rattle.lapd_line.specs.{IsFrame, spelling, Store, frame_of, Terms, link_count, message_taken, unit_taken, link_taken, first_taken, round, taken, TellsOf, HasTerms, IsMark, Sets, IsFree, Loads, room_in, reference_in, Takes, orders_taken, Standing};
 
 use crate::link_layer::LinkLayer;
 use crate::outlet::Outlet;
@@ -53,6 +53,7 @@ impl LinkLayer {
     }
 
     /// What the first of these links has to give. It is the first that is awake; where none is, that costs no call.
+    #[tactic(auto, using(crate::proofs::PullTakesRound::first_within, crate::proofs::PullTakesRound::first_marked))]
     #[inline(always)]
     fn take_first<O: Outlet, S: Shelf>(
         &mut self,
@@ -64,20 +65,8 @@ impl LinkLayer {
         requires room { self.old.config.n201 ≤ room_in (O.loading out.old) }
         ensures { Takes (λ c m. first_taken c m (round c m)) self.old (S.store shelf.now) (O.loading out.old) self.new (S.store shelf.now) (O.loading out.new) (orders_taken result) }
     {
-        let number = self.first_awake()?;
+        let number = self.awake.first_around(self.turn)?;
         self.take_link(number, out, shelf)
-    }
-
-    /// The first of the links that is awake, going round from the turn.
-    #[tactic(auto, using(crate::proofs::PullTakesRound::first_within, crate::proofs::PullTakesRound::first_marked, crate::proofs::PullTakesRound::first_of_links))]
-    #[inline(always)]
-    fn first_awake(&self) -> Option<usize>
-        requires { (store : Store) × Standing self.now store }
-        ensures within { IfSome result (λ number. number < link_count self.now.config) }
-        ensures awake { IfSome result (λ number. IsMark self.now.awake number true) }
-        ensures first { IsFirstAround self.now.awake self.now.turn (length self.now.links) result }
-    {
-        self.awake.first_around(self.turn)
     }
 
     /// What a link that is awake has to give.

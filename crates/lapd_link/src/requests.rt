@@ -1,6 +1,6 @@
 //! What layer 3 asks for.
 
-ghost use Rattle.std.specs.Prelude.{◌≡◌, ℕ, ◌<◌, ◌≤◌, nat_le, false, List, [], length, None, Some, ◌++◌, ◌∷◌, IfOk, IfErr, IfNone, OnOk, OnErr};
+ghost use Rattle.std.specs.Prelude.{◌≡◌, ℕ, ◌<◌, ◌≤◌, nat_le, false, List, [], length, None, Some, ◌++◌, ◌∷◌, IfErr, IfNone, OnOk, OnErr};
 ghost use Rattle.lapd_link.specs.{Store, used_slots, SameLimits, Owned, Keeps, begun, after, told, RisesByEvent, IsClear, Stays, Reaches, HasPlace, terms_of, request_of, told_with};
 ghost use Rattle.model_link.specs.Link as machine;
 ghost use Rattle.model_link.specs.Events as event;

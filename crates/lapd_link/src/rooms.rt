@@ -1,7 +1,7 @@
 //! How much room a link has.
 
 ghost use Rattle.std.specs.Prelude.{◌≡◌, ◌-◌, List, length};
-ghost use Rattle.lapd_link.specs.{Store, used_slots, Owned, room_of, terms_of};
+ghost use Rattle.lapd_link.specs.{used_slots, Owned, room_of, terms_of};
 ghost use Rattle.model_link.specs.Link as machine;
 
 use crate::link::Link;

@@ -1,6 +1,6 @@
 //! The check of a TEI: how it begins, goes on and ends (Q.921 clause 5.3.3).
 
-ghost use Rattle.std.specs.Prelude.{◌≡◌, true, Some, option_map};
+ghost use Rattle.std.specs.Prelude.{◌≡◌, true, Some};
 ghost use Rattle.lapd_tei.specs.{First, Second, is_on, begun, begin_check, left, verify, respond, doubled, expire, expire_period, led_to, IsShort};
 
 use super::{Teis, left};

@@ -1,5 +1,5 @@
 -- Hand-written answers for `FrameLine::frame`.
-use Rattle.lapd_line.proofs.Vocabulary.{Option, ap, sym, subst, ◌∙◌, told, told_in, LeadsIfHeard, answer_if_heard, config_of}
+use Rattle.lapd_line.proofs.Vocabulary.{ap, sym, subst, ◌∙◌, told, told_in, LeadsIfHeard, answer_if_heard, config_of}
 use Rattle.lapd_line.specs.Reports.{octets_of}
 use Rattle.lapd_line.proofs.frame_line.FrameLine.frame.Goals as goal
 

@@ -1,5 +1,5 @@
 -- Hand-written answers for `FrameLine::next_frame`.
-use Rattle.lapd_line.proofs.Vocabulary.{◌≡◌, ◌≤◌, [], length, take, drop, Some, begun_shown, answer_shown, ap, sym, ◌∙◌, orders_taken, gave_in, answer, next, config_of}
+use Rattle.lapd_line.proofs.Vocabulary.{◌≡◌, ◌≤◌, length, take, drop, Some, begun_shown, answer_shown, ap, sym, ◌∙◌, orders_taken, gave_in, answer, next, config_of}
 use Rattle.lapd_line.proofs.NextSteps.{next_leads, none_leads, gave_none, octets_shown, gave_is, is_written, ended}
 use Rattle.lapd_line.proofs.frame_line.FrameLine.next_frame.Goals as goal
 

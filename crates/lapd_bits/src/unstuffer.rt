@@ -13,12 +13,12 @@ struct Tables {
     runs: [u8; 256],
 }
 
-/// Above all entries.
+/// Above all that stands in the tables.
 const ABOVE: u32 = 256;
 
-/// Such entries, made bit by bit, from the last bit of an octet to its first: an entry after 0 to 5 1s from those for the bits
-/// behind, of which `$a` comes after none, `$b` after one, and so on. A 0 after five was stuffed, and goes; a 1 after five is
-/// the sixth. An entry is 0 where six come: until all its bits are there it stands far above those of an octet.
+/// The table of `bits`, or of `counts`, from an octet's last bit to its first. A row has what stands for the bits so far after
+/// 0 to 5 1s, `$a` to `$f`; of a row the bit in front makes two, one for a 0 and one for a 1. A 0 after five 1s was stuffed, and
+/// goes; a 1 after five is the sixth in a row, for which 0 stands in the end, and until then a number above all others.
 macro_rules! entries {
     ($how:ident $first:literal) => {
         entries!([[$first, $first, $first, $first, $first, $first]] $how 8 7 6 5 4 3 2 1)

@@ -51,10 +51,10 @@ only-turns (at_far (times_out timer) ∷ ds) e w = absurd (true≢false (sym e))
 abbrev ua_goes : List Doing
 ua_goes = at_near gives ∷ at_far takes ∷ at_far gives ∷ at_far loses ∷ []
 
-ua-lost : Wire
+unfoldable pub ua-lost : Wire
 ua-lost = doing_all ua_goes begins
 
-lost-idle : IsStill ua-lost × MayRepeat Call 0 ua-lost.near
+pub lost-idle : IsStill ua-lost × MayRepeat Call 0 ua-lost.near
 unfolding lines.after lines.answer lines.takes_slot reading header_of control_of unnumbered_of supervisory_of teis.course teis.refusal seq distance_of named doing_all turns ua-lost
 lost-idle = (record { near = refl; far = refl; near_way = refl; far_way = refl }, none-told)
 

@@ -1,17 +1,17 @@
--- The premises of the law on counted expiries are met, by the worked call that recovers from its losses.
-use Rattle.laws_wire.proofs.Vocabulary.{◌≡◌, refl, arith, Call, reading, header_of, control_of, unnumbered_of, supervisory_of, distance_of, named, seq, gives, loses, at_near, doing, doing_all, turns, confirmed, heard_in, StayTimely, Counts, counting, IsBelow, StayCounted, user, network, begins, loses_three, lost, ℕ, ◌<◌}
+-- The premises of the law on counted expiries are met, by the worked calls that recover from their losses.
+use Rattle.laws_wire.proofs.Vocabulary.{◌≡◌, refl, arith, All, Call, reading, header_of, control_of, unnumbered_of, supervisory_of, distance_of, named, seq, gives, loses, at_near, doing, doing_all, turns, confirmed, heard_in, StayTimely, IsFullTalk, StayPatient, Counts, counting, uncounted, IsBelow, StayCounted, StaySpared, user, network, begins, loses_three, lost, ℕ, ◌<◌}
 use Rattle.lapd_tei.specs.Events as teis
 use Rattle.model_line.specs.Machine as lines
-use Rattle.laws_wire.proofs.Counting.{expiries-are-counted}
-use Rattle.laws_wire.proofs.PremisesMet.{can}
-use Rattle.laws_wire.proofs.RecoveryMet.{silent, silent-open, heard-it, lost-near, rough}
-
-abbrev none_yet : Counts
-none_yet = record { near = 0; far = 0 }
+use Rattle.laws_wire.specs.WorkedCounted.{ua_is_lost}
+unfoldable use Rattle.laws_wire.proofs.AnsweringMet.{ua-lost}
+use Rattle.laws_wire.proofs.AnsweringMet.{lost-idle}
+use Rattle.laws_wire.proofs.Counting.{expiries-are-counted, lossy-expiries-are-counted}
+use Rattle.laws_wire.proofs.PremisesMet.{can, all-of}
+use Rattle.laws_wire.proofs.RecoveryMet.{still-open, silent, silent-open, heard-it, lost-near, rough}
 
 -- SABME was lost
 abbrev so_far : Counts
-so_far = counting Call 0 (at_near loses) (doing (at_near gives) begins) (counting Call 0 (at_near gives) begins none_yet)
+so_far = counting Call 0 (at_near loses) (doing (at_near gives) begins) (counting Call 0 (at_near gives) begins uncounted)
 
 none-expired : so_far.near ≡ 0
 unfolding lines.after lines.answer lines.takes_slot reading header_of control_of unnumbered_of supervisory_of teis.course teis.refusal seq distance_of named doing_all turns
@@ -21,25 +21,45 @@ three-times : silent.near.card.config.n200 ≡ 3
 unfolding doing_all
 three-times = refl
 
+fewer : (k n : ℕ) → k ≡ 0 → n ≡ 3 → k < n
+fewer k n e e' = omega (arith, e, e')
+
 few : IsBelow Call 0 silent.near so_far.near
 few awaits = fewer so_far.near silent.near.card.config.n200 none-expired three-times
-  where
-    fewer : (k n : ℕ) → k ≡ 0 → n ≡ 3 → k < n
-    fewer k n e e' = omega (arith, e, e')
 
-counted : StayCounted Call 0 loses_three none_yet begins
+counted : StayCounted Call 0 loses_three uncounted begins
 unfolding doing_all StayCounted
-counted = (
-  tt,
-  (
-    tt,
-    (
-      (λ awaits. silent-open, few),
-      (tt, ((tt, tt), ((tt, tt), (tt, (tt, (tt, (tt, ((tt, tt), ((tt, tt), ((tt, heard-it (heard_in lost.near) (confirmed Call 0) lost-near), tt)))))))))),
-    ),
-  ),
-)
+counted = (tt, (tt, ((λ awaits. silent-open, few), (tt, (tt, (tt, (tt, (tt, (tt, (tt, (tt, (tt, (tt, tt)))))))))))))
+
+spared : StaySpared loses_three begins
+unfolding doing_all StaySpared
+spared = (tt, (tt, (tt, (tt, (tt, (tt, (tt, (tt, (tt, (tt, (tt, (tt, (heard-it (heard_in lost.near) (confirmed Call 0) lost-near, tt)))))))))))))
 
 -- so the law says of it that T200 is timely
 pub timely : StayTimely loses_three begins
-timely = expiries-are-counted Call user network 0 0 0 loses_three can rough counted
+timely = expiries-are-counted Call user network 0 0 0 loses_three can rough counted spared
+
+-- where UA was lost
+ua_so_far : Counts
+ua_so_far = counting Call 0 (at_near gives) begins uncounted
+
+ua-none-expired : ua_so_far.near ≡ 0
+unfolding lines.after lines.answer lines.takes_slot reading header_of control_of unnumbered_of supervisory_of teis.course teis.refusal seq distance_of named doing_all turns ua_so_far
+ua-none-expired = refl
+
+ua-three-times : ua-lost.near.card.config.n200 ≡ 3
+unfolding doing_all ua-lost
+ua-three-times = refl
+
+ua-few : IsBelow Call 0 ua-lost.near ua_so_far.near
+ua-few awaits = fewer ua_so_far.near ua-lost.near.card.config.n200 ua-none-expired ua-three-times
+
+ua-counted : StayCounted Call 0 ua_is_lost uncounted begins
+unfolding doing_all StayCounted ua-lost ua_so_far
+ua-counted = (tt, (tt, (tt, (tt, ((λ awaits. still-open ua-lost lost-idle.0, ua-few), tt)))))
+
+ua-full : All (IsFullTalk Call 0) ua_is_lost
+ua-full = all-of (IsFullTalk Call 0) ua_is_lost (tt, (tt, (tt, (tt, ((refl, refl), tt)))))
+
+pub patient : StayPatient ua_is_lost begins
+patient = lossy-expiries-are-counted Call user network 0 0 0 ua_is_lost can ua-full ua-counted

@@ -1,18 +1,20 @@
 -- RC is never above the number of expiries of T200 since a link was last in state 7, so no error is told while this is below N200.
-use Rattle.laws_wire.proofs.Vocabulary.{◌≡◌, ℕ, ◌+◌, ◌<◌, ◌≤◌, Bool, true, false, cond, not, ◌==◌, List, [], ◌∷◌, map, refl, sym, ap, subst, ◌∙◌, inl, inr, true≢false, eqb-true, arith, All, All-head, All-tail, Service, Parts, spelling, State, TeiAssigned, AwaitingEstablishment, AwaitingRelease, Established, TimerRecovery, Terms, T203, Link, state_number, IsInRange, End, Config, LineTold, request, terms, awaits_answer, repeats_left, as_heard, is_clearing, is_time, event-follows, T200, after, Data, Station, Wire, happens, with_first_of, Act, requests, times_out, gives, takes, loses, Doing, at_near, at_far, acting, turned, doing, calling, IsRoughTalkOf, IsRoughTalk, own_link, IsTimelyOf, IsTimely, StayTimely, Counts, is_7, is_in_7, counted, counting, IsCountedOf, IsCounted, StayCounted, ExpiriesAreCounted}
+use Rattle.laws_wire.proofs.Vocabulary.{◌≡◌, ℕ, ◌+◌, ◌<◌, ◌≤◌, Bool, true, false, cond, not, ◌==◌, List, [], ◌∷◌, ◌++◌, map, refl, sym, ap, subst, ◌∙◌, inl, inr, true≢false, eqb-true, arith, All, All-nil, All-head, All-tail, All-weaker, Service, Parts, spelling, State, TeiAssigned, AwaitingEstablishment, AwaitingRelease, Established, TimerRecovery, Terms, T203, Link, state_number, IsInRange, End, Config, Line, place_in, at_requested, aim_of_request, request, terms, awaits_answer, repeats_left, as_heard, is_clearing, is_time, event-follows, T200, after, Request, Data, SetBusy, ClearBusy, Station, Wire, happens, with_first_of, Act, requests, times_out, gives, takes, loses, Doing, at_near, at_far, acting, turned, doing, doing_all, calling, IsRoughTalkOf, IsRoughTalk, IsFullTalkOf, IsFullTalk, own_link, IsTimelyOf, IsTimely, StayTimely, StayPatient, Counts, is_7, is_in_7, counted, counting, uncounted, IsCountedOf, IsCounted, StayCounted, IsSparedIn, StaySpared, ExpiriesAreCounted, LossyExpiriesAreCounted}
 use Rattle.laws_link.specs.States.{moves}
 use Rattle.lapd_frame.specs.declared.timers.Timer.TheVariants as timers
 use Rattle.model_link.specs.Events as link
 use Rattle.model_link.specs.Events.{Event}
+use Rattle.laws_wire.specs.Answering.{IsAsked, IsPatient, Called, uncalled, seeing, seen}
 use Rattle.laws_wire.proofs.Awaited.{link-is, state-is, awaits-is, may-here}
-use Rattle.laws_wire.proofs.Held.{Held, taken-stands, held-asked}
+use Rattle.laws_wire.proofs.LooseUp.{for-asked}
 use Rattle.laws_wire.proofs.LossyPhases.{for-data}
-use Rattle.laws_wire.proofs.Standing.{IsCarried, Stands, gives-stands, expires-stands}
-use Rattle.laws_wire.proofs.Talking.{Face}
-use Rattle.laws_wire.proofs.TimelyPhases.{Goes}
 use Rattle.laws_wire.proofs.LossyRun.{setting}
-use Rattle.laws_wire.proofs.TimelyRun.{starts, step}
+use Rattle.laws_wire.proofs.Standing.{IsCarried, Stands, asks-stands, gives-stands, expires-stands}
+use Rattle.laws_wire.proofs.Talking.{Face, unheard, takes as takes_frame}
 use Rattle.laws_wire.proofs.TimelyUp.{each-timer}
+use Rattle.laws_wire.proofs.UaBefore.{regranted}
+use Rattle.laws_wire.proofs.UaLostRun.{Down, Away, Rs, Phase, Goes, step}
+use Rattle.laws_wire.proofs.UaTold.{patient-goes}
 
 -- ---- states
 
@@ -74,8 +76,7 @@ module _ (service : Service) (tei : ℕ) where
   abbrev Below : Station → ℕ → Type 0
   Below s k = IsBelow (own_link service tei s) k
 
-  module _ (c d : Config) (p q : ℕ) (face : Face c d) (past other : List LineTold) (w : Wire) (n m : End) (near : Held c service tei p past w.near n) (far : Held d service tei q other w.far m)
-      (k : ℕ) (below : Below w.near k) where
+  module _ (c d : Config) (p q : ℕ) (face : Face c d) (w : Wire) (n m : End) (near : Stands c service tei p w.near n) (far : Stands d service tei q w.far m) (k : ℕ) (below : Below w.near k) where
     abbrev in_7 : Bool
     in_7 = is_in_7 service tei w.near
 
@@ -83,10 +84,10 @@ module _ (service : Service) (tei : ℕ) where
     own = w.near.card.config
 
     own-stands : Stands own service tei p w.near n
-    own-stands = subst (λ c. Stands c service tei p w.near n) (sym near.stands.config) near.stands
+    own-stands = subst (λ c. Stands c service tei p w.near n) (sym near.config) near
 
     seven : awaits_answer n.link.state ≡ true → in_7 ≡ false
-    seven awaits = ap is_7 (state-is service tei c p w.near n near.stands) ∙ not-7 n.link.state awaits
+    seven awaits = ap is_7 (state-is service tei c p w.near n near) ∙ not-7 n.link.state awaits
 
     keeps : (i : ℕ) → k ≤ i → awaits_answer n.link.state ≡ true → k ≤ cond in_7 0 i
     keeps i few awaits = subst (λ b. k ≤ cond b 0 i) (sym (seven awaits)) few
@@ -95,7 +96,7 @@ module _ (service : Service) (tei : ℕ) where
     adds awaits = subst (λ b. k + 1 ≤ cond b 0 (k + 1)) (sym (seven awaits)) (omega arith)
 
     own-below : IsBelow n.link k
-    own-below = subst (λ l. IsBelow l k) (link-is service tei c p w.near n near.stands) below
+    own-below = subst (λ l. IsBelow l k) (link-is service tei c p w.near n near) below
 
     -- an event, at which T200 does not expire, or does
     by-event : (b : Config) (e : Event) (s' : Station) (n' : End) → Stands b service tei p s' n' → n'.link ≡ after n.terms e n.link → is_clearing (as_heard n.terms e) ≡ false
@@ -104,21 +105,16 @@ module _ (service : Service) (tei : ℕ) where
         subst (λ l. IsBelow l (cond in_7 0 k)) (sym (link-is service tei b p s' n' stands ∙ is))
         (counts-on n.terms e n.link k (cond in_7 0 k) stays own-below (keeps k (omega arith)) (λ awaits time. absurd (true≢false (sym time ∙ none))))
 
-    as-before : (s' : Station) (n' : End) → Stands c service tei p s' n' → n'.link.state ≡ n.link.state → n'.link.repeats ≡ n.link.repeats → Below s' (cond in_7 0 k)
-    as-before s' n' stands state repeats =
-        subst (λ l. IsBelow l (cond in_7 0 k)) (sym (link-is service tei c p s' n' stands))
-        (λ awaits. let before = ap awaits_answer (sym state) ∙ awaits in
-        subst (λ r. r ≤ cond in_7 0 k) (sym repeats) (as-many n.link.repeats k (cond in_7 0 k) (own-below before) (keeps k (omega arith) before)))
-
     same : Below w.near (cond in_7 0 k)
-    same = as-before w.near n near.stands refl refl
+    same awaits =
+        let up = ap (λ (l : Link). awaits_answer l.state) (sym (link-is service tei c p w.near n near)) ∙ awaits in
+        as-many (own_link service tei w.near).repeats k (cond in_7 0 k) (below awaits) (keeps k (omega arith) up)
 
-    near-asks : (octets : List ℕ) → Below (happens (request (Data service tei octets)) w.near) (cond in_7 0 k)
-    near-asks octets =
-        let s' : Station = happens (request (Data service tei octets)) w.near in
-        elim (held-asked service tei p past c w.near n near octets) [
+    near-asks : (r : Request) (rq : link.Request) → ((l : Line) → aim_of_request r l ≡ at_requested service tei rq (place_in l tei)) → Below (happens (request r) w.near) (cond in_7 0 k)
+    near-asks r rq aims =
+        elim (asks-stands service tei p w.near n own-stands r rq aims) [
           | inl e ↦ subst (λ s. Below s (cond in_7 0 k)) (sym e) same
-          | inr x ↦ as-before s' _ x.held.stands refl refl
+          | inr x ↦ by-event own (link.requested rq false) (happens (request r) w.near) _ x.stands refl refl refl
         ]
 
     near-t200 : Below (acting (times_out (timers.T200 service tei)) w).near (cond in_7 0 (k + 1))
@@ -138,16 +134,18 @@ module _ (service : Service) (tei : ℕ) where
         by-event own link.offer (acting gives w).near _ (gives-stands service tei p w.near n own-stands) refl refl refl
 
     near-takes : Below (acting takes w).near (cond in_7 0 k)
-    near-takes = subst (λ ways. Below (with_first_of ways w.near) (cond in_7 0 k)) (sym far.stands.way) (taken m.way refl)
+    near-takes = subst (λ ways. Below (with_first_of ways w.near) (cond in_7 0 k)) (sym far.way) (taken m.way refl)
       where
         taken : (way : List Parts) → m.way ≡ way → Below (with_first_of (map (spelling d.side) way) w.near) (cond in_7 0 k)
         taken [] e = same
         taken (f ∷ fs) e =
-            let from : IsCarried d service tei f = All-head (IsCarried d service tei) f fs (subst (All (IsCarried d service tei)) e far.stands.carried) in
-            by-event c (link.received (link.frame f)) (with_first_of (map (spelling d.side) (f ∷ fs)) w.near) _ (taken-stands service tei p past c w.near n near d face f from) refl refl refl
+            let from : IsCarried d service tei f = All-head (IsCarried d service tei) f fs (subst (All (IsCarried d service tei)) e far.carried) in
+            by-event c (link.received (link.frame f)) (with_first_of (map (spelling d.side) (f ∷ fs)) w.near) _ (takes_frame service tei p unheard c d face w.near n f near from).stands refl refl refl
 
-    pub near-counts : (act : Act) → IsRoughTalkOf service tei act → Below (acting act w).near (counted service tei act w.near k)
-    near-counts (requests r) is = for-data service tei (λ r. Below (acting (requests r) w).near (cond in_7 0 k)) near-asks r is
+    pub near-counts : (act : Act) → IsFullTalkOf service tei act → Below (acting act w).near (counted service tei act w.near k)
+    near-counts (requests r) is =
+        for-asked service tei (λ r. Below (acting (requests r) w).near (cond in_7 0 k)) (λ octets. near-asks (Data service tei octets) (link.Data octets) (λ l. refl))
+        (near-asks (SetBusy service tei) link.SetBusy (λ l. refl)) (near-asks (ClearBusy service tei) link.ClearBusy (λ l. refl)) r is
     near-counts (times_out timer) is =
         each-timer service tei (λ timer. Below (acting (times_out timer) w).near (counted service tei (times_out timer) w.near k)) near-t200 near-t203 timer is
     near-counts gives is = near-gives
@@ -162,7 +160,7 @@ module _ (service : Service) (tei : ℕ) where
   few : (r k i i' : ℕ) → r ≤ k → k < i → i' ≡ i → r < i'
   few r k i i' h h' e = omega (arith, h, h', e)
 
-  of-act : (c : Config) (p : ℕ) (act : Act) → IsRoughTalkOf service tei act → (w : Wire) (n : End) → Stands c service tei p w.near n → (k : ℕ) → Below w.near k → IsCountedOf act k w
+  of-act : (c : Config) (p : ℕ) (act : Act) → IsFullTalkOf service tei act → (w : Wire) (n : End) → Stands c service tei p w.near n → (k : ℕ) → Below w.near k → IsCountedOf act k w
       → IsTimelyOf act w
   of-act c p (times_out timer) is w n h k below x =
       each-timer service tei (λ timer. IsCountedOf (times_out timer) k w → IsTimelyOf (times_out timer) w)
@@ -178,52 +176,97 @@ module _ (service : Service) (tei : ℕ) where
   -- ---- the run
 
   module _ (c d : Config) (p q : ℕ) (face : Face c d) (back : Face d c) (rt : IsInRange (terms c service tei)) (ru : IsInRange (terms d service tei)) where
-    abbrev On : Wire → Type 0
-    On w = Goes service tei c d p q w
+    abbrev Its : Called → Wire → Type 0
+    Its x w = Goes service tei c d p q face back rt ru x w
 
+    -- whatever its phase is, each station stands for an end
     record Both (w : Wire) : Type 0 where
       n : End
       m : End
-      past : List LineTold
-      other : List LineTold
-      near : Held c service tei p past w.near n
-      far : Held d service tei q other w.far m
+      near : Stands c service tei p w.near n
+      far : Stands d service tei q w.far m
 
-    both : (w : Wire) → On w → Both w
-    both w (inl h) = record { n = _; m = _; past = _; other = _; near = h.near; far = h.far }
-    both w (inr (inl h)) = record { n = _; m = _; past = _; other = _; near = h.near; far = h.far }
-    both w (inr (inr (inl h))) = record { n = _; m = _; past = _; other = _; near = h.near; far = h.far }
-    both w (inr (inr (inr (inl h)))) = record { n = _; m = _; past = _; other = _; near = h.is.near; far = h.is.far }
-    both w (inr (inr (inr (inr (inl h))))) = record { n = _; m = _; past = _; other = _; near = h.is.near; far = h.is.far }
-    both w (inr (inr (inr (inr (inr h))))) = record { n = _; m = _; past = _; other = _; near = h.up.near; far = h.up.far }
+    ringing : (P : Station → Type 0) → ((s : Station) → P s → (m : End) × Stands d service tei q s m) → (w : Wire) → Rs service tei c d p q face back rt ru P w → Both w
+    ringing P there w (inl h) = record { n = _; m = (there w.far h.far).0; near = h.near.stands; far = (there w.far h.far).1 }
+    ringing P there w (inr (inl h)) = record { n = _; m = (there w.far h.far).0; near = h.near.stands; far = (there w.far h.far).1 }
+    ringing P there w (inr (inr h)) = record { n = _; m = (there w.far h.far).0; near = h.near.stands; far = (there w.far h.far).1 }
 
-    timely : (a : Doing) → IsRoughTalk service tei a → (k : Counts) (w : Wire) → On w → Below w.near k.near → Below w.far k.far → IsCounted a k w → IsTimely a w
-    timely (at_near act) is k w h near far x = let y = both w h in of-act c p act is w y.n y.near.stands k.near near x
-    timely (at_far act) is k w h near far x = let y = both w h in (of-act d q act is (turned w) y.m y.far.stands k.far far x.0, x.1)
+    in-phase : (x : Called) (w : Wire) → Phase service tei c d p q face back rt ru x w → Both w
+    in-phase x w (inl (told, sent, h)) = ringing (Down service tei c d p q face back rt ru) (λ s y. (_, y.stands)) w h
+    in-phase x w (inr (some, inl h)) = ringing (Away service tei c d p q face back rt ru x.told x.sent) (λ s y. (y.M, y.held.stands)) w h
+    in-phase x w (inr (some, inr (inl h))) = record { n = _; m = _; near = h.near.stands; far = h.far.held.stands }
+    in-phase x w (inr (some, inr (inr (inl h)))) = record { n = _; m = _; near = h.near.stands; far = h.far.stands }
+    in-phase x w (inr (some, inr (inr (inr h)))) = record { n = _; m = _; near = h.near.stands; far = h.far.stands }
 
-    near-next : (a : Doing) → IsRoughTalk service tei a → (k : Counts) (w : Wire) → On w → Below w.near k.near → Below (doing a w).near (counting service tei a w k).near
-    near-next (at_near act) is k w h near = let x = both w h in near-counts c d p q face x.past x.other w x.n x.m x.near x.far k.near near act is
-    near-next (at_far act) is k w h near = far-same act (turned w) k.near near
+    both : (x : Called) (w : Wire) → Its x w → Both w
+    both x w h =
+        let y = in-phase x h.v h.phase in
+        subst Both (sym h.is) (record { n = y.n; m = y.m; near = y.near; far = regranted d service tei q h.v.far y.m (h.earlier ++ h.v.far.granted) y.far })
 
-    far-next : (a : Doing) → IsRoughTalk service tei a → (k : Counts) (w : Wire) → On w → Below w.far k.far → Below (doing a w).far (counting service tei a w k).far
-    far-next (at_near act) is k w h far = far-same act w k.far far
-    far-next (at_far act) is k w h far = let x = both w h in near-counts d c q p back x.other x.past (turned w) x.m x.n x.far x.near k.far far act is
+    -- one by one
+    module _ (a : Doing) (is : IsFullTalk service tei a) (k : Counts) (w : Wire) (y : Both w) (near : Below w.near k.near) (far : Below w.far k.far) where
+      patient : IsCounted a k w → IsPatient a w
+      patient x = go a is x
+        where
+          go : (a : Doing) → IsFullTalk service tei a → IsCounted a k w → IsPatient a w
+          go (at_near act) is x = of-act c p act is w y.n y.near k.near near x
+          go (at_far act) is x = of-act d q act is (turned w) y.m y.far k.far far x
 
-    pub all-timely : (ds : List Doing) → All (IsRoughTalk service tei) ds → (k : Counts) (w : Wire) → On w → Below w.near k.near → Below w.far k.far → StayCounted service tei ds k w
-        → StayTimely ds w
-    unfolding StayCounted StayTimely
-    all-timely [] rough k w h near far x = tt
-    all-timely (a ∷ ds) rough k w h near far x =
-        let is = All-head (IsRoughTalk service tei) a ds rough in
-        let now = timely a is k w h near far x.0 in
-        (now, all-timely ds (All-tail (IsRoughTalk service tei) a ds rough) (counting service tei a w k) (doing a w) (step service tei c d p q face back rt ru a is w now h) (near-next a is k w h near) (far-next a is k w h far) x.1)
+      near-next : Below (doing a w).near (counting service tei a w k).near
+      near-next = go a is
+        where
+          go : (a : Doing) → IsFullTalk service tei a → Below (doing a w).near (counting service tei a w k).near
+          go (at_near act) is = near-counts c d p q face w y.n y.m y.near y.far k.near near act is
+          go (at_far act) is = far-same act (turned w) k.near near
 
-pub expiries-are-counted : ExpiriesAreCounted
-expiries-are-counted service c d line other tei ds can talk = λ counted.
+      far-next : Below (doing a w).far (counting service tei a w k).far
+      far-next = go a is
+        where
+          go : (a : Doing) → IsFullTalk service tei a → Below (doing a w).far (counting service tei a w k).far
+          go (at_near act) is = far-same act w k.far far
+          go (at_far act) is = near-counts d c q p back (turned w) y.m y.n y.far y.near k.far far act is
+
+    pub all-patient : (ds : List Doing) → All (IsFullTalk service tei) ds → (k : Counts) (w : Wire) (x : Called) → Its x w → Below w.near k.near → Below w.far k.far
+        → StayCounted service tei ds k w → StayPatient ds w
+    unfolding StayCounted StayPatient
+    all-patient [] full k w x h near far counts = tt
+    all-patient (a ∷ ds) full k w x h near far counts =
+        let is = All-head (IsFullTalk service tei) a ds full in
+        let y = both x w h in
+        let now = patient a is k w y near far counts.0 in
+        (now, all-patient ds (All-tail (IsFullTalk service tei) a ds full) (counting service tei a w k) (doing a w) (seeing service tei a w x) (step service tei c d p q face back rt ru x a is w now h) (near-next a is k w y near far) (far-next a is k w y near far) counts.1)
+
+pub lossy-expiries-are-counted : LossyExpiriesAreCounted
+unfolding seen doing_all StayPatient
+lossy-expiries-are-counted service c d line other tei ds can talk = λ counts.
     let x = setting service c d line other tei can in
     let w = calling service tei c line d other in
     let near = λ (awaits : awaits_answer (own_link service tei w.near).state ≡ true).
     subst (λ (l : Link). l.repeats ≤ 0) (sym (link-is service tei c 0 w.near _ x.near_held.stands)) (omega arith) in
     let far = λ (awaits : awaits_answer (own_link service tei w.far).state ≡ true).
     subst (λ (l : Link). l.repeats ≤ 0) (sym (link-is service tei d 0 w.far _ x.far_held.stands)) (omega arith) in
-    all-timely service tei c d 0 0 x.face x.back x.near x.far ds talk (record { near = 0; far = 0 }) w (starts service c d line other tei x) near far counted
+    all-patient service tei c d 0 0 x.face x.back x.near x.far ds talk uncounted w uncalled (patient-goes service c d line other tei [] can (All-nil (IsFullTalk service tei)) tt) near far counts
+
+-- ---- where UA is not lost
+
+full-act : (service : Service) (tei : ℕ) (act : Act) → IsRoughTalkOf service tei act → IsFullTalkOf service tei act
+full-act service tei (requests r) is = for-data service tei (IsAsked service tei) (λ octets. (refl, refl)) r is
+full-act service tei other is = is
+
+full : (service : Service) (tei : ℕ) (d : Doing) → IsRoughTalk service tei d → IsFullTalk service tei d
+full service tei (at_near act) is = full-act service tei act is
+full service tei (at_far act) is = full-act service tei act is
+
+one-timely : (d : Doing) (w : Wire) → IsPatient d w → IsSparedIn d w → IsTimely d w
+one-timely (at_near act) w h spared = h
+one-timely (at_far act) w h spared = (h, spared)
+
+all-timely : (ds : List Doing) (w : Wire) → StayPatient ds w → StaySpared ds w → StayTimely ds w
+unfolding StayPatient StaySpared StayTimely
+all-timely [] w h spared = tt
+all-timely (d ∷ ds) w h spared = (one-timely d w h.0 spared.0, all-timely ds (doing d w) h.1 spared.1)
+
+pub expiries-are-counted : ExpiriesAreCounted
+expiries-are-counted service c d line other tei ds can talk = λ counts spared.
+    all-timely ds (calling service tei c line d other)
+    (lossy-expiries-are-counted service c d line other tei ds can (All-weaker (IsRoughTalk service tei) (IsFullTalk service tei) (full service tei) ds talk) counts) spared

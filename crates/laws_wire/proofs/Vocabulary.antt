@@ -138,8 +138,8 @@ pub use Rattle.laws_wire.specs.Arriving.{ArrivesInRounds, ArrivesInTurns, Arrive
 unfoldable pub use Rattle.laws_wire.specs.Arriving.{ever}
 pub use Rattle.laws_wire.specs.Call.{AreOpposite, CallsComeThrough, CanCall, ComesThrough, IsBeginningOf, IsCall, IsCallOf, IsTalk, IsTalkOf, IsTold, all_told, assigned, calling, calls_back, confirmed, data_told, indicated, station, told_first}
 unfoldable pub use Rattle.laws_wire.specs.Call.{both_call}
-pub use Rattle.laws_wire.specs.Counted.{Counts, ExpiriesAreCounted, IsBelow, IsCounted, IsCountedOf, counted, counting, is_7, is_in_7}
-unfoldable pub use Rattle.laws_wire.specs.Counted.{StayCounted}
+pub use Rattle.laws_wire.specs.Counted.{Counts, ExpiriesAreCounted, IsBelow, IsCounted, IsCountedOf, IsSparedIn, LossyExpiriesAreCounted, counted, counting, is_7, is_in_7, uncounted}
+unfoldable pub use Rattle.laws_wire.specs.Counted.{StayCounted, StaySpared}
 pub use Rattle.laws_wire.specs.Ending.{CallsEnd, EndsSo, IsLeaving, IsTimelyThere, release_confirmed, release_indicated}
 unfoldable pub use Rattle.laws_wire.specs.Ending.{StayTimelyThere}
 pub use Rattle.laws_wire.specs.Facing.{Face, Speaks, granted_of, own_link}

@@ -9,6 +9,7 @@ use Rattle.laws_wire.specs.Call.{calling, CanCall}
 use Rattle.laws_wire.specs.Losing.{IsRoughTalk}
 use Rattle.laws_wire.specs.Facing.{line_of}
 use Rattle.laws_wire.specs.Timely.{awaits_reply, IsLongEnough, IsSpared, StayTimely}
+use Rattle.laws_wire.specs.Answering.{IsFullTalk, StayPatient}
 
 -- How often T200 expired at each end since its link was last in state 7, or since the call began. The expiry that led
 -- out of state 7 is not among them.
@@ -41,14 +42,31 @@ IsCountedOf other k w = Unit {0}
 
 abbrev pub IsCounted : Doing → Counts → Wire → Type 0
 IsCounted (at_near act) k w = IsCountedOf act k.near w
-IsCounted (at_far act) k w = IsCountedOf act k.far (turned w) × IsSpared act w
+IsCounted (at_far act) k w = IsCountedOf act k.far (turned w)
 
 unfoldable pub StayCounted : Service → ℕ → List Doing → Counts → Wire → Type 0
 StayCounted service tei [] k w = Unit {0}
 StayCounted service tei (d ∷ ds) k w = IsCounted d k w × StayCounted service tei ds (counting service tei d w k) (doing d w)
 
--- So N200 is not used up: no error is told as T200 expires.
+abbrev pub uncounted : Counts
+uncounted = record { near = 0; far = 0 }
+
+-- So N200 is not used up: no error is told as T200 expires, where UA is lost and an end is busy, too.
+abbrev pub LossyExpiriesAreCounted : Type 0
+LossyExpiriesAreCounted =
+    (service : Service) (c d : Config) (line other tei : ℕ) (ds : List Doing) → CanCall c line d other tei → All (IsFullTalk service tei) ds →
+    let w = calling service tei c line d other in StayCounted service tei ds uncounted w → StayPatient ds w
+
+-- And so it is where UA is not lost, as in `Timely`.
+abbrev pub IsSparedIn : Doing → Wire → Type 0
+IsSparedIn (at_near act) w = Unit {0}
+IsSparedIn (at_far act) w = IsSpared act w
+
+unfoldable pub StaySpared : List Doing → Wire → Type 0
+StaySpared [] w = Unit {0}
+StaySpared (d ∷ ds) w = IsSparedIn d w × StaySpared ds (doing d w)
+
 abbrev pub ExpiriesAreCounted : Type 0
 ExpiriesAreCounted =
     (service : Service) (c d : Config) (line other tei : ℕ) (ds : List Doing) → CanCall c line d other tei → All (IsRoughTalk service tei) ds →
-    let w = calling service tei c line d other in StayCounted service tei ds (record { near = 0; far = 0 }) w → StayTimely ds w
+    let w = calling service tei c line d other in StayCounted service tei ds uncounted w → StaySpared ds w → StayTimely ds w

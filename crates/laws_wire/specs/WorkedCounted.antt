@@ -10,8 +10,12 @@ use Rattle.lapd_seq.specs.Numbers.{seq}
 use Rattle.lapd_tei.specs.Events as teis
 use Rattle.model_line.specs.Event.{LineTold, nothing}
 use Rattle.model_line.specs.Machine as lines
-use Rattle.laws_wire.specs.Wire.{times_out, gives, loses, Doing, at_near, doing_all, turns}
+use Rattle.model_line.specs.Request.{Data, SetBusy}
+use Rattle.laws_wire.specs.Wire.{requests, times_out, gives, takes, loses, Doing, at_near, at_far, doing_all, turns}
+use Rattle.laws_wire.specs.Call.{confirmed, indicated}
 use Rattle.laws_wire.specs.Losing.{heard_in}
+use Rattle.laws_wire.specs.Recovering.{round}
+use Rattle.laws_wire.specs.Answering.{error_f}
 use Rattle.laws_wire.specs.Worked.{begins}
 
 -- N200 is 3. Each SABME is lost: three expiries repeat it, and the fourth, at a count of 3, tells error G, and that the
@@ -29,3 +33,30 @@ heard_of_three = refl
 heard_of_four : heard_in (doing_all (is_lost ++ is_lost ++ is_lost ++ is_lost) begins).near ≡ given_up ∷ []
 unfolding lines.after lines.answer lines.takes_slot reading header_of control_of unnumbered_of supervisory_of teis.course teis.refusal seq distance_of named doing_all turns
 heard_of_four = refl
+
+-- Each UA is lost: three expiries bring SABME again, which is told as error F at the other end, and the fourth tells error G here.
+abbrev pub ua_is_lost : List Doing
+ua_is_lost = at_near gives ∷ at_far takes ∷ at_far gives ∷ at_far loses ∷ at_near (times_out (T200 Call 0)) ∷ []
+
+ua_of_three : heard_in (doing_all (ua_is_lost ++ ua_is_lost ++ ua_is_lost) begins).near ≡ []
+unfolding lines.after lines.answer lines.takes_slot reading header_of control_of unnumbered_of supervisory_of teis.course teis.refusal seq distance_of named doing_all turns
+ua_of_three = refl
+
+ua_of_four : heard_in (doing_all (ua_is_lost ++ ua_is_lost ++ ua_is_lost ++ ua_is_lost) begins).near ≡ given_up ∷ []
+unfolding lines.after lines.answer lines.takes_slot reading header_of control_of unnumbered_of supervisory_of teis.course teis.refusal seq distance_of named doing_all turns
+ua_of_four = refl
+
+sabme_of_four : heard_in (doing_all (ua_is_lost ++ ua_is_lost ++ ua_is_lost ++ ua_is_lost) begins).far ≡ indicated Call 0 ∷ error_f Call 0 ∷ error_f Call 0 ∷ error_f Call 0 ∷ []
+unfolding lines.after lines.answer lines.takes_slot reading header_of control_of unnumbered_of supervisory_of teis.course teis.refusal seq distance_of named doing_all turns
+sabme_of_four = refl
+
+-- While the far end is busy, and drops the I-frame, T200 expires on and on: each enquiry is answered by RNR, and the count begins anew.
+abbrev pub drops_one : List Doing
+drops_one = round ++ at_far (requests (SetBusy Call 0)) ∷ at_near (requests (Data Call 0 (1 ∷ []))) ∷ at_near gives ∷ at_far takes ∷ round
+
+abbrev pub is_answered : List Doing
+is_answered = at_near (times_out (T200 Call 0)) ∷ round
+
+busy_of_five : heard_in (doing_all (drops_one ++ is_answered ++ is_answered ++ is_answered ++ is_answered ++ is_answered) begins).near ≡ confirmed Call 0 ∷ []
+unfolding lines.after lines.answer lines.takes_slot reading header_of control_of unnumbered_of supervisory_of teis.course teis.refusal seq distance_of named doing_all turns
+busy_of_five = refl

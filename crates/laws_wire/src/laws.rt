@@ -1,7 +1,7 @@
 //! Two cards on one wire. Each law is the contract of a call that does nothing.
 
 ghost use Rattle.laws_wire.specs.Call.{CallsComeThrough};
-ghost use Rattle.laws_wire.specs.Counted.{ExpiriesAreCounted};
+ghost use Rattle.laws_wire.specs.Counted.{ExpiriesAreCounted, LossyExpiriesAreCounted};
 ghost use Rattle.laws_wire.specs.Facing.{CallsFace, CardsDeliver, CardsFaceAgain};
 ghost use Rattle.laws_wire.specs.Losing.{CallsAreToldInOrder};
 ghost use Rattle.laws_wire.specs.Recovering.{WhatIsLostArrives};
@@ -82,9 +82,12 @@ pub fn what_is_lost_arrives_from_rest()
 
 /// N200 counts expiries of T200. At each end let be counted how often T200 expired since its link was last in state 7,
 /// or since the call began; the expiry that led out of state 7 is not among them. A call as in
-/// [`what_is_lost_arrives`], in which T200 is long enough, and expires in states 5 and 8 only while this count is below
-/// N200 (Q.921 clause 5.9.2), is such a call: N200 is not used up, and no error is told. So while SABME is not answered
-/// T200 may expire N200 times, and while an enquiry is not, N200 times after the expiry that led to state 8.
+/// [`what_is_lost_arrives`] (`timely`), or in [`crate::a_call_with_losses_comes_through`], where UA may be lost and an
+/// end may be busy (`lossy`), in which T200 is long enough, and expires in states 5 and 8 only while this count is below
+/// N200 (Q.921 clause 5.9.2), is such a call: N200 is not used up, and no error is told as T200 expires. So while SABME
+/// is not answered T200 may expire N200 times, and while an enquiry is not, N200 times after the expiry that led to
+/// state 8.
 pub fn expiries_are_counted()
-    ensures { ExpiriesAreCounted }
+    ensures timely { ExpiriesAreCounted }
+    ensures lossy { LossyExpiriesAreCounted }
 {}

@@ -30,7 +30,7 @@ module _ (t : Terms) (l : Link) where
   abbrev up : Bool
   up = is_established l.state && not l.peer_busy
 
-  to-nothing : link_to_go t l ≡ 0 → HasNothingToSend t l
+  pub to-nothing : link_to_go t l ≡ 0 → HasNothingToSend t l
   to-nothing e = record {
     waiting = empty l.waiting (omega (arith, e));
     information = none-may up (nat_lt (outstanding l) t.k) (nat_lt l.s (length l.contents)) t.k (outstanding l) (length l.contents) l.s refl refl (omega (arith, e));

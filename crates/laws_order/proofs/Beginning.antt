@@ -1,5 +1,7 @@
 -- Two ends that are in step to whoever watches them face each other as links do.
 use Rattle.laws_order.proofs.Vocabulary.{is_some, has_tei, on-line, LineTold, ◌≡◌, ℕ, zero, suc, ◌+◌, ◌-◌, ◌<◌, ◌≤◌, ◌==◌, true, false, IsTrue, List, [], ◌∷◌, ◌++◌, map, length, take, drop, slice_get, Option, Some, None, refl, sym, ap, ◌∙◌, subst, arith, length-drop, true≢false, All-append, All-cons, All-nil, option_map, option_map_or, unwrap_or, Control, Information, ReceiveReady, ReceiveNotReady, Reject, Service, Parts, ControlFrame, State, TeiAssigned, AwaitingRelease, Terms, T200, Link, is_multiple_frame, frame_of, state_number, Direction, frames_of, Carried, Means, Piece, Rising, Config, IsInRange, Line, link_in, link_of, place_in, terms, line_at, fresh_is_sound, frames_always_sound, Station, Wire, Act, requests, times_out, gives, takes, loses, turned, happens, Doing, station, assigned, calling, came, hears, expiry, request, next, Assign, Event, at, state_here, of_link_on, Past, Known, known, said_by, IsOfStep, AreOfStep, IsInStep, FaceInStep, kept_by}
+use Rattle.std.proofs.lemmas.List.{length-take}
+use Rattle.std.specs.Prelude.{min}
 use Rattle.std.proofs.lemmas.List.{drop-drop}
 use Rattle.model_link.specs.Link.{fresh as fresh_link}
 use Rattle.model_line.specs.Line.{link_number, state_in, window}
@@ -30,14 +32,14 @@ use Rattle.laws_order.proofs.Pairs.{link_here, facing, Pair, IsWell, proper}
 
 pub past-well : (s : Station) → Past s → IsWell s
 past-well s p = record {
-  sound = subst card_sound.IsSound (sym p.is) (frames_always_sound (fresh s.card.config) p.events (fresh_is_sound s.card.config p.ranged) p.at_lines);
-  within = p.within;
+  sound = subst card_sound.IsSound (sym p.is) (frames_always_sound (fresh s.card.config) p.events (fresh_is_sound s.card.config p.line.0) p.at_lines);
+  within = p.line.1;
 }
 
 -- from the start of a card, and one event more, of whatever line
 pub past-begun : (c : Config) (line : ℕ) → IsInRange c → line < c.lines → Past (station c line)
 unfolding after_all
-past-begun c line ranged within = record { events = []; at_lines = All-nil (IsAtLine (fresh c)); is = refl; ranged = ranged; within = within }
+past-begun c line ranged within = record { events = []; at_lines = All-nil (IsAtLine (fresh c)); is = refl; line = (ranged, within) }
 
 pub past-event : (s : Station) (e : card.Event) (way granted : List (List ℕ)) (told : List LineTold) → Past s → e.line < s.card.config.lines
     → Past (record { card = machine.after e s.card; line = s.line; way = way; granted = granted; told = told })
@@ -46,15 +48,14 @@ past-event s e way granted told p here = record {
   events = p.events ++ e ∷ [];
   at_lines = All-append (IsAtLine (fresh s.card.config)) p.events (e ∷ []) p.at_lines (All-cons (IsAtLine (fresh s.card.config)) e [] here (All-nil (IsAtLine (fresh s.card.config))));
   is = ap (machine.after e) p.is ∙ sym (after-both (fresh s.card.config) p.events (e ∷ []));
-  ranged = p.ranged;
-  within = p.within;
+  line = p.line;
 }
 
 pub past-same : (s : Station) (way granted : List (List ℕ)) (told : List LineTold) → Past s → Past (record { card = s.card; line = s.line; way = way; granted = granted; told = told })
-past-same s way granted told p = record { events = p.events; at_lines = p.at_lines; is = p.is; ranged = p.ranged; within = p.within }
+past-same s way granted told p = record { events = p.events; at_lines = p.at_lines; is = p.is; line = p.line }
 
 pub past-happens : (s : Station) → Past s → (e : Event) → Past (happens e s)
-past-happens s p e = let s' = happens e s in past-event s (at s.line e) s'.way s'.granted s'.told p p.within
+past-happens s p e = let s' = happens e s in past-event s (at s.line e) s'.way s'.granted s'.told p p.line.1
 
 pub record Pasts (w : Wire) : Type 0 where
   pub near : Past w.near
@@ -102,34 +103,34 @@ module _ (service : Service) (tei : ℕ) where
       c = s.card.config
 
       line : Line
-      line = its c s.line p.ranged p.within service tei p.events
+      line = its c s.line p.line.0 p.line.1 service tei p.events
 
       l : Link
-      l = link_of service tei (its s.card.config s.line p.ranged p.within service tei p.events)
+      l = link_of service tei (its s.card.config s.line p.line.0 p.line.1 service tei p.events)
 
       n : Known
       n = known service tei s p
 
-      placed : (place : ℕ) × (place_in (its s.card.config s.line p.ranged p.within service tei p.events) tei ≡ Some place)
+      placed : (place : ℕ) × (place_in (its s.card.config s.line p.line.0 p.line.1 service tei p.events) tei ≡ Some place)
       placed = place-of service tei line up
 
       told : n.told ≡ l.r
       told =
-          let seen = seen-before c p.events s.line p.ranged p.at_lines p.within service tei placed.0 placed.1 in
-          ap (λ (v : View). v.link.count) (view-is c s.line p.ranged p.within service tei p.events)
-          ∙ (agrees-now c p.events s.line p.ranged p.at_lines p.within service tei (ap is_up seen.state_is ∙ up-number l.state ∙ up)).count_is
-          ∙ sym ((run-stands c p.events s.line p.ranged p.at_lines p.within service tei).1 up)
+          let seen = seen-before c p.events s.line p.line.0 p.at_lines p.line.1 service tei placed.0 placed.1 in
+          ap (λ (v : View). v.link.count) (view-is c s.line p.line.0 p.line.1 service tei p.events)
+          ∙ (agrees-now c p.events s.line p.line.0 p.at_lines p.line.1 service tei (ap is_up seen.state_is ∙ up-number l.state ∙ up)).count_is
+          ∙ sym ((run-stands c p.events s.line p.line.0 p.at_lines p.line.1 service tei).1 up)
 
       acknowledged : n.acknowledged ≡ l.a
-      acknowledged = acknowledged-now c s.line p.ranged p.within service tei p.events p.at_lines up
+      acknowledged = acknowledged-now c s.line p.line.0 p.line.1 service tei p.events p.at_lines up
 
       kept : n.kept ≡ drop l.a l.contents
-      kept = kept-now c s.line p.ranged p.within service tei p.events p.at_lines placed.0 placed.1
+      kept = kept-now c s.line p.line.0 p.line.1 service tei p.events p.at_lines placed.0 placed.1
 
       waiting : n.waiting ≡ l.waiting
       waiting =
-          waiting-now c s.line p.ranged p.within service tei p.events p.at_lines placed.0 placed.1
-          ∙ all-wait c p.events s.line p.ranged p.at_lines p.within service tei placed.0 placed.1
+          waiting-now c s.line p.line.0 p.line.1 service tei p.events p.at_lines placed.0 placed.1
+          ∙ all-wait c p.events s.line p.line.0 p.at_lines p.line.1 service tei placed.0 placed.1
 
   pub known-is : (s : Station) (p : Past s) → is_multiple_frame (link_here service tei s).state ≡ true → known service tei s p ≡ known_of (link_here service tei s)
   known-is s p up =
@@ -181,8 +182,8 @@ module _ (service : Service) (tei : ℕ) where
       timed : HaveTheirTimers (line_at s.line s.card)
       timed =
           subst (λ card. HaveTheirTimers (line_at s.line card)) (sym p.is)
-          ((timely-now s.card.config p.events s.line p.ranged p.at_lines p.within service tei).lines s.line
-          (here-at s.card.config s.line p.ranged p.within service tei p.events p.at_lines))
+          ((timely-now s.card.config p.events s.line p.line.0 p.at_lines p.line.1 service tei).lines s.line
+          (here-at s.card.config s.line p.line.0 p.line.1 service tei p.events p.at_lines))
 
       go : (o : Option ℕ) → let l = option_map_or (link_in (line_at s.line s.card) service) o fresh_link in l.state ≡ AwaitingRelease → l.running ≡ Some T200
       go None is = absurd (true≢false (sym (ap (λ x. state_number x == 6) is)))
@@ -197,17 +198,25 @@ get-dropped zero xs i = let same : i ≡ 0 + i = omega arith in ap (slice_get xs
 get-dropped (suc n) [] i = refl
 get-dropped (suc n) (x ∷ xs) i = let same : suc (n + i) ≡ suc n + i = omega arith in get-dropped n xs i ∙ ap (slice_get (x ∷ xs)) same
 
+-- what is kept within the window
+pub within-window : (r a k : ℕ) (kept : List (List ℕ)) → r ≤ a + length kept → r ≤ a + k → r ≤ a + length (take k kept)
+within-window r a k kept all most = let size : length (take k kept) ≡ min k (length kept) = length-take k kept in omega (arith, all, most, size)
+
+some-kept : (r a k : ℕ) (kept : List (List ℕ)) → r ≤ a + length (take k kept) → (r ≤ a + length kept) × (r ≤ a + k)
+some-kept r a k kept low = let size : length (take k kept) ≡ min k (length kept) = length-take k kept in (omega (arith, low, size), omega (arith, low, size))
+
 module _ (k : ℕ) (l : Link) (small : k ≤ 127) where
   piece-of : (r m : ℕ) → m ≤ l.a + k → (octets : List ℕ) (control : Control) → IsOfStep k (known_of l) r octets control → Piece l.contents (l.a + k) m (l.a + k) octets control
   piece-of r m high octets (Information ns nr p) h =
       let x = h.0 in
-      let inside : x.place < k = x.inside in
+      let place = x.0 in
+      let inside : place < k = x.2 in
       record {
-        number = l.a + x.place;
-        is_seq = x.meant;
+        number = l.a + place;
+        is_seq = x.1;
         near = omega (arith, small, high);
         below = omega (arith, inside);
-        same = sym (get-dropped l.a l.contents x.place) ∙ x.same;
+        same = sym (get-dropped l.a l.contents place) ∙ x.3;
         next = omega (arith, inside);
       }
   piece-of r m high octets (ReceiveReady nr pf) h = tt
@@ -252,8 +261,9 @@ module _ (service : Service) (tei : ℕ) where
       let r = (link_here service tei u).r in
       let k = window s.card.config service in
       let its = proper service tei s well (up-of s (link_known s) (link_known u) b) in
-      let most : r ≤ l.a + k = b.within in
-      let all : r ≤ l.a + length (drop l.a l.contents) = b.kept in
+      let both = some-kept r l.a k (drop l.a l.contents) b.kept in
+      let all = both.0 in
+      let most = both.1 in
       let few : length (drop l.a l.contents) ≡ length l.contents - l.a = length-drop l.a l.contents in
       let low : l.a ≤ l.s = its.sound.ordered in
       let high : l.s ≤ length l.contents = its.sound.accepted in
@@ -283,13 +293,13 @@ module _ (service : Service) (tei : ℕ) where
 
   pub step-known : (w : Wire) (p : Past w.near) (q : Past w.far) → FaceInStep service tei w (link_known w.near) (link_known w.far)
       → FaceInStep service tei w (known service tei w.near p) (known service tei w.far q)
-  step-known w p q h = from-links w p q (up-of w.near _ _ h.near) (up-of w.far _ _ h.far) (FaceInStep service tei w) h
+  step-known w p q h = from-links w p q (up-of w.near _ _ h.0) (up-of w.far _ _ h.1) (FaceInStep service tei w) h
 
   pub begins-pair : (w : Wire) (p : Past w.near) (q : Past w.far) → FaceInStep service tei w (known service tei w.near p) (known service tei w.far q)
       → Pair service tei w (had w.far w.near) (had w.near w.far)
   begins-pair w p q known-step =
-      let up = up-of w.near _ _ known-step.near in
-      let others-up = up-of w.far _ _ known-step.far in
+      let up = up-of w.near _ _ known-step.0 in
+      let others-up = up-of w.far _ _ known-step.1 in
       let h = to-links w p q up others-up (FaceInStep service tei w) known-step in
       let near = past-well w.near p in
       let far = past-well w.far q in
@@ -298,7 +308,7 @@ module _ (service : Service) (tei : ℕ) where
       record {
         near = near;
         far = far;
-        sides = h.sides;
+        sides = h.2;
         joined = record {
           near_ranges = its.ranges;
           far_ranges = others.ranges;
@@ -306,8 +316,8 @@ module _ (service : Service) (tei : ℕ) where
           far_sound = others.sound;
           near_up = up;
           far_up = others-up;
-          there = begins-one w.near w.far near h.near h.far (had w.far w.near);
-          back = begins-one w.far w.near far h.far h.near (had w.near w.far);
+          there = begins-one w.near w.far near h.0 h.1 (had w.far w.near);
+          back = begins-one w.far w.near far h.1 h.0 (had w.near w.far);
         };
       }
 

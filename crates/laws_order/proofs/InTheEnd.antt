@@ -174,7 +174,7 @@ releases-are-told service tei w hs p is all quiet many = go (releases-end servic
     go (inr told) = told
 
 pub both-are-told : BothAreTold
-both-are-told service tei w p q before behind rest possible lasts is possible' there active quiet told = go (list_any (ends_by service tei) (seen_far behind v)) refl
+both-are-told service tei w p q before behind rest possible lasts is possible' keeps quiet told = go (list_any (ends_by service tei) (seen_far behind v)) refl
   where
     v : Wire
     v = happening_all before w
@@ -185,7 +185,7 @@ both-are-told service tei w p q before behind rest possible lasts is possible' t
         let reached = reaches service tei before w possible lasts (inl (_, _, begins-pair service tei w p q rest)) in
         let six = six-here service tei v.near is in
         let over = over-six service tei v six reached in
-        absurd (never service tei behind v (well over) six over possible' there active e told)
+        absurd (never service tei behind v (well over) six over possible' keeps.0 keeps.1 e told)
       where
         well : Over service tei v → IsWell v.near
         well (contents, a, k, small, dm, h) = h.near

@@ -216,7 +216,7 @@ module _ (service : Service) (tei : ℕ) where
   pub other-line : (s : Station) (e : card.Event) → IsElsewhere s e → line_at s.line (after e s.card) ≡ line_at s.line s.card
   other-line s e is =
       by_room (λ ls a. get_or ls s.line (fresh_line s.card.config) ≡ line_at s.line s.card) e s.card (λ full. refl)
-      (λ room. get_or-set_other s.card.lines e.line s.line (lines.after s.card.config e.what (line_at e.line s.card)) (fresh_line s.card.config) (λ same. is.other (sym same)))
+      (λ room. get_or-set_other s.card.lines e.line s.line (lines.after s.card.config e.what (line_at e.line s.card)) (fresh_line s.card.config) (λ same. is.1 (sym same)))
 
   elsewhere-led : (w : Wire) (dn dm : List (List ℕ)) (e : card.Event) → IsElsewhere w.near e → Pair service tei w dn dm
       → Led service tei w (record w { near = elsewhere_on e w.near }) dn dm []
@@ -227,7 +227,7 @@ module _ (service : Service) (tei : ℕ) where
       let end : facing service tei s' (dn ++ []) ≡ facing service tei w.near dn = λ i. record (facing service tei w.near dn) { link = same i; delivered = (append-nil dn) i } in
       record {
         pair = record {
-          near = record { sound = after_is_sound w.near.card e h.near.sound is.within; within = h.near.within };
+          near = record { sound = after_is_sound w.near.card e h.near.sound is.0; within = h.near.within };
           far = h.far;
           sides = h.sides;
           joined = subst (λ n. Joined n m) (sym end) h.joined;

@@ -149,7 +149,7 @@ module _ (service : Service) (tei : ℕ) where
         let same : link_here service tei s' ≡ link_here service tei w.near = ap (link_of service tei) (other-line service tei w.near e is) in (
           λ down. ap (λ (y : Link). is_multiple_frame y.state) same ∙ down,
           λ down. record {
-            near = record { sound = after_is_sound w.near.card e h.near.sound is.within; within = h.near.within };
+            near = record { sound = after_is_sound w.near.card e h.near.sound is.0; within = h.near.within };
             far = h.far;
             sides = h.sides;
             up = h.up;

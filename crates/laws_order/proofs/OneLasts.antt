@@ -251,7 +251,7 @@ module _ (service : Service) (tei : ℕ) where
         let x : far (link_here service tei (elsewhere_on e w.far)) = subst far (sym same) (h.up, h.line, h.low, h.speech, h.delivered, h.accepted) in
         record {
           near = h.near;
-          far = record { sound = after_is_sound w.far.card e h.far.sound is.within; within = h.far.within };
+          far = record { sound = after_is_sound w.far.card e h.far.sound is.0; within = h.far.within };
           sides = h.sides;
           up = x.0;
           line = x.1;

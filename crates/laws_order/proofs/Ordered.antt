@@ -47,10 +47,7 @@ module _ (service : Service) (tei : ℕ) where
   possible-at : (s s' : Station) → StaysAt s s' → (deed : Deed) → IsPossibleAt service tei s deed → IsPossibleAt service tei s' deed
   possible-at s s' at (acts act) is = tt
   possible-at s s' at (disturbed what) is = subst (λ c. IsNotOf service tei c what) (sym at.config) is
-  possible-at s s' at (elsewhere e) is = record {
-    within = subst (λ (c : Config). e.line < c.lines) (sym at.config) is.within;
-    other = λ same. is.other (same ∙ at.line);
-  }
+  possible-at s s' at (elsewhere e) is = (subst (λ (c : Config). e.line < c.lines) (sym at.config) is.0, λ same. is.1 (same ∙ at.line))
 
   abbrev pub IsOpen : Wire → Happening → Type 0
   IsOpen w h = IsPossible service tei w h
@@ -282,7 +279,7 @@ module _ (service : Service) (tei : ℕ) where
       All-cons (IsOpen (turned w)) (swapped h) (all_swapped hs) (one-swapped w h (All-head (IsOpen w) h hs all)) (possible-swapped w hs (All-tail (IsOpen w) h hs all))
 
   step-turned : (w : Wire) (n m : Known) → FaceInStep service tei w n m → FaceInStep service tei (turned w) m n
-  step-turned w n m h = record { near = h.far; far = h.near; sides = sym (ap other_side h.sides ∙ twice-other w.near.card.config.side) }
+  step-turned w n m h = (h.1, h.0, sym (ap other_side h.2 ∙ twice-other w.near.card.config.side))
 
   told-near : (hs : List Happening) (w : Wire) (p : Past w.near) (q : Past w.far) → FaceInStep service tei w (known service tei w.near p) (known service tei w.far q)
       → All (IsOpen w) hs → StaysEstablished service tei (seen_near hs w)

@@ -19,8 +19,8 @@ pasts : Pasts faces
 pasts = past-all calls_both (calling Call 0 user 0 network 0) called
 
 -- What the law says of the far end of a wire, where it is computed that both are in step.
-abbrev IsToldInOrder : (w : Wire) → Pasts w → List Happening → Type 0
-IsToldInOrder w h hs = IsFront (data_noted Call 0 (seen_far hs w)) (kept_by (known Call 0 w.near h.near) (known Call 0 w.far h.far) ++ data_granted Call 0 (seen_near hs w))
+abbrev FarInOrder : (w : Wire) → Pasts w → List Happening → Type 0
+FarInOrder w h hs = IsFront (data_noted Call 0 (seen_far hs w)) (kept_by (known Call 0 w.near h.near) (known Call 0 w.far h.far) ++ data_granted Call 0 (seen_near hs w))
 
 -- What of two ends in step computes.
 record Looks (service : Service) (w : Wire) : Type 0 where
@@ -30,16 +30,16 @@ record Looks (service : Service) (w : Wire) : Type 0 where
   far_side : w.far.card.config.side ≡ Network
 
 looks-so : (service : Service) (w : Wire) (h : Pasts w) → Looks service w → FaceInStep service 0 w (known service 0 w.near h.near) (known service 0 w.far h.far)
-looks-so service w h x = step-known service 0 w h.near h.far (record { near = x.near; far = x.far; sides = x.far_side ∙ sym (ap other_side x.near_side) })
+looks-so service w h x = step-known service 0 w h.near h.far (x.near, x.far, x.far_side ∙ sym (ap other_side x.near_side))
 
-told-in-order : (w : Wire) (h : Pasts w) (hs : List Happening) → Looks Call w → All (IsPossible Call 0 w) hs → StaysEstablished Call 0 (seen_far hs w) → IsToldInOrder w h hs
+told-in-order : (w : Wire) (h : Pasts w) (hs : List Happening) → Looks Call w → All (IsPossible Call 0 w) hs → StaysEstablished Call 0 (seen_far hs w) → FarInOrder w h hs
 told-in-order w h hs x all stays = (delivered-in-order Call 0 w h.near h.far hs (looks-so Call w h x) all).1 stays
 
 call-looks : Looks Call faces
 unfolding lines.after lines.answer lines.takes_slot reading header_of control_of unnumbered_of supervisory_of teis.course teis.refusal seq distance_of named doing_all
 call-looks = record {
-  near = record { up = refl; said = leb-true 0 0 refl; kept = leb-true 0 0 refl; within = leb-true 0 7 refl };
-  far = record { up = refl; said = leb-true 0 0 refl; kept = leb-true 0 0 refl; within = leb-true 0 7 refl };
+  near = record { up = refl; said = leb-true 0 0 refl; kept = leb-true 0 0 refl };
+  far = record { up = refl; said = leb-true 0 0 refl; kept = leb-true 0 0 refl };
   near_side = refl;
   far_side = refl;
 }
@@ -47,8 +47,8 @@ call-looks = record {
 packet-looks : Looks Packet faces
 unfolding lines.after lines.answer lines.takes_slot reading header_of control_of unnumbered_of supervisory_of teis.course teis.refusal seq distance_of named doing_all
 packet-looks = record {
-  near = record { up = refl; said = leb-true 0 0 refl; kept = leb-true 0 0 refl; within = leb-true 0 3 refl };
-  far = record { up = refl; said = leb-true 0 0 refl; kept = leb-true 0 0 refl; within = leb-true 0 3 refl };
+  near = record { up = refl; said = leb-true 0 0 refl; kept = leb-true 0 0 refl };
+  far = record { up = refl; said = leb-true 0 0 refl; kept = leb-true 0 0 refl };
   near_side = refl;
   far_side = refl;
 }
@@ -69,7 +69,7 @@ all-of w (x ∷ hs) h = All-cons (IsOpen w) x hs h.0 (all-of w hs h.1)
 
 at-the-other-line : IsElsewhere faces.far (at 1 (request (Assign 5)))
 unfolding lines.after lines.answer lines.takes_slot reading header_of control_of unnumbered_of supervisory_of teis.course teis.refusal seq distance_of named doing_all
-at-the-other-line = record { within = leb-true 2 2 refl; other = λ same. let e : ◌≡◌ {A = ℕ} 1 0 = same in absurd (omega (arith, e)) }
+at-the-other-line = (leb-true 2 2 refl, λ same. let e : ◌≡◌ {A = ℕ} 1 0 = same in absurd (omega (arith, e)))
 
 others-are : ArePossible faces others_speak
 unfolding lines.after lines.answer lines.takes_slot reading header_of control_of unnumbered_of supervisory_of teis.course teis.refusal seq distance_of named doing_all
@@ -86,7 +86,7 @@ possible : All (IsOpen faces) busy_run
 possible = all-of faces busy_run (both faces others_speak (both_send ++ is_busy) others-are then-are)
 
 -- so the law says what the worked values show
-call-in-order : IsToldInOrder faces pasts busy_run
+call-in-order : FarInOrder faces pasts busy_run
 call-in-order = told-in-order faces pasts busy_run call-looks possible far_stays
 
 -- Runs in which only frames, timers and requests come.
@@ -113,13 +113,13 @@ acts-possible w other only = absurd only
 owing-looks : Looks Call owes
 unfolding lines.after lines.answer lines.takes_slot reading header_of control_of unnumbered_of supervisory_of teis.course teis.refusal seq distance_of named doing_all happening_all
 owing-looks = record {
-  near = record { up = refl; said = leb-true 0 0 refl; kept = leb-true 1 1 refl; within = leb-true 1 7 refl };
-  far = record { up = refl; said = (0, leb-true 0 0 refl, (record { place = 0; meant = refl; inside = leb-true 1 7 refl; same = refl }, refl), leb-true 0 1 refl); kept = leb-true 0 1 refl; within = leb-true 0 7 refl };
+  near = record { up = refl; said = leb-true 0 0 refl; kept = leb-true 1 1 refl };
+  far = record { up = refl; said = (0, leb-true 0 0 refl, ((0, refl, leb-true 1 7 refl, refl), refl), leb-true 0 1 refl); kept = leb-true 0 1 refl };
   near_side = refl;
   far_side = refl;
 }
 
-more-in-order : IsToldInOrder owes (all-happened sends_one tt faces pasts) sends_more
+more-in-order : FarInOrder owes (all-happened sends_one tt faces pasts) sends_more
 more-in-order = told-in-order owes (all-happened sends_one tt faces pasts) sends_more owing-looks (acts-possible owes sends_more tt) more_far_stays
 
 -- and where an RNR waits
@@ -129,43 +129,42 @@ own_busy = by_far (acts (requests (SetBusy Call 0))) ∷ []
 busy-looks : Looks Call busy_waits
 unfolding lines.after lines.answer lines.takes_slot reading header_of control_of unnumbered_of supervisory_of teis.course teis.refusal seq distance_of named doing_all happening_all
 busy-looks = record {
-  near = record { up = refl; said = leb-true 0 0 refl; kept = leb-true 0 0 refl; within = leb-true 0 7 refl };
-  far = record { up = refl; said = (0, leb-true 0 0 refl, refl, leb-true 0 0 refl); kept = leb-true 0 0 refl; within = leb-true 0 7 refl };
+  near = record { up = refl; said = leb-true 0 0 refl; kept = leb-true 0 0 refl };
+  far = record { up = refl; said = (0, leb-true 0 0 refl, refl, leb-true 0 0 refl); kept = leb-true 0 0 refl };
   near_side = refl;
   far_side = refl;
 }
 
-cleared-in-order : IsToldInOrder busy_waits (all-happened own_busy tt faces pasts) clears
+cleared-in-order : FarInOrder busy_waits (all-happened own_busy tt faces pasts) clears
 cleared-in-order = told-in-order busy_waits (all-happened own_busy tt faces pasts) clears busy-looks (acts-possible busy_waits clears tt) cleared_stays
 
 -- and where one end recovers, in state 8
 asking-looks : Looks Call enquires
 unfolding lines.after lines.answer lines.takes_slot reading header_of control_of unnumbered_of supervisory_of teis.course teis.refusal seq distance_of named doing_all happening_all
 asking-looks = record {
-  near = record { up = refl; said = (0, leb-true 0 0 refl, refl, leb-true 0 0 refl); kept = leb-true 0 0 refl; within = leb-true 0 7 refl };
-  far = record { up = refl; said = leb-true 0 0 refl; kept = leb-true 0 0 refl; within = leb-true 0 7 refl };
+  near = record { up = refl; said = (0, leb-true 0 0 refl, refl, leb-true 0 0 refl); kept = leb-true 0 0 refl };
+  far = record { up = refl; said = leb-true 0 0 refl; kept = leb-true 0 0 refl };
   near_side = refl;
   far_side = refl;
 }
 
-asked-in-order : IsToldInOrder enquires (all-happened asks_state tt faces pasts) recovers
+asked-in-order : FarInOrder enquires (all-happened asks_state tt faces pasts) recovers
 asked-in-order = told-in-order enquires (all-happened asks_state tt faces pasts) recovers asking-looks (acts-possible enquires recovers tt) recovered_stays
 
 -- and where I-frames are on their way behind UA
 early-looks : Looks Call early
 unfolding lines.after lines.answer lines.takes_slot reading header_of control_of unnumbered_of supervisory_of teis.course teis.refusal seq distance_of named doing_all happening_all
 early-looks = record {
-  near = record { up = refl; said = leb-true 0 0 refl; kept = leb-true 0 0 refl; within = leb-true 0 7 refl };
+  near = record { up = refl; said = leb-true 0 0 refl; kept = leb-true 0 0 refl };
   far = record {
     up = refl;
     said = (
       0,
       leb-true 0 0 refl,
-      (record { place = 0; meant = refl; inside = leb-true 1 7 refl; same = refl }, refl),
-      (0, leb-true 0 0 refl, (record { place = 1; meant = refl; inside = leb-true 2 7 refl; same = refl }, refl), leb-true 0 0 refl),
+      ((0, refl, leb-true 1 7 refl, refl), refl),
+      (0, leb-true 0 0 refl, ((1, refl, leb-true 2 7 refl, refl), refl), leb-true 0 0 refl),
     );
     kept = leb-true 0 2 refl;
-    within = leb-true 0 7 refl;
   };
   near_side = refl;
   far_side = refl;
@@ -180,7 +179,7 @@ early-in-order =
     (delivered-in-order Call 0 early early-pasts.near early-pasts.far loses_first (looks-so Call early early-pasts early-looks) (acts-possible early loses_first tt)).0 early_stays
 
 -- and where the near end releases its link in the midst of data: of the far end up to its indication, and of both from there on
-cut-in-order : IsToldInOrder faces pasts (releases ++ takes_two)
+cut-in-order : FarInOrder faces pasts (releases ++ takes_two)
 cut-in-order = told-in-order faces pasts (releases ++ takes_two) call-looks (acts-possible faces (releases ++ takes_two) tt) far_lasts
 
 release-told : IsToldOfRelease Call 0 (news Call 0 (seen_near both_release released))
@@ -207,5 +206,5 @@ first-lasts = refl
 
 both-told : list_any (ends_by Call 0) (seen_far comes released) ≡ true
 both-told =
-    both-are-told Call 0 faces pasts.near pasts.far releases comes (looks-so Call faces pasts call-looks) (acts-possible faces releases tt) first-lasts awaits (acts-possible released comes tt) comes_there
-    (all-active comes (tt, (tt, (tt, (tt, (tt, (tt, (tt, tt)))))))) comes_quietly comes_confirmed
+    both-are-told Call 0 faces pasts.near pasts.far releases comes (looks-so Call faces pasts call-looks) (acts-possible faces releases tt) first-lasts awaits (acts-possible released comes tt)
+    (comes_there, all-active comes (tt, (tt, (tt, (tt, (tt, (tt, (tt, tt)))))))) comes_quietly comes_confirmed

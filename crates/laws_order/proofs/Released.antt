@@ -31,7 +31,7 @@ module _ (service : Service) (tei : ℕ) where
   near-occurs (acts loses) w well is = nothing_there (record { sound = well.sound; within = well.within }, refl, refl) refl refl
   near-occurs (disturbed what) w well is = one-event _ _ (hears what) refl
   near-occurs (elsewhere e) w well is =
-      nothing_there (record { sound = after_is_sound w.near.card e well.sound is.within; within = well.within }, ap (link_of service tei) (other-line service tei w.near e is), refl) refl refl
+      nothing_there (record { sound = after_is_sound w.near.card e well.sound is.0; within = well.within }, ap (link_of service tei) (other-line service tei w.near e is), refl) refl refl
 
   far-occurs : (deed : Deed) (w : Wire) → IsWell w.far → Occurs (turned w) (turned (befalling deed w)) [] []
   far-occurs (acts (requests r)) w well = nothing_there (well, refl, refl) refl refl

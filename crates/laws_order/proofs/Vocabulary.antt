@@ -78,7 +78,7 @@ pub use Rattle.laws_wire.proofs.RestedRounds.{doing-append}
 pub use Rattle.laws_wire.proofs.Run.{calls-come-through}
 pub use Rattle.laws_wire.proofs.Spelled.{twice-other}
 pub use Rattle.laws_wire.specs.Call.{CanCall, IsCall, IsCallOf, assigned, calling, confirmed, data_told, station, told_first}
-pub use Rattle.laws_wire.specs.Facing.{Face, end_of, line_of}
+pub use Rattle.laws_wire.specs.Facing.{Face, Speaks, line_of}
 pub use Rattle.laws_wire.specs.Wire.{Act, Doing, IsStill, Station, Wire, answered, frames_by, gives, happens, is_any, loses, requests, takes, times_out, turned, with_first_lost}
 pub use Rattle.laws_wire.specs.Worked.{network, user}
 pub use Rattle.model_bits.specs.Bits.{bits}
@@ -151,14 +151,14 @@ pub use Rattle.laws_order.specs.Happenings.{Deed, Happening, IsElsewhere, IsNotO
 unfoldable pub use Rattle.laws_order.specs.Happenings.{happening_all, seen_far, seen_near}
 pub use Rattle.laws_order.specs.InTheEnd.{BothAreTold, IsNotDeactivated, IsToldAtLast, ReleasesAreTold, is_t200, t200_by}
 unfoldable pub use Rattle.laws_order.specs.InTheEnd.{StaysThere, t200s}
-pub use Rattle.laws_order.specs.Order.{AreOfStep, DeliveredInOrder, FaceInStep, IsInStep, IsOfStep, Known, Past, StaysEstablished, Tally, data_granted, data_noted, ends_by, ends_by_note, ends_by_request, granted_in, kept_by, known, no_tally, noted_in, of_link_on, said_by, state_here, tallies, tally_of}
+pub use Rattle.laws_order.specs.Order.{AreOfStep, DeliveredInOrder, FaceInStep, IsInStep, IsOfStep, IsToldInOrder, Known, Past, StaysEstablished, Tally, data_granted, data_noted, ends_by, ends_by_note, ends_by_request, granted_in, kept_by, known, no_tally, noted_in, of_link_on, said_by, state_here, tallies, tally_of}
 pub use Rattle.laws_order.specs.Release.{BeginsNothing, IsToldOfRelease, ReleasedIsOver, ReleasesEnd, begins_by, begins_by_note, begins_by_request, is_news, is_unasked, news, news_in}
-pub use Rattle.laws_order.specs.circuit.Beats.{AllIsToldInBeats, beat, enough_beats, granted_of, longest}
+pub use Rattle.laws_order.specs.circuit.Beats.{AllIsToldInBeats, IsToldAll, beat, enough_beats, granted_of, longest}
 unfoldable pub use Rattle.laws_order.specs.circuit.Beats.{beats}
 pub use Rattle.laws_order.specs.circuit.Circuit.{Circuit, OctetAct, OctetDoing, Termination, asks, at_far, at_near, port_of}
 unfoldable pub use Rattle.laws_order.specs.circuit.Circuit.{doing_all}
 pub use Rattle.laws_order.specs.circuit.Mixed.{DeliveredBetweenKinds, Mixed}
-pub use Rattle.laws_order.specs.circuit.Through.{HasAllGone, IsAsked, IsTalk, IsTalkOf, IsToldAll}
+pub use Rattle.laws_order.specs.circuit.Through.{HasAllGone, IsAsked, IsTalk, IsTalkOf}
 unfoldable pub use Rattle.laws_order.specs.circuit.Through.{both_call}
 pub use Rattle.laws_order.specs.circuit.WorkedCall.{begins, establishes, goes_on, sends}
 pub use Rattle.model_card.specs.Event.{at}

@@ -41,9 +41,8 @@ abbrev pub IsNotOf : Service → ℕ → Config → stream.Event → Type 0
 IsNotOf service tei c (stream.frame octets) = of_link_at service tei (heard_side c) octets ≡ []
 IsNotOf service tei c other = Unit {0}
 
-pub record IsElsewhere (s : Station) (e : card.Event) : Type 0 where
-  pub within : e.line < s.card.config.lines
-  pub other : e.line ≢ s.line
+abbrev pub IsElsewhere : Station → card.Event → Type 0
+IsElsewhere s e = (e.line < s.card.config.lines) × (e.line ≢ s.line)
 
 abbrev pub IsPossibleAt : Service → ℕ → Station → Deed → Type 0
 IsPossibleAt service tei s (acts act) = Unit {0}

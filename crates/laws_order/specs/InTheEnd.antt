@@ -49,6 +49,9 @@ abbrev pub IsNotDeactivated : Service → ℕ → Happening → Type 0
 IsNotDeactivated service tei (by_near (acts (requests r))) = deactivates service tei (request r) ≡ false
 IsNotDeactivated service tei other = Unit {0}
 
+abbrev pub KeepsLink : Service → ℕ → List Happening → Wire → Type 0
+KeepsLink service tei hs w = StaysThere service tei hs w × All (IsNotDeactivated service tei) hs
+
 -- And where it is told the confirm, and no error H, the other end, whose establishment lasted until then, was told behind the release
 -- by a note that it is over or renewed, unless its layer 3 was granted a release itself: whatever happened at both since they faced each
 -- other in step, and whatever was waiting or on its way as the release was granted.
@@ -57,6 +60,5 @@ BothAreTold =
     (service : Service) (tei : ℕ) (w : Wire) (p : Past w.near) (q : Past w.far) (before behind : List Happening) →
     FaceInStep service tei w (known service tei w.near p) (known service tei w.far q) → All (IsPossible service tei w) before →
     let v = happening_all before w in StaysEstablished service tei (seen_far before w) → state_here service tei v.near ≡ Some 6 →
-    All (IsPossible service tei v) behind → StaysThere service tei behind v → All (IsNotDeactivated service tei) behind →
-    BeginsNothing service tei (seen_near behind v) → news service tei (seen_near behind v) ≡ ReleaseConfirm service tei ∷ [] →
-    list_any (ends_by service tei) (seen_far behind v) ≡ true
+    All (IsPossible service tei v) behind → KeepsLink service tei behind v → BeginsNothing service tei (seen_near behind v) →
+    news service tei (seen_near behind v) ≡ ReleaseConfirm service tei ∷ [] → list_any (ends_by service tei) (seen_far behind v) ≡ true

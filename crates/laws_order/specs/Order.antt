@@ -1,5 +1,5 @@
 -- What is told at each of two cards is in order, whatever else happens.
-use Rattle.std.specs.Prelude.{◌≡◌, ◌≤◌, ◌<◌, ℕ, ◌+◌, ◌-◌, ◌==◌, ◌&&◌, not, Bool, true, false, List, [], ◌∷◌, ◌++◌, length, map, drop, fold, flat_map, slice_get, Option, Some, All, option_to_list, if◌then◌else◌}
+use Rattle.std.specs.Prelude.{◌≡◌, ◌≤◌, ◌<◌, ℕ, ◌+◌, ◌-◌, ◌==◌, ◌&&◌, not, Bool, true, false, List, [], ◌∷◌, ◌++◌, length, map, take, drop, fold, flat_map, slice_get, Option, Some, All, option_to_list, if◌then◌else◌}
 use Rattle.std.specs.List.{list_any}
 use Rattle.std.specs.Option.{option_map_or}
 use Rattle.lapd_frame.specs.declared.addresses.Side.{Side}
@@ -16,7 +16,6 @@ use Rattle.model_link.specs.Link.{frame_of}
 use Rattle.model_line.specs.declared.config.Config.{Config}
 use Rattle.model_line.specs.Line.{state_of, terms, window}
 use Rattle.model_line.specs.Request.{Request, Release}
-use Rattle.model_line.specs.Sound.{IsInRange}
 use Rattle.model_card.specs.Card.{fresh}
 use Rattle.model_card.specs.Event as card
 use Rattle.model_card.specs.Run.{Moment, moments, after_all, AreAtLines}
@@ -26,6 +25,7 @@ use Rattle.laws_trace.specs.News.{brings, is_sabme}
 use Rattle.laws_trace.specs.Observer.{View, at_first, steps, views}
 use Rattle.laws_trace.specs.Outgoing.{outgoing_of}
 use Rattle.laws_trace.specs.Trace.{is_own, is_up, data_asked, Seen, noted, granted, IsFront}
+use Rattle.laws_wire.specs.Call.{IsLineOf}
 use Rattle.laws_wire.specs.Facing.{line_of}
 use Rattle.laws_wire.specs.Wire.{Station, Wire}
 use Rattle.laws_order.specs.Happenings.{Happening, IsPossible, of_link_at, seen_near, seen_far}
@@ -74,8 +74,7 @@ pub record Past (s : Station) : Type 0 where
   pub events : List card.Event
   pub at_lines : AreAtLines (fresh s.card.config) events
   pub is : s.card ≡ after_all (fresh s.card.config) events
-  pub ranged : IsInRange s.card.config
-  pub within : s.line < s.card.config.lines
+  pub line : IsLineOf s.card.config s.line
 
 -- How many contents of a link the other end has acknowledged since the numbers began: V(A), counted on beyond 127. They begin anew by SABME,
 -- and where the link leaves states 7 and 8 (Q.921 clauses 3.5.2.3, 5.5.1.2 and 5.7).
@@ -123,11 +122,9 @@ abbrev pub said_by : Service → ℕ → Station → Known → List Parts
 said_by service tei s n = of_link_on service tei s.card.config.side s.way ++ map (frame_of (terms s.card.config service tei)) n.waiting
 
 -- A frame is in step: N(R) means r, and an I-frame carries contents that are kept, of the number that N(S) means, within the window.
-pub record IsKept (k : ℕ) (n : Known) (ns : Seq) (contents : List ℕ) : Type 0 where
-  pub place : ℕ
-  pub meant : ns ≡ seq (n.acknowledged + place)
-  pub inside : place < k
-  pub same : slice_get n.kept place ≡ Some contents
+abbrev pub IsKept : ℕ → Known → Seq → List ℕ → Type 0
+IsKept k n ns contents =
+    (place : ℕ) × (ns ≡ seq (n.acknowledged + place)) × (place < k) × (slice_get n.kept place ≡ Some contents)
 
 abbrev pub IsOfStep : ℕ → Known → ℕ → List ℕ → Control → Type 0
 IsOfStep k n r contents (Information ns nr p) = IsKept k n ns contents × (nr ≡ seq r)
@@ -142,35 +139,36 @@ AreOfStep k n low [] = low ≤ n.told
 AreOfStep k n low (f ∷ fs) = (r : ℕ) × (low ≤ r) × IsOfStep k n r f.info f.control × AreOfStep k n r fs
 
 -- At an end `Card::state` tells 7 or 8; all that is on its way or waits is in step; and the other end was told of no more than what it has
--- acknowledged and what is kept here, within the window.
+-- acknowledged and what of those that are kept here is within the window.
 abbrev pub state_here : Service → ℕ → Station → Option ℕ
 state_here service tei s = state_of service tei (line_of s)
 
 pub record IsInStep (service : Service) (tei : ℕ) (s : Station) (n m : Known) : Type 0 where
   pub up : option_map_or is_up (state_here service tei s) false ≡ true
   pub said : AreOfStep (window s.card.config service) n m.acknowledged (said_by service tei s n)
-  pub kept : m.told ≤ n.acknowledged + length n.kept
-  pub within : m.told ≤ n.acknowledged + window s.card.config service
+  pub kept : m.told ≤ n.acknowledged + length (take (window s.card.config service) n.kept)
 
 -- Two cards of the two sides face each other so: as an establishment leaves them, with V(S) and V(R) zero, whatever of it is on its way
 -- already, and whatever waits; or later, also in the midst of data.
-pub record FaceInStep (service : Service) (tei : ℕ) (w : Wire) (n m : Known) : Type 0 where
-  pub near : IsInStep service tei w.near n m
-  pub far : IsInStep service tei w.far m n
-  pub sides : w.far.card.config.side ≡ other_side w.near.card.config.side
+abbrev pub FaceInStep : Service → ℕ → Wire → Known → Known → Type 0
+FaceInStep service tei w n m =
+    IsInStep service tei w.near n m × IsInStep service tei w.far m n × (w.far.card.config.side ≡ other_side w.near.card.config.side)
 
 -- The contents that the link at the first end keeps, sent or not, and that the other was not told of.
 abbrev pub kept_by : Known → Known → List (List ℕ)
 kept_by n m = drop (m.told - n.acknowledged) n.kept
 
--- As long as the establishment neither ends nor is renewed at an end, whatever becomes of it at the other, the contents that this end
--- is told of are a beginning of those that the other kept for it then, and of those that it was granted to send since, in order, each
--- once. So where layer 3 of one is granted the release, with anything waiting or on its way, the other is told so up to its own end.
+-- As long as the establishment neither ends nor is renewed at an end, the contents that this end is told of are a beginning of those
+-- that the other kept for it then, and of those that it was granted to send since, in order, each once.
+abbrev pub IsToldInOrder : Service → ℕ → List (List ℕ) → List Seen → List Seen → Type 0
+IsToldInOrder service tei kept there here =
+    StaysEstablished service tei here → IsFront (data_noted service tei here) (kept ++ data_granted service tei there)
+
+-- So it is at either end, whatever becomes of the establishment at the other. Where layer 3 of one is granted the release, with anything
+-- waiting or on its way, the other is told so up to its own end.
 abbrev pub DeliveredInOrder : Type 0
 DeliveredInOrder =
     (service : Service) (tei : ℕ) (w : Wire) (p : Past w.near) (q : Past w.far) (hs : List Happening) →
     let n = known service tei w.near p in let m = known service tei w.far q in
-    FaceInStep service tei w n m → All (IsPossible service tei w) hs →
-    let near = seen_near hs w in let far = seen_far hs w in
-    (StaysEstablished service tei near → IsFront (data_noted service tei near) (kept_by m n ++ data_granted service tei far))
-    × (StaysEstablished service tei far → IsFront (data_noted service tei far) (kept_by n m ++ data_granted service tei near))
+    FaceInStep service tei w n m → All (IsPossible service tei w) hs → let near = seen_near hs w in let far = seen_far hs w in
+    IsToldInOrder service tei (kept_by m n) far near × IsToldInOrder service tei (kept_by n m) near far

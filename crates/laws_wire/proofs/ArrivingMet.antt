@@ -1,12 +1,12 @@
 -- The premises of the law on what arrives under traffic are met by the worked call.
-use Rattle.laws_wire.proofs.Vocabulary.{◌≡◌, ℕ, List, [], ◌∷◌, ◌++◌, refl, sym, ◌∙◌, inl, true≢false, All, leb-true, Call, reading, header_of, control_of, unnumbered_of, supervisory_of, distance_of, named, seq, Data, Wire, requests, times_out, gives, takes, loses, at_near, at_far, doing_all, turns, confirmed, indicated, all_told, heard_in, IsRoughTalk, round, StayTimely, LosesNothing, HasCome, user, network, begins, MayRepeat, awaits_reply, false, ◌≤◌, ◌*◌, inr, arith, IsStill, granted_of, rounds, expiries, most_frames, most_left, Doing}
+use Rattle.laws_wire.proofs.Vocabulary.{◌≡◌, ℕ, List, [], ◌∷◌, ◌++◌, refl, sym, ◌∙◌, inl, true≢false, All, leb-true, Call, reading, header_of, control_of, unnumbered_of, supervisory_of, distance_of, named, seq, Data, Wire, requests, times_out, gives, takes, loses, at_near, at_far, doing_all, turns, confirmed, indicated, all_told, heard_in, IsRoughTalk, round, StayTimely, LosesNothing, GoesOn, GivesOrTakes, HasCome, user, network, begins, MayRepeat, awaits_reply, false, ◌≤◌, ◌*◌, inr, arith, IsStill, granted_of, rounds, expiries, most_frames, most_left}
 use Rattle.lapd_frame.specs.declared.timers.Timer.TheVariants.{T200}
 use Rattle.lapd_tei.specs.Events as teis
 use Rattle.model_line.specs.Machine as lines
-use Rattle.laws_wire.specs.WorkedArriving.{loses_two, goes_on, lossy, over, lossy_near, near_asked, over_still, waits, quiet, quiet_still, quiet_runs}
+use Rattle.laws_wire.specs.WorkedArriving.{loses_two, goes_on, lossy, over, lossy_near, near_asked, over_still, waits, quiet, quiet_still, quiet_runs, asks, asked, asked_near, in_bulk, bulk_still}
 use Rattle.laws_wire.proofs.PremisesMet.{can, all-of}
 use Rattle.laws_wire.proofs.RecoveryMet.{none-told, heard-it}
-use Rattle.laws_wire.proofs.UnderwayRounds.{arrives-in-rounds}
+use Rattle.laws_wire.proofs.UnderwayRounds.{arrives-in-rounds, arrives-in-turns}
 use Rattle.laws_wire.proofs.UnderwayRun.{arrives-under-traffic}
 
 data-near : (octets : List ℕ) → IsRoughTalk Call 0 (at_near (requests (Data Call 0 octets)))
@@ -77,8 +77,8 @@ timely-on = (
 -- so the law says what the worked values show
 come : HasCome Call 0 goes_on lossy over
 come =
-    arrives-under-traffic Call user network 0 0 0 loses_two goes_on can (leb-true 3 4 refl) (leb-true 3 4 refl) rough rough-on kept timely timely-on
-    (heard-it (heard_in lossy.near) (confirmed Call 0) lossy_near) over_still
+    arrives-under-traffic Call user network 0 0 0 loses_two goes_on can (leb-true 3 4 refl) (leb-true 3 4 refl) rough timely
+    (heard-it (heard_in lossy.near) (confirmed Call 0) lossy_near, rough-on, kept, timely-on) over_still
 
 pub told : heard_in over.far ≡ all_told Call 0 (indicated Call 0) over.near
 told = come.near (inl near_asked)
@@ -97,16 +97,13 @@ timely-waits =
 
 come-waits : HasCome Call 0 waits lossy quiet
 come-waits =
-    arrives-under-traffic Call user network 0 0 0 loses_two waits can (leb-true 3 4 refl) (leb-true 3 4 refl) rough rough-waits kept-waits timely timely-waits
-    (heard-it (heard_in lossy.near) (confirmed Call 0) lossy_near) quiet_still
+    arrives-under-traffic Call user network 0 0 0 loses_two waits can (leb-true 3 4 refl) (leb-true 3 4 refl) rough timely
+    (heard-it (heard_in lossy.near) (confirmed Call 0) lossy_near, rough-waits, kept-waits, timely-waits) quiet_still
 
 pub told-back : heard_in quiet.near ≡ all_told Call 0 (confirmed Call 0) quiet.far
 told-back = come-waits.far (inr quiet_runs.1)
 
 -- As the last data is asked for, turns are left, and the law says that rounds lead to where none is.
-abbrev asks : List Doing
-asks = at_near takes ∷ at_near (times_out (T200 Call 0)) ∷ at_far (requests (Data Call 0 (4 ∷ []))) ∷ []
-
 rough-asks : All (IsRoughTalk Call 0) asks
 rough-asks = all-of (IsRoughTalk Call 0) asks (tt, (expires, (data-far (4 ∷ []), tt)))
 
@@ -114,8 +111,22 @@ timely-asks : StayTimely asks lossy
 unfolding doing_all StayTimely
 timely-asks = (tt, (timely-on.1.0, ((tt, tt), tt)))
 
-by-rounds : (n : ℕ) × (n ≤ most_left Call 0 7 (doing_all asks lossy)) × (n ≤ 2 * most_frames 7 (expiries (loses_two ++ asks)) (granted_of (doing_all asks lossy)))
-    × IsStill (rounds n (doing_all asks lossy)) × HasCome Call 0 asks lossy (rounds n (doing_all asks lossy))
+asks-on : GoesOn Call 0 asks lossy
+asks-on = (heard-it (heard_in lossy.near) (confirmed Call 0) lossy_near, rough-asks, all-of LosesNothing asks (tt, (tt, (tt, tt))), timely-asks)
+
+by-rounds : (n : ℕ) × (n ≤ most_left Call 0 7 asked) × (n ≤ 2 * most_frames 7 (expiries (loses_two ++ asks)) (granted_of asked))
+    × IsStill (rounds n asked) × HasCome Call 0 asks lossy (rounds n asked)
 by-rounds =
-    arrives-in-rounds Call user network 0 0 0 7 loses_two asks can (leb-true 3 4 refl) (leb-true 3 4 refl) (omega arith) (omega arith) rough rough-asks
-    (all-of LosesNothing asks (tt, (tt, (tt, tt)))) timely timely-asks (heard-it (heard_in lossy.near) (confirmed Call 0) lossy_near)
+    arrives-in-rounds Call user network 0 0 0 7 loses_two asks can (leb-true 3 4 refl) (leb-true 3 4 refl) (omega arith) (omega arith) rough timely asks-on
+
+-- And of turns in another order that there are so few, and all has come where none is left.
+all-turns : All GivesOrTakes in_bulk
+all-turns = all-of GivesOrTakes in_bulk (tt, (tt, (tt, (tt, (tt, (tt, (tt, (tt, (tt, (tt, (tt, (tt, (tt, (tt, (tt, (tt, (tt, (tt, (tt, (tt, (tt, (tt, (tt, (tt, (tt, (tt, (tt, (tt, (tt, (tt, (tt, (tt, (tt, (tt, (tt, (tt, (tt, (tt, (tt, (tt, (tt, (tt, (tt, (tt, (tt, (tt, (tt, (tt, tt))))))))))))))))))))))))))))))))))))))))))))))))
+
+by-turns : (turns in_bulk asked ≤ most_left Call 0 7 asked) × (turns in_bulk asked ≤ 2 * most_frames 7 (expiries (loses_two ++ asks)) (granted_of asked))
+    × (IsStill (doing_all in_bulk asked) → HasCome Call 0 asks lossy (doing_all in_bulk asked))
+by-turns =
+    arrives-in-turns Call user network 0 0 0 7 loses_two asks in_bulk can (leb-true 3 4 refl) (leb-true 3 4 refl) (omega arith) (omega arith) rough timely asks-on all-turns
+
+pub bulk-told : heard_in (doing_all in_bulk asked).far ≡ all_told Call 0 (indicated Call 0) (doing_all in_bulk asked).near
+bulk-told = (by-turns.2 bulk_still).near (inl asked_near)

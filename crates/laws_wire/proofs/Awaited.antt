@@ -12,7 +12,7 @@ use Rattle.model_line.specs.Machine as lines
 use Rattle.model_line.specs.Room.{unless}
 use Rattle.model_card.specs.Room.{free}
 use Rattle.laws_link.specs.two.Timely as two_links
-use Rattle.laws_wire.specs.Facing.{line_of, read_as, parts_of, end_of}
+use Rattle.laws_wire.specs.Facing.{line_of, read_as, parts_of, own_link}
 use Rattle.laws_wire.proofs.Fair.{HasError}
 use Rattle.laws_wire.proofs.Held.{error-said, tells_error}
 use Rattle.laws_wire.proofs.Speaking.{heard_by, said_by}
@@ -243,7 +243,7 @@ module _ (service : Service) (tei : ℕ) (c : Config) (place : ℕ) (s : Station
   own : Stands s.card.config service tei place s n
   own = subst (λ k. Stands k service tei place s n) (sym h.config) h
 
-  pub link-is : (end_of service tei s).link ≡ n.link
+  pub link-is : own_link service tei s ≡ n.link
   link-is = ap (λ o. option_map_or (link_in (line_of s) service) o fresh) h.speaks.placed ∙ h.speaks.link
 
   pub way-is : flat_map (read_as s.card.config) s.way ≡ n.way

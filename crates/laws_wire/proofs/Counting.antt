@@ -1,5 +1,5 @@
 -- RC is never above the number of expiries of T200 since a link was last in state 7, so no error is told while this is below N200.
-use Rattle.laws_wire.proofs.Vocabulary.{◌≡◌, ℕ, ◌+◌, ◌<◌, ◌≤◌, Bool, true, false, cond, not, ◌==◌, List, [], ◌∷◌, map, refl, sym, ap, subst, ◌∙◌, inl, inr, true≢false, eqb-true, arith, All, All-head, All-tail, Service, Parts, spelling, State, TeiAssigned, AwaitingEstablishment, AwaitingRelease, Established, TimerRecovery, Terms, T203, Link, state_number, IsInRange, End, Config, LineTold, request, terms, awaits_answer, repeats_left, as_heard, is_clearing, is_time, event-follows, T200, after, Data, Station, Wire, happens, with_first_of, Act, requests, times_out, gives, takes, loses, Doing, at_near, at_far, acting, turned, doing, calling, IsRoughTalkOf, IsRoughTalk, end_of, IsTimelyOf, IsTimely, StayTimely, Counts, is_7, is_in_7, counted, counting, IsCountedOf, IsCounted, StayCounted, ExpiriesAreCounted}
+use Rattle.laws_wire.proofs.Vocabulary.{◌≡◌, ℕ, ◌+◌, ◌<◌, ◌≤◌, Bool, true, false, cond, not, ◌==◌, List, [], ◌∷◌, map, refl, sym, ap, subst, ◌∙◌, inl, inr, true≢false, eqb-true, arith, All, All-head, All-tail, Service, Parts, spelling, State, TeiAssigned, AwaitingEstablishment, AwaitingRelease, Established, TimerRecovery, Terms, T203, Link, state_number, IsInRange, End, Config, LineTold, request, terms, awaits_answer, repeats_left, as_heard, is_clearing, is_time, event-follows, T200, after, Data, Station, Wire, happens, with_first_of, Act, requests, times_out, gives, takes, loses, Doing, at_near, at_far, acting, turned, doing, calling, IsRoughTalkOf, IsRoughTalk, own_link, IsTimelyOf, IsTimely, StayTimely, Counts, is_7, is_in_7, counted, counting, IsCountedOf, IsCounted, StayCounted, ExpiriesAreCounted}
 use Rattle.laws_link.specs.States.{moves}
 use Rattle.lapd_frame.specs.declared.timers.Timer.TheVariants as timers
 use Rattle.model_link.specs.Events as link
@@ -72,7 +72,7 @@ module _ (t : Terms) (e : Event) (l : Link) (k k' : ℕ) where
 
 module _ (service : Service) (tei : ℕ) where
   abbrev Below : Station → ℕ → Type 0
-  Below s k = IsBelow (end_of service tei s).link k
+  Below s k = IsBelow (own_link service tei s) k
 
   module _ (c d : Config) (p q : ℕ) (face : Face c d) (past other : List LineTold) (w : Wire) (n m : End) (near : Held c service tei p past w.near n) (far : Held d service tei q other w.far m)
       (k : ℕ) (below : Below w.near k) where
@@ -222,8 +222,8 @@ pub expiries-are-counted : ExpiriesAreCounted
 expiries-are-counted service c d line other tei ds can talk = λ counted.
     let x = setting service c d line other tei can in
     let w = calling service tei c line d other in
-    let near = λ (awaits : awaits_answer (end_of service tei w.near).link.state ≡ true).
+    let near = λ (awaits : awaits_answer (own_link service tei w.near).state ≡ true).
     subst (λ (l : Link). l.repeats ≤ 0) (sym (link-is service tei c 0 w.near _ x.near_held.stands)) (omega arith) in
-    let far = λ (awaits : awaits_answer (end_of service tei w.far).link.state ≡ true).
+    let far = λ (awaits : awaits_answer (own_link service tei w.far).state ≡ true).
     subst (λ (l : Link). l.repeats ≤ 0) (sym (link-is service tei d 0 w.far _ x.far_held.stands)) (omega arith) in
     all-timely service tei c d 0 0 x.face x.back x.near x.far ds talk (record { near = 0; far = 0 }) w (starts service c d line other tei x) near far counted

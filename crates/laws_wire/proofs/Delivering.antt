@@ -1,125 +1,327 @@
 -- Two cards that face each other deliver what layer 3 hands over.
-use Rattle.laws_wire.proofs.Vocabulary.{◌≡◌, ℕ, ◌+◌, ◌*◌, ◌≤◌, ◌==◌, ◌&&◌, ◌||◌, Bool, true, false, cond, List, [], ◌∷◌, ◌++◌, map, flat_map, refl, sym, ap, subst, ◌∙◌, append-nil, arith, eq-eqb, All, option_map_or, All-nil, Service, spelling, other_side, fresh, End, Ends, Config, LineTold, link_in, service-same, AreTurns, weight_at, IsReady, IsTaken, Pair, all-turns, nothing-to_send, Station, Wire, Doing, doing_all, turns, IsStill, calling, IsTalk, confirmed, data_told, told_first, both_call}
-use Rattle.std.proofs.lemmas.Grind.{flat_map-append}
+use Rattle.laws_wire.proofs.Vocabulary.{◌≡◌, ℕ, ◌+◌, ◌*◌, ◌≤◌, ◌||◌, Bool, true, false, cond, List, [], ◌++◌, length, map, take, drop, Option, Some, None, option_map, refl, sym, ap, subst, ◌∙◌, append-nil, append_assoc, length-append, map-append, take-append-drop, arith, All, All-nil, if◌then◌else◌, unwrap_or, Service, Link, State, state_number, Established, other_side, End, Ends, Config, LineTold, link_in, state_in, place_in, terms, has_lines, line_sound, AreTurns, weight_at, IsReady, IsTaken, Pair, all-turns, Station, Wire, Doing, doing_all, turns, IsStill, IsBeginningOf, IsTold, calling, IsTalk, data_told, Face, Speaks, own_link, granted_of}
+use Rattle.std.proofs.lemmas.List.{append_cancel_left}
+use Rattle.std.proofs.Math.Seq.{drop-append_seam}
 use Rattle.model_link.specs.TwoEnds as two_ends
-use Rattle.laws_wire.specs.Facing as facing
-use Rattle.laws_wire.specs.Facing.{line_of, data_in, data_of, read_as, end_of, granted_of, Delivers, CardsDeliver, CallsFace}
+use Rattle.model_line.specs.Line.{Line}
+use Rattle.model_line.specs.Sound.{IsSound}
+use Rattle.model_link.specs.Sound as link_sound
+use Rattle.laws_wire.specs.Facing.{line_of, most_turns, unsent_at, due_since, IsToldSince, Delivers, CardsDeliver, CardsFaceAgain, CallsFace}
 use Rattle.laws_wire.proofs.Again.{faces-again}
+use Rattle.laws_wire.proofs.Alone.{link-is, no-way, no-messages, no-units, none-waiting, none-other}
+use Rattle.laws_wire.proofs.Logged.{logged, with_logs, run-logged, turns-logged}
 use Rattle.laws_wire.proofs.Run.{still-up, arrived, none-given, way-empty}
 use Rattle.laws_wire.proofs.Spelled.{twice-other}
-use Rattle.laws_wire.proofs.Standing.{IsCarried, Stands}
-use Rattle.laws_wire.proofs.Talking.{Face, Past, after_note, Holds, all-told}
-use Rattle.laws_wire.proofs.Up.{pair_of, Talk, talks}
+use Rattle.laws_wire.proofs.Standing.{IsCarried, Stands, link-sound, link-ranges}
+use Rattle.laws_wire.proofs.Talking.{Past, Holds}
+use Rattle.laws_wire.proofs.Talking as talking
+use Rattle.laws_wire.proofs.Up.{pair_of, Talk, talks, Acted}
+
+-- `Card::state` tells 7 of a link whose TEI is on the line
+record IsUp (service : Service) (tei : ℕ) (l : Line) : Type 0 where
+  place : ℕ
+  placed : place_in l tei ≡ Some place
+  state : (link_in l service place).state ≡ Established
+
+seven-is : (x : State) → state_number x ≡ 7 → x ≡ Established
+seven-is Established e = refl
+seven-is other e = absurd (cc)
+
+is-up : (service : Service) (tei : ℕ) (l : Line) → (o : Option ℕ) → place_in l tei ≡ o → option_map (state_in l service) o ≡ Some 7 → IsUp service tei l
+is-up service tei l None is e = absurd (cc)
+is-up service tei l (Some place) is e = record { place = place; placed = is; state = seven-is (link_in l service place).state (ap (λ o. unwrap_or o 0) e) }
+
+both-off : (a b : Bool) → (a || b) ≡ false → (a ≡ false) × (b ≡ false)
+both-off false false e = (refl, refl)
+both-off other b e = absurd (cc)
+
+two-owed : (b : Bool) → cond {A = ℕ} b 2 0 ≡ 2 * cond {A = ℕ} b 1 0
+two-owed true = refl
+two-owed false = refl
+
+-- what was told since of what was unsent and what was granted since
+behind : (s r : ℕ) (cs more since : List (List ℕ)) → take s cs ++ since ≡ take r (cs ++ more) → since ++ drop r (cs ++ more) ≡ drop s cs ++ more
+behind s r cs more since is =
+    append_cancel_left (take s cs) (since ++ drop r (cs ++ more)) (drop s cs ++ more)
+    (sym (append_assoc (take s cs) since (drop r (cs ++ more))) ∙ ap (λ xs. xs ++ drop r (cs ++ more)) is ∙ take-append-drop r (cs ++ more)
+    ∙ sym (ap (λ xs. xs ++ more) (take-append-drop s cs)) ∙ append_assoc (take s cs) (drop s cs) more)
+
+behind-all : (s : ℕ) (cs more since : List (List ℕ)) → take s cs ++ since ≡ cs ++ more → since ≡ drop s cs ++ more
+behind-all s cs more since is =
+    append_cancel_left (take s cs) since (drop s cs ++ more) (is ∙ sym (ap (λ xs. xs ++ more) (take-append-drop s cs)) ∙ append_assoc (take s cs) (drop s cs) more)
 
 module _ (service : Service) (tei : ℕ) where
-  -- data that is told is data
-  data-is : (x : List ℕ) → data_in service tei (data_told service tei x) ≡ x ∷ []
-  data-is x =
-      ap (λ b. cond {A = List (List ℕ)} (b || false) (x ∷ []) []) (ap (λ b. b && tei == tei) (service-same service) ∙ eq-eqb tei tei refl)
+  abbrev data_notes : List (List ℕ) → List LineTold
+  data_notes xs = map (data_told service tei) xs
 
-  pub all-data : (xs : List (List ℕ)) → flat_map (data_in service tei) (map (data_told service tei) xs) ≡ xs
-  all-data [] = refl
-  all-data (x ∷ xs) = ap (λ ys. ys ++ flat_map (data_in service tei) (map (data_told service tei) xs)) (data-is x) ∙ ap (λ ys. x ∷ ys) (all-data xs)
+  -- a station without what was granted and told before
+  abbrev bare : Station → Station
+  bare s = record s { granted = []; told = [] }
 
-  -- a station stands for its end
-  past_of : Station → Past
-  past_of s = record { told = s.told; had = data_of service tei s }
-
-  stands : (s : Station) (h : facing.Speaks service tei s) → Stands s.card.config service tei h.place s (end_of service tei s)
-  stands s h =
-      let empty : (end_of service tei s).way ≡ [] = ap (flat_map (read_as s.card.config)) h.way in
-      record {
-        config = refl;
-        sound = h.sound;
-        within = h.within;
-        speaks = record {
-          placed = h.placed;
-          messages = h.messages;
-          units = h.units;
-          silent = λ number low other. nothing-to_send _ _ (h.others number low other);
-          link = sym (ap (λ o. option_map_or (link_in (line_of s) service) o fresh) h.placed);
-        };
-        terms = refl;
-        way = h.way ∙ sym (ap (map (spelling s.card.config.side)) empty);
-        carried = subst (All (IsCarried s.card.config service tei)) (sym empty) (All-nil (IsCarried s.card.config service tei));
-      }
-
-  holds : (s : Station) (h : facing.Speaks service tei s) → Holds s.card.config service tei h.place (past_of s) s (end_of service tei s)
-  unfolding past_of
-  holds s h = record {
-    stands = stands s h;
-    granted = h.granted;
-    since = [];
-    told = sym (append-nil s.told);
-    delivered = sym (append-nil (data_of service tei s));
+  -- the end for which it stands, as if it had delivered what it has received of the other's contents
+  abbrev end_at : Station → Station → End
+  end_at s u = record {
+    terms = terms s.card.config service tei;
+    link = own_link service tei s;
+    way = [];
+    delivered = take (own_link service tei s).r (own_link service tei u).contents;
   }
+
+  abbrev past_at : Station → Station → Past
+  past_at s u = record { told = []; had = take (own_link service tei s).r (own_link service tei u).contents }
+
+  -- with what its link keeps as what was granted
+  abbrev kept_at : Station → Station
+  kept_at s = logged (own_link service tei s).contents [] (bare s)
+
+  module _ (s u : Station) (h : Speaks service tei s u) where
+    up : IsUp service tei (line_of s)
+    up = is-up service tei (line_of s) (place_in (line_of s) tei) refl h.state
+
+    sound : IsSound s.card.config (line_of s)
+    sound = line_sound s.card s.line (has_lines s.card h.card.0) h.card.1
+
+    own : own_link service tei s ≡ link_in (line_of s) service up.place
+    own = link-is service tei up.place s sound up.placed
+
+    stands : Stands s.card.config service tei up.place s (end_at s u)
+    stands = record {
+      config = refl;
+      sound = h.card.0;
+      within = h.card.1;
+      speaks = record {
+        placed = up.placed;
+        messages = no-messages service tei up.place s sound up.placed h.alone;
+        units = no-units service tei up.place s sound up.placed h.alone;
+        silent = none-other service tei up.place s sound up.placed h.alone;
+        link = sym own;
+      };
+      terms = refl;
+      way = no-way service tei up.place s sound up.placed h.alone;
+      carried = All-nil (IsCarried s.card.config service tei);
+    }
+
+    holds : Holds s.card.config service tei up.place (past_at s u) (kept_at s) (end_at s u)
+    holds = record {
+      stands = record {
+        config = refl;
+        sound = stands.sound;
+        within = stands.within;
+        speaks = stands.speaks;
+        terms = refl;
+        way = stands.way;
+        carried = stands.carried;
+      };
+      granted = append-nil (own_link service tei s).contents;
+      since = [];
+      told = refl;
+      delivered = sym (append-nil (past_at s u).had);
+    }
+
+    ready : IsReady (end_at s u)
+    ready =
+        let off = both-off (own_link service tei s).own_busy (own_link service tei s).peer_busy h.free in
+        record {
+          ranges = link-ranges service tei up.place s (end_at s u) stands;
+          sound = link-sound service tei up.place s (end_at s u) stands;
+          state = ap (λ (l : Link). l.state) own ∙ up.state;
+          peer_busy = off.1;
+          own_busy = off.0;
+          waiting = none-waiting service tei up.place s sound up.placed h.alone;
+          way = refl;
+        }
+
+    -- so its link is in state 7, sound, and has no control frame waiting
+    pub is-established : (own_link service tei s).state ≡ Established
+    is-established = ready.state
+
+    pub is-sound : link_sound.IsSound (terms s.card.config service tei) (own_link service tei s)
+    is-sound = ready.sound
+
+    pub is-quiet : (own_link service tei s).waiting ≡ []
+    is-quiet = ready.waiting
+
+    taken : s.card.config.n201 ≡ u.card.config.n201 → IsTaken (end_at s u) (end_at u s)
+    taken same = record {
+      received = h.received;
+      delivered = refl;
+      owed = h.owes;
+      sizes = subst (λ k. All (λ octets. length octets ≤ k) (own_link service tei s).contents) same ready.sound.sizes;
+    }
+
+    price : weight_at (end_at s u) ≡ most_turns service tei s
+    price = let two = two-owed (own_link service tei s).pending in omega (arith, two)
+
+  -- what layer 3 of one is told behind what it was told before
+  module _ (s u : Station) (received : (own_link service tei s).r ≡ (own_link service tei u).s) (n m : End) (since more : List (List ℕ))
+      (delivered : n.delivered ≡ take (own_link service tei s).r (own_link service tei u).contents ++ since) (kept : (own_link service tei u).contents ++ more ≡ m.link.contents)
+      (agree : n.delivered ≡ take n.link.r m.link.contents) where
+    as-kept : take (own_link service tei u).s (own_link service tei u).contents ++ since ≡ n.delivered
+    as-kept = ap (λ k. take k (own_link service tei u).contents ++ since) (sym received) ∙ sym delivered
+
+    told-first : IsBeginningOf (data_notes (unsent_at service tei u ++ more)) (data_notes since)
+    told-first =
+        let rest = drop n.link.r ((own_link service tei u).contents ++ more) in
+        let is = behind (own_link service tei u).s n.link.r (own_link service tei u).contents more since (as-kept ∙ agree ∙ ap (take n.link.r) (sym kept)) in
+        (data_notes rest, sym (map-append (data_told service tei) since rest) ∙ ap data_notes is)
+
+    told-then : n.delivered ≡ m.link.contents → data_notes since ≡ data_notes (unsent_at service tei u ++ more)
+    told-then all = ap data_notes (behind-all (own_link service tei u).s (own_link service tei u).contents more since (as-kept ∙ all ∙ sym kept))
+
+    -- with what the other was granted before
+    pub is-told : (still : Type 0) → (still → n.delivered ≡ m.link.contents) → (granted : List (List ℕ))
+        → IsTold still (data_notes (unsent_at service tei u ++ drop (length granted) (granted ++ more))) (data_notes since)
+    is-told still all granted =
+        subst (λ xs. IsTold still (data_notes (unsent_at service tei u ++ xs)) (data_notes since)) (sym (drop-append_seam granted more)) (told-first, λ e. told-then (all e))
+
+  -- what was granted and told is nothing to how they face each other
+  logs-aside : (g h g' h' : List (List ℕ)) (t r t' r' : List LineTold) (x y : Station) → Speaks service tei (logged g t x) (logged h r y) → Speaks service tei (logged g' t' x) (logged h' r' y)
+  logs-aside g h g' h' t r t' r' x y k = record { card = k.card; state = k.state; free = k.free; alone = k.alone; received = k.received; owes = k.owes }
 
   first-pair : (e : Ends) → IsReady e.near → IsReady e.far → IsTaken e.near e.far → IsTaken e.far e.near → Pair e
   unfolding two_ends.doing_all AreTurns
   first-pair e near far there back = (all-turns [] e near far there back tt).pair
 
-  few : (b k w g g' : ℕ) → b + k + 4 * g ≤ w + 4 * g' → b + 4 * g ≤ w + 4 * g'
-  few b k w g g' h = omega (arith, h)
+  module _ (ds : List Doing) (w : Wire) (h : Face service tei w) (talk : All (IsTalk service tei) ds) where
+    abbrev s : Station
+    s = w.near
 
-  -- what was told, as data
-  data-now : (c : Config) (place : ℕ) (s s' : Station) (n : End) (h : Holds c service tei place (past_of s) s' n) → data_of service tei s' ≡ n.delivered
-  unfolding past_of
-  data-now c place s s' n h =
-      ap (flat_map (data_in service tei)) h.told
-      ∙ flat_map-append (data_in service tei) s.told (map (data_told service tei) h.since)
-      ∙ ap (λ xs. data_of service tei s ++ xs) (all-data h.since) ∙ sym h.delivered
+    abbrev u : Station
+    u = w.far
 
-  told-only : (c : Config) (place : ℕ) (s s' : Station) (n : End) → Holds c service tei place (past_of s) s' n → facing.IsToldData service tei s s'
-  unfolding past_of
-  told-only c place s s' n h = (h.since, h.told)
+    abbrev bare_wire : Wire
+    bare_wire = record { near = bare s; far = bare u }
 
-  pub delivers : (ds : List Doing) (w : Wire) → facing.Face service tei w → All (IsTalk service tei) ds → Delivers service tei (turns ds w) w (doing_all ds w)
-  delivers ds w h talk =
-      let c = w.near.card.config in
-      let d = w.far.card.config in
-      let face : Face c d = record { side = sym h.sides; n201 = h.n201 } in
-      let back : Face d c = record { side = ap other_side h.sides ∙ twice-other c.side; n201 = sym h.n201 } in
-      let n = end_of service tei w.near in
-      let m = end_of service tei w.far in
-      let p = h.near.place in
-      let q = h.far.place in
-      let first = past_of w.near in
-      let second = past_of w.far in
-      let now : Talk service tei c d p q first second w n m = record { near = holds w.near h.near; far = holds w.far h.far; pair = first-pair (pair_of n m) h.near_ready h.far_ready h.near_taken h.far_taken } in
-      let x = talks service tei c d p q face back first second ds talk w n m now in
-      let last = doing_all ds w in
-      let all =
-      λ (still : IsStill last).
-      arrived x.n' x.m' x.talk.pair (none-given service tei c p first last.near x.n' x.talk.near still.near) (none-given service tei d q second last.far x.m' x.talk.far still.far)
-      (way-empty service tei c p first last.near x.n' x.talk.near still.near_way) (way-empty service tei d q second last.far x.m' x.talk.far still.far_way) in
-      record {
-        turns = few (turns ds w) (weight_at x.n' + weight_at x.m') (weight_at n + weight_at m) (granted_of w) (granted_of last) x.price;
-        near = λ still. data-now c p w.near last.near x.n' x.talk.near ∙ (all still).1.delivered ∙ sym x.talk.far.granted;
-        far = λ still. data-now d q w.far last.far x.m' x.talk.far ∙ (all still).0.delivered ∙ sym x.talk.near.granted;
-        near_only = told-only c p w.near last.near x.n' x.talk.near;
-        far_only = told-only d q w.far last.far x.m' x.talk.far;
-        again = λ still.
-            faces-again service tei c d p q first second last x.n' x.m' x.talk still (data-now c p w.near last.near x.n' x.talk.near) (data-now d q w.far last.far x.m' x.talk.far) h.sides h.n201;
-      }
+    abbrev last : Wire
+    last = doing_all ds bare_wire
+
+    -- the run as it is, and the run with what the links keep as what was granted
+    abbrev as_is : Wire → Wire
+    as_is v = with_logs s.granted s.told u.granted u.told v
+
+    abbrev as_kept : Wire → Wire
+    as_kept v = with_logs (own_link service tei s).contents [] (own_link service tei u).contents [] v
+
+    begins : as_is bare_wire ≡ w
+    begins = λ i. record {
+      near = record s { granted = append-nil s.granted i; told = append-nil s.told i };
+      far = record u { granted = append-nil u.granted i; told = append-nil u.told i };
+    }
+
+    pub leads : doing_all ds w ≡ as_is last
+    leads = ap (doing_all ds) (sym begins) ∙ run-logged s.granted s.told u.granted u.told ds bare_wire
+
+    ran : doing_all ds (as_kept bare_wire) ≡ as_kept last
+    ran = run-logged (own_link service tei s).contents [] (own_link service tei u).contents [] ds bare_wire
+
+    same-turns : turns ds (as_kept bare_wire) ≡ turns ds w
+    same-turns =
+        turns-logged (own_link service tei s).contents [] (own_link service tei u).contents [] ds bare_wire
+        ∙ sym (turns-logged s.granted s.told u.granted u.told ds bare_wire) ∙ ap (turns ds) begins
+
+    abbrev c : Config
+    c = s.card.config
+
+    abbrev d : Config
+    d = u.card.config
+
+    face : talking.Face c d
+    face = record { side = sym h.2.0; n201 = h.2.1 }
+
+    back : talking.Face d c
+    back = record { side = ap other_side h.2.0 ∙ twice-other c.side; n201 = sym h.2.1 }
+
+    abbrev Talked : Wire → Type 0
+    Talked v =
+        Acted service tei c d (up s u h.0).place (up u s h.1).place face back (past_at s u) (past_at u s) (as_kept bare_wire) v (end_at s u) (end_at u s) (turns ds (as_kept bare_wire))
+
+    now : Talk service tei c d (up s u h.0).place (up u s h.1).place (past_at s u) (past_at u s) (as_kept bare_wire) (end_at s u) (end_at u s)
+    now = record {
+      near = holds s u h.0;
+      far = holds u s h.1;
+      pair = first-pair (pair_of (end_at s u) (end_at u s)) (ready s u h.0) (ready u s h.1) (taken s u h.0 h.2.1) (taken u s h.1 (sym h.2.1));
+    }
+
+    talked : Talked (as_kept last)
+    talked =
+        subst Talked ran
+        (talks service tei c d (up s u h.0).place (up u s h.1).place face back (past_at s u) (past_at u s) ds talk (as_kept bare_wire) (end_at s u) (end_at u s) now)
+
+    all-arrived : IsStill (as_is last) → (talked.m'.delivered ≡ talked.n'.link.contents) × (talked.n'.delivered ≡ talked.m'.link.contents)
+    all-arrived still =
+        let x = talked in
+        let p = (up s u h.0).place in
+        let q = (up u s h.1).place in
+        let all =
+        arrived x.n' x.m' x.talk.pair (none-given service tei c p (past_at s u) (as_kept last).near x.n' x.talk.near still.near) (none-given service tei d q (past_at u s) (as_kept last).far x.m' x.talk.far still.far)
+        (way-empty service tei c p (past_at s u) (as_kept last).near x.n' x.talk.near still.near_way) (way-empty service tei d q (past_at u s) (as_kept last).far x.m' x.talk.far still.far_way) in
+        (all.0.delivered, all.1.delivered)
+
+    told-near : IsToldSince (IsStill (as_is last)) (due_since service tei u (as_is last).far) s (as_is last).near
+    told-near =
+        let x = talked in (
+          data_notes x.talk.near.since,
+          ap (λ ts. s.told ++ ts) x.talk.near.told,
+          is-told s u h.1.received x.n' x.m' x.talk.near.since last.far.granted x.talk.near.delivered x.talk.far.granted x.talk.pair.back.delivered (IsStill (as_is last)) (λ still. (all-arrived still).1)
+              u.granted,
+        )
+
+    told-far : IsToldSince (IsStill (as_is last)) (due_since service tei s (as_is last).near) u (as_is last).far
+    told-far =
+        let x = talked in (
+          data_notes x.talk.far.since,
+          ap (λ ts. u.told ++ ts) x.talk.far.told,
+          is-told u s h.0.received x.m' x.n' x.talk.far.since last.near.granted x.talk.far.delivered x.talk.near.granted x.talk.pair.there.delivered (IsStill (as_is last)) (λ still. (all-arrived still).0)
+              s.granted,
+        )
+
+    bounded : turns ds w + 4 * granted_of w ≤ most_turns service tei s + most_turns service tei u + 4 * granted_of (as_is last)
+    bounded =
+        let x = talked in
+        let kn = (own_link service tei s).contents in
+        let kf = (own_link service tei u).contents in
+        let before-n : length (kn ++ []) ≡ length kn = ap length (append-nil kn) in
+        let before-f : length (kf ++ []) ≡ length kf = ap length (append-nil kf) in
+        omega (
+          arith,
+          x.price,
+          same-turns,
+          price s u h.0,
+          price u s h.1,
+          before-n,
+          before-f,
+          length-append kn last.near.granted,
+          length-append kf last.far.granted,
+          length-append s.granted last.near.granted,
+          length-append u.granted last.far.granted,
+        )
+
+    pub delivers : Delivers service tei (turns ds w) w (doing_all ds w)
+    delivers = subst (Delivers service tei (turns ds w) w) (sym leads) (record { turns = bounded; near = told-near; far = told-far })
+
+    pub again : IsStill (doing_all ds w) → Face service tei (doing_all ds w)
+    again still =
+        let x = talked in
+        subst (Face service tei) (sym leads)
+        (face-by last (faces-again service tei c d (up s u h.0).place (up u s h.1).place (past_at s u) (past_at u s) (as_kept last) x.n' x.m' x.talk (as-kept-still (subst IsStill leads still)) h.2))
+      where
+        face-by : (v : Wire) → Face service tei (as_kept v) → Face service tei (as_is v)
+        face-by v k =
+            let kn = (own_link service tei s).contents in
+            let kf = (own_link service tei u).contents in
+            (logs-aside kn kf s.granted u.granted [] [] s.told u.told v.near v.far k.0, logs-aside kf kn u.granted s.granted [] [] u.told s.told v.far v.near k.1, k.2)
+
+        as-kept-still : IsStill (as_is last) → IsStill (as_kept last)
+        as-kept-still e = record { near = e.near; far = e.far; near_way = e.near_way; far_way = e.far_way }
 
 pub cards-deliver : CardsDeliver
 cards-deliver service tei ds w h talk = delivers service tei ds w h talk
 
+pub cards-face_again : CardsFaceAgain
+cards-face_again service tei ds w h talk still = again service tei ds w h talk still
+
 -- a call that is still
-note-data : (service : Service) (tei : ℕ) (c : Config) (place : ℕ) (t : LineTold) (s : Station) (n : End) → data_in service tei t ≡ [] → Holds c service tei place (after_note t) s n
-    → data_of service tei s ≡ n.delivered
-note-data service tei c place t s n none h =
-    ap (flat_map (data_in service tei)) (all-told c service tei place (t ∷ []) s n h)
-    ∙ ap (λ xs. xs ++ flat_map (data_in service tei) (map (data_told service tei) n.delivered)) none ∙ all-data service tei n.delivered
-
-none-in_note : (service : Service) (tei : ℕ) (both : Bool) → data_in service tei (told_first service tei both) ≡ []
-none-in_note service tei true = refl
-none-in_note service tei false = refl
-
 pub calls-face : CallsFace
 calls-face service c d line other tei ds can called still =
-    let w = calling service tei c line d other in
-    let note = told_first service tei (both_call ds w) in
     let x = still-up service c d line other tei ds can called still in
-    faces-again service tei c d 0 0 (after_note (confirmed service tei)) (after_note note) (doing_all ds w) x.n x.m x.talk still
-    (note-data service tei c 0 (confirmed service tei) _ x.n refl x.talk.near) (note-data service tei d 0 note _ x.m (none-in_note service tei (both_call ds w)) x.talk.far) can.sides can.n201
+    faces-again service tei c d 0 0 _ _ (doing_all ds (calling service tei c line d other)) x.n x.m x.talk still can.opposite

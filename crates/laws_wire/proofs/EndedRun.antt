@@ -144,15 +144,15 @@ module _ (service : Service) (tei : ℕ) (few : tei ≤ 126) (c d : Config) (p q
     Indicated = heard_in last.far ≡ heard_in w.far ++ release_indicated service tei ∷ []
 
     so : Phase_ last → EndsSo service tei w last
-    so (inl (k, inl x)) = record { near = inl x.near.told; far = inl x.far.told; near_ended = λ s e. runs-on k (its_disc ∷ []) [] _ x.near Confirmed e; far_ended = λ s e. runs-on k (its_disc ∷ []) [] _ x.near Indicated e }
-    so (inl (k, inr (inl x))) = record { near = inl x.near.told; far = inl x.far.told; near_ended = λ s e. runs-on k [] (disc t ∷ []) _ x.near Confirmed e; far_ended = λ s e. runs-on k [] (disc t ∷ []) _ x.near Indicated e }
-    so (inl (k, inr (inr x))) = record { near = inl x.near.told; far = inl x.far.told; near_ended = λ s e. runs-on k [] [] _ x.near Confirmed e; far_ended = λ s e. runs-on k [] [] _ x.near Indicated e }
-    so (inr (inl (k, b, inl x))) = record { near = inl x.near.told; far = inr x.far.told; near_ended = λ s e. runs-on k [] [] _ x.near Confirmed e; far_ended = λ s e. x.far.told }
-    so (inr (inl (k, b, inr (inl x)))) = record { near = inl x.near.told; far = inr x.far.told; near_ended = λ s e. runs-on k [] [] _ x.near Confirmed e; far_ended = λ s e. x.far.told }
-    so (inr (inl (k, b, inr (inr (inl x))))) = record { near = inl x.near.told; far = inr x.far.told; near_ended = λ s e. runs-on k [] [] _ x.near Confirmed e; far_ended = λ s e. x.far.told }
-    so (inr (inl (k, b, inr (inr (inr (inl x)))))) = record { near = inl x.near.told; far = inr x.far.told; near_ended = λ s e. runs-on k (its_disc ∷ []) [] _ x.near Confirmed e; far_ended = λ s e. x.far.told }
-    so (inr (inl (k, b, inr (inr (inr (inr x)))))) = record { near = inl x.near.told; far = inr x.far.told; near_ended = λ s e. runs-on k [] (disc t ∷ []) _ x.near Confirmed e; far_ended = λ s e. x.far.told }
-    so (inr (inr (k, x))) = record { near = inr x.near.told; far = inr x.far.told; near_ended = λ s e. x.near.told; far_ended = λ s e. x.far.told }
+    so (inl (k, inl x)) = record { near = (inl x.near.told, λ e. runs-on k (its_disc ∷ []) [] _ x.near Confirmed e.1); far = (inl x.far.told, λ e. runs-on k (its_disc ∷ []) [] _ x.near Indicated e.1) }
+    so (inl (k, inr (inl x))) = record { near = (inl x.near.told, λ e. runs-on k [] (disc t ∷ []) _ x.near Confirmed e.1); far = (inl x.far.told, λ e. runs-on k [] (disc t ∷ []) _ x.near Indicated e.1) }
+    so (inl (k, inr (inr x))) = record { near = (inl x.near.told, λ e. runs-on k [] [] _ x.near Confirmed e.1); far = (inl x.far.told, λ e. runs-on k [] [] _ x.near Indicated e.1) }
+    so (inr (inl (k, b, inl x))) = record { near = (inl x.near.told, λ e. runs-on k [] [] _ x.near Confirmed e.1); far = (inr x.far.told, λ e. x.far.told) }
+    so (inr (inl (k, b, inr (inl x)))) = record { near = (inl x.near.told, λ e. runs-on k [] [] _ x.near Confirmed e.1); far = (inr x.far.told, λ e. x.far.told) }
+    so (inr (inl (k, b, inr (inr (inl x))))) = record { near = (inl x.near.told, λ e. runs-on k [] [] _ x.near Confirmed e.1); far = (inr x.far.told, λ e. x.far.told) }
+    so (inr (inl (k, b, inr (inr (inr (inl x)))))) = record { near = (inl x.near.told, λ e. runs-on k (its_disc ∷ []) [] _ x.near Confirmed e.1); far = (inr x.far.told, λ e. x.far.told) }
+    so (inr (inl (k, b, inr (inr (inr (inr x)))))) = record { near = (inl x.near.told, λ e. runs-on k [] (disc t ∷ []) _ x.near Confirmed e.1); far = (inr x.far.told, λ e. x.far.told) }
+    so (inr (inr (k, x))) = record { near = (inr x.near.told, λ e. x.near.told); far = (inr x.far.told, λ e. x.far.told) }
 
   pub ends-so : (ds : List Doing) → All (IsLeaving service tei) ds → StayTimelyThere ds released → EndsSo service tei w (doing_all ds released)
   ends-so ds all timely =

@@ -61,4 +61,4 @@ so : EndsSo Call 0 established ended
 so = calls-end Call user network 0 0 0 establishes loses_both established can full leaving-all patient still rests.0 rests.1 (inl refl) timely
 
 pub told : heard_in ended.near ≡ heard_in established.near ++ release_confirmed Call 0 ∷ []
-told = so.near_ended ended_still ended_rests
+told = so.near.1 (ended_still, ended_rests)

@@ -62,7 +62,9 @@ pub mod Ended
 pub mod EndedRun
 pub mod StillIsTimely
 pub mod Counting
+pub mod Alone
 pub mod Again
+pub mod Logged
 pub mod Delivering
 pub mod Loads
 pub mod LoadsHeard
@@ -72,6 +74,7 @@ pub mod Rested
 pub mod RestedRun
 pub mod RestedRounds
 pub mod RestedTimely
+pub mod Turning
 pub mod LeftToDo
 pub mod Heft
 pub mod UaWeighs

@@ -103,12 +103,12 @@ pub setting : (service : Service) (c d : Config) (line other tei : ℕ) → CanC
 setting service c d line other tei can =
     let w = calling service tei c line d other in
     record {
-      face = record { side = sym can.sides; n201 = can.n201 };
-      back = record { side = ap other_side can.sides ∙ twice-other c.side; n201 = sym can.n201 };
-      near = terms_in_range c can.near service tei can.terminal;
-      far = terms_in_range d can.far service tei can.terminal;
-      near_held = from-nothing c service tei 0 w.near (end (terms c service tei) asked []) (calls service tei c can.near can.terminal line can.near_line) refl;
-      far_held = from-nothing d service tei 0 w.far (end (terms d service tei) fresh []) (answers service tei d can.far can.terminal other can.far_line) refl;
+      face = record { side = sym can.opposite.0; n201 = can.opposite.1 };
+      back = record { side = ap other_side can.opposite.0 ∙ twice-other c.side; n201 = sym can.opposite.1 };
+      near = terms_in_range c can.near.0 service tei can.terminal;
+      far = terms_in_range d can.far.0 service tei can.terminal;
+      near_held = from-nothing c service tei 0 w.near (end (terms c service tei) asked []) (calls service tei c can.near.0 can.terminal line can.near.1) refl;
+      far_held = from-nothing d service tei 0 w.far (end (terms d service tei) fresh []) (answers service tei d can.far.0 can.terminal other can.far.1) refl;
     }
 
 abbrev pub rings : (service : Service) (c d : Config) (line other tei : ℕ) → Setting service c d line other tei → IsRinging service tei c d 0 0 (calling service tei c line d other)

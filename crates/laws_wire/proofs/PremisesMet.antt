@@ -8,7 +8,7 @@ use Rattle.laws_wire.proofs.Delivering.{calls-face}
 use Rattle.laws_wire.proofs.LossyRun.{calls-are-told_in_order}
 
 pub can : CanCall user 0 network 0 0
-can = record { near = refl; far = refl; sides = refl; n201 = refl; near_line = omega arith; far_line = omega arith; terminal = omega arith }
+can = record { near = (refl, omega arith); far = (refl, omega arith); opposite = (refl, refl); terminal = omega arith }
 
 abbrev pub Are : (Doing → Type 0) → List Doing → Type 0
 Are P [] = Unit {0}

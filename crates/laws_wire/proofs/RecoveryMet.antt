@@ -108,10 +108,10 @@ unfolding lines.after lines.answer lines.takes_slot reading header_of control_of
 far-granted = refl
 
 missing : HasMissing Call 0 1 lost
-missing = record {
-  near = one-missing (confirmed Call 0) (0xCD ∷ []) lost.far.granted (heard_in lost.near) far-granted lost-near;
-  far = one-missing (indicated Call 0) (0xAB ∷ []) lost.near.granted (heard_in lost.far) near-granted lost-far;
-}
+missing = (
+  one-missing (confirmed Call 0) (0xCD ∷ []) lost.far.granted (heard_in lost.near) far-granted lost-near,
+  one-missing (indicated Call 0) (0xAB ∷ []) lost.near.granted (heard_in lost.far) near-granted lost-far,
+)
 
 -- in state 7 N200 counts nothing
 pub may : BothMayRepeat Call 0 lost

@@ -54,16 +54,16 @@ takes-grants : (way : List (List ℕ)) (s : Station) → (with_first_of way s).g
 takes-grants [] s = refl
 takes-grants (octets ∷ way) s = takes-granted octets s
 
-near-gives : (w : Wire) → granted_of (acting wire.gives w) ≡ granted_of w
+pub near-gives : (w : Wire) → granted_of (acting wire.gives w) ≡ granted_of w
 near-gives w = ap (λ (xs : List (List ℕ)). length xs + length w.far.granted) (gives-granted w.near)
 
-near-takes : (w : Wire) → granted_of (acting wire.takes w) ≡ granted_of w
+pub near-takes : (w : Wire) → granted_of (acting wire.takes w) ≡ granted_of w
 near-takes w = ap (λ (xs : List (List ℕ)). length xs + length w.far.granted) (takes-grants w.far.way w.near)
 
-far-gives : (w : Wire) → granted_of (turned (acting wire.gives (turned w))) ≡ granted_of w
+pub far-gives : (w : Wire) → granted_of (turned (acting wire.gives (turned w))) ≡ granted_of w
 far-gives w = ap (λ (xs : List (List ℕ)). length w.near.granted + length xs) (gives-granted w.far)
 
-far-takes : (w : Wire) → granted_of (turned (acting wire.takes (turned w))) ≡ granted_of w
+pub far-takes : (w : Wire) → granted_of (turned (acting wire.takes (turned w))) ≡ granted_of w
 far-takes w = ap (λ (xs : List (List ℕ)). length w.near.granted + length xs) (takes-grants w.near.way w.far)
 
 abbrev w1 : Wire → Wire

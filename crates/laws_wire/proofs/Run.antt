@@ -175,16 +175,16 @@ few-turns false b k g g' h = omega (arith, h)
 
 module _ (service : Service) (c d : Config) (line other tei : ℕ) (ds : List Doing) (can : CanCall c line d other tei) (called : All (IsCall service tei) ds) where
   face : Face c d
-  face = record { side = sym can.sides; n201 = can.n201 }
+  face = record { side = sym can.opposite.0; n201 = can.opposite.1 }
 
   back : Face d c
-  back = record { side = ap other_side can.sides ∙ twice-other c.side; n201 = sym can.n201 }
+  back = record { side = ap other_side can.opposite.0 ∙ twice-other c.side; n201 = sym can.opposite.1 }
 
   rt : IsInRange (terms c service tei)
-  rt = terms_in_range c can.near service tei can.terminal
+  rt = terms_in_range c can.near.0 service tei can.terminal
 
   ru : IsInRange (terms d service tei)
-  ru = terms_in_range d can.far service tei can.terminal
+  ru = terms_in_range d can.far.0 service tei can.terminal
 
   abbrev w : Wire
   w = calling service tei c line d other
@@ -198,7 +198,7 @@ module _ (service : Service) (c d : Config) (line other tei : ℕ) (ds : List Do
   ran : Ran service tei can.terminal c d 0 0 face back rt ru false ds w 4
   ran =
       let begun : Both service tei c d 0 0 unheard unheard w (end (terms c service tei) asked []) (end (terms d service tei) fresh []) =
-      record { near = calls service tei c can.near can.terminal line can.near_line; far = answers service tei d can.far can.terminal other can.far_line } in
+      record { near = calls service tei c can.near.0 can.terminal line can.near.1; far = answers service tei d can.far.0 can.terminal other can.far.1 } in
       runs service tei can.terminal c d 0 0 face back rt ru ds called false w 4 (inl (record { both = begun; is = refl }))
 
   pub still-up : IsStill last → AreUp service tei c d 0 0 (told_first service tei both) last
@@ -210,10 +210,8 @@ module _ (service : Service) (c d : Config) (line other tei : ℕ) (ds : List Do
       let all = λ (still : IsStill last). up-told service tei (told_first service tei both) c d 0 0 last (still-up still) still in
       record {
         turns = few-turns both (turns ds w) ran.weight (granted_of w) (granted_of last) ran.price;
-        near = λ still. (all still).near;
-        far = λ still. (all still).far;
-        near_so_far = so_far.near;
-        far_so_far = so_far.far;
+        near = (so_far.near, λ still. (all still).near);
+        far = (so_far.far, λ still. (all still).far);
       }
 
 pub calls-come-through : CallsComeThrough

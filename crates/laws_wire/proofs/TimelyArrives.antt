@@ -73,16 +73,16 @@ module _ (service : Service) (tei : ℕ) where
     -- what has arrived at the links has arrived
     pub arrived : (before w : Wire) (e : Ends) (cn cm : List (List ℕ)) → Up w e.near e.far → two_links.HasArrived cn e.near e.far → two_links.HasArrived cm e.far e.near
         → before.near.granted ≡ cn → before.far.granted ≡ cm → HasArrived service tei before w
-    arrived before w e cn cm h x y near far = record {
-      near = h.near.heard ∙ ap (λ xs. (confirmed service tei ∷ []) ++ map (data_told service tei) xs) (y.delivered ∙ sym far);
-      far = h.far.heard ∙ ap (λ xs. (indicated service tei ∷ []) ++ map (data_told service tei) xs) (x.delivered ∙ sym near);
-      still = record {
+    arrived before w e cn cm h x y near far = (
+      h.near.heard ∙ ap (λ xs. (confirmed service tei ∷ []) ++ map (data_told service tei) xs) (y.delivered ∙ sym far),
+      h.far.heard ∙ ap (λ xs. (indicated service tei ∷ []) ++ map (data_told service tei) xs) (x.delivered ∙ sym near),
+      record {
         near = nothing-said c p (confirmed service tei ∷ []) w.near e.near h.near (nothing-to_send e.near.terms e.near.link x.nothing);
         far = nothing-said d q (indicated service tei ∷ []) w.far e.far h.far (nothing-to_send e.far.terms e.far.link y.nothing);
         near_way = h.near.stands.way ∙ ap (map (spelling c.side)) x.way;
         far_way = h.far.stands.way ∙ ap (map (spelling d.side)) y.way;
-      };
-    }
+      },
+    )
 
     module _ (w : Wire) (n m : End) (h : Up w n m) (still : IsStill w) (may : BothMayRepeat service tei w) where
       abbrev timer : Timer
@@ -153,9 +153,9 @@ module _ (service : Service) (tei : ℕ) where
           let last = rounds-up service tei c d p q face back (confirmed service tei ∷ []) (indicated service tei ∷ []) (u + 3) (with_t200_expired service tei w) e' both-expired in
           let there : cut_off.HasMissing u n m =
           missing (indicated service tei) m.link.r u n.link.contents m.delivered (heard_in w.far) h.firm.joined.there.accepted h.firm.joined.there.delivered h.far.heard
-          (subst (λ xs. length (indicated service tei ∷ map (data_told service tei) xs) ≤ length (heard_in w.far) + u) h.near.granted few.far) in
+          (subst (λ xs. length (indicated service tei ∷ map (data_told service tei) xs) ≤ length (heard_in w.far) + u) h.near.granted few.1) in
           let back_ : cut_off.HasMissing u m n =
           missing (confirmed service tei) n.link.r u m.link.contents n.delivered (heard_in w.near) h.firm.joined.back.accepted h.firm.joined.back.delivered h.near.heard
-          (subst (λ xs. length (confirmed service tei ∷ map (data_told service tei) xs) ≤ length (heard_in w.near) + u) h.far.granted few.near) in
+          (subst (λ xs. length (confirmed service tei ∷ map (data_told service tei) xs) ≤ length (heard_in w.near) + u) h.far.granted few.0) in
           let all = all-recovered u e near-cut far-cut there back_ in
           arrived w (rounds (u + 3) (with_t200_expired service tei w)) (two_links.rounds (u + 3) e') n.link.contents m.link.contents last all.0 all.1 h.near.granted h.far.granted

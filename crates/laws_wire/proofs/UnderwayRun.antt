@@ -45,11 +45,11 @@ module _ (service : Service) (tei : ℕ) (c d : Config) (p q : ℕ) where
       far (inr none) = has-come service tei d c q p (indicated service tei ∷ []) (confirmed service tei ∷ []) (turned last) h.m h.n up' still' (inr none)
 
 pub arrives-under-traffic : ArrivesUnderTraffic
-arrives-under-traffic service c d line other tei before since can wide_c wide_d talk talk' kept = λ timely timely' told still.
+arrives-under-traffic service c d line other tei before since can wide_c wide_d talk = λ timely on still.
     let x = setting service c d line other tei can in
     let w = doing_all before (calling service tei c line d other) in
     let last = doing_all since w in
-    let up = are-up service tei c d 0 0 w (runs service tei c d 0 0 x.face x.back x.near x.far before talk (calling service tei c line d other) timely (starts service c d line other tei x)) told in
-    let h = sure-runs service tei c d 0 0 x.face x.back wide_c wide_d ⊥ ⊥ since w talk' kept timely' (begins service tei c d 0 0 w up) in
+    let up = are-up service tei c d 0 0 w (runs service tei c d 0 0 x.face x.back x.near x.far before talk (calling service tei c line d other) timely (starts service c d line other tei x)) on.0 in
+    let h = sure-runs service tei c d 0 0 x.face x.back wide_c wide_d ⊥ ⊥ since w on.1 on.2 on.3 (begins service tei c d 0 0 w up) in
     let both = comes service tei c d 0 0 (ever (near_asks service tei) since w ≡ true) (ever (far_asks service tei) since w ≡ true) last h still in
     record { near = both.0; far = both.1 }

@@ -134,15 +134,15 @@ pub use Rattle.model_link.specs.declared.timers.LinkTimer.{LinkTimer}
 pub use Rattle.model_link.specs.declared.timers.LinkTimer.TheVariants.{T200, T203}
 pub use Rattle.laws_wire.specs.Answering.{IsAsked, IsFullTalk, IsFullTalkOf, Rests, error_f}
 unfoldable pub use Rattle.laws_wire.specs.Answering.{StayPatient}
-pub use Rattle.laws_wire.specs.Arriving.{ArrivesInRounds, ArrivesUnderTraffic, HasCome, LosesNothing, far_asks, frames_left, is_any_order, is_t200, most_left, near_asks, notes_left, runs_t200}
+pub use Rattle.laws_wire.specs.Arriving.{ArrivesInRounds, ArrivesInTurns, ArrivesUnderTraffic, GivesOrTakes, GoesOn, HasCome, LosesNothing, far_asks, frames_left, is_any_order, is_t200, most_left, near_asks, notes_left, runs_t200}
 unfoldable pub use Rattle.laws_wire.specs.Arriving.{ever}
-pub use Rattle.laws_wire.specs.Call.{CallsComeThrough, CanCall, ComesThrough, IsBeginningOf, IsCall, IsCallOf, IsTalk, IsTalkOf, all_told, assigned, calling, calls_back, confirmed, data_told, indicated, station, told_first}
+pub use Rattle.laws_wire.specs.Call.{AreOpposite, CallsComeThrough, CanCall, ComesThrough, IsBeginningOf, IsCall, IsCallOf, IsTalk, IsTalkOf, IsTold, all_told, assigned, calling, calls_back, confirmed, data_told, indicated, station, told_first}
 unfoldable pub use Rattle.laws_wire.specs.Call.{both_call}
 pub use Rattle.laws_wire.specs.Counted.{Counts, ExpiriesAreCounted, IsBelow, IsCounted, IsCountedOf, counted, counting, is_7, is_in_7}
 unfoldable pub use Rattle.laws_wire.specs.Counted.{StayCounted}
 pub use Rattle.laws_wire.specs.Ending.{CallsEnd, EndsSo, IsLeaving, IsTimelyThere, release_confirmed, release_indicated}
 unfoldable pub use Rattle.laws_wire.specs.Ending.{StayTimelyThere}
-pub use Rattle.laws_wire.specs.Facing.{Face, end_of, granted_of}
+pub use Rattle.laws_wire.specs.Facing.{Face, Speaks, granted_of, own_link}
 pub use Rattle.laws_wire.specs.Losing.{CallsAreToldInOrder, HasNoError, IsOfLink, IsRoughTalk, IsRoughTalkOf, TellNoError, for_layer_3, heard_in, is_error}
 pub use Rattle.laws_wire.specs.Recovering.{BothMayRepeat, HasArrived, HasMissing, HasNoErrors, WhatIsLostArrives, both_expire, round, with_t200_expired}
 unfoldable pub use Rattle.laws_wire.specs.Recovering.{rounds}

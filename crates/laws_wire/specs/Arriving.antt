@@ -7,10 +7,10 @@ use Rattle.model_line.specs.declared.config.Config.{Config}
 use Rattle.model_line.specs.Event.{expiry}
 use Rattle.model_line.specs.Laws.{orders_in}
 use Rattle.model_line.specs.Line.{terms}
-use Rattle.laws_wire.specs.Wire.{Station, answered, Wire, Act, times_out, loses, Doing, at_near, at_far, doing, doing_all, IsStill}
-use Rattle.laws_wire.specs.Call.{calling, CanCall, confirmed, indicated, all_told}
-use Rattle.laws_wire.specs.Losing.{IsRoughTalk, heard_in}
-use Rattle.laws_wire.specs.Facing.{end_of, granted_of}
+use Rattle.laws_wire.specs.Wire.{Station, answered, Wire, Act, times_out, gives, takes, loses, Doing, at_near, at_far, doing, doing_all, turns, IsStill}
+use Rattle.laws_wire.specs.Call.{calling, CanCall}
+use Rattle.laws_wire.specs.Losing.{IsRoughTalk, heard_in, due_near, due_far}
+use Rattle.laws_wire.specs.Facing.{own_link, granted_of}
 use Rattle.laws_wire.specs.Recovering.{rounds}
 use Rattle.laws_wire.specs.Resting.{expiries, most_frames}
 use Rattle.laws_wire.specs.Timely.{StayTimely}
@@ -46,32 +46,36 @@ unfoldable pub ever : (Doing → Wire → Bool) → List Doing → Wire → Bool
 ever asks [] w = false
 ever asks (d ∷ ds) w = asks d w || ever asks ds (doing d w)
 
--- All that an end was granted to send has been told at the other, in order, each once, and nothing else: where T200 of the end
--- has expired since, or does not run. So an expiry is needed at that end alone, and only where T200 runs.
-pub record HasCome (service : Service) (tei : ℕ) (since : List Doing) (w last : Wire) : Type 0 where
-  pub near : (ever (near_asks service tei) since w ≡ true) ⊎ (runs_t200 service tei last.near ≡ false) →
-      heard_in last.far ≡ all_told service tei (indicated service tei) last.near
-  pub far : (ever (far_asks service tei) since w ≡ true) ⊎ (runs_t200 service tei last.far ≡ false) →
-      heard_in last.near ≡ all_told service tei (confirmed service tei) last.far
+-- T200 of an end has expired since, or does not run.
+abbrev pub IsSettled : Service → ℕ → Bool → Station → Type 0
+IsSettled service tei expired s = (expired ≡ true) ⊎ (runs_t200 service tei s ≡ false)
 
--- So it is where no turn is left, in a call as `Recovering` has it, with room for three control frames at either end, if nothing
--- is lost since some time behind its establishment.
+-- Then all that it was granted to send has been told at the other, in order, each once, and nothing else. So an expiry is needed at
+-- that end alone, and only where T200 runs.
+pub record HasCome (service : Service) (tei : ℕ) (since : List Doing) (w last : Wire) : Type 0 where
+  pub near : IsSettled service tei (ever (near_asks service tei) since w) last.near → heard_in last.far ≡ due_far service tei last
+  pub far : IsSettled service tei (ever (far_asks service tei) since w) last.far → heard_in last.near ≡ due_near service tei last
+
+-- Behind its establishment a call goes on, as `Recovering` has it, and nothing is lost.
+abbrev pub GoesOn : Service → ℕ → List Doing → Wire → Type 0
+GoesOn service tei since w = (heard_in w.near ≢ []) × All (IsRoughTalk service tei) since × All LosesNothing since × StayTimely since w
+
+-- So it is where no turn is left in such a call, with room for three control frames at either end, whatever was lost before.
 abbrev pub ArrivesUnderTraffic : Type 0
 ArrivesUnderTraffic =
     (service : Service) (c d : Config) (line other tei : ℕ) (before since : List Doing) → CanCall c line d other tei →
-    3 ≤ c.control → 3 ≤ d.control → All (IsRoughTalk service tei) before → All (IsRoughTalk service tei) since → All LosesNothing since →
+    3 ≤ c.control → 3 ≤ d.control → All (IsRoughTalk service tei) before →
     let begun = calling service tei c line d other in let w = doing_all before begun in let last = doing_all since w in
-    StayTimely before begun → StayTimely since w → heard_in w.near ≢ [] → IsStill last → HasCome service tei since w last
+    StayTimely before begun → GoesOn service tei since w → IsStill last → HasCome service tei since w last
 
 -- What is left to do there: control frames of the link that wait, and frames on their way; and what layer 3 of either is still to be
 -- told.
 abbrev pub frames_left : Service → ℕ → Station → ℕ
-frames_left service tei s = length (end_of service tei s).link.waiting + length s.way
+frames_left service tei s = length (own_link service tei s).waiting + length s.way
 
 abbrev pub notes_left : Service → ℕ → Wire → ℕ
 notes_left service tei w =
-    (length (all_told service tei (confirmed service tei) w.far) - length (heard_in w.near))
-    + (length (all_told service tei (indicated service tei) w.near) - length (heard_in w.far))
+    (length (due_near service tei w) - length (heard_in w.near)) + (length (due_far service tei w) - length (heard_in w.far))
 
 abbrev pub most_left : Service → ℕ → ℕ → Wire → ℕ
 most_left service tei k w = 2 * most_frames k (4 + frames_left service tei w.near + frames_left service tei w.far) (notes_left service tei w)
@@ -81,9 +85,27 @@ most_left service tei k w = 2 * most_frames k (4 + frames_left service tei w.nea
 abbrev pub ArrivesInRounds : Type 0
 ArrivesInRounds =
     (service : Service) (c d : Config) (line other tei k : ℕ) (before since : List Doing) → CanCall c line d other tei →
-    3 ≤ c.control → 3 ≤ d.control → (terms c service tei).k ≤ k → (terms d service tei).k ≤ k →
-    All (IsRoughTalk service tei) before → All (IsRoughTalk service tei) since → All LosesNothing since →
+    3 ≤ c.control → 3 ≤ d.control → (terms c service tei).k ≤ k → (terms d service tei).k ≤ k → All (IsRoughTalk service tei) before →
     let begun = calling service tei c line d other in let w = doing_all before begun in let last = doing_all since w in
-    StayTimely before begun → StayTimely since w → heard_in w.near ≢ [] →
+    StayTimely before begun → GoesOn service tei since w →
     (n : ℕ) × (n ≤ most_left service tei k last) × (n ≤ 2 * most_frames k (expiries (before ++ since)) (granted_of last))
     × IsStill (rounds n last) × HasCome service tei since w (rounds n last)
+
+-- So it is of turns in any order, at either end: there are at most so many, and where none is left all has come.
+abbrev pub GivesOrTakesOf : Act → Type 0
+GivesOrTakesOf gives = Unit {0}
+GivesOrTakesOf takes = Unit {0}
+GivesOrTakesOf other = ⊥
+
+abbrev pub GivesOrTakes : Doing → Type 0
+GivesOrTakes (at_near act) = GivesOrTakesOf act
+GivesOrTakes (at_far act) = GivesOrTakesOf act
+
+abbrev pub ArrivesInTurns : Type 0
+ArrivesInTurns =
+    (service : Service) (c d : Config) (line other tei k : ℕ) (before since more : List Doing) → CanCall c line d other tei →
+    3 ≤ c.control → 3 ≤ d.control → (terms c service tei).k ≤ k → (terms d service tei).k ≤ k → All (IsRoughTalk service tei) before →
+    let begun = calling service tei c line d other in let w = doing_all before begun in let last = doing_all since w in
+    StayTimely before begun → GoesOn service tei since w → All GivesOrTakes more →
+    (turns more last ≤ most_left service tei k last) × (turns more last ≤ 2 * most_frames k (expiries (before ++ since)) (granted_of last))
+    × (IsStill (doing_all more last) → HasCome service tei since w (doing_all more last))

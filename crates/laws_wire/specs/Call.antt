@@ -22,14 +22,18 @@ abbrev pub calling : Service → ℕ → Config → ℕ → Config → ℕ → W
 calling service tei c line d other =
     record { near = happens (request (Establish service tei)) (assigned c line tei); far = assigned d other tei }
 
--- Two configurations of the two sides, in range, with the same N201; a line of each; and a TEI that a terminal can have.
+-- A line of a card with a configuration in range; and two configurations of the two sides, with the same N201.
+abbrev pub IsLineOf : Config → ℕ → Type 0
+IsLineOf c line = IsInRange c × (line < c.lines)
+
+abbrev pub AreOpposite : Config → Config → Type 0
+AreOpposite c d = (d.side ≡ other_side c.side) × (c.n201 ≡ d.n201)
+
+-- Two such cards, a line of each, and a TEI that a terminal can have.
 pub record CanCall (c : Config) (line : ℕ) (d : Config) (other tei : ℕ) : Type 0 where
-  pub near : IsInRange c
-  pub far : IsInRange d
-  pub sides : d.side ≡ other_side c.side
-  pub n201 : c.n201 ≡ d.n201
-  pub near_line : line < c.lines
-  pub far_line : other < d.lines
+  pub near : IsLineOf c line
+  pub far : IsLineOf d other
+  pub opposite : AreOpposite c d
   pub terminal : tei ≤ 126
 
 -- What is done in a call: either layer 3 asks to establish the link, or to send data, and is granted or refused; and turns.
@@ -85,18 +89,20 @@ all_told service tei first other = first ∷ map (data_told service tei) other.g
 abbrev pub IsBeginningOf : List LineTold → List LineTold → Type 0
 IsBeginningOf all told = (rest : List LineTold) × (told ++ rest ≡ all)
 
+-- At any time a beginning of all is told, and in the end, where this comes, all of it.
+abbrev pub IsTold : Type 0 → List LineTold → List LineTold → Type 0
+IsTold in_the_end all told = IsBeginningOf all told × (in_the_end → told ≡ all)
+
 -- What the far end is told first: that the link is established which it asked for, too, or that the other has established it.
 abbrev pub told_first : Service → ℕ → Bool → LineTold
 told_first service tei both = if both then confirmed service tei else indicated service tei
 
--- At any time layer 3 of each was told a beginning of that, and where no turn is left it was told all; and there are at most
--- four turns for each end that calls, and four for each request for data that was granted.
+-- So it is told, all of it where no turn is left; and there are at most four turns for each end that calls, and four for each
+-- request for data that was granted.
 pub record ComesThrough (service : Service) (tei : ℕ) (taken : ℕ) (both : Bool) (w : Wire) : Type 0 where
   pub turns : taken ≤ (if both then 8 else 4) + 4 * (length w.near.granted + length w.far.granted)
-  pub near : IsStill w → w.near.told ≡ all_told service tei (confirmed service tei) w.far
-  pub far : IsStill w → w.far.told ≡ all_told service tei (told_first service tei both) w.near
-  pub near_so_far : IsBeginningOf (all_told service tei (confirmed service tei) w.far) w.near.told
-  pub far_so_far : IsBeginningOf (all_told service tei (told_first service tei both) w.near) w.far.told
+  pub near : IsTold (IsStill w) (all_told service tei (confirmed service tei) w.far) w.near.told
+  pub far : IsTold (IsStill w) (all_told service tei (told_first service tei both) w.near) w.far.told
 
 abbrev pub CallsComeThrough : Type 0
 CallsComeThrough =

@@ -30,19 +30,24 @@ unfoldable pub StayTimelyThere : List Doing → Wire → Type 0
 StayTimelyThere [] w = Unit {0}
 StayTimelyThere (d ∷ ds) w = IsTimelyThere d w × StayTimelyThere ds (doing d w)
 
--- Each is told of the end by its note, once and behind all else, or not yet: the end that releases by a confirmation, the other by an
--- indication; both where no turn is left and T200 runs no more.
+-- The end that releases is told of it by a confirmation, the other by an indication.
 abbrev pub release_confirmed : Service → ℕ → LineTold
 release_confirmed service tei = record nothing { notes = ReleaseConfirm service tei ∷ [] }
 
 abbrev pub release_indicated : Service → ℕ → LineTold
 release_indicated service tei = record nothing { notes = ReleaseIndication service tei ∷ [] }
 
+-- Each is told so not yet, or once and behind all else; and in the end, where no turn is left and T200 runs no more, each is told.
+abbrev pub HasEnded : Service → ℕ → Wire → Type 0
+HasEnded service tei w = IsStill w × (runs_t200 service tei w.near ≡ false)
+
+abbrev pub IsToldOnce : Type 0 → LineTold → List LineTold → List LineTold → Type 0
+IsToldOnce in_the_end note before then =
+    ((then ≡ before) ⊎ (then ≡ before ++ note ∷ [])) × (in_the_end → then ≡ before ++ note ∷ [])
+
 pub record EndsSo (service : Service) (tei : ℕ) (w last : Wire) : Type 0 where
-  pub near : (heard_in last.near ≡ heard_in w.near) ⊎ (heard_in last.near ≡ heard_in w.near ++ release_confirmed service tei ∷ [])
-  pub far : (heard_in last.far ≡ heard_in w.far) ⊎ (heard_in last.far ≡ heard_in w.far ++ release_indicated service tei ∷ [])
-  pub near_ended : IsStill last → runs_t200 service tei last.near ≡ false → heard_in last.near ≡ heard_in w.near ++ release_confirmed service tei ∷ []
-  pub far_ended : IsStill last → runs_t200 service tei last.near ≡ false → heard_in last.far ≡ heard_in w.far ++ release_indicated service tei ∷ []
+  pub near : IsToldOnce (HasEnded service tei last) (release_confirmed service tei) (heard_in w.near) (heard_in last.near)
+  pub far : IsToldOnce (HasEnded service tei last) (release_indicated service tei) (heard_in w.far) (heard_in last.far)
 
 -- So it is behind a call as `Answering` has it, of whichever end releases: v is its wire, or the same as the other end sees it.
 abbrev pub CallsEnd : Type 0

@@ -8,7 +8,7 @@ use Rattle.lapd_frame.specs.declared.timers.Timer.{Timer}
 use Rattle.lapd_frame.specs.declared.timers.Timer.TheVariants.{T200, T203, T201}
 use Rattle.model_line.specs.declared.config.Config.{Config}
 use Rattle.model_line.specs.Event.{LineTold, nothing}
-use Rattle.laws_wire.specs.Wire.{Station, Act, requests, times_out, Doing, at_near, at_far, doing_all}
+use Rattle.laws_wire.specs.Wire.{Station, Wire, Act, requests, times_out, Doing, at_near, at_far, doing_all}
 use Rattle.laws_wire.specs.Call.{calling, CanCall, IsData, confirmed, indicated, all_told, IsBeginningOf}
 
 -- What is done: data is asked for, the link's T200 or T203 expires, and each end gives frames and takes them, or loses them.
@@ -44,11 +44,17 @@ TellNoError ts = All (λ (t : LineTold). list_any is_error t.notes ≡ false) ts
 abbrev pub HasNoError : Station → Type 0
 HasNoError s = TellNoError s.told
 
--- As long as it is so at both ends, whatever was lost and whichever timers expired, layer 3 of each was told one
--- establishment and then a beginning of the data that the other was granted to send, in order, each once, and nothing else.
+-- What layer 3 of each is to be told: one establishment, and then the data that the other was granted to send.
+abbrev pub due_near : Service → ℕ → Wire → List LineTold
+due_near service tei w = all_told service tei (confirmed service tei) w.far
+
+abbrev pub due_far : Service → ℕ → Wire → List LineTold
+due_far service tei w = all_told service tei (indicated service tei) w.near
+
+-- As long as it is so at both ends, whatever was lost and whichever timers expired, layer 3 of each was told a
+-- beginning of that, in order, each once, and nothing else.
 abbrev pub CallsAreToldInOrder : Type 0
 CallsAreToldInOrder =
     (service : Service) (c d : Config) (line other tei : ℕ) (ds : List Doing) → CanCall c line d other tei → All (IsRoughTalk service tei) ds →
     let w = doing_all ds (calling service tei c line d other) in HasNoError w.near → HasNoError w.far →
-    IsBeginningOf (all_told service tei (confirmed service tei) w.far) (heard_in w.near)
-    × IsBeginningOf (all_told service tei (indicated service tei) w.near) (heard_in w.far)
+    IsBeginningOf (due_near service tei w) (heard_in w.near) × IsBeginningOf (due_far service tei w) (heard_in w.far)

@@ -4,8 +4,8 @@ use Rattle.lapd_frame.specs.declared.services.Service.{Service}
 use Rattle.lapd_frame.specs.declared.timers.Timer.TheVariants.{T200}
 use Rattle.model_line.specs.declared.config.Config.{Config}
 use Rattle.laws_wire.specs.Wire.{Wire, times_out, gives, takes, Doing, at_near, at_far, doing, doing_all, IsStill}
-use Rattle.laws_wire.specs.Call.{calling, CanCall, confirmed, indicated, all_told}
-use Rattle.laws_wire.specs.Losing.{IsRoughTalk, heard_in, HasNoError}
+use Rattle.laws_wire.specs.Call.{calling, CanCall}
+use Rattle.laws_wire.specs.Losing.{IsRoughTalk, heard_in, HasNoError, due_near, due_far}
 use Rattle.laws_wire.specs.Timely.{MayRepeat, StayTimely}
 
 -- A round: each end in turn gives its next frame, if it has one, and the other takes it. Nothing is lost.
@@ -17,16 +17,14 @@ rounds zero w = w
 rounds (suc n) w = rounds n (doing_all round w)
 
 -- Of what layer 3 of each is to be told in the end, at most so much is missing.
-pub record HasMissing (service : Service) (tei u : ℕ) (w : Wire) : Type 0 where
-  pub near : length (all_told service tei (confirmed service tei) w.far) ≤ length (heard_in w.near) + u
-  pub far : length (all_told service tei (indicated service tei) w.near) ≤ length (heard_in w.far) + u
+abbrev pub HasMissing : Service → ℕ → ℕ → Wire → Type 0
+HasMissing service tei u w =
+    (length (due_near service tei w) ≤ length (heard_in w.near) + u) × (length (due_far service tei w) ≤ length (heard_in w.far) + u)
 
--- Nothing is missing: one establishment, and then all the data that the other had been granted to send, in order, each
--- once, and nothing else; and no turn is left.
-pub record HasArrived (service : Service) (tei : ℕ) (before w : Wire) : Type 0 where
-  pub near : heard_in w.near ≡ all_told service tei (confirmed service tei) before.far
-  pub far : heard_in w.far ≡ all_told service tei (indicated service tei) before.near
-  pub still : IsStill w
+-- Nothing is missing: each was told all that was due, in order, each once, and nothing else; and no turn is left.
+abbrev pub HasArrived : Service → ℕ → Wire → Wire → Type 0
+HasArrived service tei before w =
+    (heard_in w.near ≡ due_near service tei before) × (heard_in w.far ≡ due_far service tei before) × IsStill w
 
 -- T200 of the link expires at both ends.
 abbrev pub both_expire : Service → ℕ → List Doing

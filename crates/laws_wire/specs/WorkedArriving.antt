@@ -13,7 +13,7 @@ use Rattle.laws_wire.specs.Wire.{Wire, requests, times_out, gives, takes, loses,
 use Rattle.laws_wire.specs.Call.{calling, confirmed, indicated, data_told}
 use Rattle.laws_wire.specs.Losing.{heard_in}
 use Rattle.laws_wire.specs.Recovering.{round}
-use Rattle.laws_wire.specs.Arriving.{runs_t200, near_asks, ever}
+use Rattle.laws_wire.specs.Arriving.{runs_t200, near_asks, ever, most_left}
 use Rattle.laws_wire.specs.Worked.{user, network, begins}
 
 -- Each end loses its first I-frame, and the far end's second is on its way.
@@ -55,6 +55,38 @@ near_asked = refl
 pub over_still : IsStill over
 unfolding lines.after lines.answer lines.takes_slot reading header_of control_of unnumbered_of supervisory_of teis.course teis.refusal seq distance_of named doing_all turns ever
 over_still = record { near = refl; far = refl; near_way = refl; far_way = refl }
+
+-- The same, but behind the last request each end gives three times, and then takes three times, four times over: there are
+-- twenty turns, and all has come.
+abbrev pub asks : List Doing
+asks = at_near takes ∷ at_near (times_out (T200 Call 0)) ∷ at_far (requests (Data Call 0 (4 ∷ []))) ∷ []
+
+abbrev pub asked : Wire
+asked = doing_all asks lossy
+
+abbrev bulk : List Doing
+bulk =
+    at_near gives ∷ at_near gives ∷ at_near gives ∷ at_far gives ∷ at_far gives ∷ at_far gives
+    ∷ at_far takes ∷ at_far takes ∷ at_far takes ∷ at_near takes ∷ at_near takes ∷ at_near takes ∷ []
+
+abbrev pub in_bulk : List Doing
+in_bulk = bulk ++ bulk ++ bulk ++ bulk
+
+bulk_turns : turns in_bulk asked ≡ 20
+unfolding lines.after lines.answer lines.takes_slot reading header_of control_of unnumbered_of supervisory_of teis.course teis.refusal seq distance_of named doing_all turns ever
+bulk_turns = refl
+
+pub bulk_still : IsStill (doing_all in_bulk asked)
+unfolding lines.after lines.answer lines.takes_slot reading header_of control_of unnumbered_of supervisory_of teis.course teis.refusal seq distance_of named doing_all turns ever
+bulk_still = record { near = refl; far = refl; near_way = refl; far_way = refl }
+
+bulk_most : most_left Call 0 7 asked ≡ 224
+unfolding lines.after lines.answer lines.takes_slot reading header_of control_of unnumbered_of supervisory_of teis.course teis.refusal seq distance_of named doing_all turns ever
+bulk_most = refl
+
+pub asked_near : ever (near_asks Call 0) asks lossy ≡ true
+unfolding lines.after lines.answer lines.takes_slot reading header_of control_of unnumbered_of supervisory_of teis.course teis.refusal seq distance_of named doing_all turns ever
+asked_near = refl
 
 -- With room for two control frames alone: REJ and an answer wait at the near end as its T200 expires, so that its enquiry is lost. No
 -- turn is left, though what it sent has not been told, and T200 runs again.

@@ -2,7 +2,7 @@
 
 ghost use Rattle.laws_wire.specs.Call.{CallsComeThrough};
 ghost use Rattle.laws_wire.specs.Counted.{ExpiriesAreCounted};
-ghost use Rattle.laws_wire.specs.Facing.{CallsFace, CardsDeliver};
+ghost use Rattle.laws_wire.specs.Facing.{CallsFace, CardsDeliver, CardsFaceAgain};
 ghost use Rattle.laws_wire.specs.Losing.{CallsAreToldInOrder};
 ghost use Rattle.laws_wire.specs.Recovering.{WhatIsLostArrives};
 ghost use Rattle.laws_wire.specs.StillTimely.{WhatIsLostArrivesFromRest};
@@ -23,15 +23,18 @@ pub fn a_call_comes_through()
 {}
 
 /// Cards deliver. Two cards, one of each side, with the same N201, face each other by a link of the same service and
-/// TEI: their links are in state 7, as [`laws_link::arrives_in_any_order`] has them, and nothing else waits on their
-/// lines, however the cards came there. Then data is asked for at either end, as it is granted or refused, and turns
-/// come, in any order, on ways that lose nothing; no timer expires. There are at most as many turns as the weight of
-/// the two ends says, and four for each request that is granted meanwhile. Layer 3 of each is told of data and of
-/// nothing else; and where no turn is left, the data that it was told of is exactly what the other's layer 3 was
-/// granted to send, in order, each once, and the two face each other again. So do two cards in a call, where no turn is
-/// left (`calls`).
+/// TEI, however they came there: at each `Card::state` tells 7 of it, neither side is busy, and nothing is on its way or
+/// to go on the line but I-frames of the link, and an acknowledgement that it owes; each has received all that the other
+/// has sent, and where some of it is not acknowledged it owes that. Then data is asked for at either end, as it is
+/// granted or refused, and turns come, in any order, on ways that lose nothing; no timer expires. There are at most four
+/// turns for each content that was unsent at first, two for each acknowledgement that was owed, and four for each
+/// request that is granted meanwhile. Layer 3 of each is told of the contents that were unsent at the other, and of
+/// those that the other's layer 3 was granted to send since, in order, each once, and of nothing else: at any time of a
+/// beginning of that, and of all of it where no turn is left (`cards`). There the two face each other again (`again`).
+/// So do two cards in a call, where no turn is left (`calls`).
 pub fn cards_deliver()
     ensures cards { CardsDeliver }
+    ensures again { CardsFaceAgain }
     ensures calls { CallsFace }
 {}
 

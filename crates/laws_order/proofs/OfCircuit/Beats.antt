@@ -1,12 +1,12 @@
 -- So many beats are enough.
-use Rattle.laws_order.proofs.Vocabulary.{◌≡◌, ℕ, zero, suc, ◌+◌, ◌*◌, ◌-◌, ◌≤◌, ◌<◌, Bool, true, false, ◌||◌, List, [], ◌∷◌, ◌++◌, length, map, refl, sym, ap, ◌∙◌, subst, arith, append-nil, append_assoc, All, if◌then◌else◌, append_cancel_left, All-append, All-head, All-tail, Service, Config, LineTold, Assign, CanCall, confirmed, told_first, data_told, Wire, IsStill, asks-way, doing-append, beats, enough_beats, granted_of, AllIsToldInBeats}
+use Rattle.laws_order.proofs.Vocabulary.{IsToldAll, ◌≡◌, ℕ, zero, suc, ◌+◌, ◌*◌, ◌-◌, ◌≤◌, ◌<◌, Bool, true, false, ◌||◌, List, [], ◌∷◌, ◌++◌, length, map, refl, sym, ap, ◌∙◌, subst, arith, append-nil, append_assoc, All, if◌then◌else◌, append_cancel_left, All-append, All-head, All-tail, Service, Config, LineTold, Assign, CanCall, confirmed, told_first, data_told, Wire, IsStill, asks-way, doing-append, beats, enough_beats, granted_of, AllIsToldInBeats}
 use Rattle.model_line.specs.Request.{Establish}
 use Rattle.laws_wire.specs.Call as call
 use Rattle.laws_wire.specs.Wire as wire
 unfoldable use Rattle.laws_wire.specs.Wire.{doing_all as frames_done}
 use Rattle.laws_order.specs.circuit.Circuit.{Circuit, asks, pulls, hears, OctetDoing, at_near, at_far, doing}
 unfoldable use Rattle.laws_order.specs.circuit.Circuit.{doing_all}
-use Rattle.laws_order.specs.circuit.Through.{calling, IsTalk, calls_back, all_told, IsToldAll}
+use Rattle.laws_order.specs.circuit.Through.{calling, IsTalk, calls_back, all_told}
 unfoldable use Rattle.laws_order.specs.circuit.Through.{both_call}
 use Rattle.laws_order.proofs.OfCircuit.Comes.{IsShort, still-short, takings-many, block, still-before}
 use Rattle.laws_order.proofs.OfCircuit.Onward.{acts-append, meant-append, many-beats, many-append, many-mute, many-add}
@@ -208,9 +208,9 @@ module _ (service : Service) (c d : Config) (line other tei way n : ℕ) (ds : L
       let told = on-wire m in
       let there = still-at m still in
       let x = many-add m w in (
-        sym (ap (λ (v : Circuit). v.near.told) (at-last m)) ∙ told.near there ∙ ap (λ (v : Circuit). all_told service tei (confirmed service tei) v.far) (at-last m)
+        sym (ap (λ (v : Circuit). v.near.told) (at-last m)) ∙ told.near.1 there ∙ ap (λ (v : Circuit). all_told service tei (confirmed service tei) v.far) (at-last m)
             ∙ ap (λ granted. confirmed service tei ∷ map (data_told service tei) granted) x.far.granted,
-        sym (ap (λ (v : Circuit). v.far.told) (at-last m)) ∙ told.far there ∙ ap (λ (v : Circuit). all_told service tei first v.near) (at-last m)
+        sym (ap (λ (v : Circuit). v.far.told) (at-last m)) ∙ told.far.1 there ∙ ap (λ (v : Circuit). all_told service tei first v.near) (at-last m)
             ∙ ap (λ granted. first ∷ map (data_told service tei) granted) x.near.granted,
       )
 
@@ -223,9 +223,9 @@ module _ (service : Service) (c d : Config) (line other tei way n : ℕ) (ds : L
       let told = on-wire m in
       let x = many-add m w in (
         subst (λ granted. Begins (confirmed service tei ∷ map (data_told service tei) granted) (now m).near.told) x.far.granted
-            (subst (λ (v : Circuit). Begins (all_told service tei (confirmed service tei) v.far) v.near.told) (at-last m) told.near_so_far),
+            (subst (λ (v : Circuit). Begins (all_told service tei (confirmed service tei) v.far) v.near.told) (at-last m) told.near.0),
         subst (λ granted. Begins (first ∷ map (data_told service tei) granted) (now m).far.told) x.near.granted
-            (subst (λ (v : Circuit). Begins (all_told service tei first v.near) v.far.told) (at-last m) told.far_so_far),
+            (subst (λ (v : Circuit). Begins (all_told service tei first v.near) v.far.told) (at-last m) told.far.0),
       )
 
   -- and it stays told

@@ -1,5 +1,5 @@
 -- What happens on a circuit on which octets are damaged is, at the cards of frames inside, what happens on a wire of frames.
-use Rattle.laws_order.proofs.Vocabulary.{◌≡◌, ℕ, Bool, true, false, cond, List, [], ◌∷◌, ◌++◌, drop, Option, None, Some, option_map, option_to_list, refl, sym, ap, ◌∙◌, subst, append-nil, All, flat_map, option_map_or, All-nil, All-cons, All-head, Service, LineTold, Card, port_at, answer_to, card_after, gained, is_due, Seen, IsFront, Station, Wire, frames_by, Past, known, FaceInStep, StaysEstablished, data_noted, data_granted, kept_by}
+use Rattle.laws_order.proofs.Vocabulary.{◌≡◌, ℕ, Bool, true, false, cond, List, [], ◌∷◌, ◌++◌, drop, Option, None, Some, option_map, option_to_list, refl, sym, ap, ◌∙◌, subst, append-nil, All, flat_map, option_map_or, All-nil, All-cons, All-head, Service, LineTold, Card, port_at, answer_to, card_after, gained, is_due, Seen, Station, Wire, frames_by, Past, known, FaceInStep, IsToldInOrder, kept_by}
 use Rattle.model_bits.specs.Stream as stream
 use Rattle.model_line.specs.Event as line
 use Rattle.model_card.specs.Event as frames
@@ -163,7 +163,7 @@ module _ (service : Service) (tei : ℕ) (s : Socket) (y : Station) (g : List (L
           Done service tei s (record { card = record { card = m; ports = (after e s.card).ports }; line = s.line; way = s.way }) y y.way g t []
       go None = record { deed = None; granted = g; told = t; same = refl; shown = refl; can = tt }
       go (Some f) =
-          record { deed = Some (order.elsewhere (frames.at e.line f)); granted = g; told = t; same = refl; shown = refl; can = record { within = is.0; other = is.1 } }
+          record { deed = Some (order.elsewhere (frames.at e.line f)); granted = g; told = t; same = refl; shown = refl; can = is }
 
   pub one-done : (deed : Deed) → IsPossibleAt service tei deed s y.way → Done service tei s (with_deed deed s) y (left_by deed y.way) g t (seen_by deed s)
   one-done (happens what) is = by-event what is
@@ -285,14 +285,12 @@ module _ (service : Service) (tei : ℕ) (first : Wire) where
 -- so what is told is in order
 pub delivered-as : (service : Service) (tei : ℕ) (w : Wire) (p : Past w.near) (q : Past w.far) (near far : List Seen) →
     let n = known service tei w.near p in let m = known service tei w.far q in FaceInStep service tei w n m → Ran service tei w w near far
-    → (StaysEstablished service tei near → IsFront (data_noted service tei near) (kept_by m n ++ data_granted service tei far))
-    × (StaysEstablished service tei far → IsFront (data_noted service tei far) (kept_by n m ++ data_granted service tei near))
+    → IsToldInOrder service tei (kept_by m n) far near × IsToldInOrder service tei (kept_by n m) near far
 delivered-as service tei w p q near far step ran =
     let n = known service tei w.near p in
     let m = known service tei w.far q in
     let both : (List Seen → List Seen → Type 0) =
-    λ near far. (StaysEstablished service tei near → IsFront (data_noted service tei near) (kept_by m n ++ data_granted service tei far))
-    × (StaysEstablished service tei far → IsFront (data_noted service tei far) (kept_by n m ++ data_granted service tei near)) in
+    λ near far. IsToldInOrder service tei (kept_by m n) far near × IsToldInOrder service tei (kept_by n m) near far in
     subst (λ near. both near far) ran.near_is (subst (both (order.seen_near ran.run w)) ran.far_is (delivered-in-order service tei w p q ran.run step ran.can))
 
 -- ---- two ends for octets

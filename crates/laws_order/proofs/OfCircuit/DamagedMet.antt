@@ -135,18 +135,18 @@ pub rest : FaceAtRest Call 0 (as_wire begins)
 rest =
     let near = ends-in-flag (port_of established.near).items near-flag in
     let far = ends-in-flag (port_of established.far).items far-flag in
-    calls-come-to-rest Call user network 0 0 0 establishes can (by-mutes establishes refl) (record {
-      near = record { none = near-none; front = near.front; flag = near.flag; heard = near-heard };
-      far = record { none = far-none; front = far.front; flag = far.flag; heard = far-heard };
-    })
+    calls-come-to-rest Call user network 0 0 0 establishes can (by-mutes establishes refl) (
+      record { none = near-none; flag = (near.front, near.flag); heard = near-heard },
+      record { none = far-none; flag = (far.front, far.flag); heard = far-heard },
+    )
 
 -- what is kept at the near end, and the far end was not told of
 abbrev pub kept : List (List ℕ)
-kept = kept_by (known Call 0 (as_station begins.near) rest.near) (known Call 0 (as_station begins.far) rest.far)
+kept = kept_by (known Call 0 (as_station begins.near) rest.0) (known Call 0 (as_station begins.far) rest.1)
 
 -- so the law says what the worked values show
 pub in-order : IsFront (data_noted Call 0 (seen_far goes_again begins)) (kept ++ data_granted Call 0 (seen_near goes_again begins))
-in-order = (delivered-though-damaged Call 0 begins rest.near rest.far goes_again rest.step (all-so goes_again begins computed)).1 far_stays
+in-order = (delivered-though-damaged Call 0 begins rest.0 rest.1 goes_again rest.2.0 (all-so goes_again begins computed)).1 far_stays
 
 -- ---- and so of a card of frames and one of octets
 
@@ -177,4 +177,4 @@ unfolding lines.after lines.answer lines.takes_slot reading header_of control_of
 mixed-computed = refl
 
 pub mixed-in-order : IsFront (data_noted Call 0 (mixed.seen_far worked.goes_again worked.begins)) (kept ++ data_granted Call 0 (mixed.seen_near worked.goes_again worked.begins))
-mixed-in-order = (delivered-between-kinds Call 0 worked.begins rest.near rest.far worked.goes_again rest.step (mixed-so worked.goes_again worked.begins mixed-computed)).1 worked.far_stays
+mixed-in-order = (delivered-between-kinds Call 0 worked.begins rest.0 rest.1 worked.goes_again rest.2.0 (mixed-so worked.goes_again worked.begins mixed-computed)).1 worked.far_stays

@@ -147,10 +147,7 @@ other-call : (c d : Config) (line other tei : ℕ) → CanCall c line d other te
 other-call c d line other tei can = record {
   near = can.far;
   far = can.near;
-  sides = sym (ap other_side can.sides ∙ twice-other c.side);
-  n201 = sym can.n201;
-  near_line = can.far_line;
-  far_line = can.near_line;
+  opposite = (sym (ap other_side can.opposite.0 ∙ twice-other c.side), sym can.opposite.1);
   terminal = can.terminal;
 }
 

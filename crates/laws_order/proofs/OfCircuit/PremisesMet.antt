@@ -15,7 +15,7 @@ use Rattle.laws_order.proofs.OfCircuit.MixedCall.{calls-are-of-frames, calls-com
 use Rattle.laws_order.proofs.OfCircuit.Through.{calls-come-through-in-octets}
 
 pub can : CanCall user 0 network 0 0
-can = record { near = refl; far = refl; sides = refl; n201 = refl; near_line = omega arith; far_line = omega arith; terminal = omega arith }
+can = record { near = (refl, omega arith); far = (refl, omega arith); opposite = (refl, refl); terminal = omega arith }
 
 abbrev after_it : Circuit
 after_it = doing_all sends begins
@@ -68,10 +68,7 @@ pub gone : HasAllGone after_it
 gone =
     let near = ends-in-flag (port_of after_it.near).items near-flag in
     let far = ends-in-flag (port_of after_it.far).items far-flag in
-    record {
-      near = record { none = near-none; front = near.front; flag = near.flag; heard = near-heard };
-      far = record { none = far-none; front = far.front; flag = far.flag; heard = far-heard };
-    }
+    (record { none = near-none; flag = (near.front, near.flag); heard = near-heard }, record { none = far-none; flag = (far.front, far.flag); heard = far-heard })
 
 -- what is done in it
 abbrev mute : OctetAct → Bool
@@ -105,7 +102,7 @@ talk =
 
 -- so each was told all
 pub told : IsToldAll Call 0 (both_call sends begins) after_it
-told = (calls-come-through-in-octets Call user network 0 0 0 sends can talk).all gone
+told = let x = calls-come-through-in-octets Call user network 0 0 0 sends can talk in record { near = x.near.1 gone; far = x.far.1 gone }
 
 -- and so by the call between a card of frames and one for octets
 mixed-call : (es : List wire.Doing) × All (IsCall Call 0) es × (wire.doing_all es (mixed.as_wire call_begins) ≡ mixed.as_wire (mixed.doing_all talks call_begins))

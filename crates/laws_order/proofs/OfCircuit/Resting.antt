@@ -1,9 +1,10 @@
 -- Two cards that face each other as a call leaves them are at rest.
-use Rattle.laws_order.proofs.Vocabulary.{◌≡◌, ◌∙◌, ℕ, List, [], map, sym, ap, subst, arith, All, Service, frame_of, is_multiple_frame, Config, terms, IsReady, IsTaken, CanCall, Face, end_of, Station, IsStill, calls-face, Wire, length, drop, length-drop, ◌-◌, said_by, AreOfStep, IsInStep, FaceInStep, Circuit, OctetDoing, IsTalk, HasAllGone}
+use Rattle.laws_order.proofs.Vocabulary.{◌≡◌, ◌∙◌, ℕ, List, [], map, sym, ap, subst, arith, All, Service, frame_of, is_multiple_frame, Config, terms, CanCall, Face, Speaks, Station, IsStill, calls-face, Wire, length, drop, length-drop, ◌-◌, said_by, AreOfStep, IsInStep, FaceInStep, Circuit, OctetDoing, IsTalk, HasAllGone}
 use Rattle.model_line.specs.Line.{window}
-use Rattle.laws_order.specs.circuit.Resting.{FaceAtRest, CallsComeToRest}
-use Rattle.laws_order.proofs.Beginning.{Pasts, past-same, past-all, past-calling, link_known, up-here, from-links}
+use Rattle.laws_order.specs.circuit.Resting.{AreSilent, FaceAtRest, CallsComeToRest}
+use Rattle.laws_order.proofs.Beginning.{within-window, Pasts, past-same, past-all, past-calling, link_known, up-here, from-links}
 use Rattle.laws_order.proofs.Pairs.{link_here}
+use Rattle.laws_wire.proofs.Delivering.{is-established, is-sound, is-quiet}
 use Rattle.laws_order.proofs.OfCircuit.Projected.{as_wire, doings_meant}
 use Rattle.laws_order.proofs.OfCircuit.Through as through
 
@@ -12,18 +13,20 @@ abbrev rested : Station → Station
 rested s = record { card = s.card; line = s.line; way = []; granted = []; told = [] }
 
 -- That of a call in which all has gone, of which nothing waits.
-rests : (service : Service) (tei : ℕ) (s u : Station) → IsReady (end_of service tei s) → IsReady (end_of service tei u) → IsTaken (end_of service tei s) (end_of service tei u)
-    → IsTaken (end_of service tei u) (end_of service tei s) → said_by service tei (rested s) (link_known service tei s) ≡ [] → IsInStep service tei (rested s) (link_known service tei s) (link_known service tei u)
-rests service tei s u ready other taken back none =
+rests : (service : Service) (tei : ℕ) (s u : Station) → Speaks service tei s u → Speaks service tei u s → said_by service tei (rested s) (link_known service tei s) ≡ [] → IsInStep service tei (rested s) (link_known service tei s) (link_known service tei u)
+rests service tei s u h k none =
     let l = link_here service tei s in
-    let all : (link_here service tei u).r ≡ l.s = taken.received in
-    let got : l.r ≡ (link_here service tei u).s = back.received in
+    let its = is-sound service tei s u h in
+    let others = is-sound service tei u s k in
+    let all : (link_here service tei u).r ≡ l.s = h.received in
+    let got : l.r ≡ (link_here service tei u).s = k.received in
     let few : length (drop l.a l.contents) ≡ length l.contents - l.a = length-drop l.a l.contents in
     record {
-      up = up-here service tei (rested s) ∙ ap is_multiple_frame ready.state;
-      said = subst (AreOfStep (window s.card.config service) (link_known service tei s) (link_here service tei u).a) (sym none) (omega (arith, got, other.sound.ordered));
-      kept = omega (arith, all, few, ready.sound.ordered, ready.sound.accepted);
-      within = omega (arith, all, ready.sound.within);
+      up = up-here service tei (rested s) ∙ ap is_multiple_frame (is-established service tei s u h);
+      said = subst (AreOfStep (window s.card.config service) (link_known service tei s) (link_here service tei u).a) (sym none) (omega (arith, got, others.ordered));
+      kept =
+          within-window (link_here service tei u).r l.a (window s.card.config service) (drop l.a l.contents) (omega (arith, all, few, its.ordered, its.accepted))
+          (omega (arith, all, its.within));
     }
 
 module _ (service : Service) (c d : Config) (line other tei : ℕ) (ds : List OctetDoing) (can : CanCall c line d other tei) (talk : All (IsTalk service tei) ds) where
@@ -44,7 +47,7 @@ module _ (service : Service) (c d : Config) (line other tei : ℕ) (ds : List Oc
   pasts : Pasts there
   pasts =
       subst Pasts (through.led service c d line other tei ds can talk)
-      (past-all (doings_meant ds (through.begun service c d line other tei ds can talk)) _ (past-calling service tei c line d other can.near can.near_line can.far can.far_line))
+      (past-all (doings_meant ds (through.begun service c d line other tei ds can talk)) _ (past-calling service tei c line d other can.near.0 can.near.1 can.far.0 can.far.1))
 
   none-said : (s : Station) → (link_here service tei s).waiting ≡ [] → said_by service tei (rested s) (link_known service tei (rested s)) ≡ []
   none-said s waiting = ap (map (frame_of (terms s.card.config service tei))) waiting
@@ -52,23 +55,21 @@ module _ (service : Service) (c d : Config) (line other tei : ℕ) (ds : List Oc
   at-rest : Face service tei there → FaceAtRest service tei (record { near = rested there.near; far = rested there.far })
   at-rest h =
       let w : Wire = record { near = rested there.near; far = rested there.far } in
-      let near = none-said there.near h.near_ready.waiting in
-      let far = none-said there.far h.far_ready.waiting in
+      let near = none-said there.near (is-quiet service tei there.near there.far h.0) in
+      let far = none-said there.far (is-quiet service tei there.far there.near h.1) in
       let p = past-same there.near [] [] [] pasts.near in
       let q = past-same there.far [] [] [] pasts.far in
-      let up = ap is_multiple_frame h.near_ready.state in
-      let others = ap is_multiple_frame h.far_ready.state in
-      record {
-        near = p;
-        far = q;
-        step = from-links service tei w p q up others (FaceInStep service tei w) (record {
-          near = rests service tei there.near there.far h.near_ready h.far_ready h.near_taken h.far_taken near;
-          far = rests service tei there.far there.near h.far_ready h.near_ready h.far_taken h.near_taken far;
-          sides = h.sides;
-        });
-        near_rests = from-links service tei w p q up others (λ n m. said_by service tei w.near n ≡ []) near;
-        far_rests = from-links service tei w p q up others (λ n m. said_by service tei w.far m ≡ []) far;
-      }
+      let up = ap is_multiple_frame (is-established service tei there.near there.far h.0) in
+      let others = ap is_multiple_frame (is-established service tei there.far there.near h.1) in
+      let step : FaceInStep service tei w (link_known service tei w.near) (link_known service tei w.far) =
+      (rests service tei there.near there.far h.0 h.1 near, rests service tei there.far there.near h.1 h.0 far, h.2.0) in (
+        p,
+        q,
+        (
+          from-links service tei w p q up others (FaceInStep service tei w) step,
+          from-links service tei w p q up others (AreSilent service tei w) (near, far),
+        ),
+      )
 
 pub calls-come-to-rest : CallsComeToRest
 calls-come-to-rest service c d line other tei ds can talk gone = at-rest service c d line other tei ds can talk (faces service c d line other tei ds can talk gone)

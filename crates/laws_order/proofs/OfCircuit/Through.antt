@@ -136,7 +136,7 @@ module _ (n201 : ℕ) (c : Config) (fits : Fits n201 c) (s : Termination) (ran :
   gone-way : HasGone s → frames ≡ []
   gone-way gone =
       let given : (port_of s).given ≡ received = h.given ∙ ap (λ way. received ++ way) gone.heard ∙ append-nil received in
-      all-heard n201 (port_of s) received frames (flag-ends gone.front gone.flag ∙ ap (heard_in n201) given) h.are
+      all-heard n201 (port_of s) received frames (flag-ends gone.flag.0 gone.flag.1 ∙ ap (heard_in n201) given) h.are
 
 -- ---- a call
 
@@ -145,10 +145,10 @@ module _ (service : Service) (c d : Config) (line other tei : ℕ) (ds : List Oc
   size = c.n201
 
   pub fits : Fits size c
-  fits = record { ranged = can.near; size = refl }
+  fits = record { ranged = can.near.0; size = refl }
 
   pub fits-far : Fits size d
-  fits-far = record { ranged = can.far; size = sym can.n201 }
+  fits-far = record { ranged = can.far.0; size = sym can.opposite.1 }
 
   abbrev pub begun : Circuit
   begun = calling service tei c line d other
@@ -158,11 +158,11 @@ module _ (service : Service) (c d : Config) (line other tei : ℕ) (ds : List Oc
 
   follows : Follows size c d begun [] []
   follows =
-      let near = unused-asked c can.near service line tei can.near_line in
-      let far = unused-assigned d can.far other tei can.far_line in
+      let near = unused-asked c can.near.0 service line tei can.near.1 in
+      let far = unused-assigned d can.far.0 other tei can.far.1 in
       record {
-        near = ran-asked service c line tei can.near_line;
-        far = ran-assigned d other tei can.far_line;
+        near = ran-asked service c line tei can.near.1;
+        far = ran-assigned d other tei can.far.1;
         goes = carries-unused size begun.near begun.far near far;
         comes = carries-unused size begun.far begun.near far near;
       }
@@ -196,17 +196,16 @@ module _ (service : Service) (c d : Config) (line other tei : ℕ) (ds : List Oc
   still gone =
       let f = done.follows in
       record {
-        near = gone.near.none;
-        far = gone.far.none;
-        near_way = gone-way size c fits last.near f.near (port_of last.far).received done.there' f.goes gone.near;
-        far_way = gone-way size d fits-far last.far f.far (port_of last.near).received done.back' f.comes gone.far;
+        near = gone.0.none;
+        far = gone.1.none;
+        near_way = gone-way size c fits last.near f.near (port_of last.far).received done.there' f.goes gone.0;
+        far_way = gone-way size d fits-far last.far f.far (port_of last.near).received done.back' f.comes gone.1;
       }
 
   comes-through : ComesThrough service tei (both_call ds begun) last
   comes-through = record {
-    near_so_far = on-wire.near_so_far;
-    far_so_far = on-wire.far_so_far;
-    all = λ gone. record { near = on-wire.near (still gone); far = on-wire.far (still gone) };
+    near = (on-wire.near.0, λ gone. on-wire.near.1 (still gone));
+    far = (on-wire.far.0, λ gone. on-wire.far.1 (still gone));
   }
 
 pub calls-come-through-in-octets : CallsComeThroughInOctets

@@ -1,11 +1,11 @@
 -- How many octets a call takes: each end's line runs at the same rate, an octet a beat.
-use Rattle.std.specs.Prelude.{◌≤◌, ℕ, zero, suc, ◌+◌, ◌*◌, ◌/◌, Bool, List, [], ◌∷◌, length, All, if◌then◌else◌}
+use Rattle.std.specs.Prelude.{◌≡◌, ◌≤◌, ℕ, zero, suc, ◌+◌, ◌*◌, ◌/◌, Bool, List, [], ◌∷◌, length, All, if◌then◌else◌}
 use Rattle.lapd_frame.specs.declared.services.Service.{Service}
 use Rattle.model_line.specs.declared.config.Config.{Config}
 use Rattle.model_card.specs.ports.Pulls.{longest_text}
-use Rattle.laws_wire.specs.Call.{CanCall}
+use Rattle.laws_wire.specs.Call.{CanCall, confirmed, told_first}
 use Rattle.laws_order.specs.circuit.Circuit.{Circuit, pulls, hears, OctetDoing, at_near, at_far, doing_all}
-use Rattle.laws_order.specs.circuit.Through.{calling, IsTalk, both_call, IsToldAll}
+use Rattle.laws_order.specs.circuit.Through.{calling, IsTalk, both_call, all_told}
 
 -- A beat: each end's next octet is pulled, and then the first octet on the way to each end is heard.
 abbrev pub beat : List OctetDoing
@@ -31,9 +31,13 @@ abbrev pub granted_of : Circuit → ℕ
 granted_of w = length w.near.granted + length w.far.granted
 
 -- Then each layer 3 was told all.
+pub record IsToldAll (service : Service) (tei : ℕ) (both : Bool) (w : Circuit) : Type 0 where
+  pub near : w.near.told ≡ all_told service tei (confirmed service tei) w.far
+  pub far : w.far.told ≡ all_told service tei (told_first service tei both) w.near
+
 abbrev pub AllIsToldInBeats : Type 0
 AllIsToldInBeats =
-    (service : Service) (c d : Config) (line other tei way n : ℕ) (ds : List OctetDoing) → CanCall c line d other tei → All (IsTalk service tei) ds →
-    let w = doing_all ds (calling service tei c line d other) in let both = both_call ds (calling service tei c line d other) in
-    length w.near.way ≤ way → length w.far.way ≤ way → enough_beats c.n201 way both (granted_of w) ≤ n →
-    IsToldAll service tei both (beats n w)
+    (service : Service) (c d : Config) (line other tei way n : ℕ) (ds : List OctetDoing) → CanCall c line d other tei →
+    All (IsTalk service tei) ds → let begun = calling service tei c line d other in let w = doing_all ds begun in
+    length w.near.way ≤ way → length w.far.way ≤ way → enough_beats c.n201 way (both_call ds begun) (granted_of w) ≤ n →
+    IsToldAll service tei (both_call ds begun) (beats n w)

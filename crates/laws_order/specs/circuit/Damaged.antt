@@ -9,10 +9,10 @@ use Rattle.model_card.specs.Event as frames
 use Rattle.model_card.specs.ports.Card.{OctetCard, port_at, after, said, answer_to}
 use Rattle.model_card.specs.ports.Event.{Event, at}
 use Rattle.model_card.specs.ports.Port as port
-use Rattle.laws_trace.specs.Trace.{Seen, seen, IsFront}
+use Rattle.laws_trace.specs.Trace.{Seen, seen}
 use Rattle.laws_wire.specs.Wire.{Station, Wire, frames_by}
 use Rattle.laws_order.specs.Happenings.{IsNotOf}
-use Rattle.laws_order.specs.Order.{Past, known, FaceInStep, StaysEstablished, data_noted, data_granted, kept_by}
+use Rattle.laws_order.specs.Order.{Past, known, FaceInStep, IsToldInOrder, kept_by}
 
 -- A card at one end, which is at one of its lines; and the frames that its pulls began, but those that were given up as lost or
 -- that came whole to the other end, the oldest first.
@@ -139,7 +139,5 @@ abbrev pub DeliveredThoughDamaged : Type 0
 DeliveredThoughDamaged =
     (service : Service) (tei : ℕ) (w : Noisy) (p : Past (as_station w.near)) (q : Past (as_station w.far)) (hs : List Happening) →
     let n = known service tei (as_station w.near) p in let m = known service tei (as_station w.far) q in
-    FaceInStep service tei (as_wire w) n m → ArePossible service tei hs w →
-    let near = seen_near hs w in let far = seen_far hs w in
-    (StaysEstablished service tei near → IsFront (data_noted service tei near) (kept_by m n ++ data_granted service tei far))
-    × (StaysEstablished service tei far → IsFront (data_noted service tei far) (kept_by n m ++ data_granted service tei near))
+    FaceInStep service tei (as_wire w) n m → ArePossible service tei hs w → let near = seen_near hs w in let far = seen_far hs w in
+    IsToldInOrder service tei (kept_by m n) far near × IsToldInOrder service tei (kept_by n m) near far

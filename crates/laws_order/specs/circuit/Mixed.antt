@@ -1,10 +1,10 @@
 -- A card of frames faces a card of octets, or any two of them: what is told at each is in order.
 use Rattle.std.specs.Prelude.{ℕ, List, [], ◌∷◌, ◌++◌}
 use Rattle.lapd_frame.specs.declared.services.Service.{Service}
-use Rattle.laws_trace.specs.Trace.{Seen, IsFront}
+use Rattle.laws_trace.specs.Trace.{Seen}
 use Rattle.laws_wire.specs.Wire.{Station, Wire}
 use Rattle.laws_order.specs.Happenings as frames
-use Rattle.laws_order.specs.Order.{Past, known, FaceInStep, StaysEstablished, data_noted, data_granted, kept_by}
+use Rattle.laws_order.specs.Order.{Past, known, FaceInStep, IsToldInOrder, kept_by}
 use Rattle.laws_order.specs.circuit.Damaged as octets
 use Rattle.laws_order.specs.circuit.Damaged.{Socket, as_station, with_deed, left_by}
 
@@ -54,7 +54,5 @@ abbrev pub DeliveredBetweenKinds : Type 0
 DeliveredBetweenKinds =
     (service : Service) (tei : ℕ) (w : Mixed) (p : Past w.near) (q : Past (as_station w.far)) (hs : List Happening) →
     let n = known service tei w.near p in let m = known service tei (as_station w.far) q in
-    FaceInStep service tei (as_wire w) n m → ArePossible service tei hs w →
-    let near = seen_near hs w in let far = seen_far hs w in
-    (StaysEstablished service tei near → IsFront (data_noted service tei near) (kept_by m n ++ data_granted service tei far))
-    × (StaysEstablished service tei far → IsFront (data_noted service tei far) (kept_by n m ++ data_granted service tei near))
+    FaceInStep service tei (as_wire w) n m → ArePossible service tei hs w → let near = seen_near hs w in let far = seen_far hs w in
+    IsToldInOrder service tei (kept_by m n) far near × IsToldInOrder service tei (kept_by n m) near far

@@ -4,7 +4,7 @@ use Rattle.lapd_frame.specs.declared.services.Service.{Service}
 use Rattle.model_line.specs.declared.config.Config.{Config}
 use Rattle.laws_wire.specs.Call.{CanCall}
 use Rattle.laws_wire.specs.Wire.{Wire}
-use Rattle.laws_order.specs.Order.{Past, known, said_by, FaceInStep}
+use Rattle.laws_order.specs.Order.{Past, Known, known, said_by, FaceInStep}
 use Rattle.laws_order.specs.circuit.Circuit.{Termination, Circuit, OctetDoing, doing_all}
 use Rattle.laws_order.specs.circuit.Damaged.{Socket, Noisy, as_wire}
 use Rattle.laws_order.specs.circuit.Through.{calling, IsTalk, HasAllGone}
@@ -17,12 +17,13 @@ abbrev pub from_then_on : Circuit → Noisy
 from_then_on w = record { near = as_socket w.near; far = as_socket w.far }
 
 -- In step, and nothing of the link is on its way or waits.
-pub record FaceAtRest (service : Service) (tei : ℕ) (w : Wire) : Type 0 where
-  pub near : Past w.near
-  pub far : Past w.far
-  pub step : FaceInStep service tei w (known service tei w.near near) (known service tei w.far far)
-  pub near_rests : said_by service tei w.near (known service tei w.near near) ≡ []
-  pub far_rests : said_by service tei w.far (known service tei w.far far) ≡ []
+abbrev pub AreSilent : Service → ℕ → Wire → Known → Known → Type 0
+AreSilent service tei w n m = (said_by service tei w.near n ≡ []) × (said_by service tei w.far m ≡ [])
+
+abbrev pub FaceAtRest : Service → ℕ → Wire → Type 0
+FaceAtRest service tei w =
+    (p : Past w.near) × (q : Past w.far) × (let n = known service tei w.near p in let m = known service tei w.far q in
+    FaceInStep service tei w n m × AreSilent service tei w n m)
 
 abbrev pub CallsComeToRest : Type 0
 CallsComeToRest =

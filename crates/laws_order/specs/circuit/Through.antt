@@ -11,7 +11,7 @@ use Rattle.model_card.specs.Machine as machine
 use Rattle.model_card.specs.ports.Card.{fresh}
 use Rattle.model_card.specs.ports.Port as port
 use Rattle.model_card.specs.ports.Port.{request, Answer}
-use Rattle.laws_wire.specs.Call.{CanCall, IsBeginningOf, confirmed, told_first, data_told}
+use Rattle.laws_wire.specs.Call.{CanCall, IsTold, confirmed, told_first, data_told}
 use Rattle.laws_order.specs.circuit.Circuit.{Termination, port_of, Circuit, happens, answered, OctetAct, asks, pulls, hears, OctetDoing, at_near, at_far, doing, doing_all}
 
 -- A card that has just begun, at one of its lines; it has the TEI assigned; and two such, of which one is asked to establish.
@@ -59,27 +59,20 @@ both_call (d ∷ ds) w = calls_back d w || both_call ds (doing d w)
 -- gave was heard.
 pub record HasGone (s : Termination) : Type 0 where
   pub none : machine.answer (frames.at s.line next) s.card.card ≡ gave None
-  pub front : List Item
-  pub flag : (port_of s).items ≡ front ++ idle ∷ []
+  pub flag : (front : List Item) × ((port_of s).items ≡ front ++ idle ∷ [])
   pub heard : s.way ≡ []
 
-pub record HasAllGone (w : Circuit) : Type 0 where
-  pub near : HasGone w.near
-  pub far : HasGone w.far
+abbrev pub HasAllGone : Circuit → Type 0
+HasAllGone w = HasGone w.near × HasGone w.far
 
 -- One establishment, and then the data that the other was granted to send, in order, and nothing else: at any time layer 3 of
 -- each was told a beginning of that, and all of it where all has gone.
 abbrev pub all_told : Service → ℕ → LineTold → Termination → List LineTold
 all_told service tei first other = first ∷ map (data_told service tei) other.granted
 
-pub record IsToldAll (service : Service) (tei : ℕ) (both : Bool) (w : Circuit) : Type 0 where
-  pub near : w.near.told ≡ all_told service tei (confirmed service tei) w.far
-  pub far : w.far.told ≡ all_told service tei (told_first service tei both) w.near
-
 pub record ComesThrough (service : Service) (tei : ℕ) (both : Bool) (w : Circuit) : Type 0 where
-  pub near_so_far : IsBeginningOf (all_told service tei (confirmed service tei) w.far) w.near.told
-  pub far_so_far : IsBeginningOf (all_told service tei (told_first service tei both) w.near) w.far.told
-  pub all : HasAllGone w → IsToldAll service tei both w
+  pub near : IsTold (HasAllGone w) (all_told service tei (confirmed service tei) w.far) w.near.told
+  pub far : IsTold (HasAllGone w) (all_told service tei (told_first service tei both) w.near) w.far.told
 
 abbrev pub CallsComeThroughInOctets : Type 0
 CallsComeThroughInOctets =

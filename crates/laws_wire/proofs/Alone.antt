@@ -1,0 +1,97 @@
+-- Where all frames that are left at a station are those of one link, nothing else waits there.
+use Rattle.laws_wire.proofs.Vocabulary.{◌≡◌, ◌≢◌, ℕ, zero, suc, ◌+◌, ◌<◌, ◌≤◌, List, [], ◌∷◌, length, Option, Some, None, option_map, refl, sym, ap, subst, ◌∙◌, arith, ⊎_elim, cases_eq, option_map_or, place_of-is, Service, fresh, given, none-waits, number_within, service_at-number, next, gave, Line, link_number, link_count, link_at, link_in, place_in, terms, terms_at, Taken, next_of, taken, nothing-to_send, Station, answered, own_link}
+use Rattle.std.proofs.lemmas.List.Sums.{sum_by-cons}
+use Rattle.std.specs.List.{range_with_len, sum_by}
+use Rattle.laws_line.proofs.Exact.{exactly-none, to-nothing}
+use Rattle.laws_line.specs.Drains.{frames_to_go, link_to_go, to_go_at_link}
+use Rattle.laws_wire.proofs.Answered.{gives-taken}
+use Rattle.laws_wire.specs.Facing.{line_of, frames_at, own_frames_at}
+use Rattle.model_line.specs.Sound.{IsSound}
+
+-- a sum is no less than one, or two, of what it adds
+one-of : (f : ℕ → ℕ) (a k n : ℕ) → a ≤ n → n < a + k → f n ≤ sum_by f (range_with_len a k)
+one-of f a zero n low high = absurd (omega (arith, low, high))
+one-of f a (suc k) n low high =
+    let sum = sum_by-cons f a (range_with_len (a + 1) k) in
+    ⊎_elim (λ same. let is : f n ≡ f a = ap f same in omega (arith, is, sum))
+    (λ other. let rest = one-of f (a + 1) k n (omega (arith, low, other)) (omega (arith, high)) in omega (arith, rest, sum)) (cases_eq n a)
+
+two-of : (f : ℕ → ℕ) (a k n j : ℕ) → j ≢ n → a ≤ n → n < a + k → a ≤ j → j < a + k → f n + f j ≤ sum_by f (range_with_len a k)
+two-of f a zero n j apart low high low' high' = absurd (omega (arith, low, high))
+two-of f a (suc k) n j apart low high low' high' =
+    let sum = sum_by-cons f a (range_with_len (a + 1) k) in
+    ⊎_elim
+    (λ same.
+    let is : f n ≡ f a = ap f same in
+    let rest = one-of f (a + 1) k j (omega (arith, low', apart, same)) (omega (arith, high')) in
+    omega (arith, is, rest, sum))
+    (λ other.
+    ⊎_elim
+    (λ same.
+    let is : f j ≡ f a = ap f same in
+    let rest = one-of f (a + 1) k n (omega (arith, low, other)) (omega (arith, high)) in
+    omega (arith, is, rest, sum))
+    (λ more.
+    let rest = two-of f (a + 1) k n j apart (omega (arith, low, other)) (omega (arith, high)) (omega (arith, low', more)) (omega (arith, high')) in
+    omega (arith, rest, sum))
+    (cases_eq j a))
+    (cases_eq n a)
+
+none-long : {X : Type 0} (xs : List X) → length xs ≡ 0 → xs ≡ []
+none-long [] e = refl
+none-long (x ∷ xs) e = absurd (omega (arith, e))
+
+none-taken : (o : Option Taken) → gave (option_map next_of o) ≡ gave None → o ≡ None
+none-taken None e = refl
+none-taken (Some t) e = absurd (cc)
+
+module _ (service : Service) (tei place : ℕ) (s : Station) (sound : IsSound s.card.config (line_of s)) (placed : place_in (line_of s) tei ≡ Some place) where
+  abbrev l : Line
+  l = line_of s
+
+  abbrev number : ℕ
+  number = link_number place service
+
+  abbrev each : ℕ → ℕ
+  each = to_go_at_link s.card.config l
+
+  pub link-is : own_link service tei s ≡ link_in l service place
+  link-is = ap (λ o. option_map_or (link_in l service) o fresh) placed
+
+  few : number < link_count s.card.config
+  few = let within = (place_of-is l.management.places tei place placed).0 in number_within place s.card.config.terminals service (omega (arith, within, sound.places))
+
+  own-to-go : each number ≡ length (own_link service tei s).waiting + own_frames_at service tei s
+  own-to-go =
+      let as-here : link_to_go (terms s.card.config service tei) (link_in l service place) ≡ length (own_link service tei s).waiting + own_frames_at service tei s =
+      subst (λ x. link_to_go (terms s.card.config service tei) x ≡ length (own_link service tei s).waiting + own_frames_at service tei s) link-is (omega arith) in
+      ap (λ y. link_to_go (terms s.card.config y tei) (link_at number l)) (service_at-number place service) ∙ as-here
+
+  own-part : each number ≤ sum_by each (range_with_len 0 (link_count s.card.config))
+  own-part = one-of each 0 (link_count s.card.config) number (omega arith) (omega (arith, few))
+
+  -- so it is where nothing is given and nothing on its way
+  pub still-alone : answered next s ≡ gave None → s.way ≡ [] → frames_at s ≡ own_frames_at service tei s
+  still-alone none way =
+      let nothing : taken s.card.config l ≡ None = none-taken _ (sym (gives-taken s) ∙ none) in
+      let all : frames_to_go s.card.config l ≡ 0 = (exactly-none s.card.config l sound).1 (none-waits s.card.config l sound nothing) in
+      let no-way : length s.way ≡ 0 = ap length way in
+      omega (arith, all, no-way, own-part, own-to-go)
+
+  module _ (alone : frames_at s ≡ own_frames_at service tei s) where
+    pub no-way : s.way ≡ []
+    no-way = none-long s.way (omega (arith, alone, own-part, own-to-go))
+
+    pub no-messages : l.management.waiting ≡ []
+    no-messages = none-long l.management.waiting (omega (arith, alone, own-part, own-to-go))
+
+    pub no-units : l.units ≡ []
+    no-units = none-long l.units (omega (arith, alone, own-part, own-to-go))
+
+    pub none-waiting : (own_link service tei s).waiting ≡ []
+    none-waiting = none-long (own_link service tei s).waiting (omega (arith, alone, own-part, own-to-go))
+
+    pub none-other : (j : ℕ) → j < link_count s.card.config → j ≢ number → given (terms_at s.card.config j l) (link_at j l) ≡ None
+    none-other j low other =
+        let both = two-of each 0 (link_count s.card.config) number j other (omega arith) (omega (arith, few)) (omega arith) (omega (arith, low)) in
+        nothing-to_send (terms_at s.card.config j l) (link_at j l) (to-nothing (terms_at s.card.config j l) (link_at j l) (omega (arith, both, alone, own-to-go)))

@@ -1,0 +1,121 @@
+-- Turns alone, in any order.
+use Rattle.laws_wire.proofs.Vocabulary.{◌≡◌, ℕ, ◌+◌, ◌*◌, ◌≤◌, List, [], ◌∷◌, ◌++◌, refl, sym, ap, subst, ◌∙◌, arith, if◌then◌else◌, All, All-head, All-tail, All-weaker, All-append, Service, Config, terms, Wire, gives, takes, Doing, at_near, at_far, doing, doing_all, is_turn, turns, calling, CanCall, GivesOrTakes, granted_of, IsRoughTalk, HasNoErrors, moves, expiries, expiries_in, most_frames, IsTimely, StayTimely, LosesNothing}
+use Rattle.laws_wire.specs.Resting.{is_move}
+use Rattle.laws_wire.proofs.RestedRounds.{doing-append, moves-append, expiries-append, near-gives, near-takes, far-gives, far-takes}
+use Rattle.laws_wire.proofs.RestedRun.{moves-come-to-an-end}
+use Rattle.laws_wire.proofs.TimelyRun.{what-is-lost-arrives}
+
+-- ---- one turn
+
+of-link : (service : Service) (tei : ℕ) (d : Doing) → GivesOrTakes d → IsRoughTalk service tei d
+of-link service tei (at_near gives) t = tt
+of-link service tei (at_near takes) t = tt
+of-link service tei (at_far gives) t = tt
+of-link service tei (at_far takes) t = tt
+of-link service tei (at_near other) t = absurd t
+of-link service tei (at_far other) t = absurd t
+
+loses-none : (d : Doing) → GivesOrTakes d → LosesNothing d
+loses-none (at_near gives) t = tt
+loses-none (at_near takes) t = tt
+loses-none (at_far gives) t = tt
+loses-none (at_far takes) t = tt
+loses-none (at_near other) t = absurd t
+loses-none (at_far other) t = absurd t
+
+in-time : (d : Doing) (w : Wire) → GivesOrTakes d → IsTimely d w
+in-time (at_near gives) w t = tt
+in-time (at_near takes) w t = tt
+in-time (at_far gives) w t = (tt, tt)
+in-time (at_far takes) w t = (tt, tt)
+in-time (at_near other) w t = absurd t
+in-time (at_far other) w t = absurd t
+
+no-expiry : (d : Doing) → GivesOrTakes d → expiries_in d ≡ 0
+no-expiry (at_near gives) t = refl
+no-expiry (at_near takes) t = refl
+no-expiry (at_far gives) t = refl
+no-expiry (at_far takes) t = refl
+no-expiry (at_near other) t = absurd t
+no-expiry (at_far other) t = absurd t
+
+no-grant : (d : Doing) (w : Wire) → GivesOrTakes d → granted_of (doing d w) ≡ granted_of w
+no-grant (at_near gives) w t = near-gives w
+no-grant (at_near takes) w t = near-takes w
+no-grant (at_far gives) w t = far-gives w
+no-grant (at_far takes) w t = far-takes w
+no-grant (at_near other) w t = absurd t
+no-grant (at_far other) w t = absurd t
+
+is-move : (d : Doing) (w : Wire) → GivesOrTakes d → is_turn d w ≡ is_move d w
+is-move (at_near gives) w t = refl
+is-move (at_near takes) w t = refl
+is-move (at_far gives) w t = refl
+is-move (at_far takes) w t = refl
+is-move (at_near other) w t = absurd t
+is-move (at_far other) w t = absurd t
+
+-- ---- and many
+
+pub all-of_link : (service : Service) (tei : ℕ) (es : List Doing) → All GivesOrTakes es → All (IsRoughTalk service tei) es
+all-of_link service tei es all = All-weaker GivesOrTakes (IsRoughTalk service tei) (of-link service tei) es all
+
+pub all-lose_none : (es : List Doing) → All GivesOrTakes es → All LosesNothing es
+all-lose_none es all = All-weaker GivesOrTakes LosesNothing loses-none es all
+
+pub behind-timely : (ds es : List Doing) (w : Wire) → StayTimely ds w → All GivesOrTakes es → StayTimely (ds ++ es) w
+unfolding StayTimely
+behind-timely [] [] w h all = tt
+behind-timely [] (e ∷ es) w h all = (in-time e w (All-head GivesOrTakes e es all), behind-timely [] es (doing e w) tt (All-tail GivesOrTakes e es all))
+behind-timely (d ∷ ds) es w h all = (h.0, behind-timely ds es (doing d w) h.1 all)
+
+pub no-expiries : (es : List Doing) → All GivesOrTakes es → expiries es ≡ 0
+unfolding expiries
+no-expiries [] all = refl
+no-expiries (e ∷ es) all =
+    let first = no-expiry e (All-head GivesOrTakes e es all) in
+    let rest = no-expiries es (All-tail GivesOrTakes e es all) in
+    omega (arith, first, rest)
+
+pub no-grants : (es : List Doing) (w : Wire) → All GivesOrTakes es → granted_of (doing_all es w) ≡ granted_of w
+unfolding doing_all
+no-grants [] w all = refl
+no-grants (e ∷ es) w all = no-grants es (doing e w) (All-tail GivesOrTakes e es all) ∙ no-grant e w (All-head GivesOrTakes e es all)
+
+pub are-moves : (es : List Doing) (w : Wire) → All GivesOrTakes es → turns es w ≡ moves es w
+unfolding turns moves
+are-moves [] w all = refl
+are-moves (e ∷ es) w all =
+    ap (λ b. (if b then 1 else 0) + turns es (doing e w)) (is-move e w (All-head GivesOrTakes e es all))
+    ∙ ap (λ n. (if is_move e w then 1 else 0) + n) (are-moves es (doing e w) (All-tail GivesOrTakes e es all))
+
+-- ---- behind a timely call
+
+module _ (service : Service) (c d : Config) (line other tei k : ℕ) (ds es : List Doing) (can : CanCall c line d other tei) (talk : All (IsRoughTalk service tei) ds) (all : All GivesOrTakes es) where
+  abbrev begun : Wire
+  begun = calling service tei c line d other
+
+  whole : All (IsRoughTalk service tei) (ds ++ es)
+  whole = All-append (IsRoughTalk service tei) ds es talk (all-of_link service tei es all)
+
+  -- no error is told
+  pub turns-fair : StayTimely ds begun → HasNoErrors (doing_all es (doing_all ds begun))
+  turns-fair timely =
+      subst HasNoErrors (doing-append ds es begun)
+      (what-is-lost-arrives service c d line other tei (ds ++ es) can whole (behind-timely ds es begun timely all)).no_error
+
+  few : (all first rest most' most : ℕ) → all ≡ first + rest → all ≤ most' → most' ≡ most → rest ≤ most
+  few all first rest most' most e less same = omega (arith, e, less, same)
+
+  -- so they are as few as the bound of the whole call says
+  pub few-turns : (terms c service tei).k ≤ k → (terms d service tei).k ≤ k → StayTimely ds begun
+      → let w = doing_all ds begun in moves es w ≤ 2 * most_frames k (expiries ds) (granted_of w)
+  few-turns wide wide' timely =
+      let w = doing_all ds begun in
+      let fair : HasNoErrors (doing_all (ds ++ es) begun) = subst HasNoErrors (sym (doing-append ds es begun)) (turns-fair timely) in
+      let expired : expiries (ds ++ es) ≡ expiries ds = expiries-append ds es ∙ (let none = no-expiries es all in omega (arith, none)) in
+      let granted : granted_of (doing_all (ds ++ es) begun) ≡ granted_of w = ap granted_of (doing-append ds es begun) ∙ no-grants es w all in
+      few (moves (ds ++ es) begun) (moves ds begun) (moves es w) (2 * most_frames k (expiries (ds ++ es)) (granted_of (doing_all (ds ++ es) begun))) (2 * most_frames k (expiries ds) (granted_of w))
+      (moves-append ds es begun)
+      (moves-come-to-an-end service c d line other tei k (ds ++ es) can whole wide wide' fair.0 fair.1)
+      (λ i. 2 * most_frames k (expired i) (granted i))

@@ -4,7 +4,7 @@ use Rattle.laws_wire.specs.Wire.{acting, at_far, doing, doing_all}
 use Rattle.lapd_tei.specs.Events as teis
 use Rattle.model_line.specs.Machine as lines
 use Rattle.model_line.specs.Request.{SetBusy}
-use Rattle.laws_order.specs.Worked.{network, user, faces, calls_both, others_speak, both_send, is_busy, busy_run, call_far as far_stays, owes, sends_one, sends_more, more_far_stays, busy_waits, clears, cleared_stays, enquires, asks_state, recovers, recovered_stays, early, loses_first, early_stays}
+use Rattle.laws_order.specs.Worked.{network, user, faces, calls_both, others_speak, both_send, is_busy, goes_again, busy_run, call_far as far_stays, owes, sends_one, sends_more, more_far_stays, busy_waits, clears, cleared_stays, enquires, asks_state, recovers, recovered_stays, early, loses_first, early_stays}
 use Rattle.laws_order.specs.WorkedRelease.{releases, released, takes_two, far_lasts, awaits, both_release, both_begin_nothing}
 use Rattle.laws_order.specs.WorkedInTheEnd.{repeats_three, gives_up, four_expire, gives_up_quietly, comes, comes_quietly, comes_there, comes_confirmed}
 use Rattle.laws_order.proofs.InTheEnd.{releases-are-told, both-are-told}
@@ -79,11 +79,11 @@ both : (w : Wire) (hs ks : List Happening) → ArePossible w hs → ArePossible 
 both w [] ks h k = k
 both w (x ∷ hs) ks h k = (h.0, both w hs ks h.1 k)
 
-then-are : ArePossible faces (both_send ++ is_busy)
-then-are = (tt, (tt, (tt, (tt, (tt, (tt, (at-the-other-line, (tt, (tt, (tt, (tt, (tt, (tt, (tt, (tt, (tt, (tt, (tt, (tt, (tt, (tt, (tt, (tt, (tt, (tt, (tt, (tt, (tt, (tt, (tt, (tt, (tt, (tt, (tt, tt))))))))))))))))))))))))))))))))))
+then-are : ArePossible faces (both_send ++ is_busy ++ goes_again)
+then-are = (tt, (tt, (tt, (tt, (tt, (tt, (at-the-other-line, (tt, (tt, (tt, (tt, (tt, (tt, (tt, (tt, (tt, (tt, (tt, (tt, (tt, (tt, (tt, (tt, (tt, (tt, (tt, (tt, (tt, (tt, (tt, (tt, (tt, (tt, (tt, (tt, (tt, (tt, (tt, (tt, (tt, (tt, (tt, tt))))))))))))))))))))))))))))))))))))))))))
 
 possible : All (IsOpen faces) busy_run
-possible = all-of faces busy_run (both faces others_speak (both_send ++ is_busy) others-are then-are)
+possible = all-of faces busy_run (both faces others_speak (both_send ++ is_busy ++ goes_again) others-are then-are)
 
 -- so the law says what the worked values show
 call-in-order : FarInOrder faces pasts busy_run

@@ -5,7 +5,7 @@ use Rattle.model_bits.specs.Stream.{frame, dropped}
 use Rattle.model_bits.specs.declared.heard.Cause.TheVariants.{Fcs}
 use Rattle.lapd_frame.specs.declared.addresses.Side.TheVariants.{User, Network}
 use Rattle.lapd_frame.specs.declared.services.Service.TheVariants.{Call, Packet}
-use Rattle.lapd_frame.specs.declared.timers.Timer.TheVariants.{T203}
+use Rattle.lapd_frame.specs.declared.timers.Timer.TheVariants.{T200, T203}
 use Rattle.lapd_frame.specs.Reading.{reading, header_of, control_of, unnumbered_of, supervisory_of}
 use Rattle.lapd_seq.specs.Circle.{distance_of, named}
 use Rattle.lapd_seq.specs.Numbers.{seq}
@@ -46,12 +46,19 @@ both_send =
     ∷ by_near (acts gives) ∷ by_near (acts gives) ∷ by_near (acts gives) ∷ by_far (acts takes) ∷ by_far (acts takes) ∷ by_far (acts takes)
     ∷ []
 
--- Then the far end is busy: what comes then is dropped, and goes again once it is not.
+-- Then the far end is busy, and what comes is dropped. It is ready again, and says so, and nothing goes: what was dropped goes
+-- again once T200 expires.
 abbrev pub is_busy : List Happening
 is_busy =
-    by_far (acts (requests (SetBusy Call 0))) ∷ by_near (acts (requests (Data Call 0 (5 ∷ [])))) ∷ by_near (acts gives) ∷ by_far (acts takes)
-    ∷ by_far (acts gives) ∷ by_near (acts takes) ∷ by_far (acts (requests (ClearBusy Call 0))) ∷ by_far (acts gives) ∷ by_near (acts takes)
-    ∷ by_near (acts (times_out (T203 Call 0))) ∷ []
+    by_far (acts (requests (SetBusy Call 0))) ∷ by_near (acts (requests (Data Call 0 (5 ∷ []))))
+    ∷ by_near (acts gives) ∷ by_far (acts takes) ∷ by_far (acts gives) ∷ by_near (acts takes)
+    ∷ by_far (acts (requests (ClearBusy Call 0))) ∷ by_far (acts gives) ∷ by_near (acts takes) ∷ by_near (acts gives) ∷ by_far (acts takes)
+    ∷ []
+
+abbrev pub goes_again : List Happening
+goes_again =
+    by_near (acts (times_out (T200 Call 0))) ∷ by_near (acts gives) ∷ by_far (acts takes) ∷ by_far (acts gives) ∷ by_near (acts takes)
+    ∷ by_near (acts gives) ∷ by_far (acts takes) ∷ []
 
 -- The far end hears frames of other terminals on the line: an I-frame of TEI 5, and SABME of TEI 6; and unit data of its own.
 abbrev pub others_speak : List Happening
@@ -60,7 +67,7 @@ others_speak =
     ∷ by_far (disturbed (frame (0x00 ∷ 0x01 ∷ 0x03 ∷ 8 ∷ []))) ∷ []
 
 abbrev pub busy_run : List Happening
-busy_run = others_speak ++ both_send ++ is_busy
+busy_run = others_speak ++ both_send ++ is_busy ++ goes_again
 
 both_far : data_noted Call 0 (seen_far both_send faces) ≡ (1 ∷ []) ∷ (3 ∷ []) ∷ []
 unfolding lines.after lines.answer lines.takes_slot reading header_of control_of unnumbered_of supervisory_of teis.course teis.refusal seq distance_of named doing_all happening_all seen_near seen_far
@@ -73,6 +80,14 @@ packet_far = refl
 both_near : data_noted Call 0 (seen_near both_send faces) ≡ (4 ∷ []) ∷ []
 unfolding lines.after lines.answer lines.takes_slot reading header_of control_of unnumbered_of supervisory_of teis.course teis.refusal seq distance_of named doing_all happening_all seen_near seen_far
 both_near = refl
+
+is_dropped : data_noted Call 0 (seen_far (both_send ++ is_busy) faces) ≡ (1 ∷ []) ∷ (3 ∷ []) ∷ []
+unfolding lines.after lines.answer lines.takes_slot reading header_of control_of unnumbered_of supervisory_of teis.course teis.refusal seq distance_of named doing_all happening_all seen_near seen_far
+is_dropped = refl
+
+goes_again_far : data_noted Call 0 (seen_far busy_run faces) ≡ (1 ∷ []) ∷ (3 ∷ []) ∷ (5 ∷ []) ∷ []
+unfolding lines.after lines.answer lines.takes_slot reading header_of control_of unnumbered_of supervisory_of teis.course teis.refusal seq distance_of named doing_all happening_all seen_near seen_far
+goes_again_far = refl
 
 -- The establishments last.
 pub call_near : StaysEstablished Call 0 (seen_near busy_run faces)

@@ -98,7 +98,7 @@ so = lossy-calls-come-through Call user network 0 0 0 (loses_ua ++ is_busy) can 
 
 pub told : heard_in repeated.near ≡ confirmed Call 0 ∷ data_told Call 0 (2 ∷ []) ∷ []
 unfolding lines.after lines.answer lines.takes_slot reading header_of control_of unnumbered_of supervisory_of teis.course teis.refusal seq distance_of named doing_all turns
-told = (subst (λ x. ToldSo Call 0 x repeated) repeated_seen so).near repeated_still repeated_rests.0 repeated_rests.1
+told = (subst (λ x. ToldSo Call 0 x repeated) repeated_seen so).near.1 (repeated_still, repeated_rests.0, repeated_rests.1)
 
 -- where it was asked, and its timer expired, before
 early : Wire
@@ -119,7 +119,7 @@ so-early = lossy-calls-come-through Call user network 0 0 0 (asks_early ++ rings
 
 pub told-early : heard_in kept.far ≡ indicated Call 0 ∷ error_f Call 0 ∷ []
 unfolding lines.after lines.answer lines.takes_slot reading header_of control_of unnumbered_of supervisory_of teis.course teis.refusal seq distance_of named doing_all turns
-told-early = (subst (λ x. ToldSo Call 0 x kept) kept_seen so-early).far kept_still kept_rests.0 kept_rests.1
+told-early = (subst (λ x. ToldSo Call 0 x kept) kept_seen so-early).far.1 (kept_still, kept_rests.0, kept_rests.1)
 
 -- and where an I-frame went before, so that contents are given up
 abbrev i_frame_goes : List Doing
@@ -150,4 +150,4 @@ so-dropped = lossy-calls-come-through Call user network 0 0 0 grants_early can f
 
 pub told-dropped : heard_in dropped.near ≡ confirmed Call 0 ∷ []
 unfolding lines.after lines.answer lines.takes_slot reading header_of control_of unnumbered_of supervisory_of teis.course teis.refusal seq distance_of named doing_all turns
-told-dropped = (subst (λ x. ToldSo Call 0 x dropped) dropped_seen so-dropped).near dropped_still dropped_rests.0 dropped_rests.1
+told-dropped = (subst (λ x. ToldSo Call 0 x dropped) dropped_seen so-dropped).near.1 (dropped_still, dropped_rests.0, dropped_rests.1)

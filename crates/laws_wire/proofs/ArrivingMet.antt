@@ -77,8 +77,8 @@ timely-on = (
 -- so the law says what the worked values show
 come : HasCome Call 0 goes_on lossy over
 come =
-    arrives-under-traffic Call user network 0 0 0 loses_two goes_on can (leb-true 3 4 refl) (leb-true 3 4 refl) rough timely
-    (heard-it (heard_in lossy.near) (confirmed Call 0) lossy_near, rough-on, kept, timely-on) over_still
+    arrives-under-traffic Call user network 0 0 0 loses_two goes_on
+    (can, leb-true 3 4 refl, leb-true 3 4 refl, rough, timely, (heard-it (heard_in lossy.near) (confirmed Call 0) lossy_near, rough-on, kept, timely-on)) over_still
 
 pub told : heard_in over.far ≡ all_told Call 0 (indicated Call 0) over.near
 told = come.near (inl near_asked)
@@ -97,8 +97,8 @@ timely-waits =
 
 come-waits : HasCome Call 0 waits lossy quiet
 come-waits =
-    arrives-under-traffic Call user network 0 0 0 loses_two waits can (leb-true 3 4 refl) (leb-true 3 4 refl) rough timely
-    (heard-it (heard_in lossy.near) (confirmed Call 0) lossy_near, rough-waits, kept-waits, timely-waits) quiet_still
+    arrives-under-traffic Call user network 0 0 0 loses_two waits
+    (can, leb-true 3 4 refl, leb-true 3 4 refl, rough, timely, (heard-it (heard_in lossy.near) (confirmed Call 0) lossy_near, rough-waits, kept-waits, timely-waits)) quiet_still
 
 pub told-back : heard_in quiet.near ≡ all_told Call 0 (confirmed Call 0) quiet.far
 told-back = come-waits.far (inr quiet_runs.1)
@@ -117,7 +117,7 @@ asks-on = (heard-it (heard_in lossy.near) (confirmed Call 0) lossy_near, rough-a
 by-rounds : (n : ℕ) × (n ≤ most_left Call 0 7 asked) × (n ≤ 2 * most_frames 7 (expiries (loses_two ++ asks)) (granted_of asked))
     × IsStill (rounds n asked) × HasCome Call 0 asks lossy (rounds n asked)
 by-rounds =
-    arrives-in-rounds Call user network 0 0 0 7 loses_two asks can (leb-true 3 4 refl) (leb-true 3 4 refl) (omega arith) (omega arith) rough timely asks-on
+    arrives-in-rounds Call user network 0 0 0 7 loses_two asks (can, leb-true 3 4 refl, leb-true 3 4 refl, rough, timely, asks-on) (omega arith) (omega arith)
 
 -- And of turns in another order that there are so few, and all has come where none is left.
 all-turns : All GivesOrTakes in_bulk
@@ -126,7 +126,7 @@ all-turns = all-of GivesOrTakes in_bulk (tt, (tt, (tt, (tt, (tt, (tt, (tt, (tt, 
 by-turns : (turns in_bulk asked ≤ most_left Call 0 7 asked) × (turns in_bulk asked ≤ 2 * most_frames 7 (expiries (loses_two ++ asks)) (granted_of asked))
     × (IsStill (doing_all in_bulk asked) → HasCome Call 0 asks lossy (doing_all in_bulk asked))
 by-turns =
-    arrives-in-turns Call user network 0 0 0 7 loses_two asks in_bulk can (leb-true 3 4 refl) (leb-true 3 4 refl) (omega arith) (omega arith) rough timely asks-on all-turns
+    arrives-in-turns Call user network 0 0 0 7 loses_two asks in_bulk (can, leb-true 3 4 refl, leb-true 3 4 refl, rough, timely, asks-on) (omega arith) (omega arith) all-turns
 
 pub bulk-told : heard_in (doing_all in_bulk asked).far ≡ all_told Call 0 (indicated Call 0) (doing_all in_bulk asked).near
 bulk-told = (by-turns.2 bulk_still).near (inl asked_near)

@@ -174,7 +174,7 @@ at-rest service tei c d p q past other g v h still none none' = record {
 }
 
 pub calls-end : CallsEnd
-calls-end service c d line other tei before after_ v can full leaving_ = λ patient still none none' which timely.
+calls-end service c d line other tei before after_ v can full leaving_ = λ patient (still, none, none') which timely.
     let x = setting service c d line other tei can in
     let begun = calling service tei c line d other in
     let w = doing_all before begun in

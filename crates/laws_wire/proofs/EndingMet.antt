@@ -58,7 +58,7 @@ timely = (
 
 -- so the law says what the worked values show
 so : EndsSo Call 0 established ended
-so = calls-end Call user network 0 0 0 establishes loses_both established can full leaving-all patient still rests.0 rests.1 (inl refl) timely
+so = calls-end Call user network 0 0 0 establishes loses_both established can full leaving-all patient (still, rests.0, rests.1) (inl refl) timely
 
 pub told : heard_in ended.near ≡ heard_in established.near ++ release_confirmed Call 0 ∷ []
 told = so.near.1 (ended_still, ended_rests)

@@ -139,7 +139,7 @@ module _ (service : Service) (c d : Config) (line other tei k : ℕ) (before sin
           behind-timely since es w on.3 all,
         ) in
         come-sooner service tei since es w (doing_all es last)
-        (subst (HasCome service tei (since ++ es) w) there (arrives-under-traffic service c d line other tei before (since ++ es) can three three' talk timely goes (subst IsStill (sym there) still)))
+        (subst (HasCome service tei (since ++ es) w) there (arrives-under-traffic service c d line other tei before (since ++ es) (can, three, three', talk, timely, goes) (subst IsStill (sym there) still)))
 
     abbrev Bounded : ℕ → Type 0
     Bounded n = (n ≤ most_left service tei k last) × (n ≤ 2 * most_frames k (expiries (before ++ since)) (granted_of last))
@@ -160,7 +160,7 @@ module _ (service : Service) (c d : Config) (line other tei k : ℕ) (before sin
         (n, (omega (arith, less, left), omega (arith, less, call)), x.still)
 
 pub arrives-in-rounds : ArrivesInRounds
-arrives-in-rounds service c d line other tei k before since can three three' wide wide' talk = λ timely on.
+arrives-in-rounds service c d line other tei k before since (can, three, three', talk, timely, on) wide wide' =
     let last = doing_all since (doing_all before (calling service tei c line d other)) in
     let x = rests service c d line other tei k before since can wide wide' talk timely on in
     let n = x.0 in
@@ -174,7 +174,7 @@ arrives-in-rounds service c d line other tei k before since can three three' wid
     )
 
 pub arrives-in-turns : ArrivesInTurns
-arrives-in-turns service c d line other tei k before since more can three three' wide wide' talk = λ timely on all.
+arrives-in-turns service c d line other tei k before since more (can, three, three', talk, timely, on) wide wide' all =
     let last = doing_all since (doing_all before (calling service tei c line d other)) in
     let x = bounded service c d line other tei k before since can wide wide' talk timely on more all in
     let same = are-moves more last all in (

@@ -45,7 +45,7 @@ module _ (service : Service) (tei : ℕ) (c d : Config) (p q : ℕ) where
       far (inr none) = has-come service tei d c q p (indicated service tei ∷ []) (confirmed service tei ∷ []) (turned last) h.m h.n up' still' (inr none)
 
 pub arrives-under-traffic : ArrivesUnderTraffic
-arrives-under-traffic service c d line other tei before since can wide_c wide_d talk = λ timely on still.
+arrives-under-traffic service c d line other tei before since (can, wide_c, wide_d, talk, timely, on) = λ still.
     let x = setting service c d line other tei can in
     let w = doing_all before (calling service tei c line d other) in
     let last = doing_all since w in

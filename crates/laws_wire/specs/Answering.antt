@@ -11,7 +11,7 @@ use Rattle.model_line.specs.Line.{state_of}
 use Rattle.model_line.specs.Request.{Request, Data, SetBusy, ClearBusy}
 use Rattle.model_card.specs.Room.{room}
 use Rattle.laws_wire.specs.Wire.{Station, Wire, Act, requests, times_out, gives, takes, turned, Doing, at_near, at_far, doing, doing_all, is_any, IsStill}
-use Rattle.laws_wire.specs.Call.{calling, CanCall, confirmed, indicated, data_told, IsBeginningOf}
+use Rattle.laws_wire.specs.Call.{calling, CanCall, confirmed, indicated, data_told, IsBeginningOf, IsTold}
 use Rattle.laws_wire.specs.Losing.{IsOfLink, heard_in}
 use Rattle.laws_wire.specs.Facing.{line_of}
 use Rattle.laws_wire.specs.Timely.{gives_one, IsTimelyOf}
@@ -62,7 +62,8 @@ abbrev pub renewed : Service → ℕ → LineTold
 renewed service tei = record nothing { notes = Error service tei F ∷ EstablishIndication service tei ∷ [] }
 
 abbrev pub told_of_sabme : Service → ℕ → Called → LineTold
-told_of_sabme service tei x = if length x.told == 0 then indicated service tei else if x.sent then renewed service tei else error_f service tei
+told_of_sabme service tei x =
+    if length x.told == 0 then indicated service tei else if x.sent then renewed service tei else error_f service tei
 
 abbrev pub with_sabme : Service → ℕ → ℕ → Called → Called
 with_sabme service tei granted x =
@@ -87,10 +88,15 @@ seen service tei (d ∷ ds) w x = seen service tei ds (doing d w) (seeing servic
 -- A link is in state 7, and no place of its queue is taken, as all was acknowledged.
 abbrev pub Rests : Service → ℕ → Station → Type 0
 Rests service tei s =
-    (state : state_of service tei (line_of s) ≡ Some 7) × (left : Room) × (room s.line service tei s.card ≡ Ok left) × (left.queue ≡ s.card.config.queue)
+    (state : state_of service tei (line_of s) ≡ Some 7)
+    × (left : Room) × (room s.line service tei s.card ≡ Ok left) × (left.queue ≡ s.card.config.queue)
+
+-- No turn is left, and T200 runs at neither end.
+abbrev pub IsAtRest : Service → ℕ → Wire → Type 0
+IsAtRest service tei w = IsStill w × (runs_t200 service tei w.near ≡ false) × (runs_t200 service tei w.far ≡ false)
 
 -- Each SABME is told at once. Then each is told the data of the other that is not given up, in order, each once, and nothing else: all
--- of it where no turn is left and T200 runs at neither end; and then both rest.
+-- of it where the call is at rest; and then both links rest.
 abbrev pub all_kept : Service → ℕ → Called → Station → List LineTold
 all_kept service tei x far = confirmed service tei ∷ map (data_told service tei) (drop x.given_up far.granted)
 
@@ -99,13 +105,12 @@ all_of_calls service tei x near = x.told ++ map (data_told service tei) near.gra
 
 pub record ToldSo (service : Service) (tei : ℕ) (x : Called) (w : Wire) : Type 0 where
   pub far_at_once : IsBeginningOf (heard_in w.far) x.told
-  pub near_so_far : IsBeginningOf (all_kept service tei x w.far) (heard_in w.near)
-  pub far_so_far : IsBeginningOf (all_of_calls service tei x w.near) (heard_in w.far)
-  pub near : IsStill w → runs_t200 service tei w.near ≡ false → runs_t200 service tei w.far ≡ false → heard_in w.near ≡ all_kept service tei x w.far
-  pub far : IsStill w → runs_t200 service tei w.near ≡ false → runs_t200 service tei w.far ≡ false → heard_in w.far ≡ all_of_calls service tei x w.near
-  pub rest : IsStill w → runs_t200 service tei w.near ≡ false → runs_t200 service tei w.far ≡ false → Rests service tei w.near × Rests service tei w.far
+  pub near : IsTold (IsAtRest service tei w) (all_kept service tei x w.far) (heard_in w.near)
+  pub far : IsTold (IsAtRest service tei w) (all_of_calls service tei x w.near) (heard_in w.far)
+  pub rest : IsAtRest service tei w → Rests service tei w.near × Rests service tei w.far
 
 abbrev pub LossyCallsComeThrough : Type 0
 LossyCallsComeThrough =
     (service : Service) (c d : Config) (line other tei : ℕ) (ds : List Doing) → CanCall c line d other tei → All (IsFullTalk service tei) ds →
-    let begun = calling service tei c line d other in StayPatient ds begun → ToldSo service tei (seen service tei ds begun uncalled) (doing_all ds begun)
+    let begun = calling service tei c line d other in StayPatient ds begun →
+    ToldSo service tei (seen service tei ds begun uncalled) (doing_all ds begun)

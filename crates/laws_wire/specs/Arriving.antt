@@ -60,13 +60,20 @@ pub record HasCome (service : Service) (tei : ℕ) (since : List Doing) (w last 
 abbrev pub GoesOn : Service → ℕ → List Doing → Wire → Type 0
 GoesOn service tei since w = (heard_in w.near ≢ []) × All (IsRoughTalk service tei) since × All LosesNothing since × StayTimely since w
 
--- So it is where no turn is left in such a call, with room for three control frames at either end, whatever was lost before.
+-- Such a call, with room for three control frames at either end, loses no more frames, whatever was lost before.
+abbrev pub LosesNoMore : Service → ℕ → Config → ℕ → Config → ℕ → List Doing → List Doing → Type 0
+LosesNoMore service tei c line d other before since =
+    let begun = calling service tei c line d other in
+    CanCall c line d other tei × (3 ≤ c.control) × (3 ≤ d.control)
+    × All (IsRoughTalk service tei) before × StayTimely before begun × GoesOn service tei since (doing_all before begun)
+
+-- So it is there where no turn is left.
 abbrev pub ArrivesUnderTraffic : Type 0
 ArrivesUnderTraffic =
-    (service : Service) (c d : Config) (line other tei : ℕ) (before since : List Doing) → CanCall c line d other tei →
-    3 ≤ c.control → 3 ≤ d.control → All (IsRoughTalk service tei) before →
-    let begun = calling service tei c line d other in let w = doing_all before begun in let last = doing_all since w in
-    StayTimely before begun → GoesOn service tei since w → IsStill last → HasCome service tei since w last
+    (service : Service) (c d : Config) (line other tei : ℕ) (before since : List Doing) →
+    LosesNoMore service tei c line d other before since →
+    let w = doing_all before (calling service tei c line d other) in let last = doing_all since w in
+    IsStill last → HasCome service tei since w last
 
 -- What is left to do there: control frames of the link that wait, and frames on their way; and what layer 3 of either is still to be
 -- told.
@@ -78,16 +85,16 @@ notes_left service tei w =
     (length (due_near service tei w) - length (heard_in w.near)) + (length (due_far service tei w) - length (heard_in w.far))
 
 abbrev pub most_left : Service → ℕ → ℕ → Wire → ℕ
-most_left service tei k w = 2 * most_frames k (4 + frames_left service tei w.near + frames_left service tei w.far) (notes_left service tei w)
+most_left service tei k w =
+    2 * most_frames k (4 + frames_left service tei w.near + frames_left service tei w.far) (notes_left service tei w)
 
 -- And there is such a time within so many rounds in which nothing more is asked for, nothing is lost, and no timer expires: as many as
 -- the bound of `Resting` says of the whole call, and as many as what is left to do there says.
 abbrev pub ArrivesInRounds : Type 0
 ArrivesInRounds =
-    (service : Service) (c d : Config) (line other tei k : ℕ) (before since : List Doing) → CanCall c line d other tei →
-    3 ≤ c.control → 3 ≤ d.control → (terms c service tei).k ≤ k → (terms d service tei).k ≤ k → All (IsRoughTalk service tei) before →
-    let begun = calling service tei c line d other in let w = doing_all before begun in let last = doing_all since w in
-    StayTimely before begun → GoesOn service tei since w →
+    (service : Service) (c d : Config) (line other tei k : ℕ) (before since : List Doing) →
+    LosesNoMore service tei c line d other before since → (terms c service tei).k ≤ k → (terms d service tei).k ≤ k →
+    let w = doing_all before (calling service tei c line d other) in let last = doing_all since w in
     (n : ℕ) × (n ≤ most_left service tei k last) × (n ≤ 2 * most_frames k (expiries (before ++ since)) (granted_of last))
     × IsStill (rounds n last) × HasCome service tei since w (rounds n last)
 
@@ -103,9 +110,8 @@ GivesOrTakes (at_far act) = GivesOrTakesOf act
 
 abbrev pub ArrivesInTurns : Type 0
 ArrivesInTurns =
-    (service : Service) (c d : Config) (line other tei k : ℕ) (before since more : List Doing) → CanCall c line d other tei →
-    3 ≤ c.control → 3 ≤ d.control → (terms c service tei).k ≤ k → (terms d service tei).k ≤ k → All (IsRoughTalk service tei) before →
-    let begun = calling service tei c line d other in let w = doing_all before begun in let last = doing_all since w in
-    StayTimely before begun → GoesOn service tei since w → All GivesOrTakes more →
+    (service : Service) (c d : Config) (line other tei k : ℕ) (before since more : List Doing) →
+    LosesNoMore service tei c line d other before since → (terms c service tei).k ≤ k → (terms d service tei).k ≤ k →
+    All GivesOrTakes more → let w = doing_all before (calling service tei c line d other) in let last = doing_all since w in
     (turns more last ≤ most_left service tei k last) × (turns more last ≤ 2 * most_frames k (expiries (before ++ since)) (granted_of last))
     × (IsStill (doing_all more last) → HasCome service tei since w (doing_all more last))

@@ -10,7 +10,7 @@ use Rattle.laws_wire.specs.Call.{calling, CanCall}
 use Rattle.laws_wire.specs.Losing.{IsOfLink, heard_in}
 use Rattle.laws_wire.specs.Timely.{IsTimelyOf}
 use Rattle.laws_wire.specs.Arriving.{runs_t200}
-use Rattle.laws_wire.specs.Answering.{IsFullTalk, StayPatient}
+use Rattle.laws_wire.specs.Answering.{IsFullTalk, StayPatient, IsAtRest}
 
 -- Then nothing more is asked for. Each end gives frames and takes them, or loses them, and timers of the end that releases expire.
 abbrev pub IsLeaving : Service → ℕ → Doing → Type 0
@@ -55,5 +55,5 @@ CallsEnd =
     (service : Service) (c d : Config) (line other tei : ℕ) (before after : List Doing) (v : Wire) → CanCall c line d other tei →
     All (IsFullTalk service tei) before → All (IsLeaving service tei) after →
     let begun = calling service tei c line d other in let w = doing_all before begun in StayPatient before begun →
-    IsStill w → runs_t200 service tei w.near ≡ false → runs_t200 service tei w.far ≡ false → (v ≡ w) ⊎ (v ≡ turned w) →
-    let released = acting (requests (Release service tei)) v in StayTimelyThere after released → EndsSo service tei v (doing_all after released)
+    IsAtRest service tei w → (v ≡ w) ⊎ (v ≡ turned w) → let released = acting (requests (Release service tei)) v in
+    StayTimelyThere after released → EndsSo service tei v (doing_all after released)

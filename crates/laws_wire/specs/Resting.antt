@@ -49,8 +49,8 @@ most_frames k expired granted = 2 * (k + 2) + (k + 2) * expired + (k + 3) * gran
 -- There are at most twice as many moves, as long as no error was told: a frame is given, and then taken or lost.
 abbrev pub MovesComeToAnEnd : Type 0
 MovesComeToAnEnd =
-    (service : Service) (c d : Config) (line other tei k : ℕ) (ds : List Doing) → CanCall c line d other tei → All (IsRoughTalk service tei) ds →
-    (terms c service tei).k ≤ k → (terms d service tei).k ≤ k →
+    (service : Service) (c d : Config) (line other tei k : ℕ) (ds : List Doing) → CanCall c line d other tei →
+    All (IsRoughTalk service tei) ds → (terms c service tei).k ≤ k → (terms d service tei).k ≤ k →
     let begun = calling service tei c line d other in let w = doing_all ds begun in
     HasNoError w.near → HasNoError w.far → moves ds begun ≤ 2 * most_frames k (expiries ds) (granted_of w)
 
@@ -58,15 +58,15 @@ MovesComeToAnEnd =
 -- is left.
 abbrev pub RoundsComeToRest : Type 0
 RoundsComeToRest =
-    (service : Service) (c d : Config) (line other tei k : ℕ) (ds : List Doing) → CanCall c line d other tei → All (IsRoughTalk service tei) ds →
-    (terms c service tei).k ≤ k → (terms d service tei).k ≤ k →
+    (service : Service) (c d : Config) (line other tei k : ℕ) (ds : List Doing) → CanCall c line d other tei →
+    All (IsRoughTalk service tei) ds → (terms c service tei).k ≤ k → (terms d service tei).k ≤ k →
     let w = doing_all ds (calling service tei c line d other) in let most = 2 * most_frames k (expiries ds) (granted_of w) in
     HasNoErrors (rounds (most + 1) w) → (n : ℕ) × (n ≤ most) × IsStill (rounds n w)
 
 -- And no error is told where the call is timely: T200 is long enough, N200 is not used up, and UA is not lost.
 abbrev pub TimelyRoundsComeToRest : Type 0
 TimelyRoundsComeToRest =
-    (service : Service) (c d : Config) (line other tei k : ℕ) (ds : List Doing) → CanCall c line d other tei → All (IsRoughTalk service tei) ds →
-    (terms c service tei).k ≤ k → (terms d service tei).k ≤ k → StayTimely ds (calling service tei c line d other) →
-    let w = doing_all ds (calling service tei c line d other) in let most = 2 * most_frames k (expiries ds) (granted_of w) in
-    (n : ℕ) × (n ≤ most) × IsStill (rounds n w)
+    (service : Service) (c d : Config) (line other tei k : ℕ) (ds : List Doing) → CanCall c line d other tei →
+    All (IsRoughTalk service tei) ds → (terms c service tei).k ≤ k → (terms d service tei).k ≤ k →
+    let begun = calling service tei c line d other in StayTimely ds begun → let w = doing_all ds begun in
+    let most = 2 * most_frames k (expiries ds) (granted_of w) in (n : ℕ) × (n ≤ most) × IsStill (rounds n w)

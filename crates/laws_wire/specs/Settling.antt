@@ -13,9 +13,9 @@ use Rattle.laws_wire.specs.Losing.{heard_in}
 use Rattle.laws_wire.specs.Facing.{granted_of}
 use Rattle.laws_wire.specs.Recovering.{rounds, both_expire, with_t200_expired, BothMayRepeat}
 use Rattle.laws_wire.specs.Timely.{MayRepeat}
-use Rattle.laws_wire.specs.Arriving.{runs_t200}
 use Rattle.laws_wire.specs.Resting.{moves, expiries, most_frames}
 use Rattle.laws_wire.specs.Answering.{IsFullTalk, StayPatient, Called, uncalled, seen, all_kept, all_of_calls}
+pub use Rattle.laws_wire.specs.Answering.{IsAtRest}
 
 -- How often layer 3 of an end was granted to say that it is busy, or ready again: for each RNR or RR goes, at most once.
 abbrev pub is_of_busy : Request → Bool
@@ -42,15 +42,17 @@ most_moves k ds w = 2 * (most_frames k (expiries ds) (granted_of (doing_all ds w
 
 abbrev pub LossyMovesComeToAnEnd : Type 0
 LossyMovesComeToAnEnd =
-    (service : Service) (c d : Config) (line other tei k : ℕ) (ds : List Doing) → CanCall c line d other tei → All (IsFullTalk service tei) ds →
-    (terms c service tei).k ≤ k → (terms d service tei).k ≤ k → let begun = calling service tei c line d other in
+    (service : Service) (c d : Config) (line other tei k : ℕ) (ds : List Doing) → CanCall c line d other tei →
+    All (IsFullTalk service tei) ds → (terms c service tei).k ≤ k → (terms d service tei).k ≤ k →
+    let begun = calling service tei c line d other in
     StayPatient ds begun → moves ds begun ≤ most_moves k ds begun
 
 -- So where nothing more is asked for and no timer expires, within so many rounds there is a time when no turn is left.
 abbrev pub LossyRoundsComeToRest : Type 0
 LossyRoundsComeToRest =
-    (service : Service) (c d : Config) (line other tei k : ℕ) (ds : List Doing) → CanCall c line d other tei → All (IsFullTalk service tei) ds →
-    (terms c service tei).k ≤ k → (terms d service tei).k ≤ k → let begun = calling service tei c line d other in
+    (service : Service) (c d : Config) (line other tei k : ℕ) (ds : List Doing) → CanCall c line d other tei →
+    All (IsFullTalk service tei) ds → (terms c service tei).k ≤ k → (terms d service tei).k ≤ k →
+    let begun = calling service tei c line d other in
     StayPatient ds begun → (n : ℕ) × (n ≤ most_moves k ds begun) × IsStill (rounds n (doing_all ds begun))
 
 -- Whether layer 3 of either end was granted last to say that it is busy, or that it is ready again. That SABME, too, ends own busy
@@ -82,21 +84,19 @@ near_expires service tei = at_near (times_out (T200 service tei)) ∷ []
 abbrev pub LossyCallsAreAnswered : Type 0
 LossyCallsAreAnswered =
     (service : Service) (c d : Config) (line other tei : ℕ) (ds : List Doing) → CanCall c line d other tei → All (IsFullTalk service tei) ds →
-    let begun = calling service tei c line d other in let w = doing_all ds begun in
+    let begun = calling service tei c line d other in let w = doing_all ds begun in let rings = near_expires service tei in
     StayPatient ds begun → IsStill w → heard_in w.near ≡ [] → MayRepeat service tei w.near →
-    StayPatient (near_expires service tei) w × (heard_in (rounds 1 (doing_all (near_expires service tei) w)).near ≡ confirmed service tei ∷ [])
+    StayPatient rings w × (heard_in (rounds 1 (doing_all rings w)).near ≡ confirmed service tei ∷ [])
 
 -- Of what each is to be told in the end, at most so much is missing; and all of it was told.
 abbrev pub HasLeft : Service → ℕ → ℕ → Called → Wire → Type 0
 HasLeft service tei u x w =
-    (length (all_kept service tei x w.far) ≤ length (heard_in w.near) + u) × (length (all_of_calls service tei x w.near) ≤ length (heard_in w.far) + u)
+    (length (all_kept service tei x w.far) ≤ length (heard_in w.near) + u)
+    × (length (all_of_calls service tei x w.near) ≤ length (heard_in w.far) + u)
 
 abbrev pub HasTold : Service → ℕ → Called → Wire → Wire → Type 0
-HasTold service tei x before w = (heard_in w.near ≡ all_kept service tei x before.far) × (heard_in w.far ≡ all_of_calls service tei x before.near)
-
--- No turn is left, and T200 runs at neither end.
-abbrev pub IsAtRest : Service → ℕ → Wire → Type 0
-IsAtRest service tei w = IsStill w × (runs_t200 service tei w.near ≡ false) × (runs_t200 service tei w.far ≡ false)
+HasTold service tei x before w =
+    (heard_in w.near ≡ all_kept service tei x before.far) × (heard_in w.far ≡ all_of_calls service tei x before.near)
 
 -- No turn is left, the end that calls was told of the establishment, and no error is told as T200 expires at both ends.
 abbrev pub MayExpire : Service → ℕ → Wire → Type 0

@@ -85,6 +85,36 @@ settled_stops : (runs_t200 Call 0 settled.near ≡ false) × (runs_t200 Call 0 s
 unfolding lines.after lines.answer lines.takes_slot reading header_of control_of unnumbered_of supervisory_of teis.course teis.refusal seq distance_of named doing_all rounds
 settled_stops = (refl, refl)
 
+-- Nothing is lost here, but the far end drops an I-frame while it is busy; RNR is heard, and RR. No turn is left, and neither end is busy: the
+-- I-frame goes again only once T200 of the near end expires, which runs.
+abbrev pub drops_one : List Doing
+drops_one =
+    establishes ++ at_far (requests (SetBusy Call 0)) ∷ at_near (requests (Data Call 0 (1 ∷ []))) ∷ at_near gives ∷ at_far takes
+    ∷ at_far gives ∷ at_near takes ∷ at_far (requests (ClearBusy Call 0)) ∷ at_far gives ∷ at_near takes ∷ []
+
+abbrev pub over : Wire
+over = doing_all drops_one begins
+
+over_still : IsStill over
+unfolding lines.after lines.answer lines.takes_slot reading header_of control_of unnumbered_of supervisory_of teis.course teis.refusal seq distance_of named doing_all
+over_still = record { near = refl; far = refl; near_way = refl; far_way = refl }
+
+over_free : busy drops_one begins none_busy ≡ none_busy
+unfolding lines.after lines.answer lines.takes_slot reading header_of control_of unnumbered_of supervisory_of teis.course teis.refusal seq distance_of named doing_all busy
+over_free = refl
+
+over_granted : over.near.granted ≡ (1 ∷ []) ∷ []
+unfolding lines.after lines.answer lines.takes_slot reading header_of control_of unnumbered_of supervisory_of teis.course teis.refusal seq distance_of named doing_all
+over_granted = refl
+
+over_far : heard_in over.far ≡ indicated Call 0 ∷ []
+unfolding lines.after lines.answer lines.takes_slot reading header_of control_of unnumbered_of supervisory_of teis.course teis.refusal seq distance_of named doing_all
+over_far = refl
+
+over_runs : runs_t200 Call 0 over.near ≡ true
+unfolding lines.after lines.answer lines.takes_slot reading header_of control_of unnumbered_of supervisory_of teis.course teis.refusal seq distance_of named doing_all
+over_runs = refl
+
 -- While the far end is busy it is not so: T200 runs on.
 busy_so : busy is_busy begins none_busy ≡ record { near = false; far = true }
 unfolding lines.after lines.answer lines.takes_slot reading header_of control_of unnumbered_of supervisory_of teis.course teis.refusal seq distance_of named doing_all busy

@@ -21,9 +21,6 @@ module _ (t : Terms) (l : Link) (nr : Seq) (n : ℕ) (valid : named l.a l.s nr �
   abbrev Back : Course → Type 0
   Back c = GoesBackTo n l c.link
 
-  abbrev effect : (ℕ → Step) → Course → Option ℕ → Course
-  effect f c o = elim o [ None ↦ (error t ErrorCode.J then re_establish t) c | Some m ↦ f m c ]
-
   by-number : (f : ℕ → Step) → ((c : Course) → Still l c → Back (f n c)) → (c : Course) → Still l c → Back (by_number t nr f c)
   by-number f x c h = grind arith
 

@@ -22,12 +22,9 @@ pub record Done (share : Share) (all : List (List ℕ)) (a s n : ℕ) (all' : Li
   pub follows : Follows n s a' s'
 
 -- some more are acknowledged, and others are accepted
-drop-more : (n m : ℕ) (xs : List (List ℕ)) → drop (n + m) xs ≡ drop m (drop n xs)
-drop-more n m xs = sym (drop-drop m n xs)
-
 went-on : (all more : List (List ℕ)) (a n : ℕ) → a + n ≤ length all
     → Comes (record { restarts = false; empties = false; accepted = more; acknowledged = n }) all a (all ++ more) (a + n)
-went-on all more a n few = grind (arith, drop-append-le, drop-more)
+went-on all more a n few = grind (arith, drop-append-le, drop-drop)
 
 emptied : (all more : List (List ℕ)) (a n : ℕ) → a ≤ length all
     → Comes (record { restarts = false; empties = true; accepted = more; acknowledged = n }) all a (take a all) a
@@ -264,13 +261,9 @@ module _ (t : Terms) (l : Link) (h : IsSound t l) where
   unfolding Moved
   clear-busy = clear_busy t l h.ordered h.accepted
 
-  unit-requested : (request : Events.Request) (o : Option Refusal) → cond (Requests.serves l.state request) o (Some WrongState) ≡ None
-      → (Requests.granted t request (begun l)).unit ≡ None
-  unit-requested request o e = grind (arith, no-unit, set-busy, clear-busy)
-
   unit-asked : (request : Events.Request) (full : Bool) (o : Option Refusal) → Requests.refusal t l full request ≡ o
       → (elim o as (λ o. Course) [ None ↦ Requests.granted t request (begun l) | Some _ ↦ begun l ]).unit ≡ None
-  unit-asked request full o e = grind (arith, unit-requested)
+  unit-asked request full o e = grind (arith, no-unit, set-busy, clear-busy)
 
   unit-offered : (ws : List ControlFrame) → (offer_among t ws (begun l)).unit ≡ None
   unit-offered ws = grind (arith, both_ways)

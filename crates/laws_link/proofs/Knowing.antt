@@ -36,9 +36,6 @@ is_plain (Note.ReleaseIndication service tei) = false
 is_plain (Note.ReleaseConfirm service tei) = false
 is_plain other = true
 
-pub plain-seen : (n : Note) → is_plain n ≡ true → (up : Bool) → seen up n ≡ up
-plain-seen n e up = grind arith
-
 module _ (up : Bool) where
   abbrev pub At : State → Course → Type 0
   At here c = In here c.link.state c.link.asked (known up c.notes)
@@ -58,7 +55,7 @@ module _ (up : Bool) where
   -- what is told, and layer 3 knows as before
   module _ (here : State) where
     pub note_knows : (n : Note) → is_plain n ≡ true → Leads (At here) (note n) (At here)
-    note_knows n plain = grind (arith, one-more, plain-seen)
+    note_knows n plain = grind (arith, one-more)
 
     pub deliver_knows : (t : Terms) (octets : List ℕ) → Leads (At here) (deliver t octets) (At here)
     deliver_knows t octets = record { leads = λ c h. (note_knows (Note.Data t.service t.tei) refl).leads c h }

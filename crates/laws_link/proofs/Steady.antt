@@ -45,13 +45,8 @@ module _ (Asks : ℕ → Type 0) (t : Terms) (l : Link) where
   frames_in_4 octets control = grind (arith, still, words)
 
   -- State 5.
-  answered_in_5 : (asked out : Bool)
-      → Row Asks (Unit {0}) l ((zero_numbers then start T203 then enter Established)
-      (cond asked (establish_confirm t (begun l)) (cond out ((discard then establish_indication t) (begun l)) (begun l))))
-  answered_in_5 asked out = grind arith
-
   pub frames_in_5 : (octets : List ℕ) (control : Control) → Row Asks (MayEndBy control) l (frame_in_5 t octets control (begun l))
-  frames_in_5 octets control = grind (arith, answered_in_5, still, words)
+  frames_in_5 octets control = grind (arith, still, words)
 
   -- State 6.
   pub frames_in_6 : (octets : List ℕ) (control : Control) → Row Asks (MayEndBy control) l (frame_in_6 t octets control (begun l))

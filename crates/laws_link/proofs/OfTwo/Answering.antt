@@ -113,12 +113,9 @@ module _ (t : Terms) (l : Link) (room : length l.waiting + 1 ≤ t.control) wher
   same-waiting : (b : Bool) (u v : Course) (ws : List ControlFrame) → u.link.waiting ≡ ws → v.link.waiting ≡ ws → (cond b u v).link.waiting ≡ ws
   same-waiting b u v ws x y = grind arith
 
-  sabme-7-8 : (p : Bool) → (MultipleFrame.sabme_in_7_8 t p (begun l)).link.waiting ≡ l.waiting ++ Words.response (Ua p) ∷ []
-  sabme-7-8 p = same-waiting _ _ _ (l.waiting ++ Words.response (Ua p) ∷ []) (put _) (put _)
-
   sabme-in : (here : State) (command : Bool) (octets : List ℕ) (p : Bool)
       → AnsweredBy (asked_of here (Sabme p)) l.waiting (frame_in here t command octets (Sabme p) (begun l)).link
-  sabme-in here command octets p = grind (arith, sabme-7-8, put)
+  sabme-in here command octets p = grind (arith, same-waiting, put)
 
   disc-in : (here : State) (command : Bool) (octets : List ℕ) (p : Bool)
       → AnsweredBy (asked_of here (Disc p)) l.waiting (frame_in here t command octets (Disc p) (begun l)).link

@@ -32,9 +32,6 @@ elsewhere here down running busy a s is e = absurd (other-state here down is)
 stays-elsewhere : (here : State) → is_established here ≡ false → (state : State) → state ≡ here → (running : Option LinkTimer) (busy : Bool) (a s : ℕ) → Awaits state running busy a s
 stays-elsewhere here down state at running busy a s is e = absurd (other-state here down (sym at ∙ is))
 
-unequal : (a b : ℕ) → (a == b) ≡ false → a ≢ b
-unequal a b other is = true≢false (sym (eq-eqb a b is) ∙ other)
-
 -- what was before says nothing
 any-then : {P : Course → Type 0} (f : Step) {g : Step} → Leads Any g Awaiting → Leads P (f then g) Awaiting
 any-then f x = record { leads = λ c h. x.leads (f c) tt }
@@ -50,7 +47,7 @@ number {P} t nr f x = record { leads = λ c h. go c h (named c.link.a c.link.s n
 
 -- state 7
 acknowledged-7 : (n : ℕ) (c : Course) → c.link.a ≤ n → Awaiting (acknowledged_in_7 n c)
-acknowledged-7 n c from = grind (arith, nat_lt, t203-runs, unequal, ltb-false)
+acknowledged-7 n c from = grind (arith, nat_lt, t203-runs, eq-eqb, ltb-false)
 
 information-7 : (n : ℕ) (c : Course) → c.link.a ≤ n → Awaiting (acknowledged_by_information_in_7 n c)
 information-7 n c from = grind (arith, acknowledged-7)
@@ -68,9 +65,6 @@ module _ (t : Terms) where
 
   unsolicited-busy : (f : Bool) → Leads Busy (unsolicited t f) Busy
   unsolicited-busy f = bit_leads {f = error t ErrorCode.A} {g = nothing} f (record { leads = λ c h. h }) (record { leads = λ c h. h })
-
-  answered-at : (here : State) (b pf : Bool) → Leads (At here) (answered t b pf) (At here)
-  answered-at here b pf = bit_leads {f = answer t} {g = nothing} (b && pf) (record { leads = λ c h. h }) (record { leads = λ c h. h })
 
   contents-on : (here : State) (ns : Seq) (p : Bool) (octets : List ℕ) → Leads (On (at_state here)) (contents_in_7_8 t ns p octets) (On (at_state here))
   contents-on here ns p octets = search words depth 12 fits 4000
@@ -132,7 +126,7 @@ module _ (t : Terms) where
 
   supervisory-8 : (busy b pf : Bool) (nr : Seq) → Leads (At TimerRecovery)
       (supervisory t (particulars_in_8 t) busy b pf nr (acknowledged_in_8 T203)) Awaiting
-  supervisory-8 busy b pf nr = grind (arith, then_leads, answered-at, number, recovers)
+  supervisory-8 busy b pf nr = grind (arith, then_leads, bit_leads, number, recovers)
 
   answered-busy-at : (here : State) (b pf : Bool) → Leads (BusyAt here) (answered t b pf) (BusyAt here)
   answered-busy-at here b pf = bit_leads {f = answer t} {g = nothing} (b && pf) (record { leads = λ c h. h }) (record { leads = λ c h. h })

@@ -101,13 +101,10 @@ module _ (t : Terms) (l : Link) where
   abbrev ready : Control
   ready = ready_to_receive true l
 
-  kind-of-ready : (own : Bool) → kind_of false (cond own (ReceiveNotReady (seq l.r) true) (ReceiveReady (seq l.r) true)) ≡ answer (seq l.r)
-  kind-of-ready own = grind arith
-
   -- what waits, after the answer
   answers : (c : Course) (l' : Link) → c.link.state ≡ l.state → c.link.s ≡ l.s → c.link.r ≡ l.r → c.link.rejecting ≡ l.rejecting
       → c.link.waiting ≡ cond (has_room t l) (l.waiting ++ response ready ∷ []) l.waiting → Kept c.link l' → Went (answer (seq l.r)) l l'
-  answers c l' state s r rejecting waiting k = grind (arith, answer, grows, kind-of-ready)
+  answers c l' state s r rejecting waiting k = grind (arith, answer, grows)
 
   pub enquired-7 : (busy : Bool) (nr : Seq) (f : ℕ → Step) → ((c : Course) (n : ℕ) → Kept c.link (f n c).link)
       → IsUpIn (by_number t nr f (c-7 busy true true)) → Went (answer (seq l.r)) l (by_number t nr f (c-7 busy true true)).link

@@ -62,9 +62,6 @@ order-push q r s top xs y le p h = grind (arith, late-push, rise-push)
 pub order-calm : (q : Bool) (r : ℕ) (xs : List Kind) → Every Calm xs → Order q r r xs
 order-calm q r xs h = grind (arith, rise-late, calm-rise)
 
-pub order-beyond : (q : Bool) (r : ℕ) (xs : List Kind) → q ≡ true → Every (Beyond r) xs → Order q r r xs
-order-beyond q r xs e h = grind (arith, beyond-late)
-
 pub order-next : (q : Bool) (r s : ℕ) (xs : List Kind) → Order q r s (numbered (seq r) ∷ xs) → Rise (r + 1) s xs
 order-next q r s xs h = grind (arith, late-next, rise-next)
 

@@ -32,9 +32,6 @@ pub record Offered (t : Terms) (l : Link) (c : Course) : Type 0 where
   pub rejecting : c.link.rejecting ≡ l.rejecting
   pub gives : Gives t l c
 
-is-established : (here : State) → is_established here ≡ true → here ≡ Established
-is-established here e = grind arith
-
 module _ (t : Terms) (l : Link) where
   nothing-new : Went report l l
   nothing-new = record { state = refl; s = refl; r = refl; rejecting = refl; waiting = inl refl }
@@ -63,12 +60,9 @@ module _ (t : Terms) (l : Link) where
       (both_ways (WentIn report l) l.own_busy _ _ (reports _ (response (ReceiveReady (seq l.r) false)) refl refl refl refl refl refl) nothing-new)
 
   -- An expiry: the timer does not run, or an enquiry waits.
-  kind-of-enquiry : (own : Bool) → kind_of true (cond own (ReceiveNotReady (seq l.r) true) (ReceiveReady (seq l.r) true)) ≡ enquiry
-  kind-of-enquiry own = grind arith
-
   enquires : (l' : Link) → l'.state ≡ TimerRecovery → l'.s ≡ l.s → l'.r ≡ l.r → l'.rejecting ≡ l.rejecting
       → l'.waiting ≡ cond (has_room t l) (l.waiting ++ command (ready_to_receive true l) ∷ []) l.waiting → Asked l l'
-  enquires l' state s r rejecting waiting = grind (arith, Grown, enquiry, grows, kind-of-enquiry)
+  enquires l' state s r rejecting waiting = grind (arith, Grown, enquiry, grows)
 
   again : l.state ≡ TimerRecovery → (b : Bool) → IsUpIn (cond b (start T200 (repeated (enquire t (begun l)))) (failed t ErrorCode.I (begun l)))
       → Asked l (cond b (start T200 (repeated (enquire t (begun l)))) (failed t ErrorCode.I (begun l))).link
@@ -109,7 +103,7 @@ module _ (t : Terms) (l : Link) where
   informs : (c : Course) → may_send_information t l ≡ true → l.waiting ≡ [] → c.link.state ≡ l.state → c.link.s ≡ l.s + 1 → c.link.r ≡ l.r → c.link.rejecting ≡ l.rejecting
       → c.link.waiting ≡ l.waiting → frame_given t (given_of t l c c.sent) ≡ record (frame_of t (next_information l)) { info = unwrap_or (slice_get l.contents l.s) [] } ∷ []
       → Offered t l c
-  informs c may e state s r rejecting waits gives = grind (arith, and_parts, nat_lt, slice_get, is-established, kinds_of, frames_of, at-end)
+  informs c may e state s r rejecting waits gives = grind (arith, and_parts, nat_lt, slice_get, kinds_of, frames_of, at-end)
 
   branch : (b : Bool) (u v : Course) → (b ≡ true → Offered t l u) → Offered t l v → Offered t l (cond b u v)
   branch b u v x y = grind arith

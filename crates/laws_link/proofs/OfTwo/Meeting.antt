@@ -82,12 +82,9 @@ module _ (t : Terms) (way : List Parts) (l l' : Link) where
       (there-longer l.s r b q own own' lm (rejection (seq l.r)) tt refl (line-longer t way l.waiting l'.waiting (rejection (seq l.r)) x.4) h)
 
   -- V(S) goes back to V(R)
-  back-to : (r : ℕ) (nr : Seq) → l.a ≤ r → r ≤ l.s → l.s ≤ l.a + 127 → nr ≡ seq r → named l.a l.s nr ≡ Some l'.s → l'.s ≡ r
-  back-to r nr low high near says e = one-number l'.s r (sym e ∙ ap (λ z. named l.a l.s z) says ∙ named-number l.a l.s r low high near)
-
   sender-back : (r : ℕ) (q : Bool) (lm : List Kind) (nr : Seq) → l.a ≤ r → r ≤ l.s → l.s ≤ l.a + 127 → nr ≡ seq r → Back nr l l' → Flow r r false q own lm
       → Flow l'.s r (is_recovering l'.state) q own' lm
-  sender-back r q lm nr low high near says k h = grind (arith, flow-at, back-to, is_recovering, kept-line)
+  sender-back r q lm nr low high near says k h = grind (arith, flow-at, one-number, named-number, is_recovering, kept-line)
 
   pub sender-hears : (r : ℕ) (q : Bool) (x : Kind) (lm : List Kind) (b : Bool) → NoAlien x → l.a ≤ r → l.s ≤ l.a + 127 → is_recovering l.state ≡ b → Heard x b l l'
       → Flow l.s r b q own (x ∷ lm) → Flow l'.s r (is_recovering l'.state) q own' lm

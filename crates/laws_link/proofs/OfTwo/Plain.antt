@@ -83,9 +83,6 @@ module _ (m : End) (same : (m.link.s == m.link.s) ≡ true) where
   having c = record m { link = c.link; way = []; delivered = m.delivered ++ option_to_list c.delivered }
 
   -- the effect of an N(R)
-  abbrev effect : Seq → (ℕ → Step) → Course → Option ℕ → Course
-  effect nr f c o = elim o [ None ↦ (error m.terms ErrorCode.J then re_establish m.terms) c | Some x ↦ f x c ]
-
   acknowledged : (nr : Seq) (c : Course) → named c.link.a c.link.s nr ≡ Some c.link.s → (c.link.s == c.link.s) ≡ true
       → by_number m.terms nr acknowledged_in_7 c ≡ (acknowledge c.link.s then start T203) c
   acknowledged nr c all test = grind (arith, nat_lt)

@@ -35,9 +35,6 @@ module _ (t : Terms) (l : Link) (up : IsTrue (is_multiple_frame l.state)) (p : �
   first : Holds l.a l.s (begun l)
   first = record { up = up; low = refl; high = refl }
 
-  abbrev effect : (ℕ → Step) → Course → Option ℕ → Course
-  effect f c o = elim o [ None ↦ (error t ErrorCode.J then re_establish t) c | Some n ↦ f n c ]
-
   numbered : (f : ℕ → Step) → ((n : ℕ) → Leads Stays (f n) Stays) → (c : Course) → Holds l.a l.s c → IsUpIn (by_number t (seq p) f c)
   numbered f x c h = grind arith
 

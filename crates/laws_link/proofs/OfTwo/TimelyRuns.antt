@@ -20,11 +20,8 @@ flows-low n m h = flow-low n.link.s m.link.r (is_recovering n.link.state) m.link
 ahead : (e : Ends) → Held e → IsAhead e
 ahead e h = (flows-low e.near e.far h.there, flows-low e.far e.near h.back)
 
-mild-act : (act : Act) (n m : End) → IsTimelyAct act n m → IsMildAct act n
-mild-act act n m x = grind arith
-
 mild : (d : Doing) (e : Ends) → IsTimelyDoing d e → IsMild d e
-mild d e x = grind (arith, mild-act)
+mild d e x = grind arith
 
 flows-after : (d : Doing) (e : Ends) → Held e → IsTimelyDoing d e → IsUp (doing d e)
     → Flows (doing d e).near (doing d e).far × Flows (doing d e).far (doing d e).near

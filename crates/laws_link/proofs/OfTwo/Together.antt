@@ -46,11 +46,8 @@ done-up (at_far act) e h same ahead mild =
 first-terms : (way : List Parts) (n : End) → (with_first_of way n).terms ≡ n.terms
 first-terms way n = grind arith
 
-acting-terms : (act : Act) (e : Ends) → ((acting act e).near.terms ≡ e.near.terms) × ((acting act e).far.terms ≡ e.far.terms)
-acting-terms act e = grind (arith, first-terms)
-
 pub same-after : (d : Doing) (e : Ends) → e.near.terms.n201 ≡ e.far.terms.n201 → (doing d e).near.terms.n201 ≡ (doing d e).far.terms.n201
-same-after d e same = grind (arith, acting-terms)
+same-after d e same = grind (arith, first-terms)
 
 stay-up : (ds : List Doing) (e : Ends) → Joined e.near e.far → e.near.terms.n201 ≡ e.far.terms.n201 → StayAhead ds e → StayUp ds e
 unfolding StayUp StayAhead

@@ -5,18 +5,12 @@ use Rattle.laws_link.proofs.Vocabulary.{◌≡◌, ℕ, zero, suc, ◌+◌, ◌-
 none-sent : (t : Terms) (l : Link) (c : Course) (o : Option Sent) → given_of t l c o ≡ None → o ≡ None
 none-sent t l c o e = grind arith
 
-other-branch : (b : Bool) (u v : Course) → (u.sent ≡ None → ⊥) → (cond b u v).sent ≡ None → (b ≡ false) × (v.sent ≡ None)
-other-branch b u v x e = grind arith
-
 gives-one : (b : Bool) (u v : Course) → (u.sent ≡ None → ⊥) → (v.sent ≡ None → ⊥) → (cond b u v).sent ≡ None → ⊥
 gives-one b u v x y e = grind arith
 
-some-sent : {s : Sent} → Some s ≡ None → ⊥
-some-sent e = absurd (cc)
-
 module _ (t : Terms) (l : Link) where
   holds-nothing : (ws : List ControlFrame) → l.waiting ≡ ws → (offer_among t ws (begun l)).sent ≡ None → HasNothingToSend t l
-  holds-nothing ws w e = grind (arith, some-sent, other-branch, gives-one)
+  holds-nothing ws w e = grind (arith, gives-one)
 
   pub nothing-given : given t l ≡ None → HasNothingToSend t l
   nothing-given e = holds-nothing l.waiting refl (none-sent t l (offer_step t (begun l)) (offer_step t (begun l)).sent e)

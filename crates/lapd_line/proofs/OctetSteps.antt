@@ -61,10 +61,6 @@ octet_leads {old} {new} {s} {t} {value} h brings goes_on leads = go h brings lea
       counted = λ others l st. leads.counted others l.line st.frames ∙ ap (counted_if old l) (sym (is c.n201 l.port st.port));
     }
 
-abbrev cause_told : port.Answer → Option Cause
-cause_told (port.told x) = x.cause
-cause_told other = None
-
 -- where the answer names a cause, what may be sent stays
 pub drop_leaves : (c : Config) (value : ℕ) (l : OctetLine) (t : LineTold) → port.told t ≡ answer c (port.octet value) l → IsSome t.cause
     → may_send c (after c (port.octet value) l).line ≡ may_send c l.line

@@ -1,5 +1,5 @@
 -- What is told where the numbers begin anew.
-use Rattle.laws_link.proofs.Vocabulary.{arith, ◌≡◌, ℕ, Bool, true, false, cond, List, ◌⊎◌, true≢false, list_any, Control, Sabme, Ua, State, AwaitingEstablishment, Terms, Link, restarts, MayEstablish, Establishes, Course, begun, tells_beginning, IsSeen, both_ways, Event, after, frame_in, frame_step, told}
+use Rattle.laws_link.proofs.Vocabulary.{arith, ◌≡◌, ℕ, Bool, true, false, List, ◌⊎◌, list_any, Control, Sabme, Ua, State, AwaitingEstablishment, Terms, Link, restarts, MayEstablish, Establishes, Course, begun, tells_beginning, IsSeen, both_ways, Event, after, frame_in, frame_step, told}
 use Rattle.laws_link.proofs.Restarts.{establishes}
 
 abbrev Tells : Course → Type 0

@@ -1,6 +1,6 @@
 -- What follows an event, from what it leaves.
-use Rattle.laws_link.proofs.Vocabulary.{arith, ◌≡◌, ap, sym, subst, State, Terms, Link, after, told, Follows, as_heard, state_after, put, waiting_left, takes_contents, pending_left, Event}
-use Rattle.laws_link.proofs.Columns.{Left, queued_by, owed_by}
+use Rattle.laws_link.proofs.Vocabulary.{arith, ◌≡◌, ap, State, Terms, Link, after, told, Follows, as_heard, state_after, put, waiting_left, Event}
+use Rattle.laws_link.proofs.Columns.{Left, queued_by}
 use Rattle.laws_link.proofs.Placing.{placed}
 use Rattle.laws_link.proofs.EachRow.{each-row}
 

@@ -1,5 +1,5 @@
 -- Most words of the tables leave V(S) and own busy, and tell no loss; an error that is told may end own busy.
-use Rattle.laws_link.proofs.Vocabulary.{arith, ◌≡◌, ℕ, Bool, true, false, ◌||◌, List, [], ◌∷◌, ◌++◌, refl, ap, ◌∙◌, ◌⊎◌, inl, inr, ⊎_elim, list_any, list_any-append, Note, ErrorCode, Terms, Link, Course, begun, ◌then◌, Leads, keeping_then, nothing_leads, depending_leads, bit_leads, is_loss, tells_loss, is_anew, tells_anew, leaves, number_leads, deliver, deliver_unit, note}
+use Rattle.laws_link.proofs.Vocabulary.{arith, ◌≡◌, ℕ, Bool, true, false, ◌||◌, List, [], ◌∷◌, ◌++◌, refl, ap, ◌∙◌, ◌⊎◌, inl, list_any, list_any-append, Note, ErrorCode, Terms, Link, Course, begun, ◌then◌, Leads, keeping_then, nothing_leads, depending_leads, bit_leads, is_loss, tells_loss, is_anew, tells_anew, leaves, number_leads, deliver, deliver_unit, note}
 use Rattle.model_link.specs.MultipleFrame
 use Rattle.laws_link.proofs.Queueing.{no_loss-note}
 

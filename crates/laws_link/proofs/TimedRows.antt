@@ -1,5 +1,5 @@
 -- A link that awaits something has its timer: the rows by state, and every event.
-use Rattle.laws_link.proofs.Vocabulary.{arith, ◌≡◌, ℕ, ◌+◌, Bool, true, false, cond, ◌&&◌, List, [], ◌∷◌, Option, Some, None, inl, inr, refl, sym, subst, true≢false, Control, Ua, Dm, ErrorCode, Refusal, State, TeiAssigned, AwaitingEstablishment, AwaitingRelease, Established, TimerRecovery, LinkTimer, T200, T203, ControlFrame, Terms, Link, fresh, runs, Course, begun, changed, establish_in_4, Leads, IsTimed, IsTimedIn, leaves, told_ways, ClearBusy, Data, Establish, Event, Release, Request, SetBusy, cleared, expired, frame, offer, overlong, received, requested, undefined, wrong_size, pending_is, start, clear_busy_in_7_8, data_in_7_8, set_busy_in_7_8, give_information, is_established, may_send_information, offer_among, with_one_sent, after, after_all, course, expired_in, frame_in, frame_step, is_running, malformed_in}
+use Rattle.laws_link.proofs.Vocabulary.{arith, ◌≡◌, ℕ, ◌+◌, Bool, true, false, cond, ◌&&◌, List, [], ◌∷◌, Option, Some, None, refl, subst, Control, Ua, Dm, ErrorCode, Refusal, State, TeiAssigned, AwaitingEstablishment, AwaitingRelease, Established, TimerRecovery, LinkTimer, T200, ControlFrame, Terms, Link, fresh, runs, Course, begun, changed, Leads, IsTimed, IsTimedIn, told_ways, Event, Request, cleared, expired, frame, offer, overlong, received, requested, undefined, wrong_size, pending_is, start, give_information, is_established, may_send_information, offer_among, with_one_sent, after, after_all, course, expired_in, frame_in, frame_step, is_running, malformed_in}
 use Rattle.model_link.specs.Requests
 use Rattle.laws_link.proofs.Timing.{TimedBy, At, Ends, at_ends, failed_timed, ends, rows}
 

@@ -1,5 +1,5 @@
 -- Own busy ends at an end: what its request and its RR leave, at that end and at the other.
-use Rattle.laws_link.proofs.Vocabulary.{◌≡◌, ℕ, ◌≤◌, Bool, true, false, cond, IsTrue, List, [], ◌∷◌, ◌++◌, Option, Some, refl, sym, ap, subst, ◌∙◌, append-nil, true≢false, arith, nat_lt, lt-ltb, seq, named, ReceiveReady, Parts, State, LinkTimer, T200, Terms, Link, is_multiple_frame, frame, received, requested, ClearBusy, IsInRange, Course, begun, End, with_link, with_sent, with_first_lost, response}
+use Rattle.laws_link.proofs.Vocabulary.{◌≡◌, ℕ, ◌≤◌, Bool, true, false, cond, IsTrue, List, [], ◌∷◌, ◌++◌, Some, refl, sym, ap, subst, ◌∙◌, append-nil, arith, nat_lt, lt-ltb, seq, named, ReceiveReady, Parts, State, T200, Terms, Link, is_multiple_frame, frame, received, requested, ClearBusy, IsInRange, Course, begun, End, with_link, with_sent, with_first_lost, response}
 use Rattle.laws_link.proofs.OfTwo.Plain.{acknowledgement_frame}
 use Rattle.laws_link.proofs.OfTwo.Shapes.{in_8_with, in_7_with, having, acknowledged-8}
 use Rattle.laws_link.proofs.OfTwo.Acknowledging.{Acknowledges, by-rr}

@@ -1,6 +1,5 @@
 -- A link that meets what the law of a gap asks, and the REJ that the law gives.
-use Rattle.laws_link.proofs.Vocabulary.{◌≡◌, ◌+◌, ◌≤◌, false, [], ◌∷◌, ◌++◌, length, refl, arith, seq, distance_of, named, Address, Reject, supervisory_of, unnumbered_of, control_of, header_of, reading, frame, received, after, after_all, response, usual, up, i_frame, IsFirstGap}
-use Rattle.laws_link.proofs.OfTwo.Gapping.{gap-rejected}
+use Rattle.laws_link.proofs.Vocabulary.{◌+◌, ◌≤◌, length, arith, seq, distance_of, named, supervisory_of, unnumbered_of, control_of, header_of, reading, after_all, usual, up}
 
 -- I-frame 1 comes, with N(R) = 0, to a link in state 7 that awaits number 0
 room : length up.waiting + 1 ≤ usual.control

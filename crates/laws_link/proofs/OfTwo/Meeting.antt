@@ -1,5 +1,5 @@
 -- One direction between two links whose T200 is timely, as one of the two goes on or hears a frame.
-use Rattle.laws_link.proofs.Vocabulary.{arith, ◌≡◌, ℕ, ◌+◌, ◌≤◌, Bool, true, false, List, [], ◌∷◌, ◌++◌, Some, refl, sym, ap, subst, ◌∙◌, append_assoc, ◌⊎◌, inl, inr, Seq, seq, named, Parts, ControlFrame, Terms, Link, frame_of, frames_of, frames-append}
+use Rattle.laws_link.proofs.Vocabulary.{arith, ◌≡◌, ℕ, ◌+◌, ◌≤◌, Bool, true, false, List, [], ◌∷◌, ◌++◌, Some, refl, sym, ap, subst, ◌∙◌, append_assoc, ◌⊎◌, inl, inr, Seq, seq, Parts, ControlFrame, Terms, Link, frames_of, frames-append}
 use Rattle.laws_link.proofs.OfTwo.Halves.{named-number}
 use Rattle.laws_link.proofs.OfTwo.Trains.{Kind, numbered, enquiry, answer, report, rejection, alien, kinds_of, kinds-append, one_enquiry, one_answer, one_rejection, Calm}
 use Rattle.laws_link.proofs.OfTwo.Flow.{Order, RejectsAt, AnswersAt, Flow, flow-low, there-calm, there-tail, back-other, back-tail}

@@ -1,8 +1,7 @@
 -- The premises are met: by two links that begin, by the worked run in which every frame is lost, and by one in which a
 -- frame is lost and REJ makes it good.
-use Rattle.laws_link.proofs.Vocabulary.{◌≡◌, Bool, true, false, ◌&&◌, List, [], ◌∷◌, length, refl, inr, arith, nat_lt, nat_le, and_parts, ltb-true, leb-true, seq, distance_of, named, supervisory_of, unnumbered_of, control_of, header_of, reading, Request, Release, after_all, End, Ends, Act, asks, expires, Doing, at_near, at_far, doing, doing_all, StayUp, IsTimed, both, mended, IsMildRequest, IsMildAct, IsMild, StayAhead, IsReady, IsTaken, HasUnsent, IsSilent, HasMissing, losing, cut_off}
+use Rattle.laws_link.proofs.Vocabulary.{Bool, true, false, length, refl, inr, arith, leb-true, seq, distance_of, named, supervisory_of, unnumbered_of, control_of, header_of, reading, Request, Release, after_all, IsTimed, both, IsReady, IsTaken, HasUnsent}
 use Rattle.laws_link.proofs.OfTwo.Premises.{begins}
-use Rattle.laws_link.proofs.OfTwo.Together.{all-stay_up}
 
 -- a test of what goes on ahead
 unfoldable pub mild_request : Request → Bool

@@ -1,5 +1,5 @@
 -- Two links whose T200 is timely, from an establishment on.
-use Rattle.laws_link.proofs.Vocabulary.{◌≡◌, ℕ, ◌+◌, ◌≤◌, false, List, [], ◌∷◌, ap, ◌∙◌, arith, End, Ends, Act, asks, expires, Doing, at_near, at_far, doing, doing_all, Begins, IsUp, StayUp, Agree, Joined, joined-turned, joined-first, done-at, ends-agree, IsTimed, IsAhead, IsMild, IsMildAct, IsTimelyAct, IsTimelyDoing, StayTimely, IsHushed, IsSilent, HasMissing, with_t200_expired, rounds}
+use Rattle.laws_link.proofs.Vocabulary.{◌≡◌, ℕ, ◌+◌, ◌≤◌, false, List, [], ◌∷◌, ap, ◌∙◌, arith, End, Ends, Doing, at_near, at_far, doing, doing_all, Begins, IsUp, StayUp, Agree, Joined, joined-turned, joined-first, done-at, ends-agree, IsTimed, IsAhead, IsMild, IsTimelyDoing, StayTimely, IsHushed, IsSilent, HasMissing, with_t200_expired, rounds}
 use Rattle.laws_link.proofs.OfTwo.Arriving.{Arrived}
 use Rattle.laws_link.proofs.OfTwo.Reached.{reached}
 use Rattle.laws_link.proofs.OfTwo.Together.{done-up, same-after}

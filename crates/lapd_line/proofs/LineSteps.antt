@@ -1,5 +1,5 @@
 -- What a call on the entities of a line does to the line.
-use Rattle.lapd_line.proofs.Vocabulary.{arith, ◌≡◌, fold-append, ℕ, List, [], ◌++◌, Option, Some, None, refl, sym, ap, ◌∙◌, subst, false≢true, Cause, Timer, Owned, Store, SameLimits, Config, Event, LineTold, told, dropped, hears, expiry, aim_of_expiry, after, answer, IsSome, Counters, More, with_all, heard_shown, shown, answer_shown, told_shown, FrameLine, LinkLayer, BareReport, Report, Serves, aim_of_event, report_told, told_in, Leads, LeadsIfHeard, answer_if_heard, config_of, with_counted, bare_shown}
+use Rattle.lapd_line.proofs.Vocabulary.{◌≡◌, fold-append, ℕ, List, [], ◌++◌, Option, Some, None, refl, sym, ap, ◌∙◌, subst, false≢true, Cause, Timer, Owned, Store, SameLimits, Config, Event, LineTold, told, dropped, hears, expiry, aim_of_expiry, after, answer, IsSome, Counters, More, with_all, heard_shown, shown, answer_shown, told_shown, FrameLine, LinkLayer, BareReport, Report, Serves, aim_of_event, report_told, told_in, Leads, LeadsIfHeard, answer_if_heard, config_of, with_counted, bare_shown}
 use Rattle.model_bits.specs.Stream as stream
 use Rattle.lapd_count.specs.Counters.{with_more}
 use Rattle.model_line.specs.Line as machine
@@ -35,7 +35,8 @@ leads_on {event} {old} {t = t} all config limits goes are is = record {
 pub heard_told : (old : FrameLine) {s : Store} {e : LinkLayer} {t : Store} {o : BareReport} (h : Option stream.Event) → Serves (aim_of_event (config_of old) h) (octets_of h) old.layer s e t o
     → (others : List Owned) (m : machine.Line) → Stands old s others m → told (told_in (octets_of h) o) ≡ answer_if_heard (config_of old) h m
 unfolding answer
-heard_told old h served others m st = grind arith
+heard_told old None served others m st = ap told (served.told others m st.layer)
+heard_told old (Some x) served others m st = ap told (served.told others m st.layer)
 
 pub heard_leads : (old : FrameLine) {new : FrameLine} {s : Store} {e : LinkLayer} {t : Store} {o : BareReport} (h : Option stream.Event) → IsSome h → Serves (aim_of_event (config_of old) h) (octets_of h) old.layer s e t o
     → new ≡ gone_on old e (heard_shown (config_of old).side h ++ bare_shown o) → LeadsIfHeard h old s new t

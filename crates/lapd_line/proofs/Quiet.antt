@@ -1,5 +1,5 @@
 -- A report that tells nothing but orders.
-use Rattle.lapd_line.proofs.Vocabulary.{arith, ◌≡◌, ℕ, [], List, drop, listed, LineTold, nothing, told_in, bare_shown, BareReport}
+use Rattle.lapd_line.proofs.Vocabulary.{◌≡◌, ℕ, [], List, drop, listed, LineTold, nothing, told_in, bare_shown, BareReport}
 use Rattle.std.specs.Option.{option_or}
 use Rattle.std.specs.Prelude.{None, Some, if◌then◌else◌}
 use Rattle.lapd_count.specs.Shown.{told_shown}
@@ -12,4 +12,10 @@ quiet_shown r quiet = λ i. told_shown (quiet.notes i) (option_or (unserved_caus
 
 -- it tells its orders, whatever came
 pub quiet_told : (octets : List ℕ) (r : BareReport) → IsQuiet r → told_in octets r ≡ record nothing { orders = listed r.orders }
-quiet_told octets r quiet = grind arith
+quiet_told octets r quiet = λ i. record {
+  notes = quiet.notes i;
+  contents = option_or (if quiet.delivered i then Some (drop r.start octets) else None) (if quiet.unit i then Some (drop r.start octets) else None);
+  cause = option_or (unserved_cause (quiet.unserved i)) (quiet.cause i);
+  orders = listed r.orders;
+  lost = quiet.lost i;
+}

@@ -1,5 +1,5 @@
 -- A request of a line: what its arms say as one refusal, and what the line makes of it.
-use Rattle.lapd_line.proofs.Vocabulary.{arith, ◌≡◌, ℕ, Bool, true, false, List, [], ◌∷◌, ◌++◌, Option, Some, None, Result, IfOk, IfErr, OnOk, refl, sym, ap, subst, ◌∙◌, cond, Refusal, Service, Owned, Store, Config, told, after, answer, unless_refused, unless_refused_told, Aim, of_aim, Row, first_that_holds, bad_tei, bad_tei_or_group, no_link, no_link_nor_group, wrong_state, too_long, queue_full, unit_queue_full, pool_full, refusal, Request, request_of, Establish, Release, Data, Unit, Assign, Remove, Check, SetBusy, ClearBusy, Deactivate, Down, aim_of_request, at_requested, LinkRequest, link_refusal, FrameLine, LinkLayer, BareReport, Report, Serves, bare_shown, report_told, told_in, answer_shown, told_shown, Leads, config_of}
+use Rattle.lapd_line.proofs.Vocabulary.{◌≡◌, ℕ, Bool, true, false, List, [], ◌∷◌, ◌++◌, Option, Some, None, Result, IfOk, IfErr, OnOk, refl, sym, ap, subst, ◌∙◌, cond, Refusal, Service, Owned, Store, Config, told, after, answer, unless_refused, unless_refused_told, Aim, of_aim, Row, first_that_holds, bad_tei, bad_tei_or_group, no_link, no_link_nor_group, wrong_state, too_long, queue_full, unit_queue_full, pool_full, refusal, Request, request_of, Establish, Release, Data, Unit, Assign, Remove, Check, SetBusy, ClearBusy, Deactivate, Down, aim_of_request, at_requested, LinkRequest, link_refusal, FrameLine, LinkLayer, BareReport, Report, Serves, bare_shown, report_told, told_in, answer_shown, told_shown, Leads, config_of}
 use Rattle.model_line.specs.Event as line_event
 use Rattle.model_line.specs.Line as machine
 use Rattle.model_line.specs.declared.requests.Request as asking
@@ -58,11 +58,23 @@ last_row [] full e = refl
 last_row (row ∷ rows) full e = go row.holds (last_row rows full) e
   where
     go : {x y : Option Refusal} (b : Bool) → (x ≡ None → y ≡ None) → cond b (Some row.why) x ≡ None → cond b (Some row.why) y ≡ None
-    go b f e = grind arith
+    go true f e = e
+    go false f e = f e
 
 -- what is granted, whether the pool is full or not, is granted with room
 pub with_room : (c : Config) (full : Bool) (r : Request) (l : machine.Line) → refusal c full r l ≡ None → refusal c false r l ≡ None
-with_room c full r l e = grind (arith, last_row)
+with_room c full (Establish service tei) l e = e
+with_room c full (Release service tei) l e = e
+with_room c full (Data service tei contents) l e =
+    last_row (bad_tei tei ∷ no_link tei l ∷ wrong_state service tei (link.Data contents) l ∷ too_long c contents ∷ queue_full c service tei l ∷ []) full e
+with_room c full (Unit service tei contents) l e = last_row (bad_tei_or_group c tei ∷ no_link_nor_group tei l ∷ too_long c contents ∷ unit_queue_full c l ∷ []) full e
+with_room c full (Assign tei) l e = e
+with_room c full (Remove tei) l e = e
+with_room c full (Check tei) l e = e
+with_room c full (SetBusy service tei) l e = e
+with_room c full (ClearBusy service tei) l e = e
+with_room c full (Deactivate service tei) l e = e
+with_room c full Down l e = e
 
 -- the entities tell what the machine answers to a request that is granted
 pub request_told : {e new : LinkLayer} {s t : Store} {o : BareReport} (full : Bool) (r : Request) (report : Report)

@@ -1,5 +1,5 @@
 -- Bits in which no flag and no abort ends go on the open gap all at once.
-use Rattle.lapd_bits.proofs.Vocabulary.{◌≡◌, ◌≢◌, ℕ, suc, zero, ◌+◌, ◌-◌, ◌<◌, ◌≤◌, Bool, true, false, List, [], ◌∷◌, ◌++◌, ◌||◌, reverse, replicate, Option, Some, None, option_map, option_to_list, refl, ap, sym, ◌∙◌, subst, arith, append-nil, false≢true, ⊎_elim, cases_lt, reverse-append, append_cancel_left, reverse-reverse, low_bits, unstuffed, heard_until, heard_at, run_of, open_gap, one_more, HoldsGap, HoldsPast, with_bits, has_six, IsContent, IsJoined, Gap, ones_after-reverse, heard_at-one, heard_at-zero, open_gap-one, open_gap-zero, ones_after, unstuffed_after, unstuffed-counted, unstuffed_after-append, reverse_aux-onto, one_further}
+use Rattle.lapd_bits.proofs.Vocabulary.{◌≡◌, ◌≢◌, ℕ, suc, zero, ◌+◌, ◌-◌, ◌<◌, ◌≤◌, Bool, true, false, List, [], ◌∷◌, ◌++◌, ◌||◌, reverse, replicate, Option, None, option_map, option_to_list, refl, ap, sym, ◌∙◌, subst, arith, append-nil, false≢true, ⊎_elim, cases_lt, reverse-append, append_cancel_left, reverse-reverse, low_bits, unstuffed, heard_until, heard_at, run_of, open_gap, one_more, HoldsGap, HoldsPast, with_bits, has_six, IsContent, IsJoined, Gap, ones_after-reverse, heard_at-one, heard_at-zero, open_gap-one, open_gap-zero, ones_after, unstuffed_after, unstuffed-counted, unstuffed_after-append, reverse_aux-onto, one_further}
 use mathlib.Core.List.{reverse_aux}
 use Rattle.lapd_bits.proofs.BitSteps.{open_run, for_open}
 

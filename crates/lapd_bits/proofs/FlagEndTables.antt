@@ -1,5 +1,5 @@
 -- The tables hold what each octet brings in which a flag ends.
-use Rattle.lapd_bits.proofs.Vocabulary.{◌≡◌, ℕ, ◌+◌, ◌^◌, ◌<◌, ◌≤◌, Bool, true, false, ◌&&◌, ◌||◌, List, [], ◌∷◌, ◌++◌, get_or, map, replicate, reverse, nat_eq, nat_le, nat_lt, if◌then◌else◌, refl, sym, ap, ◌∙◌, arith, range_with_len, and-true, and-false, leb-true, ltb-true, eqb-true, and_parts, le-ltb, ne_eqb, false≢true, get_or-map-range_with_len, low_bits, same_bits, unstuffed, run_of, ones_before, behind_zero, ends_nothing, only_flag_ends, IsFlagEnd, ONES_BEFORE, BITS_BEHIND, COUNTS_BEHIND, RUNS_BEHIND, same_from_test}
+use Rattle.lapd_bits.proofs.Vocabulary.{◌≡◌, ℕ, ◌+◌, ◌^◌, ◌<◌, ◌≤◌, Bool, true, false, ◌&&◌, ◌||◌, List, [], ◌∷◌, ◌++◌, get_or, map, replicate, reverse, nat_eq, nat_le, nat_lt, if◌then◌else◌, refl, ap, ◌∙◌, arith, range_with_len, and-true, and-false, leb-true, ltb-true, eqb-true, and_parts, le-ltb, ne_eqb, get_or-map-range_with_len, low_bits, same_bits, unstuffed, run_of, ones_before, behind_zero, ends_nothing, only_flag_ends, IsFlagEnd, ONES_BEFORE, BITS_BEHIND, COUNTS_BEHIND, RUNS_BEHIND, same_from_test}
 use Rattle.lapd_bits.proofs.Tested.{all_pass}
 
 -- the bits of an octet behind its first 0

@@ -1,5 +1,5 @@
 -- An octet that is a flag: its first 0 goes on the open gap, then the 1s, and its last bit closes it.
-use Rattle.lapd_bits.proofs.Vocabulary.{arith, ◌≡◌, ◌≢◌, ℕ, Bool, true, false, List, [], ◌∷◌, ◌++◌, replicate, Option, Some, option_to_list, refl, ap, sym, ◌∙◌, subst, append-nil, low_bits, Event, heard_until, heard_at, run_of, open_gap, closed_event, AssemblesIn, HoldsGap, HoldsPast, with_bits, Gap, heard_at-flag, heard_at-zero, open_gap-flag}
+use Rattle.lapd_bits.proofs.Vocabulary.{arith, ◌≡◌, ◌≢◌, ℕ, Bool, true, false, List, [], ◌∷◌, ◌++◌, replicate, Option, Some, option_to_list, refl, ap, sym, ◌∙◌, append-nil, low_bits, Event, heard_until, heard_at, run_of, open_gap, closed_event, AssemblesIn, HoldsPast, with_bits, Gap, heard_at-flag, heard_at-zero, open_gap-flag}
 use Rattle.lapd_bits.proofs.Idle.{onto-ones}
 use Rattle.lapd_bits.proofs.FlagEnd.{quiet_ones, run_is_six}
 

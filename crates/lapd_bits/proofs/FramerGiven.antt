@@ -1,5 +1,5 @@
 -- What a framer has to give, as octets and bits go.
-use Rattle.lapd_bits.proofs.Vocabulary.{◌≡◌, ℕ, suc, ◌+◌, ◌-◌, ◌*◌, ◌≤◌, ◌<◌, ◌↔◌, IsTrue, Bool, nat_lt, List, ◌++◌, length, take, drop, drop-cons, get_or, refl, ap, sym, ◌∙◌, arith, ⊎_elim, append_assoc, length-append, lt-ltb, le-ltb, cases_lt, false≢true, drop_all, length-drop, low_bits, bits, flag, refilled, still_held, to_give, Waiting, length-low_bits, length-bits}
+use Rattle.lapd_bits.proofs.Vocabulary.{◌≡◌, ℕ, suc, ◌+◌, ◌-◌, ◌*◌, ◌≤◌, ◌<◌, ◌↔◌, IsTrue, Bool, nat_lt, List, ◌++◌, length, take, drop, drop-cons, get_or, refl, ap, ◌∙◌, arith, ⊎_elim, append_assoc, length-append, lt-ltb, le-ltb, cases_lt, drop_all, length-drop, low_bits, bits, flag, refilled, still_held, to_give, Waiting, length-low_bits, length-bits}
 use Rattle.std.proofs.lemmas.List.{length-take, get_or-take}
 
 -- ---- how much it is

@@ -1,5 +1,5 @@
 -- What a framer stands for, one item or one octet more.
-use Rattle.lapd_bits.proofs.Vocabulary.{◌≡◌, ℕ, ◌<◌, ◌≤◌, List, [], ◌∷◌, ◌++◌, length, refl, ap, sym, ◌∙◌, arith, ⊎_elim, append_assoc, length-append, lt-ltb, le-ltb, cases_lt, bits, flag, low_bits, Item, idle, frame_text, item_text, frame, first_four, head_of, Framing, Stands, refilled, with_idle, still_held, last_octets, begun_of, length-low_bits, bits-push, line_text-push, last_octets-push, latest-push}
+use Rattle.lapd_bits.proofs.Vocabulary.{◌≡◌, ℕ, ◌<◌, ◌≤◌, List, [], ◌∷◌, ◌++◌, length, ap, sym, ◌∙◌, arith, ⊎_elim, append_assoc, length-append, lt-ltb, le-ltb, cases_lt, bits, flag, low_bits, Item, idle, item_text, frame, first_four, head_of, Framing, Stands, refilled, with_idle, still_held, last_octets, begun_of, length-low_bits, bits-push, line_text-push, last_octets-push, latest-push}
 
 -- a frame of these octets begins with them
 pub begun_by : (octets first : List ℕ) (size : ℕ) → first ≡ first_four octets → length octets ≡ size → 1 ≤ length octets

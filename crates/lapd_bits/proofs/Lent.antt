@@ -1,5 +1,5 @@
 -- What a deframer lends until its next octet.
-use Rattle.lapd_bits.proofs.Vocabulary.{arith, ◌≡◌, ℕ, List, [], ◌∷◌, ◌++◌, Option, length, reverse, option_to_list, sym, ap, subst, ◌∙◌, same_from_push, bits, Event, heard_until, heard_in, room_for, with_bits, HoldsPast}
+use Rattle.lapd_bits.proofs.Vocabulary.{arith, ◌≡◌, ℕ, List, [], ◌∷◌, ◌++◌, Option, length, reverse, option_to_list, same_from_push, bits, Event, heard_until, heard_in, room_for, with_bits, HoldsPast}
 use Rattle.lapd_bits.specs.Deframer.{Stands, latest_of}
 use Rattle.lapd_bits.specs.declared.deframer.Deframer.{Deframer}
 use Rattle.lapd_bits.proofs.BitSteps.{with_bits-octet}

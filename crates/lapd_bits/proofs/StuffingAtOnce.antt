@@ -1,5 +1,5 @@
 -- Bits are stuffed all at once, the 0 after a fifth 1 with it.
-use Rattle.lapd_bits.proofs.Vocabulary.{◌≡◌, ℕ, suc, ◌≤◌, Bool, true, false, List, [], ◌∷◌, ◌++◌, drop, replicate, refl, ap, sym, ◌∙◌, arith, ⊎_elim, append_assoc, lt-ltb, le-ltb, cases_lt, drop_at, length-replicate, low_bits, stuffed, first_ones, last_ones, text_after, Goes, ones_sent, stuffed_after, stuffed_zero, ones_left, stuffed_alike, stuffed_after_fifth}
+use Rattle.lapd_bits.proofs.Vocabulary.{◌≡◌, ℕ, suc, ◌≤◌, Bool, true, false, List, [], ◌∷◌, ◌++◌, drop, replicate, refl, ap, sym, ◌∙◌, arith, append_assoc, lt-ltb, le-ltb, cases_lt, drop_at, length-replicate, low_bits, stuffed, first_ones, last_ones, text_after, Goes, ones_sent, stuffed_after, stuffed_zero, ones_left, stuffed_alike, stuffed_after_fifth}
 
 -- the end of a stuffed text, by the count of 1s
 stuffed_end : (n : ℕ) (b : List Bool) → n ≤ 4 → drop n (stuffed (replicate n true ++ b)) ≡ stuffed_after n b

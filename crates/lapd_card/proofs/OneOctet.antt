@@ -1,11 +1,10 @@
 -- An event at a card of octets: what it means to the card of frames, and what becomes of its port.
-use Rattle.lapd_card.proofs.Vocabulary.{arith, ◌≡◌, ◌⊎◌, inl, inr, ℕ, ◌<◌, Bool, true, false, List, [], ◌∷◌, ◌++◌, length, refl, sym, ap, subst, ◌∙◌, cond, lt-ltb, set, set-get_or, Option, None, Some, IsSome, IfSome, is_some, option_map, option_map_or, option_to_list, Result, Ok, Err, OnErr, All-cons, All-nil, All-head, Refusal, Report, ShortList, Order, Store, Counters, none_counted, all_counted, moment_counted, moment_of, Card, line_at, may_send, frames_by_event, reached-sound, Timer, Request, BareReport, Port, PortStands, told_in, told_if, latest_in, latest_frame, with_frame, orders_taken, IsLoaded, IsSaid, Pulls, OctetCard, port_at, counters_in}
+use Rattle.lapd_card.proofs.Vocabulary.{arith, ◌≡◌, ◌⊎◌, ℕ, ◌<◌, Bool, true, false, List, [], ◌∷◌, ◌++◌, length, refl, sym, ap, subst, ◌∙◌, cond, lt-ltb, set, set-get_or, Option, None, Some, IsSome, IfSome, is_some, option_map, option_map_or, option_to_list, Result, Ok, Err, OnErr, All-cons, All-nil, All-head, Refusal, Report, ShortList, Order, Store, Counters, all_counted, moment_counted, moment_of, Card, line_at, may_send, frames_by_event, reached-sound, Timer, Request, BareReport, Port, PortStands, told_in, told_if, latest_in, latest_frame, with_frame, orders_taken, IsLoaded, IsSaid, Pulls, OctetCard, port_at, counters_in}
 use Rattle.lapd_bits.specs.Ended.{without_octets}
 use Rattle.lapd_bits.specs.declared.ended.Ended.{Ended}
 use Rattle.lapd_bits.specs.declared.ended.Ended.TheVariants as ended
 use Rattle.model_bits.specs.Stream as stream
 use Rattle.model_line.specs.Event as line
-use Rattle.model_line.specs.Line as lines
 unfoldable use Rattle.model_line.specs.Machine.{after as line_after, answer as line_answer, takes_slot}
 use Rattle.model_line.specs.Taken.{Taken, taken, next_of}
 use Rattle.model_card.specs.ByEvent as by_event

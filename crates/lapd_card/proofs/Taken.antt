@@ -1,6 +1,6 @@
 -- A list of events, one by one, and what a sink has taken of it.
-use Rattle.lapd_card.proofs.Vocabulary.{◌≡◌, ℕ, ◌+◌, zero, suc, List, [], ◌∷◌, ◌++◌, map, take, refl, sym, ap, subst, ◌∙◌, Some, slice_get, arith, false≢true, none-some, same_Some, is_err, OnOk, fold-append, Card, Event, one_more, run, moments, moment_of, moment_counted, all_counted, run_is_moments, after_all, Counters, Taken}
-use Rattle.std.specs.Prelude.{Result, Ok, Err, OnErr, true, false}
+use Rattle.lapd_card.proofs.Vocabulary.{◌≡◌, ℕ, ◌+◌, zero, suc, List, [], ◌∷◌, ◌++◌, map, take, refl, sym, ap, subst, ◌∙◌, Some, slice_get, arith, none-some, same_Some, is_err, OnOk, fold-append, Card, Event, one_more, run, moments, moment_of, moment_counted, all_counted, run_is_moments, after_all, Counters, Taken}
+use Rattle.std.specs.Prelude.{Result, OnErr, true, false}
 use Rattle.lapd_card.proofs.Counting.{moments-more}
 
 -- one reply more

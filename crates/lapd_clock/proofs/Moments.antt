@@ -1,5 +1,5 @@
 -- What an order does to the map from timers to moments.
-use Rattle.lapd_clock.proofs.Vocabulary.{arith, ◌≡◌, ℕ, ◌+◌, Bool, true, false, cond, not, ◌&&◌, ◌==◌, List, [], ◌∷◌, None, Some, refl, sym, ap, ◌∙◌, AllByRecursion, false≢true, nat_eq_equiv, eq_by_cmp_equiv, put_in_order, Timer, Start, Stop, duration, is_same, Expiry, Timers, is_before, is_of, without, with_expiry, finds_place, with_order, moment_of, MovesOne}
+use Rattle.lapd_clock.proofs.Vocabulary.{arith, ◌≡◌, ℕ, ◌+◌, true, false, cond, not, ◌&&◌, ◌==◌, List, [], ◌∷◌, None, Some, refl, sym, ap, ◌∙◌, AllByRecursion, false≢true, nat_eq_equiv, eq_by_cmp_equiv, put_in_order, Timer, Start, Stop, duration, is_same, Expiry, Timers, is_before, is_of, without, finds_place, with_order, moment_of, MovesOne}
 use Rattle.lapd_clock.proofs.Ordered.{by_place}
 use Rattle.lapd_clock.proofs.TimerOrder.{timer_total}
 use Rattle.lapd_clock.proofs.Running.{none_of-without}

@@ -1,5 +1,5 @@
 -- Lists in an order: what `put_in_order` and an insertion sort do to them.
-use Rattle.lapd_clock.proofs.Vocabulary.{◌++◌, ◌≡◌, ℕ, suc, ◌+◌, Bool, true, false, cond, not, List, [], ◌∷◌, filter, count_by, refl, sym, ap, ◌∙◌, arith, subst, false≢true, sum_by-cons, sum_by-insert, IsStrictWeakOrder, AllByRecursion, prefix_len, insert, position_or_len, sum_by, put_in_order, IsInOrder, recursion_from_All, All-from_recursion}
+use Rattle.lapd_clock.proofs.Vocabulary.{◌++◌, ◌≡◌, ℕ, suc, ◌+◌, Bool, true, false, cond, not, List, [], ◌∷◌, filter, count_by, refl, sym, ap, ◌∙◌, arith, sum_by-cons, sum_by-insert, IsStrictWeakOrder, AllByRecursion, prefix_len, insert, position_or_len, sum_by, put_in_order, IsInOrder, recursion_from_All, All-from_recursion}
 use Rattle.std.proofs.lemmas.List.Elements as lists
 
 -- a count over one more element

@@ -1,5 +1,5 @@
 -- The measure by which it ends to wait for the timers that fall due until a moment.
-use Rattle.lapd_clock.proofs.Vocabulary.{◌≡◌, ℕ, ◌+◌, ◌-◌, ◌≤◌, true, false, cond, not, List, ◌∷◌, refl, ap, ◌∙◌, arith, sum_by, sum_by-filter_both, sum_by-cons, put_in_order, Timer, Start, Stop, duration, Expiry, Timers, is_before, is_of, without, finds_place, with_order, after_first_due, after_due, time_until}
+use Rattle.lapd_clock.proofs.Vocabulary.{◌≡◌, ℕ, ◌+◌, ◌-◌, ◌≤◌, not, List, ◌∷◌, refl, ap, ◌∙◌, arith, sum_by, sum_by-filter_both, sum_by-cons, Timer, Start, Stop, duration, Expiry, Timers, is_of, without, with_order, after_first_due, after_due, time_until}
 use Rattle.lapd_clock.proofs.Ordered.{sum_by-put_in_order}
 use Rattle.lapd_clock.proofs.Calls.{one_taken}
 

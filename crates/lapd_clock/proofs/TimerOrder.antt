@@ -1,5 +1,5 @@
 -- The order in which timers fall due is total, and only equal ones tie.
-use Rattle.lapd_clock.proofs.Vocabulary.{◌≡◌, false, refl, sym, ap, ◌∙◌, arith, Ordering, Less, Equal, Greater, IsTotalOrder, IsStrictWeakOrder, nat_cmp, ordering_then, ordering_reverse, is_lt, false≢true, nat_cmp_total, on_total, then_total, eq_by_cmp_equiv, ranks_by, exact_unsigned, Timer, T200, T203, T201, Service, Call, Packet, kind_rank, tei_rank, service_rank, rank_of_service, timer_cmp, is_same, Expiry, expiry_cmp, is_before, Held, held_before}
+use Rattle.lapd_clock.proofs.Vocabulary.{◌≡◌, false, sym, ap, ◌∙◌, arith, Ordering, Equal, IsTotalOrder, IsStrictWeakOrder, nat_cmp, ordering_then, ordering_reverse, is_lt, nat_cmp_total, on_total, then_total, eq_by_cmp_equiv, ranks_by, exact_unsigned, Timer, Service, kind_rank, tei_rank, service_rank, rank_of_service, timer_cmp, is_same, Expiry, expiry_cmp, is_before, Held, held_before}
 
 -- the orders are total,
 pub timer_total : IsTotalOrder timer_cmp

@@ -1,5 +1,5 @@
 -- A region of slots as a store.
-use Rattle.lapd_store.proofs.Vocabulary.{◌≡◌, ◌≢◌, ℕ, zero, suc, ◌+◌, ◌*◌, ◌<◌, ◌≤◌, ◌⊎◌, inl, inr, Option, Some, None, List, [], ◌∷◌, map, length, get_or, refl, sym, ap, ◌∙◌, arith, filter_map, nat_cmp, nat_cmp_total, cond-true, cond-false, ne_eqb, eq-eqb, get_or_default_zero, entries_from, Holds, SameOutside, free_mark, link, octets_at, slot_contents, contents_from, IsApart, IsFreeList}
+use Rattle.lapd_store.proofs.Vocabulary.{◌≡◌, ◌≢◌, ℕ, zero, suc, ◌+◌, ◌*◌, ◌<◌, ◌≤◌, ◌⊎◌, inl, inr, Option, Some, None, List, [], ◌∷◌, map, length, get_or, refl, sym, ap, ◌∙◌, arith, filter_map, nat_cmp, nat_cmp_total, cond-true, cond-false, ne_eqb, eq-eqb, get_or_default_zero, entries_from, Holds, SameOutside, free_mark, link, slot_contents, contents_from, IsApart, IsFreeList}
 use native.Mathlib.Nat.{zero-mul, suc-mul}
 use Rattle.std.specs.FinMap as finmap
 use Rattle.lapd_store.proofs.Runs.{run_of}

@@ -1,5 +1,5 @@
 -- Octets that were written, place by place and as a run.
-use Rattle.lapd_store.proofs.Vocabulary.{◌≡◌, ℕ, ◌+◌, ◌<◌, ◌≤◌, List, [], ◌∷◌, map, length, take, drop, get_or, slice_get, Option, Some, None, refl, sym, ap, ◌∙◌, arith, length-take, length-drop, get_or-take, get_or-drop, ext_get_or, length-map, Holds}
+use Rattle.lapd_store.proofs.Vocabulary.{◌≡◌, ℕ, ◌+◌, ◌<◌, ◌≤◌, List, [], ◌∷◌, map, length, take, drop, get_or, slice_get, Option, Some, None, refl, sym, ◌∙◌, arith, length-take, length-drop, get_or-take, get_or-drop, ext_get_or, length-map, Holds}
 use Prim.Native.Nat.{zero, suc}
 
 get_some : (xs : List ℕ) (i : ℕ) → get_or (map Some xs) i None ≡ slice_get xs i

@@ -1,5 +1,5 @@
 -- The machine values of the structs that stand for memory: what is owned tells them, and is made of nothing.
-use Rattle.lapd_store.proofs.Vocabulary.{arith, ◌≡◌, ℕ, zero, suc, List, [], ◌∷◌, ◌++◌, T, refl, lit<, ◌∙◌}
+use Rattle.lapd_store.proofs.Vocabulary.{arith, ◌≡◌, ℕ, zero, suc, List, [], ◌∷◌, ◌++◌, T, refl, ◌∙◌}
 use Rattle.lapd_store.proofs.Pointers.{Ura, ent, emp, sep, Fml, Ty, ty_ptr, ty_struct, tcons, tnil, Val, vstruct, vcons, vnil, of_list, has_ty, WT, Logic, sem, ‵, ◌$◌, ◌∵◌, !, qed, move, fjoin, feq_i, fpack, done, RattleType, Valss, Ptr, RawPtr, block_ptr, null_ptr, ptr_val, unit, Slot, plain, shadow, makes_shadow, nothing, Struct, within, Tuple, tuple_type}
 use denote.Struct.Declared as Declared
 

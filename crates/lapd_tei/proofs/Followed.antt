@@ -1,5 +1,5 @@
 -- T201 runs while a TEI is under check, and the orders of each row say so.
-use Rattle.lapd_tei.proofs.Vocabulary.{arith, false, is_some, refl, course, refusal, Follows, T201Follows, ExpiredT201Follows}
+use Rattle.lapd_tei.proofs.Vocabulary.{arith, is_some, course, refusal, T201Follows, ExpiredT201Follows}
 use Rattle.lapd_tei.proofs.Counted.{counts}
 use Rattle.lapd_tei.proofs.Walk.{of_expire}
 

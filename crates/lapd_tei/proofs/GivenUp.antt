@@ -1,5 +1,5 @@
 -- What a line that is down leaves of TEI management.
-use Rattle.lapd_tei.proofs.Vocabulary.{arith, ◌≡◌, Option, [], Some, None, ap, refl, Management, Check, Course, begun, withdraw, end_if_any, course, refusal, DownGivesUp, stop_of}
+use Rattle.lapd_tei.proofs.Vocabulary.{arith, ◌≡◌, Option, [], None, Management, Check, Course, begun, withdraw, end_if_any, course, refusal, DownGivesUp, stop_of}
 use Rattle.lapd_tei.specs.Machine.{nothing}
 
 abbrev Leaves : Management → Option Check → Course → Type 0

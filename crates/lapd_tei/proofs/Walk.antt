@@ -1,5 +1,5 @@
 -- Every event ends in one of a few ways: the rows of the table are walked once, for any claim.
-use Rattle.lapd_tei.proofs.Vocabulary.{arith, ◌≡◌, ℕ, ◌==◌, ◌&&◌, nat_le, Bool, true, false, not, cond, is_some, Option, Some, None, refl, sym, none-some, Refusal, NoLink, TeiTaken, Heard, IdentityAssigned, IdentityDenied, IdentityRemove, IdentityRequest, IdentityVerify, IdentityCheckResponse, heard_in, is_on, free_place, free_tei, Management, Check, Period, First, Second, Course, Step, begun, no_room, leave, check_is, begin_check, end_check, lose_one, send, unserved, assign, assign_new, remembered_in, may_be_checked, counted, responses, doubled, count, respond, serve, expire, expire_period, expire_check, is_unanswered, removed, join_at, put_on, is_checked, take_off, nothing_happens, end_if_any, withdraw, Event, message, expiry, remove, check, down, refusal_if, refusal, unless_refused, step, course}
+use Rattle.lapd_tei.proofs.Vocabulary.{arith, ◌≡◌, ℕ, ◌&&◌, nat_le, Bool, true, false, cond, is_some, Option, Some, None, refl, none-some, Refusal, Heard, IdentityAssigned, IdentityDenied, IdentityRemove, is_on, free_place, free_tei, Management, Check, Period, First, Course, Step, begun, leave, check_is, begin_check, end_check, lose_one, send, unserved, assign, assign_new, remembered_in, counted, responses, doubled, respond, serve, expire, expire_period, expire_check, removed, join_at, is_checked, take_off, end_if_any, withdraw, Event, remove, check, down, refusal_if, refusal, unless_refused, course}
 use Rattle.lapd_tei.specs.Events.{assign as assigning}
 use Rattle.lapd_tei.proofs.Tables.{same_number, not_not}
 
@@ -79,10 +79,6 @@ module _ (m : Management) (E : Course → Type 0) where
 
   of_take_off : (tei : ℕ) → OfEvents (remove tei) m E → is_on tei m.places ≡ true → E (take_off tei (begun m))
   of_take_off tei w on = grind arith
-
-  -- the line is down
-  of_give_up : OfEvents down m E → (o : Option Check) → m.check ≡ o → E (end_if_any o (withdraw (begun m)))
-  of_give_up w o is = grind arith
 
   -- what is said of each way holds of every event
   pub of_event : (e : Event) → OfEvents e m E → E (course e m)

@@ -1,8 +1,7 @@
 -- An event of a link of a line is one of this link alone.
-use Rattle.laws_line.proofs.Vocabulary.{arith, ◌≡◌, ◌≢◌, ℕ, true, false, Some, None, refl, sym, ap, ◌∙◌, subst, ⊎_elim, Service, Parts, LinkTimer, Config, hears, request, next, told, at_link, told_of_link, of_aim, at_timer, aim_of_expiry, Line, place_in, link_in, terms, unless_refused_told, of_request, Request, Deactivate, at_requested, at_deactivated, aim_of_request, LinkT200 as T200, LinkT203 as T203, Event, expiry, after, answer, unless_refused, refusal, IsTo, IsOneHeard, IsAlone, requests_of_link as of_link, is_granted, Brings, BringsMalformed, timer_of, IsOf}
+use Rattle.laws_line.proofs.Vocabulary.{arith, ◌≡◌, ◌≢◌, ℕ, true, false, Some, None, sym, ap, subst, ⊎_elim, Service, Parts, LinkTimer, Config, hears, request, next, at_link, Line, place_in, Request, Deactivate, at_deactivated, aim_of_request, Event, expiry, after, answer, refusal, IsTo, IsOneHeard, IsAlone, requests_of_link as of_link, is_granted, Brings, BringsMalformed, timer_of, IsOf}
 use Rattle.model_bits.specs.Stream as stream
 use Rattle.model_link.specs.Events as link
-use Rattle.model_link.specs.Machine as links
 use Rattle.laws_line.proofs.Granting.{not-refused}
 use Rattle.laws_line.proofs.Hearing.{sapi-is, read-event, malformed-event, overlong-event}
 

@@ -1,8 +1,7 @@
 -- A control frame that waits is taken by one of so many calls also where other events of its line are between them.
-use Rattle.laws_line.proofs.Vocabulary.{◌≡◌, ℕ, ◌+◌, ◌-◌, ◌<◌, ◌≤◌, ◌==◌, ◌&&◌, Bool, true, false, cond, List, [], ◌∷◌, ◌++◌, length, take, Option, Some, refl, sym, ap, subst, ◌∙◌, ◌⊎◌, inl, inr, arith, append_assoc, append-nil, length-append, eq-eqb, true≢false, Service, Parts, ControlFrame, State, Terms, Link, event-follows, as_heard, is_overlong, waiting_left, room, put, Change, Gained, one_more_waits, Config, hears, request, next, LineTold, Answer, Aim, at_management, at_units, told_of_management, of_change, of_aim, aim_of_expiry, Line, link_count, service_at, place_at, tei_at, terms, link_at, aim_of_heard, Taken, taken, Deactivate, aim_of_request, IsInRange, after_sound, at_no_link, Event, expiry, after, answer, unless_refused, refusal, IsSound, deactivates, IsBy, way_round, frames_before, control_text, after_events, is_take, takes_in, go_first, comes_first, come_first, StaysOnLine, IsTakenIn}
+use Rattle.laws_line.proofs.Vocabulary.{◌≡◌, ℕ, ◌+◌, ◌-◌, ◌<◌, ◌≤◌, Bool, false, cond, List, [], ◌∷◌, ◌++◌, length, take, Option, Some, refl, sym, ap, ◌∙◌, ◌⊎◌, inl, inr, arith, append_assoc, append-nil, length-append, eq-eqb, Service, Parts, ControlFrame, State, Terms, Link, event-follows, as_heard, is_overlong, waiting_left, room, put, Change, one_more_waits, Config, hears, request, next, LineTold, Answer, Aim, of_change, of_aim, Line, link_count, service_at, place_at, tei_at, terms, link_at, Taken, taken, IsInRange, after_sound, Event, expiry, after, answer, IsSound, deactivates, IsBy, frames_before, control_text, after_events, is_take, takes_in, go_first, comes_first, come_first, StaysOnLine, IsTakenIn}
 use Rattle.model_link.specs.Events as link
 use Rattle.model_link.specs.Machine as links
-use Rattle.lapd_tei.specs.Events as teis
 use Rattle.laws_line.proofs.Happening.{IsGivenUp, Happens, event-happens}
 use Rattle.laws_line.proofs.Ordered.{next-goes}
 use Rattle.laws_line.proofs.Downs.{by-down}

@@ -1,8 +1,7 @@
 -- A line that meets what the law of calls among other events asks, and what that gives.
-use Rattle.laws_line.proofs.Vocabulary.{◌≡◌, ℕ, zero, suc, true, [], ◌∷◌, replicate, Some, refl, arith, Fcs, ReceiveReady, Ua, Call, reading, header_of, control_of, unnumbered_of, supervisory_of, seq, distance_of, named, response, hears, request, next, Line, place_at, tei_at, after_sound, bits_dropped as dropped, after, IsSound, StaysOnLine, IsTakenIn, control_text, small, asked, both_wait, still_on_line, events, one_comes, frames_first, takes_are}
+use Rattle.laws_line.proofs.Vocabulary.{◌≡◌, ℕ, zero, suc, [], ◌∷◌, replicate, Some, refl, arith, Fcs, Call, reading, header_of, control_of, unnumbered_of, supervisory_of, seq, distance_of, named, hears, request, next, Line, place_at, tei_at, after_sound, bits_dropped as dropped, after, IsSound, StaysOnLine, small, asked, still_on_line, events}
 use Rattle.lapd_tei.specs.Events as teis
 use Rattle.model_line.specs.Request
-use Rattle.laws_line.proofs.Among.{taken-in}
 use Rattle.laws_line.proofs.Leaving.{next-moves, same-place}
 use Rattle.laws_line.proofs.Premises.{asked-sound}
 

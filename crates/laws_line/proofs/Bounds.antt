@@ -1,6 +1,5 @@
 -- What a configuration gives: the most frames that are to go.
-use Rattle.laws_line.proofs.Vocabulary.{ℕ, ◌+◌, ◌-◌, ◌≤◌, ◌<◌, max, min, Bool, cond, not, ◌&&◌, length, Option, Some, None, sym, subst, arith, unwrap_or, Terms, Link, outstanding, unsent, is_established, Config, Line, link_count, service_at, place_at, tei_at, window, terms, link_at, IsSoundAt, sum_bounded, IsSound, link_to_go, to_go_at_link, frames_to_go, most_frames}
-use Rattle.model_link.specs.Sound as link_sound
+use Rattle.laws_line.proofs.Vocabulary.{ℕ, ◌+◌, ◌-◌, ◌≤◌, ◌<◌, max, min, Bool, cond, arith, unsent, Config, Line, link_count, sum_bounded, IsSound, to_go_at_link, frames_to_go, most_frames}
 use Rattle.model_line.proofs.LineRises.{window_most}
 
 -- of a link

@@ -1,5 +1,5 @@
 -- A link that is deactivated is given up.
-use Rattle.laws_line.proofs.Vocabulary.{arith, ◌≡◌, ℕ, false, not, cond, Option, Some, None, ap, ◌∙◌, le-ltb, BadTei, NoLink, Service, State, Terms, LinkTimer, Link, ◌then◌, begin_anew, is_on-at, place_of-is, told_cleared, Config, told, nothing, told_of_link, of_aim, Line, place_in, link_in, has_tei, terms, unless_refused_told, Deactivate, at_deactivated, begun, after, answer, unless_refused, refusal, IsSound, stopped, DeactivationsGiveUp}
+use Rattle.laws_line.proofs.Vocabulary.{arith, ◌≡◌, ℕ, false, not, cond, Some, None, ap, ◌∙◌, le-ltb, BadTei, NoLink, Service, Terms, Link, is_on-at, place_of-is, told_cleared, Config, told, nothing, told_of_link, of_aim, Line, place_in, link_in, has_tei, terms, unless_refused_told, Deactivate, at_deactivated, after, answer, unless_refused, refusal, IsSound, stopped, DeactivationsGiveUp}
 use Rattle.model_link.specs.Events as link
 use Rattle.model_link.specs.Machine as links
 

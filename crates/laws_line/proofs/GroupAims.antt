@@ -1,5 +1,5 @@
 -- What is heard is to TEI management: nothing, or what a UI to the group brings.
-use Rattle.laws_line.proofs.Vocabulary.{arith, ◌≡◌, ℕ, ◌==◌, Bool, true, false, cond, List, Option, Some, None, Result, Ok, Err, refl, ap, Cause, Tei, Unserved, Address, Network, Control, ReadFault, Undefined, WrongSize, Long, Service, Parts, reading, long_reading, service_of, Config, hears, Aim, at_none, at_link, at_management, Line, place_in, management_sapi, drop_for, to_service, addressed, message_of, aim_of_reading, unless_at_link, aim_of_long, heard_side, aim_of_heard, group_told, IsToGroup, WhereServed, everywhere, side_where, eqb-true, group_tei, at_place, Hears, Said, Says}
+use Rattle.laws_line.proofs.Vocabulary.{arith, ◌≡◌, ℕ, Bool, List, Option, Result, Ok, refl, Cause, Address, Network, Control, ReadFault, Long, Service, Parts, reading, Config, hears, Aim, at_none, at_link, at_management, Line, drop_for, to_service, addressed, message_of, aim_of_reading, unless_at_link, aim_of_long, heard_side, aim_of_heard, group_told, IsToGroup, WhereServed, side_where, eqb-true, Hears, Said, Says}
 use Rattle.model_bits.specs.Stream as stream
 use Rattle.model_link.specs.Events as link
 use Rattle.lapd_tei.specs.Events as teis

@@ -1,8 +1,7 @@
 -- What is heard brings to a link.
-use Rattle.laws_line.proofs.Vocabulary.{arith, ◌≡◌, ℕ, Bool, true, false, cond, ◌==◌, List, Some, None, Ok, refl, ap, ◌∙◌, none-some, Cause, Tei, Unserved, Address, Service, Call, Packet, Parts, reading, long_reading, service_of, sapi_of, same_service, reading-again, Config, LineTold, hears, told, Aim, at_none, at_link, told_of_link, of_aim, Line, place_in, link_in, terms, drop_for, management_sapi, to_service, addressed, message_of, aim_of_reading, aim_of_long, heard_side, aim_of_heard, at_side, eqb-true, dropped, after, answer, group_tei, at_place, IsFor, IsTo, IsMalformed, IsTooLong, IsOneHeard as IsOneEvent, OnlyTells}
+use Rattle.laws_line.proofs.Vocabulary.{arith, ◌≡◌, ℕ, ◌==◌, List, Some, Ok, refl, ◌∙◌, none-some, Cause, Unserved, Address, Service, Parts, reading, long_reading, service_of, sapi_of, same_service, reading-again, Config, LineTold, hears, Aim, at_none, at_link, Line, place_in, drop_for, addressed, aim_of_reading, aim_of_long, heard_side, aim_of_heard, eqb-true, dropped, after, answer, IsFor, IsTo, IsMalformed, IsTooLong, IsOneHeard as IsOneEvent, OnlyTells}
 use Rattle.model_bits.specs.Stream as stream
 use Rattle.model_link.specs.Events as link
-use Rattle.model_link.specs.Machine as links
 
 -- The SAPI of a service.
 pub same-sapi : (a b : Service) → (sapi_of a == sapi_of b) ≡ same_service a b

@@ -1,6 +1,5 @@
 -- The first link of a round that has something to give is the one that is served.
-use Rattle.laws_line.proofs.Vocabulary.{arith, ◌≡◌, ℕ, ◌+◌, List, [], ◌∷◌, ◌++◌, Option, Some, None, refl, ap, sym, ◌∙◌, option_or, All-nil, All-cons, Given, Config, Line, terms_at, link_at, Taken, message_taken, unit_taken, with_given_frame, link_taken, first_taken, round, All, LinksTakeTurns, option_map}
-use Rattle.model_link.specs.Machine as links
+use Rattle.laws_line.proofs.Vocabulary.{arith, ◌≡◌, ℕ, ◌+◌, List, [], ◌∷◌, ◌++◌, Option, Some, None, refl, ap, option_or, All-nil, All-cons, Config, Line, Taken, message_taken, unit_taken, link_taken, first_taken, round, All, LinksTakeTurns, option_map}
 
 module _ (c : Config) (l : Line) where
   record First (ns : List ℕ) (t : Taken) : Type 0 where

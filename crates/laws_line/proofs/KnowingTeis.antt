@@ -1,5 +1,5 @@
 -- By notes and granted requests management knows which TEIs are on the line: each event.
-use Rattle.laws_line.proofs.Vocabulary.{arith, ◌≡◌, ℕ, ◌==◌, Bool, true, false, cond, not, is_some, nat_lt, List, ◌++◌, set, get_or, replicate, Option, Some, None, refl, ap, sym, ◌∙◌, subst, eq-eqb, true≢false, inl, inr, next_walk, fold, option_map_or, get_or-set_same, fold-append, none-some, Note, Refusal, TeiTaken, TableFull, NoLink, ControlFull, Service, Call, Packet, T201, is_up, LinkTimer, notes-own, refusal_if, Moves, Management, IdentityRemove, join_at, put_on, take_off, is_checked, nothing_happens, no_room, send, leave, left, end_check, IsSoundTable, Places, is_on, place_of, free_place, Change, Gained, Left, is_on-at, place_of-is, Config, hears, request, next, at_link, at_management, told_of_management, of_change, of_aim, at_timer, Line, link_number, place_in, has_tei, link_in, terms, fresh_line, unless_refused_told, aim_of_heard, Taken, taken, line_of, has_management, Request, Establish, Release, Assign, Remove, SetBusy, ClearBusy, Deactivate, at_requested, at_deactivated, aim_of_request, IsProper, heard_aims, request_proper, Down, option_map, eqb-true, T200, T203, fresh, Event, expiry, after, answer, unless_refused, refusal, Data, Unit, Check, IsSound, on_by_note, on_by_request, taken_for_on}
+use Rattle.laws_line.proofs.Vocabulary.{arith, ◌≡◌, ℕ, ◌==◌, Bool, true, false, cond, not, is_some, nat_lt, List, ◌++◌, set, get_or, replicate, Option, Some, None, refl, ap, sym, ◌∙◌, subst, eq-eqb, true≢false, next_walk, fold, option_map_or, get_or-set_same, fold-append, none-some, Note, Refusal, NoLink, ControlFull, Service, Call, Packet, T201, is_up, LinkTimer, notes-own, refusal_if, Moves, Management, IdentityRemove, take_off, is_checked, nothing_happens, no_room, send, leave, left, end_check, IsSoundTable, Places, is_on, place_of, Change, Gained, Left, is_on-at, place_of-is, Config, hears, request, next, at_link, at_management, told_of_management, of_change, of_aim, at_timer, Line, link_number, place_in, has_tei, link_in, terms, fresh_line, unless_refused_told, aim_of_heard, Taken, taken, line_of, has_management, Request, Establish, Release, Assign, Remove, SetBusy, ClearBusy, Deactivate, at_requested, at_deactivated, aim_of_request, IsProper, heard_aims, request_proper, Down, option_map, eqb-true, T200, T203, fresh, Event, expiry, after, answer, unless_refused, refusal, Data, Unit, Check, IsSound, on_by_note, on_by_request, taken_for_on}
 use Rattle.model_bits.specs.Stream as stream
 use Rattle.model_link.specs.Events as link
 use Rattle.model_link.specs.Machine as links

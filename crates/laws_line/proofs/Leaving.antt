@@ -1,9 +1,8 @@
 -- What waits on a link stays in its order, until it is taken.
-use Rattle.laws_line.proofs.Vocabulary.{◌≡◌, ℕ, zero, suc, ◌<◌, List, [], ◌∷◌, ◌++◌, slice_get, get_or, Option, Some, None, refl, sym, ap, subst, ◌∙◌, ◌⊎◌, inl, inr, ⊎_elim, arith, ◌≤◌, IfSome, option_or, unwrap_or, cases_eq, get_or-set_same, get_or-set_other, spelling, ControlFrame, Terms, Link, Given, Goes, GoesWhole, after_offers, in-turn, Config, next, Line, UnitData, link_count, service_at, place_at, tei_at, terms, terms_at, link_at, Taken, message_taken, with_unit, unit_taken, with_given_frame, link_taken, first_taken, round, taken, IsInRange, after_sound, next_walk, option_map, fresh, link_frame_of as frame_of, begun as course_begun, after, with_message, IsSound, HasNothing, after_takes, frames_to_go, control_text, IsTakenWithin}
+use Rattle.laws_line.proofs.Vocabulary.{◌≡◌, ℕ, zero, suc, ◌<◌, List, [], ◌∷◌, ◌++◌, slice_get, get_or, Option, Some, None, refl, sym, ap, subst, ◌∙◌, ◌⊎◌, inl, inr, ⊎_elim, arith, ◌≤◌, IfSome, option_or, unwrap_or, cases_eq, get_or-set_same, get_or-set_other, spelling, ControlFrame, Terms, Link, Given, Goes, GoesWhole, after_offers, in-turn, Config, next, Line, UnitData, link_count, service_at, place_at, tei_at, terms, terms_at, link_at, Taken, with_unit, with_given_frame, link_taken, first_taken, taken, IsInRange, after_sound, next_walk, option_map, link_frame_of as frame_of, begun as course_begun, after, with_message, IsSound, HasNothing, after_takes, frames_to_go, control_text, IsTakenWithin}
 use Rattle.model_link.specs.Events as link
 use Rattle.model_link.specs.Machine as links
 use Rattle.model_link.specs.Offers
-use Rattle.lapd_tei.specs.Messages as messages
 use Rattle.model_line.specs.Taken as taking
 use Rattle.laws_line.proofs.Draining.{drains}
 

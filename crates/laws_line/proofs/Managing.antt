@@ -1,5 +1,5 @@
 -- What TEI management makes of an event, and when it refuses none.
-use Rattle.laws_line.proofs.Vocabulary.{arith, ◌≡◌, Bool, false, Option, None, refl, Refusal, Change, Config, at_management, told_of_management, of_change, of_aim, Line}
+use Rattle.laws_line.proofs.Vocabulary.{arith, ◌≡◌, Bool, false, None, refl, Refusal, Config, at_management, of_aim, Line}
 use Rattle.lapd_tei.specs.Events as teis
 
 pub by-two : (a b : Bool) (x y : Refusal) → a ≡ false → b ≡ false → teis.refusal_if a x (teis.refusal_if b y None) ≡ None

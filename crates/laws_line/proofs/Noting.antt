@@ -1,5 +1,5 @@
 -- What notes say: those of a link of this link alone, and those of TEI management of TEIs alone.
-use Rattle.laws_line.proofs.Vocabulary.{arith, ◌≡◌, ℕ, ◌==◌, ◌&&◌, Bool, true, false, cond, List, [], ◌∷◌, refl, ap, ◌∙◌, fold, All-head, All-tail, Note, EstablishIndication, EstablishConfirm, ReleaseIndication, ReleaseConfirm, Assigned, Removed, Doubled, Service, same_service, seen, known, IsOwn, Terms, All, up_by_note, on_by_note}
+use Rattle.laws_line.proofs.Vocabulary.{arith, ◌≡◌, ℕ, ◌==◌, ◌&&◌, Bool, false, List, [], ◌∷◌, refl, ap, ◌∙◌, fold, All-head, All-tail, Note, Service, same_service, seen, known, IsOwn, Terms, All, up_by_note, on_by_note}
 use Rattle.laws_line.proofs.Told.{its-own}
 
 -- notes of a link, for the link itself,

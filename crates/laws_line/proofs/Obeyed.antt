@@ -1,5 +1,5 @@
 -- What obeying the orders of a link, or of TEI management, comes to for each timer of a line.
-use Rattle.laws_line.proofs.Vocabulary.{arith, ◌≡◌, ℕ, ◌==◌, ◌&&◌, Bool, true, false, cond, List, [], ◌∷◌, ◌++◌, refl, ap, sym, ◌∙◌, subst, eq-eqb, true≢false, fold-append, Service, Call, Packet, Order, Start, Stop, Timer, T201, same_service, LinkTimer, Terms, Link, is_same, obey, obeyed, IsTimed, ComesInStep, runs, timer_at, stays-in-step, comes-in-step, leaves-others, Follows}
+use Rattle.laws_line.proofs.Vocabulary.{arith, ◌≡◌, ℕ, ◌==◌, ◌&&◌, Bool, true, false, cond, List, ◌++◌, ap, ◌∙◌, eq-eqb, fold-append, Service, Order, Timer, T201, same_service, LinkTimer, Terms, Link, is_same, obey, obeyed, IsTimed, ComesInStep, runs, timer_at, stays-in-step, comes-in-step, leaves-others, Follows}
 use Rattle.model_link.specs.Events as link
 use Rattle.model_link.specs.Machine as links
 

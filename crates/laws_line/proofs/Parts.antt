@@ -1,11 +1,10 @@
 -- Each event of a line is one of one of its parts, or nothing changes.
-use Rattle.laws_line.proofs.Vocabulary.{◌≡◌, ◌≢◌, ◌⊎◌, inl, inr, ℕ, ◌<◌, Bool, true, false, ◌==◌, List, [], ◌∷◌, ◌++◌, length, get_or, set, Option, Some, None, refl, sym, ap, ◌∙◌, subst, arith, append-nil, append_assoc, eq-eqb, true≢false, get_or-set_other, Refusal, Service, Call, Packet, Timer, T201, Change, Gained, Left, LinkTimer, Link, Config, is_change_at, Aim, at_link, at_management, told_of_management, of_change, of_aim, hears, request, next, told, nothing, at_timer, aim_of_expiry, Line, UnitData, link_number, link_count, place_at, tei_at, place_in, link_at, link_in, terms, unless_refused_told, aim_of_heard, Request, Establish, Release, Assign, Remove, SetBusy, ClearBusy, Deactivate, at_requested, at_deactivated, aim_of_request, IsProper, heard_proper, expiry_proper, request_proper, Down, eqb-true, T200, T203, fresh, Event, expiry, after, answer, unless_refused, refusal, Data, Check, IsSound, line_noted_ending as noted_ending, noted_behind, IsManaged, IsGranted, IsOfPart, line_of_link as of_link, line_of_management as of_management, of_units, of_group, of_down, of_next, SaysNothing, IsOneEvent, is_granted, BringsMessage, IsOfManagement, GivesUp}
+use Rattle.laws_line.proofs.Vocabulary.{◌≡◌, ◌≢◌, ◌⊎◌, inl, inr, ℕ, ◌<◌, true, false, ◌==◌, List, [], ◌∷◌, ◌++◌, length, get_or, set, Option, Some, None, refl, sym, ap, subst, arith, append-nil, append_assoc, eq-eqb, get_or-set_other, Refusal, Service, Call, Packet, Timer, T201, Change, LinkTimer, Config, is_change_at, Aim, at_link, at_management, told_of_management, of_change, of_aim, hears, request, next, told, nothing, at_timer, aim_of_expiry, Line, UnitData, link_number, link_count, place_at, tei_at, place_in, link_at, unless_refused_told, aim_of_heard, Request, Establish, Release, Assign, Remove, SetBusy, ClearBusy, Deactivate, at_requested, at_deactivated, aim_of_request, IsProper, heard_proper, expiry_proper, request_proper, Down, eqb-true, T200, T203, fresh, Event, expiry, after, answer, unless_refused, refusal, Data, Check, IsSound, noted_behind, IsManaged, IsGranted, IsOfPart, line_of_link as of_link, line_of_management as of_management, of_units, of_group, of_down, of_next, SaysNothing, IsOneEvent, is_granted, BringsMessage, IsOfManagement, GivesUp}
 use Rattle.model_bits.specs.Stream as stream
 use Rattle.lapd_tei.specs.Events as teis
 use Rattle.lapd_tei.specs.Laws as tei_laws
 use Rattle.lapd_tei.proofs.LawLemmas as tei_lemmas
 use Rattle.model_link.specs.Events as link
-use Rattle.model_link.specs.Machine as links
 use Rattle.laws_line.proofs.Alone.{is-alone}
 use Rattle.laws_line.proofs.Granting.{not-refused}
 use Rattle.laws_line.proofs.GroupAims.{heard-aims-at}

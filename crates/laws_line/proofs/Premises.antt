@@ -1,10 +1,6 @@
 -- Lines that meet what the laws of what waits ask, and what those give.
-use Rattle.laws_line.proofs.Vocabulary.{true, ◌+◌, ◌≤◌, [], ◌∷◌, length, refl, inl, arith, ReceiveReady, Ua, Call, Spells, seq, response, IsPollWhileUp, hears, request, fresh_line, terms, heard_side, Assign, after_sound, fresh_sound, after, IsSound, IsFor, HasNothing, after_takes, IsEnough, control_text, IsTakenWithin, IsAnsweredWithin, IsIdling, most_frames_before, small, sabme_octets, poll_octets, poll, before_poll, call_link, on_line, line_is_up as is_up, is_valid, one_waits, asked, two_to_go, both_wait, still_on_line, sabme, before_sabme}
+use Rattle.laws_line.proofs.Vocabulary.{◌+◌, ◌≤◌, length, refl, inl, arith, hears, request, fresh_line, Assign, after_sound, fresh_sound, IsSound, IsEnough, small, sabme_octets, poll_octets, before_poll, call_link, one_waits, asked, two_to_go, before_sabme}
 use Rattle.model_bits.specs.Stream as stream
-use Rattle.laws_line.specs.WorkedSabme as worked
-use Rattle.laws_line.proofs.Draining.{drains, idles}
-use Rattle.laws_line.proofs.Polled.{poll-goes, unnumbered-goes}
-use Rattle.laws_line.proofs.Soon.{goes-soon}
 
 pub before-sound : IsSound small before_poll
 before-sound =

@@ -1,5 +1,5 @@
 -- A call for the next frame leaves the timers that run.
-use Rattle.laws_line.proofs.Vocabulary.{◌≡◌, List, [], Some, refl, ap, sym, subst, arith, IfSome, inl, inr, ◌⊎◌, option_map_or, get_or-set_same, Order, Terms, Link, Given, given-leaves, Config, next, orders_in, Line, service_at, link_at, terms, Taken, with_given_frame, taken, next_of, line_of, next_walk, option_map, fresh, Event, gave as gives, after, answer, IsSound, StartsOne, LeavesTimers}
+use Rattle.laws_line.proofs.Vocabulary.{◌≡◌, List, [], Some, refl, ap, sym, subst, arith, IfSome, inl, inr, ◌⊎◌, option_map_or, get_or-set_same, Order, Terms, Link, Given, given-leaves, Config, orders_in, Line, service_at, link_at, terms, Taken, with_given_frame, taken, next_of, line_of, next_walk, option_map, Event, gave as gives, after, answer, IsSound, StartsOne, LeavesTimers}
 use Rattle.model_link.specs.Events as link
 use Rattle.model_link.specs.Machine as links
 use Rattle.laws_link.specs.Starting as starting

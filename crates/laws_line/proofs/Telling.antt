@@ -1,5 +1,5 @@
 -- A TEI that is told to a terminal is on the line when its message comes to wait: each row.
-use Rattle.laws_line.proofs.Vocabulary.{◌≡◌, ◌⊎◌, inl, inr, ℕ, ◌==◌, Bool, true, false, List, [], ◌∷◌, ◌++◌, length, drop, get_or, Option, Some, None, refl, sym, ap, ◌∙◌, arith, true≢false, length-append, append_cancel_left, get_or-set_same, Management, Period, First, Second, Message, IdentityAssigned, IdentityCheckRequest, IdentityRemove, action_of, is_on, is_on-at, Config, Answer, Line, Request, Assign, Remove, IsInRange, Down, length-drop, TeiCheck as Check, Event, after, answer, Check as Checking, IsSound, HasCause, IsTaken, HaveCauses, AreThere, Said, asks, verifies, responds, IsSent, IsUnmoved, IsToldAgain, IsAssigned, IsDenied, Verifies, may_begin, is_answered, RespondsTo, Responds, Serves, ExpiresIn, Expires, Grants, is_of_management}
+use Rattle.laws_line.proofs.Vocabulary.{◌≡◌, ◌⊎◌, inl, inr, ℕ, Bool, true, false, List, [], ◌∷◌, ◌++◌, length, drop, get_or, Option, Some, None, refl, sym, ap, ◌∙◌, arith, true≢false, length-append, append_cancel_left, get_or-set_same, Management, Period, First, Second, Message, IdentityAssigned, IdentityCheckRequest, IdentityRemove, action_of, is_on, is_on-at, Config, Answer, Line, Request, Assign, Remove, IsInRange, Down, length-drop, TeiCheck as Check, Event, after, answer, Check as Checking, IsSound, HasCause, IsTaken, HaveCauses, AreThere, Said, asks, verifies, responds, IsSent, IsUnmoved, IsToldAgain, IsAssigned, IsDenied, Verifies, may_begin, RespondsTo, Responds, Serves, ExpiresIn, Expires, Grants, is_of_management}
 use Rattle.laws_line.proofs.Causing.{have-causes}
 
 -- whether a message tells a TEI to a terminal

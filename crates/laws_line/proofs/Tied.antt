@@ -1,5 +1,5 @@
 -- How what an event aims at is tied to the event.
-use Rattle.laws_line.proofs.Vocabulary.{arith, ◌≡◌, ℕ, Bool, true, false, ◌==◌, cond, List, Option, Some, None, Result, Ok, Err, refl, inl, inr, Address, Control, ReadFault, Undefined, WrongSize, Long, Service, Timer, T201, Tei, Unserved, Parts, reading, long_reading, service_of, LinkTimer, Config, hears, request, Answer, Aim, at_link, at_timer, aim_of_expiry, Line, place_in, drop_for, management_sapi, to_service, addressed, message_of, aim_of_reading, unless_at_link, aim_of_long, heard_side, aim_of_heard, side_aims, Request, Establish, Release, SetBusy, ClearBusy, Deactivate, at_requested, at_deactivated, aim_of_request, at_no_link, T200, T203, Event, expiry, group_tei, at_place, Data, is_granted, IsTooLong, BringsMalformed, IsBy, IsOf}
+use Rattle.laws_line.proofs.Vocabulary.{arith, ◌≡◌, ℕ, true, List, Option, Some, Result, Ok, Err, refl, inl, inr, Address, Control, ReadFault, Undefined, WrongSize, Long, Service, Timer, Unserved, Parts, reading, long_reading, service_of, Config, hears, request, Answer, Aim, at_link, aim_of_expiry, Line, drop_for, addressed, message_of, aim_of_reading, unless_at_link, aim_of_long, heard_side, aim_of_heard, side_aims, Request, Deactivate, at_requested, at_deactivated, aim_of_request, Event, expiry, at_place, is_granted, IsTooLong, BringsMalformed, IsBy, IsOf}
 use Rattle.model_bits.specs.Stream as stream
 use Rattle.model_link.specs.Events as link
 

@@ -1,5 +1,5 @@
 -- Contents that an answer hands on are noted once.
-use Rattle.laws_line.proofs.Vocabulary.{◌≡◌, ℕ, ◌+◌, false, cond, List, [], ◌∷◌, ◌++◌, length, Option, Some, None, option_to_list, refl, ap, ◌∙◌, ◌⊎◌, inl, inr, arith, count_by, option_or, sum_by-cons, sum_by-append, Note, Refusal, Service, Call, Packet, Timer, T201, State, Terms, LinkTimer, Link, is_data, is_unit, event-tells, Change, Gained, Left, place_of-is, Config, request, hears, next, Aim, at_link, at_management, told_of_management, of_link, of_change, of_aim, at_timer, aim_of_expiry, Line, place_in, link_in, terms, unless_refused_told, aim_of_heard, Request, Establish, Release, Assign, Remove, SetBusy, ClearBusy, Deactivate, at_requested, at_deactivated, aim_of_request, IsInRange, sound_in, heard_aims, Down, T200, T203, begun, Event, expiry, answer, unless_refused, refusal, Data, Unit, Check, IsSound, tells_contents, IsNotedOnce}
+use Rattle.laws_line.proofs.Vocabulary.{◌≡◌, ℕ, ◌+◌, false, cond, List, [], ◌∷◌, ◌++◌, length, Option, Some, None, option_to_list, refl, ◌⊎◌, arith, count_by, option_or, sum_by-cons, sum_by-append, Note, Refusal, Service, Timer, Terms, LinkTimer, Link, is_data, is_unit, event-tells, Change, place_of-is, Config, request, hears, next, Aim, at_link, at_management, told_of_management, of_change, of_aim, at_timer, aim_of_expiry, Line, place_in, link_in, terms, unless_refused_told, aim_of_heard, Request, Establish, Release, Assign, Remove, SetBusy, ClearBusy, Deactivate, at_requested, at_deactivated, aim_of_request, IsInRange, sound_in, heard_aims, Down, Event, expiry, answer, unless_refused, refusal, Data, Unit, Check, IsSound, tells_contents, IsNotedOnce}
 use Rattle.model_bits.specs.Stream as stream
 use Rattle.model_link.specs.Events as link
 use Rattle.model_link.specs.Machine as links

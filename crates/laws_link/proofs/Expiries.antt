@@ -1,5 +1,5 @@
 -- What comes of the expiry of a timer that runs.
-use Rattle.laws_link.proofs.Vocabulary.{arith, ◌≡◌, ◌<◌, ◌≤◌, true, cond, [], refl, sym, subst, nat_lt, lt-ltb, le-ltb, State, LinkTimer, Terms, Link, Course, begun, runs, ExpiresIn, Expires, expired, after, expired_in, told}
+use Rattle.laws_link.proofs.Vocabulary.{arith, ◌≡◌, ◌<◌, ◌≤◌, true, cond, sym, subst, nat_lt, lt-ltb, le-ltb, State, LinkTimer, Terms, Link, Course, begun, runs, ExpiresIn, Expires, expired, after, expired_in, told}
 use Rattle.laws_link.proofs.Effects.{put}
 
 module _ (t : Terms) (l : Link) where

@@ -1,5 +1,5 @@
 -- From where a link sends again.
-use Rattle.laws_link.proofs.Vocabulary.{arith, ◌≡◌, ℕ, Bool, true, false, List, Option, Some, None, refl, sym, ap, ◌∙◌, subst, Seq, named, Control, ReceiveReady, ReceiveNotReady, Reject, State, Established, TimerRecovery, LinkTimer, T200, T203, Terms, Link, Course, begun, Step, ◌then◌, Leads, keeping_then, nothing_leads, depending_leads, bit_leads, asked_from, reported, GoesBackTo, leaves, ErrorCode, by_number, error, peer_busy_is, re_establish, answered, is_final, acknowledged_by_rej_in_7, frame_in_7, unsolicited, acknowledged_in_8, frame_in_8, frame_in, frame_step}
+use Rattle.laws_link.proofs.Vocabulary.{arith, ◌≡◌, ℕ, Bool, true, false, List, Some, refl, sym, ◌∙◌, subst, Seq, named, Control, Reject, State, Established, TimerRecovery, LinkTimer, Terms, Link, Course, begun, Step, ◌then◌, Leads, keeping_then, nothing_leads, depending_leads, bit_leads, asked_from, reported, GoesBackTo, leaves, by_number, peer_busy_is, answered, is_final, acknowledged_by_rej_in_7, frame_in_7, unsolicited, acknowledged_in_8, frame_in_8, frame_in, frame_step}
 
 -- The link as it is before its N(R) has its effect.
 record StillAt (l : Link) (state : State) (contents : List (List ℕ)) (a s : ℕ) : Type 0 where
@@ -20,9 +20,6 @@ ruleset words = (leaves, keeping_then, nothing_leads, depending_leads, bit_leads
 module _ (t : Terms) (l : Link) (nr : Seq) (n : ℕ) (valid : named l.a l.s nr ≡ Some n) where
   abbrev Back : Course → Type 0
   Back c = GoesBackTo n l c.link
-
-  abbrev effect : (ℕ → Step) → Course → Option ℕ → Course
-  effect f c o = elim o [ None ↦ (error t ErrorCode.J then re_establish t) c | Some m ↦ f m c ]
 
   by-number : (f : ℕ → Step) → ((c : Course) → Still l c → Back (f n c)) → (c : Course) → Still l c → Back (by_number t nr f c)
   by-number f x c h = grind arith

@@ -1,5 +1,5 @@
 -- An event loses at most two control frames: a purse holds how many may still be lost.
-use Rattle.laws_link.proofs.Vocabulary.{ℕ, ◌+◌, ◌≤◌, Bool, true, false, cond, arith, Terms, Link, Course, begun, Purse, another, two, how_many, Kept, every_event, Event, told}
+use Rattle.laws_link.proofs.Vocabulary.{ℕ, ◌+◌, ◌≤◌, Bool, cond, arith, Terms, Link, Course, begun, Purse, another, two, how_many, Kept, every_event, Event, told}
 
 pub record Loses (p : Purse) (lost : ℕ) : Type 0 where
   pub count : lost + how_many p ≤ 2

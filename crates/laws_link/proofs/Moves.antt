@@ -1,6 +1,6 @@
 -- What a row makes of the contents of a link, of V(A) and of V(S): they stay, some are acknowledged, all go, or the
 -- numbers begin anew.
-use Rattle.laws_link.proofs.Vocabulary.{◌≡◌, ℕ, ◌+◌, ◌-◌, ◌≤◌, Bool, true, false, cond, List, [], length, take, drop, Option, Some, None, refl, ◌⊎◌, inl, arith, option_map_or, Seq, named, Terms, Course, Step, ◌then◌, Leads, named-within, beyond, ErrorCode, Note, by_number, error, re_establish}
+use Rattle.laws_link.proofs.Vocabulary.{◌≡◌, ℕ, ◌+◌, ◌-◌, ◌≤◌, Bool, true, false, cond, List, [], length, take, drop, Option, Some, None, refl, ◌⊎◌, arith, option_map_or, Seq, named, Terms, Course, Step, ◌then◌, Leads, named-within, beyond, ErrorCode, Note, by_number, error, re_establish}
 use Rattle.laws_link.proofs.Queueing.{Claim, On, note_keeps}
 
 -- the contents are these, n of them more are acknowledged, and no loss is told

@@ -1,14 +1,11 @@
 -- What is due is delivered, and is noted once.
-use Rattle.laws_link.proofs.Vocabulary.{◌≡◌, ℕ, ◌≤◌, Bool, true, false, cond, ◌||◌, List, [], ◌∷◌, length, Option, Some, None, is_some, option_to_list, refl, sym, ap, ◌∙◌, arith, count_by, nat_lt, list_any, or_parts, sum_by-cons, sum_by_push, none-some, Seq, Control, Information, Ui, Note, State, TeiAssigned, Terms, Arrived, information_of, MayEstablish, restarts, Link, is_data, is_unit, IsSound, Course, begun, Step, delivery, event-delivers, event-tells, in_i_frame, in_ui_frame, contents_heard, unit_heard, within, in_sequence, data_due, IsNotedOnce, acknowledged_by_information_in_7, Event, frame, received, course, frame_in, frame_step, told, by_number, both_ways}
+use Rattle.laws_link.proofs.Vocabulary.{◌≡◌, ℕ, ◌≤◌, Bool, true, false, cond, ◌||◌, List, [], ◌∷◌, length, Option, Some, None, is_some, option_to_list, refl, sym, ap, ◌∙◌, arith, count_by, nat_lt, list_any, or_parts, sum_by-cons, sum_by_push, none-some, Seq, Control, Information, Ui, Note, State, Terms, information_of, MayEstablish, restarts, Link, is_data, is_unit, IsSound, Course, begun, Step, event-delivers, event-tells, in_i_frame, contents_heard, unit_heard, within, data_due, IsNotedOnce, acknowledged_by_information_in_7, Event, frame, received, course, frame_in, frame_step, told, by_number, both_ways}
 use Rattle.model_link.specs.MultipleFrame
 use Rattle.laws_link.proofs.Restarts.{establishes}
 use Rattle.laws_link.proofs.Delivered.{delivered-was-heard}
 use Rattle.laws_link.proofs.Keeping.{event-unit}
 
 -- What is delivered is what is due.
-delivery-is : (r : ℕ) (o : Option Arrived) → delivery r o ≡ in_sequence r o
-delivery-is r o = grind arith
-
 module _ (t : Terms) (l : Link) where
   establishing : (control : Control) (octets : List ℕ) → MayEstablish control → information_of control octets ≡ None
   establishing control octets may = grind arith
@@ -17,7 +14,7 @@ module _ (t : Terms) (l : Link) where
   none-due e begins = grind (arith, establishing, establishes)
 
   pub data-is : (e : Event) → (told t e l).delivered ≡ data_due t e l
-  data-is e = grind (arith, event-delivers, delivery-is, none-due)
+  data-is e = grind (arith, event-delivers, none-due)
 
 -- How often something is noted, by whether it is.
 pub none-counted : (p : Note → Bool) (ns : List Note) → list_any p ns ≡ false → count_by p ns ≡ 0
@@ -80,11 +77,8 @@ module _ (t : Terms) (l : Link) where
   ui-frame : (here : State) (b : Bool) (octets : List ℕ) (p : Bool) → OneUnit (frame_in here t b octets (Ui p) (begun l))
   ui-frame here b octets p = grind (arith, both_ways, nat_lt)
 
-  unit-frame : (b : Bool) (octets : List ℕ) (control : Control) (contents : List ℕ) → in_ui_frame control octets ≡ Some contents → OneUnit (frame_step t b octets control (begun l))
-  unit-frame b octets control contents h = grind (arith, ui-frame, none-some)
-
   unit-few : (e : Event) (contents : List ℕ) → unit_heard e ≡ Some contents → OneUnit (course t e l)
-  unit-few e contents h = grind (arith, unit-frame, none-some)
+  unit-few e contents h = grind (arith, ui-frame, none-some)
 
   pub noted-once : IsSound t l → (e : Event) → IsNotedOnce (told t e l)
   noted-once s e = record {

@@ -37,9 +37,6 @@ module _ (t : Terms) (l : Link) (ordered : l.a ≤ l.s) (most : l.s ≤ length l
   all-taken : length l.contents ≡ l.a → l.contents ≡ take l.a l.contents
   all-taken none = sym (take_all l.a l.contents (omega (arith, none)))
 
-  rest-goes : drop l.a (take l.a l.contents) ≡ []
-  rest-goes = drop_all l.a (take l.a l.contents) (omega (arith, length-take-le l.a l.contents (omega (arith, ordered, most))))
-
   same-place : has_outstanding l ≡ false → l.s ≡ l.a
   same-place e = grind (arith, eqb-true)
 
@@ -57,7 +54,7 @@ module _ (t : Terms) (l : Link) (ordered : l.a ≤ l.s) (most : l.s ≤ length l
   answered-in-5 : (IsTrue l.asked → length l.contents ≡ l.a) → (b : Bool) → l.asked ≡ b → (d : Bool) → has_outstanding l ≡ d
       → On (Move 0) ((zero_numbers then start T203 then enter Established)
       (cond b (establish_confirm t (begun l)) (cond d ((discard then establish_indication t) (begun l)) (begun l))))
-  answered-in-5 none b e d e' = grind (arith, none-left, drop_all, begins, rest-goes, same-place)
+  answered-in-5 none b e d e' = grind (arith, none-left, drop_all, begins, length-take-le, same-place)
 
   pub frames_in_5 : (IsTrue l.asked → length l.contents ≡ l.a) → (octets : List ℕ) (control : Control) → is_ui control ≡ false → On (Move 0) (AwaitingEstablishment.frame_in_5 t octets control (begun l))
   frames_in_5 none octets control is = grind (arith, answered-in-5, still, words)
@@ -76,7 +73,7 @@ module _ (t : Terms) (l : Link) (ordered : l.a ≤ l.s) (most : l.s ≤ length l
   sabme-again : (p d : Bool) → has_outstanding l ≡ d
       → let c = (send t (response (Ua p)) then clear_flags then error t ErrorCode.F) (begun l) in
       On (Move 0) ((zero_numbers then start T203 then enter Established) (cond d ((discard then establish_indication t) c) c))
-  sabme-again p d e = grind (arith, rest-goes, begins, same-place)
+  sabme-again p d e = grind (arith, drop_all, length-take-le, begins, same-place)
 
   -- an N(R) that names m
   went : (m : ℕ) → l.a ≤ m → m ≤ l.s → (all : List (List ℕ)) (a s : ℕ) (loss zeroed : Bool) (unit : Option (List ℕ))

@@ -1,5 +1,5 @@
 -- A link that awaits something has its timer: the rows by state, and every event.
-use Rattle.laws_link.proofs.Vocabulary.{arith, ◌≡◌, ℕ, ◌+◌, Bool, true, false, cond, ◌&&◌, List, [], ◌∷◌, Option, Some, None, inl, inr, refl, sym, subst, true≢false, Control, Ua, Dm, ErrorCode, Refusal, State, TeiAssigned, AwaitingEstablishment, AwaitingRelease, Established, TimerRecovery, LinkTimer, T200, T203, ControlFrame, Terms, Link, fresh, runs, Course, begun, changed, establish_in_4, Leads, IsTimed, IsTimedIn, leaves, told_ways, ClearBusy, Data, Establish, Event, Release, Request, SetBusy, cleared, expired, frame, offer, overlong, received, requested, undefined, wrong_size, pending_is, start, clear_busy_in_7_8, data_in_7_8, set_busy_in_7_8, give_information, is_established, may_send_information, offer_among, with_one_sent, after, after_all, course, expired_in, frame_in, frame_step, is_running, malformed_in}
+use Rattle.laws_link.proofs.Vocabulary.{arith, ◌≡◌, ℕ, ◌+◌, Bool, true, false, cond, ◌&&◌, List, [], ◌∷◌, Option, Some, None, refl, subst, Control, Ua, Dm, ErrorCode, Refusal, State, TeiAssigned, AwaitingEstablishment, AwaitingRelease, Established, TimerRecovery, LinkTimer, T200, ControlFrame, Terms, Link, fresh, runs, Course, begun, changed, Leads, IsTimed, IsTimedIn, told_ways, Event, Request, cleared, expired, frame, offer, overlong, received, requested, undefined, wrong_size, pending_is, start, give_information, is_established, may_send_information, offer_among, with_one_sent, after, after_all, course, expired_in, frame_in, frame_step, is_running, malformed_in}
 use Rattle.model_link.specs.Requests
 use Rattle.laws_link.proofs.Timing.{TimedBy, At, Ends, at_ends, failed_timed, ends, rows}
 
@@ -23,19 +23,6 @@ module _ (t : Terms) where
   malformed_timed Established e = failed_timed t e
   malformed_timed other e = search ends depth 12 fits 4000
 
-  release_timed : (here : State) → Leads (At here) (Requests.release_in here t) Ends
-  release_timed TeiAssigned = search ends depth 12 fits 4000
-  release_timed other = search ends depth 12 fits 4000
-
-  establish_timed : {here : State} → Leads (At here) (establish_in_4 t) Ends
-  establish_timed {here} = search ends depth 12 fits 4000
-
-  set_busy_timed : (here : State) → Leads (At here) (set_busy_in_7_8 t) Ends
-  set_busy_timed here = search ends depth 12 fits 4000
-
-  clear_busy_timed : (here : State) → Leads (At here) (clear_busy_in_7_8 t) Ends
-  clear_busy_timed here = search ends depth 12 fits 4000
-
 -- as the law says it, and back
 of-law : (here : State) (l : Link) → IsTimedIn here l → TimedBy here l.running l.a l.s
 of-law here l h = grind arith
@@ -54,7 +41,7 @@ module _ (t : Terms) (l : Link) (timed : IsTimed l) where
   frames b octets control = (frame_timed t l.state b octets control).leads (begun l) here
 
   granted : (request : Request) → Ends (Requests.granted t request (begun l))
-  granted request = grind (arith, establish_timed, here, release_timed, at_ends, set_busy_timed, clear_busy_timed)
+  granted request = grind (arith, here, ends, at_ends)
 
   requests : (request : Request) (o : Option Refusal) → Ends (elim o as (λ o. Course) [ None ↦ Requests.granted t request (begun l) | Some _ ↦ begun l ])
   requests request o = grind (arith, granted, unchanged)

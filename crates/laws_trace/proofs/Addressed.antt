@@ -1,5 +1,5 @@
 -- Frames for a link.
-use Rattle.laws_trace.proofs.Vocabulary.{arith, ◌≡◌, ℕ, ◌==◌, Bool, true, cond, Option, Some, None, refl, sym, ap, ◌∙◌, true≢false, Tei, Service, Call, Packet, sapi_of, service_of, is-off, Aim, at_link, Line, place_in, has_tei, management_sapi, group_tei, drop_for, at_place, to_service, addressed, Received, received}
+use Rattle.laws_trace.proofs.Vocabulary.{arith, ◌≡◌, ℕ, Bool, true, Option, Some, None, refl, sym, ◌∙◌, true≢false, Service, sapi_of, is-off, Aim, at_link, Line, place_in, has_tei, addressed, Received, received}
 
 -- A frame for a link is an event of this link.
 pub addressed-is : (l : Line) (sapi to : ℕ) (command : Bool) (service : Service) (tei place : ℕ) (what : Received) (m : Aim)

@@ -1,6 +1,6 @@
 -- When the numbers of a link begin, by what is heard and noted.
-use Rattle.laws_trace.proofs.Vocabulary.{arith, ◌≡◌, ◌==◌, Bool, true, false, cond, [], ◌∷◌, refl, sym, ap, ◌∙◌, subst, true≢false, not, if◌then◌else◌, list_any, Parts, Sabme, Ua, Dm, EstablishIndication, EstablishConfirm, State, TeiAssigned, AwaitingEstablishment, AwaitingRelease, LinkTimer, Terms, restarts, Received, received, expired, requested, offer, cleared, Link, is_multiple_frame, may_repeat, runs, Leaves, as_heard, by_frame, by_received, by_expiry, by_request, state_after, numbers_begin, told_by, establishes, event-follows, Control, T200, LinkEvent as Event, frame, LinkRequest as Request, LinkEstablish as Establish, link_after as after, link_told as told}
-use Rattle.laws_trace.proofs.Counting.{begins_by, is_end}
+use Rattle.laws_trace.proofs.Vocabulary.{arith, ◌≡◌, Bool, true, false, cond, sym, ap, ◌∙◌, subst, Parts, Sabme, Ua, State, LinkTimer, Terms, restarts, received, Link, is_multiple_frame, Leaves, as_heard, by_frame, by_expiry, by_request, state_after, numbers_begin, told_by, event-follows, Control, LinkEvent as Event, frame, LinkRequest as Request, link_after as after, link_told as told}
+use Rattle.laws_trace.proofs.Counting.{begins_by}
 
 -- A link in a state is itself.
 pub in-state : (P : Link → Type 0) (l : Link) → ((here : State) → P (record l { state = here })) → P l

@@ -1,5 +1,5 @@
 -- What a link tells that is cleared, as its TEI leaves the line or it is deactivated.
-use Rattle.laws_trace.proofs.Vocabulary.{arith, ◌≡◌, ℕ, Bool, false, ◌||◌, None, refl, ap, list_any, option_or, Note, ReleaseIndication, ReleaseConfirm, Service, State, TeiAssigned, AwaitingRelease, Terms, Link, ◌then◌, begin_anew, begun, cleared, link_told as told, told_of_clearing}
+use Rattle.laws_trace.proofs.Vocabulary.{arith, ◌≡◌, ℕ, Bool, false, None, list_any, option_or, Note, ReleaseIndication, ReleaseConfirm, Service, Terms, Link, cleared, link_told as told}
 
 -- It delivers nothing, and loses no frame.
 pub none-delivered : (t : Terms) (x : Link) → option_or (told t cleared x).delivered (told t cleared x).unit ≡ None

@@ -1,5 +1,5 @@
 -- What puts an enquiry: nothing but the expiry of a timer leads a link to state 8.
-use Rattle.laws_trace.proofs.Vocabulary.{arith, ◌≡◌, ◌&&◌, ◌||◌, Bool, true, false, cond, refl, ReceiveReady, ReceiveNotReady, Reject, Sabme, Disc, Ua, Dm, Frmr, Service, Call, Packet, same_service, State, TeiAssigned, AwaitingEstablishment, AwaitingRelease, Established, TimerRecovery, Terms, Link, is_multiple_frame, Received, received, requested, offer, cleared, moves, by_frame, by_request, is_invalid, receipt_of, state_after, Control, LinkEvent as Event, LinkRequest as Request, frame, LinkEstablish as Establish, LinkRelease as Release}
+use Rattle.laws_trace.proofs.Vocabulary.{arith, ◌≡◌, ◌&&◌, ◌||◌, Bool, true, false, cond, Service, same_service, State, TeiAssigned, AwaitingEstablishment, AwaitingRelease, Established, TimerRecovery, Terms, Link, is_multiple_frame, Received, received, requested, offer, cleared, moves, by_frame, by_request, state_after, Control, LinkEvent as Event, LinkRequest as Request}
 
 pub same-itself : (s : Service) → same_service s s ≡ true
 same-itself s = grind arith

@@ -1,6 +1,5 @@
 -- Which configurations are in range: the law.
-use Rattle.laws_trace.proofs.Vocabulary.{◌≡◌, ℕ, ◌≤◌, Bool, true, false, not, cond, ◌&&◌, Option, Some, None, max, nat_le, refl, ap, ◌∙◌, arith, le-leb, Config, Field, Lines, Terminals, K, K16, Queue, UnitQueue, Slots, N201, N200, is_within, first_fault, IsInRange, ranges_of}
-use Rattle.model_line.specs.declared.config.Field.TheVariants.{Control}
+use Rattle.laws_trace.proofs.Vocabulary.{◌≡◌, ℕ, ◌≤◌, Bool, true, not, cond, ◌&&◌, Option, Some, None, nat_le, ap, ◌∙◌, arith, le-leb, Config, Field, is_within, first_fault, IsInRange, ranges_of}
 use Rattle.laws_trace.specs.Configurations.{HasRanges, RangesAreServed}
 
 within : (low high n : ℕ) → low ≤ n → n ≤ high → is_within low high n ≡ true

@@ -1,6 +1,5 @@
 -- What an event of a line is to the data of a link: what it asks for, and what it does not.
-use Rattle.laws_trace.proofs.Vocabulary.{arith, ◌≡◌, ℕ, ◌==◌, ◌&&◌, Bool, true, false, cond, List, [], ◌∷◌, Option, Some, None, refl, sym, ap, ◌∙◌, eq-eqb, true≢false, is_some, Service, same_service, not_not, Terms, Link, accepted, i_frames, Config, hears, request, next, Answer, Line, has_tei, place_in, aim_of, unless_refused, bad_tei, no_link, wrong_state, too_long, queue_full, pool_full, at_requested, is_granted, IsBy, passed, not-refused, service-same, is-off, Event, answer, refusal, Request, Data, of_link, data_asked}
-use Rattle.model_bits.specs.Stream as stream
+use Rattle.laws_trace.proofs.Vocabulary.{arith, ◌≡◌, ℕ, Bool, true, false, List, [], None, eq-eqb, is_some, Service, not_not, Terms, Link, accepted, i_frames, Config, request, next, Answer, Line, aim_of, is_granted, IsBy, not-refused, service-same, is-off, Event, answer, refusal, Request, Data, of_link, data_asked}
 use Rattle.model_link.specs.Events as link
 use Rattle.model_link.specs.Requests as requests
 use Rattle.laws_trace.proofs.OneLink.{is_at_link}

@@ -1,6 +1,5 @@
 -- What an event of a link is to the contents that it keeps: what is acknowledged of them, and what is accepted.
-use Rattle.laws_trace.proofs.Vocabulary.{◌≡◌, ℕ, ◌+◌, ◌≤◌, Bool, true, false, cond, List, [], ◌∷◌, Option, Some, None, refl, ap, arith, is_some, option_map_or, Seq, named, WrongState, Terms, received, requested, Link, is_multiple_frame, refusal_for_room, named-within, acknowledged_by, accepted, beyond, number_received, LinkEvent as Event, LinkRequest as Request, LinkData as Data, acknowledged}
-use Rattle.model_link.specs.Requests.{refusal}
+use Rattle.laws_trace.proofs.Vocabulary.{◌≡◌, ◌+◌, ◌≤◌, Bool, false, [], arith, is_some, Terms, requested, Link, is_multiple_frame, named-within, accepted, LinkEvent as Event, LinkRequest as Request, acknowledged}
 use Rattle.laws_trace.proofs.Facts.{either-none}
 
 -- What is acknowledged had gone.

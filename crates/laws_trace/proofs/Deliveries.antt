@@ -1,5 +1,5 @@
 -- What is told is what was heard.
-use Rattle.laws_trace.proofs.Vocabulary.{◌≡◌, ℕ, ◌%◌, ◌≤◌, ◌==◌, ◌&&◌, Bool, true, false, cond, List, [], ◌∷◌, length, Option, Some, None, refl, sym, ap, ◌∙◌, arith, eq-eqb, ◌⊎◌, inl, inr, true≢false, All, ◌||◌, not, nat_le, count_by, option_to_list, list_any, and_parts, All-head, All-tail, sum_by-cons, none-some, Seq, Address, Note, Service, Parts, reading, sapi_of, service_of, same_service, Terms, Arrived, restarts, eligible, eligible_of, is_eligible, Link, is_multiple_frame, notes-own, establishes, unit_heard, in_ui_frame, Config, hears, Answer, Line, link_in, terms, aim_of, heard_side, group_tei, IsInRange, IsMalformed, IsTooLong, notes_of, contents_in, is_data_of, is_unit_of, tells_contents, IsBy, Brings, BringsMalformed, contents-heard, sapi-is, read-aim, read-event, told-once, group-read, Control, link_information_of as information_of, IsOwn, Event, answer, IsSound, result_ok, frame_of, is_for, is_ui, Information, Ui, NoteData as Data, Unit, IsHeard, IsHeardAtLink, IsHeardByGroup}
+use Rattle.laws_trace.proofs.Vocabulary.{◌≡◌, ℕ, ◌%◌, ◌≤◌, ◌==◌, ◌&&◌, Bool, true, false, cond, List, [], ◌∷◌, length, Option, Some, None, refl, sym, ap, ◌∙◌, arith, eq-eqb, inl, inr, true≢false, All, ◌||◌, not, nat_le, count_by, list_any, and_parts, All-head, All-tail, sum_by-cons, none-some, Seq, Note, Service, Parts, service_of, same_service, Terms, Arrived, restarts, eligible, eligible_of, is_eligible, Link, is_multiple_frame, notes-own, establishes, unit_heard, Config, hears, Answer, Line, link_in, terms, aim_of, group_tei, IsInRange, notes_of, contents_in, is_data_of, is_unit_of, tells_contents, IsBy, Brings, BringsMalformed, contents-heard, sapi-is, read-aim, read-event, told-once, group-read, Control, link_information_of as information_of, IsOwn, Event, answer, IsSound, result_ok, frame_of, is_for, is_ui, Information, Unit, IsHeard, IsHeardAtLink, IsHeardByGroup}
 use Rattle.model_bits.specs.Stream as stream
 use Rattle.model_link.specs.Events as link
 use Rattle.model_link.specs.Machine as links

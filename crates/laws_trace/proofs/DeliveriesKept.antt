@@ -1,5 +1,5 @@
 -- How a link stands by what is heard and noted: over runs.
-use Rattle.laws_trace.proofs.Vocabulary.{arith, ◌≡◌, ℕ, ◌<◌, Bool, false, List, [], ◌++◌, None, refl, sym, ap, ◌∙◌, subst, option_map_or, get_or-replicate, fold-append, Service, Link, Config, Line, link_in, link_of, fresh_line, IsInRange, nowhere, line_at, fresh_is_sound, fresh_link as fresh, Event, line_after as after, answer, IsSound, after_all, AreAtLines, Seen, seen, trace_of}
+use Rattle.laws_trace.proofs.Vocabulary.{◌≡◌, ℕ, ◌<◌, Bool, false, List, [], ◌++◌, None, refl, sym, ap, ◌∙◌, subst, option_map_or, get_or-replicate, fold-append, Service, Link, Config, Line, link_in, link_of, fresh_line, IsInRange, nowhere, line_at, fresh_is_sound, fresh_link as fresh, Event, line_after as after, answer, IsSound, after_all, AreAtLines, Seen, seen, trace_of}
 use Rattle.model_card.specs.Card as cards
 use Rattle.model_card.specs.Event as card
 use Rattle.laws_trace.proofs.DeliveriesWatched.{Standing, at_first, stand}

@@ -1,7 +1,6 @@
 -- What is wrong with what is seen of a link: one event of its line.
-use Rattle.laws_trace.proofs.Vocabulary.{arith, ◌≡◌, ℕ, ◌==◌, ◌&&◌, Bool, true, false, cond, List, [], ◌∷◌, ◌++◌, Option, Some, None, Result, Ok, Err, refl, sym, ap, ◌∙◌, subst, true≢false, ◌⊎◌, inl, inr, append-nil, option_to_list, option_map_or, Unserved, Address, ReadFault, Undefined, WrongSize, ErrorCode, Long, Service, Parts, reading, long_reading, Config, hears, expiry, Answer, heard_side, aim_of_heard, aim_of_reading, aim_of_long, drop_for, Line, place_in, terms, aim_of, IsMalformed, IsTooLong, IsBy, BringsMalformed, nat_lt, length, eqb-true, Event, option_and_then, result_ok, result_err, frame_of, its_frame, is_for, faulty_long, malformed, fault_of, wrong_frame, given_up, wrong, is_up, and-false, G, H, I, L, N, O, cond_both}
+use Rattle.laws_trace.proofs.Vocabulary.{arith, ◌≡◌, ℕ, true, false, cond, List, [], ◌++◌, Some, None, Result, ap, ◌∙◌, ◌⊎◌, append-nil, option_to_list, option_map_or, Address, ReadFault, ErrorCode, Long, Service, Parts, Config, hears, Answer, aim_of_reading, aim_of_long, Line, place_in, terms, aim_of, IsMalformed, IsTooLong, IsBy, BringsMalformed, nat_lt, length, eqb-true, Event, option_and_then, result_ok, result_err, its_frame, is_for, faulty_long, fault_of, wrong_frame, wrong, is_up, and-false, cond_both}
 use Rattle.model_bits.specs.Stream as stream
-use Rattle.lapd_frame.specs.declared.overlong.Long.TheVariants as long
 use Rattle.model_link.specs.Events as link
 use Rattle.laws_trace.proofs.DeliveriesRun.{heard-aims-at}
 use Rattle.laws_trace.proofs.LinkLed.{addressed-none, own-address}

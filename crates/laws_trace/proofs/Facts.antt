@@ -1,5 +1,5 @@
 -- Small facts that several files cite: of tests, of lists, of names and of states.
-use Rattle.laws_trace.proofs.Vocabulary.{◌≡◌, ℕ, ◌<◌, ◌==◌, ◌&&◌, ◌||◌, not, Bool, true, false, cond, List, [], Option, Some, IfSome, refl, sym, subst, arith, eq-eqb, true≢false, Service, Call, Packet, sapi_of, same_service, management_sapi, State, TeiAssigned, state_number, is_multiple_frame, moves, ControlFrame, is_up}
+use Rattle.laws_trace.proofs.Vocabulary.{◌≡◌, ℕ, ◌<◌, ◌==◌, ◌&&◌, ◌||◌, not, Bool, true, false, cond, List, [], Option, Some, IfSome, sym, subst, arith, eq-eqb, true≢false, Service, sapi_of, same_service, management_sapi, State, state_number, is_multiple_frame, moves, ControlFrame, is_up}
 
 -- A test that fails does not hold.
 pub never : {A : Type 0} → false ≡ true → A

@@ -1,5 +1,5 @@
 -- What an event of a line leaves of the contents that a link keeps.
-use Rattle.laws_trace.proofs.Vocabulary.{◌≡◌, ℕ, ◌%◌, Bool, true, false, cond, not, List, [], ◌∷◌, ◌++◌, ◌&&◌, ◌||◌, drop, Some, None, refl, sym, ap, ◌∙◌, subst, ◌⊎◌, inl, inr, arith, append-nil, All, is_some, list_any, option_map_or, All-head, All-tail, none-some, Note, WrongState, Service, place_of-is, is_on-at, not_not, accepted, ends, is_release, tells_loss, empties, Terms, Link, is_multiple_frame, queue_of, state_number, notes-own, Config, at_link, Answer, hears, expiry, request, next, Line, has_tei, link_in, link_of, place_in, terms, aim_of, unless_refused, bad_tei, no_link, wrong_state, Deactivate, at_requested, at_deactivated, aim_of_request, IsInRange, terms_in_range, notes_of, is_loss_of, is_granted, IsBy, link-grants, passed, not-refused, fresh_link, refusal, Request, Release, Data, IsSound, of_link, brings, is_news, is_sabme, steps, is_own, data_asked, seen, is_up, EstablishIndication, ReleaseConfirm, ReleaseIndication, link_after as after, link_told as told, Event, cond_both}
+use Rattle.laws_trace.proofs.Vocabulary.{◌≡◌, ℕ, ◌%◌, Bool, true, false, cond, not, List, [], ◌∷◌, ◌++◌, ◌&&◌, ◌||◌, drop, Some, None, refl, sym, ap, ◌∙◌, subst, ◌⊎◌, inl, inr, arith, append-nil, All, is_some, list_any, All-head, All-tail, none-some, Note, WrongState, Service, place_of-is, is_on-at, not_not, accepted, ends, is_release, tells_loss, empties, Terms, Link, is_multiple_frame, queue_of, state_number, notes-own, Config, at_link, Answer, hears, expiry, request, next, Line, has_tei, link_of, place_in, terms, aim_of, bad_tei, no_link, wrong_state, Deactivate, at_requested, at_deactivated, aim_of_request, IsInRange, terms_in_range, notes_of, is_loss_of, is_granted, IsBy, link-grants, passed, not-refused, fresh_link, refusal, Request, Release, Data, IsSound, of_link, brings, is_news, is_sabme, steps, data_asked, seen, is_up, link_after as after, link_told as told, Event, cond_both}
 use Rattle.model_link.specs.Events as link
 use Rattle.model_link.specs.Requests as requests
 use Rattle.model_link.specs.Sound as link_sound
@@ -51,10 +51,6 @@ module _ (c : Config) (ranged : IsInRange c) (l : Line) (s : IsSound c l) (servi
       ∙ granted-data service tei own_terms own y.1 y.0 (λ contents is. not-full y.0 y.1 contents is y.2 y.3 y.4 x.aimed) ∙ ap (data_asked service tei) (sym y.3)
       ∙ sym (asked-grants service tei r (lines.answer c (request r) l) ∙ ap (λ b. cond {A = List (List ℕ)} b (data_asked service tei r) []) y.4)
     where
-      aimed-so : (full : Bool) (contents : List ℕ) → refusal c false (Data service tei contents) l ≡ None
-          → aim_of c (request (Data service tei contents)) l ≡ at_link service tei x.place (link.requested (link.Data contents) full) → full ≡ false
-      aimed-so full contents none is = grind arith
-
       not-full : (what : link.Request) (full : Bool) (contents : List ℕ) → what ≡ link.Data contents → x.event ≡ link.requested what full → r ≡ of_link service tei what
           → is_granted (lines.answer c (request r) l) ≡ true
           → (request r ≡ next) ⊎ (aim_of c (request r) l ≡ at_link service tei x.place x.event) → requests.refusal own_terms own full (link.Data contents) ≡ None

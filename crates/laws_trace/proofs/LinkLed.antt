@@ -1,7 +1,6 @@
 -- Which state a link moves to: one event of a line, by what is seen of it.
-use Rattle.laws_trace.proofs.Vocabulary.{arith, ◌≡◌, ℕ, ◌==◌, ◌&&◌, Bool, true, false, cond, List, [], ◌∷◌, ◌++◌, length, map, Option, Some, None, Result, Ok, Err, refl, sym, ap, ◌∙◌, eq-eqb, true≢false, ◌⊎◌, inl, inr, fold, is_some, nat_lt, option_map_or, Unserved, Address, ReadFault, Undefined, WrongSize, ErrorCode, L, N, O, Long, Refusal, Service, Timer, Parts, reading, long_reading, sapi_of, service_of, same_service, place_of-is, is_on-at, LinkTimer, Config, Aim, Effect, at_link, hears, expiry, request, next, Answer, aim_of_expiry, at_timer, Line, has_tei, place_in, terms, aim_of, unless_refused, unless_refused_told, of_request, heard_side, addressed, aim_of_heard, aim_of_reading, aim_of_long, drop_for, message_of, Deactivate, aim_of_request, at_requested, at_deactivated, at_side, IsMalformed, IsTooLong, is_granted, IsBy, BringsMalformed, timer_of, IsDeactivated, addressed-is, sapi-is, service-same, both-true, eqb-true, T200, T203, Event, told, answer, refusal, Request, Establish, Release, option_and_then, result_ok, result_err, is_for, faulty_long, fault_of, trace_frame_in as frame_in, is_own, seen, seen_told, seen_granted, is_up, and-false, and-true, of_link, Seen, trace_begun as begun, heard}
+use Rattle.laws_trace.proofs.Vocabulary.{arith, ◌≡◌, ℕ, ◌==◌, ◌&&◌, Bool, true, false, cond, List, [], ◌∷◌, ◌++◌, length, map, Option, Some, None, Result, Ok, Err, refl, sym, ap, ◌∙◌, eq-eqb, true≢false, ◌⊎◌, fold, is_some, nat_lt, option_map_or, Unserved, Address, ReadFault, Undefined, WrongSize, ErrorCode, L, N, Refusal, Service, Timer, Parts, sapi_of, service_of, same_service, place_of-is, is_on-at, LinkTimer, Config, Aim, Effect, at_link, hears, expiry, request, next, Answer, aim_of_expiry, at_timer, Line, has_tei, place_in, terms, aim_of, unless_refused_told, of_request, addressed, aim_of_heard, aim_of_reading, drop_for, message_of, Deactivate, aim_of_request, at_requested, at_deactivated, at_side, IsMalformed, IsTooLong, is_granted, IsBy, BringsMalformed, timer_of, IsDeactivated, addressed-is, sapi-is, service-same, both-true, eqb-true, T200, T203, Event, answer, refusal, Request, Establish, Release, option_and_then, result_ok, result_err, is_for, fault_of, trace_frame_in as frame_in, is_own, seen, seen_told, seen_granted, is_up, and-false, and-true, of_link, Seen, trace_begun as begun, heard}
 use Rattle.model_bits.specs.Stream as stream
-use Rattle.lapd_frame.specs.declared.overlong.Long.TheVariants as long
 use Rattle.lapd_frame.specs.declared.timers.Timer.TheVariants as timers
 use Rattle.model_link.specs.Events as link
 use Rattle.laws_trace.proofs.MovesWatched.{by_frame, by_parts, by_request, by_seen, by_expiry, led}

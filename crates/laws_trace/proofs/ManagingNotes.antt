@@ -1,7 +1,6 @@
 -- Which aims of a line are none of TEI management, and that what a line tells behind what TEI management tells changes nothing.
-use Rattle.laws_trace.proofs.Vocabulary.{arith, ◌≡◌, ℕ, ◌==◌, ◌&&◌, Bool, true, false, cond, List, [], ◌∷◌, ◌++◌, Option, Some, None, refl, sym, ap, ◌∙◌, subst, append-nil, append_assoc, option_map_or, true≢false, ◌⊎◌, inl, inr, All, filter, not, Result, Ok, Err, All-nil, All-cons, All-head, All-tail, All-append, filter-append, Tei, Unserved, Address, Side, Network, User, Ui, ReadFault, Undefined, WrongSize, Note, Long, Service, Start, Stop, Call, Packet, Parts, reading, long_reading, service_of, TeiTold, Change, Left, Link, runs, timer_at, order_for, orders_for, LinkTimer, Terms, notes-own, Config, Aim, at_management, told_of_management, of_change, Line, link_in, terms, place_in, management_sapi, group_tei, drop_for, at_place, to_service, addressed, message_of, aim_of_reading, unless_at_link, aim_of_long, aim_of_heard, heard_side, managed_at, at_side, has_management, Control, T200, T203, line_of_link as of_link, result_ok, frame_of, Managed, by_message, is_of_teis, is_of_t201, is_ui, Assigned, Doubled, Removed, course, link_told as told}
+use Rattle.laws_trace.proofs.Vocabulary.{arith, ◌≡◌, ℕ, ◌==◌, ◌&&◌, Bool, true, false, cond, List, [], ◌∷◌, ◌++◌, Option, Some, None, refl, sym, ap, ◌∙◌, append-nil, append_assoc, option_map_or, ◌⊎◌, inr, All, filter, Result, Ok, Err, All-nil, All-cons, All-head, All-tail, All-append, filter-append, Tei, Unserved, Address, ReadFault, Undefined, WrongSize, Note, Long, Service, Call, Packet, Parts, reading, long_reading, service_of, TeiTold, Change, Left, Link, orders_for, LinkTimer, Terms, notes-own, Config, Aim, at_management, told_of_management, of_change, Line, link_in, terms, management_sapi, group_tei, drop_for, at_place, to_service, addressed, message_of, aim_of_reading, aim_of_long, aim_of_heard, heard_side, at_side, has_management, Control, line_of_link as of_link, result_ok, frame_of, Managed, by_message, is_of_teis, is_of_t201, is_ui, course, link_told as told}
 use Rattle.model_bits.specs.Stream as stream
-use Rattle.lapd_frame.specs.declared.overlong.Long.TheVariants as long
 use Rattle.lapd_tei.specs.Events as teis
 use Rattle.model_link.specs.Events as link
 use Rattle.model_link.proofs.OwnNotes.{IsOwn}

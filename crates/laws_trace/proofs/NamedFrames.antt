@@ -1,5 +1,5 @@
 -- Frames of a link, and their names.
-use Rattle.laws_trace.proofs.Vocabulary.{arith, ◌≡◌, ℕ, ◌==◌, ◌&&◌, ◌||◌, not, Bool, true, false, cond, List, [], ◌∷◌, ◌++◌, map, filter, list_any, Some, None, refl, sym, ap, ◌∙◌, eq-eqb, true≢false, option_map_or, and_parts, map-append, filter-append, All, All-head, All-tail, Parts, Service, reading-again, sapi_of, Config, eqb-true, result_ok, IsSpelled, its_frame, is_frame_of, is_ui, or-true}
+use Rattle.laws_trace.proofs.Vocabulary.{arith, ◌≡◌, ℕ, ◌==◌, ◌&&◌, ◌||◌, not, Bool, true, false, cond, List, [], ◌∷◌, ◌++◌, map, filter, list_any, Some, None, refl, ap, ◌∙◌, eq-eqb, option_map_or, and_parts, map-append, filter-append, All, All-head, All-tail, Parts, Service, reading-again, sapi_of, Config, eqb-true, result_ok, IsSpelled, its_frame, is_frame_of, is_ui, or-true}
 use Rattle.laws_trace.proofs.LinkNames.{LinkName, named_in, is_of_a_link}
 use Rattle.laws_trace.proofs.Turns.{name-is}
 

@@ -1,5 +1,5 @@
 -- What is seen of a link: SABME, and requests that are granted.
-use Rattle.laws_trace.proofs.Vocabulary.{arith, ◌≡◌, ℕ, ◌&&◌, Bool, true, false, cond, Option, Some, None, refl, sym, ap, ◌∙◌, true≢false, list_any, option_map_or, Service, Config, request, Answer, Line, place_in, at_requested, aim_of_request, is_granted, IsBy, asks_establishment, Parts, Control, T200, T203, Request, Release, is_for, releases, is_own, seen, and-false, Event, aim_of, answer, unless_refused}
+use Rattle.laws_trace.proofs.Vocabulary.{arith, ◌≡◌, ℕ, ◌&&◌, Bool, false, cond, Option, Some, None, refl, ap, ◌∙◌, list_any, option_map_or, Service, Config, request, Answer, Line, place_in, at_requested, aim_of_request, is_granted, IsBy, asks_establishment, Parts, Control, Request, Release, is_for, releases, seen, and-false, Event, aim_of, answer}
 use Rattle.model_link.specs.Events as link
 use Rattle.laws_trace.proofs.NewsWatched.{establishes}
 use Rattle.laws_trace.proofs.TimersWatched.{nothing_yet, control_in, brings}

@@ -1,5 +1,5 @@
 -- The control frames of a link that are due in a moment, by what the observer knows.
-use Rattle.laws_trace.proofs.Vocabulary.{◌≡◌, inl, inr, ℕ, ◌<◌, ◌+◌, ◌-◌, ◌==◌, ◌&&◌, ◌||◌, not, Bool, true, false, cond, length, take, List, [], ◌++◌, Option, Some, None, is_some, refl, sym, ap, ◌∙◌, subst, eq-eqb, arith, le-ltb, true≢false, nat_lt, list_any, option_map_or, none-some, Sabme, Disc, Service, Parts, State, AwaitingEstablishment, AwaitingRelease, TimerRecovery, LinkTimer, state_number, Config, hears, expiry, request, next, Answer, Line, link_of, place_in, state_of, ControlFrame, as_response, as_command, lost_in, is_granted, AllHaveTheirTimers, Card, line_at, at, eqb-true, lt-ltb, T200, Request, CardEvent as Event, after, card_answer as answer, Moment, IsAtLine, brought, frame_of, its_frame, managing_is_on as is_on, led, due, Observed, View, in_state, by_event, by_heard, observer_by_request as by_request, enters, views, is_up, Seen, trace_frame_in as frame_in, seen, seen_told, seen_granted, seen_in, CardIsSound as IsSound}
+use Rattle.laws_trace.proofs.Vocabulary.{◌≡◌, inl, inr, ℕ, ◌<◌, ◌+◌, ◌-◌, ◌==◌, ◌&&◌, ◌||◌, not, Bool, true, false, cond, length, take, List, [], ◌++◌, Option, Some, None, is_some, refl, sym, ap, ◌∙◌, subst, eq-eqb, arith, le-ltb, true≢false, nat_lt, option_map_or, none-some, Service, Parts, State, LinkTimer, state_number, Config, hears, expiry, request, next, Answer, Line, link_of, place_in, state_of, ControlFrame, as_response, lost_in, is_granted, AllHaveTheirTimers, Card, line_at, at, eqb-true, lt-ltb, Request, CardEvent as Event, after, card_answer as answer, Moment, IsAtLine, brought, frame_of, its_frame, managing_is_on as is_on, led, due, Observed, View, in_state, by_event, by_heard, observer_by_request as by_request, enters, views, is_up, Seen, trace_frame_in as frame_in, seen, seen_told, seen_granted, seen_in, CardIsSound as IsSound}
 use Rattle.model_bits.specs.Stream as stream
 use Rattle.model_line.specs.Event as line_event
 use Rattle.laws_trace.specs.ControlFrames as now_due
@@ -11,7 +11,7 @@ use Rattle.laws_trace.proofs.MovesWatched.{repeated}
 use Rattle.laws_trace.proofs.NewsWatched as news
 use Rattle.laws_trace.proofs.NewsWatched.{Owing, owing}
 use Rattle.laws_trace.proofs.ObservedAnswers.{is_answered, card-answered}
-use Rattle.laws_trace.proofs.ObservedControls.{receipt-is, by-heard, asked-answers-is, busies, still-busy, none-led, stays-up, AsBusy, unchanged, as-busy-before}
+use Rattle.laws_trace.proofs.ObservedControls.{by-heard, asked-answers-is, busies, still-busy, none-led, stays-up, AsBusy, unchanged, as-busy-before}
 use Rattle.laws_trace.proofs.ObservedCount.{Same, Agree, when-holds}
 use Rattle.laws_trace.proofs.ObservedCounted.{Stands, agrees-then}
 use Rattle.laws_trace.proofs.ObservedFacts.{Facts, facts, state-is, differs-is}
@@ -23,7 +23,7 @@ use Rattle.laws_trace.proofs.States.{is_state, differ, expired_of, one_more}
 use Rattle.laws_trace.proofs.TimersOfEvent.{state-on, off-state}
 use Rattle.laws_trace.proofs.TimersWatched.{Known, watch}
 use Rattle.laws_trace.proofs.ObservedControlsSeen.{none-mapped, frame-leads, granted-busy, asked-moves}
-use Rattle.laws_trace.proofs.Facts.{either-none, as-busy, not-one}
+use Rattle.laws_trace.proofs.Facts.{either-none, as-busy}
 use Rattle.laws_trace.proofs.Runs.{apart}
 
 module _ (service : Service) (tei number : ℕ) where

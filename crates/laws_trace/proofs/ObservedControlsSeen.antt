@@ -1,5 +1,5 @@
 -- What is seen of the control frames of a link in a moment, by what the observer knows.
-use Rattle.laws_trace.proofs.Vocabulary.{arith, ◌≡◌, ℕ, ◌==◌, ◌&&◌, Bool, true, false, cond, List, [], Option, Some, None, refl, sym, ap, ◌∙◌, true≢false, option_map_or, none-some, Service, Parts, sapi_of, ControlFrame, Config, hears, request, Answer, management_sapi, has_management, is_granted, eqb-true, told, Request, frame_of, its_frame, is_for, Managed, due, by_message, nothing_due, Observed, by_event, observer_by_request as by_request, is_up, seen, is_ui, and-false, cond_both}
+use Rattle.laws_trace.proofs.Vocabulary.{arith, ◌≡◌, ℕ, Bool, true, false, List, [], Option, Some, None, ap, ◌∙◌, option_map_or, none-some, Service, Parts, ControlFrame, Config, hears, request, Answer, is_granted, eqb-true, Request, frame_of, its_frame, Managed, due, by_message, nothing_due, Observed, by_event, observer_by_request as by_request, is_up, seen, and-false, cond_both}
 use Rattle.model_bits.specs.Stream as stream
 use Rattle.laws_trace.proofs.DeliveriesWatched.{busy_asked}
 use Rattle.laws_trace.proofs.ManagingNotes.{message_by, message-is-read}

@@ -1,5 +1,5 @@
 -- What an observer knows of this side of a link is how the link stands by what is heard and noted: over runs.
-use Rattle.laws_trace.proofs.Vocabulary.{arith, ◌≡◌, ℕ, ◌+◌, ◌&&◌, ◌||◌, not, Bool, true, false, cond, Some, refl, sym, ap, ◌∙◌, subst, true≢false, list_any, Service, State, is_multiple_frame, state_number, Config, hears, Answer, Line, link_of, place_in, IsInRange, notes_of, is_data_of, Event, IsSound, brought, Observed, by_event, is_up, answer}
+use Rattle.laws_trace.proofs.Vocabulary.{arith, ◌≡◌, ℕ, ◌+◌, ◌&&◌, ◌||◌, not, Bool, true, false, cond, Some, refl, sym, ap, ◌∙◌, subst, list_any, Service, State, is_multiple_frame, state_number, Config, Answer, Line, link_of, place_in, IsInRange, notes_of, is_data_of, Event, IsSound, brought, Observed, by_event, is_up, answer}
 use Rattle.laws_trace.proofs.Counting.{begins}
 use Rattle.laws_trace.proofs.Deliveries.{frame_by}
 use Rattle.laws_trace.proofs.DeliveriesRun.{IsCount}

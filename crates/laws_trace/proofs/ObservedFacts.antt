@@ -1,5 +1,5 @@
 -- What an observer knows of a link, by whether its TEI is on the line, and what follows for the words of the laws.
-use Rattle.laws_trace.proofs.Vocabulary.{arith, ◌≡◌, ℕ, ◌==◌, ◌&&◌, ◌||◌, ◌⊎◌, inl, inr, not, Bool, true, false, cond, Option, Some, None, is_some, refl, sym, ap, ◌∙◌, subst, nat_le, list_any, option_map_or, Service, Parts, State, TeiAssigned, state_number, Config, hears, Line, state_of, unwrap_or, Control, frame_of, its_frame, is_for, Observed, View, in_state, is_outstanding, awaits, seen, Answer, Event, brings}
+use Rattle.laws_trace.proofs.Vocabulary.{arith, ◌≡◌, ℕ, ◌==◌, ◌&&◌, ◌⊎◌, not, Bool, false, cond, Option, Some, None, is_some, ◌∙◌, nat_le, list_any, option_map_or, Service, Parts, State, state_number, Config, Line, state_of, unwrap_or, Control, its_frame, Observed, View, in_state, is_outstanding, awaits, seen, Answer, Event, brings}
 use Rattle.laws_trace.proofs.Deliveries.{frame_by}
 use Rattle.laws_trace.proofs.LinksMove.{same-way}
 use Rattle.laws_trace.proofs.NewsWatched.{owing}

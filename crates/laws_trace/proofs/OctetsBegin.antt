@@ -1,6 +1,6 @@
 -- Where the contents that are granted, and the frames that are heard, are octets, so are those of each frame that
 -- begins: the law.
-use Rattle.laws_trace.proofs.Vocabulary.{◌≡◌, ℕ, zero, suc, ◌<◌, ◌≤◌, Bool, true, false, cond, List, [], ◌∷◌, ◌++◌, drop, get_or, replicate, slice_get, Option, Some, None, IfSome, option_map, refl, sym, ap, ◌∙◌, subst, arith, ◌⊎◌, inl, inr, All, is_some, option_or, option_map_or, flat_map-append, get_or-replicate, All-nil, All-cons, All-head, All-tail, All-append, All-drop, AreOctets, Address, Side, Ui, Refusal, Service, sapi_of, action_of, Message, accepted, share, IsOffered, Carries, number_sent, kept-after, given-is-offered, Seq, Link, queue_of, address_at, Given, Terms, Config, request, next, Answer, gave, Line, UnitData, link_count, link_number, service_at, place_at, place_in, tei_at, link_at, link_in, link_of, terms, fresh_line, Taken, with_unit, unit_frame, first_taken, round, taken, next_of, line_of, IsInRange, IsSoundAt, IsUnitData, round_below, unit_asked, units_asked, is_granted, IsBy, OfLink, of-links, IsOne, taken-one, has-place, units-wait, number-is, fresh_is_sound, head, unwrap_or, Control, head_of, information_of, message_frame, fresh_link, Event, told, line_after as after, answer, with_message, Request, IsSound, fresh, all-left as all-front, all-right as all-back, contents_given, GivesOctets, FramesAreOctets, trace_frame_in as frame_in, Seen, granted, seen_told, seen, frames_begun, Always, units_behind, units_left, link_refusal as refusal, Data, Down, LineUnit as Unit, frame_begun, seen_granted}
+use Rattle.laws_trace.proofs.Vocabulary.{◌≡◌, ℕ, zero, suc, ◌<◌, ◌≤◌, Bool, true, false, cond, List, [], ◌∷◌, ◌++◌, drop, get_or, replicate, slice_get, Option, Some, None, IfSome, option_map, refl, sym, ap, ◌∙◌, subst, arith, ◌⊎◌, inl, inr, All, is_some, option_or, option_map_or, flat_map-append, get_or-replicate, All-nil, All-head, All-tail, All-append, All-drop, AreOctets, Address, Side, Refusal, Service, action_of, Message, accepted, share, IsOffered, Carries, number_sent, kept-after, given-is-offered, Seq, Link, queue_of, address_at, Given, Terms, Config, request, next, Answer, gave, Line, UnitData, link_count, link_number, service_at, place_at, place_in, tei_at, link_at, link_in, link_of, terms, fresh_line, Taken, with_unit, unit_frame, first_taken, round, taken, next_of, line_of, IsInRange, IsSoundAt, IsUnitData, round_below, units_asked, is_granted, IsBy, OfLink, of-links, IsOne, taken-one, has-place, units-wait, number-is, fresh_is_sound, head, unwrap_or, Control, head_of, message_frame, fresh_link, Event, line_after as after, answer, with_message, Request, IsSound, fresh, all-left as all-front, all-right as all-back, contents_given, GivesOctets, FramesAreOctets, trace_frame_in as frame_in, Seen, seen_told, seen, frames_begun, Always, units_left, link_refusal as refusal, Data, frame_begun, seen_granted}
 use Rattle.model_link.specs.Events as link
 use Rattle.model_link.specs.Machine as links
 use Rattle.model_link.specs.Sound as link_sound

@@ -1,5 +1,5 @@
 -- An offer of a link tells layer 3 nothing.
-use Rattle.laws_trace.proofs.Vocabulary.{arith, ◌≡◌, Bool, true, false, cond, List, [], ◌∷◌, None, refl, ControlFrame, Terms, Link, ◌then◌, changed, Course, begun as course_begun, T200, offer, course, give_information, is_awaiting_acknowledgement, may_send_information, offer_among, with_one_sent, pending_is, start}
+use Rattle.laws_trace.proofs.Vocabulary.{arith, ◌≡◌, Bool, cond, List, [], None, ControlFrame, Terms, Link, Course, begun as course_begun, offer, course, offer_among}
 
 module _ (t : Terms) (x : Link) where
   abbrev pub TellsNothing : Course → Type 0

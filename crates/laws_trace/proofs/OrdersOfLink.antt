@@ -1,6 +1,5 @@
 -- The orders of a link, among those of an answer.
-use Rattle.laws_trace.proofs.Vocabulary.{arith, ◌≡◌, ℕ, ◌==◌, ◌&&◌, Bool, true, false, cond, not, List, [], ◌∷◌, ◌++◌, Option, Some, None, refl, sym, ap, ◌∙◌, filter, filter-append, Service, Order, Start, Stop, Timer, same_service, Follows, Terms, LinkTimer, Link, is_same, obeyed, runs, timer_at, order_for, orders_for, timer_of, obeyed-append, T200, T203, is_timer, stop_of, Check, obey, is_timer_of, is_order_of, LinkEvent as Event, course, link_told as told, cond_both}
-use Rattle.lapd_frame.specs.declared.timers.Timer.TheVariants as timers
+use Rattle.laws_trace.proofs.Vocabulary.{arith, ◌≡◌, ℕ, ◌==◌, ◌&&◌, Bool, true, false, cond, not, List, [], ◌∷◌, Option, None, refl, filter, filter-append, Service, Order, Start, Stop, Timer, same_service, Follows, Terms, LinkTimer, Link, is_same, obeyed, runs, timer_at, orders_for, timer_of, obeyed-append, is_timer, stop_of, Check, obey, is_timer_of, is_order_of, LinkEvent as Event, course, link_told as told, cond_both}
 use Rattle.laws_trace.proofs.Facts.{its-own}
 
 -- Its orders among others, or none.

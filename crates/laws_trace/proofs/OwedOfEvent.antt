@@ -1,12 +1,12 @@
 -- Whether I-frames are outstanding, as an observer knows it: one event of a line.
-use Rattle.laws_trace.proofs.Vocabulary.{◌≡◌, ℕ, ◌+◌, ◌%◌, ◌≤◌, ◌==◌, not, Bool, true, false, length, Option, Some, None, refl, sym, ap, ◌∙◌, subst, arith, eq-eqb, true≢false, ◌⊎◌, inl, inr, Service, place_of-is, State, TeiAssigned, AwaitingEstablishment, Established, TimerRecovery, Link, Config, Line, link_of, place_in, state_of, terms, IsInRange, terms_in_range, HaveTheirTimers, fresh_link as fresh, Event, line_after as after, answer, IsSound, offer, begun}
+use Rattle.laws_trace.proofs.Vocabulary.{◌≡◌, ℕ, ◌+◌, ◌≤◌, ◌==◌, not, Bool, true, false, length, Option, Some, None, refl, sym, ap, ◌∙◌, subst, arith, eq-eqb, true≢false, inl, inr, Service, place_of-is, State, TeiAssigned, Link, Config, Line, link_of, place_in, state_of, terms, IsInRange, terms_in_range, HaveTheirTimers, Event, line_after as after, answer, IsSound, offer, begun}
 use Rattle.model_link.specs.Machine as links
 use Rattle.model_link.specs.Sound as link_sound
 use Rattle.laws_trace.proofs.TimersWatched.{Known}
 use Rattle.laws_trace.proofs.States.{is_state}
 use Rattle.laws_trace.proofs.OneLink.{HasOne, Goes, event-goes}
 use Rattle.laws_trace.proofs.TimerActs.{Timing, timing}
-use Rattle.laws_trace.proofs.TimerClaims.{Agrees, IsKnown, Kept, told_state}
+use Rattle.laws_trace.proofs.TimerClaims.{Agrees, Kept, told_state}
 use Rattle.laws_trace.proofs.TimerEvents.{event-good}
 use Rattle.laws_trace.proofs.TimersAreTimely.{outstanding-is}
 use Rattle.laws_trace.proofs.TimersOfEvent.{IsTrueOf, state-on, off-fresh, off-state}

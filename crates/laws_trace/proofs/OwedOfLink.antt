@@ -1,5 +1,5 @@
 -- Whether a link owes an acknowledgement behind one of its events.
-use Rattle.laws_trace.proofs.Vocabulary.{arith, ◌≡◌, ◌&&◌, ◌||◌, Bool, true, false, List, [], ◌∷◌, refl, sym, ap, ◌∙◌, true≢false, inl, inr, is_some, Sabme, Ua, Parts, flag_left, takes_contents, unless_put, owed_in, pending_left, as_heard, is_overlong, numbers_begin, state_after, put, event-follows, State, AwaitingEstablishment, Established, TimerRecovery, ControlFrame, Terms, restarts, eligible, overlong, received, offer, cleared, Link, is_multiple_frame, delivery, event-delivers, Control, LinkEvent as Event, frame, is_empty, or_comm, link_after as after, link_told as told, cond_both, false_from_ne_true}
+use Rattle.laws_trace.proofs.Vocabulary.{arith, ◌≡◌, ◌&&◌, ◌||◌, Bool, true, false, List, refl, sym, ap, ◌∙◌, true≢false, is_some, Ua, Parts, flag_left, takes_contents, unless_put, owed_in, pending_left, as_heard, numbers_begin, state_after, put, event-follows, State, ControlFrame, Terms, restarts, received, Link, is_multiple_frame, event-delivers, LinkEvent as Event, frame, is_empty, or_comm, link_after as after, link_told as told, cond_both, false_from_ne_true}
 use Rattle.laws_trace.proofs.Begins.{in-state, up-before}
 use Rattle.laws_trace.proofs.CommandsCaused.{IsNoOther}
 use Rattle.laws_trace.proofs.ReceiptsNumbered.{PendsUp, pends-up, taken-is}

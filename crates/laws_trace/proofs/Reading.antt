@@ -1,5 +1,5 @@
 -- Which frames that a line begins are unit data.
-use Rattle.laws_trace.proofs.Vocabulary.{◌≡◌, ℕ, ◌≤◌, ◌==◌, ◌&&◌, Bool, true, false, List, refl, ap, ◌∙◌, Result, arith, not, Address, Side, Ui, ReadFault, Service, Call, Packet, Parts, spelling, sapi_of, reading-again, Config, UnitData, management_sapi, unit_frame, option_map_or, Control, result_ok, is_ui, is_unit}
+use Rattle.laws_trace.proofs.Vocabulary.{◌≡◌, ℕ, ◌≤◌, ◌==◌, ◌&&◌, Bool, true, false, List, refl, ap, ◌∙◌, Result, arith, not, Address, Side, Ui, ReadFault, Service, Parts, spelling, sapi_of, reading-again, Config, UnitData, management_sapi, unit_frame, option_map_or, Control, result_ok, is_ui, is_unit}
 use Rattle.laws_trace.proofs.Facts.{small-sapi}
 use Rattle.laws_trace.proofs.ReadAgain.{read-again}
 

@@ -1,5 +1,5 @@
 -- The Ri of each message of TEI management that waits on a line has two octets.
-use Rattle.laws_trace.proofs.Vocabulary.{ℕ, ◌+◌, ◌*◌, ◌/◌, ◌%◌, ◌<◌, ◌≤◌, ◌==◌, ◌&&◌, Bool, true, false, cond, List, [], ◌∷◌, ◌++◌, nat_le, Option, Some, None, arith, All, All-nil, All-cons, All-head, All-tail, All-append, AreOctets, Refusal, Management, Message, IdentityAssigned, IdentityDenied, IdentityCheckRequest, IdentityRemove, Period, First, Second, heard_of_type, heard_in, action_of, free_place, free_tei, no_room, Check, information_of, TeiCourse as Course, tei_begun as begun, begin_check, check_is, end_check, lose_one, send, unserved, withdraw, cond_both}
+use Rattle.laws_trace.proofs.Vocabulary.{ℕ, ◌+◌, ◌*◌, ◌/◌, ◌%◌, ◌<◌, ◌≤◌, ◌==◌, ◌&&◌, Bool, cond, List, [], ◌∷◌, ◌++◌, nat_le, Option, arith, All, All-nil, All-cons, All-head, All-tail, All-append, AreOctets, Management, Message, IdentityAssigned, IdentityDenied, heard_of_type, heard_in, no_room, Check, TeiCourse as Course, lose_one, withdraw, cond_both}
 use Rattle.lapd_tei.specs.Events as teis
 use Rattle.lapd_tei.specs.Rows as rows
 use Rattle.lapd_tei.specs.Words.{with_message}

@@ -1,10 +1,7 @@
 -- The messages of TEI management that wait stay small: what it hears are octets.
-use Rattle.laws_trace.proofs.Vocabulary.{arith, ◌≡◌, ℕ, ◌<◌, ◌==◌, Bool, true, false, cond, List, [], ◌∷◌, ◌++◌, length, drop, Option, Some, None, IfSome, refl, sym, subst, inl, inr, Result, Ok, Err, All, option_map_or, All-drop, All-head, AreOctets, Tei, Unserved, Address, ReadFault, Undefined, WrongSize, Long, Refusal, Service, Timer, Parts, reading, long_reading, service_of, reading-found, Change, Gained, Left, Config, Aim, at_management, told_of_management, of_change, of_aim, LineTold, hears, expiry, request, next, Answer, aim_of_expiry, at_timer, Line, place_in, unless_refused, management_sapi, group_tei, drop_for, at_place, to_service, addressed, message_of, aim_of_reading, unless_at_link, aim_of_long, aim_of_heard, heard_side, Taken, taken, line_of, aim_of_request, at_requested, at_deactivated, side_aims, IsOne, taken-one, at_no_link, All-nil, Control, head_of, Event, line_after as after, refusal, Request, IsSound, HasOctets, GivesOctets, seen, by-down, Ui, TimerT200 as T200, T201, TimerT203 as T203, ClearBusy, Data, Deactivate, Establish, Release, SetBusy, heard, seen_told}
+use Rattle.laws_trace.proofs.Vocabulary.{arith, ◌≡◌, ℕ, ◌<◌, false, List, [], ◌∷◌, ◌++◌, length, drop, Option, IfSome, refl, subst, Result, Ok, Err, All, option_map_or, All-drop, All-head, AreOctets, Unserved, Address, ReadFault, Undefined, WrongSize, Long, Refusal, Service, Timer, Parts, reading, reading-found, Change, Config, Aim, at_management, of_change, of_aim, LineTold, hears, expiry, request, next, Answer, aim_of_expiry, Line, unless_refused, drop_for, at_place, addressed, message_of, aim_of_reading, aim_of_long, aim_of_heard, heard_side, Taken, taken, line_of, aim_of_request, side_aims, IsOne, taken-one, Control, head_of, Event, line_after as after, refusal, Request, IsSound, HasOctets, GivesOctets, seen, by-down, heard, seen_told}
 use Rattle.model_bits.specs.Stream as stream
-use Rattle.lapd_frame.specs.declared.overlong.Long.TheVariants as long
-use Rattle.lapd_tei.specs.Events as teis
 use Rattle.model_link.specs.Events as link
-use Rattle.model_link.specs.declared.timers.LinkTimer.TheVariants as link_timer
 use Rattle.laws_trace.proofs.SmallMessages.{IsSmall, IsOfOctets, after-small}
 
 -- What TEI management hears are octets.

@@ -1,6 +1,5 @@
 -- What the steps of the tables do to what timers depend on: the state, V(A), V(S), whether the terminal is busy, and the timer.
-use Rattle.laws_trace.proofs.Vocabulary.{arith, ◌≡◌, ℕ, ◌==◌, ◌&&◌, Bool, true, false, cond, List, [], Option, Some, None, refl, ap, ◌∙◌, nat_lt, length, Ua, ErrorCode, Seq, named, State, TeiAssigned, AwaitingEstablishment, Established, Terms, LinkTimer, Link, is_asked, has_outstanding, is_own_busy, is_rejecting, ◌then◌, depending_on, by_bit, T200, T203, Course, Step, nothing, acknowledge, link_answer as answer, by_number, clear_flags, count_received, deliver, discard, enter, error, establish_confirm, establish_indication, peer_busy_is, pending_is, re_establish, reject, rejecting_is, response, link_send as send, start, zero_numbers, Particulars, answered, contents_in_7_8, link_dropped as dropped, failed, link_in_sequence as in_sequence, information_in_7_8, is_final, link_is_next as is_next, out_of_sequence, sabme_in_7_8, supervisory}
-use Rattle.lapd_frame.specs.declared.notes.ErrorCode.TheVariants as code
+use Rattle.laws_trace.proofs.Vocabulary.{arith, ◌≡◌, ℕ, ◌==◌, Bool, true, false, cond, List, [], Option, Some, None, refl, ap, ◌∙◌, nat_lt, length, Ua, Seq, named, State, TeiAssigned, AwaitingEstablishment, Established, Terms, LinkTimer, Link, is_asked, has_outstanding, ◌then◌, depending_on, by_bit, T200, T203, Course, Step, nothing, link_answer as answer, by_number, discard, enter, establish_confirm, establish_indication, start, zero_numbers, Particulars, information_in_7_8, is_final, sabme_in_7_8, supervisory}
 use Rattle.model_link.specs.Established as seven
 use Rattle.model_link.specs.TimerRecovery as eight
 use Rattle.model_link.specs.AwaitingEstablishment as five

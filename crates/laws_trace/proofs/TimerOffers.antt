@@ -1,5 +1,5 @@
 -- What is known of a link, and its timers, over an offer; and what its orders start.
-use Rattle.laws_trace.proofs.Vocabulary.{◌≡◌, ℕ, ◌+◌, ◌%◌, ◌&&◌, ◌||◌, Bool, true, false, cond, List, [], ◌∷◌, Option, Some, None, refl, sym, ap, ◌∙◌, subst, arith, true≢false, All, not, nat_lt, length, option_map_or, All-head, seq, ControlFrame, State, AwaitingEstablishment, Established, TimerRecovery, Terms, LinkTimer, Link, outstanding, is_established, IsWaitingFrame, Given, runs, unwrap_or, T200, T203, LinkIsSound as IsSound, Course, begun, offer, course, given, link_given_of as given_of, first_unsent, give_waiting, may_send_information, next_information, offer_among, send_acknowledgement, send_information, start}
+use Rattle.laws_trace.proofs.Vocabulary.{◌≡◌, ℕ, ◌+◌, ◌%◌, ◌&&◌, ◌||◌, Bool, true, false, cond, List, [], ◌∷◌, Option, Some, None, refl, arith, All, option_map_or, All-head, seq, ControlFrame, State, Terms, LinkTimer, Link, is_established, IsWaitingFrame, Given, runs, unwrap_or, T200, LinkIsSound as IsSound, Course, begun, offer, course, given, link_given_of as given_of, first_unsent, give_waiting, may_send_information, next_information, offer_among, send_acknowledgement, send_information, start}
 use Rattle.laws_trace.proofs.TimersWatched.{Sent, sent_by, Known, nothing_yet, sends}
 use Rattle.laws_trace.proofs.States.{is_state}
 use Rattle.laws_trace.proofs.DataGoesOut.{none-sent}
@@ -46,15 +46,9 @@ module _ (t : Terms) (k : Known) (l : Link) (s : IsSound t l) (agrees : Agrees l
       sent : Course
       sent = record (begun l) { link = record l { s = l.s + 1; pending = false }; sent = Some (record { frame = next_information l; contents = first_unsent l }) }
 
-      by-pending : (b : Bool) → Claim (cond b (send_acknowledgement (begun l)) (begun l))
-      by-pending b = grind (arith, stays)
-
       went : is_established l.state ≡ true
           → Agrees l.state (sent_known l.state k (Some (record { ns = l.s % 128 }))) l.a (l.s + 1) l.peer_busy
       went up = one-more l.state k l.a l.s l.peer_busy (record { ns = l.s % 128 }) up refl agrees
-
-      newly : (timer : LinkTimer) → runs T200 l.running ≡ false → runs timer l.running ≡ true → runs timer (Some T200) ≡ true → runs timer (Some T200) ≡ false
-      newly timer off was now = grind arith
 
       by-timer : is_established l.state ≡ true → (b : Bool) → runs T200 l.running ≡ b → Claim (cond b sent (start T200 sent))
       by-timer up b on = grind (arith, went, timing, sent)

@@ -1,5 +1,5 @@
 -- What is known of a link, and what is heard of it: one event of a line.
-use Rattle.laws_trace.proofs.Vocabulary.{arith, ◌≡◌, List, [], ◌∷◌, ℕ, ◌||◌, Bool, false, ◌++◌, map, Option, Some, None, option_map, refl, ap, ◌∙◌, fold, list_any, option_map_or, Service, Config, hears, expiry, request, next, NextFrame, Answer, gave, Line, taken, next_of, Control, Event, told, answer, Request, frame_of as frame_heard, trace_frame_in as frame_in, seen, seen_told, seen_granted, or-false, trace_begun as begun}
+use Rattle.laws_trace.proofs.Vocabulary.{arith, ◌≡◌, ℕ, Bool, false, Option, None, option_map, fold, list_any, option_map_or, Service, Config, next, Answer, Line, taken, next_of, Control, Event, answer, seen, or-false}
 use Rattle.laws_trace.proofs.TimersWatched.{Sent, Known, listens, sends, control_in, learns, brings}
 use Rattle.laws_trace.proofs.DataGoesOut.{sent_with}
 use Rattle.laws_trace.proofs.Deliveries.{frame_by}

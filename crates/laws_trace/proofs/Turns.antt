@@ -1,5 +1,5 @@
 -- Links take turns: over runs of a card of which a line is only called for its next frame.
-use Rattle.laws_trace.proofs.Vocabulary.{◌≡◌, ℕ, ◌+◌, ◌*◌, ◌/◌, ◌<◌, ◌≤◌, Bool, true, false, List, Result, refl, ap, ◌∙◌, arith, not, Address, Side, User, Network, Ui, ReadFault, Parts, cr_bit, spelling, reading-again, option_map_or, Control, is_ui, result_ok}
+use Rattle.laws_trace.proofs.Vocabulary.{◌≡◌, ℕ, ◌+◌, ◌*◌, ◌/◌, ◌<◌, ◌≤◌, Bool, true, false, List, Result, refl, ap, arith, not, Address, Side, Ui, ReadFault, Parts, cr_bit, spelling, reading-again, option_map_or, Control, is_ui, result_ok}
 use Rattle.laws_trace.proofs.LinkNames.{named_in, is_of_a_link}
 use Rattle.laws_trace.proofs.ReadAgain.{read-again}
 

@@ -1,6 +1,6 @@
 -- What a flag and an abort bring, by the flag before.
-use Rattle.model_bits.proofs.Vocabulary.{◌≡◌, ℕ, Bool, true, false, List, [], ◌∷◌, ◌++◌, length, drop, reverse, Some, None, refl, ap, ◌∙◌, arith, lt-ltb, le-ltb, length-reverse, reverse-reverse, flag, dropped, since_flag, has_abort, gap_event, closed_by_flag, given_up, HasNoFlag, gap_brings, abort_brings, seven_ones, GapBetweenFlags, FirstAbortAfterFlag, Abort}
-use Rattle.std.specs.Prelude.{option_map, option_and_then, not, nat_lt, ◌&&◌, ◌||◌, if◌then◌else◌}
+use Rattle.model_bits.proofs.Vocabulary.{◌≡◌, ℕ, Bool, true, false, List, [], ◌∷◌, ◌++◌, drop, reverse, Some, refl, ap, ◌∙◌, arith, lt-ltb, le-ltb, length-reverse, reverse-reverse, flag, since_flag, has_abort, closed_by_flag, given_up, HasNoFlag, gap_brings, abort_brings, seven_ones, GapBetweenFlags, FirstAbortAfterFlag}
+use Rattle.std.specs.Prelude.{option_map, option_and_then, if◌then◌else◌}
 
 -- where no flag ends, the bits since the latest grow
 since-grows : (new past : List Bool) → since_flag past ≡ Some [] → HasNoFlag past new → since_flag (new ++ past) ≡ Some new

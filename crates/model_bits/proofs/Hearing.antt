@@ -1,5 +1,5 @@
 -- What the latest bit of a stream brings, and what it makes of the open gap, by the run of 1s before it.
-use Rattle.model_bits.proofs.Vocabulary.{◌≡◌, ◌≢◌, ℕ, ◌<◌, ◌≤◌, Bool, true, false, List, [], ◌∷◌, length, Option, Some, None, nat_lt, refl, ◌∙◌, arith, ⊎_elim, cases_Bool, ne_eqb, eq-eqb, ends_flag, ends_abort, since_flag, has_abort, heard_at, run_of, open_gap, one_more, given_up_event, closed_event}
+use Rattle.model_bits.proofs.Vocabulary.{◌≡◌, ◌≢◌, ℕ, ◌<◌, ◌≤◌, Bool, true, false, List, [], ◌∷◌, Option, Some, None, nat_lt, refl, ◌∙◌, arith, ⊎_elim, cases_Bool, ne_eqb, eq-eqb, ends_flag, ends_abort, since_flag, has_abort, heard_at, run_of, open_gap, one_more, given_up_event, closed_event}
 use Rattle.model_bits.proofs.Places.{no_abort_at, abort_at, ends_flag-run, run_of-gap}
 
 -- the gap since the latest flag: there is none, it was given up, or it goes on

@@ -1,5 +1,5 @@
 -- What is heard over bits that come after a place, and over the bits between two flags.
-use Rattle.model_bits.proofs.Vocabulary.{◌≡◌, ℕ, suc, ◌<◌, Bool, true, false, ◌||◌, List, [], ◌∷◌, ◌++◌, length, take, reverse, Some, None, option_to_list, option_map, option_and_then, cond, ltb, refl, ap, sym, ◌∙◌, arith, append_assoc, length-reverse, reverse-reverse, le-ltb, ne_eqb, or_from, flag, Event, ends_flag, since_flag, has_abort, closed_by_flag, gap_event, given_up, heard_at, heard_until, run_of}
+use Rattle.model_bits.proofs.Vocabulary.{◌≡◌, ℕ, suc, ◌<◌, Bool, true, false, ◌||◌, List, [], ◌∷◌, ◌++◌, length, take, reverse, Some, None, option_to_list, option_map, option_and_then, cond, ltb, refl, ap, sym, ◌∙◌, arith, append_assoc, length-reverse, reverse-reverse, le-ltb, ne_eqb, or_from, flag, Event, ends_flag, since_flag, has_abort, closed_by_flag, gap_event, heard_at, heard_until, run_of}
 use Rattle.std.proofs.lemmas.List.{append-nil}
 use mathlib.Core.List.{reverse_aux}
 use Rattle.model_bits.proofs.Places.{latest_ones, ends_flag-run, no_abort_at}

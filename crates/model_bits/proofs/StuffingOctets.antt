@@ -1,5 +1,5 @@
 -- Octets in a text: bits and numbers give each other back, and the octets found are those sent.
-use Rattle.model_bits.proofs.Vocabulary.{arith, ◌≡◌, ℕ, ◌<◌, Bool, true, false, List, [], ◌∷◌, Some, None, refl, ap, sym, ◌∙◌, subst, cond, All-nil, All-cons, All-head, All-tail, bits, low_bits, octets_of, same_bits, stuffed, unstuffed, octets_sent, AreOctets, OctetsAreThoseSent, NoneWhereNoneSent}
+use Rattle.model_bits.proofs.Vocabulary.{arith, ◌≡◌, ℕ, ◌<◌, Bool, true, List, [], ◌∷◌, Some, None, refl, ap, sym, ◌∙◌, subst, cond, All-nil, All-cons, All-head, All-tail, bits, low_bits, octets_of, same_bits, stuffed, unstuffed, octets_sent, AreOctets, OctetsAreThoseSent, NoneWhereNoneSent}
 use Rattle.model_bits.proofs.BitLemmas.{number_of-lt, number_of-low_bits, same_from_test, same_bits_self}
 use Rattle.model_bits.proofs.StuffingShape.{unstuffed-stuffed}
 

@@ -1,5 +1,5 @@
 -- By how much each event raises what may be sent.
-use Rattle.model_card.proofs.Vocabulary.{◌≡◌, ℕ, ◌+◌, ◌*◌, ◌≤◌, Bool, true, false, [], ◌∷◌, length, nat_le, sym, subst, arith, All-cons, All-nil, sum_by, hears, expiry, request, next, next_falls, IsPriced, Card, line_at, may_send, is_sent, is_heard, is_long_heard, Event, at, after, answer, FramesByEvent, IsSound, Moment, moments, IsAtLine, AreAtLines}
+use Rattle.model_card.proofs.Vocabulary.{◌≡◌, ◌+◌, ◌*◌, ◌≤◌, [], ◌∷◌, nat_le, arith, All-cons, All-nil, hears, expiry, request, next, next_falls, IsPriced, Card, may_send, is_heard, is_long_heard, Event, at, after, FramesByEvent, IsSound, Moment, moments, IsAtLine, AreAtLines}
 use Rattle.model_bits.specs.Stream as stream
 use Rattle.model_line.specs.Event as line_event
 use Rattle.model_line.specs.Counts as line

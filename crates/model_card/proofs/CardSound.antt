@@ -1,5 +1,5 @@
 -- A card is sound as it begins, and each event keeps it so.
-use Rattle.model_card.proofs.Vocabulary.{◌≡◌, ℕ, ◌+◌, ◌*◌, ◌≤◌, ◌<◌, Bool, true, false, ◌&&◌, List, [], ◌∷◌, nat_le, ap, ◌∙◌, arith, sum_by, leb-false, All-head, All-tail, sum_by-replicate, Config, one, fresh_line, slots_of, slots_grow, fresh_slots, Card, fresh, line_at, used, Event, CardsStaySound, after, after_all, IsAtLine, AreAtLines, IsSound}
+use Rattle.model_card.proofs.Vocabulary.{◌≡◌, ℕ, ◌+◌, ◌*◌, ◌≤◌, Bool, false, ◌&&◌, List, [], ◌∷◌, nat_le, ap, ◌∙◌, arith, sum_by, leb-false, All-head, All-tail, sum_by-replicate, Config, one, fresh_line, slots_of, slots_grow, fresh_slots, Card, fresh, line_at, used, Event, CardsStaySound, after, after_all, IsAtLine, AreAtLines, IsSound}
 use Rattle.model_line.specs.Machine as lines
 use Rattle.model_line.specs.Sound as line
 use Rattle.model_card.proofs.Steps.{has_lines, by_room, line_sound, after_lines, fresh_lines, one_line}

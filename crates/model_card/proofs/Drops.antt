@@ -1,7 +1,6 @@
 -- What is dropped changes nothing, and costs nothing.
-use Rattle.model_card.proofs.Vocabulary.{arith, ◌≡◌, ℕ, Some, IsSome, ap, sym, ◌∙◌, subst, none-some, set-get_or, Cause, hears, told, dropped, cause_in, Line, fresh_line, heard_leaves, named_cause, Card, line_at, may_send, IsDropWithoutCost, IsDropWithoutEffect, at, DropsCostNothing, DropsChangeNothing, after, answer}
+use Rattle.model_card.proofs.Vocabulary.{arith, ◌≡◌, ℕ, Some, IsSome, sym, subst, none-some, set-get_or, Cause, hears, told, dropped, cause_in, heard_leaves, named_cause, Card, may_send, IsDropWithoutCost, IsDropWithoutEffect, at, DropsCostNothing, DropsChangeNothing, after, answer}
 use Rattle.model_bits.specs.Stream as stream
-use Rattle.model_card.specs.Machine.{with_line}
 use Rattle.model_card.proofs.EachMoment.{every_moment}
 use Rattle.model_card.proofs.Steps.{by_room}
 

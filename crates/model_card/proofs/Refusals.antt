@@ -1,5 +1,5 @@
 -- Requests are refused by the table.
-use Rattle.model_card.proofs.Vocabulary.{arith, ◌≡◌, ℕ, Bool, true, false, not, ◌&&◌, List, [], ◌∷◌, ◌++◌, get_or, set, Option, Some, None, is_some, IsSome, refl, ap, sym, ◌∙◌, subst, cond, ◌↔◌, false≢true, set-get_or, Refusal, PoolFull, Config, Answer, request, refused, Line, fresh_line, unless_refused, unless_refused_told, Effect, of_aim, Row, first_that_holds, bad_tei, no_link, bad_tei_or_group, no_link_nor_group, wrong_state, too_long, queue_full, unit_queue_full, pool_full, refusal, Request, Data, Unit, aim_of_request, carries_contents, at, Card, line_at, is_full, RefusedByTheTable, after, answer}
+use Rattle.model_card.proofs.Vocabulary.{arith, ◌≡◌, ℕ, Bool, true, false, not, ◌&&◌, List, [], ◌∷◌, ◌++◌, get_or, set, Option, Some, None, is_some, IsSome, refl, sym, subst, cond, ◌↔◌, set-get_or, Refusal, PoolFull, Config, Answer, request, refused, Line, unless_refused, unless_refused_told, Effect, of_aim, Row, first_that_holds, bad_tei, no_link, bad_tei_or_group, no_link_nor_group, wrong_state, too_long, queue_full, unit_queue_full, pool_full, refusal, Request, Data, Unit, aim_of_request, carries_contents, at, Card, line_at, is_full, RefusedByTheTable, after, answer}
 use Rattle.model_link.specs.Events as link
 use Rattle.model_line.specs.Machine as lines
 

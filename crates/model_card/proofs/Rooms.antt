@@ -1,5 +1,5 @@
 -- A room says why data is refused.
-use Rattle.model_card.proofs.Vocabulary.{◌≡◌, ℕ, zero, suc, ◌-◌, ◌<◌, ◌==◌, Bool, true, false, not, nat_le, nat_lt, length, Option, Some, None, Ok, Err, refl, sym, ap, ◌∙◌, cond, arith, eqb-suc-zero, sub-eq-zero_of_le, leb-true, leb-false, le-ltb, false≢true, Refusal, BadTei, NoLink, WrongState, TooLong, QueueFull, PoolFull, Service, Room, is_multiple_frame, queue_of, room_of, refusal_for, has_tei, link_of, terms, unless, Card, line_at, used, is_full, free, room, RefusesBy}
+use Rattle.model_card.proofs.Vocabulary.{◌≡◌, ℕ, ◌-◌, ◌==◌, Bool, true, false, not, nat_le, nat_lt, Option, Some, None, Ok, Err, cond, arith, eqb-suc-zero, sub-eq-zero_of_le, leb-true, leb-false, le-ltb, Refusal, BadTei, NoLink, WrongState, TooLong, Service, Room, unless, Card, room, RefusesBy}
 
 -- None is left exactly where all are taken.
 none_left : (all taken : ℕ) → nat_le all taken ≡ (all - taken == 0)

@@ -1,5 +1,5 @@
 -- The octets stored, and their limit.
-use Rattle.model_card.proofs.Vocabulary.{◌+◌, ◌*◌, ◌≤◌, List, [], ◌∷◌, length, subst, arith, sum_by, All, All-head, All-tail, sum_by-cons, mul-le-mul_left, Config, Line, slots_of, stored_in, stored_few, Card, used, StoredWithinLimit, after_all, IsSound, limit_in, stored, limit}
+use Rattle.model_card.proofs.Vocabulary.{◌+◌, ◌*◌, ◌≤◌, List, [], ◌∷◌, length, arith, sum_by, All, All-head, All-tail, sum_by-cons, mul-le-mul_left, Config, Line, slots_of, stored_in, stored_few, Card, StoredWithinLimit, IsSound, limit_in, stored, limit}
 use Rattle.model_line.specs.Sound as line
 use Rattle.model_card.proofs.CardSound.{always_sound}
 use Rattle.model_card.proofs.Runs.{config_stays}

@@ -1,8 +1,7 @@
 -- What is heard, and what it costs.
-use Rattle.model_line.proofs.Vocabulary.{ℕ, ◌+◌, ◌*◌, ◌≤◌, Bool, true, false, max, cond, arith, Service, Call, Packet, Config, hears, hears_frame, one, rejects, rejects_aimed, Line, window, link_in, aim_of_heard, Aim, at_link, IsInRange}
+use Rattle.model_line.proofs.Vocabulary.{ℕ, ◌+◌, ◌*◌, ◌≤◌, max, arith, Service, Config, hears, hears_frame, one, rejects, rejects_aimed, Line, window, aim_of_heard, Aim, at_link, IsInRange}
 use Rattle.model_bits.specs.Stream as stream
 use Rattle.model_link.specs.Events as link
-use Rattle.model_link.specs.Rises as rises
 use Rattle.model_line.proofs.AimsRise.{sends}
 use Rattle.model_line.proofs.ProperAims.{heard_aims}
 use Rattle.model_line.proofs.Sums.{price_at}

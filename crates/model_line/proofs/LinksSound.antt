@@ -1,5 +1,5 @@
 -- What keeps the links of a line sound.
-use Rattle.model_line.proofs.Vocabulary.{◌≡◌, ◌≢◌, ℕ, ◌+◌, ◌*◌, ◌≤◌, ◌<◌, List, length, get_or, set, Option, Some, None, refl, ap, sym, ◌∙◌, subst, arith, ⊎_elim, length-set, cases_eq, get_or-set_same, get_or-set_other, Service, Call, Packet, Link, fresh, sound-after, sound-fresh, IsAt, Places, at-within, Config, Line, link_number, service_at, place_at, link_count, link_at, link_in, with_link, terms, of_link, IsInRange, IsSoundAt, IsSound}
+use Rattle.model_line.proofs.Vocabulary.{◌≡◌, ◌≢◌, ℕ, ◌+◌, ◌*◌, ◌≤◌, ◌<◌, List, length, get_or, set, Option, Some, None, ap, ◌∙◌, subst, arith, length-set, cases_eq, get_or-set_same, get_or-set_other, Service, Call, Packet, Link, fresh, sound-after, sound-fresh, IsAt, Places, at-within, Config, Line, link_number, service_at, place_at, link_count, link_at, link_in, with_link, terms, of_link, IsInRange, IsSoundAt, IsSound}
 use Rattle.model_link.specs.Events as link
 use Rattle.model_link.specs.Machine as links
 use Rattle.model_link.specs.Sound as link_sound

@@ -1,5 +1,5 @@
 -- A line by itself never finds the pool full: the pool is the card's.
-use Rattle.model_line.proofs.Vocabulary.{arith, ◌≡◌, ℕ, Bool, true, false, ◌&&◌, List, [], ◌∷◌, Option, Some, None, refl, list_any, ◌||◌, cond, Refusal, Config, Event, request, is_pool, is_pool_full, Line, answer, unless_refused_told, of_request, Effect, Row, first_that_holds, refusal, Request}
+use Rattle.model_line.proofs.Vocabulary.{arith, ◌≡◌, ℕ, Bool, false, ◌&&◌, List, [], ◌∷◌, Option, Some, None, refl, list_any, ◌||◌, cond, Refusal, Config, Event, is_pool, is_pool_full, Line, answer, unless_refused_told, Effect, Row, first_that_holds, Request}
 use Rattle.model_line.specs.Refusal.{rows}
 
 -- The refusal is for another reason.

@@ -1,8 +1,8 @@
 -- What a line gives is not too short for a frame.
-use Rattle.model_line.proofs.Vocabulary.{◌≡◌, ℕ, ◌*◌, ◌+◌, ◌%◌, ◌≤◌, ◌⊎◌, inl, inr, Bool, true, false, cond, List, [], ◌∷◌, ◌++◌, length, slice_index, IfSome, refl, arith, Side, Address, Control, row, spelling, service_at, Config, Line, Taken, taken, terms, IsSound}
-use Rattle.lapd_frame.specs.Grammar.{cr_bit, second_octet, one_of}
+use Rattle.model_line.proofs.Vocabulary.{◌≡◌, ℕ, ◌+◌, ◌%◌, ◌≤◌, ◌⊎◌, Bool, true, false, cond, List, [], ◌∷◌, ◌++◌, length, slice_index, IfSome, arith, Side, Address, Control, spelling, service_at, Config, Line, Taken, taken, terms, IsSound}
+use Rattle.lapd_frame.specs.Grammar.{one_of}
 use Rattle.lapd_frame.specs.Services.{sapi_of}
-use Rattle.lapd_frame.specs.declared.controls.Control.TheVariants.{Information, ReceiveReady, ReceiveNotReady, Reject, Sabme, Disc, Ui, Ua, Dm, Frmr, Xid}
+use Rattle.lapd_frame.specs.declared.controls.Control.TheVariants.{Ui}
 use Rattle.lapd_tei.specs.Messages.{information_of}
 use Rattle.model_link.specs.Link.{address_at}
 use Rattle.model_line.proofs.TakenWalk.{taken_walk}

@@ -1,12 +1,9 @@
 -- Links by their numbers, and sums over them.
-use Rattle.model_line.proofs.Vocabulary.{◌≡◌, ◌≢◌, ℕ, zero, suc, ◌+◌, ◌*◌, ◌%◌, ◌≤◌, ◌<◌, ◌⊎◌, ◌==◌, refl, ap, sym, ◌∙◌, cond, arith, ⊎_elim, inl, inr, sum_by, range_with_len, sum_by-cons, cases_eq, Service, Call, Packet, link_number, service_at, place_at}
+use Rattle.model_line.proofs.Vocabulary.{◌≡◌, ◌≢◌, ℕ, zero, suc, ◌+◌, ◌*◌, ◌≤◌, ◌<◌, ◌⊎◌, ◌==◌, refl, ap, sym, ◌∙◌, cond, arith, ⊎_elim, sum_by, range_with_len, sum_by-cons, cases_eq, Service, Call, Packet, link_number, service_at, place_at}
 
 -- a number has its service and its place
 pub place_at-number : (place : ℕ) (service : Service) → place_at (link_number place service) ≡ place
 place_at-number place service = grind arith
-
-abbrev service_of_rest : ℕ → Service
-service_of_rest rest = cond (rest == 0) Call Packet
 
 pub service_at-number : (place : ℕ) (service : Service) → service_at (link_number place service) ≡ service
 service_at-number place service = grind arith

@@ -1,7 +1,6 @@
 -- An REJ is a frame of four octets, and frames take their octets of the stream.
-use Rattle.model_line.proofs.Vocabulary.{◌≡◌, ℕ, ◌%◌, ◌==◌, Bool, true, false, not, List, [], ◌∷◌, length, drop, slice_index, Option, Some, None, Result, Ok, Err, refl, sym, subst, cond, arith, ne_eqb, Address, Side, Control, ReadFault, BadExtension, Undefined, WrongSize, Short, has_bad_extension, Parts, allows, takes, row, reading, header_of, control_of, unnumbered_of, address_of, completed, sized, start_of, checked, reject_number}
+use Rattle.model_line.proofs.Vocabulary.{◌≡◌, ℕ, ◌%◌, Bool, List, [], ◌∷◌, slice_index, Option, Some, None, Result, Ok, Err, cond, arith, ne_eqb, Address, Side, Control, ReadFault, Parts, reading, header_of, control_of, unnumbered_of, completed, sized, checked, reject_number}
 use Rattle.std.proofs.lemmas.Bool.{eqb-true}
-use Rattle.lapd_frame.specs.declared.controls.Control.TheVariants as control
 
 -- what is read is no REJ
 abbrev pub NoReject : Result Parts ReadFault → Type 0

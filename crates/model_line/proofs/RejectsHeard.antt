@@ -1,6 +1,6 @@
 -- Each REJ with a valid N(R) is a frame of four octets that is heard.
-use Rattle.model_line.proofs.Vocabulary.{◌≡◌, ℕ, ◌≤◌, Bool, true, false, List, [], ◌∷◌, length, nat_le, Result, Ok, Err, refl, ap, arith, le-leb, overlong, dropped, ReadFault, Parts, reading, Link, Config, one, is_long_frame, rejects_aimed, Line, aim_of_reading, heard_side, aim_of_heard}
-use Rattle.model_bits.specs.Stream.{Event, frame}
+use Rattle.model_line.proofs.Vocabulary.{◌≡◌, ℕ, ◌≤◌, Bool, false, List, [], ◌∷◌, length, nat_le, Result, refl, ap, arith, le-leb, ReadFault, Parts, reading, Link, Config, one, is_long_frame, rejects_aimed, Line, aim_of_reading, heard_side, aim_of_heard}
+use Rattle.model_bits.specs.Stream.{Event}
 use Rattle.model_link.specs.Events as link
 use Rattle.model_link.specs.Rises as rises
 use Rattle.model_line.proofs.ProperAims.{AreFor, reading_aims}

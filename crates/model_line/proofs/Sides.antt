@@ -1,7 +1,5 @@
 -- What a frame is on each side of a line.
-use Rattle.model_line.proofs.Vocabulary.{◌≡◌, ℕ, ◌≤◌, nat_lt, arith, Bool, true, false, ◌==◌, length, Option, Some, None, refl, cond, eqb-true, leb-true, ltb-false, Unserved, Side, User, Network, Control, Service, Parts, service_of, Config, LineTold, Aim, at_none, at_link, at_management, at_units, at_no_link, group_told, told_of_ui, told_of_group, told_at, managed_at, at_side, last_unit_tei, IsToGroup}
-use Rattle.std.specs.Prelude.{nat_le}
-use Rattle.lapd_frame.specs.declared.controls.Control.TheVariants as control
+use Rattle.model_line.proofs.Vocabulary.{◌≡◌, ℕ, ◌≤◌, nat_lt, arith, false, Option, Some, eqb-true, leb-true, ltb-false, Unserved, Side, User, Network, Control, Service, Parts, service_of, Config, LineTold, Aim, at_none, at_link, at_management, at_units, at_no_link, group_told, told_of_ui, told_of_group, told_at, managed_at, at_side, last_unit_tei, IsToGroup}
 use Rattle.lapd_tei.specs.Events as teis
 use Rattle.model_line.specs.Event.{dropped}
 use Rattle.model_line.specs.Sides.{group_tei}

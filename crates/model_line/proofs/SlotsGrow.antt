@@ -1,9 +1,8 @@
 -- By how many slots a line's contents grow.
-use Rattle.model_line.proofs.Vocabulary.{◌≡◌, ℕ, ◌+◌, ◌≤◌, Bool, true, false, length, is_some, IfSome, refl, cond, arith, length-drop, Service, Link, queue_of, queue-after, Config, Event, one, Line, fresh_line, link_count, service_at, place_at, link_at, terms, after, takes_slot, Taken, taken, line_of, option_map_or, IsInRange, IsSound, slots_of}
+use Rattle.model_line.proofs.Vocabulary.{◌≡◌, ℕ, ◌+◌, ◌≤◌, Bool, length, is_some, IfSome, refl, cond, arith, length-drop, Service, Link, queue_of, queue-after, Config, Event, one, Line, fresh_line, link_count, service_at, place_at, link_at, terms, after, takes_slot, Taken, taken, line_of, option_map_or, IsInRange, IsSound, slots_of}
 use Rattle.model_link.specs.Events as link
 use Rattle.model_link.specs.Machine as links
 use Rattle.model_link.specs.Rises as rises
-use Rattle.model_link.specs.Requests as requests
 use Rattle.model_line.specs.Machine.{aim_of}
 use Rattle.model_line.proofs.EventWalk.{by_part}
 use Rattle.model_line.proofs.ProperAims.{brings_data, event_aims, event_proper}

@@ -1,5 +1,5 @@
 -- A line is sound by its parts: TEI management with the links, and the units that wait.
-use Rattle.model_line.proofs.Vocabulary.{arith, ◌≡◌, ℕ, ◌≤◌, ◌<◌, List, length, get_or, Option, Some, None, refl, sym, subst, All, unwrap_or, Link, fresh, Terms, Management, Config, Line, UnitData, link_count, service_at, place_at, tei_at, terms, terms_at, link_at, IsSoundAt, IsSound, IsUnitData}
+use Rattle.model_line.proofs.Vocabulary.{arith, ◌≡◌, ℕ, ◌≤◌, ◌<◌, List, length, get_or, None, All, Link, fresh, Terms, Management, Config, Line, UnitData, link_count, service_at, place_at, terms, terms_at, link_at, IsSoundAt, IsSound, IsUnitData}
 use Rattle.model_link.specs.Sound as links
 use Rattle.lapd_tei.specs.Sound as tei
 

@@ -4,7 +4,6 @@ use Rattle.model_line.proofs.Vocabulary.{◌≡◌, ℕ, ◌+◌, ◌≤◌, ◌
 use Rattle.model_link.specs.Events as link
 use Rattle.model_link.specs.Machine as links
 use Rattle.model_link.specs.Sound as link_sounds
-use Rattle.lapd_tei.specs.Events as teis
 use Rattle.model_line.specs.Taken as taking
 use Rattle.model_line.proofs.LinksSound.{with_one}
 use Rattle.model_line.proofs.Offered.{given_short}

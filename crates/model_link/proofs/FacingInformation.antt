@@ -1,5 +1,5 @@
 -- What a received I-frame does to a link that stays in states 7 and 8, for the end that it faces.
-use Rattle.model_link.proofs.Vocabulary.{arith, ◌≡◌, ℕ, ◌+◌, ◌≤◌, Bool, true, false, cond, IsTrue, List, length, Option, None, Some, refl, sym, ◌∙◌, true≢false, nat_lt, Seq, Terms, Link, is_multiple_frame, Course, begun, Step, by_number, rejecting_is, contents_in_7_8, failed, information_in_7_8, is_next, ErrorCode}
+use Rattle.model_link.proofs.Vocabulary.{arith, ◌≡◌, ℕ, ◌+◌, ◌≤◌, Bool, true, false, cond, IsTrue, List, length, Option, None, Some, refl, nat_lt, Seq, Terms, Link, is_multiple_frame, Course, begun, Step, by_number, rejecting_is, contents_in_7_8, failed, information_in_7_8, is_next, ErrorCode}
 use Rattle.model_link.proofs.Leads.{Leads}
 use Rattle.model_link.proofs.Contents.{contents}
 use Rattle.model_link.proofs.Counting.{Count, On, number_counts}

@@ -1,6 +1,6 @@
 -- The notes that an event tells are of its own link.
 pub use Rattle.model_link.specs.Notes.{IsOwn}
-use Rattle.model_link.proofs.Vocabulary.{arith, ◌≡◌, ℕ, Bool, true, false, cond, List, [], ◌∷◌, Option, Some, None, refl, All, All-nil, All-push, Refusal, ControlFrame, Terms, Link, Course, begun, granted, refusal, after, course, Data, Event, offer, requested, is_awaiting_acknowledgement, may_send_information, offer_among, with_one_sent}
+use Rattle.model_link.proofs.Vocabulary.{arith, ◌≡◌, ℕ, Bool, false, cond, List, All, All-nil, All-push, Terms, Link, Course, begun, after, course, Data, Event, offer, requested}
 use Rattle.model_link.proofs.Kept.{Kept}
 use Rattle.model_link.proofs.Rows.{every_event}
 

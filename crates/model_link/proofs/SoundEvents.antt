@@ -1,5 +1,5 @@
 -- Every event leads from a sound link to a sound link.
-use Rattle.model_link.proofs.Vocabulary.{◌≡◌, ℕ, ◌+◌, ◌-◌, ◌≤◌, List, [], ◌∷◌, length, drop, refl, arith, length-drop, State, Established, TimerRecovery, Terms, Link, fresh, queue_of, IsInRange, IsSettledIn, IsSound, Course, begun, Event, after, after_all, course}
+use Rattle.model_link.proofs.Vocabulary.{◌≡◌, ℕ, ◌-◌, ◌≤◌, List, [], ◌∷◌, length, drop, refl, arith, length-drop, State, Terms, Link, fresh, queue_of, IsInRange, IsSettledIn, IsSound, Course, begun, Event, after, after_all, course}
 use Rattle.model_link.proofs.Kept.{any_event}
 use Rattle.model_link.proofs.Careful.{Queues, any_request}
 use Rattle.model_link.proofs.Rows.{event_by}

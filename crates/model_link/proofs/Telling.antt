@@ -1,7 +1,7 @@
 -- What an event tells: at most two notes, and a note of data exactly where contents are delivered.
 pub use Rattle.model_link.proofs.Kept.{Purse, no_more, another}
 unfoldable pub use Rattle.model_link.proofs.Kept.{how_many}
-use Rattle.model_link.proofs.Vocabulary.{◌≡◌, ℕ, ◌+◌, ◌≤◌, false, List, [], ◌∷◌, ◌++◌, length, Option, None, Some, is_some, ◌∙◌, arith, length-append, list_any, list_any-append, Note, Terms, Course, is_data, is_unit}
+use Rattle.model_link.proofs.Vocabulary.{◌≡◌, ℕ, ◌+◌, ◌≤◌, false, List, [], ◌∷◌, ◌++◌, length, Option, None, Some, is_some, arith, length-append, list_any, list_any-append, Note, Terms, Course, is_data, is_unit}
 use Rattle.std.proofs.Math.Bool.{or-false, or-true}
 use Rattle.model_link.proofs.Kept.{two, Kept}
 

@@ -1,5 +1,5 @@
 -- What a register holds, as bits are fed to it.
-use Rattle.lapd_bits.proofs.Vocabulary.{◌≡◌, ℕ, ◌+◌, ◌-◌, ◌/◌, ◌^◌, ◌<◌, Bool, not, nat_eq, List, [], ◌∷◌, ◌++◌, length, take, get_or, map, refl, sym, ap, subst, ◌∙◌, append_assoc, arith, take_more, and_mask, low_bits, bits, same_bits, check, residue, is_good, HoldsDivision, low_bits-add, bits-push, same_bits-low_bits}
+use Rattle.lapd_bits.proofs.Vocabulary.{◌≡◌, ℕ, ◌+◌, ◌-◌, ◌/◌, ◌^◌, ◌<◌, Bool, not, nat_eq, List, [], ◌∷◌, ◌++◌, length, take, get_or, map, refl, sym, ap, subst, ◌∙◌, append_assoc, arith, take_more, and_mask, low_bits, bits, check, residue, is_good, HoldsDivision, low_bits-add, bits-push, same_bits-low_bits}
 use Rattle.std.specs.Prelude.{bit_and}
 use Rattle.lapd_bits.proofs.Division.Word.{low_bits-not, low_bits-one}
 

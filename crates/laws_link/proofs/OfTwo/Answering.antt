@@ -1,5 +1,5 @@
 -- What answers a poll.
-use Rattle.laws_link.proofs.Vocabulary.{◌≡◌, ℕ, ◌+◌, ◌≤◌, Bool, true, false, cond, IsTrue, List, [], ◌∷◌, ◌++◌, length, Option, None, Some, refl, sym, ap, subst, ◌∙◌, true≢false, arith, nat_lt, lt-ltb, le-ltb, Seq, seq, named, Control, Information, ReceiveReady, ReceiveNotReady, Reject, Sabme, Disc, Ua, Parts, State, TeiAssigned, Established, TimerRecovery, T200, T203, ControlFrame, Terms, Link, is_multiple_frame, frame, received, Course, begun, Step, ◌then◌, Leads, keeping_then, nothing_leads, depending_leads, bit_leads, IsValidAt, IsPollWith, SaysReceived, Answered, AnsweredBy, asked_of, leaves, ErrorCode, both_ways, acknowledged_by_information_in_7, acknowledged_by_rej_in_7, acknowledged_by_rnr_in_7, acknowledged_in_7, frame_in_7, acknowledged_in_8, frame_in_8, after, frame_in, frame_step}
+use Rattle.laws_link.proofs.Vocabulary.{◌≡◌, ℕ, ◌+◌, ◌≤◌, Bool, true, false, cond, IsTrue, List, [], ◌∷◌, ◌++◌, length, Option, None, Some, refl, sym, ap, subst, ◌∙◌, arith, nat_lt, lt-ltb, le-ltb, Seq, seq, named, Control, Information, ReceiveReady, ReceiveNotReady, Reject, Sabme, Disc, Parts, State, T200, T203, ControlFrame, Terms, Link, is_multiple_frame, frame, received, Course, begun, Step, ◌then◌, Leads, keeping_then, nothing_leads, depending_leads, bit_leads, IsValidAt, IsPollWith, SaysReceived, Answered, AnsweredBy, asked_of, leaves, ErrorCode, both_ways, acknowledged_by_information_in_7, acknowledged_by_rej_in_7, acknowledged_by_rnr_in_7, acknowledged_in_7, frame_in_7, acknowledged_in_8, frame_in_8, after, frame_in, frame_step}
 use Rattle.model_link.specs.Words
 use Rattle.model_link.specs.MultipleFrame
 
@@ -113,12 +113,9 @@ module _ (t : Terms) (l : Link) (room : length l.waiting + 1 ≤ t.control) wher
   same-waiting : (b : Bool) (u v : Course) (ws : List ControlFrame) → u.link.waiting ≡ ws → v.link.waiting ≡ ws → (cond b u v).link.waiting ≡ ws
   same-waiting b u v ws x y = grind arith
 
-  sabme-7-8 : (p : Bool) → (MultipleFrame.sabme_in_7_8 t p (begun l)).link.waiting ≡ l.waiting ++ Words.response (Ua p) ∷ []
-  sabme-7-8 p = same-waiting _ _ _ (l.waiting ++ Words.response (Ua p) ∷ []) (put _) (put _)
-
   sabme-in : (here : State) (command : Bool) (octets : List ℕ) (p : Bool)
       → AnsweredBy (asked_of here (Sabme p)) l.waiting (frame_in here t command octets (Sabme p) (begun l)).link
-  sabme-in here command octets p = grind (arith, sabme-7-8, put)
+  sabme-in here command octets p = grind (arith, same-waiting, put)
 
   disc-in : (here : State) (command : Bool) (octets : List ℕ) (p : Bool)
       → AnsweredBy (asked_of here (Disc p)) l.waiting (frame_in here t command octets (Disc p) (begun l)).link

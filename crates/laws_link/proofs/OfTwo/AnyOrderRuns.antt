@@ -1,7 +1,6 @@
 -- Runs of turns in any order, and where they end.
-use Rattle.laws_link.proofs.Vocabulary.{◌≡◌, ℕ, suc, ◌+◌, ◌≤◌, false, List, [], ◌∷◌, length, take, refl, sym, ap, subst, ◌∙◌, arith, nat_lt, take-length, End, Ends, Act, sends, receives, Doing, at_near, at_far, acting, turned, doing, doing_all, HasNothingToSend, IsReady, IsTaken, HasArrived, IsTurnOf, IsTurn, AreTurns, IsStill, weight_at, weight, may_send_information}
+use Rattle.laws_link.proofs.Vocabulary.{◌≡◌, ℕ, suc, ◌+◌, ◌≤◌, false, List, [], ◌∷◌, length, take, refl, ap, subst, ◌∙◌, arith, nat_lt, take-length, End, Ends, Act, sends, receives, Doing, at_near, at_far, acting, turned, doing, doing_all, HasNothingToSend, IsReady, IsTaken, HasArrived, IsTurnOf, IsTurn, AreTurns, IsStill, weight_at, weight, may_send_information}
 use Rattle.laws_link.proofs.OfTwo.Plain.{plain}
-use Rattle.laws_link.proofs.OfTwo.Halves.{all-acknowledged}
 use Rattle.laws_link.proofs.OfTwo.Arriving.{nothing-unsent}
 use Rattle.laws_link.proofs.OfTwo.AnyOrder.{Lane, Steady, Direction, is-steady, gives, takes-first}
 
@@ -81,29 +80,17 @@ runs (d ∷ ds) e h t =
     }
 
 -- the first pair
-steady-first : (n : End) → IsReady n → Steady n
-steady-first n h = record { ranges = h.ranges; sound = h.sound; state = h.state; peer_busy = h.peer_busy; own_busy = h.own_busy; waiting = h.waiting }
-
 first-lane : (n m : End) → IsReady n → IsReady m → IsTaken n m → IsTaken m n → Lane n.terms n.link.contents m.link.r n.link.s m.link.a n.link.r n.link.pending []
-first-lane n m hn hm there back = grind (arith, all-acknowledged, nat_lt)
-
-first-direction : (n m : End) → IsReady n → IsReady m → IsTaken n m → IsTaken m n → Direction n m
-first-direction n m hn hm there back = grind (arith, Lane, first-lane)
+first-lane n m hn hm there back = grind (arith, nat_lt)
 
 pub all-turns : (ds : List Doing) (e : Ends) → IsReady e.near → IsReady e.far → IsTaken e.near e.far → IsTaken e.far e.near → AreTurns ds e → Ran ds e (doing_all ds e)
-all-turns ds e hn hm there back turns = grind (arith, runs, steady-first, first-direction)
+all-turns ds e hn hm there back turns = grind (arith, runs, Lane, first-lane)
 
 -- where no turn is left
 module _ (n m : End) (hn : Steady n) (there : Direction n m) (back : Direction m n) (rn : HasNothingToSend n.terms n.link) (rm : HasNothingToSend m.terms m.link)
     (en : n.way ≡ []) (em : m.way ≡ []) where
-  lane-there : Lane n.terms n.link.contents m.link.r n.link.s m.link.a n.link.r n.link.pending []
-  lane-there = subst (λ way. Lane n.terms n.link.contents m.link.r n.link.s m.link.a n.link.r n.link.pending way) en there.lane
-
-  lane-back : Lane m.terms m.link.contents n.link.r m.link.s n.link.a m.link.r m.link.pending []
-  lane-back = subst (λ way. Lane m.terms m.link.contents n.link.r m.link.s n.link.a m.link.r m.link.pending way) em back.lane
-
   by-lanes : (m.link.r ≡ n.link.s) × (n.link.a ≡ m.link.r)
-  by-lanes = grind (arith, lane-there, lane-back, Lane)
+  by-lanes = grind (arith, Lane)
 
   arrived-one : (cs : List (List ℕ)) → n.link.contents ≡ cs → HasArrived cs n m
   arrived-one cs kept =

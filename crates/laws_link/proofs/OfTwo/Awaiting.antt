@@ -1,5 +1,5 @@
 -- In state 7 T200 runs only where something is awaited: each row, and each event.
-use Rattle.laws_link.proofs.Vocabulary.{◌≡◌, ◌≢◌, ◌⊎◌, inl, inr, ℕ, ◌+◌, ◌≤◌, ◌==◌, ◌&&◌, nat_lt, Bool, true, false, cond, List, [], ◌∷◌, Option, None, Some, refl, sym, ap, ◌∙◌, arith, true≢false, eq-eqb, ltb-false, Seq, named, Control, Information, ReceiveReady, ReceiveNotReady, Reject, Sabme, Disc, Ui, Ua, Dm, Frmr, Xid, ErrorCode, Refusal, State, TeiAssigned, AwaitingEstablishment, AwaitingRelease, Established, TimerRecovery, LinkTimer, T200, T203, ControlFrame, Terms, Link, frame, undefined, wrong_size, overlong, Request, Establish, Release, Data, Event, received, expired, requested, offer, cleared, Course, Step, begun, ◌then◌, nothing, runs, frame_in_4, frame_in_5, frame_in_6, Leads, then_leads, bit_leads, named-within, both_ways, acknowledge, answer, by_number, error, peer_busy_is, re_establish, start, unit_data, answered, contents_in_7_8, failed, is_final, supervisory, ua_in_7_8, acknowledged_by_information_in_7, acknowledged_by_rej_in_7, acknowledged_by_rnr_in_7, acknowledged_in_7, frame_in_7, unsolicited, acknowledged_in_8, frame_in_8, particulars_in_8, solicited, granted, refusal, release_in, is_awaiting_acknowledgement, is_established, may_send_information, offer_among, with_one_sent, course, expired_in, frame_in, is_running, malformed_in}
+use Rattle.laws_link.proofs.Vocabulary.{◌≡◌, ◌≢◌, ◌⊎◌, inl, ℕ, ◌+◌, ◌≤◌, ◌&&◌, nat_lt, Bool, true, false, List, Option, None, Some, refl, sym, ap, ◌∙◌, arith, true≢false, eq-eqb, ltb-false, Seq, named, Control, Information, ReceiveReady, ReceiveNotReady, Reject, Sabme, Disc, Ui, Ua, Dm, Frmr, Xid, ErrorCode, Refusal, State, TeiAssigned, AwaitingEstablishment, AwaitingRelease, Established, TimerRecovery, LinkTimer, T200, T203, ControlFrame, Terms, Link, frame, undefined, wrong_size, overlong, Request, Event, received, expired, requested, offer, cleared, Course, Step, begun, ◌then◌, nothing, runs, frame_in_4, frame_in_5, frame_in_6, Leads, then_leads, bit_leads, named-within, both_ways, acknowledge, answer, by_number, error, peer_busy_is, re_establish, unit_data, answered, contents_in_7_8, failed, is_final, supervisory, ua_in_7_8, acknowledged_by_information_in_7, acknowledged_by_rej_in_7, acknowledged_by_rnr_in_7, acknowledged_in_7, frame_in_7, unsolicited, acknowledged_in_8, frame_in_8, particulars_in_8, solicited, granted, refusal, release_in, is_established, offer_among, course, expired_in, frame_in, is_running, malformed_in}
 use Rattle.laws_link.proofs.OfTwo.Heeding.{On, at_state, words}
 
 -- the terminal is taken for busy, or an I-frame is outstanding
@@ -32,9 +32,6 @@ elsewhere here down running busy a s is e = absurd (other-state here down is)
 stays-elsewhere : (here : State) → is_established here ≡ false → (state : State) → state ≡ here → (running : Option LinkTimer) (busy : Bool) (a s : ℕ) → Awaits state running busy a s
 stays-elsewhere here down state at running busy a s is e = absurd (other-state here down (sym at ∙ is))
 
-unequal : (a b : ℕ) → (a == b) ≡ false → a ≢ b
-unequal a b other is = true≢false (sym (eq-eqb a b is) ∙ other)
-
 -- what was before says nothing
 any-then : {P : Course → Type 0} (f : Step) {g : Step} → Leads Any g Awaiting → Leads P (f then g) Awaiting
 any-then f x = record { leads = λ c h. x.leads (f c) tt }
@@ -50,7 +47,7 @@ number {P} t nr f x = record { leads = λ c h. go c h (named c.link.a c.link.s n
 
 -- state 7
 acknowledged-7 : (n : ℕ) (c : Course) → c.link.a ≤ n → Awaiting (acknowledged_in_7 n c)
-acknowledged-7 n c from = grind (arith, nat_lt, t203-runs, unequal, ltb-false)
+acknowledged-7 n c from = grind (arith, nat_lt, t203-runs, eq-eqb, ltb-false)
 
 information-7 : (n : ℕ) (c : Course) → c.link.a ≤ n → Awaiting (acknowledged_by_information_in_7 n c)
 information-7 n c from = grind (arith, acknowledged-7)
@@ -68,9 +65,6 @@ module _ (t : Terms) where
 
   unsolicited-busy : (f : Bool) → Leads Busy (unsolicited t f) Busy
   unsolicited-busy f = bit_leads {f = error t ErrorCode.A} {g = nothing} f (record { leads = λ c h. h }) (record { leads = λ c h. h })
-
-  answered-at : (here : State) (b pf : Bool) → Leads (At here) (answered t b pf) (At here)
-  answered-at here b pf = bit_leads {f = answer t} {g = nothing} (b && pf) (record { leads = λ c h. h }) (record { leads = λ c h. h })
 
   contents-on : (here : State) (ns : Seq) (p : Bool) (octets : List ℕ) → Leads (On (at_state here)) (contents_in_7_8 t ns p octets) (On (at_state here))
   contents-on here ns p octets = search words depth 12 fits 4000
@@ -132,7 +126,7 @@ module _ (t : Terms) where
 
   supervisory-8 : (busy b pf : Bool) (nr : Seq) → Leads (At TimerRecovery)
       (supervisory t (particulars_in_8 t) busy b pf nr (acknowledged_in_8 T203)) Awaiting
-  supervisory-8 busy b pf nr = grind (arith, then_leads, answered-at, number, recovers)
+  supervisory-8 busy b pf nr = grind (arith, then_leads, bit_leads, number, recovers)
 
   answered-busy-at : (here : State) (b pf : Bool) → Leads (BusyAt here) (answered t b pf) (BusyAt here)
   answered-busy-at here b pf = bit_leads {f = answer t} {g = nothing} (b && pf) (record { leads = λ c h. h }) (record { leads = λ c h. h })

@@ -1,8 +1,8 @@
 -- An end that is busy itself, and the other, in state 7: one gives its next frame, and the other receives it.
-use Rattle.laws_link.proofs.Vocabulary.{◌≡◌, ℕ, ◌+◌, ◌≤◌, Bool, true, false, cond, ◌==◌, List, [], ◌∷◌, ◌++◌, length, Some, refl, sym, ap, subst, ◌∙◌, ◌⊎◌, inl, inr, append-nil, eq-eqb, arith, nat_lt, slice_get, unwrap_or, option_to_list, ltb-true, le-ltb, and_parts, seq, named, Terms, Link, frame, received, Course, begun, End, with_link, with_sent, with_first_of, with_first_lost, IsTaken, IsBusyItself, IsOpenItself, IsDropped, ErrorCode, State, by_number, acknowledged_by_information_in_7, acknowledged_in_7, may_send_information}
+use Rattle.laws_link.proofs.Vocabulary.{◌≡◌, ℕ, ◌+◌, ◌≤◌, Bool, true, false, cond, ◌==◌, List, [], ◌∷◌, ◌++◌, length, Some, refl, sym, ap, subst, ◌∙◌, ◌⊎◌, inl, append-nil, eq-eqb, arith, nat_lt, slice_get, unwrap_or, option_to_list, ltb-true, le-ltb, and_parts, seq, named, Terms, Link, frame, received, Course, begun, End, with_link, with_sent, with_first_of, with_first_lost, IsTaken, IsBusyItself, IsOpenItself, IsDropped, ErrorCode, State, by_number, acknowledged_by_information_in_7, acknowledged_in_7, may_send_information}
 use Rattle.model_link.specs.MultipleFrame
 use Rattle.laws_link.proofs.OfTwo.Plain.{plain, plain_with, plain_end_with, with_information_with, with_acknowledgement_with, information_frame, acknowledgement_frame, gives-information, gives-acknowledgement, gives-nothing}
-use Rattle.laws_link.proofs.OfTwo.Halves.{named-number, fits-at, all-acknowledged, One, Nothing, giver_of, taker_of}
+use Rattle.laws_link.proofs.OfTwo.Halves.{named-number, fits-at, One, Nothing, giver_of, taker_of}
 use Rattle.laws_link.proofs.OfTwo.Acknowledging.{Acknowledges, by-rr, by-information}
 
 -- What becomes of the end that gives and of the one that receives: of numbers and contents that stay,
@@ -191,7 +191,7 @@ module _ (n m : End) (hn : IsBusyItself n) (hm : IsOpenItself m) (there : IsTake
 
   -- or nothing: then nothing of the busy end's is outstanding
   open-none : may_send_information m.terms (plain_with false m.link.peer_busy m.link) ≡ false → m.link.pending ≡ false → OpenMoved n m (taker_of m n) (giver_of m)
-  open-none may owed = grind (arith, with_acknowledgement_with, is-m, gives-nothing, busy-flags, all-acknowledged, nat_lt, grows)
+  open-none may owed = grind (arith, with_acknowledgement_with, is-m, gives-nothing, busy-flags, ltb-true, nat_lt, grows)
 
   open-by : (may owed : Bool) → may_send_information m.terms (plain_with false m.link.peer_busy m.link) ≡ may → m.link.pending ≡ owed → OpenMoved n m (taker_of m n) (giver_of m)
   open-by true owed e p = open-one e

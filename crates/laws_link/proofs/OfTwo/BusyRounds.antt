@@ -1,5 +1,5 @@
 -- Turn after turn of an end that is busy itself and of the other, until all contents of the busy end have arrived.
-use Rattle.laws_link.proofs.Vocabulary.{◌≡◌, ℕ, zero, suc, ◌+◌, ◌-◌, ◌<◌, ◌≤◌, Bool, true, false, ◌&&◌, List, [], ◌∷◌, ◌++◌, length, take, Option, refl, sym, ap, subst, ◌∙◌, ◌⊎◌, inl, inr, true≢false, arith, All, nat_lt, slice_get, unwrap_or, lt-ltb, le-ltb, ltb-false, and_right, take-length, Parts, LinkTimer, frame, received, offer, IsInRange, IsSound, End, Ends, with_sent, with_first_of, sound-after, IsTaken, HasUnsent, HasArrived, rounds, IsBusyItself, IsOpenItself, IsDropped, GetsThrough, may_send_information}
+use Rattle.laws_link.proofs.Vocabulary.{◌≡◌, ℕ, zero, suc, ◌+◌, ◌-◌, ◌<◌, ◌≤◌, Bool, true, false, List, [], ◌∷◌, ◌++◌, length, take, Option, sym, ap, subst, ◌∙◌, ◌⊎◌, inl, inr, arith, All, nat_lt, slice_get, unwrap_or, lt-ltb, le-ltb, ltb-false, and_right, take-length, Parts, LinkTimer, frame, received, offer, IsInRange, IsSound, End, Ends, with_sent, with_first_of, sound-after, IsTaken, HasUnsent, HasArrived, rounds, IsBusyItself, IsOpenItself, IsDropped, GetsThrough, may_send_information}
 use Rattle.laws_link.proofs.OfTwo.Plain.{plain}
 use Rattle.laws_link.proofs.OfTwo.Halves.{take-one, One, Nothing, giver_of, taker_of}
 use Rattle.laws_link.proofs.OfTwo.Arriving.{near_moves, far_moves, no-more}
@@ -157,12 +157,8 @@ done-first : (busy : Bool) (r : ℕ) (ds cn cm : List (List ℕ)) (n m : End) �
 done-first busy r ds cn cm n m h = record { paired = h.paired; acknowledged = h.acknowledged; all = omega (arith, h.left) }
 
 -- with all sent the busy end's turn changes nothing of it, nor does the other's
-no-one : (n m n' m' : End) → length n.link.contents ≤ n.link.s → n'.link.contents ≡ n.link.contents → n'.link.a ≡ n.link.a → n.link.a ≡ n.link.s → One n m n' m' ⊎ Nothing n m n' m'
-    → (n'.link.a ≡ n'.link.s) × (length n'.link.contents ≤ n'.link.s)
-no-one n m n' m' all kept a acked o = grind arith
-
 pub done-busy : (busy : Bool) (r : ℕ) (ds cn cm : List (List ℕ)) (n m : End) → Done busy r ds cn cm n m → Done busy r ds cn cm (giver_of n) (taker_of n m)
-done-busy busy r ds cn cm n m h = grind (arith, busy-moves, no-one, giver_of, taker_of, busy-turn)
+done-busy busy r ds cn cm n m h = grind (arith, busy-moves, giver_of, taker_of, busy-turn)
 
 -- Rounds: the busy end is near, and then far.
 pub rounds-near : (u : ℕ) (busy : Bool) (r : ℕ) (ds cn cm : List (List ℕ)) (e : Ends) → Ahead u busy r ds cn cm e.near e.far

@@ -1,5 +1,5 @@
 -- An end that is busy itself, and the other end: what each makes of the other's frames in states 7 and 8.
-use Rattle.laws_link.proofs.Vocabulary.{arith, ◌≡◌, ℕ, Bool, true, false, cond, List, [], ◌∷◌, ◌++◌, length, Option, Some, ap, ◌∙◌, append-nil, nat_lt, slice_get, unwrap_or, seq, named, ReceiveNotReady, LinkTimer, T200, ControlFrame, Terms, Link, frame_of, frame, received, begun, End, with_link, ErrorCode, acknowledge, by_number, response, failed, acknowledged_by_rnr_in_7, acknowledged_in_8}
+use Rattle.laws_link.proofs.Vocabulary.{arith, ◌≡◌, ℕ, Bool, true, false, List, [], ◌∷◌, ◌++◌, length, Option, Some, append-nil, nat_lt, slice_get, unwrap_or, seq, named, ReceiveNotReady, LinkTimer, T200, ControlFrame, Terms, Link, frame_of, frame, received, End, with_link, response}
 use Rattle.laws_link.proofs.OfTwo.Plain.{information_frame}
 use Rattle.laws_link.proofs.OfTwo.Shapes.{enquiry_with, reply, reply_with, in_8, in_8_with, in_7_with, effect, having, replied}
 

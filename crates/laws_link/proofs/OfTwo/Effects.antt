@@ -1,5 +1,5 @@
 -- What an event does to a link that stays in states 7 and 8: its numbers, its state, and the kind of frame that waits anew.
-use Rattle.laws_link.proofs.Vocabulary.{arith, ◌≡◌, ℕ, ◌+◌, Bool, true, false, cond, IsTrue, List, [], ◌∷◌, ◌++◌, Option, None, Some, refl, sym, subst, ◌∙◌, ◌⊎◌, inl, inr, true≢false, nat_lt, length, eqb-false, Seq, seq, named, seq-value, is_seq, Control, ReceiveReady, ReceiveNotReady, Reject, State, Established, TimerRecovery, LinkTimer, ControlFrame, Terms, Link, is_multiple_frame, Course, begun, Step, ◌then◌, eqb-true, ErrorCode, by_number, error, has_room, peer_busy_is, re_establish, ready_to_receive, response, acknowledged_by_information_in_7, acknowledged_by_rej_in_7, acknowledged_in_7, is_all_sent, is_beyond_acknowledged, unsolicited, acknowledged_in_8, solicited}
+use Rattle.laws_link.proofs.Vocabulary.{arith, ◌≡◌, ℕ, ◌+◌, Bool, true, false, cond, IsTrue, List, [], ◌∷◌, ◌++◌, Option, None, Some, refl, sym, ◌∙◌, ◌⊎◌, inl, inr, true≢false, nat_lt, length, eqb-false, Seq, seq, named, seq-value, is_seq, Control, Reject, State, Established, TimerRecovery, LinkTimer, ControlFrame, Terms, Link, is_multiple_frame, Course, begun, Step, ◌then◌, eqb-true, ErrorCode, by_number, error, has_room, peer_busy_is, re_establish, ready_to_receive, response, acknowledged_by_information_in_7, acknowledged_by_rej_in_7, acknowledged_in_7, unsolicited, acknowledged_in_8, solicited}
 use Rattle.model_link.specs.MultipleFrame
 use Rattle.laws_link.proofs.OfTwo.Trains.{Kind, numbered, enquiry, answer, report, rejection, alien, kind_of}
 
@@ -101,13 +101,10 @@ module _ (t : Terms) (l : Link) where
   abbrev ready : Control
   ready = ready_to_receive true l
 
-  kind-of-ready : (own : Bool) → kind_of false (cond own (ReceiveNotReady (seq l.r) true) (ReceiveReady (seq l.r) true)) ≡ answer (seq l.r)
-  kind-of-ready own = grind arith
-
   -- what waits, after the answer
   answers : (c : Course) (l' : Link) → c.link.state ≡ l.state → c.link.s ≡ l.s → c.link.r ≡ l.r → c.link.rejecting ≡ l.rejecting
       → c.link.waiting ≡ cond (has_room t l) (l.waiting ++ response ready ∷ []) l.waiting → Kept c.link l' → Went (answer (seq l.r)) l l'
-  answers c l' state s r rejecting waiting k = grind (arith, answer, grows, kind-of-ready)
+  answers c l' state s r rejecting waiting k = grind (arith, answer, grows)
 
   pub enquired-7 : (busy : Bool) (nr : Seq) (f : ℕ → Step) → ((c : Course) (n : ℕ) → Kept c.link (f n c).link)
       → IsUpIn (by_number t nr f (c-7 busy true true)) → Went (answer (seq l.r)) l (by_number t nr f (c-7 busy true true)).link

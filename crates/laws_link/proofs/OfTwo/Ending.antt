@@ -1,5 +1,5 @@
 -- Own busy ends at an end: what its request and its RR leave, at that end and at the other.
-use Rattle.laws_link.proofs.Vocabulary.{◌≡◌, ℕ, ◌≤◌, Bool, true, false, cond, IsTrue, List, [], ◌∷◌, ◌++◌, Option, Some, refl, sym, ap, subst, ◌∙◌, append-nil, true≢false, arith, nat_lt, lt-ltb, seq, named, ReceiveReady, Parts, State, LinkTimer, T200, Terms, Link, is_multiple_frame, frame, received, requested, ClearBusy, IsInRange, Course, begun, End, with_link, with_sent, with_first_lost, response}
+use Rattle.laws_link.proofs.Vocabulary.{◌≡◌, ℕ, ◌≤◌, Bool, true, false, cond, IsTrue, List, [], ◌∷◌, ◌++◌, Some, refl, sym, ap, subst, ◌∙◌, append-nil, arith, nat_lt, lt-ltb, seq, named, ReceiveReady, Parts, State, T200, Terms, Link, is_multiple_frame, frame, received, requested, ClearBusy, IsInRange, Course, begun, End, with_link, with_sent, with_first_lost, response}
 use Rattle.laws_link.proofs.OfTwo.Plain.{acknowledgement_frame}
 use Rattle.laws_link.proofs.OfTwo.Shapes.{in_8_with, in_7_with, having, acknowledged-8}
 use Rattle.laws_link.proofs.OfTwo.Acknowledging.{Acknowledges, by-rr}
@@ -50,9 +50,6 @@ module _ (n : End) (ranges : IsInRange n.terms) (busy : n.link.own_busy ≡ true
     pub way : x.way ≡ acknowledgement_frame n.terms n.link ∷ []
     pub left : IsLeft n.link.a n.link.peer_busy false n (with_first_lost x)
 
-  gives-quiet : (here : State) → n.link.state ≡ here → Gives (quiet here (acknowledgement_frame n.terms n.link ∷ []) n.delivered)
-  gives-quiet here s = grind arith
-
   in-7 : n.link.state ≡ State.Established → over n ≡ quiet State.Established (acknowledgement_frame n.terms n.link ∷ []) n.delivered
   in-7 s = grind (arith, is-known, room, acknowledgement_frame, append-nil)
 
@@ -60,7 +57,7 @@ module _ (n : End) (ranges : IsInRange n.terms) (busy : n.link.own_busy ≡ true
   in-8 s = grind (arith, is-known, room, acknowledgement_frame, append-nil)
 
   by-state : (here : State) → n.link.state ≡ here → IsTrue (is_multiple_frame here) → Gives (over n)
-  by-state here e up = grind (arith, in-7, gives-quiet, in-8)
+  by-state here e up = grind (arith, in-7, in-8)
 
   pub gives : IsTrue (is_multiple_frame n.link.state) → Gives (over n)
   gives up = by-state n.link.state refl up
@@ -83,14 +80,11 @@ module _ (m : End) (free : m.link.own_busy ≡ false) (waiting : m.link.waiting 
   abbrev here : Course
   here = begun (in_7_with false false m [] m.link.a m.link.s m.link.pending m.link.running m.delivered).link
 
-  left-7 : (running : Option LinkTimer) → m.link.state ≡ State.Established → Hears (in_7_with false false m [] x m.link.s m.link.pending running m.delivered)
-  left-7 running e = grind arith
-
   left-8 : m.link.state ≡ State.TimerRecovery → Hears (in_8_with false m [] false x m.link.pending m.delivered)
   left-8 e = grind arith
 
   ended : (c : Course) → Acknowledges x here c → m.link.state ≡ State.Established → Hears (having (in_7_with false false m [] m.link.a m.link.s m.link.pending m.link.running m.delivered) c)
-  ended c h e = grind (arith, having, in_7_with, append-nil, left-7)
+  ended c h e = grind (arith, having, in_7_with, append-nil)
 
   hears-7 : m.link.state ≡ State.Established → Hears (hears m)
   hears-7 e = subst (λ y. Hears (hears y)) (sym (is-7 e)) (ended _ (by-rr m.terms (seq l.r) x here names low) e)

@@ -1,5 +1,5 @@
 -- What the expiry of T200 makes of an end that is cut off: it asks, or it has nothing outstanding.
-use Rattle.laws_link.proofs.Vocabulary.{◌≡◌, ℕ, ◌+◌, ◌≤◌, Bool, true, false, cond, IsTrue, [], ◌∷◌, ◌++◌, Option, Some, refl, sym, ap, ◌∙◌, ◌⊎◌, inl, inr, append-nil, true≢false, arith, nat_lt, option_to_list, lt-ltb, State, LinkTimer, T200, T203, Link, is_multiple_frame, expired, Course, begun, End, with_link, IsTimedIn, HeedsIn, IsCutOffWith, ErrorCode, enquire, repeated, start, failed}
+use Rattle.laws_link.proofs.Vocabulary.{◌≡◌, ℕ, ◌+◌, ◌≤◌, Bool, true, false, cond, IsTrue, [], ◌∷◌, ◌++◌, Option, Some, refl, ap, ◌∙◌, ◌⊎◌, append-nil, arith, nat_lt, option_to_list, lt-ltb, State, LinkTimer, T200, T203, Link, is_multiple_frame, expired, Course, begun, End, with_link, IsTimedIn, HeedsIn, IsCutOffWith, ErrorCode, enquire, repeated, start, failed}
 use Rattle.laws_link.proofs.OfTwo.Shapes.{enquiry_with, in_8_with, in_7_with}
 
 abbrev pub with_count : ℕ → End → End
@@ -41,12 +41,6 @@ module _ (own : Bool) (n m : End) (h : IsCutOffWith own n m) where
   asks : (b : Bool) (count : ℕ) → b ≡ true → asked b count ≡ in_8_with own (with_count count n) (enquiry_with own n.link.r ∷ []) n.link.peer_busy n.link.a false n.delivered
   asks b count e = ap (λ x. asked x count) e ∙ ap (λ ds. in_8_with own (with_count count n) (enquiry_with own n.link.r ∷ []) n.link.peer_busy n.link.a false ds) (append-nil n.delivered)
 
-  in-7-t200 : n.link.state ≡ State.Established → n.link.running ≡ Some T200 → Asking own n (after n)
-  in-7-t200 s r = record { count = 0; is = ap after (is-known State.Established n.link.peer_busy (Some T200) s refl r) ∙ asks (nat_lt 0 n.terms.control) 0 room }
-
-  in-7-t203 : n.link.state ≡ State.Established → n.link.peer_busy ≡ false → n.link.running ≡ Some T203 → n.link.s ≤ n.link.a → Resting own n (after n)
-  in-7-t203 s b r all = grind (arith, is-known, in_7_with, append-nil)
-
   in-8-t200 : n.link.state ≡ State.TimerRecovery → n.link.running ≡ Some T200 → Asking own n (after n)
   in-8-t200 s r =
       let l = (known State.TimerRecovery n.link.peer_busy (Some T200)).link in
@@ -70,7 +64,7 @@ module _ (own : Bool) (n m : End) (h : IsCutOffWith own n m) where
 
   by-state : (here : State) → n.link.state ≡ here → IsTrue (is_multiple_frame here) → IsTimedIn here n.link → HeedsIn here n.link.peer_busy n.link.running
       → Asking own n (after n) ⊎ Resting own n (after n)
-  by-state here e up timed heeds = grind (arith, in-7-t200, in-7-t203, not-busy, in-8-t200)
+  by-state here e up timed heeds = grind (arith, is-known, asks, nat_lt, room, in_7_with, append-nil, not-busy, lt-ltb)
 
   pub expires-one : Asking own n (after n) ⊎ Resting own n (after n)
   expires-one = by-state n.link.state refl h.up h.timed.timer h.heeds.heeds

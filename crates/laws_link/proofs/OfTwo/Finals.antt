@@ -1,5 +1,5 @@
 -- How many responses with F=1 wait: each word but the answers leaves their number.
-use Rattle.laws_link.proofs.Vocabulary.{◌≡◌, ℕ, ◌+◌, ◌≤◌, Bool, true, false, cond, List, [], ◌∷◌, ◌++◌, refl, subst, arith, sum_by_push, Seq, seq, Control, ReceiveReady, ReceiveNotReady, Reject, Ua, Dm, Note, ControlFrame, Terms, Link, Course, Step, ◌then◌, nothing, by_bit, Leads, then_leads, keeping_then, nothing_leads, depending_leads, bit_leads, to_less, finals, is_final_response, number_leads, answer, by_number, command, enquire, has_room, note, pending_is, re_establish, ready_to_receive, reject, report_ready, response, send}
+use Rattle.laws_link.proofs.Vocabulary.{◌≡◌, ℕ, ◌+◌, ◌≤◌, Bool, true, false, cond, List, [], ◌∷◌, ◌++◌, refl, arith, sum_by_push, Seq, seq, Control, ReceiveReady, ReceiveNotReady, Reject, Ua, Dm, Note, ControlFrame, Terms, Link, Course, Step, ◌then◌, nothing, by_bit, Leads, then_leads, keeping_then, nothing_leads, depending_leads, bit_leads, to_less, finals, is_final_response, number_leads, answer, by_number, command, enquire, note, pending_is, re_establish, ready_to_receive, reject, report_ready, response, send}
 
 -- At most n of them wait.
 pub record Few (n : ℕ) (c : Course) : Type 0 where

@@ -1,6 +1,6 @@
 -- One direction between two links whose T200 is timely: the sender's V(S), the receiver's V(R), and what is between them.
 use Rattle.laws_link.proofs.Vocabulary.{◌≡◌, ℕ, ◌+◌, ◌<◌, ◌≤◌, Bool, true, false, List, [], ◌∷◌, ◌++◌, refl, arith, seq}
-use Rattle.laws_link.proofs.OfTwo.Trains.{Kind, numbered, enquiry, answer, rejection, tally, one_enquiry, one_answer, one_rejection, tally-push, Every, every-push, Behind, behind-push, behind-first, Calm, Comes, calm-comes, Rise, rise-lower, rise-low, rise-push, calm-rise, Beyond, calm-beyond, Late, rise-late, beyond-late, late-low, late-tail, late-push, rise-next, late-next}
+use Rattle.laws_link.proofs.OfTwo.Trains.{Kind, numbered, enquiry, answer, rejection, tally, one_enquiry, one_answer, one_rejection, tally-push, Every, every-push, Behind, behind-push, behind-first, Calm, Comes, calm-comes, Rise, rise-lower, rise-low, rise-push, calm-rise, Beyond, calm-beyond, Late, rise-late, late-low, late-tail, late-push, rise-next, late-next}
 
 -- What is on the line to a receiver that has sent no REJ, and to one that has.
 abbrev pub Order : Bool → ℕ → ℕ → List Kind → Type 0
@@ -61,9 +61,6 @@ order-push q r s top xs y le p h = grind (arith, late-push, rise-push)
 
 pub order-calm : (q : Bool) (r : ℕ) (xs : List Kind) → Every Calm xs → Order q r r xs
 order-calm q r xs h = grind (arith, rise-late, calm-rise)
-
-pub order-beyond : (q : Bool) (r : ℕ) (xs : List Kind) → q ≡ true → Every (Beyond r) xs → Order q r r xs
-order-beyond q r xs e h = grind (arith, beyond-late)
 
 pub order-next : (q : Bool) (r s : ℕ) (xs : List Kind) → Order q r s (numbered (seq r) ∷ xs) → Rise (r + 1) s xs
 order-next q r s xs h = grind (arith, late-next, rise-next)

@@ -1,7 +1,7 @@
 -- What a frame that is heard does to one direction between two links whose T200 is timely.
 use Rattle.laws_link.proofs.Vocabulary.{◌≡◌, ℕ, ◌+◌, ◌%◌, ◌<◌, ◌≤◌, Bool, true, false, List, [], ◌∷◌, ◌++◌, refl, sym, arith, true≢false, Seq, seq, seq-value}
 use Rattle.laws_link.proofs.OfTwo.Trains.{Kind, numbered, enquiry, answer, report, rejection, alien, tally, one_enquiry, one_answer, one_rejection, tally-push, Every, every-push, behind-first, Beyond, beyond-late, rise-other}
-use Rattle.laws_link.proofs.OfTwo.Flow.{RejectsAt, AnswersAt, IsNoRejection, most, Flow, order-tail, order-calm, order-beyond, order-next, few-more}
+use Rattle.laws_link.proofs.OfTwo.Flow.{RejectsAt, AnswersAt, IsNoRejection, most, Flow, order-tail, order-calm, order-next, few-more}
 
 one-at-most : (b : Bool) → most b ≤ 1
 one-at-most b = grind arith
@@ -127,4 +127,4 @@ pub rejection-says : (s r : ℕ) (b q : Bool) (nr : Seq) (ln lm : List Kind) →
 rejection-says s r b q nr ln lm h = (h.rejected (omega arith)).says.0
 
 pub hears-rejection : (s r : ℕ) (q : Bool) (nr : Seq) (ln lm : List Kind) → Flow s r false q ln (rejection nr ∷ lm) → Flow r r false q ln lm
-hears-rejection s r q nr ln lm h = grind (arith, tally, one_rejection, one_enquiry, one_answer, order-beyond)
+hears-rejection s r q nr ln lm h = grind (arith, tally, one_rejection, one_enquiry, one_answer, beyond-late)

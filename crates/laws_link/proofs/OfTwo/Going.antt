@@ -1,5 +1,5 @@
 -- What requests, expiries and offers do to a link that stays in states 7 and 8, and to what is on its line.
-use Rattle.laws_link.proofs.Vocabulary.{arith, ◌≡◌, ◌+◌, ◌-◌, Bool, true, false, cond, not, ◌&&◌, IsTrue, List, [], ◌∷◌, ◌++◌, Option, None, Some, refl, sym, ap, subst, ◌∙◌, append_assoc, append-nil, ◌⊎◌, inl, inr, true≢false, nat_lt, length, slice_get, unwrap_or, and_parts, seq, ReceiveReady, ReceiveNotReady, Refusal, WrongState, Parts, State, Established, TimerRecovery, LinkTimer, T200, T203, ControlFrame, Terms, Link, is_multiple_frame, frame_of, may_repeat, Request, Establish, Release, Data, SetBusy, ClearBusy, expired, requested, offer, Course, begun, frame_given, frames_of, IsMildRequest, ErrorCode, both_ways, command, enquire, has_room, ready_to_receive, repeated, response, start, failed, granted, refusal, give_waiting, is_awaiting_acknowledgement, is_established, may_send_information, next_information, offer_among, send_acknowledgement, with_one_sent, course, expire_running, expired_in, given_of, is_running}
+use Rattle.laws_link.proofs.Vocabulary.{arith, ◌≡◌, ◌+◌, ◌-◌, Bool, true, false, cond, IsTrue, List, [], ◌∷◌, ◌++◌, Option, None, Some, refl, ap, append_assoc, append-nil, ◌⊎◌, inl, nat_lt, slice_get, unwrap_or, and_parts, seq, ReceiveReady, ReceiveNotReady, Refusal, WrongState, Parts, State, Established, TimerRecovery, LinkTimer, T200, ControlFrame, Terms, Link, is_multiple_frame, frame_of, Request, Establish, Release, Data, SetBusy, ClearBusy, expired, requested, offer, Course, begun, frame_given, frames_of, IsMildRequest, ErrorCode, both_ways, command, enquire, has_room, ready_to_receive, repeated, response, start, failed, granted, refusal, give_waiting, is_awaiting_acknowledgement, may_send_information, next_information, offer_among, send_acknowledgement, with_one_sent, course, expire_running, expired_in, given_of, is_running}
 use Rattle.laws_link.proofs.OfTwo.Staying.{refused}
 use Rattle.laws_link.proofs.OfTwo.Trains.{Kind, numbered, enquiry, report, kind_of, kinds_of, kinds-append}
 use Rattle.laws_link.proofs.OfTwo.Effects.{Grown, grows, Kept, Went, unchanged}
@@ -32,9 +32,6 @@ pub record Offered (t : Terms) (l : Link) (c : Course) : Type 0 where
   pub rejecting : c.link.rejecting ≡ l.rejecting
   pub gives : Gives t l c
 
-is-established : (here : State) → is_established here ≡ true → here ≡ Established
-is-established here e = grind arith
-
 module _ (t : Terms) (l : Link) where
   nothing-new : Went report l l
   nothing-new = record { state = refl; s = refl; r = refl; rejecting = refl; waiting = inl refl }
@@ -63,12 +60,9 @@ module _ (t : Terms) (l : Link) where
       (both_ways (WentIn report l) l.own_busy _ _ (reports _ (response (ReceiveReady (seq l.r) false)) refl refl refl refl refl refl) nothing-new)
 
   -- An expiry: the timer does not run, or an enquiry waits.
-  kind-of-enquiry : (own : Bool) → kind_of true (cond own (ReceiveNotReady (seq l.r) true) (ReceiveReady (seq l.r) true)) ≡ enquiry
-  kind-of-enquiry own = grind arith
-
   enquires : (l' : Link) → l'.state ≡ TimerRecovery → l'.s ≡ l.s → l'.r ≡ l.r → l'.rejecting ≡ l.rejecting
       → l'.waiting ≡ cond (has_room t l) (l.waiting ++ command (ready_to_receive true l) ∷ []) l.waiting → Asked l l'
-  enquires l' state s r rejecting waiting = grind (arith, Grown, enquiry, grows, kind-of-enquiry)
+  enquires l' state s r rejecting waiting = grind (arith, Grown, enquiry, grows)
 
   again : l.state ≡ TimerRecovery → (b : Bool) → IsUpIn (cond b (start T200 (repeated (enquire t (begun l)))) (failed t ErrorCode.I (begun l)))
       → Asked l (cond b (start T200 (repeated (enquire t (begun l)))) (failed t ErrorCode.I (begun l))).link
@@ -109,7 +103,7 @@ module _ (t : Terms) (l : Link) where
   informs : (c : Course) → may_send_information t l ≡ true → l.waiting ≡ [] → c.link.state ≡ l.state → c.link.s ≡ l.s + 1 → c.link.r ≡ l.r → c.link.rejecting ≡ l.rejecting
       → c.link.waiting ≡ l.waiting → frame_given t (given_of t l c c.sent) ≡ record (frame_of t (next_information l)) { info = unwrap_or (slice_get l.contents l.s) [] } ∷ []
       → Offered t l c
-  informs c may e state s r rejecting waits gives = grind (arith, and_parts, nat_lt, slice_get, is-established, kinds_of, frames_of, at-end)
+  informs c may e state s r rejecting waits gives = grind (arith, and_parts, nat_lt, slice_get, kinds_of, frames_of, at-end)
 
   branch : (b : Bool) (u v : Course) → (b ≡ true → Offered t l u) → Offered t l v → Offered t l (cond b u v)
   branch b u v x y = grind arith

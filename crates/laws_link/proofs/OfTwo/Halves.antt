@@ -1,5 +1,5 @@
 -- Half a round: one end gives its next frame, and the other receives it.
-use Rattle.laws_link.proofs.Vocabulary.{◌≡◌, ℕ, zero, suc, ◌+◌, ◌-◌, ◌<◌, ◌≤◌, Bool, true, false, cond, ◌==◌, List, [], ◌∷◌, ◌++◌, length, take, None, Some, refl, sym, ap, subst, ◌∙◌, ◌⊎◌, inl, inr, append-nil, eq-eqb, true≢false, arith, All, nat_lt, nat_le, slice_get, unwrap_or, ltb-true, ltb-false, le-ltb, le-leb, and_parts, All-head, All-tail, seq, named, distance-plain, Parts, frame, received, offer, IsInRange, IsSound, End, with_link, with_sent, with_first_lost, with_first_of, sound-after, IsReady, IsTaken, State, may_send_information}
+use Rattle.laws_link.proofs.Vocabulary.{◌≡◌, ℕ, zero, suc, ◌+◌, ◌-◌, ◌<◌, ◌≤◌, Bool, true, false, ◌==◌, List, [], ◌∷◌, ◌++◌, length, take, Some, refl, sym, ap, subst, ◌∙◌, ◌⊎◌, inl, inr, append-nil, eq-eqb, arith, All, nat_lt, slice_get, unwrap_or, ltb-true, ltb-false, le-ltb, le-leb, and_parts, All-head, All-tail, seq, named, distance-plain, Parts, frame, received, offer, IsInRange, IsSound, End, with_link, with_sent, with_first_lost, with_first_of, sound-after, IsReady, IsTaken, State, may_send_information}
 use Rattle.laws_link.proofs.OfTwo.Plain.{plain, is_plain, information_frame, acknowledgement_frame, with_information, with_acknowledgement, with_taken, with_all_acknowledged, gives-information, gives-acknowledgement, gives-nothing, takes-information, takes-acknowledgement}
 
 -- an N(R) names the number that it means, if that lies between V(A) and V(S)
@@ -64,9 +64,6 @@ pub record Moved (n m n' m' : End) : Type 0 where
   pub moved : One n m n' m' ⊎ Nothing n m n' m'
 
 -- with no acknowledgement owed nothing is outstanding
-pub all-acknowledged : (a s : ℕ) (p b : Bool) → nat_lt a s ≡ b → p ≡ false → a ≤ s → (a < s → p ≡ true) → a ≡ s
-all-acknowledged a s p b e off low h = grind (arith, ltb-true, ltb-false)
-
 abbrev pub giver_of : End → End
 giver_of n = with_first_lost (with_sent n)
 
@@ -120,7 +117,7 @@ module _ (n m : End) (hn : IsReady n) (hm : IsReady m) (there : IsTaken n m) (ba
 
   -- nothing goes: then nothing is outstanding at the other end
   rests : may_send_information n.terms (plain n.link) ≡ false → n.link.pending ≡ false → Moved n m (giver_of n) (taker_of n m)
-  rests may owed = grind (arith, with_acknowledgement, is_plain, gives-nothing, giver-acknowledgement, all-acknowledged, nat_lt)
+  rests may owed = grind (arith, with_acknowledgement, is_plain, gives-nothing, giver-acknowledgement, ltb-true, ltb-false, nat_lt)
 
   by-flags : (may owed : Bool) → may_send_information n.terms (plain n.link) ≡ may → n.link.pending ≡ owed → Moved n m (giver_of n) (taker_of n m)
   by-flags true owed e p = one e

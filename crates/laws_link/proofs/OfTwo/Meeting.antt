@@ -1,5 +1,5 @@
 -- One direction between two links whose T200 is timely, as one of the two goes on or hears a frame.
-use Rattle.laws_link.proofs.Vocabulary.{arith, ◌≡◌, ℕ, ◌+◌, ◌≤◌, Bool, true, false, List, [], ◌∷◌, ◌++◌, Some, refl, sym, ap, subst, ◌∙◌, append_assoc, ◌⊎◌, inl, inr, Seq, seq, named, Parts, ControlFrame, Terms, Link, frame_of, frames_of, frames-append}
+use Rattle.laws_link.proofs.Vocabulary.{arith, ◌≡◌, ℕ, ◌+◌, ◌≤◌, Bool, true, false, List, [], ◌∷◌, ◌++◌, Some, refl, sym, ap, subst, ◌∙◌, append_assoc, ◌⊎◌, inl, inr, Seq, seq, Parts, ControlFrame, Terms, Link, frames_of, frames-append}
 use Rattle.laws_link.proofs.OfTwo.Halves.{named-number}
 use Rattle.laws_link.proofs.OfTwo.Trains.{Kind, numbered, enquiry, answer, report, rejection, alien, kinds_of, kinds-append, one_enquiry, one_answer, one_rejection, Calm}
 use Rattle.laws_link.proofs.OfTwo.Flow.{Order, RejectsAt, AnswersAt, Flow, flow-low, there-calm, there-tail, back-other, back-tail}
@@ -82,12 +82,9 @@ module _ (t : Terms) (way : List Parts) (l l' : Link) where
       (there-longer l.s r b q own own' lm (rejection (seq l.r)) tt refl (line-longer t way l.waiting l'.waiting (rejection (seq l.r)) x.4) h)
 
   -- V(S) goes back to V(R)
-  back-to : (r : ℕ) (nr : Seq) → l.a ≤ r → r ≤ l.s → l.s ≤ l.a + 127 → nr ≡ seq r → named l.a l.s nr ≡ Some l'.s → l'.s ≡ r
-  back-to r nr low high near says e = one-number l'.s r (sym e ∙ ap (λ z. named l.a l.s z) says ∙ named-number l.a l.s r low high near)
-
   sender-back : (r : ℕ) (q : Bool) (lm : List Kind) (nr : Seq) → l.a ≤ r → r ≤ l.s → l.s ≤ l.a + 127 → nr ≡ seq r → Back nr l l' → Flow r r false q own lm
       → Flow l'.s r (is_recovering l'.state) q own' lm
-  sender-back r q lm nr low high near says k h = grind (arith, flow-at, back-to, is_recovering, kept-line)
+  sender-back r q lm nr low high near says k h = grind (arith, flow-at, one-number, named-number, is_recovering, kept-line)
 
   pub sender-hears : (r : ℕ) (q : Bool) (x : Kind) (lm : List Kind) (b : Bool) → NoAlien x → l.a ≤ r → l.s ≤ l.a + 127 → is_recovering l.state ≡ b → Heard x b l l'
       → Flow l.s r b q own (x ∷ lm) → Flow l'.s r (is_recovering l'.state) q own' lm

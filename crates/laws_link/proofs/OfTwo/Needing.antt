@@ -1,5 +1,5 @@
 -- A link runs the timer that it needs: from what each event keeps.
-use Rattle.laws_link.proofs.Vocabulary.{◌≡◌, ◌≢◌, ◌⊎◌, inl, inr, ℕ, ◌≤◌, ◌==◌, Bool, true, false, not, cond, ◌||◌, IsTrue, Option, None, Some, refl, sym, ap, ◌∙◌, arith, true≢false, eq-eqb, State, TeiAssigned, AwaitingEstablishment, Established, TimerRecovery, LinkTimer, T200, T203, Terms, Link, fresh, Event, after, IsSound, runs, eqb-true, IsTimedIn, IsTimed, HeedsIn, needed_in, IsCalmIn, HasItsTimer}
+use Rattle.laws_link.proofs.Vocabulary.{◌≡◌, ◌≢◌, ◌⊎◌, ℕ, ◌≤◌, ◌==◌, Bool, true, false, not, cond, ◌||◌, IsTrue, Option, None, Some, refl, ◌∙◌, arith, eq-eqb, State, TeiAssigned, AwaitingEstablishment, Established, TimerRecovery, LinkTimer, T200, T203, Terms, Link, fresh, Event, after, IsSound, eqb-true, IsTimedIn, IsTimed, HeedsIn, needed_in, IsCalmIn, HasItsTimer}
 use Rattle.laws_link.proofs.TimedRows.{timed-after}
 use Rattle.laws_link.proofs.OfTwo.Awaiting.{Awaits, event-awaits}
 use Rattle.laws_link.proofs.OfTwo.HeedingEvents.{heeds-after}
@@ -17,18 +17,12 @@ calm other busy = Unit {0}
 needs : (here : State) (l : Link) → needed_in here l ≡ need here l.peer_busy l.a l.s
 needs here l = grind arith
 
-t203-is-not : Some T203 ≡ Some T200 → ⊥
-t203-is-not e = true≢false (sym (ap (runs T200) e))
-
 -- state 7 with T203 alone: nothing is outstanding, and the terminal is not busy
-not-outstanding : (a s : ℕ) → not (s == a) ≡ false → s ≤ a
-not-outstanding a s e = grind (arith, eqb-true)
-
 neither : (x y : Bool) → (x || y) ≡ false → (x ≡ false) × (y ≡ false)
 neither x y e = grind arith
 
 timed-7 : (running : Option LinkTimer) (busy : Bool) (a s : ℕ) → running ≡ need Established busy a s → (running ≡ Some T200) ⊎ ((running ≡ Some T203) × (s ≤ a))
-timed-7 running busy a s e = grind (arith, not-outstanding, neither)
+timed-7 running busy a s e = grind (arith, eqb-true, neither)
 
 to-timed : (here : State) (l : Link) → l.running ≡ need here l.peer_busy l.a l.s → IsTimedIn here l
 to-timed Established l e = timed-7 l.running l.peer_busy l.a l.s e
@@ -47,12 +41,12 @@ to-heeds TimerRecovery busy running a s e h = e
 to-heeds other busy running a s e h = tt
 
 to-awaits : (here : State) (busy : Bool) (running : Option LinkTimer) (a s : ℕ) → running ≡ need here busy a s → Awaits here running busy a s
-to-awaits here busy running a s e is timer = grind (arith, eq-eqb, t203-is-not)
+to-awaits here busy running a s e is timer = grind (arith, eq-eqb)
 
 -- and the other way round
 from-7 : (running : Option LinkTimer) (busy : Bool) (a s : ℕ) → (running ≡ Some T200) ⊎ ((running ≡ Some T203) × (s ≤ a)) → (IsTrue busy → running ≡ Some T200)
     → (running ≡ Some T200 → (busy ≡ true) ⊎ (a ≢ s)) → a ≤ s → running ≡ need Established busy a s
-from-7 running busy a s o heeds awaits ordered = grind (arith, busy-needs, eqb-true, eq-eqb, t203-is-not)
+from-7 running busy a s o heeds awaits ordered = grind (arith, busy-needs, eqb-true, eq-eqb)
 
 from-timed : (here : State) (l : Link) → IsTimedIn here l → HeedsIn here l.peer_busy l.running → (here ≡ Established → l.running ≡ Some T200 → (l.peer_busy ≡ true) ⊎ (l.a ≢ l.s)) → l.a ≤ l.s
     → l.running ≡ needed_in here l

@@ -1,6 +1,5 @@
 -- An end in state 7 with nothing waiting: what it gives, and, with neither side busy, what it makes of what it receives.
-use Rattle.laws_link.proofs.Vocabulary.{arith, ◌≡◌, ℕ, ◌+◌, Bool, true, false, cond, ◌==◌, [], ◌∷◌, ◌++◌, length, Option, None, Some, refl, ap, ◌∙◌, nat_lt, slice_get, unwrap_or, option_to_list, Seq, seq, named, Information, ReceiveReady, Parts, T200, T203, Terms, Link, frame_of, address_at, runs, frame, received, Course, Step, begun, ◌then◌, changed, given_of, End, with_link, with_sent, frame_given, IsReady, ErrorCode, State, acknowledge, by_number, error, pending_is, re_establish, response, start, acknowledged_by_information_in_7, acknowledged_in_7, give_information, may_send_information, send_acknowledgement, send_information, with_one_sent}
-use Rattle.model_link.specs.MultipleFrame
+use Rattle.laws_link.proofs.Vocabulary.{arith, ◌≡◌, ◌+◌, Bool, true, false, cond, ◌==◌, [], ◌∷◌, ◌++◌, length, Some, ap, nat_lt, slice_get, unwrap_or, option_to_list, Seq, seq, named, Information, ReceiveReady, Parts, T200, T203, Terms, Link, frame_of, address_at, runs, frame, received, Course, begun, ◌then◌, changed, given_of, End, with_link, with_sent, frame_given, IsReady, State, acknowledge, by_number, pending_is, response, start, acknowledged_by_information_in_7, acknowledged_in_7, give_information, may_send_information, send_acknowledgement, with_one_sent}
 
 -- with own busy, and the other end taken for busy, as the bits say
 abbrev pub plain_with : Bool → Bool → Link → Link
@@ -83,9 +82,6 @@ module _ (m : End) (same : (m.link.s == m.link.s) ≡ true) where
   having c = record m { link = c.link; way = []; delivered = m.delivered ++ option_to_list c.delivered }
 
   -- the effect of an N(R)
-  abbrev effect : Seq → (ℕ → Step) → Course → Option ℕ → Course
-  effect nr f c o = elim o [ None ↦ (error m.terms ErrorCode.J then re_establish m.terms) c | Some x ↦ f x c ]
-
   acknowledged : (nr : Seq) (c : Course) → named c.link.a c.link.s nr ≡ Some c.link.s → (c.link.s == c.link.s) ≡ true
       → by_number m.terms nr acknowledged_in_7 c ≡ (acknowledge c.link.s then start T203) c
   acknowledged nr c all test = grind (arith, nat_lt)

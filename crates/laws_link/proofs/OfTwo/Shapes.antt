@@ -1,6 +1,5 @@
 -- An end that asks and one that answers: what each makes of the other's frames.
-use Rattle.laws_link.proofs.Vocabulary.{◌≡◌, ℕ, ◌+◌, Bool, true, false, cond, ◌==◌, List, [], ◌∷◌, ◌++◌, length, Option, None, Some, refl, ap, ◌∙◌, append-nil, arith, nat_lt, slice_get, unwrap_or, option_to_list, le-ltb, Seq, seq, named, ReceiveReady, ReceiveNotReady, LinkTimer, T200, T203, ControlFrame, Terms, Link, frame_of, frame, received, Course, Step, begun, ◌then◌, End, with_link, ErrorCode, State, acknowledge, by_number, command, error, re_establish, response, start, acknowledged_in_7, acknowledged_in_8}
-use Rattle.model_link.specs.MultipleFrame
+use Rattle.laws_link.proofs.Vocabulary.{◌≡◌, ℕ, ◌+◌, Bool, true, false, cond, ◌==◌, List, [], ◌∷◌, ◌++◌, length, Option, None, Some, append-nil, arith, nat_lt, slice_get, unwrap_or, option_to_list, le-ltb, Seq, seq, named, ReceiveReady, ReceiveNotReady, LinkTimer, T200, T203, ControlFrame, Terms, Link, frame_of, frame, received, Course, Step, begun, ◌then◌, End, with_link, ErrorCode, State, command, error, re_establish, response}
 use Rattle.laws_link.proofs.OfTwo.Plain.{information_frame, acknowledgement_frame}
 
 -- The enquiry and the answer.

@@ -1,5 +1,5 @@
 -- What keeps a link in states 7 and 8: each word, each row of a frame whose N(R) is valid, and each mild event.
-use Rattle.laws_link.proofs.Vocabulary.{arith, ◌≡◌, ℕ, ◌<◌, ◌≤◌, Bool, true, false, cond, IsTrue, List, [], ◌∷◌, length, Option, None, Some, refl, sym, ap, subst, ◌∙◌, true≢false, lt-ltb, le-ltb, Seq, seq, named, Control, Information, ReceiveReady, ReceiveNotReady, Reject, Sabme, Disc, Ui, Ua, Dm, Frmr, Xid, Note, Refusal, WrongState, State, TeiAssigned, AwaitingEstablishment, AwaitingRelease, Established, TimerRecovery, LinkTimer, T200, T203, ControlFrame, Terms, Link, is_multiple_frame, Request, Establish, Release, Data, SetBusy, ClearBusy, expired, requested, offer, Course, begun, Step, ◌then◌, Leads, then_leads, keeping_then, nothing_leads, depending_leads, bit_leads, Means, IsMildRequest, leaves, ErrorCode, both_ways, acknowledge, by_number, enquire, enter, error, peer_busy_is, re_establish, repeated, start, answered, contents_in_7_8, failed, information_in_7_8, is_final, supervisory, acknowledged_by_information_in_7, frame_in_7, particulars_in_7, unsolicited, frame_in_8, particulars_in_8, granted, refusal, serves, is_awaiting_acknowledgement, may_send_information, offer_among, with_one_sent, course, expired_in, frame_in, frame_step, is_running}
+use Rattle.laws_link.proofs.Vocabulary.{arith, ◌≡◌, ℕ, ◌<◌, ◌≤◌, Bool, true, false, cond, IsTrue, List, length, Option, None, Some, refl, sym, subst, true≢false, lt-ltb, le-ltb, Seq, seq, named, Control, Information, ReceiveReady, ReceiveNotReady, Reject, Refusal, WrongState, State, Established, TimerRecovery, LinkTimer, ControlFrame, Terms, Link, is_multiple_frame, Request, Establish, expired, requested, offer, Course, begun, Step, ◌then◌, Leads, keeping_then, nothing_leads, depending_leads, bit_leads, Means, IsMildRequest, leaves, both_ways, acknowledge, by_number, enter, contents_in_7_8, information_in_7_8, supervisory, acknowledged_by_information_in_7, frame_in_7, particulars_in_7, frame_in_8, particulars_in_8, granted, refusal, offer_among, course, expired_in, frame_in, frame_step, is_running}
 
 abbrev IsUpIn : Course → Type 0
 IsUpIn c = IsTrue (is_multiple_frame c.link.state)
@@ -34,9 +34,6 @@ Fits t other octets = Unit {0}
 module _ (t : Terms) (l : Link) (up : IsTrue (is_multiple_frame l.state)) (p : ℕ) (valid : named l.a l.s (seq p) ≡ Some p) where
   first : Holds l.a l.s (begun l)
   first = record { up = up; low = refl; high = refl }
-
-  abbrev effect : (ℕ → Step) → Course → Option ℕ → Course
-  effect f c o = elim o [ None ↦ (error t ErrorCode.J then re_establish t) c | Some n ↦ f n c ]
 
   numbered : (f : ℕ → Step) → ((n : ℕ) → Leads Stays (f n) Stays) → (c : Course) → Holds l.a l.s c → IsUpIn (by_number t (seq p) f c)
   numbered f x c h = grind arith

@@ -1,5 +1,5 @@
 -- Two links whose T200 is timely, from an establishment on.
-use Rattle.laws_link.proofs.Vocabulary.{◌≡◌, ℕ, ◌+◌, ◌≤◌, false, List, [], ◌∷◌, ap, ◌∙◌, arith, End, Ends, Act, asks, expires, Doing, at_near, at_far, doing, doing_all, Begins, IsUp, StayUp, Agree, Joined, joined-turned, joined-first, done-at, ends-agree, IsTimed, IsAhead, IsMild, IsMildAct, IsTimelyAct, IsTimelyDoing, StayTimely, IsHushed, IsSilent, HasMissing, with_t200_expired, rounds}
+use Rattle.laws_link.proofs.Vocabulary.{◌≡◌, ℕ, ◌+◌, ◌≤◌, false, List, [], ◌∷◌, ap, ◌∙◌, arith, End, Ends, Doing, at_near, at_far, doing, doing_all, Begins, IsUp, StayUp, Agree, Joined, joined-turned, joined-first, done-at, ends-agree, IsTimed, IsAhead, IsMild, IsTimelyDoing, StayTimely, IsHushed, IsSilent, HasMissing, with_t200_expired, rounds}
 use Rattle.laws_link.proofs.OfTwo.Arriving.{Arrived}
 use Rattle.laws_link.proofs.OfTwo.Reached.{reached}
 use Rattle.laws_link.proofs.OfTwo.Together.{done-up, same-after}
@@ -20,11 +20,8 @@ flows-low n m h = flow-low n.link.s m.link.r (is_recovering n.link.state) m.link
 ahead : (e : Ends) → Held e → IsAhead e
 ahead e h = (flows-low e.near e.far h.there, flows-low e.far e.near h.back)
 
-mild-act : (act : Act) (n m : End) → IsTimelyAct act n m → IsMildAct act n
-mild-act act n m x = grind arith
-
 mild : (d : Doing) (e : Ends) → IsTimelyDoing d e → IsMild d e
-mild d e x = grind (arith, mild-act)
+mild d e x = grind arith
 
 flows-after : (d : Doing) (e : Ends) → Held e → IsTimelyDoing d e → IsUp (doing d e)
     → Flows (doing d e).near (doing d e).far × Flows (doing d e).far (doing d e).near

@@ -1,5 +1,5 @@
 -- Two links stay up while neither's V(S) is below the other's V(R).
-use Rattle.laws_link.proofs.Vocabulary.{◌≡◌, ℕ, zero, suc, ◌+◌, ◌≤◌, IsTrue, List, [], ◌∷◌, ◌++◌, length, Some, refl, sym, ap, subst, ◌∙◌, arith, All, slice_get, All-head, All-tail, seq, named, Control, Information, Parts, Terms, is_multiple_frame, frame, received, End, Ends, Act, asks, expires, sends, receives, loses, Doing, at_near, at_far, with_link, with_first_of, acting, turned, doing, Begins, IsUp, StayUp, Piece, Carried, Rising, rising-low, frames_of, Joined, joined-turned, joined-first, done-at, IsAhead, IsMild, IsMildAct, StayAhead}
+use Rattle.laws_link.proofs.Vocabulary.{◌≡◌, ℕ, zero, suc, ◌+◌, ◌≤◌, IsTrue, List, [], ◌∷◌, ◌++◌, length, Some, sym, subst, arith, All, slice_get, All-head, All-tail, seq, named, Control, Information, Parts, Terms, is_multiple_frame, frame, received, End, Ends, Act, Doing, at_near, at_far, with_link, with_first_of, acting, doing, Begins, IsUp, StayUp, Piece, Carried, Rising, rising-low, frames_of, Joined, joined-turned, joined-first, done-at, IsAhead, IsMild, IsMildAct, StayAhead}
 use Rattle.laws_link.proofs.OfTwo.Halves.{named-number}
 use Rattle.laws_link.proofs.OfTwo.Staying.{Fits, frame-stays, request-stays, timer-stays, offer-stays}
 
@@ -46,11 +46,8 @@ done-up (at_far act) e h same ahead mild =
 first-terms : (way : List Parts) (n : End) → (with_first_of way n).terms ≡ n.terms
 first-terms way n = grind arith
 
-acting-terms : (act : Act) (e : Ends) → ((acting act e).near.terms ≡ e.near.terms) × ((acting act e).far.terms ≡ e.far.terms)
-acting-terms act e = grind (arith, first-terms)
-
 pub same-after : (d : Doing) (e : Ends) → e.near.terms.n201 ≡ e.far.terms.n201 → (doing d e).near.terms.n201 ≡ (doing d e).far.terms.n201
-same-after d e same = grind (arith, acting-terms)
+same-after d e same = grind (arith, first-terms)
 
 stay-up : (ds : List Doing) (e : Ends) → Joined e.near e.far → e.near.terms.n201 ≡ e.far.terms.n201 → StayAhead ds e → StayUp ds e
 unfolding StayUp StayAhead

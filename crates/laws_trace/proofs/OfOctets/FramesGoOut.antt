@@ -1,5 +1,5 @@
 -- What a receiver hears of a line are frames, and in the end all of them: the laws.
-use Rattle.laws_trace.proofs.Vocabulary.{arith, ◌≡◌, ℕ, ◌<◌, List, [], ◌∷◌, map, sym, subst, All, All-nil, All-cons, All-head, All-tail, AreOctets, Config, IsInRange, all-left, as_octets, octets_given, frames_to_hear, OfEachLine, meant_all, refines, given_frames_are_heard, heard_frames_are_octets, IsSpelled, contents_given, Seen, trace_of, frames_begun, ports_fresh as fresh, PortsEvent as Event, PortsAreAtLines as AreAtLines}
+use Rattle.laws_trace.proofs.Vocabulary.{arith, ◌≡◌, ℕ, ◌<◌, List, [], ◌∷◌, map, subst, All, All-nil, All-cons, All-head, All-tail, Config, IsInRange, all-left, as_octets, octets_given, frames_to_hear, OfEachLine, meant_all, refines, given_frames_are_heard, heard_frames_are_octets, IsSpelled, Seen, trace_of, frames_begun, ports_fresh as fresh, PortsEvent as Event, PortsAreAtLines as AreAtLines}
 use Rattle.model_bits.specs.Stream as stream
 use Rattle.model_card.specs.Card as cards
 use Rattle.model_card.specs.Event as frames

@@ -1,5 +1,5 @@
 -- Unit data between times at which a line is down: what begins are fronts of what is granted, one behind the other.
-use Rattle.laws_trace.proofs.Vocabulary.{arith, ◌≡◌, ℕ, Bool, true, false, cond, List, [], ◌∷◌, ◌++◌, map, refl, sym, ap, ◌∙◌, subst, append_assoc, append-nil, filter, filter-append, flat_map-append, map-append, fold, Config, as_octets, Seen, IsFront, frames_begun, is_down, is_unit, Asked, with_request, AreFronts}
+use Rattle.laws_trace.proofs.Vocabulary.{arith, ◌≡◌, ℕ, Bool, true, false, cond, List, [], ◌∷◌, ◌++◌, map, refl, sym, ap, ◌∙◌, subst, append_assoc, append-nil, filter-append, flat_map-append, map-append, fold, Config, as_octets, Seen, IsFront, is_down, is_unit, Asked, with_request, AreFronts}
 use Rattle.laws_trace.specs.Trace as traces
 use Rattle.laws_trace.specs.Units.{unit_asked}
 use Rattle.laws_trace.proofs.OfOctets.Seen.{requests_seen}

@@ -1,5 +1,5 @@
 -- The check of a text is the only one.
-use Rattle.model_bits.proofs.Vocabulary.{◌≡◌, ℕ, suc, zero, Bool, true, false, not, List, [], ◌∷◌, ◌++◌, length, replicate, map, refl, sym, ap, ◌∙◌, arith, fold, same_from_push, length-map, fold-append, same_bits, plus, generator, brought_down, remainder, dividend, check, residue, is_good, OnlyCheck}
+use Rattle.model_bits.proofs.Vocabulary.{◌≡◌, ℕ, suc, zero, Bool, true, false, not, List, [], ◌∷◌, ◌++◌, length, replicate, map, refl, sym, ap, ◌∙◌, arith, fold, same_from_push, length-map, fold-append, plus, generator, brought_down, remainder, dividend, check, residue, is_good, OnlyCheck}
 use Rattle.model_bits.proofs.BitLemmas.{same_from_test}
 use Rattle.model_bits.proofs.Division.Sums.{plus-append, plus_twice, plus-injective, length-plus, plus-ones, plus-not}
 use Rattle.model_bits.proofs.Division.Linear.{length-brought_down, length-remainder, remainder_few}

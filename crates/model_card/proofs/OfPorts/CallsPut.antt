@@ -1,12 +1,11 @@
 -- The items that are put on a line are what the calls for its next frame are answered with.
-use Rattle.model_card.proofs.OfPorts.Vocabulary.{◌≡◌, ◌==◌, ℕ, ◌<◌, Bool, true, false, List, [], ◌∷◌, ◌++◌, length, map, flat_map, Option, None, Some, option_map, option_to_list, refl, sym, ap, ◌∙◌, cond, arith, append-nil, map-append, flat_map-append, PoolFull, Card, Event, Item, OctetCard, Port, after, after_all, gained, given_in, is_due, item_of, meant, meant_all, octet, port_at, pull, said, with_item, with_octet}
+use Rattle.model_card.proofs.OfPorts.Vocabulary.{◌≡◌, ◌==◌, ℕ, ◌<◌, Bool, List, [], ◌∷◌, ◌++◌, length, map, flat_map, Option, option_map, option_to_list, sym, ap, ◌∙◌, cond, arith, append-nil, map-append, flat_map-append, PoolFull, Card, Event, Item, OctetCard, Port, after, after_all, given_in, item_of, meant, meant_all, port_at, said}
 use Rattle.model_bits.specs.Stream as stream
 use Rattle.model_line.specs.Event as line
 use Rattle.model_line.specs.Event.{NextFrame}
 use Rattle.model_line.specs.Machine as lines
 unfoldable use Rattle.model_line.specs.Machine.{answer as line_answer, takes_slot}
 use Rattle.model_card.specs.Event as frames
-use Rattle.model_card.specs.Machine as machine
 use Rattle.model_card.specs.Run as runs
 unfoldable use Rattle.model_card.specs.Run.{moments as frame_moments}
 use Rattle.model_card.specs.ports.GoingOut.{answer_of_call, call_answered, calls_answered}

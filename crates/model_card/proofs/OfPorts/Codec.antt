@@ -1,5 +1,5 @@
 -- The law of the codec.
-use Rattle.model_card.proofs.OfPorts.Vocabulary.{◌≡◌, ◌==◌, ℕ, ◌<◌, Bool, List, [], ◌∷◌, ◌++◌, length, flat_map, Option, None, Some, option_map, option_to_list, refl, ap, sym, ◌∙◌, subst, cond, arith, flat_map-append, All, All-nil, All-cons, All-head, All-tail, All-append, PoolFull, Config, Card, Event, OctetCard, Port, port_at, given_in, meant, said, answer, after, answer_to, after_all, meant_all, moments, GoesOn, PortGoesOn, Refines, OctetsAreACodec, come_of, frame_moment, frames_given, given_of, heard_by, heard_of, meant_in, octet_come, octet_pulled, octets_come, octets_pulled, pulled_of, AreAtLines}
+use Rattle.model_card.proofs.OfPorts.Vocabulary.{◌≡◌, ◌==◌, ℕ, ◌<◌, Bool, List, [], ◌∷◌, ◌++◌, length, flat_map, Option, None, option_map, option_to_list, refl, ap, sym, ◌∙◌, subst, cond, arith, flat_map-append, All, All-nil, All-head, All-tail, All-append, PoolFull, Config, Card, Event, OctetCard, Port, port_at, given_in, meant, said, answer, after, answer_to, after_all, meant_all, moments, GoesOn, PortGoesOn, Refines, OctetsAreACodec, come_of, frame_moment, frames_given, given_of, heard_of, meant_in, octet_come, octet_pulled, octets_come, octets_pulled, pulled_of, AreAtLines}
 use Rattle.model_line.specs.Event as line
 use Rattle.model_line.specs.Machine as lines
 unfoldable use Rattle.model_line.specs.Machine.{answer as line_answer}

@@ -1,5 +1,5 @@
 -- What is dropped changes nothing but the octets received, and costs nothing.
-use Rattle.model_card.proofs.OfPorts.Vocabulary.{arith, ◌≡◌, ℕ, List, [], ◌∷◌, Option, None, Some, option_map, option_map_or, refl, ap, sym, subst, none-some, set, All, All-nil, All-cons, All-head, Cause, Card, DropsAreWithoutEffect, Event, Moment, OctetCard, after, answer, answer_of, answer_to, card_after, gained, meant, moments, port_at, told}
+use Rattle.model_card.proofs.OfPorts.Vocabulary.{arith, ◌≡◌, ℕ, List, [], ◌∷◌, Option, None, Some, option_map, option_map_or, refl, ap, none-some, All, All-nil, All-cons, All-head, Cause, Card, DropsAreWithoutEffect, Event, Moment, OctetCard, after, answer, answer_of, answer_to, card_after, meant, moments, told}
 use Rattle.model_bits.specs.Stream as stream
 use Rattle.model_line.specs.Event.{dropped}
 use Rattle.model_line.specs.Event as line
@@ -12,8 +12,7 @@ use Rattle.model_card.specs.Machine as machine
 unfoldable use Rattle.model_card.specs.Run.{moments as frame_moments}
 use Rattle.model_card.proofs.Drops.{drops_change_nothing}
 use Rattle.model_card.proofs.EachMoment.{moment_of}
-use Rattle.model_card.specs.ports.Drops.{cause_in, with_received, IsDropWithoutCost, IsDropWithoutEffect}
-use Rattle.model_card.specs.ports.Port as port
+use Rattle.model_card.specs.ports.Drops.{cause_in, IsDropWithoutCost, IsDropWithoutEffect}
 
 -- what holds of every card and event holds in every moment of a run
 pub every_moment : (P : Moment → Type 0) → ((m : OctetCard) (e : Event) → P (record { card = m; event = e; answer = answer e m }))

@@ -1,5 +1,5 @@
 -- What is heard in the octets that a frame or a fault means.
-use Rattle.model_card.proofs.OfPorts.Vocabulary.{◌≡◌, ℕ, zero, suc, ◌+◌, ◌*◌, ◌/◌, ◌<◌, ◌≤◌, Bool, true, List, [], ◌∷◌, ◌++◌, length, replicate, reverse, refl, ap, sym, ◌∙◌, subst, arith, length-append, length-replicate, bits, flag, low_bits, check, frame_text, heard_until, heard_in, room_for, AreOctets, bits-append, low_bits-number_of_n, length-check, stuffed_after-at_least, stuffed-counted, NoSix-stuffed, after_flag, heard_until-onto, hears_text, after_text, reverse_aux-append, Fault, IsIdle, filling, filled, line_octets, came, fault_octets, cause_of, AreHeardAs, FramesAreHeard}
+use Rattle.model_card.proofs.OfPorts.Vocabulary.{◌≡◌, ℕ, zero, suc, ◌+◌, ◌*◌, ◌/◌, ◌≤◌, Bool, true, List, [], ◌∷◌, ◌++◌, length, replicate, reverse, refl, ap, sym, ◌∙◌, arith, length-append, length-replicate, bits, flag, low_bits, check, frame_text, heard_until, heard_in, room_for, AreOctets, bits-append, low_bits-number_of_n, NoSix-stuffed, after_flag, heard_until-onto, hears_text, after_text, reverse_aux-append, Fault, IsIdle, filling, filled, line_octets, came, fault_octets, cause_of, AreHeardAs, FramesAreHeard}
 use Rattle.model_bits.proofs.RoundTripFrame.{some_text}
 use mathlib.Core.List.{reverse_aux}
 use Rattle.model_bits.specs.Bits.{octets_of}

@@ -1,8 +1,8 @@
 -- What the octets between two flags are judged to be, where they end in their check.
-use Rattle.model_card.proofs.OfPorts.Vocabulary.{◌≡◌, ℕ, ◌+◌, ◌-◌, ◌/◌, ◌%◌, ◌^◌, ◌<◌, ◌≤◌, Bool, true, false, not, ◌&&◌, List, [], ◌∷◌, ◌++◌, length, take, None, Some, cond, nat_eq, nat_lt, slice_index, refl, ap, sym, ◌∙◌, subst, arith, ⊎_elim, length-append, take_at, le-ltb, lt-ltb, ltb-true, ne_eqb, or_from, and_left, cases_lt, All-nil, All-cons, All-append, bits, number_of, stuffed, octets_sent, AreOctets, check, is_good, is_short, judged, gap_event, room_for, frame_text, bits-append, bits-two_octets, low_bits-number_of_n, number_of-lt, octets_sent-stuffed, length-check, is_good-check, check_octets, is_too_short, came, checked}
+use Rattle.model_card.proofs.OfPorts.Vocabulary.{◌≡◌, ℕ, ◌+◌, ◌-◌, ◌/◌, ◌%◌, ◌≤◌, Bool, true, false, not, ◌&&◌, List, [], ◌∷◌, ◌++◌, length, take, cond, nat_eq, nat_lt, slice_index, refl, ap, sym, ◌∙◌, arith, length-append, take_at, le-ltb, lt-ltb, ltb-true, ne_eqb, or_from, and_left, cases_lt, bits, number_of, stuffed, octets_sent, AreOctets, check, is_good, is_short, judged, gap_event, room_for, frame_text, octets_sent-stuffed, is_good-check, is_too_short, came, checked}
 use Rattle.model_bits.proofs.RoundTripFrame.{AreOctets-checked, bits-checked, gap_event_sent}
 use Rattle.model_bits.specs.Stream.{Event, frame, overlong, dropped}
-use Rattle.model_bits.specs.declared.heard.Cause.TheVariants.{Fcs, Ragged, Short}
+use Rattle.model_bits.specs.declared.heard.Cause.TheVariants.{Fcs, Short}
 
 -- four octets are not too short
 four_are_enough : (a b c d : ℕ) (more : List ℕ) → is_too_short (a ∷ b ∷ c ∷ d ∷ more) ≡ false

@@ -1,11 +1,10 @@
 -- What is counted of all that is heard in the octets of a card is what is counted of the events that they mean.
-use Rattle.model_card.proofs.OfPorts.Vocabulary.{◌≡◌, ℕ, ◌+◌, ◌<◌, Bool, false, List, [], ◌∷◌, ◌++◌, length, Option, None, Some, option_map, option_to_list, refl, ap, sym, ◌∙◌, subst, cond, arith, All, All-head, All-tail, count_by, sum_by, sum_by-append, sum_by-set, Config, Card, Event, OctetCard, Port, after, after_all, fresh_port, meant, meant_all, port_at, said}
+use Rattle.model_card.proofs.OfPorts.Vocabulary.{◌≡◌, ℕ, ◌+◌, ◌<◌, Bool, false, List, [], ◌∷◌, ◌++◌, length, Option, option_map, option_to_list, ap, sym, ◌∙◌, subst, cond, arith, All, All-head, All-tail, count_by, sum_by, sum_by-append, sum_by-set, Config, Card, Event, OctetCard, Port, after, after_all, meant, meant_all}
 use Rattle.model_bits.specs.Stream as stream
 use Rattle.model_line.specs.Event as line
 use Rattle.model_card.specs.Event as frames
 use Rattle.model_card.specs.Run as runs
 unfoldable use Rattle.model_card.specs.Run.{moments as frame_moments}
-use Rattle.model_card.specs.ports.Port as port
 use Rattle.model_card.proofs.OfPorts.Codec.{own_port, stepped}
 use Rattle.model_card.proofs.OfPorts.PortGoesOn.{heard_in_meaning}
 use Rattle.model_card.proofs.OfPorts.Steps.{config_after, moments-append, ports_after}

@@ -1,8 +1,7 @@
 -- What is heard in bits are octets, and so is what a card of octets hears.
-use Rattle.model_card.proofs.OfPorts.Vocabulary.{arith, ◌≡◌, ℕ, ◌<◌, ◌-◌, Bool, true, false, not, ◌&&◌, ◌||◌, cond, nat_lt, List, [], ◌∷◌, ◌++◌, length, drop, reverse, Option, Some, None, option_map, option_and_then, option_to_list, refl, subst, All, All-nil, All-cons, All-append, All-tail, All-head, All-take, bits, octets_sent, octets_are_those_sent, judged_as, AreOctets, Port, after, gained, is_due, meant, meant_all, octet, port_at, pull}
+use Rattle.model_card.proofs.OfPorts.Vocabulary.{arith, ◌≡◌, ℕ, ◌<◌, ◌-◌, Bool, true, false, ◌||◌, cond, nat_lt, List, [], ◌∷◌, ◌++◌, length, drop, reverse, Option, Some, None, option_map, option_and_then, option_to_list, subst, All, All-nil, All-cons, All-append, All-tail, All-head, All-take, bits, octets_sent, octets_are_those_sent, judged_as, AreOctets, Port, after, gained, meant, meant_all, octet, port_at}
 use Rattle.model_bits.specs.Stream as stream
-use Rattle.model_bits.specs.Stream.{ends_flag, ends_abort, has_abort, since_flag, text_event, gap_event, closed_by_flag, given_up, heard_at, heard_until, heard_in, room_for}
-use Rattle.model_bits.specs.declared.heard.Cause.TheVariants.{Abort}
+use Rattle.model_bits.specs.Stream.{ends_flag, has_abort, since_flag, text_event, gap_event, closed_by_flag, given_up, heard_at, heard_until, heard_in, room_for}
 use Rattle.model_line.specs.Event as line
 use Rattle.model_card.specs.Event as frames
 use Rattle.model_card.specs.ports.HeardOctets.{HasOctets, HearsOctets, HeardFramesAreOctets}

@@ -1,5 +1,5 @@
 -- A port goes on with each event of its line.
-use Rattle.model_card.proofs.OfPorts.Vocabulary.{arith, ◌≡◌, ℕ, Bool, true, false, List, [], ◌∷◌, ◌++◌, length, flat_map, Option, None, Some, option_map, option_map_or, option_to_list, refl, ap, sym, ◌∙◌, cond, append-nil, append_assoc, ltb-false, Item, idle, frame, Port, octet, pull, told, answer_of, gained, given_in, is_due, item_of, left_of, next_octet, with_item, with_octet, GoesOn, IsTextOf, frames_among, heard_by, octet_come, octet_pulled, octets_of}
+use Rattle.model_card.proofs.OfPorts.Vocabulary.{arith, ◌≡◌, ℕ, Bool, true, false, List, [], ◌∷◌, ◌++◌, length, flat_map, Option, None, Some, option_map, option_map_or, option_to_list, refl, ap, sym, ◌∙◌, cond, append-nil, append_assoc, ltb-false, Item, idle, frame, Port, octet, pull, told, answer_of, given_in, is_due, item_of, left_of, next_octet, with_item, with_octet, GoesOn, IsTextOf, frames_among, heard_by, octet_come, octet_pulled, octets_of}
 use Rattle.model_bits.specs.Stream as stream
 use Rattle.model_line.specs.Event as line
 use Rattle.model_line.specs.Event.{NextFrame, nothing}

@@ -1,5 +1,5 @@
 -- An event at a card of octets is one at one of its ports, and what it means is one at the card of frames.
-use Rattle.model_card.proofs.OfPorts.Vocabulary.{arith, ◌≡◌, ◌≢◌, ◌==◌, ℕ, ◌<◌, Bool, true, false, List, [], ◌∷◌, ◌++◌, length, get_or, set, Option, option_map_or, option_to_list, refl, ap, sym, ◌∙◌, subst, true≢false, eqb-true, eq-eqb, get_or-set_same, get_or-set_other, length-set, Card, Event, OctetCard, Port, port_at, fresh_port, meant, said, after, after_all, card_after}
+use Rattle.model_card.proofs.OfPorts.Vocabulary.{arith, ◌≡◌, ◌==◌, ℕ, ◌<◌, Bool, true, false, List, [], ◌∷◌, ◌++◌, length, Option, option_map_or, option_to_list, refl, ap, ◌∙◌, eqb-true, eq-eqb, get_or-set_same, get_or-set_other, length-set, Card, Event, OctetCard, Port, port_at, meant, said, after, after_all, card_after}
 use Rattle.model_card.specs.Event as frames
 use Rattle.model_card.specs.Machine as machine
 use Rattle.model_card.specs.Run as runs

@@ -1,5 +1,5 @@
 -- The octets stored, and their limit.
-use Rattle.model_card.proofs.OfPorts.Vocabulary.{◌≡◌, ℕ, ◌+◌, ◌*◌, ◌/◌, ◌≤◌, Bool, true, false, List, [], ◌∷◌, length, reverse, nat_lt, Option, None, Some, option_map_or, refl, subst, cond, arith, ltb-false, All, All-head, All-tail, sum_by, sum_by-cons, Config, bits, unstuffed, kept_count, open_gap, runs_low, room_for, item_octets, last_octets, Item, Port, OctetCard, after_all, left_of, IsSound, IsSoundPort, held_at, held_received, held_sent, limit, limit_of_port, stored, StoredWithinLimit}
+use Rattle.model_card.proofs.OfPorts.Vocabulary.{ℕ, ◌+◌, ◌*◌, ◌≤◌, List, [], ◌∷◌, length, nat_lt, subst, arith, ltb-false, All, All-head, All-tail, sum_by, sum_by-cons, Config, kept_count, room_for, item_octets, last_octets, Item, Port, OctetCard, IsSound, IsSoundPort, held_at, held_received, held_sent, limit, limit_of_port, stored, StoredWithinLimit}
 use Rattle.model_card.proofs.Stored as cards
 use Rattle.model_card.proofs.OfPorts.Sound.{always_sound}
 use Rattle.model_card.proofs.OfPorts.Steps.{config_stays}

@@ -1,5 +1,5 @@
 -- The octets given are a beginning of the text of the items.
-use Rattle.model_card.proofs.OfPorts.Vocabulary.{◌≡◌, ◌≤◌, Bool, List, [], ◌∷◌, ◌++◌, length, take, drop, ap, sym, ◌∙◌, arith, length-append, append_assoc, length-take-le, take-append-drop, drop-append_seam, bits, flag, low_bits, Item, idle, frame, frame_text, item_text, line_text, bits-push, low_bits-number_of_n, line_text-push, Port, left_of, next_octet, with_octet, IsTextOf}
+use Rattle.model_card.proofs.OfPorts.Vocabulary.{◌≡◌, ◌≤◌, Bool, List, [], ◌∷◌, ◌++◌, length, take, drop, ap, sym, ◌∙◌, arith, length-append, append_assoc, length-take-le, take-append-drop, drop-append_seam, bits, low_bits, Item, item_text, line_text, bits-push, low_bits-number_of_n, line_text-push, Port, left_of, next_octet, with_octet, IsTextOf}
 
 -- The bits of an octet are left.
 pub record IsReady (p : Port) : Type 0 where

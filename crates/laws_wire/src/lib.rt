@@ -8,17 +8,17 @@
 //! a call comes to rest (`Settling`), its end (`Ending`), how often T200 may expire (`Counted`), how many turns there
 //! are at most (`Resting`), two cards that face each other by links in state 7 (`Facing`), and worked values that
 //! compute (`Worked`, `WorkedLosing`, `WorkedRecovering`, `WorkedArriving`, `WorkedAnswering`, `WorkedSettling`,
-//! `WorkedEnding`, `WorkedCounted`, `WorkedResting`). What a card does at an event is the machine of `model_card`, of
-//! frames; the laws of two links are those of `laws_link`.
+//! `WorkedReports`, `WorkedEnding`, `WorkedCounted`, `WorkedResting`). What a card does at an event is the machine of
+//! `model_card`, of frames; the laws of two links are those of `laws_link`.
 //!
 //! # Open
 //!
 //! What is told after an error other than F of a lost UA. Whether rest is reached after such an error, or behind a
 //! release: that the weight which bounds the turns (`proofs/Weighing`) falls there, too, was not tried. What arrives
 //! where UA is lost or an end is busy, while data is asked for on and on (while an end is heard to be busy T200 of the
-//! other runs on). That all arrives with no expiry where nothing is lost and an end was busy while no I-frame came to it.
-//! Losses where both ends call, with other requests, links or lines, or from elsewhere than nothing. That a given T200
-//! is long enough.
+//! other runs on). That all arrives with no expiry where nothing is lost, no I-frame comes to a busy end, and each of its
+//! reports finds a place to wait (where one does not, it is not so: `specs/WorkedReports`). Losses where both ends call,
+//! with other requests, links or lines, or from elsewhere than nothing. That a given T200 is long enough.
 #![tactic(auto)]
 
 mod answering;

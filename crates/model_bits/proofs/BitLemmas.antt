@@ -5,27 +5,15 @@ use Rattle.model_bits.proofs.Vocabulary.{◌≡◌, ℕ, suc, zero, ◌+◌, ◌
 
 -- the lowest bit of a number, as a number
 bit_value-lowest : (x : ℕ) → bit_value (nat_eq (x % 2) 1) ≡ x % 2
-bit_value-lowest x = go (nat_eq (x % 2) 1) refl
-  where
-    go : (b : Bool) → nat_eq (x % 2) 1 ≡ b → bit_value b ≡ x % 2
-    go true e = sym (eqb-true (x % 2) 1 e)
-    go false e =
-        let odd : x % 2 ≡ 1 → ⊥ = eqb-false (x % 2) 1 e in
-        omega arith
+bit_value-lowest x = grind (arith, nat_eq, eqb-true, eqb-false)
 
 -- a bit below other bits is the lowest one
 lowest-of_pair : (b : Bool) (n : ℕ) → nat_eq ((bit_value b + 2 * n) % 2) 1 ≡ b
-lowest-of_pair true n =
-    let odd : (1 + 2 * n) % 2 ≡ 1 = omega arith in
-    ap (λ k. nat_eq k 1) odd
-lowest-of_pair false n =
-    let even : (0 + 2 * n) % 2 ≡ 0 = omega arith in
-    ap (λ k. nat_eq k 1) even
+lowest-of_pair b n = grind (arith, nat_eq)
 
 -- and what is above it are the other bits
 above-of_pair : (b : Bool) (n : ℕ) → (bit_value b + 2 * n) / 2 ≡ n
-above-of_pair true n = omega arith
-above-of_pair false n = omega arith
+above-of_pair b n = grind arith
 
 -- the rest of a division by a power of two, by its lowest bit
 rest-by_lowest : (n x : ℕ) → x % 2 ^ suc n ≡ x / 2 % 2 ^ n * 2 + x % 2
@@ -81,8 +69,7 @@ reverse-bits_push a x = ap reverse (bits-push a x) ∙ reverse-append (bits a) (
 
 -- a number of 16 bits, low octet first
 pub bits-two_octets : (x : ℕ) → bits (x % 256 ∷ x / 256 ∷ []) ≡ low_bits 16 x
-bits-two_octets x =
-    ap (λ l. low_bits 8 (x % 256) ++ l) (append-nil (low_bits 8 (x / 256))) ∙ sym (low_bits-two_octets x)
+bits-two_octets x = grind (arith, append-nil, low_bits-two_octets)
 
 -- eight for each octet
 pub length-bits : (a : List ℕ) → length (bits a) ≡ 8 * length a
@@ -148,12 +135,4 @@ same_from_test _ _ same = cc
 -- numbers below 2 ^ n have the same n low bits where they are one
 pub same_bits-low_bits :
     (n x y : ℕ) → x < 2 ^ n → y < 2 ^ n → same_bits (low_bits n x) (low_bits n y) ≡ nat_eq x y
-same_bits-low_bits n x y x_small y_small = go (same_bits (low_bits n x) (low_bits n y)) refl (nat_eq x y) refl
-  where
-    go : (s : Bool) → same_bits (low_bits n x) (low_bits n y) ≡ s → (e : Bool) → nat_eq x y ≡ e → s ≡ e
-    go true same true equal = refl
-    go false differ false unequal = refl
-    go true same false unequal =
-        absurd (eqb-false x y unequal (same_from_low_bits n x y x_small y_small (same_from_test (low_bits n x) (low_bits n y) same)))
-    go false differ true equal =
-        sym differ ∙ ap (λ z. same_bits (low_bits n x) (low_bits n z)) (sym (eqb-true x y equal)) ∙ same_bits_self (low_bits n x)
+same_bits-low_bits n x y x_small y_small = grind (arith, nat_eq, eqb-false, same_from_low_bits, same_from_test, eqb-true, same_bits_self)

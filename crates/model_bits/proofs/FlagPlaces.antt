@@ -1,6 +1,6 @@
 -- What a flag and an abort bring, by the flag before.
-use Rattle.model_bits.proofs.Vocabulary.{◌≡◌, ℕ, Bool, true, false, List, [], ◌∷◌, ◌++◌, length, drop, reverse, Some, None, refl, ap, ◌∙◌, arith, lt-ltb, le-ltb, length-reverse, reverse-reverse, flag, dropped, since_flag, has_abort, gap_event, closed_by_flag, given_up, HasNoFlag, gap_brings, abort_brings, seven_ones, GapBetweenFlags, FirstAbortAfterFlag, Abort}
-use Rattle.std.specs.Prelude.{option_map, option_and_then, not, nat_lt, ◌&&◌, ◌||◌, if◌then◌else◌}
+use Rattle.model_bits.proofs.Vocabulary.{◌≡◌, ℕ, Bool, true, false, List, [], ◌∷◌, ◌++◌, drop, reverse, Some, refl, ap, ◌∙◌, arith, lt-ltb, le-ltb, length-reverse, reverse-reverse, flag, since_flag, has_abort, closed_by_flag, given_up, HasNoFlag, gap_brings, abort_brings, seven_ones, GapBetweenFlags, FirstAbortAfterFlag}
+use Rattle.std.specs.Prelude.{option_map, option_and_then, if◌then◌else◌}
 
 -- where no flag ends, the bits since the latest grow
 since-grows : (new past : List Bool) → since_flag past ≡ Some [] → HasNoFlag past new → since_flag (new ++ past) ≡ Some new
@@ -11,12 +11,7 @@ since-grows (b ∷ new) past at none =
 
 -- a flag closes the gap before it
 closes : (room : ℕ) (gap : List Bool) → closed_by_flag room (drop 1 flag ++ reverse gap) ≡ gap_brings room gap
-closes room [] = refl
-closes room (b ∷ gap) =
-    let r : List Bool = reverse (b ∷ gap) in
-    let long : nat_lt (length (drop 1 flag ++ r)) 8 ≡ false = le-ltb (length (drop 1 flag ++ r)) 8 (omega (arith, length-reverse (b ∷ gap))) in
-    ap (λ t. if t || has_abort r then None else Some (gap_event room (reverse r))) long
-    ∙ ap (λ g. if has_abort r then None else Some (gap_event room g)) (reverse-reverse (b ∷ gap))
+closes room gap = grind (arith, le-ltb, length-reverse, reverse-reverse)
 
 pub gap_between_flags : GapBetweenFlags
 gap_between_flags room past gap none =
@@ -24,12 +19,7 @@ gap_between_flags room past gap none =
 
 -- the first seven 1s give up what was begun
 gives_up : (begun : List Bool) → has_abort (drop 1 seven_ones ++ reverse begun) ≡ false → given_up (seven_ones ++ reverse begun) ≡ abort_brings begun
-gives_up [] first = refl
-gives_up (b ∷ begun) first =
-    let r : List Bool = reverse (b ∷ begun) in
-    let long : nat_lt 7 (length (seven_ones ++ r)) ≡ true = lt-ltb 7 (length (seven_ones ++ r)) (omega (arith, length-reverse (b ∷ begun))) in
-    ap (λ t. if not t && nat_lt 7 (length (seven_ones ++ r)) then Some (dropped Abort) else None) first
-    ∙ ap (λ t. if t then Some (dropped Abort) else None) long
+gives_up begun first = grind (arith, lt-ltb, length-reverse)
 
 pub first_abort_after_flag : FirstAbortAfterFlag
 first_abort_after_flag room past begun none first =

@@ -1,5 +1,5 @@
 -- What the latest bit of a stream brings, and what it makes of the open gap, by the run of 1s before it.
-use Rattle.model_bits.proofs.Vocabulary.{◌≡◌, ◌≢◌, ℕ, ◌<◌, ◌≤◌, Bool, true, false, List, [], ◌∷◌, length, Option, Some, None, nat_lt, refl, ◌∙◌, arith, ⊎_elim, cases_Bool, ne_eqb, eq-eqb, ends_flag, ends_abort, since_flag, has_abort, heard_at, run_of, open_gap, one_more, given_up_event, closed_event}
+use Rattle.model_bits.proofs.Vocabulary.{◌≡◌, ◌≢◌, ℕ, ◌<◌, ◌≤◌, Bool, true, false, List, [], ◌∷◌, Option, Some, None, nat_lt, refl, ◌∙◌, arith, ⊎_elim, cases_Bool, ne_eqb, eq-eqb, ends_flag, ends_abort, since_flag, has_abort, heard_at, run_of, open_gap, one_more, given_up_event, closed_event}
 use Rattle.model_bits.proofs.Places.{no_abort_at, abort_at, ends_flag-run, run_of-gap}
 
 -- the gap since the latest flag: there is none, it was given up, or it goes on
@@ -23,26 +23,18 @@ many_more past g h e = abort_at (true ∷ g) (omega (arith, run_of-gap past g e)
 -- ---- a 1 after fewer than six brings nothing, and goes into the gap
 
 pub heard_at-one : (room : ℕ) (past : List Bool) → run_of past < 6 → heard_at room (true ∷ past) ≡ None
-heard_at-one room past h =
-    by_since past (λ e. rw e refl) (λ g e a. rw (e, few_more past g h e) refl) (λ g e a. rw (e, few_more past g h e) refl)
+heard_at-one room past h = grind (arith, by_since, few_more)
 
 pub open_gap-one : (past : List Bool) → run_of past < 6 → open_gap (true ∷ past) ≡ one_more true (open_gap past)
-open_gap-one past h =
-    by_since past (λ e. rw e refl)
-    (λ g e a. rw (e, few_more past g h e, a) refl)
-    (λ g e a. rw (e, few_more past g h e, a) refl)
+open_gap-one past h = grind (arith, by_since, few_more)
 
 -- ---- a 1 after six or more gives the open gap up
 
 pub heard_at-abort : (room : ℕ) (past : List Bool) → 6 ≤ run_of past → heard_at room (true ∷ past) ≡ given_up_event (open_gap past)
-heard_at-abort room past h =
-    by_since past (λ e. rw e refl)
-    (λ g e a. rw (e, many_more past g h e, a) refl)
-    (λ g e a. rw (e, many_more past g h e, a) refl)
+heard_at-abort room past h = grind (arith, by_since, many_more)
 
 pub open_gap-abort : (past : List Bool) → 6 ≤ run_of past → open_gap (true ∷ past) ≡ None
-open_gap-abort past h =
-    by_since past (λ e. rw e refl) (λ g e a. rw (e, many_more past g h e) refl) (λ g e a. rw (e, many_more past g h e) refl)
+open_gap-abort past h = grind (arith, by_since, many_more)
 
 -- ---- a 0 that ends no flag brings nothing, and goes into the gap
 
@@ -50,8 +42,7 @@ no_flag : (past : List Bool) → run_of past ≢ 6 → ends_flag (false ∷ past
 no_flag past h = ends_flag-run past ∙ ne_eqb (run_of past) 6 h
 
 pub heard_at-zero : (room : ℕ) (past : List Bool) → run_of past ≢ 6 → heard_at room (false ∷ past) ≡ None
-heard_at-zero room past h =
-    by_since past (λ e. rw (no_flag past h, e) refl) (λ g e a. rw (no_flag past h, e) refl) (λ g e a. rw (no_flag past h, e) refl)
+heard_at-zero room past h = grind (arith, by_since, no_flag)
 
 pub open_gap-zero : (past : List Bool) → run_of past ≢ 6 → open_gap (false ∷ past) ≡ one_more false (open_gap past)
 open_gap-zero past h =
@@ -65,13 +56,7 @@ flag_ends : (past : List Bool) → run_of past ≡ 6 → ends_flag (false ∷ pa
 flag_ends past h = ends_flag-run past ∙ eq-eqb (run_of past) 6 h
 
 pub heard_at-flag : (room : ℕ) (past : List Bool) → run_of past ≡ 6 → heard_at room (false ∷ past) ≡ closed_event room (open_gap past)
-heard_at-flag room past h =
-    by_since past (λ e. rw (flag_ends past h, e) refl)
-    (λ g e a. by_size g (λ s. rw (flag_ends past h, e, a, s) refl) (λ s. rw (flag_ends past h, e, a, s) refl))
-    (λ g e a. by_size g (λ s. rw (flag_ends past h, e, a, s) refl) (λ s. rw (flag_ends past h, e, a, s) refl))
-  where
-    by_size : {P : Type 0} (g : List Bool) → (nat_lt (length g) 8 ≡ true → P) → (nat_lt (length g) 8 ≡ false → P) → P
-    by_size g few many = ⊎_elim few many (cases_Bool (nat_lt (length g) 8))
+heard_at-flag room past h = grind (arith, by_since, flag_ends, nat_lt, cases_Bool)
 
 pub open_gap-flag : (past : List Bool) → run_of past ≡ 6 → open_gap (false ∷ past) ≡ Some []
 open_gap-flag past h = rw (flag_ends past h) refl

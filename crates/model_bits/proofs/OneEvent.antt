@@ -9,26 +9,18 @@ abbrev IsShorter : ℕ → Option (List Bool) → Type 0
 IsShorter n gap = IfSome gap (λ g. length g < n)
 
 IsShorter-le : (m n : ℕ) (gap : Option (List Bool)) → m ≤ n → IsShorter m gap → IsShorter n gap
-IsShorter-le m n None h y = tt
-IsShorter-le m n (Some g) h y = omega arith
+IsShorter-le m n gap h y = grind arith
 
 IsShorter-more : (n : ℕ) (b : Bool) (gap : Option (List Bool)) → IsShorter n gap → IsShorter (suc n) (one_more b gap)
-IsShorter-more n b None y = tt
-IsShorter-more n b (Some g) y = omega arith
+IsShorter-more n b gap y = grind arith
 
 -- ---- a young gap is not told
 
 not_given_up : (gap : Option (List Bool)) → IsShorter 7 gap → given_up_event gap ≡ None
-not_given_up None y = refl
-not_given_up (Some g) y =
-    let few : nat_lt 7 (suc (length g)) ≡ false = le-ltb 7 (suc (length g)) (omega arith) in
-    rw few refl
+not_given_up gap y = grind (arith, nat_lt, le-ltb)
 
 not_closed : (room : ℕ) (gap : Option (List Bool)) → IsShorter 7 gap → closed_event room gap ≡ None
-not_closed room None y = refl
-not_closed room (Some g) y =
-    let few : nat_lt (length g) 8 ≡ true = lt-ltb (length g) 8 (omega arith) in
-    rw few refl
+not_closed room gap y = grind (arith, nat_lt, lt-ltb)
 
 -- what a bit brings, and the gap behind it: it goes on the open gap, or gives it up, or closes it
 by_bit :
@@ -94,13 +86,7 @@ module _ (room : ℕ) (past : List Bool) where
           })
 
   after_heard : (b : Bool) (new : List Bool) → length new < 8 → IsHeard room past new → IsHeard room past (b ∷ new)
-  after_heard b new few h =
-      let none = quiet room b (new ++ past) (IsShorter-le (length new) 7 (open_gap (new ++ past)) (omega arith) h.young) in
-      record {
-        event = h.event;
-        heard = ap (λ o. heard_until room (new ++ past) ++ option_to_list o) none ∙ append-nil (heard_until room (new ++ past)) ∙ h.heard;
-        young = grows (length new) b (new ++ past) h.young;
-      }
+  after_heard b new few h = grind (arith, quiet, IsShorter-le, option_to_list, append-nil, grows)
 
   at_most_one : (new : List Bool) → length new ≤ 8 → IsQuiet room past new ⊎ IsHeard room past new
   at_most_one [] few = inl refl

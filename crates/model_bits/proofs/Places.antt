@@ -1,6 +1,6 @@
 -- Places in a stream, named by the bits up to them with the latest first: where flags and aborts end, and
 -- what stands in the gap that is open.
-use Rattle.model_bits.proofs.Vocabulary.{◌≡◌, ℕ, suc, ◌+◌, ◌<◌, ◌≤◌, ◌⊎◌, Bool, true, false, List, [], ◌∷◌, ◌++◌, length, reverse, drop, min, Option, Some, None, nat_eq, nat_le, refl, ap, sym, ◌∙◌, subst, option_map, arith, inl, inr, ⊎_elim, false≢true, le-leb, lt-leb, leb-false, eqb-false, cases_Bool, or_parts, reverse-append, ends_flag, ends_abort, since_flag, has_abort, run_of}
+use Rattle.model_bits.proofs.Vocabulary.{◌≡◌, ℕ, suc, ◌+◌, ◌<◌, ◌≤◌, ◌⊎◌, Bool, true, false, List, [], ◌∷◌, ◌++◌, length, reverse, drop, min, Option, Some, nat_eq, nat_le, refl, ap, sym, ◌∙◌, subst, option_map, arith, inl, inr, ⊎_elim, false≢true, le-leb, lt-leb, leb-false, eqb-false, cases_Bool, or_parts, reverse-append, ends_flag, ends_abort, since_flag, has_abort, run_of}
 use Rattle.model_bits.proofs.StuffingCounted.{ones_after, ones_after-append, NoSix, NoSix-append}
 
 -- a list with one element more in front, read from the end
@@ -24,8 +24,7 @@ ones_after-reverse (true ∷ g) =
 
 -- seven 1s end where the latest seven bits are 1s
 pub ends_abort-latest : (g : List Bool) → ends_abort g ≡ nat_le 7 (latest_ones g)
-ends_abort-latest (true ∷ true ∷ true ∷ true ∷ true ∷ true ∷ true ∷ g) = sym (le-leb 7 (latest_ones g + 7) (omega arith)) ∙ ap (nat_le 7) (omega arith)
-ends_abort-latest _ = refl
+ends_abort-latest g = grind (arith, le-leb, nat_le)
 
 -- a run of 1s that goes on is longer than what went before
 run_of-six_more : (g : List Bool) → run_of (true ∷ true ∷ true ∷ true ∷ true ∷ true ∷ true ∷ g) ≡ 7
@@ -33,8 +32,7 @@ run_of-six_more g = omega arith
 
 -- a flag ends at a 0 exactly where six 1s and no more stand before it
 pub ends_flag-run : (past : List Bool) → ends_flag (false ∷ past) ≡ nat_eq (run_of past) 6
-ends_flag-run (true ∷ true ∷ true ∷ true ∷ true ∷ true ∷ true ∷ g) = sym (ap (λ n. nat_eq n 6) (run_of-six_more g))
-ends_flag-run _ = refl
+ends_flag-run past = grind (arith, nat_eq, run_of-six_more)
 
 -- no abort ends where fewer than seven 1s have come, and one ends where seven or more have
 pub no_abort_at : (g : List Bool) → latest_ones g < 7 → ends_abort g ≡ false
@@ -53,8 +51,7 @@ latest_ones-below (b ∷ g) h =
 
 -- bits with one more in front, if there are any
 more_of : (b : Bool) (o : Option (List Bool)) (g : List Bool) → option_map (λ h. b ∷ h) o ≡ Some g → (before : List Bool) × (o ≡ Some before) × (g ≡ b ∷ before)
-more_of b None g e = cc
-more_of b (Some h) g e = (h, refl, cc)
+more_of b o g e = grind arith
 
 -- the bits since the latest flag are none where it ends here, and else one more than before
 pub since_flag-cases : (b : Bool) (past g : List Bool) → since_flag (b ∷ past) ≡ Some g → ((ends_flag (b ∷ past) ≡ true) × (g ≡ [])) ⊎ ((ends_flag (b ∷ past) ≡ false) × ((before : List Bool) × (since_flag past ≡ Some before) × (g ≡ b ∷ before)))
@@ -121,5 +118,4 @@ NoSix-reverse (false ∷ g) p h =
 
 -- where six 1s and no more come latest, seven bits or more are the front of a flag after the others
 pub front_of_flag : (g : List Bool) → latest_ones g ≡ 6 → 7 ≤ length g → g ≡ true ∷ true ∷ true ∷ true ∷ true ∷ true ∷ false ∷ drop 7 g
-front_of_flag (true ∷ true ∷ true ∷ true ∷ true ∷ true ∷ false ∷ g) e h = refl
-front_of_flag _ e h = absurd (omega arith)
+front_of_flag g e h = grind arith

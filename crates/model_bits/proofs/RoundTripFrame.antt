@@ -1,5 +1,5 @@
 -- What a sender's frame is heard as, and what a line of items is.
-use Rattle.model_bits.proofs.Vocabulary.{◌≡◌, ℕ, ◌+◌, ◌-◌, ◌/◌, ◌%◌, ◌^◌, ◌<◌, Bool, true, false, not, ◌&&◌, List, [], ◌∷◌, ◌++◌, length, take, Some, None, cond, nat_eq, nat_lt, slice_index, flat_map, refl, ap, sym, ◌∙◌, subst, arith, ⊎_elim, append_assoc, length-append, take_at, get_or_append_left, le-ltb, ne_eqb, eq-eqb, or_from, and_left, and_right, All-nil, All-cons, All-append, bits, flag, number_of, stuffed, octets_sent, AreOctets, check, is_good, Event, dropped, overlong, is_short, judged, gap_event, heard_until, room_for, Ragged, Short, Fcs, Item, idle, frame_text, item_text, line_text, frame, IsHeardWhole, AreHeardWhole, frames_of, FramesRoundTrip}
+use Rattle.model_bits.proofs.Vocabulary.{◌≡◌, ℕ, ◌+◌, ◌-◌, ◌/◌, ◌%◌, ◌^◌, ◌<◌, Bool, true, false, not, ◌&&◌, List, [], ◌∷◌, ◌++◌, length, take, Some, None, cond, nat_eq, nat_lt, slice_index, flat_map, refl, ap, sym, ◌∙◌, subst, arith, ⊎_elim, append_assoc, length-append, take_at, get_or_append_left, le-ltb, ne_eqb, eq-eqb, or_from, and_left, and_right, All-append, bits, flag, number_of, stuffed, octets_sent, AreOctets, check, is_good, Event, dropped, is_short, judged, gap_event, room_for, Ragged, Item, idle, frame_text, item_text, frame, IsHeardWhole, AreHeardWhole, frames_of, FramesRoundTrip}
 use mathlib.Core.List.{reverse_aux}
 use Rattle.model_bits.specs.Stream as stream
 use Rattle.model_bits.proofs.BitLemmas.{bits-append, bits-two_octets, low_bits-number_of_n, number_of-lt}
@@ -16,23 +16,19 @@ check_octets octets =
     x % 256 ∷ x / 256 ∷ []
 
 bits-check_octets : (octets : List ℕ) → bits (check_octets octets) ≡ check (bits octets)
-bits-check_octets octets =
-    let c = check (bits octets) in
-    bits-two_octets (number_of c) ∙ low_bits-number_of_n 16 c (length-check (bits octets))
+bits-check_octets octets = grind (arith, bits-two_octets, low_bits-number_of_n, length-check)
 
 -- a frame and its check as octets
 abbrev pub checked : List ℕ → List ℕ
 checked octets = octets ++ check_octets octets
 
-bits-checked : (octets : List ℕ) → bits (checked octets) ≡ bits octets ++ check (bits octets)
+pub bits-checked : (octets : List ℕ) → bits (checked octets) ≡ bits octets ++ check (bits octets)
 bits-checked octets = bits-append octets (check_octets octets) ∙ ap (λ l. bits octets ++ l) (bits-check_octets octets)
 
 two_octets : (x : ℕ) → x < 65536 → AreOctets (x % 256 ∷ x / 256 ∷ [])
-two_octets x h =
-    All-cons (λ y. y < 256) (x % 256) (x / 256 ∷ []) (omega arith)
-    (All-cons (λ y. y < 256) (x / 256) [] (omega arith) (All-nil (λ y. y < 256)))
+two_octets x h = grind arith
 
-AreOctets-checked : (octets : List ℕ) → AreOctets octets → AreOctets (checked octets)
+pub AreOctets-checked : (octets : List ℕ) → AreOctets octets → AreOctets (checked octets)
 AreOctets-checked octets h =
     let c = check (bits octets) in
     let below = number_of-lt c in
@@ -68,15 +64,9 @@ last_chosen s g l a b c d p q r = rw (p, q, r) refl
 
 -- so it is judged to be a frame, where its check is good
 judged_with : (n201 : ℕ) (octets : List ℕ) (x y : ℕ) → IsHeardWhole n201 octets → is_good (bits (octets ++ x ∷ y ∷ [])) ≡ true → judged (room_for n201) (octets ++ x ∷ y ∷ []) ≡ stream.frame octets
-judged_with n201 octets x y h good =
-    let whole = octets ++ x ∷ y ∷ [] in
-    let size = length_with octets x y in
-    let fits : nat_lt (room_for n201) (length whole) ≡ false = le-ltb (n201 + 6) (length whole) (omega (arith, h.not_long)) in
-    let cut : length octets ≡ length whole - 2 = omega arith in
-    last_chosen (is_short whole) (is_good (bits whole)) (nat_lt (room_for n201) (length whole)) (dropped Short) (dropped Fcs) (overlong (take 4 whole)) (stream.frame (take (length whole - 2) whole)) (not_short_with n201 octets x y h) good fits
-    ∙ ap (λ l. stream.frame l) (take_at octets (x ∷ y ∷ []) (length whole - 2) cut)
+judged_with n201 octets x y h good = grind (arith, length_with, nat_lt, le-ltb, last_chosen, not_short_with, take_at)
 
-gap_event_sent : (room : ℕ) (text : List Bool) (octets : List ℕ) → octets_sent text ≡ Some octets → gap_event room text ≡ judged room octets
+pub gap_event_sent : (room : ℕ) (text : List Bool) (octets : List ℕ) → octets_sent text ≡ Some octets → gap_event room text ≡ judged room octets
 gap_event_sent room text octets e = ap (λ o. elim o [ None ↦ dropped Ragged | Some l ↦ judged room l ]) e
 
 -- what its text is heard as between flags
@@ -90,14 +80,10 @@ gap_event_whole n201 octets h =
 
 -- some bits have some text
 stuffed_some : (b : List Bool) → 0 < length b → 0 < length (stuffed b)
-stuffed_some [] h = absurd (omega arith)
-stuffed_some (false ∷ b) h = subst (λ t. 0 < length t) (sym (stuffed-counted (false ∷ b))) (omega arith)
-stuffed_some (true ∷ b) h = subst (λ t. 0 < length t) (sym (stuffed-counted (true ∷ b))) (omega arith)
+stuffed_some b h = grind (arith, stuffed-counted)
 
-some_text : (octets : List ℕ) → 0 < length (frame_text octets)
-some_text octets =
-    let c = check (bits octets) in
-    stuffed_some (bits octets ++ c) (omega (arith, length-append (bits octets) c, length-check (bits octets)))
+pub some_text : (octets : List ℕ) → 0 < length (frame_text octets)
+some_text octets = grind (arith, stuffed_some, length-append, length-check)
 
 -- What an item is heard as, after a flag.
 hears_item : (n201 : ℕ) (past : List Bool) (item : Item) (items : List Item) → AreHeardWhole n201 (item ∷ items) → hears (room_for n201) (after_flag past) (item_text item) ≡ frames_of (item ∷ [])
@@ -121,8 +107,4 @@ hears_items n201 past (frame octets ∷ items) more h all =
     ∙ ap (λ l. stream.frame octets ∷ l) (hears_items n201 (reverse_aux (frame_text octets) (after_flag past)) items more h all.1)
 
 pub frames_round_trip_lem : FramesRoundTrip
-frames_round_trip_lem n201 items octets more h all e =
-    let room = room_for n201 in
-    ap (λ l. heard_until room (reverse_aux l [])) e
-    ∙ heard_until-onto room (line_text items ++ take more flag) []
-    ∙ hears_items n201 [] items more h all
+frames_round_trip_lem n201 items octets more h all e = grind (arith, heard_until-onto, hears_items)

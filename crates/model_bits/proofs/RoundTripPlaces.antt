@@ -1,5 +1,5 @@
 -- What is heard over bits that come after a place, and over the bits between two flags.
-use Rattle.model_bits.proofs.Vocabulary.{◌≡◌, ℕ, suc, ◌<◌, Bool, true, false, ◌||◌, List, [], ◌∷◌, ◌++◌, length, take, reverse, Some, None, option_to_list, option_map, option_and_then, cond, ltb, refl, ap, sym, ◌∙◌, arith, append_assoc, length-reverse, reverse-reverse, le-ltb, ne_eqb, or_from, flag, Event, ends_flag, since_flag, has_abort, closed_by_flag, gap_event, given_up, heard_at, heard_until, run_of}
+use Rattle.model_bits.proofs.Vocabulary.{◌≡◌, ℕ, suc, ◌<◌, Bool, true, false, ◌||◌, List, [], ◌∷◌, ◌++◌, length, take, reverse, Some, None, option_to_list, option_map, option_and_then, cond, ltb, refl, ap, sym, ◌∙◌, arith, append_assoc, length-reverse, reverse-reverse, le-ltb, ne_eqb, or_from, flag, Event, ends_flag, since_flag, has_abort, closed_by_flag, gap_event, heard_at, heard_until, run_of}
 use Rattle.std.proofs.lemmas.List.{append-nil}
 use mathlib.Core.List.{reverse_aux}
 use Rattle.model_bits.proofs.Places.{latest_ones, ends_flag-run, no_abort_at}
@@ -43,18 +43,14 @@ run_behind_zero (true ∷ g) past h = omega (arith, run_behind_zero g past (omeg
 
 -- no flag ends at a 0 after fewer than six 1s
 no_flag : (g past : List Bool) → latest_ones g < 6 → ends_flag (false ∷ g ++ false ∷ past) ≡ false
-no_flag g past h =
-    ends_flag-run (g ++ false ∷ past)
-    ∙ ne_eqb (run_of (g ++ false ∷ past)) 6 (λ six. absurd (omega (arith, six, run_behind_zero g past h)))
+no_flag g past h = grind (arith, ends_flag-run, ne_eqb, run_behind_zero)
 
 -- one bit more
 run_more : (b : Bool) (g : List Bool) → latest_ones g < 6 → latest_ones (b ∷ g) < 7
-run_more true g h = omega arith
-run_more false g h = omega arith
+run_more b g h = grind arith
 
 no_flag_calm : (b : Bool) (g past : List Bool) → latest_ones g < 6 → ends_flag (b ∷ g ++ after_flag past) ≡ false
-no_flag_calm true g past h = refl
-no_flag_calm false g past h = no_flag g (true ∷ true ∷ true ∷ true ∷ true ∷ true ∷ false ∷ past) h
+no_flag_calm b g past h = grind (arith, no_flag)
 
 -- no abort is among calm bits
 no_abort_calm : (g : List Bool) → Calm g → has_abort g ≡ false
@@ -68,9 +64,7 @@ since_flag_calm (b ∷ g) past c = rw (no_flag_calm b g past c.0) (ap (option_ma
 
 -- nothing is heard at a calm bit
 nothing_calm : (room : ℕ) (b : Bool) (g past : List Bool) → Calm (b ∷ g) → heard_at room (b ∷ g ++ after_flag past) ≡ None
-nothing_calm room b g past c =
-    rw (no_flag_calm b g past c.0)
-    (ap (option_and_then (λ l. given_up (b ∷ l))) (since_flag_calm g past c.1) ∙ rw (no_abort_at (b ∷ g) (run_more b g c.0)) refl)
+nothing_calm room b g past c = grind (arith, no_flag_calm, option_and_then, since_flag_calm, no_abort_at, run_more)
 
 -- bits before calm ones are calm
 Calm_before : (text g : List Bool) → Calm (reverse_aux text g) → Calm g

@@ -1,5 +1,5 @@
 -- What is heard takes room in the stream: each frame its octets, its check and one flag.
-use Rattle.model_bits.proofs.Vocabulary.{◌≡◌, ℕ, suc, ◌+◌, ◌*◌, ◌≤◌, ◌<◌, Bool, true, false, not, ◌||◌, ◌&&◌, ◌-◌, List, [], ◌∷◌, length, reverse, drop, take, Option, Some, None, option_map, option_to_list, option_and_then, nat_lt, refl, ap, sym, subst, arith, cond, length-drop, sum_by, All, ltb-false, ltb-true, false≢true, or_parts, length-reverse, length-take-le, All-nil, All-cons, All-append, sum_by-append, bits, is_good, stuffed, octets_sent, Event, overlong, dropped, ends_flag, ends_abort, has_abort, since_flag, is_short, judged, text_event, gap_event, closed_by_flag, given_up, heard_at, heard_until, heard_in, room_for, octets_taken, IsWhole, HeardWithinStream, Cause, Abort, Ragged, Short, Fcs}
+use Rattle.model_bits.proofs.Vocabulary.{◌≡◌, ℕ, suc, ◌+◌, ◌*◌, ◌≤◌, ◌<◌, Bool, true, false, not, ◌||◌, ◌-◌, List, [], ◌∷◌, length, reverse, drop, take, Option, Some, None, option_map, option_to_list, option_and_then, nat_lt, refl, ap, sym, subst, arith, cond, length-drop, sum_by, All, ltb-false, ltb-true, or_parts, length-reverse, length-take-le, All-nil, All-append, sum_by-append, bits, is_good, stuffed, octets_sent, Event, overlong, dropped, ends_flag, has_abort, since_flag, is_short, judged, text_event, gap_event, closed_by_flag, given_up, heard_at, heard_until, heard_in, room_for, octets_taken, IsWhole, HeardWithinStream, Cause, Short, Fcs}
 use Rattle.model_bits.specs.Stream.{frame}
 use Rattle.model_bits.proofs.BitLemmas.{length-bits}
 use Rattle.model_bits.proofs.StuffingOctets.{octets_are_those_sent}
@@ -18,14 +18,11 @@ octets_within_text text octets e =
 
 -- a flag has eight bits
 flag_length : (b : Bool) (past : List Bool) → ends_flag (b ∷ past) ≡ true → 7 ≤ length past
-flag_length false (true ∷ true ∷ true ∷ true ∷ true ∷ true ∷ false ∷ past) e = omega arith
-flag_length _ _ e = absurd (false≢true e)
+flag_length b past e = grind arith
 
 -- a frame that is not short has five octets with its check, or more
 not_short : (octets : List ℕ) → is_short octets ≡ false → 5 ≤ length octets
-not_short octets h =
-    let few : nat_lt (length octets) 5 ≡ false = (or_parts (nat_lt (length octets) 5) _ h).0 in
-    ltb-false (length octets) 5 few
+not_short octets h = grind (arith, nat_lt, or_parts, ltb-false)
 
 -- how octets are judged, by its four outcomes
 pub judged_as : (P : Event → Type 0) (room : ℕ) (octets : List ℕ)
@@ -37,18 +34,15 @@ judged_as P room octets drops long whole = by_short (is_short octets) refl
   where
     by_room : (b : Bool) → nat_lt room (length octets) ≡ b → 5 ≤ length octets
         → P (cond b (overlong (take 4 octets)) (frame (take (length octets - 2) octets)))
-    by_room true e five = long five (ltb-true room (length octets) e)
-    by_room false e five = whole five
+    by_room b e five = grind (arith, ltb-true)
 
     by_check : (b : Bool) → 5 ≤ length octets
         → P (cond (not b) (dropped Fcs) (cond (nat_lt room (length octets)) (overlong (take 4 octets)) (frame (take (length octets - 2) octets))))
-    by_check true five = by_room (nat_lt room (length octets)) refl five
-    by_check false five = drops Fcs
+    by_check b five = grind (arith, by_room, nat_lt)
 
     by_short : (b : Bool) → is_short octets ≡ b
         → P (cond b (dropped Short) (cond (not (is_good (bits octets))) (dropped Fcs) (cond (nat_lt room (length octets)) (overlong (take 4 octets)) (frame (take (length octets - 2) octets)))))
-    by_short true e = drops Short
-    by_short false e = by_check (is_good (bits octets)) (not_short octets e)
+    by_short b e = grind (arith, by_check, not_short)
 
 -- ---- sums over what is heard
 
@@ -59,8 +53,7 @@ pub record IsWeight (room : ℕ) (w : Event → ℕ) : Type 0 where
 
 module _ (room : ℕ) (w : Event → ℕ) (is : IsWeight room w) where
   text_weight : (text : List Bool) (o : Option (List ℕ)) → octets_sent text ≡ o → 8 * w (text_event room o) ≤ length text + 8
-  text_weight text None e = omega (arith, is.free Ragged)
-  text_weight text (Some octets) e = omega (arith, is.within octets, octets_within_text text octets e)
+  text_weight text o e = grind (arith, octets_within_text)
 
   -- what a flag closes weighs no more than the gap and the flag's last bit
   closed_weight : (g : List Bool) → 8 * sum_by w (option_to_list (closed_by_flag room g)) ≤ length g + 1
@@ -76,11 +69,7 @@ module _ (room : ℕ) (w : Event → ℕ) (is : IsWeight room w) where
 
   -- an abort weighs nothing
   given_up_weight : (g : List Bool) → sum_by w (option_to_list (given_up g)) ≡ 0
-  given_up_weight g = go (ends_abort g && not (has_abort (drop 1 g)) && nat_lt 7 (length g))
-    where
-      go : (b : Bool) → sum_by w (option_to_list (cond b (Some (dropped Abort)) None)) ≡ 0
-      go true = omega (arith, is.free Abort)
-      go false = refl
+  given_up_weight g = grind (arith, nat_lt, option_to_list)
 
   -- what was heard fits before the flag that the open gap follows
   abbrev Fits : Option (List Bool) → ℕ → ℕ → Type 0
@@ -90,10 +79,7 @@ module _ (room : ℕ) (w : Event → ℕ) (is : IsWeight room w) where
   one_bit : (b : Bool) (flag : Bool) (o : Option (List Bool)) (s n : ℕ) → (flag ≡ true → 7 ≤ n) → Fits o s n
       → Fits (cond flag (Some []) (option_map (λ g. b ∷ g) o))
       (s + sum_by w (option_to_list (cond flag (option_and_then (closed_by_flag room) o) (option_and_then (λ g. given_up (b ∷ g)) o)))) (suc n)
-  one_bit b true None s n long fits = omega (arith, fits, long refl)
-  one_bit b true (Some g) s n long fits = omega (arith, fits, closed_weight g)
-  one_bit b false None s n long fits = omega (arith, fits)
-  one_bit b false (Some g) s n long fits = omega (arith, fits, given_up_weight (b ∷ g))
+  one_bit b flag o s n long x = grind (arith, closed_weight, given_up_weight)
 
   heard_fits : (past : List Bool) → Fits (since_flag past) (sum_by w (heard_until room past)) (length past)
   heard_fits [] = refl
@@ -104,8 +90,7 @@ module _ (room : ℕ) (w : Event → ℕ) (is : IsWeight room w) where
       (λ e. flag_length b past e) (heard_fits past))
 
   within_fits : (o : Option (List Bool)) (s n : ℕ) → Fits o s n → 8 * s ≤ n
-  within_fits None s n fits = omega (arith, fits)
-  within_fits (Some g) s n fits = omega (arith, fits)
+  within_fits o s n x = grind arith
 
 -- the sum of a weight over what is heard in octets
 pub weight_of_heard : (n201 : ℕ) (w : Event → ℕ) → IsWeight (room_for n201) w → (octets : List ℕ)
@@ -119,35 +104,19 @@ weight_of_heard n201 w is octets =
 -- ---- the law
 
 taken_is_weight : (n201 : ℕ) → IsWeight (room_for n201) (octets_taken (room_for n201))
-taken_is_weight n201 = record {
-  free = λ cause. refl;
-  within = λ octets. judged_as (λ e. octets_taken (room_for n201) e ≤ length octets + 1) (room_for n201) octets
-      (λ cause. omega arith) (λ five long. omega (arith, long))
-      (λ five. omega (arith, five, length-take-le (length octets - 2) octets (omega arith)));
-}
+taken_is_weight n201 = grind (arith, judged_as, length-take-le)
 
 judged_whole : (room : ℕ) (octets : List ℕ) → IsWhole (judged room octets)
-judged_whole room octets =
-    judged_as IsWhole room octets (λ cause. tt) (λ five long. tt)
-    (λ five. omega (arith, five, length-take-le (length octets - 2) octets (omega arith)))
+judged_whole room octets = grind (arith, judged_as, length-take-le)
 
 text_whole : (room : ℕ) (o : Option (List ℕ)) → IsWhole (text_event room o)
-text_whole room None = tt
-text_whole room (Some octets) = judged_whole room octets
+text_whole room o = grind (arith, judged_whole)
 
 closed_whole : (room : ℕ) (g : List Bool) → All IsWhole (option_to_list (closed_by_flag room g))
-closed_whole room g = go (nat_lt (length g) 8 || has_abort g)
-  where
-    go : (b : Bool) → All IsWhole (option_to_list (cond b None (Some (gap_event room (reverse (drop 7 g))))))
-    go true = All-nil IsWhole
-    go false = All-cons IsWhole _ [] (text_whole room (octets_sent (reverse (drop 7 g)))) (All-nil IsWhole)
+closed_whole room g = grind (arith, nat_lt, option_to_list, text_whole)
 
 given_up_whole : (g : List Bool) → All IsWhole (option_to_list (given_up g))
-given_up_whole g = go (ends_abort g && not (has_abort (drop 1 g)) && nat_lt 7 (length g))
-  where
-    go : (b : Bool) → All IsWhole (option_to_list (cond b (Some (dropped Abort)) None))
-    go true = All-cons IsWhole _ [] tt (All-nil IsWhole)
-    go false = All-nil IsWhole
+given_up_whole g = grind (arith, nat_lt, option_to_list)
 
 heard_at_whole : (room : ℕ) (b : Bool) (flag : Bool) (o : Option (List Bool))
     → All IsWhole (option_to_list (cond flag (option_and_then (closed_by_flag room) o) (option_and_then (λ g. given_up (b ∷ g)) o)))

@@ -1,5 +1,5 @@
 -- Octets in a text: bits and numbers give each other back, and the octets found are those sent.
-use Rattle.model_bits.proofs.Vocabulary.{◌≡◌, ℕ, ◌<◌, Bool, true, false, List, [], ◌∷◌, Some, None, refl, ap, sym, ◌∙◌, subst, cond, All-nil, All-cons, All-head, All-tail, bits, low_bits, octets_of, same_bits, stuffed, unstuffed, octets_sent, AreOctets, OctetsAreThoseSent, NoneWhereNoneSent}
+use Rattle.model_bits.proofs.Vocabulary.{arith, ◌≡◌, ℕ, ◌<◌, Bool, true, List, [], ◌∷◌, Some, None, refl, ap, sym, ◌∙◌, subst, cond, All-nil, All-cons, All-head, All-tail, bits, low_bits, octets_of, same_bits, stuffed, unstuffed, octets_sent, AreOctets, OctetsAreThoseSent, NoneWhereNoneSent}
 use Rattle.model_bits.proofs.BitLemmas.{number_of-lt, number_of-low_bits, same_from_test, same_bits_self}
 use Rattle.model_bits.proofs.StuffingShape.{unstuffed-stuffed}
 
@@ -19,15 +19,10 @@ AreOctets-octets_of _ = All-nil (λ x. x < 256)
 
 -- a choice that gave octets
 chosen : (t : Bool) (xs ys : List ℕ) → cond t (Some xs) None ≡ Some ys → (t ≡ true) × (xs ≡ ys)
-chosen true xs ys h = (refl, cc)
-chosen false xs ys h = cc
+chosen t xs ys h = grind arith
 
 pub octets_sent-stuffed : (octets : List ℕ) → AreOctets octets → octets_sent (stuffed (bits octets)) ≡ Some octets
-octets_sent-stuffed octets h =
-    let found : octets_of (unstuffed (stuffed (bits octets))) ≡ octets =
-    ap octets_of (unstuffed-stuffed (bits octets)) ∙ octets_of-bits octets h in
-    ap (λ l. cond (same_bits (stuffed (bits l)) (stuffed (bits octets))) (Some l) None) found
-    ∙ ap (λ t. cond t (Some octets) None) (same_bits_self (stuffed (bits octets)))
+octets_sent-stuffed octets h = grind (arith, unstuffed-stuffed, octets_of-bits, same_bits_self)
 
 pub octets_are_those_sent : OctetsAreThoseSent
 octets_are_those_sent text octets = (
@@ -42,20 +37,10 @@ octets_are_those_sent text octets = (
 
 -- what is not the text of octets has none
 none_chosen : (t : Bool) (xs : List ℕ) → (t ≡ true → ⊥) → cond t (Some xs) None ≡ None
-none_chosen true xs h = absurd (h refl)
-none_chosen false xs h = refl
+none_chosen t xs h = grind arith
 
 pub none_where_none_sent : NoneWhereNoneSent
-none_where_none_sent text = (
-  λ e octets h s.
-      let some = (octets_are_those_sent text octets).1 (s, h) in
-      let differ : None ≡ Some octets = sym e ∙ some in
-      cc,
-  λ h.
-      let found = octets_of (unstuffed text) in
-      none_chosen (same_bits (stuffed (bits found)) text) found
-      (λ e. h found (AreOctets-octets_of (unstuffed text)) (sym (same_from_test (stuffed (bits found)) text e))),
-)
+none_where_none_sent text = grind (arith, octets_are_those_sent, none_chosen, AreOctets-octets_of, same_from_test)
 
 -- both laws
 pub ruleset octets_of_texts = (octets_are_those_sent, none_where_none_sent)

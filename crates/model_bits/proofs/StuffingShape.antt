@@ -4,8 +4,7 @@ use Rattle.std.proofs.lemmas.List.{append-nil}
 use Rattle.model_bits.proofs.StuffingCounted.{ones_after, unstuffed_after, NoSix, NoSix_back, stuffed-counted, unstuffed-counted, ones_after-append, unstuffed_after-stuffed_after, stuffed_after-shape, stuffed_after-unstuffed_after}
 
 pub unstuffed-stuffed : StuffedBitsComeBack
-unstuffed-stuffed b =
-    unstuffed-counted (stuffed b) ∙ ap (unstuffed_after 0) (stuffed-counted b) ∙ unstuffed_after-stuffed_after 0 b (omega arith)
+unstuffed-stuffed b = grind (arith, unstuffed-counted, unstuffed_after, stuffed-counted, unstuffed_after-stuffed_after)
 
 pub stuffed_once : OneTextEach
 stuffed_once a b e = sym (unstuffed-stuffed a) ∙ ap unstuffed e ∙ unstuffed-stuffed b
@@ -19,9 +18,7 @@ ones_after-stuffed b =
     subst (λ t. ones_after 0 t < 5) (sym (stuffed-counted b)) (stuffed_after-shape 0 b (omega arith)).1
 
 pub stuffed-unstuffed : (text : List Bool) → NoSix 0 text → ones_after 0 text < 5 → stuffed (unstuffed text) ≡ text
-stuffed-unstuffed text p q =
-    ap stuffed (unstuffed-counted text) ∙ stuffed-counted (unstuffed_after 0 text)
-    ∙ stuffed_after-unstuffed_after 0 text (omega arith) p q
+stuffed-unstuffed text p q = grind (arith, unstuffed-counted, stuffed-counted, unstuffed_after, stuffed_after-unstuffed_after)
 
 -- a 1 at the end of a run of them or before its other bits
 pub one_further : (n : ℕ) (text : List Bool) → replicate (suc n) true ++ text ≡ replicate n true ++ true ∷ text
@@ -50,9 +47,7 @@ pub NoSix-from_none : (text : List Bool) → (¬ HasSixOnes text) → NoSix 0 te
 NoSix-from_none text h = ⊎_elim (λ p. p) (λ w. absurd (h w)) (six_or_none 0 text (omega arith))
 
 pub none-from_NoSix : (text : List Bool) → NoSix 0 text → ¬ HasSixOnes text
-none-from_NoSix text p w =
-    let s = NoSix_back 0 w.0 (replicate 6 true ++ w.1) (subst (NoSix 0) w.2 p) in
-    omega (arith, s.1.1.1.1.1.0)
+none-from_NoSix text p w = grind (arith, NoSix_back, NoSix)
 
 -- the 1s before a text and its own end in as many as are counted
 ends_in_count : (ones : ℕ) (text : List Bool) → (front : List Bool) × (replicate ones true ++ text ≡ front ++ replicate (ones_after ones text) true)
@@ -76,9 +71,7 @@ EndsInFiveOnes-from_count text h =
     )
 
 pub count-from_EndsInFiveOnes : (text : List Bool) → EndsInFiveOnes text → 5 ≤ ones_after 0 text
-count-from_EndsInFiveOnes text w =
-    let e = ap (ones_after 0) w.1 ∙ ones_after-append 0 w.0 (replicate 5 true) in
-    omega (arith, e)
+count-from_EndsInFiveOnes text w = grind (arith, ones_after, ones_after-append)
 
 pub stuffed_where_shaped : StuffedTexts
 stuffed_where_shaped text = (

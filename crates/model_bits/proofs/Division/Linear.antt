@@ -6,11 +6,7 @@ use Rattle.model_bits.proofs.Division.Sums.{plus-assoc, plus_last_two, plus-swap
 
 -- a step keeps the 16 coefficients
 pub length-brought_down : (s : List Bool) (b : Bool) → length s ≡ 16 → length (brought_down s b) ≡ 16
-length-brought_down [] b size = absurd (omega arith)
-length-brought_down (false ∷ r) b size = omega (arith, length-append r (b ∷ []))
-length-brought_down (true ∷ r) b size =
-    let shifted : length (r ++ b ∷ []) ≡ 16 = omega (arith, length-append r (b ∷ [])) in
-    length-plus (r ++ b ∷ []) generator shifted ∙ shifted
+length-brought_down s b size = grind (arith, length-append, length-plus)
 
 -- a sum of two that are each one coefficient longer
 pushed-plus :

@@ -44,10 +44,7 @@ remainder-below_power true r d size =
 remainder-with_bit :
     (d s : List Bool) (b : Bool) → length s ≡ 16
     → remainder (text_below s (b ∷ d)) ≡ remainder (text_below (with_bit s b) d)
-remainder-with_bit d [] b size = absurd (omega arith)
-remainder-with_bit d (a ∷ r) b size =
-    ap (λ x. remainder (x ∷ plus (d ++ replicate 16 false) (r ++ false ∷ replicate (length d) false))) (differ-comm b a)
-    ∙ remainder-below_power (not (beq a b)) r d (omega arith)
+remainder-with_bit d s b size = grind (arith, differ-comm, remainder-below_power)
 
 -- and so do all of them, in turn
 pub remainder-text_below : (d s : List Bool) → length s ≡ 16 → remainder (text_below s d) ≡ fold with_bit s d
@@ -64,7 +61,4 @@ remainder-dividend d = remainder-text_below d (replicate 16 true) refl
 -- the division of a text that goes on begins with what the register holds
 pub remainder-dividend-append :
     (d e : List Bool) → remainder (dividend (d ++ e)) ≡ fold with_bit (remainder (dividend d)) e
-remainder-dividend-append d e =
-    remainder-dividend (d ++ e)
-    ∙ fold-append with_bit (replicate 16 true) d e
-    ∙ ap (λ s. fold with_bit s e) (sym (remainder-dividend d))
+remainder-dividend-append d e = grind (arith, remainder-dividend, fold-append)

@@ -5,31 +5,19 @@ use Rattle.model_bits.proofs.Vocabulary.{◌≡◌, ℕ, suc, Bool, true, false,
 
 -- their order is free
 pub differ-comm : (a b : Bool) → not (beq a b) ≡ not (beq b a)
-differ-comm true true = refl
-differ-comm true false = refl
-differ-comm false true = refl
-differ-comm false false = refl
+differ-comm a b = grind arith
 
 -- and so is their grouping
 differ-assoc : (a b c : Bool) → not (beq (not (beq a b)) c) ≡ not (beq a (not (beq b c)))
-differ-assoc true true true = refl
-differ-assoc true true false = refl
-differ-assoc true false true = refl
-differ-assoc true false false = refl
-differ-assoc false true true = refl
-differ-assoc false true false = refl
-differ-assoc false false true = refl
-differ-assoc false false false = refl
+differ-assoc a b c = grind arith
 
 -- adding 0 changes nothing
 differ-false : (a : Bool) → not (beq a false) ≡ a
-differ-false true = refl
-differ-false false = refl
+differ-false a = grind arith
 
 -- what is added to itself falls out
 pub differ_self : (a : Bool) → not (beq a a) ≡ false
-differ_self true = refl
-differ_self false = refl
+differ_self a = grind arith
 
 -- ---- two polynomials
 
@@ -53,8 +41,7 @@ plus_last_two p q r = plus-assoc p q r ∙ ap (λ l. plus p l) (plus-comm q r) �
 
 -- the inner two of four change places
 pub plus-swap : (p q r s : List Bool) → plus (plus p q) (plus r s) ≡ plus (plus p r) (plus q s)
-plus-swap p q r s =
-    sym (plus-assoc (plus p q) r s) ∙ ap (λ l. plus l s) (plus_last_two p q r) ∙ plus-assoc (plus p r) q s
+plus-swap p q r s = grind (arith, plus-assoc, plus_last_two)
 
 -- a sum is as long as its parts
 pub length-plus : (p q : List Bool) → length p ≡ length q → length (plus p q) ≡ length p
@@ -88,8 +75,7 @@ plus_self (a ∷ p) = rw (differ_self a, plus_self p) refl
 
 -- what is added twice falls out
 pub plus_twice : (p q : List Bool) → length p ≡ length q → plus (plus p q) q ≡ p
-plus_twice p q same =
-    plus-assoc p q q ∙ ap (λ l. plus p l) (plus_self q ∙ ap (λ n. replicate n false) (sym same)) ∙ plus-zeros p
+plus_twice p q same = grind (arith, plus-assoc, plus_self, plus-zeros)
 
 -- a sum and one of its parts determine the other
 pub plus-injective :
@@ -101,13 +87,11 @@ plus-injective p q r p_size q_size same =
 
 -- adding 1 turns a coefficient round
 differ-true : (a : Bool) → not (beq true a) ≡ not a
-differ-true true = refl
-differ-true false = refl
+differ-true a = grind arith
 
 -- a coefficient and its complement make 1
 differ-not : (a : Bool) → not (beq (not a) a) ≡ true
-differ-not true = refl
-differ-not false = refl
+differ-not a = grind arith
 
 -- ones turn every coefficient round
 pub plus-ones : (p : List Bool) → plus (replicate (length p) true) p ≡ map not p

@@ -1,5 +1,5 @@
 -- The check of a text is the only one.
-use Rattle.model_bits.proofs.Vocabulary.{◌≡◌, ℕ, suc, zero, Bool, true, false, not, List, [], ◌∷◌, ◌++◌, length, replicate, map, refl, sym, ap, ◌∙◌, arith, fold, same_from_push, length-map, fold-append, same_bits, plus, generator, brought_down, remainder, dividend, check, residue, is_good, OnlyCheck}
+use Rattle.model_bits.proofs.Vocabulary.{◌≡◌, ℕ, suc, zero, Bool, true, false, not, List, [], ◌∷◌, ◌++◌, length, replicate, map, refl, sym, ap, ◌∙◌, arith, fold, same_from_push, length-map, fold-append, plus, generator, brought_down, remainder, dividend, check, residue, is_good, OnlyCheck}
 use Rattle.model_bits.proofs.BitLemmas.{same_from_test}
 use Rattle.model_bits.proofs.Division.Sums.{plus-append, plus_twice, plus-injective, length-plus, plus-ones, plus-not}
 use Rattle.model_bits.proofs.Division.Linear.{length-brought_down, length-remainder, remainder_few}
@@ -64,9 +64,7 @@ with_word s x s_size x_size =
 
 -- the residue is what sixteen ones leave
 with_complement : (s : List Bool) → length s ≡ 16 → fold with_bit s (map not s) ≡ residue
-with_complement s size =
-    with_word s (map not s) size (length-map s not ∙ size)
-    ∙ ap (λ l. fold brought_down l (replicate 16 false)) (plus-not s ∙ ap (λ n. replicate n true) size)
+with_complement s size = grind (arith, with_word, length-map, plus-not)
 
 -- and nothing else leaves it
 only_complement : (s x : List Bool) → length s ≡ 16 → length x ≡ 16 → fold with_bit s x ≡ residue → x ≡ map not s
@@ -86,10 +84,7 @@ length-check text = length-map (remainder (dividend text)) not ∙ length-remain
 
 -- the check of a text is good after it
 pub is_good-check : (text : List Bool) → is_good (text ++ check text) ≡ true
-is_good-check text =
-    ap (λ r. same_bits r residue)
-    (remainder-dividend-append text (check text)
-    ∙ with_complement (remainder (dividend text)) (length-remainder (dividend text)))
+is_good-check text = grind (arith, remainder-dividend-append, with_complement, length-remainder)
 
 -- no other 16 bits are
 pub only_check_lem : OnlyCheck

@@ -29,9 +29,7 @@ low_bits_with_zero number place below =
 
 -- the weight of a bit of an octet fits the octet
 pub bit_weight : (place : ℕ) → place < 8 → 1 * 2 ^ place % 256 ≡ 2 ^ place
-bit_weight place h =
-    let below : 2 ^ place < 2 ^ 8 = pow_below place 8 h in
-    ap (λ w. w % 256) (one-mul (2 ^ place)) ∙ mod-eq_of_lt below
+bit_weight place h = grind (arith, pow_below, one-mul, mod-eq_of_lt)
 
 -- what a number with one bit more needs
 pub ruleset bit_rules = (low_bits_with_one, low_bits_with_zero, bit_weight)
@@ -40,51 +38,24 @@ pub ruleset bit_rules = (low_bits_with_one, low_bits_with_zero, bit_weight)
 
 -- of no octets none are kept
 pub Keeps-none : (octets : List ℕ) → Keeps octets 0 None []
-Keeps-none octets =
-    record {
-      counted = omega arith;
-      kept = refl;
-      too_many = sym (le-ltb (length octets) 0 (omega arith));
-      divided = tt;
-    }
+Keeps-none octets = grind (arith, le-ltb)
 
 -- and no bits make no octets
 pub Assembles_none : (octets : List ℕ) → Assembles octets 0 None 0 0 []
 unfolding low_bits
-Assembles_none octets =
-    record {
-      whole = [];
-      are_octets = All-nil (λ x. x < 256);
-      keeps = Keeps-none octets;
-      assembled = refl;
-    }
+Assembles_none octets = grind (arith, Keeps-none)
 
 -- an octet more that there is no room for
 pub Keeps_beyond : (octets whole : List ℕ) (count register o : ℕ) (beyond : Option ℕ) → count ≡ length octets → Keeps octets count beyond whole → HoldsDivision register (bits whole ++ low_bits 8 o) → Keeps octets count (Some register) (whole ++ o ∷ [])
-Keeps_beyond octets whole count register o beyond full k d =
-    let min_is = k.counted in
-    let one : length (whole ++ o ∷ []) ≡ length whole + 1 = length-append whole (o ∷ []) in
-    record {
-      counted = omega arith;
-      kept = k.kept ∙ sym (take-append-le count whole (o ∷ []) (omega arith));
-      too_many = sym (lt-ltb (length octets) (length (whole ++ o ∷ [])) (omega arith));
-      divided = subst (HoldsDivision register) (sym (bits-push whole o)) d;
-    }
+Keeps_beyond octets whole count register o beyond full k d = grind (arith, length-append, take-append-le, lt-ltb, bits-push)
 
 -- while none are beyond, all are kept
 pub Keeps-all : (octets whole : List ℕ) (count : ℕ) (beyond : Option ℕ) → is_some beyond ≡ false → Keeps octets count beyond whole → (take count octets ≡ whole) × (count ≡ length whole)
-Keeps-all octets whole count beyond none k =
-    let min_is = k.counted in
-    let fits : length whole ≤ length octets = ltb-false (length octets) (length whole) (sym k.too_many ∙ none) in
-    let all : count ≡ length whole = omega arith in
-    (k.kept ∙ ap (λ n. take n whole) all ∙ take-length whole, all)
+Keeps-all octets whole count beyond none k = grind (arith, ltb-false, take-length)
 
 -- once some are, as many as there is room for
 pub Keeps-full : (octets whole : List ℕ) (count : ℕ) (beyond : Option ℕ) → is_some beyond ≡ true → Keeps octets count beyond whole → (count ≡ length octets) × (count < length whole)
-Keeps-full octets whole count beyond some k =
-    let min_is = k.counted in
-    let many : length octets < length whole = ltb-true (length octets) (length whole) (sym k.too_many ∙ some) in
-    (omega arith, omega arith)
+Keeps-full octets whole count beyond some k = grind (arith, ltb-true)
 
 -- ---- what a closing flag ends
 
@@ -96,13 +67,7 @@ over_by_count filled partial h =
 
 pub over_by_value : (filled partial : ℕ) → partial < 2 ^ filled → filled ≡ 7 → partial ≢ 126 → same_bits (low_bits filled partial) flag_front ≡ false
 unfolding low_bits
-over_by_value filled partial below seven h =
-    false_from_ne_true (same_bits (low_bits filled partial) flag_front)
-    (λ same.
-    let bits_are : low_bits 7 partial ≡ low_bits 7 126 =
-    ap (λ n. low_bits n partial) (sym seven) ∙ same_from_test (low_bits filled partial) flag_front same in
-    let small : partial < 2 ^ 7 = subst (λ n. partial < 2 ^ n) seven below in
-    h (same_from_low_bits 7 partial 126 small (omega arith) bits_are))
+over_by_value filled partial below seven h = grind (arith, false_from_ne_true, same_from_test, same_from_low_bits)
 
 pub closing-ragged : (room : ℕ) (whole : List ℕ) (over : List Bool) → same_bits over flag_front ≡ false → closing_event room whole over ≡ dropped Ragged
 closing-ragged room whole over h = rw h refl
@@ -113,14 +78,7 @@ long_enough whole h = rw (le-ltb (length whole) 5 (omega arith), ne_eqb (length 
 
 -- what is kept is short where the whole is: neither is, once there are too many
 short_is : (octets whole : List ℕ) (count : ℕ) (beyond : Option ℕ) → 6 ≤ length octets → Keeps octets count beyond whole → is_short (take count octets) ≡ is_short whole
-short_is octets whole count beyond room k = go (is_some beyond) refl
-  where
-    go : (some : Bool) → is_some beyond ≡ some → is_short (take count octets) ≡ is_short whole
-    go false none = ap is_short ((Keeps-all octets whole count beyond none k).0)
-    go true some =
-        let full = Keeps-full octets whole count beyond some k in
-        let size : length (take count octets) ≡ length octets = ap (λ n. length (take n octets)) full.0 ∙ ap length (take-length octets) in
-        long_enough (take count octets) (omega arith) ∙ sym (long_enough whole (omega arith))
+short_is octets whole count beyond room k = grind (arith, is_some, Keeps-all, Keeps-full, take-length, long_enough)
 
 -- what is told of a gap's octets before a flag, in the order of the tests
 module _
@@ -128,9 +86,7 @@ module _
     (k : Keeps octets count beyond whole) (seven : filled ≡ 7) (value : partial ≡ 126) where
   closing : (e : Event) → judged (length octets) whole ≡ e → Some e ≡ Some (closing_event (length octets) whole (low_bits filled partial))
   unfolding low_bits
-  closing e is =
-      let flag : closing_event (length octets) whole (low_bits filled partial) ≡ judged (length octets) whole = rw (seven, value) refl in
-      ap Some (sym (flag ∙ is))
+  closing e is = grind arith
 
   pub told-short : is_short (take count octets) ≡ true → Some (dropped Short) ≡ Some (closing_event (length octets) whole (low_bits filled partial))
   told-short h = closing (dropped Short) (rw (sym (short_is octets whole count beyond room k) ∙ h) refl)
@@ -144,22 +100,11 @@ module _
 
     pub told-overlong : is_good (bits whole) ≡ true → is_some beyond ≡ true
         → Some (overlong (take 4 octets)) ≡ Some (closing_event (length octets) whole (low_bits filled partial))
-    told-overlong g some =
-        let full = Keeps-full octets whole count beyond some k in
-        let more : nat_lt (length octets) (length whole) ≡ true = sym k.too_many ∙ some in
-        let judged_is : judged (length octets) whole ≡ overlong (take 4 whole) = rw (long_whole, g, more) refl in
-        closing (overlong (take 4 octets))
-        (judged_is ∙ ap overlong (sym (take-take 4 count whole (omega arith)) ∙ ap (take 4) (sym k.kept) ∙ take-take 4 count octets (omega arith)))
+    told-overlong g some = grind (arith, Keeps-full, nat_lt, long_whole, closing, take-take)
 
     pub told-frame : is_good (bits whole) ≡ true → is_some beyond ≡ false
         → Some (frame (take (count - 2) octets)) ≡ Some (closing_event (length octets) whole (low_bits filled partial))
-    told-frame g none =
-        let all = Keeps-all octets whole count beyond none k in
-        let fits : nat_lt (length octets) (length whole) ≡ false = sym k.too_many ∙ none in
-        let judged_is : judged (length octets) whole ≡ frame (take (length whole - 2) whole) = rw (long_whole, g, fits) refl in
-        closing (frame (take (count - 2) octets))
-        (judged_is
-        ∙ ap frame (ap (λ n. take (n - 2) whole) (sym all.1) ∙ ap (take (count - 2)) (sym all.0) ∙ take-take (count - 2) count octets (omega arith)))
+    told-frame g none = search (arith, Keeps-all, nat_lt, long_whole, closing, take-take)
 
 -- all that a closing flag tells
 pub ruleset told_rules = (over_by_count, over_by_value, closing-ragged, told-short, told-wrong, told-overlong, told-frame)
@@ -168,8 +113,7 @@ pub ruleset told_rules = (over_by_count, over_by_value, closing-ragged, told-sho
 
 -- what holds of fields holds of fields that equal them
 pub Keeps_same : (octets whole : List ℕ) (count count' : ℕ) (beyond beyond' : Option ℕ) → count' ≡ count → beyond' ≡ beyond → Keeps octets count beyond whole → Keeps octets count' beyond' whole
-Keeps_same octets whole count count' beyond beyond' p q k =
-    subst (λ n. Keeps octets n beyond' whole) (sym p) (subst (λ b. Keeps octets count b whole) (sym q) k)
+Keeps_same octets whole count count' beyond beyond' p q k = grind arith
 
 -- a bit that fills one, which is kept
 pub Assembles-octet : (octets later_octets : List ℕ) (count later_count : ℕ) (beyond later_beyond : Option ℕ) (partial filled octet partial' filled' : ℕ) (text : List Bool) (b : Bool) → (a : Assembles octets count beyond partial filled text) → filled ≡ 7 → low_bits (filled + 1) octet ≡ low_bits filled partial ++ b ∷ [] → octet < 2 ^ (filled + 1) → partial' ≡ 0 → filled' ≡ 0 → Keeps later_octets later_count later_beyond (a.whole ++ octet ∷ []) → Assembles later_octets later_count later_beyond partial' filled' (text ++ b ∷ [])

@@ -1,5 +1,5 @@
 -- Bits in which no flag and no abort ends go on the open gap all at once.
-use Rattle.lapd_bits.proofs.Vocabulary.{◌≡◌, ◌≢◌, ℕ, suc, zero, ◌+◌, ◌-◌, ◌<◌, ◌≤◌, Bool, true, false, List, [], ◌∷◌, ◌++◌, ◌||◌, reverse, replicate, Option, Some, None, option_map, option_to_list, refl, ap, sym, ◌∙◌, subst, arith, append-nil, false≢true, ⊎_elim, cases_lt, reverse-append, append_cancel_left, reverse-reverse, low_bits, unstuffed, heard_until, heard_at, run_of, open_gap, one_more, HoldsGap, HoldsPast, with_bits, has_six, IsContent, IsJoined, Gap, ones_after-reverse, heard_at-one, heard_at-zero, open_gap-one, open_gap-zero, ones_after, unstuffed_after, unstuffed-counted, unstuffed_after-append, reverse_aux-onto, one_further}
+use Rattle.lapd_bits.proofs.Vocabulary.{◌≡◌, ◌≢◌, ℕ, suc, zero, ◌+◌, ◌-◌, ◌<◌, ◌≤◌, Bool, true, false, List, [], ◌∷◌, ◌++◌, ◌||◌, reverse, replicate, Option, None, option_map, option_to_list, refl, ap, sym, ◌∙◌, subst, arith, append-nil, false≢true, ⊎_elim, cases_lt, reverse-append, append_cancel_left, reverse-reverse, low_bits, unstuffed, heard_until, heard_at, run_of, open_gap, one_more, HoldsGap, HoldsPast, with_bits, has_six, IsContent, IsJoined, Gap, ones_after-reverse, heard_at-one, heard_at-zero, open_gap-one, open_gap-zero, ones_after, unstuffed_after, unstuffed-counted, unstuffed_after-append, reverse_aux-onto, one_further}
 use mathlib.Core.List.{reverse_aux}
 use Rattle.lapd_bits.proofs.BitSteps.{open_run, for_open}
 
@@ -15,8 +15,7 @@ with_bits-onto octet past = sym (reverse_aux-onto (low_bits 8 octet) [] past)
 
 -- neither of two holds
 or_false : (a b : Bool) → (a || b) ≡ false → b ≡ false
-or_false false b h = h
-or_false true b h = absurd (false≢true (sym h))
+or_false a b h = grind arith
 
 -- six 1s and more begin with six
 six_begin : (m : ℕ) (text : List Bool)
@@ -61,8 +60,7 @@ Calm-by_six n (false ∷ text) h =
 -- ---- what such a text brings
 
 option_map-more : (b : Bool) (text : List Bool) (gap : Option (List Bool)) → option_map (onto text) (one_more b gap) ≡ option_map (onto (b ∷ text)) gap
-option_map-more b text None = refl
-option_map-more b text (Some g) = refl
+option_map-more b text gap = grind arith
 
 -- Nothing is heard, the run is counted on, and the gap grows by it.
 pub record IsQuiet (room : ℕ) (text past : List Bool) : Type 0 where
@@ -71,8 +69,7 @@ pub record IsQuiet (room : ℕ) (text past : List Bool) : Type 0 where
   pub gap : open_gap (onto text past) ≡ option_map (onto text) (open_gap past)
 
 option_map-none : (gap : Option (List Bool)) → gap ≡ option_map (onto []) gap
-option_map-none None = refl
-option_map-none (Some g) = refl
+option_map-none gap = grind arith
 
 quiet-more :
     (room : ℕ) (b : Bool) (text past : List Bool) (n : ℕ) → heard_at room (b ∷ past) ≡ None
@@ -80,11 +77,7 @@ quiet-more :
     → (run_of (onto text (b ∷ past)) ≡ ones_after n text)
     × (heard_until room (onto text (b ∷ past)) ≡ heard_until room past)
     × (open_gap (onto text (b ∷ past)) ≡ option_map (onto (b ∷ text)) (open_gap past))
-quiet-more room b text past n none grown run q = (
-  q.run ∙ ap (λ m. ones_after m text) run,
-  q.heard ∙ ap (λ o. heard_until room past ++ option_to_list o) none ∙ append-nil (heard_until room past),
-  q.gap ∙ ap (option_map (onto text)) grown ∙ option_map-more b text (open_gap past),
-)
+quiet-more room b text past n none grown run q = grind (arith, ones_after, option_to_list, append-nil, option_map, option_map-more)
 
 pub calm : (room n : ℕ) (text past : List Bool) → run_of past ≡ n → n ≤ 6 → Calm n text → IsQuiet room text past
 calm room n [] past e few p = record { heard = refl; run = refl; gap = option_map-none (open_gap past) }
@@ -112,11 +105,7 @@ unstuffed_after-ones m (suc n) = ap (λ t. true ∷ t) (unstuffed_after-ones (su
 
 -- what is unstuffed after `n` 1s
 pub unstuffed-ones : (n : ℕ) (text : List Bool) → unstuffed (replicate n true ++ text) ≡ replicate n true ++ unstuffed_after n text
-unstuffed-ones n text =
-    unstuffed-counted (replicate n true ++ text)
-    ∙ unstuffed_after-append 0 (replicate n true) text
-    ∙ ap (λ l. l ++ unstuffed_after (ones_after 0 (replicate n true)) text) (unstuffed_after-ones 0 n)
-    ∙ ap (λ k. replicate n true ++ unstuffed_after k text) (ones_after-ones 0 n ∙ omega arith)
+unstuffed-ones n text = grind (arith, unstuffed-counted, unstuffed_after-append, unstuffed_after, ones_after, unstuffed_after-ones, ones_after-ones)
 
 -- the run after `n` 1s
 pub run_of-ones : (n : ℕ) → n ≤ 5 → run_of (replicate n true ++ false ∷ []) ≡ n
@@ -144,8 +133,7 @@ joined_after past ones octet content count e stays =
     ∙ ap (λ l. unstuffed (reverse g) ++ l) stays)
 
 same_map : (octet : ℕ) (g : Option (List Bool)) → option_map (with_bits 8 octet) g ≡ option_map (onto (low_bits 8 octet)) g
-same_map octet None = refl
-same_map octet (Some g) = ap Some (with_bits-onto octet g)
+same_map octet g = grind (arith, with_bits-onto)
 
 module _
     (ones octet content count run : ℕ) (few : ones ≤ 5) (p : Calm ones (low_bits 8 octet))
@@ -158,8 +146,7 @@ module _
 
   -- nothing is heard
   pub heard-octet : (room : ℕ) → heard_until room (with_bits 8 octet past) ≡ heard_until room past ++ []
-  heard-octet room =
-      ap (heard_until room) (with_bits-onto octet past) ∙ (here room).heard ∙ sym (append-nil (heard_until room past))
+  heard-octet room = grind (arith, with_bits-onto, here, append-nil)
 
   -- and what stays of it joins the gap
   pub HoldsPast-octet :

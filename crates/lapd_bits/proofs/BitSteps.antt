@@ -1,5 +1,5 @@
 -- One bit more of a line: what a deframer's fields then stand for, and what the bit ends.
-use Rattle.lapd_bits.proofs.Vocabulary.{◌≡◌, ◌≢◌, ℕ, ◌+◌, ◌*◌, ◌/◌, ◌^◌, ◌<◌, ◌≤◌, Bool, true, false, List, [], ◌∷◌, ◌++◌, length, drop, reverse, Option, Some, None, option_and_then, IfSome, option_to_list, nat_lt, nat_eq, cond, refl, ap, sym, ◌∙◌, subst, arith, length-append, ◌⊎◌, inl, inr, bit_and, option_map_or, le-ltb, reverse-append, bits, low_bits, same_bits, unstuffed, octets_sent, Event, dropped, judged, since_flag, has_abort, text_event, gap_event, room_for, heard_at, heard_until, flag_front, closing_event, event_in, one_more, closed_event, run_of, open_gap, kept_count, octets_held, IsKept, IsStuffed, IsYoung, with_bits, KeepsIn, HoldsGap, HoldsPast, Gap, Ended, Ragged, length-bits, length-low_bits, reverse-bits_push, reverse-cons, latest_ones, latest_ones-below, ones_after-reverse, run_of-gap, gap_has_no_flag, NoFlag, NoSix-reverse, front_of_flag, open_gap-one, open_gap-abort, open_gap-zero, NoSix}
+use Rattle.lapd_bits.proofs.Vocabulary.{◌≡◌, ◌≢◌, ℕ, ◌+◌, ◌*◌, ◌/◌, ◌^◌, ◌<◌, ◌≤◌, Bool, true, false, List, [], ◌∷◌, ◌++◌, length, drop, reverse, Option, Some, None, option_and_then, IfSome, option_to_list, nat_lt, nat_eq, cond, refl, ap, sym, ◌∙◌, subst, arith, length-append, ◌⊎◌, bit_and, le-ltb, reverse-append, bits, low_bits, same_bits, unstuffed, octets_sent, Event, since_flag, has_abort, gap_event, room_for, heard_at, heard_until, flag_front, closing_event, event_in, one_more, closed_event, run_of, open_gap, kept_count, octets_held, IsKept, IsStuffed, IsYoung, with_bits, KeepsIn, HoldsGap, HoldsPast, Gap, Ended, length-bits, length-low_bits, reverse-bits_push, reverse-cons, latest_ones, latest_ones-below, ones_after-reverse, run_of-gap, gap_has_no_flag, NoFlag, NoSix-reverse, front_of_flag, open_gap-one, open_gap-abort, open_gap-zero, NoSix}
 use Rattle.std.proofs.lemmas.List.{append-nil}
 use Rattle.lapd_bits.specs.declared.ended.Ended.TheVariants as ended
 use Rattle.lapd_bits.proofs.Division.Holds.{low_bits-next}
@@ -9,14 +9,10 @@ use Rattle.lapd_bits.proofs.StuffingClosed.{unstuffed-push_one, unstuffed-push_z
 
 -- an open gap has no abort
 still_open : (g h : List Bool) → (if_closed : Bool) → cond if_closed None (Some g) ≡ Some h → (if_closed ≡ false) × (g ≡ h)
-still_open g h true e = cc
-still_open g h false e = (refl, cc)
+still_open g h if_closed e = grind arith
 
 opened_since : (o : Option (List Bool)) (g : List Bool) → option_and_then (λ h. cond (has_abort h) None (Some h)) o ≡ Some g → (o ≡ Some g) × (has_abort g ≡ false)
-opened_since None g e = cc
-opened_since (Some h) g e =
-    let s = still_open h g (has_abort h) e in
-    (ap Some s.1, ap has_abort (sym s.1) ∙ s.0)
+opened_since o g e = grind (arith, still_open)
 
 pub open_gap-since : (past g : List Bool) → open_gap past ≡ Some g → (since_flag past ≡ Some g) × (has_abort g ≡ false)
 open_gap-since past g e = opened_since (since_flag past) g e
@@ -31,65 +27,36 @@ open_run past g e =
 
 -- a field that matches no gap has none
 pub no_some : (o : Option Gap) → ((g : Gap) → o ≡ Some g → ⊥) → o ≡ None
-no_some None f = refl
-no_some (Some g) f = absurd (f g refl)
+no_some o f = grind arith
 
 -- what holds of any open gap there is
 pub for_open : (past : List Bool) (P : List Bool → Type 0) → ((g : List Bool) → open_gap past ≡ Some g → P g) → IfSome (open_gap past) P
-for_open past P h = go (open_gap past) h
-  where
-    go : (o : Option (List Bool)) → ((g : List Bool) → o ≡ Some g → P g) → IfSome o P
-    go None f = tt
-    go (Some g) f = f g refl
+for_open past P h = grind arith
 
 -- ---- which bits are kept
 
 -- a 1 is
 pub kept_one : (gap : Option (List Bool)) → IsKept true gap
-kept_one None = tt
-kept_one (Some g) = ap unstuffed (reverse-cons true g) ∙ unstuffed-push_one (reverse g)
+kept_one gap = grind (arith, reverse-cons, unstuffed-push_one)
 
 -- a 0 is, but after five 1s
 pub kept_zero : (past : List Bool) → run_of past ≢ 5 → run_of past ≢ 6 → IsKept false (open_gap past)
-kept_zero past not_five not_six =
-    for_open past (λ g. unstuffed (reverse (false ∷ g)) ≡ unstuffed (reverse g) ++ false ∷ [])
-    (λ g e.
-    let run = open_run past g e in
-    ap unstuffed (reverse-cons false g) ∙ unstuffed-push_zero (reverse g) (omega (arith, ones_after-reverse g)))
+kept_zero past not_five not_six = grind (arith, for_open, open_run, reverse-cons, unstuffed-push_zero, ones_after-reverse)
 
 pub stuffed_zero : (past : List Bool) → run_of past ≡ 5 → IsStuffed (open_gap past)
-stuffed_zero past five =
-    for_open past (λ g. unstuffed (reverse (false ∷ g)) ≡ unstuffed (reverse g))
-    (λ g e.
-    let run = open_run past g e in
-    ap unstuffed (reverse-cons false g) ∙ unstuffed-push_stuffed (reverse g) (omega (arith, ones_after-reverse g)))
+stuffed_zero past five = grind (arith, for_open, open_run, reverse-cons, unstuffed-push_stuffed, ones_after-reverse)
 
 -- ---- what the fields stand for after the bit
 
 module _ (octets octets' : List ℕ) (ones ones' : ℕ) (gap gap' : Option Gap) (past : List Bool) (h : HoldsPast octets ones gap past) where
   pub HoldsPast-one : ones < 6 → ones' ≡ ones + 1 → HoldsGap octets' gap' (one_more true (open_gap past)) → HoldsPast octets' ones' gap' (true ∷ past)
-  HoldsPast-one few e taken =
-      let run = h.run in
-      record {
-        run = omega arith;
-        open_is = subst (HoldsGap octets' gap') (sym (open_gap-one past (omega arith))) taken;
-      }
+  HoldsPast-one few e taken = grind (arith, open_gap-one)
 
   pub HoldsPast-abort : 6 ≤ ones → ones' ≡ 7 → gap' ≡ None → HoldsPast octets' ones' gap' (true ∷ past)
-  HoldsPast-abort many e none =
-      let run = h.run in
-      let closed : open_gap (true ∷ past) ≡ None = open_gap-abort past (omega arith) in
-      record {
-        run = omega arith;
-        open_is = subst (HoldsGap octets' gap') (sym closed) (subst (λ g. HoldsGap octets' g None) (sym none) tt);
-      }
+  HoldsPast-abort many e none = grind (arith, open_gap-abort)
 
   pub HoldsPast-zero : ones ≢ 6 → ones' ≡ 0 → HoldsGap octets' gap' (one_more false (open_gap past)) → HoldsPast octets' ones' gap' (false ∷ past)
-  HoldsPast-zero other e taken =
-      record {
-        run = e;
-        open_is = subst (HoldsGap octets' gap') (sym (open_gap-zero past (λ six. other (h.run ∙ six)))) taken;
-      }
+  HoldsPast-zero other e taken = grind (arith, open_gap-zero)
 
 -- ---- what a flag's last bit ends
 
@@ -107,11 +74,7 @@ no_six_before g six long none =
 
 -- the event of a gap by the octets of which a sender makes it
 event_of_octets : (room : ℕ) (gap : List Bool) (whole : List ℕ) (over : List Bool) → octets_sent gap ≡ cond (same_bits over flag_front) (Some whole) None → gap_event room gap ≡ closing_event room whole over
-event_of_octets room gap whole over e = ap (text_event room) e ∙ by_choice (same_bits over flag_front)
-  where
-    by_choice : (same : Bool) → text_event room (cond same (Some whole) None) ≡ cond same (judged room whole) (dropped Ragged)
-    by_choice true = refl
-    by_choice false = refl
+event_of_octets room gap whole over e = search arith
 
 -- a gap that is closed is told as what its octets are
 pub closed_told : (octets : List ℕ) (gap : Gap) (past : List Bool) (event : Option Event) → run_of past ≡ 6 → HoldsGap octets (Some gap) (open_gap past) → 8 ≤ gap.since → ((whole : List ℕ) → KeepsIn octets gap whole → event ≡ Some (closing_event (length octets) whole (low_bits gap.filled gap.partial))) → event ≡ closed_event (length octets) (open_gap past)
@@ -142,18 +105,7 @@ whole_octets : (n filled : ℕ) → filled < 8 → (8 * n + filled) / 8 ≡ n
 whole_octets n filled h = omega arith
 
 pub held_of_gap : (n201 held : ℕ) (octets : List ℕ) (gap : Gap) (past : List ℕ) → length octets ≡ room_for n201 → HoldsGap octets (Some gap) (open_gap (reverse (bits past))) → ((octets whole : List ℕ) → KeepsIn octets gap whole → held ≡ kept_count (length octets) (length whole)) → held ≡ octets_held n201 past
-held_of_gap n201 held octets gap past room h are = go (open_gap (reverse (bits past))) h
-  where
-    go : (o : Option (List Bool)) → HoldsGap octets (Some gap) o → held ≡ option_map_or (λ g. kept_count (room_for n201) (length (unstuffed (reverse g)) / 8)) o 0
-    go None h = absurd h
-    go (Some g) h =
-        let a = h.assembles in
-        let size : length (unstuffed (reverse g)) ≡ 8 * length a.whole + gap.filled =
-        ap length a.assembled ∙ length-append (bits a.whole) (low_bits gap.filled gap.partial)
-        ∙ omega (arith, length-bits a.whole, length-low_bits gap.filled gap.partial) in
-        let eighths : length (unstuffed (reverse g)) / 8 ≡ length a.whole =
-        ap (λ n. n / 8) size ∙ whole_octets (length a.whole) gap.filled gap.no_octet in
-        are octets a.whole a.keeps ∙ ap (λ r. kept_count r (length a.whole)) room ∙ ap (kept_count (room_for n201)) (sym eighths)
+held_of_gap n201 held octets gap past room h are = grind (arith, length-append, length-bits, length-low_bits, whole_octets)
 
 -- ---- the eight bits of an octet, one after the other
 
@@ -164,9 +116,7 @@ with_bits-none octet past = refl
 
 -- one bit more, as the code reads it
 pub with_bits-more : (place octet : ℕ) (past : List Bool) → with_bits (place + 1) octet past ≡ nat_eq (bit_and (octet / 2 ^ place) 1) 1 ∷ with_bits place octet past
-with_bits-more place octet past =
-    ap (λ t. reverse t ++ past) (low_bits-next place octet)
-    ∙ ap (λ t. t ++ past) (reverse-append (low_bits place octet) (nat_eq (bit_and (octet / 2 ^ place) 1) 1 ∷ []))
+with_bits-more place octet past = grind (arith, low_bits-next, reverse-append, nat_eq, bit_and)
 
 -- the bits of the octets of a line with one octet more
 pub with_bits-octet : (past : List ℕ) (octet : ℕ) → reverse (bits (past ++ octet ∷ [])) ≡ with_bits 8 octet (reverse (bits past))
@@ -174,38 +124,27 @@ with_bits-octet past octet = reverse-bits_push past octet
 
 -- a bit that brings nothing leaves what was heard
 pub told_nothing_more : (room : ℕ) (past so_far : List Bool) (b : Bool) (before after : Option Event) → heard_until room so_far ≡ heard_until room past ++ option_to_list before → None ≡ heard_at room (b ∷ so_far) → before ≡ after → heard_until room (b ∷ so_far) ≡ heard_until room past ++ option_to_list after
-told_nothing_more room past so_far b before after heard none same =
-    ap (λ o. heard_until room so_far ++ option_to_list o) (sym none)
-    ∙ append-nil (heard_until room so_far)
-    ∙ heard ∙ ap (λ o. heard_until room past ++ option_to_list o) same
+told_nothing_more room past so_far b before after heard none same = grind (arith, option_to_list, append-nil)
 
 -- and one that brings an event after nothing adds it
 pub told_event_more : (room : ℕ) (past so_far : List Bool) (b : Bool) (event : Option Event) → heard_until room so_far ≡ heard_until room past ++ [] → event ≡ heard_at room (b ∷ so_far) → heard_until room (b ∷ so_far) ≡ heard_until room past ++ option_to_list event
-told_event_more room past so_far b event heard e =
-    ap (λ o. heard_until room so_far ++ option_to_list o) (sym e)
-    ∙ ap (λ h. h ++ option_to_list event) (heard ∙ append-nil (heard_until room past))
+told_event_more room past so_far b event heard e = grind (arith, option_to_list, append-nil)
 
 -- a young gap stays young for longer
 pub IsYoung-le : (m n : ℕ) (gap : Option Gap) → m ≤ n → IsYoung m gap → IsYoung n gap
-IsYoung-le m n None h y = tt
-IsYoung-le m n (Some g) h y = omega arith
+IsYoung-le m n gap h y = grind arith
 
 -- nothing has ended, or what has ended lies in octets that stay while the gap is young
 abbrev pub EndedEarlier : ℕ → Ended → Option Gap → Type 0
 EndedEarlier place last gap = (last ≡ ended.Nothing) ⊎ IsYoung place gap
 
 pub event_stays : (octets octets' : List ℕ) (last : Ended) (gap : Option Gap) (place : ℕ) → place < 8 → EndedEarlier place last gap → (IsYoung 7 gap → octets' ≡ octets) → event_in octets last ≡ event_in octets' last
-event_stays octets octets' last gap place h (inl nothing) stay =
-    ap (event_in octets) nothing ∙ sym (ap (event_in octets') nothing)
-event_stays octets octets' last gap place h (inr young) stay =
-    ap (λ o. event_in o last) (sym (stay (IsYoung-le place 7 gap (omega arith) young)))
+event_stays octets octets' last gap place h o stay = grind (arith, IsYoung-le)
 
 -- what has ended earlier stays so
 pub ended_still : (place : ℕ) (last : Ended) (gap gap' : Option Gap) → EndedEarlier place last gap → (IsYoung place gap → IsYoung (place + 1) gap') → EndedEarlier (place + 1) last gap'
-ended_still place last gap gap' (inl nothing) grows = inl nothing
-ended_still place last gap gap' (inr young) grows = inr (grows young)
+ended_still place last gap gap' o grows = grind arith
 
 -- a second event in one octet cannot be
 pub nothing_before : (place : ℕ) (last next : Ended) (gap : Option Gap) → place < 8 → EndedEarlier place last gap → (IsYoung 7 gap → next ≡ ended.Nothing) → (next ≡ ended.Nothing → ⊥) → last ≡ ended.Nothing
-nothing_before place last next gap h (inl nothing) quiet some = nothing
-nothing_before place last next gap h (inr young) quiet some = absurd (some (quiet (IsYoung-le place 7 gap (omega arith) young)))
+nothing_before place last next gap h o quiet some = grind (arith, IsYoung-le)

@@ -43,20 +43,16 @@ fives-twos x =
 
 -- the next is a 1 after three at most
 one_more : (d c b a : Bool) → first_ones (d ∷ c ∷ b ∷ a ∷ []) ≤ 3 → first_ones (true ∷ d ∷ c ∷ b ∷ []) ≡ suc (first_ones (d ∷ c ∷ b ∷ a ∷ []))
-one_more true true true true h = absurd (omega (arith, h))
-one_more _ _ _ _ h = refl
+one_more d c b a h = grind arith
 
 -- three at most where they are not all 1s
 not_all : (d c b a : Bool) → (a ≡ true → b ≡ true → c ≡ true → d ≡ true → ⊥) → first_ones (d ∷ c ∷ b ∷ a ∷ []) ≤ 3
-not_all true true true true h = absurd (h refl refl refl refl)
-not_all _ _ _ _ h = omega arith
+not_all d c b a h = grind arith
 
 -- where no five begin, fewer than four are before a 1
 three_before : (x : ℕ) → fives x % 2 ≡ 0 → x / 16 % 2 ≡ 1 → last_ones x ≤ 3
 unfolding low_bits
-three_before x none fifth =
-    not_all (nat_eq (x / 2 / 2 / 2 % 2) 1) (nat_eq (x / 2 / 2 % 2) 1) (nat_eq (x / 2 % 2) 1) (nat_eq (x % 2) 1)
-    (λ a b c d. absurd (omega (arith, fives-low x, none, fifth, eqb-true (x % 2) 1 a, eqb-true (x / 2 % 2) 1 b, eqb-true (x / 2 / 2 % 2) 1 c, eqb-true (x / 2 / 2 / 2 % 2) 1 d)))
+three_before x none fifth = grind (arith, not_all, nat_eq, fives-low, eqb-true)
 
 is_one : (y : ℕ) → y ≡ 1 → nat_eq y 1 ≡ true
 is_one y is = ap (λ z. nat_eq z 1) is
@@ -64,11 +60,7 @@ is_one y is = ap (λ z. nat_eq z 1) is
 -- where five do, four are
 four_before : (x : ℕ) → fives x % 2 ≡ 1 → last_ones x ≡ 4
 unfolding low_bits
-four_before x five =
-    ap (λ b. first_ones (b ∷ nat_eq (x / 2 / 2 % 2) 1 ∷ nat_eq (x / 2 % 2) 1 ∷ nat_eq (x % 2) 1 ∷ [])) (is_one (x / 2 / 2 / 2 % 2) (omega (arith, fives-low x, five)))
-    ∙ ap (λ b. first_ones (true ∷ b ∷ nat_eq (x / 2 % 2) 1 ∷ nat_eq (x % 2) 1 ∷ [])) (is_one (x / 2 / 2 % 2) (omega (arith, fives-low x, five)))
-    ∙ ap (λ b. first_ones (true ∷ true ∷ b ∷ nat_eq (x % 2) 1 ∷ [])) (is_one (x / 2 % 2) (omega (arith, fives-low x, five)))
-    ∙ ap (λ b. first_ones (true ∷ true ∷ true ∷ b ∷ [])) (is_one (x % 2) (omega (arith, fives-low x, five)))
+four_before x five = grind (arith, nat_eq, is_one, fives-low)
 
 -- one bit on
 last_ones-next : (x : ℕ) (b : Bool) → nat_eq (x / 16 % 2) 1 ≡ b → fives x % 2 ≡ 0 → last_ones (x / 2) ≡ (if b then suc (last_ones x) else 0)
@@ -95,18 +87,12 @@ behind_both a b p i = (sym (append_assoc a b p.0) i, p.1)
 
 -- a bit goes after four 1s at most
 bit_goes : (n : ℕ) (b : Bool) (rest : List Bool) → n ≤ 4 → going n (b ∷ rest) ≡ behind (b ∷ []) (going (if b then suc n else 0) rest)
-bit_goes n false rest few = simp (lt-ltb n 5 (omega arith)) refl
-bit_goes n true rest few = simp (lt-ltb n 5 (omega arith)) refl
+bit_goes n b rest few = grind (arith, lt-ltb)
 
 -- and so does one of a number where no five begin
 number_goes : (x m : ℕ) → fives x % 2 ≡ 0 → going (last_ones x) (low_bits (suc m) (x / 16)) ≡ behind (nat_eq (x / 16 % 2) 1 ∷ []) (going (last_ones (x / 2)) (low_bits m (x / 2 / 16)))
 unfolding low_bits
-number_goes x m none =
-    let bit = nat_eq (x / 16 % 2) 1 in
-    let half : x / 16 / 2 ≡ x / 2 / 16 = omega arith in
-    bit_goes (last_ones x) bit (low_bits m (x / 16 / 2)) (last_ones_few x)
-    ∙ ap (λ n. behind (bit ∷ []) (going n (low_bits m (x / 16 / 2)))) (sym (last_ones-next x bit refl none))
-    ∙ ap (λ y. behind (bit ∷ []) (going (last_ones (x / 2)) (low_bits m y))) half
+number_goes x m none = grind (arith, nat_eq, bit_goes, last_ones_few, last_ones-next)
 
 -- ---- where none begin
 
@@ -132,12 +118,7 @@ fifth_goes (true ∷ b) = refl
 
 five_goes : (m x : ℕ) → fives x % 2 ≡ 1 → going (last_ones x) (low_bits (suc m) (x / 16)) ≡ behind (true ∷ false ∷ []) (going 0 (low_bits m (x / 32)))
 unfolding low_bits
-five_goes m x five =
-    let fifth : nat_eq (x / 16 % 2) 1 ≡ true = is_one (x / 16 % 2) (omega (arith, fives-low x, five)) in
-    let half : x / 16 / 2 ≡ x / 32 = omega arith in
-    (λ i. going (four_before x five i) (fifth i ∷ low_bits m (x / 16 / 2)))
-    ∙ fifth_goes (low_bits m (x / 16 / 2))
-    ∙ ap (λ y. behind (true ∷ false ∷ []) (going 0 (low_bits m y))) half
+five_goes m x five = grind (arith, nat_eq, is_one, fives-low, four_before, fifth_goes)
 
 -- Five 1s begin at this place of a number, and at no place below.
 abbrev pub IsFirst : ℕ → ℕ → Type 0

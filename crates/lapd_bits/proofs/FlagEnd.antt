@@ -50,12 +50,7 @@ HoldsGap-ones :
     → 8 ≤ gap.since + n → gap'.since ≡ 8
     → ((text : List Bool) → AssemblesIn octets gap text → AssemblesIn octets' gap' (text ++ replicate n true))
     → HoldsGap octets (Some gap) g → HoldsGap octets' (Some gap') (option_map (onto (replicate n true)) g)
-HoldsGap-ones octets octets' gap gap' n None long since taken h = absurd h
-HoldsGap-ones octets octets' gap gap' n (Some g) long since taken h =
-    record {
-      counted = omega (arith, since, h.counted, length-onto_ones n g);
-      assembles = subst (AssemblesIn octets' gap') (sym (ones_kept n g)) (taken _ h.assembles);
-    }
+HoldsGap-ones octets octets' gap gap' n g long since taken h = grind (arith, length-onto_ones, ones_kept)
 
 -- and where no bits have come, those that are put in hold of the next gap
 pub Assembles_begun :
@@ -92,17 +87,7 @@ module _ (room before : ℕ) (past : List Bool) (six : run_of past + before ≡ 
   -- with no open gap it closes none, nor one that has too few bits
   pub told-young : (octets : List ℕ) (gap : Option Gap) → IfSome gap (λ g. g.since + before < 8) → HoldsGap octets gap (open_gap past)
       → None ≡ closed_event room (open_gap (replicate before true ++ past))
-  told-young octets gap few h = by_gap gap (open_gap past) few h ∙ ap (closed_event room) (sym grown)
-    where
-      too_few : (l : List Bool) → length l < 8 → None ≡ closed_event room (Some l)
-      too_few l short = let e = lt-ltb (length l) 8 short in sym (rw e refl)
-
-      by_gap : (gap : Option Gap) (o : Option (List Bool)) → IfSome gap (λ g. g.since + before < 8) → HoldsGap octets gap o
-          → None ≡ closed_event room (option_map (onto (replicate before true)) o)
-      by_gap None None few held = refl
-      by_gap (Some gap) (Some g) few held =
-          too_few (onto (replicate before true) g) (omega (arith, few, held.counted, length-onto_ones before g))
-      by_gap _ _ few held = absurd held
+  told-young octets gap few h = grind (arith, grown, lt-ltb, option_map, onto, length-onto_ones)
 
 -- and any other as what its octets are
 pub told-closed :
@@ -138,10 +123,7 @@ module _
   flag_six = omega (arith, flag.six)
 
   parted : with_bits 8 octet past ≡ onto behind (false ∷ (replicate before true ++ past))
-  parted =
-      with_bits-onto octet past ∙ ap (λ l. onto l past) flag.begins
-      ∙ reverse_aux-append (replicate before true) (false ∷ behind) past
-      ∙ ap (λ p. onto behind (false ∷ p)) (onto-ones before past)
+  parted = grind (arith, with_bits-onto, onto, reverse_aux-append, onto-ones)
 
   quiet_behind : (room : ℕ) (front : List Bool) → IsQuiet room behind (false ∷ front)
   quiet_behind room front = calm room 0 behind (false ∷ front) refl (omega arith) (Calm-by_test 0 behind flag.quiet)
@@ -204,11 +186,7 @@ is_begun octet content count ones =
 
 IsFlagBegun-by_test : (ones octet content count : ℕ) → ones ≤ 5 → is_begun octet content count ones ≡ true
     → IsFlagBegun ones octet content count 6
-IsFlagBegun-by_test ones octet content count few h =
-    let a = and_parts (ends_nothing ones (low_bits 8 octet)) _ h in
-    let b =
-    and_parts (same_bits (unstuffed (replicate ones true ++ low_bits 8 octet)) (replicate ones true ++ low_bits count content)) _ a.1 in
-    record { few = few; quiet = a.0; brings = record { stays = same_from_test _ _ b.0; run_is = eqb-true _ _ b.1 } }
+IsFlagBegun-by_test ones octet content count few h = search (arith, and_parts, same_from_test, eqb-true)
 
 -- after fewer than five 1s its first 0 stays
 pub begun-whole : (ones octet : ℕ) → 252 ≤ octet → octet ≤ 253 → (octet < 253) ⊎ (253 ≤ octet) → ones + (octet - 252) < 5 → IsFlagBegun ones octet octet 8 6

@@ -1,5 +1,5 @@
 -- The tables hold what each octet brings in which a flag ends.
-use Rattle.lapd_bits.proofs.Vocabulary.{◌≡◌, ℕ, ◌+◌, ◌^◌, ◌<◌, ◌≤◌, Bool, true, false, ◌&&◌, ◌||◌, List, [], ◌∷◌, ◌++◌, get_or, map, replicate, reverse, nat_eq, nat_le, nat_lt, if◌then◌else◌, refl, sym, ap, ◌∙◌, arith, range_with_len, and-true, and-false, leb-true, ltb-true, eqb-true, and_parts, le-ltb, ne_eqb, false≢true, get_or-map-range_with_len, low_bits, same_bits, unstuffed, run_of, ones_before, behind_zero, ends_nothing, only_flag_ends, IsFlagEnd, ONES_BEFORE, BITS_BEHIND, COUNTS_BEHIND, RUNS_BEHIND, same_from_test}
+use Rattle.lapd_bits.proofs.Vocabulary.{◌≡◌, ℕ, ◌+◌, ◌^◌, ◌<◌, ◌≤◌, Bool, true, false, ◌&&◌, ◌||◌, List, [], ◌∷◌, ◌++◌, get_or, map, replicate, reverse, nat_eq, nat_le, nat_lt, if◌then◌else◌, refl, ap, ◌∙◌, arith, range_with_len, and-true, and-false, leb-true, ltb-true, eqb-true, and_parts, le-ltb, ne_eqb, get_or-map-range_with_len, low_bits, same_bits, unstuffed, run_of, ones_before, behind_zero, ends_nothing, only_flag_ends, IsFlagEnd, ONES_BEFORE, BITS_BEHIND, COUNTS_BEHIND, RUNS_BEHIND, same_from_test}
 use Rattle.lapd_bits.proofs.Tested.{all_pass}
 
 -- the bits of an octet behind its first 0
@@ -26,8 +26,7 @@ mark_at ones octet small =
   where
     by_test : (before : ℕ) (quiet : Bool)
         → nat_eq (ones + (if quiet then before else 7)) 6 ≡ (nat_eq (ones + before) 6 && quiet)
-    by_test before true = sym (and-true (nat_eq (ones + before) 6))
-    by_test before false = ne_eqb (ones + 7) 6 (λ e. absurd (omega arith)) ∙ sym (and-false (nat_eq (ones + before) 6))
+    by_test before quiet = grind (arith, and-true, nat_eq, ne_eqb, and-false)
 
 -- ---- what is behind it
 
@@ -99,5 +98,4 @@ module _ (octet : ℕ) (small : octet < 256) where
       )
     where
       unmarked : (m b : Bool) → m ≡ false → (m || b) ≡ true → b ≡ true
-      unmarked true b none h = absurd (false≢true (sym none))
-      unmarked false b none h = h
+      unmarked m b none h = grind arith

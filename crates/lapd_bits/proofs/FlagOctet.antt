@@ -1,5 +1,5 @@
 -- An octet that is a flag: its first 0 goes on the open gap, then the 1s, and its last bit closes it.
-use Rattle.lapd_bits.proofs.Vocabulary.{◌≡◌, ◌≢◌, ℕ, Bool, true, false, List, [], ◌∷◌, ◌++◌, replicate, Option, Some, option_to_list, refl, ap, sym, ◌∙◌, subst, append-nil, low_bits, Event, heard_until, heard_at, run_of, open_gap, closed_event, AssemblesIn, HoldsGap, HoldsPast, with_bits, Gap, heard_at-flag, heard_at-zero, open_gap-flag}
+use Rattle.lapd_bits.proofs.Vocabulary.{arith, ◌≡◌, ◌≢◌, ℕ, Bool, true, false, List, [], ◌∷◌, ◌++◌, replicate, Option, Some, option_to_list, refl, ap, sym, ◌∙◌, append-nil, low_bits, Event, heard_until, heard_at, run_of, open_gap, closed_event, AssemblesIn, HoldsPast, with_bits, Gap, heard_at-flag, heard_at-zero, open_gap-flag}
 use Rattle.lapd_bits.proofs.Idle.{onto-ones}
 use Rattle.lapd_bits.proofs.FlagEnd.{quiet_ones, run_is_six}
 
@@ -30,10 +30,4 @@ module _ (past : List Bool) where
   pub HoldsPast-flag :
       (octets : List ℕ) (gap : Gap) → gap.since ≡ 0 → AssemblesIn octets gap []
       → HoldsPast octets 0 (Some gap) (with_bits 8 126 past)
-  HoldsPast-flag octets gap since a =
-      record {
-        run = sym (ap run_of is_flag);
-        open_is = subst (HoldsGap octets (Some gap))
-            (sym (ap open_gap is_flag ∙ open_gap-flag before_last (run_is_six 0 6 (false ∷ past) refl)))
-            (record { counted = since; assembles = a });
-      }
+  HoldsPast-flag octets gap since a = grind (arith, is_flag, open_gap-flag, run_is_six)

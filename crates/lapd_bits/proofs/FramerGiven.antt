@@ -1,13 +1,11 @@
 -- What a framer has to give, as octets and bits go.
-use Rattle.lapd_bits.proofs.Vocabulary.{◌≡◌, ℕ, suc, ◌+◌, ◌-◌, ◌*◌, ◌≤◌, ◌<◌, ◌↔◌, IsTrue, Bool, nat_lt, List, ◌++◌, length, take, drop, drop-cons, get_or, refl, ap, sym, ◌∙◌, arith, ⊎_elim, append_assoc, length-append, lt-ltb, le-ltb, cases_lt, false≢true, drop_all, length-drop, low_bits, bits, flag, refilled, still_held, to_give, Waiting, length-low_bits, length-bits}
+use Rattle.lapd_bits.proofs.Vocabulary.{◌≡◌, ℕ, suc, ◌+◌, ◌-◌, ◌*◌, ◌≤◌, ◌<◌, ◌↔◌, IsTrue, Bool, nat_lt, List, ◌++◌, length, take, drop, drop-cons, get_or, refl, ap, ◌∙◌, arith, ⊎_elim, append_assoc, length-append, lt-ltb, le-ltb, cases_lt, drop_all, length-drop, low_bits, bits, flag, refilled, still_held, to_give, Waiting, length-low_bits, length-bits}
 use Rattle.std.proofs.lemmas.List.{length-take, get_or-take}
 
 -- ---- how much it is
 
 pub length_to_give : (octets : List ℕ) (next end : ℕ) (after : Waiting) → end ≤ length octets → length (to_give octets next end after) ≡ 8 * (end - next) + after.count
-length_to_give octets next end after within =
-    let some = drop next (take end octets) in
-    omega (arith, length-append (bits some) (low_bits after.count after.bits), length-bits some, length-drop next (take end octets), length-take end octets, length-low_bits after.count after.bits)
+length_to_give octets next end after within = grind (arith, length-append, length-bits, length-drop, length-take, length-low_bits)
 
 -- ---- what goes next
 
@@ -24,16 +22,12 @@ to_give-octet octets next end d after more within =
 
 -- where no octets are left, the bits after them
 pub to_give-none : (octets : List ℕ) (next end : ℕ) (after : Waiting) → end ≤ next → end ≤ length octets → to_give octets next end after ≡ low_bits after.count after.bits
-to_give-none octets next end after none within =
-    ap (λ l. bits l ++ low_bits after.count after.bits) (drop_all next (take end octets) (omega (arith, length-take end octets)))
+to_give-none octets next end after none within = grind (arith, drop_all, length-take)
 
 -- ---- whether eight bits are left
 
 pub busy_is : (next end count size : ℕ) → size ≡ 8 * (end - next) + count → count < 8 → IsTrue (nat_lt next end) ↔ (8 ≤ size)
-busy_is next end count size is few = (
-  λ t. ⊎_elim (λ less. omega arith) (λ other. absurd (false≢true (sym (le-ltb next end other) ∙ t))) (cases_lt next end),
-  λ many. lt-ltb next end (omega arith),
-)
+busy_is next end count size is few = grind (arith, le-ltb, cases_lt, lt-ltb)
 
 -- what tells how many are left
 pub ruleset busy_rules = (length_to_give, busy_is)
@@ -60,10 +54,4 @@ held_after old new octet latest given =
     (cases_lt (length new) 8)
   where
     held_before : 16 ≤ length (refilled old) → latest ≡ still_held old latest
-    held_before size =
-        ⊎_elim
-        (λ low.
-        let all : 16 ≤ length (old ++ flag) = rw (lt-ltb (length old) 8 low) at size in
-        absurd (omega (arith, length-append old flag)))
-        (λ enough. simp (le-ltb (length old) 8 enough) refl)
-        (cases_lt (length old) 8)
+    held_before size = grind (arith, lt-ltb, length-append, le-ltb, cases_lt)

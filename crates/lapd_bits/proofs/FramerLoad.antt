@@ -15,7 +15,4 @@ frame_made before middle head info fcs run checked goes =
 
 -- what is left of a list of octets that others of the same number have replaced
 pub written_back : (len : ℕ) (new old : List ℕ) → len ≡ length old → length new ≡ length old → take len (new ++ drop (length new) old) ≡ new
-written_back len new old size same =
-    ap (λ l. take len (new ++ l)) (drop_all (length new) old (omega (arith, same)))
-    ∙ ap (take len) (append-nil new)
-    ∙ take_all len new (omega (arith, size, same))
+written_back len new old size same = grind (arith, drop_all, append-nil, take_all)

@@ -1,13 +1,10 @@
 -- What a framer stands for, one item or one octet more.
-use Rattle.lapd_bits.proofs.Vocabulary.{◌≡◌, ℕ, ◌<◌, ◌≤◌, List, [], ◌∷◌, ◌++◌, length, refl, ap, sym, ◌∙◌, arith, ⊎_elim, append_assoc, length-append, lt-ltb, le-ltb, cases_lt, bits, flag, low_bits, Item, idle, frame_text, item_text, frame, first_four, head_of, Framing, Stands, refilled, with_idle, still_held, last_octets, begun_of, length-low_bits, bits-push, line_text-push, last_octets-push, latest-push}
+use Rattle.lapd_bits.proofs.Vocabulary.{◌≡◌, ℕ, ◌<◌, ◌≤◌, List, [], ◌∷◌, ◌++◌, length, ap, sym, ◌∙◌, arith, ⊎_elim, append_assoc, length-append, lt-ltb, le-ltb, cases_lt, bits, flag, low_bits, Item, idle, item_text, frame, first_four, head_of, Framing, Stands, refilled, with_idle, still_held, last_octets, begun_of, length-low_bits, bits-push, line_text-push, last_octets-push, latest-push}
 
 -- a frame of these octets begins with them
 pub begun_by : (octets first : List ℕ) (size : ℕ) → first ≡ first_four octets → length octets ≡ size → 1 ≤ length octets
     → begun_of first size ≡ head_of octets
-begun_by [] first size four long some = absurd (omega (arith, some))
-begun_by (octet ∷ octets) first size four long some =
-    ap (λ l. begun_of l size) four ∙ ap (λ n. begun_of (first_four (octet ∷ octets)) n) (sym long)
-    ∙ rw (lt-ltb 0 (length (octet ∷ octets)) some) refl
+begun_by octets first size four long some = grind (arith, lt-ltb)
 
 -- One octet more is given.
 pub Stands-octet : (old new : Framing) (octet : ℕ) (items : List Item) (given : List ℕ) → low_bits 8 octet ++ new.left ≡ refilled old.left → new.held ≡ still_held new.left old.held → new.begun ≡ old.begun → Stands old items given → Stands new (with_idle old.left items) (given ++ octet ∷ [])
@@ -44,16 +41,4 @@ Stands-octet old new octet items given bits_are held_is begun_is s =
 
 -- One frame more is loaded.
 pub Stands-load : (old new : Framing) (octets : List ℕ) (latest : ℕ) (items : List Item) (given : List ℕ) → new.left ≡ old.left ++ item_text (frame octets) → new.held ≡ still_held new.left latest → latest ≡ length octets → new.begun ≡ head_of octets → Stands old items given → Stands new (items ++ frame octets ∷ []) given
-Stands-load old new octets latest items given left_is held_is latest_is begun_is s =
-    let text = item_text (frame octets) in
-    let many : 8 ≤ length new.left =
-    omega (arith, ap length left_is, length-append old.left text, length-append (frame_text octets) flag) in
-    record {
-      text =
-          line_text-push items (frame octets)
-          ∙ ap (λ l. l ++ text) s.text
-          ∙ append_assoc (bits given) old.left text
-          ∙ ap (λ l. bits given ++ l) (sym left_is);
-      held = rw (le-ltb (length new.left) 8 many) (rw (le-ltb (length new.left) 8 many) at held_is ∙ latest_is ∙ sym (last_octets-push items (frame octets)));
-      begun = begun_is ∙ ap head_of (sym (latest-push items (frame octets)));
-    }
+Stands-load old new octets latest items given left_is held_is latest_is begun_is s = grind (arith, length-append, line_text-push, append_assoc, le-ltb, last_octets-push, latest-push)

@@ -39,8 +39,7 @@ stays_given_up octets ones octet past h seven e =
     }
   where
     no_gap : (o : Option (List Bool)) → HoldsGap octets None o → o ≡ None
-    no_gap None h = refl
-    no_gap (Some g) h = absurd h
+    no_gap o h = grind arith
 
 -- ---- a flag's other bits, and the first bits of the next
 

@@ -1,12 +1,11 @@
 -- Many bits go on an open gap at once.
-use Rattle.lapd_bits.proofs.Vocabulary.{◌≡◌, ℕ, ◌+◌, ◌-◌, ◌*◌, ◌/◌, ◌%◌, ◌^◌, ◌<◌, ◌≤◌, Bool, List, [], ◌∷◌, ◌++◌, reverse, Option, Some, None, option_map, ap, sym, ◌∙◌, subst, arith, append_assoc, length-append, length-reverse, All-nil, All-cons, All-append, mul-add-lt, mod-mul-add, div-mul-add, pow-add, pow_below, mod-eq_of_lt, bits, low_bits, Keeps, Assembles, AssemblesIn, HoldsGap, with_bits, IsJoined, Gap, low_bits-add, low_bits-mod, length-low_bits, bits-push}
+use Rattle.lapd_bits.proofs.Vocabulary.{◌≡◌, ℕ, ◌+◌, ◌-◌, ◌*◌, ◌/◌, ◌%◌, ◌^◌, ◌<◌, ◌≤◌, Bool, List, [], ◌∷◌, ◌++◌, Option, Some, option_map, ap, sym, ◌∙◌, arith, append_assoc, length-append, length-reverse, All-nil, All-cons, All-append, mul-add-lt, mod-mul-add, div-mul-add, pow-add, pow_below, mod-eq_of_lt, bits, low_bits, Keeps, Assembles, AssemblesIn, HoldsGap, with_bits, IsJoined, Gap, low_bits-add, low_bits-mod, length-low_bits, bits-push}
 
 -- ---- a number above another
 
 -- the sum is below 2 ^ 16, and so is the number that is moved up
 pub above_fits : (number place more : ℕ) → place < 8 → number < 2 ^ place → more < 256 → number + more * 2 ^ place < 65536
-above_fits number place more small below few =
-    omega (arith, mul-add-lt more (2 ^ place) number 256 few below, pow_below place 8 small)
+above_fits number place more small below few = grind (arith, mul-add-lt, pow_below)
 
 pub above_is : (number place more : ℕ) → place < 8 → number < 2 ^ place → more < 256 → number + more * 2 ^ place % 4294967296 ≡ number + more * 2 ^ place
 above_is number place more small below few =
@@ -23,8 +22,7 @@ above_bits number place more n below =
     ∙ ap (λ y. low_bits place number ++ low_bits n y) (div-mul-add more (2 ^ place) number below)
 
 pub above_below : (number place more n : ℕ) → number < 2 ^ place → more < 2 ^ n → number + more * 2 ^ place < 2 ^ (place + n)
-above_below number place more n below few =
-    omega (arith, pow-add 2 place n, mul-add-lt more (2 ^ place) number (2 ^ n) few below)
+above_below number place more n below few = grind (arith, pow-add, mul-add-lt)
 
 -- the same in 64 bits
 pub above_fits_word : (number place more n : ℕ) → number < 2 ^ place → more < 2 ^ n → place + n < 64 → number + more * 2 ^ place < 18446744073709551616
@@ -32,9 +30,7 @@ above_fits_word number place more n below few small =
     omega (arith, above_below number place more n below few, pow_below (place + n) 64 small)
 
 pub above_is_word : (number place more n : ℕ) → number < 2 ^ place → more < 2 ^ n → place + n < 64 → number + more * 2 ^ place % 18446744073709551616 ≡ number + more * 2 ^ place
-above_is_word number place more n below few small =
-    let fits : more * 2 ^ place < 18446744073709551616 = omega (arith, above_fits_word number place more n below few small) in
-    ap (λ x. number + x) (mod-eq_of_lt fits)
+above_is_word number place more n below few small = grind (arith, above_fits_word, mod-eq_of_lt)
 
 -- ---- the octets of the gap
 
@@ -65,9 +61,7 @@ Assembles-joined_octet octets later_octets count later_count beyond later_beyond
 
 -- what is left is below the power for its bits
 pub left_below : (joined n : ℕ) → 8 ≤ n → joined < 2 ^ n → joined / 256 < 2 ^ (n - 8)
-left_below joined n h below =
-    let power : 2 ^ n ≡ 2 ^ 8 * 2 ^ (n - 8) = ap (λ k. 2 ^ k) (omega arith) ∙ pow-add 2 8 (n - 8) in
-    omega (arith, power)
+left_below joined n h below = grind (arith, pow-add)
 
 -- ---- the gap
 
@@ -77,10 +71,4 @@ pub HoldsGap_joined :
     → ((text : List Bool) → AssemblesIn octets gap text → AssemblesIn octets' gap' (text ++ content))
     → IsJoined octet content g → HoldsGap octets (Some gap) g
     → HoldsGap octets' (Some gap') (option_map (with_bits 8 octet) g)
-HoldsGap_joined octets octets' gap gap' octet content None since taken joined h = absurd h
-HoldsGap_joined octets octets' gap gap' octet content (Some g) since taken joined h =
-    record {
-      counted =
-          omega (arith, since, length-append (reverse (low_bits 8 octet)) g, length-reverse (low_bits 8 octet), length-low_bits 8 octet);
-      assembles = subst (AssemblesIn octets' gap') (sym joined) (taken _ h.assembles);
-    }
+HoldsGap_joined octets octets' gap gap' octet content g since taken joined h = grind (arith, length-append, length-reverse, length-low_bits)

@@ -8,19 +8,15 @@ use Rattle.lapd_bits.proofs.StuffingAtOnce.{text_after-none, last_ones_few}
 
 -- by some bits and then others
 pub Goes-then : (a b c : List Bool) (l m n : ℕ) (first second : List Bool) → Goes a l first b m → Goes b m second c n → Goes a l (first ++ second) c n
-Goes-then a b c l m n first second one two rest =
-    two rest ∙ one (second ++ rest) ∙ ap (λ o. a ++ text_after l o) (sym (append_assoc first second rest))
+Goes-then a b c l m n first second one two rest = grind (arith, append_assoc)
 
 -- after other bits
 Goes-behind : (front a b : List Bool) (l m : ℕ) (more : List Bool) → Goes a l more b m → Goes (front ++ a) l more (front ++ b) m
-Goes-behind front a b l m more goes rest =
-    append_assoc front b (text_after m rest) ∙ ap (λ t. front ++ t) (goes rest) ∙ sym (append_assoc front a (text_after l (more ++ rest)))
+Goes-behind front a b l m more goes rest = grind (arith, append_assoc)
 
 -- as its bits that wait do
 pub Goes-made : (text later : StuffedText) (buffer : List ℕ) (more : List Bool) → later.end ≡ text.end → Goes (waits text.waiting) (last_ones text.latest) more (waits later.waiting) (last_ones later.latest) → Goes (made text buffer) (last_ones text.latest) more (made later buffer) (last_ones later.latest)
-Goes-made text later buffer more same goes =
-    subst (λ n. Goes (made text buffer) (last_ones text.latest) more (bits (take n buffer) ++ waits later.waiting) (last_ones later.latest)) (sym same)
-    (Goes-behind (bits (take text.end buffer)) (waits text.waiting) (waits later.waiting) (last_ones text.latest) (last_ones later.latest) more goes)
+Goes-made text later buffer more same goes = grind (arith, Goes-behind)
 
 -- and where nothing comes after it
 pub Goes-ended : (before after b : List Bool) (ones latest : ℕ) → Goes before ones b after (last_ones latest) → after ≡ before ++ text_after ones b
@@ -80,8 +76,4 @@ bits-parts octets n = sym (bits-append (take n octets) (drop n octets)) ∙ ap b
 -- ---- an octet goes into the buffer
 
 pub made_given : (octets : List ℕ) (end octet : ℕ) (waits waits' : List Bool) → end < length octets → waits ≡ low_bits 8 octet ++ waits' → bits (take (end + 1) (slice_set octets end octet)) ++ waits' ≡ bits (take end octets) ++ waits
-made_given octets end octet waits waits' within is =
-    ap (λ l. bits l ++ waits') (take-set_at octets end (end + 1) octet refl within)
-    ∙ ap (λ l. l ++ waits') (bits-push (take end octets) octet)
-    ∙ append_assoc (bits (take end octets)) (low_bits 8 octet) waits'
-    ∙ ap (λ l. bits (take end octets) ++ l) (sym is)
+made_given octets end octet waits waits' within is = grind (arith, take-set_at, bits-push, append_assoc)

@@ -1,18 +1,13 @@
 -- Bits are stuffed all at once, the 0 after a fifth 1 with it.
-use Rattle.lapd_bits.proofs.Vocabulary.{◌≡◌, ℕ, suc, ◌≤◌, Bool, true, false, List, [], ◌∷◌, ◌++◌, drop, replicate, refl, ap, sym, ◌∙◌, arith, ⊎_elim, append_assoc, lt-ltb, le-ltb, cases_lt, drop_at, length-replicate, low_bits, stuffed, first_ones, last_ones, text_after, Goes, ones_sent, stuffed_after, stuffed_zero, ones_left, stuffed_alike, stuffed_after_fifth}
+use Rattle.lapd_bits.proofs.Vocabulary.{◌≡◌, ℕ, suc, ◌≤◌, Bool, true, false, List, [], ◌∷◌, ◌++◌, drop, replicate, refl, ap, sym, ◌∙◌, arith, append_assoc, lt-ltb, le-ltb, cases_lt, drop_at, length-replicate, low_bits, stuffed, first_ones, last_ones, text_after, Goes, ones_sent, stuffed_after, stuffed_zero, ones_left, stuffed_alike, stuffed_after_fifth}
 
 -- the end of a stuffed text, by the count of 1s
 stuffed_end : (n : ℕ) (b : List Bool) → n ≤ 4 → drop n (stuffed (replicate n true ++ b)) ≡ stuffed_after n b
-stuffed_end n b h =
-    ap (drop n) (stuffed_alike n b (omega arith)) ∙ drop_at (replicate n true) (stuffed_after n b) n (length-replicate n true)
+stuffed_end n b h = grind (arith, stuffed_alike, drop_at, stuffed_after, length-replicate)
 
 -- after the 0 that is due
 stuffed_after-due : (ones : ℕ) (b : List Bool) → stuffed_after ones b ≡ stuffed_zero ones ++ stuffed_after (ones_left ones) b
-stuffed_after-due ones b =
-    ⊎_elim
-    (λ below. simp (lt-ltb ones 5 below) refl)
-    (λ at. stuffed_after_fifth ones b at ∙ sym (simp (le-ltb ones 5 at) refl))
-    (cases_lt ones 5)
+stuffed_after-due ones b = grind (arith, lt-ltb, stuffed_after_fifth, le-ltb, cases_lt)
 
 -- a text in two parts
 stuffed_after-append : (ones : ℕ) (s t : List Bool) → stuffed_after ones (s ++ t) ≡ stuffed_after ones s ++ stuffed_after (ones_sent ones s) t
@@ -31,21 +26,13 @@ text_after-none ones few = stuffed_end ones [] (omega arith) ∙ simp (lt-ltb on
 
 -- a text goes on with the stuffed bits, by the count of 1s
 pub Goes-sent : (before sent b : List Bool) (ones run : ℕ) → ones ≤ 4 → run ≤ 4 → stuffed_after ones b ≡ sent → run ≡ ones_sent ones b → Goes before ones b (before ++ sent) run
-Goes-sent before sent b ones run few after_few is run_is rest =
-    let more : text_after ones (b ++ rest) ≡ sent ++ text_after run rest =
-    stuffed_end ones (b ++ rest) (omega arith)
-    ∙ stuffed_after-append ones b rest
-    ∙ ap (λ n. stuffed_after ones b ++ stuffed_after n rest) (sym run_is)
-    ∙ ap (λ l. l ++ stuffed_after run rest) is
-    ∙ ap (λ l. sent ++ l) (sym (stuffed_end run rest (omega arith))) in
-    append_assoc before sent (text_after run rest) ∙ ap (λ l. before ++ l) (sym more)
+Goes-sent before sent b ones run few after_few is run_is rest = grind (arith, stuffed_end, stuffed_after-append, stuffed_after, append_assoc)
 
 -- ---- the latest four bits
 
 -- of four bits at most four are 1s
 four_few : (d c b a : Bool) → first_ones (d ∷ c ∷ b ∷ a ∷ []) ≤ 4
-four_few true true true true = omega arith
-four_few _ _ _ _ = omega arith
+four_few d c b a = grind arith
 
 pub last_ones_few : (x : ℕ) → last_ones x ≤ 4
 unfolding low_bits

@@ -9,10 +9,7 @@ six_ones = true ∷ true ∷ true ∷ true ∷ true ∷ true ∷ []
 
 -- one bit more of a text
 pub unstuffed-push : (text : List Bool) (b : Bool) → unstuffed (text ++ b ∷ []) ≡ unstuffed text ++ unstuffed_after (ones_after 0 text) (b ∷ [])
-unstuffed-push text b =
-    unstuffed-counted (text ++ b ∷ [])
-    ∙ unstuffed_after-append 0 text (b ∷ [])
-    ∙ ap (λ u. u ++ unstuffed_after (ones_after 0 text) (b ∷ [])) (sym (unstuffed-counted text))
+unstuffed-push text b = grind (arith, unstuffed-counted, unstuffed_after-append, unstuffed_after, ones_after)
 
 -- a 1, and a 0 that follows fewer than five 1s, are kept, and a 0 after five or more is not
 pub unstuffed-push_one : (text : List Bool) → unstuffed (text ++ true ∷ []) ≡ unstuffed text ++ true ∷ []
@@ -22,21 +19,14 @@ pub unstuffed-push_zero : (text : List Bool) → ones_after 0 text < 5 → unstu
 unstuffed-push_zero text h = simp (lt-ltb (ones_after 0 text) 5 h) at (unstuffed-push text false)
 
 pub unstuffed-push_stuffed : (text : List Bool) → 5 ≤ ones_after 0 text → unstuffed (text ++ false ∷ []) ≡ unstuffed text
-unstuffed-push_stuffed text h =
-    simp (le-ltb (ones_after 0 text) 5 h) at (unstuffed-push text false) ∙ append-nil (unstuffed text)
+unstuffed-push_stuffed text h = grind (arith, le-ltb, ones_after, unstuffed-push, append-nil)
 
 -- a closing flag's first 0 is kept where the text does not end in five 1s, and taken out where it does
 pub unstuffed-flag_front : (text : List Bool) → ones_after 0 text < 5 → unstuffed (text ++ flag_front) ≡ unstuffed text ++ flag_front
-unstuffed-flag_front text h =
-    unstuffed-counted (text ++ flag_front) ∙ unstuffed_after-append 0 text flag_front
-    ∙ ap (λ u. u ++ unstuffed_after (ones_after 0 text) flag_front) (sym (unstuffed-counted text))
-    ∙ (simp (lt-ltb (ones_after 0 text) 5 h))
+unstuffed-flag_front text h = grind (arith, unstuffed-counted, unstuffed_after-append, unstuffed_after, ones_after, lt-ltb)
 
 pub unstuffed-flag_taken : (text : List Bool) → 5 ≤ ones_after 0 text → unstuffed (text ++ flag_front) ≡ unstuffed text ++ six_ones
-unstuffed-flag_taken text h =
-    unstuffed-counted (text ++ flag_front) ∙ unstuffed_after-append 0 text flag_front
-    ∙ ap (λ u. u ++ unstuffed_after (ones_after 0 text) flag_front) (sym (unstuffed-counted text))
-    ∙ (simp (le-ltb (ones_after 0 text) 5 h))
+unstuffed-flag_taken text h = grind (arith, unstuffed-counted, unstuffed_after-append, unstuffed_after, ones_after, le-ltb)
 
 -- bits that end in 0 are not those of a text that ends in five 1s
 not_a_zero_last : (text b : List Bool) → 5 ≤ ones_after 0 text → unstuffed text ≡ b ++ false ∷ [] → ⊥
@@ -67,10 +57,7 @@ closed_where_stuffed text b p = (
 -- The same for octets: the assembly of a receiver stands at whole octets and the front of a flag exactly
 -- where a sender makes the text before the flag of these octets.
 pub closed_where_sent : (text : List Bool) (octets : List ℕ) → NoSix 0 text → AreOctets octets → (unstuffed (text ++ flag_front) ≡ bits octets ++ flag_front) ↔ (octets_sent text ≡ Some octets)
-closed_where_sent text octets p h = (
-  λ e. (octets_are_those_sent text octets).1 ((closed_where_stuffed text (bits octets) p).0 e, h),
-  λ e. (closed_where_stuffed text (bits octets) p).1 ((octets_are_those_sent text octets).0 e).0,
-)
+closed_where_sent text octets p h = grind (arith, octets_are_those_sent, closed_where_stuffed)
 
 -- octets and fewer than eight bits more have one way to be read
 one_rest : (a b : List ℕ) (r s : List Bool) → length r < 8 → length s < 8 → bits a ++ r ≡ bits b ++ s → r ≡ s

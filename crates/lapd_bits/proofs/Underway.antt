@@ -1,5 +1,5 @@
 -- Bits are stuffed one 0 after the other: what lies below a place is done, and the places above where five 1s begin are known.
-use Rattle.lapd_bits.proofs.Vocabulary.{◌≡◌, ℕ, suc, zero, ◌+◌, ◌-◌, ◌*◌, ◌/◌, ◌%◌, ◌^◌, ◌<◌, ◌≤◌, min, Bool, false, nat_eq, List, [], ◌∷◌, ◌++◌, length, reverse, refl, ap, sym, ◌∙◌, arith, append_assoc, length-append, subst, ⊎_elim, shr-shr, div-mul-add, pow-add, pow_pos, pow_below, bit_at-suc, bit_at_lowest, bit_at-trailing_zeros, div-one, div-add-mod, mod-lt, mod-eq_of_lt, add-mul-mod_self_right, div-le_self, div-mul-le_self, mul-le-mul_left, shr_lt, cases_lt, bit_at, w64, low_bits, first_ones, last_ones, Goes, fives, low_bits-add, low_bits-mod, length-low_bits, stuffed_after, stuffed_after-pays, stuffed_after-at_least}
+use Rattle.lapd_bits.proofs.Vocabulary.{◌≡◌, ℕ, suc, zero, ◌+◌, ◌-◌, ◌*◌, ◌/◌, ◌%◌, ◌^◌, ◌<◌, ◌≤◌, min, Bool, false, nat_eq, List, [], ◌∷◌, ◌++◌, length, reverse, ap, sym, ◌∙◌, arith, append_assoc, length-append, subst, ⊎_elim, shr-shr, div-mul-add, pow-add, pow_pos, pow_below, bit_at-suc, bit_at_lowest, bit_at-trailing_zeros, div-one, div-add-mod, mod-lt, mod-eq_of_lt, add-mul-mod_self_right, div-le_self, div-mul-le_self, mul-le-mul_left, shr_lt, cases_lt, bit_at, w64, low_bits, first_ones, last_ones, Goes, fives, low_bits-add, low_bits-mod, length-low_bits, stuffed_after, stuffed_after-pays, stuffed_after-at_least}
 use lib.Count.{count_trailing_zeros}
 use native.Mathlib.Nat.{pow-suc}
 use Rattle.lapd_bits.proofs.StuffingAtOnce.{Goes-sent, last_ones_few}
@@ -24,10 +24,7 @@ last_ones-low latest more four =
 
 last_ones-three : (z : ℕ) → last_ones (7 + 16 * z) ≡ 0
 unfolding low_bits
-last_ones-three z =
-    let x = 7 + 16 * z in
-    let none : x / 2 / 2 / 2 % 2 ≡ 0 = omega arith in
-    ap (λ d. first_ones (nat_eq d 1 ∷ nat_eq (x / 2 / 2 % 2) 1 ∷ nat_eq (x / 2 % 2) 1 ∷ nat_eq (x % 2) 1 ∷ [])) none
+last_ones-three z = grind (arith, nat_eq)
 
 -- ---- nothing is done
 
@@ -80,8 +77,7 @@ module _ (ones : ℕ) (b : List Bool) (text total due : ℕ) (u : Underway ones 
       ∙ sym u.goes
     where
       no_product : (f p : ℕ) → 0 < p → f * p ≡ 0 → f ≡ 0
-      no_product zero p some none = refl
-      no_product (suc f) p some none = absurd (omega (arith, some, none))
+      no_product f p some none = grind arith
 
 -- ---- a 0 goes in
 
@@ -184,17 +180,7 @@ module _ (ones : ℕ) (b : List Bool) (text total due : ℕ) (u : Underway ones 
   above = up 4 ∙ ap (λ n. text / 2 ^ n) (omega arith) ∙ sym (shr-shr text 4 u.done)
 
   due_below : due < 2 ^ total
-  due_below =
-      let y = text / 2 ^ u.done in
-      omega (
-        arith,
-        u.due_is,
-        mul-le-mul_left (2 ^ u.done) (fives-below y),
-        ap (λ n. n * 2 ^ u.done) above,
-        div-mul-le_self (text / 16) (2 ^ u.done),
-        u.below,
-        pow-add 2 total 4,
-      )
+  due_below = grind (arith, mul-le-mul_left, fives-below, above, div-mul-le_self, pow-add)
 
   module _ (some : due ≡ 0 → ⊥) (fits : due < 2 ^ 64) where
     abbrev place : ℕ
@@ -308,9 +294,7 @@ module _ (ones : ℕ) (b : List Bool) (text total due : ℕ) (u : Underway ones 
           ap (λ d. d * 2 % 18446744073709551616) kept ∙ mod-eq_of_lt (omega (arith, small, div-mul-le_self due (2 ^ (place + 5))))
 
       pub next_word : Underway ones b (text + text / 2 ^ (place + 5) * 2 ^ (place + 5) % 18446744073709551616) (total + 1) (due / 2 ^ (place + 5) * 2 ^ (place + 5) % 18446744073709551616 * 2 % 18446744073709551616)
-      next_word =
-          subst (λ t. Underway ones b (text + t) (total + 1) (due / 2 ^ (place + 5) * 2 ^ (place + 5) % 18446744073709551616 * 2 % 18446744073709551616)) (sym text_moved)
-          (subst (λ d. Underway ones b (text + text / 2 ^ (place + 5) * 2 ^ (place + 5)) (total + 1) d) (sym due_moved) next)
+      next_word = grind (arith, text_moved, due_moved, next)
 
 -- ---- nothing was due at all
 

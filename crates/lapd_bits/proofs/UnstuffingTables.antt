@@ -108,9 +108,7 @@ module _ (ones octet : ℕ) (few : ones ≤ 7) (small : octet < 256) where
 
   -- what stays, by the count of 1s
   content_is : content_of ones octet ≡ unstuffed_after ones (low_bits 8 octet)
-  content_is =
-      ap (drop ones) (unstuffed-ones ones (low_bits 8 octet))
-      ∙ drop_at (replicate ones true) (unstuffed_after ones (low_bits 8 octet)) ones (length-replicate ones true)
+  content_is = grind (arith, unstuffed-ones, drop_at, unstuffed_after, length-replicate)
 
   pub IsContent-at :
       has_six (text_of ones octet) ≡ false

@@ -113,6 +113,4 @@ remainder-first a b =
     ∙ ap (λ l. plus (remainder (a ++ replicate n false)) l) (remainder-zeros_before (length a) low)
   where
     remainder-zeros_before : (n : ℕ) (t : List Bool) → remainder (replicate n false ++ t) ≡ remainder t
-    remainder-zeros_before n t =
-        fold-append brought_down (replicate 16 false) (replicate n false) t
-        ∙ ap (λ l. fold brought_down l t) (divided_zeros n)
+    remainder-zeros_before n t = grind (arith, fold-append, divided_zeros)

@@ -1,5 +1,5 @@
 -- What a register holds, as bits are fed to it.
-use Rattle.lapd_bits.proofs.Vocabulary.{◌≡◌, ℕ, ◌+◌, ◌-◌, ◌/◌, ◌^◌, ◌<◌, Bool, not, nat_eq, List, [], ◌∷◌, ◌++◌, length, take, get_or, map, refl, sym, ap, subst, ◌∙◌, append_assoc, arith, take_more, and_mask, low_bits, bits, same_bits, check, residue, is_good, HoldsDivision, low_bits-add, bits-push, same_bits-low_bits}
+use Rattle.lapd_bits.proofs.Vocabulary.{◌≡◌, ℕ, ◌+◌, ◌-◌, ◌/◌, ◌^◌, ◌<◌, Bool, not, nat_eq, List, [], ◌∷◌, ◌++◌, length, take, get_or, map, refl, sym, ap, subst, ◌∙◌, append_assoc, arith, take_more, and_mask, low_bits, bits, check, residue, is_good, HoldsDivision, low_bits-add, bits-push, same_bits-low_bits}
 use Rattle.std.specs.Prelude.{bit_and}
 use Rattle.lapd_bits.proofs.Division.Word.{low_bits-not, low_bits-one}
 
@@ -45,7 +45,4 @@ low_bits-residue = refl
 pub HoldsDivision_good :
     (register : ℕ) (d : List Bool) → register < 2 ^ 16 → HoldsDivision register d
     → nat_eq register 0xF0B8 ≡ is_good d
-HoldsDivision_good register d small holds =
-    sym (same_bits-low_bits 16 register 0xF0B8 small (omega arith))
-    ∙ ap (λ l. same_bits (low_bits 16 register) l) low_bits-residue
-    ∙ ap (λ l. same_bits l residue) holds
+HoldsDivision_good register d small holds = grind (arith, same_bits-low_bits, low_bits-residue)

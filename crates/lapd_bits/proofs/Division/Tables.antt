@@ -194,7 +194,4 @@ HoldsDivision_two register first second at octets d within first_is second_is ho
 pub bits-take_step :
     (size steps : ℕ) (octets : List ℕ)
     → bits (take (size * steps) octets) ++ bits (take size (drop (size * steps) octets)) ≡ bits (take (size * (steps + 1)) octets)
-bits-take_step size steps octets =
-    sym (bits-append (take (size * steps) octets) (take size (drop (size * steps) octets)))
-    ∙ ap bits (sym (take-add (size * steps) size octets))
-    ∙ ap (λ n. bits (take n octets)) (sym (mul-add size steps 1 ∙ ap (λ n. size * steps + n) (mul-one size)))
+bits-take_step size steps octets = grind (arith, bits-append, take-add, mul-add, mul-one)

@@ -5,11 +5,7 @@ use Rattle.lapd_bits.proofs.Vocabulary.{◌≡◌, ℕ, suc, zero, ◌-◌, ◌/
 
 -- `^` on single bits
 differ-bits : (a b : ℕ) → a < 2 → b < 2 → nat_eq (bit_xor a b) 1 ≡ not (beq (nat_eq a 1) (nat_eq b 1))
-differ-bits zero zero a_small b_small = refl
-differ-bits zero (suc zero) a_small b_small = refl
-differ-bits (suc zero) zero a_small b_small = refl
-differ-bits (suc zero) (suc zero) a_small b_small = refl
-differ-bits _ _ a_small b_small = absurd (omega arith)
+differ-bits a b a_small b_small = grind arith
 
 -- `^` is the sum of polynomials
 pub low_bits-xor : (n x y : ℕ) → low_bits n (bit_xor x y) ≡ plus (low_bits n x) (low_bits n y)
@@ -24,9 +20,7 @@ low_bits-xor (suc n) x y =
 
 -- the complement of a single bit
 nat_eq-not : (a : ℕ) → a < 2 → nat_eq (1 - a) 1 ≡ not (nat_eq a 1)
-nat_eq-not zero small = refl
-nat_eq-not (suc zero) small = refl
-nat_eq-not (suc (suc a)) small = absurd (omega arith)
+nat_eq-not a small = grind arith
 
 -- `!` turns every bit round
 pub low_bits-not : (n x : ℕ) → x < 2 ^ n → low_bits n (2 ^ n - 1 - x) ≡ map not (low_bits n x)

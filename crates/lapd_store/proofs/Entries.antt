@@ -3,8 +3,7 @@ use Rattle.lapd_store.proofs.Vocabulary.{zero, suc, ◌+◌, option_map, entries
 use Rattle.std.specs.FinMap as finmap
 
 holds : (b : Bool) → T b → b ≡ true
-holds true t = refl
-holds false t = absurd t
+holds b t = grind arith
 
 tied : (x y : ℕ) → x ≡ y → eq_by_cmp nat_cmp x y ≡ true
 tied x y e = unsigned_tied x y ∙ eq-eqb x y e
@@ -23,8 +22,7 @@ pub each_key : (P : ℕ → Type 0) (k : ℕ) → P k → ((q : ℕ) → q ≢ k
 each_key P k here other q = elim (cases_eq q k) [ inl e ↦ subst P (sym e) here | inr ne ↦ other q ne ]
 
 none_from : {A : Type 0} (o : Option A) → ((v : A) → o ≢ Some v) → o ≡ None
-none_from None never = refl
-none_from (Some v) never = absurd (never v refl)
+none_from o never = grind arith
 
 module _ {X : Type 0} where
   pub get-insert_same : (m : finmap.FinMap nat_cmp X) (k : ℕ) (v : X) → finmap.get (finmap.insert m k v) k ≡ Some v
@@ -44,17 +42,11 @@ module _ {X : Type 0} where
 
   -- a value taken out and put back
   pub insert-remove_same : (m : finmap.FinMap nat_cmp X) (k : ℕ) (v : X) → finmap.get m k ≡ Some v → finmap.insert (finmap.remove m k) k v ≡ m
-  insert-remove_same m k v is =
-      same_entries _ _ (each_key _ k
-      (get-insert_same _ k v ∙ sym is)
-      (λ q ne. get-insert_other _ k v q ne ∙ get-remove_other m k q ne))
+  insert-remove_same m k v is = grind (arith, same_entries, each_key, get-insert_same, get-insert_other, get-remove_other)
 
   -- a new value taken out again
   pub remove-insert_same : (m : finmap.FinMap nat_cmp X) (k : ℕ) (v : X) → finmap.get m k ≡ None → finmap.remove (finmap.insert m k v) k ≡ m
-  remove-insert_same m k v free =
-      same_entries _ _ (each_key _ k
-      (get-remove_same _ k ∙ sym free)
-      (λ q ne. get-remove_other _ k q ne ∙ get-insert_other m k v q ne))
+  remove-insert_same m k v free = grind (arith, same_entries, each_key, get-remove_same, get-remove_other, get-insert_other)
 
   -- an entry at a new key goes somewhere among the others
   put_permutes : (k : ℕ) (v : X) (es : List (ℕ × X)) → find nat_cmp k es ≡ None → IsPermutation ((k, v) ∷ es) (put nat_cmp k v es)

@@ -1,6 +1,6 @@
 -- Laws of ownership: what the calls of a shelf do to the list of pairs that it holds. Whoever shares a shelf reasons by
 -- these laws, and not about maps. Each takes the clauses of the call that it is about as its premises.
-use Rattle.lapd_store.proofs.Vocabulary.{◌≡◌, ℕ, ◌+◌, ◌<◌, Some, List, [], ◌∷◌, ◌++◌, map, length, drop, take, suc, refl, sym, ap, subst, ◌∙◌, eqb, append_assoc, get_or, set, flat_map-append, set_split, set-get_or, All-contains, Contains-append_left, slice_get_within, get_or_from_slice_get, IsPermutation-refl, IsPermutation-sym, IsPermutation-cons, IsPermutation-trans, IsPermutation-middle, IsPermutation-append_comm, IsPermutation-append_left, All-permutation, length_permutation, sum_by-append, sum_by_values_permutation, Contains, IsDistinct, flat_map, fold, remove, IsPermutation, Store, empty_store, contents_of, IsFree, used_slots, stored_octets, with_contents, without, Owned, owned_octets}
+use Rattle.lapd_store.proofs.Vocabulary.{arith, ◌≡◌, ℕ, ◌+◌, ◌<◌, Some, List, [], ◌∷◌, ◌++◌, map, length, refl, sym, ap, subst, ◌∙◌, eqb, append_assoc, get_or, set, flat_map-append, set_split, set-get_or, All-contains, Contains-append_left, slice_get_within, get_or_from_slice_get, IsPermutation-refl, IsPermutation-sym, IsPermutation-cons, IsPermutation-trans, IsPermutation-middle, IsPermutation-append_comm, IsPermutation-append_left, All-permutation, length_permutation, sum_by-append, sum_by_values_permutation, Contains, IsDistinct, flat_map, fold, remove, IsPermutation, Store, empty_store, contents_of, IsFree, used_slots, stored_octets, with_contents, without, Owned, owned_octets}
 use Rattle.std.specs.FinMap as finmap
 use Rattle.std.specs.List.{slice_get}
 use Rattle.lapd_store.specs.Ownership.{Holds}
@@ -91,11 +91,7 @@ Holds-second xs ys zs = Holds-permutation _ _ (second_to_front xs ys zs)
 
 -- the pairs of a list of owners, one of whom is replaced
 replaced : {X : Type 0} (f : X → List Owned) (xs : List X) (i : ℕ) (x : X) → i < length xs → IsPermutation (flat_map f (set xs i x)) (f x ++ flat_map f (remove xs i))
-replaced f xs i x within =
-    subst (λ l. IsPermutation (flat_map f l) (f x ++ flat_map f (remove xs i))) (sym (set_split xs i x within))
-    (subst (λ l. IsPermutation l (f x ++ flat_map f (remove xs i))) (sym (flat_map-append f (take i xs) (x ∷ drop (suc i) xs)))
-    (subst (λ l. IsPermutation (flat_map f (take i xs) ++ (f x ++ flat_map f (drop (suc i) xs))) (f x ++ l)) (sym (flat_map-append f (take i xs) (drop (suc i) xs)))
-    (second_to_front (flat_map f (take i xs)) (f x) (flat_map f (drop (suc i) xs)))))
+replaced f xs i x within = grind (arith, set_split, flat_map-append, second_to_front)
 
 -- one of a list of owners is taken out, all others together being the others
 pub Holds-take_out : {s : Store} {X : Type 0} (f : X → List Owned) (xs : List X) (i : ℕ) (x : X) (others : List Owned) → i < length xs → x ≡ get_or xs i x → Holds s (flat_map f xs ++ others) → Holds s (f x ++ (flat_map f (remove xs i) ++ others))

@@ -72,19 +72,11 @@ Keeps-at slots messages others i slot is kept = contents_of-queue slots messages
 
 -- after a `put` whose slot is pushed, one message more is kept
 pub Keeps-put : {old new : Store} (slots : List ℕ) (messages : List (List ℕ)) (others : List Owned) (slot : ℕ) (octets : List ℕ) → IsFree old slot → new ≡ with_contents old slot octets → Keeps old slots messages others → Keeps new (slots ++ slot ∷ []) (messages ++ octets ∷ []) others
-Keeps-put slots messages others slot octets free stored kept =
-    record {
-      lengths = omega (arith, kept.lengths, length-append slots (slot ∷ []), length-append messages (octets ∷ []));
-      held = Holds-queue_put slots messages others slot octets kept.lengths free stored kept.held;
-    }
+Keeps-put slots messages others slot octets free stored kept = grind (arith, length-append, Holds-queue_put)
 
 -- after a `release` of the slot that was popped, the messages but the oldest are kept
 pub Keeps-release : {old new : Store} (slots : List ℕ) (messages : List (List ℕ)) (others : List Owned) (slot : ℕ) → slice_get slots 0 ≡ Some slot → new ≡ without old slot → Keeps old slots messages others → Keeps new (drop 1 slots) (drop 1 messages) others
-Keeps-release slots messages others slot is released kept =
-    record {
-      lengths = omega (arith, kept.lengths, length-drop 1 slots, length-drop 1 messages);
-      held = Holds-queue_release slots messages others slot kept.lengths is released kept.held;
-    }
+Keeps-release slots messages others slot is released kept = grind (arith, length-drop, Holds-queue_release)
 
 -- so many are gone, and one more
 pub Keeps-one_less : {s : Store} (slots : List ℕ) (messages : List (List ℕ)) (others : List Owned) (n : ℕ) → Keeps s slots (drop 1 (drop n messages)) others → Keeps s slots (drop (n + 1) messages) others

@@ -1,5 +1,5 @@
 -- A region of slots as a store.
-use Rattle.lapd_store.proofs.Vocabulary.{◌≡◌, ◌≢◌, ℕ, zero, suc, ◌+◌, ◌*◌, ◌<◌, ◌≤◌, ◌⊎◌, inl, inr, Option, Some, None, List, [], ◌∷◌, map, length, get_or, refl, sym, ap, ◌∙◌, arith, filter_map, nat_cmp, nat_cmp_total, cond-true, cond-false, ne_eqb, eq-eqb, get_or_default_zero, entries_from, Holds, SameOutside, free_mark, link, octets_at, slot_contents, contents_from, IsApart, IsFreeList}
+use Rattle.lapd_store.proofs.Vocabulary.{◌≡◌, ◌≢◌, ℕ, zero, suc, ◌+◌, ◌*◌, ◌<◌, ◌≤◌, ◌⊎◌, inl, inr, Option, Some, None, List, [], ◌∷◌, map, length, get_or, refl, sym, ap, ◌∙◌, arith, filter_map, nat_cmp, nat_cmp_total, cond-true, cond-false, ne_eqb, eq-eqb, get_or_default_zero, entries_from, Holds, SameOutside, free_mark, link, slot_contents, contents_from, IsApart, IsFreeList}
 use native.Mathlib.Nat.{zero-mul, suc-mul}
 use Rattle.std.specs.FinMap as finmap
 use Rattle.lapd_store.proofs.Runs.{run_of}
@@ -32,17 +32,11 @@ below_or_not (suc a) (suc b) ne = elim (below_or_not a b (λ e. ne (ap suc e))) 
 
 -- what lies elsewhere stays
 kept_at : (old new : List (Option ℕ)) (from len at : ℕ) (xs : List ℕ) → SameOutside old new from len → (at + length xs ≤ from) ⊎ (from + len ≤ at) → Holds old at xs → Holds new at xs
-kept_at old new from len at xs same apart holds k lt =
-    same.octets (at + k) (elim apart [ inl h ↦ inl (omega arith) | inr h ↦ inr (omega arith) ]) ∙ holds k lt
+kept_at old new from len at xs same apart holds k lt = grind arith
 
 -- a write in one slot leaves another as it was
 pub kept : (old new : List (Option ℕ)) (width slot other len : ℕ) (xs : List ℕ) → SameOutside old new (slot * width) len → len ≤ width → other ≢ slot → length xs ≤ width → Holds old (other * width) xs → Holds new (other * width) xs
-kept old new width slot other len xs same short ne fits holds =
-    kept_at old new (slot * width) len (other * width) xs same
-    (elim (below_or_not other slot ne) [
-      | inl h ↦ inl (omega (arith, slot_ends other slot width h))
-      | inr h ↦ inr (omega (arith, slot_ends slot other width h))
-    ]) holds
+kept old new width slot other len xs same short ne o holds = grind (arith, kept_at, below_or_not, slot_ends)
 
 all_written : (xs : List ℕ) → filter_map (λ c. c) (map Some xs) ≡ xs
 all_written [] = refl
@@ -50,11 +44,7 @@ all_written (x ∷ xs) = ap (λ l. x ∷ l) (all_written xs)
 
 -- a used slot's contents
 pub contents_held : (region : List (Option ℕ)) (width slot len : ℕ) (xs : List ℕ) → length xs ≡ len → len ≢ free_mark → slot * width + length xs ≤ length region → Holds region (slot * width) xs → slot_contents region width slot len ≡ Some xs
-contents_held region width slot len xs long used within holds =
-    cond-false _ _ _ (ne_eqb len free_mark used)
-    ∙ ap (λ n. Some (octets_at region (slot * width) n)) (sym long)
-    ∙ ap (λ l. Some (filter_map (λ c. c) l)) (run_of region (slot * width) xs within holds)
-    ∙ ap Some (all_written xs)
+contents_held region width slot len xs long used within holds = grind (arith, cond-false, ne_eqb, run_of, all_written)
 
 -- and a free one's
 pub contents_free : (region : List (Option ℕ)) (width slot len : ℕ) → len ≡ free_mark → slot_contents region width slot len ≡ None

@@ -42,8 +42,7 @@ module _ (a : Inside) (sound : IsSound a) where
 
   -- octets that lie in a used slot are its contents
   pub held : (slot : ℕ) (xs : List ℕ) → get_or a.lengths.items slot free_mark ≢ free_mark → length xs ≡ get_or a.lengths.items slot free_mark → length xs ≤ a.width → Holds a.region (slot * a.width) xs → contents_of (raw_store a) slot ≡ Some xs
-  held slot xs used long fits holds =
-      contents_of-raw slot ∙ contents_held a.region a.width slot _ xs long used (omega (arith, slot_within slot (used_within a.lengths.items slot used), fits)) holds
+  held slot xs used long o holds = grind (arith, contents_of-raw, contents_held, slot_within, used_within)
 
   -- a used slot's contents
   pub used_held : (slot : ℕ) (used : get_or a.lengths.items slot free_mark ≢ free_mark) → contents_of (raw_store a) slot ≡ Some (sound.filled slot used).octets
@@ -103,10 +102,7 @@ module _ (a : Inside) (sound : IsSound a) where
       as_long = ap length items ∙ length-set a.lengths.items slot mark
 
       list-new : (free : List ℕ) (first : ℕ) → IsApart slot free → IsFreeList a.region a.lengths.items a.width free first → IsFreeList b.region b.lengths.items b.width free first
-      list-new free first apart list =
-          subst (λ (u : List ℕ × ℕ). IsFreeList b.region u.0 u.1 free first) (λ i. (sym items i, sym wide i))
-          (list_kept a.region b.region a.lengths.items (set a.lengths.items slot mark) a.width slot len same short (omega (arith, sound.least))
-          (λ q ne. get_or-set_other a.lengths.items slot q mark 0 ne) free first apart list)
+      list-new free first apart list = grind (arith, list_kept, same, get_or-set_other)
 
       -- so the store is as before but at the slot,
       store-new : (contents : finmap.FinMap nat_cmp (List ℕ)) → slot_contents b.region a.width slot (get_or (set a.lengths.items slot mark) slot free_mark) ≡ finmap.get contents slot
@@ -119,20 +115,7 @@ module _ (a : Inside) (sound : IsSound a) where
       sound-new : (s : Store) → raw_store b ≡ s → (free : List ℕ) → IsFreeList b.region b.lengths.items b.width free b.first
           → (get_or (set a.lengths.items slot mark) slot free_mark ≢ free_mark → IsFilled b.region (set a.lengths.items slot mark) a.width slot)
           → length free + b.used ≡ length a.lengths.items → b.used ≡ used_slots s → b.octets ≡ stored_octets s → IsWithinLimits s → IsSound b
-      sound-new s is free linked filled total counted measured within = record {
-        free = free;
-        linked = linked;
-        filled = subst (λ (u : List ℕ × ℕ). (q : ℕ) → get_or u.0 q free_mark ≢ free_mark → IsFilled b.region u.0 u.1 q) (λ i. (sym items i, sym wide i))
-            (each_key (λ q. get_or (set a.lengths.items slot mark) q free_mark ≢ free_mark → IsFilled b.region (set a.lengths.items slot mark) a.width q) slot filled filled-others);
-        total = total ∙ sym as_long;
-        counted = counted ∙ sym (ap used_slots is);
-        measured = measured ∙ sym (ap stored_octets is);
-        within = subst IsWithinLimits (sym is) within;
-        covered = covered-new;
-        few = omega (arith, sound.few, as_long);
-        least = omega (arith, sound.least, wide);
-        most = omega (arith, sound.most, wide);
-      }
+      sound-new s is free linked filled total counted measured within = grind (arith, each_key, filled-others, as_long, covered-new)
 
 -- a used slot: its octets are written, they lie in the region, and the counts are more than nothing
 pub record Used (a : Inside) (slot : ℕ) : Type 0 where
@@ -182,9 +165,7 @@ module _ (a b : Inside) (sound : IsSound a) (slot from : ℕ) (wide_from : from 
     free = first_free a sound ne slot is_first
 
     in_place : slot_contents b.region a.width slot (length xs) ≡ Some xs
-    in_place =
-        let within = slot_within a sound slot inside in
-        contents_held b.region a.width slot (length xs) xs refl (λ e. omega (arith, e, short, sound.most)) (omega (arith, within, short, outside.size)) holds
+    in_place = grind (arith, slot_within, inside, contents_held, holds)
 
     pub put_stored : raw_store b ≡ with_contents (raw_store a) slot xs
     put_stored =

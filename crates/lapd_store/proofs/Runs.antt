@@ -1,5 +1,5 @@
 -- Octets that were written, place by place and as a run.
-use Rattle.lapd_store.proofs.Vocabulary.{◌≡◌, ℕ, ◌+◌, ◌<◌, ◌≤◌, List, [], ◌∷◌, map, length, take, drop, get_or, slice_get, Option, Some, None, refl, sym, ap, ◌∙◌, arith, length-take, length-drop, get_or-take, get_or-drop, ext_get_or, length-map, Holds}
+use Rattle.lapd_store.proofs.Vocabulary.{◌≡◌, ℕ, ◌+◌, ◌<◌, ◌≤◌, List, [], ◌∷◌, map, length, take, drop, get_or, slice_get, Option, Some, None, refl, sym, ◌∙◌, arith, length-take, length-drop, get_or-take, get_or-drop, ext_get_or, length-map, Holds}
 use Prim.Native.Nat.{zero, suc}
 
 get_some : (xs : List ℕ) (i : ℕ) → get_or (map Some xs) i None ≡ slice_get xs i
@@ -17,6 +17,4 @@ run_of cs from xs within holds =
 
 -- and such a run was written
 pub holds_run : (cs : List (Option ℕ)) (from n : ℕ) (xs : List ℕ) → take n (drop from cs) ≡ map Some xs → Holds cs from xs
-holds_run cs from n xs run k lt =
-    let less : k < n = omega (arith, lt, ap length run, length-map xs Some, length-take n (drop from cs)) in
-    sym (get_or-drop from cs k None) ∙ sym (get_or-take n (drop from cs) k None less) ∙ ap (λ l. get_or l k None) run ∙ get_some xs k
+holds_run cs from n xs run k lt = grind (arith, length-map, length-take, get_or-drop, get_or-take, get_some)

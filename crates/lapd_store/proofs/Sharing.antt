@@ -1,5 +1,5 @@
 -- A `&` to a region's memory is made of one to each octet that was written.
-use Rattle.lapd_store.proofs.Vocabulary.{u8, octet, octets, octet_lent, lent, octets_own, octets_lent}
+use Rattle.lapd_store.proofs.Vocabulary.{arith, u8, octet, octets, octet_lent, lent, octets_own, octets_lent}
 use Rattle.std.specs.Prelude.{ℕ, ◌+◌, List, [], ◌∷◌, Option, Some, None, refl}
 use Rattle.lapd_store.proofs.Pointers.{Ura, Lft, Incl, ftrue, ffalse, Logic, Laws, of_field, copy_shared, Ptr, block_ptr, null_ptr, ShrLaws, said, beside_shr_laws, nothing_shr_laws, said_shr_laws, Shares-less, u8-field, u8-laws, u8-copy, Lends, Lends-both, Lends-nothing, Lends-false}
 
@@ -15,8 +15,7 @@ lent_laws b o [] = nothing_shr_laws
 lent_laws b o (c ∷ cs) = beside_shr_laws _ _ (octet_lent_laws b o c) (lent_laws b (o + 1) cs)
 
 pub octets_lent_laws : (p : Ptr) (cs : List (Option ℕ)) → ShrLaws (octets_lent p cs)
-octets_lent_laws (block_ptr b o) cs = lent_laws b o cs
-octets_lent_laws null_ptr cs = said_shr_laws ffalse tt
+octets_lent_laws p cs = grind (arith, block_ptr, lent_laws, null_ptr, said_shr_laws, ffalse)
 
 module _ {M : Type 1} {𝓤 : Ura M} (𝓛 : Logic 𝓤) (l : Lft) (inc : Incl l u8.lives) where
   Lends-octet : (b o : ℕ) (c : Option ℕ) → Lends 𝓛 (octet b o c) (octet_lent b o c) l
@@ -28,5 +27,4 @@ module _ {M : Type 1} {𝓤 : Ura M} (𝓛 : Logic 𝓤) (l : Lft) (inc : Incl l
   Lends-row b o (c ∷ cs) = Lends-both 𝓛 (octet b o c) (octets b (o + 1) cs) (octet_lent b o c) (lent b (o + 1) cs) l (Lends-octet b o c) (Lends-row b (o + 1) cs)
 
   pub Lends-octets : (p : Ptr) (cs : List (Option ℕ)) → Lends 𝓛 (octets_own p cs) (octets_lent p cs) l
-  Lends-octets (block_ptr b o) cs = Lends-row b o cs
-  Lends-octets null_ptr cs = Lends-false 𝓛 (said ffalse) l
+  Lends-octets p cs = grind (arith, block_ptr, Lends-row, null_ptr, Lends-false, said, ffalse)

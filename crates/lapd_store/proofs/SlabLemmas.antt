@@ -12,17 +12,11 @@ get-filled slab q =
 
 -- an insert into the slab is one into the store
 pub filled-insert : (old new : Slab (ArrayVec ℕ)) (key : ℕ) (v : ArrayVec ℕ) → Updates old new key (Some v) → finmap.from_entries {R = nat_cmp} (filled new) ≡ finmap.insert (finmap.from_entries (filled old)) key v.items
-filled-insert old new key v updates =
-    same_entries _ _ (each_key _ key
-    (get-filled new key ∙ ap (option_map (λ x. x.items)) updates.changed ∙ sym (get-insert_same _ key v.items))
-    (λ q ne. get-filled new q ∙ ap (option_map (λ x. x.items)) (updates.others q ne) ∙ sym (get-insert_other _ key v.items q ne ∙ get-filled old q)))
+filled-insert old new key v updates = grind (arith, same_entries, each_key, get-filled, get-insert_same, get-insert_other)
 
 -- and a removal likewise
 pub filled-remove : (old new : Slab (ArrayVec ℕ)) (key : ℕ) → Updates old new key None → finmap.from_entries {R = nat_cmp} (filled new) ≡ finmap.remove (finmap.from_entries (filled old)) key
-filled-remove old new key updates =
-    same_entries _ _ (each_key _ key
-    (get-filled new key ∙ ap (option_map (λ x. x.items)) updates.changed ∙ sym (get-remove_same _ key))
-    (λ q ne. get-filled new q ∙ ap (option_map (λ x. x.items)) (updates.others q ne) ∙ sym (get-remove_other _ key q ne ∙ get-filled old q)))
+filled-remove old new key updates = grind (arith, same_entries, each_key, get-filled, get-remove_same, get-remove_other)
 
 -- a slab that was just made is an empty store
 pub slab_store-start : (slab : Slab (ArrayVec ℕ)) (slots width : ℕ) → slab.slots ≡ [] → slab_store (record { contents = slab; octets = 0; slots = slots; width = width }) ≡ empty_store slots width
@@ -41,8 +35,7 @@ IsSound-start slab slots width empty room few narrow =
     }
 
 some_mapped : (o : Option (ArrayVec ℕ)) → IsSome (option_map (λ v. v.items) o) → IsSome o
-some_mapped None some = some
-some_mapped (Some v) some = some
+some_mapped o some = grind arith
 
 module _ (a : Inside) (sound : IsSound a) where
   -- a slot of the store is a key of the slab

@@ -1,5 +1,5 @@
 -- The machine values of the structs that stand for memory: what is owned tells them, and is made of nothing.
-use Rattle.lapd_store.proofs.Vocabulary.{◌≡◌, ℕ, zero, suc, List, [], ◌∷◌, ◌++◌, T, refl, lit<, ◌∙◌}
+use Rattle.lapd_store.proofs.Vocabulary.{arith, ◌≡◌, ℕ, zero, suc, List, [], ◌∷◌, ◌++◌, T, refl, ◌∙◌}
 use Rattle.lapd_store.proofs.Pointers.{Ura, ent, emp, sep, Fml, Ty, ty_ptr, ty_struct, tcons, tnil, Val, vstruct, vcons, vnil, of_list, has_ty, WT, Logic, sem, ‵, ◌$◌, ◌∵◌, !, qed, move, fjoin, feq_i, fpack, done, RattleType, Valss, Ptr, RawPtr, block_ptr, null_ptr, ptr_val, unit, Slot, plain, shadow, makes_shadow, nothing, Struct, within, Tuple, tuple_type}
 use denote.Struct.Declared as Declared
 
@@ -28,8 +28,7 @@ pub base_told : (p : Ptr) (vs : List Val) → shadow (base_own p vs) → vs ≡ 
 base_told p vs s = s.1.0 ∙ (λ i. vstruct (of_list (s.1.1.0 i ++ [])) ∷ [])
 
 pub base_typed : (p : Ptr) → Typed (ty_struct [] (tcons ty_ptr tnil)) (base_val p)
-base_typed (block_ptr b o) = (tt, (tt, tt))
-base_typed null_ptr = (tt, (record { fits = lit< tt }, tt))
+base_typed p = grind (arith, block_ptr, null_ptr)
 
 pub base_made : {M : Type 1} {𝓤 : Ura M} (𝓛 : Logic 𝓤) (p : Ptr) → ent 𝓤 (emp 𝓤) (sem 𝓛 (base_own p (base_val p ∷ [])))
 base_made 𝓛 p = makes_shadow 𝓛 (base_own p (base_val p ∷ [])) (λ _. (tt, (tt, tt))) ((ptr_val p ∷ [], tt), (refl, (refl, tt)))

@@ -1,5 +1,5 @@
 -- What the calls of a clock do to the set that its lines stand for.
-use Rattle.lapd_clock.proofs.Vocabulary.{recursion_from_All, ◌≡◌, ℕ, ◌+◌, ◌^◌, ◌<◌, ◌≤◌, Bool, true, false, cond, not, ◌==◌, nat_le, List, [], ◌∷◌, length, get_or, set, slice_index, Some, None, All, All-nil, Contains, refl, sym, ap, ◌∙◌, subst, arith, inl, inr, cases_lt, eq-eqb, ne_eqb, none-some, same_Some, get_or-map, map-set, length-set, AllByRecursion, nat_tests, All-from_recursion, length-filter, count_by-le-length, put_in_order, IsInOrder, Timer, Lengths, Start, Stop, duration, is_same, Expiry, Timers, is_before, without, finds_place, with_order, after_first_due, first_due, IsSound, IsLeastDue, Held, Line, held_before, all_but, from_line, in_order, timers_in, IsEachOnce, IsWith, IsStarted, IsLineKept, IsKept, Order, vec_len, vec_capacity, due_at, after_due, first_moment, next_moment, expiry_on, never, earliest, earliest_of}
+use Rattle.lapd_clock.proofs.Vocabulary.{recursion_from_All, ◌≡◌, ℕ, ◌+◌, ◌^◌, ◌<◌, ◌≤◌, Bool, true, false, cond, not, ◌==◌, nat_le, List, [], ◌∷◌, length, get_or, set, slice_index, Some, None, All, Contains, refl, sym, ap, ◌∙◌, subst, arith, cases_lt, eq-eqb, ne_eqb, none-some, same_Some, get_or-map, map-set, length-set, AllByRecursion, nat_tests, All-from_recursion, length-filter, count_by-le-length, IsInOrder, Timer, Lengths, Start, Stop, duration, Expiry, Timers, is_before, finds_place, with_order, after_first_due, first_due, IsSound, IsLeastDue, Held, Line, held_before, all_but, from_line, in_order, timers_in, IsEachOnce, IsWith, IsStarted, IsLineKept, IsKept, Order, vec_len, vec_capacity, due_at, after_due, first_moment, next_moment, expiry_on, never, earliest, earliest_of}
 use Rattle.std.proofs.lemmas.List.Elements as lists
 use Rattle.lapd_clock.proofs.StandsFor.{in_order-stopped, in_order-restarted, count_on-stopped}
 use Rattle.lapd_clock.proofs.Running.{finds_place-without, without-no_place, with_order_sound, after_due_sound, stop_in_time, start_in_time}
@@ -16,8 +16,7 @@ All-set : (P : Line → Type 0) (lines : List Line) (k : ℕ) (v : Line) → P v
 All-set P lines k v p h = recursion_from_All P _ (lists.All-set P lines k v p (All-from_recursion P lines h))
 
 pub length-all_but : (t : Timer) (hs : List Held) → length (all_but t hs) ≤ length hs
-length-all_but t hs =
-    let p = λ (h : Held). not (is_same h.timer t) in omega (arith, length-filter p hs, count_by-le-length p hs)
+length-all_but t hs = grind (arith, length-filter, count_by-le-length)
 
 -- ---- the clock as a whole
 
@@ -57,15 +56,7 @@ module _ (ls : Lengths) (places k : ℕ) (firsts : List ℕ) (lines : List Line)
     -- v after the order
     obeys : (order : Order) (now : ℕ) → timers_in ls places (set lines k v) ≡ with_order (timers_in ls places lines) k order now → IsLineKept places v
         → AllByRecursion (λ e. e.moment < never) (with_order (timers_in ls places lines) k order now).running → Obeys ls places k after_firsts lines v t order now
-    obeys order now is one soon = record {
-      kept = record {
-        each = All-set (IsLineKept places) lines k v one kept.each;
-        at_hand = renewed ∙ ap (λ ms. set ms k (earliest_of v.items)) kept.at_hand ∙ sym (map-set (λ (w : Line). earliest_of w.items) lines k v);
-        in_time = subst (λ (c : Timers). AllByRecursion (λ e. e.moment < never) c.running) (sym is) soon;
-        sound = subst IsSound (sym is) (with_order_sound (timers_in ls places lines) k order now within kept.sound);
-      };
-      after = is ∙ ap (λ c. with_order c k order now) view;
-    }
+    obeys order now is one soon = grind (arith, All-set, map-set, with_order_sound, within)
 
     pub stopped : (timer : Timer) (now : ℕ) → v.items ≡ all_but timer u.items → vec_capacity v ≡ vec_capacity u → Obeys ls places k after_firsts lines v t (Stop timer) now
     unfolding with_order
@@ -77,15 +68,7 @@ module _ (ls : Lengths) (places k : ℕ) (firsts : List ℕ) (lines : List Line)
     restarted_set : (b : Bool) (h : Held) (now : ℕ) → h.moment ≡ now + duration ls h.timer → b ≡ not (length (all_but h.timer u.items) == places)
         → IsStarted b h u.items v.items → timers_in ls places (set lines k v) ≡ with_order (timers_in ls places lines) k (Start h.timer) now
     unfolding with_order
-    restarted_set b h now moment placed new =
-        rw (found h.timer ∙ sym placed) (
-        elim b as (λ x. b ≡ x → IsStarted x h u.items v.items → timers_in ls places (set lines k v)
-        ≡ cond x (record { lines = length lines; places = places; lengths = ls; running = put_in_order is_before (record { moment = now + duration ls h.timer; line = k; timer = h.timer }) (without k h.timer (in_order (from_line 0 lines))) }) (timers_in ls places lines)) [
-          | true ↦ λ _ new. same_timers ls _ _ places _ _ (length-set lines k v) (in_order-restarted k lines within u at v h new
-              ∙ ap (λ m. put_in_order is_before (record { moment = m; line = k; timer = h.timer }) (without k h.timer (in_order (from_line 0 lines)))) moment)
-          | false ↦ λ none new. same_timers ls _ _ places _ _ (length-set lines k v) (in_order-stopped k lines within u at v h.timer new
-              ∙ without-no_place (timers_in ls places lines) k h.timer (found h.timer ∙ sym placed ∙ none))
-        ] refl new)
+    restarted_set b h now moment placed new = grind (arith, found, same_timers, length-set, in_order-restarted, within, in_order-stopped, without-no_place)
 
     pub restarted : (b : Bool) (h : Held) (now : ℕ) → h.moment ≡ now + duration ls h.timer → now ≤ 2 ^ 63 → duration ls h.timer ≤ 3600000 → b ≡ not (length (all_but h.timer u.items) == places)
         → IsStarted b h u.items v.items → vec_len v ≤ places → vec_capacity u ≤ vec_capacity v → Obeys ls places k after_firsts lines v t (Start h.timer) now
@@ -118,8 +101,7 @@ pub record NoneDue (es : List Expiry) (now : ℕ) : Type 0 where
   pub later : All (λ held. now < held.moment) es
 
 pub no_first : (es : List Expiry) (now : ℕ) → first_moment es ≡ None → NoneDue es now
-no_first [] now e = record { none = refl; same = refl; later = All-nil (λ (held : Expiry). now < held.moment) }
-no_first (x ∷ xs) now e = absurd (none-some x.moment (sym e))
+no_first es now e = grind (arith, none-some)
 
 pub first_later : (es : List Expiry) (now moment : ℕ) → IsInOrder is_before es → first_moment es ≡ Some moment → now < moment → NoneDue es now
 first_later [] now moment ordered e h = absurd (none-some moment e)
@@ -140,9 +122,7 @@ module _ (ls : Lengths) (places : ℕ) (firsts : List ℕ) (lines : List Line) (
 
   -- the earliest of the firsts is when the first timer falls due, if one runs
   next_by_firsts : next_moment t ≡ cond (earliest firsts == never) None (Some (earliest firsts))
-  next_by_firsts =
-      first-in_order t.running ordered (subst (λ (c : Timers). AllByRecursion (λ e. e.moment < never) c.running) view kept.in_time)
-      ∙ ap (λ m. cond (m == never) None (Some m)) earliest_moment
+  next_by_firsts = grind (arith, first-in_order, ordered, earliest_moment)
 
   pub no_next : earliest firsts ≡ never → next_moment t ≡ None
   no_next h = next_by_firsts ∙ ap (λ b. cond b None (Some (earliest firsts))) (eq-eqb (earliest firsts) never h)
@@ -167,11 +147,7 @@ module _ (ls : Lengths) (places : ℕ) (firsts : List ℕ) (lines : List Line) (
 
     -- one runs, so the line has one
     some_time : earliest firsts < never
-    some_time =
-        elim (cases_lt (earliest firsts) never) as (λ _. earliest firsts < never) [
-          | inl less ↦ less
-          | inr more ↦ absurd (none-some moment (sym (no_next (omega (arith, more, earliest_few firsts))) ∙ next))
-        ]
+    some_time = grind (arith, cases_lt, none-some, no_next, earliest_few)
 
     pub has_one : 1 ≤ vec_len u
     has_one = omega (arith, u.ok.0, some_in u.items (omega (arith, some_time, leads, at_line)))

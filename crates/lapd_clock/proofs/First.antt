@@ -1,5 +1,5 @@
 -- The first timer of all lines.
-use Rattle.lapd_clock.proofs.Vocabulary.{◌≡◌, ℕ, suc, ◌+◌, ◌==◌, ◌<◌, ◌≤◌, true, false, cond, List, [], ◌∷◌, ◌++◌, length, length-map, replicate, get_or, set, refl, sym, ap, ◌∙◌, subst, arith, inl, inr, cases_lt, cases_order, get_or_default, get_or-map, Ordering, Less, Equal, Greater, AllByRecursion, nat_lt, nat_cmp, ordering_then, is_lt, false≢true, nat_tests, tied_itself, timer_cmp, Expiry, is_before, Held, Line, held_before, expiry_on, on_line, from_line, in_order, IsWith, never, earliest, earliest_of, firsts_of}
+use Rattle.lapd_clock.proofs.Vocabulary.{◌≡◌, ℕ, suc, ◌+◌, ◌<◌, ◌≤◌, false, List, [], ◌∷◌, ◌++◌, length, length-map, replicate, get_or, set, refl, sym, ap, ◌∙◌, subst, arith, inl, inr, cases_lt, cases_order, get_or_default, get_or-map, Ordering, Greater, AllByRecursion, nat_lt, nat_cmp, ordering_then, is_lt, nat_tests, tied_itself, timer_cmp, Expiry, is_before, Held, Line, held_before, expiry_on, on_line, from_line, in_order, IsWith, never, earliest, earliest_of, firsts_of}
 use Rattle.lapd_clock.proofs.Ordered.{All-append, All-put_in_order, All-from_put_in_order, put_in_order-first}
 use Rattle.lapd_clock.proofs.TimerOrder.{expiry_total}
 use Rattle.lapd_clock.proofs.Knockout.{earliest_least}
@@ -11,10 +11,7 @@ greater x y h = grind (arith, nat_tests)
 
 -- a number that is not less leaves it to what comes next
 not_less : (x y : ℕ) (o : Ordering) → y ≤ x → is_lt o ≡ false → is_lt (ordering_then (nat_cmp x y) o) ≡ false
-not_less x y o h e =
-    let upto : nat_lt x y ≡ false = grind (arith, nat_tests) in
-    ap (λ b. is_lt (ordering_then (cond b Less (cond (x == y) Equal Greater)) o)) upto
-    ∙ (elim (x == y) as (λ b. is_lt (ordering_then (cond b Equal Greater) o) ≡ false) [ true ↦ e | false ↦ refl ])
+not_less x y o h e = grind (arith, nat_lt, nat_tests)
 
 -- what falls due at a later moment does not go first, nor does what falls due no earlier on a later line
 later_moment : (a b : Expiry) → b.moment < a.moment → is_before a b ≡ false
@@ -29,11 +26,7 @@ before_itself e = ap is_lt (tied_itself expiry_total e)
 
 -- what does not go first is no earlier
 pub no_earlier : (a b : Expiry) → is_before a b ≡ false → b.moment ≤ a.moment
-no_earlier a b =
-    (elim (nat_lt a.moment b.moment) as (λ x. nat_lt a.moment b.moment ≡ x → is_lt (ordering_then (cond x Less (cond (a.moment == b.moment) Equal Greater)) (ordering_then (nat_cmp a.line b.line) (timer_cmp a.timer b.timer))) ≡ false → b.moment ≤ a.moment) [
-      | true ↦ λ _ h. absurd (false≢true (sym h))
-      | false ↦ λ h _. grind (arith, nat_tests)
-    ]) refl
+no_earlier a b = grind (arith, nat_lt, nat_tests)
 
 -- ---- what is first on its line, which is the first of all lines, is first in the set
 
@@ -93,10 +86,7 @@ module _ (lines : List Line) (line : ℕ) (held : Held) (u v : Line) (within : l
   own = ap (λ (w : Line). earliest_of w.items) at ∙ sym (of_line line u within) ∙ leads
 
   pub earliest_is : earliest (firsts_of lines) ≡ held.moment
-  earliest_is =
-      let least : held.moment ≤ earliest_of u.items = earliest-at_least line held u.items first (omega (arith, own, soon)) in
-      let most : earliest_of u.items ≤ held.moment = subst (λ hs. earliest_of hs ≤ held.moment) (sym taken.whole) (earliest-at_most held taken.front taken.back) in
-      omega (arith, own, least, most)
+  earliest_is = grind (arith, earliest-at_least, own, earliest-at_most)
 
   -- none of a line before goes before it, none of its own, and none of a line behind
   lower : (k : ℕ) (hs : List Held) → AllByRecursion (λ h. held.moment + 1 ≤ h.moment) hs → AllByRecursion (λ h. is_before (expiry_on k h) e ≡ false) hs

@@ -35,9 +35,7 @@ all_but-at t (x ∷ xs) (suc p) within at once =
 
 -- where it was found, or not
 pub found_at : (t : Timer) (hs seen : List Held) (p : ℕ) → seen ≡ hs → p < length seen → HoldsAt (λ h. is_same h.timer t ≡ true) seen p → IsEachOnce hs → (p < length hs) × (all_but t hs ≡ remove hs p)
-found_at t hs seen p same within at once =
-    let inside : p < length hs = subst (λ (l : List Held). p < length l) same within in
-    (inside, all_but-at t hs p inside (subst (λ (l : List Held). HoldsAt (λ h. is_same h.timer t ≡ true) l p) same at) once)
+found_at t hs seen p same within at once = grind (arith, all_but-at)
 
 pub not_found : (t : Timer) (hs seen : List Held) → seen ≡ hs → All (λ h. is_same h.timer t ≡ false) seen → all_but t hs ≡ hs
 not_found t hs seen same none = all_but-none t hs (subst (All (λ h. is_same h.timer t ≡ false)) same none)
@@ -65,10 +63,7 @@ pub a_place : (n places : ℕ) → n ≤ places → (n ≡ places → ⊥) → t
 a_place n places h ne = grind (arith, nat_tests)
 
 pub has_place : (t : Timer) (hs : List Held) (p places : ℕ) → p < length hs → length hs ≤ places → all_but t hs ≡ remove hs p → true ≡ not (length (all_but t hs) == places)
-has_place t hs p places within fits is = fewer (length (all_but t hs)) places (omega (arith, ap length is, length-remove hs p within, fits))
-  where
-    fewer : (n places : ℕ) → n < places → true ≡ not (n == places)
-    fewer n places h = grind (arith, nat_tests)
+has_place t hs p places within o is = grind (arith, length-remove, nat_tests)
 
 -- one more timer is the first so far, or the first stays it
 pub first_takes : (hs : List Held) (i b : ℕ) (c d : Held) → IsFirstBest held_before hs i b → i < length hs → held_before (get_or hs i c) (get_or hs b d) ≡ true → IsFirstBest held_before hs (i + 1) i

@@ -65,10 +65,4 @@ module _ (n : ℕ) (nodes : List ℕ) (h : IsKnockout n nodes) where
   length-leaves = omega (arith, length-drop n nodes, h.count)
 
   pub root_is : get_or nodes 1 0 ≤ never → get_or nodes 1 0 ≡ earliest leaves
-  root_is few =
-      let leaf = root_leads in
-      let least : get_or nodes 1 0 ≤ earliest leaves =
-      earliest_most leaves (get_or nodes 1 0) few (λ k within. subst (λ m. get_or nodes 1 0 ≤ m) (sym (get_or-drop n nodes k 0)) (root_first (n + k) (n + k) (omega arith) (omega (arith, h.lines)) (omega (arith, within, length-leaves)))) in
-      let most : earliest leaves ≤ get_or nodes 1 0 =
-      subst (λ m. earliest leaves ≤ m) (get_or-drop n nodes leaf.line 0 ∙ leaf.is) (earliest_least leaves leaf.line (omega (arith, leaf.within, length-leaves))) in
-      omega (arith, least, most)
+  root_is few = grind (arith, root_leads, earliest_most, get_or-drop, root_first, length-leaves, earliest_least)

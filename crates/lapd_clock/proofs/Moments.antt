@@ -1,5 +1,5 @@
 -- What an order does to the map from timers to moments.
-use Rattle.lapd_clock.proofs.Vocabulary.{◌≡◌, ℕ, ◌+◌, Bool, true, false, cond, not, ◌&&◌, ◌==◌, List, [], ◌∷◌, None, Some, refl, sym, ap, ◌∙◌, AllByRecursion, false≢true, nat_eq_equiv, eq_by_cmp_equiv, put_in_order, Timer, Start, Stop, duration, is_same, Expiry, Timers, is_before, is_of, without, with_expiry, finds_place, with_order, moment_of, MovesOne}
+use Rattle.lapd_clock.proofs.Vocabulary.{arith, ◌≡◌, ℕ, ◌+◌, true, false, cond, not, ◌&&◌, ◌==◌, List, [], ◌∷◌, None, Some, refl, sym, ap, ◌∙◌, AllByRecursion, false≢true, nat_eq_equiv, eq_by_cmp_equiv, put_in_order, Timer, Start, Stop, duration, is_same, Expiry, Timers, is_before, is_of, without, finds_place, with_order, moment_of, MovesOne}
 use Rattle.lapd_clock.proofs.Ordered.{by_place}
 use Rattle.lapd_clock.proofs.TimerOrder.{timer_total}
 use Rattle.lapd_clock.proofs.Running.{none_of-without}
@@ -48,20 +48,8 @@ moment_of-beside l t e (x ∷ xs) apart =
 -- the two orders
 pub start_moves_one : (c : Timers) (line : ℕ) (timer : Timer) (now : ℕ) → finds_place c line (Start timer) ≡ true → MovesOne line timer (Some (now + duration c.lengths timer)) c (with_order c line (Start timer) now)
 unfolding with_order
-start_moves_one c line timer now found =
-    let started : Expiry = record { moment = now + duration c.lengths timer; line = line; timer = timer } in
-    let left = without line timer c.running in
-    let after = λ (b : Bool). cond b (record c { running = with_expiry started left }) c in
-    record {
-      own = ap (λ b. moment_of line timer (after b).running) found
-          ∙ moment_of-put_in line timer started left (of_itself line timer) (none_of-without line timer c.running);
-      others = λ l t apart. ap (λ b. moment_of l t (after b).running) found
-          ∙ moment_of-beside l t started left apart ∙ moment_of-others line l timer t c.running apart;
-    }
+start_moves_one c line timer now found = grind (arith, moment_of-put_in, of_itself, none_of-without, moment_of-beside, moment_of-others)
 
 pub stop_moves_one : (c : Timers) (line : ℕ) (timer : Timer) (now : ℕ) → MovesOne line timer None c (with_order c line (Stop timer) now)
 unfolding with_order
-stop_moves_one c line timer now = record {
-  own = moment_of-none line timer _ (none_of-without line timer c.running);
-  others = λ l t apart. moment_of-others line l timer t c.running apart;
-}
+stop_moves_one c line timer now = grind (arith, moment_of-none, none_of-without, moment_of-others)

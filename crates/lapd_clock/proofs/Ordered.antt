@@ -1,5 +1,5 @@
 -- Lists in an order: what `put_in_order` and an insertion sort do to them.
-use Rattle.lapd_clock.proofs.Vocabulary.{◌++◌, ◌≡◌, ℕ, suc, ◌+◌, Bool, true, false, cond, not, List, [], ◌∷◌, filter, count_by, refl, sym, ap, ◌∙◌, arith, subst, false≢true, sum_by-cons, sum_by-insert, IsStrictWeakOrder, AllByRecursion, prefix_len, insert, position_or_len, sum_by, put_in_order, IsInOrder, recursion_from_All, All-from_recursion}
+use Rattle.lapd_clock.proofs.Vocabulary.{◌++◌, ◌≡◌, ℕ, suc, ◌+◌, Bool, true, false, cond, not, List, [], ◌∷◌, filter, count_by, refl, sym, ap, ◌∙◌, arith, sum_by-cons, sum_by-insert, IsStrictWeakOrder, AllByRecursion, prefix_len, insert, position_or_len, sum_by, put_in_order, IsInOrder, recursion_from_All, All-from_recursion}
 use Rattle.std.proofs.lemmas.List.Elements as lists
 
 -- a count over one more element
@@ -31,8 +31,7 @@ module _ {X : Type 0} (before : X → X → Bool) where
 
   -- two cases for the place of x at the front of a list
   pub by_place : (x y : X) (ys : List X) (G : List X → Type 0) → (before y x ≡ true → G (y ∷ put_in_order before x ys)) → (before y x ≡ false → G (x ∷ y ∷ ys)) → G (put_in_order before x (y ∷ ys))
-  by_place x y ys G after here =
-      elim (before y x) as (λ b. before y x ≡ b → G (cond b (y ∷ put_in_order before x ys) (x ∷ y ∷ ys))) [ true ↦ after | false ↦ here ] refl
+  by_place x y ys G after here = grind arith
 
   -- what holds of all holds with one more in its place, and without it again
   pub All-put_in_order : (P : X → Type 0) (x : X) (ys : List X) → P x → AllByRecursion P ys → AllByRecursion P (put_in_order before x ys)
@@ -112,19 +111,11 @@ module _ {X : Type 0} (before : X → X → Bool) where
     module _ (same : (x y : X) → before x y ≡ false → before y x ≡ false → x ≡ y) where
       -- two that both go to the front: the earlier one goes there
       meet : (x y : X) (us : List X) → put_in_order before x us ≡ x ∷ us → put_in_order before y us ≡ y ∷ us → put_in_order before x (y ∷ us) ≡ put_in_order before y (x ∷ us)
-      meet x y us at_x at_y =
-          by_place x y us (λ l. l ≡ put_in_order before y (x ∷ us))
-          (λ yx. ap (λ l. y ∷ l) at_x ∙ sym (put_in_order-here y x us (order.one_way y x yx)))
-          (λ yx. by_place y x us (λ r. x ∷ y ∷ us ≡ r)
-          (λ xy. ap (λ l. x ∷ l) (sym at_y))
-          (λ xy. subst (λ v. x ∷ v ∷ us ≡ v ∷ x ∷ us) (same x y xy yx) refl))
+      meet x y us at_x at_y = grind (arith, by_place, put_in_order-here)
 
       -- x goes behind z, and y in front of it
       between : (x y z : X) (zs : List X) → before z x ≡ true → before z y ≡ false → put_in_order before x (put_in_order before y (z ∷ zs)) ≡ put_in_order before y (put_in_order before x (z ∷ zs))
-      between x y z zs zx zy =
-          let yx : before y x ≡ true = elim (before y x) as (λ b. before y x ≡ b → b ≡ true) [ true ↦ λ _. refl | false ↦ λ e. absurd (false≢true (sym (order.chain z y x zy e) ∙ zx)) ] refl in
-          ap (put_in_order before x) (put_in_order-here y z zs zy) ∙ put_in_order-after x y (z ∷ zs) yx ∙ ap (λ l. y ∷ l) (put_in_order-after x z zs zx)
-          ∙ sym (ap (put_in_order before y) (put_in_order-after x z zs zx) ∙ put_in_order-here y z (put_in_order before x zs) zy)
+      between x y z zs zx zy = grind (arith, put_in_order-here, put_in_order-after)
 
       -- it does not matter which of two goes to its place first
       pub put_in_order-swap : (x y : X) (zs : List X) → put_in_order before x (put_in_order before y zs) ≡ put_in_order before y (put_in_order before x zs)

@@ -1,5 +1,5 @@
 -- What the calls do to a set of running timers.
-use Rattle.lapd_clock.proofs.Vocabulary.{◌≡◌, ℕ, ◌+◌, ◌<◌, ◌≤◌, Bool, true, false, cond, not, ◌&&◌, ◌||◌, ◌==◌, nat_lt, nat_le, List, [], ◌∷◌, filter, refl, sym, ap, ◌∙◌, subst, arith, AllByRecursion, false≢true, nat_tests, All-from_recursion, recursion_from_All, put_in_order, Timer, Lengths, AreInRange, Order, Start, Stop, duration, is_same, Expiry, Timers, is_before, is_of, is_held, without, count_on, finds_place, with_order, after_first_due, IsSound, IsOneEach, sum_by-filter_both, All-weaker, filter_passes}
+use Rattle.lapd_clock.proofs.Vocabulary.{◌≡◌, ℕ, ◌+◌, ◌<◌, ◌≤◌, Bool, true, false, cond, not, ◌&&◌, ◌||◌, ◌==◌, nat_lt, nat_le, List, [], ◌∷◌, filter, refl, sym, ap, ◌∙◌, arith, AllByRecursion, false≢true, nat_tests, All-from_recursion, recursion_from_All, put_in_order, Timer, Lengths, AreInRange, Order, Start, Stop, duration, is_same, Expiry, Timers, is_before, is_of, is_held, without, count_on, finds_place, with_order, after_first_due, IsSound, IsOneEach, sum_by-filter_both, All-weaker, filter_passes}
 use Rattle.lapd_clock.proofs.Ordered.{by_place, IsInOrder-put_in_order, IsInOrder-filter, All-put_in_order, All-filter, count_by-put_in_order, count_by-cons}
 use Rattle.lapd_clock.proofs.TimerOrder.{before_order, is_same_both_ways}
 
@@ -29,23 +29,12 @@ without-not_held line timer (e ∷ es) =
 -- a timer finds its place exactly where the line is not full without it
 pub finds_place-without : (c : Timers) (line : ℕ) (timer : Timer) → count_on line c.running ≤ c.places → finds_place c line (Start timer) ≡ not (count_on line (without line timer c.running) == c.places)
 unfolding finds_place
-finds_place-without c line timer fits =
-    (elim (is_held line timer c.running) as (λ b. is_held line timer c.running ≡ b → (b || nat_lt (count_on line c.running) c.places) ≡ not (count_on line (without line timer c.running) == c.places)) [
-      | true ↦ λ held. let less = count_on-held line timer c.running held in grind (arith, nat_tests)
-      | false ↦ λ held. rw (without-not_held line timer c.running held) (full (count_on line c.running) c.places fits)
-    ]) refl
-  where
-    full : (n places : ℕ) → n ≤ places → nat_lt n places ≡ not (n == places)
-    full n places h = grind (arith, nat_tests)
+finds_place-without c line timer o = grind (arith, nat_lt, count_on-held, nat_tests, without-not_held)
 
 -- where it finds none, it was not held
 pub without-no_place : (c : Timers) (line : ℕ) (timer : Timer) → finds_place c line (Start timer) ≡ false → without line timer c.running ≡ c.running
 unfolding finds_place
-without-no_place c line timer =
-    (elim (is_held line timer c.running) as (λ b. is_held line timer c.running ≡ b → (b || nat_lt (count_on line c.running) c.places) ≡ false → without line timer c.running ≡ c.running) [
-      | true ↦ λ _ h. absurd (false≢true (sym h))
-      | false ↦ λ held _. without-not_held line timer c.running held
-    ]) refl
+without-no_place c line timer = grind (arith, nat_lt, without-not_held)
 
 -- ---- what holds of every clock
 
@@ -76,8 +65,7 @@ none_of-without line timer es =
     (All-weaker (λ other. not (is_of line timer other) ≡ true) (λ other. is_of line timer other ≡ false) (λ other h. is_false (is_of line timer other) h) _ (filter_passes (λ other. not (is_of line timer other)) es))
   where
     is_false : (b : Bool) → not b ≡ true → b ≡ false
-    is_false true h = sym h
-    is_false false h = refl
+    is_false b h = grind arith
 
 without_sound : (c : Timers) (line : ℕ) (timer : Timer) → IsSound c → IsSound (record c { running = without line timer c.running })
 without_sound c line timer h = record {
@@ -89,11 +77,7 @@ without_sound c line timer h = record {
 }
 
 one_more_fits : (line l : ℕ) (f : ℕ → ℕ) (places : ℕ) → f line < places → f l ≤ places → cond (line == l) 1 0 + f l ≤ places
-one_more_fits line l f places less fits =
-    (elim (line == l) as (λ b. (line == l) ≡ b → cond b 1 0 + f l ≤ places) [
-      | true ↦ λ e. let same : line ≡ l = grind (arith, nat_tests) in let less_there : f l < places = subst (λ k. f k < places) same less in omega arith
-      | false ↦ λ _. omega arith
-    ]) refl
+one_more_fits line l f places less o = grind (arith, nat_tests)
 
 room : (n places : ℕ) → n ≤ places → not (n == places) ≡ true → n < places
 room n places fits h = grind (arith, nat_tests)
@@ -122,21 +106,10 @@ stop_in_time c line timer now end h = All-filter (λ e. e.moment < end) _ c.runn
 
 pub start_in_time : (c : Timers) (line : ℕ) (timer : Timer) (now end : ℕ) → now + duration c.lengths timer < end → AllByRecursion (λ e. e.moment < end) c.running → AllByRecursion (λ e. e.moment < end) (with_order c line (Start timer) now).running
 unfolding with_order
-start_in_time c line timer now end soon h =
-    let e : Expiry = record { moment = now + duration c.lengths timer; line = line; timer = timer } in
-    elim (finds_place c line (Start timer)) as (λ b. AllByRecursion (λ x. x.moment < end) (cond b (record c { running = put_in_order is_before e (without line timer c.running) }) c).running) [
-      | true ↦ All-put_in_order is_before (λ x. x.moment < end) e _ soon (All-filter (λ x. x.moment < end) _ c.running h)
-      | false ↦ h
-    ]
+start_in_time c line timer now end soon h = grind (arith, All-put_in_order, All-filter)
 
 pub none_sound : (ls : Lengths) (lines places : ℕ) → AreInRange ls → IsSound (record { lines = lines; places = places; lengths = ls; running = [] })
-none_sound ls lines places range = record {
-  lengths = range;
-  in_order = tt;
-  one_each = tt;
-  on_lines = All-from_recursion (λ x. x.line < lines) [] tt;
-  in_places = λ _. omega arith;
-}
+none_sound ls lines places range = grind arith
 
 rest_sound : (ls : Lengths) (lines places : ℕ) (e : Expiry) (es : List Expiry) → IsSound (record { lines = lines; places = places; lengths = ls; running = e ∷ es }) → IsSound (record { lines = lines; places = places; lengths = ls; running = es })
 rest_sound ls lines places e es h = record {
@@ -158,5 +131,4 @@ after_due_sound ls lines places (e ∷ es) now h =
 -- an order that finds no place changes nothing
 pub refused_unchanged : (c : Timers) (line : ℕ) (order : Order) (now : ℕ) → finds_place c line order ≡ false → with_order c line order now ≡ c
 unfolding with_order finds_place
-refused_unchanged c line (Start timer) now h = ap (λ b. cond b (record c { running = put_in_order is_before (record { moment = now + duration c.lengths timer; line = line; timer = timer }) (without line timer c.running) }) c) h
-refused_unchanged c line (Stop timer) now h = absurd (false≢true (sym h))
+refused_unchanged c line order now h = grind arith

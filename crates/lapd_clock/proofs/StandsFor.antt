@@ -1,5 +1,5 @@
 -- The set that the lines stand for, when the timers of one line change.
-use Rattle.lapd_clock.proofs.Vocabulary.{◌≡◌, ◌≢◌, ℕ, zero, suc, ◌+◌, ◌<◌, Bool, true, false, cond, not, ◌&&◌, ◌==◌, List, [], ◌∷◌, ◌++◌, length, filter, count_by, get_or, set, refl, sym, ap, ◌∙◌, arith, nat_cmp, ordering_then, is_lt, nat_tests, nat_cmp_total, tied_itself, filter-append, sum_by-append, put_in_order, IsInOrder, Timer, timer_cmp, is_same, Expiry, is_before, is_of, without, count_on, Held, Line, held_before, all_but, expiry_on, on_line, from_line, in_order, AllByRecursion, append_assoc, set-get_or, IsWith}
+use Rattle.lapd_clock.proofs.Vocabulary.{◌≡◌, ◌≢◌, ℕ, zero, suc, ◌+◌, ◌<◌, Bool, true, false, cond, not, ◌&&◌, ◌==◌, List, [], ◌∷◌, ◌++◌, length, filter, count_by, get_or, set, refl, sym, ap, ◌∙◌, arith, nat_cmp, ordering_then, is_lt, nat_tests, nat_cmp_total, tied_itself, filter-append, sum_by-append, put_in_order, IsInOrder, Timer, timer_cmp, is_same, Expiry, is_before, without, count_on, Held, Line, held_before, all_but, expiry_on, on_line, from_line, in_order, AllByRecursion, append_assoc, set-get_or, IsWith}
 use Rattle.lapd_clock.proofs.Ordered.{All-append, put_in_order-swap, filter-put_in_order, IsInOrder-put_in_order, count_by-put_in_order, count_by-cons}
 use Rattle.lapd_clock.proofs.TimerOrder.{before_order, same_expiry}
 
@@ -150,16 +150,7 @@ module _ (k : ℕ) (lines : List Line) (within : k < length lines) where
 
     -- the set without a timer of the line,
     without_one : (t : Timer) → without k t (in_order (from_line 0 lines)) ≡ in_order (here.before ++ (on_line k (all_but t u.items) ++ here.behind))
-    without_one t =
-        let p = λ (e : Expiry). not (is_of k t e) in
-        let rest = on_line k u.items ++ here.behind in
-        filter-in_order p (from_line 0 lines)
-        ∙ ap (λ es. in_order (filter p es)) whole
-        ∙ ap in_order (filter-append p here.before rest
-        ∙ ap (λ es. es ++ filter p rest) (without-apart k t here.before here.apart_before)
-        ∙ ap (λ es. here.before ++ es) (filter-append p (on_line k u.items) here.behind
-        ∙ ap (λ es. es ++ filter p here.behind) (sym (on_line-all_but k t u.items))
-        ∙ ap (λ es. on_line k (all_but t u.items) ++ es) (without-apart k t here.behind here.apart_behind)))
+    without_one t = grind (arith, filter-in_order, whole, filter-append, without-apart, on_line-all_but)
 
     module _ (v : Line) where
       pub in_order-stopped : (t : Timer) → v.items ≡ all_but t u.items → in_order (from_line 0 (set lines k v)) ≡ without k t (in_order (from_line 0 lines))
@@ -168,17 +159,11 @@ module _ (k : ℕ) (lines : List Line) (within : k < length lines) where
       -- and with it started anew,
       pub in_order-restarted : (h : Held) → IsWith h (all_but h.timer u.items) v.items
           → in_order (from_line 0 (set lines k v)) ≡ put_in_order is_before (expiry_on k h) (without k h.timer (in_order (from_line 0 lines)))
-      in_order-restarted h new =
-          ap in_order (here.with_line v)
-          ∙ in_order-with k h (all_but h.timer u.items) v.items here.before here.behind new
-          ∙ ap (put_in_order is_before (expiry_on k h)) (sym (without_one h.timer))
+      in_order-restarted h new = grind (arith, in_order-with, without_one)
 
       -- and what it is with one that is taken out
       pub in_order-taken : (h : Held) → IsWith h v.items u.items → in_order (from_line 0 lines) ≡ put_in_order is_before (expiry_on k h) (in_order (from_line 0 (set lines k v)))
-      in_order-taken h old =
-          ap in_order whole
-          ∙ in_order-with k h v.items u.items here.before here.behind old
-          ∙ ap (λ es. put_in_order is_before (expiry_on k h) (in_order es)) (sym (here.with_line v))
+      in_order-taken h old = grind (arith, whole, in_order-with)
 
     -- the timers of a line are those that it keeps
     pub count_on-stopped : (t : Timer) → count_on k (without k t (in_order (from_line 0 lines))) ≡ length (all_but t u.items)

@@ -1,5 +1,5 @@
 -- The measure by which it ends to wait for the timers that fall due until a moment.
-use Rattle.lapd_clock.proofs.Vocabulary.{◌≡◌, ℕ, ◌+◌, ◌-◌, ◌≤◌, true, false, cond, not, List, ◌∷◌, refl, ap, ◌∙◌, arith, sum_by, sum_by-filter_both, sum_by-cons, put_in_order, Timer, Start, Stop, duration, Expiry, Timers, is_before, is_of, without, finds_place, with_order, after_first_due, after_due, time_until}
+use Rattle.lapd_clock.proofs.Vocabulary.{◌≡◌, ℕ, ◌+◌, ◌-◌, ◌≤◌, not, List, ◌∷◌, refl, ap, ◌∙◌, arith, sum_by, sum_by-filter_both, sum_by-cons, Timer, Start, Stop, duration, Expiry, Timers, is_of, without, with_order, after_first_due, after_due, time_until}
 use Rattle.lapd_clock.proofs.Ordered.{sum_by-put_in_order}
 use Rattle.lapd_clock.proofs.Calls.{one_taken}
 
@@ -27,9 +27,4 @@ time_until-stop c line timer now end = left-without line timer end c.running
 -- a timer that is started adds at most what it runs itself
 pub time_until-start : (c : Timers) (line : ℕ) (timer : Timer) (now end : ℕ) → time_until end (with_order c line (Start timer) now) ≤ time_until end c + (end + 1 - (now + duration c.lengths timer))
 unfolding with_order
-time_until-start c line timer now end =
-    let e : Expiry = record { moment = now + duration c.lengths timer; line = line; timer = timer } in
-    elim (finds_place c line (Start timer)) as (λ b. time_until end (cond b (record c { running = put_in_order is_before e (without line timer c.running) }) c) ≤ time_until end c + (end + 1 - (now + duration c.lengths timer))) [
-      | true ↦ omega (arith, sum_by-put_in_order is_before (λ (x : Expiry). end + 1 - x.moment) e (without line timer c.running), left-without line timer end c.running)
-      | false ↦ omega arith
-    ]
+time_until-start c line timer now end = grind (arith, sum_by-put_in_order, left-without)

@@ -1,5 +1,5 @@
 -- The order in which timers fall due is total, and only equal ones tie.
-use Rattle.lapd_clock.proofs.Vocabulary.{◌≡◌, false, refl, sym, ap, ◌∙◌, arith, Ordering, Less, Equal, Greater, IsTotalOrder, IsStrictWeakOrder, nat_cmp, ordering_then, ordering_reverse, is_lt, false≢true, nat_cmp_total, on_total, then_total, eq_by_cmp_equiv, ranks_by, exact_unsigned, Timer, T200, T203, T201, Service, Call, Packet, kind_rank, tei_rank, service_rank, rank_of_service, timer_cmp, is_same, Expiry, expiry_cmp, is_before, Held, held_before}
+use Rattle.lapd_clock.proofs.Vocabulary.{◌≡◌, false, sym, ap, ◌∙◌, arith, Ordering, Equal, IsTotalOrder, IsStrictWeakOrder, nat_cmp, ordering_then, ordering_reverse, is_lt, nat_cmp_total, on_total, then_total, eq_by_cmp_equiv, ranks_by, exact_unsigned, Timer, Service, kind_rank, tei_rank, service_rank, rank_of_service, timer_cmp, is_same, Expiry, expiry_cmp, is_before, Held, held_before}
 
 -- the orders are total,
 pub timer_total : IsTotalOrder timer_cmp
@@ -20,37 +20,19 @@ held_order = ranks_by held_total (λ (h : Held). h)
 
 -- only equal ranks tie, and only equal timers have equal ranks
 then_equal : (r s : Ordering) → ordering_then r s ≡ Equal → (r ≡ Equal) × (s ≡ Equal)
-then_equal Less s e = cc
-then_equal Equal s e = (refl, e)
-then_equal Greater s e = cc
+then_equal r s e = grind arith
 
 service_by_rank : (a b : Service) → rank_of_service a ≡ rank_of_service b → a ≡ b
-service_by_rank Call Call e = refl
-service_by_rank Call Packet e = absurd (omega arith)
-service_by_rank Packet Call e = absurd (omega arith)
-service_by_rank Packet Packet e = refl
+service_by_rank a b e = grind arith
 
 same_by_ranks : (a b : Timer) → kind_rank a ≡ kind_rank b → tei_rank a ≡ tei_rank b → service_rank a ≡ service_rank b → a ≡ b
-same_by_ranks (T200 s x) (T200 t y) k e f = let g = service_by_rank s t f in cc
-same_by_ranks (T203 s x) (T203 t y) k e f = let g = service_by_rank s t f in cc
-same_by_ranks T201 T201 k e f = refl
-same_by_ranks (T200 s x) (T203 t y) k e f = absurd (omega arith)
-same_by_ranks (T200 s x) T201 k e f = absurd (omega arith)
-same_by_ranks (T203 s x) (T200 t y) k e f = absurd (omega arith)
-same_by_ranks (T203 s x) T201 k e f = absurd (omega arith)
-same_by_ranks T201 (T200 t y) k e f = absurd (omega arith)
-same_by_ranks T201 (T203 t y) k e f = absurd (omega arith)
+same_by_ranks a b k e f = grind (arith, service_by_rank)
 
 pub same_timer : (a b : Timer) → timer_cmp a b ≡ Equal → a ≡ b
-same_timer a b e =
-    let kinds = then_equal _ _ e in
-    let others = then_equal _ _ kinds.1 in
-    same_by_ranks a b (exact_unsigned _ _ kinds.0) (exact_unsigned _ _ others.0) (exact_unsigned _ _ others.1)
+same_timer a b e = grind (arith, then_equal, same_by_ranks, exact_unsigned)
 
 not_less : (r : Ordering) → is_lt r ≡ false → is_lt (ordering_reverse r) ≡ false → r ≡ Equal
-not_less Less a b = absurd (false≢true (sym a))
-not_less Equal a b = refl
-not_less Greater a b = absurd (false≢true (sym b))
+not_less r a b = grind arith
 
 -- of two expiries one goes before the other, unless they are equal
 pub same_expiry : (a b : Expiry) → is_before a b ≡ false → is_before b a ≡ false → a ≡ b

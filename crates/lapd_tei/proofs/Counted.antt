@@ -1,6 +1,6 @@
 -- How many messages wait after each row of the table, and how many are lost; what a message does that is not served;
 -- and which TEI a terminal is assigned.
-use Rattle.lapd_tei.proofs.Vocabulary.{◌≡◌, ℕ, ◌+◌, ◌<◌, ◌≤◌, true, false, cond, List, [], ◌∷◌, ◌++◌, length, Option, Some, None, subst, ◌∙◌, refl, sym, arith, length-append, option_map, false≢true, nat_tests, Message, IdentityAssigned, IdentityDenied, IdentityCheckRequest, IdentityRemove, Heard, Event, course, TeiTold, Follows, is_some, IdentityRequest, Places, place_of, free_place, free_tei, Management, Gained, messages_limit, Course, begun, no_room, with_message, lost_after, left, unserved, remembered_in, serve, AssignsLowest}
+use Rattle.lapd_tei.proofs.Vocabulary.{◌≡◌, ℕ, ◌+◌, ◌<◌, ◌≤◌, true, false, cond, List, [], ◌∷◌, ◌++◌, length, Option, Some, None, refl, arith, length-append, option_map, nat_tests, Message, IdentityAssigned, IdentityDenied, IdentityCheckRequest, IdentityRemove, Heard, Event, course, TeiTold, Follows, is_some, IdentityRequest, Places, place_of, free_place, free_tei, Management, Gained, messages_limit, Course, begun, no_room, with_message, lost_after, left, unserved, remembered_in, serve, AssignsLowest}
 use Rattle.lapd_tei.proofs.Tables.{free_tei-is}
 use Rattle.lapd_tei.proofs.Walk.{OfEvents, of_event, of_serve}
 
@@ -18,11 +18,7 @@ pub record Counts (m : Management) (c : Course) : Type 0 where
   pub follows : Follows (is_some m.check) c.told.orders (is_some c.now.check)
 
 one_waits : (message : Message) (waiting : List Message) → length (with_message message waiting) ≤ length waiting + 1
-one_waits message waiting =
-    elim (no_room waiting) as (λ b. length (cond b waiting (waiting ++ message ∷ [])) ≤ length waiting + 1) [
-      | true ↦ omega arith
-      | false ↦ omega (arith, length-append waiting (message ∷ []))
-    ]
+one_waits message waiting = grind (arith, length-append)
 
 one_lost : (waiting : List Message) → lost_after waiting 0 ≤ 1
 one_lost waiting = elim (no_room waiting) as (λ b. cond b (0 + 1) 0 ≤ 1) [ true ↦ omega arith | false ↦ omega arith ]
@@ -30,34 +26,16 @@ one_lost waiting = elim (no_room waiting) as (λ b. cond b (0 + 1) 0 ≤ 1) [ tr
 -- a row that sends one message, and one that sends none
 sends : (message : Message) (m : Management) (c : Course) → c.now.waiting ≡ with_message message m.waiting → c.told.lost ≡ lost_after m.waiting 0 → c.told.unserved ≡ false
     → length c.told.notes ≤ 1 → length c.told.orders ≤ 1 → Follows (is_some m.check) c.told.orders (is_some c.now.check) → Counts m c
-sends message m c waits lost served notes orders follows = record {
-  waits = subst (λ w. length w ≤ length m.waiting + 1) (sym waits) (one_waits message m.waiting);
-  lost = subst (λ n. n ≤ 1) (sym lost) (one_lost m.waiting);
-  idle = λ other. absurd (false≢true (sym served ∙ other));
-  brief = record { notes = notes; orders = orders };
-  follows = follows;
-}
+sends message m c waits lost served notes orders follows = grind (arith, one_waits, one_lost)
 
 quiet : (m : Management) (c : Course) → c.now.waiting ≡ m.waiting → c.told.lost ≤ 1 → c.told.unserved ≡ false
     → length c.told.notes ≤ 1 → length c.told.orders ≤ 1 → Follows (is_some m.check) c.told.orders (is_some c.now.check) → Counts m c
-quiet m c waits lost served notes orders follows = record {
-  waits = subst (λ w. length w ≤ length m.waiting + 1) (sym waits) (omega arith);
-  lost = lost;
-  idle = λ other. absurd (false≢true (sym served ∙ other));
-  brief = record { notes = notes; orders = orders };
-  follows = follows;
-}
+quiet m c waits lost served notes orders follows = grind arith
 
 -- one after which none waits
 none_waits : (m : Management) (c : Course) → c.now.waiting ≡ [] → c.told.lost ≡ 0 → c.told.unserved ≡ false
     → length c.told.notes ≤ 1 → length c.told.orders ≤ 1 → Follows (is_some m.check) c.told.orders (is_some c.now.check) → Counts m c
-none_waits m c waits lost served notes orders follows = record {
-  waits = subst (λ w. length w ≤ length m.waiting + 1) (sym waits) (omega arith);
-  lost = subst (λ n. n ≤ 1) (sym lost) (omega arith);
-  idle = λ other. absurd (false≢true (sym served ∙ other));
-  brief = record { notes = notes; orders = orders };
-  follows = follows;
-}
+none_waits m c waits lost served notes orders follows = grind arith
 
 -- each way in which an event ends
 ways : (e : Event) (m : Management) → OfEvents e m (Counts m)
@@ -91,8 +69,7 @@ counts e m = of_event m (Counts m) e (ways e m)
 
 -- Which TEI a terminal is assigned: of the messages, only a request puts one on the line.
 lowest-left : (places : Places) (tei : ℕ) (o : Option ℕ) → AssignsLowest places (option_map (left tei) o)
-lowest-left places tei None = tt
-lowest-left places tei (Some place) = tt
+lowest-left places tei o = grind arith
 
 pub lowest-serve : (o : Option Heard) (m : Management) → AssignsLowest m.places (serve o (begun m)).told.change
 lowest-serve o m = of_serve m (λ c. AssignsLowest m.places c.told.change) (record {

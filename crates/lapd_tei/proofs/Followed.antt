@@ -1,5 +1,5 @@
 -- T201 runs while a TEI is under check, and the orders of each row say so.
-use Rattle.lapd_tei.proofs.Vocabulary.{false, is_some, refl, course, refusal, Follows, T201Follows, ExpiredT201Follows}
+use Rattle.lapd_tei.proofs.Vocabulary.{arith, is_some, course, refusal, T201Follows, ExpiredT201Follows}
 use Rattle.lapd_tei.proofs.Counted.{counts}
 use Rattle.lapd_tei.proofs.Walk.{of_expire}
 
@@ -9,5 +9,4 @@ t201_follows e m = (counts e m).follows
 -- T201 has expired: whether it ran before says nothing where a check runs
 pub expired_t201_follows : ExpiredT201Follows
 unfolding course refusal
-expired_t201_follows m = of_expire m (λ c. Follows false c.told.orders (is_some c.now.check))
-    (record { is_idle = λ is. rw is refl; asks_again = λ own is. refl; is_removed = λ own is. refl; ends = λ own is. refl })
+expired_t201_follows m = grind (arith, of_expire, is_some)

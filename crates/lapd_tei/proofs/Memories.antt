@@ -1,5 +1,5 @@
 -- The assignments that are remembered: after one more, and after a TEI left.
-use Rattle.lapd_tei.proofs.Vocabulary.{◌≡◌, ℕ, ◌-◌, ◌≤◌, ◌==◌, true, false, List, [], ◌∷◌, ◌++◌, length, drop, set, Option, Some, None, subst, ◌∙◌, refl, sym, ap, arith, length-drop, AllByRecursion, filter, find, option_map, false≢true, All-nil, All-cons, All-append, All-drop, recursion_from_All, none-some, same_Some, Places, is_on, place_of, free_place, Remembered, latest, freed, is_of_other, is_for, tei_in, remembered_in, IsSoundTable, IsSoundMemory, same_ri, same_tei, length-filter, count_by-le-length, All-get_or}
+use Rattle.lapd_tei.proofs.Vocabulary.{◌≡◌, ℕ, ◌-◌, ◌≤◌, ◌==◌, true, false, List, [], ◌∷◌, ◌++◌, length, drop, set, Option, Some, None, subst, arith, length-drop, AllByRecursion, filter, find, option_map, All-nil, All-cons, All-append, All-drop, recursion_from_All, none-some, same_Some, Places, is_on, place_of, free_place, Remembered, latest, freed, is_of_other, is_for, tei_in, remembered_in, IsSoundTable, IsSoundMemory, same_ri, same_tei, length-filter, count_by-le-length, All-get_or}
 use Rattle.lapd_tei.proofs.Lists.{All-filter_by, IsDistinct-push, IsDistinct-drop, IsDistinct-filter, none-found, found}
 use Rattle.lapd_tei.proofs.Tables.{same_number, on-put, on-freed, on-range}
 
@@ -13,19 +13,14 @@ memory-put places remembered place tei at sound = record {
 
 -- where nothing is remembered of an Ri, no assignment has it
 not_found : (o : Option Remembered) → option_map tei_in o ≡ None → o ≡ None
-not_found None e = refl
-not_found (Some r) e = absurd (none-some r.tei (sym e))
+not_found o e = grind (arith, none-some)
 
 other_ri : (ri tei : ℕ) (remembered : List Remembered) → remembered_in ri remembered ≡ None → AllByRecursion (λ r. same_ri r (record { ri = ri; tei = tei }) ≡ false) remembered
 other_ri ri tei remembered e = none-found (is_for ri) remembered (not_found (find (is_for ri) remembered) e)
 
 -- where a TEI is not on the line, no assignment has it
 not_same : (places : Places) (own tei : ℕ) → is_on tei places ≡ false → is_on own places ≡ true → (own == tei) ≡ false
-not_same places own tei off on =
-    elim (own == tei) as (λ b. (own == tei) ≡ b → (own == tei) ≡ false) [
-      | true ↦ λ e. absurd (false≢true (sym off ∙ ap (λ n. is_on n places) (sym (same_number own tei e)) ∙ on))
-      | false ↦ λ e. e
-    ] refl
+not_same places own tei off on = grind (arith, same_number)
 
 other_tei : (places : Places) (ri tei : ℕ) (remembered : List Remembered) → is_on tei places ≡ false → IsSoundMemory places remembered → AllByRecursion (λ r. same_tei r (record { ri = ri; tei = tei }) ≡ false) remembered
 other_tei places ri tei remembered off sound = recursion_from_All (λ r. same_tei r (record { ri = ri; tei = tei }) ≡ false) remembered (λ k d l. not_same places _ tei off (sound.on_line k d l))
@@ -62,8 +57,7 @@ memory-freed places remembered tei sound = record {
 
 -- A TEI that is remembered is on the line, so it is one that a terminal can have.
 found_one : (o : Option Remembered) (tei : ℕ) → option_map tei_in o ≡ Some tei → (r : Remembered) × (o ≡ Some r) × (r.tei ≡ tei)
-found_one None tei e = absurd (none-some tei e)
-found_one (Some r) tei e = (r, refl, same_Some r.tei tei e)
+found_one o tei e = grind (arith, none-some, same_Some)
 
 pub remembered-on : (places : Places) (remembered : List Remembered) (ri tei : ℕ) → IsSoundMemory places remembered → remembered_in ri remembered ≡ Some tei → is_on tei places ≡ true
 remembered-on places remembered ri tei sound e =

@@ -22,10 +22,7 @@ module _ (m : Management) (sound : IsSound m) where
   -- the table stays as it is,
   stays : (check : Option Check) (waiting : List Message) (told : TeiTold) → told.change ≡ None → IfSome check (IsSoundCheck m.places) → IsSoundQueue waiting
       → Leads m (record { now = record m { check = check; waiting = waiting }; told = told })
-  stays check waiting told change checked queue = record {
-    sound = record { table = sound.table; memory = sound.memory; checked = checked; queue = queue };
-    moves = subst (λ o. Moves m.places o m.places) (sym change) refl;
-  }
+  stays check waiting told change checked queue = grind arith
 
   stands_still : (told : TeiTold) → told.change ≡ None → Leads m (record { now = m; told = told })
   stands_still told change = stays m.check m.waiting told change sound.checked sound.queue

@@ -1,5 +1,5 @@
 -- What the words of the table keep.
-use Rattle.lapd_tei.proofs.Vocabulary.{Remembered, ◌≡◌, ℕ, zero, suc, ◌+◌, ◌≤◌, nat_le, true, false, cond, List, [], ◌∷◌, ◌++◌, length, drop, set, replicate, Option, Some, None, IfSome, refl, arith, length-append, length-drop, IsDistinct, nat_tests, All-nil, All-cons, All-append, All-drop, none-some, Message, action_of, Places, is_on, place_of, free_place, Check, Period, First, Second, no_room, with_message, freed, counted, responses, is_checked, IsAt, IsSoundTable, IsSoundMemory, IsSoundCheck, IsSoundQueue, IsSound, Management, sym, subst}
+use Rattle.lapd_tei.proofs.Vocabulary.{Remembered, ◌≡◌, ℕ, zero, suc, ◌+◌, ◌≤◌, nat_le, true, false, cond, List, [], ◌∷◌, ◌++◌, length, drop, set, replicate, Option, Some, None, IfSome, refl, arith, length-append, length-drop, IsDistinct, nat_tests, All-nil, All-cons, All-append, none-some, Message, action_of, Places, is_on, place_of, free_place, Check, First, Second, no_room, with_message, freed, counted, responses, is_checked, IsAt, IsSoundTable, IsSoundMemory, IsSoundCheck, IsSoundQueue, IsSound, Management, sym, subst}
 use Rattle.lapd_tei.proofs.Tables.{on-put, on-freed, on-range, table-put}
 
 has_room : (n : ℕ) → nat_le 4 n ≡ false → n + 1 ≤ 4
@@ -21,30 +21,21 @@ queue-sent message waiting sound low =
 -- a message is sent, and the table stays
 pub sound_sent : (m : Management) (message : Message) (check : Option Check) (waiting : List Message) → IsSound m → action_of message ≤ 127 → IfSome check (IsSoundCheck m.places)
     → waiting ≡ with_message message m.waiting → IsSound (record m { check = check; waiting = waiting })
-sound_sent m message check waiting sound low checked sent = record {
-  table = sound.table;
-  memory = sound.memory;
-  checked = checked;
-  queue = subst IsSoundQueue (sym sent) (queue-sent message m.waiting sound.queue low);
-}
+sound_sent m message check waiting sound low checked sent = grind (arith, queue-sent)
 
 -- a TEI that is on the line can be named in a message
 pub on_low : (m now : Management) (tei : ℕ) → m ≡ now → IsSound m → is_on tei now.places ≡ true → tei ≤ 127
 on_low m now tei is sound on = omega (arith, on-range m.places tei sound.table (subst (λ n. is_on tei n.places ≡ true) (sym is) on))
 
 pub queue-rest : (waiting : List Message) → IsSoundQueue waiting → IsSoundQueue (drop 1 waiting)
-queue-rest waiting sound = record {
-  few = omega (arith, length-drop 1 waiting, sound.few);
-  actions = All-drop names_one 1 waiting sound.actions;
-}
+queue-rest waiting sound = grind (arith, length-drop)
 
 pub check-put : (places : Places) (check : Option Check) (place tei : ℕ) → free_place places ≡ Some place → IfSome check (IsSoundCheck places) → IfSome check (IsSoundCheck (set places place (Some tei)))
 check-put places None place tei at sound = sound
 check-put places (Some check) place tei at sound = record { on_line = on-put places place tei check.tei at sound.on_line; first = sound.first; second = sound.second }
 
 pub check-freed : (places : Places) (check : Option Check) (tei : ℕ) → is_checked tei check ≡ false → IfSome check (IsSoundCheck places) → IfSome check (IsSoundCheck (freed places (place_of tei places)))
-check-freed places None tei other sound = sound
-check-freed places (Some check) tei other sound = record { on_line = on-freed places tei check.tei other sound.on_line; first = sound.first; second = sound.second }
+check-freed places check tei other sound = grind (arith, on-freed)
 
 pub check-begun : (places : Places) (tei : ℕ) → is_on tei places ≡ true → IsSoundCheck places (record { tei = tei; period = First; first = 0; second = 0 })
 check-begun places tei on = record { on_line = on; first = omega arith; second = omega arith }
@@ -56,18 +47,12 @@ below_two : (n : ℕ) → nat_le 2 n ≡ false → n ≤ 1
 below_two n e = grind (arith, nat_tests)
 
 pub check-counted : (places : Places) (check : Check) → IsSoundCheck places check → nat_le 2 (responses (counted check)) ≡ false → IsSoundCheck places (counted check)
-check-counted places check sound few = go check.period check.tei check.first check.second sound.on_line sound.first sound.second few
-  where
-    go : (period : Period) (tei first second : ℕ) → is_on tei places ≡ true → first ≤ 1 → second ≤ 1 → nat_le 2 (responses (counted (record { tei = tei; period = period; first = first; second = second }))) ≡ false → IsSoundCheck places (counted (record { tei = tei; period = period; first = first; second = second }))
-    go First tei first second on a b e = record { on_line = on; first = below_two (first + 1) e; second = b }
-    go Second tei first second on a b e = record { on_line = on; first = a; second = below_two (second + 1) e }
+check-counted places check sound few = grind (arith, nat_le, below_two)
 
 -- a TEI comes to a place,
 pub sound_came : (m : Management) (place tei : ℕ) (places : Places) (remembered : List Remembered) (waiting : List Message) → IsSound m → is_on tei m.places ≡ false → free_place m.places ≡ Some place → tei ≤ 126
     → places ≡ set m.places place (Some tei) → IsSoundMemory (set m.places place (Some tei)) remembered → IsSoundQueue waiting → IsSound (record m { places = places; remembered = remembered; waiting = waiting })
-sound_came m place tei places remembered waiting sound off at low is memory queue =
-    subst (λ p. IsSound (record m { places = p; remembered = remembered; waiting = waiting })) (sym is)
-    (record { table = table-put m.places place tei sound.table off at low; memory = memory; checked = check-put m.places m.check place tei at sound.checked; queue = queue })
+sound_came m place tei places remembered waiting sound off at low is memory queue = grind (arith, table-put, check-put)
 
 -- as things begin
 nowhere : (places i tei : ℕ) → IsAt (replicate places None) i tei → ⊥
@@ -76,10 +61,7 @@ nowhere (suc places) zero tei e = none-some tei e
 nowhere (suc places) (suc i) tei e = nowhere places i tei e
 
 pub table-empty : (places : ℕ) → IsSoundTable (replicate places None)
-table-empty places = record {
-  once = λ i j tei a b. absurd (nowhere places i tei a);
-  range = λ i tei a. absurd (nowhere places i tei a);
-}
+table-empty places = grind (arith, nowhere)
 
 pub memory-empty : (places : Places) → IsSoundMemory places []
 unfolding IsDistinct

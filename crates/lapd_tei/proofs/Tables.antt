@@ -1,5 +1,5 @@
 -- The table of the TEIs: what stands where, after a TEI came and after one left.
-use Rattle.lapd_tei.proofs.Vocabulary.{cases_eq, ◌≡◌, ℕ, zero, suc, ◌<◌, ◌≤◌, ◌⊎◌, inl, inr, ◌==◌, Bool, true, false, not, [], ◌∷◌, length, set, get_or, Option, Some, None, subst, ◌∙◌, refl, sym, ap, arith, false≢true, nat_tests, get_or-set_same, get_or-set_other, position-Some, none-some, same_Some, Places, is_free, has, is_on, is_off, place_of, free_place, free_tei, automatic, freed, IsAt, IsSoundTable, IsLowestFree, ◌+◌, ◌-◌, list_any_at, Any-from_list_any, get_or_default, length-range_with_len, get_or-range_with_len}
+use Rattle.lapd_tei.proofs.Vocabulary.{cases_eq, ◌≡◌, ℕ, zero, suc, ◌<◌, ◌≤◌, ◌⊎◌, ◌==◌, Bool, true, false, not, [], ◌∷◌, length, set, get_or, Option, Some, None, subst, ◌∙◌, refl, sym, ap, arith, false≢true, nat_tests, get_or-set_same, get_or-set_other, position-Some, none-some, same_Some, Places, is_free, has, is_on, is_off, place_of, free_place, free_tei, automatic, freed, IsAt, IsSoundTable, IsLowestFree, ◌+◌, ◌-◌, list_any_at, Any-from_list_any, get_or_default, length-range_with_len, get_or-range_with_len}
 use Rattle.lapd_tei.proofs.Lists.{found}
 
 pub same_number : (a b : ℕ) → (a == b) ≡ true → a ≡ b
@@ -19,8 +19,7 @@ pub is_on-at : (places : Places) (i tei : ℕ) → IsAt places i tei → is_on t
 is_on-at places i tei e = list_any_at (has tei) places i None (at-within places i tei e) (ap (has tei) e ∙ is_same tei tei refl)
 
 holder : (tei : ℕ) (o : Option ℕ) → has tei o ≡ true → o ≡ Some tei
-holder tei None e = absurd (false≢true e)
-holder tei (Some own) e = ap Some (same_number own tei e)
+holder tei o e = grind (arith, same_number)
 
 pub at-is_on : (places : Places) (tei : ℕ) → is_on tei places ≡ true → (i : ℕ) × IsAt places i tei
 at-is_on places tei e =
@@ -33,56 +32,27 @@ at-off places i tei off e = false≢true (sym off ∙ is_on-at places i tei e)
 
 -- the place that is found is free, or has the TEI
 nobody : (o : Option ℕ) → is_free o ≡ true → o ≡ None
-nobody None e = refl
-nobody (Some own) e = absurd (false≢true e)
+nobody o e = grind arith
 
 pub free_place-is : (places : Places) (place : ℕ) → free_place places ≡ Some place → (place < length places) × (get_or places place None ≡ None)
-free_place-is places place e =
-    let found = position-Some is_free places place None e in
-    (found.0, nobody _ found.1)
+free_place-is places place e = grind (arith, found, position-Some, nobody)
 
 pub place_of-is : (places : Places) (tei place : ℕ) → place_of tei places ≡ Some place → (place < length places) × IsAt places place tei
-place_of-is places tei place e =
-    let found = position-Some (has tei) places place None e in
-    (found.0, holder tei _ found.1)
+place_of-is places tei place e = grind (arith, found, position-Some, holder)
 
 -- At a place is what was put there, and at each other place what was there before.
 at_put : (places : Places) (place i tei : ℕ) (o : Option ℕ) → place < length places → IsAt (set places place o) i tei → ((i ≡ place) × (o ≡ Some tei)) ⊎ ((i ≡ place → ⊥) × IsAt places i tei)
-at_put places place i tei o within e =
-    elim (cases_eq i place) as (λ _. ((i ≡ place) × (o ≡ Some tei)) ⊎ ((i ≡ place → ⊥) × IsAt places i tei)) [
-      | inl same ↦ inl (same, sym (get_or-set_same places place o None within) ∙ subst (λ k. IsAt (set places place o) k tei) same e)
-      | inr apart ↦ inr (apart, sym (get_or-set_other places place i o None apart) ∙ e)
-    ]
+at_put places place i tei o within e = grind (arith, cases_eq, get_or-set_same, get_or-set_other)
 
 table_set : (places : Places) (place : ℕ) (o : Option ℕ) → IsSoundTable places → place < length places → ((tei : ℕ) → o ≡ Some tei → (is_on tei places ≡ false) × (tei ≤ 126)) → IsSoundTable (set places place o)
-table_set places place o sound within comes = record {
-  once = λ i j t a b. once i j t (at_put places place i t o within a) (at_put places place j t o within b);
-  range = λ i t a. range i t (at_put places place i t o within a);
-}
-  where
-    Stood : ℕ → ℕ → Type 0
-    Stood i t = ((i ≡ place) × (o ≡ Some t)) ⊎ ((i ≡ place → ⊥) × IsAt places i t)
-
-    once : (i j t : ℕ) → Stood i t → Stood j t → i ≡ j
-    once i j t (inl a) (inl b) = a.0 ∙ sym b.0
-    once i j t (inl a) (inr b) = absurd (at-off places j t (comes t a.1).0 b.1)
-    once i j t (inr a) (inl b) = absurd (at-off places i t (comes t b.1).0 a.1)
-    once i j t (inr a) (inr b) = sound.once i j t a.1 b.1
-
-    range : (i t : ℕ) → Stood i t → t ≤ 126
-    range i t (inl a) = (comes t a.1).1
-    range i t (inr a) = sound.range i t a.1
+table_set places place o sound within comes = grind (arith, at_put, at-off)
 
 pub table-put : (places : Places) (place tei : ℕ) → IsSoundTable places → is_on tei places ≡ false → free_place places ≡ Some place → tei ≤ 126 → IsSoundTable (set places place (Some tei))
 table-put places place tei sound off at low =
     table_set places place (Some tei) sound (free_place-is places place at).0 (λ t is. subst (λ n. (is_on n places ≡ false) × (n ≤ 126)) (same_Some tei t is) (off, low))
 
 pub table-freed : (places : Places) (tei : ℕ) → IsSoundTable places → IsSoundTable (freed places (place_of tei places))
-table-freed places tei sound =
-    elim (place_of tei places) as (λ o. place_of tei places ≡ o → IsSoundTable (freed places o)) [
-      | None ↦ λ e. sound
-      | Some place ↦ λ e. table_set places place None sound (place_of-is places tei place e).0 (λ t is. absurd (none-some t is))
-    ] refl
+table-freed places tei sound = grind (arith, table_set, place_of-is, none-some)
 
 -- a TEI that is on the line stays while another comes, and while another leaves
 on_set : (places : Places) (place i tei : ℕ) (o : Option ℕ) → (i ≡ place → ⊥) → IsAt places i tei → is_on tei (set places place o) ≡ true
@@ -114,12 +84,10 @@ on-range places tei sound on = let (i, there) = at-is_on places tei on in sound.
 
 -- The TEI that is found is the lowest.
 pub not_not : (b : Bool) → not b ≡ false → b ≡ true
-not_not true e = refl
-not_not false e = sym e
+not_not b e = grind arith
 
 not_true : (b : Bool) → not b ≡ true → b ≡ false
-not_true true e = sym e
-not_true false e = refl
+not_true b e = grind arith
 
 pub free_tei-is : (places : Places) (tei : ℕ) → free_tei places ≡ Some tei → IsLowestFree places tei
 free_tei-is places tei e =

@@ -1,5 +1,5 @@
 -- Every event ends in one of a few ways: the rows of the table are walked once, for any claim.
-use Rattle.lapd_tei.proofs.Vocabulary.{◌≡◌, ℕ, ◌==◌, ◌&&◌, nat_le, Bool, true, false, not, cond, is_some, Option, Some, None, refl, sym, none-some, Refusal, NoLink, TeiTaken, Heard, IdentityAssigned, IdentityDenied, IdentityRemove, IdentityRequest, IdentityVerify, IdentityCheckResponse, heard_in, is_on, free_place, free_tei, Management, Check, Period, First, Second, Course, Step, begun, no_room, leave, check_is, begin_check, end_check, lose_one, send, unserved, assign, assign_new, remembered_in, may_be_checked, counted, responses, doubled, count, respond, serve, expire, expire_period, expire_check, is_unanswered, removed, join_at, put_on, is_checked, take_off, nothing_happens, end_if_any, withdraw, Event, message, expiry, remove, check, down, refusal_if, refusal, unless_refused, step, course}
+use Rattle.lapd_tei.proofs.Vocabulary.{arith, ◌≡◌, ℕ, ◌&&◌, nat_le, Bool, true, false, cond, is_some, Option, Some, None, refl, none-some, Refusal, Heard, IdentityAssigned, IdentityDenied, IdentityRemove, is_on, free_place, free_tei, Management, Check, Period, First, Course, Step, begun, leave, check_is, begin_check, end_check, lose_one, send, unserved, assign, assign_new, remembered_in, counted, responses, doubled, respond, serve, expire, expire_period, expire_check, removed, join_at, is_checked, take_off, end_if_any, withdraw, Event, remove, check, down, refusal_if, refusal, unless_refused, course}
 use Rattle.lapd_tei.specs.Events.{assign as assigning}
 use Rattle.lapd_tei.proofs.Tables.{same_number, not_not}
 
@@ -35,88 +35,52 @@ pub record OfEvents (e : Event) (m : Management) (E : Course → Type 0) : Type 
 
 -- two tests that hold
 first_true : (a b : Bool) → (a && b) ≡ true → a ≡ true
-first_true true b e = refl
-first_true false b e = e
+first_true a b e = grind arith
 
 -- a test that does not refuse
 not_refused : (b : Bool) (why : Refusal) (others : Option Refusal) → refusal_if b why others ≡ None → b ≡ false
-not_refused true why others e = absurd (none-some why (sym e))
-not_refused false why others e = refl
+not_refused b why others e = grind (arith, none-some)
 
 module _ (m : Management) (E : Course → Type 0) where
   -- one of two steps, and an event that is refused or not
   either : (b : Bool) (f g : Step) (c : Course) → (b ≡ true → E (f c)) → (b ≡ false → E (g c)) → E ((cond b f g) c)
-  either true f g c x y = x refl
-  either false f g c x y = y refl
+  either b f g c x y = grind arith
 
   unless : (o : Option Refusal) (does : Step) → E (begun m) → (o ≡ None → E (does (begun m))) → E (unless_refused o does m)
-  unless None does x y = y refl
-  unless (Some why) does x y = x
+  unless o does x y = grind arith
 
   -- an identity request, from its last case on
   of_new : OfMessages m E → (ri : ℕ) (place tei : Option ℕ) → remembered_in ri m.remembered ≡ None → free_place m.places ≡ place → free_tei m.places ≡ tei → E (assign_new ri place tei (begun m))
-  of_new w ri (Some place) (Some tei) new at free = w.is_new ri place tei new at free
-  of_new w ri (Some place) None new at free = w.is_denied ri
-  of_new w ri None tei new at free = w.is_denied ri
+  of_new w ri place tei new at free = grind arith
 
   of_assign : OfMessages m E → (ri : ℕ) (o : Option ℕ) → remembered_in ri m.remembered ≡ o → E (assign ri o (begun m))
-  of_assign w ri (Some tei) is = w.comes_again ri tei is
-  of_assign w ri None is = of_new w ri (free_place m.places) (free_tei m.places) is refl refl
+  of_assign w ri o is = grind (arith, of_new)
 
   -- a check response, and what else a terminal says
   of_respond : OfMessages m E → (tei : ℕ) (o : Option Check) → m.check ≡ o → E (respond tei o (begun m))
-  of_respond w tei None is = w.is_unserved
-  of_respond w tei (Some own) is =
-      either (own.tei == tei) (count tei (counted own)) unserved (begun m)
-      (λ same. either (nat_le 2 (responses (counted own))) (doubled tei) (check_is (Some (counted own))) (begun m)
-      (λ _. w.is_doubled own tei is (same_number own.tei tei same)) (λ few. w.is_counted own is few)) (λ _. w.is_unserved)
+  of_respond w tei o is = grind (arith, either, nat_le, same_number)
 
   pub of_serve : OfMessages m E → (o : Option Heard) → E (serve o (begun m))
-  of_serve w None = w.is_unserved
-  of_serve w (Some (IdentityRequest ri)) =
-      either (no_room m.waiting) lose_one (assign ri (remembered_in ri m.remembered)) (begun m) (λ _. w.is_lost) (λ _. of_assign w ri (remembered_in ri m.remembered) refl)
-  of_serve w (Some (IdentityVerify tei)) =
-      either (may_be_checked tei m) (begin_check tei) unserved (begun m) (λ may. w.begins tei (first_true (is_on tei m.places) (not (is_some m.check)) may)) (λ _. w.is_unserved)
-  of_serve w (Some (IdentityCheckResponse tei)) = of_respond w tei m.check refl
+  of_serve w o = grind (arith, either, of_assign, first_true, is_some, of_respond)
 
   -- an expiry of T201
   of_period : OfExpiries m E → (own : Check) (period : Period) → m.check ≡ Some own → E (expire_period own period (begun m))
-  of_period w own First is = w.asks_again own is
-  of_period w own Second is = either (is_unanswered own) (removed own.tei) end_check (begun m) (λ _. w.is_removed own is) (λ _. w.ends own is)
+  of_period w own period is = grind (arith, either)
 
   of_expire_check : OfExpiries m E → (o : Option Check) → m.check ≡ o → E (expire_check o (begun m))
-  of_expire_check w None is = w.is_idle is
-  of_expire_check w (Some own) is = of_period w own own.period is
+  of_expire_check w o is = grind (arith, of_period)
 
   pub of_expire : OfExpiries m E → E (expire (begun m))
   of_expire w = of_expire_check w m.check refl
 
   -- requests of layer management
   of_join_at : (tei : ℕ) → OfEvents (assigning tei) m E → (o : Option ℕ) → is_on tei m.places ≡ false → free_place m.places ≡ o → E (join_at tei o (begun m))
-  of_join_at tei w None off at = w.is_refused
-  of_join_at tei w (Some place) off at = w.joins tei place refl off at
+  of_join_at tei w o off at = grind arith
 
   of_take_off : (tei : ℕ) → OfEvents (remove tei) m E → is_on tei m.places ≡ true → E (take_off tei (begun m))
-  of_take_off tei w on =
-      elim (is_checked tei m.check) as (λ b. is_checked tei m.check ≡ b → E (leave tei ((cond b end_check nothing_happens) (send (IdentityRemove tei) (begun m))))) [
-        | true ↦ λ _. w.leaves_checked tei on
-        | false ↦ λ other. w.leaves tei on other
-      ] refl
-
-  -- the line is down
-  of_give_up : OfEvents down m E → (o : Option Check) → m.check ≡ o → E (end_if_any o (withdraw (begun m)))
-  of_give_up w None is = w.gives_up is
-  of_give_up w (Some own) is = w.gives_up_checked own is
+  of_take_off tei w on = grind arith
 
   -- what is said of each way holds of every event
   pub of_event : (e : Event) → OfEvents e m E → E (course e m)
   unfolding course refusal
-  of_event (message octets) w = of_serve w.messages (heard_in octets)
-  of_event expiry w = of_expire w.expiries
-  of_event (assigning tei) w =
-      unless (refusal (assigning tei) m) (put_on tei) w.is_refused (λ o. of_join_at tei w (free_place m.places) (not_refused (is_on tei m.places) TeiTaken _ o) refl)
-  of_event (remove tei) w =
-      unless (refusal (remove tei) m) (take_off tei) w.is_refused (λ o. of_take_off tei w (not_not _ (not_refused (not (is_on tei m.places)) NoLink _ o)))
-  of_event (check tei) w =
-      unless (refusal (check tei) m) (step (check tei)) w.is_refused (λ o. w.messages.begins tei (not_not _ (not_refused (not (is_on tei m.places)) NoLink _ o)))
-  of_event down w = of_give_up w m.check refl
+  of_event e w = grind (arith, of_serve, of_expire, unless, of_join_at, not_refused, of_take_off, not_not)

@@ -1,6 +1,6 @@
 -- What each word of the tables does with a claim that asks more of some: which frame is sent, which number is
 -- acknowledged, which state is entered.
-use Rattle.model_link.proofs.Vocabulary.{◌≡◌, ℕ, ◌≤◌, ◌⊎◌, Bool, true, false, IsTrue, List, ◌∷◌, length, Some, None, named, reject_number, Seq, Control, ErrorCode, State, TeiAssigned, AwaitingEstablishment, AwaitingRelease, Established, TimerRecovery, LinkTimer, T203, ControlFrame, Terms, Course, ◌then◌, changed, is_multiple_frame, Data, Event, Request, requested, data_in_7_8, refusal}
+use Rattle.model_link.proofs.Vocabulary.{arith, ◌≡◌, ℕ, ◌≤◌, ◌⊎◌, Bool, true, false, IsTrue, List, ◌∷◌, length, Some, None, named, reject_number, Seq, Control, ErrorCode, State, TeiAssigned, AwaitingEstablishment, AwaitingRelease, Established, TimerRecovery, LinkTimer, T203, ControlFrame, Terms, Course, ◌then◌, changed, is_multiple_frame, Data, Event, Request, requested, data_in_7_8, refusal}
 use Rattle.model_link.specs.Words
 use Rattle.model_link.specs.Offers
 use Rattle.model_link.proofs.Waits.{Waits}
@@ -54,12 +54,10 @@ Queues queued (requested request full) = QueuesFor queued request
 Queues queued other = Unit {0}
 
 pub any_contents : (request : Request) → QueuesFor (Unit {0}) request
-any_contents (Data octets) = tt
-any_contents other = tt
+any_contents request = grind arith
 
 pub any_request : (e : Event) → Queues (Unit {0}) e
-any_request (requested request full) = any_contents request
-any_request other = tt
+any_request e = grind (arith, any_contents)
 
 pub record Careful (t : Terms) (Units Anew Taken Window Queued Offered : Type 0) (In : State → State → Type 0) (S : Course → Type 0) (P : Purse → Purse → Course → Type 0) (E : Course → Type 0) : Type 0 where
   pub is_in : (state : State) → In state state

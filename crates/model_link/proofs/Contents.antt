@@ -1,5 +1,5 @@
 -- What happens to the contents of an I-frame in state 7 or 8: a claim by V(R), and by what is delivered.
-use Rattle.model_link.proofs.Vocabulary.{ℕ, ◌+◌, Bool, true, false, cond, List, Option, None, Some, Seq, Terms, Link, Course, begun, ◌then◌, answer, count_received, deliver, pending_is, reject, rejecting_is}
+use Rattle.model_link.proofs.Vocabulary.{arith, ℕ, ◌+◌, Bool, true, false, cond, List, Option, None, Some, Seq, Terms, Link, Course, begun, ◌then◌, answer, count_received, deliver, pending_is, reject, rejecting_is}
 use Rattle.model_link.specs.Link.{is_rejecting}
 use Rattle.model_link.specs.MultipleFrame
 use Rattle.model_link.proofs.Leads.{Leads, nothing_leads, depending_leads, bit_leads}
@@ -15,8 +15,7 @@ module _ (t : Terms) (l : Link) (Q : ℕ → Option (List ℕ) → Course → Ty
 
   -- either branch
   branch : (b : Bool) (r r' : ℕ) (d d' : Option (List ℕ)) (u v : Course) → Q r d u → Q r' d' v → Q (cond b r r') (cond b d d') (cond b u v)
-  branch true r r' d d' u v x y = x
-  branch false r r' d d' u v x y = y
+  branch b r r' d d' u v x y = grind arith
 
   -- the contents are the next in sequence, or they are not
   pub contents : (ns : Seq) (p : Bool) (octets : List ℕ)

@@ -1,5 +1,5 @@
 -- What is delivered, and V(R): each word but three leaves them.
-use Rattle.model_link.proofs.Vocabulary.{◌≡◌, ℕ, Bool, true, false, List, Option, None, ◌⊎◌, inl, inr, refl, Seq, Terms, Course, Step, by_number}
+use Rattle.model_link.proofs.Vocabulary.{arith, ◌≡◌, ℕ, Bool, true, false, List, Option, None, ◌⊎◌, inl, inr, refl, Seq, Terms, Course, Step, by_number}
 use Rattle.model_link.proofs.Leads.{Leads, number_leads}
 use Rattle.model_link.proofs.Kept.{Kept}
 
@@ -29,8 +29,7 @@ done r contents r' contents' zeroed = Counted r contents r' contents' zeroed ⊎
 
 -- nothing is delivered but the contents of I-frames
 pub undelivered : {r r' : ℕ} {contents : Option (List ℕ)} {zeroed : Bool} → done r None r' contents zeroed → contents ≡ None
-undelivered (inl h) = h.delivered
-undelivered (inr h) = h.delivered
+undelivered o = grind arith
 
 first : {r r' : ℕ} {contents : Option (List ℕ)} {zeroed : Bool} → Counted r None r' contents zeroed → done r None r' contents zeroed
 first h = inl h

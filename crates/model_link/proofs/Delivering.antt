@@ -1,6 +1,6 @@
 -- Every event delivers the contents of the next eligible I-frame, if it brings it, and counts them; or the numbers
 -- begin anew.
-use Rattle.model_link.proofs.Vocabulary.{◌≡◌, ℕ, ◌+◌, ◌%◌, ◌<◌, ◌≤◌, Bool, true, false, cond, not, ◌&&◌, ◌==◌, List, length, Option, Some, None, is_some, refl, sym, ap, subst, inl, arith, nat_lt, nat_le, ltb-true, ltb-false, leb-true, leb-false, false_from_ne_true, true_from_ne_false, Seq, seq, Control, Information, Ua, State, Established, TimerRecovery, Terms, Link, is_multiple_frame, Arrived, information_of, eligible_of, eligible, Course, begun, Step, Event, frame, received, acknowledge, leave_unserved, contents_in_7_8, information_in_7_8, is_next, acknowledged_by_information_in_7, course, frame_in}
+use Rattle.model_link.proofs.Vocabulary.{◌≡◌, ℕ, ◌+◌, ◌%◌, Bool, true, false, cond, not, ◌&&◌, ◌==◌, List, length, Option, Some, None, is_some, refl, sym, ap, subst, inl, arith, nat_lt, nat_le, ltb-true, ltb-false, leb-true, leb-false, false_from_ne_true, true_from_ne_false, Seq, seq, Control, Information, Ua, State, Established, TimerRecovery, Terms, Link, is_multiple_frame, Arrived, information_of, eligible_of, eligible, Course, begun, Step, Event, acknowledge, leave_unserved, contents_in_7_8, information_in_7_8, is_next, acknowledged_by_information_in_7, course, frame_in}
 use Rattle.model_link.proofs.Leads.{Leads, depending_leads}
 use Rattle.model_link.proofs.Kept.{FitsEvent}
 use Rattle.model_link.proofs.Contents.{contents}
@@ -21,8 +21,7 @@ module _ (t : Terms) (l : Link) where
 
   branch-done : (b : Bool) (r r' : ℕ) (x x' : Option (List ℕ)) (u v : Course) → On (done r x) u → On (done r' x') v
       → On (done (cond b r r') (cond b x x')) (cond b u v)
-  branch-done true r r' x x' u v h h' = h
-  branch-done false r r' x x' u v h h' = h'
+  branch-done b r r' x x' u v h h' = grind arith
 
   information : (ns nr : Seq) (p : Bool) (octets : List ℕ) (f : ℕ → Step) → ((Q : Count) (m : ℕ) → Leads (On Q) (f m) (On Q))
       → On (done (cond (nat_lt t.n201 (length octets)) l.r (cond l.own_busy l.r (cond (is_next ns l) (l.r + 1) l.r)))
@@ -37,20 +36,14 @@ module _ (t : Terms) (l : Link) where
 -- The same in the words of eligibility.
 eligible-is : (small le multiple own : Bool) (i : Arrived) (r : ℕ) → le ≡ not small → multiple ≡ true
     → delivery r (cond (le && multiple && not own) (Some i) None) ≡ cond small None (cond own None (cond (i.ns.value == r % 128) (Some i.contents) None))
-eligible-is true le multiple own i r e m = rw e refl
-eligible-is false le multiple true i r e m = rw (e, m) refl
-eligible-is false le multiple false i r e m = rw (e, m) refl
+eligible-is small le multiple own i r e m = grind arith
 
 next-is : (small own next : Bool) (octets : List ℕ) (r : ℕ)
     → cond small r (cond own r (cond next (r + 1) r)) ≡ counted_on r (cond small None (cond own None (cond next (Some octets) None)))
-next-is true own next octets r = refl
-next-is false true next octets r = refl
-next-is false false true octets r = refl
-next-is false false false octets r = refl
+next-is small own next octets r = grind arith
 
 not-over : (b : Bool) (n m : ℕ) → nat_lt n m ≡ b → nat_le m n ≡ not b
-not-over true n m e = false_from_ne_true (nat_le m n) (λ h. let one : n < m = ltb-true n m e in let two : m ≤ n = leb-true m n h in absurd (omega arith))
-not-over false n m e = true_from_ne_false (nat_le m n) (λ h. let one : m ≤ n = ltb-false n m e in let two : n < m = leb-false m n h in absurd (omega arith))
+not-over b n m e = grind (arith, false_from_ne_true, ltb-true, leb-true, true_from_ne_false, ltb-false, leb-false)
 
 module _ (t : Terms) (l : Link) where
   -- an I-frame in state 7 or 8
@@ -72,17 +65,11 @@ module _ (t : Terms) (l : Link) where
 
   -- outside states 7 and 8 nothing is eligible
   none-eligible : (o : Option Arrived) → is_multiple_frame l.state ≡ false → eligible_of t l o ≡ None
-  none-eligible None e = refl
-  none-eligible (Some i) e = none-there (nat_le (length i.contents) t.n201) (is_multiple_frame l.state) (not l.own_busy) i e
-    where
-      none-there : (b m o : Bool) (i : Arrived) → m ≡ false → cond (b && m && o) (Some i) None ≡ None
-      none-there true m o i e = rw e refl
-      none-there false m o i e = refl
+  none-eligible o e = grind arith
 
   unserved : (o : Option Arrived) → is_multiple_frame l.state ≡ false → In o (leave_unserved (begun l))
   unfolding In
-  unserved o e =
-      subst (λ y. On (done (counted_on l.r (delivery l.r y)) (delivery l.r y)) (leave_unserved (begun l))) (sym (none-eligible o e)) (inl (begins t l))
+  unserved o e = grind (arith, On, done, none-eligible, begins)
 
   -- an I-frame in any state, and another frame
   information-in : (here : State) → l.state ≡ here → (b : Bool) (octets : List ℕ) (ns nr : Seq) (p : Bool)
@@ -107,6 +94,4 @@ module _ (t : Terms) (l : Link) where
   pub event-delivers : (e : Event)
       → On (done (counted_on l.r (delivery l.r (eligible t e l))) (delivery l.r (eligible t e l))) (course t e l)
   unfolding In
-  event-delivers (received (frame f)) = frames l.state refl f.address.command f.info f.control
-  event-delivers (received other) = others (received other) tt
-  event-delivers other = others other tt
+  event-delivers e = grind (arith, frames, others)

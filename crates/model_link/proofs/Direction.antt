@@ -1,5 +1,5 @@
 -- One direction between two ends: what the sender's contents become on the line and at the receiver.
-use Rattle.model_link.proofs.Vocabulary.{length-append, ◌≡◌, ℕ, ◌+◌, ◌%◌, ◌<◌, ◌≤◌, List, [], ◌∷◌, ◌++◌, length, take, Some, refl, sym, drop, ap, subst, ◌∙◌, append_assoc, append-nil, arith, slice_get, take-append-le, Seq, seq, seq-value, Control, Information, ReceiveReady, ReceiveNotReady, Reject, Parts, ControlFrame, Terms, Link, frame_of, End}
+use Rattle.model_link.proofs.Vocabulary.{length-append, ◌≡◌, ℕ, ◌+◌, ◌%◌, ◌<◌, ◌≤◌, List, [], ◌∷◌, ◌++◌, length, take, Some, refl, sym, drop, ap, subst, ◌∙◌, append_assoc, append-nil, arith, slice_get, take-append-le, Seq, seq, seq-value, Control, Parts, ControlFrame, Terms, Link, frame_of, End}
 use Rattle.model_link.proofs.Lines.{Carries, Piece, Carried, Means, Rising, carried-more, carried-lower, carried-push, rising-lower, rising-push}
 use Rattle.model_link.proofs.Facing.{IsReport, AreReports, Reports}
 
@@ -25,15 +25,10 @@ pub record Direction (sender receiver : End) : Type 0 where
 
 -- a report is a piece of any line, and means V(R)
 report-piece : (contents : List (List ℕ)) (high r top n : ℕ) (octets : List ℕ) (control : Control) → IsReport n control → Piece contents high r top octets control
-report-piece contents high r top n octets (Information ns nr p) h = absurd h
-report-piece contents high r top n octets (ReceiveReady nr pf) h = tt
-report-piece contents high r top n octets (ReceiveNotReady nr pf) h = tt
-report-piece contents high r top n octets (Reject nr pf) h = tt
-report-piece contents high r top n octets other h = h
+report-piece contents high r top n octets control h = grind arith
 
 report-means : (n : ℕ) (control : Control) → IsReport n control → Means n control
-report-means n (Information ns nr p) h = absurd h
-report-means n other h = h
+report-means n control h = grind arith
 
 -- reports go to the end of a line
 pub carried-reports : (t : Terms) (contents : List (List ℕ)) (high r n : ℕ) (fs : List Parts) (news : List ControlFrame) → AreReports n news
@@ -53,8 +48,7 @@ rising-reports t a r fs (f ∷ news) x h =
 -- what waits after an event is what waited, and reports
 pub line-grows : (t : Terms) (way : List Parts) (before after : List ControlFrame) (r : ℕ) (h : Reports r before after)
     → way ++ frames_of t after ≡ (way ++ frames_of t before) ++ frames_of t h.news
-line-grows t way before after r h =
-    ap (λ ws. way ++ frames_of t ws) h.more ∙ ap (λ fs. way ++ fs) (frames-append t before h.news) ∙ sym (append_assoc way (frames_of t before) (frames_of t h.news))
+line-grows t way before after r h = grind (arith, frames-append, append_assoc)
 
 -- An N(R) that means m where V(A) is a, and that names n, names m.
 pub named-means : (a s m n : ℕ) (nr : Seq) → nr ≡ seq m → a ≤ m → m ≤ a + 127 → a ≤ n → n ≤ s → s ≤ a + 127 → nr ≡ seq n → n ≡ m
@@ -108,12 +102,10 @@ receiver-goes n m l same reports h =
 -- The first frame of a way is lost.
 lost-carried : (contents : List (List ℕ)) (high r : ℕ) (way rest : List Parts) → Carried contents high r (way ++ rest)
     → Carried contents high r (drop 1 way ++ rest)
-lost-carried contents high r [] rest h = h
-lost-carried contents high r (f ∷ fs) rest (top, up, piece, h) = carried-lower contents high top r (fs ++ rest) up h
+lost-carried contents high r way rest h = grind (arith, carried-lower)
 
 lost-rising : (a r : ℕ) (way rest : List Parts) → Rising a r (way ++ rest) → Rising a r (drop 1 way ++ rest)
-lost-rising a r [] rest h = h
-lost-rising a r (f ∷ fs) rest (m, up, means, h) = rising-lower m a r (fs ++ rest) up h
+lost-rising a r way rest h = grind (arith, rising-lower)
 
 pub sender-loses : (n m : End) → Direction n m → Direction (record n { way = drop 1 n.way }) m
 sender-loses n m h = search (lost-carried)

@@ -1,6 +1,6 @@
 -- What an event does to a link that stays in states 7 and 8, for the end that it faces.
-use Rattle.model_link.proofs.Vocabulary.{◌≡◌, ℕ, ◌≤◌, Bool, true, false, cond, IsTrue, List, [], ◌∷◌, ◌++◌, Option, None, Some, refl, sym, ap, subst, ◌∙◌, append_assoc, append-nil, true≢false, arith, ltb-false, Seq, seq, named, Control, ReceiveReady, ReceiveNotReady, Reject, ErrorCode, State, Established, LinkTimer, ControlFrame, Terms, Link, is_multiple_frame, Course, Step, ◌then◌, nothing, TimerRecovery, acknowledge, answer, by_number, command, enquire, error, has_room, pending_is, re_establish, ready_to_receive, reject, report_ready, response, send, clear_busy_in_7_8, failed, set_busy_in_7_8, acknowledged_by_information_in_7, acknowledged_by_rej_in_7, acknowledged_by_rnr_in_7, acknowledged_in_7, frame_in_7, is_all_sent, is_beyond_acknowledged, timer_in_7, acknowledged_in_8, frame_in_8, t200_in_8, frame_in}
-use Rattle.model_link.proofs.Leads.{Leads, then_leads, keeping_then, nothing_leads, depending_leads, bit_leads, tested_leads, Passed, from_more, to_less}
+use Rattle.model_link.proofs.Vocabulary.{◌≡◌, ℕ, ◌≤◌, Bool, true, false, cond, IsTrue, List, [], ◌∷◌, ◌++◌, Option, None, Some, refl, sym, subst, append_assoc, append-nil, true≢false, arith, ltb-false, Seq, seq, named, Control, ReceiveReady, ReceiveNotReady, Reject, ErrorCode, State, Established, LinkTimer, ControlFrame, Terms, Link, is_multiple_frame, Course, Step, ◌then◌, nothing, TimerRecovery, acknowledge, answer, by_number, command, enquire, error, has_room, pending_is, re_establish, ready_to_receive, reject, report_ready, response, send, clear_busy_in_7_8, failed, set_busy_in_7_8, acknowledged_by_information_in_7, acknowledged_by_rej_in_7, acknowledged_by_rnr_in_7, acknowledged_in_7, frame_in_7, is_all_sent, is_beyond_acknowledged, timer_in_7, acknowledged_in_8, frame_in_8, t200_in_8, frame_in}
+use Rattle.model_link.proofs.Leads.{Leads, keeping_then, depending_leads, bit_leads, tested_leads, Passed, from_more}
 use Rattle.model_link.proofs.SoundRows.{named-within}
 
 -- A supervisory frame that says that V(R) is r.
@@ -29,9 +29,7 @@ no-reports r ws = record { news = []; more = sym (append-nil ws); are = tt }
 
 reported : (r : ℕ) (before after : List ControlFrame) (f : ControlFrame) (b : Bool) → IsReport r f.control → Reports r before after
     → Reports r before (cond b (after ++ f ∷ []) after)
-reported r before after f true x h =
-    record { news = h.news ++ f ∷ []; more = ap (λ ws. ws ++ f ∷ []) h.more ∙ append_assoc before h.news (f ∷ []); are = reports-push r h.news f x h.are }
-reported r before after f false x h = h
+reported r before after f b x h = grind (arith, append_assoc, reports-push)
 
 -- A link stays as it was except for its V(A), its V(S) by a claim on it, its V(R), and reports.
 abbrev pub Number : Type 1
@@ -49,8 +47,7 @@ Stays l S a r c = Stay l S a r c.link.contents c.link.a c.link.s c.link.r c.link
 
 -- reports are sent
 ready-is : (b : Bool) (n : ℕ) (pf : Bool) → IsReport n (cond b (ReceiveNotReady (seq n) pf) (ReceiveReady (seq n) pf))
-ready-is true n pf = refl
-ready-is false n pf = refl
+ready-is b n pf = grind arith
 
 module _ {l : Link} {S : Number} {a r : ℕ} (t : Terms) where
   sends : (f : Link → ControlFrame) → ((l' : Link) → IsReport l'.r (f l').control)
@@ -126,15 +123,7 @@ acknowledged n s h = record { same = h.same; acknowledged = refl; sent = tt; rec
 module _ (l : Link) (r : ℕ) {S : Number} (a n : ℕ) where
   -- in state 7 nothing happens only where n is V(A)
   nothing_up : a ≤ n → Leads (Passed (Stays l S a r) (is_beyond_acknowledged n) false) nothing (Up l n r)
-  nothing_up low =
-      record {
-        leads = λ c h. record {
-          stay = λ up.
-              let not-beyond : n ≤ c.link.a = ltb-false c.link.a n h.told in
-              let at : c.link.a ≡ a = h.holds.acknowledged in
-              record { same = h.holds.same; acknowledged = omega arith; sent = tt; received = h.holds.received; reports = h.holds.reports };
-        };
-      }
+  nothing_up low = grind (arith, ltb-false, acknowledged)
 
   pub acknowledge_up : Leads (Stays l S a r) (acknowledge n) (Up l n r)
   acknowledge_up = search (acknowledged)
@@ -171,13 +160,7 @@ module _ (t : Terms) (l : Link) (r : ℕ) where
 
   pub number_up : (nr : Seq) (f : ℕ → Step) → ((n : ℕ) → l.a ≤ n → Leads (Stays l (still l.s) l.a r) (f n) (Up l n r))
       → Leads (Stays l (still l.s) l.a r) (by_number t nr f) (UpBy l nr r)
-  number_up nr f x =
-      record {
-        leads = λ c h.
-            let e : named c.link.a c.link.s nr ≡ named l.a l.s nr = ap (λ a. named a c.link.s nr) h.acknowledged ∙ ap (λ s. named l.a s nr) h.sent in
-            subst (λ o. UpBy l nr r (elim o [ None ↦ (error t ErrorCode.J then re_establish t) c | Some n ↦ f n c ])) (sym e)
-            (by-number nr f x c h (named l.a l.s nr) refl);
-      }
+  number_up nr f x = grind (arith, by-number)
 
   -- supervisory frames
   reports_7 : (b : Bool) (octets : List ℕ) (m : ℕ) (control : Control) → IsReport m control

@@ -1,5 +1,5 @@
 -- What a received I-frame does to a link that stays in states 7 and 8, for the end that it faces.
-use Rattle.model_link.proofs.Vocabulary.{◌≡◌, ℕ, ◌+◌, ◌≤◌, Bool, true, false, cond, IsTrue, List, length, Option, None, Some, refl, sym, ◌∙◌, true≢false, nat_lt, Seq, Terms, Link, is_multiple_frame, Course, begun, Step, by_number, rejecting_is, contents_in_7_8, failed, information_in_7_8, is_next, ErrorCode}
+use Rattle.model_link.proofs.Vocabulary.{arith, ◌≡◌, ℕ, ◌+◌, ◌≤◌, Bool, true, false, cond, IsTrue, List, length, Option, None, Some, refl, nat_lt, Seq, Terms, Link, is_multiple_frame, Course, begun, Step, by_number, rejecting_is, contents_in_7_8, failed, information_in_7_8, is_next, ErrorCode}
 use Rattle.model_link.proofs.Leads.{Leads}
 use Rattle.model_link.proofs.Contents.{contents}
 use Rattle.model_link.proofs.Counting.{Count, On, number_counts}
@@ -43,9 +43,7 @@ module _ (t : Terms) (l : Link) where
       }
 
   or-failed : (b : Bool) (nr : Seq) (r : ℕ) (d : Option (List ℕ)) (u v : Course) → (is_multiple_frame u.link.state ≡ false) → Took l nr r d v → Took l nr r d (cond b u v)
-  or-failed true nr r d u v e y =
-      record { by = record { stay = λ up. absurd (true≢false (sym up ∙ e)) }; delivered = λ up. absurd (true≢false (sym up ∙ e)) }
-  or-failed false nr r d u v e y = y
+  or-failed b nr r d u v e y = grind arith
 
   pub information_took : (ns nr : Seq) (p : Bool) (octets : List ℕ) (f : ℕ → Step) → ((Q : Count) (m : ℕ) → Leads (On Q) (f m) (On Q))
       → ((r n : ℕ) → l.a ≤ n → Leads (Stays l (still l.s) l.a r) (f n) (Up l n r))

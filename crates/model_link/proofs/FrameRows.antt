@@ -1,5 +1,5 @@
 -- What the row of a frame does, said once: a claim that every word of the tables leads on is led on by every row.
-use Rattle.model_link.proofs.Vocabulary.{◌≡◌, ℕ, ◌+◌, ◌≤◌, Bool, true, false, cond, IsTrue, List, Option, Some, None, inl, inr, refl, sym, true≢false, length-take, arith, Seq, seq, named, distance_of, nat_le, leb-true, Control, Information, ReceiveReady, ReceiveNotReady, Reject, Sabme, Disc, Ui, Ua, Dm, Frmr, Xid, ErrorCode, State, TeiAssigned, AwaitingEstablishment, AwaitingRelease, Established, TimerRecovery, LinkTimer, T200, T203, ControlFrame, Terms, has_outstanding, is_asked, is_peer_busy, is_own_busy, is_multiple_frame, Course, Step, ◌then◌, nothing, depending_on, frame_in_4, frame_in_5, frame_in_6, acknowledged_in_8, particulars_in_8, frame_in}
+use Rattle.model_link.proofs.Vocabulary.{◌≡◌, ℕ, ◌≤◌, Bool, true, false, cond, IsTrue, List, Option, Some, None, inl, inr, refl, sym, true≢false, length-take, arith, Seq, seq, named, leb-true, Control, Information, ReceiveReady, ReceiveNotReady, Reject, Sabme, Disc, Ui, Ua, Dm, Frmr, Xid, ErrorCode, State, TeiAssigned, AwaitingEstablishment, AwaitingRelease, Established, TimerRecovery, LinkTimer, T200, T203, ControlFrame, Terms, has_outstanding, is_asked, is_peer_busy, is_own_busy, is_multiple_frame, Course, Step, ◌then◌, nothing, depending_on, frame_in_4, frame_in_5, frame_in_6, acknowledged_in_8, particulars_in_8, frame_in}
 use Rattle.std.specs.Prelude.{◌&&◌}
 use Rattle.model_link.specs.Words
 use Rattle.model_link.specs.MultipleFrame
@@ -19,24 +19,17 @@ one = another no_more
 
 -- what `named` finds lies between V(A) and V(S)
 below-named : (b : Bool) (n m : ℕ) → cond b (Some n) None ≡ Some m → (b ≡ true) × (n ≡ m)
-below-named true n m e = (refl, cc)
-below-named false n m e = absurd (cc)
+below-named b n m e = grind arith
 
 pub named-within : (a s m : ℕ) (nr : Seq) → named a s nr ≡ Some m → (a ≤ m) × (m ≤ s)
 unfolding named
-named-within a s m nr e =
-    let h = below-named (nat_le (a + distance_of (seq a) nr) s) (a + distance_of (seq a) nr) m e in
-    let low : a + distance_of (seq a) nr ≤ s = leb-true (a + distance_of (seq a) nr) s h.0 in
-    let same : a + distance_of (seq a) nr ≡ m = h.1 in
-    (omega arith, omega arith)
+named-within a s m nr e = grind (arith, below-named, leb-true)
 
 module _ {t : Terms} {Units Anew Taken Window Queued Offered : Type 0} {In : State → State → Type 0} {S : Course → Type 0} {P : Purse → Purse → Course → Type 0} {E : Course → Type 0} (k : Careful t Units Anew Taken Window Queued Offered In S P E) where
   -- an N(R) names a number
   names-in : (here : State) (control : Control) (nr : Seq) (a s n i : ℕ) (state : State) → starts In Window here control a s n state
       → named a s nr ≡ Some i → Names In i here a s state
-  names-in here control nr a s n i state x e =
-      let between = named-within a s i nr e in
-      record { from = between.0; to = between.1; state_is = x.0 }
+  names-in here control nr a s n i state x e = grind (arith, named-within)
 
   -- the words
   pub error : {X : Claim} {p q : Purse} (e : ErrorCode) → Leads (At X (P p (another q))) (Words.error t e) (At X (P p q))
@@ -301,10 +294,7 @@ module _ {t : Terms} {Units Anew Taken Window Queued Offered : Type 0} {In : Sta
 
   -- a frame in any state
   fits-down : (control : Control) → Fits Units Anew Taken control → Fits Units Anew (Unit {0}) control
-  fits-down (Information ns nr p) may = tt
-  fits-down (Ua true) may = may
-  fits-down (Ua false) may = tt
-  fits-down other may = may
+  fits-down control may = grind arith
 
   pub frame_by : (here : State) (b : Bool) (octets : List ℕ) (control : Control) → Fits Units Anew Taken control
       → Leads (At (starts In Window here control) S) (frame_in here t b octets control) E

@@ -1,5 +1,5 @@
 -- What an offer gives is a frame.
-use Rattle.model_link.proofs.Vocabulary.{◌≡◌, ℕ, zero, suc, ◌≤◌, Bool, true, false, cond, List, [], ◌∷◌, length, Option, None, Some, refl, subst, arith, All, IfSome, slice_get, All-head, All-tail, seq, ReceiveReady, ControlFrame, Terms, Link, Sent, Course, begun, IsInRange, IsSound, IsWaitingFrame, IsGiven, offer, response, first_unsent, is_awaiting_acknowledgement, may_send_information, next_information, offer_among, with_one_sent, course, given, given_of}
+use Rattle.model_link.proofs.Vocabulary.{◌≡◌, ℕ, zero, suc, ◌≤◌, Bool, false, cond, List, [], ◌∷◌, length, Option, None, refl, subst, arith, All, IfSome, slice_get, All-head, All-tail, seq, ReceiveReady, ControlFrame, Terms, Link, Sent, Course, begun, IsInRange, IsSound, IsWaitingFrame, IsGiven, offer, response, first_unsent, is_awaiting_acknowledgement, may_send_information, next_information, offer_among, with_one_sent, course, given, given_of}
 use Rattle.model_link.proofs.Waits.{frame_without_information, may_wait}
 
 -- a control frame goes alone
@@ -17,21 +17,13 @@ module _ (t : Terms) (r : IsInRange t) (l : Link) (h : IsSound t l) where
   Gives o = IfSome o (λ s. IsGiven t s.frame s.contents)
 
   information : IsGiven t (next_information l) (first_unsent l)
-  information =
-      let f = frame_without_information t (next_information l) r.tei refl refl in
-      record {
-        head = f;
-        octets = omega arith;
-        size = at-place t.n201 l.contents l.s h.sizes;
-        whole = record { sapi = f.sapi; tei = f.tei; kind = refl; size = refl };
-      }
+  information = grind (arith, frame_without_information, at-place)
 
   acknowledgement : IsGiven t (response (ReceiveReady (seq l.r) false)) None
   acknowledgement = alone t _ ((may_wait t (response (ReceiveReady (seq l.r) false)) refl refl (omega arith) refl).waits r.tei)
 
   either : (b : Bool) (u v : Course) → Gives u.sent → Gives v.sent → Gives (cond b u v).sent
-  either true u v x y = x
-  either false u v x y = y
+  either b u v x y = grind arith
 
   offered : (ws : List ControlFrame) → l.waiting ≡ ws → Gives (offer_among t ws (begun l)).sent
   unfolding Gives
@@ -43,8 +35,7 @@ module _ (t : Terms) (r : IsInRange t) (l : Link) (h : IsSound t l) where
 
   from-sent : (c : Course) (o : Option Sent) → Gives o → IfSome (given_of t l c o) (λ g. IsGiven t g.frame g.contents)
   unfolding Gives
-  from-sent c None x = tt
-  from-sent c (Some s) x = x
+  from-sent c o x = grind arith
 
   pub given_is_frame : IfSome (given t l) (λ g. IsGiven t g.frame g.contents)
   given_is_frame = from-sent (course t offer l) (course t offer l).sent (offered l.waiting refl)

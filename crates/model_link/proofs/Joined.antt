@@ -1,5 +1,5 @@
 -- Two ends: what holds in both directions, as long as both links stay in states 7 and 8.
-use Rattle.model_link.proofs.Vocabulary.{◌≡◌, ℕ, ◌+◌, Bool, true, false, cond, IsTrue, List, [], ◌∷◌, ◌++◌, take, drop, Option, None, Some, refl, sym, ap, subst, ◌∙◌, append-nil, true≢false, arith, option_to_list, Refusal, Parts, State, Established, TimerRecovery, LinkTimer, T200, T203, Terms, Link, is_multiple_frame, frame, Request, Establish, Release, Data, SetBusy, ClearBusy, Event, received, expired, requested, offer, Course, begun, IsInRange, IsSound, End, Ends, Act, asks, expires, sends, receives, loses, Doing, at_near, at_far, with_link, with_sent, with_first_lost, with_first_of, acting, turned, doing, doing_all, Begins, IsUp, StayUp, Agree, granted, refusal, release_in, after, course, expired_in, is_running, told}
+use Rattle.model_link.proofs.Vocabulary.{◌≡◌, ℕ, ◌+◌, Bool, true, false, cond, IsTrue, List, [], ◌∷◌, ◌++◌, drop, Option, None, Some, refl, sym, ap, subst, ◌∙◌, append-nil, true≢false, arith, option_to_list, Refusal, Parts, State, Established, TimerRecovery, LinkTimer, T200, T203, Terms, Link, is_multiple_frame, frame, Request, Event, received, expired, requested, offer, Course, begun, IsInRange, IsSound, End, Ends, Act, asks, expires, sends, receives, loses, Doing, at_near, at_far, with_link, with_sent, with_first_lost, with_first_of, acting, turned, doing, doing_all, Begins, IsUp, StayUp, Agree, granted, refusal, release_in, after, course, expired_in, is_running, told}
 use Rattle.model_link.proofs.SoundEvents.{sound-after}
 use Rattle.model_link.proofs.Delivering.{event-delivers}
 use Rattle.model_link.proofs.Lines.{Carried, Rising, rising-low}
@@ -29,33 +29,23 @@ module _ (t : Terms) (l : Link) where
   stays = record { more = []; same = sym (append-nil l.contents); still = refl; received = refl; reports = no-reports l.r l.waiting }
 
   by-up : (c : Course) → Up l l.a l.r c → IsUpIn c → Goes l c.link
-  by-up c h up =
-      let stay = h.stay up in
-      record { more = []; same = stay.same ∙ sym (append-nil l.contents); still = stay.acknowledged; received = stay.received; reports = stay.reports }
+  by-up c h up = grind (arith, append-nil, still)
 
   either : (b : Bool) (u v : Course) → (IsUpIn u → Goes l u.link) → (IsUpIn v → Goes l v.link) → IsUpIn (cond b u v) → Goes l (cond b u v).link
-  either true u v x y up = x up
-  either false u v x y up = y up
+  either b u v x y up = grind arith
 
   -- requests
   release-leads_out : (here : State) → IsTrue (is_multiple_frame here) → IsUpIn (release_in here t (begun l)) → ⊥
-  release-leads_out Established before up = true≢false (sym up)
-  release-leads_out TimerRecovery before up = true≢false (sym up)
-  release-leads_out other before up = true≢false (sym before)
+  release-leads_out here before up = grind arith
 
   granted-goes : IsTrue (is_multiple_frame l.state) → (request : Request) → IsUpIn (granted t request (begun l))
       → Goes l (granted t request (begun l)).link
-  granted-goes before Establish up = absurd (true≢false (sym up))
-  granted-goes before Release up = absurd (release-leads_out l.state before up)
-  granted-goes before (Data octets) up = record { more = octets ∷ []; same = refl; still = refl; received = refl; reports = no-reports l.r l.waiting }
-  granted-goes before SetBusy up = by-up _ ((set_busy_up t l {S = still l.s}).leads (begun l) (at-first t l)) up
-  granted-goes before ClearBusy up = by-up _ ((clear_busy_up t l {S = still l.s}).leads (begun l) (at-first t l)) up
+  granted-goes before request up = grind (arith, release-leads_out, still, no-reports, by-up, set_busy_up, at-first, clear_busy_up)
 
   request-goes : IsTrue (is_multiple_frame l.state) → (request : Request) (o : Option Refusal)
       → IsUpIn (elim o [ None ↦ granted t request (begun l) | Some _ ↦ begun l ])
       → Went l (elim o [ None ↦ granted t request (begun l) | Some _ ↦ begun l ])
-  request-goes before request None up = granted-goes before request up
-  request-goes before request (Some w) up = stays
+  request-goes before request o up = grind (arith, granted-goes, stays)
 
   -- timers
   expired-goes : (here : State) → IsTrue (is_multiple_frame here) → (timer : LinkTimer) → IsUpIn (expired_in here timer t (begun l))
@@ -164,28 +154,10 @@ no-line : (n : End) → Begins n → line_of n ≡ []
 no-line n b = ap (λ way. way ++ frames_of n.terms n.link.waiting) b.way ∙ ap (λ ws. frames_of n.terms ws) b.waiting
 
 begins-direction : (n m : End) → Begins n → Begins m → Direction n m
-begins-direction n m b c =
-    let zero_a : n.link.a ≡ 0 = b.a in
-    let zero_r : m.link.r ≡ 0 = c.r in
-    record {
-      carried = subst (Carried n.link.contents (n.link.a + n.terms.k) m.link.r) (sym (no-line n b)) (omega arith);
-      rising = subst (Rising n.link.a m.link.r) (sym (no-line m c)) (omega arith);
-      delivered = c.delivered ∙ ap (λ r. take r n.link.contents) (sym zero_r);
-      accepted = omega arith;
-    }
+begins-direction n m b c = grind (arith, Carried, no-line, Rising)
 
 pub joined-first : (n m : End) → Begins n → Begins m → Joined n m
-joined-first n m b c =
-    record {
-      near_ranges = b.ranges;
-      far_ranges = c.ranges;
-      near_sound = b.sound;
-      far_sound = c.sound;
-      near_up = ap is_multiple_frame b.state;
-      far_up = ap is_multiple_frame c.state;
-      there = begins-direction n m b c;
-      back = begins-direction m n c b;
-    }
+joined-first n m b c = grind (arith, begins-direction)
 
 -- in the words of the law
 agree : (n m : End) → Direction m n → Agree n m
@@ -193,6 +165,4 @@ agree n m h = record { delivered = h.delivered; accepted = h.accepted; acknowled
 
 pub ends-agree : (ds : List Doing) (e : Ends) → Begins e.near → Begins e.far → StayUp ds e
     → Agree (doing_all ds e).near (doing_all ds e).far × Agree (doing_all ds e).far (doing_all ds e).near
-ends-agree ds e b c up =
-    let h = all-done ds e up (joined-first e.near e.far b c) in
-    (agree (doing_all ds e).near (doing_all ds e).far h.back, agree (doing_all ds e).far (doing_all ds e).near h.there)
+ends-agree ds e b c up = grind (arith, all-done, joined-first, agree)

@@ -1,5 +1,5 @@
 -- What each word of the tables does with a claim, as a record with a field for each word.
-use Rattle.model_link.proofs.Vocabulary.{◌≡◌, ℕ, ◌+◌, Bool, true, false, List, Option, Control, Information, Sabme, Ui, Ua, ErrorCode, State, LinkTimer, ControlFrame, Terms, Course, changed, Event, cleared, frame, received, data_in_7_8}
+use Rattle.model_link.proofs.Vocabulary.{arith, ◌≡◌, ℕ, ◌+◌, Bool, true, false, List, Option, Control, Information, Sabme, Ui, Ua, ErrorCode, State, LinkTimer, ControlFrame, Terms, Course, changed, Event, cleared, frame, received, data_in_7_8}
 use Rattle.model_link.specs.Words
 use Rattle.model_link.specs.Offers
 
@@ -77,10 +77,7 @@ pub record Kept (t : Terms) (Units Anew Taken : Type 0) (S : Course → Type 0) 
 
 -- A claim of all frames.
 pub any_control : (control : Control) → Fits (Unit {0}) (Unit {0}) (Unit {0}) control
-any_control (Ua true) = tt
-any_control (Ua false) = tt
-any_control other = tt
+any_control control = grind arith
 
 pub any_event : (e : Event) → FitsEvent (Unit {0}) (Unit {0}) (Unit {0}) e
-any_event (received (frame f)) = any_control f.control
-any_event other = tt
+any_event e = grind (arith, any_control)

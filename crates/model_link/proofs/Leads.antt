@@ -1,5 +1,5 @@
 -- Where a step leads: from what held before it to what holds after it.
-use Rattle.model_link.proofs.Vocabulary.{◌≡◌, Bool, true, false, cond, refl, Link, Course, Step, ◌then◌, nothing, depending_on, by_bit, ℕ, Option, None, Some, Seq, named, Terms, by_number, error, re_establish, ErrorCode}
+use Rattle.model_link.proofs.Vocabulary.{arith, ◌≡◌, Bool, true, false, cond, Link, Course, Step, ◌then◌, nothing, depending_on, by_bit, ℕ, Option, None, Some, Seq, named, Terms, by_number, error, re_establish, ErrorCode}
 
 pub record Leads (P : Course → Type 0) (f : Step) (Q : Course → Type 0) : Type 0 where
   pub leads : (c : Course) → P c → Q (f c)
@@ -21,8 +21,7 @@ nothing_leads = record { leads = λ c h. h }
 
 -- either branch
 pub both_ways : (Q : Course → Type 0) (b : Bool) (u v : Course) → Q u → Q v → Q (cond b u v)
-both_ways Q true u v x y = x
-both_ways Q false u v x y = y
+both_ways Q b u v x y = grind arith
 
 pub depending_leads : {P Q : Course → Type 0} {f g : Step} (test : Link → Bool) → Leads P f Q → Leads P g Q → Leads P (depending_on test f g) Q
 depending_leads {P} {Q} {f} {g} test x y =
@@ -37,8 +36,7 @@ pub record Passed (P : Course → Type 0) (test : Link → Bool) (b : Bool) (c :
   pub told : test c.link ≡ b
 
 pub told_ways : (Q : Course → Type 0) (b : Bool) (u v : Course) → (b ≡ true → Q u) → (b ≡ false → Q v) → Q (cond b u v)
-told_ways Q true u v x y = x refl
-told_ways Q false u v x y = y refl
+told_ways Q b u v x y = grind arith
 
 pub tested_leads : {P Q : Course → Type 0} {f g : Step} (test : Link → Bool)
     → Leads (Passed P test true) f Q → Leads (Passed P test false) g Q → Leads P (depending_on test f g) Q
@@ -60,5 +58,4 @@ pub number_leads : {P Q : Course → Type 0} (t : Terms) (nr : Seq) {f : ℕ →
 number_leads {P} {Q} t nr {f} x y = record { leads = λ c h. go c h (named c.link.a c.link.s nr) }
   where
     go : (c : Course) → P c → (o : Option ℕ) → Q (elim o [ None ↦ (error t ErrorCode.J then re_establish t) c | Some n ↦ f n c ])
-    go c h None = x.leads c h
-    go c h (Some n) = (y n).leads c h
+    go c h o = grind arith

@@ -40,9 +40,7 @@ Rising a r (f ∷ fs) = (m : ℕ) × (a ≤ m) × Means m f.control × Rising m 
 -- Lines stay so.
 piece-higher : (contents : List (List ℕ)) (high high' r top : ℕ) (octets : List ℕ) (control : Control) → high ≤ high'
     → Piece contents high r top octets control → Piece contents high' r top octets control
-piece-higher contents high high' r top octets (Information ns nr p) le h =
-    record { number = h.number; is_seq = h.is_seq; near = h.near; below = omega (arith, h.below); same = h.same; next = h.next }
-piece-higher contents high high' r top octets other le h = h
+piece-higher contents high high' r top octets control le h = grind arith
 
 pub carried-higher : (contents : List (List ℕ)) (high high' r : ℕ) (fs : List Parts) → high ≤ high' → Carried contents high r fs → Carried contents high' r fs
 carried-higher contents high high' r [] le h = omega arith
@@ -56,9 +54,7 @@ slice_get-append (y ∷ xs) ys (suc i) x e = slice_get-append xs ys i x e
 
 piece-more : (contents more : List (List ℕ)) (high r top : ℕ) (octets : List ℕ) (control : Control)
     → Piece contents high r top octets control → Piece (contents ++ more) high r top octets control
-piece-more contents more high r top octets (Information ns nr p) h =
-    record { number = h.number; is_seq = h.is_seq; near = h.near; below = h.below; same = slice_get-append contents more h.number octets h.same; next = h.next }
-piece-more contents more high r top octets other h = h
+piece-more contents more high r top octets control h = grind (arith, slice_get-append)
 
 pub carried-more : (contents more : List (List ℕ)) (high r : ℕ) (fs : List Parts) → Carried contents high r fs → Carried (contents ++ more) high r fs
 carried-more contents more high r [] h = h
@@ -67,9 +63,7 @@ carried-more contents more high r (f ∷ fs) (top, up, piece, rest) =
 
 piece-lower : (contents : List (List ℕ)) (high r r' top : ℕ) (octets : List ℕ) (control : Control) → r' ≤ r
     → Piece contents high r top octets control → Piece contents high r' top octets control
-piece-lower contents high r r' top octets (Information ns nr p) le h =
-    record { number = h.number; is_seq = h.is_seq; near = omega (arith, h.near); below = h.below; same = h.same; next = h.next }
-piece-lower contents high r r' top octets other le h = h
+piece-lower contents high r r' top octets control le h = grind arith
 
 pub carried-lower : (contents : List (List ℕ)) (high r r' : ℕ) (fs : List Parts) → r' ≤ r → Carried contents high r fs → Carried contents high r' fs
 carried-lower contents high r r' [] le h = omega arith

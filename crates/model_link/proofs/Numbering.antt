@@ -43,15 +43,7 @@ by-number : (frames : List Arrived) (deliveries : List (List ℕ)) (r : ℕ) (f 
     → Numbered 0 frames deliveries → r ≡ length deliveries
     → Numbered 0 (frames ++ f ∷ []) (deliveries ++ option_to_list (cond b (Some f.contents) None))
     × (counted_on r (cond b (Some f.contents) None) ≡ length (deliveries ++ option_to_list (cond b (Some f.contents) None)))
-by-number frames deliveries r f true test h e = (
-  taken 0 frames deliveries f (subst (λ n. f.ns.value ≡ n % 128) (omega arith) (eqb-true f.ns.value (r % 128) test)) h,
-  (let size : length (deliveries ++ f.contents ∷ []) ≡ length deliveries + 1 = length-append deliveries (f.contents ∷ []) in omega arith),
-)
-by-number frames deliveries r f false test h e =
-    rw (append-nil) (
-      passed-over 0 frames deliveries f (λ same. true≢false (sym (eq-eqb f.ns.value (r % 128) (subst (λ n. f.ns.value ≡ n % 128) (omega arith) same)) ∙ test)) h,
-      e,
-    )
+by-number frames deliveries r f b test h e = grind (arith, taken, eqb-true, length-append, append-nil, passed-over, eq-eqb)
 
 -- one more event that goes on
 going-on : (frames : List Arrived) (deliveries : List (List ℕ)) (r : ℕ) (o : Option Arrived) → Numbered 0 frames deliveries → r ≡ length deliveries

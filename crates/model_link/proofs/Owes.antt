@@ -1,5 +1,5 @@
 -- What a link owes the line, and how each word raises it: a purse holds the frames that may still be sent.
-use Rattle.model_link.proofs.Vocabulary.{◌≡◌, ℕ, ◌+◌, ◌-◌, ◌≤◌, Bool, true, false, cond, IsTrue, List, [], ◌∷◌, ◌++◌, length, take, drop, Option, is_some, refl, ap, arith, length-append, length-take-le, length-drop, State, TeiAssigned, AwaitingEstablishment, AwaitingRelease, Established, TimerRecovery, LinkTimer, T203, ControlFrame, Terms, may_send, window_back, data_in_7_8, is_multiple_frame, IsInRange, Sent, Course, ◌then◌, changed, acknowledge, asked_is, begin_anew, clear_flags, discard, enter, has_room, own_busy_is, pending_is, ready_to_receive, report_ready, response, send, send_again_from, start, with_own_busy, zero_numbers, give_acknowledgement, give_information, give_waiting, with_one_sent}
+use Rattle.model_link.proofs.Vocabulary.{◌≡◌, ℕ, ◌+◌, ◌-◌, ◌≤◌, Bool, true, false, cond, IsTrue, List, [], ◌∷◌, ◌++◌, length, take, drop, Option, is_some, refl, arith, length-append, length-take-le, length-drop, State, TeiAssigned, AwaitingEstablishment, AwaitingRelease, Established, TimerRecovery, LinkTimer, T203, ControlFrame, Terms, may_send, window_back, data_in_7_8, is_multiple_frame, IsInRange, Sent, Course, ◌then◌, changed, acknowledge, asked_is, begin_anew, clear_flags, discard, enter, has_room, own_busy_is, pending_is, ready_to_receive, report_ready, response, send, send_again_from, start, with_own_busy, zero_numbers, give_acknowledgement, give_information, give_waiting, with_one_sent}
 use Rattle.model_link.proofs.Waits.{Waits}
 use Rattle.model_link.proofs.Kept.{Purse, another, two}
 unfoldable use Rattle.model_link.proofs.Kept.{how_many}
@@ -23,8 +23,7 @@ pub record Within (t : Terms) (total : ℕ) (c : Course) : Type 0 where
 
 -- a frame that waits is one more at most
 one-more : (b : Bool) (ws : List ControlFrame) (f : ControlFrame) → length (cond b (ws ++ f ∷ []) ws) ≤ 1 + length ws
-one-more true ws f = simp length-append (omega arith)
-one-more false ws f = omega arith
+one-more b ws f = grind (arith, length-append)
 
 -- acknowledged, and to be sent again from the same number on: a window more may be unsent
 resent : (len a s m k : ℕ) → a ≤ m → s ≤ a + k → s ≤ len → m ≤ s → len - m ≤ k + (len - s)
@@ -104,24 +103,16 @@ module _ (t : Terms) (r : IsInRange t) (total extra : ℕ) (Window : Type 0) (pa
 
   again : (p : Purse) (n : ℕ) (c : Course) → Window → c.link.a ≤ n → n ≤ c.link.s → Owes t total extra p c
       → Within t total ((send_again_from n then start T203) c)
-  again p n c w from to h =
-      let paid = pays w in
-      let more = resent (length c.link.contents) c.link.a c.link.s n t.k from h.stands.within h.stands.accepted to in
-      record { within = omega (arith, paid, more, h.within) }
+  again p n c w from to h = grind (arith, resent)
 
   -- the way back from state 8 to state 7 costs a window, and pays it
   recovers : (p : Purse) (n : ℕ) (timer : LinkTimer) (c : Course) → c.link.a ≤ n → n ≤ c.link.s → c.link.state ≡ TimerRecovery → Owes t total extra p c
       → Within t total ((send_again_from n then start timer then enter Established) c)
-  recovers p n timer c from to e h =
-      let more = resent (length c.link.contents) c.link.a c.link.s n t.k from h.stands.within h.stands.accepted to in
-      let back : window_back c.link.state t.k ≡ t.k = ap (λ state. window_back state t.k) e in
-      record { within = omega (arith, more, back, h.within) }
+  recovers p n timer c from to e h = grind (arith, resent)
 
   transfers : (p : Purse) (octets : List ℕ) (c : Course) → Owes t total extra (another p) c → Within t total (data_in_7_8 octets c)
   unfolding how_many
-  transfers p octets c h =
-      let size : length (c.link.contents ++ octets ∷ []) ≡ length c.link.contents + 1 = length-append c.link.contents (octets ∷ []) in
-      record { within = omega (arith, size, h.within) }
+  transfers p octets c h = grind (arith, length-append)
 
   -- no offer is one of these events
   gives-waiting : (f : ControlFrame) (fs : List ControlFrame) (c : Course) → ⊥ → Within t total (give_waiting f fs c)

@@ -1,6 +1,6 @@
 -- The notes that an event tells are of its own link.
 pub use Rattle.model_link.specs.Notes.{IsOwn}
-use Rattle.model_link.proofs.Vocabulary.{◌≡◌, ℕ, Bool, true, false, cond, List, [], ◌∷◌, Option, Some, None, refl, All, All-nil, All-push, Refusal, ControlFrame, Terms, Link, Course, begun, granted, refusal, after, course, Data, Event, offer, requested, is_awaiting_acknowledgement, may_send_information, offer_among, with_one_sent}
+use Rattle.model_link.proofs.Vocabulary.{arith, ◌≡◌, ℕ, Bool, false, cond, List, All, All-nil, All-push, Terms, Link, Course, begun, after, course, Data, Event, offer, requested}
 use Rattle.model_link.proofs.Kept.{Kept}
 use Rattle.model_link.proofs.Rows.{every_event}
 
@@ -16,23 +16,11 @@ notes-own t e l = (every_event (words t) e).leads (begun l) (All-nil (IsOwn t))
 
 -- An offer leaves V(R).
 either_r : (l : Link) (b : Bool) (u v : Course) → u.link.r ≡ l.r → v.link.r ≡ l.r → (cond b u v).link.r ≡ l.r
-either_r l true u v x y = x
-either_r l false u v x y = y
+either_r l b u v x y = grind arith
 
 pub offer-keeps-r : (t : Terms) (l : Link) → (after t offer l).r ≡ l.r
-offer-keeps-r t l = go l.waiting
-  where
-    go : (ws : List ControlFrame) → (offer_among t ws (begun l)).link.r ≡ l.r
-    go [] =
-        either_r l (may_send_information t l) _ _
-        (either_r l (is_awaiting_acknowledgement (with_one_sent l)) _ _ refl refl) (either_r l l.pending _ _ refl refl)
-    go (f ∷ fs) = refl
+offer-keeps-r t l = grind (arith, either_r)
 
 -- Contents that are to be sent begin no numbers anew.
 pub transfer-goes-on : (t : Terms) (octets : List ℕ) (full : Bool) (l : Link) → (course t (requested (Data octets) full) l).zeroed ≡ false
-transfer-goes-on t octets full l = go (refusal t l full (Data octets))
-  where
-    go : (o : Option Refusal)
-        → (elim o as (λ o. Course) [ None ↦ granted t (Data octets) (begun l) | Some _ ↦ begun l ]).zeroed ≡ false
-    go None = refl
-    go (Some w) = refl
+transfer-goes-on t octets full l = grind arith

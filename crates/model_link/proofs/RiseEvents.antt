@@ -1,5 +1,5 @@
 -- No event raises what is sent and still owed by more than its price.
-use Rattle.model_link.proofs.Vocabulary.{◌≡◌, ℕ, ◌+◌, ◌-◌, ◌*◌, ◌<◌, ◌≤◌, Bool, true, false, cond, not, ◌&&◌, List, [], ◌∷◌, length, Option, Some, None, is_some, refl, ap, ◌∙◌, arith, nat_lt, ltb-true, and_parts, and_from, Seq, named, Control, ErrorCode, Refusal, State, TeiAssigned, LinkTimer, ControlFrame, Terms, Link, is_multiple_frame, may_send, sent, reject_number, is_valid_reject, price, sent_in_all, price_of_all, IsInRange, IsSound, Course, begun, Event, Request, cleared, expired, frame, offer, overlong, received, requested, undefined, wrong_size, begin_anew, granted, refusal, is_awaiting_acknowledgement, is_established, may_send_information, offer_among, send_acknowledgement, send_information, with_one_sent, after, after_all, course, expired_in, frame_in, is_running, malformed_in, told_of_clearing}
+use Rattle.model_link.proofs.Vocabulary.{◌≡◌, ℕ, ◌+◌, ◌-◌, ◌*◌, ◌≤◌, Bool, true, false, cond, List, [], ◌∷◌, length, Option, Some, None, is_some, refl, ap, ◌∙◌, arith, ltb-true, and_parts, and_from, Seq, named, Control, ErrorCode, Refusal, State, LinkTimer, ControlFrame, Terms, Link, is_multiple_frame, may_send, sent, reject_number, is_valid_reject, price, sent_in_all, price_of_all, IsInRange, IsSound, Course, begun, Event, Request, cleared, expired, frame, offer, overlong, received, requested, undefined, wrong_size, begin_anew, granted, refusal, may_send_information, offer_among, send_acknowledgement, send_information, after, after_all, course, expired_in, frame_in, is_running, malformed_in, told_of_clearing}
 use Rattle.model_link.proofs.Kept.{Purse, no_more, another, two, any_control}
 unfoldable use Rattle.model_link.proofs.Kept.{how_many}
 use Rattle.model_link.proofs.Careful.{anything, any_contents, Careful}
@@ -45,8 +45,7 @@ module _ (t : Terms) (r : IsInRange t) (l : Link) (h : IsSound t l) where
       (record { known = (refl, tt); holds = begins (may_send t l + (t.k + 1)) t.k (another no_more) (omega arith) })).within
 
   if-running : (b : Bool) (u v : Course) (n : ℕ) → owed t u ≤ may_send t l + n → owed t v ≤ may_send t l → owed t (cond b u v) ≤ may_send t l + cond {A = ℕ} b n 0
-  if-running true u v n x y = x
-  if-running false u v n x y = omega arith
+  if-running b u v n x y = grind arith
 
   request-costs : (request : Request) (full : Bool) (o : Option Refusal) → refusal t l full request ≡ o
       → owed t (elim o [ None ↦ granted t request (begun l) | Some _ ↦ begun l ]) ≤ may_send t l + cond {A = ℕ} (is_some o) 0 1
@@ -57,38 +56,28 @@ module _ (t : Terms) (r : IsInRange t) (l : Link) (h : IsSound t l) where
 
   -- the TEI leaves the line
   cleared-costs : (here : State) → owed t (begin_anew (told_of_clearing here t (begun l))) ≤ may_send t l
-  cleared-costs TeiAssigned = omega arith
-  cleared-costs other = omega arith
+  cleared-costs here = grind arith
 
   -- Offers: the frame that goes was owed, and at most one more owed with it.
   Pays : Course → Type 0
   Pays c = (owed t c ≤ may_send t l) × (may_send t l ≤ may_send t c.link + 2 * cond {A = ℕ} (is_some c.sent) 1 0)
 
   either-pays : (b : Bool) (u v : Course) → Pays u → Pays v → Pays (cond b u v)
-  either-pays true u v x y = x
-  either-pays false u v x y = y
+  either-pays b u v x y = grind arith
 
   tested-pays : (b : Bool) (u v : Course) → (b ≡ true → Pays u) → (b ≡ false → Pays v) → Pays (cond b u v)
-  tested-pays true u v x y = x refl
-  tested-pays false u v x y = y refl
+  tested-pays b u v x y = grind arith
 
   bit-high : (b : Bool) → cond {A = ℕ} b 1 0 ≤ 1
-  bit-high true = omega arith
-  bit-high false = omega arith
+  bit-high b = grind arith
 
   information-pays : may_send_information t l ≡ true → Pays (send_information (begun l))
   unfolding Pays
-  information-pays e =
-      let parts = and_parts (is_established l.state && not l.peer_busy && nat_lt (l.s - l.a) t.k) (nat_lt l.s (length l.contents)) e in
-      let some : l.s < length l.contents = ltb-true l.s (length l.contents) parts.1 in
-      let small : cond {A = ℕ} l.pending 1 0 ≤ 1 = bit-high l.pending in
-      either-pays (is_awaiting_acknowledgement (with_one_sent l)) _ _ (omega (arith, some), omega (arith, some, small)) (omega (arith, some), omega (arith, some, small))
+  information-pays e = grind (arith, and_parts, ltb-true, bit-high, either-pays)
 
   acknowledgement-pays : l.pending ≡ true → Pays (send_acknowledgement (begun l))
   unfolding Pays
-  acknowledgement-pays e =
-      let due : cond {A = ℕ} l.pending 1 0 ≡ 1 = ap (λ b. cond {A = ℕ} b 1 0) e in
-      (omega (arith, due), omega (arith, due))
+  acknowledgement-pays e = grind arith
 
   nothing-pays : Pays (begun l)
   unfolding Pays

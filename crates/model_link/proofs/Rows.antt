@@ -1,5 +1,5 @@
 -- What a row does, said once: a claim that every word of the tables leads on is led on by every event.
-use Rattle.model_link.proofs.Vocabulary.{◌≡◌, ℕ, Bool, true, false, cond, List, [], ◌∷◌, Option, Some, None, inr, refl, Control, ErrorCode, Refusal, WrongState, State, TeiAssigned, AwaitingEstablishment, AwaitingRelease, Established, TimerRecovery, LinkTimer, T200, T203, ControlFrame, Terms, is_own_busy, Course, ◌then◌, nothing, ClearBusy, Data, Establish, Event, Release, Request, SetBusy, cleared, expired, frame, offer, overlong, received, requested, undefined, wrong_size, begin_anew, own_busy_is, report_ready, clear_busy_in_7_8, set_busy_in_7_8, granted, is_down, refusal, release_in, is_awaiting_acknowledgement, is_pending, may_send_information, offer_among, send_acknowledgement, send_information}
+use Rattle.model_link.proofs.Vocabulary.{arith, ◌≡◌, ℕ, Bool, true, false, cond, List, [], ◌∷◌, Option, Some, None, inr, refl, Control, ErrorCode, Refusal, WrongState, State, TeiAssigned, AwaitingEstablishment, AwaitingRelease, Established, TimerRecovery, LinkTimer, T200, T203, ControlFrame, Terms, is_own_busy, Course, ◌then◌, nothing, ClearBusy, Data, Establish, Event, Release, Request, SetBusy, cleared, expired, frame, offer, overlong, received, requested, undefined, wrong_size, begin_anew, own_busy_is, report_ready, clear_busy_in_7_8, set_busy_in_7_8, granted, is_down, refusal, release_in, is_awaiting_acknowledgement, is_pending, may_send_information, offer_among, send_acknowledgement, send_information}
 use Rattle.model_link.specs.Link.{may_repeat}
 use Rattle.model_link.specs.Machine
 use Rattle.model_link.proofs.Leads.{Leads, depending_leads, tested_leads, Passed, from_more}
@@ -10,13 +10,10 @@ use Rattle.model_link.proofs.FrameRows.{one, ◌▹◌, error, release_indicatio
 
 -- what is not refused is served
 served : (b : Bool) (o : Option Refusal) (w : Refusal) → cond b o (Some w) ≡ None → b ≡ true
-served true o w e = refl
-served false o w e = absurd (cc)
+served b o w e = grind arith
 
 down-rests : (state : State) → is_down state ≡ true → is_at_rest state ≡ true
-down-rests TeiAssigned e = refl
-down-rests AwaitingRelease e = refl
-down-rests other e = e
+down-rests state e = grind arith
 
 module _ {t : Terms} {Units Anew Taken Window Queued Offered : Type 0} {In : State → State → Type 0} {S : Course → Type 0} {P : Purse → Purse → Course → Type 0} {E : Course → Type 0} (k : Careful t Units Anew Taken Window Queued Offered In S P E) where
   pub malformed_by : {X : Claim} (here : State) (e : ErrorCode) → Leads (At X S) (Machine.malformed_in here t e) E
@@ -69,8 +66,7 @@ module _ {t : Terms} {Units Anew Taken Window Queued Offered : Type 0} {In : Sta
 
   pub request_by : (request : Request) (full : Bool) → QueuesFor Queued request → (c : Course) → P one two c → (o : Option Refusal)
       → refusal t c.link full request ≡ o → E (elim o [ None ↦ granted t request c | Some _ ↦ c ])
-  request_by request full may c h None e = granted_by request full may c h e
-  request_by request full may c h (Some w) e = k.ends one two c h
+  request_by request full may c h o e = grind (arith, granted_by, one, two)
 
   information_by : Offered → Leads (Passed (P two two) (may_send_information t) true) send_information E
   information_by may =
@@ -90,9 +86,7 @@ module _ {t : Terms} {Units Anew Taken Window Queued Offered : Type 0} {In : Sta
   offer_by may (f ∷ fs) c h e = k.give_waiting may two two f fs c e h
 
   told_of_clearing : (here : State) → Leads (At anything (P two two)) (Machine.told_of_clearing here t) (At anything (P two one))
-  told_of_clearing TeiAssigned = untold k
-  told_of_clearing AwaitingRelease = release_confirm k
-  told_of_clearing other = release_indication k
+  told_of_clearing here = grind (arith, untold, release_confirm, release_indication)
 
   cleared_by : Anew → (here : State) → Leads (At anything S) (Machine.told_of_clearing here t then begin_anew) E
   cleared_by may here = begun_by k (told_of_clearing here ▹ record { leads = λ c h. k.begin_anew may two one c h.holds })

@@ -1,5 +1,5 @@
 -- One direction between two ends, where an end gives a frame to its way.
-use Rattle.model_link.proofs.Vocabulary.{◌≡◌, ℕ, ◌+◌, ◌-◌, ◌<◌, ◌≤◌, Bool, true, false, cond, not, ◌&&◌, List, [], ◌∷◌, ◌++◌, length, take, Option, None, Some, refl, sym, ap, subst, ◌∙◌, append_assoc, append-nil, arith, slice_get, get_or, unwrap_or, nat_lt, ltb-true, and_parts, slice_get-get_or, seq, ReceiveReady, Parts, ControlFrame, Terms, Link, frame_of, Course, begun, given_of, IsInRange, IsSound, End, frame_given, response, give_waiting, is_awaiting_acknowledgement, is_established, may_send_information, next_information, offer_among, send_acknowledgement, with_one_sent}
+use Rattle.model_link.proofs.Vocabulary.{◌≡◌, ℕ, ◌+◌, ◌-◌, ◌<◌, ◌≤◌, Bool, true, false, cond, not, ◌&&◌, List, [], ◌∷◌, ◌++◌, length, Option, Some, refl, ap, ◌∙◌, append_assoc, append-nil, arith, slice_get, get_or, unwrap_or, nat_lt, ltb-true, and_parts, slice_get-get_or, seq, ReceiveReady, Parts, ControlFrame, Terms, Link, frame_of, Course, begun, given_of, IsInRange, IsSound, End, frame_given, response, give_waiting, is_awaiting_acknowledgement, is_established, may_send_information, next_information, offer_among, send_acknowledgement, with_one_sent}
 use Rattle.model_link.proofs.Lines.{Carries, Carried, Rising, carried-push, rising-push}
 use Rattle.model_link.proofs.Direction.{Direction, frames_of}
 
@@ -15,39 +15,19 @@ pub record Gave (t : Terms) (l : Link) (c : Course) : Type 0 where
 
 -- what goes alone goes to the end of the line
 at-end : (t : Terms) (way : List Parts) (f : Parts) (ws : List ControlFrame) → ws ≡ [] → (way ++ f ∷ []) ++ frames_of t ws ≡ (way ++ frames_of t ws) ++ f ∷ []
-at-end t way f [] e = append-nil (way ++ f ∷ []) ∙ sym (ap (λ xs. xs ++ f ∷ []) (append-nil way))
-at-end t way f (w ∷ ws) e = absurd (cc)
+at-end t way f ws e = grind (arith, append-nil)
 
 unwrapped : (o : Option (List ℕ)) (x : List ℕ) → o ≡ Some x → o ≡ Some (unwrap_or o [])
-unwrapped None x e = absurd (cc)
-unwrapped (Some y) x e = refl
+unwrapped o x e = grind arith
 
 module _ (t : Terms) (ranges : IsInRange t) (l : Link) (sound : IsSound t l) where
   -- a frame that waited
   waited : (f : ControlFrame) (fs : List ControlFrame) → l.waiting ≡ f ∷ fs → Gave t l (give_waiting f fs (begun l))
-  waited f fs e =
-      record {
-        same = refl;
-        acknowledged = refl;
-        received = refl;
-        news = [];
-        line = λ way. append_assoc way (frame_of t f ∷ []) (frames_of t fs) ∙ ap (λ ws. way ++ frames_of t ws) (sym e) ∙ sym (append-nil (way ++ frames_of t l.waiting));
-        carried = λ r gs h. subst (Carried l.contents (l.a + t.k) r) (sym (append-nil gs)) h;
-        rising = λ a gs h. subst (Rising a l.r) (sym (append-nil gs)) h;
-      }
+  waited f fs e = grind (arith, append_assoc, frames_of, append-nil, Carried, Rising)
 
   -- nothing
   idle : Gave t l (begun l)
-  idle =
-      record {
-        same = refl;
-        acknowledged = refl;
-        received = refl;
-        news = [];
-        line = λ way. ap (λ xs. xs ++ frames_of t l.waiting) (append-nil way) ∙ sym (append-nil (way ++ frames_of t l.waiting));
-        carried = λ r gs h. subst (Carried l.contents (l.a + t.k) r) (sym (append-nil gs)) h;
-        rising = λ a gs h. subst (Rising a l.r) (sym (append-nil gs)) h;
-      }
+  idle = grind (arith, frames_of, append-nil, Carried, Rising)
 
   -- an acknowledgement
   acknowledgement : l.waiting ≡ [] → Gave t l (send_acknowledgement (begun l))
@@ -117,25 +97,7 @@ abbrev pub having_given : End → Course → End
 having_given n c = record n { link = c.link; way = n.way ++ frame_given n.terms (given_of n.terms n.link c c.sent) }
 
 pub sender-gives : (n m : End) (c : Course) → Gave n.terms n.link c → Direction n m → Direction (having_given n c) m
-sender-gives n m c g h =
-    record {
-      carried =
-          subst (λ fs. Carried c.link.contents (c.link.a + n.terms.k) m.link.r fs) (sym (g.line n.way))
-          (subst (λ cs. Carried cs (c.link.a + n.terms.k) m.link.r ((n.way ++ frames_of n.terms n.link.waiting) ++ g.news)) (sym g.same)
-          (subst (λ a. Carried n.link.contents (a + n.terms.k) m.link.r ((n.way ++ frames_of n.terms n.link.waiting) ++ g.news)) (sym g.acknowledged)
-          (g.carried m.link.r (n.way ++ frames_of n.terms n.link.waiting) h.carried)));
-      rising = subst (λ a. Rising a m.link.r (m.way ++ frames_of m.terms m.link.waiting)) (sym g.acknowledged) h.rising;
-      delivered = h.delivered ∙ ap (λ cs. take m.link.r cs) (sym g.same);
-      accepted = subst (λ cs. m.link.r ≤ length cs) (sym g.same) h.accepted;
-    }
+sender-gives n m c g h = grind (arith, Carried, frames_of, Rising)
 
 pub receiver-gives : (n m : End) (c : Course) → Gave n.terms n.link c → Direction m n → Direction m (having_given n c)
-receiver-gives n m c g h =
-    record {
-      carried = subst (λ r. Carried m.link.contents (m.link.a + m.terms.k) r (m.way ++ frames_of m.terms m.link.waiting)) (sym g.received) h.carried;
-      rising =
-          subst (λ r. Rising m.link.a r ((n.way ++ frame_given n.terms (given_of n.terms n.link c c.sent)) ++ frames_of n.terms c.link.waiting)) (sym g.received)
-          (subst (Rising m.link.a n.link.r) (sym (g.line n.way)) (g.rising m.link.a (n.way ++ frames_of n.terms n.link.waiting) h.rising));
-      delivered = h.delivered ∙ ap (λ r. take r m.link.contents) (sym g.received);
-      accepted = subst (λ r. r ≤ length m.link.contents) (sym g.received) h.accepted;
-    }
+receiver-gives n m c g h = grind (arith, Carried, frames_of, Rising)

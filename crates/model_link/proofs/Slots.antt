@@ -1,15 +1,11 @@
 -- By how much an event lets the queue grow.
-use Rattle.model_link.proofs.Vocabulary.{◌≡◌, ℕ, ◌+◌, ◌-◌, ◌≤◌, cond, List, [], ◌∷◌, ◌++◌, length, drop, Option, Some, None, is_some, arith, length-append, length-drop, Refusal, Terms, Link, queue_of, data_in_7_8, grows, IsSound, Course, begun, Data, Event, requested, refusal}
+use Rattle.model_link.proofs.Vocabulary.{ℕ, ◌+◌, ◌-◌, ◌≤◌, cond, List, [], ◌∷◌, ◌++◌, length, drop, Option, Some, None, is_some, arith, length-append, length-drop, Refusal, Terms, Link, queue_of, data_in_7_8, grows, IsSound, Course, begun, Data, Event, requested, refusal}
 use Rattle.model_link.specs.Machine
 use Rattle.model_link.proofs.SoundEvents.{queue-stays}
 
 -- contents that are not refused are one more
 one-more : (t : Terms) (octets : List ℕ) (l : Link) → IsSound t l → length (drop l.a (l.contents ++ octets ∷ [])) ≤ length (drop l.a l.contents) + 1
-one-more t octets l h =
-    let size : length (l.contents ++ octets ∷ []) ≡ length l.contents + 1 = length-append l.contents (octets ∷ []) in
-    let before : length (drop l.a l.contents) ≡ length l.contents - l.a = length-drop l.a l.contents in
-    let after : length (drop l.a (l.contents ++ octets ∷ [])) ≡ length (l.contents ++ octets ∷ []) - l.a = length-drop l.a (l.contents ++ octets ∷ []) in
-    omega arith
+one-more t octets l h = grind (arith, length-append, length-drop)
 
 by-refusal : (t : Terms) (octets : List ℕ) (l : Link) (o : Option Refusal) → IsSound t l
     → length (queue_of (elim o as (λ o. Course) [ None ↦ data_in_7_8 octets (begun l) | Some _ ↦ begun l ]).link) ≤ length (queue_of l) + cond {A = ℕ} (is_some o) 0 1

@@ -1,33 +1,22 @@
 -- Every event leads from a sound link to a sound link.
-use Rattle.model_link.proofs.Vocabulary.{◌≡◌, ℕ, ◌+◌, ◌-◌, ◌≤◌, List, [], ◌∷◌, length, drop, refl, arith, length-drop, State, Established, TimerRecovery, Terms, Link, fresh, queue_of, IsInRange, IsSettledIn, IsSound, Course, begun, Event, after, after_all, course}
+use Rattle.model_link.proofs.Vocabulary.{◌≡◌, ℕ, ◌-◌, ◌≤◌, List, [], ◌∷◌, length, drop, refl, arith, length-drop, State, Terms, Link, fresh, queue_of, IsInRange, IsSettledIn, IsSound, Course, begun, Event, after, after_all, course}
 use Rattle.model_link.proofs.Kept.{any_event}
 use Rattle.model_link.proofs.Careful.{Queues, any_request}
 use Rattle.model_link.proofs.Rows.{event_by}
 use Rattle.model_link.proofs.SoundRows.{settled, Stands, stand, begins}
 
 settled-in : (here : State) (l : Link) → IsSettledIn here l → settled l.a (length l.contents) here l.asked
-settled-in Established l h = tt
-settled-in TimerRecovery l h = tt
-settled-in other l h = h
+settled-in here l h = grind arith
 
 in-settled : (here : State) (l : Link) → settled l.a (length l.contents) here l.asked → IsSettledIn here l
-in-settled Established l h = tt
-in-settled TimerRecovery l h = tt
-in-settled other l h = h
+in-settled here l h = grind arith
 
 -- A sound link stands, with any number of contents that its queue has; and the other way round.
 pub sound-stands : (t : Terms) (q : ℕ) (l : Link) → length (queue_of l) ≤ q → IsSound t l → Stands t q (begun l)
-sound-stands t q l few h =
-    let e : length (drop l.a l.contents) ≡ length l.contents - l.a = length-drop l.a l.contents in
-    let room : length l.contents ≤ l.a + q = omega (arith, few) in
-    search (settled-in)
+sound-stands t q l few h = grind (arith, length-drop, settled-in)
 
 stands-sound : (t : Terms) (c : Course) → Stands t t.queue c → IsSound t c.link
-stands-sound t c h =
-    let room : length c.link.contents ≤ c.link.a + t.queue = h.queue in
-    let e : length (drop c.link.a c.link.contents) ≡ length c.link.contents - c.link.a = length-drop c.link.a c.link.contents in
-    let few : length (drop c.link.a c.link.contents) ≤ t.queue = omega arith in
-    search (in-settled)
+stands-sound t c h = grind (arith, length-drop, in-settled)
 
 -- A sound link stays sound.
 pub sound-after : (t : Terms) → IsInRange t → (e : Event) (l : Link) → IsSound t l → IsSound t (after t e l)

@@ -1,6 +1,6 @@
 -- Every word of the tables keeps a link sound, over the plain values of which soundness speaks.
 pub use Rattle.model_link.proofs.FrameRows.{named-within}
-use Rattle.model_link.proofs.Vocabulary.{◌≡◌, ℕ, ◌+◌, ◌-◌, ◌<◌, ◌≤◌, inl, inr, Bool, true, false, cond, not, ◌&&◌, IsTrue, List, [], ◌∷◌, ◌++◌, length, take, drop, Option, Some, None, refl, sym, ap, subst, ◌∙◌, true≢false, arith, length-append, length-drop, length-take-le, All, nat_lt, nat_le, ltb-true, ltb-false, leb-false, and_parts, All-push, All-nil, All-tail, All-take, All-drop, Refusal, WrongState, TooLong, QueueFull, State, TeiAssigned, AwaitingEstablishment, AwaitingRelease, Established, TimerRecovery, ControlFrame, Terms, is_multiple_frame, IsWaitingFrame, Course, ◌then◌, LinkTimer, data_in_7_8, Data, begin_anew, enter, own_busy_is, report_ready, send_again_from, start, with_own_busy, refusal, is_established}
+use Rattle.model_link.proofs.Vocabulary.{◌≡◌, ℕ, ◌+◌, ◌-◌, ◌<◌, ◌≤◌, Bool, true, false, cond, not, ◌&&◌, IsTrue, List, [], ◌∷◌, ◌++◌, length, take, drop, Option, Some, None, refl, sym, ap, subst, ◌∙◌, true≢false, arith, length-append, length-drop, length-take-le, All, nat_lt, nat_le, ltb-true, ltb-false, leb-false, and_parts, All-push, All-tail, All-take, All-drop, Refusal, WrongState, TooLong, QueueFull, State, TeiAssigned, AwaitingEstablishment, AwaitingRelease, Established, TimerRecovery, ControlFrame, Terms, is_multiple_frame, IsWaitingFrame, Course, ◌then◌, LinkTimer, data_in_7_8, Data, begin_anew, enter, own_busy_is, report_ready, send_again_from, start, with_own_busy, refusal, is_established}
 use Rattle.model_link.proofs.Waits.{Waits, ready_waits}
 use Rattle.model_link.proofs.Careful.{is_at_rest, idle, Careful}
 
@@ -29,22 +29,14 @@ Stands t q c = Standing t q c.link.contents c.link.a c.link.s c.link.state c.lin
 
 -- nothing queued is settled in every state, and anything in states 7 and 8
 settles-none : (a n : ℕ) (state : State) (asked : Bool) → n ≡ a → settled a n state asked
-settles-none a n TeiAssigned asked h = h
-settles-none a n AwaitingEstablishment asked h = λ e. h
-settles-none a n AwaitingRelease asked h = h
-settles-none a n Established asked h = tt
-settles-none a n TimerRecovery asked h = tt
+settles-none a n state asked h = grind arith
 
 settles-multiple : (a n : ℕ) (state : State) (asked : Bool) → IsTrue (is_multiple_frame state) → settled a n state asked
-settles-multiple a n Established asked h = tt
-settles-multiple a n TimerRecovery asked h = tt
-settles-multiple a n other asked h = absurd (true≢false (sym h))
+settles-multiple a n state asked h = grind arith
 
 -- in a state in which nothing is queued
 at-rest : (a n : ℕ) (here : State) (asked : Bool) → is_at_rest here ≡ true → settled a n here asked → n ≡ a
-at-rest a n TeiAssigned asked e h = h
-at-rest a n AwaitingRelease asked e h = h
-at-rest a n other asked e h = absurd (true≢false (sym e))
+at-rest a n here asked e h = grind arith
 
 abbrev pub is_in : State → State → Type 0
 is_in state here = state ≡ here
@@ -65,8 +57,7 @@ module _ {t : Terms} {q : ℕ} {contents : List (List ℕ)} {a s : ℕ} {state :
   entering state' asked' x = search
 
   none-queued : idle is_in a s (length contents) state → length contents ≡ a
-  none-queued (inl few) = let low : a ≤ s = h.ordered in let all : s ≤ length contents = h.accepted in omega arith
-  none-queued (inr (here, e, r)) = at-rest a (length contents) here asked r (subst (λ y. settled a (length contents) y asked) e h.settles)
+  none-queued o = grind (arith, at-rest)
 
   resting : (here : State) → idle is_in a s (length contents) state → Standing t q contents a s here asked ws own pending
   resting here i = entering here asked (settles-none a (length contents) here asked (none-queued i))
@@ -105,16 +96,10 @@ module _ {t : Terms} {q : ℕ} {contents : List (List ℕ)} {a s : ℕ} {state :
 
   -- what an N(R) acknowledges, and what is to be sent again
   acknowledging : (i : ℕ) (here : State) → a ≤ i → i ≤ s → state ≡ here → IsTrue (is_multiple_frame here) → Standing t q contents i s state asked ws own pending
-  acknowledging i here from to e m =
-      let within : s ≤ a + t.k = h.within in
-      let room : length contents ≤ a + q = h.queue in
-      numbered contents i s to h.accepted (omega arith) (omega arith) (settles-multiple i (length contents) state asked (ap is_multiple_frame e ∙ m)) h.sizes
+  acknowledging i here from to e m = grind (arith, numbered, settles-multiple)
 
   going-back : (i : ℕ) → a ≤ i → i ≤ s → Standing t q contents a i state asked ws own pending
-  going-back i from to =
-      let within : s ≤ a + t.k = h.within in
-      let all : s ≤ length contents = h.accepted in
-      numbered contents a i from (omega arith) (omega arith) h.queue h.settles h.sizes
+  going-back i from to = grind (arith, numbered)
 
   -- all contents are released
   discarding : Standing t q (take a contents) a a state asked ws own pending
@@ -127,11 +112,7 @@ module _ {t : Terms} {q : ℕ} {contents : List (List ℕ)} {a s : ℕ} {state :
 
   -- what is not sent stays settled
   settles-rest : (here : State) (n : ℕ) → n ≡ length contents - s → settled a (length contents) here asked → settled 0 n here asked
-  settles-rest TeiAssigned n e x = let low : a ≤ s = h.ordered in omega (arith, x)
-  settles-rest AwaitingEstablishment n e x = λ on. let low : a ≤ s = h.ordered in let none : length contents ≡ a = x on in omega arith
-  settles-rest AwaitingRelease n e x = let low : a ≤ s = h.ordered in omega (arith, x)
-  settles-rest Established n e x = tt
-  settles-rest TimerRecovery n e x = tt
+  settles-rest here n e x = grind arith
 
   zeroing : Standing t q (drop s contents) 0 0 state asked ws own pending
   zeroing =
@@ -155,22 +136,14 @@ module _ {t : Terms} {q : ℕ} {contents : List (List ℕ)} {a s : ℕ} {state :
   -- one that is not sent goes, within the window
   sent : (here : State) (busy : Bool) → (is_established here && not busy && nat_lt (s - a) t.k && nat_lt s (length contents)) ≡ true
       → Standing t q contents a (s + 1) state asked ws own pending
-  sent here busy e =
-      let parts = and_parts (is_established here && not busy && nat_lt (s - a) t.k) (nat_lt s (length contents)) e in
-      let inner = and_parts (is_established here && not busy) (nat_lt (s - a) t.k) parts.0 in
-      let low : a ≤ s = h.ordered in
-      let some : s < length contents = ltb-true s (length contents) parts.1 in
-      let free : s - a < t.k = ltb-true (s - a) t.k inner.1 in
-      numbered contents a (s + 1) (omega arith) (omega arith) (omega arith) h.queue h.settles h.sizes
+  sent here busy e = grind (arith, and_parts, ltb-true, numbered)
 
 -- contents that are not refused find room
 not-refused : (b : Bool) (o : Option Refusal) (w : Refusal) → cond b o (Some w) ≡ None → (b ≡ true) × (o ≡ None)
-not-refused true o w e = (refl, e)
-not-refused false o w e = absurd (cc)
+not-refused b o w e = grind arith
 
 not-first : (b : Bool) (o : Option Refusal) (w : Refusal) → cond b (Some w) o ≡ None → (b ≡ false) × (o ≡ None)
-not-first true o w e = absurd (cc)
-not-first false o w e = (refl, e)
+not-first b o w e = grind arith
 
 module _ (t : Terms) (r : t.tei ≤ 126) (q : ℕ) (Queued : Type 0) (room : Queued → q ≡ t.queue) where
   -- words that are put together
@@ -187,17 +160,7 @@ module _ (t : Terms) (r : t.tei ≤ 126) (q : ℕ) (Queued : Type 0) (room : Que
   reports b c h = sending (silent h b) _ r (ready_waits t false false (with_own_busy b c.link))
 
   pub begins : (c : Course) → Stands t q (begin_anew c)
-  begins c = record {
-    ordered = omega arith;
-    accepted = omega arith;
-    within = omega arith;
-    settles = refl;
-    queue = omega arith;
-    ring = omega arith;
-    quiet = λ on. refl;
-    sizes = All-nil (λ octets. length octets ≤ t.n201);
-    frames = All-nil (IsWaitingFrame t);
-  }
+  begins c = grind arith
 
   recovers : (i : ℕ) (timer : LinkTimer) (c : Course) → c.link.a ≤ i → i ≤ c.link.s → Stands t q c
       → Stands t q ((send_again_from i then start timer then enter Established) c)

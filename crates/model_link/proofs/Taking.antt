@@ -1,5 +1,5 @@
 -- What a frame of the other end does to a link that stays in states 7 and 8.
-use Rattle.model_link.proofs.Vocabulary.{◌≡◌, ℕ, ◌+◌, Bool, true, false, cond, IsTrue, List, Option, None, Some, refl, sym, ap, subst, ◌∙◌, ◌⊎◌, inl, inr, eqb-true, true≢false, nat_le, Seq, seq, distance_of, named, seq-value, is_seq, seq-distance, Control, Information, ReceiveReady, ReceiveNotReady, Reject, State, Established, TimerRecovery, Terms, Link, is_multiple_frame, Course, begun, acknowledge, is_next, acknowledged_by_information_in_7, frame_in, frame_step}
+use Rattle.model_link.proofs.Vocabulary.{arith, ◌≡◌, ℕ, ◌+◌, Bool, true, false, cond, IsTrue, List, Option, None, Some, refl, sym, ◌∙◌, ◌⊎◌, inl, eqb-true, true≢false, Seq, seq, named, seq-value, is_seq, seq-distance, Control, Information, State, Established, TimerRecovery, Terms, Link, is_multiple_frame, Course, begun, acknowledge, is_next, acknowledged_by_information_in_7, frame_in, frame_step}
 use Rattle.model_link.proofs.Counting.{On, done, undelivered, words}
 use Rattle.model_link.proofs.Leads.{depending_leads}
 use Rattle.model_link.proofs.Rows.{frame_row}
@@ -11,13 +11,11 @@ use Rattle.model_link.proofs.FacingInformation.{Took, at-first, information_took
 
 -- what `named` finds has the remainder that names it
 found : (b : Bool) (x n : ℕ) → cond b (Some x) None ≡ Some n → x ≡ n
-found true x n e = cc
-found false x n e = absurd (cc)
+found b x n e = grind arith
 
 pub named-is_seq : (a s n : ℕ) (nr : Seq) → named a s nr ≡ Some n → nr ≡ seq n
 unfolding named
-named-is_seq a s n nr e =
-    seq-distance (seq a) nr a refl ∙ ap seq (found (nat_le (a + distance_of (seq a) nr) s) (a + distance_of (seq a) nr) n e)
+named-is_seq a s n nr e = grind (arith, seq-distance, found)
 
 -- An I-frame whose N(S) is r.
 abbrev pub HasNumber : ℕ → Control → Type 0
@@ -37,9 +35,7 @@ pub record Taken (l : Link) (m : ℕ) (control : Control) (octets : List ℕ) (c
 
 by-flags : (own next : Bool) (ns nr : Seq) (p : Bool) (octets : List ℕ) (r : ℕ) → (next ≡ true → ns ≡ seq r)
     → Advance (Information ns nr p) octets r (cond own r (cond next (r + 1) r)) (cond own None (cond next (Some octets) None))
-by-flags true next ns nr p octets r h = inl (refl, refl)
-by-flags false true ns nr p octets r h = inr (refl, refl, h refl)
-by-flags false false ns nr p octets r h = inl (refl, refl)
+by-flags own next ns nr p octets r h = grind arith
 
 module _ (t : Terms) (l : Link) where
   next-is_seq : (ns : Seq) → is_next ns l ≡ true → ns ≡ seq l.r
@@ -49,13 +45,7 @@ module _ (t : Terms) (l : Link) where
   information : (ns nr : Seq) (p : Bool) (octets : List ℕ) (m : ℕ) (c : Course) → nr ≡ seq m
       → Took l nr (cond l.own_busy l.r (cond (is_next ns l) (l.r + 1) l.r)) (cond l.own_busy None (cond (is_next ns l) (Some octets) None)) c
       → Taken l m (Information ns nr p) octets c
-  information ns nr p octets m c e h =
-      record {
-        r = cond l.own_busy l.r (cond (is_next ns l) (l.r + 1) l.r);
-        delivered = cond l.own_busy None (cond (is_next ns l) (Some octets) None);
-        advance = by-flags l.own_busy (is_next ns l) ns nr p octets l.r (next-is_seq ns);
-        took = subst (λ n. Took l n (cond l.own_busy l.r (cond (is_next ns l) (l.r + 1) l.r)) (cond l.own_busy None (cond (is_next ns l) (Some octets) None)) c) e h;
-      }
+  information ns nr p octets m c e h = grind (arith, by-flags, next-is_seq, Took)
 
   -- a supervisory frame delivers nothing
   pub none-delivered : (c : Course) → On (done l.r None) c → c.delivered ≡ None
@@ -84,11 +74,7 @@ module _ (t : Terms) (l : Link) where
 
   frames-in : (here : State) → IsTrue (is_multiple_frame here) → (b : Bool) (octets : List ℕ) (m : ℕ) (control : Control) → Means m control
       → Taken l m control octets (frame_in here t b octets control (begun l))
-  frames-in here up b octets m (Information ns nr p) e = information-in here up b octets m ns nr p e
-  frames-in here up b octets m (ReceiveReady nr pf) e = supervisory here up b octets m (ReceiveReady nr pf) e tt
-  frames-in here up b octets m (ReceiveNotReady nr pf) e = supervisory here up b octets m (ReceiveNotReady nr pf) e tt
-  frames-in here up b octets m (Reject nr pf) e = supervisory here up b octets m (Reject nr pf) e tt
-  frames-in here up b octets m other e = absurd e
+  frames-in here up b octets m control e = grind (arith, information-in, supervisory)
 
   pub frame-taken : IsTrue (is_multiple_frame l.state) → (b : Bool) (octets : List ℕ) (m : ℕ) (control : Control) → Means m control
       → Taken l m control octets (frame_step t b octets control (begun l))

@@ -1,5 +1,5 @@
 -- Each row of the tables tells at most two notes.
-use Rattle.model_link.proofs.Vocabulary.{◌≡◌, ℕ, ◌+◌, ◌≤◌, zero-add, Bool, true, false, cond, not, ◌&&◌, List, [], ◌∷◌, ◌++◌, length, Option, Some, None, is_some, ◌⊎◌, inl, inr, refl, sym, ap, ◌∙◌, arith, length-append, Control, Ui, Ua, Note, ErrorCode, State, TeiAssigned, AwaitingEstablishment, AwaitingRelease, Established, TimerRecovery, LinkTimer, T200, T203, Terms, Link, Course, begun, by_bit, frame_in_4, frame_in_5, frame_in_6, list_any, Timer, Order, Start, Stop, is_data, is_unit, runs, timer_at, order_for, orders_for, starts, granted, frame_in_7, frame_in_8, ClearBusy, Data, Establish, Event, Release, Request, SetBusy, cleared, frame, received, deliver_unit, leave_unserved}
+use Rattle.model_link.proofs.Vocabulary.{◌≡◌, ℕ, ◌+◌, ◌≤◌, zero-add, Bool, false, cond, ◌&&◌, List, [], ◌∷◌, ◌++◌, length, Option, None, is_some, ◌⊎◌, inr, refl, sym, ap, ◌∙◌, arith, length-append, Control, Ui, Note, ErrorCode, State, TeiAssigned, AwaitingEstablishment, AwaitingRelease, Established, TimerRecovery, LinkTimer, T200, T203, Terms, Link, Course, begun, by_bit, frame_in_4, frame_in_5, frame_in_6, list_any, Timer, Order, Start, Stop, is_data, is_unit, runs, orders_for, starts, granted, frame_in_7, frame_in_8, ClearBusy, Data, Establish, Event, Release, Request, SetBusy, cleared, frame, received, deliver_unit, leave_unserved}
 use Rattle.model_link.specs.Machine
 use Rattle.model_link.proofs.Leads.{Leads, from_more}
 use Rattle.model_link.proofs.Telling.{Purse, no_more, another, how_many, Telling, HasTold, ToldWithin, untold, note-told, enough, words}
@@ -14,10 +14,7 @@ IsNoUnit other = Unit {0}
 
 -- and so one that the words speak of
 fits : (control : Control) → IsNoUnit control → Fits ⊥ (Unit {0}) (Unit {0}) control
-fits (Ui p) h = absurd h
-fits (Ua true) h = tt
-fits (Ua false) h = tt
-fits other h = tt
+fits control h = grind arith
 
 module _ (t : Terms) where
   told : Careful t ⊥ (Unit {0}) (Unit {0}) (Unit {0}) (Unit {0}) (Unit {0}) (λ state here. Unit {0}) (Telling 2 two) (λ p q c. Telling 2 q c) (HasTold 2)
@@ -72,12 +69,10 @@ module _ (t : Terms) where
 
   units : (b : Bool) (octets : List ℕ) (l : Link) → TellsOf (by_bit b leave_unserved (deliver_unit t octets) (begun l))
   unfolding TellsOf
-  units true octets l = (omega arith, refl, inl refl, refl)
-  units false octets l = (omega arith, refl, inl refl, refl)
+  units b octets l = grind arith
 
   unit-tells : (here : State) (b : Bool) (octets : List ℕ) (p : Bool) (l : Link) → TellsOf (Machine.frame_in here t b octets (Ui p) (begun l))
-  unit-tells TeiAssigned b octets p l = units _ octets l
-  unit-tells other b octets p l = units _ octets l
+  unit-tells here b octets p l = grind (arith, units)
 
   tells : (e : Event) → FitsEvent ⊥ (Unit {0}) (Unit {0}) e → (l : Link) → TellsOf (Machine.course t e l)
   unfolding TellsOf how_many
@@ -107,16 +102,10 @@ module _ (t : Terms) where
 
 -- At most one order for each timer, and at a clear only for the one that runs.
 one-order : (a b : Bool) (x y : Order) → length (cond a (x ∷ []) (cond b (y ∷ []) [])) ≤ 1
-one-order true b x y = omega arith
-one-order false true x y = omega arith
-one-order false false x y = omega arith
+one-order a b x y = grind arith
 
 pub two-orders : (t : Terms) (before started after : Option LinkTimer) → length (orders_for t before started after) ≤ 2
-two-orders t before started after =
-    let one = one-order (runs T200 started && runs T200 after) (runs T200 before && not (runs T200 after)) (Start (timer_at t T200)) (Stop (timer_at t T200)) in
-    let two = one-order (runs T203 started && runs T203 after) (runs T203 before && not (runs T203 after)) (Start (timer_at t T203)) (Stop (timer_at t T203)) in
-    let whole = length-append (order_for t T200 before started after) (order_for t T203 before started after) in
-    omega (arith, one, two, whole)
+two-orders t before started after = grind (arith, one-order, two, length-append)
 
 -- At most one of them starts a timer.
 starts-append : (xs ys : List Order) → starts (xs ++ ys) ≡ starts xs + starts ys
@@ -128,33 +117,20 @@ starts-append (x ∷ xs) ys =
 
 starts-order : (a b : Bool) (x : Timer) → starts (cond a (Start x ∷ []) (cond b (Stop x ∷ []) [])) ≡ cond {A = ℕ} a 1 0
 unfolding starts
-starts-order true b x = refl
-starts-order false true x = refl
-starts-order false false x = refl
+starts-order a b x = grind arith
 
 at-most_one : (b : Bool) → cond {A = ℕ} b 1 0 ≤ 1
-at-most_one true = omega arith
-at-most_one false = omega arith
+at-most_one b = grind arith
 
 one-started : (started after : Option LinkTimer)
     → cond {A = ℕ} (runs T200 started && runs T200 after) 1 0 + cond {A = ℕ} (runs T203 started && runs T203 after) 1 0 ≤ 1
-one-started None after = omega arith
-one-started (Some T200) after = let one = at-most_one (runs T200 (Some T200) && runs T200 after) in omega (arith, one)
-one-started (Some T203) after = let one = at-most_one (runs T203 (Some T203) && runs T203 after) in omega (arith, one)
+one-started started after = grind (arith, at-most_one)
 
 pub one-start : (t : Terms) (before started after : Option LinkTimer) → starts (orders_for t before started after) ≤ 1
-one-start t before started after =
-    let one : starts (order_for t T200 before started after) ≡ cond {A = ℕ} (runs T200 started && runs T200 after) 1 0 =
-    starts-order (runs T200 started && runs T200 after) (runs T200 before && not (runs T200 after)) (timer_at t T200) in
-    let two : starts (order_for t T203 before started after) ≡ cond {A = ℕ} (runs T203 started && runs T203 after) 1 0 =
-    starts-order (runs T203 started && runs T203 after) (runs T203 before && not (runs T203 after)) (timer_at t T203) in
-    let whole = starts-append (order_for t T200 before started after) (order_for t T203 before started after) in
-    omega (arith, one, two, whole, one-started started after)
+one-start t before started after = grind (arith, starts-order, two, starts-append, one-started)
 
 stopped : (t : Terms) (before : Option LinkTimer) → length (orders_for t before None None) ≤ 1
-stopped t None = omega arith
-stopped t (Some T200) = omega arith
-stopped t (Some T203) = omega arith
+stopped t before = grind arith
 
 pub cleared-orders : (t : Terms) (l : Link) → length (Machine.told t cleared l).orders ≤ 1
 cleared-orders t l = stopped t l.running

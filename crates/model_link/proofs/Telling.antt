@@ -1,7 +1,7 @@
 -- What an event tells: at most two notes, and a note of data exactly where contents are delivered.
 pub use Rattle.model_link.proofs.Kept.{Purse, no_more, another}
 unfoldable pub use Rattle.model_link.proofs.Kept.{how_many}
-use Rattle.model_link.proofs.Vocabulary.{◌≡◌, ℕ, ◌+◌, ◌≤◌, false, List, [], ◌∷◌, ◌++◌, length, Option, None, Some, is_some, ◌∙◌, arith, length-append, list_any, list_any-append, Note, Terms, Course, is_data, is_unit}
+use Rattle.model_link.proofs.Vocabulary.{◌≡◌, ℕ, ◌+◌, ◌≤◌, false, List, [], ◌∷◌, ◌++◌, length, Option, None, Some, is_some, arith, length-append, list_any, list_any-append, Note, Terms, Course, is_data, is_unit}
 use Rattle.std.proofs.Math.Bool.{or-false, or-true}
 use Rattle.model_link.proofs.Kept.{two, Kept}
 
@@ -29,33 +29,17 @@ module _ (total : ℕ) (p : Purse) where
   pub note-told : (n : Note) (ns : List Note) (d u : Option (List ℕ)) → is_data n ≡ false → is_unit n ≡ false
       → Tells total (another p) ns d u → Tells total p (ns ++ n ∷ []) d u
   unfolding how_many
-  note-told n ns d u other plain h =
-      let more : length ns + (1 + how_many p) ≤ total = h.count in
-      record {
-        count = simp length-append (omega arith);
-        data_told = list_any-append is_data ns (n ∷ []) ∙ (rw other (or-false (list_any is_data ns) ∙ h.data_told));
-        no_unit = h.no_unit;
-        no_note = list_any-append is_unit ns (n ∷ []) ∙ (rw plain (or-false (list_any is_unit ns) ∙ h.no_note));
-      }
+  note-told n ns d u other plain h = grind (arith, how_many, length-append, list_any-append, or-false)
 
   contents-told : (t : Terms) (octets : List ℕ) (ns : List Note) (d u : Option (List ℕ))
       → Tells total (another p) ns d u → Tells total p (ns ++ Note.Data t.service t.tei ∷ []) (Some octets) u
   unfolding how_many
-  contents-told t octets ns d u h =
-      let more : length ns + (1 + how_many p) ≤ total = h.count in
-      record {
-        count = simp length-append (omega arith);
-        data_told = list_any-append is_data ns (Note.Data t.service t.tei ∷ []) ∙ or-true (list_any is_data ns);
-        no_unit = h.no_unit;
-        no_note = list_any-append is_unit ns (Note.Data t.service t.tei ∷ []) ∙ (or-false (list_any is_unit ns) ∙ h.no_note);
-      }
+  contents-told t octets ns d u h = grind (arith, how_many, length-append, list_any-append, or-true, or-false)
 
   -- a note that is not told
   pub untold : (ns : List Note) (d u : Option (List ℕ)) → Tells total (another p) ns d u → Tells total p ns d u
   unfolding how_many
-  untold ns d u h =
-      let more : length ns + (1 + how_many p) ≤ total = h.count in
-      record { count = omega arith; data_told = h.data_told; no_unit = h.no_unit; no_note = h.no_note }
+  untold ns d u h = grind (arith, how_many)
 
   pub enough : (ns : List Note) (d u : Option (List ℕ)) → Tells total p ns d u → ToldWithin total ns d u
   enough ns d u h = record { count = omega (arith, h.count); data_told = h.data_told; no_unit = h.no_unit; no_note = h.no_note }

@@ -1,16 +1,13 @@
 -- The frames that a link sends are frames of the exchange, of at most four octets.
-use Rattle.model_link.proofs.Vocabulary.{◌≡◌, ◌<◌, ◌≤◌, Bool, true, false, cond, IsTrue, length, refl, arith, Seq, seq, Network, ReceiveReady, ReceiveNotReady, Reject, Sabme, Disc, Ua, Dm, Service, Call, Packet, IsFrame, allows, takes, row, spelling, sapi_of, Terms, ControlFrame, Link, frame_of, IsWaitingFrame, is_information, command, response, ready_to_receive}
+use Rattle.model_link.proofs.Vocabulary.{◌≡◌, ◌<◌, ◌≤◌, Bool, false, cond, IsTrue, length, refl, arith, Seq, seq, Network, ReceiveReady, ReceiveNotReady, Reject, Sabme, Disc, Ua, Dm, Service, IsFrame, allows, takes, row, spelling, sapi_of, Terms, ControlFrame, Link, frame_of, IsWaitingFrame, is_information, command, response, ready_to_receive}
 
 sapi-small : (service : Service) → sapi_of service < 64
-sapi-small Call = omega arith
-sapi-small Packet = omega arith
+sapi-small service = grind arith
 
 -- a frame of a row of table 5 without information
 pub frame_without_information : (t : Terms) (f : ControlFrame) → t.tei ≤ 126 → IsTrue (allows (row f.control).kind f.command)
     → IsTrue (takes (row f.control).info 0) → IsFrame (frame_of t f)
-frame_without_information t f r kind size =
-    let sapi : sapi_of t.service < 64 = sapi-small t.service in
-    record { sapi = sapi; tei = omega arith; kind = kind; size = size }
+frame_without_information t f r kind size = grind (arith, sapi-small)
 
 -- A frame that may wait, for any TEI of a terminal.
 pub record Waits (t : Terms) (f : ControlFrame) : Type 0 where
@@ -18,8 +15,7 @@ pub record Waits (t : Terms) (f : ControlFrame) : Type 0 where
 
 pub may_wait : (t : Terms) (f : ControlFrame) → IsTrue (allows (row f.control).kind f.command) → IsTrue (takes (row f.control).info 0)
     → length (spelling Network (frame_of t f)) ≤ 4 → is_information f.control ≡ false → Waits t f
-may_wait t f kind size small without =
-    record { waits = λ r. record { is_frame = frame_without_information t f r kind size; octets = small; without_contents = without } }
+may_wait t f kind size small without = grind (arith, frame_without_information)
 
 module _ (t : Terms) where
   pub ua_waits : (f : Bool) → Waits t (response (Ua f))
@@ -40,8 +36,7 @@ module _ (t : Terms) where
   -- RR or RNR, as a command and as a response
   ready_among : (b busy pf : Bool) (n : Seq)
       → Waits t (record { command = b; control = cond busy (ReceiveNotReady n pf) (ReceiveReady n pf) })
-  ready_among b true pf n = may_wait t (record { command = b; control = ReceiveNotReady n pf }) refl refl (omega arith) refl
-  ready_among b false pf n = may_wait t (record { command = b; control = ReceiveReady n pf }) refl refl (omega arith) refl
+  ready_among b busy pf n = grind (arith, may_wait)
 
   pub ready_waits : (b pf : Bool) (l : Link) → Waits t (record { command = b; control = ready_to_receive pf l })
   ready_waits b pf l = ready_among b l.own_busy pf (seq l.r)

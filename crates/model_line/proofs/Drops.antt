@@ -1,7 +1,6 @@
 -- What is dropped changes nothing, and costs nothing.
-use Rattle.model_line.proofs.Vocabulary.{◌≡◌, ℕ, Bool, true, false, [], Option, Some, None, IsSome, refl, ap, sym, ◌∙◌, unwrap_or, false≢true, set-get_or, none-some, Cause, Unserved, Service, Terms, LinkTimer, fresh, orders_for, Change, Gained, Left, Config, LineTold, hears, told, may_send, cause_in, Line, link_number, link_in, with_link, terms, aim_of_heard, Effect, unserved_cause, told_of_link, told_of_management, of_link, of_change, of_management, of_aim, unserved_leaves}
+use Rattle.model_line.proofs.Vocabulary.{arith, ◌≡◌, ℕ, Bool, true, [], Option, Some, None, IsSome, refl, ap, ◌∙◌, unwrap_or, set-get_or, none-some, Cause, Unserved, Service, Terms, LinkTimer, fresh, orders_for, Change, Config, LineTold, hears, told, may_send, cause_in, Line, link_number, link_in, with_link, terms, aim_of_heard, Effect, unserved_cause, told_of_link, of_link, of_change, of_management, of_aim, unserved_leaves}
 use Rattle.model_bits.specs.Stream as stream
-use Rattle.model_link.specs.declared.timers.LinkTimer.TheVariants.{T200, T203}
 use Rattle.model_link.specs.Events as link
 use Rattle.model_link.specs.Machine as links
 use Rattle.lapd_tei.specs.Events as teis
@@ -12,8 +11,7 @@ use Rattle.model_line.proofs.ProperAims.{heard_aims}
 
 -- a link or TEI management names a cause exactly where it does not serve
 unserved_is : (b : Bool) (cause : Cause) → unserved_cause b ≡ Some cause → (b ≡ true) × (Unserved ≡ cause)
-unserved_is true cause e = (refl, ap (λ o. unwrap_or o Unserved) e)
-unserved_is false cause e = absurd (none-some cause e)
+unserved_is b cause e = grind (arith, none-some)
 
 -- What is left where a cause is named: the cause is all that is told, and the line is as it was.
 abbrev Leaves : Line → Effect → Type 0
@@ -21,9 +19,7 @@ Leaves l out = (cause : Cause) → out.told.cause ≡ Some cause → (out.told �
 
 -- a timer that ran before and runs after is neither started nor stopped
 no_orders : (t : Terms) (running : Option LinkTimer) → orders_for t running None running ≡ []
-no_orders t None = refl
-no_orders t (Some T200) = refl
-no_orders t (Some T203) = refl
+no_orders t running = grind arith
 
 link_leaves : (c : Config) (service : Service) (tei place : ℕ) (what : link.Received) (l : Line) → Leaves l (of_link c service tei place (link.received what) l)
 link_leaves c service tei place what l cause h =
@@ -40,19 +36,10 @@ link_leaves c service tei place what l cause h =
 
 -- what becomes of a TEI adds no cause
 cause_stays : (c : Config) (change : Option Change) (t : LineTold) (l : Line) → (of_change c change t l).told.cause ≡ t.cause
-cause_stays c None t l = refl
-cause_stays c (Some (Gained tei place)) t l = refl
-cause_stays c (Some (Left tei place)) t l = refl
+cause_stays c change t l = grind arith
 
 management_leaves : (c : Config) (event : teis.Event) (l : Line) → Leaves l (of_management c event l)
-management_leaves c event l cause h =
-    let t = teis.told event l.management in
-    let next : Line = record l { management = teis.after event l.management } in
-    let known = unserved_is t.unserved cause (sym (cause_stays c t.change (told_of_management t) next) ∙ h) in
-    let still = tei_lemmas.unserved_changes_nothing event l.management known.0 in
-    let out : of_change c t.change (told_of_management t) next ≡ record { line = l; told = dropped Unserved } =
-    ap (λ x. of_change c x.change (told_of_management x) next) still.1 ∙ ap (λ m. record { line = record l { management = m }; told = dropped Unserved }) still.0 in
-    (ap (λ o. o.told) out ∙ ap dropped known.1, ap (λ o. o.line) out)
+management_leaves c event l cause h = grind (arith, unserved_is, cause_stays, tei_lemmas.unserved_changes_nothing)
 
 -- what is heard whose answer names a cause
 pub heard_leaves : (c : Config) (e : stream.Event) (l : Line) (cause : Cause) → cause_in (lines.answer c (hears e) l) ≡ Some cause
@@ -71,12 +58,9 @@ heard_leaves c e l cause h =
 
 -- a cause that is named
 pub named_cause : (o : Option Cause) → IsSome o → (cause : Cause) × (o ≡ Some cause)
-named_cause None h = absurd (false≢true h)
-named_cause (Some cause) h = (cause, refl)
+named_cause o h = grind arith
 
 -- and what may be sent stays
 pub drop_costs_nothing : (c : Config) (e : stream.Event) (l : Line) → IsSome (cause_in (lines.answer c (hears e) l))
     → may_send c (lines.after c (hears e) l) ≡ may_send c l
-drop_costs_nothing c e l h =
-    let some = named_cause (cause_in (lines.answer c (hears e) l)) h in
-    ap (may_send c) (heard_leaves c e l some.0 some.1).1
+drop_costs_nothing c e l h = grind (arith, named_cause, heard_leaves)

@@ -1,5 +1,5 @@
 -- Each event that brings an REJ with a valid N(R) is heard as a frame of four octets.
-use Rattle.model_line.proofs.Vocabulary.{◌≡◌, false, refl, ap, arith, Timer, Config, Event, hears, expiry, request, next, one, rejects_aimed, aim_of_expiry, IsRejectHeard, Line, unless_refused, refusal, Request, aim_of_request}
+use Rattle.model_line.proofs.Vocabulary.{◌≡◌, false, refl, arith, Timer, Config, Event, rejects_aimed, aim_of_expiry, IsRejectHeard, Line, unless_refused, refusal, Request, aim_of_request}
 use Rattle.model_line.proofs.ProperAims.{expiry_aims, request_aims}
 use Rattle.model_line.proofs.RejectsHeard.{heard_rejects}
 
@@ -11,7 +11,4 @@ request_none c l =
     request_aims c l (λ takes aim. rejects_aimed l aim ≡ false) (λ takes. refl) (λ service tei place what at. refl) (λ service tei place at. refl) (λ e range. refl) (λ unit is few. refl) refl
 
 pub event_rejects : (c : Config) (e : Event) (l : Line) → IsRejectHeard c e l
-event_rejects c (hears e) l = heard_rejects c l e
-event_rejects c (expiry timer) l = omega (arith, ap one (expiry_none l timer))
-event_rejects c (request r) l = omega (arith, ap one (request_none c l r))
-event_rejects c next l = omega arith
+event_rejects c e l = grind (arith, heard_rejects, expiry_none, request_none)

@@ -1,6 +1,5 @@
 -- By how much an event raises what a line sends and may still send.
-use Rattle.model_line.proofs.Vocabulary.{◌≡◌, ℕ, ◌+◌, ◌*◌, ◌≤◌, Bool, true, false, max, Option, Some, None, is_some, refl, ap, sym, subst, cond, arith, Service, Refusal, T200, T203, T201, LinkTimer, Management, expire_check, Course, Config, Event, hears, expiry, request, next, one, may_send, rejects_aimed, is_accepted, is_given, at_timer, aim_of_expiry, runs_at, Rises, Line, window, place_in, link_in, terms, after, answer, unless_refused, unless_refused_told, aim_of_heard, at_management, told_of_management, of_change, of_management, of_aim, refusal, Request, aim_of_request, IsInRange, IsSound}
-use Rattle.model_link.specs.Machine as links
+use Rattle.model_line.proofs.Vocabulary.{◌≡◌, ℕ, ◌+◌, ◌*◌, ◌≤◌, Bool, false, max, Option, Some, None, is_some, refl, ap, sym, subst, cond, arith, Service, Refusal, T200, T203, T201, LinkTimer, Management, expire_check, Course, Config, Event, hears, expiry, request, next, one, may_send, rejects_aimed, is_accepted, is_given, at_timer, aim_of_expiry, runs_at, Rises, Line, place_in, link_in, terms, after, answer, unless_refused, unless_refused_told, aim_of_heard, at_management, told_of_management, of_change, of_management, of_aim, refusal, Request, aim_of_request, IsInRange, IsSound}
 use Rattle.model_link.specs.Requests as requests
 use Rattle.model_link.specs.declared.timers.LinkTimer.TheVariants as link_timer
 use Rattle.lapd_tei.specs.Events as teis
@@ -22,12 +21,7 @@ module _ (c : Config) (ranged : IsInRange c) (l : Line) (s : IsSound c l) where
   -- an expiry
   timer_costs : (service : Service) (tei : ℕ) (timer : LinkTimer) (o : Option ℕ)
       → price_at (sends c ranged) l (at_timer service tei timer o) ≤ (max c.k c.k16 + 1) * one (runs_at service timer o l)
-  timer_costs service tei timer None = omega arith
-  timer_costs service tei timer (Some place) = go (links.is_running timer (link_in l service place))
-    where
-      go : (b : Bool) → cond b (window c service + 1) 0 ≤ (max c.k c.k16 + 1) * one b
-      go true = omega (arith, window_most c service)
-      go false = omega arith
+  timer_costs service tei timer o = grind (arith, window_most)
 
   t201_rises : may_send c (of_management c teis.expiry l).line ≤ may_send c l + (max c.k c.k16 + 1) * one (is_some l.management.check)
   t201_rises = go l.management.check refl
@@ -47,8 +41,7 @@ module _ (c : Config) (ranged : IsInRange c) (l : Line) (s : IsSound c l) where
       (λ service tei place at. omega arith) (λ e range. omega arith) (λ unit is few. omega arith) (omega arith)
     where
       at_most_one : (b : Bool) → cond {A = ℕ} b 0 1 ≤ 1
-      at_most_one true = omega arith
-      at_most_one false = omega arith
+      at_most_one b = grind arith
 
   request_rises : (r : Request) (o : Option Refusal) → IsProper c l (unless_refused o (aim_of_request r l))
       → price_at (sends c ranged) l (unless_refused o (aim_of_request r l)) ≤ 1

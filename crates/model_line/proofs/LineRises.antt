@@ -1,15 +1,13 @@
 -- What is heard, and what it costs.
-use Rattle.model_line.proofs.Vocabulary.{ℕ, ◌+◌, ◌*◌, ◌≤◌, Bool, true, false, max, cond, arith, Service, Call, Packet, Config, hears, hears_frame, one, rejects, rejects_aimed, Line, window, link_in, aim_of_heard, Aim, at_link, IsInRange}
+use Rattle.model_line.proofs.Vocabulary.{ℕ, ◌+◌, ◌*◌, ◌≤◌, max, arith, Service, Config, hears, hears_frame, one, rejects, rejects_aimed, Line, window, aim_of_heard, Aim, at_link, IsInRange}
 use Rattle.model_bits.specs.Stream as stream
 use Rattle.model_link.specs.Events as link
-use Rattle.model_link.specs.Rises as rises
 use Rattle.model_line.proofs.AimsRise.{sends}
 use Rattle.model_line.proofs.ProperAims.{heard_aims}
 use Rattle.model_line.proofs.Sums.{price_at}
 
 pub window_most : (c : Config) (service : Service) → window c service ≤ max c.k c.k16
-window_most c Call = omega arith
-window_most c Packet = omega arith
+window_most c service = grind arith
 
 module _ (c : Config) (ranged : IsInRange c) (l : Line) where
   abbrev price : Aim → ℕ
@@ -20,11 +18,7 @@ module _ (c : Config) (ranged : IsInRange c) (l : Line) where
   CostsAsFrame aim = price aim ≤ 2 + max c.k c.k16 * one (rejects_aimed l aim)
 
   received_costs : (service : Service) (tei place : ℕ) (what : link.Received) → CostsAsFrame (at_link service tei place (link.received what))
-  received_costs service tei place what = go (rises.rejects (link.received what) (link_in l service place))
-    where
-      go : (b : Bool) → 2 + cond b (window c service) 0 ≤ 2 + max c.k c.k16 * one b
-      go true = omega (arith, window_most c service)
-      go false = omega arith
+  received_costs service tei place what = grind (arith, window_most)
 
   heard_costs : (e : stream.Event) → CostsAsFrame (aim_of_heard c l e)
   heard_costs e =
@@ -32,6 +26,4 @@ module _ (c : Config) (ranged : IsInRange c) (l : Line) where
       (λ info. omega arith) (λ parts service to. omega arith) e
 
   pub event_costs : (e : stream.Event) → price (aim_of_heard c l e) ≤ 2 * one (hears_frame (hears e)) + max c.k c.k16 * one (rejects c (hears e) l)
-  event_costs (stream.frame octets) = omega (arith, heard_costs (stream.frame octets))
-  event_costs (stream.overlong head) = omega (arith, heard_costs (stream.overlong head))
-  event_costs (stream.dropped cause) = omega arith
+  event_costs e = grind (arith, heard_costs)

@@ -1,5 +1,5 @@
 -- What keeps the links of a line sound.
-use Rattle.model_line.proofs.Vocabulary.{◌≡◌, ◌≢◌, ℕ, ◌+◌, ◌*◌, ◌≤◌, ◌<◌, List, length, get_or, set, Option, Some, None, refl, ap, sym, ◌∙◌, subst, arith, ⊎_elim, length-set, cases_eq, get_or-set_same, get_or-set_other, Service, Call, Packet, Link, fresh, sound-after, sound-fresh, IsAt, Places, at-within, Config, Line, link_number, service_at, place_at, link_count, link_at, link_in, with_link, terms, of_link, IsInRange, IsSoundAt, IsSound}
+use Rattle.model_line.proofs.Vocabulary.{◌≡◌, ◌≢◌, ℕ, ◌+◌, ◌*◌, ◌≤◌, ◌<◌, List, length, get_or, set, Option, Some, None, ap, ◌∙◌, subst, arith, length-set, cases_eq, get_or-set_same, get_or-set_other, Service, Call, Packet, Link, fresh, sound-after, sound-fresh, IsAt, Places, at-within, Config, Line, link_number, service_at, place_at, link_count, link_at, link_in, with_link, terms, of_link, IsInRange, IsSoundAt, IsSound}
 use Rattle.model_link.specs.Events as link
 use Rattle.model_link.specs.Machine as links
 use Rattle.model_link.specs.Sound as link_sound
@@ -14,23 +14,11 @@ SoundIn c all places number = IsSoundAt c number (get_or all number fresh) (get_
 -- Both links of a place begin, and the others stay.
 pub begin_here : (all : List Link) (place number : ℕ) → place_at number ≡ place → 2 * place + 1 < length all
     → get_or (set (set all (link_number place Call) fresh) (link_number place Packet) fresh) number fresh ≡ fresh
-begin_here all place number here few =
-    let one = set all (link_number place Call) fresh in
-    ⊎_elim
-    (λ call.
-    ap (λ i. get_or (set one (link_number place Packet) fresh) i fresh) call
-    ∙ get_or-set_other one (link_number place Packet) (link_number place Call) fresh fresh (λ e. omega (arith, e))
-    ∙ get_or-set_same all (link_number place Call) fresh fresh (omega (arith, few)))
-    (λ packet.
-    ap (λ i. get_or (set one (link_number place Packet) fresh) i fresh) packet
-    ∙ get_or-set_same one (link_number place Packet) fresh fresh (omega (arith, few, length-set all (link_number place Call) fresh)))
-    (at_place number place here)
+begin_here all place number here few = grind (arith, get_or-set_other, get_or-set_same, length-set, at_place)
 
 pub begin_away : (all : List Link) (place number : ℕ) → place_at number ≢ place
     → get_or (set (set all (link_number place Call) fresh) (link_number place Packet) fresh) number fresh ≡ get_or all number fresh
-begin_away all place number away =
-    get_or-set_other (set all (link_number place Call) fresh) (link_number place Packet) number fresh fresh (λ e. away (ap place_at e ∙ place_at-number place Packet))
-    ∙ get_or-set_other all (link_number place Call) number fresh fresh (λ e. away (ap place_at e ∙ place_at-number place Call))
+begin_away all place number away = grind (arith, get_or-set_other, place_at-number)
 
 module _ (c : Config) (ranged : IsInRange c) where
   -- a link of a TEI, and what it is at its number
@@ -47,25 +35,13 @@ module _ (c : Config) (ranged : IsInRange c) where
 
   pub sound_at : (places : Places) (service : Service) (tei place : ℕ) (x : Link) → IsAt places place tei
       → link_sound.IsSound (terms c service tei) x → IsSoundAt c (link_number place service) x (get_or places (place_at (link_number place service)) None)
-  sound_at places service tei place x at h =
-      let number = link_number place service in
-      let there : get_or places (place_at number) None ≡ Some tei =
-      ap (λ p. get_or places p None) (place_at-number place service) ∙ at in
-      subst (IsSoundAt c number x) (sym there)
-      (subst (λ y. link_sound.IsSound (terms c y tei) x) (sym (service_at-number place service)) h)
+  sound_at places service tei place x at h = grind (arith, place_at-number, service_at-number)
 
   -- one link is another
   pub with_one : (all : List Link) (places : Places) (number : ℕ) (x : Link) → number < length all
       → IsSoundAt c number x (get_or places (place_at number) None)
       → ((n : ℕ) → n < link_count c → SoundIn c all places n) → (n : ℕ) → n < link_count c → SoundIn c (set all number x) places n
-  with_one all places number x within here others n few =
-      ⊎_elim
-      (λ same.
-      subst (SoundIn c (set all number x) places) (sym same)
-      (subst (λ y. IsSoundAt c number y (get_or places (place_at number) None)) (sym (get_or-set_same all number x fresh within)) here))
-      (λ other.
-      subst (λ y. IsSoundAt c n y (get_or places (place_at n) None)) (sym (get_or-set_other all number n x fresh other)) (others n few))
-      (cases_eq n number)
+  with_one all places number x within here others n few = grind (arith, get_or-set_same, get_or-set_other, cases_eq)
 
   pub with_link_sound : (l : Line) (number : ℕ) (x : Link) → IsSound c l → number < link_count c
       → IsSoundAt c number x (get_or l.management.places (place_at number) None) → IsSound c (with_link number x l)
@@ -86,20 +62,10 @@ module _ (c : Config) (ranged : IsInRange c) where
 
   -- both links of a place begin, for whatever TEI the table has there
   fresh_at : (number : ℕ) (o : Option ℕ) → ((tei : ℕ) → o ≡ Some tei → tei ≤ 126) → IsSoundAt c number fresh o
-  fresh_at number None fits = refl
-  fresh_at number (Some tei) fits =
-      let service = service_at number in
-      sound-fresh (terms c service tei) (terms_in_range c ranged service tei (fits tei refl))
+  fresh_at number o x = grind (arith, sound-fresh, terms_in_range)
 
   pub with_both : (all : List Link) (places : Places) (place : ℕ) → length all ≡ link_count c → place < c.terminals
       → ((tei : ℕ) → IsAt places place tei → tei ≤ 126)
       → ((n : ℕ) → n < link_count c → place_at n ≢ place → SoundIn c all places n)
       → (n : ℕ) → n < link_count c → SoundIn c (set (set all (link_number place Call) fresh) (link_number place Packet) fresh) places n
-  with_both all places place size within fits others n few =
-      let two : 2 * place + 1 < length all = omega (arith, size, within) in
-      ⊎_elim
-      (λ here.
-      subst (λ y. IsSoundAt c n y (get_or places (place_at n) None)) (sym (begin_here all place n here two))
-      (fresh_at n (get_or places (place_at n) None) (λ tei e. fits tei (ap (λ p. get_or places p None) (sym here) ∙ e))))
-      (λ away. subst (λ y. IsSoundAt c n y (get_or places (place_at n) None)) (sym (begin_away all place n away)) (others n few away))
-      (cases_eq (place_at n) place)
+  with_both all places place size within o others n few = grind (arith, begin_here, fresh_at, begin_away, cases_eq)

@@ -1,5 +1,5 @@
 -- A frame that is taken is no longer among those that may be sent.
-use Rattle.model_line.proofs.Vocabulary.{◌≡◌, ℕ, ◌+◌, ◌*◌, ◌≤◌, ◌<◌, List, ◌∷◌, length, drop, Option, Some, None, is_some, refl, ap, cond, arith, Link, Sent, Given, Terms, event-rises, offer-falls, frame_of, Message, IsAt, Config, one, may_send, Line, UnitData, link_count, service_at, place_at, terms, link_at, Taken, with_message, with_unit, with_given_frame, taken, next_of, option_map, after, answer, FallsByNext, IsInRange, IsSound}
+use Rattle.model_line.proofs.Vocabulary.{◌≡◌, ℕ, ◌+◌, ◌*◌, ◌≤◌, ◌<◌, List, ◌∷◌, Option, Some, is_some, arith, Link, Given, Terms, event-rises, offer-falls, frame_of, Message, IsAt, Config, one, may_send, Line, UnitData, link_count, service_at, place_at, terms, link_at, Taken, with_message, with_unit, with_given_frame, taken, next_of, option_map, after, answer, FallsByNext, IsInRange, IsSound}
 use Rattle.model_link.specs.Events as link
 use Rattle.model_link.specs.Machine as links
 use Rattle.model_link.specs.Rises as rises
@@ -15,24 +15,14 @@ TakesOne c l t = (1 + may_send c t.line ≤ may_send c l) × (may_send c l ≤ m
 
 -- what a link gives is sent
 gives : (t : Terms) (l : Link) (g : Given) → links.given t l ≡ Some g → rises.sent t link.offer l ≡ 1
-gives t l g e = go (links.course t link.offer l).sent e
-  where
-    go : (o : Option Sent) → links.given_of t l (links.course t link.offer l) o ≡ Some g → cond {A = ℕ} (is_some o) 1 0 ≡ 1
-    go None e = cc
-    go (Some s) e = refl
+gives t l g e = grind (arith, is_some)
 
 module _ (c : Config) (ranged : IsInRange c) (l : Line) (s : IsSound c l) where
   message_falls : (m : Message) (ms : List Message) → l.management.waiting ≡ m ∷ ms → TakesOne c l (with_message l (frame_of c.side m))
-  message_falls m ms e =
-      let rest : length (drop 1 l.management.waiting) ≡ length ms = ap (λ (x : List Message). length (drop 1 x)) e in
-      let all : length l.management.waiting ≡ length (m ∷ ms) = ap (λ (x : List Message). length x) e in
-      (omega (arith, rest, all), omega (arith, rest, all))
+  message_falls m ms e = grind arith
 
   unit_falls : (u : UnitData) (us : List UnitData) → l.units ≡ u ∷ us → TakesOne c l (with_unit c l u)
-  unit_falls u us e =
-      let rest : length (drop 1 l.units) ≡ length us = ap (λ (x : List UnitData). length (drop 1 x)) e in
-      let all : length l.units ≡ length (u ∷ us) = ap (λ (x : List UnitData). length x) e in
-      (omega (arith, rest, all), omega (arith, rest, all))
+  unit_falls u us e = grind arith
 
   given_falls : (n tei : ℕ) → n < link_count c → IsAt l.management.places (place_at n) tei → link_sounds.IsSound (terms c (service_at n) tei) (link_at n l)
       → (g : Given) → links.given (terms c (service_at n) tei) (link_at n l) ≡ Some g → TakesOne c l (with_given_frame c l n (terms c (service_at n) tei) g)
@@ -50,8 +40,7 @@ abbrev Falls : Config → Line → Option Taken → Line → Type 0
 Falls c l o m = (one (is_some o) + may_send c m ≤ may_send c l) × (may_send c l ≤ may_send c m + 2 * one (is_some o))
 
 given_same : (o : Option Taken) → one (is_some (option_map next_of o)) ≡ one (is_some o)
-given_same None = refl
-given_same (Some t) = refl
+given_same o = grind arith
 
 pub next_falls : (c : Config) → IsInRange c → (l : Line) → IsSound c l → FallsByNext c l
 unfolding after answer

@@ -1,5 +1,5 @@
 -- A line by itself never finds the pool full: the pool is the card's.
-use Rattle.model_line.proofs.Vocabulary.{◌≡◌, ℕ, Bool, true, false, ◌&&◌, List, [], ◌∷◌, Option, Some, None, refl, list_any, ◌||◌, cond, Refusal, Config, Event, request, is_pool, is_pool_full, Line, answer, unless_refused_told, of_request, Effect, Row, first_that_holds, refusal, Request, Data, Unit}
+use Rattle.model_line.proofs.Vocabulary.{arith, ◌≡◌, ℕ, Bool, false, ◌&&◌, List, [], ◌∷◌, Option, Some, None, refl, list_any, ◌||◌, cond, Refusal, Config, Event, is_pool, is_pool_full, Line, answer, unless_refused_told, Effect, Row, first_that_holds, Request}
 use Rattle.model_line.specs.Refusal.{rows}
 
 -- The refusal is for another reason.
@@ -16,21 +16,14 @@ others (row ∷ more) none = go (is_pool row.why) row.holds refl none (others mo
   where
     go : (pool holds : Bool) → is_pool row.why ≡ pool → ((pool && holds) || list_any pools more) ≡ false
         → (list_any pools more ≡ false → IsOther (first_that_holds more)) → IsOther (cond holds (Some row.why) (first_that_holds more))
-    go true true is e rest = cc
-    go true false is e rest = rest e
-    go false true is e rest = is
-    go false false is e rest = rest e
+    go pool holds is e rest = grind arith
 
 refused_otherwise : (c : Config) (r : Request) (l : Line) → list_any pools (rows c false r l) ≡ false
-refused_otherwise c (Data service tei contents) l = refl
-refused_otherwise c (Unit service tei contents) l = refl
-refused_otherwise c other l = refl
+refused_otherwise c r l = grind arith
 
 not_pool : (o : Option Refusal) (outcome : Effect) → IsOther o → is_pool_full (unless_refused_told o outcome) ≡ false
-not_pool None outcome h = refl
-not_pool (Some why) outcome h = h
+not_pool o outcome h = grind arith
 
 pub line_not_pool : (c : Config) (e : Event) (l : Line) → is_pool_full (answer c e l) ≡ false
 unfolding answer
-line_not_pool c (request r) l = not_pool (refusal c false r l) (of_request c r l) (others (rows c false r l) (refused_otherwise c r l))
-line_not_pool c other l = refl
+line_not_pool c e l = grind (arith, not_pool, others, refused_otherwise)

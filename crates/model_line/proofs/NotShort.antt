@@ -1,8 +1,8 @@
 -- What a line gives is not too short for a frame.
-use Rattle.model_line.proofs.Vocabulary.{◌≡◌, ℕ, ◌*◌, ◌+◌, ◌%◌, ◌≤◌, ◌⊎◌, inl, inr, Bool, true, false, cond, List, [], ◌∷◌, ◌++◌, length, slice_index, IfSome, refl, arith, Side, Address, Control, row, spelling, service_at, Config, Line, Taken, taken, terms, IsSound}
-use Rattle.lapd_frame.specs.Grammar.{cr_bit, second_octet, one_of}
+use Rattle.model_line.proofs.Vocabulary.{◌≡◌, ℕ, ◌+◌, ◌%◌, ◌≤◌, ◌⊎◌, Bool, true, false, cond, List, [], ◌∷◌, ◌++◌, length, slice_index, IfSome, arith, Side, Address, Control, spelling, service_at, Config, Line, Taken, taken, terms, IsSound}
+use Rattle.lapd_frame.specs.Grammar.{one_of}
 use Rattle.lapd_frame.specs.Services.{sapi_of}
-use Rattle.lapd_frame.specs.declared.controls.Control.TheVariants.{Information, ReceiveReady, ReceiveNotReady, Reject, Sabme, Disc, Ui, Ua, Dm, Frmr, Xid}
+use Rattle.lapd_frame.specs.declared.controls.Control.TheVariants.{Ui}
 use Rattle.lapd_tei.specs.Messages.{information_of}
 use Rattle.model_link.specs.Link.{address_at}
 use Rattle.model_line.proofs.TakenWalk.{taken_walk}
@@ -16,35 +16,14 @@ behind_four : (a b c d : ℕ) (info : List ℕ) → 4 ≤ length (a ∷ b ∷ c 
 behind_four a b c d info = omega arith
 
 third : (without with_pf : ℕ) (pf : Bool) → without % 4 ≡ 3 → with_pf % 4 ≡ 3 → cond pf with_pf without % 4 ≡ 3
-third without with_pf true h k = k
-third without with_pf false h k = h
+third without with_pf pf h k = grind arith
 
 one_octet : (a b without with_pf : ℕ) (pf : Bool) (info : List ℕ) → without % 4 ≡ 3 → with_pf % 4 ≡ 3 → IsNotShort (a ∷ b ∷ (one_of without with_pf pf ++ info))
-one_octet a b without with_pf pf [] h k = inr (refl, third without with_pf pf h k)
-one_octet a b without with_pf pf (x ∷ info) h k = inl (behind_four a b (cond pf with_pf without) x info)
+one_octet a b without with_pf pf info h k = grind (arith, third, behind_four)
 
 -- what the grammar spells
 pub not_short : (side : Side) (a : Address) (c : Control) (info : List ℕ) → IsNotShort (spelling side (record { address = a; control = c; info = info }))
-not_short side a c info = go c
-  where
-    first : ℕ
-    first = 4 * a.sapi + 2 * cr_bit side a.command
-
-    last : ℕ
-    last = 2 * a.tei + 1
-
-    go : (c : Control) → IsNotShort (first ∷ last ∷ ((row c).field ++ info))
-    go (Information ns nr p) = inl (behind_four first last (2 * ns.value) (second_octet nr p) info)
-    go (ReceiveReady nr pf) = inl (behind_four first last 0x01 (second_octet nr pf) info)
-    go (ReceiveNotReady nr pf) = inl (behind_four first last 0x05 (second_octet nr pf) info)
-    go (Reject nr pf) = inl (behind_four first last 0x09 (second_octet nr pf) info)
-    go (Sabme pf) = one_octet first last 0x6F 0x7F pf info refl refl
-    go (Disc pf) = one_octet first last 0x43 0x53 pf info refl refl
-    go (Ui pf) = one_octet first last 0x03 0x13 pf info refl refl
-    go (Ua pf) = one_octet first last 0x63 0x73 pf info refl refl
-    go (Dm pf) = one_octet first last 0x0F 0x1F pf info refl refl
-    go (Frmr pf) = one_octet first last 0x87 0x97 pf info refl refl
-    go (Xid pf) = one_octet first last 0xAF 0xBF pf info refl refl
+not_short side a c info = grind (arith, behind_four, one_octet)
 
 abbrev IsLong : Taken → Type 0
 IsLong t = IsNotShort t.frame

@@ -1,7 +1,6 @@
 -- What an event delivers at a link of a line: the next eligible I-frame's contents, or none; or its numbers begin anew.
-use Rattle.model_line.proofs.Vocabulary.{◌&&◌, ◌≡◌, ◌≢◌, ℕ, ◌<◌, Bool, true, false, cond, ◌==◌, List, [], ◌∷◌, length, get_or, set, Option, Some, None, is_some, refl, ap, sym, ◌∙◌, subst, inl, inr, ⊎_elim, arith, eqb-true, eq-eqb, true≢false, All, list_any, option_or, option_map_or, get_or-set_same, get_or-set_other, All-head, All-tail, Note, Service, Call, Packet, Terms, Link, fresh, is_data, done, delivery, counted_on, event-delivers, IsOwn, notes-own, event-tells, Moves, Management, IsAt, Places, Change, Gained, Left, Config, Answer, LineTold, told, nothing, same_service, arrived_aimed, arrived, is_change_at, restarts_aimed, restarts, is_data_of, delivered_in, delivered_at, delivered, Line, link_number, service_at, place_at, tei_at, link_at, link_in, terms, link_count, Aim, at_none, at_link, at_management, at_units, at_no_link, told_of_link, told_of_management, of_change, of_aim, IsSound}
+use Rattle.model_line.proofs.Vocabulary.{◌&&◌, ◌≡◌, ◌≢◌, ℕ, ◌<◌, Bool, true, false, cond, ◌==◌, List, [], ◌∷◌, length, get_or, set, Option, Some, None, is_some, refl, ap, sym, ◌∙◌, subst, inl, inr, arith, eqb-true, eq-eqb, true≢false, All, list_any, option_or, option_map_or, get_or-set_same, get_or-set_other, All-head, All-tail, Note, Service, Call, Packet, Terms, Link, fresh, is_data, done, delivery, counted_on, event-delivers, IsOwn, notes-own, event-tells, Moves, Management, IsAt, Places, Change, Config, Answer, LineTold, told, nothing, same_service, arrived_aimed, arrived, is_change_at, restarts_aimed, restarts, is_data_of, delivered_in, delivered_at, delivered, Line, link_number, service_at, place_at, tei_at, link_at, link_in, terms, link_count, Aim, at_none, at_link, at_management, at_units, at_no_link, told_of_link, told_of_management, of_change, of_aim, IsSound}
 use Rattle.std.proofs.Math.Bool.{and-false, and-true, and-or_distrib_right}
-use Rattle.lapd_frame.specs.declared.notes.Note.TheVariants as notes
 use Rattle.model_link.specs.Deliveries as arrivals
 use Rattle.model_link.specs.Events as link
 use Rattle.model_link.specs.Machine as links
@@ -19,24 +18,14 @@ abbrev is_of : Terms → Service → ℕ → Bool
 is_of t service tei = cond (same_service t.service service) (t.tei == tei) false
 
 of_itself : (t : Terms) → is_of t t.service t.tei ≡ true
-of_itself t = go t.service
-  where
-    go : (s : Service) → cond (same_service s s) (t.tei == t.tei) false ≡ true
-    go Call = eq-eqb t.tei t.tei refl
-    go Packet = eq-eqb t.tei t.tei refl
+of_itself t = grind (arith, eq-eqb)
 
 of_no_other : (t : Terms) (service : Service) (tei : ℕ) → ((service ≡ t.service) × (tei ≡ t.tei) → ⊥) → is_of t service tei ≡ false
-of_no_other t service tei other = go t.service service (t.tei == tei) refl other
-  where
-    go : (own by : Service) (b : Bool) → (t.tei == tei) ≡ b → ((by ≡ own) × (tei ≡ t.tei) → ⊥) → cond (same_service own by) b false ≡ false
-    go Call Call true e other = absurd (other (refl, sym (eqb-true t.tei tei e)))
-    go Packet Packet true e other = absurd (other (refl, sym (eqb-true t.tei tei e)))
-    go own by b e other = refl
+of_no_other t service tei other = grind (arith, eqb-true)
 
 -- a link's own notes are of data of that link, or of no data
 data_of : (t : Terms) (n : Note) (service : Service) (tei : ℕ) → IsOwn t n → is_data_of service tei n ≡ (is_data n && is_of t service tei)
-data_of t (notes.Data s n) service tei own = rw (own.0, own.1) refl
-data_of t other service tei own = refl
+data_of t n service tei own = grind arith
 
 data_in : (t : Terms) (ns : List Note) (service : Service) (tei : ℕ) → All (IsOwn t) ns
     → list_any (is_data_of service tei) ns ≡ (list_any is_data ns && is_of t service tei)
@@ -50,18 +39,10 @@ data_in t (n ∷ ns) service tei all =
 
 -- nothing is delivered by an answer with no contents
 none_in : (service : Service) (tei : ℕ) (t : LineTold) → t.contents ≡ None → delivered_in service tei (told t) ≡ None
-none_in service tei t e = ap (λ o. cond (list_any (is_data_of service tei) t.notes) o None) e ∙ either (list_any (is_data_of service tei) t.notes)
-  where
-    either : (b : Bool) → cond {A = Option (List ℕ)} b None None ≡ None
-    either true = refl
-    either false = refl
+none_in service tei t e = grind arith
 
 pub none_at : (number : ℕ) (l : Line) (a : Answer) → ((service : Service) (tei : ℕ) → delivered_in service tei a ≡ None) → delivered number l a ≡ None
-none_at number l a none = go (tei_at (place_at number) l)
-  where
-    go : (o : Option ℕ) → option_map_or (delivered_at (service_at number) a) o None ≡ None
-    go None = refl
-    go (Some tei) = none (service_at number) tei
+none_at number l a none = grind arith
 
 -- what a link delivers is what its answer tells, to that link alone
 told_own : (t : Terms) (e : link.Event) (l : Link)
@@ -73,8 +54,7 @@ told_own t e l =
     ap (λ b. cond b (option_or (links.course t e l).delivered (links.course t e l).unit) None) has ∙ go (links.course t e l).delivered (links.course t e l).unit
   where
     go : (d u : Option (List ℕ)) → cond (is_some d) (option_or d u) None ≡ d
-    go None u = refl
-    go (Some x) u = refl
+    go d u = grind arith
 
 told_others : (t : Terms) (e : link.Event) (l : Link) (service : Service) (tei : ℕ) → ((service ≡ t.service) × (tei ≡ t.tei) → ⊥)
     → delivered_in service tei (told (told_of_link (links.told t e l))) ≡ None
@@ -86,11 +66,7 @@ told_others t e l service tei other =
 -- Links by their numbers.
 
 number_is : (number : ℕ) → number ≡ link_number (place_at number) (service_at number)
-number_is number =
-    ⊎_elim
-    (λ call. call ∙ ap (link_number (place_at number)) (sym (ap service_at call ∙ service_at-number (place_at number) Call)))
-    (λ packet. packet ∙ ap (link_number (place_at number)) (sym (ap service_at packet ∙ service_at-number (place_at number) Packet)))
-    (at_place number (place_at number) refl)
+number_is number = grind (arith, service_at-number, at_place)
 
 -- What an event is to one link, by V(R) before and after it.
 abbrev pub Part : ℕ → Option arrivals.Arrived → ℕ → Option (List ℕ) → Bool → Type 0
@@ -174,12 +150,7 @@ module _ (c : Config) (l : Line) (s : IsSound c l) (number : ℕ) (few : number 
   change_parts : (o : Option Change) (r : LineTold) (new : Places) (m : Management) → r.contents ≡ None → Moves l.management.places o new
       → let of = of_change c o r (record l { management = m }) in
       Part (link_at number l).r None (link_at number of.line).r (delivered number l (told of.told)) (is_change_at (place_at number) o)
-  change_parts None r new m none moves =
-      brings_none (link_at number l).r (link_at number l).r None (delivered number l (told r)) false refl refl
-      (none_at number l (told r) (λ service tei. none_in service tei r none)) refl
-  change_parts (Some (Gained tei place)) r new m none moves = place_parts place r moves.within none (place == place_at number) refl
-  change_parts (Some (Left tei place)) r new m none moves =
-      place_parts place (of_change c (Some (Left tei place)) r (record l { management = m })).told moves.within none (place == place_at number) refl
+  change_parts o r new m none moves = grind (arith, brings_none, none_at, none_in, place_parts)
 
   pub aim_parts : (aim : Aim) → IsProper c l aim → HasNoContents aim → Parts aim
   aim_parts (at_none t) proper none = brings_none _ _ _ _ _ refl refl (none_at number l (told t) none) refl

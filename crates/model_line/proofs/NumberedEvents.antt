@@ -1,5 +1,5 @@
 -- Each event of a line is what a link's numbers say of it.
-use Rattle.model_line.proofs.Vocabulary.{◌≡◌, ℕ, zero, suc, ◌<◌, Bool, true, false, cond, List, [], ◌∷◌, get_or, set, ◌==◌, Option, Some, None, refl, sym, true≢false, Refusal, Service, Link, fresh, offer-keeps-r, transfer-goes-on, Config, Event, hears, expiry, request, next, gave, refused, arrived_aimed, arrived, restarts_aimed, restarts, delivered, Line, link_number, link_at, link_in, terms, service_at, link_count, after, answer, takes_slot, unless_refused, unless_refused_told, aim_of_heard, aim_of_expiry, Aim, at_link, of_aim, Taken, taken, line_of, next_of, option_map, option_map_or, refusal, aim_of_request, IsSound}
+use Rattle.model_line.proofs.Vocabulary.{arith, ◌≡◌, ℕ, zero, suc, ◌<◌, Bool, true, false, cond, List, [], ◌∷◌, get_or, set, Option, Some, None, refl, sym, true≢false, Refusal, Service, Link, fresh, offer-keeps-r, transfer-goes-on, Config, Event, hears, expiry, request, next, gave, refused, arrived_aimed, arrived, restarts_aimed, restarts, delivered, Line, link_at, terms, service_at, link_count, after, answer, takes_slot, unless_refused, unless_refused_told, aim_of_heard, aim_of_expiry, Aim, at_link, of_aim, Taken, taken, line_of, next_of, option_map, option_map_or, refusal, aim_of_request, IsSound}
 use Rattle.model_link.specs.Events as link
 use Rattle.model_link.specs.Machine as links
 use Rattle.model_line.proofs.Numbered.{Part, brings_none, none_at, HasNoContents, aim_parts}
@@ -58,19 +58,14 @@ pub record BringsNothing (c : Config) (number : ℕ) (e : Event) (l : Line) : Ty
   pub goes_on : restarts c number e l ≡ false
 
 neither : {X : Type 0} (b : Bool) (x y : X) → x ≡ y → cond b x y ≡ y
-neither true x y e = e
-neither false x y e = refl
+neither b x y e = grind arith
 
 module _ (c : Config) (number : ℕ) (l : Line) where
   abbrev BringsNone : Aim → Type 0
   BringsNone aim = (arrived_aimed c number l aim ≡ None) × (restarts_aimed c number l aim ≡ false)
 
   at_transfer : (service : Service) (tei place : ℕ) (e : link.Event) → brings_data e ≡ true → BringsNone (at_link service tei place e)
-  at_transfer service tei place (link.requested (link.Data contents) full) takes = (
-    neither (link_number place service == number) None None refl,
-    neither (link_number place service == number) _ false (transfer-goes-on (terms c service tei) contents full (link_in l service place)),
-  )
-  at_transfer service tei place other takes = cc
+  at_transfer service tei place e takes = grind (arith, neither, transfer-goes-on)
 
   pub slot_brings_nothing : (e : Event) → takes_slot c e l ≡ true → BringsNothing c number e l
   slot_brings_nothing e takes =

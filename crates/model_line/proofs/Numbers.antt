@@ -1,21 +1,15 @@
 -- Links by their numbers, and sums over them.
-use Rattle.model_line.proofs.Vocabulary.{◌≡◌, ◌≢◌, ℕ, zero, suc, ◌+◌, ◌*◌, ◌%◌, ◌≤◌, ◌<◌, ◌⊎◌, ◌==◌, refl, ap, sym, ◌∙◌, cond, arith, ⊎_elim, inl, inr, sum_by, range_with_len, sum_by-cons, cases_eq, Service, Call, Packet, link_number, service_at, place_at}
+use Rattle.model_line.proofs.Vocabulary.{◌≡◌, ◌≢◌, ℕ, zero, suc, ◌+◌, ◌*◌, ◌≤◌, ◌<◌, ◌⊎◌, ◌==◌, refl, ap, sym, ◌∙◌, cond, arith, ⊎_elim, sum_by, range_with_len, sum_by-cons, cases_eq, Service, Call, Packet, link_number, service_at, place_at}
 
 -- a number has its service and its place
 pub place_at-number : (place : ℕ) (service : Service) → place_at (link_number place service) ≡ place
-place_at-number place Call = omega arith
-place_at-number place Packet = omega arith
-
-abbrev service_of_rest : ℕ → Service
-service_of_rest rest = cond (rest == 0) Call Packet
+place_at-number place service = grind arith
 
 pub service_at-number : (place : ℕ) (service : Service) → service_at (link_number place service) ≡ service
-service_at-number place Call = let e : 2 * place % 2 ≡ 0 = omega arith in ap service_of_rest e
-service_at-number place Packet = let e : (2 * place + 1) % 2 ≡ 1 = omega arith in ap service_of_rest e
+service_at-number place service = grind arith
 
 pub number_within : (place count : ℕ) (service : Service) → place < count → link_number place service < 2 * count
-number_within place count Call h = omega (arith, h)
-number_within place count Packet h = omega (arith, h)
+number_within place count service h = grind arith
 
 pub place_within : (number count : ℕ) → number < 2 * count → place_at number < count
 place_within number count h = omega (arith, h)
@@ -25,8 +19,7 @@ pub other_place : (number place : ℕ) (service : Service) → place_at number �
 other_place number place service h e = h (ap place_at e ∙ place_at-number place service)
 
 pub at_place : (number place : ℕ) → place_at number ≡ place → (number ≡ link_number place Call) ⊎ (number ≡ link_number place Packet)
-at_place number place e =
-    ⊎_elim (λ even. inl even) (λ odd. inr (omega (arith, e, odd))) (cases_eq number (2 * place))
+at_place number place e = grind (arith, cases_eq)
 
 -- a sum of which one term changes
 sum_elsewhere : (f g : ℕ → ℕ) (a n i : ℕ) → i < a → ((j : ℕ) → j ≢ i → g j ≡ f j) → sum_by g (range_with_len a n) ≡ sum_by f (range_with_len a n)

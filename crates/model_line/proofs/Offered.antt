@@ -1,5 +1,5 @@
 -- What a link gives to be sent is no longer than a frame may be.
-use Rattle.model_line.proofs.Vocabulary.{◌≡◌, ℕ, ◌+◌, ◌≤◌, Bool, true, false, List, [], ◌∷◌, length, slice_get, Option, Some, None, IfSome, refl, cond, arith, ⊎_elim, subst, sym, All, unwrap_or, All-head, All-get_or, slice_get_cases, spelling, ControlFrame, Terms, Link, fresh, address_at, given, given_of, course, offer, offer_among, may_send_information, is_awaiting_acknowledgement, next_information, give_information, with_one_sent, send_information, send_acknowledgement, IsWaitingFrame, Sent, ◌then◌, changed, pending_is, start, Config}
+use Rattle.model_line.proofs.Vocabulary.{◌≡◌, ℕ, ◌+◌, ◌≤◌, Bool, true, false, List, [], ◌∷◌, length, slice_get, Option, None, IfSome, refl, cond, arith, All, unwrap_or, All-head, slice_get_cases, spelling, ControlFrame, Terms, Link, fresh, address_at, given, given_of, course, offer, offer_among, may_send_information, is_awaiting_acknowledgement, next_information, give_information, with_one_sent, send_information, send_acknowledgement, IsWaitingFrame, Sent, ◌then◌, changed, pending_is, start, Config}
 use Rattle.model_link.specs.Sound.{IsSound}
 use Rattle.model_link.specs.Steps.{Course, begun}
 use Rattle.model_link.specs.declared.timers.LinkTimer.TheVariants.{T200}
@@ -14,14 +14,7 @@ IsShort c t s = length (octets_sent c t s) ≤ t.n201 + 4
 
 -- the contents of an I-frame
 contents_short : (t : Terms) (l : Link) → IsSound t l → length (unwrap_or (slice_get l.contents l.s) []) ≤ t.n201
-contents_short t l s =
-    ⊎_elim
-    (λ found.
-    let size = All-get_or (λ octets. length octets ≤ t.n201) l.contents l.s found.0 found.1 s.sizes in
-    let here : length found.0 ≤ t.n201 = subst (λ x. length x ≤ t.n201) found.3 size in
-    subst (λ o. length (unwrap_or o []) ≤ t.n201) (sym found.2) here)
-    (λ past. subst (λ o. length (unwrap_or o []) ≤ t.n201) (sym past.1) (omega arith))
-    (slice_get_cases l.contents l.s).1
+contents_short t l s = grind (arith, slice_get_cases)
 
 information_short : (c : Config) (t : Terms) (l : Link) → IsSound t l
     → length (spelling c.side (record { address = address_at t true; control = (next_information l).control; info = unwrap_or (slice_get l.contents l.s) [] })) ≤ t.n201 + 4
@@ -33,8 +26,7 @@ sent_short c t l s (f ∷ fs) frames = omega (arith, (All-head (IsWaitingFrame t
 sent_short c t l s [] frames = go (may_send_information t l) l.pending
   where
     either : (b : Bool) (d : Course) → IfSome d.sent (IsShort c t) → IfSome (cond b d (start T200 d)).sent (IsShort c t)
-    either true d h = h
-    either false d h = h
+    either b d h = grind arith
 
     go : (may pending : Bool) → IfSome (cond may (send_information (begun l)) (cond pending (send_acknowledgement (begun l)) (begun l))).sent (IsShort c t)
     go true pending =
@@ -48,8 +40,7 @@ pub given_short : (c : Config) (t : Terms) (l : Link) → IsSound t l → IfSome
 given_short c t l s = go (course t offer l).sent (sent_short c t l s l.waiting s.frames)
   where
     go : (o : Option Sent) → IfSome o (IsShort c t) → IfSome (given_of t l (course t offer l) o) (λ g. length (frame_of c t g) ≤ t.n201 + 4)
-    go None h = tt
-    go (Some sent) h = h
+    go o h = grind arith
 
 -- a link that begins has nothing to give
 pub fresh_gives_nothing : (t : Terms) → given t fresh ≡ None

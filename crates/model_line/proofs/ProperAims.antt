@@ -1,10 +1,7 @@
 -- What holds of each aim that events can have holds of the aim of every event.
-use Rattle.model_line.proofs.Vocabulary.{◌≡◌, ℕ, ◌<◌, Bool, true, false, ◌==◌, ◌&&◌, not, List, length, Option, Some, None, is_some, Result, Ok, Err, refl, cond, ltb-false, leb-false, Cause, Tei, Unserved, Address, Control, ReadFault, BadExtension, Undefined, WrongSize, Short, Long, Refusal, Service, Timer, T200, T203, T201, Parts, reading, long_reading, service_of, LinkTimer, place_of-is, IsAt, Config, Event, hears, expiry, request, next, nothing, Line, UnitData, place_in, takes_slot, Request, Establish, Release, Data, Unit, Assign, Remove, Check, SetBusy, ClearBusy, Deactivate, Down, Aim, at_none, at_link, at_management, at_units, at_no_link, management_sapi, group_tei, drop_for, at_place, to_service, addressed, message_of, aim_of_reading, unless_at_link, aim_of_long, heard_side, aim_of_heard, group_told, IsToGroup, at_timer, aim_of_expiry, at_requested, at_deactivated, aim_of_request, carries_contents, refusal, unless_refused, IsUnitData}
+use Rattle.model_line.proofs.Vocabulary.{arith, ◌≡◌, ℕ, ◌<◌, Bool, true, false, ◌&&◌, not, List, length, Option, Some, None, is_some, Result, Ok, Err, cond, ltb-false, leb-false, Cause, Unserved, Address, Control, ReadFault, BadExtension, Undefined, WrongSize, Short, Long, Refusal, Service, Timer, Parts, reading, long_reading, LinkTimer, place_of-is, IsAt, Config, Event, hears, expiry, request, next, nothing, Line, UnitData, place_in, takes_slot, Request, Data, Aim, at_none, at_link, at_management, at_units, at_no_link, drop_for, at_place, to_service, addressed, message_of, aim_of_reading, unless_at_link, aim_of_long, heard_side, aim_of_heard, group_told, IsToGroup, at_timer, aim_of_expiry, at_requested, at_deactivated, aim_of_request, carries_contents, refusal, unless_refused, IsUnitData}
 use Rattle.model_bits.specs.Stream as stream
-use Rattle.lapd_frame.specs.declared.controls.Control.TheVariants as control
-use Rattle.lapd_frame.specs.declared.overlong.Long.TheVariants as long
 use Rattle.model_link.specs.Events as link
-use Rattle.model_link.specs.declared.timers.LinkTimer.TheVariants as link_timer
 use Rattle.lapd_tei.specs.Events as teis
 use Rattle.lapd_tei.specs.Laws as tei_laws
 use Rattle.model_line.specs.Machine.{aim_of}
@@ -23,24 +20,16 @@ module _ (c : Config) (l : Line) (P : Aim → Type 0) (none : (cause : Cause) �
     (to_management : (info : List ℕ) → P (at_management (teis.message info)))
     (to_group : (parts : Parts) (service : Service) → IsToGroup c parts service → P (at_none (group_told service parts.info))) where
   at_place_aims : (service : Service) (tei : ℕ) (what : link.Received) → W what → (o : Option ℕ) → place_in l tei ≡ o → P (at_place service tei what o)
-  at_place_aims service tei what w None e = none _
-  at_place_aims service tei what w (Some place) e = to_its_link service tei place what w e
+  at_place_aims service tei what w o e = grind arith
 
   to_service_aims : (tei : ℕ) (what : link.Received) → W what → (o : Option Service) → P (to_service l tei what o)
-  to_service_aims tei what w None = none _
-  to_service_aims tei what w (Some service) = at_place_aims service tei what w (place_in l tei) refl
+  to_service_aims tei what w o = grind (arith, at_place_aims)
 
   addressed_aims : (address : Address) (what : link.Received) → W what → (message : Aim) → P message → P (addressed l address what message)
-  addressed_aims address what w message p = go (address.sapi == management_sapi) (address.tei == group_tei)
-    where
-      go : (known group : Bool) → P (cond known (cond group message (drop_for Tei)) (to_service l address.tei what (service_of address.sapi)))
-      go true true = p
-      go true false = none _
-      go false group = to_service_aims address.tei what w (service_of address.sapi)
+  addressed_aims address what w message p = grind (arith, to_service_aims)
 
   message_aims : (k : Control) (info : List ℕ) → P (message_of k info)
-  message_aims (control.Ui p) info = to_management info
-  message_aims other info = none _
+  message_aims k info = grind arith
 
   pub reading_aims : (r : Result Parts ReadFault) → AreFor W r → P (aim_of_reading c l r)
   reading_aims (Ok parts) w =
@@ -52,17 +41,10 @@ module _ (c : Config) (l : Line) (P : Aim → Type 0) (none : (cause : Cause) �
   reading_aims (Err Short) w = none _
 
   unless_aims : (aim : Aim) → P aim → P (unless_at_link aim)
-  unless_aims (at_link service tei place event) p = none _
-  unless_aims other p = p
+  unless_aims aim p = grind arith
 
   pub long_aims : W link.overlong → W link.undefined × W link.wrong_size → (r : Result Long ReadFault) → P (aim_of_long l r)
-  long_aims w fault (Ok (long.Information address)) = addressed_aims address link.overlong w (drop_for Unserved) (none _)
-  long_aims w fault (Ok (long.Unnumbered address)) =
-      unless_aims (addressed l address link.overlong (drop_for Unserved)) (addressed_aims address link.overlong w (drop_for Unserved) (none _))
-  long_aims w fault (Err BadExtension) = none _
-  long_aims w fault (Err (Undefined address)) = addressed_aims address link.undefined fault.0 (drop_for Unserved) (none _)
-  long_aims w fault (Err (WrongSize address)) = addressed_aims address link.wrong_size fault.1 (drop_for Unserved) (none _)
-  long_aims w fault (Err Short) = none _
+  long_aims w fault r = grind (arith, addressed_aims, unless_aims)
 
 -- Of whatever is heard.
 module _ (c : Config) (l : Line) (P : Aim → Type 0) (none : (cause : Cause) → P (drop_for cause))
@@ -70,8 +52,7 @@ module _ (c : Config) (l : Line) (P : Aim → Type 0) (none : (cause : Cause) �
     (to_management : (info : List ℕ) → P (at_management (teis.message info)))
     (to_group : (parts : Parts) (service : Service) → IsToGroup c parts service → P (at_none (group_told service parts.info))) where
   any_reading : (r : Result Parts ReadFault) → AreFor (λ what. ℕ) r
-  any_reading (Ok parts) = 0
-  any_reading (Err fault) = (0, 0)
+  any_reading r = grind arith
 
   pub heard_aims : (e : stream.Event) → P (aim_of_heard c l e)
   heard_aims (stream.frame octets) =
@@ -91,9 +72,7 @@ module _ (l : Line) (P : Aim → Type 0) (none : P (at_none nothing))
   timer_aims service tei timer (Some place) e = to_link service tei place timer (place_of-is l.management.places tei place e).1
 
   pub expiry_aims : (timer : Timer) → P (aim_of_expiry timer l)
-  expiry_aims (T200 service tei) = timer_aims service tei link_timer.T200 (place_in l tei) refl
-  expiry_aims (T203 service tei) = timer_aims service tei link_timer.T203 (place_in l tei) refl
-  expiry_aims T201 = to_management
+  expiry_aims timer = grind (arith, timer_aims)
 
 -- Of a request, by whether it takes a slot.
 abbrev pub brings_data : link.Event → Bool
@@ -102,8 +81,7 @@ brings_data other = false
 
 -- a row that does not hold is passed over
 pub skipped : (b : Bool) (why : Refusal) (o : Option Refusal) → cond b (Some why) o ≡ None → (b ≡ false) × (o ≡ None)
-skipped true why o e = cc
-skipped false why o e = (refl, e)
+skipped b why o e = grind arith
 
 module _ (c : Config) (l : Line) (P : Bool → Aim → Type 0) (none : (takes : Bool) → P takes (at_none nothing))
     (to_link : (service : Service) (tei place : ℕ) (what : link.Request) → IsAt l.management.places place tei
@@ -122,29 +100,10 @@ module _ (c : Config) (l : Line) (P : Bool → Aim → Type 0) (none : (takes : 
   deactivated_aims service tei (Some place) e = to_cleared service tei place (place_of-is l.management.places tei place e).1
 
   granted_aims : (r : Request) → refusal c false r l ≡ None → P (carries_contents r && true) (aim_of_request r l)
-  granted_aims (Establish service tei) e = requested_aims service tei link.Establish (place_in l tei) refl
-  granted_aims (Release service tei) e = requested_aims service tei link.Release (place_in l tei) refl
-  granted_aims (Data service tei contents) e = requested_aims service tei (link.Data contents) (place_in l tei) refl
-  granted_aims (Unit service tei contents) e =
-      let bad = skipped _ _ _ e in
-      let unknown = skipped _ _ _ bad.1 in
-      let long = skipped _ _ _ unknown.1 in
-      let full = skipped _ _ _ long.1 in
-      to_units _ (record { tei = unit_tei c.side tei bad.0; size = ltb-false c.n201 (length contents) long.0 }) (leb-false c.unit_queue (length l.units) full.0)
-  granted_aims (Assign tei) e = to_management (teis.assign tei) (ltb-false 126 tei (skipped _ _ _ e).0)
-  granted_aims (Remove tei) e = to_management (teis.remove tei) (ltb-false 126 tei (skipped _ _ _ (skipped _ _ _ e).1).0)
-  granted_aims (Check tei) e = to_management (teis.check tei) (ltb-false 126 tei (skipped _ _ _ (skipped _ _ _ e).1).0)
-  granted_aims (SetBusy service tei) e = requested_aims service tei link.SetBusy (place_in l tei) refl
-  granted_aims (ClearBusy service tei) e = requested_aims service tei link.ClearBusy (place_in l tei) refl
-  granted_aims (Deactivate service tei) e = deactivated_aims service tei (place_in l tei) refl
-  granted_aims Down e = to_no_link
+  granted_aims r e = grind (arith, requested_aims, skipped, unit_tei, ltb-false, leb-false, deactivated_aims)
 
   pub request_aims : (r : Request) → P (carries_contents r && not (is_some (refusal c false r l))) (unless_refused (refusal c false r l) (aim_of_request r l))
-  request_aims r = go (refusal c false r l) refl
-    where
-      go : (o : Option Refusal) → refusal c false r l ≡ o → P (carries_contents r && not (is_some o)) (unless_refused o (aim_of_request r l))
-      go None e = granted_aims r e
-      go (Some why) e = none _
+  request_aims r = grind (arith, is_some, granted_aims)
 
 -- Of any event, by whether it takes a slot.
 module _ (c : Config) (l : Line) (P : Bool → Aim → Type 0) (none : (takes : Bool) → P takes (at_none nothing)) (drop : (cause : Cause) → P false (drop_for cause))

@@ -1,6 +1,6 @@
 -- Each REJ with a valid N(R) is a frame of four octets that is heard.
-use Rattle.model_line.proofs.Vocabulary.{◌≡◌, ℕ, ◌≤◌, Bool, true, false, List, [], ◌∷◌, length, nat_le, Result, Ok, Err, refl, ap, arith, le-leb, overlong, dropped, ReadFault, Parts, reading, Link, Config, one, is_long_frame, rejects_aimed, Line, aim_of_reading, heard_side, aim_of_heard}
-use Rattle.model_bits.specs.Stream.{Event, frame}
+use Rattle.model_line.proofs.Vocabulary.{◌≡◌, ℕ, ◌≤◌, Bool, false, List, [], ◌∷◌, length, nat_le, Result, refl, ap, arith, le-leb, ReadFault, Parts, reading, Link, Config, one, is_long_frame, rejects_aimed, Line, aim_of_reading, heard_side, aim_of_heard}
+use Rattle.model_bits.specs.Stream.{Event}
 use Rattle.model_link.specs.Events as link
 use Rattle.model_link.specs.Rises as rises
 use Rattle.model_line.proofs.ProperAims.{AreFor, reading_aims}
@@ -8,8 +8,7 @@ use Rattle.model_line.proofs.Rejects.{NoReject, three_no_reject}
 
 module _ (c : Config) (l : Line) where
   is_no_reject : (r : Result Parts ReadFault) → NoReject r → AreFor (λ what. (x : Link) → rises.rejects (link.received what) x ≡ false) r
-  is_no_reject (Ok parts) h = λ x. ap (λ o. rises.is_valid_reject o x) h
-  is_no_reject (Err fault) h = ((λ x. refl), (λ x. refl))
+  is_no_reject r h = grind arith
 
   reading_no_reject : (r : Result Parts ReadFault) → NoReject r → rejects_aimed l (aim_of_reading c l r) ≡ false
   reading_no_reject r h =
@@ -17,8 +16,7 @@ module _ (c : Config) (l : Line) where
       (λ service tei place what none at. none _) (λ info. refl) (λ parts service to. refl) r (is_no_reject r h)
 
   at_most_one : (b : Bool) → one b ≤ 1
-  at_most_one true = omega arith
-  at_most_one false = omega arith
+  at_most_one b = grind arith
 
   few_no_reject : (first second : ℕ) → NoReject (reading (heard_side c) []) × NoReject (reading (heard_side c) (first ∷ []))
       × NoReject (reading (heard_side c) (first ∷ second ∷ []))
@@ -35,6 +33,4 @@ module _ (c : Config) (l : Line) where
 
   -- what is heard brings an REJ only with a frame of four octets
   pub heard_rejects : (e : Event) → one (rejects_aimed l (aim_of_heard c l e)) ≤ one (is_long_frame e)
-  heard_rejects (frame octets) = frame_counted octets
-  heard_rejects (overlong head) = at_most_one (rejects_aimed l (aim_of_heard c l (overlong head)))
-  heard_rejects (dropped cause) = omega arith
+  heard_rejects e = grind (arith, frame_counted, at_most_one)

@@ -1,5 +1,5 @@
 -- A line uses no more slots than its queues have places, and fewer where contents are accepted.
-use Rattle.model_line.proofs.Vocabulary.{◌≡◌, ℕ, zero, suc, ◌+◌, ◌*◌, ◌≤◌, ◌<◌, true, false, not, ◌&&◌, List, [], ◌∷◌, length, Option, Some, None, is_some, refl, ap, sym, ⊎_elim, arith, and_parts, true≢false, sum_by, range_with_len, option_map_or, leb-false, cases_eq, sum_by-cons, Refusal, Service, fresh, queue_of, serves, is_queue_full, place_of-is, at-within, Config, Event, request, Line, link_number, link_count, place_in, link_in, terms, takes_slot, Row, first_that_holds, bad_tei, no_link, bad_tei_or_group, no_link_nor_group, wrong_state, too_long, queue_full, unit_queue_full, pool_full, refusal, Request, Data, Unit, carries_contents, IsSound, slots_by_link, slots_of}
+use Rattle.model_line.proofs.Vocabulary.{◌≡◌, ℕ, zero, suc, ◌+◌, ◌*◌, ◌≤◌, ◌<◌, true, false, not, List, [], ◌∷◌, length, Option, Some, None, is_some, refl, ap, sym, ⊎_elim, arith, and_parts, true≢false, sum_by, range_with_len, option_map_or, leb-false, cases_eq, sum_by-cons, Service, fresh, queue_of, serves, is_queue_full, place_of-is, at-within, Config, Event, Line, link_number, link_count, place_in, link_in, terms, takes_slot, Row, first_that_holds, bad_tei, no_link, bad_tei_or_group, no_link_nor_group, wrong_state, too_long, queue_full, unit_queue_full, pool_full, refusal, Request, Data, Unit, carries_contents, IsSound, slots_by_link, slots_of}
 use Rattle.model_link.specs.Events as link
 use Rattle.model_line.proofs.Numbers.{number_within, sum_bounded}
 use Rattle.model_line.proofs.ProperAims.{skipped}
@@ -72,9 +72,4 @@ accepted_finds c other l s carries e = cc
 
 pub taker_finds : (c : Config) (e : Event) (l : Line) → IsSound c l → takes_slot c e l ≡ true → slots_of c l + 1 ≤ places_of c
 unfolding takes_slot
-taker_finds c (request r) l s h = go (refusal c false r l) refl h
-  where
-    go : (o : Option Refusal) → refusal c false r l ≡ o → (carries_contents r && not (is_some o)) ≡ true → slots_of c l + 1 ≤ places_of c
-    go None none h = accepted_finds c r l s (and_parts (carries_contents r) true h).0 none
-    go (Some why) none h = absurd (true≢false (sym (and_parts (carries_contents r) false h).1))
-taker_finds c other l s h = absurd (true≢false (sym h))
+taker_finds c e l s h = grind (arith, is_some, accepted_finds, and_parts)

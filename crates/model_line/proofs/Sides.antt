@@ -1,7 +1,5 @@
 -- What a frame is on each side of a line.
-use Rattle.model_line.proofs.Vocabulary.{◌≡◌, ℕ, ◌≤◌, nat_lt, arith, Bool, true, false, ◌==◌, length, Option, Some, None, refl, cond, eqb-true, leb-true, ltb-false, Unserved, Side, User, Network, Control, Service, Parts, service_of, Config, LineTold, Aim, at_none, at_link, at_management, at_units, at_no_link, group_told, told_of_ui, told_of_group, told_at, managed_at, at_side, last_unit_tei, IsToGroup}
-use Rattle.std.specs.Prelude.{nat_le}
-use Rattle.lapd_frame.specs.declared.controls.Control.TheVariants as control
+use Rattle.model_line.proofs.Vocabulary.{◌≡◌, ℕ, ◌≤◌, nat_lt, arith, false, Option, Some, eqb-true, leb-true, ltb-false, Unserved, Side, User, Network, Control, Service, Parts, service_of, Config, LineTold, Aim, at_none, at_link, at_management, at_units, at_no_link, group_told, told_of_ui, told_of_group, told_at, managed_at, at_side, last_unit_tei, IsToGroup}
 use Rattle.lapd_tei.specs.Events as teis
 use Rattle.model_line.specs.Event.{dropped}
 use Rattle.model_line.specs.Sides.{group_tei}
@@ -15,51 +13,31 @@ WhereServed c P (at_units unit) = P (at_units unit)
 WhereServed c P at_no_link = P at_no_link
 
 pub everywhere : (c : Config) (P : Aim → Type 0) (aim : Aim) → P aim → WhereServed c P aim
-everywhere c P (at_management event) p = λ network. p
-everywhere c P at_no_link p = p
-everywhere c P other p = p
+everywhere c P aim p = grind arith
 
 -- So it holds of what a frame is on the side of the card, if it holds of what is not served and of the group's unit data.
 module _ (c : Config) (parts : Parts) (P : Aim → Type 0) (unserved : P (at_none (dropped Unserved)))
     (to_group : (service : Service) → IsToGroup c parts service → P (at_none (group_told service parts.info))) where
   of_ui : (service : Service) (told : LineTold) → c.side ≡ User → service_of parts.address.sapi ≡ Some service → parts.address.tei ≡ group_tei
       → P (at_none told) → (k : Control) → parts.control ≡ k → P (at_none (told_of_ui c service k parts.info told))
-  of_ui service told side sapi group p (control.Ui poll) is = go (nat_le (length parts.info) c.n201) refl
-    where
-      go : (b : Bool) → nat_le (length parts.info) c.n201 ≡ b → P (at_none (cond b (group_told service parts.info) told))
-      go true size =
-          to_group service (record { side = side; sapi = sapi; group = group; poll = poll; control = is; size = leb-true (length parts.info) c.n201 size })
-      go false size = p
-  of_ui service told side sapi group p other is = p
+  of_ui service told side sapi group p k is = grind (arith, leb-true)
 
   of_group : (told : LineTold) → c.side ≡ User → P (at_none told) → (o : Option Service) → service_of parts.address.sapi ≡ o
       → P (at_none (told_of_group c parts o told))
-  of_group told side p None sapi = p
-  of_group told side p (Some service) sapi = go (parts.address.tei == group_tei) refl
-    where
-      go : (b : Bool) → (parts.address.tei == group_tei) ≡ b → P (at_none (cond b (told_of_ui c service parts.control parts.info told) told))
-      go true group = of_ui service told side sapi (eqb-true parts.address.tei group_tei group) p parts.control refl
-      go false group = p
+  of_group told side p o sapi = grind (arith, of_ui, eqb-true)
 
   of_none : (told : LineTold) → P (at_none told) → (side : Side) → c.side ≡ side → P (at_none (told_at c side parts told))
-  of_none told p Network is = p
-  of_none told p User is = of_group told is p (service_of parts.address.sapi) refl
+  of_none told p side is = grind (arith, of_group)
 
   of_managed : (event : teis.Event) → (c.side ≡ Network → P (at_management event)) → (side : Side) → c.side ≡ side → P (managed_at side event)
-  of_managed event p Network is = p is
-  of_managed event p User is = unserved
+  of_managed event p side is = grind arith
 
   pub side_where : (aim : Aim) → WhereServed c P aim → P (at_side c parts aim)
-  side_where (at_none told) p = of_none told p c.side refl
-  side_where (at_link service tei place event) p = p
-  side_where (at_management event) p = of_managed event p c.side refl
-  side_where (at_units unit) p = p
-  side_where at_no_link p = p
+  side_where aim p = grind (arith, of_none, of_managed)
 
   pub side_aims : (aim : Aim) → P aim → P (at_side c parts aim)
   side_aims aim p = side_where aim (everywhere c P aim p)
 
 -- Unit data is sent to a TEI of seven bits.
 pub unit_tei : (side : Side) (tei : ℕ) → nat_lt (last_unit_tei side) tei ≡ false → tei ≤ 127
-unit_tei Network tei e = ltb-false 127 tei e
-unit_tei User tei e = omega (arith, ltb-false 126 tei e)
+unit_tei side tei e = grind (arith, ltb-false)

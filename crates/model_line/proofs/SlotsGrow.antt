@@ -1,9 +1,8 @@
 -- By how many slots a line's contents grow.
-use Rattle.model_line.proofs.Vocabulary.{◌≡◌, ℕ, ◌+◌, ◌≤◌, Bool, true, false, length, is_some, IfSome, refl, cond, arith, length-drop, Service, Link, queue_of, queue-after, Config, Event, one, Line, fresh_line, link_count, service_at, place_at, link_at, terms, after, takes_slot, Taken, taken, line_of, option_map_or, IsInRange, IsSound, slots_of}
+use Rattle.model_line.proofs.Vocabulary.{◌≡◌, ℕ, ◌+◌, ◌≤◌, Bool, length, is_some, IfSome, refl, cond, arith, length-drop, Service, Link, queue_of, queue-after, Config, Event, one, Line, fresh_line, link_count, service_at, place_at, link_at, terms, after, takes_slot, Taken, taken, line_of, option_map_or, IsInRange, IsSound, slots_of}
 use Rattle.model_link.specs.Events as link
 use Rattle.model_link.specs.Machine as links
 use Rattle.model_link.specs.Rises as rises
-use Rattle.model_link.specs.Requests as requests
 use Rattle.model_line.specs.Machine.{aim_of}
 use Rattle.model_line.proofs.EventWalk.{by_part}
 use Rattle.model_line.proofs.ProperAims.{brings_data, event_aims, event_proper}
@@ -17,20 +16,14 @@ abbrev grows_of : Config → Service → ℕ → link.Event → Link → ℕ
 grows_of c service tei e x = rises.grows (terms c service tei) e x
 
 grows : (c : Config) → Rise c kept (λ m. 0) (grows_of c) 0
-grows c = record {
-  begins = λ service. refl;
-  link = λ service tei few e x sound. queue-after (terms c service tei) few e x sound;
-  management = λ e m. omega arith;
-}
+grows c = grind (arith, queue-after)
 
 -- an event takes as many as it may
 at_most_one : (b : Bool) → cond {A = ℕ} b 0 1 ≤ 1
-at_most_one true = omega arith
-at_most_one false = omega arith
+at_most_one b = grind arith
 
 link_takes : (c : Config) (service : Service) (tei : ℕ) (e : link.Event) (x : Link) → grows_of c service tei e x ≤ one (brings_data e)
-link_takes c service tei (link.requested (link.Data contents) full) x = at_most_one (is_some (requests.refusal (terms c service tei) x full (link.Data contents)))
-link_takes c service tei other x = omega arith
+link_takes c service tei e x = grind (arith, at_most_one, is_some)
 
 event_takes : (c : Config) (l : Line) (e : Event) → price_at (grows c) l (aim_of c e l) ≤ one (takes_slot c e l)
 event_takes c l =

@@ -1,41 +1,21 @@
 -- A line is sound by its parts: TEI management with the links, and the units that wait.
-use Rattle.model_line.proofs.Vocabulary.{◌≡◌, ℕ, ◌≤◌, ◌<◌, List, length, get_or, Option, Some, None, refl, sym, subst, All, unwrap_or, Link, fresh, Terms, Management, Config, Line, UnitData, link_count, service_at, place_at, tei_at, terms, terms_at, link_at, IsSoundAt, IsSound, IsUnitData}
+use Rattle.model_line.proofs.Vocabulary.{arith, ◌≡◌, ℕ, ◌≤◌, ◌<◌, List, length, get_or, None, All, Link, fresh, Terms, Management, Config, Line, UnitData, link_count, service_at, place_at, terms, terms_at, link_at, IsSoundAt, IsSound, IsUnitData}
 use Rattle.model_link.specs.Sound as links
 use Rattle.lapd_tei.specs.Sound as tei
 
 module _ (c : Config) (l : Line) (s : IsSound c l) where
   -- other units
   pub with_units : (units : List UnitData) → All (IsUnitData c) units → length units ≤ c.unit_queue → IsSound c (record l { units = units })
-  with_units units all few = record {
-    management = s.management;
-    places = s.places;
-    count = s.count;
-    links = s.links;
-    units = all;
-    few_units = few;
-    turn = s.turn;
-  }
+  with_units units all few = grind arith
 
   -- other TEI management, and other links
   pub with_links : (m : Management) (all : List Link) (turn : ℕ) → tei.IsSound m → length m.places ≡ c.terminals → length all ≡ link_count c → turn ≤ link_count c
       → ((n : ℕ) → n < link_count c → IsSoundAt c n (get_or all n fresh) (get_or m.places (place_at n) None))
       → IsSound c (record l { management = m; links = all; turn = turn })
-  with_links m all turn management places count within links = record {
-    management = management;
-    places = places;
-    count = count;
-    links = links;
-    units = s.units;
-    few_units = s.few_units;
-    turn = within;
-  }
+  with_links m all turn management places count within links = grind arith
 
   -- What holds of a link that begins, and of each that is sound, holds of each link of the line.
   pub any_link : (n : ℕ) → n < link_count c → (P : Terms → Link → Type 0) → P (terms c (service_at n) 0) fresh
       → ((number : ℕ) → tei.IsAt l.management.places (place_at n) number → links.IsSound (terms c (service_at n) number) (link_at n l) → P (terms c (service_at n) number) (link_at n l))
       → P (terms_at c n l) (link_at n l)
-  any_link n few P begins each = go (tei_at (place_at n) l) refl (s.links n few)
-    where
-      go : (o : Option ℕ) → tei_at (place_at n) l ≡ o → IsSoundAt c n (link_at n l) o → P (terms c (service_at n) (unwrap_or o 0)) (link_at n l)
-      go None e is = subst (P (terms c (service_at n) 0)) (sym is) begins
-      go (Some number) e sound = each number e sound
+  any_link n few P begins each = grind arith

@@ -1,8 +1,7 @@
 -- An expiry starts at most one timer.
-use Rattle.model_line.proofs.Vocabulary.{◌≡◌, ℕ, ◌≤◌, List, [], ◌∷◌, ◌++◌, length, Option, Some, None, refl, ◌∙◌, arith, Service, Call, Packet, Order, Start, Stop, Timer, one-start, Link, orders_for, starts, Terms, LinkTimer, IsBrief, told_brief, Change, Gained, Left, Config, expiry, aim_of_expiry, orders_in, Line, link_in, terms, answer, told_of_management, of_link, of_change, of_aim}
+use Rattle.model_line.proofs.Vocabulary.{◌≡◌, ℕ, ◌≤◌, List, [], ◌∷◌, ◌++◌, length, Option, Some, None, refl, arith, Service, Call, Packet, Order, Start, Stop, Timer, one-start, Link, orders_for, starts, Terms, LinkTimer, IsBrief, told_brief, Change, Gained, Left, Config, expiry, aim_of_expiry, orders_in, Line, link_in, terms, answer, told_of_management, of_link, of_change, of_aim}
 use Rattle.model_link.specs.Events as link
 use Rattle.model_link.specs.Machine as links
-use Rattle.model_link.specs.declared.timers.LinkTimer.TheVariants as link_timer
 use Rattle.lapd_tei.specs.Events as teis
 use Rattle.lapd_tei.specs.Machine as tei
 use Rattle.model_line.proofs.ProperAims.{expiry_aims}
@@ -27,17 +26,13 @@ none_starts = omega arith
 -- a link that is cleared starts nothing
 cleared_orders : (t : Terms) (before : Option LinkTimer) → starts (orders_for t before None None) ≡ 0
 unfolding starts
-cleared_orders t None = refl
-cleared_orders t (Some link_timer.T200) = refl
-cleared_orders t (Some link_timer.T203) = refl
+cleared_orders t before = grind arith
 
 cleared_starts : (t : Terms) (l : Link) → starts (links.told t link.cleared l).orders ≡ 0
 cleared_starts t l = cleared_orders t l.running
 
 three : (xs ys zs : List Order) → starts xs ≡ 0 → starts ys ≡ 0 → length zs ≤ 1 → starts (xs ++ ys ++ zs) ≤ 1
-three xs ys zs x y z =
-    let none : starts (xs ++ ys) ≡ 0 = before_starts xs ys x ∙ y in
-    omega (arith, before_starts xs (ys ++ zs) x, before_starts ys zs y, before_starts (xs ++ ys) zs none, starts_few zs, z)
+three xs ys zs x y z = grind (arith, before_starts, starts_few)
 
 module _ (c : Config) where
   change_starts : (o : Option Change) (t : tei.TeiTold) (l : Line) → IsBrief t → starts (of_change c o (told_of_management t) l).told.orders ≤ 1

@@ -1,5 +1,5 @@
 -- Sums over the parts of a line, and by how much an event of a part raises them.
-use Rattle.model_line.proofs.Vocabulary.{◌≡◌, ℕ, zero, suc, ◌+◌, ◌≤◌, ◌<◌, List, [], ◌∷◌, length, get_or, set, Option, Some, None, refl, ap, ◌∙◌, arith, length-append, length-set, ⊎_elim, replicate, sum_by, range_with_len, cases_lt, get_or-set_same, get_or-set_other, get_or-replicate, get_or_past, length-replicate, sum_by-cons, Service, Call, Packet, Link, fresh, Moves, Management, IsAt, Change, Gained, Left, at-within, Config, LineTold, Line, fresh_line, link_number, link_count, service_at, link_in, terms, Aim, at_none, at_link, at_management, at_units, at_no_link, without_units, of_link, of_change, told_of_management, of_aim, IsInRange, IsSound, IsUnitData, All-nil, sum_of_links}
+use Rattle.model_line.proofs.Vocabulary.{◌≡◌, ℕ, zero, suc, ◌+◌, ◌≤◌, ◌<◌, List, [], ◌∷◌, length, get_or, set, Option, Some, None, refl, ap, ◌∙◌, arith, length-append, length-set, replicate, sum_by, range_with_len, cases_lt, get_or-set_same, get_or-set_other, get_or-replicate, get_or_past, length-replicate, sum_by-cons, Service, Call, Packet, Link, fresh, Moves, Management, IsAt, Change, Gained, Left, at-within, Config, LineTold, Line, fresh_line, link_number, link_count, service_at, link_in, terms, Aim, at_none, at_link, at_management, at_units, at_no_link, without_units, of_link, of_change, told_of_management, of_aim, IsInRange, IsSound, IsUnitData, All-nil, sum_of_links}
 use Rattle.model_link.specs.Events as link
 use Rattle.model_link.specs.Machine as links
 use Rattle.model_link.specs.Sound as link_sounds
@@ -36,10 +36,7 @@ module _ (c : Config) (f : Service → Link → ℕ) where
 
   -- all links begin
   always_fresh : (n i : ℕ) → get_or (replicate n fresh) i fresh ≡ fresh
-  always_fresh n i =
-      ⊎_elim
-      (λ few. get_or-replicate n i fresh fresh few)
-      (λ past. get_or_past (replicate n fresh) i fresh (omega (arith, past, length-replicate n fresh))) (cases_lt i n)
+  always_fresh n i = grind (arith, get_or-replicate, get_or_past, length-replicate, cases_lt)
 
   pub all_begin : ((service : Service) → f service fresh ≡ 0) → (a n : ℕ) → sum_by (at_number (fresh_line c).links) (range_with_len a n) ≡ 0
   all_begin none a zero = refl

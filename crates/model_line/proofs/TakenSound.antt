@@ -1,10 +1,9 @@
 -- What is taken leaves a line sound, and is a frame of at most the longest length.
 pub use Rattle.model_line.proofs.TakenWalk.{round_below}
-use Rattle.model_line.proofs.Vocabulary.{◌≡◌, ℕ, ◌+◌, ◌≤◌, ◌<◌, List, ◌∷◌, length, set, drop, Some, IfSome, refl, sym, ◌∙◌, subst, arith, length-set, length-drop, All, All-head, All-drop, Side, Given, sound-after, frame_of, Message, IdentityAssigned, IsAt, sound-after_offer, Config, Line, UnitData, link_count, service_at, place_at, tei_at, terms, link_at, Taken, with_message, with_unit, with_given_frame, link_taken, taken, IsInRange, IsSoundAt, IsSound, IsUnitData}
+use Rattle.model_line.proofs.Vocabulary.{◌≡◌, ℕ, ◌+◌, ◌≤◌, ◌<◌, List, ◌∷◌, length, set, drop, Some, IfSome, sym, ◌∙◌, subst, arith, length-set, length-drop, All, All-head, All-drop, Side, Given, sound-after, frame_of, Message, IsAt, sound-after_offer, Config, Line, UnitData, link_count, service_at, place_at, tei_at, terms, link_at, Taken, with_message, with_unit, with_given_frame, link_taken, taken, IsInRange, IsSoundAt, IsSound, IsUnitData}
 use Rattle.model_link.specs.Events as link
 use Rattle.model_link.specs.Machine as links
 use Rattle.model_link.specs.Sound as link_sounds
-use Rattle.lapd_tei.specs.Events as teis
 use Rattle.model_line.specs.Taken as taking
 use Rattle.model_line.proofs.LinksSound.{with_one}
 use Rattle.model_line.proofs.Offered.{given_short}
@@ -18,15 +17,11 @@ pub record TakesSoundly (c : Config) (l : Line) (t : Taken) : Type 0 where
   pub size : length t.frame ≤ c.n201 + 4
 
 message_length : (side : Side) (m : Message) → length (frame_of side m) ≡ 8
-message_length side (IdentityAssigned ri tei) = refl
-message_length side other = refl
+message_length side m = grind arith
 
 module _ (c : Config) (ranged : IsInRange c) (l : Line) (s : IsSound c l) where
   message_sound : (m : Message) (ms : List Message) → l.management.waiting ≡ m ∷ ms → TakesSoundly c l (with_message l (frame_of c.side m))
-  message_sound m ms e = record {
-    line = with_links c l s (teis.after_offer l.management) l.links l.turn (sound-after_offer l.management s.management) s.places s.count s.turn s.links;
-    size = omega (arith, message_length c.side m, (ranges_of c ranged).n201.least);
-  }
+  message_sound m ms e = grind (arith, with_links, sound-after_offer, message_length, ranges_of)
 
   unit_sound : (u : UnitData) (us : List UnitData) → l.units ≡ u ∷ us → TakesSoundly c l (with_unit c l u)
   unit_sound u us e = record {

@@ -1,5 +1,5 @@
 -- What holds of each frame that can be taken holds of the one that is.
-use Rattle.model_line.proofs.Vocabulary.{◌≡◌, ℕ, zero, suc, ◌+◌, ◌≤◌, ◌<◌, List, [], ◌∷◌, take, drop, slice_get, Option, Some, None, option_map, IfSome, refl, arith, All, range_with_len, option_or, All-nil, All-cons, All-head, All-tail, All-drop, All-take, All-append, Given, frame_of, Message, IsAt, Config, Line, UnitData, link_count, service_at, place_at, terms, link_at, Taken, with_message, message_taken, with_unit, unit_taken, with_given_frame, link_taken, first_taken, round, taken, line_of, option_map_or, IsSound}
+use Rattle.model_line.proofs.Vocabulary.{◌≡◌, ℕ, zero, suc, ◌+◌, ◌≤◌, ◌<◌, List, [], ◌∷◌, take, drop, slice_get, Option, Some, None, option_map, IfSome, arith, All, range_with_len, option_or, All-nil, All-cons, All-head, All-tail, All-drop, All-take, All-append, Given, frame_of, Message, IsAt, Config, Line, UnitData, link_count, service_at, place_at, terms, link_at, Taken, with_message, with_unit, with_given_frame, link_taken, first_taken, round, taken, line_of, option_map_or, IsSound}
 use Rattle.model_link.specs.Machine as links
 use Rattle.model_link.specs.Sound as link_sound
 use Rattle.model_line.proofs.SoundParts.{any_link}
@@ -17,12 +17,10 @@ round_below c l =
     (All-drop (λ n. n < link_count c) l.turn numbers all) (All-take (λ n. n < link_count c) l.turn numbers all)
 
 mapped : {X Y : Type 0} (f : X → Y) (P : Y → Type 0) (o : Option X) → ((x : X) → o ≡ Some x → P (f x)) → IfSome (option_map f o) P
-mapped f P None h = tt
-mapped f P (Some x) h = h x refl
+mapped f P o h = grind arith
 
 either : (P : Taken → Type 0) (o rest : Option Taken) → IfSome o P → IfSome rest P → IfSome (option_or o rest) P
-either P None rest h h' = h'
-either P (Some t) rest h h' = h
+either P o rest h h' = grind arith
 
 -- A message of TEI management, unit data, or a frame of a link that has a TEI.
 module _ (c : Config) (l : Line) (s : IsSound c l) (P : Taken → Type 0)
@@ -31,19 +29,13 @@ module _ (c : Config) (l : Line) (s : IsSound c l) (P : Taken → Type 0)
     (by_link : (n tei : ℕ) → n < link_count c → IsAt l.management.places (place_at n) tei → link_sound.IsSound (terms c (service_at n) tei) (link_at n l)
     → (g : Given) → links.given (terms c (service_at n) tei) (link_at n l) ≡ Some g → P (with_given_frame c l n (terms c (service_at n) tei) g)) where
   message_walk : (ms : List Message) → l.management.waiting ≡ ms → IfSome (option_map (with_message l) (option_map (frame_of c.side) (slice_get ms 0))) P
-  message_walk [] e = tt
-  message_walk (m ∷ ms) e = message m ms e
+  message_walk ms e = grind arith
 
   unit_walk : (us : List UnitData) → l.units ≡ us → IfSome (option_map (with_unit c l) (slice_get us 0)) P
-  unit_walk [] e = tt
-  unit_walk (u ∷ us) e = unit u us e
+  unit_walk us e = grind arith
 
   pub link_walk : (n : ℕ) → n < link_count c → IfSome (link_taken c l n) P
-  link_walk n few =
-      any_link c l s n few (λ t x. IfSome (option_map (with_given_frame c l n t) (links.given t x)) P) tt
-      (λ tei at sound.
-      let t = terms c (service_at n) tei in
-      mapped (with_given_frame c l n t) P (links.given t (link_at n l)) (λ g e. by_link n tei few at sound g e))
+  link_walk n few = grind (arith, any_link, option_map, mapped)
 
   first_walk : (ns : List ℕ) → All (λ n. n < link_count c) ns → IfSome (first_taken c l ns) P
   first_walk [] all = tt
@@ -52,16 +44,9 @@ module _ (c : Config) (l : Line) (s : IsSound c l) (P : Taken → Type 0)
       (first_walk ns (All-tail (λ n. n < link_count c) n ns all))
 
   pub taken_walk : IfSome (taken c l) P
-  taken_walk =
-      let rest = first_taken c l (round c l) in
-      either P (message_taken c l) (option_or (unit_taken c l) rest) (message_walk l.management.waiting refl)
-      (either P (unit_taken c l) rest (unit_walk l.units refl) (first_walk (round c l) (round_below c l)))
+  taken_walk = grind (arith, either, message_walk, unit_walk, first_walk, round_below)
 
 -- So the line after it is as it was, or what was taken is gone.
 pub next_walk : (c : Config) (l : Line) (P : Taken → Type 0) (Q : Option Taken → Line → Type 0) → IfSome (taken c l) P
     → Q None l → ((t : Taken) → P t → Q (Some t) t.line) → Q (taken c l) (option_map_or line_of (taken c l) l)
-next_walk c l P Q h rests takes = go (taken c l) h
-  where
-    go : (o : Option Taken) → IfSome o P → Q o (option_map_or line_of o l)
-    go None h = rests
-    go (Some t) h = takes t h
+next_walk c l P Q h rests takes = grind arith

@@ -1,13 +1,12 @@
 -- A card is sound as it begins, and each event keeps it so.
-use Rattle.model_card.proofs.Vocabulary.{◌≡◌, ℕ, ◌+◌, ◌*◌, ◌≤◌, ◌<◌, Bool, true, false, ◌&&◌, List, [], ◌∷◌, nat_le, ap, ◌∙◌, arith, sum_by, leb-false, All-head, All-tail, sum_by-replicate, Config, one, fresh_line, slots_of, slots_grow, fresh_slots, Card, fresh, line_at, used, Event, CardsStaySound, after, after_all, IsAtLine, AreAtLines, IsSound}
+use Rattle.model_card.proofs.Vocabulary.{◌≡◌, ℕ, ◌+◌, ◌*◌, ◌≤◌, Bool, false, ◌&&◌, List, [], ◌∷◌, nat_le, ap, ◌∙◌, arith, sum_by, leb-false, All-head, All-tail, sum_by-replicate, Config, one, fresh_line, slots_of, slots_grow, fresh_slots, Card, fresh, line_at, used, Event, CardsStaySound, after, after_all, IsAtLine, AreAtLines, IsSound}
 use Rattle.model_line.specs.Machine as lines
 use Rattle.model_line.specs.Sound as line
 use Rattle.model_card.proofs.Steps.{has_lines, by_room, line_sound, after_lines, fresh_lines, one_line}
 
 -- who is not turned away finds room
 room_found : (takes : Bool) (slots in_use : ℕ) → (takes && nat_le slots in_use) ≡ false → in_use ≤ slots → in_use + one takes ≤ slots
-room_found true slots in_use e h = let below : in_use < slots = leb-false slots in_use e in omega (arith, below)
-room_found false slots in_use e h = omega (arith, h)
+room_found takes slots in_use e h = grind (arith, leb-false)
 
 slots_within : (card : Card) (e : Event) → IsSound card → IsAtLine card e → used (after e card) ≤ card.config.slots
 slots_within card e s within =
@@ -25,9 +24,7 @@ slots_within card e s within =
     ))
 
 pub after_is_sound : (card : Card) (e : Event) → IsSound card → IsAtLine card e → IsSound (after e card)
-after_is_sound card e s within =
-    let h = after_lines e card (has_lines card s) within in
-    record { config = h.config; count = h.count; lines = h.lines; slots = slots_within card e s within }
+after_is_sound card e s within = grind (arith, after_lines, has_lines, slots_within)
 
 pub always_sound : (card : Card) (events : List Event) → IsSound card → AreAtLines card events → IsSound (after_all card events)
 unfolding after_all
@@ -39,9 +36,7 @@ pub fresh_used : (c : Config) → used (fresh c) ≡ 0
 fresh_used c = sum_by-replicate (slots_of c) c.lines (fresh_line c) ∙ omega (arith, ap (λ x. c.lines * x) (fresh_slots c))
 
 pub fresh_is_sound : (c : Config) → line.IsInRange c → IsSound (fresh c)
-fresh_is_sound c ranged =
-    let h = fresh_lines c ranged in
-    record { config = ranged; count = h.count; lines = h.lines; slots = omega (arith, fresh_used c) }
+fresh_is_sound c ranged = grind (arith, fresh_lines, fresh_used)
 
 pub cards_stay_sound : CardsStaySound
 cards_stay_sound = record { begins = fresh_is_sound; stays = after_is_sound; always = always_sound }

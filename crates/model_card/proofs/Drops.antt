@@ -1,7 +1,6 @@
 -- What is dropped changes nothing, and costs nothing.
-use Rattle.model_card.proofs.Vocabulary.{◌≡◌, ℕ, Some, IsSome, ap, sym, ◌∙◌, subst, none-some, set-get_or, Cause, hears, told, dropped, cause_in, Line, fresh_line, heard_leaves, named_cause, Card, line_at, may_send, IsDropWithoutCost, IsDropWithoutEffect, at, DropsCostNothing, DropsChangeNothing, after, answer}
+use Rattle.model_card.proofs.Vocabulary.{arith, ◌≡◌, ℕ, Some, IsSome, sym, subst, none-some, set-get_or, Cause, hears, told, dropped, cause_in, heard_leaves, named_cause, Card, may_send, IsDropWithoutCost, IsDropWithoutEffect, at, DropsCostNothing, DropsChangeNothing, after, answer}
 use Rattle.model_bits.specs.Stream as stream
-use Rattle.model_card.specs.Machine.{with_line}
 use Rattle.model_card.proofs.EachMoment.{every_moment}
 use Rattle.model_card.proofs.Steps.{by_room}
 
@@ -9,16 +8,7 @@ use Rattle.model_card.proofs.Steps.{by_room}
 drop_changes_nothing : (card : Card) (number : ℕ) (what : stream.Event) (cause : Cause)
     → let e = at number (hears what) in
     cause_in (answer e card) ≡ Some cause → (answer e card ≡ told (dropped cause)) × (after e card ≡ card)
-drop_changes_nothing card number what cause =
-    let e = at number (hears what) in
-    by_room (λ ls a. cause_in a ≡ Some cause → (a ≡ told (dropped cause)) × (record card { lines = ls } ≡ card)) e card
-    (λ full none. absurd (none-some cause none))
-    (λ served some.
-    let left = heard_leaves card.config what (line_at number card) cause some in (
-      left.0,
-      ap (λ (x : Line). record card { lines = with_line number x card.lines }) left.1
-          ∙ ap (λ ls. record card { lines = ls }) (set-get_or card.lines number (fresh_line card.config)),
-    ))
+drop_changes_nothing card number what cause = grind (arith, by_room, none-some, heard_leaves, set-get_or)
 
 pub drops_change_nothing : DropsChangeNothing
 drops_change_nothing =
@@ -31,9 +21,7 @@ drops_change_nothing =
 drop_costs_nothing : (card : Card) (number : ℕ) (what : stream.Event)
     → let e = at number (hears what) in
     IsSome (cause_in (answer e card)) → may_send (after e card) ≡ may_send card
-drop_costs_nothing card number what h =
-    let some = named_cause (cause_in (answer (at number (hears what)) card)) h in
-    ap may_send (drop_changes_nothing card number what some.0 some.1).1
+drop_costs_nothing card number what h = grind (arith, named_cause, drop_changes_nothing)
 
 pub drops_cost_nothing : DropsCostNothing
 drops_cost_nothing card events s within =

@@ -1,5 +1,5 @@
 -- A run as one fold is its moments.
-use Rattle.model_card.proofs.Vocabulary.{◌≡◌, List, [], ◌∷◌, ◌++◌, refl, sym, ◌∙◌, append_assoc, append-nil, fold, map, Event, reply_of, RunIsMoments, after, answer, Run, moments, after_all}
+use Rattle.model_card.proofs.Vocabulary.{arith, ◌≡◌, List, [], ◌∷◌, ◌++◌, refl, sym, ◌∙◌, append_assoc, append-nil, fold, map, Event, reply_of, RunIsMoments, after, answer, Run, moments, after_all}
 use Rattle.model_card.specs.Run.{one_more}
 
 folded_card : (events : List Event) (r : Run) → (fold one_more r events).card ≡ after_all r.card events
@@ -15,7 +15,4 @@ folded_replies (e ∷ events) r =
     ∙ append_assoc r.replies ((e.line, answer e r.card) ∷ []) (map reply_of (moments (after e r.card) events))
 
 pub run_is_moments : RunIsMoments
-run_is_moments = record {
-  card = λ card events. folded_card events (record { card = card; replies = [] });
-  replies = λ card events. folded_replies events (record { card = card; replies = [] });
-}
+run_is_moments = grind (arith, folded_card, folded_replies)

@@ -18,8 +18,7 @@ pub record Alone (number : ℕ) (c : Config) (l : Line) (ls : List Line) : Type 
 
 -- an event that is served on a card is served there too
 room_alone : (takes : Bool) (slots in_use own : ℕ) → (takes && nat_le slots in_use) ≡ false → own ≤ in_use → (takes && nat_le slots own) ≡ false
-room_alone true slots in_use own e h = let below : in_use < slots = leb-false slots in_use e in lt-leb slots own (omega (arith, below, h))
-room_alone false slots in_use own e h = refl
+room_alone takes slots in_use own e h = grind (arith, leb-false, lt-leb)
 
 pub record Alike (e : Event) (card : Card) (ls : List Line) (l : Line) (a : Answer) : Type 0 where
   pub next : List Line
@@ -98,19 +97,10 @@ isolated number (e ∷ events) card ls h all a =
         → ((next : List Line) → Alone number card.config (line_at number (after e card)) next
         → map answer_in rest ≡ map answer_in (moments (with_lines card next) (map event_in rest)))
         → map answer_in (cond (at && not full) (m ∷ rest) rest) ≡ map answer_in (moments (with_lines card ls) (map event_in (cond (at && not full) (m ∷ rest) rest)))
-    go false full is a later = later ls a
-    go true true is a later = later ls a
-    go true false is like later =
-        let here : e ≡ record e { line = number } = ap (λ n. record e { line = n }) (eqb-true e.line number is) in
-        ap (λ (x : Answer). x ∷ map answer_in rest) like.answers
-        ∙ ap (λ (xs : List Answer). answer (record e { line = number }) (with_lines card ls) ∷ xs)
-        (later like.next like.alone ∙ ap (λ (k : Card). map answer_in (moments k (map event_in rest))) (sym like.moves))
-        ∙ ap (λ x. answer x (with_lines card ls) ∷ map answer_in (moments (after x (with_lines card ls)) (map event_in rest))) (sym here)
+    go at full is a later = grind (arith, eqb-true, rest)
 
 pub fresh_alone : (c : Config) (number : ℕ) → HasLines (fresh c) → number < c.lines → Alone number c (line_at number (fresh c)) (fresh c).lines
-fresh_alone c number h few =
-    let there : line_at number (fresh c) ≡ fresh_line c = get_or-replicate c.lines number (fresh_line c) (fresh_line c) few in
-    record { inside = omega (arith, few, h.count); same = refl; own = fresh_used c ∙ sym (ap (slots_of c) there ∙ fresh_slots c) }
+fresh_alone c number h few = grind (arith, get_or-replicate, fresh_used, fresh_slots)
 
 pub lines_isolated : LinesIsolated
 lines_isolated c events ranged within number few =

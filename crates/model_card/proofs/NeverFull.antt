@@ -1,5 +1,5 @@
 -- Where there is a slot for each place of each queue, the pool is never full.
-use Rattle.model_card.proofs.Vocabulary.{◌≡◌, ℕ, zero, suc, ◌+◌, ◌*◌, ◌≤◌, ◌<◌, false, List, [], ◌∷◌, length, get_or, subst, arith, sum_by, All, and_parts, leb-true, All-nil, All-cons, All-head, All-tail, sum_by-cons, sum_by-le, is_pool_full, fresh_line, slots_of, line_not_pool, places_of, slots_few, taker_finds, Card, fresh, line_at, used, is_full, Event, PoolNeverFull, after, answer, IsNotRefusedForPool, moments, IsAtLine, AreAtLines}
+use Rattle.model_card.proofs.Vocabulary.{◌≡◌, ℕ, zero, suc, ◌+◌, ◌*◌, ◌≤◌, ◌<◌, false, List, [], ◌∷◌, length, get_or, arith, sum_by, All, and_parts, leb-true, All-nil, All-cons, All-head, All-tail, sum_by-cons, sum_by-le, is_pool_full, fresh_line, slots_of, line_not_pool, places_of, slots_few, taker_finds, Card, fresh, line_at, used, is_full, Event, PoolNeverFull, after, answer, IsNotRefusedForPool, moments, IsAtLine, AreAtLines}
 use Rattle.model_line.specs.Machine as lines
 use Rattle.model_card.proofs.Steps.{HasLines, by_room, line_sound, after_lines, fresh_lines}
 
@@ -17,9 +17,7 @@ sum_but_one f m (x ∷ xs) (suc i) d few all =
 
 -- fewer slots than there are, where one line finds a place
 below_all : (n most sum own slots count : ℕ) → n ≡ count → sum + most ≤ n * most + own → own + 1 ≤ most → count * most ≤ slots → slots ≤ sum → ⊥
-below_all n most sum own slots count e sums less enough full =
-    let bound : sum + most ≤ count * most + own = subst (λ x. sum + most ≤ x * most + own) e sums in
-    omega (arith, bound, less, enough, full)
+below_all n most sum own slots count e sums less enough full = grind arith
 
 pub event_not_refused : (card : Card) (e : Event) → HasLines card → IsAtLine card e → card.config.lines * places_of card.config ≤ card.config.slots
     → is_pool_full (answer e card) ≡ false

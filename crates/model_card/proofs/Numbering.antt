@@ -1,6 +1,5 @@
 -- Numbered deliveries, over whole runs.
-use Rattle.model_card.proofs.Vocabulary.{◌≡◌, ℕ, ◌+◌, ◌<◌, ◌&&◌, Bool, true, false, List, [], ◌∷◌, length, All, Option, Some, None, refl, ap, sym, ◌∙◌, cond, arith, true≢false, inl, inr, fold, option_to_list, get_or-replicate, All-nil, All-cons, All-head, All-tail, PoolFull, Arrived, Link, delivery, counted_on, Config, refused, Line, fresh_line, link_at, link_count, Part, brings_none, none_at, event_parts, slot_brings_nothing, Event, Card, fresh, line_at, DeliveriesNumbered, after, answer, LinkName, arrived, delivered, restarts, received_by, contents_of, IsNext, one_more, HasLink, Moment, moments, after_all, IsAtLine, AreAtLines}
-use Rattle.model_link.specs.Link.{fresh as fresh_link}
+use Rattle.model_card.proofs.Vocabulary.{◌≡◌, ℕ, ◌+◌, ◌<◌, ◌&&◌, Bool, false, List, [], ◌∷◌, length, All, Option, None, refl, ap, ◌∙◌, cond, arith, fold, option_to_list, get_or-replicate, All-nil, All-cons, All-head, All-tail, PoolFull, Arrived, delivery, counted_on, Config, refused, link_at, link_count, Part, brings_none, none_at, event_parts, slot_brings_nothing, Event, Card, fresh, line_at, DeliveriesNumbered, after, LinkName, arrived, delivered, restarts, received_by, contents_of, IsNext, one_more, HasLink, moments, after_all, IsAtLine, AreAtLines}
 use Rattle.model_line.specs.Deliveries as line
 use Rattle.model_card.proofs.EachMoment.{moment_of}
 use Rattle.model_card.proofs.Steps.{HasLines, has_lines, by_line, line_sound, after_lines, fresh_lines}
@@ -30,24 +29,16 @@ event-seen name card e h here within few =
 
 -- the same contents in the words of a link
 contents-is : (i : ℕ) (o : Option Arrived) → delivery i o ≡ contents_of i o
-contents-is i None = refl
-contents-is i (Some frame) = refl
+contents-is i o = grind arith
 
 part-next : (r r' : ℕ) (a : Option Arrived) (d : Option (List ℕ)) (b : Bool) → Part r a r' d b → d ≡ cond b None (contents_of r a)
-part-next r r' a d true (inl x) = absurd (true≢false x.goes_on)
-part-next r r' a d true (inr x) = x.delivered
-part-next r r' a d false (inl x) = x.delivered ∙ contents-is r a
-part-next r r' a d false (inr x) = absurd (true≢false (sym x.begins))
+part-next r r' a d b o = grind (arith, contents-is)
 
 one-on : (r : ℕ) (d : Option (List ℕ)) → counted_on r d ≡ r + length (option_to_list d)
-one-on r None = omega arith
-one-on r (Some contents) = omega arith
+one-on r d = grind arith
 
 part-counts : (r r' : ℕ) (a : Option Arrived) (d : Option (List ℕ)) (b : Bool) → Part r a r' d b → r' ≡ cond b 0 (r + length (option_to_list d))
-part-counts r r' a d true (inl x) = absurd (true≢false x.goes_on)
-part-counts r r' a d true (inr x) = x.number
-part-counts r r' a d false (inl x) = x.number ∙ ap (counted_on r) (sym x.delivered) ∙ one-on r d
-part-counts r r' a d false (inr x) = absurd (true≢false (sym x.begins))
+part-counts r r' a d b o = grind (arith, counted_on, one-on)
 
 -- a run
 module _ (name : LinkName) where
@@ -73,15 +64,7 @@ module _ (name : LinkName) where
       ∙ ap (λ n. one_more name n m) is)
 
 begins-zero : (c : Config) (name : LinkName) → HasLink (fresh c) name → received_by name (fresh c) ≡ 0
-begins-zero c name named =
-    ap (λ (l : Line). (link_at name.number l).r) (get_or-replicate c.lines name.line (fresh_line c) (fresh_line c) named.0)
-    ∙ ap (λ (l : Link). l.r) (get_or-replicate (link_count c) name.number fresh_link fresh_link named.1)
+begins-zero c name named = grind (arith, get_or-replicate)
 
 pub deliveries_numbered : DeliveriesNumbered
-deliveries_numbered = record {
-  numbered = λ card events s all name named. record {
-    next = each-next name card events (has_lines card s) all named;
-    counted = run-counts name card events (received_by name card) (has_lines card s) all named refl;
-  };
-  from_zero = λ c events ranged all name named. run-counts name (fresh c) events 0 (fresh_lines c ranged) all named (begins-zero c name named);
-}
+deliveries_numbered = grind (arith, each-next, has_lines, run-counts, fresh_lines, begins-zero)

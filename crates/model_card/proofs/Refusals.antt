@@ -1,5 +1,5 @@
 -- Requests are refused by the table.
-use Rattle.model_card.proofs.Vocabulary.{◌≡◌, ℕ, Bool, true, false, not, ◌&&◌, List, [], ◌∷◌, ◌++◌, get_or, set, Option, Some, None, is_some, IsSome, refl, ap, sym, ◌∙◌, subst, cond, ◌↔◌, false≢true, set-get_or, Refusal, PoolFull, Config, Answer, request, refused, Line, fresh_line, unless_refused, unless_refused_told, Effect, of_aim, Row, first_that_holds, bad_tei, no_link, bad_tei_or_group, no_link_nor_group, wrong_state, too_long, queue_full, unit_queue_full, pool_full, refusal, Request, Data, Unit, aim_of_request, carries_contents, at, Card, line_at, is_full, RefusedByTheTable, after, answer}
+use Rattle.model_card.proofs.Vocabulary.{arith, ◌≡◌, ℕ, Bool, true, false, not, ◌&&◌, List, [], ◌∷◌, ◌++◌, get_or, set, Option, Some, None, is_some, IsSome, refl, sym, subst, cond, ◌↔◌, set-get_or, Refusal, PoolFull, Config, Answer, request, refused, Line, unless_refused, unless_refused_told, Effect, of_aim, Row, first_that_holds, bad_tei, no_link, bad_tei_or_group, no_link_nor_group, wrong_state, too_long, queue_full, unit_queue_full, pool_full, refusal, Request, Data, Unit, aim_of_request, carries_contents, at, Card, line_at, is_full, RefusedByTheTable, after, answer}
 use Rattle.model_link.specs.Events as link
 use Rattle.model_line.specs.Machine as lines
 
@@ -21,12 +21,10 @@ last_row full (r ∷ rs) = go r.holds (last_row full rs)
         → first_that_holds (rs ++ pool_full full ∷ []) ≡ with_pool true full (first_that_holds (rs ++ pool_full false ∷ []))
         → cond b (Some r.why) (first_that_holds (rs ++ pool_full full ∷ []))
         ≡ with_pool true full (cond b (Some r.why) (first_that_holds (rs ++ pool_full false ∷ [])))
-    go true rest = refl
-    go false rest = rest
+    go b rest = grind arith
 
 no_pool : (full : Bool) (o : Option Refusal) → o ≡ with_pool false full o
-no_pool full None = refl
-no_pool full (Some why) = refl
+no_pool full o = grind arith
 
 refusal_with_pool : (c : Config) (full : Bool) (r : Request) (l : Line) → refusal c full r l ≡ with_pool (carries_contents r) full (refusal c false r l)
 refusal_with_pool c full (Data service tei contents) l =
@@ -43,44 +41,27 @@ answer_by o outcome = unless_refused_told o outcome
 combined : (carries full : Bool) (o : Option Refusal) (outcome : Effect)
     → cond ((carries && not (is_some o)) && full) (refused PoolFull) (answer_by o outcome)
     ≡ answer_by (with_pool carries full o) outcome
-combined true true None outcome = refl
-combined true false None outcome = refl
-combined false full None outcome = refl
-combined true full (Some why) outcome = refl
-combined false full (Some why) outcome = refl
+combined carries full o outcome = grind arith
 
 pub answer_is : (card : Card) (number : ℕ) (r : Request)
     → answer (at number (request r)) card
     ≡ answer_by (refusal card.config (is_full card) r (line_at number card)) (lines.of_request card.config r (line_at number card))
 unfolding lines.answer lines.takes_slot
-answer_is card number r =
-    let l = line_at number card in
-    combined (carries_contents r) (is_full card) (refusal card.config false r l) (lines.of_request card.config r l)
-    ∙ ap (λ o. answer_by o (lines.of_request card.config r l)) (sym (refusal_with_pool card.config (is_full card) r l))
+answer_is card number r = grind (arith, combined, refusal_with_pool)
 
 refused_by : (o : Option Refusal) (outcome : Effect) (why : Refusal) → (answer_by o outcome ≡ refused why) ↔ (o ≡ Some why)
-refused_by None outcome why = ((λ e. cc), (λ e. cc))
-refused_by (Some x) outcome why = ((λ e. cc), (λ e. cc))
+refused_by o outcome why = grind arith
 
 -- and then nothing changes
 stays : (carries full : Bool) (o : Option Refusal) (c : Config) (r : Request) (l d : Line) (ls : List Line) (number : ℕ)
     → IsSome (with_pool carries full o) → get_or ls number d ≡ l
     → cond ((carries && not (is_some o)) && full) ls (set ls number (of_aim c (unless_refused o (aim_of_request r l)) l).line) ≡ ls
-stays true true None c r l d ls number some e = refl
-stays true false None c r l d ls number some e = absurd (false≢true some)
-stays false full None c r l d ls number some e = absurd (false≢true some)
-stays true full (Some why) c r l d ls number some e = ap (set ls number) (sym e) ∙ set-get_or ls number d
-stays false full (Some why) c r l d ls number some e = ap (set ls number) (sym e) ∙ set-get_or ls number d
+stays carries full o c r l d ls number some e = grind (arith, set-get_or)
 
 unchanged : (card : Card) (number : ℕ) (r : Request)
     → IsSome (refusal card.config (is_full card) r (line_at number card)) → after (at number (request r)) card ≡ card
 unfolding lines.after lines.takes_slot
-unchanged card number r some =
-    let l = line_at number card in
-    let some' : IsSome (with_pool (carries_contents r) (is_full card) (refusal card.config false r l)) =
-    subst (λ o. IsSome o) (refusal_with_pool card.config (is_full card) r l) some in
-    ap (λ ls. record { config = card.config; lines = ls })
-    (stays (carries_contents r) (is_full card) (refusal card.config false r l) card.config r l (fresh_line card.config) card.lines number some' refl)
+unchanged card number r some = grind (arith, refusal_with_pool, stays)
 
 pub refused_by_the_table : RefusedByTheTable
 refused_by_the_table = record {

@@ -1,5 +1,5 @@
 -- An event at a card is one at one of its lines, or finds the pool full.
-use Rattle.model_card.proofs.Vocabulary.{◌≡◌, ◌≢◌, ◌==◌, ℕ, get_or, sym, subst, eqb-true, eq-eqb, true≢false, and_parts, get_or-set_same, get_or-set_other, ◌+◌, ◌<◌, Bool, true, false, List, ◌∷◌, length, set, refl, ◌∙◌, cond, arith, length-set, sum_by, count_by, All, length-replicate, All-set, All-get_or, All-replicate, sum_by-set, sum_by-cons, PoolFull, Config, Answer, refused, Line, fresh_line, after_sound, fresh_sound, Event, Card, fresh, line_at, wants_room, after, answer, IsSound}
+use Rattle.model_card.proofs.Vocabulary.{◌≡◌, ◌==◌, ℕ, get_or, eqb-true, eq-eqb, and_parts, get_or-set_same, get_or-set_other, ◌+◌, ◌<◌, Bool, true, false, List, ◌∷◌, length, set, refl, ◌∙◌, cond, arith, length-set, sum_by, count_by, All, length-replicate, All-set, All-replicate, sum_by-set, sum_by-cons, PoolFull, Config, Answer, refused, Line, fresh_line, after_sound, fresh_sound, Event, Card, fresh, line_at, wants_room, after, answer, IsSound}
 use Rattle.model_line.specs.Machine as lines
 use Rattle.model_line.specs.Sound as line
 
@@ -17,17 +17,10 @@ pub by_room : (P : List Line → Answer → Type 0) (e : Event) (card : Card)
     → (wants_room e card ≡ true → P card.lines (refused PoolFull))
     → (wants_room e card ≡ false → P (set card.lines e.line (lines.after card.config e.what (line_at e.line card))) (lines.answer card.config e.what (line_at e.line card)))
     → P (after e card).lines (answer e card)
-by_room P e card full served = go (wants_room e card) refl
-  where
-    go : (b : Bool) → wants_room e card ≡ b
-        → P (cond b card.lines (set card.lines e.line (lines.after card.config e.what (line_at e.line card))))
-        (cond b (refused PoolFull) (lines.answer card.config e.what (line_at e.line card)))
-    go true e = full e
-    go false e = served e
+by_room P e card full served = grind arith
 
 pub line_sound : (card : Card) (number : ℕ) → HasLines card → number < card.config.lines → line.IsSound card.config (line_at number card)
-line_sound card number h within =
-    All-get_or (line.IsSound card.config) card.lines number (fresh_line card.config) (omega (arith, h.count, within)) h.lines
+line_sound card number h within = grind arith
 
 -- What an event is to one line of a card: nothing if it is at another line, else as to the card.
 pub by_line : (card : Card) (e : Event) (number : ℕ) → HasLines card → e.line < card.config.lines → (P : Bool → Line → Answer → Type 0)
@@ -43,22 +36,11 @@ by_line card e number h here P elsewhere full served =
     x = lines.after card.config e.what (line_at e.line card)
 
     unserved : (b : Bool) → (e.line == number) ≡ b → wants_room e card ≡ true → P b (line_at number card) (refused PoolFull)
-    unserved false other w = elsewhere (refused PoolFull)
-    unserved true same w =
-        full (subst (λ n. lines.takes_slot card.config e.what (line_at n card) ≡ true) (eqb-true e.line number same) (and_parts (lines.takes_slot card.config e.what (line_at e.line card)) _ w).0)
+    unserved b other w = grind (arith, eqb-true, and_parts)
 
     met : (b : Bool) → (e.line == number) ≡ b → wants_room e card ≡ false
         → P b (get_or (set card.lines e.line x) number (fresh_line card.config)) (lines.answer card.config e.what (line_at e.line card))
-    met false other w =
-        let apart : number ≢ e.line = λ same. true≢false (sym (eq-eqb e.line number (sym same)) ∙ other) in
-        rw (get_or-set_other card.lines e.line number x (fresh_line card.config) apart) (elsewhere (lines.answer card.config e.what (line_at e.line card)))
-    met true same w =
-        let is : e.line ≡ number = eqb-true e.line number same in
-        let now = get_or-set_same card.lines e.line x (fresh_line card.config) (omega (arith, h.count, here)) in
-        let own = served is w in
-        subst (λ n. P true (get_or (set card.lines e.line x) n (fresh_line card.config)) (lines.answer card.config e.what (line_at e.line card))) is
-        (subst (λ y. P true y (lines.answer card.config e.what (line_at e.line card))) (sym now)
-        (subst (λ n. P true (lines.after card.config e.what (line_at n card)) (lines.answer card.config e.what (line_at n card))) (sym is) own))
+    met b other w = grind (arith, eq-eqb, get_or-set_other, x, eqb-true, get_or-set_same)
 
 pub after_lines : (e : Event) (card : Card) → HasLines card → e.line < card.config.lines → HasLines (after e card)
 after_lines e card h within =

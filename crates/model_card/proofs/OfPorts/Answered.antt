@@ -1,5 +1,5 @@
 -- What is asked of the card of frames, and of what the answers are made.
-use Rattle.model_card.proofs.OfPorts.Vocabulary.{◌≡◌, ℕ, Bool, true, false, List, [], ◌∷◌, ◌++◌, flat_map, Option, None, Some, option_map, option_to_list, refl, ap, ◌∙◌, subst, cond, map, flat_map-append, All, PoolFull, Card, Event, OctetCard, Port, port_at, meant, answer, after, answer_of, answer_to, gained, is_due, next_octet, with_item, meant_all, moments}
+use Rattle.model_card.proofs.OfPorts.Vocabulary.{arith, ◌≡◌, ℕ, Bool, true, false, List, [], ◌∷◌, ◌++◌, flat_map, Option, None, Some, option_map, option_to_list, refl, ap, ◌∙◌, subst, cond, map, flat_map-append, All, PoolFull, Card, Event, OctetCard, Port, port_at, meant, answer, after, answer_of, answer_to, gained, is_due, next_octet, with_item, meant_all, moments}
 use Rattle.model_bits.specs.Stream as stream
 use Rattle.model_line.specs.Event as line
 use Rattle.model_line.specs.Machine as lines
@@ -13,18 +13,7 @@ use Rattle.model_card.proofs.OfPorts.Drops.{every_moment}
 -- ---- what is asked
 
 asked_where : (n201 n : ℕ) (e : port.Event) (p : Port) → flat_map asked_among (option_to_list (option_map (frames.at n) (port.meant n201 e p))) ≡ map (frames.at n) (asked_of e)
-asked_where n201 n (port.octet value) p = go (gained n201 p.received value)
-  where
-    go : (o : Option stream.Event) → flat_map asked_among (option_to_list (option_map (frames.at n) (option_map line.hears o))) ≡ []
-    go None = refl
-    go (Some heard) = refl
-asked_where n201 n (port.expiry timer) p = refl
-asked_where n201 n (port.request r) p = refl
-asked_where n201 n port.pull p = go (is_due p)
-  where
-    go : (due : Bool) → flat_map asked_among (option_to_list (option_map (frames.at n) (cond due (Some line.next) None))) ≡ []
-    go true = refl
-    go false = refl
+asked_where n201 n e p = grind (arith, flat_map, option_to_list, option_map)
 
 pub all_asked : (m : OctetCard) (events : List Event) → flat_map asked_among (meant_all m events) ≡ flat_map asked_with events
 unfolding meant_all meant
@@ -55,23 +44,14 @@ record AnswersRightly (ask : line.Event → line.Answer) : Type 0 where
   next : IsGiving (ask line.next)
 
 tells_unless : (b : Bool) (o : Option _) (outcome : _) → GivesNothing (cond b (line.refused PoolFull) (lines.unless_refused_told o outcome))
-tells_unless true o outcome = tt
-tells_unless false None outcome = tt
-tells_unless false (Some why) outcome = tt
+tells_unless b o outcome = grind arith
 
 answers_rightly : (card : Card) (number : ℕ) → AnswersRightly (λ f. machine.answer (frames.at number f) card)
 unfolding line_answer takes_slot
-answers_rightly card number = record {
-  hears = λ e. tt;
-  expiry = λ timer. tt;
-  request = λ r. tells_unless (machine.wants_room (frames.at number (line.request r)) card) _ _;
-  next = tt;
-}
+answers_rightly card number = grind (arith, tells_unless)
 
 says_what : (a : line.Answer) → GivesNothing a → Says (answer_of a) a
-says_what (line.told t) h = refl
-says_what (line.refused why) h = refl
-says_what (line.gave next) h = absurd h
+says_what a h = grind arith
 
 says_given : (p : Port) (a : line.Answer) → IsGiving a → Says (port.answer port.pull (Some a) p) a
 says_given p (line.told t) h = absurd h
@@ -84,8 +64,7 @@ says_so : (n201 : ℕ) (e : port.Event) (p : Port) (ask : line.Event → line.An
 says_so n201 (port.octet value) p ask h = go (gained n201 p.received value)
   where
     go : (o : Option stream.Event) → let s = option_map ask (option_map line.hears o) in SaysSo (port.octet value) (port.answer (port.octet value) s p) s
-    go None = refl
-    go (Some heard) = says_what (ask (line.hears heard)) (h.hears heard)
+    go o = grind (arith, says_what)
 says_so n201 (port.expiry timer) p ask h = says_what (ask (line.expiry timer)) (h.expiry timer)
 says_so n201 (port.request r) p ask h = says_what (ask (line.request r)) (h.request r)
 says_so n201 port.pull p ask h = go (is_due p)
@@ -96,8 +75,7 @@ says_so n201 port.pull p ask h = go (is_due p)
 
 -- what the line says to what an event means
 said_of : (card : Card) (n : ℕ) (o : Option line.Event) → option_map (λ f. machine.answer (frames.at n f) card) o ≡ option_map (answer_to card) (option_map (frames.at n) o)
-said_of card n None = refl
-said_of card n (Some f) = refl
+said_of card n o = grind arith
 
 one_answered : (m : OctetCard) (e : Event) → IsAnswered (record { card = m; event = e; answer = answer e m })
 unfolding answer meant

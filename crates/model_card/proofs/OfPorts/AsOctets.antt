@@ -1,5 +1,5 @@
 -- The bits of items are those of the octets that go out.
-use Rattle.model_card.proofs.OfPorts.Vocabulary.{◌≡◌, ℕ, ◌+◌, ◌%◌, ◌<◌, ◌≤◌, inl, inr, List, [], ◌∷◌, ◌++◌, length, map, flat_map, slice_index, refl, sym, ap, ◌∙◌, subst, arith, map-append, low_bits-mod, All, All-nil, All-cons, All-head, All-tail, bits, low_bits, flag, check, stuffed, Item, idle, frame, item_text, line_text, AreOctets, frames_among}
+use Rattle.model_card.proofs.OfPorts.Vocabulary.{◌≡◌, ℕ, ◌+◌, ◌%◌, ◌<◌, ◌≤◌, List, [], ◌∷◌, ◌++◌, length, map, flat_map, slice_index, refl, ap, ◌∙◌, arith, map-append, low_bits-mod, All, All-nil, All-cons, All-head, All-tail, bits, low_bits, flag, check, stuffed, Item, idle, frame, item_text, line_text, AreOctets, frames_among}
 use Rattle.model_bits.specs.Framer.{item_octets}
 use Rattle.model_bits.specs.RoundTrip.{AreHeardWhole}
 use Rattle.model_line.proofs.NotShort.{IsNotShort}
@@ -10,7 +10,7 @@ octets_are : (numbers : List ℕ) → AreOctets (as_octets numbers)
 octets_are [] = All-nil (λ octet. octet < 256)
 octets_are (x ∷ xs) = All-cons (λ octet. octet < 256) (x % 256) (as_octets xs) (omega arith) (octets_are xs)
 
-as_many : (numbers : List ℕ) → length (as_octets numbers) ≡ length numbers
+pub as_many : (numbers : List ℕ) → length (as_octets numbers) ≡ length numbers
 as_many [] = refl
 as_many (x ∷ xs) = let rest = as_many xs in omega (arith, rest)
 
@@ -19,7 +19,7 @@ same_bits [] = refl
 same_bits (x ∷ xs) = ap (λ b. b ++ bits (as_octets xs)) (low_bits-mod 8 x) ∙ ap (λ b. low_bits 8 x ++ b) (same_bits xs)
 
 -- octets go out as they are
-exact : (numbers : List ℕ) → AreOctets numbers → as_octets numbers ≡ numbers
+pub exact : (numbers : List ℕ) → AreOctets numbers → as_octets numbers ≡ numbers
 exact [] h = refl
 exact (x ∷ xs) h =
     let small : x < 256 = All-head (λ octet. octet < 256) x xs h in
@@ -53,13 +53,7 @@ frames_sent (idle ∷ is) = frames_sent is
 frames_sent (frame octets ∷ is) = ap (λ fs. as_octets octets ∷ fs) (frames_sent is)
 
 pub cut_sent : (items : List Item) (given : List ℕ) → IsCut items given → IsCut (map sent items) given
-cut_sent items given (inl none) = inl (ap (map sent) none)
-cut_sent items given (inr h) = inr (record {
-  front = map sent h.front;
-  last = sent h.last;
-  items_are = ap (map sent) h.items_are ∙ map-append sent h.front (h.last ∷ []);
-  before = subst (λ text. length text ≤ length (bits given)) (sym (same_text h.front)) h.before;
-})
+cut_sent items given o = grind (arith, map-append, same_text)
 
 -- As octets each frame is heard whole.
 third_rest : (numbers : List ℕ) → slice_index (as_octets numbers) 2 % 4 ≡ slice_index numbers 2 % 4
@@ -69,8 +63,7 @@ third_rest (a ∷ b ∷ []) = refl
 third_rest (a ∷ b ∷ c ∷ rest) = let same : c % 256 % 4 ≡ c % 4 = omega arith in same
 
 still_not_short : (numbers : List ℕ) → IsNotShort numbers → IsNotShort (as_octets numbers)
-still_not_short numbers (inl long) = inl (omega (arith, long, as_many numbers))
-still_not_short numbers (inr x) = inr (as_many numbers ∙ x.0, third_rest numbers ∙ x.1)
+still_not_short numbers o = grind (arith, as_many, third_rest)
 
 pub heard_whole : (n201 : ℕ) (items : List Item) → All IsLongItem items → All (λ item. item_octets item ≤ n201 + 4) items → AreHeardWhole n201 (map sent items)
 heard_whole n201 [] long short = tt

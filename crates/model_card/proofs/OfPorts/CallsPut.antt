@@ -1,12 +1,11 @@
 -- The items that are put on a line are what the calls for its next frame are answered with.
-use Rattle.model_card.proofs.OfPorts.Vocabulary.{◌≡◌, ◌==◌, ℕ, ◌<◌, Bool, true, false, List, [], ◌∷◌, ◌++◌, length, map, flat_map, Option, None, Some, option_map, option_to_list, refl, sym, ap, ◌∙◌, cond, arith, append-nil, map-append, flat_map-append, PoolFull, Card, Event, Item, OctetCard, Port, after, after_all, gained, given_in, is_due, item_of, meant, meant_all, octet, port_at, pull, said, with_item, with_octet}
+use Rattle.model_card.proofs.OfPorts.Vocabulary.{◌≡◌, ◌==◌, ℕ, ◌<◌, Bool, List, [], ◌∷◌, ◌++◌, length, map, flat_map, Option, option_map, option_to_list, sym, ap, ◌∙◌, cond, arith, append-nil, map-append, flat_map-append, PoolFull, Card, Event, Item, OctetCard, Port, after, after_all, given_in, item_of, meant, meant_all, port_at, said}
 use Rattle.model_bits.specs.Stream as stream
 use Rattle.model_line.specs.Event as line
 use Rattle.model_line.specs.Event.{NextFrame}
 use Rattle.model_line.specs.Machine as lines
 unfoldable use Rattle.model_line.specs.Machine.{answer as line_answer, takes_slot}
 use Rattle.model_card.specs.Event as frames
-use Rattle.model_card.specs.Machine as machine
 use Rattle.model_card.specs.Run as runs
 unfoldable use Rattle.model_card.specs.Run.{moments as frame_moments}
 use Rattle.model_card.specs.ports.GoingOut.{answer_of_call, call_answered, calls_answered}
@@ -23,18 +22,11 @@ record AnswersCalls (ask : line.Event → line.Answer) : Type 0 where
   next : answer_of_call (ask line.next) ≡ given_in (ask line.next) ∷ []
 
 no_call_unless : (b : Bool) (o : Option _) (outcome : _) → answer_of_call (cond b (line.refused PoolFull) (lines.unless_refused_told o outcome)) ≡ []
-no_call_unless true o outcome = refl
-no_call_unless false None outcome = refl
-no_call_unless false (Some why) outcome = refl
+no_call_unless b o outcome = grind arith
 
 answers_calls : (card : Card) (number : ℕ) → AnswersCalls (asked_at card number)
 unfolding line_answer takes_slot
-answers_calls card number = record {
-  hears = λ e. refl;
-  expiry = λ timer. refl;
-  request = λ r. no_call_unless (machine.wants_room (frames.at number (line.request r)) card) _ _;
-  next = refl;
-}
+answers_calls card number = grind (arith, no_call_unless)
 
 -- ---- one event
 
@@ -49,41 +41,23 @@ nothing_put : (items : List Item) (answers : List (Option NextFrame)) → answer
 nothing_put items answers none = sym (append-nil items) ∙ ap (λ l. items ++ map item_of l) (sym none)
 
 heard_no_call : (ask : line.Event → line.Answer) → AnswersCalls ask → (o : Option stream.Event) → answers_in_meaning ask (option_map line.hears o) ≡ []
-heard_no_call ask h None = refl
-heard_no_call ask h (Some e) = ap (λ l. l ++ []) (h.hears e)
+heard_no_call ask h o = grind arith
 
 port_puts : (n201 : ℕ) (e : port.Event) (p : Port) (ask : line.Event → line.Answer) → AnswersCalls ask → let o = port.meant n201 e p in
     (port.after e (option_map ask o) p).items ≡ p.items ++ map item_of (answers_in_meaning ask o)
-port_puts n201 (octet value) p ask h = nothing_put p.items _ (heard_no_call ask h (gained n201 p.received value))
-port_puts n201 (port.expiry timer) p ask h = nothing_put p.items _ (ap (λ l. l ++ []) (h.expiry timer))
-port_puts n201 (port.request r) p ask h = nothing_put p.items _ (ap (λ l. l ++ []) (h.request r))
-port_puts n201 pull p ask h = go (is_due p)
-  where
-    go : (due : Bool) → let o : Option line.Event = cond due (Some line.next) None in
-        (with_octet (with_item (option_map ask o) p)).items ≡ p.items ++ map item_of (answers_in_meaning ask o)
-    go false = nothing_put p.items [] refl
-    go true = ap (λ l. p.items ++ map item_of (l ++ [])) (sym h.next)
+port_puts n201 e p ask h = grind (arith, nothing_put, heard_no_call, option_map)
 
 -- ---- a card
 
 calls_where : (card : Card) (number n : ℕ) (o : Option line.Event)
     → calls_answered number (runs.moments card (option_to_list (option_map (frames.at n) o))) ≡ cond (n == number) (answers_in_meaning (asked_at card n) o) []
 unfolding frame_moments
-calls_where card number n None = neither (n == number)
-calls_where card number n (Some f) = go (n == number)
-  where
-    go : (b : Bool) → cond b (answers_of (asked_at card n) f) [] ++ [] ≡ cond b (answers_of (asked_at card n) f ++ []) []
-    go true = refl
-    go false = refl
+calls_where card number n o = grind (arith, neither, asked_at)
 
 own_puts : (m : OctetCard) (e : Event) → let p = port_at e.line m in
     (port.after e.what (said e m) p).items ≡ p.items ++ map item_of (answers_in_meaning (asked_at m.card e.line) (port.meant m.card.config.n201 e.what p))
 unfolding meant
-own_puts m e =
-    let n201 = m.card.config.n201 in
-    let p = port_at e.line m in
-    let o = port.meant n201 e.what p in
-    ap (λ s. (port.after e.what s p).items) (said_is m.card e.line o) ∙ port_puts n201 e.what p (asked_at m.card e.line) (answers_calls m.card e.line)
+own_puts m e = grind (arith, said_is, port_puts, asked_at, answers_calls)
 
 event_puts : (m : OctetCard) (e : Event) (number : ℕ) → number < length m.ports
     → (port_at number (after e m)).items ≡ (port_at number m).items ++ map item_of (calls_answered number (runs.moments m.card (option_to_list (meant e m))))

@@ -1,5 +1,5 @@
 -- The law of the codec.
-use Rattle.model_card.proofs.OfPorts.Vocabulary.{◌≡◌, ◌==◌, ℕ, ◌<◌, Bool, true, false, List, [], ◌∷◌, ◌++◌, length, flat_map, Option, None, Some, option_map, option_to_list, refl, ap, sym, ◌∙◌, subst, cond, arith, flat_map-append, All, All-nil, All-cons, All-head, All-tail, All-append, PoolFull, Config, Card, Event, OctetCard, Port, port_at, given_in, meant, said, answer, after, answer_to, after_all, meant_all, moments, GoesOn, PortGoesOn, Refines, OctetsAreACodec, come_of, frame_moment, frames_given, given_of, heard_by, heard_of, meant_in, octet_come, octet_pulled, octets_come, octets_pulled, pulled_of, AreAtLines}
+use Rattle.model_card.proofs.OfPorts.Vocabulary.{◌≡◌, ◌==◌, ℕ, ◌<◌, Bool, List, [], ◌∷◌, ◌++◌, length, flat_map, Option, None, option_map, option_to_list, refl, ap, sym, ◌∙◌, subst, cond, arith, flat_map-append, All, All-nil, All-head, All-tail, All-append, PoolFull, Config, Card, Event, OctetCard, Port, port_at, given_in, meant, said, answer, after, answer_to, after_all, meant_all, moments, GoesOn, PortGoesOn, Refines, OctetsAreACodec, come_of, frame_moment, frames_given, given_of, heard_of, meant_in, octet_come, octet_pulled, octets_come, octets_pulled, pulled_of, AreAtLines}
 use Rattle.model_line.specs.Event as line
 use Rattle.model_line.specs.Machine as lines
 unfoldable use Rattle.model_line.specs.Machine.{answer as line_answer}
@@ -32,8 +32,7 @@ refined_card m (e ∷ events) =
 
 meant_moment : (m : OctetCard) (o : Option frames.Event) → option_to_list (option_map (frame_moment m) o) ≡ runs.moments m.card (option_to_list o)
 unfolding frame_moments
-meant_moment m None = refl
-meant_moment m (Some f) = refl
+meant_moment m o = grind arith
 
 refined_moments : (m : OctetCard) (events : List Event) → flat_map meant_in (moments m events) ≡ runs.moments m.card (meant_all m events)
 unfolding after moments meant_all frame_moments
@@ -51,8 +50,7 @@ abbrev IsBelow : ℕ → frames.Event → Type 0
 IsBelow n f = f.line < n
 
 meant_below : (n number : ℕ) (o : Option line.Event) → number < n → All (IsBelow n) (option_to_list (option_map (frames.at number) o))
-meant_below n number None few = All-nil (IsBelow n)
-meant_below n number (Some f) few = All-cons (IsBelow n) (frames.at number f) [] few (All-nil (IsBelow n))
+meant_below n number o few = grind arith
 
 pub all_below : (n : ℕ) (m : OctetCard) (events : List Event) → All (λ (e : Event). e.line < n) events → All (IsBelow n) (meant_all m events)
 unfolding meant meant_all
@@ -66,13 +64,7 @@ pub meant_at_lines : (m : OctetCard) (events : List Event) → AreAtLines m even
 meant_at_lines m events all = all_below m.card.config.lines m events all
 
 pub refines : (m : OctetCard) (events : List Event) → Refines m events
-refines m events = record {
-  card = refined_card m events;
-  moments = refined_moments m events;
-  at_lines = meant_at_lines m events;
-  asked = all_asked m events;
-  answered = all_answered m events;
-}
+refines m events = grind (arith, refined_card, refined_moments, meant_at_lines, all_asked, all_answered)
 
 -- ---- the ports
 
@@ -81,45 +73,27 @@ abbrev pub asked_at : Card → ℕ → line.Event → line.Answer
 asked_at card number f = machine.answer (frames.at number f) card
 
 gives_told : (b : Bool) (t : line.LineTold) → given_in (cond b (line.refused PoolFull) (line.told t)) ≡ None
-gives_told true t = refl
-gives_told false t = refl
+gives_told b t = grind arith
 
 gives_unless : (b : Bool) (o : Option _) (outcome : _) → given_in (cond b (line.refused PoolFull) (lines.unless_refused_told o outcome)) ≡ None
-gives_unless true o outcome = refl
-gives_unless false None outcome = refl
-gives_unless false (Some why) outcome = refl
+gives_unless b o outcome = grind arith
 
 pub gives_at_next : (card : Card) (number : ℕ) → GivesAtNext (asked_at card number)
 unfolding line_answer
-gives_at_next card number = record {
-  hears = λ e. gives_told (machine.wants_room (frames.at number (line.hears e)) card) _;
-  expiry = λ timer. gives_told (machine.wants_room (frames.at number (line.expiry timer)) card) _;
-  request = λ r. gives_unless (machine.wants_room (frames.at number (line.request r)) card) _ _;
-}
+gives_at_next card number = grind (arith, gives_told, gives_unless)
 
 pub neither : {X : Type 0} (b : Bool) → [] ≡ cond {A = List X} b [] []
-neither true = refl
-neither false = refl
+neither b = grind arith
 
 -- what is heard and given at a line, where one event means this
 heard_where : (number n : ℕ) (o : Option line.Event)
     → codec.heard_at number (option_to_list (option_map (frames.at n) o)) ≡ cond (n == number) (heard_in_meaning o) []
-heard_where number n None = neither (n == number)
-heard_where number n (Some f) = go (n == number)
-  where
-    go : (b : Bool) → cond b (heard_by f) [] ++ [] ≡ cond b (heard_by f ++ []) []
-    go true = refl
-    go false = refl
+heard_where number n o = grind (arith, neither)
 
 given_where : (card : Card) (number n : ℕ) (o : Option line.Event)
     → frames_given number (runs.moments card (option_to_list (option_map (frames.at n) o))) ≡ cond (n == number) (given_in_meaning (asked_at card n) o) []
 unfolding frame_moments
-given_where card number n None = neither (n == number)
-given_where card number n (Some f) = go (n == number)
-  where
-    go : (b : Bool) → cond b (frame_given (asked_at card n) f) [] ++ [] ≡ cond b (frame_given (asked_at card n) f ++ []) []
-    go true = refl
-    go false = refl
+given_where card number n o = grind (arith, neither, frame_given)
 
 -- the same with lists that are equal
 with_lists : {n201 : ℕ} {a b : Port} {os rs : List ℕ} {hs is : List _} {fs gs : List (List ℕ)} → hs ≡ is → fs ≡ gs
@@ -129,8 +103,7 @@ with_lists {n201} {a} {b} {os} {rs} {hs} {is} {fs} {gs} h g x =
 
 -- what the line says to what an event means
 pub said_is : (card : Card) (n : ℕ) (o : Option line.Event) → option_map (answer_to card) (option_map (frames.at n) o) ≡ option_map (asked_at card n) o
-said_is card n None = refl
-said_is card n (Some f) = refl
+said_is card n o = grind arith
 
 pub own_port : (m : OctetCard) (e : Event) → let p = port_at e.line m in let o = port.meant m.card.config.n201 e.what p in
     GoesOn m.card.config.n201 p (port.after e.what (said e m) p) (octet_come e.what) (heard_in_meaning o) (octet_pulled (answer e m)) (given_in_meaning (asked_at m.card e.line) o)

@@ -1,5 +1,5 @@
 -- What is dropped changes nothing but the octets received, and costs nothing.
-use Rattle.model_card.proofs.OfPorts.Vocabulary.{◌≡◌, ℕ, List, [], ◌∷◌, Option, None, Some, option_map, option_map_or, refl, ap, sym, subst, none-some, set, All, All-nil, All-cons, All-head, Cause, Card, DropsAreWithoutEffect, Event, Moment, OctetCard, after, answer, answer_of, answer_to, card_after, gained, meant, moments, port_at, told}
+use Rattle.model_card.proofs.OfPorts.Vocabulary.{arith, ◌≡◌, ℕ, List, [], ◌∷◌, Option, None, Some, option_map, option_map_or, refl, ap, none-some, All, All-nil, All-cons, All-head, Cause, Card, DropsAreWithoutEffect, Event, Moment, OctetCard, after, answer, answer_of, answer_to, card_after, meant, moments, told}
 use Rattle.model_bits.specs.Stream as stream
 use Rattle.model_line.specs.Event.{dropped}
 use Rattle.model_line.specs.Event as line
@@ -12,8 +12,7 @@ use Rattle.model_card.specs.Machine as machine
 unfoldable use Rattle.model_card.specs.Run.{moments as frame_moments}
 use Rattle.model_card.proofs.Drops.{drops_change_nothing}
 use Rattle.model_card.proofs.EachMoment.{moment_of}
-use Rattle.model_card.specs.ports.Drops.{cause_in, with_received, IsDropWithoutCost, IsDropWithoutEffect}
-use Rattle.model_card.specs.ports.Port as port
+use Rattle.model_card.specs.ports.Drops.{cause_in, IsDropWithoutCost, IsDropWithoutEffect}
 
 -- what holds of every card and event holds in every moment of a run
 pub every_moment : (P : Moment → Type 0) → ((m : OctetCard) (e : Event) → P (record { card = m; event = e; answer = answer e m }))
@@ -30,9 +29,7 @@ heard_drops card f = All-head frame_drops.IsDropWithoutEffect (moment_of card f)
 
 -- an answer names a cause where that to what was meant does
 told_cause : (a : line.Answer) (cause : Cause) → cause_in (answer_of a) ≡ Some cause → line_laws.cause_in a ≡ Some cause
-told_cause (line.told t) cause e = e
-told_cause (line.refused why) cause e = absurd (none-some cause e)
-told_cause (line.gave next) cause e = absurd (none-some cause e)
+told_cause a cause e = grind (arith, none-some)
 
 octet_drops : (card : Card) (number : ℕ) (o : Option stream.Event) (cause : Cause)
     → let f = option_map (frames.at number) (option_map line.hears o) in
@@ -46,16 +43,7 @@ octet_drops card number (Some event) cause e =
 
 drop_is_without_effect : (m : OctetCard) (e : Event) → IsDropWithoutEffect (record { card = m; event = e; answer = answer e m })
 unfolding after answer meant
-drop_is_without_effect m e value cause is =
-    subst (λ what.
-    let n201 = m.card.config.n201 in
-    let p = port_at e.line m in
-    let f = option_map (frames.at e.line) (port.meant n201 what p) in
-    let a = port.answer what (option_map (answer_to m.card) f) p in
-    cause_in a ≡ Some cause → (a ≡ told (dropped cause)) × (record { card = option_map_or (card_after m.card) f m.card; ports = set m.ports e.line (port.after what (option_map (answer_to m.card) f) p) } ≡ with_received e.line value m)) (sym is)
-    (λ h.
-    let left = octet_drops m.card e.line (gained m.card.config.n201 (port_at e.line m).received value) cause h in
-    (left.0, ap (λ (card : Card). record (with_received e.line value m) { card = card }) left.1))
+drop_is_without_effect m e value cause is = grind (arith, option_map, octet_drops)
 
 -- and so what may be sent stays
 drop_is_without_cost : (m : OctetCard) (e : Event) → IsDropWithoutCost (record { card = m; event = e; answer = answer e m })

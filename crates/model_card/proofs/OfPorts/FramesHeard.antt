@@ -1,5 +1,6 @@
 -- What is heard in the octets that a frame or a fault means.
-use Rattle.model_card.proofs.OfPorts.Vocabulary.{◌≡◌, ℕ, zero, suc, ◌+◌, ◌*◌, ◌/◌, ◌<◌, ◌≤◌, Bool, true, List, [], ◌∷◌, ◌++◌, length, replicate, reverse, refl, ap, sym, ◌∙◌, subst, arith, length-append, length-replicate, bits, flag, low_bits, check, frame_text, heard_until, heard_in, room_for, AreOctets, bits-append, low_bits-number_of_n, length-check, stuffed_after-at_least, stuffed-counted, NoSix-stuffed, after_flag, heard_until-onto, hears_text, after_text, reverse_aux-append, Fault, IsIdle, filling, filled, line_octets, came, fault_octets, cause_of, AreHeardAs, FramesAreHeard}
+use Rattle.model_card.proofs.OfPorts.Vocabulary.{◌≡◌, ℕ, zero, suc, ◌+◌, ◌*◌, ◌/◌, ◌≤◌, Bool, true, List, [], ◌∷◌, ◌++◌, length, replicate, reverse, refl, ap, sym, ◌∙◌, arith, length-append, length-replicate, bits, flag, low_bits, check, frame_text, heard_until, heard_in, room_for, AreOctets, bits-append, low_bits-number_of_n, NoSix-stuffed, after_flag, heard_until-onto, hears_text, after_text, reverse_aux-append, Fault, IsIdle, filling, filled, line_octets, came, fault_octets, cause_of, AreHeardAs, FramesAreHeard}
+use Rattle.model_bits.proofs.RoundTripFrame.{some_text}
 use mathlib.Core.List.{reverse_aux}
 use Rattle.model_bits.specs.Bits.{octets_of}
 use Rattle.model_bits.specs.Stream.{Event, dropped}
@@ -57,19 +58,9 @@ IsIdle-IdleAt octets h = record { ones = h.ones; no_gap = h.no_gap }
 
 heard_as : (n201 : ℕ) (before octets : List ℕ) (event : Event) (past : List Bool) → reverse (bits (before ++ octets)) ≡ past
     → IdleAt past → heard_until (room_for n201) past ≡ heard_in n201 before ++ event ∷ [] → AreHeardAs n201 before octets event
-heard_as n201 before octets event past e idle heard =
-    record {
-      heard = ap (heard_until (room_for n201)) e ∙ heard;
-      idle = IdleAt-IsIdle (before ++ octets) (subst IdleAt (sym e) idle);
-    }
+heard_as n201 before octets event past e idle heard = grind (arith, IdleAt-IsIdle, IdleAt)
 
 -- ---- a frame
-
-some_text : (octets : List ℕ) → 0 < length (frame_text octets)
-some_text octets =
-    let c = check (bits octets) in
-    let all = bits octets ++ c in
-    omega (arith, ap length (stuffed-counted all), stuffed_after-at_least 0 all, length-append (bits octets) c, length-check (bits octets))
 
 frame_heard : (n201 : ℕ) (before octets : List ℕ) → IsIdle before → AreOctets octets → AreHeardAs n201 before (line_octets octets) (came n201 octets)
 frame_heard n201 before octets idle are =
@@ -103,18 +94,15 @@ more_bits Short = bits (0x00 ∷ 0x7E ∷ 0xFF ∷ [])
 
 bits-fault : (fault : Fault) → bits (fault_octets fault) ≡ flag ++ more_bits fault
 unfolding low_bits
-bits-fault Fcs = refl
-bits-fault other = refl
+bits-fault fault = grind arith
 
 hears_fault : (room : ℕ) (past : List Bool) (fault : Fault) → hears room (after_flag past) (more_bits fault) ≡ dropped (cause_of fault) ∷ []
 unfolding low_bits
-hears_fault room past Fcs = refl
-hears_fault room past other = refl
+hears_fault room past fault = grind arith
 
 idle_after_fault : (past : List Bool) (fault : Fault) → IdleAt (reverse_aux (more_bits fault) (after_flag past))
 unfolding low_bits
-idle_after_fault past Fcs = record { ones = refl; no_gap = refl }
-idle_after_fault past other = record { ones = refl; no_gap = refl }
+idle_after_fault past fault = grind arith
 
 fault_heard : (n201 : ℕ) (before : List ℕ) (fault : Fault) → IsIdle before → AreHeardAs n201 before (fault_octets fault) (dropped (cause_of fault))
 fault_heard n201 before fault idle =

@@ -1,33 +1,12 @@
 -- What the octets between two flags are judged to be, where they end in their check.
-use Rattle.model_card.proofs.OfPorts.Vocabulary.{◌≡◌, ℕ, ◌+◌, ◌-◌, ◌/◌, ◌%◌, ◌^◌, ◌<◌, ◌≤◌, Bool, true, false, not, ◌&&◌, List, [], ◌∷◌, ◌++◌, length, take, None, Some, cond, nat_eq, nat_lt, slice_index, refl, ap, sym, ◌∙◌, subst, arith, ⊎_elim, length-append, take_at, le-ltb, lt-ltb, ltb-true, ne_eqb, or_from, and_left, cases_lt, All-nil, All-cons, All-append, bits, number_of, stuffed, octets_sent, AreOctets, check, is_good, is_short, judged, gap_event, room_for, frame_text, bits-append, bits-two_octets, low_bits-number_of_n, number_of-lt, octets_sent-stuffed, length-check, is_good-check, check_octets, is_too_short, came, checked}
+use Rattle.model_card.proofs.OfPorts.Vocabulary.{◌≡◌, ℕ, ◌+◌, ◌-◌, ◌/◌, ◌%◌, ◌≤◌, Bool, true, false, not, ◌&&◌, List, [], ◌∷◌, ◌++◌, length, take, cond, nat_eq, nat_lt, slice_index, refl, ap, sym, ◌∙◌, arith, length-append, take_at, le-ltb, lt-ltb, ltb-true, ne_eqb, or_from, and_left, cases_lt, bits, number_of, stuffed, octets_sent, AreOctets, check, is_good, is_short, judged, gap_event, room_for, frame_text, octets_sent-stuffed, is_good-check, is_too_short, came, checked}
+use Rattle.model_bits.proofs.RoundTripFrame.{AreOctets-checked, bits-checked, gap_event_sent}
 use Rattle.model_bits.specs.Stream.{Event, frame, overlong, dropped}
-use Rattle.model_bits.specs.declared.heard.Cause.TheVariants.{Fcs, Ragged, Short}
-
-bits-checked : (octets : List ℕ) → bits (checked octets) ≡ bits octets ++ check (bits octets)
-bits-checked octets =
-    let c = check (bits octets) in
-    bits-append octets (check_octets octets)
-    ∙ ap (λ l. bits octets ++ l) (bits-two_octets (number_of c) ∙ low_bits-number_of_n 16 c (length-check (bits octets)))
-
-two_octets : (x : ℕ) → x < 65536 → AreOctets (x % 256 ∷ x / 256 ∷ [])
-two_octets x h =
-    All-cons (λ y. y < 256) (x % 256) (x / 256 ∷ []) (omega arith)
-    (All-cons (λ y. y < 256) (x / 256) [] (omega arith) (All-nil (λ y. y < 256)))
-
-AreOctets-checked : (octets : List ℕ) → AreOctets octets → AreOctets (checked octets)
-AreOctets-checked octets h =
-    let c = check (bits octets) in
-    let small : number_of c < 65536 = subst (λ n. number_of c < 2 ^ n) (length-check (bits octets)) (number_of-lt c) in
-    All-append (λ x. x < 256) octets (check_octets octets) h (two_octets (number_of c) small)
+use Rattle.model_bits.specs.declared.heard.Cause.TheVariants.{Fcs, Short}
 
 -- four octets are not too short
 four_are_enough : (a b c d : ℕ) (more : List ℕ) → is_too_short (a ∷ b ∷ c ∷ d ∷ more) ≡ false
-four_are_enough a b c d more =
-    let octets = a ∷ b ∷ c ∷ d ∷ more in
-    let three = nat_eq (length octets) 3 in
-    let other = not (nat_eq (c % 4) 3) in
-    or_from (nat_lt (length octets) 3) (three && other) (le-ltb (length octets) 3 (omega arith))
-    (and_left three other (ne_eqb (length octets) 3 (λ e. omega (arith, e))))
+four_are_enough a b c d more = grind (arith, nat_eq, or_from, nat_lt, le-ltb, and_left, ne_eqb)
 
 -- too short with the check is too short without
 short_with : (octets : List ℕ) (x y : ℕ) → is_short (octets ++ x ∷ y ∷ []) ≡ is_too_short octets
@@ -43,23 +22,16 @@ short_with short x y = refl
 
 -- the same first four octets
 four_with : (octets : List ℕ) (x y : ℕ) → 4 ≤ length octets → take 4 (octets ++ x ∷ y ∷ []) ≡ take 4 octets
-four_with (a ∷ b ∷ c ∷ d ∷ more) x y h = refl
-four_with short x y h = absurd (omega arith)
+four_with octets x y h = grind arith
 
 -- too long with the check is too long without
 long_with : (n201 m k : ℕ) → m ≡ k + 2 → nat_lt (n201 + 6) m ≡ nat_lt (n201 + 4) k
-long_with n201 m k e =
-    ⊎_elim
-    (λ long. lt-ltb (n201 + 6) m (omega (arith, long, e)) ∙ sym (lt-ltb (n201 + 4) k long))
-    (λ fits. le-ltb (n201 + 6) m (omega (arith, fits, e)) ∙ sym (le-ltb (n201 + 4) k fits))
-    (cases_lt (n201 + 4) k)
+long_with n201 m k e = grind (arith, lt-ltb, le-ltb, cases_lt)
 
 -- three tests, of which the second holds, are the two others
 two_tests : (s s' g l l' : Bool) (a b c d c' d' : Event) → s ≡ s' → g ≡ true → l ≡ l' → (l' ≡ true → c ≡ c') → d ≡ d'
     → cond s a (cond (not g) b (cond l c d)) ≡ cond s' a (cond l' c' d')
-two_tests s true g l l' a b c d c' d' p q r f e = rw p refl
-two_tests s false g l true a b c d c' d' p q r f e = rw (p, q, r) (f refl)
-two_tests s false g l false a b c d c' d' p q r f e = rw (p, q, r) e
+two_tests s s' g l l' a b c d c' d' p q r f e = grind arith
 
 judged_with : (n201 : ℕ) (octets : List ℕ) (x y : ℕ) → is_good (bits (octets ++ x ∷ y ∷ [])) ≡ true → judged (room_for n201) (octets ++ x ∷ y ∷ []) ≡ came n201 octets
 judged_with n201 octets x y good =
@@ -71,9 +43,6 @@ judged_with n201 octets x y good =
     (short_with octets x y) good (long_with n201 (length whole) (length octets) size)
     (λ long. ap overlong (four_with octets x y (omega (arith, ltb-true (n201 + 4) (length octets) long))))
     (ap (λ l. frame l) (take_at octets (x ∷ y ∷ []) (length whole - 2) cut))
-
-gap_event_sent : (room : ℕ) (text : List Bool) (octets : List ℕ) → octets_sent text ≡ Some octets → gap_event room text ≡ judged room octets
-gap_event_sent room text octets e = ap (λ o. elim o [ None ↦ dropped Ragged | Some l ↦ judged room l ]) e
 
 -- what a frame's text is heard as between flags
 pub gap_event_came : (n201 : ℕ) (octets : List ℕ) → AreOctets octets → gap_event (room_for n201) (frame_text octets) ≡ came n201 octets

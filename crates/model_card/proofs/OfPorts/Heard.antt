@@ -1,11 +1,10 @@
 -- What is counted of all that is heard in the octets of a card is what is counted of the events that they mean.
-use Rattle.model_card.proofs.OfPorts.Vocabulary.{◌≡◌, ℕ, ◌+◌, ◌<◌, Bool, false, List, [], ◌∷◌, ◌++◌, length, Option, None, Some, option_map, option_to_list, refl, ap, sym, ◌∙◌, subst, cond, arith, All, All-head, All-tail, count_by, sum_by, sum_by-append, sum_by-set, Config, Card, Event, OctetCard, Port, after, after_all, fresh_port, meant, meant_all, port_at, said}
+use Rattle.model_card.proofs.OfPorts.Vocabulary.{◌≡◌, ℕ, ◌+◌, ◌<◌, Bool, false, List, [], ◌∷◌, ◌++◌, length, Option, option_map, option_to_list, ap, sym, ◌∙◌, subst, cond, arith, All, All-head, All-tail, count_by, sum_by, sum_by-append, sum_by-set, Config, Card, Event, OctetCard, Port, after, after_all, meant, meant_all}
 use Rattle.model_bits.specs.Stream as stream
 use Rattle.model_line.specs.Event as line
 use Rattle.model_card.specs.Event as frames
 use Rattle.model_card.specs.Run as runs
 unfoldable use Rattle.model_card.specs.Run.{moments as frame_moments}
-use Rattle.model_card.specs.ports.Port as port
 use Rattle.model_card.proofs.OfPorts.Codec.{own_port, stepped}
 use Rattle.model_card.proofs.OfPorts.PortGoesOn.{heard_in_meaning}
 use Rattle.model_card.proofs.OfPorts.Steps.{config_after, moments-append, ports_after}
@@ -34,25 +33,14 @@ module _ (p : stream.Event → Bool) (q : line.Event → Bool) (h : IsOfHeard p 
   meant_counted : (card : Card) (number : ℕ) (o : Option line.Event)
       → count_by (is_counted q) (runs.moments card (option_to_list (option_map (frames.at number) o))) ≡ count_by p (heard_in_meaning o)
   unfolding frame_moments
-  meant_counted card number None = refl
-  meant_counted card number (Some (line.hears e)) = counted (q (line.hears e)) (p e) (h.hears e)
-  meant_counted card number (Some (line.expiry timer)) = counted (q (line.expiry timer)) false (h.expiry timer)
-  meant_counted card number (Some (line.request r)) = counted (q (line.request r)) false (h.request r)
-  meant_counted card number (Some line.next) = counted (q line.next) false h.next
+  meant_counted card number o = grind (arith, counted)
 
   -- one event of a card
   event_counted : (m : OctetCard) (e : Event) → e.line < length m.ports
       → in_ports p m.card.config.n201 (after e m).ports
       ≡ in_ports p m.card.config.n201 m.ports + count_by (is_counted q) (runs.moments m.card (option_to_list (meant e m)))
   unfolding after meant
-  event_counted m e within =
-      let n201 = m.card.config.n201 in
-      let x = port_at e.line m in
-      let o = port.meant n201 e.what x in
-      let y = port.after e.what (said e m) x in
-      let own : in_port p n201 y ≡ in_port p n201 x + count_by p (heard_in_meaning o) =
-      ap (count_by p) (own_port m e).heard ∙ sum_by-append (λ z. cond (p z) 1 0) (stream.heard_in n201 x.received) (heard_in_meaning o) in
-      omega (arith, own, meant_counted m.card e.line o, sum_by-set (in_port p n201) m.ports e.line y fresh_port within)
+  event_counted m e within = grind (arith, heard_in_meaning, own_port, sum_by-append, meant_counted, sum_by-set)
 
   -- a run
   pub run_counted : (n201 : ℕ) (m : OctetCard) (events : List Event) → m.card.config.n201 ≡ n201 → All (λ (e : Event). e.line < length m.ports) events

@@ -1,8 +1,7 @@
 -- What is heard in bits are octets, and so is what a card of octets hears.
-use Rattle.model_card.proofs.OfPorts.Vocabulary.{◌≡◌, ℕ, ◌<◌, ◌-◌, Bool, true, false, not, ◌&&◌, ◌||◌, cond, nat_lt, List, [], ◌∷◌, ◌++◌, length, drop, reverse, Option, Some, None, option_map, option_and_then, option_to_list, refl, subst, All, All-nil, All-cons, All-append, All-tail, All-head, All-take, bits, octets_sent, octets_are_those_sent, judged_as, AreOctets, Port, after, gained, is_due, meant, meant_all, octet, port_at, pull}
+use Rattle.model_card.proofs.OfPorts.Vocabulary.{arith, ◌≡◌, ℕ, ◌<◌, ◌-◌, Bool, true, false, ◌||◌, cond, nat_lt, List, [], ◌∷◌, ◌++◌, length, drop, reverse, Option, Some, None, option_map, option_and_then, option_to_list, subst, All, All-nil, All-cons, All-append, All-tail, All-head, All-take, bits, octets_sent, octets_are_those_sent, judged_as, AreOctets, Port, after, gained, meant, meant_all, octet, port_at}
 use Rattle.model_bits.specs.Stream as stream
-use Rattle.model_bits.specs.Stream.{ends_flag, ends_abort, has_abort, since_flag, text_event, gap_event, closed_by_flag, given_up, heard_at, heard_until, heard_in, room_for}
-use Rattle.model_bits.specs.declared.heard.Cause.TheVariants.{Abort}
+use Rattle.model_bits.specs.Stream.{ends_flag, has_abort, since_flag, text_event, gap_event, closed_by_flag, given_up, heard_at, heard_until, heard_in, room_for}
 use Rattle.model_line.specs.Event as line
 use Rattle.model_card.specs.Event as frames
 use Rattle.model_card.specs.ports.HeardOctets.{HasOctets, HearsOctets, HeardFramesAreOctets}
@@ -24,15 +23,10 @@ closed_octets : (room : ℕ) (g : List Bool) → All HasOctets (option_to_list (
 closed_octets room g = go (nat_lt (length g) 8 || has_abort g)
   where
     go : (b : Bool) → All HasOctets (option_to_list (cond b None (Some (gap_event room (reverse (drop 7 g))))))
-    go true = All-nil HasOctets
-    go false = All-cons HasOctets _ [] (text_octets room (reverse (drop 7 g)) (octets_sent (reverse (drop 7 g))) refl) (All-nil HasOctets)
+    go b = grind (arith, text_octets)
 
 given_up_octets : (g : List Bool) → All HasOctets (option_to_list (given_up g))
-given_up_octets g = go (ends_abort g && not (has_abort (drop 1 g)) && nat_lt 7 (length g))
-  where
-    go : (b : Bool) → All HasOctets (option_to_list (cond b (Some (stream.dropped Abort)) None))
-    go true = All-cons HasOctets _ [] tt (All-nil HasOctets)
-    go false = All-nil HasOctets
+given_up_octets g = grind (arith, nat_lt, option_to_list)
 
 -- what a bit brings
 at_octets : (room : ℕ) (b : Bool) (flag : Bool) (o : Option (List Bool))
@@ -71,14 +65,10 @@ hears_octets number None all = All-nil Hears
 hears_octets number (Some e) all = All-cons Hears (frames.at number (line.hears e)) [] (All-head HasOctets e [] all) (All-nil Hears)
 
 asks_next : (number : ℕ) (due : Bool) → All Hears (option_to_list (option_map (frames.at number) (cond due (Some line.next) None)))
-asks_next number true = All-cons Hears (frames.at number line.next) [] tt (All-nil Hears)
-asks_next number false = All-nil Hears
+asks_next number due = grind arith
 
 meaning_octets : (n201 number : ℕ) (e : port.Event) (p : Port) → All Hears (option_to_list (option_map (frames.at number) (port.meant n201 e p)))
-meaning_octets n201 number (octet value) p = hears_octets number (gained n201 p.received value) (gained_octets n201 p.received value)
-meaning_octets n201 number (port.expiry timer) p = All-cons Hears (frames.at number (line.expiry timer)) [] tt (All-nil Hears)
-meaning_octets n201 number (port.request r) p = All-cons Hears (frames.at number (line.request r)) [] tt (All-nil Hears)
-meaning_octets n201 number pull p = asks_next number (is_due p)
+meaning_octets n201 number e p = grind (arith, hears_octets, gained_octets, asks_next)
 
 pub heard_frames_are_octets : HeardFramesAreOctets
 unfolding meant meant_all

@@ -1,5 +1,5 @@
 -- What a card of octets does at one line, beside what happens at the others.
-use Rattle.model_card.proofs.OfPorts.Vocabulary.{◌≡◌, ◌≢◌, ◌==◌, ℕ, ◌<◌, Bool, true, false, not, ◌&&◌, List, [], ◌∷◌, length, get_or, set, Option, None, Some, option_map, option_map_or, refl, ap, sym, ◌∙◌, subst, cond, arith, true≢false, eqb-true, eq-eqb, length-set, length-replicate, get_or-set_same, get_or-set_other, filter, map, All-head, All-tail, Config, Card, Answer, AreAtLines, Event, IsAtLine, LinesIsolated, Moment, OctetCard, Port, after, answer, answer_of, answer_to, card_after, fresh, fresh_port, gained, is_due, meant, moments, octet, port_at, pull, said}
+use Rattle.model_card.proofs.OfPorts.Vocabulary.{◌≡◌, ◌==◌, ℕ, ◌<◌, Bool, true, false, not, ◌&&◌, List, [], ◌∷◌, length, get_or, set, Option, None, Some, option_map, option_map_or, refl, ap, sym, ◌∙◌, subst, cond, arith, eqb-true, eq-eqb, length-set, length-replicate, get_or-set_same, get_or-set_other, filter, map, All-head, All-tail, Card, Answer, AreAtLines, Event, IsAtLine, LinesIsolated, Moment, OctetCard, Port, after, answer, answer_of, answer_to, card_after, fresh, fresh_port, meant, moments, port_at, said}
 use Rattle.model_bits.specs.Stream as stream
 use Rattle.model_line.specs.Counts as line_counts
 use Rattle.model_line.specs.Event as line
@@ -29,31 +29,17 @@ unfolding line_answer takes_slot
 never_full card number = record { hears = λ e. refl; next = refl }
 
 answer_full : (a : line.Answer) → is_pool_full (answer_of a) ≡ line_counts.is_pool_full a
-answer_full (line.told t) = refl
-answer_full (line.refused why) = refl
-answer_full (line.gave next) = refl
+answer_full a = grind arith
 
 none_full : (e : port.Event) (p : Port) → is_pool_full (port.answer e None p) ≡ false
-none_full pull p = refl
-none_full other p = refl
+none_full e p = grind arith
 
 -- What an event means: nothing; or something that finds the pool full where the answer says so, and then leaves the port.
 by_meaning : (n201 : ℕ) (e : port.Event) (p : Port) (ask : line.Event → line.Answer) → IsNeverFull ask → (P : Option line.Event → Type 0) → P None
     → ((f : line.Event) → is_pool_full (port.answer e (Some (ask f)) p) ≡ line_counts.is_pool_full (ask f)
     → (line_counts.is_pool_full (ask f) ≡ true → port.after e (Some (ask f)) p ≡ p) → P (Some f))
     → P (port.meant n201 e p)
-by_meaning n201 (octet value) p ask h P none some = go (gained n201 p.received value)
-  where
-    go : (o : Option stream.Event) → P (option_map line.hears o)
-    go None = none
-    go (Some e) = some (line.hears e) (answer_full (ask (line.hears e))) (λ full. absurd (true≢false (sym full ∙ h.hears e)))
-by_meaning n201 (port.expiry timer) p ask h P none some = some (line.expiry timer) (answer_full (ask (line.expiry timer))) (λ full. refl)
-by_meaning n201 (port.request r) p ask h P none some = some (line.request r) (answer_full (ask (line.request r))) (λ full. refl)
-by_meaning n201 pull p ask h P none some = go (is_due p)
-  where
-    go : (due : Bool) → P (cond due (Some line.next) None)
-    go false = none
-    go true = some line.next (sym h.next) (λ full. absurd (true≢false (sym full ∙ h.next)))
+by_meaning n201 e p ask h P none some = grind (arith, option_map, answer_full)
 
 -- ---- a card on which only the events at one line happened
 
@@ -179,23 +165,14 @@ line_elsewhere card number n (Some f) ls h within other a =
 elsewhere_goes : (number : ℕ) (m : OctetCard) (e : Event) (ls : List Line) (ps : List Port) → HasLines m.card → IsAtLine m e → (e.line == number) ≡ false
     → IsAloneAt number m ls ps → IsAloneAt number (after e m) ls ps
 unfolding after meant
-elsewhere_goes number m e ls ps h within other a =
-    let apart : number ≢ e.line = λ same. true≢false (sym (eq-eqb e.line number (sym same)) ∙ other) in
-    record {
-      line = line_elsewhere m.card number e.line (port.meant m.card.config.n201 e.what (port_at e.line m)) ls h within other a.line;
-      inside = a.inside;
-      port = a.port ∙ sym (get_or-set_other m.ports e.line number (port.after e.what (said e m) (port_at e.line m)) fresh_port apart);
-    }
+elsewhere_goes number m e ls ps h within other a = grind (arith, eq-eqb, line_elsewhere, get_or-set_other)
 
 moment_goes : (number : ℕ) (m : OctetCard) (e : Event) (ls : List Line) (ps : List Port) → HasLines m.card → IsAtLine m e → number < length m.ports → IsAloneAt number m ls ps
     → Goes number e m ls ps (after e m) (answer e m) ((e.line == number) && not (is_pool_full (answer e m)))
 moment_goes number m e ls ps h within few a = go (e.line == number) refl
   where
     go : (b : Bool) → (e.line == number) ≡ b → Goes number e m ls ps (after e m) (answer e m) (b && not (is_pool_full (answer e m)))
-    go false other = elsewhere_goes number m e ls ps h within other a
-    go true same =
-        subst (λ n. n < length m.ports → IsAloneAt n m ls ps → Goes n e m ls ps (after e m) (answer e m) (not (is_pool_full (answer e m))))
-        (eqb-true e.line number same) (own_goes m e ls ps h within) few a
+    go b other = grind (arith, elsewhere_goes, eqb-true, own_goes)
 
 -- ---- lists of events
 
@@ -225,9 +202,7 @@ isolated number (e ∷ events) m ls ps h all few a =
     now = record { card = m; event = e; answer = answer e m }
 
     stays : map answer_in (moments (lone (after e m) ls ps) (map event_in rest)) ≡ map answer_in (moments (lone m ls ps) (map event_in rest))
-    stays =
-        ap (λ (c : Config). map answer_in (moments (record { card = record { config = c; lines = ls }; ports = ps }) (map event_in rest)))
-        (config_after m e)
+    stays = grind (arith, rest, config_after)
 
     go : (at full : Bool) → (e.line == number) ≡ at → Goes number e m ls ps (after e m) (answer e m) (at && not full)
         → ((next : List Line) (ports : List Port) → IsAloneAt number (after e m) next ports

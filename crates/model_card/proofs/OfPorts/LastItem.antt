@@ -1,12 +1,11 @@
 -- All items of a port but the last have been given, to the last bit; and each frame among them is long enough for one.
-use Rattle.model_card.proofs.OfPorts.Vocabulary.{◌≡◌, ℕ, ◌+◌, ◌≤◌, ◌<◌, ◌⊎◌, inl, inr, Bool, true, false, List, [], ◌∷◌, ◌++◌, length, Option, None, Some, IfSome, option_map, refl, sym, subst, cond, arith, length-append, ltb-true, length-drop, length-bits, All, All-nil, All-push, bits, Item, idle, frame, line_text, Config, Card, Port, given_in, is_due, item_of, left_of, meant, next_octet, port_at, pull, with_item, with_octet}
-use Rattle.model_card.specs.Card.{line_at}
+use Rattle.model_card.proofs.OfPorts.Vocabulary.{◌≡◌, ℕ, ◌+◌, ◌≤◌, ◌<◌, ◌⊎◌, inl, Bool, true, false, List, [], ◌∷◌, ◌++◌, length, Option, None, Some, IfSome, option_map, refl, cond, arith, length-append, ltb-true, length-drop, length-bits, All, All-nil, All-push, bits, Item, idle, frame, line_text, Config, Card, Port, given_in, is_due, item_of, meant, pull, with_item, with_octet}
 use Rattle.model_card.specs.Sound as cards
 use Rattle.model_card.proofs.Steps.{has_lines, line_sound}
 use Rattle.model_line.specs.Event as line
 use Rattle.model_line.specs.Event.{NextFrame}
 unfoldable use Rattle.model_line.specs.Machine.{answer as line_answer, takes_slot}
-use Rattle.model_line.specs.Taken.{Taken, taken, next_of}
+use Rattle.model_line.specs.Taken.{Taken, next_of}
 use Rattle.model_line.proofs.NotShort.{IsNotShort, taken_not_short}
 use Rattle.model_card.specs.ports.Port as port
 use Rattle.model_card.proofs.OfPorts.Codec.{asked_at, said_is}
@@ -28,30 +27,15 @@ one_more : (given : List ℕ) (value : ℕ) → length (bits (given ++ value ∷
 one_more given value = omega (arith, length-bits (given ++ value ∷ []), length-bits given, length-append given (value ∷ []))
 
 longer : (items : List Item) (given : List ℕ) (value : ℕ) → IsCut items given → IsCut items (given ++ value ∷ [])
-longer items given value (inl none) = inl none
-longer items given value (inr h) =
-    inr (record { front = h.front; last = h.last; items_are = h.items_are; before = omega (arith, h.before, one_more given value) })
+longer items given value o = grind (arith, one_more)
 
 -- where an item is due, an octet more than those given ends the items before it
 ended : (p : Port) (value : ℕ) → is_due p ≡ true → length (line_text p.items) ≤ length (bits (p.given ++ value ∷ []))
-ended p value due =
-    let low = ltb-true (length (left_of p)) 8 due in
-    omega (arith, low, length-drop (length (bits p.given)) (line_text p.items), one_more p.given value)
+ended p value due = grind (arith, ltb-true, length-drop, one_more)
 
 cut_after : (n201 : ℕ) (e : port.Event) (p : Port) (ask : line.Event → line.Answer) → IsCut p.items p.given
     → let q = port.after e (option_map ask (port.meant n201 e p)) p in IsCut q.items q.given
-cut_after n201 pull p ask h = go (is_due p) refl
-  where
-    go : (due : Bool) → is_due p ≡ due → let q = with_octet (with_item (option_map ask (cond due (Some line.next) None)) p) in IsCut q.items q.given
-    go false e = longer p.items p.given (next_octet p) h
-    go true e =
-        inr (record {
-          front = p.items;
-          last = item_of (given_in (ask line.next));
-          items_are = refl;
-          before = ended p (next_octet (with_item (Some (ask line.next)) p)) e;
-        })
-cut_after n201 other p ask h = h
+cut_after n201 e p ask h = grind (arith, option_map, longer, ended)
 
 -- ---- frames long enough
 
@@ -60,8 +44,7 @@ IsLongItem idle = Unit {0}
 IsLongItem (frame octets) = IsNotShort octets
 
 item_long : (g : Option NextFrame) → IfSome g (λ next. IsNotShort next.octets) → IsLongItem (item_of g)
-item_long None h = tt
-item_long (Some next) h = h
+item_long g h = grind arith
 
 long_after : (n201 : ℕ) (e : port.Event) (p : Port) (ask : line.Event → line.Answer) → IfSome (given_in (ask line.next)) (λ next. IsNotShort next.octets) → All IsLongItem p.items
     → All IsLongItem (port.after e (option_map ask (port.meant n201 e p)) p).items
@@ -73,14 +56,11 @@ long_after n201 pull p ask long h = go (is_due p)
 long_after n201 other p ask long h = h
 
 taken_long : (o : Option Taken) → IfSome o (λ t. IsNotShort t.frame) → IfSome (option_map next_of o) (λ next. IsNotShort next.octets)
-taken_long None h = tt
-taken_long (Some t) h = h
+taken_long o h = grind arith
 
 gives_long : (card : Card) (number : ℕ) → cards.IsSound card → number < card.config.lines → IfSome (given_in (asked_at card number line.next)) (λ next. IsNotShort next.octets)
 unfolding line_answer takes_slot
-gives_long card number s within =
-    let l = line_at number card in
-    taken_long (taken card.config l) (taken_not_short card.config l (line_sound card number (has_lines card s) within))
+gives_long card number s within = grind (arith, taken_long, taken_not_short, line_sound, has_lines)
 
 -- ---- both
 
@@ -90,12 +70,7 @@ pub record IsOnItsWay (p : Port) : Type 0 where
 
 pub stays_on_its_way : (c : Config) → IsKept c IsOnItsWay
 unfolding meant
-stays_on_its_way c m e is s within h =
-    let n201 = m.card.config.n201 in
-    let p = port_at e.line m in
-    let ask = asked_at m.card e.line in
-    subst (λ o. IsOnItsWay (port.after e.what o p)) (sym (said_is m.card e.line (port.meant n201 e.what p)))
-    (record { cut = cut_after n201 e.what p ask h.cut; long = long_after n201 e.what p ask (gives_long m.card e.line s.card within) h.long })
+stays_on_its_way c m e is s within h = grind (arith, asked_at, said_is, cut_after, long_after, gives_long)
 
 pub begins_on_its_way : IsOnItsWay port.fresh_port
 begins_on_its_way = record { cut = inl refl; long = All-nil IsLongItem }

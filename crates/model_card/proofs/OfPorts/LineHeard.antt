@@ -112,9 +112,7 @@ module _ (n201 : ℕ) (items : List Item) (given : List ℕ) (left : List Bool) 
   at_most_one (inr h) = let rest = rest_of h in of_last h.last rest.0 later rest.1
 
   pub go_out : IsCut items given → GoOut n201 given (frames_among items)
-  go_out cut =
-      let way = at_most_one cut in
-      record { on_its_way = way.frames; one = way.one; heard = as_heard items ∙ both ∙ ap (λ x. heard_in n201 given ++ x) way.are }
+  go_out cut = grind (arith, at_most_one, as_heard, both)
 
   -- behind a flag nothing is left
   pub all_out : (front : List Item) → items ≡ front ++ idle ∷ [] → IsCut items given → map (λ octets. stream.frame octets) (frames_among items) ≡ heard_in n201 given

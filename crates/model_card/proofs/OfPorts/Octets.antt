@@ -1,5 +1,5 @@
 -- Frames that are heard take their octets of the stream.
-use Rattle.model_card.proofs.OfPorts.Vocabulary.{◌≡◌, ℕ, ◌+◌, ◌*◌, ◌-◌, ◌≤◌, Bool, true, false, List, [], ◌∷◌, length, take, nat_le, refl, cond, arith, count_by, sum_by, leb-true, length-take-le, sum_by-cons, room_for, IsWeight, weight_of_heard, judged_as, is_frame, is_long_frame}
+use Rattle.model_card.proofs.OfPorts.Vocabulary.{◌≡◌, ℕ, ◌+◌, ◌*◌, ◌-◌, ◌≤◌, Bool, List, [], ◌∷◌, length, nat_le, cond, arith, count_by, sum_by, leb-true, length-take-le, sum_by-cons, room_for, IsWeight, weight_of_heard, judged_as, is_frame, is_long_frame}
 use Rattle.model_bits.specs.Stream as stream
 use Rattle.model_bits.specs.Stream.{Event}
 
@@ -9,29 +9,13 @@ scaled_sum p n (e ∷ es) =
     rw (sum_by-cons (λ x. cond (p x) 1 0) e es, sum_by-cons (λ x. cond (p x) n 0) e es) (go (p e) (scaled_sum p n es))
   where
     go : (b : Bool) → n * count_by p es ≡ sum_by (λ x. cond (p x) n 0) es → n * (cond b 1 0 + count_by p es) ≡ cond b n 0 + sum_by (λ x. cond (p x) n 0) es
-    go true rest = omega (arith, rest)
-    go false rest = omega (arith, rest)
+    go b rest = grind arith
 
 frame_weight : (n201 : ℕ) → IsWeight (room_for n201) (λ e. cond (is_frame e) 6 0)
-frame_weight n201 = record {
-  free = λ cause. refl;
-  within = λ octets. judged_as (λ e. cond (is_frame e) 6 0 ≤ length octets + 1) (room_for n201) octets
-      (λ cause. omega arith) (λ five long. omega (arith, long)) (λ five. omega (arith, five));
-}
+frame_weight n201 = grind (arith, judged_as)
 
 long_weight : (n201 : ℕ) → IsWeight (room_for n201) (λ e. cond (is_long_frame e) 7 0)
-long_weight n201 = record {
-  free = λ cause. refl;
-  within = λ octets. judged_as (λ e. cond (is_long_frame e) 7 0 ≤ length octets + 1) (room_for n201) octets
-      (λ cause. omega arith) (λ five long. omega (arith, long))
-      (λ five. frame_long octets five (nat_le 4 (length (take (length octets - 2) octets))) refl);
-}
-  where
-    frame_long : (octets : List ℕ) → 5 ≤ length octets → (b : Bool) → nat_le 4 (length (take (length octets - 2) octets)) ≡ b → cond b 7 0 ≤ length octets + 1
-    frame_long octets five true e =
-        let four = leb-true 4 (length (take (length octets - 2) octets)) e in
-        omega (arith, four, length-take-le (length octets - 2) octets (omega arith))
-    frame_long octets five false e = omega arith
+long_weight n201 = grind (arith, judged_as, nat_le, leb-true, length-take-le)
 
 pub frames_within : (n201 : ℕ) (octets : List ℕ) → 6 * count_by is_frame (stream.heard_in n201 octets) ≤ length octets
 frames_within n201 octets =

@@ -1,5 +1,5 @@
 -- A port goes on with each event of its line.
-use Rattle.model_card.proofs.OfPorts.Vocabulary.{◌≡◌, ℕ, Bool, true, false, List, [], ◌∷◌, ◌++◌, length, flat_map, Option, None, Some, option_map, option_map_or, option_to_list, refl, ap, sym, ◌∙◌, cond, append-nil, append_assoc, ltb-false, Item, idle, frame, Port, octet, pull, told, answer_of, gained, given_in, is_due, item_of, left_of, next_octet, with_item, with_octet, GoesOn, IsTextOf, frames_among, heard_by, octet_come, octet_pulled, octets_of}
+use Rattle.model_card.proofs.OfPorts.Vocabulary.{arith, ◌≡◌, ℕ, Bool, true, false, List, [], ◌∷◌, ◌++◌, length, flat_map, Option, None, Some, option_map, option_map_or, option_to_list, refl, ap, sym, ◌∙◌, cond, append-nil, append_assoc, ltb-false, Item, idle, frame, Port, octet, pull, told, answer_of, given_in, is_due, item_of, left_of, next_octet, with_item, with_octet, GoesOn, IsTextOf, frames_among, heard_by, octet_come, octet_pulled, octets_of}
 use Rattle.model_bits.specs.Stream as stream
 use Rattle.model_line.specs.Event as line
 use Rattle.model_line.specs.Event.{NextFrame, nothing}
@@ -32,51 +32,27 @@ GoesOnBy n201 e p ask =
 
 -- what is told gives no octet
 quiet : (o : Option line.Answer) → octet_pulled (option_map_or answer_of o (told nothing)) ≡ []
-quiet None = refl
-quiet (Some (line.told t)) = refl
-quiet (Some (line.refused why)) = refl
-quiet (Some (line.gave next)) = refl
+quiet o = grind arith
 
 heard_gained : (o : Option stream.Event) → heard_in_meaning (option_map line.hears o) ≡ option_to_list o
-heard_gained None = refl
-heard_gained (Some e) = refl
+heard_gained o = grind arith
 
 given_gained : (ask : line.Event → line.Answer) → GivesAtNext ask → (o : Option stream.Event) → given_in_meaning ask (option_map line.hears o) ≡ []
-given_gained ask h None = refl
-given_gained ask h (Some e) = ap (λ g. option_to_list (option_map octets_of g) ++ []) (h.hears e)
+given_gained ask h o = grind (arith, option_to_list, option_map)
 
 -- an event that leaves the port
 stays_by : (n201 : ℕ) (p : Port) (pulled : List ℕ) (given : List (List ℕ)) → pulled ≡ [] → given ≡ [] → GoesOn n201 p p [] [] pulled given
-stays_by n201 p pulled given no_octet no_frame = record {
-  received = sym (append-nil p.received);
-  heard = sym (append-nil (stream.heard_in n201 p.received));
-  items = [];
-  put = sym (append-nil p.items);
-  given = sym (append-nil p.given) ∙ ap (λ l. p.given ++ l) (sym no_octet);
-  frames = sym no_frame;
-  text = λ h. h;
-}
+stays_by n201 p pulled given no_octet no_frame = grind (arith, append-nil)
 
 pub stays : (n201 : ℕ) (p : Port) → GoesOn n201 p p [] [] [] []
 stays n201 p = stays_by n201 p [] [] refl refl
 
 octet_goes_on : (n201 value : ℕ) (p : Port) (ask : line.Event → line.Answer) → GivesAtNext ask → GoesOnBy n201 (octet value) p ask
-octet_goes_on n201 value p ask h =
-    let g = gained n201 p.received value in
-    record {
-      received = refl;
-      heard = heard_with n201 p.received value ∙ ap (λ l. stream.heard_in n201 p.received ++ l) (sym (heard_gained g));
-      items = [];
-      put = sym (append-nil p.items);
-      given = sym (append-nil p.given) ∙ ap (λ l. p.given ++ l) (sym (quiet (option_map ask (option_map line.hears g))));
-      frames = sym (given_gained ask h g);
-      text = λ t. record { text = t.text };
-    }
+octet_goes_on n201 value p ask h = grind (arith, heard_with, heard_gained, append-nil, quiet, option_map, given_gained)
 
 -- the frame among what a call for the next frame puts on the line
 frames_put : (g : Option NextFrame) → frames_among (item_of g ∷ []) ≡ option_to_list (option_map octets_of g) ++ []
-frames_put None = refl
-frames_put (Some next) = refl
+frames_put g = grind arith
 
 pub ready_where : (p : Port) → IsTextOf p → is_due p ≡ false → IsReady p
 ready_where p h e = record { text = h.text; enough = ltb-false (length (left_of p)) 8 e }

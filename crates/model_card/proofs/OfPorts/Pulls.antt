@@ -1,6 +1,5 @@
 -- Pulls of a line are calls for its next frame, and by them the bits that are left of it run out.
-use Rattle.model_card.proofs.OfPorts.Vocabulary.{◌≡◌, ◌==◌, ◌&&◌, ℕ, ◌+◌, ◌*◌, ◌/◌, ◌<◌, ◌≤◌, ◌⊎◌, Bool, true, false, List, [], ◌∷◌, ◌++◌, length, Option, None, Some, option_map, option_to_list, refl, sym, ap, subst, cond, arith, inl, inr, ⊎_elim, cases_lt, eqb-true, ltb-true, mul-le-mul_right, length-append, length-drop, length-bits, length-check, All, All-nil, All-cons, All-head, All-tail, All-append, bits, check, flag, stuffed, Item, idle, frame, frame_text, item_text, item_octets, Config, Event, IsSound, IsTextOf, IsAtLine, AreAtLines, OctetCard, Port, after, after_all, fresh, fresh_port, gained, given_in, is_due, item_of, left_of, meant, meant_all, octet, port_at, pull, said, with_item, with_octet}
-use Rattle.model_bits.specs.Stream as stream
+use Rattle.model_card.proofs.OfPorts.Vocabulary.{◌≡◌, ◌==◌, ◌&&◌, ℕ, ◌+◌, ◌*◌, ◌/◌, ◌<◌, ◌≤◌, ◌⊎◌, Bool, true, false, List, [], ◌∷◌, ◌++◌, length, Option, None, Some, option_map, option_to_list, refl, sym, ap, subst, cond, arith, inl, inr, cases_lt, eqb-true, ltb-true, mul-le-mul_right, length-append, length-drop, length-bits, length-check, All, All-nil, All-cons, All-head, All-tail, All-append, bits, stuffed, Item, item_text, item_octets, Config, Event, IsSound, IsTextOf, IsAtLine, AreAtLines, OctetCard, Port, after, after_all, fresh, fresh_port, given_in, is_due, item_of, left_of, meant, meant_all, port_at, pull, said, with_item, with_octet}
 use Rattle.model_line.specs.Event as line
 use Rattle.model_card.specs.Event as frames
 use Rattle.model_card.specs.ports.GoingOut.{OfEachLine}
@@ -23,21 +22,7 @@ one_take : (number n : ℕ) (f : line.Event) → (n ≡ number → f ≡ line.ne
 one_take number n f h = All-cons (IsTake number) (frames.at n f) [] h (All-nil (IsTake number))
 
 meaning_takes : (number n n201 : ℕ) (what : port.Event) (p : Port) → (n ≡ number → what ≡ pull) → All (IsTake number) (option_to_list (option_map (frames.at n) (port.meant n201 what p)))
-meaning_takes number n n201 (octet value) p h = go (gained n201 p.received value)
-  where
-    other : n ≡ number → octet value ≡ pull → ⊥
-    other is e = cc e
-
-    go : (o : Option stream.Event) → All (IsTake number) (option_to_list (option_map (frames.at n) (option_map line.hears o)))
-    go None = All-nil (IsTake number)
-    go (Some e) = one_take number n (line.hears e) (λ is. absurd (other is (h is)))
-meaning_takes number n n201 (port.expiry timer) p h = one_take number n (line.expiry timer) (λ is. let e : port.expiry timer ≡ pull = h is in absurd (cc e))
-meaning_takes number n n201 (port.request r) p h = one_take number n (line.request r) (λ is. let e : port.request r ≡ pull = h is in absurd (cc e))
-meaning_takes number n n201 pull p h = go (is_due p)
-  where
-    go : (due : Bool) → All (IsTake number) (option_to_list (option_map (frames.at n) (cond due (Some line.next) None)))
-    go true = one_take number n line.next (λ is. refl)
-    go false = All-nil (IsTake number)
+meaning_takes number n n201 what p h = grind (arith, option_to_list, option_map, one_take)
 
 only_takes : (m : OctetCard) (events : List Event) (number : ℕ) → ArePullsAt number events → AreTakesAt number (meant_all m events)
 unfolding meant meant_all
@@ -60,21 +45,10 @@ meant_count None = 0
 meant_count (Some f) = 1
 
 takes_where : (number n : ℕ) (o : Option line.Event) → takes_at number (option_to_list (option_map (frames.at n) o)) ≡ cond (n == number) (meant_count o) 0
-takes_where number n None = go (n == number)
-  where
-    go : (b : Bool) → 0 ≡ cond {A = ℕ} b 0 0
-    go true = refl
-    go false = refl
-takes_where number n (Some f) = go (n == number)
-  where
-    go : (b : Bool) → cond {A = ℕ} b 1 0 + 0 ≡ cond b 1 0
-    go true = refl
-    go false = refl
+takes_where number n o = grind arith
 
 one_at_most : (b : Bool) (o : Option line.Event) → cond b (meant_count o) 0 ≤ cond b 1 0
-one_at_most true None = omega arith
-one_at_most true (Some f) = omega arith
-one_at_most false o = omega arith
+one_at_most b o = grind arith
 
 few_takes : (m : OctetCard) (events : List Event) (number : ℕ) → takes_at number (meant_all m events) ≤ pulls_at number events
 unfolding meant meant_all
@@ -98,16 +72,7 @@ stuffed_longest (true ∷ true ∷ true ∷ true ∷ true ∷ b) = let more = st
 stuffed_longest (x ∷ b) = let more = stuffed_longest b in omega (arith, more)
 
 text_longest : (n201 : ℕ) (item : Item) → item_octets item ≤ n201 + 4 → length (item_text item) ≤ longest_text n201
-text_longest n201 idle few = omega arith
-text_longest n201 (frame octets) few =
-    let text : List Bool = bits octets ++ check (bits octets) in
-    let inner : 5 * length (stuffed text) ≤ 6 * length text = stuffed_longest text in
-    let size : length text ≡ length (bits octets) + length (check (bits octets)) = length-append (bits octets) (check (bits octets)) in
-    let eight : length (bits octets) ≡ 8 * length octets = length-bits octets in
-    let sixteen : length (check (bits octets)) ≡ 16 = length-check (bits octets) in
-    let whole : length (frame_text octets ++ flag) ≡ length (stuffed text) + 8 = length-append (frame_text octets) flag in
-    let short : length octets ≤ n201 + 4 = few in
-    omega (arith, short)
+text_longest n201 item few = grind (arith, stuffed_longest, length-append, length-bits, length-check)
 
 -- ---- a pull
 
@@ -144,8 +109,7 @@ take_count None = 0
 take_count (Some f) = cond (is_take f) 1 0
 
 call_counts : (due : Bool) → meant_count (cond due (Some line.next) None) ≡ take_count (cond due (Some line.next) None)
-call_counts true = refl
-call_counts false = refl
+call_counts due = grind arith
 
 -- A pull takes eight bits of those that are left and of the item that a call brings; other events take none, and bring none.
 abbrev Spent : ℕ → Port → Port → ℕ → ℕ → Type 0
@@ -163,28 +127,14 @@ own_spends : (m : OctetCard) (e : Event) → IsSound m → IsAtLine m e
     → Spent m.card.config.n201 (port_at e.line m) (port.after e.what (said e m) (port_at e.line m)) (cond (is_pull e.what) 1 0)
     (take_count (port.meant m.card.config.n201 e.what (port_at e.line m)))
 unfolding meant
-own_spends m e s within =
-    let n201 = m.card.config.n201 in
-    let p = port_at e.line m in
-    let o = port.meant n201 e.what p in
-    subst (λ said. Spent n201 p (port.after e.what said p) (cond (is_pull e.what) 1 0) (take_count o)) (sym (said_is m.card e.line o))
-    (port_spends n201 e.what p (asked_at m.card e.line) (gives_short m.card e.line s.card within) (port_sound m e.line s within).text)
+own_spends m e s within = grind (arith, said_is, port_spends, asked_at, gives_short, port_sound)
 
 calls-append : (number : ℕ) (a b : List frames.Event) → takes_of number (a ++ b) ≡ takes_of number a + takes_of number b
 calls-append number [] b = omega arith
 calls-append number (f ∷ a) b = omega (arith, calls-append number a b)
 
 calls_where : (number n : ℕ) (o : Option line.Event) → takes_of number (option_to_list (option_map (frames.at n) o)) ≡ cond (n == number) (take_count o) 0
-calls_where number n None = go (n == number)
-  where
-    go : (b : Bool) → 0 ≡ cond {A = ℕ} b 0 0
-    go true = refl
-    go false = refl
-calls_where number n (Some f) = go (n == number)
-  where
-    go : (b : Bool) → cond (b && is_take f) 1 0 + 0 ≡ cond b (cond (is_take f) 1 0) 0
-    go true = omega arith
-    go false = refl
+calls_where number n o = grind arith
 
 event_spends : (m : OctetCard) (e : Event) (number : ℕ) → IsSound m → IsAtLine m e → number < m.card.config.lines
     → Spent m.card.config.n201 (port_at number m) (port_at number (after e m)) (cond ((e.line == number) && is_pull e.what) 1 0) (takes_of number (option_to_list (meant e m)))
@@ -223,10 +173,7 @@ run_spends m (e ∷ events) number s within few =
 
 -- more bits than so many calls bring are those of more calls
 more_calls : (left bits n takes longest : ℕ) → left + n * longest < bits → bits ≤ left + takes * longest → n < takes
-more_calls left bits n takes longest enough spent =
-    ⊎_elim (λ less. less)
-    (λ most. let all : takes * longest ≤ n * longest = mul-le-mul_right longest most in absurd (omega (arith, enough, spent, all)))
-    (cases_lt n takes)
+more_calls left bits n takes longest enough spent = grind (arith, mul-le-mul_right, cases_lt)
 
 enough_meanwhile : (m : OctetCard) (events : List Event) (number n : ℕ) → IsSound m → AreAtLines m events → number < m.card.config.lines
     → pulls_behind m.card.config.n201 (port_at number m) n ≤ pulls_of number events → n < takes_of number (meant_all m events)
@@ -247,17 +194,14 @@ only_pulls number (e ∷ events) h =
     omega (arith, one, rest)
   where
     go : (b : Bool) → (e.line == number) ≡ b → (e.line ≡ number → e.what ≡ pull) → cond {A = ℕ} (b && is_pull e.what) 1 0 ≡ cond b 1 0
-    go false other is = refl
-    go true same is = ap (λ what. cond {A = ℕ} (is_pull what) 1 0) (is (eqb-true e.line number same))
+    go b other is = grind (arith, eqb-true)
 
 calls_few : (number : ℕ) (fs : List frames.Event) → takes_of number fs ≤ takes_at number fs
 calls_few number [] = omega arith
 calls_few number (f ∷ fs) = let rest = calls_few number fs in let one = go (f.line == number) (is_take f.what) in omega (arith, one, rest)
   where
     go : (b take : Bool) → cond (b && take) 1 0 ≤ cond b 1 0
-    go true true = omega arith
-    go true false = omega arith
-    go false take = omega arith
+    go b take = grind arith
 
 enough_pulls : (m : OctetCard) (events : List Event) (number n : ℕ) → IsSound m → AreAtLines m events → number < m.card.config.lines → ArePullsAt number events
     → pulls_behind m.card.config.n201 (port_at number m) n ≤ pulls_at number events → n < takes_at number (meant_all m events)
@@ -272,8 +216,7 @@ abbrev LeavesFew : ℕ → Port → Type 0
 LeavesFew n201 p = length (left_of p) ≤ longest_text n201
 
 few_by : (n201 : ℕ) (before after : Port) (o : Option line.Event) → IsPulled n201 before after o → LeavesFew n201 before → LeavesFew n201 after
-few_by n201 before after o h few =
-    ⊎_elim (λ (less : length (left_of after) ≤ length (left_of before)). omega (arith, less, few)) (λ less. less) h.few
+few_by n201 before after o h few = grind arith
 
 few_after : (n201 : ℕ) (e : port.Event) (p : Port) (ask : line.Event → line.Answer) → GivesShort n201 ask → IsTextOf p → LeavesFew n201 p
     → LeavesFew n201 (port.after e (option_map ask (port.meant n201 e p)) p)
@@ -282,15 +225,7 @@ few_after n201 other p ask short h few = few
 
 few_stay : (c : Config) → IsKept c (LeavesFew c.n201)
 unfolding meant
-few_stay c m e is s within few =
-    let n201 = m.card.config.n201 in
-    let p = port_at e.line m in
-    let o = port.meant n201 e.what p in
-    let same = ap (λ (x : Config). x.n201) is in
-    subst (λ n. LeavesFew n (port.after e.what (said e m) p)) same
-    (subst (λ said. LeavesFew n201 (port.after e.what said p)) (sym (said_is m.card e.line o))
-    (few_after n201 e.what p (asked_at m.card e.line) (gives_short m.card e.line s.card within) (port_sound m e.line s within).text
-    (subst (λ n. LeavesFew n p) (sym same) few)))
+few_stay c m e is s within few = grind (arith, said_is, few_after, asked_at, gives_short, port_sound)
 
 few_at_first : (n201 : ℕ) → LeavesFew n201 fresh_port
 few_at_first n201 = let eight : length (left_of fresh_port) ≡ 8 = refl in omega (arith, eight)
@@ -301,11 +236,4 @@ few_left c events number ranged all within =
     (subst (LeavesFew c.n201) (sym (fresh_at c number within)) (few_at_first c.n201))
 
 pub pulls_are_takes : PullsAreTakes
-pulls_are_takes = record {
-  only = only_takes;
-  few = few_takes;
-  enough = enough_pulls;
-  meanwhile = enough_meanwhile;
-  left = few_left;
-  most = λ c events number ranged all within n. let few = few_left c events number ranged all within in omega (arith, few);
-}
+pulls_are_takes = grind (arith, only_takes, few_takes, enough_pulls, enough_meanwhile, few_left)

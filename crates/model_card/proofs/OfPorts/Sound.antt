@@ -26,8 +26,7 @@ abbrev pub GivesShort : ℕ → (line.Event → line.Answer) → Type 0
 GivesShort n201 ask = IfSome (given_in (ask line.next)) (λ next. length next.octets ≤ n201 + 4)
 
 pub item_short : (n201 : ℕ) (g : Option NextFrame) → IfSome g (λ next. length next.octets ≤ n201 + 4) → IsShort n201 (item_of g)
-item_short n201 None h = omega arith
-item_short n201 (Some next) h = h
+item_short n201 g h = grind arith
 
 sizes_after : (n201 : ℕ) (e : port.Event) (p : Port) (ask : line.Event → line.Answer) → GivesShort n201 ask → All (IsShort n201) p.items
     → All (IsShort n201) (port.after e (option_map ask (port.meant n201 e p)) p).items
@@ -41,8 +40,7 @@ sizes_after n201 other p ask short sizes = sizes
 -- ---- what the lines of a sound card give
 
 taken_short : (c : Config) (l : Line) (o : Option Taken) → IfSome o (TakesSoundly c l) → IfSome (option_map next_of o) (λ next. length next.octets ≤ c.n201 + 4)
-taken_short c l None h = tt
-taken_short c l (Some t) h = h.size
+taken_short c l o h = grind arith
 
 pub gives_short : (card : Card) (number : ℕ) → cards.IsSound card → number < card.config.lines → GivesShort card.config.n201 (asked_at card number)
 unfolding line_answer takes_slot
@@ -62,16 +60,7 @@ port_sound m number s within = All-get_or (IsSoundPort m.card.config.n201) m.por
 
 own_port_sound : (m : OctetCard) (e : Event) → IsSound m → IsAtLine m e → IsSoundPort m.card.config.n201 (port.after e.what (said e m) (port_at e.line m))
 unfolding meant
-own_port_sound m e s within =
-    let n201 = m.card.config.n201 in
-    let p = port_at e.line m in
-    let h = port_sound m e.line s within in
-    record {
-      text = (own_port m e).text h.text;
-      sizes =
-          subst (λ o. All (IsShort n201) (port.after e.what o p).items) (sym (said_is m.card e.line (port.meant n201 e.what p)))
-          (sizes_after n201 e.what p (asked_at m.card e.line) (gives_short m.card e.line s.card within) h.sizes);
-    }
+own_port_sound m e s within = grind (arith, port_sound, own_port, said_is, sizes_after, asked_at, gives_short)
 
 pub octets_keep_sound : (m : OctetCard) (e : Event) → IsSound m → IsAtLine m e → IsSound (after e m)
 unfolding after meant

@@ -1,5 +1,5 @@
 -- An event at a card of octets is one at one of its ports, and what it means is one at the card of frames.
-use Rattle.model_card.proofs.OfPorts.Vocabulary.{◌≡◌, ◌≢◌, ◌==◌, ℕ, ◌<◌, Bool, true, false, List, [], ◌∷◌, ◌++◌, length, get_or, set, Option, None, Some, option_map_or, option_to_list, refl, ap, sym, ◌∙◌, subst, true≢false, eqb-true, eq-eqb, get_or-set_same, get_or-set_other, length-set, Card, Event, OctetCard, Port, port_at, fresh_port, meant, said, after, after_all, card_after}
+use Rattle.model_card.proofs.OfPorts.Vocabulary.{arith, ◌≡◌, ◌==◌, ℕ, ◌<◌, Bool, true, false, List, [], ◌∷◌, ◌++◌, length, Option, option_map_or, option_to_list, refl, ap, ◌∙◌, eqb-true, eq-eqb, get_or-set_same, get_or-set_other, length-set, Card, Event, OctetCard, Port, port_at, meant, said, after, after_all, card_after}
 use Rattle.model_card.specs.Event as frames
 use Rattle.model_card.specs.Machine as machine
 use Rattle.model_card.specs.Run as runs
@@ -10,12 +10,10 @@ use Rattle.model_card.specs.ports.Port as port
 
 pub card_step : (card : Card) (o : Option frames.Event) → option_map_or (card_after card) o card ≡ runs.after_all card (option_to_list o)
 unfolding frames_after
-card_step card None = refl
-card_step card (Some f) = refl
+card_step card o = grind arith
 
 pub config_step : (card : Card) (o : Option frames.Event) → (option_map_or (card_after card) o card).config ≡ card.config
-config_step card None = refl
-config_step card (Some f) = refl
+config_step card o = grind arith
 
 pub config_after : (m : OctetCard) (e : Event) → (after e m).card.config ≡ m.card.config
 unfolding after
@@ -44,17 +42,4 @@ pub by_port : (m : OctetCard) (e : Event) (number : ℕ) → number < length m.p
     → (e.line ≡ number → P true (port_at e.line m) (port.after e.what (said e m) (port_at e.line m)))
     → P (e.line == number) (port_at number m) (port_at number (after e m))
 unfolding after
-by_port m e number within P elsewhere here = go (e.line == number) refl
-  where
-    x : Port
-    x = port.after e.what (said e m) (port_at e.line m)
-
-    go : (b : Bool) → (e.line == number) ≡ b → P b (port_at number m) (get_or (set m.ports e.line x) number fresh_port)
-    go false other =
-        let apart : number ≢ e.line = λ same. true≢false (sym (eq-eqb e.line number (sym same)) ∙ other) in
-        subst (P false (port_at number m)) (sym (get_or-set_other m.ports e.line number x fresh_port apart)) elsewhere
-    go true same =
-        let is : e.line ≡ number = eqb-true e.line number same in
-        let few : e.line < length m.ports = subst (λ n. n < length m.ports) (sym is) within in
-        subst (λ n. P true (port_at n m) (get_or (set m.ports e.line x) n fresh_port)) is
-        (subst (P true (port_at e.line m)) (sym (get_or-set_same m.ports e.line x fresh_port few)) (here is))
+by_port m e number within P elsewhere here = grind (arith, eq-eqb, get_or-set_other, eqb-true, get_or-set_same)

@@ -1,23 +1,15 @@
 -- The octets stored, and their limit.
-use Rattle.model_card.proofs.OfPorts.Vocabulary.{◌≡◌, ℕ, ◌+◌, ◌*◌, ◌/◌, ◌≤◌, Bool, true, false, List, [], ◌∷◌, length, reverse, nat_lt, Option, None, Some, option_map_or, refl, subst, cond, arith, ltb-false, All, All-head, All-tail, sum_by, sum_by-cons, Config, bits, unstuffed, kept_count, open_gap, runs_low, room_for, item_octets, last_octets, Item, Port, OctetCard, after_all, left_of, IsSound, IsSoundPort, held_at, held_received, held_sent, limit, limit_of_port, stored, StoredWithinLimit}
+use Rattle.model_card.proofs.OfPorts.Vocabulary.{ℕ, ◌+◌, ◌*◌, ◌≤◌, List, [], ◌∷◌, length, nat_lt, subst, arith, ltb-false, All, All-head, All-tail, sum_by, sum_by-cons, Config, kept_count, room_for, item_octets, last_octets, Item, Port, OctetCard, IsSound, IsSoundPort, held_at, held_received, held_sent, limit, limit_of_port, stored, StoredWithinLimit}
 use Rattle.model_card.proofs.Stored as cards
 use Rattle.model_card.proofs.OfPorts.Sound.{always_sound}
 use Rattle.model_card.proofs.OfPorts.Steps.{config_stays}
 
 -- of a frame that is received
 kept_few : (n201 n : ℕ) → kept_count (room_for n201) n ≤ n201 + 6
-kept_few n201 n = go (nat_lt (room_for n201) n) refl
-  where
-    go : (b : Bool) → nat_lt (room_for n201) n ≡ b → cond b 4 n ≤ n201 + 6
-    go true e = omega arith
-    go false e = omega (arith, ltb-false (room_for n201) n e)
+kept_few n201 n = grind (arith, nat_lt, ltb-false)
 
 received_few : (n201 : ℕ) (p : Port) → held_received n201 p ≤ n201 + 6
-received_few n201 p = go (open_gap (reverse (bits p.received)))
-  where
-    go : (o : Option (List Bool)) → option_map_or (λ g. kept_count (room_for n201) (length (unstuffed (reverse g)) / 8)) o 0 ≤ n201 + 6
-    go None = omega arith
-    go (Some g) = kept_few n201 (length (unstuffed (reverse g)) / 8)
+received_few n201 p = grind (arith, kept_few)
 
 -- of the frame that is sent
 last_few : (m : ℕ) (items : List Item) → All (λ item. item_octets item ≤ m) items → last_octets items ≤ m
@@ -26,11 +18,7 @@ last_few m (item ∷ []) all = All-head (λ item. item_octets item ≤ m) item [
 last_few m (first ∷ item ∷ items) all = last_few m (item ∷ items) (All-tail (λ item. item_octets item ≤ m) first (item ∷ items) all)
 
 sent_few : (n201 : ℕ) (p : Port) → IsSoundPort n201 p → held_sent p ≤ n201 + 4
-sent_few n201 p s = go (runs_low (left_of p))
-  where
-    go : (b : Bool) → cond b 0 (last_octets p.items) ≤ n201 + 4
-    go true = omega arith
-    go false = last_few (n201 + 4) p.items s.sizes
+sent_few n201 p s = grind (arith, last_few)
 
 -- of all ports
 held_few : (c : Config) (ports : List Port) → All (IsSoundPort c.n201) ports → sum_by (held_at c.n201) ports ≤ length ports * limit_of_port c
@@ -47,5 +35,4 @@ stored_now m s =
     omega (arith, ports, cards.stored_within_limit.now m.card s.card)
 
 pub stored_within_limit : StoredWithinLimit
-stored_within_limit m events s within =
-    subst (λ c. stored (after_all m events) ≤ limit c) (config_stays m events) (stored_now (after_all m events) (always_sound m events s within))
+stored_within_limit m events s within = grind (arith, config_stays, stored_now, always_sound)

@@ -1,5 +1,5 @@
 -- The octets given are a beginning of the text of the items.
-use Rattle.model_card.proofs.OfPorts.Vocabulary.{◌≡◌, ◌≤◌, Bool, List, [], ◌∷◌, ◌++◌, length, take, drop, ap, sym, ◌∙◌, arith, length-append, append_assoc, length-take-le, take-append-drop, drop-append_seam, bits, flag, low_bits, Item, idle, frame, frame_text, item_text, line_text, bits-push, low_bits-number_of_n, line_text-push, Port, left_of, next_octet, with_octet, IsTextOf}
+use Rattle.model_card.proofs.OfPorts.Vocabulary.{◌≡◌, ◌≤◌, Bool, List, [], ◌∷◌, ◌++◌, length, take, drop, ap, sym, ◌∙◌, arith, length-append, append_assoc, length-take-le, take-append-drop, drop-append_seam, bits, low_bits, Item, item_text, line_text, bits-push, low_bits-number_of_n, line_text-push, Port, left_of, next_octet, with_octet, IsTextOf}
 
 -- The bits of an octet are left.
 pub record IsReady (p : Port) : Type 0 where
@@ -19,28 +19,20 @@ octet_bits p enough = low_bits-number_of_n 8 (take 8 (left_of p)) (length-take-l
 
 -- an octet is given
 pub text_with_octet : (p : Port) → IsReady p → line_text p.items ≡ bits (with_octet p).given ++ drop 8 (left_of p)
-text_with_octet p ready =
-    let left = left_of p in
-    ready.text
-    ∙ ap (λ x. bits p.given ++ x) (sym (take-append-drop 8 left))
-    ∙ sym (append_assoc (bits p.given) (take 8 left) (drop 8 left))
-    ∙ ap (λ x. (bits p.given ++ x) ++ drop 8 left) (sym (octet_bits p ready.enough))
-    ∙ ap (λ x. x ++ drop 8 left) (sym (bits-push p.given (next_octet p)))
+text_with_octet p ready = grind (arith, take-append-drop, append_assoc, octet_bits, bits-push)
 
 pub one_given : (p : Port) → IsReady p → IsTextOf (with_octet p)
 one_given p ready = text_of (with_octet p) (drop 8 (left_of p)) (text_with_octet p ready)
 
 item_length : (item : Item) → 8 ≤ length (item_text item)
-item_length idle = omega arith
-item_length (frame octets) = omega (arith, length-append (frame_text octets) flag)
+item_length item = grind (arith, length-append)
 
 abbrev pub put_on : Item → Port → Port
 put_on item p = record p { items = p.items ++ item ∷ [] }
 
 -- an item goes on
 pub text_with_item : (p : Port) (item : Item) → IsTextOf p → line_text (put_on item p).items ≡ bits p.given ++ (left_of p ++ item_text item)
-text_with_item p item h =
-    line_text-push p.items item ∙ ap (λ x. x ++ item_text item) h.text ∙ append_assoc (bits p.given) (left_of p) (item_text item)
+text_with_item p item h = grind (arith, line_text-push, append_assoc)
 
 -- what is left then
 pub left_with_octet : (p : Port) → IsReady p → left_of (with_octet p) ≡ drop 8 (left_of p)

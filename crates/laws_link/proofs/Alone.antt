@@ -1,25 +1,19 @@
 -- An I-frame is offered only where it may go; and with offers alone contents go one after the other.
-use Rattle.laws_link.proofs.Vocabulary.{◌≡◌, ℕ, zero, suc, ◌+◌, ◌-◌, Bool, true, false, cond, IsTrue, not, List, [], ◌∷◌, Option, Some, None, refl, sym, ap, ◌∙◌, subst, true≢false, arith, All, IfSome, nat_lt, ltb-true, and_parts, All-head, State, Established, ControlFrame, T200, Terms, Link, course, after, given, given_of, IsInRange, IsSound, IsWaitingFrame, is_information, Course, Sent, begun, ◌then◌, changed, sound-after, IsOffered, is_i_frame, i_frames, MayGo, offered, i_frames_offered, both_ways, offer, give_information, is_awaiting_acknowledgement, is_established, may_send_information, offer_among, with_one_sent, pending_is, start}
+use Rattle.laws_link.proofs.Vocabulary.{◌≡◌, ℕ, zero, suc, ◌+◌, ◌-◌, Bool, true, false, cond, IsTrue, not, List, [], ◌∷◌, Option, refl, sym, ap, ◌∙◌, subst, true≢false, arith, All, IfSome, nat_lt, ltb-true, and_parts, All-head, ControlFrame, T200, Terms, Link, course, after, given, given_of, IsInRange, IsSound, IsWaitingFrame, is_information, Course, Sent, begun, ◌then◌, changed, sound-after, IsOffered, is_i_frame, i_frames, MayGo, offered, i_frames_offered, both_ways, offer, give_information, is_awaiting_acknowledgement, may_send_information, offer_among, with_one_sent, pending_is, start}
 use Rattle.laws_link.proofs.Offering.{given-is-offered, offer-leaves, offer-counts}
 
-in-state-7 : (state : State) → is_established state ≡ true → state ≡ Established
-in-state-7 Established e = refl
-in-state-7 other e = absurd (true≢false (sym e))
-
 off : (b : Bool) → not b ≡ true → b ≡ false
-off true e = absurd (true≢false (sym e))
-off false e = refl
+off b e = grind arith
 
 module _ (t : Terms) (l : Link) (h : IsSound t l) where
   pub may-go : may_send_information t l ≡ true → MayGo t l
-  may-go e = grind (arith, and_parts, nat_lt, ltb-true, in-state-7, off)
+  may-go e = grind (arith, and_parts, nat_lt, ltb-true, off)
 
   abbrev May : Course → Type 0
   May c = IfSome c.sent (λ s. IsTrue (is_information s.frame.control) → MayGo t l)
 
   tested : (b : Bool) → may_send_information t l ≡ b → (u v : Course) → (b ≡ true → May u) → May v → May (cond b u v)
-  tested true e u v x y = x refl
-  tested false e u v x y = y
+  tested b e u v x y = grind arith
 
   offering : (ws : List ControlFrame) → All (IsWaitingFrame t) ws → May (offer_among t ws (begun l))
   offering (f ∷ fs) frames = λ is. absurd (true≢false (sym is ∙ (All-head (IsWaitingFrame t) f fs frames).without_contents))
@@ -31,8 +25,7 @@ module _ (t : Terms) (l : Link) (h : IsSound t l) where
 
   from-sent : (c : Course) (o : Option Sent) → IfSome o (λ s. IsTrue (is_information s.frame.control) → MayGo t l)
       → IfSome (given_of t l c o) (λ g. IsTrue (is_i_frame g) → MayGo t l)
-  from-sent c None x = tt
-  from-sent c (Some s) x = x
+  from-sent c o x = grind arith
 
   pub given-may-go : IfSome (given t l) (λ g. IsTrue (is_i_frame g) → MayGo t l)
   given-may-go = from-sent (course t offer l) (course t offer l).sent (offering l.waiting h.frames)

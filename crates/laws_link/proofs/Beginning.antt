@@ -1,5 +1,5 @@
 -- What is told where the numbers begin anew.
-use Rattle.laws_link.proofs.Vocabulary.{arith, ◌≡◌, ℕ, Bool, true, false, cond, List, ◌⊎◌, true≢false, list_any, Control, Sabme, Ua, State, AwaitingEstablishment, Terms, Link, restarts, MayEstablish, Establishes, Course, begun, tells_beginning, IsSeen, both_ways, Event, after, frame_in, frame_step, told}
+use Rattle.laws_link.proofs.Vocabulary.{arith, ◌≡◌, ℕ, Bool, true, false, List, ◌⊎◌, list_any, Control, Sabme, Ua, State, AwaitingEstablishment, Terms, Link, restarts, MayEstablish, Establishes, Course, begun, tells_beginning, IsSeen, both_ways, Event, after, frame_in, frame_step, told}
 use Rattle.laws_link.proofs.Restarts.{establishes}
 
 abbrev Tells : Course → Type 0
@@ -14,12 +14,9 @@ module _ (t : Terms) (l : Link) where
       → Tells (frame_in here t b octets (Sabme p) (begun l))
   by-sabme here b p octets e = grind (arith, both_ways)
 
-  asked-for : l.state ≡ AwaitingEstablishment → (asked : Bool) → l.asked ≡ asked → (u v : Course) → Tells u → Seen (cond asked u v)
-  asked-for e asked is u v x = grind arith
-
   by-ua : (here : State) → l.state ≡ here → (b : Bool) (octets : List ℕ) → (frame_in here t b octets (Ua true) (begun l)).zeroed ≡ true
       → Seen (frame_in here t b octets (Ua true) (begun l))
-  by-ua here is b octets e = grind (arith, asked-for)
+  by-ua here is b octets e = grind arith
 
   frames : (b : Bool) (octets : List ℕ) (control : Control) → MayEstablish control → (frame_step t b octets control (begun l)).zeroed ≡ true
       → Seen (frame_step t b octets control (begun l))

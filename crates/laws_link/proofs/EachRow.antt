@@ -1,5 +1,5 @@
 -- What any event leaves of a link.
-use Rattle.laws_link.proofs.Vocabulary.{Bool, List, Option, arith, Control, Information, Parts, State, Established, TimerRecovery, LinkTimer, T200, T203, ControlFrame, Terms, Link, Event, Request, cleared, expired, frame, offer, overlong, received, requested, undefined, wrong_size}
+use Rattle.laws_link.proofs.Vocabulary.{Bool, List, Option, arith, Control, Information, Parts, State, Established, TimerRecovery, LinkTimer, ControlFrame, Terms, Link, Event, Request, cleared, expired, frame, offer, overlong, received, requested, undefined, wrong_size}
 use Rattle.laws_link.proofs.Columns.{at, at-busy, at-running, at-waiting, hears, Row}
 
 module _ (t : Terms) where
@@ -15,8 +15,7 @@ module _ (t : Terms) where
   malformed here l = (grind arith, grind arith, grind arith)
 
   by-timer : (timer : LinkTimer) (here : State) (l : Link) (o : Option LinkTimer) → Row t (expired timer) (at-running here o l)
-  by-timer T200 here l o = grind arith
-  by-timer T203 here l o = grind arith
+  by-timer timer here l o = grind arith
 
   by-request : (request : Request) (full : Bool) (here : State) (l : Link) (own rej : Bool) → Row t (requested request full) (at-busy here own rej l)
   by-request request full here l own rej = grind arith

@@ -1,5 +1,5 @@
 -- What comes of the expiry of a timer that runs.
-use Rattle.laws_link.proofs.Vocabulary.{arith, ◌≡◌, ◌<◌, ◌≤◌, true, cond, [], refl, sym, subst, nat_lt, lt-ltb, le-ltb, State, LinkTimer, Terms, Link, Course, begun, runs, ExpiresIn, Expires, expired, after, expired_in, told}
+use Rattle.laws_link.proofs.Vocabulary.{arith, ◌≡◌, ◌<◌, ◌≤◌, true, cond, sym, subst, nat_lt, lt-ltb, le-ltb, State, LinkTimer, Terms, Link, Course, begun, runs, ExpiresIn, Expires, expired, after, expired_in, told}
 use Rattle.laws_link.proofs.Effects.{put}
 
 module _ (t : Terms) (l : Link) where
@@ -19,5 +19,4 @@ module _ (t : Terms) (l : Link) where
   -- the timer that runs
   pub expires : (timer : LinkTimer) → runs timer l.running ≡ true
       → Expires timer t l (after t (expired timer) l) (told t (expired timer) l).notes (told t (expired timer) l).lost
-  expires timer running =
-      subst (λ b. Does l.state timer (cond b (expired_in l.state timer t (begun l)) (begun l))) (sym running) (expires-in l.state refl timer)
+  expires timer running = grind (arith, expires-in)

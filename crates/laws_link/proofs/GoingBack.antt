@@ -1,5 +1,5 @@
 -- From where a link sends again.
-use Rattle.laws_link.proofs.Vocabulary.{◌≡◌, ℕ, Bool, true, false, List, Option, Some, None, refl, sym, ap, ◌∙◌, subst, Seq, named, Control, ReceiveReady, ReceiveNotReady, Reject, State, Established, TimerRecovery, LinkTimer, T200, T203, Terms, Link, Course, begun, Step, ◌then◌, Leads, keeping_then, nothing_leads, depending_leads, bit_leads, asked_from, reported, GoesBackTo, leaves, ErrorCode, by_number, error, peer_busy_is, re_establish, answered, is_final, acknowledged_by_rej_in_7, frame_in_7, unsolicited, acknowledged_in_8, frame_in_8, frame_in, frame_step}
+use Rattle.laws_link.proofs.Vocabulary.{arith, ◌≡◌, ℕ, Bool, true, false, List, Some, refl, sym, ◌∙◌, subst, Seq, named, Control, Reject, State, Established, TimerRecovery, LinkTimer, Terms, Link, Course, begun, Step, ◌then◌, Leads, keeping_then, nothing_leads, depending_leads, bit_leads, asked_from, reported, GoesBackTo, leaves, by_number, peer_busy_is, answered, is_final, acknowledged_by_rej_in_7, frame_in_7, unsolicited, acknowledged_in_8, frame_in_8, frame_in, frame_step}
 
 -- The link as it is before its N(R) has its effect.
 record StillAt (l : Link) (state : State) (contents : List (List ℕ)) (a s : ℕ) : Type 0 where
@@ -21,13 +21,8 @@ module _ (t : Terms) (l : Link) (nr : Seq) (n : ℕ) (valid : named l.a l.s nr �
   abbrev Back : Course → Type 0
   Back c = GoesBackTo n l c.link
 
-  abbrev effect : (ℕ → Step) → Course → Option ℕ → Course
-  effect f c o = elim o [ None ↦ (error t ErrorCode.J then re_establish t) c | Some m ↦ f m c ]
-
   by-number : (f : ℕ → Step) → ((c : Course) → Still l c → Back (f n c)) → (c : Course) → Still l c → Back (by_number t nr f c)
-  by-number f x c h =
-      let same : named c.link.a c.link.s nr ≡ Some n = ap (λ a. named a c.link.s nr) h.a_is ∙ ap (λ s. named l.a s nr) h.s_is ∙ valid in
-      subst (λ o. Back (effect f c o)) (sym same) (x c h)
+  by-number f x c h = grind arith
 
   rejected-7 : l.state ≡ Established → (c : Course) → Still l c → Back (acknowledged_by_rej_in_7 n c)
   rejected-7 e c h = record { state = h.state_is ∙ e; contents = h.contents_are; acknowledged = refl; sent = refl }
@@ -49,19 +44,14 @@ module _ (t : Terms) (l : Link) (nr : Seq) (n : ℕ) (valid : named l.a l.s nr �
 
   frames-7 : l.state ≡ Established → (command : Bool) (octets : List ℕ) (control : Control) → asked_from Established command control ≡ Some nr
       → Back (frame_in Established t command octets control (begun l))
-  frames-7 e command octets (Reject m pf) is = same-number m (λ x. Back (frame_in_7 t command octets (Reject x pf) (begun l))) is (in-7 e command octets pf)
-  frames-7 e command octets other is = absurd (cc)
+  frames-7 e command octets control is = grind (arith, same-number, in-7)
 
   responses-8 : (octets : List ℕ) (control : Control) → reported control ≡ Some nr → Back (frame_in_8 t false octets control (begun l))
-  responses-8 octets (ReceiveReady m true) is = same-number m (λ x. Back (frame_in_8 t false octets (ReceiveReady x true) (begun l))) is (in-8 false T203)
-  responses-8 octets (ReceiveNotReady m true) is = same-number m (λ x. Back (frame_in_8 t false octets (ReceiveNotReady x true) (begun l))) is (in-8 true T200)
-  responses-8 octets (Reject m true) is = same-number m (λ x. Back (frame_in_8 t false octets (Reject x true) (begun l))) is (in-8 false T203)
-  responses-8 octets other is = absurd (cc)
+  responses-8 octets control is = grind (arith, same-number, in-8)
 
   frames-8 : (command : Bool) (octets : List ℕ) (control : Control) → asked_from TimerRecovery command control ≡ Some nr
       → Back (frame_in TimerRecovery t command octets control (begun l))
-  frames-8 true octets control is = absurd (cc)
-  frames-8 false octets control is = responses-8 octets control is
+  frames-8 command octets control is = grind (arith, responses-8)
 
   frames : (here : State) → l.state ≡ here → (command : Bool) (octets : List ℕ) (control : Control) → asked_from here command control ≡ Some nr
       → Back (frame_in here t command octets control (begun l))

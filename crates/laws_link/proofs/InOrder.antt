@@ -1,5 +1,5 @@
 -- A link gives what waits in its order.
-use Rattle.laws_link.proofs.Vocabulary.{◌≡◌, false, List, [], ◌∷◌, Option, Some, None, refl, subst, inl, inr, All, IfSome, All-head, ControlFrame, T200, Terms, Link, course, after, given, given_of, IsSound, IsWaitingFrame, Course, Sent, begun, ◌then◌, changed, IsInOrder, told_ways, offer, give_information, is_awaiting_acknowledgement, may_send_information, offer_among, with_one_sent, pending_is, start}
+use Rattle.laws_link.proofs.Vocabulary.{arith, ◌≡◌, false, List, [], ◌∷◌, Option, refl, subst, inl, inr, All, IfSome, All-head, ControlFrame, T200, Terms, Link, course, after, given, given_of, IsSound, IsWaitingFrame, Course, Sent, begun, ◌then◌, changed, IsInOrder, told_ways, offer, give_information, is_awaiting_acknowledgement, may_send_information, offer_among, with_one_sent, pending_is, start}
 use Rattle.laws_link.proofs.Alone.{may-go}
 use Rattle.laws_link.proofs.MayGo.{none-goes}
 
@@ -21,8 +21,7 @@ module _ (t : Terms) (l : Link) (h : IsSound t l) where
 
   from-sent : (c : Course) (o : Option Sent) → IfSome o (λ s. IsInOrder t l c.link s.frame)
       → IfSome (given_of t l c o) (λ g. IsInOrder t l c.link g.frame)
-  from-sent c None x = tt
-  from-sent c (Some s) x = x
+  from-sent c o x = grind arith
 
   pub given-in-order : IfSome (given t l) (λ g. IsInOrder t l (after t offer l) g.frame)
   given-in-order = from-sent (course t offer l) (course t offer l).sent (offering l.waiting refl)

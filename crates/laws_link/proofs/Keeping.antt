@@ -1,5 +1,5 @@
 -- What each event makes of the contents of a link, of V(A) and of V(S).
-use Rattle.laws_link.proofs.Vocabulary.{◌≡◌, ℕ, ◌+◌, ◌≤◌, Bool, true, false, cond, List, [], ◌∷◌, ◌++◌, length, take, drop, Option, Some, None, is_some, refl, ◌⊎◌, inl, inr, sym, ap, ◌∙◌, subst, true≢false, arith, length-take-le, append-nil, drop-drop, add-zero, ⊎_elim, All, nat_lt, nat_le, option_map_or, drop_all, drop-append-le, All-head, Control, Ui, ErrorCode, Refusal, WrongState, State, TeiAssigned, AwaitingEstablishment, AwaitingRelease, Established, TimerRecovery, LinkTimer, T200, ControlFrame, Terms, Link, is_multiple_frame, IsSettledIn, IsSound, IsWaitingFrame, Course, begun, Step, ◌then◌, nothing, changed, Leads, nothing_leads, number_of, acknowledged_by, contents_of, is_release, tells_loss, Share, share, left_by, with_share, in_ui_frame, within, unit_due, one, is_i_frame, i_frames, begin_anew, deliver_unit, leave_unserved, pending_is, start, unit_data, give_information, give_waiting, is_awaiting_acknowledgement, may_send_information, offer_among, send_acknowledgement, with_one_sent, course, expired_in, expired_step, frame_in, frame_step, given_of, is_running, malformed_in, told_of_clearing, both_ways}
+use Rattle.laws_link.proofs.Vocabulary.{◌≡◌, ℕ, ◌+◌, ◌≤◌, Bool, true, false, cond, List, [], ◌∷◌, ◌++◌, length, take, drop, Option, Some, None, is_some, refl, ◌⊎◌, inl, inr, sym, ◌∙◌, subst, true≢false, arith, length-take-le, append-nil, drop-drop, add-zero, ⊎_elim, All, nat_lt, nat_le, option_map_or, drop_all, drop-append-le, All-head, Control, Ui, ErrorCode, Refusal, WrongState, State, TeiAssigned, AwaitingEstablishment, AwaitingRelease, Established, TimerRecovery, LinkTimer, T200, ControlFrame, Terms, Link, is_multiple_frame, IsSettledIn, IsSound, IsWaitingFrame, Course, begun, Step, ◌then◌, nothing, changed, Leads, nothing_leads, number_of, acknowledged_by, contents_of, is_release, tells_loss, Share, share, left_by, with_share, in_ui_frame, within, unit_due, one, is_i_frame, i_frames, begin_anew, deliver_unit, leave_unserved, pending_is, start, unit_data, give_information, give_waiting, is_awaiting_acknowledgement, may_send_information, offer_among, send_acknowledgement, with_one_sent, course, expired_in, expired_step, frame_in, frame_step, given_of, is_running, malformed_in, told_of_clearing, both_ways}
 use Rattle.model_link.specs.Events
 use Rattle.model_link.specs.Requests
 use Rattle.laws_link.proofs.Queueing.{On, words}
@@ -22,22 +22,17 @@ pub record Done (share : Share) (all : List (List ℕ)) (a s n : ℕ) (all' : Li
   pub follows : Follows n s a' s'
 
 -- some more are acknowledged, and others are accepted
-drop-more : (n m : ℕ) (xs : List (List ℕ)) → drop (n + m) xs ≡ drop m (drop n xs)
-drop-more n m xs = sym (drop-drop m n xs)
-
 went-on : (all more : List (List ℕ)) (a n : ℕ) → a + n ≤ length all
     → Comes (record { restarts = false; empties = false; accepted = more; acknowledged = n }) all a (all ++ more) (a + n)
-went-on all more a n few = grind (arith, drop-append-le, drop-more)
+went-on all more a n few = grind (arith, drop-append-le, drop-drop)
 
 emptied : (all more : List (List ℕ)) (a n : ℕ) → a ≤ length all
     → Comes (record { restarts = false; empties = true; accepted = more; acknowledged = n }) all a (take a all) a
-emptied all more a n few =
-    record { contents = refl; acknowledged = refl; kept = drop_all a (take a all) (omega (arith, length-take-le a all few)) }
+emptied all more a n few = grind (arith, drop_all, length-take-le)
 
 pub restarted : (loss : Bool) (all : List (List ℕ)) (a : ℕ)
     → Comes (record { restarts = true; empties = loss; accepted = []; acknowledged = 0 }) all a (cond loss [] (drop a all)) 0
-restarted true all a = record { contents = refl; acknowledged = refl; kept = refl }
-restarted false all a = record { contents = sym (append-nil (drop a all)); acknowledged = refl; kept = sym (append-nil (drop a all)) }
+restarted loss all a = grind (arith, append-nil)
 
 -- an event that is none of the link's
 pub same-comes : (all : List (List ℕ)) (a : ℕ) → Comes (record { restarts = false; empties = false; accepted = []; acknowledged = 0 }) all a all a
@@ -73,14 +68,7 @@ done all a s n all' a' s' loss zeroed unit few h =
         }
 
     by-restarting : Restarts all a n all' a' s' loss zeroed unit → Done (row zeroed loss n) all a s 0 all' a' s'
-    by-restarting g =
-        let x : Comes (row true loss 0) all a (cond loss [] (drop a all)) 0 = restarted loss all a in
-        let y : Comes (row true loss 0) all a all' a' =
-        subst (λ xs. Comes (row true loss 0) all a xs a') (sym g.contents) (subst (λ m. Comes (row true loss 0) all a (cond loss [] (drop a all)) m) (sym g.acknowledged) x) in
-        record {
-          comes = subst (λ z. Comes (row z loss n) all a all' a') (sym g.begins) (subst (λ k. Comes (row true loss k) all a all' a') (sym g.none) y);
-          follows = inr (refl, g.sent ∙ sym g.acknowledged);
-        }
+    by-restarting g = grind (arith, restarted)
 
 module _ (t : Terms) (l : Link) (h : IsSound t l) where
   abbrev Led : Share → ℕ → Course → Type 0
@@ -111,12 +99,10 @@ module _ (t : Terms) (l : Link) (h : IsSound t l) where
 
   -- An N(R) counts in states 7 and 8 alone.
   count-is : (here : State) → l.state ≡ here → (o : Option Rattle.lapd_seq.specs.declared.numbers.Seq.Seq) → is_multiple_frame here ≡ true → acknowledged_by o l ≡ count l.a l.s o
-  count-is here e None m = refl
-  count-is here e (Some nr) m = rw (e, m) refl
+  count-is here e o m = grind arith
 
   none-counts : (here : State) → l.state ≡ here → (o : Option Rattle.lapd_seq.specs.declared.numbers.Seq.Seq) → is_multiple_frame here ≡ false → acknowledged_by o l ≡ 0
-  none-counts here e None m = refl
-  none-counts here e (Some nr) m = rw (e, m) refl
+  none-counts here e o m = grind arith
 
   by-state : (here : State) → l.state ≡ here → (b : Bool) (octets : List ℕ) (control : Control) → is_ui control ≡ false
       → Moved (acknowledged_by (number_of t control octets) l) (frame_in here t b octets control (begun l))
@@ -153,8 +139,7 @@ module _ (t : Terms) (l : Link) (h : IsSound t l) where
   expired-in here e timer = grind (arith, unmoved, t200_in_5, t200_in_6, settled, timer_in_7, t200_in_8)
 
   expires : (b : Bool) (timer : LinkTimer) → Moved 0 (cond b (expired_in l.state timer t (begun l)) (begun l))
-  expires true timer = expired-in l.state refl timer
-  expires false timer = unmoved
+  expires b timer = grind (arith, expired-in, unmoved)
 
   -- Requests of layer 3.
   abbrev requested-share : Bool → List (List ℕ) → Bool → Course → Share
@@ -166,8 +151,7 @@ module _ (t : Terms) (l : Link) (h : IsSound t l) where
   }
 
   served : (b : Bool) (o : Option Refusal) → cond b o (Some WrongState) ≡ None → b ≡ true
-  served true o e = refl
-  served false o e = cc
+  served b o e = grind arith
 
   releases : (here : State) → l.state ≡ here → Requests.serves here Events.Release ≡ true
       → Led (requested-share false [] true (Requests.release_in here t (begun l))) 0 (Requests.release_in here t (begun l))
@@ -220,8 +204,7 @@ module _ (t : Terms) (l : Link) (h : IsSound t l) where
   -- The TEI leaves the line.
   clears : (here : State) → let c = begin_anew (told_of_clearing here t (begun l)) in
       Led (record { restarts = true; empties = true; accepted = []; acknowledged = 0 }) 0 c
-  clears TeiAssigned = record { comes = restarted true l.contents l.a; follows = inr (refl, refl) }
-  clears other = record { comes = restarted true l.contents l.a; follows = inr (refl, refl) }
+  clears here = grind (arith, restarted)
 
   -- A UI, in every state.
   unit-led : (octets : List ℕ) → let c = unit_data t octets (begun l) in Led (row c.zeroed (tells_loss c.notes) 0) 0 c
@@ -231,8 +214,7 @@ module _ (t : Terms) (l : Link) (h : IsSound t l) where
 
   by-unit : (here : State) (b : Bool) (octets : List ℕ) (p : Bool) → let c = frame_in here t b octets (Ui p) (begun l) in
       Led (row c.zeroed (tells_loss c.notes) 0) 0 c
-  by-unit TeiAssigned b octets p = unit-led octets
-  by-unit other b octets p = unit-led octets
+  by-unit here b octets p = grind (arith, unit-led)
 
   -- A frame.
   by-frame : (b : Bool) (octets : List ℕ) (control : Control) → (d : Bool) → is_ui control ≡ d
@@ -260,13 +242,11 @@ module _ (t : Terms) (l : Link) (h : IsSound t l) where
 
   by-length : (octets : List ℕ) (b : Bool) → nat_lt t.n201 (length octets) ≡ b
       → (cond b (leave_unserved (begun l)) (deliver_unit t octets (begun l))).unit ≡ cond (nat_le (length octets) t.n201) (Some octets) None
-  by-length octets true e = sym (ap (λ x. cond x (Some octets) None) (not-over true t.n201 (length octets) e))
-  by-length octets false e = sym (ap (λ x. cond x (Some octets) None) (not-over false t.n201 (length octets) e))
+  by-length octets b e = grind (arith, not-over)
 
   ui-in : (here : State) (b : Bool) (octets : List ℕ) (p : Bool)
       → (frame_in here t b octets (Ui p) (begun l)).unit ≡ within t.n201 (in_ui_frame (Ui p) octets)
-  ui-in TeiAssigned b octets p = by-length octets (nat_lt t.n201 (length octets)) refl
-  ui-in other b octets p = by-length octets (nat_lt t.n201 (length octets)) refl
+  ui-in here b octets p = grind (arith, by-length, nat_lt)
 
   unit-in : (b : Bool) (octets : List ℕ) (control : Control) → (d : Bool) → is_ui control ≡ d
       → (frame_step t b octets control (begun l)).unit ≡ within t.n201 (in_ui_frame control octets)
@@ -281,14 +261,9 @@ module _ (t : Terms) (l : Link) (h : IsSound t l) where
   unfolding Moved
   clear-busy = clear_busy t l h.ordered h.accepted
 
-  unit-requested : (request : Events.Request) (o : Option Refusal) → cond (Requests.serves l.state request) o (Some WrongState) ≡ None
-      → (Requests.granted t request (begun l)).unit ≡ None
-  unit-requested request o e = grind (arith, no-unit, set-busy, clear-busy)
-
   unit-asked : (request : Events.Request) (full : Bool) (o : Option Refusal) → Requests.refusal t l full request ≡ o
       → (elim o as (λ o. Course) [ None ↦ Requests.granted t request (begun l) | Some _ ↦ begun l ]).unit ≡ None
-  unit-asked request full None e = unit-requested request (Requests.refusal_for_room t l full request) e
-  unit-asked request full (Some w) e = refl
+  unit-asked request full o e = grind (arith, no-unit, set-busy, clear-busy)
 
   unit-offered : (ws : List ControlFrame) → (offer_among t ws (begun l)).unit ≡ None
   unit-offered ws = grind (arith, both_ways)

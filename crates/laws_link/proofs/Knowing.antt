@@ -1,5 +1,5 @@
 -- What layer 3 is told is what becomes of the link: every row keeps that.
-use Rattle.laws_link.proofs.Vocabulary.{arith, ◌≡◌, ℕ, Bool, true, false, List, [], ◌∷◌, refl, ◌∙◌, ap, not, ◌++◌, true≢false, Note, ErrorCode, State, TeiAssigned, AwaitingEstablishment, Established, T203, Terms, Link, is_asked, has_outstanding, Course, Step, ◌then◌, nothing, depending_on, Leads, keeping_then, nothing_leads, depending_leads, bit_leads, tested_leads, to_less, seen, known, is_up_in, leaves, number_leads, asked_is, deliver, deliver_unit, discard, enter, establish_confirm, establish_indication, no_timer, note, release_confirm, release_indication, start, zero_numbers, failed}
+use Rattle.laws_link.proofs.Vocabulary.{arith, ◌≡◌, ℕ, Bool, true, false, List, [], ◌∷◌, refl, ◌∙◌, ap, not, ◌++◌, Note, ErrorCode, State, TeiAssigned, AwaitingEstablishment, Established, T203, Terms, Link, is_asked, has_outstanding, Course, Step, ◌then◌, nothing, depending_on, Leads, keeping_then, nothing_leads, depending_leads, bit_leads, tested_leads, to_less, seen, known, is_up_in, leaves, number_leads, asked_is, deliver, deliver_unit, discard, enter, establish_confirm, establish_indication, no_timer, note, release_confirm, release_indication, start, zero_numbers, failed}
 
 -- the same as `is_up_in`, of what it speaks of
 abbrev pub up_by : State → Bool → Bool
@@ -36,9 +36,6 @@ is_plain (Note.ReleaseIndication service tei) = false
 is_plain (Note.ReleaseConfirm service tei) = false
 is_plain other = true
 
-pub plain-seen : (n : Note) → is_plain n ≡ true → (up : Bool) → seen up n ≡ up
-plain-seen n e up = grind arith
-
 module _ (up : Bool) where
   abbrev pub At : State → Course → Type 0
   At here c = In here c.link.state c.link.asked (known up c.notes)
@@ -58,7 +55,7 @@ module _ (up : Bool) where
   -- what is told, and layer 3 knows as before
   module _ (here : State) where
     pub note_knows : (n : Note) → is_plain n ≡ true → Leads (At here) (note n) (At here)
-    note_knows n plain = grind (arith, one-more, plain-seen)
+    note_knows n plain = grind (arith, one-more)
 
     pub deliver_knows : (t : Terms) (octets : List ℕ) → Leads (At here) (deliver t octets) (At here)
     deliver_knows t octets = record { leads = λ c h. (note_knows (Note.Data t.service t.tei) refl).leads c h }

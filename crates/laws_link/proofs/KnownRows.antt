@@ -1,5 +1,5 @@
 -- What layer 3 is told is what becomes of the link: the rows by state, and every event.
-use Rattle.laws_link.proofs.Vocabulary.{arith, ◌≡◌, ℕ, Bool, true, false, List, [], ◌∷◌, Option, Some, None, refl, sym, subst, ◌∙◌, cond, Control, Ua, Dm, ErrorCode, Refusal, WrongState, State, TeiAssigned, AwaitingEstablishment, AwaitingRelease, Established, TimerRecovery, LinkTimer, T200, ControlFrame, Terms, Link, Course, begun, establish_in_4, Leads, then_leads, nothing_leads, depending_leads, known, is_up_in, is_up, leaves, ClearBusy, Data, Establish, Event, Release, Request, SetBusy, cleared, expired, frame, offer, overlong, received, requested, undefined, wrong_size, clear_busy_in_7_8, data_in_7_8, set_busy_in_7_8, offer_among, after, course, expired_in, frame_in, frame_step, is_running, malformed_in, told, told_of_clearing}
+use Rattle.laws_link.proofs.Vocabulary.{arith, ◌≡◌, ℕ, Bool, true, false, List, [], ◌∷◌, Option, Some, None, refl, sym, subst, ◌∙◌, Control, Ua, Dm, ErrorCode, Refusal, State, TeiAssigned, AwaitingEstablishment, AwaitingRelease, Established, TimerRecovery, LinkTimer, T200, ControlFrame, Terms, Link, Course, begun, establish_in_4, Leads, then_leads, nothing_leads, depending_leads, known, is_up_in, is_up, Event, Request, cleared, expired, frame, offer, overlong, received, requested, undefined, wrong_size, offer_among, after, course, expired_in, frame_in, frame_step, is_running, malformed_in, told, told_of_clearing}
 use Rattle.model_link.specs.Requests
 use Rattle.laws_link.proofs.Knowing.{up_by, is-up-by, At, Ends, at_ends, established_up, zero_enters, words, ends, rows}
 
@@ -23,18 +23,8 @@ module _ (up : Bool) (t : Terms) where
   malformed_knows Established e = search rows depth 12 fits 4000
   malformed_knows other e = search rows depth 12 fits 4000
 
-  release_knows : (here : State) → Leads (At up here) (Requests.release_in here t) (Ends up)
-  release_knows Established = search rows depth 12 fits 4000
-  release_knows other = search rows depth 12 fits 4000
-
   establish_knows : Leads (At up TeiAssigned) (establish_in_4 t) (Ends up)
   establish_knows = search ends depth 12 fits 4000
-
-  set_busy_knows : (here : State) → Leads (At up here) (set_busy_in_7_8 t) (Ends up)
-  set_busy_knows here = at_ends up (search words)
-
-  clear_busy_knows : (here : State) → Leads (At up here) (clear_busy_in_7_8 t) (Ends up)
-  clear_busy_knows here = at_ends up (search words)
 
   offers_know : (here : State) (ws : List ControlFrame) → Leads (At up here) (offer_among t ws) (Ends up)
   offers_know here [] = search ends depth 12 fits 4000
@@ -45,10 +35,6 @@ cleared-knows : (t : Terms) (here : State) (l : Link) → known (is_up_in here l
 cleared-knows t here l = grind arith
 
 -- an establishment is granted in state 4 alone
-granted-in-4 : (here : State) → cond (Requests.is_down here) None (Some WrongState) ≡ None → here ≡ TeiAssigned
-granted-in-4 TeiAssigned e = refl
-granted-in-4 other e = cc
-
 module _ (t : Terms) (l : Link) where
   here : At (is_up l) l.state (begun l)
   here = record { state_is = refl; known_is = is-up-by l.state l }
@@ -63,16 +49,11 @@ module _ (t : Terms) (l : Link) where
   establishes at = (establish_knows (is_up l) t).leads (begun l) (record { state_is = at; known_is = subst (λ x. is_up l ≡ up_by x l.asked) at (is-up-by l.state l) })
 
   granted : (request : Request) (full : Bool) → Requests.refusal t l full request ≡ None → Ends (is_up l) (Requests.granted t request (begun l))
-  granted Establish full e = establishes (granted-in-4 l.state e)
-  granted Release full e = (release_knows (is_up l) t l.state).leads (begun l) here
-  granted (Data octets) full e = (at_ends (is_up l) (leaves {f = data_in_7_8 octets} (λ c h. h))).leads (begun l) here
-  granted SetBusy full e = (set_busy_knows (is_up l) t l.state).leads (begun l) here
-  granted ClearBusy full e = (clear_busy_knows (is_up l) t l.state).leads (begun l) here
+  granted request full e = grind (arith, establishes, rows, here, at_ends, words)
 
   requests : (request : Request) (full : Bool) (o : Option Refusal) → Requests.refusal t l full request ≡ o
       → Ends (is_up l) (elim o as (λ o. Course) [ None ↦ Requests.granted t request (begun l) | Some _ ↦ begun l ])
-  requests request full None e = granted request full e
-  requests request full (Some w) e = unchanged
+  requests request full o e = grind (arith, granted, unchanged)
 
   event-knows : (e : Event) → Ends (is_up l) (course t e l)
   event-knows (received (frame f)) = frames f.address.command f.info f.control

@@ -1,5 +1,5 @@
 -- An event loses at most two control frames: a purse holds how many may still be lost.
-use Rattle.laws_link.proofs.Vocabulary.{ℕ, ◌+◌, ◌≤◌, Bool, true, false, cond, arith, Terms, Link, Course, begun, Purse, another, two, how_many, Kept, every_event, Event, told}
+use Rattle.laws_link.proofs.Vocabulary.{ℕ, ◌+◌, ◌≤◌, Bool, cond, arith, Terms, Link, Course, begun, Purse, another, two, how_many, Kept, every_event, Event, told}
 
 pub record Loses (p : Purse) (lost : ℕ) : Type 0 where
   pub count : lost + how_many p ≤ 2
@@ -17,8 +17,7 @@ HasLost c = IsFew c.lost
 -- a control frame that is sent may be lost
 sent-count : (p : Purse) (b : Bool) (n : ℕ) → Loses (another p) n → Loses p (cond {A = ℕ} b n (n + 1))
 unfolding how_many
-sent-count p true n h = let more : n + (1 + how_many p) ≤ 2 = h.count in record { count = omega arith }
-sent-count p false n h = let more : n + (1 + how_many p) ≤ 2 = h.count in record { count = omega arith }
+sent-count p b n h = grind (arith, how_many)
 
 -- one that is not lost
 kept : (p : Purse) (n : ℕ) → Loses (another p) n → Loses p n

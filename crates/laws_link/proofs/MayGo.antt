@@ -1,14 +1,11 @@
 -- An I-frame may go exactly where the machine lets one go.
-use Rattle.laws_link.proofs.Vocabulary.{◌≡◌, ℕ, ◌-◌, ◌<◌, Bool, true, false, ◌&&◌, arith, nat_lt, ltb-false, Terms, Link, may_send_information, IsSound, MayGo}
+use Rattle.laws_link.proofs.Vocabulary.{◌≡◌, ◌-◌, false, arith, nat_lt, ltb-false, Terms, Link, may_send_information, IsSound, MayGo}
 use Rattle.laws_link.proofs.Alone.{may-go}
 
 -- the parts of a test that fails do not all hold
-not-all : (b x y : Bool) (k o n s : ℕ) → b ≡ true → nat_lt o k ≡ x → nat_lt s n ≡ y → o < k → s < n → (b && x && y) ≡ false → ⊥
-not-all b x y k o n s up e f room some fails = grind (arith, ltb-false)
-
 module _ (t : Terms) (l : Link) (h : IsSound t l) where
   pub none-goes : may_send_information t l ≡ false → MayGo t l → ⊥
-  none-goes fails may = grind (arith, not-all, nat_lt)
+  none-goes fails may = grind (arith, ltb-false, nat_lt)
 
   pub goes-not : (MayGo t l → ⊥) → may_send_information t l ≡ false
   goes-not none = grind (arith, may-go)

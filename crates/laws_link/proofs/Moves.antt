@@ -1,6 +1,6 @@
 -- What a row makes of the contents of a link, of V(A) and of V(S): they stay, some are acknowledged, all go, or the
 -- numbers begin anew.
-use Rattle.laws_link.proofs.Vocabulary.{◌≡◌, ℕ, ◌+◌, ◌-◌, ◌≤◌, Bool, true, false, cond, List, [], length, take, drop, Option, Some, None, refl, ◌⊎◌, inl, arith, option_map_or, Seq, named, Terms, Course, Step, ◌then◌, Leads, named-within, beyond, ErrorCode, Note, by_number, error, re_establish}
+use Rattle.laws_link.proofs.Vocabulary.{◌≡◌, ℕ, ◌+◌, ◌-◌, ◌≤◌, Bool, true, false, cond, List, [], length, take, drop, Option, Some, None, refl, ◌⊎◌, arith, option_map_or, Seq, named, Terms, Course, Step, ◌then◌, Leads, named-within, beyond, ErrorCode, Note, by_number, error, re_establish}
 use Rattle.laws_link.proofs.Queueing.{Claim, On, note_keeps}
 
 -- the contents are these, n of them more are acknowledged, and no loss is told
@@ -49,16 +49,7 @@ module _ (all : List (List ℕ)) (a s : ℕ) (ordered : a ≤ s) (most : s ≤ l
   Stays all' a' s' loss zeroed unit = Same all a s all' a' s' loss zeroed unit
 
   pub stays : (c : Course) → On Stays c → On (Moves all a s 0) c
-  stays c h =
-      inl (record {
-        contents = h.contents;
-        acknowledged = omega (arith, h.acknowledged);
-        among = omega (arith, ordered, most);
-        sent = inl h.sent;
-        no_loss = h.no_loss;
-        goes_on = h.goes_on;
-        no_unit = h.no_unit;
-      })
+  stays c h = grind arith
 
   -- by an N(R): an invalid one, or one that names m
   by-number : (t : Terms) (f : ℕ → Step) → ((m : ℕ) → a ≤ m → m ≤ s → Leads (On Stays) (f m) (On (Moves all a s (m - a)))) → (c : Course) → On Stays c → (nr : Seq) (o : Option ℕ) → named a s nr ≡ o

@@ -1,5 +1,5 @@
 -- What obeying orders comes to.
-use Rattle.laws_link.proofs.Vocabulary.{arith, ◌≡◌, ℕ, Bool, true, false, List, [], ◌∷◌, Option, refl, sym, ◌==◌, eq-eqb, cond, not, ◌&&◌, ◌++◌, ◌⊎◌, inl, true≢false, State, LinkTimer, T200, T203, Terms, Link, may_repeat, Course, begun, t200_in_5, t200_in_6, Leads, depending_leads, same_service, Service, Order, Timer, runs, timer_at, orders_for, is_same, obeyed, IsTimed, IsTimedIn, StaysInStep, ComesInStep, Event, expired, t200_in_8, course, expired_in, told}
+use Rattle.laws_link.proofs.Vocabulary.{arith, ◌≡◌, Bool, true, false, List, [], ◌∷◌, Option, sym, eq-eqb, cond, not, ◌&&◌, ◌++◌, ◌⊎◌, inl, State, LinkTimer, T200, T203, Terms, Link, begun, depending_leads, Order, Timer, runs, timer_at, orders_for, is_same, obeyed, IsTimed, IsTimedIn, StaysInStep, ComesInStep, Event, expired, course, expired_in, told}
 use Rattle.laws_link.proofs.InStep.{comes-step}
 
 -- What obeying an event's orders comes to: orders for one timer, before or after those for the other.
@@ -20,11 +20,8 @@ two-others : (one two timer : Timer) → is_same one timer ≡ false → is_same
     → obeyed timer b (cond p (Order.Start one ∷ []) (cond q (Order.Stop one ∷ []) []) ++ cond x (Order.Start two ∷ []) (cond y (Order.Stop two ∷ []) [])) ≡ b
 two-others one two timer first second p q x y b = grind arith
 
-service-itself : (service : Service) (tei : ℕ) → (same_service service service && (tei == tei)) ≡ true
-service-itself service tei = grind (arith, eq-eqb)
-
 itself : (t : Terms) (timer : LinkTimer) → is_same (timer_at t timer) (timer_at t timer) ≡ true
-itself t timer = grind (arith, service-itself)
+itself t timer = grind (arith, eq-eqb)
 
 -- started and running; running before and not after
 right : (a b : Bool) → (a && b) ≡ true → b ≡ true
@@ -57,34 +54,16 @@ leaves-others t e l timer running one two = grind (arith, two-others)
 record Anew (started running : Option LinkTimer) : Type 0 where
   pub is : started ≡ running
 
-abbrev Any : Course → Type 0
-Any c = Unit {0}
-
-abbrev IsAnew : Course → Type 0
-IsAnew c = Anew c.started c.link.running
-
-anew_in_5 : (t : Terms) → Leads Any (t200_in_5 t) IsAnew
-anew_in_5 t = depending_leads (may_repeat t) (record { leads = λ c h. record { is = refl } }) (record { leads = λ c h. record { is = refl } })
-
-anew_in_6 : (t : Terms) → Leads Any (t200_in_6 t) IsAnew
-anew_in_6 t = depending_leads (may_repeat t) (record { leads = λ c h. record { is = refl } }) (record { leads = λ c h. record { is = refl } })
-
-anew_in_8 : (t : Terms) → Leads Any (t200_in_8 t) IsAnew
-anew_in_8 t = depending_leads (may_repeat t) (record { leads = λ c h. record { is = refl } }) (record { leads = λ c h. record { is = refl } })
-
 clash : (timer : LinkTimer) (running : Option LinkTimer) (other : Option LinkTimer) → runs timer running ≡ true → running ≡ other → runs timer other ≡ true
 clash timer running other e same = rw (sym same) e
 
 anew : (t : Terms) (here : State) (l : Link) (timer : LinkTimer) → IsTimedIn here l → runs timer l.running ≡ true
     → Anew (expired_in here timer t (begun l)).started (expired_in here timer t (begun l)).link.running
-anew t here l timer h e = grind (arith, clash, anew_in_5, anew_in_6, anew_in_8)
+anew t here l timer h e = grind (arith, clash, depending_leads)
 
 -- so its order says how it is after the event
 not-anew : (started after : Bool) → started ≡ after → (started && after) ≡ false → false ≡ after
 not-anew started after same x = grind arith
 
-expired-course : (t : Terms) (l : Link) (timer : LinkTimer) → runs timer l.running ≡ true → course t (expired timer) l ≡ expired_in l.state timer t (begun l)
-expired-course t l timer e = rw e refl
-
 pub comes-in-step : (t : Terms) (l : Link) (timer : LinkTimer) → IsTimed l → runs timer l.running ≡ true → ComesInStep t (expired timer) l timer
-comes-in-step t l timer h e = grind (arith, expired-course, anew, comes-to, not-anew)
+comes-in-step t l timer h e = grind (arith, anew, comes-to, not-anew)

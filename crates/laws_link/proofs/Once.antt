@@ -1,24 +1,20 @@
 -- What is due is delivered, and is noted once.
-use Rattle.laws_link.proofs.Vocabulary.{◌≡◌, ℕ, ◌≤◌, Bool, true, false, cond, ◌||◌, List, [], ◌∷◌, length, Option, Some, None, is_some, option_to_list, refl, sym, ap, ◌∙◌, arith, count_by, nat_lt, list_any, or_parts, sum_by-cons, sum_by_push, none-some, Seq, Control, Information, Ui, Note, State, TeiAssigned, Terms, Arrived, information_of, MayEstablish, restarts, Link, is_data, is_unit, IsSound, Course, begun, Step, delivery, event-delivers, event-tells, in_i_frame, in_ui_frame, contents_heard, unit_heard, within, in_sequence, data_due, IsNotedOnce, acknowledged_by_information_in_7, Event, frame, received, course, frame_in, frame_step, told, by_number, both_ways}
+use Rattle.laws_link.proofs.Vocabulary.{◌≡◌, ℕ, ◌≤◌, Bool, true, false, cond, ◌||◌, List, [], ◌∷◌, length, Option, Some, None, is_some, option_to_list, refl, sym, ap, ◌∙◌, arith, count_by, nat_lt, list_any, or_parts, sum_by-cons, sum_by_push, none-some, Seq, Control, Information, Ui, Note, State, Terms, information_of, MayEstablish, restarts, Link, is_data, is_unit, IsSound, Course, begun, Step, event-delivers, event-tells, in_i_frame, contents_heard, unit_heard, within, data_due, IsNotedOnce, acknowledged_by_information_in_7, Event, frame, received, course, frame_in, frame_step, told, by_number, both_ways}
 use Rattle.model_link.specs.MultipleFrame
 use Rattle.laws_link.proofs.Restarts.{establishes}
 use Rattle.laws_link.proofs.Delivered.{delivered-was-heard}
 use Rattle.laws_link.proofs.Keeping.{event-unit}
 
 -- What is delivered is what is due.
-delivery-is : (r : ℕ) (o : Option Arrived) → delivery r o ≡ in_sequence r o
-delivery-is r o = grind arith
-
 module _ (t : Terms) (l : Link) where
   establishing : (control : Control) (octets : List ℕ) → MayEstablish control → information_of control octets ≡ None
-  establishing (Information ns nr p) octets may = absurd may
-  establishing other octets may = refl
+  establishing control octets may = grind arith
 
   none-due : (e : Event) → restarts t e l ≡ true → data_due t e l ≡ None
   none-due e begins = grind (arith, establishing, establishes)
 
   pub data-is : (e : Event) → (told t e l).delivered ≡ data_due t e l
-  data-is e = grind (arith, event-delivers, delivery-is, none-due)
+  data-is e = grind (arith, event-delivers, none-due)
 
 -- How often something is noted, by whether it is.
 pub none-counted : (p : Note → Bool) (ns : List Note) → list_any p ns ≡ false → count_by p ns ≡ 0
@@ -60,8 +56,7 @@ module _ (t : Terms) (l : Link) where
 
   information : (ns nr : Seq) (p : Bool) (octets : List ℕ) (f : ℕ → Step) → ((n : ℕ) (c : Course) → (f n c).notes ≡ c.notes)
       → AtMostOne (MultipleFrame.information_in_7_8 t ns nr p octets f (begun l))
-  information ns nr p octets f keeps =
-      both_ways AtMostOne (nat_lt t.n201 (length octets)) _ _ (omega arith) (by-number nr f keeps (MultipleFrame.contents_in_7_8 t ns p octets (begun l)) (contents ns p octets))
+  information ns nr p octets f keeps = grind (arith, both_ways, nat_lt, by-number, contents)
 
   keeps-in-7 : (n : ℕ) (c : Course) → (acknowledged_by_information_in_7 n c).notes ≡ c.notes
   keeps-in-7 n c = grind (arith, both_ways)
@@ -70,8 +65,7 @@ module _ (t : Terms) (l : Link) where
   i-frame here b octets ns nr p = grind (arith, information, keeps-in-7)
 
   data-frame : (b : Bool) (octets : List ℕ) (control : Control) (contents : List ℕ) → in_i_frame control octets ≡ Some contents → AtMostOne (frame_step t b octets control (begun l))
-  data-frame b octets (Information ns nr p) contents h = i-frame l.state b octets ns nr p
-  data-frame b octets other contents h = absurd (none-some contents h)
+  data-frame b octets control contents h = grind (arith, i-frame, none-some)
 
   data-few : (e : Event) (contents : List ℕ) → contents_heard e ≡ Some contents → AtMostOne (course t e l)
   data-few (received (frame f)) contents h = data-frame f.address.command f.info f.control contents h
@@ -81,16 +75,10 @@ module _ (t : Terms) (l : Link) where
   OneUnit c = count_by is_unit c.notes ≤ 1
 
   ui-frame : (here : State) (b : Bool) (octets : List ℕ) (p : Bool) → OneUnit (frame_in here t b octets (Ui p) (begun l))
-  ui-frame TeiAssigned b octets p = both_ways OneUnit (nat_lt t.n201 (length octets)) _ _ (omega arith) (omega arith)
-  ui-frame other b octets p = both_ways OneUnit (nat_lt t.n201 (length octets)) _ _ (omega arith) (omega arith)
-
-  unit-frame : (b : Bool) (octets : List ℕ) (control : Control) (contents : List ℕ) → in_ui_frame control octets ≡ Some contents → OneUnit (frame_step t b octets control (begun l))
-  unit-frame b octets (Ui p) contents h = ui-frame l.state b octets p
-  unit-frame b octets other contents h = absurd (none-some contents h)
+  ui-frame here b octets p = grind (arith, both_ways, nat_lt)
 
   unit-few : (e : Event) (contents : List ℕ) → unit_heard e ≡ Some contents → OneUnit (course t e l)
-  unit-few (received (frame f)) contents h = unit-frame f.address.command f.info f.control contents h
-  unit-few other contents h = absurd (none-some contents h)
+  unit-few e contents h = grind (arith, ui-frame, none-some)
 
   pub noted-once : IsSound t l → (e : Event) → IsNotedOnce (told t e l)
   noted-once s e = record {

@@ -1,5 +1,5 @@
 -- Most words of the tables leave V(S) and own busy, and tell no loss; an error that is told may end own busy.
-use Rattle.laws_link.proofs.Vocabulary.{arith, ◌≡◌, ℕ, Bool, true, false, ◌||◌, List, [], ◌∷◌, ◌++◌, refl, ap, ◌∙◌, ◌⊎◌, inl, inr, ⊎_elim, list_any, list_any-append, Note, ErrorCode, Terms, Link, Course, begun, ◌then◌, Leads, keeping_then, nothing_leads, depending_leads, bit_leads, is_loss, tells_loss, is_anew, tells_anew, leaves, number_leads, deliver, deliver_unit, note}
+use Rattle.laws_link.proofs.Vocabulary.{arith, ◌≡◌, ℕ, Bool, true, false, ◌||◌, List, [], ◌∷◌, ◌++◌, refl, ap, ◌∙◌, ◌⊎◌, inl, list_any, list_any-append, Note, ErrorCode, Terms, Link, Course, begun, ◌then◌, Leads, keeping_then, nothing_leads, depending_leads, bit_leads, is_loss, tells_loss, is_anew, tells_anew, leaves, number_leads, deliver, deliver_unit, note}
 use Rattle.model_link.specs.MultipleFrame
 use Rattle.laws_link.proofs.Queueing.{no_loss-note}
 
@@ -21,16 +21,12 @@ Ordinary l c = OrdinaryIn l c.link.s c.link.own_busy c.notes
 told-still : (ns : List Note) (n : Note) → list_any tells_anew ns ≡ true → list_any tells_anew (ns ++ n ∷ []) ≡ true
 told-still ns n e = list_any-append tells_anew ns (n ∷ []) ∙ ap (λ b. b || list_any tells_anew (n ∷ [])) e
 
-told-now : (ns : List Note) (n : Note) → tells_anew n ≡ true → list_any tells_anew (ns ++ n ∷ []) ≡ true
-told-now ns n e = grind (arith, list_any-append)
-
 module _ (l : Link) where
   pub begins : Ordinary l (begun l)
   begins = record { sent = refl; busy = inl refl; no_loss = refl }
 
   pub still-busy : (c : Course) (n : Note) → Busy l c → Busy l (note n c)
-  still-busy c n (inl e) = inl e
-  still-busy c n (inr x) = inr (x.0, told-still c.notes n x.1)
+  still-busy c n o = grind (arith, told-still)
 
   pub note_ordinary : (n : Note) → is_loss n ≡ false → Leads (Ordinary l) (note n) (Ordinary l)
   note_ordinary n e = record { leads = λ c h. record { sent = h.sent; busy = still-busy c n h.busy; no_loss = no_loss-note c.notes n e ∙ h.no_loss } }
@@ -43,6 +39,6 @@ module _ (l : Link) where
 
   -- an error after which the link is established anew
   pub failed : (t : Terms) (e : ErrorCode) → is_anew e ≡ true → Leads (Ordinary l) (MultipleFrame.failed t e) (Ordinary l)
-  failed t e anew = grind (arith, told-now, no_loss-note)
+  failed t e anew = grind (arith, list_any-append, no_loss-note)
 
 pub ruleset words = (leaves, keeping_then, nothing_leads, depending_leads, bit_leads, note_ordinary, deliver_ordinary, unit_ordinary, failed, refl, number_leads)

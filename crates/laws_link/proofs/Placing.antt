@@ -1,5 +1,5 @@
 -- Frames that are put one after the other wait as far as there is room, and the others are lost.
-use Rattle.laws_link.proofs.Vocabulary.{◌≡◌, ℕ, zero, suc, ◌+◌, ◌-◌, ◌≤◌, true, false, cond, List, [], ◌∷◌, ◌++◌, length, take, drop, refl, ap, sym, ◌∙◌, subst, arith, append-nil, append_assoc, length-append, ⊎_elim, nat_lt, cases_lt, lt-ltb, le-ltb, ControlFrame}
+use Rattle.laws_link.proofs.Vocabulary.{◌≡◌, ℕ, zero, suc, ◌+◌, ◌-◌, ◌≤◌, true, false, cond, List, [], ◌∷◌, ◌++◌, length, take, drop, refl, ap, sym, ◌∙◌, arith, append-nil, append_assoc, length-append, ⊎_elim, nat_lt, cases_lt, lt-ltb, le-ltb, ControlFrame}
 use Rattle.laws_link.proofs.Columns.{queued, unplaced}
 
 module _ (most : ℕ) where
@@ -20,12 +20,10 @@ module _ (most : ℕ) where
   no-room fs ws n e = let x = full fs ws n e in (x.0 ∙ none fs, x.1 ∙ all fs)
     where
       none : (fs : List ControlFrame) → ws ≡ ws ++ take zero fs
-      none [] = sym (append-nil ws)
-      none (f ∷ fs) = sym (append-nil ws)
+      none fs = grind (arith, append-nil)
 
       all : (fs : List ControlFrame) → n + length fs ≡ n + length (drop zero fs)
-      all [] = refl
-      all (f ∷ fs) = refl
+      all fs = grind arith
 
   -- room for m
   partly : (m : ℕ) (fs ws : List ControlFrame) (n : ℕ) → length ws + m ≡ most
@@ -53,6 +51,4 @@ module _ (most : ℕ) where
       (cases_lt (length ws) most)
     where
       none : most ≤ length ws → (m : ℕ) → zero ≡ m → (queued most ws fs ≡ ws ++ take m fs) × (unplaced most ws 0 fs ≡ length (drop m fs))
-      none more m e =
-          subst (λ m. (queued most ws fs ≡ ws ++ take m fs) × (unplaced most ws 0 fs ≡ length (drop m fs))) e
-          (from-none zero fs ws (no-room fs ws 0 (le-ltb (length ws) most more)))
+      none more m e = grind (arith, queued, unplaced, from-none, no-room, le-ltb)

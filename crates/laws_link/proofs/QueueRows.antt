@@ -37,9 +37,6 @@ module _ (t : Terms) (l : Link) (ordered : l.a ≤ l.s) (most : l.s ≤ length l
   all-taken : length l.contents ≡ l.a → l.contents ≡ take l.a l.contents
   all-taken none = sym (take_all l.a l.contents (omega (arith, none)))
 
-  rest-goes : drop l.a (take l.a l.contents) ≡ []
-  rest-goes = drop_all l.a (take l.a l.contents) (omega (arith, length-take-le l.a l.contents (omega (arith, ordered, most))))
-
   same-place : has_outstanding l ≡ false → l.s ≡ l.a
   same-place e = grind (arith, eqb-true)
 
@@ -48,8 +45,7 @@ module _ (t : Terms) (l : Link) (ordered : l.a ≤ l.s) (most : l.s ≤ length l
   frames_in_4 none octets control is = grind (arith, none-left, begins, still, words)
 
   pub released_in_4 : length l.contents ≡ l.a → On (Move 0) (release_in_4 t (begun l))
-  released_in_4 none =
-      inr (inl (record { contents = all-taken none; acknowledged = refl; sent = omega (arith, ordered, most, none); told = refl; goes_on = refl; no_unit = refl }))
+  released_in_4 none = grind (arith, all-taken)
 
   pub established_in_4 : On (Move 0) (establish_in_4 t (begun l))
   established_in_4 = still (establish_in_4 t) (search words)
@@ -58,7 +54,7 @@ module _ (t : Terms) (l : Link) (ordered : l.a ≤ l.s) (most : l.s ≤ length l
   answered-in-5 : (IsTrue l.asked → length l.contents ≡ l.a) → (b : Bool) → l.asked ≡ b → (d : Bool) → has_outstanding l ≡ d
       → On (Move 0) ((zero_numbers then start T203 then enter Established)
       (cond b (establish_confirm t (begun l)) (cond d ((discard then establish_indication t) (begun l)) (begun l))))
-  answered-in-5 none b e d e' = grind (arith, none-left, drop_all, begins, rest-goes, same-place)
+  answered-in-5 none b e d e' = grind (arith, none-left, drop_all, begins, length-take-le, same-place)
 
   pub frames_in_5 : (IsTrue l.asked → length l.contents ≡ l.a) → (octets : List ℕ) (control : Control) → is_ui control ≡ false → On (Move 0) (AwaitingEstablishment.frame_in_5 t octets control (begun l))
   frames_in_5 none octets control is = grind (arith, answered-in-5, still, words)
@@ -77,7 +73,7 @@ module _ (t : Terms) (l : Link) (ordered : l.a ≤ l.s) (most : l.s ≤ length l
   sabme-again : (p d : Bool) → has_outstanding l ≡ d
       → let c = (send t (response (Ua p)) then clear_flags then error t ErrorCode.F) (begun l) in
       On (Move 0) ((zero_numbers then start T203 then enter Established) (cond d ((discard then establish_indication t) c) c))
-  sabme-again p d e = grind (arith, rest-goes, begins, same-place)
+  sabme-again p d e = grind (arith, drop_all, length-take-le, begins, same-place)
 
   -- an N(R) that names m
   went : (m : ℕ) → l.a ≤ m → m ≤ l.s → (all : List (List ℕ)) (a s : ℕ) (loss zeroed : Bool) (unit : Option (List ℕ))
@@ -86,12 +82,10 @@ module _ (t : Terms) (l : Link) (ordered : l.a ≤ l.s) (most : l.s ≤ length l
   went m from to all a s loss zeroed unit e e' sent no_loss on none = grind arith
 
   acknowledging : (m : ℕ) → l.a ≤ m → m ≤ l.s → Leads (On Stay) (acknowledge m) (On (Move (m - l.a)))
-  acknowledging m from to =
-      record { leads = λ c h. went m from to c.link.contents m c.link.s _ c.zeroed c.unit h.contents refl (inl h.sent) h.no_loss h.goes_on h.no_unit }
+  acknowledging m from to = grind (arith, went)
 
   acknowledging-then : (m : ℕ) → l.a ≤ m → m ≤ l.s → (timer : LinkTimer) → Leads (On Stay) (acknowledge m then start timer) (On (Move (m - l.a)))
-  acknowledging-then m from to timer =
-      record { leads = λ c h. went m from to c.link.contents m c.link.s _ c.zeroed c.unit h.contents refl (inl h.sent) h.no_loss h.goes_on h.no_unit }
+  acknowledging-then m from to timer = grind (arith, went)
 
   in-7 : (m : ℕ) → l.a ≤ m → m ≤ l.s → Leads (On Stay) (Established.acknowledged_in_7 m) (On (Move (m - l.a)))
   in-7 m from to = grind (arith, depending_leads, acknowledging-then, tested_leads, from_more, ltb-false, went)
@@ -100,8 +94,7 @@ module _ (t : Terms) (l : Link) (ordered : l.a ≤ l.s) (most : l.s ≤ length l
   in-7-by-information m from to = depending_leads is_peer_busy (acknowledging m from to) (in-7 m from to)
 
   in-7-by-rej : (m : ℕ) → l.a ≤ m → m ≤ l.s → Leads (On Stay) (Established.acknowledged_by_rej_in_7 m) (On (Move (m - l.a)))
-  in-7-by-rej m from to =
-      record { leads = λ c h. went m from to c.link.contents m m _ c.zeroed c.unit h.contents refl (inr refl) h.no_loss h.goes_on h.no_unit }
+  in-7-by-rej m from to = grind (arith, went)
 
   in-8 : (timer : LinkTimer) (final : Bool) (m : ℕ) → l.a ≤ m → m ≤ l.s → Leads (On Stay) (TimerRecovery.acknowledged_in_8 timer final m) (On (Move (m - l.a)))
   in-8 timer final m from to = grind (arith, bit_leads, went, acknowledging)

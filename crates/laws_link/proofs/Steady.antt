@@ -1,5 +1,5 @@
 -- What each event changes of V(S) and of own busy, and which events tell a loss.
-use Rattle.laws_link.proofs.Vocabulary.{arith, ◌≡◌, ℕ, ◌+◌, Bool, true, false, cond, ◌||◌, List, [], Option, None, Some, is_some, refl, ap, sym, ◌∙◌, subst, true≢false, ◌⊎◌, inl, inr, ⊎_elim, nat_lt, Seq, named, Control, Information, ReceiveReady, ReceiveNotReady, Reject, Sabme, Disc, Ui, Ua, Dm, Frmr, Xid, ErrorCode, Refusal, Parts, State, TeiAssigned, AwaitingEstablishment, AwaitingRelease, Established, TimerRecovery, LinkTimer, T200, T203, ControlFrame, Terms, Link, has_outstanding, Course, begun, Step, ◌then◌, Leads, is_release, tells_loss, empties, asked_from, AsksFrom, MovesSent, is_anew, MovesBusy, MayEndBy, MayLose, both_ways, Event, Received, Release, Request, cleared, expired, frame, offer, overlong, received, requested, undefined, wrong_size, by_number, clear_flags, command, discard, enter, error, establish_confirm, establish_indication, peer_busy_is, re_establish, response, send, start, zero_numbers, frame_in_4, frame_in_5, frame_in_6, acknowledged_by_rej_in_7, frame_in_7, timer_in_7, unsolicited, acknowledged_in_8, frame_in_8, offer_among, after, course, expired_in, expired_step, frame_in, frame_step, is_running, malformed_in, received_step, told}
+use Rattle.laws_link.proofs.Vocabulary.{arith, ◌≡◌, ℕ, ◌+◌, Bool, true, false, cond, ◌||◌, List, Option, None, Some, is_some, refl, ap, sym, ◌∙◌, subst, true≢false, ◌⊎◌, inl, inr, nat_lt, Seq, named, Control, Information, ReceiveReady, ReceiveNotReady, Reject, Sabme, Disc, Ui, Ua, Dm, Frmr, Xid, ErrorCode, Refusal, Parts, State, TeiAssigned, AwaitingEstablishment, AwaitingRelease, Established, TimerRecovery, LinkTimer, T200, T203, ControlFrame, Terms, Link, has_outstanding, Course, begun, Step, ◌then◌, Leads, is_release, tells_loss, empties, asked_from, AsksFrom, MovesSent, is_anew, MovesBusy, MayEndBy, MayLose, both_ways, Event, Received, Release, Request, cleared, expired, frame, offer, overlong, received, requested, undefined, wrong_size, by_number, clear_flags, command, discard, enter, error, establish_indication, peer_busy_is, re_establish, response, send, start, zero_numbers, frame_in_4, frame_in_5, frame_in_6, acknowledged_by_rej_in_7, frame_in_7, unsolicited, acknowledged_in_8, frame_in_8, offer_among, after, course, expired_in, expired_step, frame_in, frame_step, is_running, malformed_in, received_step, told}
 use Rattle.model_link.specs.MultipleFrame
 use Rattle.model_link.specs.Requests
 use Rattle.laws_link.proofs.Ordinary.{Busy, Ordinary, begins, failed, words}
@@ -45,13 +45,8 @@ module _ (Asks : ℕ → Type 0) (t : Terms) (l : Link) where
   frames_in_4 octets control = grind (arith, still, words)
 
   -- State 5.
-  answered_in_5 : (asked out : Bool)
-      → Row Asks (Unit {0}) l ((zero_numbers then start T203 then enter Established)
-      (cond asked (establish_confirm t (begun l)) (cond out ((discard then establish_indication t) (begun l)) (begun l))))
-  answered_in_5 asked out = grind arith
-
   pub frames_in_5 : (octets : List ℕ) (control : Control) → Row Asks (MayEndBy control) l (frame_in_5 t octets control (begun l))
-  frames_in_5 octets control = grind (arith, answered_in_5, still, words)
+  frames_in_5 octets control = grind (arith, still, words)
 
   -- State 6.
   pub frames_in_6 : (octets : List ℕ) (control : Control) → Row Asks (MayEndBy control) l (frame_in_6 t octets control (begun l))
@@ -132,8 +127,7 @@ module _ (Asks : ℕ → Type 0) (t : Terms) (l : Link) where
   t200 here = grind (arith, ordinary, begins, Ordinary, words, both_ways, nat_lt, still)
 
   pub t203 : (here : State) → Row Asks ⊥ l (expired_in here T203 t (begun l))
-  t203 Established = still Asks ⊥ t l (timer_in_7 t) (search words)
-  t203 other = ordinary Asks ⊥ t l (begun l) (begins l)
+  t203 here = grind (arith, still, words, ordinary, begins)
 
 -- Any event.
 pub record Steady (t : Terms) (e : Event) (l : Link) : Type 0 where
@@ -143,8 +137,7 @@ pub record Steady (t : Terms) (e : Event) (l : Link) : Type 0 where
 
 module _ (t : Terms) (l : Link) where
   busy-by : (e : Event) (c : Course) → Busy l c → MovesBusy e l c.link c.notes
-  busy-by e c (inl x) = inl x
-  busy-by e c (inr x) = inr (inr (x.0, inr x.1))
+  busy-by e c o = grind arith
 
   -- of a row of a frame or of an expiry
   abbrev Sent : Event → Course → Type 0
@@ -157,10 +150,7 @@ module _ (t : Terms) (l : Link) where
       record { sent = sent x.sent; busy = busy-by e (course t e l) x.busy; loss = x.loss }
     where
       sent : Sent (received (frame f)) (course t (received (frame f)) l) → MovesSent t (received (frame f)) l (after t (received (frame f)) l)
-      sent (inl x) = inl x
-      sent (inr (inl x)) = inr (inr (inl x))
-      sent (inr (inr (inl x))) = inr (inr (inr (inl x)))
-      sent (inr (inr (inr x))) = inr (inr (inr (inr x)))
+      sent o = grind arith
 
   by-malformed : (what : Received) → Row (AsksFrom (received what) l) ⊥ l (received_step t what (begun l)) → Steady t (received what) l
   by-malformed what x = grind (arith, busy-by)
@@ -181,8 +171,7 @@ module _ (t : Terms) (l : Link) where
     loss : (cond refused false (is_release request) || tells_loss c.notes) ≡ true → MayLose (requested request full)
 
   one-of : (request : Request) (full : Bool) (b : Bool) (u v : Course) → Asked request full false u → Asked request full false v → Asked request full false (cond b u v)
-  one-of request full true u v x y = x
-  one-of request full false u v x y = y
+  one-of request full b u v x y = grind arith
 
   released : (full : Bool) (here : State) → Asked Release full false (Requests.release_in here t (begun l))
   released full here = grind arith

@@ -1,5 +1,5 @@
 -- A link that awaits something has its timer: the rows by state, and every event.
-use Rattle.laws_link.proofs.Vocabulary.{◌≡◌, ℕ, ◌+◌, Bool, true, false, cond, ◌&&◌, List, [], ◌∷◌, Option, Some, None, inl, inr, refl, sym, subst, true≢false, Control, Ua, Dm, ErrorCode, Refusal, State, TeiAssigned, AwaitingEstablishment, AwaitingRelease, Established, TimerRecovery, LinkTimer, T200, T203, ControlFrame, Terms, Link, fresh, runs, Course, begun, changed, establish_in_4, Leads, IsTimed, IsTimedIn, leaves, told_ways, ClearBusy, Data, Establish, Event, Release, Request, SetBusy, cleared, expired, frame, offer, overlong, received, requested, undefined, wrong_size, pending_is, start, clear_busy_in_7_8, data_in_7_8, set_busy_in_7_8, give_information, is_established, may_send_information, offer_among, with_one_sent, after, after_all, course, expired_in, frame_in, frame_step, is_running, malformed_in}
+use Rattle.laws_link.proofs.Vocabulary.{arith, ◌≡◌, ℕ, ◌+◌, Bool, true, false, cond, ◌&&◌, List, [], ◌∷◌, Option, Some, None, refl, subst, Control, Ua, Dm, ErrorCode, Refusal, State, TeiAssigned, AwaitingEstablishment, AwaitingRelease, Established, TimerRecovery, LinkTimer, T200, ControlFrame, Terms, Link, fresh, runs, Course, begun, changed, Leads, IsTimed, IsTimedIn, told_ways, Event, Request, cleared, expired, frame, offer, overlong, received, requested, undefined, wrong_size, pending_is, start, give_information, is_established, may_send_information, offer_among, with_one_sent, after, after_all, course, expired_in, frame_in, frame_step, is_running, malformed_in}
 use Rattle.model_link.specs.Requests
 use Rattle.laws_link.proofs.Timing.{TimedBy, At, Ends, at_ends, failed_timed, ends, rows}
 
@@ -23,27 +23,12 @@ module _ (t : Terms) where
   malformed_timed Established e = failed_timed t e
   malformed_timed other e = search ends depth 12 fits 4000
 
-  release_timed : (here : State) → Leads (At here) (Requests.release_in here t) Ends
-  release_timed TeiAssigned = search ends depth 12 fits 4000
-  release_timed other = search ends depth 12 fits 4000
-
-  establish_timed : {here : State} → Leads (At here) (establish_in_4 t) Ends
-  establish_timed {here} = search ends depth 12 fits 4000
-
-  set_busy_timed : (here : State) → Leads (At here) (set_busy_in_7_8 t) Ends
-  set_busy_timed here = search ends depth 12 fits 4000
-
-  clear_busy_timed : (here : State) → Leads (At here) (clear_busy_in_7_8 t) Ends
-  clear_busy_timed here = search ends depth 12 fits 4000
-
 -- as the law says it, and back
 of-law : (here : State) (l : Link) → IsTimedIn here l → TimedBy here l.running l.a l.s
-of-law TeiAssigned l h = h
-of-law other l h = h
+of-law here l h = grind arith
 
 to-law : (here : State) (l : Link) → TimedBy here l.running l.a l.s → IsTimedIn here l
-to-law TeiAssigned l h = h
-to-law other l h = h
+to-law here l h = grind arith
 
 module _ (t : Terms) (l : Link) (timed : IsTimed l) where
   here : At l.state (begun l)
@@ -56,37 +41,24 @@ module _ (t : Terms) (l : Link) (timed : IsTimed l) where
   frames b octets control = (frame_timed t l.state b octets control).leads (begun l) here
 
   granted : (request : Request) → Ends (Requests.granted t request (begun l))
-  granted Establish = (establish_timed t).leads (begun l) here
-  granted Release = (release_timed t l.state).leads (begun l) here
-  granted (Data octets) = (at_ends (leaves {f = data_in_7_8 octets} (λ c h. h))).leads (begun l) here
-  granted SetBusy = (set_busy_timed t l.state).leads (begun l) here
-  granted ClearBusy = (clear_busy_timed t l.state).leads (begun l) here
+  granted request = grind (arith, here, ends, at_ends)
 
   requests : (request : Request) (o : Option Refusal) → Ends (elim o as (λ o. Course) [ None ↦ Requests.granted t request (begun l) | Some _ ↦ begun l ])
-  requests request None = granted request
-  requests request (Some w) = unchanged
+  requests request o = grind (arith, granted, unchanged)
 
 -- an I-frame goes: T200 runs then
 goes_on : (running : Option LinkTimer) (a s : ℕ) (b : Bool) → runs T200 running ≡ b → TimedBy Established running a s → TimedBy Established (cond b running (Some T200)) a (s + 1)
-goes_on running a s false e h = inl refl
-goes_on running a s true e (inl h) = inl h
-goes_on running a s true e (inr h) = absurd (clash running e h.0)
-  where
-    clash : (running : Option LinkTimer) → runs T200 running ≡ true → running ≡ Some T203 → ⊥
-    clash (Some T200) e h = cc
-    clash other e h = true≢false (sym e)
+goes_on running a s b e h = grind arith
 
 gone : Link → Course
 gone l = pending_is false (changed with_one_sent (give_information (begun l)))
 
 goes : (l : Link) → l.state ≡ Established → TimedBy Established l.running l.a l.s → (b : Bool) → runs T200 l.running ≡ b → Ends (cond b (gone l) (start T200 (gone l)))
 unfolding gone
-goes l at h true e = record { timer = rw at (goes_on l.running l.a l.s true e h) }
-goes l at h false e = record { timer = rw at (goes_on l.running l.a l.s false e h) }
+goes l at h b e = grind (arith, goes_on)
 
 established : (here : State) (x y z : Bool) → (is_established here && x && y && z) ≡ true → here ≡ Established
-established Established x y z e = refl
-established other x y z e = absurd (true≢false (sym e))
+established here x y z e = grind arith
 
 at-established : (state : State) (running : Option LinkTimer) (a s : ℕ) → state ≡ Established → TimedBy state running a s → TimedBy Established running a s
 at-established state running a s e h = subst (λ x. TimedBy x running a s) e h

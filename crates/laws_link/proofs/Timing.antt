@@ -70,8 +70,7 @@ module _ {X : Course → Type 0} where
   failed_timed t e = record { leads = λ c h. record { timer = refl } }
 
   pub recovered_timed : (timer : LinkTimer) (m : ℕ) → Leads X (recovered timer m) Ends
-  recovered_timed T200 m = record { leads = λ c h. record { timer = inl refl } }
-  recovered_timed T203 m = record { leads = λ c h. record { timer = inr (refl, omega arith) } }
+  recovered_timed timer m = grind arith
 
 -- T200 is started anew, and the state stays
 pub restart_5 : Leads (At AwaitingEstablishment) (start T200) (At AwaitingEstablishment)
@@ -88,8 +87,7 @@ restart_8 = record { leads = λ c h. record { state_is = h.state_is; timer = ref
 
 -- what a valid N(R) does in state 7
 pub nearer : (running : Option LinkTimer) (a s m : ℕ) → a ≤ m → TimedBy Established running a s → TimedBy Established running m s
-nearer running a s m from (inl e) = inl e
-nearer running a s m from (inr e) = inr (e.0, omega (arith, from, e.1))
+nearer running a s m from o = grind arith
 
 pub acknowledge_7 : (m : ℕ) → Leads (Named Established m) (acknowledge m) (At Established)
 acknowledge_7 m = grind (arith, nearer)
@@ -122,8 +120,7 @@ acknowledged_8 final timer m = bit_leads final (recovered_timed timer m) (to_nam
 -- by the N(R): an invalid one, or the one number that it names
 pub by-number : (here : State) (t : Terms) (nr : Seq) (f : ℕ → Step) → ((m : ℕ) → Leads (Named here m) (f m) Ends) → (c : Course) → At here c
     → (o : Option ℕ) → named c.link.a c.link.s nr ≡ o → Ends (elim o [ None ↦ (error t ErrorCode.J then re_establish t) c | Some n ↦ f n c ])
-by-number here t nr f x c h None e = record { timer = refl }
-by-number here t nr f x c h (Some m) e = (x m).leads c (record { holds = h; from = (named-within c.link.a c.link.s m nr e).0 })
+by-number here t nr f x c h o e = grind (arith, named-within)
 
 pub number_timed : {here : State} (t : Terms) (nr : Seq) (f : ℕ → Step) → ((m : ℕ) → Leads (Named here m) (f m) Ends) → Leads (At here) (by_number t nr f) Ends
 number_timed {here} t nr f x = record { leads = λ c h. by-number here t nr f x c h (named c.link.a c.link.s nr) refl }

@@ -1,5 +1,5 @@
 -- What answers a poll.
-use Rattle.laws_link.proofs.Vocabulary.{◌≡◌, ℕ, ◌+◌, ◌≤◌, Bool, true, false, cond, IsTrue, List, [], ◌∷◌, ◌++◌, length, Option, None, Some, refl, sym, ap, subst, ◌∙◌, true≢false, arith, nat_lt, lt-ltb, le-ltb, Seq, seq, named, Control, Information, ReceiveReady, ReceiveNotReady, Reject, Sabme, Disc, Ua, Parts, State, TeiAssigned, Established, TimerRecovery, T200, T203, ControlFrame, Terms, Link, is_multiple_frame, frame, received, Course, begun, Step, ◌then◌, Leads, keeping_then, nothing_leads, depending_leads, bit_leads, IsValidAt, IsPollWith, SaysReceived, Answered, AnsweredBy, asked_of, leaves, ErrorCode, both_ways, acknowledged_by_information_in_7, acknowledged_by_rej_in_7, acknowledged_by_rnr_in_7, acknowledged_in_7, frame_in_7, acknowledged_in_8, frame_in_8, after, frame_in, frame_step}
+use Rattle.laws_link.proofs.Vocabulary.{◌≡◌, ℕ, ◌+◌, ◌≤◌, Bool, true, false, cond, IsTrue, List, [], ◌∷◌, ◌++◌, length, Option, None, Some, refl, sym, ap, subst, ◌∙◌, arith, nat_lt, lt-ltb, le-ltb, Seq, seq, named, Control, Information, ReceiveReady, ReceiveNotReady, Reject, Sabme, Disc, Parts, State, T200, T203, ControlFrame, Terms, Link, is_multiple_frame, frame, received, Course, begun, Step, ◌then◌, Leads, keeping_then, nothing_leads, depending_leads, bit_leads, IsValidAt, IsPollWith, SaysReceived, Answered, AnsweredBy, asked_of, leaves, ErrorCode, both_ways, acknowledged_by_information_in_7, acknowledged_by_rej_in_7, acknowledged_by_rnr_in_7, acknowledged_in_7, frame_in_7, acknowledged_in_8, frame_in_8, after, frame_in, frame_step}
 use Rattle.model_link.specs.Words
 use Rattle.model_link.specs.MultipleFrame
 
@@ -23,13 +23,7 @@ record Halfway (l : Link) (c : Course) : Type 0 where
   high : c.link.s ≡ l.s
 
 answered-by : (ws : List ControlFrame) (l : Link) (c : Course) (h : Answered ws l) → Waits l.waiting l.r c → Answered ws c.link
-answered-by ws l c h w =
-    record {
-      answer = h.answer;
-      waits = w.waits ∙ h.waits;
-      is_response = h.is_response;
-      says = subst (λ r. SaysReceived r h.answer.control) (sym w.number) h.says;
-    }
+answered-by ws l c h w = grind arith
 
 -- What a poll with a valid N(R) comes to, by what an I-frame and a supervisory frame do, whatever the number leads to.
 pub record Polled (t : Terms) (l : Link) (P : Course → Type 0) (K : (ℕ → Step) → Type 0) : Type 0 where
@@ -62,13 +56,10 @@ module _ {t : Terms} {l : Link} (P : Course → Type 0) (K : (ℕ → Step) → 
 
   pub polled-in : (here : State) → IsTrue (is_multiple_frame here) → (command : Bool) (octets : List ℕ) (control : Control)
       → IsPollWith t l command octets control → P (frame_in here t command octets control (begun l))
-  polled-in Established up command octets control h = in-7 command octets control h
-  polled-in TimerRecovery up command octets control h = in-8 command octets control h
-  polled-in other up command octets control h = absurd (true≢false (sym up))
+  polled-in here up command octets control h = grind (arith, in-7, in-8)
 
 says-ready : (b : Bool) (r : ℕ) → SaysReceived r (cond b (ReceiveNotReady (seq r) true) (ReceiveReady (seq r) true))
-says-ready true r = (refl, refl)
-says-ready false r = (refl, refl)
+says-ready b r = grind arith
 
 module _ (t : Terms) (l : Link) (room : length l.waiting + 1 ≤ t.control) where
   has-room : nat_lt (length l.waiting) t.control ≡ true
@@ -90,30 +81,10 @@ module _ (t : Terms) (l : Link) (room : length l.waiting + 1 ≤ t.control) wher
 
   -- an answer RR or RNR, and an answer REJ
   ready : (c : Course) → c.link.waiting ≡ l.waiting → c.link.a ≡ l.a → c.link.s ≡ l.s → Halfway l (Words.answer t c)
-  ready c w a s =
-      record {
-        answered = record {
-          answer = Words.response (Words.ready_to_receive true c.link);
-          waits = ap (λ ws. cond (nat_lt (length ws) t.control) (ws ++ Words.response (Words.ready_to_receive true c.link) ∷ []) ws) w ∙ put (Words.response (Words.ready_to_receive true c.link));
-          is_response = refl;
-          says = says-ready c.link.own_busy c.link.r;
-        };
-        low = a;
-        high = s;
-      }
+  ready c w a s = grind (arith, nat_lt, put, says-ready)
 
   rejected : Halfway l ((Words.rejecting_is true then Words.reject t true) (begun l))
-  rejected =
-      record {
-        answered = record {
-          answer = Words.response (Reject (seq l.r) true);
-          waits = put (Words.response (Reject (seq l.r) true));
-          is_response = refl;
-          says = (refl, refl);
-        };
-        low = refl;
-        high = refl;
-      }
+  rejected = grind (arith, put)
 
   contents : (ns : Seq) (octets : List ℕ) → Halfway l (MultipleFrame.contents_in_7_8 t ns true octets (begun l))
   contents ns octets =
@@ -125,27 +96,14 @@ module _ (t : Terms) (l : Link) (room : length l.waiting + 1 ≤ t.control) wher
   information : (ns nr : Seq) (octets : List ℕ) (f : ℕ → Step) → length octets ≤ t.n201
       → ((ws : List ControlFrame) (r n : ℕ) → Leads (Waits ws r) (f n) (Waits ws r)) → IsValidAt l nr
       → Answered l.waiting (MultipleFrame.information_in_7_8 t ns nr true octets f (begun l)).link
-  information ns nr octets f size x valid =
-      subst (λ b. Answered l.waiting (cond b (MultipleFrame.failed t ErrorCode.O (begun l)) ((MultipleFrame.contents_in_7_8 t ns true octets then Words.by_number t nr f) (begun l))).link)
-      (sym (le-ltb t.n201 (length octets) size))
-      (numbered nr f x valid (MultipleFrame.contents_in_7_8 t ns true octets (begun l)) (contents ns octets))
+  information ns nr octets f size x valid = grind (arith, le-ltb, numbered, contents)
 
   supervisory : (b : Bool) (nr : Seq) (f : ℕ → Step) → ((ws : List ControlFrame) (r n : ℕ) → Leads (Waits ws r) (f n) (Waits ws r)) → IsValidAt l nr
       → Answered l.waiting ((Words.peer_busy_is b then Words.answer t then Words.by_number t nr f) (begun l)).link
   supervisory b nr f x valid = numbered nr f x valid (Words.answer t (Words.peer_busy_is b (begun l))) (ready (Words.peer_busy_is b (begun l)) refl refl refl)
 
   answers : Polled t l (λ c. Answered l.waiting c.link) (λ f. (ws : List ControlFrame) (r n : ℕ) → Leads (Waits ws r) (f n) (Waits ws r))
-  answers = record {
-    informs = information;
-    supervises = supervisory;
-    informed = information_7_waits;
-    informed-8 = λ ws r n. leaves (λ c h. h);
-    ready = λ ws r n. search words depth 12 fits 4000;
-    not-ready = λ ws r n. search words depth 12 fits 4000;
-    rejected = λ ws r n. search words depth 12 fits 4000;
-    ready-8 = λ ws r n. search words depth 12 fits 4000;
-    not-ready-8 = λ ws r n. search words depth 12 fits 4000;
-  }
+  answers = grind (arith, information, supervisory, information_7_waits, ready, rejected)
 
   pub poll-answered : (f : Parts) → IsTrue (is_multiple_frame l.state) → IsPollWith t l f.address.command f.info f.control
       → Answered l.waiting (after t (received (frame f)) l)
@@ -153,25 +111,16 @@ module _ (t : Terms) (l : Link) (room : length l.waiting + 1 ≤ t.control) wher
 
   -- SABME and DISC
   same-waiting : (b : Bool) (u v : Course) (ws : List ControlFrame) → u.link.waiting ≡ ws → v.link.waiting ≡ ws → (cond b u v).link.waiting ≡ ws
-  same-waiting true u v ws x y = x
-  same-waiting false u v ws x y = y
-
-  sabme-7-8 : (p : Bool) → (MultipleFrame.sabme_in_7_8 t p (begun l)).link.waiting ≡ l.waiting ++ Words.response (Ua p) ∷ []
-  sabme-7-8 p = same-waiting _ _ _ (l.waiting ++ Words.response (Ua p) ∷ []) (put _) (put _)
+  same-waiting b u v ws x y = grind arith
 
   sabme-in : (here : State) (command : Bool) (octets : List ℕ) (p : Bool)
       → AnsweredBy (asked_of here (Sabme p)) l.waiting (frame_in here t command octets (Sabme p) (begun l)).link
-  sabme-in Established command octets p = sabme-7-8 p
-  sabme-in TimerRecovery command octets p = sabme-7-8 p
-  sabme-in other command octets p = put _
+  sabme-in here command octets p = grind (arith, same-waiting, put)
 
   disc-in : (here : State) (command : Bool) (octets : List ℕ) (p : Bool)
       → AnsweredBy (asked_of here (Disc p)) l.waiting (frame_in here t command octets (Disc p) (begun l)).link
-  disc-in TeiAssigned command octets p = put _
-  disc-in other command octets p = put _
+  disc-in here command octets p = grind (arith, put)
 
   pub unnumbered-answered : (command : Bool) (octets : List ℕ) (control : Control)
       → AnsweredBy (asked_of l.state control) l.waiting (frame_step t command octets control (begun l)).link
-  unnumbered-answered command octets (Sabme p) = sabme-in l.state command octets p
-  unnumbered-answered command octets (Disc p) = disc-in l.state command octets p
-  unnumbered-answered command octets other = tt
+  unnumbered-answered command octets control = grind (arith, sabme-in, disc-in)

@@ -90,11 +90,7 @@ abbrev with_way : List Parts → End → End
 with_way fs y = record y { way = fs }
 
 pub is-steady : (n : End) → Steady n → record n { way = [] } ≡ plain_end n
-is-steady n h =
-    λ i. record n {
-      link = record n.link { state = h.state i; peer_busy = h.peer_busy i; own_busy = h.own_busy i; waiting = h.waiting i };
-      way = [];
-    }
+is-steady n h = grind arith
 
 -- what an end gives is put behind what is on its way
 sends-form : (n x : End) → Steady n → with_sent (plain_end n) ≡ x → with_sent n ≡ record n { link = x.link; way = n.way ++ x.way }
@@ -181,10 +177,7 @@ module _ (n m : End) (hn : Steady n) (hm : Steady m) (there : Direction n m) (ba
   high = lane-order m.terms m.link.contents n.link.r m.link.s n.link.a m.link.r m.link.pending m.way back.lane
 
   names : (v : ℕ) → m.link.a ≤ v → v ≤ n.link.r → named m.link.a m.link.s (seq v) ≡ Some v
-  names v low up =
-      let within : m.link.s ≤ m.link.a + m.terms.k = hm.sound.within in
-      let small : m.terms.k ≤ 127 = hm.ranges.k_high in
-      named-number m.link.a m.link.s v low (omega (arith, up, high)) (omega arith)
+  names v low up = grind (arith, named-number, high)
 
   takes-i : (f : Parts) (fs : List Parts) → n.way ≡ f ∷ fs → (v : ℕ) → m.link.a ≤ v → (here : Informs n.terms n.link.contents m.link.r v f)
       → Lane n.terms n.link.contents (m.link.r + 1) n.link.s v n.link.r n.link.pending fs → Took n m (left fs) (with_link (received (frame f)) m)
@@ -251,9 +244,7 @@ module _ (n m : End) (hn : Steady n) (hm : Steady m) (there : Direction n m) (ba
 
   takes-from : (way : List Parts) → n.way ≡ way → Lane n.terms n.link.contents m.link.r n.link.s m.link.a n.link.r n.link.pending way → 1 ≤ length way
       → Took n m (left (drop 1 way)) (with_first_of way m)
-  takes-from [] e h some = absurd (omega (arith, some))
-  takes-from (f ∷ fs) e (v, low, inl (here, rest)) some = takes-i f fs e v low here rest
-  takes-from (f ∷ fs) e (v, low, inr (here, rest)) some = takes-n f fs e v low here rest
+  takes-from way e h some = grind (arith, takes-i, takes-n)
 
   pub takes-first : 1 ≤ length n.way → Took n m (record n { way = drop 1 n.way }) (with_first_of n.way m)
   takes-first some = takes-from n.way refl there.lane some

@@ -1,7 +1,6 @@
 -- Runs of turns in any order, and where they end.
-use Rattle.laws_link.proofs.Vocabulary.{◌≡◌, ℕ, suc, ◌+◌, ◌≤◌, false, List, [], ◌∷◌, length, take, refl, sym, ap, subst, ◌∙◌, arith, nat_lt, take-length, End, Ends, Act, sends, receives, Doing, at_near, at_far, acting, turned, doing, doing_all, HasNothingToSend, IsReady, IsTaken, HasArrived, IsTurnOf, IsTurn, AreTurns, IsStill, weight_at, weight, may_send_information}
+use Rattle.laws_link.proofs.Vocabulary.{◌≡◌, ℕ, suc, ◌+◌, ◌≤◌, false, List, [], ◌∷◌, length, take, refl, ap, subst, ◌∙◌, arith, nat_lt, take-length, End, Ends, Act, sends, receives, Doing, at_near, at_far, acting, turned, doing, doing_all, HasNothingToSend, IsReady, IsTaken, HasArrived, IsTurnOf, IsTurn, AreTurns, IsStill, weight_at, weight, may_send_information}
 use Rattle.laws_link.proofs.OfTwo.Plain.{plain}
-use Rattle.laws_link.proofs.OfTwo.Halves.{all-acknowledged}
 use Rattle.laws_link.proofs.OfTwo.Arriving.{nothing-unsent}
 use Rattle.laws_link.proofs.OfTwo.AnyOrder.{Lane, Steady, Direction, is-steady, gives, takes-first}
 
@@ -81,47 +80,17 @@ runs (d ∷ ds) e h t =
     }
 
 -- the first pair
-steady-first : (n : End) → IsReady n → Steady n
-steady-first n h = record { ranges = h.ranges; sound = h.sound; state = h.state; peer_busy = h.peer_busy; own_busy = h.own_busy; waiting = h.waiting }
-
 first-lane : (n m : End) → IsReady n → IsReady m → IsTaken n m → IsTaken m n → Lane n.terms n.link.contents m.link.r n.link.s m.link.a n.link.r n.link.pending []
-first-lane n m hn hm there back =
-    let from : n.link.r ≡ m.link.s = back.received in
-    let ordered : m.link.a ≤ m.link.s = hm.sound.ordered in
-    (there.received, omega (arith, from, ordered), λ off. all-acknowledged m.link.a m.link.s n.link.pending (nat_lt m.link.a m.link.s) refl off ordered back.owed ∙ sym from)
-
-first-direction : (n m : End) → IsReady n → IsReady m → IsTaken n m → IsTaken m n → Direction n m
-first-direction n m hn hm there back =
-    record {
-      lane = subst (λ way. Lane n.terms n.link.contents m.link.r n.link.s m.link.a n.link.r n.link.pending way) (sym hn.way) (first-lane n m hn hm there back);
-      delivered = there.delivered;
-      sizes = there.sizes;
-    }
+first-lane n m hn hm there back = grind (arith, nat_lt)
 
 pub all-turns : (ds : List Doing) (e : Ends) → IsReady e.near → IsReady e.far → IsTaken e.near e.far → IsTaken e.far e.near → AreTurns ds e → Ran ds e (doing_all ds e)
-all-turns ds e hn hm there back turns =
-    runs ds e (record {
-      near = steady-first e.near hn;
-      far = steady-first e.far hm;
-      there = first-direction e.near e.far hn hm there back;
-      back = first-direction e.far e.near hm hn back there;
-    }) turns
+all-turns ds e hn hm there back turns = grind (arith, runs, Lane, first-lane)
 
 -- where no turn is left
 module _ (n m : End) (hn : Steady n) (there : Direction n m) (back : Direction m n) (rn : HasNothingToSend n.terms n.link) (rm : HasNothingToSend m.terms m.link)
     (en : n.way ≡ []) (em : m.way ≡ []) where
-  lane-there : Lane n.terms n.link.contents m.link.r n.link.s m.link.a n.link.r n.link.pending []
-  lane-there = subst (λ way. Lane n.terms n.link.contents m.link.r n.link.s m.link.a n.link.r n.link.pending way) en there.lane
-
-  lane-back : Lane m.terms m.link.contents n.link.r m.link.s n.link.a m.link.r m.link.pending []
-  lane-back = subst (λ way. Lane m.terms m.link.contents n.link.r m.link.s n.link.a m.link.r m.link.pending way) em back.lane
-
   by-lanes : (m.link.r ≡ n.link.s) × (n.link.a ≡ m.link.r)
-  by-lanes = go lane-there lane-back
-    where
-      go : Lane n.terms n.link.contents m.link.r n.link.s m.link.a n.link.r n.link.pending [] → Lane m.terms m.link.contents n.link.r m.link.s n.link.a m.link.r m.link.pending []
-          → (m.link.r ≡ n.link.s) × (n.link.a ≡ m.link.r)
-      go (at, low, told) (at', low', told') = (at, told' rm.pending)
+  by-lanes = grind (arith, Lane)
 
   arrived-one : (cs : List (List ℕ)) → n.link.contents ≡ cs → HasArrived cs n m
   arrived-one cs kept =
@@ -145,8 +114,4 @@ module _ (n m : End) (hn : Steady n) (there : Direction n m) (back : Direction m
       }
 
 pub all-there : (ds : List Doing) (e e' : Ends) → Ran ds e e' → IsStill e' → HasArrived e.near.link.contents e'.near e'.far × HasArrived e.far.link.contents e'.far e'.near
-all-there ds e e' x still =
-    let p = x.pair in (
-      arrived-one e'.near e'.far p.near p.there p.back still.near still.far still.near_way still.far_way e.near.link.contents x.near_kept,
-      arrived-one e'.far e'.near p.far p.back p.there still.far still.near still.far_way still.near_way e.far.link.contents x.far_kept,
-    )
+all-there ds e e' x still = grind (arith, arrived-one)

@@ -1,5 +1,5 @@
 -- In state 7 T200 runs only where something is awaited: each row, and each event.
-use Rattle.laws_link.proofs.Vocabulary.{◌≡◌, ◌≢◌, ◌⊎◌, inl, inr, ℕ, ◌+◌, ◌≤◌, ◌==◌, ◌&&◌, nat_lt, Bool, true, false, cond, List, [], ◌∷◌, Option, None, Some, refl, sym, ap, ◌∙◌, arith, true≢false, eq-eqb, ltb-false, Seq, named, Control, Information, ReceiveReady, ReceiveNotReady, Reject, Sabme, Disc, Ui, Ua, Dm, Frmr, Xid, ErrorCode, Refusal, State, TeiAssigned, AwaitingEstablishment, AwaitingRelease, Established, TimerRecovery, LinkTimer, T200, T203, ControlFrame, Terms, Link, frame, undefined, wrong_size, overlong, Request, Establish, Release, Data, Event, received, expired, requested, offer, cleared, Course, Step, begun, ◌then◌, nothing, runs, frame_in_4, frame_in_5, frame_in_6, Leads, then_leads, bit_leads, named-within, both_ways, acknowledge, answer, by_number, error, peer_busy_is, re_establish, start, unit_data, answered, contents_in_7_8, failed, is_final, supervisory, ua_in_7_8, acknowledged_by_information_in_7, acknowledged_by_rej_in_7, acknowledged_by_rnr_in_7, acknowledged_in_7, frame_in_7, unsolicited, acknowledged_in_8, frame_in_8, particulars_in_8, solicited, granted, refusal, release_in, is_awaiting_acknowledgement, is_established, may_send_information, offer_among, with_one_sent, course, expired_in, frame_in, is_running, malformed_in}
+use Rattle.laws_link.proofs.Vocabulary.{◌≡◌, ◌≢◌, ◌⊎◌, inl, ℕ, ◌+◌, ◌≤◌, ◌&&◌, nat_lt, Bool, true, false, List, Option, None, Some, refl, sym, ap, ◌∙◌, arith, true≢false, eq-eqb, ltb-false, Seq, named, Control, Information, ReceiveReady, ReceiveNotReady, Reject, Sabme, Disc, Ui, Ua, Dm, Frmr, Xid, ErrorCode, Refusal, State, TeiAssigned, AwaitingEstablishment, AwaitingRelease, Established, TimerRecovery, LinkTimer, T200, T203, ControlFrame, Terms, Link, frame, undefined, wrong_size, overlong, Request, Event, received, expired, requested, offer, cleared, Course, Step, begun, ◌then◌, nothing, runs, frame_in_4, frame_in_5, frame_in_6, Leads, then_leads, bit_leads, named-within, both_ways, acknowledge, answer, by_number, error, peer_busy_is, re_establish, unit_data, answered, contents_in_7_8, failed, is_final, supervisory, ua_in_7_8, acknowledged_by_information_in_7, acknowledged_by_rej_in_7, acknowledged_by_rnr_in_7, acknowledged_in_7, frame_in_7, unsolicited, acknowledged_in_8, frame_in_8, particulars_in_8, solicited, granted, refusal, release_in, is_established, offer_among, course, expired_in, frame_in, is_running, malformed_in}
 use Rattle.laws_link.proofs.OfTwo.Heeding.{On, at_state, words}
 
 -- the terminal is taken for busy, or an I-frame is outstanding
@@ -32,9 +32,6 @@ elsewhere here down running busy a s is e = absurd (other-state here down is)
 stays-elsewhere : (here : State) → is_established here ≡ false → (state : State) → state ≡ here → (running : Option LinkTimer) (busy : Bool) (a s : ℕ) → Awaits state running busy a s
 stays-elsewhere here down state at running busy a s is e = absurd (other-state here down (sym at ∙ is))
 
-unequal : (a b : ℕ) → (a == b) ≡ false → a ≢ b
-unequal a b other is = true≢false (sym (eq-eqb a b is) ∙ other)
-
 -- what was before says nothing
 any-then : {P : Course → Type 0} (f : Step) {g : Step} → Leads Any g Awaiting → Leads P (f then g) Awaiting
 any-then f x = record { leads = λ c h. x.leads (f c) tt }
@@ -46,27 +43,14 @@ number {P} t nr f x = record { leads = λ c h. go c h (named c.link.a c.link.s n
   where
     go : (c : Course) → P c → (o : Option ℕ) → named c.link.a c.link.s nr ≡ o
         → Awaiting (elim o [ None ↦ (error t ErrorCode.J then re_establish t) c | Some n ↦ f n c ])
-    go c h None e = record { holds = elsewhere AwaitingEstablishment refl _ _ _ _ }
-    go c h (Some n) e = x n c h (named-within c.link.a c.link.s n nr e).0
+    go c h o e = grind (arith, elsewhere, named-within)
 
 -- state 7
 acknowledged-7 : (n : ℕ) (c : Course) → c.link.a ≤ n → Awaiting (acknowledged_in_7 n c)
-acknowledged-7 n c from = go (n == c.link.s) refl (nat_lt c.link.a n) refl
-  where
-    go : (all : Bool) → (n == c.link.s) ≡ all → (more : Bool) → nat_lt c.link.a n ≡ more
-        → Awaiting (cond all ((acknowledge n then start T203) c) (cond more ((acknowledge n then start T200) c) c))
-    go true is more e = record { holds = t203-runs _ _ _ _ }
-    go false is true e = record { holds = λ at timer. inr (unequal n c.link.s is) }
-    go false is false e =
-        let same : c.link.a ≡ n = omega (arith, from, ltb-false c.link.a n e) in
-        record { holds = λ at timer. inr (λ x. unequal n c.link.s is (sym same ∙ x)) }
+acknowledged-7 n c from = grind (arith, nat_lt, t203-runs, eq-eqb, ltb-false)
 
 information-7 : (n : ℕ) (c : Course) → c.link.a ≤ n → Awaiting (acknowledged_by_information_in_7 n c)
-information-7 n c from = go c.link.peer_busy refl
-  where
-    go : (b : Bool) → c.link.peer_busy ≡ b → Awaiting (cond b (acknowledge n c) (acknowledged_in_7 n c))
-    go true e = record { holds = λ at timer. inl e }
-    go false e = acknowledged-7 n c from
+information-7 n c from = grind (arith, acknowledged-7)
 
 abbrev Busy : Course → Type 0
 Busy c = c.link.peer_busy ≡ true
@@ -81,9 +65,6 @@ module _ (t : Terms) where
 
   unsolicited-busy : (f : Bool) → Leads Busy (unsolicited t f) Busy
   unsolicited-busy f = bit_leads {f = error t ErrorCode.A} {g = nothing} f (record { leads = λ c h. h }) (record { leads = λ c h. h })
-
-  answered-at : (here : State) (b pf : Bool) → Leads (At here) (answered t b pf) (At here)
-  answered-at here b pf = bit_leads {f = answer t} {g = nothing} (b && pf) (record { leads = λ c h. h }) (record { leads = λ c h. h })
 
   contents-on : (here : State) (ns : Seq) (p : Bool) (octets : List ℕ) → Leads (On (at_state here)) (contents_in_7_8 t ns p octets) (On (at_state here))
   contents-on here ns p octets = search words depth 12 fits 4000
@@ -101,22 +82,13 @@ module _ (t : Terms) where
   ua-ends f = bit_leads f (record { leads = λ c h. record { holds = h.holds } }) (record { leads = λ c h. record { holds = h.holds } })
 
   in-4 : (octets : List ℕ) (control : Control) → Leads Awaiting (frame_in_4 t octets control) Awaiting
-  in-4 octets (Sabme p) = record { leads = λ c h. record { holds = t203-runs _ _ _ _ } }
-  in-4 octets (Ua true) = record { leads = λ c h. record { holds = h.holds } }
-  in-4 octets (Ui p) = unit-ends octets
-  in-4 octets other = record { leads = λ c h. record { holds = h.holds } }
+  in-4 octets control = grind (arith, t203-runs, unit-ends)
 
   in-5 : (octets : List ℕ) (control : Control) → Leads Awaiting (frame_in_5 t octets control) Awaiting
-  in-5 octets (Ua true) = record { leads = λ c h. record { holds = t203-runs _ _ _ _ } }
-  in-5 octets (Ui p) = unit-ends octets
-  in-5 octets (Dm true) = record { leads = λ c h. record { holds = elsewhere TeiAssigned refl _ _ _ _ } }
-  in-5 octets other = record { leads = λ c h. record { holds = h.holds } }
+  in-5 octets control = grind (arith, t203-runs, unit-ends, elsewhere)
 
   in-6 : (octets : List ℕ) (control : Control) → Leads Awaiting (frame_in_6 t octets control) Awaiting
-  in-6 octets (Ua true) = record { leads = λ c h. record { holds = elsewhere TeiAssigned refl _ _ _ _ } }
-  in-6 octets (Ui p) = unit-ends octets
-  in-6 octets (Dm true) = record { leads = λ c h. record { holds = elsewhere TeiAssigned refl _ _ _ _ } }
-  in-6 octets other = record { leads = λ c h. record { holds = h.holds } }
+  in-6 octets control = grind (arith, elsewhere, unit-ends)
 
   in-7 : (b : Bool) (octets : List ℕ) (control : Control) → Leads Awaiting (frame_in_7 t b octets control) Awaiting
   in-7 b octets (Information ns nr p) =
@@ -150,17 +122,11 @@ module _ (t : Terms) where
   BusyAt here c = (c.link.state ≡ here) × (c.link.peer_busy ≡ true)
 
   recovers-busy : (final : Bool) (n : ℕ) → Leads (BusyAt TimerRecovery) (acknowledged_in_8 T200 final n) Awaiting
-  recovers-busy final n =
-      bit_leads final (record { leads = λ c h. record { holds = λ at timer. inl h.1 } })
-      (record { leads = λ c h. record { holds = stays-elsewhere TimerRecovery refl c.link.state h.0 _ _ _ _ } })
+  recovers-busy final n = grind (arith, bit_leads, stays-elsewhere)
 
   supervisory-8 : (busy b pf : Bool) (nr : Seq) → Leads (At TimerRecovery)
       (supervisory t (particulars_in_8 t) busy b pf nr (acknowledged_in_8 T203)) Awaiting
-  supervisory-8 busy b pf nr =
-      let final = is_final b pf in
-      then_leads {Q = At TimerRecovery} {f = peer_busy_is busy} (record { leads = λ c h. h }) (then_leads {Q = At TimerRecovery} (answered-at TimerRecovery b pf)
-      (then_leads {Q = At TimerRecovery} {f = solicited final} (record { leads = λ c h. h })
-      (number t nr (acknowledged_in_8 T203 final) (λ n c h from. (recovers final n).leads c h))))
+  supervisory-8 busy b pf nr = grind (arith, then_leads, bit_leads, number, recovers)
 
   answered-busy-at : (here : State) (b pf : Bool) → Leads (BusyAt here) (answered t b pf) (BusyAt here)
   answered-busy-at here b pf = bit_leads {f = answer t} {g = nothing} (b && pf) (record { leads = λ c h. h }) (record { leads = λ c h. h })
@@ -198,48 +164,26 @@ module _ (t : Terms) (l : Link) (h : Awaits l.state l.running l.peer_busy l.a l.
   frames TimerRecovery e b octets control = (in-8 t b octets control).leads (begun l) e
 
   malformed : (here : State) (e : ErrorCode) → Awaiting (malformed_in here t e (begun l))
-  malformed Established e = (failed-ends t {P = Any} e).leads (begun l) tt
-  malformed TimerRecovery e = (failed-ends t {P = Any} e).leads (begun l) tt
-  malformed other e = record { holds = h }
+  malformed here e = grind (arith, failed-ends)
 
   expiries : (here : State) → l.state ≡ here → (timer : LinkTimer) → Awaiting (expired_in here timer t (begun l))
-  expiries TeiAssigned e timer = before
-  expiries Established e timer = record { holds = elsewhere TimerRecovery refl _ _ _ _ }
-  expiries TimerRecovery e T200 =
-      both_ways Awaiting (nat_lt l.repeats t.n200) _ _ (record { holds = stays-elsewhere TimerRecovery refl l.state e _ _ _ _ })
-      ((failed-ends t {P = Any} ErrorCode.I).leads (begun l) tt)
-  expiries other e T200 =
-      both_ways Awaiting (nat_lt l.repeats t.n200) _ _ (record { holds = stays-elsewhere other refl l.state e _ _ _ _ })
-      (record { holds = elsewhere TeiAssigned refl _ _ _ _ })
-  expiries other e T203 = before
+  expiries here e timer = grind (arith, before, elsewhere, both_ways, nat_lt, stays-elsewhere, failed-ends)
 
   releases : (here : State) → Awaiting (release_in here t (begun l))
-  releases TeiAssigned = record { holds = h }
-  releases Established = record { holds = elsewhere AwaitingRelease refl _ _ _ _ }
-  releases TimerRecovery = record { holds = elsewhere AwaitingRelease refl _ _ _ _ }
-  releases other = before
+  releases here = grind (arith, elsewhere, before)
 
   grants : (request : Request) → Awaiting (granted t request (begun l))
-  grants Establish = record { holds = elsewhere AwaitingEstablishment refl _ _ _ _ }
-  grants Release = releases l.state
-  grants (Data octets) = record { holds = h }
-  grants other = both_ways Awaiting l.own_busy _ _ (record { holds = h }) (record { holds = h })
+  grants request = grind (arith, elsewhere, releases, both_ways)
 
   asked : (request : Request) (o : Option Refusal) → Awaiting (elim o [ None ↦ granted t request (begun l) | Some _ ↦ begun l ])
-  asked request None = grants request
-  asked request (Some w) = before
+  asked request o = grind (arith, grants, before)
 
   -- an I-frame that goes is outstanding
   one-more : l.a ≢ l.s + 1
   one-more e = omega (arith, ordered, e)
 
   offers : (ws : List ControlFrame) → Awaiting (offer_among t ws (begun l))
-  offers (f ∷ fs) = record { holds = h }
-  offers [] =
-      both_ways Awaiting (may_send_information t l) _ _
-      (both_ways Awaiting (is_awaiting_acknowledgement (with_one_sent l)) _ _
-      (record { holds = λ at timer. inr one-more }) (record { holds = λ at timer. inr one-more }))
-      (both_ways Awaiting l.pending _ _ (record { holds = h }) (record { holds = h }))
+  offers ws = grind (arith, both_ways, one-more)
 
   pub event-awaits : (e : Event) → Awaiting (course t e l)
   event-awaits (received (frame f)) = frames l.state refl f.address.command f.info f.control

@@ -46,10 +46,7 @@ module _ (n : End) (h : IsReady n) where
       }
 
   begins-busy : with_link (requested SetBusy false) n ≡ reporting n
-  begins-busy =
-      let low : 2 ≤ n.terms.control = h.ranges.control_low in
-      ap (with_link (requested SetBusy false)) (is_plain n h) ∙ ap told (lt-ltb 0 n.terms.control (omega arith))
-      ∙ ap (λ ds. in_7_with true false n (busy_report n.link.r ∷ []) n.link.a n.link.s false n.link.running ds) (append-nil n.delivered)
+  begins-busy = grind (arith, is_plain, lt-ltb, in_7_with, busy_report, append-nil)
 
 one-passed : (P : Ends → Type 0) (u : ℕ) (e : Ends) → P (rounds (u + 1) (far_moves (near_moves e))) → P (rounds (u + 2) e)
 one-passed P u e h =
@@ -68,10 +65,7 @@ module _ (u : ℕ) (n m : End) (hn : IsReady n) (hm : IsReady m) (there : IsTake
   within-m = let within : m.link.s ≤ m.link.a + m.terms.k = hm.sound.within in let small : m.terms.k ≤ 127 = hm.ranges.k_high in omega arith
 
   names-s : named n.link.a n.link.s (seq m.link.r) ≡ Some n.link.s
-  names-s =
-      let within : n.link.s ≤ n.link.a + n.terms.k = hn.sound.within in
-      let small : n.terms.k ≤ 127 = hn.ranges.k_high in
-      subst (λ w. named n.link.a n.link.s (seq w) ≡ Some n.link.s) (sym there.received) (named-number n.link.a n.link.s n.link.s hn.sound.ordered (omega arith) (omega arith))
+  names-s = grind (arith, named-number)
 
   delivered : m.delivered ≡ take n.link.s n.link.contents
   delivered = there.delivered ∙ ap (λ i. take i n.link.contents) there.received
@@ -83,10 +77,7 @@ module _ (u : ℕ) (n m : End) (hn : IsReady n) (hm : IsReady m) (there : IsTake
 
   pair : (a s' : ℕ) (p : Bool) (running : Option LinkTimer) → m.link.s ≤ s' → (a < n.link.s → p ≡ true) → Sounds (reported a s' p running)
       → Paired true n.link.r n.delivered n.link.contents m.link.contents (reported a s' p running).near (reported a s' p running).far
-  pair a s' p running up owed s =
-      let at : n.link.r ≡ m.link.s = back.received in
-      paired-shapes n m a n.link.s n.link.r s' true p running (Some T200) m.delivered hn.ranges hm.ranges s.near s.far there.received delivered owed there.sizes
-      (omega arith) (omega arith) back.sizes
+  pair a s' p running up owed s = grind (arith, paired-shapes, delivered)
 
   -- The busy end is near.
   module _ where
@@ -164,9 +155,7 @@ module _ (u : ℕ) (n m : End) (hn : IsReady n) (hm : IsReady m) (there : IsTake
         subst FarDone (sym next) (after-heard n.link.a m.link.s false n.link.running m.link.running (omega arith) within-m (λ less. sym owed ∙ there.owed less) (subst Sounds next (sounds-near far_first h)))
 
     by-flags : (may owed : Bool) → may_send_information m.terms (plain m.link) ≡ may → m.link.pending ≡ owed → Sounds far_first → FarDone (near_moves far_first)
-    by-flags true owed e p = informs e
-    by-flags false true e p = acknowledges e p
-    by-flags false false e p = rests e p
+    by-flags may owed e p = grind (arith, informs, acknowledges, rests)
 
     pub far-begun : Sounds far_first → Done true n.link.r n.delivered n.link.contents m.link.contents (rounds (u + 2) far_first).far (rounds (u + 2) far_first).near
     far-begun h =

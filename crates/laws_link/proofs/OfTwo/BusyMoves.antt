@@ -1,8 +1,8 @@
 -- An end that is busy itself, and the other, in state 7: one gives its next frame, and the other receives it.
-use Rattle.laws_link.proofs.Vocabulary.{◌≡◌, ℕ, ◌+◌, ◌≤◌, Bool, true, false, cond, ◌==◌, List, [], ◌∷◌, ◌++◌, length, Some, refl, sym, ap, subst, ◌∙◌, ◌⊎◌, inl, inr, append-nil, eq-eqb, arith, nat_lt, slice_get, unwrap_or, option_to_list, ltb-true, le-ltb, and_parts, seq, named, Terms, Link, frame, received, Course, begun, End, with_link, with_sent, with_first_of, with_first_lost, IsTaken, IsBusyItself, IsOpenItself, IsDropped, ErrorCode, State, by_number, acknowledged_by_information_in_7, acknowledged_in_7, may_send_information}
+use Rattle.laws_link.proofs.Vocabulary.{◌≡◌, ℕ, ◌+◌, ◌≤◌, Bool, true, false, cond, ◌==◌, List, [], ◌∷◌, ◌++◌, length, Some, refl, sym, ap, subst, ◌∙◌, ◌⊎◌, inl, append-nil, eq-eqb, arith, nat_lt, slice_get, unwrap_or, option_to_list, ltb-true, le-ltb, and_parts, seq, named, Terms, Link, frame, received, Course, begun, End, with_link, with_sent, with_first_of, with_first_lost, IsTaken, IsBusyItself, IsOpenItself, IsDropped, ErrorCode, State, by_number, acknowledged_by_information_in_7, acknowledged_in_7, may_send_information}
 use Rattle.model_link.specs.MultipleFrame
 use Rattle.laws_link.proofs.OfTwo.Plain.{plain, plain_with, plain_end_with, with_information_with, with_acknowledgement_with, information_frame, acknowledgement_frame, gives-information, gives-acknowledgement, gives-nothing}
-use Rattle.laws_link.proofs.OfTwo.Halves.{named-number, fits-at, all-acknowledged, One, Nothing, giver_of, taker_of}
+use Rattle.laws_link.proofs.OfTwo.Halves.{named-number, fits-at, One, Nothing, giver_of, taker_of}
 use Rattle.laws_link.proofs.OfTwo.Acknowledging.{Acknowledges, by-rr, by-information}
 
 -- What becomes of the end that gives and of the one that receives: of numbers and contents that stay,
@@ -19,11 +19,7 @@ pub record Flags (own busy : Bool) (n : End) : Type 0 where
   pub way : n.way ≡ []
 
 flags : (own busy : Bool) (n : End) → Flags own busy n → n ≡ plain_end_with own busy n
-flags own busy n h =
-    λ i. record n {
-      link = record n.link { state = h.state i; peer_busy = h.peer_busy i; own_busy = h.own_busy i; waiting = h.waiting i };
-      way = h.way i;
-    }
+flags own busy n h = grind arith
 
 busy-flags : (n : End) → IsBusyItself n → Flags true false n
 busy-flags n h = record { state = h.state; own_busy = h.own_busy; peer_busy = h.peer_busy; waiting = h.waiting; way = h.way }
@@ -126,16 +122,10 @@ module _ (n m : End) (hn : IsBusyItself n) (hm : IsOpenItself m) (there : IsTake
   is-m = flags false m.link.peer_busy m (open-flags m hm)
 
   names-r : named m.link.a m.link.s (seq n.link.r) ≡ Some n.link.r
-  names-r =
-      let within : m.link.s ≤ m.link.a + m.terms.k = hm.sound.within in
-      let small : m.terms.k ≤ 127 = hm.ranges.k_high in
-      named-number m.link.a m.link.s n.link.r back.low back.high (omega arith)
+  names-r = grind (arith, named-number)
 
   names-s : named n.link.a n.link.s (seq m.link.r) ≡ Some n.link.s
-  names-s =
-      let within : n.link.s ≤ n.link.a + n.terms.k = hn.sound.within in
-      let small : n.terms.k ≤ 127 = hn.ranges.k_high in
-      subst (λ w. named n.link.a n.link.s (seq w) ≡ Some n.link.s) (sym there.received) (named-number n.link.a n.link.s n.link.s hn.sound.ordered (omega arith) (omega arith))
+  names-s = grind (arith, named-number)
 
   -- the busy end gives an I-frame
   busy-one : may_send_information n.terms (plain n.link) ≡ true → BusyMoved n m (giver_of n) (taker_of n m)
@@ -163,21 +153,7 @@ module _ (n m : End) (hn : IsBusyItself n) (hm : IsOpenItself m) (there : IsTake
 
   -- or nothing
   busy-none : may_send_information n.terms (plain n.link) ≡ false → BusyMoved n m (giver_of n) (taker_of n m)
-  busy-none may =
-      let gives : with_sent n ≡ record n { link = with_acknowledgement_with true false n.link; way = [] } = ap with_sent is-n ∙ gives-nothing true false n may quiet in
-      subst (λ x. BusyMoved n m (with_first_lost x) (with_first_of x.way m)) (sym gives)
-      (record {
-        giver = record { terms = refl; contents = refl };
-        giver_flags = record { state = refl; own_busy = refl; peer_busy = refl; waiting = refl; way = refl };
-        taker = record { terms = refl; contents = refl };
-        taker_flags = open-flags m hm;
-        received = refl;
-        delivered = refl;
-        a = refl;
-        low = back.low;
-        s = refl;
-        moved = inr (record { may = may; sent = refl; received = refl; pending = refl; delivered = refl });
-      })
+  busy-none may = grind (arith, with_acknowledgement_with, is-n, gives-nothing, quiet, open-flags)
 
   busy-by : (may : Bool) → may_send_information n.terms (plain n.link) ≡ may → BusyMoved n m (giver_of n) (taker_of n m)
   busy-by true e = busy-one e
@@ -215,10 +191,7 @@ module _ (n m : End) (hn : IsBusyItself n) (hm : IsOpenItself m) (there : IsTake
 
   -- or nothing: then nothing of the busy end's is outstanding
   open-none : may_send_information m.terms (plain_with false m.link.peer_busy m.link) ≡ false → m.link.pending ≡ false → OpenMoved n m (taker_of m n) (giver_of m)
-  open-none may owed =
-      let gives : with_sent m ≡ record m { link = with_acknowledgement_with false m.link.peer_busy m.link; way = [] } = ap with_sent is-m ∙ gives-nothing false m.link.peer_busy m may owed in
-      subst (λ x. OpenMoved n m (with_first_of x.way n) (with_first_lost x)) (sym gives)
-      (search (busy-flags n hn, all-acknowledged n.link.a n.link.s m.link.pending (nat_lt n.link.a n.link.s) refl owed hn.sound.ordered there.owed, grows, stays-as) parts 3)
+  open-none may owed = grind (arith, with_acknowledgement_with, is-m, gives-nothing, busy-flags, ltb-true, nat_lt, grows)
 
   open-by : (may owed : Bool) → may_send_information m.terms (plain_with false m.link.peer_busy m.link) ≡ may → m.link.pending ≡ owed → OpenMoved n m (taker_of m n) (giver_of m)
   open-by true owed e p = open-one e

@@ -40,9 +40,7 @@ module _ (u v : ℕ) (cn cm : List (List ℕ)) (n m : End) (there : Between u cn
 
     both-answered : IsSound n.terms answered_n.link → IsSound m.terms answered_m.link
         → Paired true n.link.r n.delivered n.link.contents m.link.contents answered_n answered_m
-    both-answered sn sm =
-        paired-shapes n m m.link.r m.link.r n.link.r n.link.r true false (Some T203) (Some T200) m.delivered there.ranges back.ranges sn sm refl there.delivered
-        (λ less. absurd (omega (arith, less))) there.sizes (omega arith) (omega arith) back.sizes
+    both-answered sn sm = grind (arith, paired-shapes)
 
     -- the busy end is near
     abbrev n_1 : Ends
@@ -170,16 +168,10 @@ module _ (u v : ℕ) (cn cm : List (List ℕ)) (n m : End) (there : Between u cn
     other_answered = record { near = in_7_with false true m [] n.link.r n.link.r false (Some T200) m.delivered; far = in_7_with true false n [] n.link.a n.link.s false later n.delivered }
 
     at-a : m.link.r ≡ n.link.a
-    at-a =
-        let low : n.link.a ≤ m.link.r = there.low in
-        let high : m.link.r ≤ n.link.s = there.high in
-        omega (arith, all)
+    at-a = grind arith
 
     at-s : m.link.r ≡ n.link.s
-    at-s =
-        let low : n.link.a ≤ m.link.r = there.low in
-        let high : m.link.r ≤ n.link.s = there.high in
-        omega (arith, all)
+    at-s = grind arith
 
     other-1 : near_moves other_asks ≡ busy_replies
     other-1 =
@@ -214,16 +206,10 @@ module _ (u v : ℕ) (cn cm : List (List ℕ)) (n m : End) (there : Between u cn
     with_received r q = record m { link = record m.link { r = r; rejecting = q } }
 
     began-at : n.link.a ≡ m.link.r
-    began-at =
-        let low : n.link.a ≤ m.link.r = there.low in
-        let high : m.link.r ≤ n.link.s = there.high in
-        omega (arith, all)
+    began-at = grind arith
 
     began-sent : n.link.s ≡ m.link.r
-    began-sent =
-        let low : n.link.a ≤ m.link.r = there.low in
-        let high : m.link.r ≤ n.link.s = there.high in
-        omega (arith, all)
+    began-sent = grind arith
 
     -- what far has made of near's frame, if there was one
     abbrev heard : ℕ → ℕ → Bool → Bool → Bool → Option LinkTimer → List (List ℕ) → Ends
@@ -291,8 +277,7 @@ module _ (u v : ℕ) (cn cm : List (List ℕ)) (n m : End) (there : Between u cn
         (λ less. absurd (omega (arith, less, began-at))) there.left (subst Sounds next (sounds-near other_began sounds)))
 
     began-by : (may : Bool) → may_send_information n.terms (plain_with true false n.link) ≡ may → Sounds other_began → BeganReady
-    began-by true e = began-information e
-    began-by false e = began-nothing e
+    began-by may e = grind (arith, began-information, began-nothing)
 
     pub other-began : Sounds other_began → BeganReady
     other-began = began-by (may_send_information n.terms (plain_with true false n.link)) refl
@@ -367,9 +352,7 @@ module _ (u v : ℕ) (cn cm : List (List ℕ)) (n m : End) (there : Between u cn
         (noted-far m.link.s n.link.a bn m.link.running (names-a n m there) (omega arith) back.near (subst Sounds next (sounds-near busy_began sounds)))
 
     noted-by : (may owed : Bool) → may_send_information m.terms (plain m.link) ≡ may → m.link.pending ≡ owed → Sounds busy_began → NotedReady
-    noted-by true owed e p = noted-information e
-    noted-by false true e p = noted-note e p
-    noted-by false false e p = noted-nothing e p
+    noted-by may owed e p = grind (arith, noted-information, noted-note, noted-nothing)
 
     pub busy-began : Sounds busy_began → NotedReady
     busy-began = noted-by (may_send_information m.terms (plain m.link)) m.link.pending refl refl
@@ -378,9 +361,4 @@ module _ (u v : ℕ) (cn cm : List (List ℕ)) (n m : End) (there : Between u cn
   pub none-asks : (p : Bool) (running running' : Option LinkTimer) → n.link.s ≤ n.link.a
       → IsSound n.terms (in_7_with true false n [] n.link.a n.link.s false running n.delivered).link → IsSound m.terms (in_7 m [] m.link.a m.link.s p running' m.delivered).link
       → Paired false n.link.r n.delivered n.link.contents m.link.contents (in_7_with true false n [] n.link.a n.link.s false running n.delivered) (in_7 m [] m.link.a m.link.s p running' m.delivered)
-  none-asks p running running' all sn sm =
-      let low : n.link.a ≤ m.link.r = there.low in
-      let high : m.link.r ≤ n.link.s = there.high in
-      let at : m.link.r ≡ n.link.s = omega (arith, all) in
-      paired-shapes n m n.link.a n.link.s m.link.a m.link.s false p running running' m.delivered there.ranges back.ranges sn sm at
-      (there.delivered ∙ ap (λ i. take i n.link.contents) at) (λ less. absurd (omega (arith, less, all))) there.sizes back.low back.high back.sizes
+  none-asks p running running' all sn sm = grind (arith, paired-shapes)

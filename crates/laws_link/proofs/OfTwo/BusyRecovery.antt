@@ -37,13 +37,10 @@ module _ (P : Ends → Type 0) (u : ℕ) (e : Ends) where
       subst (λ i. P (rounds i e)) count (subst P (sym (after-round ((u + 1) + 1) e)) h)
 
   none-passed : P (rounds ((u + 2) + 1) e) → P (rounds (u + 3) e)
-  none-passed h =
-      let count : (u + 2) + 1 ≡ u + 3 = omega arith in
-      subst (λ i. P (rounds i e)) count h
+  none-passed h = grind arith
 
 no-t200 : (n m : End) (busy : Bool) → n.link.running ≡ Some T203 → m.link.running ≡ Some T203 → (n.link.running ≡ Some T200) ⊎ (m.link.running ≡ Some T200) → busy ≡ true
-no-t200 n m busy rn rm (inl x) = absurd (let two : Some T203 ≡ Some T200 = sym rn ∙ x in cc)
-no-t200 n m busy rn rm (inr x) = absurd (let two : Some T203 ≡ Some T200 = sym rm ∙ x in cc)
+no-t200 n m busy rn rm o = grind arith
 
 missing-all : (n m : End) → HasMissing (length n.link.contents) n m
 missing-all n m = omega arith

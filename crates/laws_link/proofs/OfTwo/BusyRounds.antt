@@ -1,5 +1,5 @@
 -- Turn after turn of an end that is busy itself and of the other, until all contents of the busy end have arrived.
-use Rattle.laws_link.proofs.Vocabulary.{◌≡◌, ℕ, zero, suc, ◌+◌, ◌-◌, ◌<◌, ◌≤◌, Bool, true, false, ◌&&◌, List, [], ◌∷◌, ◌++◌, length, take, Option, refl, sym, ap, subst, ◌∙◌, ◌⊎◌, inl, inr, true≢false, arith, All, nat_lt, slice_get, unwrap_or, lt-ltb, le-ltb, ltb-false, and_right, take-length, Parts, LinkTimer, frame, received, offer, IsInRange, IsSound, End, Ends, with_sent, with_first_of, sound-after, IsTaken, HasUnsent, HasArrived, rounds, IsBusyItself, IsOpenItself, IsDropped, GetsThrough, may_send_information}
+use Rattle.laws_link.proofs.Vocabulary.{◌≡◌, ℕ, zero, suc, ◌+◌, ◌-◌, ◌<◌, ◌≤◌, Bool, true, false, List, [], ◌∷◌, ◌++◌, length, take, Option, sym, ap, subst, ◌∙◌, ◌⊎◌, inl, inr, arith, All, nat_lt, slice_get, unwrap_or, lt-ltb, le-ltb, ltb-false, and_right, take-length, Parts, LinkTimer, frame, received, offer, IsInRange, IsSound, End, Ends, with_sent, with_first_of, sound-after, IsTaken, HasUnsent, HasArrived, rounds, IsBusyItself, IsOpenItself, IsDropped, GetsThrough, may_send_information}
 use Rattle.laws_link.proofs.OfTwo.Plain.{plain}
 use Rattle.laws_link.proofs.OfTwo.Halves.{take-one, One, Nothing, giver_of, taker_of}
 use Rattle.laws_link.proofs.OfTwo.Arriving.{near_moves, far_moves, no-more}
@@ -132,20 +132,11 @@ first-open u busy r ds cn cm n m h left =
 
 -- with the window open one fewer is left
 nothing-unsent : (n : End) → IsBusyItself n → n.link.a ≡ n.link.s → may_send_information n.terms (plain n.link) ≡ false → length n.link.contents ≤ n.link.s
-nothing-unsent n h open_ may = by-test (nat_lt n.link.s (length n.link.contents)) refl
-  where
-    window : nat_lt (n.link.s - n.link.a) n.terms.k ≡ true
-    window = let low : 1 ≤ n.terms.k = h.ranges.k_low in lt-ltb (n.link.s - n.link.a) n.terms.k (omega (arith, open_))
-
-    by-test : (b : Bool) → nat_lt n.link.s (length n.link.contents) ≡ b → length n.link.contents ≤ n.link.s
-    by-test true e = absurd (true≢false (sym (ap (λ b. b && nat_lt n.link.s (length n.link.contents)) window ∙ e) ∙ may))
-    by-test false e = ltb-false n.link.s (length n.link.contents) e
+nothing-unsent n h open_ may = grind (arith, nat_lt, lt-ltb, ltb-false)
 
 one-fewer : (v : ℕ) (n m n' m' : End) → IsBusyItself n → n.link.a ≡ n.link.s → length n.link.contents ≤ n.link.s + suc v → n'.link.contents ≡ n.link.contents
     → One n m n' m' ⊎ Nothing n m n' m' → length n'.link.contents ≤ n'.link.s + v
-one-fewer v n m n' m' h o left kept (inl x) = subst (λ cs. length cs ≤ n'.link.s + v) (sym kept) (omega (arith, left, x.sent))
-one-fewer v n m n' m' h o left kept (inr x) =
-    subst (λ cs. length cs ≤ n'.link.s + v) (sym kept) (let all = nothing-unsent n h o x.may in omega (arith, all, x.sent))
+one-fewer v n m n' m' h o left kept x = grind (arith, nothing-unsent)
 
 -- the busy end's turn and the other's
 pub next-both : (u : ℕ) (busy : Bool) (r : ℕ) (ds cn cm : List (List ℕ)) (n m : End) → Ahead (suc u) busy r ds cn cm n m
@@ -166,17 +157,8 @@ done-first : (busy : Bool) (r : ℕ) (ds cn cm : List (List ℕ)) (n m : End) �
 done-first busy r ds cn cm n m h = record { paired = h.paired; acknowledged = h.acknowledged; all = omega (arith, h.left) }
 
 -- with all sent the busy end's turn changes nothing of it, nor does the other's
-no-one : (n m n' m' : End) → length n.link.contents ≤ n.link.s → n'.link.contents ≡ n.link.contents → n'.link.a ≡ n.link.a → n.link.a ≡ n.link.s → One n m n' m' ⊎ Nothing n m n' m'
-    → (n'.link.a ≡ n'.link.s) × (length n'.link.contents ≤ n'.link.s)
-no-one n m n' m' all kept a acked (inl x) = absurd (omega (arith, all, x.unsent))
-no-one n m n' m' all kept a acked (inr x) = (a ∙ acked ∙ sym x.sent, subst (λ cs. length cs ≤ n'.link.s) (sym kept) (omega (arith, all, x.sent)))
-
 pub done-busy : (busy : Bool) (r : ℕ) (ds cn cm : List (List ℕ)) (n m : End) → Done busy r ds cn cm n m → Done busy r ds cn cm (giver_of n) (taker_of n m)
-done-busy busy r ds cn cm n m h =
-    let p = h.paired in
-    let x = busy-moves n m p.itself p.other p.taken p.dropped in
-    let y = no-one n m (giver_of n) (taker_of n m) h.all x.giver.contents x.a h.acknowledged x.moved in
-    record { paired = busy-turn busy r ds cn cm n m p; acknowledged = y.0; all = y.1 }
+done-busy busy r ds cn cm n m h = grind (arith, busy-moves, giver_of, taker_of, busy-turn)
 
 -- Rounds: the busy end is near, and then far.
 pub rounds-near : (u : ℕ) (busy : Bool) (r : ℕ) (ds cn cm : List (List ℕ)) (e : Ends) → Ahead u busy r ds cn cm e.near e.far
@@ -255,8 +237,7 @@ from-far u busy r ds cn cm e h left =
 
 -- The pair as it is at first.
 pub paired-first : (n m : End) → IsBusyItself n → IsOpenItself m → IsTaken n m → IsDropped n m → Paired m.link.peer_busy n.link.r n.delivered n.link.contents m.link.contents n m
-paired-first n m hn hm there back =
-    record { itself = hn; other = hm; taken = there; dropped = back; taken_for = refl; received = refl; delivered = refl; kept_n = refl; kept_m = refl }
+paired-first n m hn hm there back = grind arith
 
 -- A pair by its shapes.
 pub paired-shapes : (n m : End) (a s a' s' : ℕ) (busy p : Bool) (running running' : Option LinkTimer) (ds : List (List ℕ))
@@ -264,5 +245,4 @@ pub paired-shapes : (n m : End) (a s a' s' : ℕ) (busy p : Bool) (running runni
     → m.link.r ≡ s → ds ≡ take s n.link.contents → (a < s → p ≡ true) → All (λ octets. length octets ≤ m.terms.n201) n.link.contents
     → a' ≤ n.link.r → n.link.r ≤ s' → All (λ octets. length octets ≤ n.terms.n201) m.link.contents
     → Paired busy n.link.r n.delivered n.link.contents m.link.contents (in_7_with true false n [] a s false running n.delivered) (in_7_with false busy m [] a' s' p running' ds)
-paired-shapes n m a s a' s' busy p running running' ds rn rm sn sm at there owed sizes low high sizes' =
-    search (there ∙ ap (λ i. take i n.link.contents) (sym at)) parts 3
+paired-shapes n m a s a' s' busy p running running' ds rn rm sn sm at there owed sizes low high sizes' = grind arith

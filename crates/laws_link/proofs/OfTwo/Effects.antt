@@ -1,5 +1,5 @@
 -- What an event does to a link that stays in states 7 and 8: its numbers, its state, and the kind of frame that waits anew.
-use Rattle.laws_link.proofs.Vocabulary.{arith, ◌≡◌, ℕ, ◌+◌, Bool, true, false, cond, IsTrue, List, [], ◌∷◌, ◌++◌, Option, None, Some, refl, sym, subst, ◌∙◌, ◌⊎◌, inl, inr, true≢false, nat_lt, length, eqb-false, Seq, seq, named, seq-value, is_seq, Control, ReceiveReady, ReceiveNotReady, Reject, State, Established, TimerRecovery, LinkTimer, ControlFrame, Terms, Link, is_multiple_frame, Course, begun, Step, ◌then◌, eqb-true, ErrorCode, by_number, error, has_room, peer_busy_is, re_establish, ready_to_receive, response, acknowledged_by_information_in_7, acknowledged_by_rej_in_7, acknowledged_in_7, is_all_sent, is_beyond_acknowledged, unsolicited, acknowledged_in_8, solicited}
+use Rattle.laws_link.proofs.Vocabulary.{arith, ◌≡◌, ℕ, ◌+◌, Bool, true, false, cond, IsTrue, List, [], ◌∷◌, ◌++◌, Option, None, Some, refl, sym, ◌∙◌, ◌⊎◌, inl, inr, true≢false, nat_lt, length, eqb-false, Seq, seq, named, seq-value, is_seq, Control, Reject, State, Established, TimerRecovery, LinkTimer, ControlFrame, Terms, Link, is_multiple_frame, Course, begun, Step, ◌then◌, eqb-true, ErrorCode, by_number, error, has_room, peer_busy_is, re_establish, ready_to_receive, response, acknowledged_by_information_in_7, acknowledged_by_rej_in_7, acknowledged_in_7, unsolicited, acknowledged_in_8, solicited}
 use Rattle.model_link.specs.MultipleFrame
 use Rattle.laws_link.proofs.OfTwo.Trains.{Kind, numbered, enquiry, answer, report, rejection, alien, kind_of}
 
@@ -13,8 +13,7 @@ abbrev pub Grown : List ControlFrame → List ControlFrame → Kind → Type 0
 Grown before after k = (after ≡ before) ⊎ ((f : ControlFrame) × (after ≡ before ++ f ∷ []) × (kind_of f.command f.control ≡ k))
 
 pub grows : (b : Bool) (ws : List ControlFrame) (f : ControlFrame) (k : Kind) → kind_of f.command f.control ≡ k → Grown ws (cond b (ws ++ f ∷ []) ws) k
-grows true ws f k e = inr (f, refl, e)
-grows false ws f k e = inl refl
+grows b ws f k e = grind arith
 
 -- All that counts stays as it was.
 pub record Kept (l l' : Link) : Type 0 where
@@ -67,8 +66,7 @@ abbrev IsUpIn : Course → Type 0
 IsUpIn c = IsTrue (is_multiple_frame c.link.state)
 
 pub either : (P : Link → Type 0) (b : Bool) (u v : Course) → P u.link → P v.link → P (cond b u v).link
-either P true u v x y = x
-either P false u v x y = y
+either P b u v x y = grind arith
 
 -- An N(R) has its effect, or leads out of the states.
 abbrev effected : Terms → (ℕ → Step) → Course → Option ℕ → Course
@@ -76,8 +74,7 @@ effected t f c o = elim o [ None ↦ (error t ErrorCode.J then re_establish t) c
 
 effect : (P : Link → Type 0) (t : Terms) (f : ℕ → Step) (c : Course) (o : Option ℕ) → ((n : ℕ) → o ≡ Some n → P (f n c).link)
     → IsUpIn (effected t f c o) → P (effected t f c o).link
-effect P t f c None x up = absurd (true≢false (sym up))
-effect P t f c (Some n) x up = x n refl
+effect P t f c o x up = grind arith
 
 by-number : (P : Link → Type 0) (t : Terms) (nr : Seq) (f : ℕ → Step) (c : Course) → ((n : ℕ) → named c.link.a c.link.s nr ≡ Some n → P (f n c).link)
     → IsUpIn (by_number t nr f c) → P (by_number t nr f c).link
@@ -88,13 +85,10 @@ same : (c : Course) → Kept c.link c.link
 same c = record { state = refl; s = refl; r = refl; rejecting = refl; waiting = refl }
 
 pub acknowledged-7 : (c : Course) (n : ℕ) → Kept c.link (acknowledged_in_7 n c).link
-acknowledged-7 c n =
-    either (Kept c.link) (is_all_sent n c.link) _ _ (record { state = refl; s = refl; r = refl; rejecting = refl; waiting = refl })
-    (either (Kept c.link) (is_beyond_acknowledged n c.link) _ _ (record { state = refl; s = refl; r = refl; rejecting = refl; waiting = refl }) (same c))
+acknowledged-7 c n = grind (arith, either, same)
 
 pub information-7 : (c : Course) (n : ℕ) → Kept c.link (acknowledged_by_information_in_7 n c).link
-information-7 c n =
-    either (Kept c.link) c.link.peer_busy _ _ (record { state = refl; s = refl; r = refl; rejecting = refl; waiting = refl }) (acknowledged-7 c n)
+information-7 c n = grind (arith, either, acknowledged-7)
 
 -- A supervisory frame, up to its N(R).
 module _ (t : Terms) (l : Link) where
@@ -107,22 +101,10 @@ module _ (t : Terms) (l : Link) where
   abbrev ready : Control
   ready = ready_to_receive true l
 
-  kind-of-ready : (own : Bool) → kind_of false (cond own (ReceiveNotReady (seq l.r) true) (ReceiveReady (seq l.r) true)) ≡ answer (seq l.r)
-  kind-of-ready own = grind arith
-
   -- what waits, after the answer
   answers : (c : Course) (l' : Link) → c.link.state ≡ l.state → c.link.s ≡ l.s → c.link.r ≡ l.r → c.link.rejecting ≡ l.rejecting
       → c.link.waiting ≡ cond (has_room t l) (l.waiting ++ response ready ∷ []) l.waiting → Kept c.link l' → Went (answer (seq l.r)) l l'
-  answers c l' state s r rejecting waiting k =
-      record {
-        state = k.state ∙ state;
-        s = k.s ∙ s;
-        r = k.r ∙ r;
-        rejecting = k.rejecting ∙ rejecting;
-        waiting =
-            subst (λ ws. Grown l.waiting ws (answer (seq l.r))) (sym (k.waiting ∙ waiting))
-            (grows (has_room t l) l.waiting (response ready) (answer (seq l.r)) (kind-of-ready l.own_busy));
-      }
+  answers c l' state s r rejecting waiting k = grind (arith, answer, grows)
 
   pub enquired-7 : (busy : Bool) (nr : Seq) (f : ℕ → Step) → ((c : Course) (n : ℕ) → Kept c.link (f n c).link)
       → IsUpIn (by_number t nr f (c-7 busy true true)) → Went (answer (seq l.r)) l (by_number t nr f (c-7 busy true true)).link
@@ -134,8 +116,7 @@ module _ (t : Terms) (l : Link) where
 
   -- nothing is answered
   keeps : (c : Course) (l' : Link) → Kept l c.link → Kept c.link l' → Kept l l'
-  keeps c l' h k =
-      record { state = k.state ∙ h.state; s = k.s ∙ h.s; r = k.r ∙ h.r; rejecting = k.rejecting ∙ h.rejecting; waiting = k.waiting ∙ h.waiting }
+  keeps c l' h k = grind arith
 
   pub kept-by : (nr : Seq) (f : ℕ → Step) (c : Course) → Kept l c.link → ((c : Course) (n : ℕ) → Kept c.link (f n c).link)
       → IsUpIn (by_number t nr f c) → Kept l (by_number t nr f c).link
@@ -155,8 +136,7 @@ module _ (t : Terms) (l : Link) where
 
   -- I-frames
   chosen : (ns : Seq) (b : Bool) (u v : Course) → (b ≡ true → Informed ns l u.link) → (b ≡ false → Informed ns l v.link) → Informed ns l (cond b u v).link
-  chosen ns true u v x y = x refl
-  chosen ns false u v x y = y refl
+  chosen ns b u v x y = grind arith
 
   contents : (ns : Seq) (octets : List ℕ) → Informed ns l (MultipleFrame.contents_in_7_8 t ns false octets (begun l)).link
   contents ns octets =
@@ -171,19 +151,10 @@ module _ (t : Terms) (l : Link) where
       })))
 
   took-then : (ns : Seq) (c : Course) (l' : Link) → Informed ns l c.link → Kept c.link l' → Informed ns l l'
-  took-then ns c l' h k =
-      record {
-        state = k.state ∙ h.state;
-        s = k.s ∙ h.s;
-        takes =
-            subst (λ r. Takes ns l (record l' { r = r })) (sym k.r)
-            (subst (λ q. Takes ns l (record l' { r = c.link.r; rejecting = q })) (sym k.rejecting)
-            (subst (λ ws. Takes ns l (record l' { r = c.link.r; rejecting = c.link.rejecting; waiting = ws })) (sym k.waiting) h.takes));
-      }
+  took-then ns c l' h k = grind arith
 
   fitting : (ns : Seq) (b : Bool) (u v : Course) → (IsUpIn u → ⊥) → (IsUpIn v → Informed ns l v.link) → IsUpIn (cond b u v) → Informed ns l (cond b u v).link
-  fitting ns true u v x y up = absurd (x up)
-  fitting ns false u v x y up = y up
+  fitting ns b u v x y up = grind arith
 
   pub informs : (ns nr : Seq) (octets : List ℕ) (f : ℕ → Step) → ((c : Course) (n : ℕ) → Kept c.link (f n c).link)
       → IsUpIn (MultipleFrame.information_in_7_8 t ns nr false octets f (begun l)) → Informed ns l (MultipleFrame.information_in_7_8 t ns nr false octets f (begun l)).link

@@ -1,5 +1,5 @@
 -- What comes of two ends once own busy is over at one of them.
-use Rattle.laws_link.proofs.Vocabulary.{◌≡◌, ℕ, ◌+◌, ◌<◌, ◌≤◌, Bool, true, false, IsTrue, [], length, take, Some, refl, sym, ap, subst, ◌∙◌, arith, All, State, T200, is_multiple_frame, requested, ClearBusy, IsInRange, IsSound, End, Ends, asks, sends, receives, loses, at_near, at_far, with_first_of, turned, doing, sound-after, IsTimedIn, rounds, IsReady, IsTaken, HasUnsent, IsCutOff, IsCutOffWith, HasMissing, with_t200_expired, IsBusyItself, IsOpenItself, with_near_told, with_near_untold, HasDroppedNothing, BothHaveArrived}
+use Rattle.laws_link.proofs.Vocabulary.{◌≡◌, ℕ, ◌+◌, ◌≤◌, Bool, true, false, IsTrue, [], length, take, Some, refl, sym, ap, subst, ◌∙◌, arith, All, State, T200, is_multiple_frame, requested, ClearBusy, IsInRange, IsSound, End, Ends, asks, sends, receives, loses, at_near, at_far, with_first_of, turned, doing, sound-after, IsTimedIn, rounds, IsReady, IsTaken, HasUnsent, IsCutOff, IsCutOffWith, HasMissing, with_t200_expired, IsBusyItself, IsOpenItself, with_near_told, with_near_untold, HasDroppedNothing, BothHaveArrived}
 use Rattle.laws_link.proofs.OfTwo.Halves.{named-number}
 use Rattle.laws_link.proofs.OfTwo.Arriving.{Arrived, all-arrived}
 use Rattle.laws_link.proofs.OfTwo.Recovering.{Sounds, sounds-near}
@@ -43,23 +43,7 @@ module _ (e : Ends) where
 -- Cut off they were, and so they are.
 cut-off : (own : Bool) (a : ℕ) (busy pending : Bool) (b : ℕ) (busy' pending' : Bool) (n m n' m' : End) → IsCutOffWith own n m → IsLeft a busy pending n n' → IsLeft b busy' pending' m m'
     → a ≤ m.link.r → IsSound n'.terms n'.link → Sane n'.link → IsCutOff n' m'
-cut-off own a busy pending b busy' pending' n m n' m' h x y low sound sane =
-    let high : m.link.r ≤ n.link.s = h.high in
-    record {
-      ranges = subst (λ t. IsInRange t) (sym x.terms) h.ranges;
-      sound = sound;
-      timed = sane.timed;
-      heeds = sane.heeds;
-      up = subst (λ s. IsTrue (is_multiple_frame s)) (sym x.state) h.up;
-      repeats = λ s. subst (λ t. n'.link.repeats < t.n200) (sym x.terms) (subst (λ i. i < n.terms.n200) (sym x.repeats) (h.repeats (sym x.state ∙ s)));
-      own_busy = x.own_busy;
-      waiting = x.waiting;
-      way = x.way;
-      low = omega (arith, low, x.a, y.r);
-      high = omega (arith, high, x.s, y.r);
-      delivered = y.delivered ∙ h.delivered ∙ ap (λ i. take i n.link.contents) (sym y.r) ∙ ap (λ cs. take m'.link.r cs) (sym x.contents);
-      sizes = subst (λ t. All (λ octets. length octets ≤ t.n201) n'.link.contents) (sym y.terms) (subst (λ cs. All (λ octets. length octets ≤ m.terms.n201) cs) (sym x.contents) h.sizes);
-    }
+cut-off own a busy pending b busy' pending' n m n' m' h x y low sound sane = grind arith
 
 abbrev Recovers : ℕ → Ends → Ends → Type 0
 Recovers u e e' = Arrived e.near.link.contents e.far.link.contents (rounds (u + 3) (with_t200_expired e')) × Arrived e.far.link.contents e.near.link.contents (rounds (u + 3) (with_t200_expired (turned e')))
@@ -82,13 +66,7 @@ module _ (u : ℕ) (e : Ends) (hn : IsCutOffWith true e.near e.far) (hm : IsCutO
       )
 
   sounds : Sounds (asked e)
-  sounds =
-      record {
-        near_ranges = hn.ranges;
-        far_ranges = hm.ranges;
-        near = sound-after e.near.terms hn.ranges (requested ClearBusy false) e.near.link hn.sound;
-        far = hm.sound;
-      }
+  sounds = grind (arith, sound-after)
 
   sanes : BothSane e
   sanes = (record { timed = hn.timed; heeds = hn.heeds }, record { timed = hm.timed; heeds = hm.heeds })

@@ -1,5 +1,5 @@
 -- Own busy ends at an end: what its request and its RR leave, at that end and at the other.
-use Rattle.laws_link.proofs.Vocabulary.{◌≡◌, ℕ, ◌≤◌, Bool, true, false, cond, IsTrue, List, [], ◌∷◌, ◌++◌, Option, Some, refl, sym, ap, subst, ◌∙◌, append-nil, true≢false, arith, nat_lt, lt-ltb, seq, named, ReceiveReady, Parts, State, LinkTimer, T200, Terms, Link, is_multiple_frame, frame, received, requested, ClearBusy, IsInRange, Course, begun, End, with_link, with_sent, with_first_lost, response}
+use Rattle.laws_link.proofs.Vocabulary.{◌≡◌, ℕ, ◌≤◌, Bool, true, false, cond, IsTrue, List, [], ◌∷◌, ◌++◌, Some, refl, sym, ap, subst, ◌∙◌, append-nil, arith, nat_lt, lt-ltb, seq, named, ReceiveReady, Parts, State, T200, Terms, Link, is_multiple_frame, frame, received, requested, ClearBusy, IsInRange, Course, begun, End, with_link, with_sent, with_first_lost, response}
 use Rattle.laws_link.proofs.OfTwo.Plain.{acknowledgement_frame}
 use Rattle.laws_link.proofs.OfTwo.Shapes.{in_8_with, in_7_with, having, acknowledged-8}
 use Rattle.laws_link.proofs.OfTwo.Acknowledging.{Acknowledges, by-rr}
@@ -50,27 +50,14 @@ module _ (n : End) (ranges : IsInRange n.terms) (busy : n.link.own_busy ≡ true
     pub way : x.way ≡ acknowledgement_frame n.terms n.link ∷ []
     pub left : IsLeft n.link.a n.link.peer_busy false n (with_first_lost x)
 
-  gives-quiet : (here : State) → n.link.state ≡ here → Gives (quiet here (acknowledgement_frame n.terms n.link ∷ []) n.delivered)
-  gives-quiet here s =
-      record {
-        way = refl;
-        left = record { terms = refl; contents = refl; a = refl; s = refl; r = refl; delivered = refl; state = sym s; repeats = refl; peer_busy = refl; pending = refl; own_busy = refl; waiting = refl; way = refl };
-      }
-
   in-7 : n.link.state ≡ State.Established → over n ≡ quiet State.Established (acknowledgement_frame n.terms n.link ∷ []) n.delivered
-  in-7 s =
-      ap over (is-known State.Established s) ∙ ap (λ b. with_sent (told State.Established b)) room
-      ∙ ap (quiet State.Established (acknowledgement_frame n.terms n.link ∷ [])) (append-nil n.delivered)
+  in-7 s = grind (arith, is-known, room, acknowledgement_frame, append-nil)
 
   in-8 : n.link.state ≡ State.TimerRecovery → over n ≡ quiet State.TimerRecovery (acknowledgement_frame n.terms n.link ∷ []) n.delivered
-  in-8 s =
-      ap over (is-known State.TimerRecovery s) ∙ ap (λ b. with_sent (told State.TimerRecovery b)) room
-      ∙ ap (quiet State.TimerRecovery (acknowledgement_frame n.terms n.link ∷ [])) (append-nil n.delivered)
+  in-8 s = grind (arith, is-known, room, acknowledgement_frame, append-nil)
 
   by-state : (here : State) → n.link.state ≡ here → IsTrue (is_multiple_frame here) → Gives (over n)
-  by-state State.Established e up = subst Gives (sym (in-7 e)) (gives-quiet State.Established e)
-  by-state State.TimerRecovery e up = subst Gives (sym (in-8 e)) (gives-quiet State.TimerRecovery e)
-  by-state other e up = absurd (true≢false (sym up))
+  by-state here e up = grind (arith, in-7, in-8)
 
   pub gives : IsTrue (is_multiple_frame n.link.state) → Gives (over n)
   gives up = by-state n.link.state refl up
@@ -93,20 +80,11 @@ module _ (m : End) (free : m.link.own_busy ≡ false) (waiting : m.link.waiting 
   abbrev here : Course
   here = begun (in_7_with false false m [] m.link.a m.link.s m.link.pending m.link.running m.delivered).link
 
-  left-7 : (running : Option LinkTimer) → m.link.state ≡ State.Established → Hears (in_7_with false false m [] x m.link.s m.link.pending running m.delivered)
-  left-7 running e =
-      record { terms = refl; contents = refl; a = refl; s = refl; r = refl; delivered = refl; state = sym e; repeats = refl; peer_busy = refl; pending = refl; own_busy = refl; waiting = refl; way = refl }
-
   left-8 : m.link.state ≡ State.TimerRecovery → Hears (in_8_with false m [] false x m.link.pending m.delivered)
-  left-8 e =
-      record { terms = refl; contents = refl; a = refl; s = refl; r = refl; delivered = refl; state = sym e; repeats = refl; peer_busy = refl; pending = refl; own_busy = refl; waiting = refl; way = refl }
+  left-8 e = grind arith
 
   ended : (c : Course) → Acknowledges x here c → m.link.state ≡ State.Established → Hears (having (in_7_with false false m [] m.link.a m.link.s m.link.pending m.link.running m.delivered) c)
-  ended c h e =
-      let is : having (in_7_with false false m [] m.link.a m.link.s m.link.pending m.link.running m.delivered) c ≡ in_7_with false false m [] x m.link.s m.link.pending h.running m.delivered =
-      ap (having (in_7_with false false m [] m.link.a m.link.s m.link.pending m.link.running m.delivered)) h.is
-      ∙ ap (λ ds. in_7_with false false m [] x m.link.s m.link.pending h.running ds) (append-nil m.delivered) in
-      subst Hears (sym is) (left-7 h.running e)
+  ended c h e = grind (arith, having, in_7_with, append-nil)
 
   hears-7 : m.link.state ≡ State.Established → Hears (hears m)
   hears-7 e = subst (λ y. Hears (hears y)) (sym (is-7 e)) (ended _ (by-rr m.terms (seq l.r) x here names low) e)
@@ -116,6 +94,4 @@ module _ (m : End) (free : m.link.own_busy ≡ false) (waiting : m.link.waiting 
       subst Hears (sym (ap hears (is-8 e r) ∙ acknowledged-8 false m [] m.link.peer_busy m.link.a m.link.pending m.delivered t l x names)) (left-8 e)
 
   pub heard : (here : State) → m.link.state ≡ here → IsTrue (is_multiple_frame here) → (here ≡ State.TimerRecovery → m.link.running ≡ Some T200) → Hears (hears m)
-  heard State.Established e up ran = hears-7 e
-  heard State.TimerRecovery e up ran = hears-8 e (ran refl)
-  heard other e up ran = absurd (true≢false (sym up))
+  heard here e up ran = grind (arith, hears-7, hears-8)

@@ -1,5 +1,5 @@
 -- What the expiry of T200 makes of an end that is cut off: it asks, or it has nothing outstanding.
-use Rattle.laws_link.proofs.Vocabulary.{◌≡◌, ℕ, ◌+◌, ◌≤◌, Bool, true, false, cond, IsTrue, [], ◌∷◌, ◌++◌, Option, Some, refl, sym, ap, ◌∙◌, ◌⊎◌, inl, inr, append-nil, true≢false, arith, nat_lt, option_to_list, lt-ltb, State, LinkTimer, T200, T203, Link, is_multiple_frame, expired, Course, begun, End, with_link, IsTimedIn, HeedsIn, IsCutOffWith, ErrorCode, enquire, repeated, start, failed}
+use Rattle.laws_link.proofs.Vocabulary.{◌≡◌, ℕ, ◌+◌, ◌≤◌, Bool, true, false, cond, IsTrue, [], ◌∷◌, ◌++◌, Option, Some, refl, ap, ◌∙◌, ◌⊎◌, append-nil, arith, nat_lt, option_to_list, lt-ltb, State, LinkTimer, T200, T203, Link, is_multiple_frame, expired, Course, begun, End, with_link, IsTimedIn, HeedsIn, IsCutOffWith, ErrorCode, enquire, repeated, start, failed}
 use Rattle.laws_link.proofs.OfTwo.Shapes.{enquiry_with, in_8_with, in_7_with}
 
 abbrev pub with_count : ℕ → End → End
@@ -28,8 +28,7 @@ module _ (own : Bool) (n m : End) (h : IsCutOffWith own n m) where
       record n { link = record n.link { state = here; own_busy = own; peer_busy = busy; waiting = []; running = running }; way = [] }
 
   is-known : (here : State) (busy : Bool) (running : Option LinkTimer) → n.link.state ≡ here → n.link.peer_busy ≡ busy → n.link.running ≡ running → n ≡ known here busy running
-  is-known here busy running s b r =
-      λ i. record n { link = record n.link { state = s i; own_busy = h.own_busy i; peer_busy = b i; waiting = h.waiting i; running = r i }; way = h.way i }
+  is-known here busy running s b r = grind arith
 
   abbrev asked : Bool → ℕ → End
   asked b count =
@@ -41,18 +40,6 @@ module _ (own : Bool) (n m : End) (h : IsCutOffWith own n m) where
 
   asks : (b : Bool) (count : ℕ) → b ≡ true → asked b count ≡ in_8_with own (with_count count n) (enquiry_with own n.link.r ∷ []) n.link.peer_busy n.link.a false n.delivered
   asks b count e = ap (λ x. asked x count) e ∙ ap (λ ds. in_8_with own (with_count count n) (enquiry_with own n.link.r ∷ []) n.link.peer_busy n.link.a false ds) (append-nil n.delivered)
-
-  in-7-t200 : n.link.state ≡ State.Established → n.link.running ≡ Some T200 → Asking own n (after n)
-  in-7-t200 s r = record { count = 0; is = ap after (is-known State.Established n.link.peer_busy (Some T200) s refl r) ∙ asks (nat_lt 0 n.terms.control) 0 room }
-
-  in-7-t203 : n.link.state ≡ State.Established → n.link.peer_busy ≡ false → n.link.running ≡ Some T203 → n.link.s ≤ n.link.a → Resting own n (after n)
-  in-7-t203 s b r all =
-      record {
-        running = Some T203;
-        is = ap after (is-known State.Established false (Some T203) s b r) ∙ ap (λ ds. in_7_with own false n [] n.link.a n.link.s n.link.pending (Some T203) ds) (append-nil n.delivered);
-        all = all;
-        before = r;
-      }
 
   in-8-t200 : n.link.state ≡ State.TimerRecovery → n.link.running ≡ Some T200 → Asking own n (after n)
   in-8-t200 s r =
@@ -73,15 +60,11 @@ module _ (own : Bool) (n m : End) (h : IsCutOffWith own n m) where
       ended c = record n { link = c.link; way = []; delivered = n.delivered ++ option_to_list c.delivered }
 
   not-busy : (b : Bool) → n.link.peer_busy ≡ b → n.link.running ≡ Some T203 → (IsTrue n.link.peer_busy → n.link.running ≡ Some T200) → n.link.peer_busy ≡ false
-  not-busy false e r w = e
-  not-busy true e r w = absurd (let two : Some T203 ≡ Some T200 = sym r ∙ w e in cc)
+  not-busy b e r w = grind arith
 
   by-state : (here : State) → n.link.state ≡ here → IsTrue (is_multiple_frame here) → IsTimedIn here n.link → HeedsIn here n.link.peer_busy n.link.running
       → Asking own n (after n) ⊎ Resting own n (after n)
-  by-state State.Established e up (inl r) heeds = inl (in-7-t200 e r)
-  by-state State.Established e up (inr r) heeds = inr (in-7-t203 e (not-busy n.link.peer_busy refl r.0 heeds) r.0 r.1)
-  by-state State.TimerRecovery e up timed heeds = inl (in-8-t200 e timed)
-  by-state other e up timed heeds = absurd (true≢false (sym up))
+  by-state here e up timed heeds = grind (arith, is-known, asks, nat_lt, room, in_7_with, append-nil, not-busy, lt-ltb)
 
   pub expires-one : Asking own n (after n) ⊎ Resting own n (after n)
   expires-one = by-state n.link.state refl h.up h.timed.timer h.heeds.heeds

@@ -96,8 +96,7 @@ module _ (t : Terms) (n : ℕ) where
   grants ClearBusy c h = clears-busy.leads c h
 
   asked : (request : Request) (c : Course) (o : Option Refusal) → Few n c → Few n (elim o [ None ↦ granted t request c | Some _ ↦ c ])
-  asked request c None h = grants request c h
-  asked request c (Some w) h = h
+  asked request c o h = grind (arith, grants)
 
   offers : (ws : List ControlFrame) (c : Course) → finals ws ≤ n → Few n c → Few n (offer_among t ws c)
   offers (f ∷ fs) c few h = record { few = let e : finals (f ∷ fs) ≡ cond {A = ℕ} (is_final_response f) 1 0 + finals fs = sum_by-cons (λ g. cond {A = ℕ} (is_final_response g) 1 0) f fs in omega (arith, few) }

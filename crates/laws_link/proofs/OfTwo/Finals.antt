@@ -1,5 +1,5 @@
 -- How many responses with F=1 wait: each word but the answers leaves their number.
-use Rattle.laws_link.proofs.Vocabulary.{◌≡◌, ℕ, ◌+◌, ◌≤◌, Bool, true, false, cond, List, [], ◌∷◌, ◌++◌, refl, subst, arith, sum_by_push, Seq, seq, Control, ReceiveReady, ReceiveNotReady, Reject, Ua, Dm, Note, ControlFrame, Terms, Link, Course, Step, ◌then◌, nothing, by_bit, Leads, then_leads, keeping_then, nothing_leads, depending_leads, bit_leads, to_less, finals, is_final_response, number_leads, answer, by_number, command, enquire, has_room, note, pending_is, re_establish, ready_to_receive, reject, report_ready, response, send}
+use Rattle.laws_link.proofs.Vocabulary.{◌≡◌, ℕ, ◌+◌, ◌≤◌, Bool, true, false, cond, List, [], ◌∷◌, ◌++◌, refl, arith, sum_by_push, Seq, seq, Control, ReceiveReady, ReceiveNotReady, Reject, Ua, Dm, Note, ControlFrame, Terms, Link, Course, Step, ◌then◌, nothing, by_bit, Leads, then_leads, keeping_then, nothing_leads, depending_leads, bit_leads, to_less, finals, is_final_response, number_leads, answer, by_number, command, enquire, note, pending_is, re_establish, ready_to_receive, reject, report_ready, response, send}
 
 -- At most n of them wait.
 pub record Few (n : ℕ) (c : Course) : Type 0 where
@@ -10,18 +10,12 @@ few_stays x = record { leads = λ c h. record { few = x c h.few } }
 
 pushed : (b : Bool) (n : ℕ) (ws : List ControlFrame) (f : ControlFrame) → finals ws ≤ n
     → finals (cond b (ws ++ f ∷ []) ws) ≤ n + cond {A = ℕ} (is_final_response f) 1 0
-pushed true n ws f h = let e : finals (ws ++ f ∷ []) ≡ finals ws + cond {A = ℕ} (is_final_response f) 1 0 = sum_by_push (λ f. cond {A = ℕ} (is_final_response f) 1 0) ws f in omega (arith, h)
-pushed false n ws f h = omega (arith, h)
+pushed b n ws f h = grind (arith, sum_by_push)
 
 -- one that may be such a response
 pub sends : (t : Terms) (n : ℕ) (f : Link → ControlFrame) (b : Bool) → ((l : Link) → is_final_response (f l) ≡ b)
     → Leads (Few n) (λ c. send t (f c.link) c) (Few (n + cond {A = ℕ} b 1 0))
-sends t n f b e =
-    record {
-      leads = λ c h. record {
-        few = subst (λ b. finals (cond (has_room t c.link) (c.link.waiting ++ f c.link ∷ []) c.link.waiting) ≤ n + cond {A = ℕ} b 1 0) (e c.link) (pushed (has_room t c.link) n c.link.waiting (f c.link) h.few);
-      };
-    }
+sends t n f b e = grind (arith, pushed)
 
 ready-response : (b f : Bool) (x y : Seq) → is_final_response (response (cond b (ReceiveNotReady x f) (ReceiveReady y f))) ≡ f
 ready-response b f x y = grind arith
@@ -70,8 +64,7 @@ answer-by t n false {g} x = record { leads = λ c h. record { few = omega (arith
 
 -- more may wait
 pub weaker : (n : ℕ) (b : Bool) {f : Step} → Leads (Few n) f (Few n) → Leads (Few n) f (Few (n + cond {A = ℕ} b 1 0))
-weaker n true x = to_less (λ c h. record { few = omega (arith, h.few) }) x
-weaker n false x = to_less (λ c h. record { few = omega (arith, h.few) }) x
+weaker n b x = grind (arith, to_less)
 
 pub ruleset words = (few_stays, keeping_then, nothing_leads, depending_leads, bit_leads, command_few, enquire_few, report_few)
 

@@ -1,6 +1,6 @@
 -- One direction between two links whose T200 is timely: the sender's V(S), the receiver's V(R), and what is between them.
 use Rattle.laws_link.proofs.Vocabulary.{◌≡◌, ℕ, ◌+◌, ◌<◌, ◌≤◌, Bool, true, false, List, [], ◌∷◌, ◌++◌, refl, arith, seq}
-use Rattle.laws_link.proofs.OfTwo.Trains.{Kind, numbered, enquiry, answer, rejection, tally, one_enquiry, one_answer, one_rejection, tally-push, Every, every-push, Behind, behind-push, behind-first, Calm, Comes, calm-comes, Rise, rise-lower, rise-low, rise-push, calm-rise, Beyond, calm-beyond, Late, rise-late, beyond-late, late-low, late-tail, late-push, rise-next, late-next}
+use Rattle.laws_link.proofs.OfTwo.Trains.{Kind, numbered, enquiry, answer, rejection, tally, one_enquiry, one_answer, one_rejection, tally-push, Every, every-push, Behind, behind-push, behind-first, Calm, Comes, calm-comes, Rise, rise-lower, rise-low, rise-push, calm-rise, Beyond, calm-beyond, Late, rise-late, late-low, late-tail, late-push, rise-next, late-next}
 
 -- What is on the line to a receiver that has sent no REJ, and to one that has.
 abbrev pub Order : Bool → ℕ → ℕ → List Kind → Type 0
@@ -47,8 +47,7 @@ pub record Flow (s r : ℕ) (recovers rejects : Bool) (there back : List Kind) :
 
 -- the order, whether REJ was sent or not
 order-low : (q : Bool) (r s : ℕ) (xs : List Kind) → Order q r s xs → r ≤ s
-order-low true r s xs h = late-low r s xs h
-order-low false r s xs h = rise-low r s xs h
+order-low q r s xs h = grind (arith, late-low, rise-low)
 
 pub flow-low : (s r : ℕ) (b q : Bool) (ln lm : List Kind) → Flow s r b q ln lm → r ≤ s
 flow-low s r b q ln lm h = order-low q r s ln h.order
@@ -58,20 +57,13 @@ order-tail true r s x xs h = late-tail r s x xs h
 order-tail false r s x xs (top, up, here, rest) = rise-lower top r s xs up rest
 
 order-push : (q : Bool) (r s top : ℕ) (xs : List Kind) (y : Kind) → s ≤ top → Comes s top y → Order q r s xs → Order q r top (xs ++ y ∷ [])
-order-push true r s top xs y le p h = late-push r s top xs y le p h
-order-push false r s top xs y le p h = rise-push r s top xs y le p h
+order-push q r s top xs y le p h = grind (arith, late-push, rise-push)
 
 pub order-calm : (q : Bool) (r : ℕ) (xs : List Kind) → Every Calm xs → Order q r r xs
-order-calm true r xs h = rise-late r r xs (calm-rise r xs h)
-order-calm false r xs h = calm-rise r xs h
-
-pub order-beyond : (q : Bool) (r : ℕ) (xs : List Kind) → q ≡ true → Every (Beyond r) xs → Order q r r xs
-order-beyond true r xs e h = beyond-late r r xs (omega arith) h
-order-beyond false r xs e h = absurd (cc)
+order-calm q r xs h = grind (arith, rise-late, calm-rise)
 
 pub order-next : (q : Bool) (r s : ℕ) (xs : List Kind) → Order q r s (numbered (seq r) ∷ xs) → Rise (r + 1) s xs
-order-next true r s xs h = late-next r s xs h
-order-next false r s xs h = rise-next r s xs h
+order-next q r s xs h = grind (arith, late-next, rise-next)
 
 -- a frame that is not among those that are counted
 pub few-more : (one : Kind → ℕ) (xs : List Kind) (y : Kind) → one y ≡ 0 → tally one (xs ++ y ∷ []) ≡ tally one xs
@@ -106,8 +98,7 @@ there-enquiry s r b q ln lm none none' h =
     }
 
 pub there-unasked : (s r : ℕ) (b q : Bool) (ln lm : List Kind) → tally one_enquiry ln ≡ 0 → tally one_answer lm ≡ 0 → Flow s r b q ln lm → Flow s r true q ln lm
-there-unasked s r b q ln lm none none' h =
-    record { order = h.order; one = h.one; rejected = h.rejected; asked = omega (arith, none, none'); last = h.last; answered = h.answered }
+there-unasked s r b q ln lm none none' h = grind arith
 
 -- by an I-frame in state 7.
 pub there-information : (s r : ℕ) (q : Bool) (ln lm : List Kind) → s ≤ r + 127 → Flow s r false q ln lm
@@ -129,48 +120,13 @@ there-information s r q ln lm near h =
 
 -- Its first frame goes: lost, or heard without an effect on V(R).
 pub there-tail : (s r : ℕ) (b q : Bool) (x : Kind) (ln lm : List Kind) → Flow s r b q (x ∷ ln) lm → Flow s r b q ln lm
-there-tail s r b q x ln lm h =
-    let asked : (one_enquiry x + tally one_enquiry ln) + tally one_answer lm ≤ most b = h.asked in
-    record {
-      order = order-tail q r s x ln h.order;
-      one = h.one;
-      rejected = λ some. let j = h.rejected some in record { is = j.is; below = j.below; beyond = j.beyond.1; says = j.says };
-      asked = omega arith;
-      last = λ some. (h.last (omega (arith, some))).1;
-      answered = λ some. let j = h.answered some in record { calm = j.calm.1; says = j.says; behind = j.behind };
-    }
+there-tail s r b q x ln lm h = grind (arith, one_enquiry, tally, one_answer, order-tail)
 
 -- The receiver's side grows: by a frame that is neither an answer nor REJ,
 pub back-other : (s r : ℕ) (b q : Bool) (ln lm : List Kind) (y : Kind) → one_answer y ≡ 0 → one_rejection y ≡ 0 → RejectsAt r y → AnswersAt r y
     → Flow s r b q ln lm → Flow s r b q ln (lm ++ y ∷ [])
-back-other s r b q ln lm y none none' says says' h =
-    let same : tally one_answer (lm ++ y ∷ []) ≡ tally one_answer lm = few-more one_answer lm y none in
-    let same' : tally one_rejection (lm ++ y ∷ []) ≡ tally one_rejection lm = few-more one_rejection lm y none' in
-    let one = h.one in
-    let asked = h.asked in
-    record {
-      order = h.order;
-      one = omega (arith, one);
-      rejected = λ some.
-          let j = h.rejected (omega (arith, some)) in
-          record { is = j.is; below = j.below; beyond = j.beyond; says = every-push (RejectsAt r) lm y j.says says };
-      asked = omega (arith, asked);
-      last = h.last;
-      answered = λ some.
-          let j = h.answered (omega (arith, some)) in
-          record { calm = j.calm; says = every-push (AnswersAt r) lm y j.says says'; behind = behind-push one_answer IsNoRejection lm y none' j.behind };
-    }
+back-other s r b q ln lm y none none' says says' h = grind (arith, tally, one_answer, few-more, one_rejection, every-push, behind-push)
 
 -- and its first frame goes.
 pub back-tail : (s r : ℕ) (b q : Bool) (x : Kind) (ln lm : List Kind) → Flow s r b q ln (x ∷ lm) → Flow s r b q ln lm
-back-tail s r b q x ln lm h =
-    let one : one_rejection x + tally one_rejection lm ≤ 1 = h.one in
-    let asked : tally one_enquiry ln + (one_answer x + tally one_answer lm) ≤ most b = h.asked in
-    record {
-      order = h.order;
-      one = omega arith;
-      rejected = λ some. let j = h.rejected (omega (arith, some)) in record { is = j.is; below = j.below; beyond = j.beyond; says = j.says.1 };
-      asked = omega arith;
-      last = h.last;
-      answered = λ some. let j = h.answered (omega (arith, some)) in record { calm = j.calm; says = j.says.1; behind = j.behind.1 };
-    }
+back-tail s r b q x ln lm h = grind (arith, one_rejection, tally, one_enquiry, one_answer)

@@ -1,11 +1,10 @@
 -- What a frame that is heard does to one direction between two links whose T200 is timely.
 use Rattle.laws_link.proofs.Vocabulary.{◌≡◌, ℕ, ◌+◌, ◌%◌, ◌<◌, ◌≤◌, Bool, true, false, List, [], ◌∷◌, ◌++◌, refl, sym, arith, true≢false, Seq, seq, seq-value}
 use Rattle.laws_link.proofs.OfTwo.Trains.{Kind, numbered, enquiry, answer, report, rejection, alien, tally, one_enquiry, one_answer, one_rejection, tally-push, Every, every-push, behind-first, Beyond, beyond-late, rise-other}
-use Rattle.laws_link.proofs.OfTwo.Flow.{RejectsAt, AnswersAt, IsNoRejection, most, Flow, order-tail, order-calm, order-beyond, order-next, few-more}
+use Rattle.laws_link.proofs.OfTwo.Flow.{RejectsAt, AnswersAt, IsNoRejection, most, Flow, order-tail, order-calm, order-next, few-more}
 
 one-at-most : (b : Bool) → most b ≤ 1
-one-at-most true = omega arith
-one-at-most false = omega arith
+one-at-most b = grind arith
 
 -- where there are none, each says what one likes
 none-answers : (r : ℕ) (xs : List Kind) → tally one_answer xs ≡ 0 → Every (AnswersAt r) xs
@@ -117,18 +116,7 @@ pub answer-says : (s r : ℕ) (b q : Bool) (nr : Seq) (ln lm : List Kind) → Fl
 answer-says s r b q nr ln lm h = (h.answered (omega arith)).says.0
 
 pub hears-answer : (s r : ℕ) (q : Bool) (nr : Seq) (ln lm : List Kind) → Flow s r true q ln (answer nr ∷ lm) → Flow r r false q ln lm
-hears-answer s r q nr ln lm h =
-    let j = h.answered (omega arith) in
-    let asked : tally one_enquiry ln + (1 + tally one_answer lm) ≤ 1 = h.asked in
-    let none : tally one_rejection lm ≡ 0 = no-rejection lm (j.behind.0 (omega arith)) in
-    record {
-      order = order-calm q r ln j.calm;
-      one = omega arith;
-      rejected = λ some. absurd (omega (arith, some));
-      asked = omega arith;
-      last = λ some. absurd (omega (arith, some));
-      answered = λ some. absurd (omega (arith, some));
-    }
+hears-answer s r q nr ln lm h = grind (arith, tally, one_enquiry, one_answer, one_rejection, no-rejection, order-calm)
 
 -- In state 7 there is none.
 pub no-answer : (s r : ℕ) (q : Bool) (nr : Seq) (ln lm : List Kind) → Flow s r false q ln (answer nr ∷ lm) → ⊥
@@ -139,15 +127,4 @@ pub rejection-says : (s r : ℕ) (b q : Bool) (nr : Seq) (ln lm : List Kind) →
 rejection-says s r b q nr ln lm h = (h.rejected (omega arith)).says.0
 
 pub hears-rejection : (s r : ℕ) (q : Bool) (nr : Seq) (ln lm : List Kind) → Flow s r false q ln (rejection nr ∷ lm) → Flow r r false q ln lm
-hears-rejection s r q nr ln lm h =
-    let j = h.rejected (omega arith) in
-    let one : 1 + tally one_rejection lm ≤ 1 = h.one in
-    let asked : tally one_enquiry ln + (0 + tally one_answer lm) ≤ 0 = h.asked in
-    record {
-      order = order-beyond q r ln j.is j.beyond;
-      one = omega arith;
-      rejected = λ some. absurd (omega (arith, some));
-      asked = omega arith;
-      last = λ some. absurd (omega (arith, some));
-      answered = λ some. absurd (omega (arith, some));
-    }
+hears-rejection s r q nr ln lm h = grind (arith, tally, one_rejection, one_enquiry, one_answer, beyond-late)

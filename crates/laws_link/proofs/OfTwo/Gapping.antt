@@ -1,5 +1,5 @@
 -- The first I-frame out of sequence is answered by REJ, and a delivery ends the wait for what REJ asked for.
-use Rattle.laws_link.proofs.Vocabulary.{◌≡◌, ℕ, ◌+◌, ◌≤◌, Bool, true, false, cond, IsTrue, List, [], ◌∷◌, ◌++◌, length, Option, None, Some, refl, sym, ap, subst, ◌∙◌, ◌⊎◌, inl, inr, true≢false, arith, nat_lt, lt-ltb, le-ltb, none-some, Seq, seq, named, Address, Control, Information, Reject, State, Established, TimerRecovery, LinkTimer, ControlFrame, Terms, Link, is_multiple_frame, Arrived, information_of, eligible, eligible_of, Course, begun, Step, ◌then◌, by_bit, Leads, keeping_then, nothing_leads, depending_leads, delivered-at_once, IsValidAt, i_frame, IsFirstGap, leaves, ErrorCode, both_ways, Event, frame, received, acknowledge, by_number, error, re_establish, reject, rejecting_is, response, start, acknowledged_by_information_in_7, after, course, frame_in, frame_step, told}
+use Rattle.laws_link.proofs.Vocabulary.{◌≡◌, ℕ, ◌+◌, ◌≤◌, Bool, true, false, cond, IsTrue, List, [], ◌∷◌, ◌++◌, length, Option, None, Some, refl, sym, ap, subst, ◌⊎◌, inl, true≢false, arith, nat_lt, lt-ltb, le-ltb, none-some, Seq, seq, Address, Control, Information, Reject, State, Established, TimerRecovery, LinkTimer, ControlFrame, Terms, Link, is_multiple_frame, Arrived, information_of, eligible, eligible_of, Course, begun, Step, ◌then◌, by_bit, Leads, keeping_then, nothing_leads, depending_leads, delivered-at_once, IsValidAt, i_frame, IsFirstGap, leaves, ErrorCode, both_ways, Event, frame, received, acknowledge, by_number, error, re_establish, reject, rejecting_is, response, start, acknowledged_by_information_in_7, after, course, frame_in, frame_step, told}
 use Rattle.model_link.specs.MultipleFrame
 use Rattle.laws_link.proofs.OfTwo.Answering.{Waits, information_7_waits}
 
@@ -35,10 +35,7 @@ module _ (t : Terms) (l : Link) (room : length l.waiting + 1 ≤ t.control) wher
 
   information : (ns nr : Seq) (p : Bool) (octets : List ℕ) (f : ℕ → Step) → ((ws : List ControlFrame) (r n : ℕ) → Leads (Waits ws r) (f n) (Waits ws r))
       → IsFirstGap t l ns nr octets → (MultipleFrame.information_in_7_8 t ns nr p octets f (begun l)).link.waiting ≡ rejection p
-  information ns nr p octets f x h =
-      subst (λ b. (cond b (MultipleFrame.failed t ErrorCode.O (begun l)) ((MultipleFrame.contents_in_7_8 t ns p octets then by_number t nr f) (begun l))).link.waiting ≡ rejection p)
-      (sym (le-ltb t.n201 (length octets) h.size))
-      (subst (λ c. (by_number t nr f c).link.waiting ≡ rejection p) (sym (contents ns nr p octets h)) (numbered nr p f x h.valid))
+  information ns nr p octets f x h = grind (arith, rejection, le-ltb, contents, numbered)
 
   in-state : (here : State) → IsTrue (is_multiple_frame here) → (command : Bool) (ns nr : Seq) (p : Bool) (octets : List ℕ) → IsFirstGap t l ns nr octets
       → (frame_in here t command octets (Information ns nr p) (begun l)).link.waiting ≡ rejection p
@@ -67,22 +64,15 @@ in_7_ends n = search (keeping_then, nothing_leads, depending_leads, acknowledge_
 
 module _ (t : Terms) (l : Link) where
   delivering : (ns : Seq) (p : Bool) (octets : List ℕ) → Ended (MultipleFrame.contents_in_7_8 t ns p octets (begun l))
-  delivering ns p octets =
-      both_ways Ended l.own_busy _ _ (both_ways Ended p _ _ (inl refl) (inl refl))
-      (both_ways Ended (MultipleFrame.is_next ns l) _ _ (both_ways Ended p _ _ (inr refl) (inr refl))
-      (both_ways Ended l.rejecting _ _ (both_ways Ended p _ _ (inl refl) (inl refl)) (inl refl)))
+  delivering ns p octets = grind (arith, both_ways)
 
   by-number : (f : ℕ → Step) → ((n : ℕ) → Leads Ended (f n) Ended) → (c : Course) → Ended c → (o : Option ℕ)
       → Ended (elim o [ None ↦ (error t ErrorCode.J then re_establish t) c | Some n ↦ f n c ])
-  by-number f x c h None = inr refl
-  by-number f x c h (Some n) = (x n).leads c h
+  by-number f x c h o = grind arith
 
   row : (ns nr : Seq) (p : Bool) (octets : List ℕ) (f : ℕ → Step) → ((n : ℕ) → Leads Ended (f n) Ended) → (b : Bool)
       → Ended (by_bit b (MultipleFrame.failed t ErrorCode.O) (MultipleFrame.contents_in_7_8 t ns p octets then by_number t nr f) (begun l))
-  row ns nr p octets f x true = inl refl
-  row ns nr p octets f x false =
-      let c = MultipleFrame.contents_in_7_8 t ns p octets (begun l) in
-      by-number f x c (delivering ns p octets) (named c.link.a c.link.s nr)
+  row ns nr p octets f x b = grind (arith, by-number, delivering)
 
   by-state : (here : State) (command : Bool) (ns nr : Seq) (p : Bool) (octets : List ℕ)
       → Ended (frame_in here t command octets (Information ns nr p) (begun l))
@@ -93,16 +83,14 @@ module _ (t : Terms) (l : Link) where
   -- only an I-frame is eligible
   by-frame : (command : Bool) (octets : List ℕ) (control : Control) (i : Arrived) → eligible_of t l (information_of control octets) ≡ Some i
       → Ended (frame_step t command octets control (begun l))
-  by-frame command octets (Information ns nr p) i e = by-state l.state command ns nr p octets
-  by-frame command octets other i e = absurd (none-some i e)
+  by-frame command octets control i e = grind (arith, by-state, none-some)
 
   by-event : (e : Event) (i : Arrived) → eligible t e l ≡ Some i → Ended (course t e l)
   by-event (received (frame f)) i e = by-frame f.address.command f.info f.control i e
   by-event other i e = absurd (none-some i e)
 
   after-delivery : (c : Course) (octets : List ℕ) → c.delivered ≡ Some octets → Ended c → c.link.rejecting ≡ false
-  after-delivery c octets d (inl none) = absurd (none-some octets (sym none ∙ d))
-  after-delivery c octets d (inr e) = e
+  after-delivery c octets d o = grind (arith, none-some)
 
   pub told-again : (e : Event) (octets : List ℕ) → (told t e l).delivered ≡ Some octets → (after t e l).rejecting ≡ false
   told-again e octets d =

@@ -1,5 +1,5 @@
 -- What requests, expiries and offers do to a link that stays in states 7 and 8, and to what is on its line.
-use Rattle.laws_link.proofs.Vocabulary.{arith, ◌≡◌, ◌+◌, ◌-◌, Bool, true, false, cond, not, ◌&&◌, IsTrue, List, [], ◌∷◌, ◌++◌, Option, None, Some, refl, sym, ap, subst, ◌∙◌, append_assoc, append-nil, ◌⊎◌, inl, inr, true≢false, nat_lt, length, slice_get, unwrap_or, and_parts, seq, ReceiveReady, ReceiveNotReady, Refusal, WrongState, Parts, State, Established, TimerRecovery, LinkTimer, T200, T203, ControlFrame, Terms, Link, is_multiple_frame, frame_of, may_repeat, Request, Establish, Release, Data, SetBusy, ClearBusy, expired, requested, offer, Course, begun, frame_given, frames_of, IsMildRequest, ErrorCode, both_ways, command, enquire, has_room, ready_to_receive, repeated, response, start, failed, granted, refusal, give_waiting, is_awaiting_acknowledgement, is_established, may_send_information, next_information, offer_among, send_acknowledgement, with_one_sent, course, expire_running, expired_in, given_of, is_running}
+use Rattle.laws_link.proofs.Vocabulary.{arith, ◌≡◌, ◌+◌, ◌-◌, Bool, true, false, cond, IsTrue, List, [], ◌∷◌, ◌++◌, Option, None, Some, refl, ap, append_assoc, append-nil, ◌⊎◌, inl, nat_lt, slice_get, unwrap_or, and_parts, seq, ReceiveReady, ReceiveNotReady, Refusal, WrongState, Parts, State, Established, TimerRecovery, LinkTimer, T200, ControlFrame, Terms, Link, is_multiple_frame, frame_of, Request, Establish, Release, Data, SetBusy, ClearBusy, expired, requested, offer, Course, begun, frame_given, frames_of, IsMildRequest, ErrorCode, both_ways, command, enquire, has_room, ready_to_receive, repeated, response, start, failed, granted, refusal, give_waiting, is_awaiting_acknowledgement, may_send_information, next_information, offer_among, send_acknowledgement, with_one_sent, course, expire_running, expired_in, given_of, is_running}
 use Rattle.laws_link.proofs.OfTwo.Staying.{refused}
 use Rattle.laws_link.proofs.OfTwo.Trains.{Kind, numbered, enquiry, report, kind_of, kinds_of, kinds-append}
 use Rattle.laws_link.proofs.OfTwo.Effects.{Grown, grows, Kept, Went, unchanged}
@@ -32,33 +32,20 @@ pub record Offered (t : Terms) (l : Link) (c : Course) : Type 0 where
   pub rejecting : c.link.rejecting ≡ l.rejecting
   pub gives : Gives t l c
 
-is-established : (here : State) → is_established here ≡ true → here ≡ Established
-is-established Established e = refl
-is-established other e = absurd (true≢false (sym e))
-
 module _ (t : Terms) (l : Link) where
   nothing-new : Went report l l
   nothing-new = record { state = refl; s = refl; r = refl; rejecting = refl; waiting = inl refl }
 
   by-refusal : (request : Request) (o : Option Refusal) → WentIn report l (granted t request (begun l))
       → WentIn report l (elim o [ None ↦ granted t request (begun l) | Some _ ↦ begun l ])
-  by-refusal request None x = x
-  by-refusal request (Some w) x = nothing-new
+  by-refusal request o x = grind (arith, nothing-new)
 
   refuses : (o : Option Refusal) → o ≡ Some WrongState → WentIn report l (elim o [ None ↦ granted t Establish (begun l) | Some _ ↦ begun l ])
-  refuses None e = absurd (cc)
-  refuses (Some w) e = nothing-new
+  refuses o e = grind (arith, nothing-new)
 
   reports : (l' : Link) (f : ControlFrame) → l'.state ≡ l.state → l'.s ≡ l.s → l'.r ≡ l.r → l'.rejecting ≡ l.rejecting
       → l'.waiting ≡ cond (has_room t l) (l.waiting ++ f ∷ []) l.waiting → kind_of f.command f.control ≡ report → Went report l l'
-  reports l' f state s r rejecting waiting is =
-      record {
-        state = state;
-        s = s;
-        r = r;
-        rejecting = rejecting;
-        waiting = subst (λ ws. Grown l.waiting ws report) (sym waiting) (grows (has_room t l) l.waiting f report is);
-      }
+  reports l' f state s r rejecting waiting is = grind (arith, Grown, report, grows)
 
   pub asks-went : IsTrue (is_multiple_frame l.state) → (request : Request) (full : Bool) → IsMildRequest request → WentIn report l (course t (requested request full) l)
   asks-went up Establish full mild = refuses (refusal t l full Establish) (refused t l up l.state refl up full)
@@ -73,102 +60,53 @@ module _ (t : Terms) (l : Link) where
       (both_ways (WentIn report l) l.own_busy _ _ (reports _ (response (ReceiveReady (seq l.r) false)) refl refl refl refl refl refl) nothing-new)
 
   -- An expiry: the timer does not run, or an enquiry waits.
-  kind-of-enquiry : (own : Bool) → kind_of true (cond own (ReceiveNotReady (seq l.r) true) (ReceiveReady (seq l.r) true)) ≡ enquiry
-  kind-of-enquiry own = grind arith
-
   enquires : (l' : Link) → l'.state ≡ TimerRecovery → l'.s ≡ l.s → l'.r ≡ l.r → l'.rejecting ≡ l.rejecting
       → l'.waiting ≡ cond (has_room t l) (l.waiting ++ command (ready_to_receive true l) ∷ []) l.waiting → Asked l l'
-  enquires l' state s r rejecting waiting =
-      record {
-        state = state;
-        s = s;
-        r = r;
-        rejecting = rejecting;
-        waiting =
-            subst (λ ws. Grown l.waiting ws enquiry) (sym waiting)
-            (grows (has_room t l) l.waiting (command (ready_to_receive true l)) enquiry (kind-of-enquiry l.own_busy));
-      }
+  enquires l' state s r rejecting waiting = grind (arith, Grown, enquiry, grows)
 
   again : l.state ≡ TimerRecovery → (b : Bool) → IsUpIn (cond b (start T200 (repeated (enquire t (begun l)))) (failed t ErrorCode.I (begun l)))
       → Asked l (cond b (start T200 (repeated (enquire t (begun l)))) (failed t ErrorCode.I (begun l))).link
-  again here true up = enquires _ here refl refl refl refl
-  again here false up = absurd (true≢false (sym up))
+  again here b up = grind (arith, enquires)
 
   abbrev pub Expires : Course → Type 0
   Expires c = Kept l c.link ⊎ Asked l c.link
 
   expires-in : (here : State) → l.state ≡ here → IsTrue (is_multiple_frame here) → (timer : LinkTimer) → IsUpIn (expired_in here timer t (begun l))
       → Expires (expired_in here timer t (begun l))
-  expires-in Established e before timer up = inr (enquires _ refl refl refl refl refl)
-  expires-in TimerRecovery e before T200 up = inr (again e (may_repeat t l) up)
-  expires-in TimerRecovery e before T203 up = inl (unchanged t l)
-  expires-in other e before timer up = absurd (true≢false (sym before))
+  expires-in here e before timer up = grind (arith, enquires, again, unchanged)
 
   abbrev pub RanOut : LinkTimer → Course → Type 0
   RanOut timer c = Kept l c.link ⊎ ((is_running timer l ≡ true) × Asked l c.link)
 
   running : (timer : LinkTimer) (c : Course) → is_running timer l ≡ true → Expires c → RanOut timer c
-  running timer c run (inl k) = inl k
-  running timer c run (inr a) = inr (run, a)
+  running timer c run o = grind arith
 
   ran : (timer : LinkTimer) (b : Bool) (u : Course) → is_running timer l ≡ b → (IsUpIn u → Expires u) → IsUpIn (cond b u (begun l)) → RanOut timer (cond b u (begun l))
-  ran timer true u e x up = running timer u e (x up)
-  ran timer false u e x up = inl (unchanged t l)
+  ran timer b u e x up = grind (arith, running, unchanged)
 
   pub expires-goes : IsTrue (is_multiple_frame l.state) → (timer : LinkTimer) → IsUpIn (course t (expired timer) l) → RanOut timer (course t (expired timer) l)
   expires-goes before timer up = ran timer (is_running timer l) (expire_running timer t (begun l)) refl (expires-in l.state refl before timer) up
 
   -- An offer.
   at-end : (way : List Parts) (f : Parts) (ws : List ControlFrame) → ws ≡ [] → kinds_of ((way ++ f ∷ []) ++ frames_of t ws) ≡ line t way ws ++ kind_of f.address.command f.control ∷ []
-  at-end way f [] e =
-      ap kinds_of (append-nil (way ++ f ∷ [])) ∙ kinds-append way (f ∷ []) ∙ sym (ap (λ xs. kinds_of xs ++ kind_of f.address.command f.control ∷ []) (append-nil way))
-  at-end way f (w ∷ ws) e = absurd (cc)
+  at-end way f ws e = grind (arith, kinds_of, append-nil, kinds-append, kind_of)
 
   waited : (f : ControlFrame) (fs : List ControlFrame) → l.waiting ≡ f ∷ fs → Offered t l (give_waiting f fs (begun l))
-  waited f fs e =
-      record {
-        state = refl;
-        r = refl;
-        rejecting = refl;
-        gives = inl (refl, λ way. ap kinds_of (append_assoc way (frame_of t f ∷ []) (frames_of t fs)) ∙ ap (λ ws. line t way ws) (sym e));
-      }
+  waited f fs e = grind (arith, kinds_of, append_assoc, frames_of, line)
 
   idle : Offered t l (begun l)
   idle = record { state = refl; r = refl; rejecting = refl; gives = inl (refl, λ way. ap (λ xs. kinds_of (xs ++ frames_of t l.waiting)) (append-nil way)) }
 
   acknowledges : l.waiting ≡ [] → Offered t l (send_acknowledgement (begun l))
-  acknowledges e =
-      record {
-        state = refl;
-        r = refl;
-        rejecting = refl;
-        gives = inr (inl (refl, λ way. at-end way (frame_of t (response (ReceiveReady (seq l.r) false))) l.waiting e));
-      }
+  acknowledges e = grind (arith, at-end)
 
   informs : (c : Course) → may_send_information t l ≡ true → l.waiting ≡ [] → c.link.state ≡ l.state → c.link.s ≡ l.s + 1 → c.link.r ≡ l.r → c.link.rejecting ≡ l.rejecting
       → c.link.waiting ≡ l.waiting → frame_given t (given_of t l c c.sent) ≡ record (frame_of t (next_information l)) { info = unwrap_or (slice_get l.contents l.s) [] } ∷ []
       → Offered t l c
-  informs c may e state s r rejecting waits gives =
-      let parts = and_parts (is_established l.state && not l.peer_busy && nat_lt (l.s - l.a) t.k) (nat_lt l.s (length l.contents)) may in
-      let inner = and_parts (is_established l.state && not l.peer_busy) (nat_lt (l.s - l.a) t.k) parts.0 in
-      let here = and_parts (is_established l.state) (not l.peer_busy) inner.0 in
-      let f : Parts = record (frame_of t (next_information l)) { info = unwrap_or (slice_get l.contents l.s) [] } in
-      record {
-        state = state;
-        r = r;
-        rejecting = rejecting;
-        gives =
-            inr (inr (
-              is-established l.state here.0,
-              s,
-              λ way. ap (λ xs. kinds_of ((way ++ xs) ++ frames_of t c.link.waiting)) gives ∙ ap (λ ws. kinds_of ((way ++ f ∷ []) ++ frames_of t ws)) waits
-                  ∙ at-end way f l.waiting e,
-            ));
-      }
+  informs c may e state s r rejecting waits gives = grind (arith, and_parts, nat_lt, slice_get, kinds_of, frames_of, at-end)
 
   branch : (b : Bool) (u v : Course) → (b ≡ true → Offered t l u) → Offered t l v → Offered t l (cond b u v)
-  branch true u v x y = x refl
-  branch false u v x y = y
+  branch b u v x y = grind arith
 
   offers : (ws : List ControlFrame) → l.waiting ≡ ws → Offered t l (offer_among t ws (begun l))
   offers (f ∷ fs) e = waited f fs e

@@ -1,13 +1,11 @@
 -- Half a round: one end gives its next frame, and the other receives it.
-use Rattle.laws_link.proofs.Vocabulary.{◌≡◌, ℕ, zero, suc, ◌+◌, ◌-◌, ◌<◌, ◌≤◌, Bool, true, false, cond, ◌==◌, List, [], ◌∷◌, ◌++◌, length, take, None, Some, refl, sym, ap, subst, ◌∙◌, ◌⊎◌, inl, inr, append-nil, eq-eqb, true≢false, arith, All, nat_lt, nat_le, slice_get, unwrap_or, ltb-true, ltb-false, le-ltb, le-leb, and_parts, All-head, All-tail, seq, named, distance-plain, Parts, frame, received, offer, IsInRange, IsSound, End, with_link, with_sent, with_first_lost, with_first_of, sound-after, IsReady, IsTaken, State, may_send_information}
+use Rattle.laws_link.proofs.Vocabulary.{◌≡◌, ℕ, zero, suc, ◌+◌, ◌-◌, ◌<◌, ◌≤◌, Bool, true, false, ◌==◌, List, [], ◌∷◌, ◌++◌, length, take, Some, refl, sym, ap, subst, ◌∙◌, ◌⊎◌, inl, inr, append-nil, eq-eqb, arith, All, nat_lt, slice_get, unwrap_or, ltb-true, ltb-false, le-ltb, le-leb, and_parts, All-head, All-tail, seq, named, distance-plain, Parts, frame, received, offer, IsInRange, IsSound, End, with_link, with_sent, with_first_lost, with_first_of, sound-after, IsReady, IsTaken, State, may_send_information}
 use Rattle.laws_link.proofs.OfTwo.Plain.{plain, is_plain, information_frame, acknowledgement_frame, with_information, with_acknowledgement, with_taken, with_all_acknowledged, gives-information, gives-acknowledgement, gives-nothing, takes-information, takes-acknowledgement}
 
 -- an N(R) names the number that it means, if that lies between V(A) and V(S)
 pub named-number : (a s v : ℕ) → a ≤ v → v ≤ s → s ≤ a + 127 → named a s (seq v) ≡ Some v
 unfolding named
-named-number a s v low high near =
-    subst (λ n. cond (nat_le n s) (Some n) None ≡ Some v) (sym (distance-plain (seq a) (seq v) a v (record { ordered = low; within = omega (arith, high, near); acknowledged = refl; sent = refl })))
-    (ap (λ b. cond b (Some v) None) (le-leb v s high))
+named-number a s v low high near = grind (arith, distance-plain, le-leb)
 
 -- contents at a place
 pub fits-at : (n : ℕ) (contents : List (List ℕ)) (i : ℕ) → All (λ octets. length octets ≤ n) contents → length (unwrap_or (slice_get contents i) []) ≤ n
@@ -66,10 +64,6 @@ pub record Moved (n m n' m' : End) : Type 0 where
   pub moved : One n m n' m' ⊎ Nothing n m n' m'
 
 -- with no acknowledgement owed nothing is outstanding
-pub all-acknowledged : (a s : ℕ) (p b : Bool) → nat_lt a s ≡ b → p ≡ false → a ≤ s → (a < s → p ≡ true) → a ≡ s
-all-acknowledged a s p true e off low h = absurd (true≢false (sym (h (ltb-true a s e)) ∙ off))
-all-acknowledged a s p false e off low h = let high : s ≤ a = ltb-false a s e in omega arith
-
 abbrev pub giver_of : End → End
 giver_of n = with_first_lost (with_sent n)
 
@@ -78,23 +72,16 @@ taker_of n m = with_first_of (with_sent n).way m
 
 module _ (n m : End) (hn : IsReady n) (hm : IsReady m) (there : IsTaken n m) (back : IsTaken m n) where
   names : named m.link.a m.link.s (seq n.link.r) ≡ Some m.link.s
-  names =
-      let from : n.link.r ≡ m.link.s = back.received in
-      let low : m.link.a ≤ m.link.s = hm.sound.ordered in
-      let within : m.link.s ≤ m.link.a + m.terms.k = hm.sound.within in
-      let small : m.terms.k ≤ 127 = hm.ranges.k_high in
-      subst (λ w. named m.link.a m.link.s (seq w) ≡ Some m.link.s) (sym from) (named-number m.link.a m.link.s m.link.s low (omega arith) (omega arith))
+  names = grind (arith, named-number)
 
   same : (m.link.s == m.link.s) ≡ true
   same = eq-eqb m.link.s m.link.s refl
 
   giver-information : Giver n (record n { link = with_information n.link; way = [] })
-  giver-information =
-      record { terms = refl; contents = refl; a = refl; r = refl; delivered = refl; pending = refl; state = refl; peer_busy = refl; own_busy = refl; waiting = refl; way = refl }
+  giver-information = grind arith
 
   giver-acknowledgement : Giver n (record n { link = with_acknowledgement n.link; way = [] })
-  giver-acknowledgement =
-      record { terms = refl; contents = refl; a = refl; r = refl; delivered = refl; pending = refl; state = refl; peer_busy = refl; own_busy = refl; waiting = refl; way = refl }
+  giver-acknowledgement = grind arith
 
   -- an I-frame goes
   one : may_send_information n.terms (plain n.link) ≡ true → Moved n m (giver_of n) (taker_of n m)
@@ -130,14 +117,7 @@ module _ (n m : End) (hn : IsReady n) (hm : IsReady m) (there : IsTaken n m) (ba
 
   -- nothing goes: then nothing is outstanding at the other end
   rests : may_send_information n.terms (plain n.link) ≡ false → n.link.pending ≡ false → Moved n m (giver_of n) (taker_of n m)
-  rests may owed =
-      let gives : with_sent n ≡ record n { link = with_acknowledgement n.link; way = [] } = ap with_sent (is_plain n hn) ∙ gives-nothing false false n may owed in
-      subst (λ x. Moved n m (with_first_lost x) (with_first_of x.way m)) (sym gives)
-      (record {
-        giver = giver-acknowledgement;
-        taker = record { terms = refl; contents = refl; a = all-acknowledged m.link.a m.link.s n.link.pending (nat_lt m.link.a m.link.s) refl owed hm.sound.ordered back.owed; s = refl; state = hm.state; peer_busy = hm.peer_busy; own_busy = hm.own_busy; waiting = hm.waiting; way = hm.way };
-        moved = inr (record { may = may; sent = refl; received = refl; pending = refl; delivered = refl });
-      })
+  rests may owed = grind (arith, with_acknowledgement, is_plain, gives-nothing, giver-acknowledgement, ltb-true, ltb-false, nat_lt)
 
   by-flags : (may owed : Bool) → may_send_information n.terms (plain n.link) ≡ may → n.link.pending ≡ owed → Moved n m (giver_of n) (taker_of n m)
   by-flags true owed e p = one e

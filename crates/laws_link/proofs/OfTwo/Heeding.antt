@@ -1,5 +1,5 @@
 -- Where T200 runs while the terminal is taken for busy: each word, and each row.
-use Rattle.laws_link.proofs.Vocabulary.{◌≡◌, ℕ, Bool, true, false, cond, IsTrue, List, Option, Some, refl, sym, subst, true≢false, Seq, Control, Sabme, Disc, Ui, Ua, Dm, Frmr, Xid, Note, State, TeiAssigned, AwaitingEstablishment, AwaitingRelease, Established, TimerRecovery, LinkTimer, T200, T203, Terms, Course, Step, ◌then◌, frame_in_4, frame_in_5, t200_in_5, frame_in_6, t200_in_6, Leads, keeping_then, nothing_leads, depending_leads, bit_leads, to_less, HeedsIn, leaves, number_leads, acknowledge, by_number, clear_flags, enter, no_timer, note, peer_busy_is, re_establish, release_confirm, start, release_in_7_8, acknowledged_by_information_in_7, acknowledged_by_rej_in_7, acknowledged_by_rnr_in_7, acknowledged_in_7, frame_in_7, timer_in_7, acknowledged_in_8, frame_in_8, t200_in_8}
+use Rattle.laws_link.proofs.Vocabulary.{arith, ◌≡◌, ℕ, Bool, true, false, cond, IsTrue, List, Option, Some, refl, sym, subst, Seq, Control, Sabme, Disc, Ui, Ua, Dm, Frmr, Xid, Note, State, TeiAssigned, AwaitingEstablishment, AwaitingRelease, Established, TimerRecovery, LinkTimer, T200, T203, Terms, Course, Step, ◌then◌, frame_in_4, frame_in_5, frame_in_6, Leads, keeping_then, nothing_leads, depending_leads, bit_leads, to_less, HeedsIn, leaves, number_leads, acknowledge, by_number, clear_flags, enter, no_timer, note, peer_busy_is, re_establish, start, acknowledged_by_information_in_7, acknowledged_by_rej_in_7, acknowledged_by_rnr_in_7, acknowledged_in_7, frame_in_7, acknowledged_in_8, frame_in_8}
 
 -- A claim on the state, on whether the terminal is taken for busy, and on the timer that runs.
 abbrev pub Claim : Type 1
@@ -44,18 +44,11 @@ down_heeds : (here state : State) (busy : Bool) (running : Option LinkTimer) →
 down_heeds here state busy running e h = subst (λ s. HeedsIn s busy running) (sym e) h
 
 not-busy : (busy : Bool) (running : Option LinkTimer) → busy ≡ false → IsTrue busy → running ≡ Some T200
-not-busy true running e h = absurd (true≢false e)
-not-busy false running e h = absurd (true≢false (sym h))
+not-busy busy running e h = grind arith
 
 module _ (f : Step) where
   pub as_4 : Leads (On (at_state TeiAssigned)) f (On (at_state TeiAssigned)) → Leads (On (at_state TeiAssigned)) f (On heeding)
   as_4 x = to_less (λ c h. record { holds = down_heeds TeiAssigned c.link.state c.link.peer_busy c.link.running h.holds tt }) x
-
-  pub as_5 : Leads (On (calm_at AwaitingEstablishment)) f (On (calm_at AwaitingEstablishment)) → Leads (On (calm_at AwaitingEstablishment)) f (On heeding)
-  as_5 x = to_less (λ c h. record { holds = down_heeds AwaitingEstablishment c.link.state c.link.peer_busy c.link.running h.holds.0 h.holds.1 }) x
-
-  pub as_6 : Leads (On (at_state AwaitingRelease)) f (On (at_state AwaitingRelease)) → Leads (On (at_state AwaitingRelease)) f (On heeding)
-  as_6 x = to_less (λ c h. record { holds = down_heeds AwaitingRelease c.link.state c.link.peer_busy c.link.running h.holds tt }) x
 
   pub as_7 : {P : Claim} → Leads (On P) f (On heeding_in_7) → Leads (On P) f (On heeding)
   as_7 x = to_less (λ c h. record { holds = down_heeds Established c.link.state c.link.peer_busy c.link.running h.holds.0 h.holds.1 }) x
@@ -124,44 +117,17 @@ pub ruleset rows = (words, flags_then, enter_7_calm, enter_7_awake, enter_5_calm
 -- State 4.
 module _ (t : Terms) where
   pub in_4 : (octets : List ℕ) (control : Control) → Leads (On (at_state TeiAssigned)) (frame_in_4 t octets control) (On heeding)
-  in_4 octets (Sabme p) = search (rows, start_then) depth 14 fits 6000
-  in_4 octets (Ua true) = search (words, as_4) depth 12 fits 4000
-  in_4 octets other = search (words, as_4) depth 12 fits 4000
-
-  pub releases_4 : Leads (On (at_state TeiAssigned)) (release_confirm t) (On heeding)
-  releases_4 = search (words, as_4) depth 12 fits 4000
+  in_4 octets control = grind (arith, start_then, as_4)
 
 -- State 5.
-weaken-5 : (c : Course) → On (calm_at AwaitingEstablishment) c → On calm c
-weaken-5 c h = record { holds = h.holds.1 }
-
 module _ (t : Terms) where
   pub in_5 : (octets : List ℕ) (control : Control) → Leads (On (calm_at AwaitingEstablishment)) (frame_in_5 t octets control) (On heeding)
-  in_5 octets (Ua true) = record { leads = λ c h. (established).leads c (weaken-5 c h) }
-    where
-      established : Leads (On calm) (frame_in_5 t octets (Ua true)) (On heeding)
-      established = search (rows, start_then) depth 14 fits 6000
-  in_5 octets (Dm true) = search rows depth 14 fits 6000
-  in_5 octets other = search (words, as_5) depth 12 fits 4000
-
-  start_last_5 : (timer : LinkTimer) → Leads (On (calm_at AwaitingEstablishment)) (start timer) (On heeding)
-  start_last_5 timer = record { leads = λ c h. record { holds = down_heeds AwaitingEstablishment c.link.state c.link.peer_busy (Some timer) h.holds.0 h.holds.1 } }
-
-  pub t200_5 : Leads (On (calm_at AwaitingEstablishment)) (t200_in_5 t) (On heeding)
-  t200_5 = search (rows, start_last_5) depth 14 fits 6000
+  in_5 octets control = grind (arith, start_then, to_less, down_heeds)
 
 -- State 6.
 module _ (t : Terms) where
   pub in_6 : (octets : List ℕ) (control : Control) → Leads (On (at_state AwaitingRelease)) (frame_in_6 t octets control) (On heeding)
-  in_6 octets (Ua true) = search rows depth 14 fits 6000
-  in_6 octets (Dm true) = search rows depth 14 fits 6000
-  in_6 octets other = search (words, as_6) depth 12 fits 4000
-
-  start_last_6 : (timer : LinkTimer) → Leads (On (at_state AwaitingRelease)) (start timer) (On heeding)
-  start_last_6 timer = record { leads = λ c h. record { holds = down_heeds AwaitingRelease c.link.state c.link.peer_busy (Some timer) h.holds tt } }
-
-  pub t200_6 : Leads (On (at_state AwaitingRelease)) (t200_in_6 t) (On heeding)
-  t200_6 = search (rows, start_last_6) depth 14 fits 6000
+  in_6 octets control = grind (arith, to_less, down_heeds)
 
 -- State 7.
 calm_7_start : (timer : LinkTimer) → Leads (On (calm_at Established)) (start timer) (On (calm_at Established))
@@ -188,8 +154,7 @@ rej_7 n = as_calm_7 _ (search (words, calm_7_start) depth 12 fits 4000)
 -- an I-frame's N(R), by whether the terminal is taken for busy
 information-by : (n : ℕ) (c : Course) → On heeding_in_7 c → (b : Bool) → c.link.peer_busy ≡ b
     → On heeding (cond b (acknowledge n c) (acknowledged_in_7 n c))
-information-by n c h true e = (as_7 (acknowledge n) (leaves {f = acknowledge n} (λ c h. h))).leads c h
-information-by n c h false e = (in_7_calm n).leads c (record { holds = (h.holds.0, e) })
+information-by n c h b e = grind (arith, as_7, in_7_calm)
 
 information_7 : (n : ℕ) → Leads (On heeding_in_7) (acknowledged_by_information_in_7 n) (On heeding)
 information_7 n = record { leads = λ c h. information-by n c h c.link.peer_busy refl }
@@ -207,12 +172,6 @@ module _ (t : Terms) where
   in_7 b octets (Ui p) = search (words, as_7) depth 14 fits 6000
   in_7 b octets (Xid pf) = search (words, as_7) depth 14 fits 6000
   in_7 b octets other = search rows_7 depth 14 fits 6000
-
-  pub timer_7 : Leads (On heeding_in_7) (timer_in_7 t) (On heeding)
-  timer_7 = search (rows, t200_then) depth 14 fits 6000
-
-  pub release_7_8 : {P : Claim} → Leads (On P) (release_in_7_8 t) (On heeding)
-  release_7_8 = search rows depth 14 fits 6000
 
 -- State 8.
 calm_8_then : {g : Step} → Leads (On calm_in_8) g (On heeding) → Leads (On (awake_at TimerRecovery)) (peer_busy_is false then g) (On heeding)
@@ -246,9 +205,3 @@ module _ (t : Terms) where
   in_8 b octets (Ui p) = search (words, as_8) depth 14 fits 6000
   in_8 b octets (Xid pf) = search (words, as_8) depth 14 fits 6000
   in_8 b octets other = search rows_8 depth 14 fits 6000
-
-  start_last_8 : Leads (On (awake_at TimerRecovery)) (start T200) (On heeding)
-  start_last_8 = record { leads = λ c h. record { holds = down_heeds TimerRecovery c.link.state c.link.peer_busy (Some T200) h.holds.0 refl } }
-
-  pub t200_8 : Leads (On (awake_at TimerRecovery)) (t200_in_8 t) (On heeding)
-  t200_8 = search (rows, start_last_8) depth 14 fits 6000

@@ -1,5 +1,5 @@
 -- T200 runs while the terminal is taken for busy: every event.
-use Rattle.laws_link.proofs.Vocabulary.{◌≡◌, ℕ, Bool, true, false, cond, ◌&&◌, not, List, [], ◌∷◌, Option, None, Some, refl, sym, subst, true≢false, Control, ErrorCode, Refusal, State, TeiAssigned, AwaitingEstablishment, AwaitingRelease, Established, TimerRecovery, LinkTimer, T200, T203, ControlFrame, Terms, Link, fresh, frame, Request, Establish, Release, Data, Event, received, expired, requested, offer, cleared, Course, begun, HeedsIn, Heeds, both_ways, granted, refusal, release_in, is_awaiting_acknowledgement, is_established, may_send_information, offer_among, with_one_sent, after, after_all, expired_in, frame_in, frame_step, is_running, malformed_in}
+use Rattle.laws_link.proofs.Vocabulary.{arith, ◌≡◌, ℕ, Bool, true, cond, ◌&&◌, not, List, [], ◌∷◌, Option, None, Some, refl, sym, subst, Control, ErrorCode, Refusal, State, TeiAssigned, AwaitingEstablishment, AwaitingRelease, Established, TimerRecovery, LinkTimer, ControlFrame, Terms, Link, fresh, frame, Request, Event, received, expired, requested, offer, cleared, Course, begun, HeedsIn, Heeds, both_ways, granted, refusal, release_in, is_established, offer_among, after, after_all, expired_in, frame_in, frame_step, is_running, malformed_in}
 use Rattle.laws_link.proofs.OfTwo.Heeding
 
 abbrev Ends : Course → Type 0
@@ -38,53 +38,29 @@ module _ (t : Terms) (l : Link) where
   frames h b octets control = frames-in l.state refl h.heeds b octets control
 
   malformed : (e : ErrorCode) (here : State) → l.state ≡ here → HeedsIn here l.peer_busy l.running → Ends (malformed_in here t e (begun l))
-  malformed e Established s h = record { holds = refl }
-  malformed e TimerRecovery s h = record { holds = refl }
-  malformed e other s h = record { holds = subst (λ x. HeedsIn x l.peer_busy l.running) (sym s) h }
+  malformed e here s h = grind arith
 
   expiries : (here : State) → l.state ≡ here → HeedsIn here l.peer_busy l.running → (timer : LinkTimer) → Ends (expired_in here timer t (begun l))
-  expiries TeiAssigned e h timer = idle TeiAssigned e h
-  expiries AwaitingEstablishment e h T200 = (Heeding.t200_5 t).leads (begun l) (at-5 e h)
-  expiries AwaitingRelease e h T200 = (Heeding.t200_6 t).leads (begun l) (at-6 e)
-  expiries Established e h timer = (Heeding.timer_7 t).leads (begun l) (at-7 e h)
-  expiries TimerRecovery e h T200 = (Heeding.t200_8 t).leads (begun l) (at-8 e h)
-  expiries other e h T203 = idle other e h
+  expiries here e h timer = grind (arith, idle, at-5, at-6, at-7, at-8)
 
   releases : (here : State) → l.state ≡ here → HeedsIn here l.peer_busy l.running → Ends (release_in here t (begun l))
-  releases TeiAssigned e h = (Heeding.releases_4 t).leads (begun l) (at-4 e)
-  releases Established e h = (Heeding.release_7_8 t).leads (begun l) (at-7 e h)
-  releases TimerRecovery e h = (Heeding.release_7_8 t).leads (begun l) (at-8 e h)
-  releases other e h = idle other e h
+  releases here e h = grind (arith, at-4, at-7, at-8, idle)
 
   grants : Heeds l → (request : Request) → Ends (granted t request (begun l))
-  grants h Establish = record { holds = refl }
-  grants h Release = releases l.state refl h.heeds
-  grants h (Data octets) = record { holds = h.heeds }
-  grants h other = both_ways Ends l.own_busy _ _ (record { holds = h.heeds }) (record { holds = h.heeds })
+  grants h request = grind (arith, releases, both_ways)
 
   asked : Heeds l → (request : Request) (o : Option Refusal) → Ends (elim o [ None ↦ granted t request (begun l) | Some _ ↦ begun l ])
-  asked h request None = grants h request
-  asked h request (Some w) = record { holds = h.heeds }
+  asked h request o = grind (arith, grants)
 
   -- an I-frame goes in state 7 alone, and only while the terminal is not busy
   free : (state : State) (busy x y : Bool) → (is_established state && not busy && x && y) ≡ true → (running : Option LinkTimer) → HeedsIn state busy running
-  free AwaitingEstablishment busy x y e running = absurd (true≢false (sym e))
-  free Established true x y e running = absurd (true≢false (sym e))
-  free Established false x y e running = λ b. absurd (true≢false (sym b))
-  free TimerRecovery busy x y e running = absurd (true≢false (sym e))
-  free other busy x y e running = tt
+  free state busy x y e running = grind arith
 
   told : (b : Bool) (u v : Course) → (b ≡ true → Ends u) → Ends v → Ends (cond b u v)
-  told true u v x y = x refl
-  told false u v x y = y
+  told b u v x y = grind arith
 
   offers : Heeds l → (ws : List ControlFrame) → Ends (offer_among t ws (begun l))
-  offers h (f ∷ fs) = record { holds = h.heeds }
-  offers h [] =
-      told (may_send_information t l) _ _
-      (λ e. both_ways Ends (is_awaiting_acknowledgement (with_one_sent l)) _ _
-      (record { holds = free l.state l.peer_busy _ _ e l.running }) (record { holds = free l.state l.peer_busy _ _ e (Some T200) }))
-      (both_ways Ends l.pending _ _ (record { holds = h.heeds }) (record { holds = h.heeds }))
+  offers h ws = grind (arith, told, both_ways, free)
 
 pub heeds-after : (t : Terms) (e : Event) (l : Link) → Heeds l → Heeds (after t e l)
 heeds-after t (received (frame f)) l h = record { heeds = (frames t l h f.address.command f.info f.control).holds }

@@ -1,5 +1,5 @@
 -- The contents of two links that face each other are those of their histories.
-use Rattle.laws_link.proofs.Vocabulary.{ℕ, List, [], ◌∷◌, Parts, frame, Event, received, requested, expired, offer, after, IsInRange, IsSound, End, Ends, Act, asks, expires, sends, receives, loses, Doing, at_near, at_far, turned, acting, with_first_of, doing, doing_all, sound-after, History, share, with_share, IsCounted, by_frame, by_act, near_history, far_history}
+use Rattle.laws_link.proofs.Vocabulary.{arith, ℕ, List, [], ◌∷◌, Parts, frame, Event, received, requested, expired, offer, after, IsInRange, IsSound, End, Ends, Act, asks, expires, sends, receives, loses, Doing, at_near, at_far, turned, acting, with_first_of, doing, doing_all, sound-after, History, share, with_share, IsCounted, by_frame, by_act, near_history, far_history}
 use Rattle.laws_link.proofs.Counted.{counted-after}
 
 -- an end whose terms are in range, whose link is sound, and whose contents are those of a history
@@ -11,11 +11,7 @@ pub record Stands (n : End) (h : History) : Type 0 where
 -- an event of its link
 by-event : (e : Event) (n : End) (h : History) (way : List Parts) (delivered : List (List ℕ)) → Stands n h
     → Stands (record { terms = n.terms; link = after n.terms e n.link; way = way; delivered = delivered }) (with_share h (share n.terms e n.link))
-by-event e n h way delivered s = record {
-  ranges = s.ranges;
-  sound = sound-after n.terms s.ranges e n.link s.sound;
-  counted = counted-after n.terms e n.link h s.sound s.counted;
-}
+by-event e n h way delivered s = grind (arith, sound-after, counted-after)
 
 by-first : (fs : List Parts) (n : End) (h : History) → Stands n h → Stands (with_first_of fs n) (by_frame n fs h)
 by-first [] n h s = s
@@ -30,8 +26,7 @@ near-acts receives e h s = by-first e.far.way e.near h s
 near-acts loses e h s = record { ranges = s.ranges; sound = s.sound; counted = s.counted }
 
 far-waits : (act : Act) (e : Ends) (h : History) → Stands e.far h → Stands (acting act e).far h
-far-waits receives e h s = record { ranges = s.ranges; sound = s.sound; counted = s.counted }
-far-waits other e h s = s
+far-waits act e h s = grind arith
 
 pub near-all : (ds : List Doing) (e : Ends) (h : History) → Stands e.near h → IsCounted (near_history ds e h) (doing_all ds e).near.link
 unfolding near_history doing_all

@@ -1,5 +1,5 @@
 -- One direction between two links whose T200 is timely, as one of the two goes on or hears a frame.
-use Rattle.laws_link.proofs.Vocabulary.{◌≡◌, ℕ, ◌+◌, ◌≤◌, Bool, true, false, List, [], ◌∷◌, ◌++◌, Some, refl, sym, ap, subst, ◌∙◌, append_assoc, ◌⊎◌, inl, inr, Seq, seq, named, Parts, ControlFrame, Terms, Link, frame_of, frames_of, frames-append}
+use Rattle.laws_link.proofs.Vocabulary.{arith, ◌≡◌, ℕ, ◌+◌, ◌≤◌, Bool, true, false, List, [], ◌∷◌, ◌++◌, Some, refl, sym, ap, subst, ◌∙◌, append_assoc, ◌⊎◌, inl, inr, Seq, seq, Parts, ControlFrame, Terms, Link, frames_of, frames-append}
 use Rattle.laws_link.proofs.OfTwo.Halves.{named-number}
 use Rattle.laws_link.proofs.OfTwo.Trains.{Kind, numbered, enquiry, answer, report, rejection, alien, kinds_of, kinds-append, one_enquiry, one_answer, one_rejection, Calm}
 use Rattle.laws_link.proofs.OfTwo.Flow.{Order, RejectsAt, AnswersAt, Flow, flow-low, there-calm, there-tail, back-other, back-tail}
@@ -14,10 +14,7 @@ abbrev pub Longer : List Kind → List Kind → Kind → Type 0
 Longer before after k = (after ≡ before) ⊎ (after ≡ before ++ k ∷ [])
 
 pub line-longer : (t : Terms) (way : List Parts) (before after : List ControlFrame) (k : Kind) → Grown before after k → Longer (line t way before) (line t way after) k
-line-longer t way before after k (inl e) = inl (ap (λ ws. line t way ws) e)
-line-longer t way before after k (inr (f, e, is)) =
-    inr (ap (λ ws. line t way ws) e ∙ ap (λ fs. kinds_of (way ++ fs)) (frames-append t before (f ∷ [])) ∙ ap kinds_of (sym (append_assoc way (frames_of t before) (frame_of t f ∷ [])))
-    ∙ kinds-append (way ++ frames_of t before) (frame_of t f ∷ []) ∙ ap (λ x. line t way before ++ x ∷ []) is)
+line-longer t way before after k o = grind (arith, kinds_of, frames-append, append_assoc, frames_of, kinds-append)
 
 -- the same direction, by other names
 pub flow-at : {s s' r r' : ℕ} {b b' q q' : Bool} {ln ln' lm lm' : List Kind} → s' ≡ s → r' ≡ r → b' ≡ b → q' ≡ q → ln' ≡ ln → lm' ≡ lm
@@ -44,16 +41,13 @@ NoAlien alien = ⊥
 NoAlien other = Unit {0}
 
 no-alien-in : (q : Bool) (s r : ℕ) (ln : List Kind) → Order q r s (alien ∷ ln) → ⊥
-no-alien-in true s r ln (inl (top, up, here, rest)) = here
-no-alien-in true s r ln (inr h) = h.0
-no-alien-in false s r ln (top, up, here, rest) = here
+no-alien-in q s r ln o = grind arith
 
 no-alien : (s r : ℕ) (b q : Bool) (ln lm : List Kind) → Flow s r b q (alien ∷ ln) lm → ⊥
 no-alien s r b q ln lm h = no-alien-in q s r ln h.order
 
 pub is-no-alien : (s r : ℕ) (b q : Bool) (x : Kind) (ln lm : List Kind) → Flow s r b q (x ∷ ln) lm → NoAlien x
-is-no-alien s r b q alien ln lm h = no-alien s r b q ln lm h
-is-no-alien s r b q other ln lm h = tt
+is-no-alien s r b q x ln lm h = grind (arith, alien, no-alien)
 
 one-number : (x y : ℕ) → Some x ≡ Some y → x ≡ y
 one-number x y e = cc
@@ -88,13 +82,9 @@ module _ (t : Terms) (way : List Parts) (l l' : Link) where
       (there-longer l.s r b q own own' lm (rejection (seq l.r)) tt refl (line-longer t way l.waiting l'.waiting (rejection (seq l.r)) x.4) h)
 
   -- V(S) goes back to V(R)
-  back-to : (r : ℕ) (nr : Seq) → l.a ≤ r → r ≤ l.s → l.s ≤ l.a + 127 → nr ≡ seq r → named l.a l.s nr ≡ Some l'.s → l'.s ≡ r
-  back-to r nr low high near says e = one-number l'.s r (sym e ∙ ap (λ z. named l.a l.s z) says ∙ named-number l.a l.s r low high near)
-
   sender-back : (r : ℕ) (q : Bool) (lm : List Kind) (nr : Seq) → l.a ≤ r → r ≤ l.s → l.s ≤ l.a + 127 → nr ≡ seq r → Back nr l l' → Flow r r false q own lm
       → Flow l'.s r (is_recovering l'.state) q own' lm
-  sender-back r q lm nr low high near says k h =
-      flow-at (back-to r nr low high near says k.s) refl (ap is_recovering k.state) refl (kept-line k.waiting) refl h
+  sender-back r q lm nr low high near says k h = grind (arith, flow-at, one-number, named-number, is_recovering, kept-line)
 
   pub sender-hears : (r : ℕ) (q : Bool) (x : Kind) (lm : List Kind) (b : Bool) → NoAlien x → l.a ≤ r → l.s ≤ l.a + 127 → is_recovering l.state ≡ b → Heard x b l l'
       → Flow l.s r b q own (x ∷ lm) → Flow l'.s r (is_recovering l'.state) q own' lm

@@ -1,5 +1,5 @@
 -- A link runs the timer that it needs: from what each event keeps.
-use Rattle.laws_link.proofs.Vocabulary.{◌≡◌, ◌≢◌, ◌⊎◌, inl, inr, ℕ, ◌≤◌, ◌==◌, Bool, true, false, not, cond, ◌||◌, IsTrue, Option, None, Some, refl, sym, ap, ◌∙◌, arith, true≢false, eq-eqb, State, TeiAssigned, AwaitingEstablishment, Established, TimerRecovery, LinkTimer, T200, T203, Terms, Link, fresh, Event, after, IsSound, runs, eqb-true, IsTimedIn, IsTimed, HeedsIn, needed_in, IsCalmIn, HasItsTimer}
+use Rattle.laws_link.proofs.Vocabulary.{◌≡◌, ◌≢◌, ◌⊎◌, ℕ, ◌≤◌, ◌==◌, Bool, true, false, not, cond, ◌||◌, IsTrue, Option, None, Some, refl, ◌∙◌, arith, eq-eqb, State, TeiAssigned, AwaitingEstablishment, Established, TimerRecovery, LinkTimer, T200, T203, Terms, Link, fresh, Event, after, IsSound, eqb-true, IsTimedIn, IsTimed, HeedsIn, needed_in, IsCalmIn, HasItsTimer}
 use Rattle.laws_link.proofs.TimedRows.{timed-after}
 use Rattle.laws_link.proofs.OfTwo.Awaiting.{Awaits, event-awaits}
 use Rattle.laws_link.proofs.OfTwo.HeedingEvents.{heeds-after}
@@ -17,27 +17,12 @@ calm other busy = Unit {0}
 needs : (here : State) (l : Link) → needed_in here l ≡ need here l.peer_busy l.a l.s
 needs here l = grind arith
 
-t203-is-not : Some T203 ≡ Some T200 → ⊥
-t203-is-not e = true≢false (sym (ap (runs T200) e))
-
 -- state 7 with T203 alone: nothing is outstanding, and the terminal is not busy
-not-outstanding : (a s : ℕ) → not (s == a) ≡ false → s ≤ a
-not-outstanding a s e = go (s == a) refl e
-  where
-    go : (b : Bool) → (s == a) ≡ b → not b ≡ false → s ≤ a
-    go true is e = omega (arith, eqb-true s a is)
-    go false is e = absurd (true≢false e)
-
 neither : (x y : Bool) → (x || y) ≡ false → (x ≡ false) × (y ≡ false)
-neither true y e = absurd (true≢false e)
-neither false y e = (refl, e)
+neither x y e = grind arith
 
 timed-7 : (running : Option LinkTimer) (busy : Bool) (a s : ℕ) → running ≡ need Established busy a s → (running ≡ Some T200) ⊎ ((running ≡ Some T203) × (s ≤ a))
-timed-7 running busy a s e = go (not (s == a) || busy) refl e
-  where
-    go : (b : Bool) → (not (s == a) || busy) ≡ b → running ≡ cond b (Some T200) (Some T203) → (running ≡ Some T200) ⊎ ((running ≡ Some T203) × (s ≤ a))
-    go true is e = inl e
-    go false is e = inr (e, not-outstanding a s (neither (not (s == a)) busy is).0)
+timed-7 running busy a s e = grind (arith, eqb-true, neither)
 
 to-timed : (here : State) (l : Link) → l.running ≡ need here l.peer_busy l.a l.s → IsTimedIn here l
 to-timed Established l e = timed-7 l.running l.peer_busy l.a l.s e
@@ -47,8 +32,7 @@ or-true : (x : Bool) → (x || true) ≡ true
 or-true x = grind arith
 
 busy-needs : (busy : Bool) (a s : ℕ) → IsTrue busy → need Established busy a s ≡ Some T200
-busy-needs true a s h = ap (λ b. cond b (Some T200) (Some T203)) (or-true (not (s == a)))
-busy-needs false a s h = absurd (true≢false (sym h))
+busy-needs busy a s h = grind (arith, or-true)
 
 to-heeds : (here : State) (busy : Bool) (running : Option LinkTimer) (a s : ℕ) → running ≡ need here busy a s → calm here busy → HeedsIn here busy running
 to-heeds AwaitingEstablishment busy running a s e h = h
@@ -57,35 +41,12 @@ to-heeds TimerRecovery busy running a s e h = e
 to-heeds other busy running a s e h = tt
 
 to-awaits : (here : State) (busy : Bool) (running : Option LinkTimer) (a s : ℕ) → running ≡ need here busy a s → Awaits here running busy a s
-to-awaits here busy running a s e is timer = by (not (s == a)) refl busy refl
-  where
-    now : Some T200 ≡ need Established busy a s
-    now = sym timer ∙ e ∙ ap (λ x. need x busy a s) is
-
-    by : (x : Bool) → not (s == a) ≡ x → (y : Bool) → busy ≡ y → (busy ≡ true) ⊎ (a ≢ s)
-    by x e true h = inl h
-    by true e false h = inr (λ same. true≢false (sym e ∙ ap (λ b. not b) (eq-eqb s a (sym same))))
-    by false e false h = absurd (t203-is-not (sym (now ∙ ap (λ b. cond b (Some T200) (Some T203)) (ap (λ b. b || busy) e ∙ h))))
+to-awaits here busy running a s e is timer = grind (arith, eq-eqb)
 
 -- and the other way round
 from-7 : (running : Option LinkTimer) (busy : Bool) (a s : ℕ) → (running ≡ Some T200) ⊎ ((running ≡ Some T203) × (s ≤ a)) → (IsTrue busy → running ≡ Some T200)
     → (running ≡ Some T200 → (busy ≡ true) ⊎ (a ≢ s)) → a ≤ s → running ≡ need Established busy a s
-from-7 running busy a s (inl timer) heeds awaits ordered = go (awaits timer)
-  where
-    go : (busy ≡ true) ⊎ (a ≢ s) → running ≡ need Established busy a s
-    go (inl b) = timer ∙ sym (busy-needs busy a s b)
-    go (inr apart) = timer ∙ sym (ap (λ b. cond (not b || busy) (Some T200) (Some T203)) (other (s == a) refl))
-      where
-        other : (b : Bool) → (s == a) ≡ b → (s == a) ≡ false
-        other true e = absurd (apart (sym (eqb-true s a e)))
-        other false e = e
-from-7 running busy a s (inr timer) heeds awaits ordered =
-    let same : s ≡ a = omega (arith, timer.1, ordered) in
-    timer.0 ∙ sym (ap (λ b. cond (not b || busy) (Some T200) (Some T203)) (eq-eqb s a same) ∙ go busy refl)
-  where
-    go : (b : Bool) → busy ≡ b → cond (false || busy) (Some T200) (Some T203) ≡ Some T203
-    go true e = absurd (t203-is-not (sym timer.0 ∙ heeds e))
-    go false e = ap (λ b. cond b (Some T200) (Some T203)) e
+from-7 running busy a s o heeds awaits ordered = grind (arith, busy-needs, eqb-true, eq-eqb)
 
 from-timed : (here : State) (l : Link) → IsTimedIn here l → HeedsIn here l.peer_busy l.running → (here ≡ Established → l.running ≡ Some T200 → (l.peer_busy ≡ true) ⊎ (l.a ≢ l.s)) → l.a ≤ l.s
     → l.running ≡ needed_in here l

@@ -1,6 +1,5 @@
 -- An end in state 7 with nothing waiting: what it gives, and, with neither side busy, what it makes of what it receives.
-use Rattle.laws_link.proofs.Vocabulary.{arith, ◌≡◌, ℕ, ◌+◌, Bool, true, false, cond, ◌==◌, [], ◌∷◌, ◌++◌, length, Option, None, Some, refl, ap, ◌∙◌, nat_lt, slice_get, unwrap_or, option_to_list, Seq, seq, named, Information, ReceiveReady, Parts, T200, T203, Terms, Link, frame_of, address_at, runs, frame, received, Course, Step, begun, ◌then◌, changed, given_of, End, with_link, with_sent, frame_given, IsReady, ErrorCode, State, acknowledge, by_number, error, pending_is, re_establish, response, start, acknowledged_by_information_in_7, acknowledged_in_7, give_information, may_send_information, send_acknowledgement, send_information, with_one_sent}
-use Rattle.model_link.specs.MultipleFrame
+use Rattle.laws_link.proofs.Vocabulary.{arith, ◌≡◌, ◌+◌, Bool, true, false, cond, ◌==◌, [], ◌∷◌, ◌++◌, length, Some, ap, nat_lt, slice_get, unwrap_or, option_to_list, Seq, seq, named, Information, ReceiveReady, Parts, T200, T203, Terms, Link, frame_of, address_at, runs, frame, received, Course, begun, ◌then◌, changed, given_of, End, with_link, with_sent, frame_given, IsReady, State, acknowledge, by_number, pending_is, response, start, acknowledged_by_information_in_7, acknowledged_in_7, give_information, may_send_information, send_acknowledgement, with_one_sent}
 
 -- with own busy, and the other end taken for busy, as the bits say
 abbrev pub plain_with : Bool → Bool → Link → Link
@@ -16,11 +15,7 @@ abbrev pub plain_end : End → End
 plain_end n = plain_end_with false false n
 
 pub is_plain : (n : End) → IsReady n → n ≡ plain_end n
-is_plain n h =
-    λ i. record n {
-      link = record n.link { state = h.state i; peer_busy = h.peer_busy i; own_busy = h.own_busy i; waiting = h.waiting i };
-      way = h.way i;
-    }
+is_plain n h = grind arith
 
 -- An I-frame, as a sender's end gives it; and the acknowledgement.
 abbrev pub information_frame : Terms → Link → Parts
@@ -62,19 +57,15 @@ module _ (own busy : Bool) (n : End) where
 
   pub gives-information : may_send_information n.terms (plain_with own busy n.link) ≡ true
       → with_sent (plain_end_with own busy n) ≡ record n { link = with_information_with own busy n.link; way = information_frame n.terms n.link ∷ [] }
-  gives-information may =
-      ap (λ b. giving (cond b (cond (runs T200 n.link.running) informing (start T200 informing)) otherwise)) may ∙ timed (runs T200 n.link.running) refl
+  gives-information may = grind (arith, timed)
 
   pub gives-acknowledgement : may_send_information n.terms (plain_with own busy n.link) ≡ false → n.link.pending ≡ true
       → with_sent (plain_end_with own busy n) ≡ record n { link = with_acknowledgement_with own busy n.link; way = acknowledgement_frame n.terms n.link ∷ [] }
-  gives-acknowledgement may owed =
-      ap (λ b. giving (cond b (send_information first) otherwise)) may ∙ ap (λ b. giving (cond b (send_acknowledgement first) first)) owed
+  gives-acknowledgement may owed = grind arith
 
   pub gives-nothing : may_send_information n.terms (plain_with own busy n.link) ≡ false → n.link.pending ≡ false
       → with_sent (plain_end_with own busy n) ≡ record n { link = with_acknowledgement_with own busy n.link; way = [] }
-  gives-nothing may owed =
-      ap (λ b. giving (cond b (send_information first) otherwise)) may ∙ ap (λ b. giving (cond b (send_acknowledgement first) first)) owed
-      ∙ ap (λ b. record n { link = record (plain_with own busy n.link) { pending = b }; way = [] }) owed
+  gives-nothing may owed = grind arith
 
 -- What it is after each frame that acknowledges all.
 abbrev pub with_taken : Link → Link
@@ -91,32 +82,19 @@ module _ (m : End) (same : (m.link.s == m.link.s) ≡ true) where
   having c = record m { link = c.link; way = []; delivered = m.delivered ++ option_to_list c.delivered }
 
   -- the effect of an N(R)
-  abbrev effect : Seq → (ℕ → Step) → Course → Option ℕ → Course
-  effect nr f c o = elim o [ None ↦ (error m.terms ErrorCode.J then re_establish m.terms) c | Some x ↦ f x c ]
-
   acknowledged : (nr : Seq) (c : Course) → named c.link.a c.link.s nr ≡ Some c.link.s → (c.link.s == c.link.s) ≡ true
       → by_number m.terms nr acknowledged_in_7 c ≡ (acknowledge c.link.s then start T203) c
-  acknowledged nr c all test =
-      ap (effect nr acknowledged_in_7 c) all
-      ∙ ap (λ b. cond b ((acknowledge c.link.s then start T203) c) (cond (nat_lt c.link.a c.link.s) ((acknowledge c.link.s then start T200) c) c)) test
+  acknowledged nr c all test = grind (arith, nat_lt)
 
   by-information : (nr : Seq) (c : Course) → c.link.peer_busy ≡ false → named c.link.a c.link.s nr ≡ Some c.link.s → (c.link.s == c.link.s) ≡ true
       → by_number m.terms nr acknowledged_by_information_in_7 c ≡ (acknowledge c.link.s then start T203) c
-  by-information nr c free all test =
-      ap (effect nr acknowledged_by_information_in_7 c) all
-      ∙ ap (λ b. cond b (acknowledge c.link.s c) (acknowledged_in_7 c.link.s c)) free
-      ∙ ap (λ b. cond b ((acknowledge c.link.s then start T203) c) (cond (nat_lt c.link.a c.link.s) ((acknowledge c.link.s then start T200) c) c)) test
+  by-information nr c free all test = grind (arith, nat_lt)
 
   pub takes-information : (t : Terms) (l : Link) → nat_lt m.terms.n201 (length (unwrap_or (slice_get l.contents l.s) [])) ≡ false
       → ((seq l.s).value == (seq m.link.r).value) ≡ true → named m.link.a m.link.s (seq l.r) ≡ Some m.link.s
       → with_link (received (frame (information_frame t l))) (plain_end m)
       ≡ record m { link = with_taken m.link; way = []; delivered = m.delivered ++ unwrap_or (slice_get l.contents l.s) [] ∷ [] }
-  takes-information t l fits next all =
-      let octets = unwrap_or (slice_get l.contents l.s) [] in
-      let number = by_number m.terms (seq l.r) acknowledged_by_information_in_7 in
-      ap (λ b. having (cond b (MultipleFrame.failed m.terms ErrorCode.O here) (number (MultipleFrame.contents_in_7_8 m.terms (seq l.s) false octets here)))) fits
-      ∙ ap (λ b. having (number (cond b (MultipleFrame.in_sequence m.terms false octets here) (MultipleFrame.out_of_sequence m.terms false here)))) next
-      ∙ ap having (by-information (seq l.r) (MultipleFrame.in_sequence m.terms false octets here) refl all same)
+  takes-information t l o next all = grind (arith, slice_get, by-information)
 
   pub takes-acknowledgement : (t : Terms) (l : Link) → named m.link.a m.link.s (seq l.r) ≡ Some m.link.s
       → with_link (received (frame (acknowledgement_frame t l))) (plain_end m)

@@ -1,5 +1,5 @@
 -- What holds of two links that came from an establishment, and stayed up: all that recovery asks but silence.
-use Rattle.laws_link.proofs.Vocabulary.{◌≡◌, ℕ, ◌+◌, ◌≤◌, Bool, false, List, [], ◌∷◌, length, sym, subst, ◌∙◌, true≢false, All, Parts, Link, frame, received, expired, requested, offer, End, Ends, Act, asks, expires, sends, receives, loses, Doing, at_near, at_far, with_first_of, acting, turned, doing, doing_all, Begins, StayUp, Agree, Joined, joined-first, done-at, ends-agree, IsTimed, HeedsIn, Heeds, rounds, IsCutOffWith, IsSilent, IsSilentWith, HasMissing, with_t200_expired, joined-turned}
+use Rattle.laws_link.proofs.Vocabulary.{arith, ◌≡◌, ℕ, ◌+◌, Bool, false, List, [], ◌∷◌, Parts, Link, frame, received, expired, requested, offer, End, Ends, Act, asks, expires, sends, receives, loses, Doing, at_near, at_far, with_first_of, acting, turned, doing, doing_all, Begins, StayUp, Agree, Joined, joined-first, done-at, ends-agree, IsTimed, Heeds, rounds, IsCutOffWith, IsSilent, IsSilentWith, HasMissing, with_t200_expired, joined-turned}
 use Rattle.laws_link.proofs.TimedRows.{timed-after}
 use Rattle.laws_link.proofs.OfTwo.HeedingEvents.{heeds-after}
 use Rattle.laws_link.proofs.OfTwo.Arriving.{Arrived}
@@ -43,39 +43,15 @@ all-whole [] e up h = h
 all-whole (d ∷ ds) e up h =
     all-whole ds (doing d e) up.1 (record { joined = done-at d e up.0 h.joined; sane = sane-doing d e h.sane; same = same-after d e h.same })
 
-begins-sane : (n : End) → Begins n → IsTimed n.link → Sane n.link
-begins-sane n b timed =
-    record {
-      timed = timed;
-      heeds = record { heeds = subst (λ s. HeedsIn s n.link.peer_busy n.link.running) (sym b.state) (λ busy. absurd (true≢false (sym busy ∙ b.peer_busy))) };
-    }
-
 pub cut-off : (own : Bool) (e : Ends) → Whole e → Agree e.far e.near → IsSilentWith own e.near e.far → IsCutOffWith own e.near e.far
-cut-off own e h agree silent =
-    record {
-      ranges = h.joined.near_ranges;
-      sound = h.joined.near_sound;
-      timed = h.sane.0.timed;
-      heeds = h.sane.0.heeds;
-      up = h.joined.near_up;
-      repeats = silent.repeats;
-      own_busy = silent.own_busy;
-      waiting = silent.waiting;
-      way = silent.way;
-      low = agree.acknowledged;
-      high = silent.high;
-      delivered = agree.delivered;
-      sizes = subst (λ i. All (λ octets. length octets ≤ i) e.near.link.contents) h.same h.joined.near_sound.sizes;
-    }
+cut-off own e h agree silent = grind arith
 
 pub cut-off-far : (own : Bool) (e : Ends) → Whole e → Agree e.near e.far → IsSilentWith own e.far e.near → IsCutOffWith own e.far e.near
-cut-off-far own e h agree silent =
-    cut-off own (turned e) (record { joined = joined-turned e.near e.far h.joined; sane = (h.sane.1, h.sane.0); same = sym h.same }) agree silent
+cut-off-far own e h agree silent = grind (arith, cut-off, joined-turned)
 
 pub whole-first : (ds : List Doing) (e : Ends) → Begins e.near → Begins e.far → IsTimed e.near.link → IsTimed e.far.link → e.near.terms.n201 ≡ e.far.terms.n201 → StayUp ds e
     → Whole (doing_all ds e)
-whole-first ds e b c tb tc same up =
-    all-whole ds e up (record { joined = joined-first e.near e.far b c; sane = (begins-sane e.near b tb, begins-sane e.far c tc); same = same })
+whole-first ds e b c tb tc same up = grind (arith, all-whole, joined-first)
 
 pub reached : (ds : List Doing) (u : ℕ) (e : Ends) → Begins e.near → Begins e.far → IsTimed e.near.link → IsTimed e.far.link
     → e.near.terms.n201 ≡ e.far.terms.n201 → StayUp ds e

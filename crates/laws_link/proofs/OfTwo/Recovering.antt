@@ -13,8 +13,7 @@ pub record Sounds (e : Ends) : Type 0 where
   pub far : IsSound e.far.terms e.far.link
 
 ranges-taker : (m : End) (way : List Parts) → IsInRange m.terms → IsInRange (with_first_of way m).terms
-ranges-taker m [] r = r
-ranges-taker m (f ∷ fs) r = r
+ranges-taker m way r = grind arith
 
 sound-taker : (m : End) (way : List Parts) → IsInRange m.terms → IsSound m.terms m.link → IsSound (with_first_of way m).terms (with_first_of way m).link
 sound-taker m [] r h = h
@@ -78,8 +77,7 @@ recovered-far u cn cm e h =
 -- an end that has recovered
 pub ready-7 : (n : End) (a s : ℕ) (p : Bool) (running : Option LinkTimer) (ds : List (List ℕ)) → IsInRange n.terms → IsSound n.terms (in_7 n [] a s p running ds).link
     → IsReady (in_7 n [] a s p running ds)
-ready-7 n a s p running ds ranges sound =
-    record { ranges = ranges; sound = sound; state = refl; peer_busy = refl; own_busy = refl; waiting = refl; way = refl }
+ready-7 n a s p running ds ranges sound = grind arith
 
 -- room for a frame, and for a second one
 pub room-0 : (x : End) → IsInRange x.terms → nat_lt 0 x.terms.control ≡ true
@@ -266,10 +264,7 @@ module _ (u : ℕ) (cn cm : List (List ℕ)) (n m : End) (there : Between u cn n
       far_asks = record { near = plain_end n; far = in_8 m (enquiry m.link.r ∷ []) bm m.link.a false m.delivered }
 
       at-r : n.link.s ≡ m.link.r
-      at-r =
-          let low : n.link.a ≤ m.link.r = there.low in
-          let high : m.link.r ≤ n.link.s = there.high in
-          omega (arith, all)
+      at-r = grind arith
 
       -- by what near gives
       by-information : may_send_information n.terms (plain n.link) ≡ true → Sounds far_asks → Recovered u cn cm (near_moves (far_moves (near_moves far_asks)))
@@ -337,9 +332,7 @@ module _ (u : ℕ) (cn cm : List (List ℕ)) (n m : End) (there : Between u cn n
 
       by-flags : (may owed : Bool) → may_send_information n.terms (plain n.link) ≡ may → n.link.pending ≡ owed → Sounds far_asks
           → Recovered u cn cm (near_moves (far_moves (near_moves far_asks)))
-      by-flags true owed e p = by-information e
-      by-flags false true e p = by-acknowledgement e p
-      by-flags false false e p = by-nothing e p
+      by-flags may owed e p = grind (arith, by-information, by-acknowledgement, by-nothing)
 
       pub far-recovers : Sounds far_asks → Recovered u cn cm (far_moves (near_moves (far_moves (near_moves far_asks))))
       far-recovers sounds =

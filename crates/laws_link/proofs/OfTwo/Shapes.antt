@@ -1,6 +1,5 @@
 -- An end that asks and one that answers: what each makes of the other's frames.
-use Rattle.laws_link.proofs.Vocabulary.{◌≡◌, ℕ, ◌+◌, Bool, true, false, cond, ◌==◌, List, [], ◌∷◌, ◌++◌, length, Option, None, Some, refl, ap, ◌∙◌, append-nil, arith, nat_lt, slice_get, unwrap_or, option_to_list, le-ltb, Seq, seq, named, ReceiveReady, ReceiveNotReady, LinkTimer, T200, T203, ControlFrame, Terms, Link, frame_of, frame, received, Course, Step, begun, ◌then◌, End, with_link, ErrorCode, State, acknowledge, by_number, command, error, re_establish, response, start, acknowledged_in_7, acknowledged_in_8}
-use Rattle.model_link.specs.MultipleFrame
+use Rattle.laws_link.proofs.Vocabulary.{◌≡◌, ℕ, ◌+◌, Bool, true, false, cond, ◌==◌, List, [], ◌∷◌, ◌++◌, length, Option, None, Some, append-nil, arith, nat_lt, slice_get, unwrap_or, option_to_list, le-ltb, Seq, seq, named, ReceiveReady, ReceiveNotReady, LinkTimer, T200, T203, ControlFrame, Terms, Link, frame_of, frame, received, Course, Step, begun, ◌then◌, End, with_link, ErrorCode, State, command, error, re_establish, response}
 use Rattle.laws_link.proofs.OfTwo.Plain.{information_frame, acknowledgement_frame}
 
 -- The enquiry and the answer.
@@ -52,29 +51,19 @@ module _ (m : End) where
 pub asked-8 : (own : Bool) (n : End) (ws : List ControlFrame) (busy : Bool) (a : ℕ) (p : Bool) (ds : List (List ℕ)) (t : Terms) (w x : ℕ)
     → nat_lt (length ws) n.terms.control ≡ true → named a n.link.s (seq w) ≡ Some x
     → with_link (received (frame (frame_of t (enquiry w)))) (in_8_with own n ws busy a p ds) ≡ in_8_with own n (ws ++ reply_with own n.link.r ∷ []) false x false ds
-asked-8 own n ws busy a p ds t w x room names =
-    let e = in_8_with own n ws busy a p ds in
-    ap (λ b. having e (by_number n.terms (seq w) (acknowledged_in_8 T203 false) (replied e own false ws b))) room
-    ∙ ap (λ o. having e (effect n.terms (seq w) (acknowledged_in_8 T203 false) (replied e own false ws true) o)) names
-    ∙ ap (λ xs. in_8_with own n (ws ++ reply_with own n.link.r ∷ []) false x false xs) (append-nil ds)
+asked-8 own n ws busy a p ds t w x room names = grind (arith, append-nil)
 
 -- its answer
 pub answered-8 : (own : Bool) (n : End) (ws : List ControlFrame) (busy : Bool) (a : ℕ) (p : Bool) (ds : List (List ℕ)) (t : Terms) (w x : ℕ)
     → named a n.link.s (seq w) ≡ Some x
     → with_link (received (frame (frame_of t (reply w)))) (in_8_with own n ws busy a p ds) ≡ in_7_with own false n ws x x p (Some T203) ds
-answered-8 own n ws busy a p ds t w x names =
-    let e = in_8_with own n ws busy a p ds in
-    ap (λ o. having e (effect n.terms (seq w) (acknowledged_in_8 T203 true) (begun (record e.link { peer_busy = false })) o)) names
-    ∙ ap (λ xs. in_7_with own false n ws x x p (Some T203) xs) (append-nil ds)
+answered-8 own n ws busy a p ds t w x names = grind (arith, append-nil)
 
 -- an acknowledgement in state 8
 pub acknowledged-8 : (own : Bool) (n : End) (ws : List ControlFrame) (busy : Bool) (a : ℕ) (p : Bool) (ds : List (List ℕ)) (t : Terms) (l : Link) (x : ℕ)
     → named a n.link.s (seq l.r) ≡ Some x
     → with_link (received (frame (acknowledgement_frame t l))) (in_8_with own n ws busy a p ds) ≡ in_8_with own n ws false x p ds
-acknowledged-8 own n ws busy a p ds t l x names =
-    let e = in_8_with own n ws busy a p ds in
-    ap (λ o. having e (effect n.terms (seq l.r) (acknowledged_in_8 T203 false) (begun (record e.link { peer_busy = false })) o)) names
-    ∙ ap (λ xs. in_8_with own n ws false x p xs) (append-nil ds)
+acknowledged-8 own n ws busy a p ds t l x names = grind (arith, append-nil)
 
 -- an I-frame in state 8
 pub informed-8 : (m : End) (ws : List ControlFrame) (busy : Bool) (a : ℕ) (p : Bool) (ds : List (List ℕ)) (t : Terms) (l : Link) (x : ℕ)
@@ -82,31 +71,10 @@ pub informed-8 : (m : End) (ws : List ControlFrame) (busy : Bool) (a : ℕ) (p :
     → ((seq l.s).value == (seq m.link.r).value) ≡ true → named a m.link.s (seq l.r) ≡ Some x
     → with_link (received (frame (information_frame t l))) (in_8 m ws busy a p ds)
     ≡ in_8 (with_one_more m) ws busy x true (ds ++ unwrap_or (slice_get l.contents l.s) [] ∷ [])
-informed-8 m ws busy a p ds t l x fits next names =
-    let e = in_8 m ws busy a p ds in
-    let octets = unwrap_or (slice_get l.contents l.s) [] in
-    let number = by_number m.terms (seq l.r) acknowledge in
-    let here = begun e.link in
-    ap (λ b. having e (cond b (MultipleFrame.failed m.terms ErrorCode.O here) (number (MultipleFrame.contents_in_7_8 m.terms (seq l.s) false octets here)))) fits
-    ∙ ap (λ b. having e (number (cond b (MultipleFrame.in_sequence m.terms false octets here) (MultipleFrame.out_of_sequence m.terms false here)))) next
-    ∙ ap (λ o. having e (effect m.terms (seq l.r) acknowledge (MultipleFrame.in_sequence m.terms false octets here) o)) names
+informed-8 m ws busy a p ds t l x o next names = grind (arith, slice_get)
 
 -- an enquiry in state 7 that acknowledges nothing new
 pub asked-7 : (own : Bool) (n : End) (a s : ℕ) (p : Bool) (running : Option LinkTimer) (ds : List (List ℕ)) (t : Terms) (w : ℕ)
     → nat_lt 0 n.terms.control ≡ true → named a s (seq w) ≡ Some a
     → with_link (received (frame (frame_of t (enquiry w)))) (in_7_with own false n [] a s p running ds) ≡ in_7_with own false n (reply_with own n.link.r ∷ []) a s false (cond (a == s) (Some T203) running) ds
-asked-7 own n a s p running ds t w room names =
-    let e = in_7_with own false n [] a s p running ds in
-    let c = replied e own false [] true in
-    ap (λ b. having e (by_number n.terms (seq w) acknowledged_in_7 (replied e own false [] b))) room
-    ∙ ap (λ o. having e (effect n.terms (seq w) acknowledged_in_7 c o)) names
-    ∙ by-test (a == s) refl
-    ∙ ap (λ xs. in_7_with own false n (reply_with own n.link.r ∷ []) a s false (cond (a == s) (Some T203) running) xs) (append-nil ds)
-  where
-    by-test : (b : Bool) → (a == s) ≡ b
-        → having (in_7_with own false n [] a s p running ds) (cond b ((acknowledge a then start T203) (replied (in_7_with own false n [] a s p running ds) own false [] true)) (cond (nat_lt a a) ((acknowledge a then start T200) (replied (in_7_with own false n [] a s p running ds) own false [] true)) (replied (in_7_with own false n [] a s p running ds) own false [] true)))
-        ≡ in_7_with own false n (reply_with own n.link.r ∷ []) a s false (cond b (Some T203) running) (ds ++ [])
-    by-test true e = refl
-    by-test false e =
-        ap (λ b. having (in_7_with own false n [] a s p running ds) (cond b ((acknowledge a then start T200) (replied (in_7_with own false n [] a s p running ds) own false [] true)) (replied (in_7_with own false n [] a s p running ds) own false [] true)))
-        (le-ltb a a (omega arith))
+asked-7 own n a s p running ds t w room names = grind (arith, append-nil, nat_lt, le-ltb)

@@ -1,5 +1,5 @@
 -- What keeps a link in states 7 and 8: each word, each row of a frame whose N(R) is valid, and each mild event.
-use Rattle.laws_link.proofs.Vocabulary.{◌≡◌, ℕ, ◌<◌, ◌≤◌, Bool, true, false, cond, IsTrue, List, [], ◌∷◌, length, Option, None, Some, refl, sym, ap, subst, ◌∙◌, true≢false, lt-ltb, le-ltb, Seq, seq, named, Control, Information, ReceiveReady, ReceiveNotReady, Reject, Sabme, Disc, Ui, Ua, Dm, Frmr, Xid, Note, Refusal, WrongState, State, TeiAssigned, AwaitingEstablishment, AwaitingRelease, Established, TimerRecovery, LinkTimer, T200, T203, ControlFrame, Terms, Link, is_multiple_frame, Request, Establish, Release, Data, SetBusy, ClearBusy, expired, requested, offer, Course, begun, Step, ◌then◌, Leads, then_leads, keeping_then, nothing_leads, depending_leads, bit_leads, Means, IsMildRequest, leaves, ErrorCode, both_ways, acknowledge, by_number, enquire, enter, error, peer_busy_is, re_establish, repeated, start, answered, contents_in_7_8, failed, information_in_7_8, is_final, supervisory, acknowledged_by_information_in_7, frame_in_7, particulars_in_7, unsolicited, frame_in_8, particulars_in_8, granted, refusal, serves, is_awaiting_acknowledgement, may_send_information, offer_among, with_one_sent, course, expired_in, frame_in, frame_step, is_running}
+use Rattle.laws_link.proofs.Vocabulary.{arith, ◌≡◌, ℕ, ◌<◌, ◌≤◌, Bool, true, false, cond, IsTrue, List, length, Option, None, Some, refl, sym, subst, true≢false, lt-ltb, le-ltb, Seq, seq, named, Control, Information, ReceiveReady, ReceiveNotReady, Reject, Refusal, WrongState, State, Established, TimerRecovery, LinkTimer, ControlFrame, Terms, Link, is_multiple_frame, Request, Establish, expired, requested, offer, Course, begun, Step, ◌then◌, Leads, keeping_then, nothing_leads, depending_leads, bit_leads, Means, IsMildRequest, leaves, both_ways, acknowledge, by_number, enter, contents_in_7_8, information_in_7_8, supervisory, acknowledged_by_information_in_7, frame_in_7, particulars_in_7, frame_in_8, particulars_in_8, granted, refusal, offer_among, course, expired_in, frame_in, frame_step, is_running}
 
 abbrev IsUpIn : Course → Type 0
 IsUpIn c = IsTrue (is_multiple_frame c.link.state)
@@ -35,35 +35,23 @@ module _ (t : Terms) (l : Link) (up : IsTrue (is_multiple_frame l.state)) (p : �
   first : Holds l.a l.s (begun l)
   first = record { up = up; low = refl; high = refl }
 
-  abbrev effect : (ℕ → Step) → Course → Option ℕ → Course
-  effect f c o = elim o [ None ↦ (error t ErrorCode.J then re_establish t) c | Some n ↦ f n c ]
-
   numbered : (f : ℕ → Step) → ((n : ℕ) → Leads Stays (f n) Stays) → (c : Course) → Holds l.a l.s c → IsUpIn (by_number t (seq p) f c)
-  numbered f x c h =
-      let same : named c.link.a c.link.s (seq p) ≡ Some p = ap (λ a. named a c.link.s (seq p)) h.low ∙ ap (λ s. named l.a s (seq p)) h.high ∙ valid in
-      subst (λ o. IsUpIn (effect f c o)) (sym same) ((x p).leads c (record { up = h.up })).up
+  numbered f x c h = grind arith
 
   contents : (ns : Seq) (b : Bool) (octets : List ℕ) → Leads (Holds l.a l.s) (contents_in_7_8 t ns b octets) (Holds l.a l.s)
   contents ns b octets = search words depth 14 fits 6000
 
   information : (ns : Seq) (b : Bool) (octets : List ℕ) (f : ℕ → Step) → ((n : ℕ) → Leads Stays (f n) Stays) → length octets ≤ t.n201
       → IsUpIn (information_in_7_8 t ns (seq p) b octets f (begun l))
-  information ns b octets f x size =
-      subst (λ o. IsUpIn (cond o (failed t ErrorCode.O (begun l)) ((contents_in_7_8 t ns b octets then by_number t (seq p) f) (begun l))))
-      (sym (le-ltb t.n201 (length octets) size))
-      (numbered f x (contents_in_7_8 t ns b octets (begun l)) ((contents ns b octets).leads (begun l) first))
+  information ns b octets f x size = grind (arith, le-ltb, numbered, contents, first)
 
   supervisory-7 : (busy command pf : Bool) (f : Bool → ℕ → Step) → ((final : Bool) (n : ℕ) → Leads Stays (f final n) Stays)
       → IsUpIn (supervisory t (particulars_in_7 t) busy command pf (seq p) f (begun l))
-  supervisory-7 busy command pf f x =
-      let before : Leads (Holds l.a l.s) (peer_busy_is busy then answered t command pf then unsolicited t (is_final command pf)) (Holds l.a l.s) = search words depth 14 fits 6000 in
-      numbered (f (is_final command pf)) (x (is_final command pf)) _ (before.leads (begun l) first)
+  supervisory-7 busy command pf f x = grind (arith, numbered, first)
 
   supervisory-8 : (busy command pf : Bool) (f : Bool → ℕ → Step) → ((final : Bool) (n : ℕ) → Leads Stays (f final n) Stays)
       → IsUpIn (supervisory t (particulars_in_8 t) busy command pf (seq p) f (begun l))
-  supervisory-8 busy command pf f x =
-      let before : Leads (Holds l.a l.s) (peer_busy_is busy then answered t command pf) (Holds l.a l.s) = search words depth 14 fits 6000 in
-      numbered (f (is_final command pf)) (x (is_final command pf)) _ (before.leads (begun l) first)
+  supervisory-8 busy command pf f x = grind (arith, numbered, first)
 
   in-7 : (b : Bool) (octets : List ℕ) (control : Control) → Means p control → Fits t control octets → IsUpIn (frame_in_7 t b octets control (begun l))
   in-7 b octets (Information ns nr x) e size =
@@ -107,46 +95,30 @@ module _ (t : Terms) (l : Link) (up : IsTrue (is_multiple_frame l.state)) (p : �
 -- The other events.
 module _ (t : Terms) (l : Link) (up : IsTrue (is_multiple_frame l.state)) where
   branch : (b : Bool) (u v : Course) → (b ≡ true → IsUpIn u) → IsUpIn v → IsUpIn (cond b u v)
-  branch true u v x y = x refl
-  branch false u v x y = y
+  branch b u v x y = grind arith
 
   -- an establishment is refused in states 7 and 8
   pub refused : (here : State) → l.state ≡ here → IsTrue (is_multiple_frame here) → (full : Bool) → refusal t l full Establish ≡ Some WrongState
-  refused Established e h full = ap (λ s. cond (serves s Establish) None (Some WrongState)) e
-  refused TimerRecovery e h full = ap (λ s. cond (serves s Establish) None (Some WrongState)) e
-  refused other e h full = absurd (true≢false (sym h))
+  refused here e h full = grind arith
 
   whatever : (request : Request) (o : Option Refusal) → IsUpIn (granted t request (begun l)) → IsUpIn (elim o [ None ↦ granted t request (begun l) | Some _ ↦ begun l ])
-  whatever request None x = x
-  whatever request (Some w) x = up
+  whatever request o x = grind arith
 
   refuses : (o : Option Refusal) → o ≡ Some WrongState → IsUpIn (elim o [ None ↦ granted t Establish (begun l) | Some _ ↦ begun l ])
-  refuses None e = absurd (cc)
-  refuses (Some w) e = up
+  refuses o e = grind arith
 
   pub request-stays : (request : Request) (full : Bool) → IsMildRequest request → IsUpIn (course t (requested request full) l)
-  request-stays Establish full mild = refuses (refusal t l full Establish) (refused l.state refl up full)
-  request-stays Release full mild = absurd mild
-  request-stays (Data octets) full mild = whatever (Data octets) (refusal t l full (Data octets)) up
-  request-stays other full mild = whatever other (refusal t l full other) (both_ways IsUpIn l.own_busy _ _ up up)
+  request-stays request full mild = grind (arith, refuses, refused, whatever, both_ways)
 
   expires-in : (here : State) → l.state ≡ here → IsTrue (is_multiple_frame here) → (timer : LinkTimer) → (here ≡ TimerRecovery → l.repeats < t.n200)
       → IsUpIn (expired_in here timer t (begun l))
-  expires-in Established e h timer again = refl
-  expires-in TimerRecovery e h T200 again =
-      subst (λ b. IsUpIn (cond b (start T200 (repeated (enquire t (begun l)))) (failed t ErrorCode.I (begun l))))
-      (sym (lt-ltb l.repeats t.n200 (again refl))) up
-  expires-in TimerRecovery e h T203 again = up
-  expires-in other e h timer again = absurd (true≢false (sym h))
+  expires-in here e h timer again = grind (arith, lt-ltb)
 
   pub timer-stays : (timer : LinkTimer) → (l.state ≡ TimerRecovery → is_running timer l ≡ true → l.repeats < t.n200) → IsUpIn (course t (expired timer) l)
   timer-stays timer again = branch (is_running timer l) _ _ (λ run. expires-in l.state refl up timer (λ e. again e run)) up
 
   offers : (ws : List ControlFrame) → IsUpIn (offer_among t ws (begun l))
-  offers (f ∷ fs) = up
-  offers [] =
-      both_ways IsUpIn (may_send_information t l) _ _ (both_ways IsUpIn (is_awaiting_acknowledgement (with_one_sent l)) _ _ up up)
-      (both_ways IsUpIn l.pending _ _ up up)
+  offers ws = grind (arith, both_ways)
 
   pub offer-stays : IsUpIn (course t offer l)
   offer-stays = offers l.waiting

@@ -1,5 +1,5 @@
 -- Two links stay up where T200 is timely: what holds in both directions is kept by each act.
-use Rattle.laws_link.proofs.Vocabulary.{◌≡◌, ℕ, ◌+◌, ◌≤◌, Bool, true, false, IsTrue, List, [], ◌∷◌, ◌++◌, refl, sym, ap, subst, ◌∙◌, inl, inr, true≢false, arith, All, drop, All-head, All-tail, seq, Control, Information, ReceiveReady, ReceiveNotReady, Reject, Parts, State, Established, TimerRecovery, LinkTimer, ControlFrame, Terms, Link, is_multiple_frame, Request, frame, received, expired, requested, offer, Course, End, Act, asks, expires, sends, receives, loses, with_link, with_sent, with_first_of, frame_given, acting, IsUp, rising-low, frames_of, line_of, Joined, IsMildRequest, is_enquiry, is_answer, IsNoneOpen, IsTimelyAct, after, course, given_of, is_running}
+use Rattle.laws_link.proofs.Vocabulary.{◌≡◌, ℕ, ◌+◌, ◌≤◌, Bool, true, false, IsTrue, List, [], ◌∷◌, ◌++◌, refl, sym, ap, subst, ◌∙◌, inl, inr, true≢false, arith, All, drop, All-head, All-tail, seq, Control, Parts, State, Established, TimerRecovery, LinkTimer, ControlFrame, Terms, Link, is_multiple_frame, Request, frame, received, expired, requested, offer, Course, End, Act, asks, expires, sends, receives, loses, with_link, with_sent, with_first_of, frame_given, acting, IsUp, rising-low, frames_of, line_of, Joined, IsMildRequest, is_enquiry, is_answer, IsNoneOpen, IsTimelyAct, after, course, given_of, is_running}
 use Rattle.laws_link.proofs.OfTwo.Trains.{Kind, numbered, enquiry, report, kind_of, kinds_of, tally, one_enquiry, one_answer}
 use Rattle.laws_link.proofs.OfTwo.Flow.{most, Flow, there-calm, there-enquiry, there-unasked, there-information, there-tail, back-other, back-tail}
 use Rattle.laws_link.proofs.OfTwo.Effects.{is_recovering}
@@ -9,30 +9,10 @@ use Rattle.laws_link.proofs.OfTwo.Going.{Asked, Gives, Offered, asks-went, RanOu
 
 -- no enquiry, and no answer, is none among the kinds
 not-enquiry : (b : Bool) (control : Control) → is_enquiry b control ≡ false → one_enquiry (kind_of b control) ≡ 0
-not-enquiry b (Information ns nr true) e = refl
-not-enquiry true (ReceiveReady nr true) e = absurd (true≢false e)
-not-enquiry false (ReceiveReady nr true) e = refl
-not-enquiry b (ReceiveReady nr false) e = refl
-not-enquiry true (ReceiveNotReady nr true) e = absurd (true≢false e)
-not-enquiry false (ReceiveNotReady nr true) e = refl
-not-enquiry b (ReceiveNotReady nr false) e = refl
-not-enquiry true (Reject nr pf) e = refl
-not-enquiry false (Reject nr true) e = refl
-not-enquiry false (Reject nr false) e = refl
-not-enquiry b other e = refl
+not-enquiry b control e = grind arith
 
 not-answer : (b : Bool) (control : Control) → is_answer b control ≡ false → one_answer (kind_of b control) ≡ 0
-not-answer b (Information ns nr true) e = refl
-not-answer true (ReceiveReady nr true) e = refl
-not-answer false (ReceiveReady nr true) e = absurd (true≢false e)
-not-answer b (ReceiveReady nr false) e = refl
-not-answer true (ReceiveNotReady nr true) e = refl
-not-answer false (ReceiveNotReady nr true) e = absurd (true≢false e)
-not-answer b (ReceiveNotReady nr false) e = refl
-not-answer true (Reject nr pf) e = refl
-not-answer false (Reject nr true) e = refl
-not-answer false (Reject nr false) e = refl
-not-answer b other e = refl
+not-answer b control e = grind arith
 
 module _ (asked : Bool → Control → Bool) (one : Kind → ℕ) (w : (b : Bool) (control : Control) → asked b control ≡ false → one (kind_of b control) ≡ 0) (t : Terms) where
   none-waits : (ws : List ControlFrame) → All (λ f. asked f.command f.control ≡ false) ws → tally one (kinds_of (frames_of t ws)) ≡ 0
@@ -108,18 +88,10 @@ module _ (n m : End) (h : Joined n m) (f : Flows n m) (g : Flows m n) where
 
   -- V(S) is at most 127 beyond the other's V(R)
   near : n.link.s ≤ m.link.r + 127
-  near =
-      let low : n.link.a ≤ m.link.r = rising-low n.link.a m.link.r (line_of m) h.there.rising in
-      let within : n.link.s ≤ n.link.a + n.terms.k = h.near_sound.within in
-      let small : n.terms.k ≤ 127 = h.near_ranges.k_high in
-      omega arith
+  near = grind (arith, rising-low, line_of)
 
   near-back : m.link.s ≤ n.link.r + 127
-  near-back =
-      let low : m.link.a ≤ n.link.r = rising-low m.link.a n.link.r (line_of n) h.back.rising in
-      let within : m.link.s ≤ m.link.a + m.terms.k = h.far_sound.within in
-      let small : m.terms.k ≤ 127 = h.far_ranges.k_high in
-      omega arith
+  near-back = grind (arith, rising-low, line_of)
 
   -- offers
   gives-flows : (c : Course) → Offered n.terms n.link c → Gives n.terms n.link c

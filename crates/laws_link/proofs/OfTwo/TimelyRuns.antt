@@ -1,5 +1,5 @@
 -- Two links whose T200 is timely, from an establishment on.
-use Rattle.laws_link.proofs.Vocabulary.{◌≡◌, ℕ, ◌+◌, ◌≤◌, false, List, [], ◌∷◌, ap, ◌∙◌, arith, End, Ends, Act, asks, expires, Doing, at_near, at_far, doing, doing_all, Begins, IsUp, StayUp, Agree, Joined, joined-turned, joined-first, done-at, ends-agree, IsTimed, IsAhead, IsMild, IsMildAct, IsTimelyAct, IsTimelyDoing, StayTimely, IsHushed, IsSilent, HasMissing, with_t200_expired, rounds}
+use Rattle.laws_link.proofs.Vocabulary.{◌≡◌, ℕ, ◌+◌, ◌≤◌, false, List, [], ◌∷◌, ap, ◌∙◌, arith, End, Ends, Doing, at_near, at_far, doing, doing_all, Begins, IsUp, StayUp, Agree, Joined, joined-turned, joined-first, done-at, ends-agree, IsTimed, IsAhead, IsMild, IsTimelyDoing, StayTimely, IsHushed, IsSilent, HasMissing, with_t200_expired, rounds}
 use Rattle.laws_link.proofs.OfTwo.Arriving.{Arrived}
 use Rattle.laws_link.proofs.OfTwo.Reached.{reached}
 use Rattle.laws_link.proofs.OfTwo.Together.{done-up, same-after}
@@ -20,14 +20,8 @@ flows-low n m h = flow-low n.link.s m.link.r (is_recovering n.link.state) m.link
 ahead : (e : Ends) → Held e → IsAhead e
 ahead e h = (flows-low e.near e.far h.there, flows-low e.far e.near h.back)
 
-mild-act : (act : Act) (n m : End) → IsTimelyAct act n m → IsMildAct act n
-mild-act (asks request full) n m x = x
-mild-act (expires timer) n m x = x.0
-mild-act other n m x = tt
-
 mild : (d : Doing) (e : Ends) → IsTimelyDoing d e → IsMild d e
-mild (at_near act) e x = mild-act act e.near e.far x
-mild (at_far act) e x = mild-act act e.far e.near x
+mild d e x = grind arith
 
 flows-after : (d : Doing) (e : Ends) → Held e → IsTimelyDoing d e → IsUp (doing d e)
     → Flows (doing d e).near (doing d e).far × Flows (doing d e).far (doing d e).near
@@ -57,15 +51,7 @@ no-line : (n : End) → Begins n → line n.terms n.way n.link.waiting ≡ []
 no-line n b = ap (λ way. line n.terms way n.link.waiting) b.way ∙ ap (λ ws. line n.terms [] ws) b.waiting
 
 nothing-yet : Flow 0 0 false false [] []
-nothing-yet =
-    record {
-      order = omega arith;
-      one = omega arith;
-      rejected = λ some. absurd (omega (arith, some));
-      asked = omega arith;
-      last = λ some. tt;
-      answered = λ some. absurd (omega (arith, some));
-    }
+nothing-yet = grind arith
 
 begins-flows : (n m : End) → Begins n → Begins m → Flows n m
 begins-flows n m b c = flow-at b.s c.r (ap is_recovering b.state) c.rejecting (no-line n b) (no-line m c) nothing-yet

@@ -1,5 +1,5 @@
 -- Two links stay up while neither's V(S) is below the other's V(R).
-use Rattle.laws_link.proofs.Vocabulary.{◌≡◌, ℕ, zero, suc, ◌+◌, ◌≤◌, IsTrue, List, [], ◌∷◌, ◌++◌, length, Some, refl, sym, ap, subst, ◌∙◌, arith, All, slice_get, All-head, All-tail, seq, named, Control, Information, Parts, Terms, is_multiple_frame, frame, received, End, Ends, Act, asks, expires, sends, receives, loses, Doing, at_near, at_far, with_link, with_first_of, acting, turned, doing, Begins, IsUp, StayUp, Piece, Carried, Rising, rising-low, frames_of, Joined, joined-turned, joined-first, done-at, IsAhead, IsMild, IsMildAct, StayAhead}
+use Rattle.laws_link.proofs.Vocabulary.{◌≡◌, ℕ, zero, suc, ◌+◌, ◌≤◌, IsTrue, List, [], ◌∷◌, ◌++◌, length, Some, sym, subst, arith, All, slice_get, All-head, All-tail, seq, named, Control, Information, Parts, Terms, is_multiple_frame, frame, received, End, Ends, Act, Doing, at_near, at_far, with_link, with_first_of, acting, doing, Begins, IsUp, StayUp, Piece, Carried, Rising, rising-low, frames_of, Joined, joined-turned, joined-first, done-at, IsAhead, IsMild, IsMildAct, StayAhead}
 use Rattle.laws_link.proofs.OfTwo.Halves.{named-number}
 use Rattle.laws_link.proofs.OfTwo.Staying.{Fits, frame-stays, request-stays, timer-stays, offer-stays}
 
@@ -34,11 +34,7 @@ module _ (n m : End) (h : Joined n m) (same : n.terms.n201 ≡ m.terms.n201) (ah
   first-of (f ∷ fs) e = hears f fs e
 
   acted-up : (act : Act) → IsMildAct act n → IsUp (acting act (record { near = n; far = m }))
-  acted-up (asks request full) mild = (request-stays n.terms n.link h.near_up request full mild, h.far_up)
-  acted-up (expires timer) mild = (timer-stays n.terms n.link h.near_up timer mild, h.far_up)
-  acted-up sends mild = (offer-stays n.terms n.link h.near_up, h.far_up)
-  acted-up receives mild = (first-of m.way refl, h.far_up)
-  acted-up loses mild = (h.near_up, h.far_up)
+  acted-up act mild = grind (arith, request-stays, timer-stays, offer-stays, first-of)
 
 pub done-up : (d : Doing) (e : Ends) → Joined e.near e.far → e.near.terms.n201 ≡ e.far.terms.n201 → IsAhead e → IsMild d e → IsUp (doing d e)
 done-up (at_near act) e h same ahead mild = acted-up e.near e.far h same ahead.0 act mild
@@ -50,13 +46,8 @@ done-up (at_far act) e h same ahead mild =
 first-terms : (way : List Parts) (n : End) → (with_first_of way n).terms ≡ n.terms
 first-terms way n = grind arith
 
-acting-terms : (act : Act) (e : Ends) → ((acting act e).near.terms ≡ e.near.terms) × ((acting act e).far.terms ≡ e.far.terms)
-acting-terms receives e = (first-terms e.far.way e.near, refl)
-acting-terms other e = (refl, refl)
-
 pub same-after : (d : Doing) (e : Ends) → e.near.terms.n201 ≡ e.far.terms.n201 → (doing d e).near.terms.n201 ≡ (doing d e).far.terms.n201
-same-after (at_near act) e same = let x = acting-terms act e in ap (λ t. t.n201) x.0 ∙ same ∙ sym (ap (λ t. t.n201) x.1)
-same-after (at_far act) e same = let x = acting-terms act (turned e) in ap (λ t. t.n201) x.1 ∙ same ∙ sym (ap (λ t. t.n201) x.0)
+same-after d e same = grind (arith, first-terms)
 
 stay-up : (ds : List Doing) (e : Ends) → Joined e.near e.far → e.near.terms.n201 ≡ e.far.terms.n201 → StayAhead ds e → StayUp ds e
 unfolding StayUp StayAhead

@@ -102,14 +102,10 @@ Rise lo hi [] = lo ≤ hi
 Rise lo hi (x ∷ xs) = (top : ℕ) × (lo ≤ top) × Comes lo top x × Rise top hi xs
 
 comes-lower : (lo lo' top : ℕ) (x : Kind) → lo' ≤ lo → Comes lo top x → Comes lo' top x
-comes-lower lo lo' top (numbered ns) le (i, e, low, high) = (i, e, omega (arith, le, low), high)
-comes-lower lo lo' top alien le h = h
-comes-lower lo lo' top other le h = tt
+comes-lower lo lo' top x le h = grind arith
 
 pub calm-comes : (lo top : ℕ) (x : Kind) → Calm x → Comes lo top x
-calm-comes lo top (numbered ns) h = absurd h
-calm-comes lo top alien h = h
-calm-comes lo top other h = tt
+calm-comes lo top x h = grind arith
 
 pub rise-lower : (lo lo' hi : ℕ) (xs : List Kind) → lo' ≤ lo → Rise lo hi xs → Rise lo' hi xs
 rise-lower lo lo' hi [] le h = omega (arith, le, h)
@@ -134,14 +130,10 @@ Beyond r alien = ⊥
 Beyond r other = Unit {0}
 
 pub calm-beyond : (r : ℕ) (x : Kind) → Calm x → Beyond r x
-calm-beyond r (numbered ns) h = absurd h
-calm-beyond r alien h = h
-calm-beyond r other h = tt
+calm-beyond r x h = grind arith
 
 comes-beyond : (r lo top : ℕ) (x : Kind) → r < lo → top ≤ r + 128 → Comes lo top x → Beyond r x
-comes-beyond r lo top (numbered ns) less le (i, e, low, high) = (i, e, omega (arith, less, low), omega (arith, le, high))
-comes-beyond r lo top alien less le h = h
-comes-beyond r lo top other less le h = tt
+comes-beyond r lo top x less le h = grind arith
 
 pub rise-beyond : (r lo hi : ℕ) (xs : List Kind) → r < lo → hi ≤ r + 128 → Rise lo hi xs → Every (Beyond r) xs
 rise-beyond r lo hi [] less le h = tt
@@ -168,8 +160,7 @@ late-low r hi (x ∷ xs) (inl h) = rise-low r hi (x ∷ xs) h
 late-low r hi (x ∷ xs) (inr h) = late-low r hi xs h.1
 
 pub late-tail : (r hi : ℕ) (x : Kind) (xs : List Kind) → Late r hi (x ∷ xs) → Late r hi xs
-late-tail r hi x xs (inl (top, up, here, rest)) = rise-late r hi xs (rise-lower top r hi xs up rest)
-late-tail r hi x xs (inr h) = h.1
+late-tail r hi x xs o = grind (arith, rise-late, rise-lower)
 
 pub late-push : (r hi top : ℕ) (xs : List Kind) (y : Kind) → hi ≤ top → Comes hi top y → Late r hi xs → Late r top (xs ++ y ∷ [])
 late-push r hi top [] y le p h = inl (rise-push r hi top [] y le p h)

@@ -1,5 +1,5 @@
 -- An answer that finds no room is told as lost.
-use Rattle.laws_link.proofs.Vocabulary.{◌≡◌, ℕ, ◌+◌, ◌≤◌, Bool, true, false, cond, IsTrue, List, length, is_some, sym, subst, true≢false, arith, nat_lt, le-ltb, Seq, Control, Sabme, Disc, Parts, State, TeiAssigned, Established, TimerRecovery, Terms, Link, is_multiple_frame, frame, received, Course, begun, Step, ◌then◌, Leads, keeping_then, nothing_leads, depending_leads, bit_leads, IsPollWith, IsValidAt, asked_of, leaves, ErrorCode, both_ways, number_leads, answer, by_number, has_room, peer_busy_is, re_establish, without_flags, frame_in, frame_step, told}
+use Rattle.laws_link.proofs.Vocabulary.{◌≡◌, ℕ, ◌+◌, ◌≤◌, Bool, true, false, cond, IsTrue, List, length, is_some, sym, subst, arith, nat_lt, le-ltb, Seq, Control, Sabme, Disc, Parts, State, Terms, Link, is_multiple_frame, frame, received, Course, begun, Step, ◌then◌, Leads, keeping_then, nothing_leads, depending_leads, bit_leads, IsPollWith, IsValidAt, asked_of, leaves, both_ways, number_leads, answer, by_number, has_room, peer_busy_is, re_establish, without_flags, frame_in, frame_step, told}
 use Rattle.model_link.specs.MultipleFrame
 use Rattle.laws_link.proofs.OfTwo.Answering.{Polled, polled-in}
 
@@ -8,8 +8,7 @@ abbrev Lost : Course → Type 0
 Lost c = 1 ≤ c.lost
 
 more : (b : Bool) (n : ℕ) → 1 ≤ n → 1 ≤ cond {A = ℕ} b n (n + 1)
-more true n h = h
-more false n h = omega (arith, h)
+more b n h = grind arith
 
 begun_again_lost : (t : Terms) → Leads Lost (re_establish t) Lost
 begun_again_lost t = record { leads = λ c h. more (has_room t (without_flags c.link)) c.lost h }
@@ -31,27 +30,14 @@ module _ (t : Terms) (l : Link) (full : t.control ≤ length l.waiting) where
 
   information : (ns nr : Seq) (octets : List ℕ) (f : ℕ → Step) → length octets ≤ t.n201 → ((n : ℕ) → Leads Lost (f n) Lost) → IsValidAt l nr
       → Lost (MultipleFrame.information_in_7_8 t ns nr true octets f (begun l))
-  information ns nr octets f size x valid =
-      subst (λ b. Lost (cond b (MultipleFrame.failed t ErrorCode.O (begun l)) ((MultipleFrame.contents_in_7_8 t ns true octets then by_number t nr f) (begun l))))
-      (sym (le-ltb t.n201 (length octets) size))
-      ((number_lost t nr x).leads (MultipleFrame.contents_in_7_8 t ns true octets (begun l)) (contents ns octets))
+  information ns nr octets f size x valid = grind (arith, le-ltb, number_lost, contents)
 
   supervisory : (b : Bool) (nr : Seq) (f : ℕ → Step) → ((n : ℕ) → Leads Lost (f n) Lost) → IsValidAt l nr
       → Lost ((peer_busy_is b then answer t then by_number t nr f) (begun l))
   supervisory b nr f x valid = (number_lost t nr x).leads (answer t (peer_busy_is b (begun l))) put
 
   loses : Polled t l Lost (λ f. (n : ℕ) → Leads Lost (f n) Lost)
-  loses = record {
-    informs = information;
-    supervises = supervisory;
-    informed = λ n. search words depth 12 fits 4000;
-    informed-8 = λ n. leaves (λ c h. h);
-    ready = λ n. search words depth 12 fits 4000;
-    not-ready = λ n. search words depth 12 fits 4000;
-    rejected = λ n. search words depth 12 fits 4000;
-    ready-8 = λ n. search words depth 12 fits 4000;
-    not-ready-8 = λ n. search words depth 12 fits 4000;
-  }
+  loses = grind (arith, information, supervisory)
 
   pub poll-lost : (f : Parts) → IsTrue (is_multiple_frame l.state) → IsPollWith t l f.address.command f.info f.control
       → 1 ≤ (told t (received (frame f)) l).lost
@@ -59,16 +45,11 @@ module _ (t : Terms) (l : Link) (full : t.control ≤ length l.waiting) where
 
   -- SABME and DISC
   sabme-in : (here : State) (command : Bool) (octets : List ℕ) (p : Bool) → Lost (frame_in here t command octets (Sabme p) (begun l))
-  sabme-in Established command octets p = both_ways Lost _ _ _ put put
-  sabme-in TimerRecovery command octets p = both_ways Lost _ _ _ put put
-  sabme-in other command octets p = put
+  sabme-in here command octets p = grind (arith, both_ways, put)
 
   disc-in : (here : State) (command : Bool) (octets : List ℕ) (p : Bool) → Lost (frame_in here t command octets (Disc p) (begun l))
-  disc-in TeiAssigned command octets p = put
-  disc-in other command octets p = put
+  disc-in here command octets p = grind (arith, put)
 
   pub unnumbered-lost : (command : Bool) (octets : List ℕ) (control : Control) → is_some (asked_of l.state control) ≡ true
       → Lost (frame_step t command octets control (begun l))
-  unnumbered-lost command octets (Sabme p) e = sabme-in l.state command octets p
-  unnumbered-lost command octets (Disc p) e = disc-in l.state command octets p
-  unnumbered-lost command octets other e = absurd (true≢false (sym e))
+  unnumbered-lost command octets control e = grind (arith, sabme-in, disc-in)

@@ -1,39 +1,23 @@
 -- What an offer gives, and what is left behind it.
-use Rattle.laws_link.proofs.Vocabulary.{◌≡◌, ℕ, zero, suc, ◌+◌, ◌-◌, ◌<◌, ◌≤◌, Bool, true, false, cond, not, ◌&&◌, List, [], ◌∷◌, ◌++◌, length, Option, None, Some, refl, sym, ap, subst, ◌∙◌, ◌⊎◌, inl, inr, arith, nat_lt, ltb-true, and_parts, ControlFrame, Terms, Link, Sent, Course, begun, offer, after, given, given_of, HasNothingToSend, after_offers, GoesWhole, turns, is_awaiting_acknowledgement, is_established, may_send_information, offer_among, offer_step, send_acknowledgement, send_information, with_one_sent}
+use Rattle.laws_link.proofs.Vocabulary.{◌≡◌, ℕ, zero, suc, ◌+◌, ◌-◌, ◌≤◌, Bool, cond, List, [], ◌∷◌, ◌++◌, length, Option, None, refl, sym, ap, subst, ◌⊎◌, inl, inr, arith, nat_lt, ltb-true, and_parts, ControlFrame, Terms, Link, Sent, Course, begun, offer, after, given, given_of, HasNothingToSend, after_offers, GoesWhole, turns, is_awaiting_acknowledgement, may_send_information, offer_among, offer_step, with_one_sent}
 
 -- nothing is given where nothing was sent
 none-sent : (t : Terms) (l : Link) (c : Course) (o : Option Sent) → given_of t l c o ≡ None → o ≡ None
-none-sent t l c None e = refl
-none-sent t l c (Some s) e = absurd (cc)
-
-other-branch : (b : Bool) (u v : Course) → (u.sent ≡ None → ⊥) → (cond b u v).sent ≡ None → (b ≡ false) × (v.sent ≡ None)
-other-branch true u v x e = absurd (x e)
-other-branch false u v x e = (refl, e)
+none-sent t l c o e = grind arith
 
 gives-one : (b : Bool) (u v : Course) → (u.sent ≡ None → ⊥) → (v.sent ≡ None → ⊥) → (cond b u v).sent ≡ None → ⊥
-gives-one true u v x y e = x e
-gives-one false u v x y e = y e
-
-some-sent : {s : Sent} → Some s ≡ None → ⊥
-some-sent e = absurd (cc)
+gives-one b u v x y e = grind arith
 
 module _ (t : Terms) (l : Link) where
   holds-nothing : (ws : List ControlFrame) → l.waiting ≡ ws → (offer_among t ws (begun l)).sent ≡ None → HasNothingToSend t l
-  holds-nothing (f ∷ fs) w e = absurd (some-sent e)
-  holds-nothing [] w e =
-      let may = other-branch (may_send_information t l) _ _ (gives-one (is_awaiting_acknowledgement (with_one_sent l)) _ _ some-sent some-sent) e in
-      let owed = other-branch l.pending _ _ some-sent may.1 in
-      record { waiting = w; information = may.0; pending = owed.0 }
+  holds-nothing ws w e = grind (arith, gives-one)
 
   pub nothing-given : given t l ≡ None → HasNothingToSend t l
   nothing-given e = holds-nothing l.waiting refl (none-sent t l (offer_step t (begun l)) (offer_step t (begun l)).sent e)
 
   -- with nothing to send an offer changes nothing
   silent : HasNothingToSend t l → offer_step t (begun l) ≡ begun l
-  silent h =
-      ap (λ ws. offer_among t ws (begun l)) h.waiting
-      ∙ ap (λ b. cond b (send_information (begun l)) (cond l.pending (send_acknowledgement (begun l)) (begun l))) h.information
-      ∙ ap (λ b. cond b (send_acknowledgement (begun l)) (begun l)) h.pending
+  silent h = grind arith
 
   pub nothing-to_send : HasNothingToSend t l → given t l ≡ None
   nothing-to_send h = ap (λ c. given_of t l c c.sent) (silent h)
@@ -43,8 +27,7 @@ module _ (t : Terms) (l : Link) where
 
 -- the first goes, the others wait
 first-goes : (t : Terms) (l : Link) (f : ControlFrame) (fs : List ControlFrame) → l.waiting ≡ f ∷ fs → GoesWhole f (given t l)
-first-goes t l f fs e =
-    subst (λ ws. GoesWhole f (given_of t l (offer_among t ws (begun l)) (offer_among t ws (begun l)).sent)) (sym e) (record { frame = refl; alone = refl })
+first-goes t l f fs e = grind arith
 
 others-wait : (t : Terms) (l : Link) (f : ControlFrame) (fs : List ControlFrame) → l.waiting ≡ f ∷ fs → (after t offer l).waiting ≡ fs
 others-wait t l f fs e = ap (λ ws. (offer_among t ws (begun l)).link.waiting) e
@@ -61,25 +44,12 @@ Falls t l l' = (turns l' + 1 ≤ turns l) ⊎ HasNothingToSend t l
 
 module _ (t : Terms) (l : Link) where
   one-less : (b : Bool) → cond b 1 0 ≤ 1
-  one-less true = omega arith
-  one-less false = omega arith
+  one-less b = grind arith
 
   falls : (ws : List ControlFrame) → l.waiting ≡ ws → (may owed awaits : Bool) → may_send_information t l ≡ may → l.pending ≡ owed
       → is_awaiting_acknowledgement (with_one_sent l) ≡ awaits → Falls t l (offer_among t ws (begun l)).link
   unfolding Falls
-  falls (f ∷ fs) w may owed awaits e p a = inl (let size : length l.waiting ≡ suc (length fs) = ap length w in omega arith)
-  falls [] w true owed awaits e p a =
-      let parts = and_parts (is_established l.state && not l.peer_busy && nat_lt (l.s - l.a) t.k) (nat_lt l.s (length l.contents)) e in
-      let some : l.s < length l.contents = ltb-true l.s (length l.contents) parts.1 in
-      inl (rw e (by-timer awaits a (omega (arith, one-less l.pending))))
-    where
-      by-timer : (awaits : Bool) → is_awaiting_acknowledgement (with_one_sent l) ≡ awaits
-          → (length l.waiting + (length l.contents - (l.s + 1)) + 0) + 1 ≤ turns l
-          → turns (send_information (begun l)).link + 1 ≤ turns l
-      by-timer true a h = rw a h
-      by-timer false a h = rw a h
-  falls [] w false true awaits e p a = inl (rw e (rw p (omega arith)))
-  falls [] w false false awaits e p a = inr (record { waiting = w; information = e; pending = p })
+  falls ws w may owed awaits e p a = grind (arith, and_parts, nat_lt, ltb-true, one-less)
 
 falls-once : (t : Terms) (l : Link) → Falls t l (after t offer l)
 falls-once t l = falls t l l.waiting refl (may_send_information t l) l.pending (is_awaiting_acknowledgement (with_one_sent l)) refl refl refl

@@ -1,8 +1,7 @@
 -- An event of a link of a line is one of this link alone.
-use Rattle.laws_line.proofs.Vocabulary.{◌≡◌, ◌≢◌, ℕ, true, false, Some, None, refl, sym, ap, ◌∙◌, subst, ⊎_elim, Service, Parts, LinkTimer, Config, hears, request, next, told, at_link, told_of_link, of_aim, at_timer, aim_of_expiry, Line, place_in, link_in, terms, unless_refused_told, of_request, Request, Deactivate, at_requested, at_deactivated, aim_of_request, LinkT200 as T200, LinkT203 as T203, Event, expiry, after, answer, unless_refused, refusal, IsTo, IsOneHeard, IsAlone, requests_of_link as of_link, is_granted, Brings, BringsMalformed, timer_of, IsOf}
+use Rattle.laws_line.proofs.Vocabulary.{arith, ◌≡◌, ◌≢◌, ℕ, true, false, Some, None, sym, ap, subst, ⊎_elim, Service, Parts, LinkTimer, Config, hears, request, next, at_link, Line, place_in, Request, Deactivate, at_deactivated, aim_of_request, Event, expiry, after, answer, refusal, IsTo, IsOneHeard, IsAlone, requests_of_link as of_link, is_granted, Brings, BringsMalformed, timer_of, IsOf}
 use Rattle.model_bits.specs.Stream as stream
 use Rattle.model_link.specs.Events as link
-use Rattle.model_link.specs.Machine as links
 use Rattle.laws_line.proofs.Granting.{not-refused}
 use Rattle.laws_line.proofs.Hearing.{sapi-is, read-event, malformed-event, overlong-event}
 
@@ -28,47 +27,16 @@ module _ (c : Config) (l : Line) (service : Service) (tei place : ℕ) (on : pla
       (λ x. subst (λ e. Alone e (link.received what)) (sym x.0)
       (heard-alone (stream.overlong b.octets) (link.received what) (overlong-event c l service tei place b.address b.octets what whose x.1))) b.by
 
-  timer-aim : (timer : LinkTimer) → aim_of_expiry (timer_of service tei timer) l ≡ at_link service tei place (link.expired timer)
-  timer-aim T200 = ap (at_timer service tei T200) on
-  timer-aim T203 = ap (at_timer service tei T203) on
-
   by-timer : (timer : LinkTimer) → Alone (expiry (timer_of service tei timer)) (link.expired timer)
   unfolding after answer
-  by-timer timer =
-      let aim = timer-aim timer in
-      let event = link.expired timer in
-      record {
-        line = ap (λ a. (of_aim c a l).line) aim;
-        answer_is = record {
-          own = told_of_link (links.told (terms c service tei) event (link_in l service place));
-          is = ap (λ a. told (of_aim c a l).told) aim;
-          notes = refl;
-          contents = refl;
-          orders = refl;
-          lost = refl;
-        };
-      }
+  by-timer timer = grind arith
 
   request-aim : (asked : link.Request) → aim_of_request (of_link service tei asked) l ≡ at_link service tei place (link.requested asked false)
-  request-aim link.Establish = ap (at_requested service tei link.Establish) on
-  request-aim other = ap (at_requested service tei other) on
+  request-aim asked = grind arith
 
   by-granted : (r : Request) (event : link.Event) → aim_of_request r l ≡ at_link service tei place event → refusal c false r l ≡ None → Alone (request r) event
   unfolding after answer
-  by-granted r event is none =
-      let aim : unless_refused (refusal c false r l) (aim_of_request r l) ≡ at_link service tei place event =
-      ap (λ o. unless_refused o (aim_of_request r l)) none ∙ is in
-      record {
-        line = ap (λ a. (of_aim c a l).line) aim;
-        answer_is = record {
-          own = told_of_link (links.told (terms c service tei) event (link_in l service place));
-          is = ap (λ o. unless_refused_told o (of_request c r l)) none ∙ ap (λ a. told (of_aim c a l).told) aim;
-          notes = refl;
-          contents = refl;
-          orders = refl;
-          lost = refl;
-        };
-      }
+  by-granted r event is none = grind arith
 
   pub is-alone : (e : Event) (event : link.Event) → e ≢ next → IsOf c e (answer c e l) service tei event → Alone e event
   is-alone e (link.received (link.frame parts)) other by = by-frame e parts by

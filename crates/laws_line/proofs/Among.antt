@@ -1,11 +1,9 @@
 -- A control frame that waits is taken by one of so many calls also where other events of its line are between them.
-use Rattle.laws_line.proofs.Vocabulary.{◌≡◌, ℕ, ◌+◌, ◌-◌, ◌<◌, ◌≤◌, ◌==◌, ◌&&◌, Bool, true, false, cond, List, [], ◌∷◌, ◌++◌, length, take, Option, Some, refl, sym, ap, subst, ◌∙◌, ◌⊎◌, inl, inr, arith, append_assoc, append-nil, length-append, eq-eqb, true≢false, Service, Parts, ControlFrame, State, Terms, Link, event-follows, as_heard, is_overlong, waiting_left, room, put, Change, Gained, one_more_waits, Config, hears, request, next, LineTold, Answer, Aim, at_management, at_units, told_of_management, of_change, of_aim, aim_of_expiry, Line, link_count, service_at, place_at, tei_at, terms, link_at, aim_of_heard, Taken, taken, Deactivate, aim_of_request, IsInRange, after_sound, at_no_link, Event, expiry, after, answer, unless_refused, refusal, IsSound, deactivates, IsBy, way_round, frames_before, control_text, after_events, is_take, takes_in, go_first, comes_first, come_first, StaysOnLine, IsTakenIn}
+use Rattle.laws_line.proofs.Vocabulary.{◌≡◌, ℕ, ◌+◌, ◌-◌, ◌<◌, ◌≤◌, Bool, false, cond, List, [], ◌∷◌, ◌++◌, length, take, Option, Some, refl, sym, ap, ◌∙◌, ◌⊎◌, inl, inr, arith, append_assoc, append-nil, length-append, eq-eqb, Service, Parts, ControlFrame, State, Terms, Link, event-follows, as_heard, is_overlong, waiting_left, room, put, Change, one_more_waits, Config, hears, request, next, LineTold, Answer, Aim, of_change, of_aim, Line, link_count, service_at, place_at, tei_at, terms, link_at, Taken, taken, IsInRange, after_sound, Event, expiry, after, answer, IsSound, deactivates, IsBy, frames_before, control_text, after_events, is_take, takes_in, go_first, comes_first, come_first, StaysOnLine, IsTakenIn}
 use Rattle.model_link.specs.Events as link
 use Rattle.model_link.specs.Machine as links
-use Rattle.lapd_tei.specs.Events as teis
 use Rattle.laws_line.proofs.Happening.{IsGivenUp, Happens, event-happens}
 use Rattle.laws_line.proofs.Ordered.{next-goes}
-use Rattle.laws_line.proofs.Told.{same_of_itself}
 use Rattle.laws_line.proofs.Downs.{by-down}
 
 -- What an event that is no call for the next frame leaves of whose turn it is, and what it brings.
@@ -14,32 +12,17 @@ record Meanwhile (l l' : Line) : Type 0 where
   few : go_first l' ≤ go_first l + 1
 
 by-change : (c : Config) (o : Option Change) (t : LineTold) (l : Line) → ((of_change c o t l).line.turn ≡ l.turn) × (go_first (of_change c o t l).line ≡ go_first l)
-by-change c (Some (Gained tei place)) t l = (refl, refl)
-by-change c other t l = (refl, refl)
+by-change c o t l = grind arith
 
 by-aim : (c : Config) (l : Line) (aim : Aim) → Meanwhile l (of_aim c aim l).line
-by-aim c l (at_management e) =
-    let x = by-change c (teis.told e l.management).change (told_of_management (teis.told e l.management)) (record l { management = teis.after e l.management }) in
-    let more : length (teis.after e l.management).waiting ≤ length l.management.waiting + 1 = one_more_waits e l.management in
-    let same = x.1 in
-    record { turn = x.0; few = omega (arith, more, same) }
-by-aim c l (at_units unit) = let n = length-append l.units (unit ∷ []) in record { turn = refl; few = omega (arith, n) }
-by-aim c l at_no_link = by-down c l (λ f. Meanwhile l f.line) (record { turn = refl; few = omega arith })
-by-aim c l other = record { turn = refl; few = omega arith }
+by-aim c l aim = grind (arith, by-change, one_more_waits, length-append, by-down)
 
 meanwhile : (c : Config) (e : Event) (l : Line) → is_take e ≡ false → Meanwhile l (after c e l)
 unfolding after
-meanwhile c (hears e) l other = by-aim c l (aim_of_heard c l e)
-meanwhile c (expiry timer) l other = by-aim c l (aim_of_expiry timer l)
-meanwhile c (request r) l other = by-aim c l (unless_refused (refusal c false r l) (aim_of_request r l))
-meanwhile c next l other = absurd (cc)
+meanwhile c e l other = grind (arith, by-aim)
 
 pub one-at-most : (c : Config) (e : Event) (l : Line) → comes_first c e l ≤ 1
-one-at-most c e l = go (is_take e) refl
-  where
-    go : (b : Bool) → is_take e ≡ b → cond b 0 (go_first (after c e l) - go_first l) ≤ 1
-    go true is = omega arith
-    go false is = let few = (meanwhile c e l is).few in omega (arith, few)
+one-at-most c e l = grind (arith, meanwhile)
 
 -- What waits of a link stays before what comes.
 Waits : List ControlFrame → List ControlFrame → Type 0
@@ -50,8 +33,7 @@ IsOffer e = (e ≡ link.offer) ⊎ (e ≡ link.cleared)
 
 by-heard : (t : Terms) (f : Parts) (l : Link) (to : State) (b : Bool) → Waits l.waiting (waiting_left t (link.received (cond b link.overlong (link.frame f))) l to)
 unfolding Waits
-by-heard t f l to true = (take (room t l) (put (link.received link.overlong) l to), refl)
-by-heard t f l to false = (take (room t l) (put (link.received (link.frame f)) l to), refl)
+by-heard t f l to b = grind arith
 
 left-waiting : (t : Terms) (e : link.Event) (l : Link) (to : State) → (IsOffer e → ⊥) → Waits l.waiting (waiting_left t (as_heard t e) l to)
 unfolding Waits
@@ -65,20 +47,12 @@ module _ (c : Config) (ranged : IsInRange c) (number tei : ℕ) (few : number < 
   frames l = (link_at number l).waiting
 
   no-offer : (e : Event) (a : Answer) (service : Service) (other : ℕ) (event : link.Event) → is_take e ≡ false → IsBy c e a service other event → IsOffer event → ⊥
-  no-offer e a service other event apart by (inl is) =
-      let same : e ≡ next = subst (IsBy c e a service other) is by in
-      let take : is_take e ≡ true = ap is_take same in
-      let two : true ≡ false = sym take ∙ apart in cc
-  no-offer e a service other event apart by (inr is) = subst (IsBy c e a service other) is by
+  no-offer e a service other event apart by o = grind arith
 
   -- where a link is given up, that is asked for
   not-up : (e : Event) (l : Line) (a : Answer) → deactivates (service_at number) tei e ≡ false → tei_at (place_at number) l ≡ Some tei
       → IsGivenUp (service_at number) number e l a → ⊥
-  not-up e l a up at x =
-      let its : tei ≡ x.tei = let same : Some tei ≡ Some x.tei = sym at ∙ x.on_line in cc in
-      let asked : deactivates (service_at number) tei (request (Deactivate (service_at number) x.tei)) ≡ true =
-      ap (λ b. b && x.tei == tei) (same_of_itself (service_at number)) ∙ eq-eqb x.tei tei (sym its) in
-      true≢false (sym asked ∙ ap (deactivates (service_at number) tei) (sym x.by.0) ∙ up)
+  not-up e l a up at x = grind (arith, eq-eqb)
 
   stays : (e : Event) (l : Line) → is_take e ≡ false → deactivates (service_at number) tei e ≡ false → tei_at (place_at number) l ≡ Some tei → tei_at (place_at number) (after c e l) ≡ Some tei
       → Happens c number e l (after c e l) (answer c e l) → Waits (frames l) (frames (after c e l))
@@ -101,18 +75,9 @@ module _ (c : Config) (ranged : IsInRange c) (number tei : ℕ) (few : number < 
   still-waits e l w before f behind waits = (behind ++ w.0, w.1 ∙ ap (λ ws. ws ++ w.0) waits ∙ append_assoc before (f ∷ behind) w.0)
 
   -- so it comes no nearer, and no farther than by what comes first
-  no-farther : (e : Event) (l : Line) (others : ℕ) → is_take e ≡ false → frames_before c (after c e l) number others ≤ frames_before c l number others + comes_first c e l
-  no-farther e l others apart =
-      let x = meanwhile c e l apart in
-      let comes : comes_first c e l ≡ go_first (after c e l) - go_first l = ap (λ b. cond b 0 (go_first (after c e l) - go_first l)) apart in
-      let way : way_round (link_count c) (after c e l).turn number ≡ way_round (link_count c) l.turn number = ap (λ i. way_round (link_count c) i number) x.turn in
-      omega (arith, comes, way)
-
   pub no-farther-off : (e : Event) (l : Line) (others : ℕ) → is_take e ≡ false
       → frames_before c (after c e l) number others ≤ frames_before c l number others + (go_first (after c e l) - go_first l)
-  no-farther-off e l others apart =
-      let comes : comes_first c e l ≡ go_first (after c e l) - go_first l = ap (λ b. cond b 0 (go_first (after c e l) - go_first l)) apart in
-      omega (arith, no-farther e l others apart, comes)
+  no-farther-off e l others apart = grind (arith, meanwhile)
 
   pub other-waits : (e : Event) (l : Line) → is_take e ≡ false → deactivates (service_at number) tei e ≡ false → IsSound c l → tei_at (place_at number) l ≡ Some tei → tei_at (place_at number) (after c e l) ≡ Some tei
       → (before : List ControlFrame) (f : ControlFrame) (behind : List ControlFrame) → Waiting l before f behind → (behind' : List ControlFrame) × Waiting (after c e l) before f behind'
@@ -138,10 +103,7 @@ module _ (c : Config) (ranged : IsInRange c) (number tei : ℕ) (few : number < 
     where
       fewer : (before' : List ControlFrame) → frames_before c (after c next l) number (length before') + 1 ≤ frames_before c l number (length before)
           → frames_before c (after c next l) number (length before') + come_first c es (after c next l) < takes_in es
-      fewer before' nearer =
-          let count : takes_in (next ∷ es) ≡ 1 + takes_in es = refl in
-          let none : come_first c (next ∷ es) l ≡ come_first c es (after c next l) = omega arith in
-          omega (arith, less, nearer, count, none)
+      fewer before' nearer = grind arith
 
       go : ((t : Taken) × (taken c l ≡ Some t) × (t.frame ≡ control_text c number tei f))
           ⊎ ((before' : List ControlFrame) × (frames (after c next l) ≡ before' ++ f ∷ behind) × (frames_before c (after c next l) number (length before') + 1 ≤ frames_before c l number (length before)))
@@ -153,11 +115,7 @@ module _ (c : Config) (ranged : IsInRange c) (number tei : ℕ) (few : number < 
       → (before behind : List ControlFrame) → Waiting l before f behind
       → frames_before c l number (length before) + come_first c (e ∷ es) l < takes_in (e ∷ es) → Rest f e es l → IsTakenIn c (e ∷ es) l (control_text c number tei f)
   unfolding come_first Rest
-  by-other f e es l apart up s at at' before behind waits less more =
-      let w = other-waits e l apart up s at at' before f behind waits in
-      let farther = no-farther e l (length before) apart in
-      let count : takes_in (e ∷ es) ≡ 0 + takes_in es = ap (λ b. cond b 1 0 + takes_in es) apart in
-      sooner e es l (control_text c number tei f) (more before w.0 w.1 (omega (arith, less, farther, count)))
+  by-other f e es l apart up s at at' before behind waits less more = grind (arith, other-waits, meanwhile, sooner)
 
   on-first : (es : List Event) (l : Line) → StaysOnLine c number tei es l → tei_at (place_at number) l ≡ Some tei
   unfolding StaysOnLine

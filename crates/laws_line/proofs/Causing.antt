@@ -1,5 +1,5 @@
 -- Why a message of TEI management comes to wait: each event of a line.
-use Rattle.laws_line.proofs.Vocabulary.{◌≡◌, ◌⊎◌, inl, inr, ℕ, ◌<◌, ◌==◌, true, false, cond, List, [], ◌∷◌, length, Option, Some, None, refl, sym, ap, ◌∙◌, subst, arith, option_map_or, Tei, Address, Refusal, Service, T201, Parts, service_of, LinkTimer, Management, heard_in, Change, Gained, Left, Config, hears, request, next, Answer, Aim, at_management, told_of_management, of_change, of_aim, at_timer, Line, place_in, has_tei, unless_refused_told, management_sapi, drop_for, to_service, addressed, message_of, aim_of_reading, aim_of_heard, Taken, taken, line_of, wrong_side, bad_tei, no_link, tei_taken, table_full, check_running, control_full, at_side, managed_at, Request, Establish, Release, Assign, Remove, SetBusy, ClearBusy, Deactivate, at_requested, at_deactivated, aim_of_request, IsInRange, next_walk, ranges_of, not_not, Down, T200, T203, Event, expiry, after, answer, unless_refused, group_tei, refusal, Data, Unit, Check, IsSound, Hears, HasCause, IsTaken, HaveCauses, lost_in, Said, Says, Serves, Expires, Grants, is_granted, BringsMessage}
+use Rattle.laws_line.proofs.Vocabulary.{◌≡◌, ◌⊎◌, inl, inr, ℕ, ◌<◌, true, false, [], ◌∷◌, length, Option, None, refl, sym, ◌∙◌, subst, arith, option_map_or, Address, Refusal, Service, T201, Parts, LinkTimer, Management, heard_in, Config, hears, request, next, Answer, Aim, at_management, of_aim, at_timer, Line, place_in, has_tei, unless_refused_told, addressed, aim_of_heard, Taken, taken, line_of, wrong_side, bad_tei, no_link, tei_taken, table_full, check_running, control_full, Request, Establish, Release, Assign, Remove, SetBusy, ClearBusy, Deactivate, at_requested, at_deactivated, aim_of_request, IsInRange, next_walk, ranges_of, not_not, Down, T200, T203, Event, expiry, after, answer, unless_refused, refusal, Data, Unit, Check, IsSound, Hears, HasCause, IsTaken, HaveCauses, lost_in, Said, Says, Serves, Expires, Grants, is_granted}
 use Rattle.model_bits.specs.Stream as stream
 use Rattle.model_link.specs.Events as link
 use Rattle.lapd_tei.specs.Events as teis
@@ -16,39 +16,15 @@ use Rattle.laws_line.proofs.Downs.{by-down}
 -- How many messages an event of TEI management loses is what the line tells.
 module _ (c : Config) (l : Line) (e : teis.Event) where
   lost-is : (of_aim c (at_management e) l).told.lost ≡ (teis.told e l.management).lost
-  lost-is = by-change (teis.told e l.management).change
-    where
-      by-change : (o : Option Change) → (of_change c o (told_of_management (teis.told e l.management)) (record l { management = teis.after e l.management })).told.lost ≡ (teis.told e l.management).lost
-      by-change None = refl
-      by-change (Some (Gained tei place)) = refl
-      by-change (Some (Left tei place)) = refl
+  lost-is = grind arith
 
 -- A message of a terminal is an event of TEI management.
 module _ (c : Config) (l : Line) where
   pub to-group : (address : Address) (what : link.Received) (m : Aim) → address.sapi ≡ 63 → address.tei ≡ 127 → addressed l address what m ≡ m
-  to-group address what m sapi group =
-      ap (λ n. cond (n == management_sapi) (cond (address.tei == group_tei) m (drop_for Tei)) (to_service l address.tei what (service_of n))) sapi
-      ∙ ap (λ n. cond (n == group_tei) m (drop_for Tei)) group
-
-  pub message-aim : (e : Event) (info : List ℕ) (h : BringsMessage c e info) → aim_of_heard c l (stream.frame h.heard.octets) ≡ at_management (teis.message info)
-  message-aim e info h =
-      ap (aim_of_reading c l) h.heard.read
-      ∙ ap (at_side c h.parts) (to-group h.parts.address (link.frame h.parts) (message_of h.parts.control h.parts.info) h.sapi h.group)
-      ∙ ap (λ k. at_side c h.parts (message_of k h.parts.info)) h.control
-      ∙ ap (λ side. managed_at side (teis.message h.parts.info)) h.network
-      ∙ ap (λ i. at_management (teis.message i)) h.info_is
+  to-group address what m sapi group = grind arith
 
   heard-aim : (e : Event) (said : Said) (h : Hears c e said) → aim_of_heard c l (stream.frame h.octets) ≡ at_management (teis.message h.parts.info)
-  heard-aim e said h = message-aim e h.parts.info (record {
-    network = h.network;
-    parts = h.parts;
-    heard = record { octets = h.octets; by = h.by; read = h.read };
-    sapi = h.sapi;
-    group = h.group;
-    poll = h.poll;
-    control = h.control;
-    info_is = refl;
-  })
+  heard-aim e said h = grind (arith, to-group)
 
   served : (e : Event) (said : Said) → IsSound c l → length l.management.places < 63 → Hears c e said
       → Serves said l.management (after c e l).management (lost_in (answer c e l))
@@ -63,11 +39,7 @@ module _ (c : Config) (l : Line) where
   -- So is the expiry of T201,
   expired : (e : Event) → IsSound c l → e ≡ expiry T201 → Expires l.management.check l.management (after c e l).management (lost_in (answer c e l))
   unfolding after answer teis.course teis.refusal
-  expired e s is =
-      subst (λ x. Expires l.management.check l.management (after c x l).management (lost_in (answer c x l))) (sym is)
-      (subst (λ (m : Management). Expires l.management.check l.management m (of_aim c (at_management teis.expiry) l).told.lost) (sym (managed c l teis.expiry))
-      (subst (λ n. Expires l.management.check l.management (teis.after teis.expiry l.management) n) (sym (lost-is c l teis.expiry))
-      (expires l.management s.management l.management.check s.management.checked)))
+  expired e s is = grind (arith, managed, lost-is, expires)
 
   -- and so is a request of management that is granted.
   abbrev Granted : Request → Management → ℕ → Type 0
@@ -76,12 +48,7 @@ module _ (c : Config) (l : Line) where
   by-step : (r : Request) (e : teis.Event) → refusal c false r l ≡ None → aim_of_request r l ≡ at_management e → teis.refusal e l.management ≡ None
       → (let x = teis.step e (words.begun l.management) in Granted r x.now x.told.lost) → Granted r (after c (request r) l).management (lost_in (answer c (request r) l))
   unfolding after answer teis.course
-  by-step r e none aim own h =
-      subst (λ o. Granted r (of_aim c (unless_refused o (aim_of_request r l)) l).line.management (lost_in (unless_refused_told o (of_aim c (unless_refused o (aim_of_request r l)) l)))) (sym none)
-      (subst (λ a. Granted r (of_aim c a l).line.management (of_aim c a l).told.lost) (sym aim)
-      (subst (λ (m : Management). Granted r m (of_aim c (at_management e) l).told.lost) (sym (managed c l e))
-      (subst (λ n. Granted r (teis.after e l.management) n) (sym (lost-is c l e))
-      (subst (λ o. let x = teis.unless_refused o (teis.step e) l.management in Granted r x.now x.told.lost) (sym own) h))))
+  by-step r e none aim own h = grind (arith, managed, lost-is)
 
   -- that the line is down is never refused
   down-granted : Granted Down (after c (request Down) l).management (lost_in (answer c (request Down) l))
@@ -139,16 +106,13 @@ module _ (c : Config) (l : Line) where
   FromCause e l' a = (l'.management ≡ l.management) ⊎ IsTaken e l.management l'.management ⊎ HasCause c e a
 
   by-timer : (service : Service) (tei : ℕ) (timer : LinkTimer) (o : Option ℕ) → (of_aim c (at_timer service tei timer o) l).line.management ≡ l.management
-  by-timer service tei timer None = refl
-  by-timer service tei timer (Some place) = refl
+  by-timer service tei timer o = grind arith
 
   by-asked : (service : Service) (tei : ℕ) (what : link.Request) (o : Option ℕ) → (of_aim c (at_requested service tei what o) l).line.management ≡ l.management
-  by-asked service tei what None = refl
-  by-asked service tei what (Some place) = refl
+  by-asked service tei what o = grind arith
 
   by-deactivated : (service : Service) (tei : ℕ) (o : Option ℕ) → (of_aim c (at_deactivated service tei o) l).line.management ≡ l.management
-  by-deactivated service tei None = refl
-  by-deactivated service tei (Some place) = refl
+  by-deactivated service tei o = grind arith
 
   asked-caused : (r : Request) (a : Answer) → is_granted a ≡ true → FromCause (request r) (of_aim c (aim_of_request r l) l).line a
   asked-caused (Establish service tei) a g = inl (by-asked service tei link.Establish (place_in l tei))
@@ -165,9 +129,7 @@ module _ (c : Config) (l : Line) where
 
   -- A call for the next frame takes a message, or leaves all of TEI management.
   took : (a : Answer) (t : Taken) → IsOne c l t → FromCause next t.line a
-  took a t (inl x) = inr (inl (record { by = refl; rest = ap (λ (u : Taken). u.line.management) x.1 }))
-  took a t (inr (inl x)) = inl (ap (λ (u : Taken). u.line.management) x.1)
-  took a t (inr (inr x)) = inl (ap (λ (u : Taken). u.line.management) x.is)
+  took a t o = grind arith
 
   next-caused : IsSound c l → (a : Answer) → FromCause next (option_map_or line_of (taken c l) l) a
   next-caused s a = next_walk c l (IsOne c l) (λ o m. FromCause next m a) (taken-one c l s) (inl refl) (took a)
@@ -177,24 +139,15 @@ module _ (c : Config) (l : Line) where
   caused (hears e) s = go (heard-caused c l e)
     where
       go : Caused c l e (aim_of_heard c l e) → FromCause (hears e) (of_aim c (aim_of_heard c l e) l).line (answer c (hears e) l)
-      go (inl stays) = inl stays
-      go (inr h) = inr (inr (inl h))
+      go o = grind arith
   caused (expiry (T200 service tei)) s = inl (by-timer service tei LinkTimer.T200 (place_in l tei))
   caused (expiry (T203 service tei)) s = inl (by-timer service tei LinkTimer.T203 (place_in l tei))
   caused (expiry T201) s = inr (inr (inr (inl refl)))
   caused (request r) s = go (refusal c false r l)
     where
       go : (o : Option Refusal) → FromCause (request r) (of_aim c (unless_refused o (aim_of_request r l)) l).line (unless_refused_told o (of_aim c (unless_refused o (aim_of_request r l)) l))
-      go None = asked-caused r _ refl
-      go (Some why) = inl refl
+      go o = grind (arith, asked-caused)
   caused next s = next-caused s (answer c next l)
 
 pub have-causes : (c : Config) (e : Event) (l : Line) → IsInRange c → IsSound c l → HaveCauses c e l (after c e l) (answer c e l)
-have-causes c e l ranged s =
-    let few : length l.management.places < 63 = omega (arith, s.places, (ranges_of c ranged).terminals.most) in
-    record {
-      heard = λ said h. served c l e said s few h;
-      expired = λ is. expired c l e s is;
-      granted = λ r is g. granted c l e r is g;
-      caused = caused c l e s;
-    }
+have-causes c e l ranged s = grind (arith, ranges_of, served, expired, granted, caused)

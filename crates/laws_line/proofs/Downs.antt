@@ -1,6 +1,5 @@
 -- What comes of it that a line is down.
-use Rattle.laws_line.proofs.Vocabulary.{◌≡◌, [], None, ap, sym, ◌∙◌, subst, arith, All-nil, Management, Config, nothing, Effect, at_no_link, told_of_management, of_change, of_aim, without_units, Line, stop_of, TeiTold, down_gives_up, IsSound, IsUnitData, with_units}
-use Rattle.lapd_tei.specs.Events as teis
+use Rattle.laws_line.proofs.Vocabulary.{◌≡◌, [], None, sym, subst, arith, All-nil, Config, nothing, Effect, at_no_link, of_aim, without_units, Line, stop_of, down_gives_up, IsSound, IsUnitData, with_units}
 
 -- The effect: no unit data, no message and no check are left, and T201 stops.
 abbrev pub given_up : Line → Effect
@@ -10,10 +9,7 @@ given_up l = record {
 }
 
 pub down-is : (c : Config) (l : Line) → of_aim c at_no_link l ≡ given_up l
-down-is c l =
-    let g = down_gives_up l.management in
-    ap (λ (t : TeiTold). of_change c t.change (told_of_management t) (record l { management = teis.after teis.down l.management; units = [] })) g.told
-    ∙ ap (λ (m : Management). of_change c None (record nothing { orders = stop_of l.management.check }) (record l { management = m; units = [] })) g.after
+down-is c l = grind (arith, down_gives_up)
 
 -- What holds of that holds of what comes of it.
 pub by-down : (c : Config) (l : Line) (P : Effect → Type 0) → P (given_up l) → P (of_aim c at_no_link l)

@@ -1,5 +1,5 @@
 -- With calls for the next frame alone the frames to go become fewer, until nothing waits.
-use Rattle.laws_line.proofs.Vocabulary.{◌≡◌, ℕ, zero, suc, ◌+◌, ◌≤◌, ◌<◌, List, [], ◌∷◌, slice_get, Option, Some, None, is_some, refl, sym, ap, subst, ◌∙◌, ◌⊎◌, inl, inr, ⊎_elim, arith, IfSome, option_map_or, option_or, unwrap_or, All-head, All-tail, Link, nothing-to_send, Config, next, may_send, is_given, Line, link_count, service_at, place_at, tei_at, terms, terms_at, link_at, Taken, with_unit, unit_taken, with_given_frame, link_taken, first_taken, round, taken, next_of, line_of, IsInRange, IsSoundAt, after_sound, next_falls, fresh_gives_nothing, round_below, option_map, All, frame_of, one, after, answer, with_message, IsSound, HasNothing, after_takes, frames_to_go, IsIdling}
+use Rattle.laws_line.proofs.Vocabulary.{◌≡◌, ℕ, zero, suc, ◌+◌, ◌≤◌, ◌<◌, List, [], ◌∷◌, slice_get, Option, Some, None, is_some, refl, ap, ◌∙◌, ◌⊎◌, ⊎_elim, arith, IfSome, option_map_or, option_or, unwrap_or, All-head, All-tail, Link, nothing-to_send, Config, next, may_send, is_given, Line, link_count, service_at, place_at, tei_at, terms, terms_at, link_at, Taken, with_given_frame, link_taken, first_taken, taken, next_of, line_of, IsInRange, IsSoundAt, after_sound, next_falls, fresh_gives_nothing, round_below, option_map, All, one, after, answer, IsSound, HasNothing, after_takes, frames_to_go, IsIdling}
 use Rattle.model_link.specs.Machine as links
 use Rattle.laws_line.proofs.Serving.{none-waits}
 use Rattle.laws_line.proofs.Silence.{sends-none}
@@ -28,10 +28,7 @@ module _ (c : Config) (l : Line) (s : IsSound c l) (h : HasNothing c l) where
       ∙ none-first ns (All-tail (λ n. n < link_count c) n ns few)
 
   pub nothing-taken : taken c l ≡ None
-  nothing-taken =
-      ap (λ ms. option_or (option_map (with_message l) (option_map (frame_of c.side) (slice_get ms 0))) (option_or (unit_taken c l) (first_taken c l (round c l)))) h.messages
-      ∙ ap (λ us. option_or (option_map (with_unit c l) (slice_get us 0)) (first_taken c l (round c l))) h.units
-      ∙ none-first (round c l) (round_below c l)
+  nothing-taken = grind (arith, option_map, slice_get, none-first, round_below)
 
 -- and so the line stays as it is
 pub same-after : (c : Config) (l : Line) → taken c l ≡ None → after c next l ≡ l
@@ -55,8 +52,7 @@ unfolding after
 take-fewer c l s = go (taken c l) refl (taken-falls c l s)
   where
     go : (o : Option Taken) → taken c l ≡ o → IfSome o (TakesOne c l) → Fewer c l (option_map_or line_of o l) ⊎ HasNothing c l
-    go None e x = inr (none-waits c l s e)
-    go (Some t) e x = inl x
+    go o e x = grind (arith, none-waits)
 
 pub drains : (c : Config) → IsInRange c → (n : ℕ) (l : Line) → IsSound c l → frames_to_go c l ≤ n → HasNothing c (after_takes c n l)
 unfolding after_takes
@@ -65,20 +61,11 @@ drains c ranged (suc n) l s few = go (take-fewer c l s) (drains c ranged n (afte
   where
     go : Fewer c l (after c next l) ⊎ HasNothing c l → (frames_to_go c (after c next l) ≤ n → HasNothing c (after_takes c n (after c next l)))
         → HasNothing c (after_takes c n (after c next l))
-    go (inl less) more = more (omega (arith, few, less))
-    go (inr h) more = subst (HasNothing c) (sym (ap (after_takes c n) (nothing-stays c l s h) ∙ all-stay c n l (nothing-taken c l s h))) h
-
-pub sound-after_takes : (c : Config) → IsInRange c → (n : ℕ) (l : Line) → IsSound c l → IsSound c (after_takes c n l)
-unfolding after_takes
-sound-after_takes c ranged zero l s = s
-sound-after_takes c ranged (suc n) l s = sound-after_takes c ranged n (after c next l) (after_sound c ranged next l s)
+    go o more = grind (arith, nothing-stays, all-stay, nothing-taken)
 
 -- Then no call takes a frame.
 pub idles : (c : Config) (n : ℕ) (l : Line) → IsSound c l → HasNothing c l → IsIdling c n l
-idles c n l s h =
-    let none = nothing-taken c l s h in
-    let same = all-stay c n l none in
-    record { nothing = subst (HasNothing c) (sym same) h; none = ap (taken c) same ∙ none; same = same }
+idles c n l s h = grind (arith, nothing-taken, all-stay)
 
 -- What may be sent falls by each frame that is taken, so as many calls as that come to an end, too.
 taken-given : (c : Config) (l : Line) (t : Taken) → taken c l ≡ Some t → one (is_given (answer c next l)) ≡ 1

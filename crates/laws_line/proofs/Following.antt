@@ -1,5 +1,5 @@
 -- A caller that obeys the orders of a line's answers runs the timers that the line runs.
-use Rattle.laws_line.proofs.Vocabulary.{◌≡◌, ◌≢◌, ℕ, ◌+◌, ◌*◌, ◌<◌, ◌⊎◌, ◌==◌, ◌&&◌, Bool, true, false, is_some, List, ◌++◌, length, get_or, set, Option, Some, None, refl, ap, sym, ◌∙◌, subst, arith, length-set, eq-eqb, true≢false, inl, inr, cases_eq, get_or-set_same, get_or-set_other, none-some, Service, Call, Packet, same_service, Order, Timer, T201, LinkTimer, Link, is_same, obeyed, runs, timer_at, Follows, Management, IsAt, IsSoundTable, place_of, at-off, at-within, place_of-is, Config, runs_at, is_running, Line, link_number, place_at, link_in, terms, with_link, place_at-number, service_at-number, number_within, service_at, eqb-true, T200, T203, fresh, IsSound}
+use Rattle.laws_line.proofs.Vocabulary.{◌≡◌, ◌≢◌, ℕ, ◌+◌, ◌*◌, ◌<◌, ◌==◌, ◌&&◌, Bool, true, false, is_some, List, ◌++◌, length, get_or, set, Option, Some, None, refl, ap, sym, ◌∙◌, subst, arith, length-set, eq-eqb, true≢false, cases_eq, get_or-set_same, get_or-set_other, none-some, Service, Call, Packet, same_service, Order, Timer, T201, LinkTimer, Link, is_same, obeyed, runs, timer_at, Follows, Management, IsAt, IsSoundTable, place_of, at-off, at-within, place_of-is, Config, runs_at, is_running, Line, link_number, link_in, terms, with_link, place_at-number, service_at-number, number_within, eqb-true, T200, T203, fresh, IsSound}
 use Rattle.model_link.specs.Events as link
 use Rattle.model_link.specs.Machine as links
 use Rattle.lapd_tei.specs.Laws as tei_laws
@@ -18,44 +18,30 @@ each-timer P x y (T200 service tei) = y LinkTimer.T200 service tei
 each-timer P x y (T203 service tei) = y LinkTimer.T203 service tei
 
 pub running-of : (k : LinkTimer) (service : Service) (tei : ℕ) (l : Line) → is_running (timer_of k service tei) l ≡ runs_at service k (place_of tei l.management.places) l
-running-of LinkTimer.T200 service tei l = refl
-running-of LinkTimer.T203 service tei l = refl
+running-of k service tei l = grind arith
 
 -- lines with the same table, check and links run the same timers
 alike : (before after : Line) → after.links ≡ before.links → (k : LinkTimer) (service : Service) (o : Option ℕ) → runs_at service k o after ≡ runs_at service k o before
-alike before after same k service None = refl
-alike before after same k service (Some place) = ap (λ ls. runs k (get_or ls (link_number place service) fresh).running) same
+alike before after same k service o = grind arith
 
 pub same-running : (before after : Line) → after.management.places ≡ before.management.places → is_some after.management.check ≡ is_some before.management.check → after.links ≡ before.links
     → (timer : Timer) → is_running timer after ≡ is_running timer before
-same-running before after places check links T201 = check
-same-running before after places check links (T200 service tei) =
-    ap (λ ps. runs_at service LinkTimer.T200 (place_of tei ps) after) places ∙ alike before after links LinkTimer.T200 service (place_of tei before.management.places)
-same-running before after places check links (T203 service tei) =
-    ap (λ ps. runs_at service LinkTimer.T203 (place_of tei ps) after) places ∙ alike before after links LinkTimer.T203 service (place_of tei before.management.places)
+same-running before after places check links timer = grind (arith, alike)
 
 -- Two timers of links are different, where service or TEI are.
 other-timers : (one other : LinkTimer) (c : Config) (s s' : Service) (n n' : ℕ) → (same_service s s' && (n == n')) ≡ false
     → is_same (timer_at (terms c s n) one) (timer_of other s' n') ≡ false
-other-timers LinkTimer.T200 LinkTimer.T200 c s s' n n' e = e
-other-timers LinkTimer.T200 LinkTimer.T203 c s s' n n' e = refl
-other-timers LinkTimer.T203 LinkTimer.T200 c s s' n n' e = refl
-other-timers LinkTimer.T203 LinkTimer.T203 c s s' n n' e = e
+other-timers one other c s s' n n' e = grind arith
 
 pub t201-other : (k : LinkTimer) (s : Service) (n : ℕ) → is_same T201 (timer_of k s n) ≡ false
-t201-other LinkTimer.T200 s n = refl
-t201-other LinkTimer.T203 s n = refl
+t201-other k s n = grind arith
 
 its-timer : (c : Config) (k : LinkTimer) (s : Service) (n : ℕ) → timer_at (terms c s n) k ≡ timer_of k s n
-its-timer c LinkTimer.T200 s n = refl
-its-timer c LinkTimer.T203 s n = refl
+its-timer c k s n = grind arith
 
 -- a number is that of one service and one place
 pub same-number : (s s' : Service) (p p' : ℕ) → link_number p s ≡ link_number p' s' → (s ≡ s') × (p ≡ p')
-same-number s s' p p' e = (
-  sym (service_at-number p s) ∙ ap service_at e ∙ service_at-number p' s',
-  sym (place_at-number p s) ∙ ap place_at e ∙ place_at-number p' s',
-)
+same-number s s' p p' e = grind (arith, service_at-number, place_at-number)
 
 pub some-same : (a b : ℕ) → Some a ≡ Some b → a ≡ b
 some-same a b e = cc
@@ -79,11 +65,7 @@ module _ (c : Config) (l : Line) (s : IsSound c l) (service : Service) (tei plac
   Steered timer = obeyed timer (left timer (is_running timer l)) orders ≡ is_running timer (with_link n y l)
 
   own-timer : (k : LinkTimer) → Steered (timer_of k service tei)
-  own-timer k =
-      ap (λ b. obeyed (timer_of k service tei) (left (timer_of k service tei) b) orders) (running-of k service tei l ∙ ap (λ o. runs_at service k o l) here)
-      ∙ subst (λ timer. obeyed timer (left timer (runs k x.running)) orders ≡ runs k y.running) (its-timer c k service tei) (steers.own k)
-      ∙ ap (λ (z : Link). runs k z.running) (sym there)
-      ∙ sym (running-of k service tei (with_link n y l) ∙ ap (λ o. runs_at service k o (with_link n y l)) here)
+  own-timer k = grind (arith, running-of, here, its-timer, there)
 
   -- another link's is left, and runs where it ran
   apart : (s' : Service) (n' : ℕ) → (same_service service s' && (tei == n')) ≡ false → (p' : ℕ) → place_of n' l.management.places ≡ Some p' → link_number p' s' ≢ n
@@ -95,29 +77,19 @@ module _ (c : Config) (l : Line) (s : IsSound c l) (service : Service) (tei plac
 
   same-place : (k : LinkTimer) (s' : Service) (n' : ℕ) → (same_service service s' && (tei == n')) ≡ false → (o : Option ℕ) → place_of n' l.management.places ≡ o
       → runs_at s' k o l ≡ runs_at s' k o (with_link n y l)
-  same-place k s' n' other None e = refl
-  same-place k s' n' other (Some p') e = ap (λ (z : Link). runs k z.running) (sym (get_or-set_other l.links n (link_number p' s') y fresh (apart s' n' other p' e)))
+  same-place k s' n' other o e = grind (arith, get_or-set_other, apart)
 
   other-timer : (k : LinkTimer) (s' : Service) (n' : ℕ) → (same_service service s' && (tei == n')) ≡ false → Steered (timer_of k s' n')
-  other-timer k s' n' other =
-      steers.others (timer_of k s' n') (is_running (timer_of k s' n') l) (other-timers LinkTimer.T200 k c service s' tei n' other) (other-timers LinkTimer.T203 k c service s' tei n' other)
-      ∙ running-of k s' n' l ∙ same-place k s' n' other (place_of n' l.management.places) refl ∙ sym (running-of k s' n' (with_link n y l))
+  other-timer k s' n' other = grind (arith, other-timers, running-of, same-place)
 
   link-timer : (k : LinkTimer) (s' : Service) (n' : ℕ) → Steered (timer_of k s' n')
-  link-timer k s' n' = go (same_service service s' && (tei == n')) refl
-    where
-      go : (b : Bool) → (same_service service s' && (tei == n')) ≡ b → Steered (timer_of k s' n')
-      go false e = other-timer k s' n' e
-      go true e =
-          let is = both-true (same_service service s') (tei == n') e in
-          subst (λ z. Steered (timer_of k z n')) (services-equal service s' is.0) (subst (λ z. Steered (timer_of k service z)) (eqb-true tei n' is.1) (own-timer k))
+  link-timer k s' n' = grind (arith, other-timer, both-true, services-equal, eqb-true, own-timer)
 
   pub one-steered : (timer : Timer) → Steered timer
   one-steered = each-timer Steered (steers.others T201 (is_running T201 l) refl refl) link-timer
 
 pub and-false : (b : Bool) → (b && false) ≡ false
-and-false true = refl
-and-false false = refl
+and-false b = grind arith
 
 no-timer : (k : LinkTimer) → runs k None ≡ false
 no-timer k = refl
@@ -125,9 +97,7 @@ no-timer k = refl
 -- three lists of orders, one after the other
 chain : (timer : Timer) (b b1 b2 b3 : Bool) (xs ys zs : List Order) → obeyed timer b xs ≡ b1 → obeyed timer b1 ys ≡ b2 → obeyed timer b2 zs ≡ b3
     → obeyed timer b (xs ++ ys ++ zs) ≡ b3
-chain timer b b1 b2 b3 xs ys zs one two three =
-    obeyed-append timer b (xs ++ ys) zs
-    ∙ ap (λ r. obeyed timer r zs) (obeyed-append timer b xs ys ∙ ap (λ r. obeyed timer r ys) one ∙ two) ∙ three
+chain timer b b1 b2 b3 xs ys zs one two three = grind (arith, obeyed-append)
 
 -- An event of TEI management.
 module _ (c : Config) (l : Line) (s : IsSound c l) (m : Management) (sound : IsSoundTable m.places) (orders : List Order) (before : Bool)
@@ -145,9 +115,7 @@ module _ (c : Config) (l : Line) (s : IsSound c l) (m : Management) (sound : IsS
   -- the table stays
   pub management-stays : m.places ≡ l.management.places → (k : LinkTimer) (s' : Service) (n' : ℕ)
       → obeyed (timer_of k s' n') (is_running (timer_of k s' n') l) orders ≡ is_running (timer_of k s' n') now
-  management-stays same k s' n' =
-      leaves k s' n' (is_running (timer_of k s' n') l) ∙ running-of k s' n' l
-      ∙ ap (λ ps. runs_at s' k (place_of n' ps) l) (sym same) ∙ sym (alike l now refl k s' (place_of n' m.places)) ∙ sym (running-of k s' n' now)
+  management-stays same k s' n' = grind (arith, leaves, running-of, alike)
 
   -- both links of a place begin anew
   module _ (place : ℕ) (o : Option ℕ) (is : m.places ≡ set l.management.places place o) (within : place < length l.management.places) where
@@ -158,9 +126,7 @@ module _ (c : Config) (l : Line) (s : IsSound c l) (m : Management) (sound : IsS
     anew = record l { management = m; links = both }
 
     away : (p : ℕ) (s' : Service) → p ≢ place → get_or both (link_number p s') fresh ≡ get_or l.links (link_number p s') fresh
-    away p s' other =
-        get_or-set_other (set l.links (link_number place Call) fresh) (link_number place Packet) (link_number p s') fresh fresh (λ e. other (same-number s' Packet p place e).1)
-        ∙ get_or-set_other l.links (link_number place Call) (link_number p s') fresh fresh (λ e. other (same-number s' Call p place e).1)
+    away p s' other = grind (arith, get_or-set_other, same-number)
 
     -- each other TEI's timers run where they ran
     elsewhere : (k : LinkTimer) (s' : Service) (n' : ℕ) → (o ≡ Some n' → ⊥) → (IsAt l.management.places place n' → ⊥)
@@ -179,10 +145,7 @@ module _ (c : Config) (l : Line) (s : IsSound c l) (m : Management) (sound : IsS
     long = omega (arith, within, s.count, s.places)
 
     begins : (s' : Service) → get_or both (link_number place s') fresh ≡ fresh
-    begins Call =
-        get_or-set_other (set l.links (link_number place Call) fresh) (link_number place Packet) (link_number place Call) fresh fresh (λ e. omega (arith, e))
-        ∙ get_or-set_same l.links (link_number place Call) fresh fresh (omega (arith, long))
-    begins Packet = get_or-set_same (set l.links (link_number place Call) fresh) (link_number place Packet) fresh fresh (omega (arith, long, length-set l.links (link_number place Call) fresh))
+    begins s' = grind (arith, get_or-set_other, get_or-set_same, long, length-set)
 
     filled : get_or m.places place None ≡ o
     filled = ap (λ ps. get_or ps place None) is ∙ get_or-set_same l.management.places place o None within
@@ -243,15 +206,7 @@ module _ (c : Config) (l : Line) (s : IsSound c l) (m : Management) (sound : IsS
         ∙ ap (λ p. runs_at s' k p (anew place None gone.is_free gone.within)) (has-no-place m.places tei nowhere)
       where
         nowhere : (i : ℕ) → IsAt m.places i tei → ⊥
-        nowhere i at = none-some tei (sym (filled place None gone.is_free gone.within) ∙ subst (λ j. IsAt m.places j tei) (same i at) at)
-          where
-            same : (i : ℕ) → IsAt m.places i tei → i ≡ place
-            same i at = go (cases_eq i place)
-              where
-                go : (i ≡ place) ⊎ (i ≢ place) → i ≡ place
-                go (inl e) = e
-                go (inr apart) =
-                    s.management.table.once i place tei (sym (ap (λ ps. get_or ps i None) gone.is_free ∙ get_or-set_other l.management.places place i None None apart) ∙ at) gone.was_there
+        nowhere i at = grind (arith, none-some, filled, cases_eq, apart, get_or-set_other)
 
     ran : (k : LinkTimer) (s' : Service) → is_running (timer_of k s' tei) l ≡ runs k (link_in l s' place).running
     ran k s' = running-of k s' tei l ∙ ap (λ p. runs_at s' k p l) placed

@@ -1,30 +1,11 @@
 -- A link that is deactivated is given up.
-use Rattle.laws_line.proofs.Vocabulary.{◌≡◌, ℕ, false, not, cond, Option, Some, None, refl, ap, ◌∙◌, le-ltb, BadTei, NoLink, Service, State, TeiAssigned, AwaitingEstablishment, AwaitingRelease, Established, TimerRecovery, Terms, LinkTimer, Link, ◌then◌, begin_anew, is_on-at, place_of-is, told_cleared, Config, told, nothing, told_of_link, of_aim, Line, place_in, link_in, has_tei, terms, unless_refused_told, Deactivate, at_deactivated, LinkT200 as T200, LinkT203 as T203, begun, after, answer, unless_refused, refusal, IsSound, stopped, DeactivationsGiveUp}
+use Rattle.laws_line.proofs.Vocabulary.{arith, ◌≡◌, ℕ, false, not, cond, Some, None, ap, ◌∙◌, le-ltb, BadTei, NoLink, Service, Terms, Link, is_on-at, place_of-is, told_cleared, Config, told, nothing, told_of_link, of_aim, Line, place_in, link_in, has_tei, terms, unless_refused_told, Deactivate, at_deactivated, after, answer, unless_refused, refusal, IsSound, stopped, DeactivationsGiveUp}
 use Rattle.model_link.specs.Events as link
 use Rattle.model_link.specs.Machine as links
 
 -- What a link tells that is cleared.
 all-told : (t : Terms) (x : Link) → told_of_link (links.told t link.cleared x) ≡ record nothing { notes = told_cleared x.state t; orders = stopped t x.running }
-all-told t x = by-state x.state x.running
-  where
-    by-state : (here : State) (running : Option LinkTimer)
-        → told_of_link (links.told_of t (record x { running = running }) ((links.told_of_clearing here t then begin_anew) (begun x)))
-        ≡ record nothing { notes = told_cleared here t; orders = stopped t running }
-    by-state TeiAssigned None = refl
-    by-state TeiAssigned (Some T200) = refl
-    by-state TeiAssigned (Some T203) = refl
-    by-state AwaitingEstablishment None = refl
-    by-state AwaitingEstablishment (Some T200) = refl
-    by-state AwaitingEstablishment (Some T203) = refl
-    by-state AwaitingRelease None = refl
-    by-state AwaitingRelease (Some T200) = refl
-    by-state AwaitingRelease (Some T203) = refl
-    by-state Established None = refl
-    by-state Established (Some T200) = refl
-    by-state Established (Some T203) = refl
-    by-state TimerRecovery None = refl
-    by-state TimerRecovery (Some T200) = refl
-    by-state TimerRecovery (Some T203) = refl
+all-told t x = grind arith
 
 -- It is granted wherever its TEI is on the line.
 granted : (c : Config) (l : Line) (service : Service) (tei place : ℕ) → IsSound c l → place_in l tei ≡ Some place → refusal c false (Deactivate service tei) l ≡ None

@@ -1,22 +1,18 @@
 -- A frame that is taken is no longer among those to go.
-use Rattle.laws_line.proofs.Vocabulary.{◌≡◌, ℕ, zero, suc, ◌+◌, ◌-◌, ◌≤◌, ◌<◌, min, Bool, true, false, cond, not, ◌&&◌, List, [], ◌∷◌, length, drop, get_or, set, Some, IfSome, refl, ap, ◌⊎◌, inl, inr, arith, nat_lt, ltb-true, and_parts, get_or-set_same, get_or-set_other, ControlFrame, Terms, Link, Given, HasNothingToSend, nothing-to_send, Message, Config, Line, UnitData, link_count, service_at, place_at, terms, link_at, Taken, with_unit, with_given_frame, taken, sum_of_links, sum_changed, IsAt, taken_walk, fresh, begun as course_begun, frame_of, with_message, IsSound, link_to_go, frames_to_go}
+use Rattle.laws_line.proofs.Vocabulary.{◌≡◌, ℕ, zero, suc, ◌+◌, ◌-◌, ◌≤◌, ◌<◌, min, Bool, true, false, cond, not, ◌&&◌, List, [], ◌∷◌, length, get_or, set, Some, IfSome, ap, ◌⊎◌, inl, inr, arith, nat_lt, ltb-true, and_parts, get_or-set_same, get_or-set_other, ControlFrame, Terms, Link, Given, HasNothingToSend, nothing-to_send, Message, Config, Line, UnitData, link_count, service_at, place_at, terms, link_at, Taken, with_unit, with_given_frame, taken, sum_of_links, sum_changed, IsAt, taken_walk, fresh, begun as course_begun, frame_of, with_message, IsSound, link_to_go, frames_to_go}
 use Rattle.model_link.specs.Events as link
 use Rattle.model_link.specs.Machine as links
 use Rattle.model_link.specs.Offers
 use Rattle.model_link.specs.Sound as link_sounds
+use Rattle.laws_line.proofs.Bounds.{bit-most}
 
 -- An offer takes one of a link's frames to go, or nothing is left there.
 Falls : Terms → Link → Link → Type 0
 Falls t l l' = (link_to_go t l' + 1 ≤ link_to_go t l) ⊎ HasNothingToSend t l
 
-one-less : (b : Bool) → cond b 1 0 ≤ 1
-one-less true = omega arith
-one-less false = omega arith
-
 -- the window, and what is unsent
 window-falls : (b : Bool) (k a s n : ℕ) → b ≡ true → a ≤ s → s - a < k → s < n → cond b (min (k - (s + 1 - a)) (n - (s + 1))) 0 + 1 ≤ cond b (min (k - (s - a)) (n - s)) 0
-window-falls true k a s n e ordered room some = omega (arith, ordered, room, some)
-window-falls false k a s n e ordered room some = absurd (cc)
+window-falls b k a s n e ordered room some = grind arith
 
 module _ (t : Terms) (l : Link) (ordered : l.a ≤ l.s) where
   falls : (ws : List ControlFrame) → l.waiting ≡ ws → (may owed awaits : Bool) → Offers.may_send_information t l ≡ may → l.pending ≡ owed
@@ -30,23 +26,18 @@ module _ (t : Terms) (l : Link) (ordered : l.a ≤ l.s) where
       let room : l.s - l.a < t.k = ltb-true (l.s - l.a) t.k may.1 in
       let less = window-falls (Offers.is_established l.state && not l.peer_busy) t.k l.a l.s (length l.contents) may.0 ordered room some in
       let size : length l.waiting ≡ zero = ap length w in
-      inl (rw e (by-timer awaits a (omega (arith, less, size, one-less l.pending))))
+      inl (rw e (by-timer awaits a (omega (arith, less, size, bit-most l.pending))))
     where
       by-timer : (awaits : Bool) → Offers.is_awaiting_acknowledgement (Offers.with_one_sent l) ≡ awaits
           → length l.waiting + cond (Offers.is_established l.state && not l.peer_busy) (min (t.k - (l.s + 1 - l.a)) (length l.contents - (l.s + 1))) 0 + 0 + 1 ≤ link_to_go t l
           → link_to_go t (Offers.send_information (course_begun l)).link + 1 ≤ link_to_go t l
-      by-timer true a h = rw a h
-      by-timer false a h = rw a h
+      by-timer awaits a h = grind arith
   falls [] w false true awaits e p a = inl (rw e (rw p (omega arith)))
   falls [] w false false awaits e p a = inr (record { waiting = w; information = e; pending = p })
 
   given-falls : (g : Given) → links.given t l ≡ Some g → link_to_go t (links.after t link.offer l) + 1 ≤ link_to_go t l
   unfolding Falls
-  given-falls g e =
-      elim (falls l.waiting refl (Offers.may_send_information t l) l.pending (Offers.is_awaiting_acknowledgement (Offers.with_one_sent l)) refl refl refl) [
-        | inl less ↦ less
-        | inr h ↦ absurd (let none = nothing-to_send t l h in cc)
-      ]
+  given-falls g e = grind (arith, falls, nothing-to_send)
 
 -- What all links have to go, of whatever TEIs, where one link is another.
 abbrev to_go_in : Config → List Link → ℕ → ℕ
@@ -68,16 +59,10 @@ TakesOne c l t = 1 + frames_to_go c t.line ≤ frames_to_go c l
 
 module _ (c : Config) (l : Line) (s : IsSound c l) where
   by-message : (m : Message) (ms : List Message) → l.management.waiting ≡ m ∷ ms → TakesOne c l (with_message l (frame_of c.side m))
-  by-message m ms e =
-      let rest : length (drop 1 l.management.waiting) ≡ length ms = ap (λ (x : List Message). length (drop 1 x)) e in
-      let all : length l.management.waiting ≡ suc (length ms) = ap (λ (x : List Message). length x) e in
-      omega (arith, rest, all)
+  by-message m ms e = grind arith
 
   by-unit : (u : UnitData) (us : List UnitData) → l.units ≡ u ∷ us → TakesOne c l (with_unit c l u)
-  by-unit u us e =
-      let rest : length (drop 1 l.units) ≡ length us = ap (λ (x : List UnitData). length (drop 1 x)) e in
-      let all : length l.units ≡ suc (length us) = ap (λ (x : List UnitData). length x) e in
-      omega (arith, rest, all)
+  by-unit u us e = grind arith
 
   by-link : (n tei : ℕ) → n < link_count c → IsAt l.management.places (place_at n) tei → link_sounds.IsSound (terms c (service_at n) tei) (link_at n l)
       → (g : Given) → links.given (terms c (service_at n) tei) (link_at n l) ≡ Some g → TakesOne c l (with_given_frame c l n (terms c (service_at n) tei) g)

@@ -1,5 +1,5 @@
 -- A line that is taken down is down.
-use Rattle.laws_line.proofs.Vocabulary.{◌≡◌, ℕ, zero, suc, ◌<◌, true, false, is_some, List, [], ◌∷◌, get_or, set, Option, Some, None, refl, sym, ap, subst, ◌∙◌, ◌⊎◌, inl, inr, ⊎_elim, arith, true≢false, option_map_or, All-head, All-tail, Refusal, Service, Timer, T201, LinkTimer, Terms, is_on-at, Config, request, gave, Line, link_number, link_count, service_at, place_at, tei_at, place_in, link_at, of_aim, next_of, Request, Deactivate, Down, at_deactivated, IsInRange, IsSoundAt, after_sound, next, option_map, cases_lt, get_or_past, All, Contains, map, Contains-append_cases, T200, T203, place_of, fresh, runs, needed, after, answer, unless_refused, refusal, IsSound, after_events, takes_down, TakeDown, IsDown, LinesGoDown, HasNothing, IsSilent, link_needs, is_needed}
+use Rattle.laws_line.proofs.Vocabulary.{◌≡◌, ℕ, zero, suc, ◌<◌, true, false, is_some, List, [], ◌∷◌, get_or, set, Option, Some, None, refl, sym, ap, subst, ◌∙◌, ◌⊎◌, ⊎_elim, arith, option_map_or, All-head, All-tail, Refusal, Service, Timer, T201, LinkTimer, Terms, is_on-at, Config, request, gave, Line, link_number, link_count, service_at, place_at, tei_at, place_in, link_at, of_aim, next_of, Request, Deactivate, Down, at_deactivated, IsInRange, IsSoundAt, after_sound, next, option_map, cases_lt, get_or_past, All, Contains, map, T200, T203, place_of, fresh, after, answer, unless_refused, refusal, IsSound, after_events, takes_down, TakeDown, IsDown, LinesGoDown, HasNothing, IsSilent, link_needs, is_needed}
 use Rattle.laws_line.proofs.Draining.{nothing-taken}
 use Rattle.laws_line.proofs.GivingUp.{deactivations_give_up}
 use Rattle.laws_line.proofs.Parts.{gives-up}
@@ -71,17 +71,11 @@ module _ (c : Config) (l : Line) where
       ∙ begins-there l.links (link_number place service) fresh
 
   each : (r : Request) → takes_down r ≡ true → Keeps l (after c (request r) l)
-  each Down is = down-keeps
-  each (Deactivate service tei) is = deactivated-keeps service tei
-  each other is = absurd (true≢false (sym is))
+  each r is = grind (arith, down-keeps, deactivated-keeps)
 
 -- Which of a list is a request: the first, or one of the others.
 here-or-behind : (r x : Request) (rs : List Request) → Contains (r ∷ rs) x → (r ≡ x) ⊎ Contains rs x
-here-or-behind r x rs has = ⊎_elim (λ here. inl (only here)) (λ behind. inr behind) (Contains-append_cases (r ∷ []) rs x has)
-  where
-    only : Contains (r ∷ []) x → r ≡ x
-    only (zero, few, is) = is
-    only (suc k, few, is) = absurd (omega (arith, few))
+here-or-behind r x rs has = grind arith
 
 in-none : (x : Request) → Contains [] x → ⊥
 in-none x (k, few, is) = omega (arith, few)
@@ -171,9 +165,7 @@ module _ (c : Config) (ranged : IsInRange c) (l : Line) (rs : List Request) (s :
   any-begins number = ⊎_elim (link-begins number) (λ past. get_or_past then.links number fresh (omega (arith, past, sound.count))) (cases_lt number (link_count c))
 
   needs-none : (k : LinkTimer) (service : Service) (o : Option ℕ) → option_map_or (link_needs k service then) o false ≡ false
-  needs-none k service None = refl
-  needs-none LinkTimer.T200 service (Some place) = ap (λ x. runs LinkTimer.T200 (needed x)) (any-begins (link_number place service))
-  needs-none LinkTimer.T203 service (Some place) = ap (λ x. runs LinkTimer.T203 (needed x)) (any-begins (link_number place service))
+  needs-none k service o = grind (arith, any-begins)
 
   none-needed : (timer : Timer) → is_needed timer then ≡ false
   none-needed (T200 service tei) = needs-none LinkTimer.T200 service (place_in then tei)

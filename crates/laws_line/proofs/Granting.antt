@@ -1,10 +1,6 @@
 -- A request that is granted is not refused.
-use Rattle.laws_line.proofs.Vocabulary.{◌≡◌, true, false, Option, Some, None, refl, sym, true≢false, Refusal, Config, request, Line, unless_refused_told, of_request, Request, answer, refusal, is_granted}
+use Rattle.laws_line.proofs.Vocabulary.{arith, ◌≡◌, true, false, None, Config, request, Line, Request, answer, refusal, is_granted}
 
 pub not-refused : (c : Config) (r : Request) (l : Line) → is_granted (answer c (request r) l) ≡ true → refusal c false r l ≡ None
 unfolding answer
-not-refused c r l g = go (refusal c false r l) g
-  where
-    go : (o : Option Refusal) → is_granted (unless_refused_told o (of_request c r l)) ≡ true → o ≡ None
-    go None g = refl
-    go (Some why) g = absurd (true≢false (sym g))
+not-refused c r l g = grind arith

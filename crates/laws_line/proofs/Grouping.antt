@@ -1,7 +1,6 @@
 -- What the user's side hears of the network for the group: unit data, and messages of TEI management.
-use Rattle.laws_line.proofs.Vocabulary.{◌≡◌, ℕ, ◌==◌, cond, List, length, Option, Some, None, Ok, refl, ap, ◌∙◌, arith, le-leb, Tei, Unserved, Address, Control, Service, Call, Packet, Parts, Spells, reading, service_of, sapi_of, reading-again, place_of-is, Config, LineTold, hears, Aim, at_none, Line, place_in, drop_for, management_sapi, to_service, addressed, message_of, aim_of_reading, heard_side, aim_of_heard, group_told, told_of_ui, told_of_group, told_at, at_side, IsToGroup, dropped, after, answer, at_place, line_group_tei as group_tei, IsSound, OnlyTells, IsToManagement}
+use Rattle.laws_line.proofs.Vocabulary.{◌≡◌, ℕ, ◌==◌, cond, List, Option, Some, None, Ok, refl, ap, ◌∙◌, arith, le-leb, Tei, Unserved, Address, Control, Service, Parts, Spells, reading, service_of, sapi_of, reading-again, place_of-is, Config, LineTold, hears, Aim, at_none, Line, place_in, drop_for, management_sapi, to_service, addressed, message_of, aim_of_reading, heard_side, aim_of_heard, group_told, told_at, at_side, IsToGroup, dropped, after, answer, at_place, line_group_tei as group_tei, IsSound, OnlyTells, IsToManagement}
 use Rattle.model_bits.specs.Stream as stream
-use Rattle.lapd_tei.specs.Events as teis
 use Rattle.model_link.specs.Events as link
 use Rattle.laws_line.proofs.Causing.{to-group}
 use Rattle.laws_line.proofs.Hearing.{sapi-is, by-none}
@@ -29,15 +28,11 @@ for-nobody c l a service what m s sapi group =
   where
     by-service : (by : Service) → cond (sapi_of by == management_sapi) (cond (a.tei == group_tei) m (drop_for Tei)) (to_service l a.tei what (service_of (sapi_of by)))
         ≡ at_place by a.tei what (place_in l a.tei)
-    by-service Call = refl
-    by-service Packet = refl
+    by-service by = grind arith
 
 -- and a UI of a service is unit data
 group-is : (c : Config) (parts : Parts) (service : Service) (t : LineTold) → IsToGroup c parts service → told_at c c.side parts t ≡ group_told service parts.info
-group-is c parts service t to =
-    ap (λ side. told_at c side parts t) to.side ∙ ap (λ o. told_of_group c parts o t) to.sapi
-    ∙ ap (λ n. cond (n == group_tei) (told_of_ui c service parts.control parts.info t) t) to.group ∙ ap (λ k. told_of_ui c service k parts.info t) to.control
-    ∙ ap (λ b. cond b (group_told service parts.info) t) (le-leb (length parts.info) c.n201 to.size)
+group-is c parts service t to = grind (arith, le-leb)
 
 pub group-read : (c : Config) (l : Line) (parts : Parts) (octets : List ℕ) (service : Service) → IsSound c l → reading (heard_side c) octets ≡ Ok parts
     → IsToGroup c parts service → OnlyTells (group_told service parts.info) l (after c (hears (stream.frame octets)) l) (answer c (hears (stream.frame octets)) l)
@@ -54,13 +49,10 @@ group-unit c l parts octets service s spelled to = group-read c l parts octets s
 -- What is for TEI management is not served.
 module _ (c : Config) (parts : Parts) (to : IsToManagement c parts) where
   no-unit : at_none (told_at c c.side parts (dropped Unserved)) ≡ drop_for Unserved
-  no-unit =
-      ap (λ side. at_none (told_at c side parts (dropped Unserved))) to.side
-      ∙ ap (λ n. at_none (told_of_group c parts (service_of n) (dropped Unserved))) to.sapi
+  no-unit = grind arith
 
   by-control : (k : Control) → at_side c parts (message_of k parts.info) ≡ drop_for Unserved
-  by-control (Control.Ui p) = ap (λ side. Rattle.model_line.specs.Sides.managed_at side (teis.message parts.info)) to.side
-  by-control other = no-unit
+  by-control k = grind (arith, no-unit)
 
 pub managed-read : (c : Config) (l : Line) (parts : Parts) (octets : List ℕ) → reading (heard_side c) octets ≡ Ok parts
     → IsToManagement c parts → OnlyTells (dropped Unserved) l (after c (hears (stream.frame octets)) l) (answer c (hears (stream.frame octets)) l)

@@ -1,5 +1,5 @@
 -- What is handed on of what is heard.
-use Rattle.laws_line.proofs.Vocabulary.{◌≡◌, ℕ, Bool, true, false, cond, ◌==◌, List, [], ◌∷◌, Option, Some, None, Result, Ok, Err, is_some, refl, sym, ap, ◌∙◌, ◌⊎◌, inl, inr, list_any, option_or, unwrap_or, All-head, All-tail, none-some, Cause, Extension, Sapi, Tei, Unserved, Address, Control, ReadFault, BadExtension, Undefined, WrongSize, Short, Long, Note, Refusal, Service, Call, Packet, Timer, T201, Parts, reading, long_reading, service_of, reading-found, Terms, LinkTimer, IsOwn, Link, is_data, is_unit, notes-own, event-tells, contents_heard, unit_heard, data_due, unit_due, delivered-was-heard, event-unit, data-is, within-is, Change, Gained, Left, place_of-is, Config, hears, request, next, nothing, Aim, at_none, at_link, at_management, at_units, told_of_management, of_change, of_aim, at_timer, aim_of_expiry, Line, place_in, link_in, terms, unless_refused_told, drop_for, management_sapi, to_service, addressed, message_of, aim_of_reading, unless_at_link, aim_of_long, heard_side, aim_of_heard, group_told, IsToGroup, side_aims, Request, Establish, Release, Assign, Remove, SetBusy, ClearBusy, Deactivate, at_requested, at_deactivated, aim_of_request, IsInRange, sound_in, Down, at_no_link, All, T200, T203, Event, expiry, answer, unless_refused, group_tei, at_place, refusal, Data, Unit, Check, IsSound, IsFor, IsTo, contents_in, due, is_data_of, is_unit_of, IsHeard}
+use Rattle.laws_line.proofs.Vocabulary.{arith, ◌≡◌, ℕ, Bool, true, false, cond, ◌==◌, List, [], ◌∷◌, Option, Some, None, Result, Ok, Err, is_some, refl, sym, ap, ◌∙◌, ◌⊎◌, inl, inr, list_any, option_or, All-head, All-tail, none-some, Cause, Extension, Sapi, Tei, Unserved, Address, Control, ReadFault, BadExtension, Undefined, WrongSize, Short, Long, Note, Refusal, Service, Timer, T201, Parts, reading, long_reading, service_of, reading-found, Terms, LinkTimer, IsOwn, Link, is_data, is_unit, notes-own, event-tells, contents_heard, unit_heard, data_due, unit_due, delivered-was-heard, event-unit, data-is, within-is, place_of-is, Config, hears, request, next, nothing, Aim, at_none, at_link, at_management, at_units, of_aim, at_timer, aim_of_expiry, Line, place_in, link_in, terms, unless_refused_told, drop_for, management_sapi, to_service, addressed, message_of, aim_of_reading, unless_at_link, aim_of_long, heard_side, aim_of_heard, group_told, IsToGroup, side_aims, Request, Establish, Release, Assign, Remove, SetBusy, ClearBusy, Deactivate, at_requested, at_deactivated, aim_of_request, IsInRange, sound_in, Down, at_no_link, All, T200, T203, Event, expiry, answer, unless_refused, group_tei, at_place, refusal, Data, Unit, Check, IsSound, IsFor, IsTo, contents_in, due, is_data_of, is_unit_of, IsHeard}
 use Rattle.model_bits.specs.Stream as stream
 use Rattle.model_link.specs.Events as link
 use Rattle.model_link.specs.Machine as links
@@ -30,9 +30,7 @@ due-is c l service tei place parts octets ranged s f =
 
 -- Notes of data, and of unit data, are the link's own.
 own-data : (t : Terms) (n : Note) → IsOwn t n → (is_data_of t.service t.tei n ≡ is_data n) × (is_unit_of t.service t.tei n ≡ is_unit n)
-own-data t (Note.Data s n) own = (its-own t s n own, refl)
-own-data t (Note.Unit s n) own = (refl, its-own t s n own)
-own-data t other own = (refl, refl)
+own-data t n own = grind (arith, its-own)
 
 pub own-all : (t : Terms) (ns : List Note) → All (IsOwn t) ns
     → (list_any (is_data_of t.service t.tei) ns ≡ list_any is_data ns) × (list_any (is_unit_of t.service t.tei) ns ≡ list_any is_unit ns)
@@ -66,8 +64,7 @@ handed-on t l s e contents h = go (links.told t e l).delivered refl h
         record { is = inr (within-is t.n201 (unit_heard e) contents due, own.1 ∙ (event-tells t e l).3 ∙ ap (λ o. is_some o) e') }
 
 unit-noted : (service : Service) → list_any (is_unit_of service group_tei) (Note.Unit service group_tei ∷ []) ≡ true
-unit-noted Call = refl
-unit-noted Packet = refl
+unit-noted service = grind arith
 
 -- Contents that are handed on.
 module _ (c : Config) (ranged : IsInRange c) (l : Line) (s : IsSound c l) where
@@ -89,8 +86,7 @@ module _ (c : Config) (ranged : IsInRange c) (l : Line) (s : IsSound c l) where
     where
       by-case : ((contents_heard e ≡ Some contents) × (list_any (is_data_of service tei) (links.told (terms c service tei) e (link_in l service place)).notes ≡ true))
           ⊎ ((unit_heard e ≡ Some contents) × (list_any (is_unit_of service tei) (links.told (terms c service tei) e (link_in l service place)).notes ≡ true)) → ⊥
-      by-case (inl x) = none-some contents (sym no-contents ∙ x.0)
-      by-case (inr x) = none-some contents (sym no-unit ∙ x.0)
+      by-case o = grind (arith, none-some)
 
   abbrev Silent : Aim → Type 0
   Silent aim = (contents : List ℕ) → HandsOn contents aim → ⊥
@@ -102,12 +98,7 @@ module _ (c : Config) (ranged : IsInRange c) (l : Line) (s : IsSound c l) where
   drops why = dropped (drop_for why) refl
 
   managed : (e : teis.Event) → Silent (at_management e)
-  managed e = dropped (at_management e) (go (teis.told e l.management).change)
-    where
-      go : (o : Option Change) → (of_change c o (told_of_management (teis.told e l.management)) (record l { management = teis.after e l.management })).told.contents ≡ None
-      go None = refl
-      go (Some (Gained tei place)) = refl
-      go (Some (Left tei place)) = refl
+  managed e = grind (arith, dropped)
 
   placed : (service : Service) (tei : ℕ) (what : link.Received) → contents_heard (link.received what) ≡ None → unit_heard (link.received what) ≡ None
       → (o : Option ℕ) → place_in l tei ≡ o → Silent (at_place service tei what o)
@@ -129,8 +120,7 @@ module _ (c : Config) (ranged : IsInRange c) (l : Line) (s : IsSound c l) where
       go false group = sent-to address.tei what no-contents no-unit (service_of address.sapi)
 
   unless-silent : (aim : Aim) → Silent aim → Silent (unless_at_link aim)
-  unless-silent (at_link service tei place event) x = drops Unserved
-  unless-silent other x = x
+  unless-silent aim x = grind (arith, drops)
 
   too-long : (r : Result Long ReadFault) → Silent (aim_of_long l r)
   too-long (Ok (Long.Information address)) = not-read address link.overlong (drop_for Unserved) (drops Unserved) refl refl
@@ -142,8 +132,7 @@ module _ (c : Config) (ranged : IsInRange c) (l : Line) (s : IsSound c l) where
   too-long (Err Short) = drops Unserved
 
   message-silent : (k : Control) (info : List ℕ) → Silent (message_of k info)
-  message-silent (Control.Ui p) info = managed (teis.message info)
-  message-silent other info = drops Unserved
+  message-silent k info = grind (arith, managed, drops)
 
   -- no contents by what is not heard
   timer-silent : (service : Service) (tei : ℕ) (timer : LinkTimer) (o : Option ℕ) → place_in l tei ≡ o → Silent (at_timer service tei timer o)
@@ -160,8 +149,7 @@ module _ (c : Config) (ranged : IsInRange c) (l : Line) (s : IsSound c l) where
   asked-silent service tei what (Some place) e = none-by-link service tei place (link.requested what false) e refl refl
 
   deactivated-silent : (service : Service) (tei : ℕ) (o : Option ℕ) → place_in l tei ≡ o → Silent (at_deactivated service tei o)
-  deactivated-silent service tei None e = dropped (at_none nothing) refl
-  deactivated-silent service tei (Some place) e = none-by-link service tei place link.cleared e refl refl
+  deactivated-silent service tei o e = grind (arith, dropped, none-by-link)
 
   pub request-silent : (r : Request) → Silent (aim_of_request r l)
   request-silent (Establish service tei) = asked-silent service tei link.Establish (place_in l tei) refl
@@ -211,14 +199,7 @@ module _ (c : Config) (ranged : IsInRange c) (l : Line) (s : IsSound c l) where
       (go (parts.address.sapi == management_sapi) (parts.address.tei == group_tei))
     where
       to-group : (service : Service) → IsToGroup c parts service → Hears octets (at_none (group_told service parts.info))
-      to-group service to contents h = inr (record {
-        parts = parts;
-        read = read;
-        service = service;
-        whose = to;
-        contents_are = ap (λ o. unwrap_or o parts.info) h;
-        told = unit-noted service;
-      })
+      to-group service to contents h = grind (arith, unit-noted)
 
       at-its-place : (service : Service) → service_of parts.address.sapi ≡ Some service → (o : Option ℕ) → place_in l parts.address.tei ≡ o
           → Hears octets (at_place service parts.address.tei (link.frame parts) o)

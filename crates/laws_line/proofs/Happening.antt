@@ -1,11 +1,11 @@
 -- What an event of a line is to one of its links.
-use Rattle.laws_line.proofs.Vocabulary.{◌≡◌, ◌≢◌, ℕ, ◌<◌, Bool, true, false, ◌==◌, length, get_or, set, Option, Some, None, refl, ap, sym, ◌∙◌, subst, arith, eq-eqb, true≢false, IfSome, inl, inr, ◌⊎◌, ⊎_elim, option_map_or, get_or-set_same, get_or-set_other, Refusal, Service, Call, Packet, Link, IsAt, Change, Gained, Left, Config, hears, request, next, Answer, told, gave, is_change_at, Aim, at_link, at_management, told_of_management, of_change, of_aim, aim_of_expiry, Line, link_number, service_at, place_at, tei_at, link_at, link_in, terms, link_count, unless_refused_told, aim_of_heard, Taken, taken, next_of, line_of, aim_of_request, IsProper, place_at-number, service_at-number, heard_proper, expiry_proper, request_proper, taken_walk, next_walk, at_no_link, eqb-true, option_map, fresh, Event, expiry, after, answer, unless_refused, refusal, IsSound, IsMoved, IsBy, IsDeactivated, IsOf}
+use Rattle.laws_line.proofs.Vocabulary.{◌≡◌, ◌≢◌, ℕ, ◌<◌, Bool, true, false, ◌==◌, length, get_or, set, Option, Some, None, refl, ap, sym, ◌∙◌, subst, arith, eq-eqb, true≢false, IfSome, inl, inr, ◌⊎◌, ⊎_elim, get_or-set_same, get_or-set_other, Refusal, Service, Call, Packet, Link, IsAt, Change, Gained, Left, Config, hears, request, next, Answer, told, is_change_at, Aim, at_link, at_management, told_of_management, of_change, of_aim, aim_of_expiry, Line, link_number, service_at, place_at, tei_at, link_at, link_in, terms, link_count, unless_refused_told, aim_of_heard, Taken, taken, aim_of_request, IsProper, place_at-number, service_at-number, heard_proper, expiry_proper, request_proper, taken_walk, next_walk, at_no_link, eqb-true, option_map, fresh, Event, expiry, after, answer, unless_refused, refusal, IsSound, IsMoved, IsBy, IsDeactivated, IsOf}
 use Rattle.model_link.specs.Events as link
 use Rattle.model_link.specs.Machine as links
 use Rattle.lapd_tei.specs.Events as teis
 use Rattle.lapd_tei.specs.Laws as tei_laws
 use Rattle.lapd_tei.proofs.LawLemmas as tei_lemmas
-use Rattle.laws_line.proofs.Kept.{begin_here, begin_away}
+use Rattle.model_line.proofs.LinksSound.{begin_here, begin_away}
 use Rattle.laws_line.proofs.Tied.{Ties, heard-ties, expiry-ties, request-ties}
 use Rattle.laws_line.proofs.Told.{moved}
 use Rattle.laws_line.proofs.Downs.{by-down}
@@ -34,8 +34,7 @@ Happens c number e before after answer =
 -- An event of a link is by what comes, or it is deactivated.
 pub by-or-down : (c : Config) (e : Event) (a : Answer) (service : Service) (tei : ℕ) (le : link.Event)
     → IsOf c e a service tei le → IsBy c e a service tei le ⊎ ((le ≡ link.cleared) × IsDeactivated e a service tei)
-by-or-down c e a service tei link.cleared by = inr (refl, by)
-by-or-down c e a service tei other by = inl by
+by-or-down c e a service tei le by = grind arith
 
 module _ (c : Config) (l : Line) (s : IsSound c l) (number : ℕ) (few : number < link_count c) (e : Event) (a : Answer) where
   abbrev Goes : Line → Type 0
@@ -45,28 +44,12 @@ module _ (c : Config) (l : Line) (s : IsSound c l) (number : ℕ) (few : number 
       → IsOf c e a service tei le → Goes (of_aim c (at_link service tei place le) l).line
   at-its-link service tei place le at by = go (link_number place service == number) refl
     where
-      there-is : link_number place service ≡ number → tei_at (place_at (link_number place service)) l ≡ Some tei
-      there-is same = ap (λ p. tei_at p l) (place_at-number place service) ∙ at
-
       ended : link_number place service ≡ number → le ≡ link.cleared → IsDeactivated e a service tei
           → IsGivenUp service (link_number place service) e l a × (link_at (link_number place service) (of_aim c (at_link service tei place le) l).line ≡ fresh)
-      ended same is down = (
-        record { tei = tei; on_line = there-is same; by = down },
-        get_or-set_same l.links (link_number place service) (links.after (terms c service tei) le (link_in l service place)) fresh (omega (arith, same, few, s.count))
-            ∙ ap (λ x. links.after (terms c service tei) x (link_in l service place)) is,
-      )
+      ended same is down = grind (arith, place_at-number, get_or-set_same)
 
       one : link_number place service ≡ number → IsBy c e a service tei le → HasOne c service (link_number place service) e l (of_aim c (at_link service tei place le) l).line a
-      one same by =
-          let there : get_or (set l.links (link_number place service) (links.after (terms c service tei) le (link_in l service place))) (link_number place service) fresh ≡ links.after (terms c service tei) le (link_in l service place) =
-          get_or-set_same l.links (link_number place service) (links.after (terms c service tei) le (link_in l service place)) fresh (omega (arith, same, few, s.count)) in
-          record {
-            tei = tei;
-            on_line = there-is same;
-            event = le;
-            by = by;
-            is = there;
-          }
+      one same by = grind (arith, get_or-set_same, place_at-number)
 
       go : (b : Bool) → (link_number place service == number) ≡ b → Goes (of_aim c (at_link service tei place le) l).line
       go true same =
@@ -93,15 +76,7 @@ module _ (c : Config) (l : Line) (s : IsSound c l) (number : ℕ) (few : number 
       → tei_laws.Moves l.management.places o (teis.after me l.management).places → (l' : Line)
       → l'.links ≡ set (set l.links (link_number place Call) fresh) (link_number place Packet) fresh
       → l'.management.places ≡ (teis.after me l.management).places → (b : Bool) → (place == place_at number) ≡ b → Goes l'
-  at-its-place me o place at within moves l' ls ps true same =
-      inr (inl (
-        inl (λ again. moved l.management.places (teis.after me l.management).places (place_at number) o (at ∙ same) moves
-            (sym (ap (λ p. get_or p (place_at number) None) ps) ∙ again)),
-        ap (λ xs. get_or xs number fresh) ls
-            ∙ begin_here l.links place number (sym (eqb-true place (place_at number) same)) (omega (arith, within, s.places, s.count)),
-      ))
-  at-its-place me o place at within moves l' ls ps false away =
-      inl (ap (λ xs. get_or xs number fresh) ls ∙ begin_away l.links place number (λ same. true≢false (sym (eq-eqb place (place_at number) (sym same)) ∙ away)))
+  at-its-place me o place at within moves l' ls ps b same = grind (arith, moved, begin_here, eqb-true, begin_away, eq-eqb)
 
   managed : (me : teis.Event) → tei_laws.IsInRange me → Goes (of_aim c (at_management me) l).line
   managed me fits = go (teis.told me l.management).change (tei_lemmas.changes_are_told me l.management fits s.management)
@@ -130,33 +105,14 @@ module _ (c : Config) (l : Line) (s : IsSound c l) (number : ℕ) where
 
   given-at : (n tei : ℕ) → n < link_count c → tei_at (place_at n) l ≡ Some tei
       → Offered (get_or (set l.links n (links.after (terms c (service_at n) tei) link.offer (link_at n l))) number fresh)
-  given-at n tei few at = go (n == number) refl
-    where
-      go : (b : Bool) → (n == number) ≡ b → Offered (get_or (set l.links n (links.after (terms c (service_at n) tei) link.offer (link_at n l))) number fresh)
-      go true same =
-          let is : n ≡ number = eqb-true n number same in
-          let here : get_or (set l.links n (links.after (terms c (service_at n) tei) link.offer (link_at n l))) n fresh ≡ links.after (terms c (service_at n) tei) link.offer (link_at n l) =
-          get_or-set_same l.links n (links.after (terms c (service_at n) tei) link.offer (link_at n l)) fresh (omega (arith, few, s.count)) in
-          inr (
-            tei,
-            ap (λ k. tei_at (place_at k) l) (sym is) ∙ at,
-            subst (λ k. get_or (set l.links n (links.after (terms c (service_at n) tei) link.offer (link_at n l))) k fresh ≡ links.after (terms c (service_at k) tei) link.offer (link_at k l)) is here,
-          )
-      go false other = inl (get_or-set_other l.links n number (links.after (terms c (service_at n) tei) link.offer (link_at n l)) fresh (λ same. true≢false (sym (eq-eqb n number (sym same)) ∙ other)))
+  given-at n tei few at = grind (arith, eqb-true, get_or-set_same, get_or-set_other, eq-eqb)
 
   taken-fate : IfSome (taken c l) Fate
   taken-fate = taken_walk c l s Fate (λ m ms e. inl refl) (λ u us e. inl refl) (λ n tei few at sound g e. given-at n tei few at)
 
-  next-fate : Offered (link_at number (option_map_or line_of (taken c l) l))
-  next-fate = next_walk c l Fate (λ o m. Offered (link_at number m)) taken-fate (inl refl) (λ t h. h)
-
   pub next-happens : Happens c number next l (after c next l) (answer c next l)
   unfolding after answer
-  next-happens = go next-fate
-    where
-      go : Offered (link_at number (option_map_or line_of (taken c l) l)) → Happens c number next l (option_map_or line_of (taken c l) l) (gave (option_map next_of (taken c l)))
-      go (inl x) = inl x
-      go (inr y) = inr (inr (record { tei = y.0; on_line = y.1; event = link.offer; by = refl; is = y.2 }))
+  next-happens = grind (arith, next_walk, taken-fate, option_map)
 
 -- Any event.
 pub event-happens : (c : Config) (e : Event) (l : Line) (number : ℕ) → IsSound c l → number < link_count c → Happens c number e l (after c e l) (answer c e l)

@@ -1,70 +1,38 @@
 -- What is heard brings to a link.
-use Rattle.laws_line.proofs.Vocabulary.{◌≡◌, ℕ, Bool, true, false, cond, ◌==◌, List, Some, None, Ok, refl, ap, ◌∙◌, none-some, Cause, Tei, Unserved, Address, Service, Call, Packet, Parts, reading, long_reading, service_of, sapi_of, same_service, reading-again, Config, LineTold, hears, told, Aim, at_none, at_link, told_of_link, of_aim, Line, place_in, link_in, terms, drop_for, management_sapi, to_service, addressed, message_of, aim_of_reading, aim_of_long, heard_side, aim_of_heard, at_side, eqb-true, dropped, after, answer, group_tei, at_place, IsFor, IsTo, IsMalformed, IsTooLong, IsOneHeard as IsOneEvent, OnlyTells}
+use Rattle.laws_line.proofs.Vocabulary.{arith, ◌≡◌, ℕ, ◌==◌, List, Some, Ok, refl, ◌∙◌, none-some, Cause, Unserved, Address, Service, Parts, reading, long_reading, service_of, sapi_of, same_service, reading-again, Config, LineTold, hears, Aim, at_none, at_link, Line, place_in, drop_for, addressed, aim_of_reading, aim_of_long, heard_side, aim_of_heard, eqb-true, dropped, after, answer, IsFor, IsTo, IsMalformed, IsTooLong, IsOneHeard as IsOneEvent, OnlyTells}
 use Rattle.model_bits.specs.Stream as stream
 use Rattle.model_link.specs.Events as link
-use Rattle.model_link.specs.Machine as links
 
 -- The SAPI of a service.
 pub same-sapi : (a b : Service) → (sapi_of a == sapi_of b) ≡ same_service a b
-same-sapi Call Call = refl
-same-sapi Call Packet = refl
-same-sapi Packet Call = refl
-same-sapi Packet Packet = refl
+same-sapi a b = grind arith
 
 pub sapi-is : (sapi : ℕ) (service : Service) → service_of sapi ≡ Some service → sapi ≡ sapi_of service
-sapi-is sapi service e = go (sapi == 0) (sapi == 16) refl refl e
-  where
-    go : (call packet : Bool) → (sapi == 0) ≡ call → (sapi == 16) ≡ packet → cond call (Some Call) (cond packet (Some Packet) None) ≡ Some service → sapi ≡ sapi_of service
-    go true packet is other e = let same : Call ≡ service = cc in eqb-true sapi 0 is ∙ ap sapi_of same
-    go false true other is e = let same : Packet ≡ service = cc in eqb-true sapi 16 is ∙ ap sapi_of same
-    go false false other another e = absurd (none-some service e)
+sapi-is sapi service e = grind (arith, eqb-true, none-some)
 
 -- A frame for a link is an event of this link.
 pub addressed-is : (l : Line) (address : Address) (service : Service) (tei place : ℕ) (what : link.Received) (m : Aim)
     → address.sapi ≡ sapi_of service → address.tei ≡ tei → place_in l tei ≡ Some place
     → addressed l address what m ≡ at_link service tei place (link.received what)
-addressed-is l address service tei place what m sapi tei-is on =
-    ap (λ n. cond (n == management_sapi) (cond (address.tei == group_tei) m (drop_for Tei)) (to_service l address.tei what (service_of n))) sapi
-    ∙ by-service service
-    ∙ ap (λ n. at_place service n what (place_in l n)) tei-is ∙ ap (at_place service tei what) on
-  where
-    by-service : (s : Service) → cond (sapi_of s == management_sapi) (cond (address.tei == group_tei) m (drop_for Tei)) (to_service l address.tei what (service_of (sapi_of s)))
-        ≡ at_place s address.tei what (place_in l address.tei)
-    by-service Call = refl
-    by-service Packet = refl
+addressed-is l address service tei place what m sapi tei-is on = grind arith
 
 -- what is heard that is aimed at a link comes to
 pub by-aim : (c : Config) (l : Line) (e : stream.Event) (service : Service) (tei place : ℕ) (what : link.Received)
     → aim_of_heard c l e ≡ at_link service tei place (link.received what)
     → IsOneEvent c l (after c (hears e) l) (answer c (hears e) l) service tei place (link.received what)
 unfolding after answer
-by-aim c l e service tei place what aim = record {
-  line = ap (λ a. (of_aim c a l).line) aim;
-  answer_is = record {
-    own = told_of_link (links.told (terms c service tei) (link.received what) (link_in l service place));
-    is = ap (λ a. told (of_aim c a l).told) aim;
-    notes = refl;
-    contents = refl;
-    orders = refl;
-    lost = refl;
-  };
-}
+by-aim c l e service tei place what aim = grind arith
 
 -- what is aimed at none
 pub by-none : (c : Config) (l : Line) (e : stream.Event) (t : LineTold) → aim_of_heard c l e ≡ at_none t
     → OnlyTells t l (after c (hears e) l) (answer c (hears e) l)
 unfolding after answer
-by-none c l e t aim = record {
-  line = ap (λ a. (of_aim c a l).line) aim;
-  answer_is = ap (λ a. told (of_aim c a l).told) aim;
-}
+by-none c l e t aim = grind arith
 
 -- as a frame is that the grammar reads, for this link
 pub read-aim : (c : Config) (l : Line) (service : Service) (tei place : ℕ) (parts : Parts) (octets : List ℕ) → reading (heard_side c) octets ≡ Ok parts
     → IsTo l service tei place parts.address → aim_of_heard c l (stream.frame octets) ≡ at_link service tei place (link.received (link.frame parts))
-read-aim c l service tei place parts octets read f =
-    ap (aim_of_reading c l) read
-    ∙ ap (at_side c parts) (addressed-is l parts.address service tei place (link.frame parts) (message_of parts.control parts.info) f.sapi f.tei_is f.on_line)
+read-aim c l service tei place parts octets read f = grind (arith, addressed-is)
 
 pub read-event : (c : Config) (l : Line) (service : Service) (tei place : ℕ) (parts : Parts) (octets : List ℕ) → reading (heard_side c) octets ≡ Ok parts
     → IsTo l service tei place parts.address
@@ -75,8 +43,7 @@ read-event c l service tei place parts octets read f =
 -- as one is that is spelled for it
 pub spelled-for : (c : Config) (l : Line) (service : Service) (tei place : ℕ) (parts : Parts) (octets : List ℕ) → IsFor c l service tei place parts octets
     → (reading (heard_side c) octets ≡ Ok parts) × IsTo l service tei place parts.address
-spelled-for c l service tei place parts octets f =
-    (reading-again (heard_side c) parts octets f.spelled, record { sapi = f.sapi; tei_is = f.tei_is; on_line = f.on_line })
+spelled-for c l service tei place parts octets f = grind (arith, reading-again)
 
 pub frame-aim : (c : Config) (l : Line) (service : Service) (tei place : ℕ) (parts : Parts) (octets : List ℕ) → IsFor c l service tei place parts octets
     → aim_of_heard c l (stream.frame octets) ≡ at_link service tei place (link.received (link.frame parts))
@@ -97,9 +64,7 @@ malformed-event c l service tei place address octets what f is =
     (by-fault what is ∙ addressed-is l address service tei place what (drop_for Unserved) f.sapi f.tei_is f.on_line)
   where
     by-fault : (what : link.Received) → IsMalformed c address octets what → aim_of_reading c l (reading (heard_side c) octets) ≡ addressed l address what (drop_for Unserved)
-    by-fault link.overlong is = absurd is
-    by-fault (link.frame parts) is = absurd is
-    by-fault other is = ap (aim_of_reading c l) is
+    by-fault what is = grind arith
 
 -- A frame that was too long to keep.
 pub overlong-event : (c : Config) (l : Line) (service : Service) (tei place : ℕ) (address : Address) (head : List ℕ) (what : link.Received)
@@ -110,8 +75,7 @@ overlong-event c l service tei place address head what f is =
     (by-head what is ∙ addressed-is l address service tei place what (drop_for Unserved) f.sapi f.tei_is f.on_line)
   where
     by-head : (what : link.Received) → IsTooLong c address head what → aim_of_long l (long_reading (heard_side c) head) ≡ addressed l address what (drop_for Unserved)
-    by-head (link.frame parts) is = absurd is
-    by-head other is = ap (aim_of_long l) is
+    by-head what is = grind arith
 
 -- What was dropped in place of a frame.
 pub dropped-stretch : (c : Config) (l : Line) (cause : Cause)

@@ -1,5 +1,5 @@
 -- Where a link stands in the round: each frame that is taken brings its turn nearer.
-use Rattle.laws_line.proofs.Vocabulary.{◌≡◌, ℕ, ◌+◌, ◌-◌, ◌<◌, ◌≤◌, Bool, true, false, cond, List, ◌∷◌, ◌++◌, length, take, drop, get_or, refl, sym, ap, subst, ◌∙◌, ◌⊎◌, inl, inr, ⊎_elim, arith, length-append, nat_le, range_with_len, leb-true, leb-false, cases_lt, get_or_append_left, get_or-drop, get_or-take, length-take-le, All-get_or, get_or-range_with_len, length-range_with_len, get_or-append_seam, get_or-append_right, round_from, All, length-drop, way_round}
+use Rattle.laws_line.proofs.Vocabulary.{◌≡◌, ℕ, ◌+◌, ◌-◌, ◌<◌, ◌≤◌, List, ◌∷◌, ◌++◌, length, drop, get_or, sym, ap, subst, ◌∙◌, ◌⊎◌, inl, inr, ⊎_elim, arith, length-append, nat_le, range_with_len, leb-true, leb-false, cases_lt, get_or_append_left, get_or-drop, get_or-take, length-take-le, All-get_or, get_or-range_with_len, length-range_with_len, get_or-append_seam, get_or-append_right, round_from, All, length-drop, way_round}
 
 -- the numbers of a round that begins at turn
 abbrev IsAtPlace : ℕ → ℕ → ℕ → ℕ → Type 0
@@ -19,69 +19,29 @@ module _ (count turn : ℕ) (low : turn ≤ count) where
   dropped = length-drop turn numbers ∙ ap (λ n. n - turn) size
 
   whole : length ns ≡ count
-  whole =
-      let sum = length-append (drop turn numbers) (take turn numbers) in
-      let first = dropped in
-      let second = length-take-le turn numbers (let n = size in omega (arith, n, low)) in
-      omega (arith, sum, first, second, low)
+  whole = grind (arith, length-append, dropped, length-take-le, size)
 
   -- by places
   in-first : (i : ℕ) → turn + i < count → get_or ns i 0 ≡ turn + i
-  in-first i less =
-      let n = dropped in
-      get_or_append_left (drop turn numbers) (take turn numbers) 0 i (omega (arith, n, less)) ∙ get_or-drop turn numbers i 0
-      ∙ get_or-range_with_len 0 count (turn + i) 0 less ∙ omega arith
+  in-first i less = grind (arith, dropped, get_or_append_left, get_or-drop, get_or-range_with_len)
 
   in-second : (i : ℕ) → count ≤ turn + i → i < count → get_or ns i 0 + count ≡ turn + i
-  in-second i more few =
-      let n = dropped in
-      let there : get_or ns i 0 ≡ get_or (take turn numbers) (i - length (drop turn numbers)) 0 = get_or-append_right (drop turn numbers) (take turn numbers) i 0 (omega (arith, n, more)) in
-      let at : ℕ = i - length (drop turn numbers) in
-      let small : at < turn = omega (arith, n, more, few, low) in
-      let taken : get_or (take turn numbers) at 0 ≡ get_or numbers at 0 = get_or-take turn numbers at 0 small in
-      let is : get_or numbers at 0 ≡ 0 + at = get_or-range_with_len 0 count at 0 (omega (arith, small, low)) in
-      omega (arith, n, there, taken, is, more, low)
+  in-second i more few = grind (arith, dropped, get_or-append_right, get_or-take, get_or-range_with_len)
 
   at-place : (i : ℕ) → i < count → IsAtPlace count turn i (get_or ns i 0)
   at-place i few = ⊎_elim (λ less. inl (less, in-first i less)) (λ more. inr (omega (arith, more), in-second i (omega (arith, more)) few)) (cases_lt (turn + i) count)
 
   -- the place of a number
   place-is : (number : ℕ) → number < count → get_or ns (way_round count turn number) 0 ≡ number
-  place-is number few = go (nat_le turn number) refl
-    where
-      go : (b : Bool) → nat_le turn number ≡ b → get_or ns (cond b (number - turn) (count - turn + number)) 0 ≡ number
-      go true e =
-          let le : turn ≤ number = leb-true turn number e in
-          in-first (number - turn) (omega (arith, le, few)) ∙ omega (arith, le)
-      go false e =
-          let gt : number < turn = leb-false turn number e in
-          let there = in-second (count - turn + number) (omega (arith, low)) (omega (arith, low, gt)) in
-          omega (arith, there, low)
+  place-is number few = grind (arith, nat_le, leb-true, in-first, leb-false, in-second)
 
   -- the turn of the link behind one that comes before it
   nearer : (number other j : ℕ) → number < count → IsAtPlace count turn j other → j < way_round count turn number → way_round count (other + 1) number + 1 ≤ way_round count turn number
-  nearer number other j few at less = go (nat_le turn number) refl (nat_le (other + 1) number) refl at less
-    where
-      go : (b : Bool) → nat_le turn number ≡ b → (b' : Bool) → nat_le (other + 1) number ≡ b' → IsAtPlace count turn j other
-          → j < cond b (number - turn) (count - turn + number)
-          → cond b' (number - (other + 1)) (count - (other + 1) + number) + 1 ≤ cond b (number - turn) (count - turn + number)
-      go true e true e' (inl at) less = let le = leb-true turn number e in omega (arith, le, at.0, at.1, less)
-      go true e false e' (inl at) less = let le = leb-true turn number e in let gt : number < other + 1 = leb-false (other + 1) number e' in omega (arith, le, gt, at.0, at.1, less)
-      go true e b e' (inr at) less = let le = leb-true turn number e in omega (arith, le, at.0, at.1, less, few)
-      go false e true e' (inl at) less =
-          let gt : number < turn = leb-false turn number e in let le : other + 1 ≤ number = leb-true (other + 1) number e' in omega (arith, gt, le, at.0, at.1)
-      go false e true e' (inr at) less = let gt : number < turn = leb-false turn number e in omega (arith, gt, at.0, at.1, less, low)
-      go false e false e' (inl at) less = let gt : number < turn = leb-false turn number e in omega (arith, gt, at.0, at.1, less, low)
-      go false e false e' (inr at) less =
-          let gt : number < turn = leb-false turn number e in let gt' : number < other + 1 = leb-false (other + 1) number e' in omega (arith, gt, gt', at.0, at.1, less, low)
+  nearer number other j few at less = grind (arith, nat_le, leb-true, leb-false)
 
   -- a whole round is before the link that was served last
   pub served-last : (number : ℕ) → number < count → way_round count (number + 1) number + 1 ≡ count
-  served-last number few = go (nat_le (number + 1) number) refl
-    where
-      go : (b : Bool) → nat_le (number + 1) number ≡ b → cond b (number - (number + 1)) (count - (number + 1) + number) + 1 ≡ count
-      go true e = let le : number + 1 ≤ number = leb-true (number + 1) number e in absurd (omega (arith, le))
-      go false e = omega (arith, few)
+  served-last number few = grind (arith, nat_le, leb-true)
 
   -- The link that is served comes no later in the round than one that has something to give.
   pub comes-first : (P : ℕ → Type 0) (number other : ℕ) (before behind : List ℕ) → number < count → ns ≡ before ++ other ∷ behind → All P before → (P number → ⊥)

@@ -1,6 +1,5 @@
 -- The first link of a round that has something to give is the one that is served.
-use Rattle.laws_line.proofs.Vocabulary.{◌≡◌, ℕ, ◌+◌, List, [], ◌∷◌, ◌++◌, Option, Some, None, refl, ap, sym, ◌∙◌, option_or, All-nil, All-cons, Given, Config, Line, terms_at, link_at, Taken, message_taken, unit_taken, with_given_frame, link_taken, first_taken, round, All, LinksTakeTurns, option_map}
-use Rattle.model_link.specs.Machine as links
+use Rattle.laws_line.proofs.Vocabulary.{arith, ◌≡◌, ℕ, ◌+◌, List, [], ◌∷◌, ◌++◌, Option, Some, None, refl, ap, option_or, All-nil, All-cons, Config, Line, Taken, message_taken, unit_taken, link_taken, first_taken, round, All, LinksTakeTurns, option_map}
 
 module _ (c : Config) (l : Line) where
   record First (ns : List ℕ) (t : Taken) : Type 0 where
@@ -36,22 +35,13 @@ module _ (c : Config) (l : Line) where
   first (n ∷ ns) t e = go (link_taken c l n) refl (λ x. first ns t x) e
     where
       go : (o : Option Taken) → link_taken c l n ≡ o → (first_taken c l ns ≡ Some t → First ns t) → option_or o (first_taken c l ns) ≡ Some t → First (n ∷ ns) t
-      go None is rest e = later n ns t is (rest e)
-      go (Some u) is rest e = at-once n ns t (is ∙ e)
+      go o is rest e = grind (arith, later, at-once)
 
   turned : (number : ℕ) (t : Taken) → link_taken c l number ≡ Some t → t.line.turn ≡ number + 1
-  turned number t e = go (links.given (terms_at c number l) (link_at number l)) e
-    where
-      go : (o : Option Given) → option_map (with_given_frame c l number (terms_at c number l)) o ≡ Some t → t.line.turn ≡ number + 1
-      go None e = cc
-      go (Some g) e =
-          let same : with_given_frame c l number (terms_at c number l) g ≡ t = cc in
-          sym (ap (λ u. u.line.turn) same)
+  turned number t e = grind (arith, option_map)
 
   takes : (message unit links : Option Taken) (t : Taken) → message ≡ None → unit ≡ None → option_or message (option_or unit links) ≡ Some t → links ≡ Some t
-  takes None None links t m u e = e
-  takes None (Some x) links t m u e = cc
-  takes (Some x) unit links t m u e = cc
+  takes message unit links t m u e = grind arith
 
 pub links_take_turns : LinksTakeTurns
 links_take_turns c l t message unit e =

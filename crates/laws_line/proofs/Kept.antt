@@ -1,31 +1,11 @@
 -- What an event makes of the contents of a link of a line.
-use Rattle.laws_line.proofs.Vocabulary.{⊎_elim, length-set, ◌≡◌, ◌≢◌, ℕ, ◌+◌, ◌*◌, ◌<◌, zero, suc, Bool, true, false, cond, ◌==◌, List, [], ◌∷◌, length, get_or, set, Option, Some, None, refl, ap, sym, ◌∙◌, subst, arith, eq-eqb, true≢false, IfSome, option_map_or, get_or-set_same, get_or-set_other, Service, Call, Packet, Link, Terms, Share, share, Comes, event-done, same-comes, restarted, offer-leaves, Moves, Management, IsAt, Places, Change, Gained, Left, Config, hears, request, next, LineTold, is_change_at, Aim, at_link, at_management, told_of_management, of_change, of_aim, Line, link_number, service_at, place_at, link_at, link_in, terms, link_count, aim_of_heard, aim_of_expiry, Taken, taken, line_of, aim_of_request, IsInRange, IsProper, sound_in, place_at-number, taken_walk, next_walk, heard_proper, expiry_proper, request_proper, at_no_link, eqb-true, fresh, Event, expiry, after, unless_refused, refusal, IsSound, line_at_place as at_place, no_share, ending, share_aimed, share_of}
+use Rattle.laws_line.proofs.Vocabulary.{◌≡◌, ◌≢◌, ℕ, ◌<◌, zero, suc, Bool, true, false, cond, ◌==◌, List, [], ◌∷◌, length, get_or, set, Option, Some, None, refl, sym, ◌∙◌, subst, arith, eq-eqb, true≢false, IfSome, option_map_or, get_or-set_same, get_or-set_other, Service, Call, Packet, Link, Terms, Share, share, Comes, event-done, same-comes, restarted, offer-leaves, Moves, Management, IsAt, Places, Change, Gained, Left, Config, hears, request, next, LineTold, is_change_at, Aim, at_link, at_management, told_of_management, of_change, of_aim, Line, link_number, service_at, place_at, link_at, link_in, terms, link_count, aim_of_heard, aim_of_expiry, Taken, taken, line_of, aim_of_request, IsInRange, IsProper, sound_in, taken_walk, next_walk, heard_proper, expiry_proper, request_proper, at_no_link, eqb-true, fresh, Event, expiry, after, unless_refused, refusal, IsSound, no_share, ending, share_aimed, share_of}
 use Rattle.model_link.specs.Events as link
 use Rattle.model_link.specs.Machine as links
 use Rattle.lapd_tei.specs.Events as teis
 use Rattle.lapd_tei.proofs.LawLemmas as tei_lemmas
 use Rattle.laws_line.proofs.Downs.{by-down}
-
--- both links of a place begin anew
-pub begin_here : (all : List Link) (place number : ℕ) → place_at number ≡ place → 2 * place + 1 < length all
-    → get_or (set (set all (link_number place Call) fresh) (link_number place Packet) fresh) number fresh ≡ fresh
-begin_here all place number here few =
-    let one = set all (link_number place Call) fresh in
-    ⊎_elim
-    (λ call.
-    ap (λ i. get_or (set one (link_number place Packet) fresh) i fresh) call
-    ∙ get_or-set_other one (link_number place Packet) (link_number place Call) fresh fresh (λ e. omega (arith, e))
-    ∙ get_or-set_same all (link_number place Call) fresh fresh (omega (arith, few)))
-    (λ packet.
-    ap (λ i. get_or (set one (link_number place Packet) fresh) i fresh) packet
-    ∙ get_or-set_same one (link_number place Packet) fresh fresh (omega (arith, few, length-set all (link_number place Call) fresh)))
-    (at_place number place here)
-
-pub begin_away : (all : List Link) (place number : ℕ) → place_at number ≢ place
-    → get_or (set (set all (link_number place Call) fresh) (link_number place Packet) fresh) number fresh ≡ get_or all number fresh
-begin_away all place number away =
-    get_or-set_other (set all (link_number place Call) fresh) (link_number place Packet) number fresh fresh (λ e. away (ap place_at e ∙ place_at-number place Packet))
-    ∙ get_or-set_other all (link_number place Call) number fresh fresh (λ e. away (ap place_at e ∙ place_at-number place Call))
+use Rattle.model_line.proofs.LinksSound.{begin_here, begin_away}
 
 -- What a share leads to, of links.
 abbrev pub Goes : Share → Link → Link → Type 0

@@ -1,5 +1,5 @@
 -- By notes layer 3 knows which links are up: each event.
-use Rattle.laws_line.proofs.Vocabulary.{◌≡◌, ℕ, ◌==◌, ◌&&◌, Bool, true, false, cond, List, [], ◌∷◌, ◌++◌, set, get_or, Option, Some, None, refl, ap, sym, ◌∙◌, subst, arith, eq-eqb, true≢false, inl, inr, next_walk, fold, option_map_or, get_or-set_other, fold-append, none-some, Note, Refusal, Service, Call, Packet, same_service, T201, is_up, Link, offer_among, may_send_information, is_awaiting_acknowledgement, with_one_sent, ControlFrame, Terms, LinkTimer, layer_3_knows, notes-own, Moves, Management, IsAt, IsSoundTable, is_on, place_of, Change, Gained, Left, at-off, place_of-is, Config, hears, request, next, at_link, at_management, at_units, told_of_management, of_change, of_aim, at_timer, Line, link_number, service_at, place_at, place_in, link_at, link_in, terms, with_link, fresh_line, unless_refused_told, aim_of_heard, Taken, taken, line_of, with_unit, with_given_frame, Request, Establish, Release, Assign, Remove, SetBusy, ClearBusy, Deactivate, at_requested, at_deactivated, aim_of_request, IsProper, heard_aims, request_proper, Down, eqb-true, T200, T203, fresh, LinkCourse as Course, begun, Event, expiry, notes_of, after, answer, unless_refused, with_message, refusal, Data, Unit, Check, IsSound, up_by_note, taken_for_up, link_is_up, is_up_of}
+use Rattle.laws_line.proofs.Vocabulary.{◌≡◌, ℕ, ◌==◌, ◌&&◌, Bool, true, false, cond, List, [], ◌++◌, set, get_or, Option, Some, None, refl, ap, sym, ◌∙◌, subst, arith, eq-eqb, true≢false, inl, inr, next_walk, fold, option_map_or, get_or-set_other, fold-append, none-some, Note, Refusal, Service, Call, Packet, same_service, T201, is_up, Link, offer_among, ControlFrame, Terms, LinkTimer, layer_3_knows, notes-own, Moves, Management, IsAt, IsSoundTable, is_on, place_of, Change, Gained, Left, at-off, place_of-is, Config, hears, request, next, at_link, at_management, at_units, told_of_management, of_change, of_aim, at_timer, Line, link_number, service_at, place_at, place_in, link_at, link_in, terms, with_link, fresh_line, unless_refused_told, aim_of_heard, Taken, taken, line_of, with_unit, with_given_frame, Request, Establish, Release, Assign, Remove, SetBusy, ClearBusy, Deactivate, at_requested, at_deactivated, aim_of_request, IsProper, heard_aims, request_proper, Down, eqb-true, T200, T203, fresh, LinkCourse as Course, begun, Event, expiry, notes_of, after, answer, unless_refused, with_message, refusal, Data, Unit, Check, IsSound, up_by_note, taken_for_up, link_is_up, is_up_of}
 use Rattle.model_bits.specs.Stream as stream
 use Rattle.model_link.specs.Events as link
 use Rattle.model_link.specs.Machine as links
@@ -53,14 +53,7 @@ module _ (c : Config) (l : Line) (s : IsSound c l) (service : Service) (tei plac
 
 -- Notes of TEIs say nothing of links.
 tei-note : (service : Service) (tei : ℕ) (up : Bool) (e : teis.Event) (o : Option Change) (ns : List Note) → ByChange e o ns → fold (up_by_note service tei) up ns ≡ up
-tei-note service tei up e None ns is = ap (λ xs. fold (up_by_note service tei) up xs) is
-tei-note service tei up (teis.message octets) (Some (Gained by place)) ns is = ap (λ xs. fold (up_by_note service tei) up xs) is
-tei-note service tei up (teis.assign asked) (Some (Gained by place)) ns is = ap (λ xs. fold (up_by_note service tei) up xs) is.1
-tei-note service tei up other (Some (Gained by place)) ns is = absurd is
-tei-note service tei up (teis.message octets) (Some (Left by place)) ns is = ap (λ xs. fold (up_by_note service tei) up xs) is
-tei-note service tei up teis.expiry (Some (Left by place)) ns is = ap (λ xs. fold (up_by_note service tei) up xs) is
-tei-note service tei up (teis.remove asked) (Some (Left by place)) ns is = ap (λ xs. fold (up_by_note service tei) up xs) is.1
-tei-note service tei up other (Some (Left by place)) ns is = absurd is
+tei-note service tei up e o ns is = grind arith
 
 -- An event of TEI management.
 module _ (c : Config) (l : Line) (s : IsSound c l) (e : teis.Event) (fits : tei_laws.IsInRange e) where
@@ -147,13 +140,10 @@ module _ (c : Config) (l : Line) (s : IsSound c l) (e : teis.Event) (fits : tei_
 
 -- An offer notes nothing.
 either : (b : Bool) (u v : Course) → u.notes ≡ [] → v.notes ≡ [] → (cond b u v).notes ≡ []
-either true u v one other = one
-either false u v one other = other
+either b u v one other = grind arith
 
 offer-among : (t : Terms) (x : Link) (ws : List ControlFrame) → (offer_among t ws (begun x)).notes ≡ []
-offer-among t x (f ∷ fs) = refl
-offer-among t x [] =
-    either (may_send_information t x) _ _ (either (is_awaiting_acknowledgement (with_one_sent x)) _ _ refl refl) (either x.pending _ _ refl refl)
+offer-among t x ws = grind (arith, either)
 
 offer-notes : (t : Terms) (x : Link) → (links.told t link.offer x).notes ≡ []
 offer-notes t x = offer-among t x x.waiting
@@ -229,8 +219,7 @@ known-up c (request r) l service tei s = go (refusal c false r l) (request_prope
     go : (o : Option Refusal) → IsProper c l (unless_refused o (aim_of_request r l))
         → fold (up_by_note service tei) (is_up_of service tei l) (notes_of (unless_refused_told o (of_aim c (unless_refused o (aim_of_request r l)) l)))
         ≡ is_up_of service tei (of_aim c (unless_refused o (aim_of_request r l)) l).line
-    go None proper = request-up c l s r proper service tei
-    go (Some why) proper = refl
+    go o proper = grind (arith, request-up)
 known-up c next l service tei s = next-up c l s service tei
 
 pub begins-down : (c : Config) (service : Service) (tei : ℕ) → is_up_of service tei (fresh_line c) ≡ false

@@ -1,5 +1,5 @@
 -- By notes and granted requests management knows which TEIs are on the line: each event.
-use Rattle.laws_line.proofs.Vocabulary.{◌≡◌, ℕ, ◌==◌, Bool, true, false, cond, not, is_some, nat_lt, List, ◌++◌, set, get_or, replicate, Option, Some, None, refl, ap, sym, ◌∙◌, subst, eq-eqb, true≢false, inl, inr, next_walk, fold, option_map_or, get_or-set_same, fold-append, none-some, Note, Refusal, TeiTaken, TableFull, NoLink, ControlFull, Service, Call, Packet, T201, is_up, LinkTimer, notes-own, refusal_if, Moves, Management, IdentityRemove, join_at, put_on, take_off, is_checked, nothing_happens, no_room, send, leave, left, end_check, IsSoundTable, Places, is_on, place_of, free_place, Change, Gained, Left, is_on-at, place_of-is, Config, hears, request, next, at_link, at_management, told_of_management, of_change, of_aim, at_timer, Line, link_number, place_in, has_tei, link_in, terms, fresh_line, unless_refused_told, aim_of_heard, Taken, taken, line_of, has_management, Request, Establish, Release, Assign, Remove, SetBusy, ClearBusy, Deactivate, at_requested, at_deactivated, aim_of_request, IsProper, heard_aims, request_proper, Down, option_map, eqb-true, T200, T203, fresh, Event, expiry, after, answer, unless_refused, refusal, Data, Unit, Check, IsSound, on_by_note, on_by_request, taken_for_on}
+use Rattle.laws_line.proofs.Vocabulary.{arith, ◌≡◌, ℕ, ◌==◌, Bool, true, false, cond, not, is_some, nat_lt, List, ◌++◌, set, get_or, replicate, Option, Some, None, refl, ap, sym, ◌∙◌, subst, eq-eqb, true≢false, next_walk, fold, option_map_or, get_or-set_same, fold-append, none-some, Note, Refusal, NoLink, ControlFull, Service, Call, Packet, T201, is_up, LinkTimer, notes-own, refusal_if, Moves, Management, IdentityRemove, take_off, is_checked, nothing_happens, no_room, send, leave, left, end_check, IsSoundTable, Places, is_on, place_of, Change, Gained, Left, is_on-at, place_of-is, Config, hears, request, next, at_link, at_management, told_of_management, of_change, of_aim, at_timer, Line, link_number, place_in, has_tei, link_in, terms, fresh_line, unless_refused_told, aim_of_heard, Taken, taken, line_of, has_management, Request, Establish, Release, Assign, Remove, SetBusy, ClearBusy, Deactivate, at_requested, at_deactivated, aim_of_request, IsProper, heard_aims, request_proper, Down, option_map, eqb-true, T200, T203, fresh, Event, expiry, after, answer, unless_refused, refusal, Data, Unit, Check, IsSound, on_by_note, on_by_request, taken_for_on}
 use Rattle.model_bits.specs.Stream as stream
 use Rattle.model_link.specs.Events as link
 use Rattle.model_link.specs.Machine as links
@@ -15,6 +15,7 @@ use Rattle.laws_line.proofs.Readings as read
 use Rattle.laws_line.proofs.TeiNotes.{ByChange, GainedBy, LeftBy, noted}
 use Rattle.laws_line.proofs.TimersFollow.{nowhere}
 use Rattle.laws_line.proofs.Downs.{by-down}
+use Rattle.model_line.proofs.ProperAims.{skipped}
 
 -- A TEI is on the line where it has a place.
 on-placed : (tei : ℕ) (places : Places) → is_on tei places ≡ is_some (place_of tei places)
@@ -31,56 +32,34 @@ asked-on tei on (teis.remove asked) = cond (asked == tei) false on
 asked-on tei on other = on
 
 comes-on : (tei by : ℕ) (e : teis.Event) (ns : List Note) → GainedBy e by ns → (on : Bool) → fold (on_by_note tei) (asked-on tei on e) ns ≡ cond (by == tei) true on
-comes-on tei by (teis.message octets) ns is on = ap (λ xs. fold (on_by_note tei) on xs) is
-comes-on tei by (teis.assign asked) ns is on = ap (λ xs. fold (on_by_note tei) (cond (asked == tei) true on) xs) is.1 ∙ ap (λ n. cond (n == tei) true on) is.0
-comes-on tei by other ns is on = absurd is
+comes-on tei by e ns is on = grind arith
 
 leaves-on : (tei by : ℕ) (e : teis.Event) (ns : List Note) → LeftBy e by ns → (on : Bool) → fold (on_by_note tei) (asked-on tei on e) ns ≡ cond (by == tei) false on
-leaves-on tei by (teis.message octets) ns is on = ap (λ xs. fold (on_by_note tei) on xs) is
-leaves-on tei by teis.expiry ns is on = ap (λ xs. fold (on_by_note tei) on xs) is
-leaves-on tei by (teis.remove asked) ns is on = ap (λ xs. fold (on_by_note tei) (cond (asked == tei) false on) xs) is.1 ∙ ap (λ n. cond (n == tei) false on) is.0
-leaves-on tei by other ns is on = absurd is
+leaves-on tei by e ns is on = grind arith
 
 -- An assignment and a removal that are granted change the table.
-not-refused : (b : Bool) (why : Refusal) (o : Option Refusal) → cond b (Some why) o ≡ None → (b ≡ false) × (o ≡ None)
-not-refused true why o e = absurd (none-some why (sym e))
-not-refused false why o e = (refl, e)
-
 not-not : (b : Bool) → not b ≡ false → b ≡ true
-not-not true e = refl
-not-not false e = absurd (true≢false e)
-
-joined-some : (tei : ℕ) (m : Management) (o : Option ℕ) → is_some o ≡ true → (join_at tei o (words.begun m)).told.change ≡ None → ⊥
-joined-some tei m None some e = true≢false (sym some)
-joined-some tei m (Some place) some e = none-some _ (sym e)
+not-not b e = grind arith
 
 left-some : (tei : ℕ) (o : Option ℕ) → is_some o ≡ true → option_map (left tei) o ≡ None → ⊥
-left-some tei None some e = true≢false (sym some)
-left-some tei (Some place) some e = none-some _ (sym e)
+left-some tei o some e = grind (arith, none-some)
 
 left-by : (tei : ℕ) (m : Management) (b : Bool) → (leave tei ((cond b end_check nothing_happens) (send (IdentityRemove tei) (words.begun m)))).told.change ≡ None
     → option_map (left tei) (place_of tei m.places) ≡ None
-left-by tei m true e = e
-left-by tei m false e = e
+left-by tei m b e = grind arith
 
 module _ (c : Config) (l : Line) where
   assigned : (tei : ℕ) → refusal c false (Assign tei) l ≡ None → (teis.told (teis.assign tei) l.management).change ≡ None → ⊥
   unfolding teis.course teis.refusal
-  assigned tei granted e =
-      let bad = not-refused (nat_lt 126 tei) _ _ granted in
-      let taken = not-refused (has_tei tei l) _ _ bad.1 in
-      let full = not-refused (not (is_some (free_place l.management.places))) _ _ taken.1 in
-      joined-some tei l.management (free_place l.management.places) (not-not (is_some (free_place l.management.places)) full.0)
-      (subst (λ o. (teis.unless_refused o (put_on tei) l.management).told.change ≡ None)
-      (ap (λ b. refusal_if b TeiTaken (refusal_if (not (is_some (free_place l.management.places))) TableFull None)) taken.0 ∙ ap (λ b. refusal_if b TableFull None) full.0) e)
+  assigned tei granted e = grind (arith, skipped, nat_lt, is_some, none-some, not-not)
 
   removed : (tei : ℕ) → refusal c false (Remove tei) l ≡ None → (teis.told (teis.remove tei) l.management).change ≡ None → ⊥
   unfolding teis.course teis.refusal
   removed tei granted e =
-      let ours = not-refused (not (has_management c.side)) _ _ granted in
-      let bad = not-refused (nat_lt 126 tei) _ _ ours.1 in
-      let unknown = not-refused (not (has_tei tei l)) _ _ bad.1 in
-      let full = not-refused (no_room l.management.waiting) _ _ unknown.1 in
+      let ours = skipped (not (has_management c.side)) _ _ granted in
+      let bad = skipped (nat_lt 126 tei) _ _ ours.1 in
+      let unknown = skipped (not (has_tei tei l)) _ _ bad.1 in
+      let full = skipped (no_room l.management.waiting) _ _ unknown.1 in
       left-some tei (place_of tei l.management.places) (sym (on-placed tei l.management.places) ∙ not-not (has_tei tei l) unknown.0)
       (left-by tei l.management (is_checked tei l.management.check)
       (subst (λ o. (teis.unless_refused o (take_off tei) l.management).told.change ≡ None)
@@ -138,8 +117,7 @@ module _ (c : Config) (l : Line) (s : IsSound c l) (e : teis.Event) (fits : tei_
 
   pub management-knows : ((teis.told e l.management).change ≡ None → asked-on tei (has_tei tei l) e ≡ has_tei tei l)
       → Knows l (λ on. asked-on tei on e) tei (of_aim c (at_management e) l).told.notes (of_aim c (at_management e) l).line
-  management-knows plain =
-      by-change (teis.told e l.management).change plain (tei_lemmas.changes_are_told e l.management fits s.management) (noted e l.management s.management)
+  management-knows plain = grind (arith, by-change, tei_lemmas.changes_are_told, noted)
 
 -- Each event.
 module _ (c : Config) (l : Line) (s : IsSound c l) (tei : ℕ) where
@@ -153,16 +131,13 @@ module _ (c : Config) (l : Line) (s : IsSound c l) (tei : ℕ) where
       (λ service by place what at. link-knows service by place (link.received what)) (λ info. management-knows c l s (teis.message info) tt tei (λ none. refl)) (λ parts service to. refl)
 
   timer-knows : (service : Service) (by : ℕ) (k : LinkTimer) (o : Option ℕ) → Knows l (λ on. on) tei (of_aim c (at_timer service by k o) l).told.notes (of_aim c (at_timer service by k o) l).line
-  timer-knows service by k None = refl
-  timer-knows service by k (Some place) = link-knows service by place (link.expired k)
+  timer-knows service by k o = grind (arith, link-knows)
 
   asked-knows : (service : Service) (by : ℕ) (what : link.Request) (o : Option ℕ) → Knows l (λ on. on) tei (of_aim c (at_requested service by what o) l).told.notes (of_aim c (at_requested service by what o) l).line
-  asked-knows service by what None = refl
-  asked-knows service by what (Some place) = link-knows service by place (link.requested what false)
+  asked-knows service by what o = grind (arith, link-knows)
 
   deactivated-knows : (service : Service) (by : ℕ) (o : Option ℕ) → Knows l (λ on. on) tei (of_aim c (at_deactivated service by o) l).told.notes (of_aim c (at_deactivated service by o) l).line
-  deactivated-knows service by None = refl
-  deactivated-knows service by (Some place) = link-knows service by place link.cleared
+  deactivated-knows service by o = grind (arith, link-knows)
 
   request-knows : (r : Request) → refusal c false r l ≡ None → IsProper c l (aim_of_request r l)
       → Knows l (λ on. on_by_request tei on r) tei (of_aim c (aim_of_request r l) l).told.notes (of_aim c (aim_of_request r l) l).line
@@ -179,9 +154,7 @@ module _ (c : Config) (l : Line) (s : IsSound c l) (tei : ℕ) where
   request-knows Down granted proper = by-down c l (λ f. Knows l (λ on. on) tei f.told.notes f.line) refl
 
   took-on : (t : Taken) → IsOne c l t → has_tei tei l ≡ has_tei tei t.line
-  took-on t (inl x) = ap (λ (u : Taken). has_tei tei u.line) (sym x.1)
-  took-on t (inr (inl x)) = ap (λ (u : Taken). has_tei tei u.line) (sym x.1)
-  took-on t (inr (inr x)) = ap (λ (u : Taken). has_tei tei u.line) (sym x.is)
+  took-on t o = grind arith
 
   next-on : has_tei tei l ≡ has_tei tei (option_map_or line_of (taken c l) l)
   next-on = next_walk c l (IsOne c l) (λ o m. has_tei tei l ≡ has_tei tei m) (taken-one c l s) refl took-on
@@ -197,8 +170,7 @@ known-on c (request r) l tei s = go (refusal c false r l) refl (request_proper c
     go : (o : Option Refusal) → refusal c false r l ≡ o → IsProper c l (unless_refused o (aim_of_request r l))
         → taken_for_on tei (has_tei tei l) (request r) (unless_refused_told o (of_aim c (unless_refused o (aim_of_request r l)) l))
         ≡ has_tei tei (of_aim c (unless_refused o (aim_of_request r l)) l).line
-    go None granted proper = request-knows c l s tei r granted proper
-    go (Some why) granted proper = refl
+    go o granted proper = grind (arith, request-knows)
 known-on c next l tei s = next-on c l s tei
 
 pub begins-off : (c : Config) (tei : ℕ) → has_tei tei (fresh_line c) ≡ false

@@ -1,9 +1,8 @@
 -- What waits on a link stays in its order, until it is taken.
-use Rattle.laws_line.proofs.Vocabulary.{◌≡◌, ℕ, zero, suc, ◌<◌, List, [], ◌∷◌, ◌++◌, slice_get, get_or, Option, Some, None, refl, sym, ap, subst, ◌∙◌, ◌⊎◌, inl, inr, ⊎_elim, arith, ◌≤◌, IfSome, option_or, unwrap_or, cases_eq, get_or-set_same, get_or-set_other, spelling, ControlFrame, Terms, Link, Given, Goes, GoesWhole, after_offers, in-turn, Config, next, Line, UnitData, link_count, service_at, place_at, tei_at, terms, terms_at, link_at, Taken, message_taken, with_unit, unit_taken, with_given_frame, link_taken, first_taken, round, taken, IsInRange, after_sound, next_walk, option_map, fresh, link_frame_of as frame_of, begun as course_begun, after, with_message, IsSound, HasNothing, after_takes, frames_to_go, control_text, IsTakenWithin}
+use Rattle.laws_line.proofs.Vocabulary.{◌≡◌, ℕ, zero, suc, ◌<◌, List, [], ◌∷◌, ◌++◌, slice_get, get_or, Option, Some, None, refl, sym, ap, subst, ◌∙◌, ◌⊎◌, inl, inr, ⊎_elim, arith, ◌≤◌, IfSome, option_or, unwrap_or, cases_eq, get_or-set_same, get_or-set_other, spelling, ControlFrame, Terms, Link, Given, Goes, GoesWhole, after_offers, in-turn, Config, next, Line, UnitData, link_count, service_at, place_at, tei_at, terms, terms_at, link_at, Taken, with_unit, with_given_frame, link_taken, first_taken, taken, IsInRange, after_sound, next_walk, option_map, link_frame_of as frame_of, begun as course_begun, after, with_message, IsSound, HasNothing, after_takes, frames_to_go, control_text, IsTakenWithin}
 use Rattle.model_link.specs.Events as link
 use Rattle.model_link.specs.Machine as links
 use Rattle.model_link.specs.Offers
-use Rattle.lapd_tei.specs.Messages as messages
 use Rattle.model_line.specs.Taken as taking
 use Rattle.laws_line.proofs.Draining.{drains}
 
@@ -16,9 +15,7 @@ pub others-wait : (t : Terms) (l : Link) (f : ControlFrame) (fs : List ControlFr
 others-wait t l f fs e = ap (λ ws. (Offers.offer_among t ws (course_begun l)).link.waiting) e
 
 whole-text : (c : Config) (t : Terms) (f : ControlFrame) (g : Given) → Goes f g → taking.frame_of c t g ≡ spelling c.side (frame_of t f)
-whole-text c t f g h =
-    ap (λ (x : ControlFrame). spelling c.side (record (frame_of t x) { info = unwrap_or g.contents [] })) h.frame
-    ∙ ap (λ o. spelling c.side (record (frame_of t f) { info = unwrap_or o [] })) h.alone
+whole-text c t f g h = grind arith
 
 -- What becomes of a link where something is taken: it stays, or it gave what is taken.
 pub record Gave (c : Config) (number : ℕ) (l : Line) (t : Taken) : Type 0 where
@@ -33,47 +30,26 @@ pub record Moved (c : Config) (number : ℕ) (l : Line) (t : Taken) : Type 0 whe
 
 module _ (c : Config) (number : ℕ) (l : Line) (s : IsSound c l) (few : number < link_count c) where
   by-message : (o : Option (List ℕ)) → IfSome (option_map (with_message l) o) (Moved c number l)
-  by-message None = tt
-  by-message (Some m) = record { places = refl; fate = inl refl }
+  by-message o = grind arith
 
   by-unit : (o : Option UnitData) → IfSome (option_map (with_unit c l) o) (Moved c number l)
-  by-unit None = tt
-  by-unit (Some u) = record { places = refl; fate = inl refl }
+  by-unit o = grind arith
 
   gave : (n : ℕ) (g : Given) → links.given (terms_at c n l) (link_at n l) ≡ Some g → Moved c number l (with_given_frame c l n (terms_at c n l) g)
-  gave n g e =
-      ⊎_elim
-      (λ same.
-      let e' : links.given (terms_at c number l) (link_at number l) ≡ Some g = subst (λ n. links.given (terms_at c n l) (link_at n l) ≡ Some g) (sym same) e in
-      subst (λ n. Moved c number l (with_given_frame c l n (terms_at c n l) g)) same
-      (record {
-        places = refl;
-        fate = inr (record {
-          given = g;
-          is = e';
-          frame = refl;
-          link = get_or-set_same l.links number (links.after (terms_at c number l) link.offer (link_at number l)) fresh (omega (arith, few, s.count));
-        });
-      }))
-      (λ apart. record { places = refl; fate = inl (get_or-set_other l.links n number (links.after (terms_at c n l) link.offer (link_at n l)) fresh apart) })
-      (cases_eq number n)
+  gave n g e = grind (arith, get_or-set_same, get_or-set_other, cases_eq)
 
   by-link : (n : ℕ) (o : Option Given) → links.given (terms_at c n l) (link_at n l) ≡ o → IfSome (option_map (with_given_frame c l n (terms_at c n l)) o) (Moved c number l)
-  by-link n None e = tt
-  by-link n (Some g) e = gave n g e
+  by-link n o e = grind (arith, gave)
 
   either : (o o' : Option Taken) → IfSome o (Moved c number l) → IfSome o' (Moved c number l) → IfSome (option_or o o') (Moved c number l)
-  either None o' x y = y
-  either (Some t) o' x y = x
+  either o o' x y = grind arith
 
   by-round : (ns : List ℕ) → IfSome (first_taken c l ns) (Moved c number l)
   by-round [] = tt
   by-round (n ∷ ns) = either (link_taken c l n) (first_taken c l ns) (by-link n (links.given (terms_at c n l) (link_at n l)) refl) (by-round ns)
 
   pub taken-moved : IfSome (taken c l) (Moved c number l)
-  taken-moved =
-      either (message_taken c l) (option_or (unit_taken c l) (first_taken c l (round c l))) (by-message (option_map (messages.frame_of c.side) (slice_get l.management.waiting 0)))
-      (either (unit_taken c l) (first_taken c l (round c l)) (by-unit (slice_get l.units 0)) (by-round (round c l)))
+  taken-moved = grind (arith, either, by-message, option_map, slice_get, by-unit, by-round)
 
 -- A call for the next frame leaves a link as it is, or takes what it gave.
 pub record Moves (c : Config) (number : ℕ) (l : Line) (o : Option Taken) (l' : Line) : Type 0 where

@@ -1,5 +1,5 @@
 -- What holds of a link that begins, and is kept by each event of a link, holds of all links of a line.
-use Rattle.laws_line.proofs.Vocabulary.{◌≡◌, ℕ, zero, suc, ◌<◌, false, List, [], ◌∷◌, get_or, set, Option, Some, None, refl, ap, sym, ◌∙◌, subst, ◌⊎◌, inl, inr, IfSome, option_map_or, option_or, unwrap_or, All-head, All-tail, Call, Packet, Link, Given, Terms, Change, Gained, Left, Config, hears, request, next, LineTold, Aim, at_link, at_management, told_of_management, of_change, of_aim, Line, UnitData, link_number, service_at, place_at, tei_at, link_at, link_in, terms, link_count, aim_of_heard, aim_of_expiry, Taken, with_unit, with_given_frame, link_taken, first_taken, taken, line_of, aim_of_request, IsInRange, IsSoundAt, IsProper, sound_in, fresh_gives_nothing, heard_proper, expiry_proper, request_proper, taken_walk, next_walk, terms_in_range, at_no_link, option_map, frame_of, All, fresh, Event, expiry, after, unless_refused, with_message, refusal, IsSound}
+use Rattle.laws_line.proofs.Vocabulary.{arith, ◌≡◌, ℕ, zero, suc, ◌<◌, false, List, [], ◌∷◌, get_or, set, Option, Some, refl, sym, subst, ◌⊎◌, inl, inr, IfSome, option_map_or, option_or, unwrap_or, All-head, All-tail, Link, Given, Terms, Change, Config, hears, request, next, LineTold, Aim, at_link, at_management, told_of_management, of_change, of_aim, Line, UnitData, link_number, service_at, place_at, tei_at, link_at, link_in, terms, link_count, aim_of_heard, aim_of_expiry, Taken, with_unit, with_given_frame, link_taken, first_taken, taken, line_of, aim_of_request, IsInRange, IsSoundAt, IsProper, sound_in, fresh_gives_nothing, heard_proper, expiry_proper, request_proper, taken_walk, next_walk, terms_in_range, at_no_link, option_map, All, fresh, Event, expiry, after, unless_refused, with_message, refusal, IsSound}
 use Rattle.model_link.specs.Events as link
 use Rattle.model_link.specs.Machine as links
 use Rattle.model_link.specs.Sound as link_sound
@@ -19,8 +19,7 @@ abbrev pub IsOne : Config → Line → Taken → Type 0
 IsOne c l t = ((octets : List ℕ) × (t ≡ with_message l octets)) ⊎ ((unit : UnitData) × (t ≡ with_unit c l unit)) ⊎ OfLink c l t
 
 first_of : (P : Taken → Type 0) (o rest : Option Taken) → IfSome o P → IfSome rest P → IfSome (option_or o rest) P
-first_of P None rest h h' = h'
-first_of P (Some t) rest h h' = h
+first_of P o rest h h' = grind arith
 
 module _ (c : Config) (l : Line) (s : IsSound c l) where
   of-link : (n : ℕ) → n < link_count c → IfSome (link_taken c l n) (OfLink c l)
@@ -28,16 +27,11 @@ module _ (c : Config) (l : Line) (s : IsSound c l) where
     where
       gave : (tei : ℕ) → tei_at (place_at n) l ≡ Some tei → (o : Option Given) → links.given (terms c (service_at n) tei) (link_at n l) ≡ o
           → IfSome (option_map (with_given_frame c l n (terms c (service_at n) tei)) o) (OfLink c l)
-      gave tei e None given = tt
-      gave tei e (Some g) given = record { number = n; few = few; tei = tei; on_line = e; what = g; given = given; is = refl }
+      gave tei e o given = grind arith
 
       known : (o : Option ℕ) → tei_at (place_at n) l ≡ o → IsSoundAt c n (link_at n l) o
           → let t = terms c (service_at n) (unwrap_or o 0) in IfSome (option_map (with_given_frame c l n t) (links.given t (link_at n l))) (OfLink c l)
-      known None e is_fresh =
-          let t = terms c (service_at n) 0 in
-          let nothing : links.given t (link_at n l) ≡ None = ap (links.given t) is_fresh ∙ fresh_gives_nothing t in
-          subst (λ o. IfSome (option_map (with_given_frame c l n t) o) (OfLink c l)) (sym nothing) tt
-      known (Some tei) e sound = gave tei e (links.given (terms c (service_at n) tei) (link_at n l)) refl
+      known o e is_fresh = grind (arith, fresh_gives_nothing, option_map, gave)
 
   pub of-links : (ns : List ℕ) → All (λ n. n < link_count c) ns → IfSome (first_taken c l ns) (OfLink c l)
   of-links [] all = tt
@@ -46,9 +40,7 @@ module _ (c : Config) (l : Line) (s : IsSound c l) where
       (of-links ns (All-tail (λ n. n < link_count c) n ns all))
 
   pub taken-one : IfSome (taken c l) (IsOne c l)
-  taken-one =
-      taken_walk c l s (IsOne c l) (λ m ms e. inl (frame_of c.side m, refl)) (λ u us e. inr (inl (u, refl)))
-      (λ n tei few at sound g e. inr (inr (record { number = n; few = few; tei = tei; on_line = at; what = g; given = e; is = refl })))
+  taken-one = grind (arith, taken_walk)
 
 module _ (P : Link → Type 0) (begins : P fresh) (keeps : (t : Terms) (e : link.Event) (x : Link) → link_sound.IsInRange t → link_sound.IsSound t x → P x → P (links.after t e x)) where
   -- one link is another
@@ -60,14 +52,9 @@ module _ (P : Link → Type 0) (begins : P fresh) (keeps : (t : Terms) (e : link
   set_holds (y ∷ ys) (suc n) (suc number) x all h = set_holds ys n number x (λ m. all (suc m)) h
 
   -- both links of a place begin anew
-  both_hold : (all : List Link) (a b number : ℕ) → ((m : ℕ) → P (get_or all m fresh)) → P (get_or (set (set all a fresh) b fresh) number fresh)
-  both_hold all a b number h = set_holds (set all a fresh) b number fresh (λ m. set_holds all a m fresh h begins) begins
-
   module _ (c : Config) (ranged : IsInRange c) (l : Line) (s : IsSound c l) (h : (number : ℕ) → P (link_at number l)) (number : ℕ) where
     changed : (o : Option Change) (r : LineTold) (now : Line) → ((m : ℕ) → P (link_at m now)) → P (link_at number (of_change c o r now).line)
-    changed None r now all = all number
-    changed (Some (Gained tei place)) r now all = both_hold now.links (link_number place Call) (link_number place Packet) number all
-    changed (Some (Left tei place)) r now all = both_hold now.links (link_number place Call) (link_number place Packet) number all
+    changed o r now all = grind (arith, set_holds)
 
     aimed : (aim : Aim) → IsProper c l aim → P (link_at number (of_aim c aim l).line)
     aimed (at_link service tei place e) proper =

@@ -1,5 +1,5 @@
 -- What TEI management makes of an event, and when it refuses none.
-use Rattle.laws_line.proofs.Vocabulary.{◌≡◌, Bool, false, Option, Some, None, refl, Refusal, Change, Gained, Left, Config, at_management, told_of_management, of_change, of_aim, Line}
+use Rattle.laws_line.proofs.Vocabulary.{arith, ◌≡◌, Bool, false, None, refl, Refusal, Config, at_management, of_aim, Line}
 use Rattle.lapd_tei.specs.Events as teis
 
 pub by-two : (a b : Bool) (x y : Refusal) → a ≡ false → b ≡ false → teis.refusal_if a x (teis.refusal_if b y None) ≡ None
@@ -9,9 +9,4 @@ pub by-three : (a b d : Bool) (x y z : Refusal) → a ≡ false → b ≡ false 
 by-three a b d x y z e e' e'' = rw (e, e', e'') refl
 
 pub managed : (c : Config) (l : Line) (e : teis.Event) → (of_aim c (at_management e) l).line.management ≡ teis.after e l.management
-managed c l e = by-change (teis.told e l.management).change
-  where
-    by-change : (o : Option Change) → (of_change c o (told_of_management (teis.told e l.management)) (record l { management = teis.after e l.management })).line.management ≡ teis.after e l.management
-    by-change None = refl
-    by-change (Some (Gained tei place)) = refl
-    by-change (Some (Left tei place)) = refl
+managed c l e = grind arith

@@ -1,5 +1,5 @@
 -- What each event does to TEI management, as the rows of the law have it.
-use Rattle.laws_line.proofs.Vocabulary.{◌≡◌, ◌⊎◌, inl, inr, ℕ, ◌+◌, ◌*◌, ◌/◌, ◌%◌, ◌≤◌, zero, suc, ◌<◌, ◌==◌, ◌&&◌, nat_le, nat_lt, Bool, true, false, not, cond, List, [], ◌∷◌, ◌++◌, length, Option, Some, None, IsSome, IfSome, is_some, refl, sym, ap, ◌∙◌, subst, arith, true≢false, filter, find, prefix_len, ltb-false, and_parts, nat_tests, All-nil, All-cons, none-some, Management, Remembered, Period, First, Second, Message, IdentityAssigned, IdentityDenied, IdentityCheckRequest, IdentityRemove, heard_in, heard_of_type, IsSoundCheck, IsSoundQueue, Places, is_free, is_on, place_of, free_place, free_tei, no_room, lost_after, freed, is_of_other, lose_one, unserved, leave, check_is, begin_check, end_check, send, remembered-on, one_is_free, free_tei-is, free_place-is, place_of-is, option_map, eqb-true, All, TeiCheck as Check, TeiIsSound as IsSound, Course, tei_begun as begun, tei_with_message as with_message, Said, asks, verifies, responds, IsSpelled, Says, Waits, FindsNoRoom, IsSent, LineIsSilent as IsSilent, KeepsTeis, Leaves, tei_for, IsAnswered, new_check, Verifies, is_answered, answered, RespondsTo, Responds, Serves, has_no_answer, IsOver, ExpiresIn, Expires, check_without, IsPutOn}
+use Rattle.laws_line.proofs.Vocabulary.{◌≡◌, ◌⊎◌, inl, inr, ℕ, ◌+◌, ◌*◌, ◌/◌, ◌%◌, ◌≤◌, ◌<◌, ◌==◌, ◌&&◌, nat_le, nat_lt, Bool, true, false, not, cond, List, [], ◌∷◌, length, Option, Some, None, IsSome, IfSome, is_some, refl, sym, ◌∙◌, subst, arith, true≢false, filter, find, prefix_len, ltb-false, and_parts, nat_tests, All-nil, All-cons, none-some, Management, Remembered, Period, Message, IdentityAssigned, IdentityDenied, IdentityCheckRequest, IdentityRemove, heard_in, heard_of_type, IsSoundCheck, IsSoundQueue, Places, is_free, is_on, place_of, free_place, free_tei, no_room, lost_after, freed, is_of_other, unserved, check_is, begin_check, end_check, send, remembered-on, one_is_free, free_tei-is, free_place-is, place_of-is, option_map, eqb-true, All, TeiCheck as Check, TeiIsSound as IsSound, Course, tei_begun as begun, tei_with_message as with_message, Said, asks, verifies, responds, IsSpelled, Says, Waits, FindsNoRoom, IsSent, LineIsSilent as IsSilent, KeepsTeis, Leaves, tei_for, IsAnswered, new_check, is_answered, RespondsTo, Responds, Serves, IsOver, ExpiresIn, Expires, check_without, IsPutOn}
 use Rattle.lapd_tei.specs.Rows as rows
 use Rattle.laws_line.proofs.Places.{is-off}
 
@@ -12,23 +12,14 @@ full waiting e = grind (arith, nat_tests)
 
 pub waits : (message : Message) (m after : Management) (lost : ℕ) → no_room m.waiting ≡ false → after.waiting ≡ with_message message m.waiting → lost ≡ lost_after m.waiting 0
     → Waits message m after lost
-waits message m after lost room queue told = record {
-  room = roomy m.waiting room;
-  behind = queue ∙ ap (λ b. cond b m.waiting (m.waiting ++ message ∷ [])) room;
-  told = told ∙ ap (λ b. cond b (0 + 1) 0) room;
-}
+waits message m after lost room queue told = grind (arith, roomy)
 
 no-room : (m after : Management) (lost : ℕ) → IsSoundQueue m.waiting → no_room m.waiting ≡ true → after.waiting ≡ m.waiting → lost ≡ 1 → FindsNoRoom m after lost
 no-room m after lost s none queue told = record { full = omega (arith, full m.waiting none, s.few); same = queue; told = told }
 
 sent : (message : Message) (m after : Management) (lost : ℕ) → IsSoundQueue m.waiting → after.waiting ≡ with_message message m.waiting → lost ≡ lost_after m.waiting 0
     → IsSent message m after lost
-sent message m after lost s queue told = go (no_room m.waiting) refl
-  where
-    go : (b : Bool) → no_room m.waiting ≡ b → IsSent message m after lost
-    go true none =
-        inr (no-room m after lost s none (queue ∙ ap (λ b. cond b m.waiting (m.waiting ++ message ∷ [])) none) (told ∙ ap (λ b. cond b (0 + 1) 0) none))
-    go false room = inl (waits message m after lost room queue told)
+sent message m after lost s queue told = grind (arith, no-room, waits)
 
 -- what is remembered for an Ri
 pub tei-for : (ri : ℕ) (rs : List Remembered) → rows.remembered_in ri rs ≡ tei_for ri rs
@@ -36,8 +27,7 @@ tei-for ri [] = refl
 tei-for ri (r ∷ rs) = go (r.ri == ri) (tei-for ri rs)
   where
     go : (b : Bool) → rows.remembered_in ri rs ≡ tei_for ri rs → option_map rows.tei_in (cond b (Some r) (find (rows.is_for ri) rs)) ≡ cond b (Some r.tei) (tei_for ri rs)
-    go true rest = refl
-    go false rest = rest
+    go b rest = grind arith
 
 -- where no place is free each has its TEI
 all-taken : (places : Places) → length places ≤ prefix_len (λ o. not (is_free o)) places → All (λ place. IsSome place) places
@@ -46,12 +36,7 @@ all-taken (None ∷ places) e = absurd (omega (arith, e))
 all-taken (Some tei ∷ places) e = All-cons (λ place. IsSome place) (Some tei) places refl (all-taken places (omega (arith, e)))
 
 none-free : (places : Places) → free_place places ≡ None → All (λ place. IsSome place) places
-none-free places = go (nat_lt (prefix_len (λ o. not (is_free o)) places) (length places)) refl
-  where
-    go : (b : Bool) → nat_lt (prefix_len (λ o. not (is_free o)) places) (length places) ≡ b
-        → cond b (Some (prefix_len (λ o. not (is_free o)) places)) None ≡ None → All (λ place. IsSome place) places
-    go true e h = absurd (none-some _ (sym h))
-    go false e h = all-taken places (ltb-false _ _ e)
+none-free places = grind (arith, nat_lt, none-some, all-taken, ltb-false)
 
 -- An identity request.
 module _ (ri : ℕ) (m : Management) (s : IsSound m) (few : length m.places < 63) where
@@ -59,17 +44,7 @@ module _ (ri : ℕ) (m : Management) (s : IsSound m) (few : length m.places < 63
   Answers c = IsAnswered ri m c.now c.told.lost
 
   denies : (c : Course) → no_room m.waiting ≡ false → tei_for ri m.remembered ≡ None → free_place m.places ≡ None → c ≡ send (IdentityDenied ri) (begun m) → Answers c
-  denies c room unknown none is =
-      subst Answers (sym is) (record {
-        message = IdentityDenied ri;
-        waits = waits (IdentityDenied ri) m _ _ room refl refl;
-        is = inr (inr (record {
-          unknown = unknown;
-          full = none-free m.places none;
-          message_is = refl;
-          stays = record { places = refl; remembered = refl; check_is = refl };
-        }));
-      })
+  denies c room unknown none is = grind (arith, waits, full, none-free)
 
   assigns-new : no_room m.waiting ≡ false → tei_for ri m.remembered ≡ None → (place tei : Option ℕ) → free_place m.places ≡ place → free_tei m.places ≡ tei
       → Answers (rows.assign_new ri place tei (begun m))
@@ -77,8 +52,7 @@ module _ (ri : ℕ) (m : Management) (s : IsSound m) (few : length m.places < 63
   assigns-new room unknown (Some place) None at free = absurd (none-is-some (free_tei m.places) free (one_is_free m.places 64 63 few))
     where
       none-is-some : (o : Option ℕ) → o ≡ None → IsSome o → ⊥
-      none-is-some None e h = true≢false (sym h)
-      none-is-some (Some tei) e h = none-some tei (sym e)
+      none-is-some o e h = grind (arith, none-some)
   assigns-new room unknown (Some place) (Some tei) at free =
       let there = free_place-is m.places place at in
       record {
@@ -110,25 +84,14 @@ module _ (ri : ℕ) (m : Management) (s : IsSound m) (few : length m.places < 63
   }
 
   requests : let c = rows.request ri (begun m) in Serves (asks ri) m c.now c.told.lost
-  requests = go (no_room m.waiting) refl
-    where
-      go : (b : Bool) → no_room m.waiting ≡ b → let c = (cond b lose_one (rows.assign ri (rows.remembered_in ri m.remembered))) (begun m) in Serves (asks ri) m c.now c.told.lost
-      go true none = inr (record {
-        no_room = no-room m m 1 s.queue none refl refl;
-        stays = record { places = refl; remembered = refl; check_is = refl };
-      })
-      go false room = inl (assigns room (rows.remembered_in ri m.remembered) refl)
+  requests = grind (arith, no-room, assigns)
 
 -- A check begins.
 pub begins : (tei : ℕ) (m : Management) → let c = begin_check tei (begun m) in KeepsTeis (Some (new_check tei)) m c.now
 begins tei m = record { places = refl; remembered = refl; check_is = refl }
 
 verified : (tei : ℕ) (m : Management) → IsSound m → let c = rows.verify tei (begun m) in Serves (verifies tei) m c.now c.told.lost
-verified tei m s = go (rows.may_be_checked tei m)
-  where
-    go : (b : Bool) → let c = (cond b (begin_check tei) unserved) (begun m) in Verifies b tei m c.now c.told.lost
-    go true = (sent (IdentityCheckRequest tei) m _ _ s.queue refl refl, begins tei m)
-    go false = record { same = refl; told = refl }
+verified tei m s = grind (arith, sent, begins)
 
 -- A TEI on the line leaves it.
 pub gone : (tei : ℕ) (check : Option Check) (m after : Management) → is_on tei m.places ≡ true → after.places ≡ freed m.places (place_of tei m.places)
@@ -143,37 +106,11 @@ gone tei check m after on places forgotten ends = go (place_of tei m.places) ref
 
 -- An answer to a check: the second of a period ends it.
 second-is : (n : ℕ) → nat_le 2 (n + 1) ≡ nat_lt 0 n
-second-is zero = refl
-second-is (suc n) = grind (arith, nat_tests)
-
-twice-is : (check : Check) → nat_le 2 (rows.responses (rows.counted check)) ≡ is_answered check
-twice-is check = go check.period
-  where
-    go : (p : Period) → nat_le 2 (rows.responses (rows.counted (record check { period = p }))) ≡ is_answered (record check { period = p })
-    go First = second-is check.first
-    go Second = second-is check.second
-
-counted-is : (check : Check) → is_answered check ≡ false → rows.counted check ≡ answered check
-counted-is check = go check.period check.tei check.first check.second
-  where
-    one : (n : ℕ) → nat_lt 0 n ≡ false → n + 1 ≡ 1
-    one n e = let none : n ≤ 0 = ltb-false 0 n e in omega (arith, none)
-
-    go : (p : Period) (tei first second : ℕ) → let check : Check = record { tei = tei; period = p; first = first; second = second } in
-        is_answered check ≡ false → rows.counted check ≡ answered check
-    go First tei first second e = ap (λ n. record { tei = tei; period = First; first = n; second = second }) (one first e)
-    go Second tei first second e = ap (λ n. record { tei = tei; period = Second; first = first; second = n }) (one second e)
+second-is n = grind (arith, nat_tests)
 
 responds-to : (check : Check) (m : Management) → IsSound m → is_on check.tei m.places ≡ true
     → let c = rows.count check.tei (rows.counted check) (begun m) in RespondsTo true (is_answered check) check m c.now c.told.lost
-responds-to check m s on =
-    subst (λ b. let c = (cond b (rows.doubled check.tei) (check_is (Some (rows.counted check)))) (begun m) in RespondsTo true (is_answered check) check m c.now c.told.lost)
-    (sym (twice-is check)) (go (is_answered check) refl)
-  where
-    go : (b : Bool) → is_answered check ≡ b
-        → let c = (cond b (rows.doubled check.tei) (check_is (Some (rows.counted check)))) (begun m) in RespondsTo true b check m c.now c.told.lost
-    go true e = (sent (IdentityRemove check.tei) m _ _ s.queue refl refl, gone check.tei None m _ on refl refl refl)
-    go false e = (record { same = refl; told = refl }, record { places = refl; remembered = refl; check_is = ap Some (counted-is check e) })
+responds-to check m s on = grind (arith, nat_le, second-is, sent, gone, nat_lt, ltb-false)
 
 responded : (tei : ℕ) (m : Management) → IsSound m → (o : Option Check) → IfSome o (IsSoundCheck m.places)
     → let c = rows.respond tei o (begun m) in Responds tei o m c.now c.told.lost
@@ -196,15 +133,8 @@ module _ (m : Management) where
   ai action = (omega arith, omega arith)
 
   -- a verify, and an answer, whatever its Ri
-  by-ai : (type high low action last : ℕ) → last % 2 ≡ 1 → last / 2 ≡ action → served_as (0x0F ∷ high ∷ low ∷ type ∷ last ∷ []) ≡ rows.serve (heard_of_type type (256 * high + low) action) (begun m)
-  by-ai type high low action last odd half =
-      ap (λ b. rows.serve (cond (b == 1) (heard_of_type type (256 * high + low) (last / 2)) None) (begun m)) odd
-      ∙ ap (λ n. rows.serve (heard_of_type type (256 * high + low) n) (begun m)) half
-
   as-spelled : (info : List ℕ) (type ri action : ℕ) → IsSpelled info type ri action → served_as info ≡ rows.serve (heard_of_type type ri action) (begun m)
-  as-spelled info type ri action h =
-      ap served_as h.octets ∙ by-ai type h.high h.low action (2 * action + 1) (ai action).0 (ai action).1
-      ∙ ap (λ n. rows.serve (heard_of_type type n action) (begun m)) (sym h.ri_is)
+  as-spelled info type ri action h = grind (arith, ai)
 
   pub serves : (said : Said) (info : List ℕ) → IsSound m → length m.places < 63 → Says info said → let c = served_as info in Serves said m c.now c.told.lost
   serves (asks ri) info s few h = subst (λ (c : Course). Serves (asks ri) m c.now c.told.lost) (sym (as-spelled info 1 ri 127 h)) (requests ri m s few)
@@ -218,9 +148,7 @@ module _ (m : Management) where
 
   module _ (entity high low type last : ℕ) (ours : entity ≡ 0x0F) (odd : last % 2 ≡ 1) where
     pub spelled : (kind action : ℕ) → type ≡ kind → last / 2 ≡ action → IsSpelled (entity ∷ high ∷ low ∷ type ∷ last ∷ []) kind (256 * high + low) action
-    spelled kind action is half =
-        let end : last ≡ 2 * action + 1 = omega (arith, odd, half) in
-        record { high = high; low = low; ri_is = refl; octets = λ i. ours i ∷ high ∷ low ∷ is i ∷ end i ∷ [] }
+    spelled kind action is half = grind arith
 
     by-type : (request response verify : Bool) → (type == 1 && last / 2 == 127) ≡ request → (type == 5) ≡ response → (type == 7) ≡ verify
         → Told (entity ∷ high ∷ low ∷ type ∷ last ∷ []) (rows.serve (heard_of_type type (256 * high + low) (last / 2)) (begun m))
@@ -237,64 +165,30 @@ module _ (m : Management) where
     where
       go : (b : Bool) → (entity == 0x0F && last % 2 == 1) ≡ b
           → Told (entity ∷ high ∷ low ∷ type ∷ last ∷ []) (rows.serve (cond b (heard_of_type type (256 * high + low) (last / 2)) None) (begun m))
-      go true e =
-          let both = and_parts (entity == 0x0F) (last % 2 == 1) e in
-          by-type entity high low type last (eqb-true entity 0x0F both.0) (eqb-true (last % 2) 1 both.1)
-          (type == 1 && last / 2 == 127) (type == 5) (type == 7) refl refl refl
-      go false e = inl refl
+      go b e = grind (arith, and_parts, by-type, eqb-true)
   told-or-not other = inl refl
 
 -- T201 expires.
 over : (check : Check) (m : Management) → is_on check.tei m.places ≡ true → (b : Bool)
     → let c = (cond b (rows.removed check.tei) end_check) (begun m) in IsSilent m c.now c.told.lost × IsOver b check m c.now
-over check m on true = (record { same = refl; told = refl }, gone check.tei None m _ on refl refl refl)
-over check m on false = (record { same = refl; told = refl }, record { places = refl; remembered = refl; check_is = refl })
+over check m on b = grind (arith, gone)
 
 expires-in : (p : Period) (check : Check) (m : Management) → IsSound m → is_on check.tei m.places ≡ true
     → let c = rows.expire_period check p (begun m) in ExpiresIn p check m c.now c.told.lost
-expires-in First check m s on = (sent (IdentityCheckRequest check.tei) m _ _ s.queue refl refl, record { places = refl; remembered = refl; check_is = refl })
-expires-in Second check m s on = over check m on (has_no_answer check)
+expires-in p check m s on = grind (arith, sent, over)
 
 pub expires : (m : Management) → IsSound m → (o : Option Check) → IfSome o (IsSoundCheck m.places)
     → let c = rows.expire_check o (begun m) in Expires o m c.now c.told.lost
-expires m s None sound = record { same = refl; told = refl }
-expires m s (Some check) sound = expires-in check.period check m s sound.on_line
+expires m s o sound = grind (arith, expires-in)
 
 -- Management asks.
 pub puts-on : (tei : ℕ) (m : Management) → is_on tei m.places ≡ false → not (is_some (free_place m.places)) ≡ false
     → let c = rows.put_on tei (begun m) in IsPutOn tei m c.now c.told.lost
-puts-on tei m off some = go (free_place m.places) refl some
-  where
-    go : (o : Option ℕ) → free_place m.places ≡ o → not (is_some o) ≡ false → let c = rows.join_at tei o (begun m) in IsPutOn tei m c.now c.told.lost
-    go None at e = absurd (true≢false e)
-    go (Some place) at e =
-        let there = free_place-is m.places place at in
-        record {
-          silent = record { same = refl; told = refl };
-          was_off = off;
-          joins = record { place = place; within = there.0; was_free = there.1; is_there = refl };
-          remembered = refl;
-          check_is = refl;
-        }
-
-check-without : (tei : ℕ) (o : Option Check) → cond (rows.is_checked tei o) None o ≡ check_without tei o
-check-without tei None = refl
-check-without tei (Some check) = refl
+puts-on tei m off some = grind (arith, is_some, free_place-is)
 
 pub takes-off : (tei : ℕ) (m : Management) → no_room m.waiting ≡ false → is_on tei m.places ≡ true
     → let c = rows.take_off tei (begun m) in Waits (IdentityRemove tei) m c.now c.told.lost × Leaves tei (check_without tei m.check) m c.now
-takes-off tei m room on = go (rows.is_checked tei m.check) refl
-  where
-    go : (b : Bool) → rows.is_checked tei m.check ≡ b
-        → let c = leave tei ((cond b end_check rows.nothing_happens) (send (IdentityRemove tei) (begun m))) in Waits (IdentityRemove tei) m c.now c.told.lost × Leaves tei (check_without tei m.check) m c.now
-    go true e = (
-      waits (IdentityRemove tei) m _ _ room refl refl,
-      gone tei (check_without tei m.check) m _ on refl refl (sym (ap (λ b. cond b None m.check) e) ∙ check-without tei m.check),
-    )
-    go false e = (
-      waits (IdentityRemove tei) m _ _ room refl refl,
-      gone tei (check_without tei m.check) m _ on refl refl (sym (ap (λ b. cond b None m.check) e) ∙ check-without tei m.check),
-    )
+takes-off tei m room on = grind (arith, waits, gone)
 
 pub begins-asked : (tei : ℕ) (m : Management) → no_room m.waiting ≡ false
     → let c = begin_check tei (begun m) in Waits (IdentityCheckRequest tei) m c.now c.told.lost × KeepsTeis (Some (new_check tei)) m c.now

@@ -144,9 +144,7 @@ module _ (c : Config) (l : Line) (s : IsSound c l) where
 -- A call for the next frame notes nothing, and no TEI comes or leaves by it.
 module _ (c : Config) (l : Line) (s : IsSound c l) where
   took : (t : Taken) → IsOne c l t → t.line.management.places ≡ l.management.places
-  took t (inl x) = ap (λ (u : Taken). u.line.management.places) x.1
-  took t (inr (inl x)) = ap (λ (u : Taken). u.line.management.places) x.1
-  took t (inr (inr x)) = ap (λ (u : Taken). u.line.management.places) x.is
+  took t o = grind arith
 
   next-stays : (option_map_or line_of (taken c l) l).management.places ≡ l.management.places
   next-stays = next_walk c l (IsOne c l) (λ o m. m.management.places ≡ l.management.places) (taken-one c l s) refl took

@@ -1,14 +1,10 @@
 -- What notes say: those of a link of this link alone, and those of TEI management of TEIs alone.
-use Rattle.laws_line.proofs.Vocabulary.{◌≡◌, ℕ, ◌==◌, ◌&&◌, Bool, true, false, cond, List, [], ◌∷◌, refl, ap, ◌∙◌, fold, All-head, All-tail, Note, EstablishIndication, EstablishConfirm, ReleaseIndication, ReleaseConfirm, Assigned, Removed, Doubled, Service, same_service, seen, known, IsOwn, Terms, All, up_by_note, on_by_note}
+use Rattle.laws_line.proofs.Vocabulary.{arith, ◌≡◌, ℕ, ◌==◌, ◌&&◌, Bool, false, List, [], ◌∷◌, refl, ap, ◌∙◌, fold, All-head, All-tail, Note, Service, same_service, seen, known, IsOwn, Terms, All, up_by_note, on_by_note}
 use Rattle.laws_line.proofs.Told.{its-own}
 
 -- notes of a link, for the link itself,
 own-note : (t : Terms) (up : Bool) (n : Note) → IsOwn t n → up_by_note t.service t.tei up n ≡ seen up n
-own-note t up (EstablishIndication s n) own = ap (λ b. cond b true up) (its-own t s n own)
-own-note t up (EstablishConfirm s n) own = ap (λ b. cond b true up) (its-own t s n own)
-own-note t up (ReleaseIndication s n) own = ap (λ b. cond b false up) (its-own t s n own)
-own-note t up (ReleaseConfirm s n) own = ap (λ b. cond b false up) (its-own t s n own)
-own-note t up other own = refl
+own-note t up n own = grind (arith, its-own)
 
 pub own-notes : (t : Terms) (up : Bool) (ns : List Note) → All (IsOwn t) ns → fold (up_by_note t.service t.tei) up ns ≡ known up ns
 own-notes t up [] all = refl
@@ -18,15 +14,8 @@ own-notes t up (n ∷ ns) all =
 
 -- and for another
 module _ (t : Terms) (service : Service) (tei : ℕ) (other : (same_service t.service service && (t.tei == tei)) ≡ false) where
-  not-its : (s : Service) (n : ℕ) → (s ≡ t.service) × (n ≡ t.tei) → (same_service s service && (n == tei)) ≡ false
-  not-its s n own = ap (λ x. same_service x service && (n == tei)) own.0 ∙ ap (λ m. same_service t.service service && (m == tei)) own.1 ∙ other
-
   other-note : (up : Bool) (n : Note) → IsOwn t n → up_by_note service tei up n ≡ up
-  other-note up (EstablishIndication s n) own = ap (λ b. cond b true up) (not-its s n own)
-  other-note up (EstablishConfirm s n) own = ap (λ b. cond b true up) (not-its s n own)
-  other-note up (ReleaseIndication s n) own = ap (λ b. cond b false up) (not-its s n own)
-  other-note up (ReleaseConfirm s n) own = ap (λ b. cond b false up) (not-its s n own)
-  other-note up other own = refl
+  other-note up n own = grind arith
 
   pub other-notes : (up : Bool) (ns : List Note) → All (IsOwn t) ns → fold (up_by_note service tei) up ns ≡ up
   other-notes up [] all = refl
@@ -35,10 +24,7 @@ module _ (t : Terms) (service : Service) (tei : ℕ) (other : (same_service t.se
 
 -- they say nothing of TEIs
 link-note : (t : Terms) (tei : ℕ) (on : Bool) (n : Note) → IsOwn t n → on_by_note tei on n ≡ on
-link-note t tei on (Assigned n) own = absurd own
-link-note t tei on (Removed n) own = absurd own
-link-note t tei on (Doubled n) own = absurd own
-link-note t tei on other own = refl
+link-note t tei on n own = grind arith
 
 pub link-notes : (t : Terms) (tei : ℕ) (on : Bool) (ns : List Note) → All (IsOwn t) ns → fold (on_by_note tei) on ns ≡ on
 link-notes t tei on [] all = refl

@@ -1,5 +1,5 @@
 -- What obeying the orders of a link, or of TEI management, comes to for each timer of a line.
-use Rattle.laws_line.proofs.Vocabulary.{◌≡◌, ℕ, ◌==◌, ◌&&◌, Bool, true, false, cond, List, [], ◌∷◌, ◌++◌, refl, ap, sym, ◌∙◌, subst, eq-eqb, true≢false, fold-append, Service, Call, Packet, Order, Start, Stop, Timer, T201, same_service, LinkTimer, Terms, Link, is_same, obey, obeyed, IsTimed, ComesInStep, runs, timer_at, stays-in-step, comes-in-step, leaves-others, Follows}
+use Rattle.laws_line.proofs.Vocabulary.{arith, ◌≡◌, ℕ, ◌==◌, ◌&&◌, Bool, true, false, cond, List, ◌++◌, ap, ◌∙◌, eq-eqb, fold-append, Service, Order, Timer, T201, same_service, LinkTimer, Terms, Link, is_same, obey, obeyed, IsTimed, ComesInStep, runs, timer_at, stays-in-step, comes-in-step, leaves-others, Follows}
 use Rattle.model_link.specs.Events as link
 use Rattle.model_link.specs.Machine as links
 
@@ -8,32 +8,21 @@ obeyed-append timer b xs ys = fold-append (obey timer) b xs ys
 
 -- A timer of a link is that of a service and a TEI.
 pub service-same : (s : Service) → same_service s s ≡ true
-service-same Call = refl
-service-same Packet = refl
+service-same s = grind arith
 
 pub services-equal : (s other : Service) → same_service s other ≡ true → s ≡ other
-services-equal Call Call e = refl
-services-equal Call Packet e = absurd (true≢false (sym e))
-services-equal Packet Call e = absurd (true≢false (sym e))
-services-equal Packet Packet e = refl
+services-equal s other e = grind arith
 
 pub both-true : (a b : Bool) → (a && b) ≡ true → (a ≡ true) × (b ≡ true)
-both-true true b e = (refl, e)
-both-true false b e = absurd (true≢false (sym e))
+both-true a b e = grind arith
 
 -- T201 of TEI management
 pub t201-obeyed : (before : Bool) (orders : List Order) (after : Bool) → Follows before orders after → obeyed T201 before orders ≡ after
-t201-obeyed before [] after h = sym h
-t201-obeyed before (Start T201 ∷ []) after h = sym h
-t201-obeyed before (Stop T201 ∷ []) after h = sym h
-t201-obeyed before other after h = absurd h
+t201-obeyed before orders after h = grind arith
 
 pub t201-leaves : (timer : Timer) → is_same T201 timer ≡ false → (running before : Bool) (orders : List Order) (after : Bool) → Follows before orders after
     → obeyed timer running orders ≡ running
-t201-leaves timer other running before [] after h = refl
-t201-leaves timer other running before (Start T201 ∷ []) after h = ap (λ b. cond b true running) other
-t201-leaves timer other running before (Stop T201 ∷ []) after h = ap (λ b. cond b false running) other
-t201-leaves timer other running before another after h = absurd h
+t201-leaves timer other running before orders after h = grind arith
 
 -- What a caller does with a link's timers, which it left as `left` says, by the orders of an event: each of the link's
 -- runs where the link runs it, and each other is as it was.
@@ -53,13 +42,10 @@ abbrev pub without : Timer → Timer → Bool → Bool
 without expired timer running = cond (is_same expired timer) false running
 
 itself : (s : Service) (tei : ℕ) → (same_service s s && (tei == tei)) ≡ true
-itself Call tei = eq-eqb tei tei refl
-itself Packet tei = eq-eqb tei tei refl
+itself s tei = grind (arith, eq-eqb)
 
 comes : (t : Terms) (l : Link) (k : LinkTimer) → IsTimed l → (b : Bool) → runs k l.running ≡ b → ComesInStep t (link.expired k) l k
-comes t l k h true e = comes-in-step t l k h e
-comes t l k h false e = subst (λ b. obeyed (timer_at t k) b (links.told t (link.expired k) l).orders ≡ runs k (links.after t (link.expired k) l).running) e
-    (stays-in-step t (link.expired k) l k)
+comes t l k h b e = grind (arith, comes-in-step, stays-in-step)
 
 pub steers-expiry : (t : Terms) (k : LinkTimer) (l : Link) → IsTimed l
     → Steers t (without (timer_at t k)) (links.told t (link.expired k) l).orders l (links.after t (link.expired k) l)
@@ -72,10 +58,7 @@ steers-expiry t LinkTimer.T200 l h = record {
   where
     own : (k : LinkTimer) → obeyed (timer_at t k) (without (timer_at t LinkTimer.T200) (timer_at t k) (runs k l.running)) (links.told t (link.expired LinkTimer.T200) l).orders
         ≡ runs k (links.after t (link.expired LinkTimer.T200) l).running
-    own LinkTimer.T200 =
-        ap (λ b. obeyed (timer_at t LinkTimer.T200) (cond b false (runs LinkTimer.T200 l.running)) (links.told t (link.expired LinkTimer.T200) l).orders) (itself t.service t.tei)
-        ∙ comes t l LinkTimer.T200 h (runs LinkTimer.T200 l.running) refl
-    own LinkTimer.T203 = stays-in-step t (link.expired LinkTimer.T200) l LinkTimer.T203
+    own k = grind (arith, itself, comes, stays-in-step)
 steers-expiry t LinkTimer.T203 l h = record {
   own = own;
   others = λ timer running one two.
@@ -85,7 +68,4 @@ steers-expiry t LinkTimer.T203 l h = record {
   where
     own : (k : LinkTimer) → obeyed (timer_at t k) (without (timer_at t LinkTimer.T203) (timer_at t k) (runs k l.running)) (links.told t (link.expired LinkTimer.T203) l).orders
         ≡ runs k (links.after t (link.expired LinkTimer.T203) l).running
-    own LinkTimer.T203 =
-        ap (λ b. obeyed (timer_at t LinkTimer.T203) (cond b false (runs LinkTimer.T203 l.running)) (links.told t (link.expired LinkTimer.T203) l).orders) (itself t.service t.tei)
-        ∙ comes t l LinkTimer.T203 h (runs LinkTimer.T203 l.running) refl
-    own LinkTimer.T200 = stays-in-step t (link.expired LinkTimer.T203) l LinkTimer.T200
+    own k = grind (arith, itself, comes, stays-in-step)

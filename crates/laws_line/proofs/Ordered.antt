@@ -43,17 +43,14 @@ module _ (c : Config) (ranged : IsInRange c) (number tei : ℕ) (few : number < 
   -- another link gives
   other-gives : (before : List ControlFrame) → (link_at number l).waiting ≡ before ++ f ∷ behind → (other : ℕ) (g : Given) → number ≢ other
       → way_round (link_count c) (other + 1) number + 1 ≤ way_round (link_count c) l.turn number → Step before (with_given_frame c l other (terms_at c other l) g)
-  other-gives before e other g apart nearer =
-      let same = get_or-set_other l.links other number (links.after (terms_at c other l) link.offer (link_at other l)) fresh apart in
-      inr (before, ap (λ (x : Link). x.waiting) same ∙ e, omega (arith, nearer))
+  other-gives before e other g apart nearer = grind (arith, get_or-set_other)
 
   gives-some : (before : List ControlFrame) → (link_at number l).waiting ≡ before ++ f ∷ behind → links.given (terms_at c number l) (link_at number l) ≡ None → ⊥
   gives-some [] e none = subst (GoesWhole f) none (first-goes (terms_at c number l) (link_at number l) f behind e)
   gives-some (b ∷ bs) e none = subst (GoesWhole b) none (first-goes (terms_at c number l) (link_at number l) b (bs ++ f ∷ behind) e)
 
   none-taken : (o : Option Given) → option_map (with_given_frame c l number (terms_at c number l)) o ≡ None → o ≡ None
-  none-taken None e = refl
-  none-taken (Some g) e = absurd (cc)
+  none-taken o e = grind arith
 
   by-given : (before : List ControlFrame) → (link_at number l).waiting ≡ before ++ f ∷ behind → (other : ℕ) (t : Taken)
       → (other ≡ number) ⊎ ((number ≢ other) × (way_round (link_count c) (other + 1) number + 1 ≤ way_round (link_count c) l.turn number))

@@ -1,16 +1,14 @@
 -- Each event of a line is one of one of its parts, or nothing changes.
-use Rattle.laws_line.proofs.Vocabulary.{◌≡◌, ◌≢◌, ◌⊎◌, inl, inr, ℕ, ◌<◌, Bool, true, false, ◌==◌, List, [], ◌∷◌, ◌++◌, length, get_or, set, Option, Some, None, refl, sym, ap, ◌∙◌, subst, arith, append-nil, append_assoc, eq-eqb, true≢false, get_or-set_other, Refusal, Service, Call, Packet, Timer, T201, Change, Gained, Left, LinkTimer, Link, Config, is_change_at, Aim, at_link, at_management, told_of_management, of_change, of_aim, hears, request, next, told, nothing, at_timer, aim_of_expiry, Line, UnitData, link_number, link_count, place_at, tei_at, place_in, link_at, link_in, terms, unless_refused_told, aim_of_heard, Request, Establish, Release, Assign, Remove, SetBusy, ClearBusy, Deactivate, at_requested, at_deactivated, aim_of_request, IsProper, heard_proper, expiry_proper, request_proper, Down, eqb-true, T200, T203, fresh, Event, expiry, after, answer, unless_refused, refusal, Data, Check, IsSound, line_noted_ending as noted_ending, noted_behind, IsManaged, IsGranted, IsOfPart, line_of_link as of_link, line_of_management as of_management, of_units, of_group, of_down, of_next, SaysNothing, IsOneEvent, is_granted, BringsMessage, IsOfManagement, GivesUp}
+use Rattle.laws_line.proofs.Vocabulary.{◌≡◌, ◌≢◌, ◌⊎◌, inl, inr, ℕ, ◌<◌, true, false, ◌==◌, List, [], ◌∷◌, ◌++◌, length, get_or, set, Option, Some, None, refl, sym, ap, subst, arith, append-nil, append_assoc, eq-eqb, get_or-set_other, Refusal, Service, Call, Packet, Timer, T201, Change, LinkTimer, Config, is_change_at, Aim, at_link, at_management, told_of_management, of_change, of_aim, hears, request, next, told, nothing, at_timer, aim_of_expiry, Line, UnitData, link_number, link_count, place_at, tei_at, place_in, link_at, unless_refused_told, aim_of_heard, Request, Establish, Release, Assign, Remove, SetBusy, ClearBusy, Deactivate, at_requested, at_deactivated, aim_of_request, IsProper, heard_proper, expiry_proper, request_proper, Down, eqb-true, T200, T203, fresh, Event, expiry, after, answer, unless_refused, refusal, Data, Check, IsSound, noted_behind, IsManaged, IsGranted, IsOfPart, line_of_link as of_link, line_of_management as of_management, of_units, of_group, of_down, of_next, SaysNothing, IsOneEvent, is_granted, BringsMessage, IsOfManagement, GivesUp}
 use Rattle.model_bits.specs.Stream as stream
 use Rattle.lapd_tei.specs.Events as teis
 use Rattle.lapd_tei.specs.Laws as tei_laws
 use Rattle.lapd_tei.proofs.LawLemmas as tei_lemmas
 use Rattle.model_link.specs.Events as link
-use Rattle.model_link.specs.Machine as links
 use Rattle.laws_line.proofs.Alone.{is-alone}
-use Rattle.laws_line.proofs.Causing.{message-aim}
 use Rattle.laws_line.proofs.Granting.{not-refused}
 use Rattle.laws_line.proofs.GroupAims.{heard-aims-at}
-use Rattle.laws_line.proofs.Kept.{begin_here, begin_away}
+use Rattle.model_line.proofs.LinksSound.{begin_here, begin_away}
 use Rattle.laws_line.proofs.Places.{has-place}
 use Rattle.laws_line.proofs.Tied.{Ties, heard-ties, expiry-ties, request-ties}
 use Rattle.laws_line.proofs.Told.{moved}
@@ -34,61 +32,27 @@ module _ (c : Config) (l : Line) (s : IsSound c l) (me : teis.Event) (fits : tei
       (moves : tei_laws.Moves l.management.places o places) (within : place < length l.management.places) (is : places ≡ set l.management.places place x)
       (links-are : (there o).links ≡ set (set l.links (link_number place Call) fresh) (link_number place Packet) fresh) where
     of-places : Links o
-    of-places number few = go (place == place_at number) refl
-      where
-        go : (b : Bool) → (place == place_at number) ≡ b
-            → (get_or places (place_at number) None ≡ tei_at (place_at number) l → link_at number (there o) ≡ link_at number l)
-            × ((get_or places (place_at number) None ≢ tei_at (place_at number) l) → link_at number (there o) ≡ fresh)
-        go true same = (
-          λ stays. absurd (moved l.management.places places (place_at number) o (at number ∙ same) moves stays),
-          λ other. ap (λ xs. get_or xs number fresh) links-are
-              ∙ begin_here l.links place number (sym (eqb-true place (place_at number) same)) (omega (arith, within, s.places, s.count)),
-        )
-        go false away =
-            let apart : place_at number ≢ place = λ same. true≢false (sym (eq-eqb place (place_at number) (sym same)) ∙ away) in (
-              λ stays. ap (λ xs. get_or xs number fresh) links-are ∙ begin_away l.links place number apart,
-              λ other. absurd (other (ap (λ ps. get_or ps (place_at number) None) is ∙ get_or-set_other l.management.places place (place_at number) x None apart)),
-            )
+    of-places number few = grind (arith, moved, begin_here, eqb-true, eq-eqb, begin_away, get_or-set_other)
 
   of-links : (o : Option Change) → tei_laws.Moves l.management.places o places → Links o
-  of-links None moves = λ number few. (λ stays. refl, λ other. absurd (other (ap (λ ps. get_or ps (place_at number) None) moves)))
-  of-links (Some (Gained tei place)) moves = of-places (Some (Gained tei place)) place (Some tei) (λ number. refl) moves moves.within moves.is_there refl
-  of-links (Some (Left tei place)) moves = of-places (Some (Left tei place)) place None (λ number. refl) moves moves.within moves.is_free refl
+  of-links o moves = grind (arith, of-places)
 
   line-is : (o : Option Change) → there o ≡ record l { management = teis.after me l.management; links = (there o).links }
-  line-is (Some (Gained tei place)) = refl
-  line-is other = refl
+  line-is o = grind arith
 
   places-are : (o : Option Change) → (there o).management.places ≡ places
-  places-are (Some (Gained tei place)) = refl
-  places-are other = refl
+  places-are o = grind arith
 
   noted-is : (o : Option Change) → (of_change c o (told_of_management (teis.told me l.management)) (record l { management = teis.after me l.management })).told.notes
       ≡ (teis.told me l.management).notes ++ noted_behind c l o
-  noted-is (Some (Left tei place)) =
-      let first = links.after (terms c Call tei) link.cleared (link_in l Call place) in
-      let same : get_or (set l.links (link_number place Call) first) (link_number place Packet) fresh ≡ link_in l Packet place =
-      get_or-set_other l.links (link_number place Call) (link_number place Packet) first fresh (λ e. omega (arith, e)) in
-      ap (λ (x : Link). (teis.told me l.management).notes ++ noted_ending c l Call tei place ++ (links.told (terms c Packet tei) link.cleared x).notes) same
-      ∙ append_assoc (teis.told me l.management).notes (noted_ending c l Call tei place) (noted_ending c l Packet tei place)
-  noted-is other = sym (append-nil (teis.told me l.management).notes)
+  noted-is o = grind (arith, get_or-set_other, append_assoc, append-nil)
 
   lost-is : (o : Option Change) → (of_change c o (told_of_management (teis.told me l.management)) (record l { management = teis.after me l.management })).told.lost
       ≡ (teis.told me l.management).lost
-  lost-is (Some (Gained tei place)) = refl
-  lost-is other = refl
+  lost-is o = grind arith
 
   pub managed : IsManaged c l (of_aim c (at_management me) l).line (told (of_aim c (at_management me) l).told) me
-  managed =
-      let o = (teis.told me l.management).change in
-      let all = of-links o (tei_lemmas.changes_are_told me l.management fits s.management) in
-      record {
-        line = line-is o;
-        stay = λ number few stays. (all number few).0 (sym (ap (λ ps. get_or ps (place_at number) None) (places-are o)) ∙ stays);
-        begin = λ number few other. (all number few).1 (λ same. other (ap (λ ps. get_or ps (place_at number) None) (places-are o) ∙ same));
-        notes = noted-is o;
-        lost = lost-is o;
-      }
+  managed = grind (arith, of-links, tei_lemmas.changes_are_told, line-is, places-are, noted-is, lost-is)
 
 -- A message of a terminal, the expiry of T201, and a request of management that is granted.
 module _ (c : Config) (l : Line) (s : IsSound c l) where
@@ -97,16 +61,11 @@ module _ (c : Config) (l : Line) (s : IsSound c l) where
 
   by-message : (e : Event) (info : List ℕ) → BringsMessage c e info → Managed e (teis.message info)
   unfolding after answer
-  by-message e info b =
-      subst (λ e. Managed e (teis.message info)) (sym b.heard.by)
-      (subst (λ aim. let f = of_aim c aim l in IsManaged c l f.line (told f.told) (teis.message info)) (sym (message-aim c l e info b)) (managed c l s (teis.message info) tt))
+  by-message e info b = grind (arith, managed)
 
   by-request : (r : Request) (me : teis.Event) → tei_laws.IsInRange me → aim_of_request r l ≡ at_management me → refusal c false r l ≡ None → Managed (request r) me
   unfolding after answer
-  by-request r me fits aim none =
-      subst (λ o. IsManaged c l (of_aim c (unless_refused o (aim_of_request r l)) l).line (unless_refused_told o (of_aim c (unless_refused o (aim_of_request r l)) l)) me) (sym none)
-      (subst (λ a. IsManaged c l (of_aim c a l).line (told (of_aim c a l).told) me) (sym aim)
-      (managed c l s me fits))
+  by-request r me o aim none = grind (arith, managed)
 
   -- a request that is granted is of a TEI of at most 126
   in-range : (r : Request) (me : teis.Event) → aim_of_request r l ≡ at_management me → refusal c false r l ≡ None → tei_laws.IsInRange me
@@ -136,11 +95,7 @@ module _ (c : Config) (l : Line) (s : IsSound c l) where
 
   waits : (unit : UnitData) → refusal c false (Request.Unit unit.service unit.tei unit.contents) l ≡ None → Waits (request (Request.Unit unit.service unit.tei unit.contents)) unit
   unfolding after answer
-  waits unit none =
-      let r = Request.Unit unit.service unit.tei unit.contents in (
-        ap (λ o. (of_aim c (unless_refused o (aim_of_request r l)) l).line) none,
-        ap (λ o. unless_refused_told o (of_aim c (unless_refused o (aim_of_request r l)) l)) none,
-      )
+  waits unit none = grind arith
 
   pub is-unit : (e : Event) (unit : UnitData) → IsGranted e (answer c e l) unit → Waits e unit
   is-unit e unit g =

@@ -1,5 +1,5 @@
 -- Where a TEI is: at the one place of a sound table that has it.
-use Rattle.laws_line.proofs.Vocabulary.{◌≡◌, ◌≢◌, ℕ, ◌+◌, ◌≤◌, ◌<◌, ◌||◌, Bool, true, false, not, cond, List, [], ◌∷◌, length, get_or, set, nat_lt, Option, Some, None, refl, sym, ap, ◌∙◌, subst, arith, ⊎_elim, list_any, prefix_len, cases_eq, ltb-false, get_or-set_same, get_or-set_other, none-some, IsAt, IsSoundTable, Places, has, is_on, place_of, at-off, place_of-is}
+use Rattle.laws_line.proofs.Vocabulary.{◌≡◌, ◌≢◌, ℕ, ◌+◌, ◌≤◌, ◌<◌, ◌||◌, Bool, false, not, cond, List, [], ◌∷◌, length, get_or, set, nat_lt, Option, Some, None, refl, sym, ap, ◌∙◌, subst, arith, list_any, prefix_len, cases_eq, ltb-false, get_or-set_same, get_or-set_other, none-some, IsAt, IsSoundTable, Places, is_on, place_of, at-off, place_of-is}
 
 none_any : {X : Type 0} (p : X → Bool) (xs : List X) → length xs ≤ prefix_len (λ y. not (p y)) xs → list_any p xs ≡ false
 none_any p [] e = refl
@@ -7,17 +7,11 @@ none_any p (x ∷ xs) e = go (p x) (none_any p xs) e
   where
     go : (b : Bool) → (length xs ≤ prefix_len (λ y. not (p y)) xs → list_any p xs ≡ false)
         → length (x ∷ xs) ≤ cond (not b) (1 + prefix_len (λ y. not (p y)) xs) 0 → b || list_any p xs ≡ false
-    go true rest e = absurd (omega (arith, e))
-    go false rest e = rest (omega (arith, e))
+    go b rest e = grind arith
 
 -- one without a place is not on the line, and at no place
 pub is-off : (places : Places) (tei : ℕ) → place_of tei places ≡ None → is_on tei places ≡ false
-is-off places tei = go (nat_lt (prefix_len (λ x. not (has tei x)) places) (length places)) refl
-  where
-    go : (b : Bool) → nat_lt (prefix_len (λ x. not (has tei x)) places) (length places) ≡ b
-        → cond b (Some (prefix_len (λ x. not (has tei x)) places)) None ≡ None → is_on tei places ≡ false
-    go true e h = absurd (none-some _ (sym h))
-    go false e h = none_any (has tei) places (ltb-false _ _ e)
+is-off places tei = grind (arith, nat_lt, none-some, none_any, ltb-false)
 
 pub at-no-place : (places : Places) (tei : ℕ) → place_of tei places ≡ None → (i : ℕ) → IsAt places i tei → ⊥
 at-no-place places tei none i at = at-off places i tei (is-off places tei none) at
@@ -47,9 +41,7 @@ module _ (places new : Places) (place : ℕ) (o : Option ℕ) (sound : IsSoundTa
   here = ap (λ ps. get_or ps place None) is ∙ get_or-set_same places place o None within
 
   nowhere : place_of other places ≡ None → (i : ℕ) → IsAt new i other → ⊥
-  nowhere none i at =
-      ⊎_elim (λ same. comes (sym here ∙ ap (λ j. get_or new j None) (sym same) ∙ at)) (λ apart. at-no-place places other none i (sym (away i apart) ∙ at))
-      (cases_eq i place)
+  nowhere none i at = grind (arith, here, at-no-place, away, cases_eq)
 
   pub stays-placed : place_of other new ≡ place_of other places
   stays-placed = go (place_of other places) refl

@@ -48,8 +48,7 @@ module _ (c : Config) (ranged : IsInRange c) (l : Line) (s : IsSound c l) (servi
 
   by-answer : (o : Option Control) (answer : Control) → o ≡ Some answer → AnsweredBy o (link_in l service place).waiting heard_by
       → heard_by.waiting ≡ (link_in l service place).waiting ++ record { command = false; control = answer } ∷ []
-  by-answer None answer e h = absurd (cc)
-  by-answer (Some x) answer e h = h ∙ ap (λ a. (link_in l service place).waiting ++ record { command = false; control = a } ∷ []) (let same : Some x ≡ Some answer = e in cc)
+  by-answer o answer e h = grind arith
 
   pub unnumbered-goes : (n : ℕ) (answer : Control) → asked_of (link_in l service place).state parts.control ≡ Some answer → length (link_in l service place).waiting + 1 ≤ c.control
       → IsEnough c n (after c (hears (stream.frame octets)) l) number (length (link_in l service place).waiting)

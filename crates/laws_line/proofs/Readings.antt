@@ -1,6 +1,6 @@
 -- What is read of the links of a line, by service and TEI, and else where the TEI is not on it: through an event of one
 -- link, and where a TEI comes or leaves.
-use Rattle.laws_line.proofs.Vocabulary.{◌≡◌, ◌≢◌, ℕ, ◌+◌, ◌*◌, ◌<◌, ◌⊎◌, inl, inr, ◌==◌, ◌&&◌, false, List, length, get_or, set, Option, Some, None, refl, ap, sym, ◌∙◌, subst, arith, length-set, eq-eqb, true≢false, option_map_or, cases_eq, get_or-set_same, get_or-set_other, none-some, Service, Call, Packet, same_service, Link, Management, IsAt, IsSoundTable, place_of, at-within, place_of-is, Config, Line, link_number, link_in, place_in, with_link, number_within, fresh, IsSound}
+use Rattle.laws_line.proofs.Vocabulary.{◌≡◌, ◌≢◌, ℕ, ◌+◌, ◌*◌, ◌<◌, ◌==◌, ◌&&◌, false, List, length, get_or, set, Option, Some, None, refl, ap, sym, ◌∙◌, subst, arith, length-set, eq-eqb, true≢false, option_map_or, cases_eq, get_or-set_same, get_or-set_other, none-some, Service, Call, Packet, same_service, Link, Management, IsAt, IsSoundTable, place_of, at-within, place_of-is, Config, Line, link_number, link_in, place_in, with_link, number_within, fresh, IsSound}
 use Rattle.laws_line.proofs.Following.{same-number, some-same}
 use Rattle.laws_line.proofs.Obeyed.{service-same}
 use Rattle.laws_line.proofs.Places.{has-no-place, has-place, stays-placed}
@@ -17,8 +17,7 @@ module _ {X : Type 0} (off : X) (R : Link → X) where
 
   -- the same table, and the same links
   alike : (service : Service) (before after : Line) → after.links ≡ before.links → (o : Option ℕ) → read_at service o after ≡ read_at service o before
-  alike service before after same None = refl
-  alike service before after same (Some place) = ap (λ ls. R (get_or ls (link_number place service) fresh)) same
+  alike service before after same o = grind arith
 
   pub same-read : (service : Service) (tei : ℕ) (before after : Line) → after.management.places ≡ before.management.places → after.links ≡ before.links
       → read_of service tei after ≡ read_of service tei before
@@ -30,9 +29,7 @@ module _ {X : Type 0} (off : X) (R : Link → X) where
     here = has-place l.management.places tei place s.management.table at
 
     there : get_or (set l.links (link_number place service) y) (link_number place service) fresh ≡ y
-    there =
-        get_or-set_same l.links (link_number place service) y fresh
-        (omega (arith, s.count, s.places, number_within place c.terminals service (omega (arith, s.places, at-within l.management.places place tei at))))
+    there = grind (arith, get_or-set_same, number_within, at-within)
 
     pub own-before : read_of service tei l ≡ R (link_in l service place)
     own-before = ap (λ o. read_at service o l) here
@@ -50,11 +47,7 @@ module _ {X : Type 0} (off : X) (R : Link → X) where
 
     pub other-read : (s' : Service) (n' : ℕ) → (same_service service s' && (tei == n')) ≡ false
         → read_of s' n' (with_link (link_number place service) y l) ≡ read_of s' n' l
-    other-read s' n' other = go (place_in l n') refl
-      where
-        go : (o : Option ℕ) → place_of n' l.management.places ≡ o → read_at s' o (with_link (link_number place service) y l) ≡ read_at s' o l
-        go None e = refl
-        go (Some p') e = ap R (get_or-set_other l.links (link_number place service) (link_number p' s') y fresh (apart s' n' other p' e))
+    other-read s' n' other = grind (arith, get_or-set_other, apart)
 
   -- both links of a place begin anew
   module _ (begins : R fresh ≡ off) (c : Config) (l : Line) (s : IsSound c l) (m : Management) (sound : IsSoundTable m.places)
@@ -66,9 +59,7 @@ module _ {X : Type 0} (off : X) (R : Link → X) where
     anew = record l { management = m; links = both }
 
     away : (p : ℕ) (s' : Service) → p ≢ place → get_or both (link_number p s') fresh ≡ get_or l.links (link_number p s') fresh
-    away p s' other =
-        get_or-set_other (set l.links (link_number place Call) fresh) (link_number place Packet) (link_number p s') fresh fresh (λ e. other (same-number s' Packet p place e).1)
-        ∙ get_or-set_other l.links (link_number place Call) (link_number p s') fresh fresh (λ e. other (same-number s' Call p place e).1)
+    away p s' other = grind (arith, get_or-set_other, same-number)
 
     pub elsewhere : (s' : Service) (n' : ℕ) → (o ≡ Some n' → ⊥) → (IsAt l.management.places place n' → ⊥) → read_of s' n' anew ≡ read_of s' n' l
     elsewhere s' n' comes was =
@@ -82,10 +73,7 @@ module _ {X : Type 0} (off : X) (R : Link → X) where
     long = omega (arith, within, s.count, s.places)
 
     new : (s' : Service) → get_or both (link_number place s') fresh ≡ fresh
-    new Call =
-        get_or-set_other (set l.links (link_number place Call) fresh) (link_number place Packet) (link_number place Call) fresh fresh (λ e. omega (arith, e))
-        ∙ get_or-set_same l.links (link_number place Call) fresh fresh (omega (arith, long))
-    new Packet = get_or-set_same (set l.links (link_number place Call) fresh) (link_number place Packet) fresh fresh (omega (arith, long, length-set l.links (link_number place Call) fresh))
+    new s' = grind (arith, get_or-set_other, get_or-set_same, long, length-set)
 
     -- what comes there begins
     pub filled-read : (s' : Service) (n' : ℕ) → o ≡ Some n' → read_of s' n' anew ≡ off
@@ -95,13 +83,7 @@ module _ {X : Type 0} (off : X) (R : Link → X) where
 
     -- and what was there is no more
     pub emptied : (n' : ℕ) → o ≡ None → IsAt l.management.places place n' → (i : ℕ) → IsAt m.places i n' → ⊥
-    emptied n' none was i at = go (cases_eq i place)
-      where
-        go : (i ≡ place) ⊎ (i ≢ place) → ⊥
-        go (inl e) =
-            none-some n' (sym none ∙ sym (get_or-set_same l.management.places place o None within) ∙ ap (λ ps. get_or ps place None) (sym is) ∙ ap (λ j. get_or m.places j None) (sym e) ∙ at)
-        go (inr apart) =
-            apart (s.management.table.once i place n' (sym (get_or-set_other l.management.places place i o None apart) ∙ ap (λ ps. get_or ps i None) (sym is) ∙ at) was)
+    emptied n' none was i at = grind (arith, cases_eq, none-some, get_or-set_same, apart, get_or-set_other)
 
     pub emptied-read : (s' : Service) (n' : ℕ) → o ≡ None → IsAt l.management.places place n' → read_of s' n' anew ≡ off
     emptied-read s' n' none was = ap (λ p. read_at s' p anew) (has-no-place m.places n' (emptied n' none was))

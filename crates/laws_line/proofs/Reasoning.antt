@@ -1,5 +1,5 @@
 -- Why notes say that a TEI came or left: each row of TEI management, and each event of a line.
-use Rattle.laws_line.proofs.Vocabulary.{◌≡◌, ℕ, ◌+◌, ◌*◌, ◌/◌, ◌%◌, ◌==◌, ◌&&◌, nat_le, Bool, true, false, cond, List, [], ◌∷◌, ◌++◌, Option, Some, None, refl, sym, subst, and_parts, All-nil, All-cons, All-append, All-weaker, Note, Assigned, Removed, Doubled, Refusal, Service, Call, Packet, T201, Terms, LinkTimer, IsOwn, Link, notes-own, Period, First, Second, Change, Left, IdentityRemove, Management, heard_in, heard_of_type, free_place, free_tei, no_room, lose_one, unserved, check_is, begin_check, end_check, send, leave, Config, hears, request, next, LineTold, at_management, told_of_management, of_link, of_change, of_aim, at_timer, Line, place_in, link_in, terms, unless_refused_told, Request, Establish, Release, Assign, Remove, SetBusy, ClearBusy, Deactivate, at_requested, at_deactivated, aim_of_request, Down, eqb-true, All, T200, T203, TeiCheck as Check, Course, tei_begun as begun, Event, expiry, answer, unless_refused, group_tei, refusal, Data, Unit, Check as Checking, notes_of, asks, responds, Says, HasReason, HaveReasons}
+use Rattle.laws_line.proofs.Vocabulary.{arith, ◌≡◌, ℕ, ◌+◌, ◌*◌, ◌/◌, ◌%◌, ◌==◌, ◌&&◌, nat_le, Bool, true, false, List, [], ◌∷◌, ◌++◌, Option, Some, None, refl, sym, subst, and_parts, All-nil, All-cons, All-append, All-weaker, Note, Assigned, Removed, Doubled, Refusal, Service, Call, Packet, T201, Terms, LinkTimer, IsOwn, Link, notes-own, Change, Left, Management, heard_in, heard_of_type, Config, hears, request, next, LineTold, at_management, of_link, of_change, of_aim, at_timer, Line, place_in, link_in, terms, unless_refused_told, Request, at_requested, at_deactivated, aim_of_request, eqb-true, All, T200, T203, TeiCheck as Check, Course, tei_begun as begun, Event, expiry, answer, unless_refused, group_tei, refusal, Unit, notes_of, asks, responds, Says, HasReason, HaveReasons}
 use Rattle.model_link.specs.Events as link
 use Rattle.model_link.specs.Machine as links
 use Rattle.lapd_tei.specs.Events as teis
@@ -17,55 +17,19 @@ module _ (P : Note → Type 0) (m : Management) where
   one n h = All-cons P n [] h (All-nil P)
 
   new-noted : ((tei : ℕ) → P (Assigned tei)) → (ri : ℕ) (place tei : Option ℕ) → Each (rows.assign_new ri place tei (begun m))
-  new-noted h ri None None = All-nil P
-  new-noted h ri None (Some tei) = All-nil P
-  new-noted h ri (Some place) None = All-nil P
-  new-noted h ri (Some place) (Some tei) = one (Assigned tei) (h tei)
-
-  assign-noted : ((tei : ℕ) → P (Assigned tei)) → (ri : ℕ) (o : Option ℕ) → Each (rows.assign ri o (begun m))
-  assign-noted h ri None = new-noted h ri (free_place m.places) (free_tei m.places)
-  assign-noted h ri (Some tei) = All-nil P
+  new-noted h ri place tei = grind (arith, one)
 
   request-noted : ((tei : ℕ) → P (Assigned tei)) → (ri : ℕ) → Each (rows.request ri (begun m))
-  request-noted h ri = go (no_room m.waiting)
-    where
-      go : (b : Bool) → Each ((cond b lose_one (rows.assign ri (rows.remembered_in ri m.remembered))) (begun m))
-      go true = All-nil P
-      go false = assign-noted h ri (rows.remembered_in ri m.remembered)
+  request-noted h ri = grind (arith, new-noted)
 
   verify-noted : (tei : ℕ) → Each (rows.verify tei (begun m))
-  verify-noted tei = go (rows.may_be_checked tei m)
-    where
-      go : (b : Bool) → Each ((cond b (begin_check tei) unserved) (begun m))
-      go true = All-nil P
-      go false = All-nil P
-
-  count-noted : (tei : ℕ) → P (Doubled tei) → (check : Check) → Each (rows.count tei check (begun m))
-  count-noted tei h check = go (nat_le 2 (rows.responses check))
-    where
-      go : (b : Bool) → Each ((cond b (rows.doubled tei) (check_is (Some check))) (begun m))
-      go true = one (Doubled tei) h
-      go false = All-nil P
+  verify-noted tei = grind arith
 
   respond-noted : (tei : ℕ) → P (Doubled tei) → (o : Option Check) → Each (rows.respond tei o (begun m))
-  respond-noted tei h None = All-nil P
-  respond-noted tei h (Some check) = go (check.tei == tei)
-    where
-      go : (b : Bool) → Each ((cond b (rows.count tei (rows.counted check)) unserved) (begun m))
-      go true = count-noted tei h (rows.counted check)
-      go false = All-nil P
-
-  ends-noted : ((tei : ℕ) → P (Removed tei)) → (p : Period) (check : Check) → Each (rows.expire_period check p (begun m))
-  ends-noted h First check = All-nil P
-  ends-noted h Second check = go (rows.is_unanswered check)
-    where
-      go : (b : Bool) → Each ((cond b (rows.removed check.tei) end_check) (begun m))
-      go true = one (Removed check.tei) (h check.tei)
-      go false = All-nil P
+  respond-noted tei h o = grind (arith, nat_le, one)
 
   expiry-noted : ((tei : ℕ) → P (Removed tei)) → (o : Option Check) → Each (rows.expire_check o (begun m))
-  expiry-noted h None = All-nil P
-  expiry-noted h (Some check) = ends-noted h check.period check
+  expiry-noted h o = grind (arith, one)
 
   -- what a message of a terminal has noted is explained by its octets
   module _ (info : List ℕ) (when-asked : (ri tei : ℕ) → Says info (asks ri) → P (Assigned tei)) (when-answered : (tei : ℕ) → Says info (responds tei) → P (Doubled tei)) where
@@ -83,31 +47,7 @@ module _ (P : Note → Type 0) (m : Management) where
     by-type entity high low type last is ours odd false false false e1 e2 e3 = rw (e1, e2, e3) (All-nil P)
 
     message-noted : (octets : List ℕ) → info ≡ octets → Each (rows.serve (heard_in octets) (begun m))
-    message-noted [] is = All-nil P
-    message-noted (entity ∷ high ∷ low ∷ type ∷ last ∷ []) is = go (entity == 0x0F && last % 2 == 1) refl
-      where
-        go : (b : Bool) → (entity == 0x0F && last % 2 == 1) ≡ b → Each (rows.serve (cond b (heard_of_type type (256 * high + low) (last / 2)) None) (begun m))
-        go true e =
-            let both = and_parts (entity == 0x0F) (last % 2 == 1) e in
-            by-type entity high low type last is (eqb-true entity 0x0F both.0) (eqb-true (last % 2) 1 both.1)
-            (type == 1 && last / 2 == 127) (type == 5) (type == 7) refl refl refl
-        go false e = All-nil P
-    message-noted other is = All-nil P
-
-  put-noted : (tei : ℕ) (o : Option ℕ) → Each (rows.join_at tei o (begun m))
-  put-noted tei None = All-nil P
-  put-noted tei (Some place) = All-nil P
-
-  off-noted : (tei : ℕ) → Each (rows.take_off tei (begun m))
-  off-noted tei = go (rows.is_checked tei m.check)
-    where
-      go : (b : Bool) → Each (leave tei ((cond b end_check rows.nothing_happens) (send (IdentityRemove tei) (begun m))))
-      go true = All-nil P
-      go false = All-nil P
-
-  unless-noted : (o : Option Refusal) (e : teis.Event) → Each (teis.step e (begun m)) → Each (teis.unless_refused o (teis.step e) m)
-  unless-noted None e h = h
-  unless-noted (Some why) e h = All-nil P
+    message-noted octets is = grind (arith, and_parts, by-type, eqb-true)
 
 -- Each event of a line. Notes of links say nothing of TEIs.
 module _ (c : Config) (l : Line) (e : Event) where
@@ -115,10 +55,7 @@ module _ (c : Config) (l : Line) (e : Event) where
   P = HasReason c e
 
   own : (t : Terms) (n : Note) → IsOwn t n → P n
-  own t (Note.Assigned n) h = absurd h
-  own t (Note.Removed n) h = absurd h
-  own t (Note.Doubled n) h = absurd h
-  own t other h = tt
+  own t n h = grind arith
 
   link-noted : (t : Terms) (what : link.Event) (x : Link) → All P (links.told t what x).notes
   link-noted t what x = All-weaker (IsOwn t) P (λ n h. own t n h) (links.told t what x).notes (notes-own t what x)
@@ -133,39 +70,20 @@ module _ (c : Config) (l : Line) (e : Event) where
   change-noted other t at h = h
 
   management-noted : (what : teis.Event) (at : Line) → All P (teis.told what at.management).notes → All P (of_aim c (at_management what) at).told.notes
-  management-noted what at h =
-      change-noted (teis.told what at.management).change (told_of_management (teis.told what at.management)) (record at { management = teis.after what at.management }) h
+  management-noted what at h = grind (arith, change-noted)
 
   timer-noted : (service : Service) (tei : ℕ) (timer : LinkTimer) (o : Option ℕ) → All P (of_aim c (at_timer service tei timer o) l).told.notes
-  timer-noted service tei timer None = All-nil P
-  timer-noted service tei timer (Some place) = link-noted (terms c service tei) (link.expired timer) (link_in l service place)
+  timer-noted service tei timer o = grind (arith, link-noted)
 
   asked-noted : (service : Service) (tei : ℕ) (what : link.Request) (o : Option ℕ) → All P (of_aim c (at_requested service tei what o) l).told.notes
-  asked-noted service tei what None = All-nil P
-  asked-noted service tei what (Some place) = link-noted (terms c service tei) (link.requested what false) (link_in l service place)
+  asked-noted service tei what o = grind (arith, link-noted)
 
   deactivated-noted : (service : Service) (tei : ℕ) (o : Option ℕ) → All P (of_aim c (at_deactivated service tei o) l).told.notes
-  deactivated-noted service tei None = All-nil P
-  deactivated-noted service tei (Some place) = link-noted (terms c service tei) link.cleared (link_in l service place)
+  deactivated-noted service tei o = grind (arith, link-noted)
 
   granted-noted : (r : Request) → All P (of_aim c (aim_of_request r l) l).told.notes
   unfolding teis.course
-  granted-noted (Establish service tei) = asked-noted service tei link.Establish (place_in l tei)
-  granted-noted (Release service tei) = asked-noted service tei link.Release (place_in l tei)
-  granted-noted (Data service tei contents) = asked-noted service tei (link.Data contents) (place_in l tei)
-  granted-noted (Unit service tei contents) = All-nil P
-  granted-noted (SetBusy service tei) = asked-noted service tei link.SetBusy (place_in l tei)
-  granted-noted (ClearBusy service tei) = asked-noted service tei link.ClearBusy (place_in l tei)
-  granted-noted (Deactivate service tei) = deactivated-noted service tei (place_in l tei)
-  granted-noted Down = by-down c l (λ f. All P f.told.notes) (All-nil P)
-  granted-noted (Assign tei) =
-      management-noted (teis.assign tei) l
-      (unless-noted P l.management (teis.refusal (teis.assign tei) l.management) (teis.assign tei) (put-noted P l.management tei (free_place l.management.places)))
-  granted-noted (Remove tei) =
-      management-noted (teis.remove tei) l
-      (unless-noted P l.management (teis.refusal (teis.remove tei) l.management) (teis.remove tei) (off-noted P l.management tei))
-  granted-noted (Checking tei) =
-      management-noted (teis.check tei) l (unless-noted P l.management (teis.refusal (teis.check tei) l.management) (teis.check tei) (All-nil P))
+  granted-noted r = grind (arith, asked-noted, deactivated-noted, by-down, management-noted)
 
 pub have-reasons : (c : Config) (e : Event) (l : Line) → HaveReasons c e (answer c e l)
 unfolding answer teis.course teis.refusal

@@ -1,5 +1,5 @@
 -- A call for the next frame leaves the timers that run.
-use Rattle.laws_line.proofs.Vocabulary.{◌≡◌, List, [], Some, refl, ap, sym, subst, arith, IfSome, inl, inr, ◌⊎◌, option_map_or, get_or-set_same, Order, Terms, Link, Given, given-leaves, Config, next, orders_in, Line, service_at, link_at, terms, Taken, with_given_frame, taken, next_of, line_of, next_walk, option_map, fresh, Event, gave as gives, after, answer, IsSound, StartsOne, LeavesTimers}
+use Rattle.laws_line.proofs.Vocabulary.{◌≡◌, List, [], Some, refl, ap, sym, subst, arith, IfSome, inl, inr, ◌⊎◌, option_map_or, get_or-set_same, Order, Terms, Link, Given, given-leaves, Config, orders_in, Line, service_at, link_at, terms, Taken, with_given_frame, taken, next_of, line_of, next_walk, option_map, Event, gave as gives, after, answer, IsSound, StartsOne, LeavesTimers}
 use Rattle.model_link.specs.Events as link
 use Rattle.model_link.specs.Machine as links
 use Rattle.laws_link.specs.Starting as starting
@@ -26,21 +26,11 @@ module _ (c : Config) (l : Line) (s : IsSound c l) where
       offered = links.after its link.offer (link_at x.number l)
 
       go : starting.LeavesTimers its (link_at x.number l) offered x.what.orders → Leaves x.what.orders (with_given_frame c l x.number its x.what).line
-      go (inl none) = inl none
-      go (inr starts) =
-          inr (record {
-            number = x.number;
-            tei = x.tei;
-            on_line = x.on_line;
-            starts =
-                subst (λ y. starting.StartsT200 its (link_at x.number l) y x.what.orders)
-                (sym (get_or-set_same l.links x.number offered fresh (omega (arith, x.few, s.count)))) starts;
-          })
+      go o = grind (arith, its, get_or-set_same, offered)
 
   called : Leaves (orders_in (gives (option_map next_of (taken c l)))) (option_map_or line_of (taken c l) l)
   called = next_walk c l (IsOne c l) (λ o m. Leaves (orders_in (gives (option_map next_of o))) m) (taken-one c l s) (inl refl) took
 
 pub takes-leave : (c : Config) (e : Event) (l : Line) → IsSound c l → LeavesTimers c e l (after c e l) (answer c e l)
 unfolding after answer
-takes-leave c next l s = called c l s
-takes-leave c other l s = tt
+takes-leave c e l s = grind (arith, called)

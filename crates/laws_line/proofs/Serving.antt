@@ -1,7 +1,6 @@
 -- What is taken.
-use Rattle.laws_line.proofs.Vocabulary.{◌≡◌, ℕ, ◌+◌, ◌<◌, false, cond, List, [], ◌∷◌, ◌++◌, drop, take, slice_get, get_or, set, Option, Some, None, refl, sym, ap, ◌∙◌, subst, arith, zero-add, append-nil, inl, inr, IfSome, range_with_len, option_or, option_map_or, unwrap_or, get_or-set_same, take-append-drop, All-head, All-tail, All-nil, All-cons, All-get_or, All-append, get_or-range_with_len, length-range_with_len, none-some, Refusal, Service, Timer, T201, LinkTimer, Change, Gained, Left, Terms, Link, is_information, Given, IsInOrder, IsOffered, given-in-order, given-is-offered, carried-is, offer-counts, nothing-given, Message, Config, hears, request, next, Aim, at_management, at_units, told_of_management, of_change, of_aim, at_timer, aim_of_expiry, aim_of_heard, Request, Establish, Release, SetBusy, ClearBusy, Deactivate, at_requested, at_deactivated, aim_of_request, heard_aims, Line, UnitData, link_count, service_at, place_at, place_in, tei_at, terms, terms_at, link_at, with_link, unless_refused_told, Taken, with_unit, with_given_frame, link_taken, first_taken, round, taken, line_of, IsSoundAt, round_below, at_no_link, option_map, All, T200, T203, fresh, link_one as one, frame_of, Event, expiry, refusal, Data, is_granted, after, answer, unless_refused, with_message, IsSound, IsSilent, IsSilentAt, IsItsTurn, IsOfLink, IsOwed, HasNothing, IsIdle, line_contents_of as contents_of, IsServed, unit_asked, units_behind, units_left, UnitsWait, TurnStays}
+use Rattle.laws_line.proofs.Vocabulary.{◌≡◌, ℕ, ◌+◌, ◌<◌, false, cond, List, [], ◌∷◌, ◌++◌, drop, take, slice_get, get_or, set, Option, Some, None, refl, sym, ap, ◌∙◌, subst, arith, zero-add, append-nil, IfSome, range_with_len, option_or, option_map_or, get_or-set_same, take-append-drop, All-head, All-tail, All-nil, All-cons, All-get_or, All-append, get_or-range_with_len, length-range_with_len, none-some, Refusal, Service, Timer, LinkTimer, Link, is_information, Given, IsInOrder, IsOffered, given-in-order, given-is-offered, carried-is, offer-counts, nothing-given, Message, Config, hears, request, next, Aim, at_units, of_aim, at_timer, aim_of_expiry, aim_of_heard, Request, at_requested, at_deactivated, aim_of_request, heard_aims, Line, UnitData, link_count, service_at, place_at, tei_at, terms, terms_at, link_at, with_link, unless_refused_told, Taken, with_unit, with_given_frame, link_taken, first_taken, round, taken, IsSoundAt, round_below, at_no_link, option_map, All, fresh, link_one as one, frame_of, Event, expiry, refusal, is_granted, after, answer, unless_refused, with_message, IsSound, IsSilent, IsSilentAt, IsItsTurn, IsOfLink, IsOwed, HasNothing, line_contents_of as contents_of, IsServed, unit_asked, units_behind, units_left, UnitsWait, TurnStays}
 use Rattle.model_bits.specs.Stream as stream
-use Rattle.lapd_tei.specs.Events as teis
 use Rattle.model_link.specs.Events as link
 use Rattle.model_link.specs.Machine as links
 use Rattle.model_link.specs.Sound as link_sound
@@ -69,13 +68,7 @@ module _ (c : Config) (l : Line) (s : IsSound c l) where
           )
 
       go : (o : Option ℕ) → tei_at (place_at number) l ≡ o → IsSoundAt c number (link_at number l) o → LinkFate number (link_taken c l number)
-      go None e begins =
-          let none : link_taken c l number ≡ None = ap (option_map (with_given_frame c l number (terms_at c number l))) (fresh-gives number begins) in
-          subst (LinkFate number) (sym none) (λ tei at. absurd (none-some tei (sym e ∙ at)))
-      go (Some tei) e sound =
-          let t : terms_at c number l ≡ terms c (service_at number) tei = ap (λ o. terms c (service_at number) (unwrap_or o 0)) e in
-          subst (λ (t : Terms). LinkFate number (option_map (with_given_frame c l number t) (links.given t (link_at number l)))) (sym t)
-          (at-tei tei e sound (links.given (terms c (service_at number) tei) (link_at number l)) refl)
+      go o e begins = grind (arith, option_map, fresh-gives, none-some, at-tei)
 
   -- all links of a round
   abbrev Idle : ℕ → Type 0
@@ -127,25 +120,7 @@ module _ (c : Config) (l : Line) (s : IsSound c l) where
 
   by-all : (m : Option Message) → slice_get l.management.waiting 0 ≡ m → (u : Option UnitData) → slice_get l.units 0 ≡ u
       → Fate (option_or (option_map (with_message l) (option_map (frame_of c.side) m)) (option_or (option_map (with_unit c l) u) (first_taken c l (round c l))))
-  by-all (Some message) e u e' = inl (record { message = message; oldest = e; spelled = refl; line = refl })
-  by-all None e (Some unit) e' =
-      inr (inl (record { no_message = no-first l.management.waiting e; unit = unit; oldest = e'; spelled = refl; line = refl }))
-  by-all None e None e' = go (first_taken c l (round c l)) (by-round (round c l) (round_below c l))
-    where
-      go : (o : Option Taken) → RoundFate (round c l) o → Fate o
-      go (Some t) x = inr (inr (x.fate (record {
-        no_message = no-first l.management.waiting e;
-        no_unit = no-first l.units e';
-        passed = x.passed;
-        behind = x.behind;
-        place = x.place;
-        all_silent = x.all_silent;
-      })))
-      go None x = record {
-        messages = no-first l.management.waiting e;
-        units = no-first l.units e';
-        links = λ number few. whole-round x number few;
-      }
+  by-all m e u e' = grind (arith, no-first, by-round, round_below, whole-round)
 
   taken-is : Fate (taken c l)
   taken-is = by-all (slice_get l.management.waiting 0) refl (slice_get l.units 0) refl
@@ -155,15 +130,7 @@ module _ (c : Config) (l : Line) (s : IsSound c l) where
 
   pub served : IsServed c (contents_of l) l
   unfolding after
-  served = go (taken c l) taken-is
-    where
-      go : (o : Option Taken) → Fate o
-          → elim o as (λ o. Type 0) [
-            | None ↦ IsIdle c l (option_map_or line_of o l)
-            | Some t ↦ IsOwed c (contents_of l) l (option_map_or line_of o l) t.frame
-          ]
-      go None x = record { nothing = x; line = refl }
-      go (Some t) x = x
+  served = grind (arith, taken-is)
 
 -- Unit data that waits.
 module _ (c : Config) where
@@ -179,15 +146,7 @@ module _ (c : Config) where
   units_by aim units = left_by aim units ++ unit_of aim
 
   aim-units : (l m : Line) (aim : Aim) → m.units ≡ l.units → (of_aim c aim m).line.units ≡ units_by aim l.units
-  aim-units l m (at_management what) e = by-change (teis.told what m.management).change ∙ e ∙ sym (append-nil l.units)
-    where
-      by-change : (o : Option Change) → (of_change c o (told_of_management (teis.told what m.management)) (record m { management = teis.after what m.management })).line.units ≡ m.units
-      by-change None = refl
-      by-change (Some (Gained tei place)) = refl
-      by-change (Some (Left tei place)) = refl
-  aim-units l m (at_units unit) e = ap (λ us. us ++ unit ∷ []) e
-  aim-units l m at_no_link e = by-down c m (λ f. f.line.units ≡ []) refl
-  aim-units l m other e = e ∙ sym (append-nil l.units)
+  aim-units l m aim e = grind (arith, append-nil, by-down)
 
   none-heard : (l : Line) (e : stream.Event) → units_by (aim_of_heard c l e) l.units ≡ l.units
   none-heard l e =
@@ -195,30 +154,19 @@ module _ (c : Config) where
       heard_aims c l (λ aim. units_by aim l.units ≡ l.units) (λ cause. none) (λ service tei place what at. none) (λ info. none) (λ parts service to. none) e
 
   by-timer : (service : Service) (tei : ℕ) (timer : LinkTimer) (o : Option ℕ) (units : List UnitData) → units_by (at_timer service tei timer o) units ≡ units
-  by-timer service tei timer None units = append-nil units
-  by-timer service tei timer (Some place) units = append-nil units
+  by-timer service tei timer o units = grind (arith, append-nil)
 
   by-expiry : (l : Line) (timer : Timer) → units_by (aim_of_expiry timer l) l.units ≡ l.units
-  by-expiry l (T200 service tei) = by-timer service tei LinkTimer.T200 (place_in l tei) l.units
-  by-expiry l (T203 service tei) = by-timer service tei LinkTimer.T203 (place_in l tei) l.units
-  by-expiry l T201 = append-nil l.units
+  by-expiry l timer = grind (arith, by-timer, append-nil)
 
   by-asked : (service : Service) (tei : ℕ) (what : link.Request) (o : Option ℕ) (units : List UnitData) → units_by (at_requested service tei what o) units ≡ units ++ []
-  by-asked service tei what None units = refl
-  by-asked service tei what (Some place) units = refl
+  by-asked service tei what o units = grind arith
 
   by-deactivated : (service : Service) (tei : ℕ) (o : Option ℕ) (units : List UnitData) → units_by (at_deactivated service tei o) units ≡ units ++ []
-  by-deactivated service tei None units = refl
-  by-deactivated service tei (Some place) units = refl
+  by-deactivated service tei o units = grind arith
 
   by-request : (l : Line) (r : Request) → units_by (aim_of_request r l) l.units ≡ units_behind r l.units ++ unit_asked r
-  by-request l (Establish service tei) = by-asked service tei link.Establish (place_in l tei) l.units
-  by-request l (Release service tei) = by-asked service tei link.Release (place_in l tei) l.units
-  by-request l (Data service tei contents) = by-asked service tei (link.Data contents) (place_in l tei) l.units
-  by-request l (SetBusy service tei) = by-asked service tei link.SetBusy (place_in l tei) l.units
-  by-request l (ClearBusy service tei) = by-asked service tei link.ClearBusy (place_in l tei) l.units
-  by-request l (Deactivate service tei) = by-deactivated service tei (place_in l tei) l.units
-  by-request l other = refl
+  by-request l r = grind (arith, by-asked, by-deactivated)
 
 pub units-wait : (c : Config) (e : Event) (l : Line) → UnitsWait e l (after c e l) (answer c e l)
 unfolding after answer
@@ -229,24 +177,10 @@ units-wait c (request r) l = go (refusal c false r l)
     go : (o : Option Refusal) → (of_aim c (unless_refused o (aim_of_request r l)) l).line.units
         ≡ units_left r (unless_refused_told o (of_aim c (unless_refused o (aim_of_request r l)) l)) l.units
         ++ cond (is_granted (unless_refused_told o (of_aim c (unless_refused o (aim_of_request r l)) l))) (unit_asked r) []
-    go None = aim-units c l l (aim_of_request r l) refl ∙ by-request c l r
-    go (Some why) = sym (append-nil l.units)
+    go o = grind (arith, aim-units, by-request, append-nil)
 units-wait c next l = tt
 
 -- Whose turn it is stays.
-aim-turn : (c : Config) (m : Line) (aim : Aim) → (of_aim c aim m).line.turn ≡ m.turn
-aim-turn c m (at_management what) = by-change (teis.told what m.management).change
-  where
-    by-change : (o : Option Change) → (of_change c o (told_of_management (teis.told what m.management)) (record m { management = teis.after what m.management })).line.turn ≡ m.turn
-    by-change None = refl
-    by-change (Some (Gained tei place)) = refl
-    by-change (Some (Left tei place)) = refl
-aim-turn c m at_no_link = by-down c m (λ f. f.line.turn ≡ m.turn) refl
-aim-turn c m other = refl
-
 pub turn-stays : (c : Config) (e : Event) (l : Line) → TurnStays e l (after c e l)
 unfolding after
-turn-stays c (hears e) l = aim-turn c l (aim_of_heard c l e)
-turn-stays c (expiry timer) l = aim-turn c l (aim_of_expiry timer l)
-turn-stays c (request r) l = aim-turn c l (unless_refused (refusal c false r l) (aim_of_request r l))
-turn-stays c next l = tt
+turn-stays c e l = grind (arith, by-down)

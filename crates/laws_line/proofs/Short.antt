@@ -1,5 +1,5 @@
 -- An answer has at most four notes and four orders.
-use Rattle.laws_line.proofs.Vocabulary.{ℕ, ◌≤◌, false, List, [], ◌∷◌, ◌++◌, length, Option, Some, None, IfSome, arith, length-append, option_or, Refusal, Service, Call, Packet, Timer, T201, Terms, LinkTimer, Link, Sent, event-tells, cleared-tells, two-orders, cleared-orders, Change, Left, Config, hears, request, next, LineTold, nothing, gave, at_timer, aim_of_expiry, notes_in, orders_in, Line, link_in, link_at, terms, terms_at, place_in, unless_refused_told, aim_of_heard, told_of_management, of_link, of_change, of_management, of_aim, Taken, message_taken, with_unit, unit_taken, with_given_frame, link_taken, first_taken, round, taken, next_of, Request, Establish, Release, Assign, Remove, SetBusy, ClearBusy, Deactivate, at_requested, at_deactivated, aim_of_request, IsBrief, told_brief, heard_aims, expiry_starts, Down, without_units, option_map, T200, T203, Event, expiry, AnswersAreShort, answer, unless_refused, with_message, refusal, Data, Unit, Check}
+use Rattle.laws_line.proofs.Vocabulary.{ℕ, ◌≤◌, false, List, [], ◌∷◌, ◌++◌, length, Option, Some, None, IfSome, arith, length-append, option_or, Refusal, Service, Timer, T201, Terms, LinkTimer, Link, event-tells, cleared-tells, two-orders, cleared-orders, Change, Config, hears, request, next, LineTold, nothing, gave, at_timer, aim_of_expiry, notes_in, orders_in, Line, link_in, link_at, terms, terms_at, place_in, unless_refused_told, aim_of_heard, told_of_management, of_link, of_change, of_management, of_aim, Taken, with_given_frame, link_taken, first_taken, taken, next_of, Request, Establish, Release, Assign, Remove, SetBusy, ClearBusy, Deactivate, at_requested, at_deactivated, aim_of_request, IsBrief, told_brief, heard_aims, expiry_starts, Down, without_units, option_map, T200, T203, Event, expiry, AnswersAreShort, answer, unless_refused, refusal, Data, Unit, Check}
 use Rattle.model_bits.specs.Stream as stream
 use Rattle.model_link.specs.Events as link
 use Rattle.model_link.specs.Machine as links
@@ -23,27 +23,10 @@ module _ (c : Config) where
 
   -- three lists after one another
   three : {X : Type 0} (xs ys zs : List X) → length xs ≤ 1 → length ys ≤ 1 → length zs ≤ 1 → length (xs ++ ys ++ zs) ≤ 4
-  three xs ys zs x y z =
-      let whole = length-append xs (ys ++ zs) in
-      let rest = length-append ys zs in
-      let other_whole = length-append (xs ++ ys) zs in
-      let front = length-append xs ys in
-      omega (arith, whole, rest, other_whole, front, x, y, z)
+  three xs ys zs x y z = grind (arith, length-append)
 
   change_short : (o : Option Change) (t : tei.TeiTold) (l : Line) → IsBrief t → IsShort (of_change c o (told_of_management t) l).told
-  change_short (Some (Left n place)) t l h =
-      let call = of_link c Call n place link.cleared l in
-      let first = link_in l Call place in
-      let second = link_in call.line Packet place in
-      record {
-        notes =
-            three t.notes call.told.notes (of_link c Packet n place link.cleared call.line).told.notes h.notes
-            (cleared-tells (terms c Call n) first) (cleared-tells (terms c Packet n) second);
-        orders =
-            three call.told.orders (of_link c Packet n place link.cleared call.line).told.orders t.orders
-            (cleared-orders (terms c Call n) first) (cleared-orders (terms c Packet n) second) h.orders;
-      }
-  change_short other t l h = record { notes = omega (arith, h.notes); orders = omega (arith, h.orders) }
+  change_short o t l h = grind (arith, three, cleared-tells, cleared-orders)
 
   management_short : (e : teis.Event) (l : Line) → IsShort (of_management c e l).told
   management_short e l =
@@ -60,8 +43,7 @@ module _ (c : Config) where
       (λ parts service to. record { notes = omega arith; orders = omega arith })
 
   timer_short : (l : Line) (service : Service) (n : ℕ) (timer : LinkTimer) (o : Option ℕ) → IsShort (of_aim c (at_timer service n timer o) l).told
-  timer_short l service n timer None = none_short
-  timer_short l service n timer (Some place) = link_short service n place (link.expired timer) l
+  timer_short l service n timer o = grind (arith, none_short, link_short)
 
   expiry_short : (l : Line) (timer : Timer) → IsShort (of_aim c (aim_of_expiry timer l) l).told
   expiry_short l (T200 service n) = timer_short l service n LinkTimer.T200 (place_in l n)
@@ -73,8 +55,7 @@ module _ (c : Config) where
   requested_short l service n what (Some place) = link_short service n place (link.requested what false) l
 
   deactivated_short : (l : Line) (service : Service) (n : ℕ) (o : Option ℕ) → IsShort (of_aim c (at_deactivated service n o) l).told
-  deactivated_short l service n None = none_short
-  deactivated_short l service n (Some place) = link_short service n place link.cleared l
+  deactivated_short l service n o = grind (arith, none_short, link_short)
 
   request_short : (l : Line) (r : Request) → IsShort (of_aim c (aim_of_request r l) l).told
   request_short l (Establish service n) = requested_short l service n link.Establish (place_in l n)
@@ -94,23 +75,16 @@ module _ (c : Config) where
   HasFewOrders t = length t.orders ≤ 2
 
   mapped : {X Y : Type 0} (f : X → Y) (P : Y → Type 0) (o : Option X) → IfSome o (λ x. P (f x)) → IfSome (option_map f o) P
-  mapped f P None h = tt
-  mapped f P (Some x) h = h
+  mapped f P o h = grind arith
 
   anything : {X : Type 0} (P : X → Type 0) (o : Option X) → ((x : X) → P x) → IfSome o P
-  anything P None h = tt
-  anything P (Some x) h = h x
+  anything P o h = grind arith
 
   given_few : (t : Terms) (l : Link) → IfSome (links.given t l) (λ g. length g.orders ≤ 2)
-  given_few t l = go (links.course t link.offer l).sent
-    where
-      go : (o : Option Sent) → IfSome (links.given_of t l (links.course t link.offer l) o) (λ g. length g.orders ≤ 2)
-      go None = tt
-      go (Some s) = omega (arith, two-orders t l.running (links.course t link.offer l).started (links.course t link.offer l).link.running)
+  given_few t l = grind (arith, two-orders)
 
   first_few : (P : Taken → Type 0) (o rest : Option Taken) → IfSome o P → IfSome rest P → IfSome (option_or o rest) P
-  first_few P None rest h h' = h'
-  first_few P (Some t) rest h h' = h
+  first_few P o rest h h' = grind arith
 
   links_few : (l : Line) (ns : List ℕ) → IfSome (first_taken c l ns) HasFewOrders
   unfolding HasFewOrders
@@ -122,35 +96,23 @@ module _ (c : Config) where
 
   taken_few : (l : Line) → IfSome (taken c l) HasFewOrders
   unfolding HasFewOrders
-  taken_few l =
-      first_few HasFewOrders (message_taken c l) (option_or (unit_taken c l) (first_taken c l (round c l)))
-      (mapped (with_message l) HasFewOrders _ (anything (λ octets. 0 ≤ 2) _ (λ octets. omega arith)))
-      (first_few HasFewOrders (unit_taken c l) (first_taken c l (round c l))
-      (mapped (with_unit c l) HasFewOrders _ (anything (λ u. 0 ≤ 2) _ (λ u. omega arith))) (links_few l (round c l)))
+  taken_few l = grind (arith, first_few, HasFewOrders, mapped, anything, links_few)
 
   next_few : (l : Line) → length (orders_in (gave (option_map next_of (taken c l)))) ≤ 2
   unfolding HasFewOrders
   next_few l = go (taken c l) (taken_few l)
     where
       go : (o : Option Taken) → IfSome o HasFewOrders → length (orders_in (gave (option_map next_of o))) ≤ 2
-      go None h = omega arith
-      go (Some t) h = h
+      go o h = grind arith
 
   -- any event
-  request_notes : (r : Request) (l : Line) (o : Option Refusal) → length (notes_in (unless_refused_told o (of_aim c (unless_refused o (aim_of_request r l)) l))) ≤ 4
-  request_notes r l None = (request_short l r).notes
-  request_notes r l (Some why) = omega arith
-
   request_orders : (r : Request) (l : Line) (o : Option Refusal) → length (orders_in (unless_refused_told o (of_aim c (unless_refused o (aim_of_request r l)) l))) ≤ 4
   request_orders r l None = (request_short l r).orders
   request_orders r l (Some why) = omega arith
 
   notes_few : (e : Event) (l : Line) → length (notes_in (answer c e l)) ≤ 4
   unfolding answer
-  notes_few (hears e) l = (heard_short l e).notes
-  notes_few (expiry timer) l = (expiry_short l timer).notes
-  notes_few (request r) l = request_notes r l (refusal c false r l)
-  notes_few next l = omega arith
+  notes_few e l = grind (arith, heard_short, expiry_short, request_short)
 
   orders_few : (e : Event) (l : Line) → length (orders_in (answer c e l)) ≤ 4
   unfolding answer

@@ -1,5 +1,5 @@
 -- Which event of TEI management changes the table, and what is noted of it: each row.
-use Rattle.laws_line.proofs.Vocabulary.{◌≡◌, ℕ, ◌+◌, ◌*◌, ◌/◌, ◌%◌, ◌==◌, ◌&&◌, nat_le, Bool, true, false, cond, List, [], ◌∷◌, Option, Some, None, IfSome, refl, sym, ap, ◌∙◌, true≢false, Note, Assigned, Removed, Doubled, Refusal, Period, First, Second, IdentityRemove, Change, Gained, Left, heard_in, heard_of_type, Places, is_on, place_of, free_place, free_tei, Management, Step, no_room, send, lose_one, unserved, leave, left, check_is, begin_check, end_check, remembered_in, assign_new, assign, may_be_checked, responses, doubled, count, respond, serve, removed, is_unanswered, expire_period, expire_check, nothing_happens, join_at, put_on, is_checked, take_off, message, remove, check, step, course, IsSoundCheck, subst, option_map, eqb-true, TeiCheck as Check, Course, tei_begun as begun, tei_counted as counted, TeiEvent as Event, tei_expiry as expiry, assigning, down, tei_refusal as refusal, tei_unless_refused as unless_refused, TeiTold, down_gives_up, TeiIsSound as IsSound}
+use Rattle.laws_line.proofs.Vocabulary.{arith, ◌≡◌, ℕ, ◌==◌, ◌&&◌, nat_le, Bool, true, false, cond, List, [], ◌∷◌, Option, Some, None, IfSome, refl, sym, ap, ◌∙◌, true≢false, Note, Assigned, Removed, Doubled, Refusal, Period, First, Second, IdentityRemove, Change, Gained, Left, heard_in, heard_of_type, Places, is_on, place_of, Management, Step, no_room, send, lose_one, unserved, leave, left, check_is, begin_check, end_check, remembered_in, assign_new, assign, may_be_checked, responses, doubled, count, respond, serve, removed, is_unanswered, expire_period, expire_check, nothing_happens, join_at, message, remove, course, IsSoundCheck, option_map, eqb-true, TeiCheck as Check, Course, tei_begun as begun, tei_counted as counted, TeiEvent as Event, tei_expiry as expiry, assigning, tei_refusal as refusal, tei_unless_refused as unless_refused, down_gives_up, TeiIsSound as IsSound}
 use Rattle.laws_line.proofs.Places.{is-off}
 
 -- A change of the table has its event, and its note.
@@ -23,18 +23,13 @@ abbrev Noted : Event → Course → Type 0
 Noted e c = ByChange e c.told.change c.told.notes
 
 either : (e : Event) (b : Bool) (one other : Step) (c : Course) → (b ≡ true → Noted e (one c)) → (b ≡ false → Noted e (other c)) → Noted e ((cond b one other) c)
-either e true one other c x y = x refl
-either e false one other c x y = y refl
+either e b one other c x y = grind arith
 
 new : (octets : List ℕ) (ri : ℕ) (m : Management) (place tei : Option ℕ) → Noted (message octets) (assign_new ri place tei (begun m))
-new octets ri m None None = refl
-new octets ri m None (Some tei) = refl
-new octets ri m (Some place) None = refl
-new octets ri m (Some place) (Some tei) = refl
+new octets ri m place tei = grind arith
 
 assigns : (octets : List ℕ) (ri : ℕ) (m : Management) (o : Option ℕ) → Noted (message octets) (assign ri o (begun m))
-assigns octets ri m None = new octets ri m (free_place m.places) (free_tei m.places)
-assigns octets ri m (Some tei) = refl
+assigns octets ri m o = grind (arith, new)
 
 -- a TEI that is on the line has a place, and leaves it
 no-place : (places : Places) (tei : ℕ) → is_on tei places ≡ true → place_of tei places ≡ None → ⊥
@@ -59,27 +54,20 @@ responds octets tei m (Some own) sound =
 -- what a message of a terminal is, by its type
 module _ (octets : List ℕ) (m : Management) (s : IsSound m) where
   asks : (ri : ℕ) → Noted (message octets) ((cond (no_room m.waiting) lose_one (assign ri (remembered_in ri m.remembered))) (begun m))
-  asks ri = either (message octets) (no_room m.waiting) lose_one (assign ri (remembered_in ri m.remembered)) (begun m) (λ full. refl)
-      (λ room. assigns octets ri m (remembered_in ri m.remembered))
+  asks ri = grind (arith, either, assigns)
 
   verifies : (tei : ℕ) → Noted (message octets) ((cond (may_be_checked tei m) (begin_check tei) unserved) (begun m))
   verifies tei = either (message octets) (may_be_checked tei m) (begin_check tei) unserved (begun m) (λ begins. refl) (λ stays. refl)
 
   by-type : (type ri action : ℕ) (request response verify : Bool) → (type == 1 && action == 127) ≡ request → (type == 5) ≡ response → (type == 7) ≡ verify
       → Noted (message octets) (serve (heard_of_type type ri action) (begun m))
-  by-type type ri action true response verify one two three = rw one (asks ri)
-  by-type type ri action false true verify one two three = rw (one, two) (responds octets action m m.check s.checked)
-  by-type type ri action false false true one two three = rw (one, two, three) (verifies action)
-  by-type type ri action false false false one two three = rw (one, two, three) refl
+  by-type type ri action request response verify one two three = grind (arith, asks, responds, verifies)
 
   by-frame : (type ri action : ℕ) (b : Bool) → Noted (message octets) (serve (cond b (heard_of_type type ri action) None) (begun m))
-  by-frame type ri action true = by-type type ri action (type == 1 && action == 127) (type == 5) (type == 7) refl refl refl
-  by-frame type ri action false = refl
+  by-frame type ri action b = grind (arith, by-type)
 
   serves : (heard : List ℕ) → Noted (message octets) (serve (heard_in heard) (begun m))
-  serves [] = refl
-  serves (entity ∷ high ∷ low ∷ type ∷ last ∷ []) = by-frame type (256 * high + low) (last / 2) (entity == 0x0F && last % 2 == 1)
-  serves other = refl
+  serves heard = grind (arith, by-frame)
 
 removes : (tei : ℕ) (m : Management) → is_on tei m.places ≡ true → Noted expiry (removed tei (begun m))
 removes tei m on = go (place_of tei m.places) refl
@@ -93,30 +81,20 @@ ends own First m on = refl
 ends own Second m on = either expiry (is_unanswered own) (removed own.tei) end_check (begun m) (λ unanswered. removes own.tei m on) (λ answered. refl)
 
 expires : (m : Management) (o : Option Check) → IfSome o (IsSoundCheck m.places) → Noted expiry (expire_check o (begun m))
-expires m None sound = refl
-expires m (Some own) sound = ends own own.period m sound.on_line
+expires m o sound = grind (arith, ends)
 
 joins : (tei : ℕ) (m : Management) (o : Option ℕ) → Noted (assigning tei) (join_at tei o (begun m))
-joins tei m None = refl
-joins tei m (Some place) = (refl, refl)
+joins tei m o = grind arith
 
 leaves : (tei : ℕ) (o : Option ℕ) → ByChange (remove tei) (option_map (left tei) o) []
-leaves tei None = refl
-leaves tei (Some place) = (refl, refl)
+leaves tei o = grind arith
 
 takes_off : (tei : ℕ) (m : Management) (b : Bool) → Noted (remove tei) (leave tei ((cond b end_check nothing_happens) (send (IdentityRemove tei) (begun m))))
-takes_off tei m true = leaves tei (place_of tei m.places)
-takes_off tei m false = leaves tei (place_of tei m.places)
+takes_off tei m b = grind (arith, leaves)
 
 unless : (e : Event) (o : Option Refusal) (does : Step) (m : Management) → Noted e (does (begun m)) → Noted e (unless_refused o does m)
-unless e None does m x = x
-unless e (Some why) does m x = refl
+unless e o does m x = grind arith
 
 pub noted : (e : Event) (m : Management) → IsSound m → Noted e (course e m)
 unfolding course refusal
-noted (message octets) m s = serves octets m s octets
-noted expiry m s = expires m m.check s.checked
-noted (assigning asked) m s = unless (assigning asked) (refusal (assigning asked) m) (put_on asked) m (joins asked m (free_place m.places))
-noted (remove asked) m s = unless (remove asked) (refusal (remove asked) m) (take_off asked) m (takes_off asked m (is_checked asked m.check))
-noted (check asked) m s = unless (check asked) (refusal (check asked) m) (step (check asked)) m refl
-noted down m s = subst (λ (t : TeiTold). ByChange down t.change t.notes) (sym (down_gives_up m).told) refl
+noted e m s = grind (arith, serves, expires, unless, joins, takes_off, down_gives_up)

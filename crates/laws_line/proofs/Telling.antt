@@ -1,5 +1,5 @@
 -- A TEI that is told to a terminal is on the line when its message comes to wait: each row.
-use Rattle.laws_line.proofs.Vocabulary.{◌≡◌, ◌⊎◌, inl, inr, ℕ, ◌==◌, Bool, true, false, List, [], ◌∷◌, ◌++◌, length, drop, get_or, Option, Some, None, refl, sym, ap, ◌∙◌, arith, true≢false, length-append, append_cancel_left, get_or-set_same, Management, Period, First, Second, Message, IdentityAssigned, IdentityCheckRequest, IdentityRemove, action_of, is_on, is_on-at, Config, Answer, Line, Request, Assign, Remove, IsInRange, Down, length-drop, TeiCheck as Check, Event, after, answer, Check as Checking, IsSound, HasCause, IsTaken, HaveCauses, AreThere, Said, asks, verifies, responds, IsSent, IsUnmoved, IsToldAgain, IsAssigned, IsDenied, Verifies, may_begin, is_answered, RespondsTo, Responds, Serves, ExpiresIn, Expires, Grants, is_of_management}
+use Rattle.laws_line.proofs.Vocabulary.{◌≡◌, ◌⊎◌, inl, inr, ℕ, Bool, true, false, List, [], ◌∷◌, ◌++◌, length, drop, get_or, Option, Some, None, refl, sym, ap, ◌∙◌, arith, true≢false, length-append, append_cancel_left, get_or-set_same, Management, Period, First, Second, Message, IdentityAssigned, IdentityCheckRequest, IdentityRemove, action_of, is_on, is_on-at, Config, Answer, Line, Request, Assign, Remove, IsInRange, Down, length-drop, TeiCheck as Check, Event, after, answer, Check as Checking, IsSound, HasCause, IsTaken, HaveCauses, AreThere, Said, asks, verifies, responds, IsSent, IsUnmoved, IsToldAgain, IsAssigned, IsDenied, Verifies, may_begin, RespondsTo, Responds, Serves, ExpiresIn, Expires, Grants, is_of_management}
 use Rattle.laws_line.proofs.Causing.{have-causes}
 
 -- whether a message tells a TEI to a terminal
@@ -30,8 +30,7 @@ module _ (before after : Management) (ri tei : ℕ) (more : after.waiting ≡ be
       omega (arith, longer, length-drop 1 before.waiting, length-append before.waiting (IdentityAssigned ri tei ∷ []))
 
   unsent : (message : Message) (lost : ℕ) → tells message ≡ false → IsSent message before after lost → ⊥
-  unsent message lost none (inl waits) = other message none waits.behind
-  unsent message lost none (inr full) = must-move full.same
+  unsent message lost none o = grind (arith, other, must-move)
 
   unmoved : (lost : ℕ) → IsUnmoved before after lost → ⊥
   unmoved lost h = must-move (ap (λ (m : Management). m.waiting) h.same)
@@ -59,8 +58,7 @@ module _ (before after : Management) (ri tei : ℕ) (more : after.waiting ≡ be
   answered-to true true check lost h = unsent (IdentityRemove check.tei) lost refl h.0
 
   responded : (own : ℕ) (o : Option Check) (lost : ℕ) → Responds own o before after lost → ⊥
-  responded own None lost h = unmoved lost h
-  responded own (Some check) lost h = answered-to (check.tei == own) (is_answered check) check lost h
+  responded own o lost h = grind (arith, unmoved, answered-to)
 
   by-heard : (said : Said) (lost : ℕ) → Serves said before after lost → is_on tei after.places ≡ true
   by-heard (asks own) lost (inl h) = asked own h.message h.waits.behind h.is
@@ -73,8 +71,7 @@ module _ (before after : Management) (ri tei : ℕ) (more : after.waiting ≡ be
   by-period Second check lost h = must-move h.0.same
 
   by-expiry : (o : Option Check) (lost : ℕ) → Expires o before after lost → ⊥
-  by-expiry None lost h = unmoved lost h
-  by-expiry (Some check) lost h = by-period check.period check lost h
+  by-expiry o lost h = grind (arith, unmoved, by-period)
 
   by-request : (r : Request) (lost : ℕ) → is_of_management r ≡ true → Grants r before after lost → ⊥
   by-request (Assign own) lost its h = must-move h.silent.same

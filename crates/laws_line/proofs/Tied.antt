@@ -1,5 +1,5 @@
 -- How what an event aims at is tied to the event.
-use Rattle.laws_line.proofs.Vocabulary.{◌≡◌, ℕ, Bool, true, false, ◌==◌, cond, List, Option, Some, None, Result, Ok, Err, refl, inl, inr, Address, Control, ReadFault, Undefined, WrongSize, Long, Service, Timer, T201, Tei, Unserved, Parts, reading, long_reading, service_of, LinkTimer, Config, hears, request, Answer, Aim, at_link, at_timer, aim_of_expiry, Line, place_in, drop_for, management_sapi, to_service, addressed, message_of, aim_of_reading, unless_at_link, aim_of_long, heard_side, aim_of_heard, side_aims, Request, Establish, Release, SetBusy, ClearBusy, Deactivate, at_requested, at_deactivated, aim_of_request, at_no_link, T200, T203, Event, expiry, group_tei, at_place, Data, is_granted, IsTooLong, BringsMalformed, IsBy, IsOf}
+use Rattle.laws_line.proofs.Vocabulary.{arith, ◌≡◌, ℕ, true, List, Option, Some, Result, Ok, Err, refl, inl, inr, Address, Control, ReadFault, Undefined, WrongSize, Long, Service, Timer, Unserved, Parts, reading, long_reading, service_of, Config, hears, request, Answer, Aim, at_link, aim_of_expiry, Line, drop_for, addressed, message_of, aim_of_reading, unless_at_link, aim_of_long, heard_side, aim_of_heard, side_aims, Request, Deactivate, at_requested, at_deactivated, aim_of_request, Event, expiry, at_place, is_granted, IsTooLong, BringsMalformed, IsBy, IsOf}
 use Rattle.model_bits.specs.Stream as stream
 use Rattle.model_link.specs.Events as link
 
@@ -12,29 +12,17 @@ module _ (c : Config) (l : Line) (e : Event) (answer : Answer) where
   Tied aim = Ties c e answer aim
 
   placed : (service : Service) (tei : ℕ) (what : link.Received) → IsBy c e answer service tei (link.received what) → (o : Option ℕ) → Tied (at_place service tei what o)
-  placed service tei what by None = tt
-  placed service tei what by (Some place) = by
-
-  to-its : (tei : ℕ) (what : link.Received) (o : Option Service) → ((service : Service) → o ≡ Some service → IsBy c e answer service tei (link.received what)) → Tied (to_service l tei what o)
-  to-its tei what None by = tt
-  to-its tei what (Some service) by = placed service tei what (by service refl) (place_in l tei)
+  placed service tei what by o = grind arith
 
   by-address : (address : Address) (what : link.Received) (m : Aim) → Tied m
       → ((service : Service) → service_of address.sapi ≡ Some service → IsBy c e answer service address.tei (link.received what)) → Tied (addressed l address what m)
-  by-address address what m ties by = go (address.sapi == management_sapi) (address.tei == group_tei)
-    where
-      go : (known group : Bool) → Tied (cond known (cond group m (drop_for Tei)) (to_service l address.tei what (service_of address.sapi)))
-      go true true = ties
-      go true false = tt
-      go false group = to-its address.tei what (service_of address.sapi) by
+  by-address address what m ties by = grind (arith, placed)
 
   message-ties : (k : Control) (info : List ℕ) → Tied (message_of k info)
-  message-ties (Control.Ui p) info = tt
-  message-ties other info = tt
+  message-ties k info = grind arith
 
   unless-ties : (aim : Aim) → Tied (unless_at_link aim)
-  unless-ties at_no_link = tt
-  unless-ties other = tt
+  unless-ties aim = grind arith
 
 -- What is heard.
 module _ (c : Config) (l : Line) (answer : Answer) where
@@ -73,32 +61,17 @@ heard-ties c l (stream.overlong head) answer = long-ties c l answer head (long_r
 heard-ties c l (stream.dropped cause) answer = tt
 
 -- An expiry.
-timer-ties : (c : Config) (l : Line) (answer : Answer) (service : Service) (tei : ℕ) (timer : LinkTimer) (o : Option ℕ)
-    → Ties c (expiry (Rattle.laws_line.specs.Steady.timer_of service tei timer)) answer (at_timer service tei timer o)
-timer-ties c l answer service tei timer None = tt
-timer-ties c l answer service tei timer (Some place) = refl
-
 pub expiry-ties : (c : Config) (l : Line) (timer : Timer) (answer : Answer) → Ties c (expiry timer) answer (aim_of_expiry timer l)
-expiry-ties c l (T200 service tei) answer = timer-ties c l answer service tei LinkTimer.T200 (place_in l tei)
-expiry-ties c l (T203 service tei) answer = timer-ties c l answer service tei LinkTimer.T203 (place_in l tei)
-expiry-ties c l T201 answer = tt
+expiry-ties c l timer answer = grind arith
 
 -- A request that is granted.
 module _ (c : Config) (l : Line) (answer : Answer) (granted : is_granted answer ≡ true) where
   asked-ties : (service : Service) (tei : ℕ) (asked : link.Request) (o : Option ℕ)
       → Ties c (request (Rattle.laws_line.specs.Requests.of_link service tei asked)) answer (at_requested service tei asked o)
-  asked-ties service tei asked None = tt
-  asked-ties service tei asked (Some place) = (refl, granted, refl)
+  asked-ties service tei asked o = grind arith
 
   deactivated-ties : (service : Service) (tei : ℕ) (o : Option ℕ) → Ties c (request (Deactivate service tei)) answer (at_deactivated service tei o)
-  deactivated-ties service tei None = tt
-  deactivated-ties service tei (Some place) = (refl, granted)
+  deactivated-ties service tei o = grind arith
 
   pub request-ties : (r : Request) → Ties c (request r) answer (aim_of_request r l)
-  request-ties (Establish service tei) = asked-ties service tei link.Establish (place_in l tei)
-  request-ties (Release service tei) = asked-ties service tei link.Release (place_in l tei)
-  request-ties (Data service tei contents) = asked-ties service tei (link.Data contents) (place_in l tei)
-  request-ties (SetBusy service tei) = asked-ties service tei link.SetBusy (place_in l tei)
-  request-ties (ClearBusy service tei) = asked-ties service tei link.ClearBusy (place_in l tei)
-  request-ties (Deactivate service tei) = deactivated-ties service tei (place_in l tei)
-  request-ties other = tt
+  request-ties r = grind (arith, asked-ties, deactivated-ties)

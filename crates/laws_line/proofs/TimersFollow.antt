@@ -1,5 +1,5 @@
 -- A caller that obeys the orders runs the timers that are needed: each event of a line.
-use Rattle.laws_line.proofs.Vocabulary.{◌≡◌, ◌≢◌, ℕ, zero, suc, ◌/◌, ◌%◌, ◌==◌, Bool, true, false, cond, arith, eq-eqb, true≢false, is_some, List, get_or, replicate, Option, Some, None, refl, ap, sym, ◌∙◌, subst, inl, inr, next_walk, option_map_or, none-some, Refusal, Service, Call, Packet, Order, Timer, T201, LinkTimer, Link, Sent, is_same, obeyed, IsTimed, Given, runs, timer_at, Terms, HasItsTimer, is-timed, timely-after, timely-fresh, sound-after, Follows, Moves, Management, IsSoundTable, Change, Gained, Left, t201_follows, expired_t201_follows, place_of-is, Config, request, gave, hears, next, at_link, at_management, at_units, told_of_management, of_change, of_aim, at_timer, is_running, runs_at, orders_in, Line, link_number, service_at, place_at, place_in, link_at, link_in, terms, with_link, fresh_line, link_count, unless_refused_told, aim_of_heard, Taken, with_unit, with_given_frame, taken, next_of, line_of, Request, Establish, Release, Assign, Remove, SetBusy, ClearBusy, Deactivate, at_requested, at_deactivated, aim_of_request, IsInRange, IsProper, heard_aims, request_proper, Down, without_units, at_no_link, option_map, eqb-true, T200, T203, fresh, Event, expiry, after, answer, unless_refused, with_message, refusal, Data, Unit, Check, IsSound, link_needs, is_needed, runs_then, HaveTheirTimers}
+use Rattle.laws_line.proofs.Vocabulary.{◌≡◌, ℕ, zero, suc, Bool, false, arith, eq-eqb, is_some, List, get_or, replicate, Option, Some, None, refl, ap, sym, ◌∙◌, subst, inl, inr, next_walk, option_map_or, none-some, Refusal, Service, Order, Timer, T201, LinkTimer, Link, obeyed, IsTimed, Given, timer_at, Terms, HasItsTimer, is-timed, timely-after, timely-fresh, sound-after, Follows, Moves, Management, IsSoundTable, Change, Gained, Left, t201_follows, expired_t201_follows, place_of-is, Config, request, gave, hears, next, at_link, at_management, at_units, told_of_management, of_change, of_aim, at_timer, is_running, orders_in, Line, link_number, service_at, place_at, place_in, link_at, link_in, terms, with_link, fresh_line, link_count, unless_refused_told, aim_of_heard, Taken, with_unit, with_given_frame, taken, next_of, line_of, Request, Establish, Release, Assign, Remove, SetBusy, ClearBusy, Deactivate, at_requested, at_deactivated, aim_of_request, IsInRange, IsProper, heard_aims, request_proper, Down, without_units, at_no_link, option_map, eqb-true, T200, T203, fresh, Event, expiry, after, answer, unless_refused, with_message, refusal, Data, Unit, Check, IsSound, link_needs, is_needed, runs_then, HaveTheirTimers}
 use Rattle.model_bits.specs.Stream as stream
 use Rattle.model_link.specs.Events as link
 use Rattle.model_link.specs.Machine as links
@@ -14,13 +14,7 @@ use Rattle.laws_line.proofs.Downs.{down-sound}
 
 -- a number is that of its place and its service
 pub number-is : (number : ℕ) → link_number (place_at number) (service_at number) ≡ number
-number-is number = go (number % 2 == 0) refl
-  where
-    go : (b : Bool) → (number % 2 == 0) ≡ b → link_number (number / 2) (cond b Call Packet) ≡ number
-    go true e = let even : number % 2 ≡ 0 = eqb-true (number % 2) 0 e in omega (arith, even)
-    go false e =
-        let odd : number % 2 ≢ 0 = λ x. true≢false (sym (eq-eqb (number % 2) 0 x) ∙ e) in
-        omega (arith, odd)
+number-is number = grind (arith, eqb-true, eq-eqb)
 
 -- what a caller that left its timers so runs by the orders is what a line runs
 abbrev Follow : (Timer → Bool → Bool) → Line → List Order → Line → Type 0
@@ -117,21 +111,7 @@ module _ (c : Config) (l : Line) (s : IsSound c l) where
 
   -- an expiry: of a link's timer,
   dead : (k : LinkTimer) (service : Service) (tei : ℕ) → place_in l tei ≡ None → (timer : Timer) → without (timer_of k service tei) timer (is_running timer l) ≡ is_running timer l
-  dead k service tei none = each-timer _ (by-t201 k) (λ k' s' n'. go k' s' n' (is_same (timer_of k service tei) (timer_of k' s' n')) refl)
-    where
-      by-t201 : (k : LinkTimer) → without (timer_of k service tei) T201 (is_running T201 l) ≡ is_running T201 l
-      by-t201 LinkTimer.T200 = refl
-      by-t201 LinkTimer.T203 = refl
-
-      its-tei : (k k' : LinkTimer) (s' : Service) (n' : ℕ) → is_same (timer_of k service tei) (timer_of k' s' n') ≡ true → tei ≡ n'
-      its-tei LinkTimer.T200 LinkTimer.T200 s' n' e = eqb-true tei n' (both-true _ _ e).1
-      its-tei LinkTimer.T200 LinkTimer.T203 s' n' e = absurd (true≢false (sym e))
-      its-tei LinkTimer.T203 LinkTimer.T200 s' n' e = absurd (true≢false (sym e))
-      its-tei LinkTimer.T203 LinkTimer.T203 s' n' e = eqb-true tei n' (both-true _ _ e).1
-
-      go : (k' : LinkTimer) (s' : Service) (n' : ℕ) (b : Bool) → is_same (timer_of k service tei) (timer_of k' s' n') ≡ b → cond b false (is_running (timer_of k' s' n') l) ≡ is_running (timer_of k' s' n') l
-      go k' s' n' false e = refl
-      go k' s' n' true e = sym (running-of k' s' n' l ∙ ap (λ o. runs_at s' k' o l) (ap (place_in l) (sym (its-tei k k' s' n' e)) ∙ none))
+  dead k service tei none = grind (arith, each-timer, timer_of, without, eqb-true, both-true, running-of)
 
   pub expired : (k : LinkTimer) (service : Service) (tei : ℕ) → ((number : ℕ) → IsTimed (link_at number l)) → (o : Option ℕ) → place_in l tei ≡ o
       → Follow (without (timer_of k service tei)) l (of_aim c (at_timer service tei k o) l).told.orders (of_aim c (at_timer service tei k o) l).line
@@ -142,27 +122,18 @@ module _ (c : Config) (l : Line) (s : IsSound c l) where
       (same k) (steers-expiry (terms c service tei) k (link_in l service place) (timed (link_number place service))))
     where
       same : (k : LinkTimer) → timer_at (terms c service tei) k ≡ timer_of k service tei
-      same LinkTimer.T200 = refl
-      same LinkTimer.T203 = refl
+      same k = grind arith
 
   -- and of T201
   pub t201-expired : Follow (without T201) l (of_aim c (at_management teis.expiry) l).told.orders (of_aim c (at_management teis.expiry) l).line
   t201-expired = management-followed c l s (without T201) (λ k service tei b. ours k service tei b) teis.expiry tt (expired_t201_follows l.management)
     where
       ours : (k : LinkTimer) (service : Service) (tei : ℕ) (b : Bool) → without T201 (timer_of k service tei) b ≡ b
-      ours LinkTimer.T200 service tei b = refl
-      ours LinkTimer.T203 service tei b = refl
+      ours k service tei b = grind arith
 
   -- A call for the next frame: what a link gives, it orders as well.
   given-orders : (t : Terms) (x : Link) (g : Given) → links.given t x ≡ Some g → g.orders ≡ (links.told t link.offer x).orders
-  given-orders t x g = go (links.course t link.offer x).sent
-    where
-      go : (o : Option Sent) → links.given_of t x (links.course t link.offer x) o ≡ Some g → g.orders ≡ (links.told t link.offer x).orders
-      go None e = absurd (none-some g e)
-      go (Some sent) e = ap (λ (h : Given). h.orders) (sym (some-given e))
-        where
-          some-given : {a b : Given} → Some a ≡ Some b → a ≡ b
-          some-given e = cc
+  given-orders t x g = grind (arith, none-some)
 
   took : (t : Taken) → IsOne c l t → Follow as_it_was l t.orders t.line
   took t (inl x) = subst (λ (u : Taken). Follow as_it_was l u.orders u.line) (sym x.1) (λ timer. sym (same-running l (with_message l x.0).line refl refl refl timer))
@@ -200,19 +171,12 @@ runs-follow c (request r) l timer s timed = go (refusal c false r l) (request_pr
     go : (o : Option Refusal) → IsProper c l (unless_refused o (aim_of_request r l))
         → obeyed timer (is_running timer l) (orders_in (unless_refused_told o (of_aim c (unless_refused o (aim_of_request r l)) l)))
         ≡ is_running timer (of_aim c (unless_refused o (aim_of_request r l)) l).line
-    go None proper = request-followed c l s r proper timer
-    go (Some why) proper = refl
+    go o proper = grind (arith, request-followed)
 runs-follow c next l timer s timed = next-followed c l s timer
 
 -- A timely line runs what it needs.
-needs-runs : (k : LinkTimer) (service : Service) (l : Line) → HaveTheirTimers l → (o : Option ℕ) → option_map_or (link_needs k service l) o false ≡ runs_at service k o l
-needs-runs k service l h None = refl
-needs-runs k service l h (Some place) = ap (runs k) (sym (h.links (link_number place service)).running)
-
 pub needed-runs : (l : Line) → HaveTheirTimers l → (timer : Timer) → is_needed timer l ≡ is_running timer l
-needed-runs l h T201 = refl
-needed-runs l h (T200 service tei) = needs-runs LinkTimer.T200 service l h (place_in l tei)
-needed-runs l h (T203 service tei) = needs-runs LinkTimer.T203 service l h (place_in l tei)
+needed-runs l h timer = grind arith
 
 pub timely-line : (c : Config) (e : Event) (l : Line) → IsInRange c → IsSound c l → HaveTheirTimers l → HaveTheirTimers (after c e l)
 timely-line c e l ranged s h = record {
@@ -221,10 +185,7 @@ timely-line c e l ranged s h = record {
 
 pub followed : (c : Config) (e : Event) (l : Line) (timer : Timer) → IsInRange c → IsSound c l → HaveTheirTimers l
     → runs_then timer (is_needed timer l) e (answer c e l) ≡ is_needed timer (after c e l)
-followed c e l timer ranged s h =
-    ap (λ b. runs_then timer b e (answer c e l)) (needed-runs l h timer)
-    ∙ runs-follow c e l timer s (λ number. is-timed (link_at number l) (h.links number))
-    ∙ sym (needed-runs (after c e l) (timely-line c e l ranged s h) timer)
+followed c e l timer ranged s h = grind (arith, needed-runs, runs-follow, is-timed, timely-line)
 
 -- no TEI is on a line that begins, and its links begin
 all-same : {X : Type 0} (x : X) (count i : ℕ) → get_or (replicate count x) i x ≡ x

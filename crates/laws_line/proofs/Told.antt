@@ -1,28 +1,18 @@
 -- Where all that a link keeps goes, layer 3 learns it.
-use Rattle.laws_line.proofs.Vocabulary.{◌≡◌, ◌≢◌, ℕ, Bool, true, false, cond, ◌||◌, ◌&&◌, ◌==◌, List, [], ◌∷◌, get_or, Option, Some, None, is_some, refl, sym, ap, ◌∙◌, subst, true≢false, eq-eqb, ◌⊎◌, inl, inr, ⊎_elim, list_any, option_map_or, get_or-set_same, All-head, All-tail, none-some, Note, Refusal, Service, Call, Packet, Timer, T201, same_service, Terms, LinkTimer, IsOwn, notes-own, is_loss, tells_loss, is_release, ends, share, Management, IsAt, Change, Gained, Left, place_of-is, Config, request, LineTold, told, nothing, hears, next, is_change_at, Aim, at_none, at_link, at_management, at_units, told_of_management, of_change, of_aim, at_timer, aim_of_expiry, Line, link_number, service_at, place_at, tei_at, place_in, link_in, terms, unless_refused_told, aim_of_heard, Request, Establish, Release, Assign, Remove, SetBusy, ClearBusy, Deactivate, at_requested, at_deactivated, aim_of_request, IsProper, place_at-number, service_at-number, heard_aims, request_proper, Down, at_no_link, eqb-true, All, T200, T203, Event, expiry, after, answer, unless_refused, refusal, Data, Unit, Check, IsSound, no_share, ending, share_aimed, share_of, is_link, is_loss_of, IsTold}
+use Rattle.laws_line.proofs.Vocabulary.{arith, ◌≡◌, ◌≢◌, ℕ, Bool, true, false, cond, ◌||◌, ◌&&◌, ◌==◌, List, [], ◌∷◌, get_or, Option, Some, None, is_some, refl, sym, ap, ◌∙◌, subst, true≢false, eq-eqb, ◌⊎◌, inl, inr, ⊎_elim, list_any, option_map_or, get_or-set_same, All-head, All-tail, none-some, Note, Refusal, Service, Timer, T201, same_service, Terms, LinkTimer, IsOwn, notes-own, is_loss, tells_loss, is_release, ends, share, Management, IsAt, Change, place_of-is, Config, request, LineTold, told, nothing, hears, next, is_change_at, Aim, at_none, at_link, at_management, at_units, told_of_management, of_change, of_aim, at_timer, aim_of_expiry, Line, link_number, service_at, place_at, tei_at, place_in, link_in, terms, unless_refused_told, aim_of_heard, Request, Establish, Release, Assign, Remove, SetBusy, ClearBusy, Deactivate, at_requested, at_deactivated, aim_of_request, IsProper, place_at-number, service_at-number, heard_aims, request_proper, Down, at_no_link, eqb-true, All, T200, T203, Event, expiry, after, answer, unless_refused, refusal, Data, Unit, Check, IsSound, no_share, ending, share_aimed, share_of, is_link, is_loss_of, IsTold}
 use Rattle.model_bits.specs.Stream as stream
 use Rattle.model_link.specs.Events as link
 use Rattle.model_link.specs.Machine as links
-use Rattle.model_link.specs.Requests as requests
 use Rattle.lapd_tei.specs.Events as teis
 use Rattle.lapd_tei.specs.Laws as tei_laws
 use Rattle.lapd_tei.proofs.LawLemmas as tei_lemmas
 
 -- A note of a link that tells a loss tells it of this link.
-pub same_of_itself : (s : Service) → same_service s s ≡ true
-same_of_itself Call = refl
-same_of_itself Packet = refl
-
 pub its-own : (t : Terms) (s : Service) (n : ℕ) → (s ≡ t.service) × (n ≡ t.tei) → (same_service s t.service && n == t.tei) ≡ true
-its-own t s n own =
-    ap (λ x. same_service x t.service && n == t.tei) own.0
-    ∙ ap (λ b. b && n == t.tei) (same_of_itself t.service) ∙ eq-eqb n t.tei own.1
+its-own t s n own = grind (arith, eq-eqb)
 
 own-loss : (t : Terms) (n : Note) → IsOwn t n → is_loss_of t.service t.tei n ≡ is_loss n
-own-loss t (Note.EstablishIndication s n) own = its-own t s n own
-own-loss t (Note.ReleaseIndication s n) own = its-own t s n own
-own-loss t (Note.ReleaseConfirm s n) own = its-own t s n own
-own-loss t other own = refl
+own-loss t n own = grind (arith, its-own)
 
 own-losses : (t : Terms) (ns : List Note) → All (IsOwn t) ns → list_any (is_loss_of t.service t.tei) ns ≡ tells_loss ns
 own-losses t [] all = refl
@@ -32,19 +22,12 @@ own-losses t (n ∷ ns) all =
     rw (here, rest) refl
 
 one-of : (a b : Bool) → (a || b) ≡ true → (a ≡ true) ⊎ (b ≡ true)
-one-of true b e = inl refl
-one-of false b e = inr e
+one-of a b e = grind arith
 
 -- the end of one place, and what comes to it
 pub moved : (places new : List (Option ℕ)) (place : ℕ) (o : Option Change) → is_change_at place o ≡ true → tei_laws.Moves places o new
     → get_or new place None ≢ get_or places place None
-moved places new place None e m = absurd (true≢false (sym e))
-moved places new place (Some (Gained tei other)) e m =
-    let at : other ≡ place = eqb-true other place e in
-    λ same. none-some tei (sym m.was_free ∙ ap (λ p. get_or places p None) at ∙ sym same ∙ ap (λ p. get_or new p None) (sym at) ∙ ap (λ ps. get_or ps other None) m.is_there ∙ get_or-set_same places other (Some tei) None m.within)
-moved places new place (Some (Left tei other)) e m =
-    let at : other ≡ place = eqb-true other place e in
-    λ same. none-some tei (sym (get_or-set_same places other None None m.within) ∙ ap (λ ps. get_or ps other None) (sym m.is_free) ∙ ap (λ p. get_or new p None) at ∙ same ∙ ap (λ p. get_or places p None) (sym at) ∙ m.was_there)
+moved places new place o e m = grind (arith, eqb-true, none-some, get_or-set_same)
 
 module _ (c : Config) (l : Line) (s : IsSound c l) (number : ℕ) where
   abbrev Tells : Event → Aim → Type 0
@@ -61,10 +44,7 @@ module _ (c : Config) (l : Line) (s : IsSound c l) (number : ℕ) where
       t = terms c service tei
 
       there : link_number place service ≡ number → (tei_at (place_at number) l ≡ Some tei) × (service ≡ service_at number)
-      there is = (
-        ap (λ n. tei_at (place_at n) l) (sym is) ∙ ap (λ p. tei_at p l) (place_at-number place service) ∙ at,
-        sym (service_at-number place service) ∙ ap service_at is,
-      )
+      there is = grind (arith, place_at-number, service_at-number)
 
       go : (b : Bool) → (link_number place service == number) ≡ b → (cond b (share t e (link_in l service place)) no_share).empties ≡ true
           → IsTold number event l (of_aim c (at_link service tei place e) l).line (told (of_aim c (at_link service tei place e) l).told)
@@ -87,12 +67,10 @@ module _ (c : Config) (l : Line) (s : IsSound c l) (number : ℕ) where
   changes event o r m moves some = inr (inr (λ same. moved l.management.places m.places (place_at number) o (at-it (is_change_at (place_at number) o) some) moves (places-are o ∙ same)))
     where
       at-it : (b : Bool) → (cond b ending no_share).empties ≡ true → b ≡ true
-      at-it true e = refl
-      at-it false e = e
+      at-it b e = grind arith
 
       places-are : (o : Option Change) → get_or m.places (place_at number) None ≡ tei_at (place_at number) (of_change c o r (record l { management = m })).line
-      places-are (Some (Gained tei place)) = refl
-      places-are other = refl
+      places-are o = grind arith
 
   management : (event : Event) (e : teis.Event) → tei_laws.IsInRange e → Tells event (at_management e)
   management event e fits =
@@ -120,16 +98,11 @@ module _ (c : Config) (l : Line) (s : IsSound c l) (number : ℕ) where
 
   -- what is asked for
   neither : (b : Bool) → cond b false false ≡ true → ⊥
-  neither true e = true≢false (sym e)
-  neither false e = true≢false (sym e)
+  neither b e = grind arith
 
   asked-tells : (event : Event) (service : Service) (tei : ℕ) (what : link.Request) (o : Option ℕ) → place_in l tei ≡ o → is_release what ≡ false
       → Tells event (at_requested service tei what o)
-  asked-tells event service tei what None e not = no-loss event (at_none nothing) refl
-  asked-tells event service tei what (Some place) e not =
-      at-link event service tei place (link.requested what false) (place_of-is l.management.places tei place e).1
-      (λ y is. absurd (neither (is_some (requests.refusal (terms c service tei) (link_in l service place) false what))
-      (subst (λ b. cond (is_some (requests.refusal (terms c service tei) (link_in l service place) false what)) false b ≡ true) not y)))
+  asked-tells event service tei what o e x = grind (arith, no-loss, at-link, place_of-is, neither, is_some)
 
   release-tells : (service : Service) (tei : ℕ) (o : Option ℕ) → place_in l tei ≡ o → Tells (request (Release service tei)) (at_requested service tei link.Release o)
   release-tells service tei None e = no-loss (request (Release service tei)) (at_none nothing) refl

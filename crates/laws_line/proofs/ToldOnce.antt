@@ -1,5 +1,5 @@
 -- Contents that an answer hands on are noted once.
-use Rattle.laws_line.proofs.Vocabulary.{◌≡◌, ℕ, ◌+◌, false, cond, List, [], ◌∷◌, ◌++◌, length, Option, Some, None, option_to_list, refl, ap, ◌∙◌, ◌⊎◌, inl, inr, arith, count_by, option_or, sum_by-cons, sum_by-append, Note, Refusal, Service, Call, Packet, Timer, T201, State, TeiAssigned, Terms, LinkTimer, Link, is_data, is_unit, event-tells, Change, Gained, Left, place_of-is, Config, request, hears, next, Aim, at_link, at_management, told_of_management, of_link, of_change, of_aim, at_timer, aim_of_expiry, Line, place_in, link_in, terms, unless_refused_told, aim_of_heard, Request, Establish, Release, Assign, Remove, SetBusy, ClearBusy, Deactivate, at_requested, at_deactivated, aim_of_request, IsInRange, sound_in, heard_aims, Down, T200, T203, begun, Event, expiry, answer, unless_refused, refusal, Data, Unit, Check, IsSound, tells_contents, IsNotedOnce}
+use Rattle.laws_line.proofs.Vocabulary.{◌≡◌, ℕ, ◌+◌, false, cond, List, [], ◌∷◌, ◌++◌, length, Option, Some, None, option_to_list, refl, ◌⊎◌, arith, count_by, option_or, sum_by-cons, sum_by-append, Note, Refusal, Service, Timer, Terms, LinkTimer, Link, is_data, is_unit, event-tells, Change, place_of-is, Config, request, hears, next, Aim, at_link, at_management, told_of_management, of_change, of_aim, at_timer, aim_of_expiry, Line, place_in, link_in, terms, unless_refused_told, aim_of_heard, Request, Establish, Release, Assign, Remove, SetBusy, ClearBusy, Deactivate, at_requested, at_deactivated, aim_of_request, IsInRange, sound_in, heard_aims, Down, Event, expiry, answer, unless_refused, refusal, Data, Unit, Check, IsSound, tells_contents, IsNotedOnce}
 use Rattle.model_bits.specs.Stream as stream
 use Rattle.model_link.specs.Events as link
 use Rattle.model_link.specs.Machine as links
@@ -11,8 +11,7 @@ use Rattle.laws_line.proofs.Downs.{by-down}
 
 -- Notes of contents are those of data and those of unit data.
 one-note : (n : Note) → cond {A = ℕ} (tells_contents n) 1 0 ≡ cond {A = ℕ} (is_data n) 1 0 + cond {A = ℕ} (is_unit n) 1 0
-one-note (Note.EstablishIndication s n) = refl
-one-note other = refl
+one-note n = grind arith
 
 both : (ns : List Note) → count_by tells_contents ns ≡ count_by is_data ns + count_by is_unit ns
 both [] = refl
@@ -25,11 +24,7 @@ both (n ∷ ns) =
 
 -- A link's.
 either-one : (d u : Option (List ℕ)) → (d ≡ None) ⊎ (u ≡ None) → length (option_to_list d) + length (option_to_list u) ≡ length (option_to_list (option_or d u))
-either-one None None one = refl
-either-one None (Some x) one = refl
-either-one (Some x) None one = refl
-either-one (Some x) (Some y) (inl none) = absurd (cc)
-either-one (Some x) (Some y) (inr none) = absurd (cc)
+either-one d u one = grind arith
 
 link-once : (t : Terms) (l : Link) → link_sound.IsSound t l → (e : link.Event)
     → count_by tells_contents (links.told t e l).notes ≡ length (option_to_list (option_or (links.told t e l).delivered (links.told t e l).unit))
@@ -40,32 +35,15 @@ link-once t l s e =
 
 -- A link whose TEI leaves the line tells of no contents.
 cleared-none : (t : Terms) (l : Link) → count_by tells_contents (links.told t link.cleared l).notes ≡ 0
-cleared-none t l = go l.state
-  where
-    go : (here : State) → count_by tells_contents (links.told_of_clearing here t (begun l)).notes ≡ 0
-    go TeiAssigned = refl
-    go other = refl
+cleared-none t l = grind arith
 
 -- TEI management's: none is of contents.
-is-none : (ns : List Note) (known : List Note) → ns ≡ known → count_by tells_contents known ≡ 0 → count_by tells_contents ns ≡ 0
-is-none ns known e none = ap (count_by tells_contents) e ∙ none
-
 management-none : (e : teis.Event) (o : Option Change) (ns : List Note) → ByChange e o ns → count_by tells_contents ns ≡ 0
-management-none e None ns by = is-none ns [] by refl
-management-none (teis.message octets) (Some (Gained tei place)) ns by = is-none ns (Note.Assigned tei ∷ []) by refl
-management-none (teis.assign asked) (Some (Gained tei place)) ns by = is-none ns [] by.1 refl
-management-none other (Some (Gained tei place)) ns by = absurd by
-management-none (teis.message octets) (Some (Left tei place)) ns by = is-none ns (Note.Doubled tei ∷ []) by refl
-management-none teis.expiry (Some (Left tei place)) ns by = is-none ns (Note.Removed tei ∷ []) by refl
-management-none (teis.remove asked) (Some (Left tei place)) ns by = is-none ns [] by.1 refl
-management-none other (Some (Left tei place)) ns by = absurd by
+management-none e o ns by = grind arith
 
 three-none : (a b c : List Note) → count_by tells_contents a ≡ 0 → count_by tells_contents b ≡ 0 → count_by tells_contents c ≡ 0
     → count_by tells_contents (a ++ b ++ c) ≡ 0
-three-none a b c one two three =
-    let first = sum_by-append (λ n. cond (tells_contents n) 1 0) (a ++ b) c in
-    let second = sum_by-append (λ n. cond (tells_contents n) 1 0) a b in
-    omega (arith, first, second, one, two, three)
+three-none a b c one two three = grind (arith, sum_by-append)
 
 -- What an event aims at.
 module _ (c : Config) (ranged : IsInRange c) (l : Line) (s : IsSound c l) where
@@ -82,14 +60,7 @@ module _ (c : Config) (ranged : IsInRange c) (l : Line) (s : IsSound c l) where
   changed-once : (e : teis.Event) (o : Option Change) → ByChange e o (teis.told e l.management).notes
       → let t = (of_change c o (told_of_management (teis.told e l.management)) (record l { management = teis.after e l.management })).told in
       count_by tells_contents t.notes ≡ length (option_to_list t.contents)
-  changed-once e (Some (Left tei place)) by =
-      let now = record l { management = teis.after e l.management } in
-      let call = of_link c Call tei place link.cleared now in
-      let packet = of_link c Packet tei place link.cleared call.line in
-      three-none (teis.told e l.management).notes call.told.notes packet.told.notes
-      (management-none e (Some (Left tei place)) (teis.told e l.management).notes by)
-      (cleared-none (terms c Call tei) (link_in now Call place)) (cleared-none (terms c Packet tei) (link_in call.line Packet place))
-  changed-once e other by = management-none e other (teis.told e l.management).notes by
+  changed-once e o by = grind (arith, three-none, management-none, cleared-none)
 
   managed : (e : teis.Event) → Once (at_management e)
   managed e = changed-once e (teis.told e l.management).change (noted e l.management s.management)
@@ -104,17 +75,14 @@ module _ (c : Config) (ranged : IsInRange c) (l : Line) (s : IsSound c l) where
   timer-once service tei timer (Some place) on = at-its-link service tei place (link.expired timer) on
 
   expiry-once : (timer : Timer) → Once (aim_of_expiry timer l)
-  expiry-once (T200 service tei) = timer-once service tei LinkTimer.T200 (place_in l tei) refl
-  expiry-once (T203 service tei) = timer-once service tei LinkTimer.T203 (place_in l tei) refl
-  expiry-once T201 = managed teis.expiry
+  expiry-once timer = grind (arith, timer-once, managed)
 
   asked-once : (service : Service) (tei : ℕ) (what : link.Request) (o : Option ℕ) → place_in l tei ≡ o → Once (at_requested service tei what o)
   asked-once service tei what None on = refl
   asked-once service tei what (Some place) on = at-its-link service tei place (link.requested what false) on
 
   deactivated-once : (service : Service) (tei : ℕ) (o : Option ℕ) → place_in l tei ≡ o → Once (at_deactivated service tei o)
-  deactivated-once service tei None on = refl
-  deactivated-once service tei (Some place) on = at-its-link service tei place link.cleared on
+  deactivated-once service tei o on = grind (arith, at-its-link)
 
   request-once : (r : Request) → Once (aim_of_request r l)
   request-once (Establish service tei) = asked-once service tei link.Establish (place_in l tei) refl

@@ -1,5 +1,5 @@
 -- The user's side has no TEI management.
-use Rattle.laws_line.proofs.Vocabulary.{◌≡◌, ℕ, Bool, true, false, not, [], ◌∷◌, drop, Option, Some, None, refl, sym, ap, ◌∙◌, true≢false, inl, inr, next_walk, option_map_or, User, Network, Refusal, Service, T201, Management, expire_check, join_at, put_on, free_place, LinkTimer, Config, at_management, of_aim, hears, request, next, at_timer, Line, place_in, Taken, taken, line_of, wrong_side, bad_tei, no_link, check_running, control_full, Request, Establish, Release, Assign, Remove, SetBusy, ClearBusy, Deactivate, at_requested, at_deactivated, aim_of_request, has_management, Down, T200, T203, tei_begun as begun, Event, expiry, after, unless_refused, refusal, Data, Unit, Check, IsSound, IsUnmanaged, UsersManageNothing}
+use Rattle.laws_line.proofs.Vocabulary.{arith, ◌≡◌, ℕ, Bool, false, not, [], ◌∷◌, Option, None, refl, sym, ap, ◌∙◌, next_walk, option_map_or, User, Network, Refusal, Service, Management, expire_check, join_at, put_on, LinkTimer, Config, at_management, of_aim, hears, at_timer, Line, place_in, Taken, taken, line_of, wrong_side, bad_tei, no_link, check_running, control_full, Request, Establish, Release, Assign, Remove, SetBusy, ClearBusy, Deactivate, at_requested, at_deactivated, aim_of_request, has_management, Down, tei_begun as begun, Event, expiry, after, unless_refused, refusal, Data, Unit, Check, IsSound, IsUnmanaged, UsersManageNothing}
 use Rattle.model_bits.specs.Stream as stream
 use Rattle.lapd_tei.specs.Events as teis
 use Rattle.model_link.specs.Events as link
@@ -23,12 +23,10 @@ unfolding teis.course teis.refusal
 idle-t201 m none = ap (λ o. expire_check o (begun m)) none
 
 joined : (m : Management) (tei : ℕ) → IsIdle m → (p : Option ℕ) → IsIdle (join_at tei p (begun m)).now
-joined m tei h None = h
-joined m tei h (Some place) = record { messages = h.messages; remembered = h.remembered; check = h.check }
+joined m tei h p = grind arith
 
 put-on : (m : Management) (tei : ℕ) → IsIdle m → (o : Option Refusal) → IsIdle (teis.unless_refused o (put_on tei) m).now
-put-on m tei h (Some why) = h
-put-on m tei h None = joined m tei h (free_place m.places)
+put-on m tei h o = grind (arith, joined)
 
 assigned : (m : Management) (tei : ℕ) → IsIdle m → IsIdle (teis.after (teis.assign tei) m)
 unfolding teis.course
@@ -36,23 +34,13 @@ assigned m tei h = put-on m tei h (teis.refusal (teis.assign tei) m)
 
 module _ (c : Config) (l : Line) (user : c.side ≡ User) (s : IsSound c l) (h : IsUnmanaged l) where
   by-management : (e : teis.Event) → IsIdle (teis.after e l.management) → IsUnmanaged (of_aim c (at_management e) l).line
-  by-management e idle =
-      let is = managed c l e in
-      record {
-        messages = ap (λ (m : Management). m.waiting) is ∙ idle.messages;
-        remembered = ap (λ (m : Management). m.remembered) is ∙ idle.remembered;
-        check = ap (λ (m : Management). m.check) is ∙ idle.check;
-      }
+  by-management e idle = grind (arith, managed)
 
   idle : IsIdle l.management
   idle = record { messages = h.messages; remembered = h.remembered; check = h.check }
 
   same : (l' : Line) → l'.management ≡ l.management → IsUnmanaged l'
-  same l' is = record {
-    messages = ap (λ (m : Management). m.waiting) is ∙ h.messages;
-    remembered = ap (λ (m : Management). m.remembered) is ∙ h.remembered;
-    check = ap (λ (m : Management). m.check) is ∙ h.check;
-  }
+  same l' is = grind arith
 
   by-heard : (e : stream.Event) → IsUnmanaged (after c (hears e) l)
   unfolding after
@@ -61,21 +49,17 @@ module _ (c : Config) (l : Line) (user : c.side ≡ User) (s : IsSound c l) (h :
       (λ service tei place what. same _ refl) (λ parts ui. absurd (sides (sym user ∙ ui.network))) (λ parts octets by read service to. same _ refl)
 
   by-timer : (service : Service) (tei : ℕ) (timer : LinkTimer) (o : Option ℕ) → IsUnmanaged (of_aim c (at_timer service tei timer o) l).line
-  by-timer service tei timer None = h
-  by-timer service tei timer (Some place) = same _ refl
+  by-timer service tei timer o = grind (arith, same)
 
   by-asked : (service : Service) (tei : ℕ) (what : link.Request) (o : Option ℕ) → IsUnmanaged (of_aim c (at_requested service tei what o) l).line
-  by-asked service tei what None = h
-  by-asked service tei what (Some place) = same _ refl
+  by-asked service tei what o = grind (arith, same)
 
   by-deactivated : (service : Service) (tei : ℕ) (o : Option ℕ) → IsUnmanaged (of_aim c (at_deactivated service tei o) l).line
-  by-deactivated service tei None = h
-  by-deactivated service tei (Some place) = same _ refl
+  by-deactivated service tei o = grind (arith, same)
 
   -- nothing of TEI management but an assignment is granted
   not-ours : (b : Bool) → b ≡ has_management c.side → not b ≡ false → ⊥
-  not-ours true is e = true≢false (is ∙ ap has_management user)
-  not-ours false is e = true≢false e
+  not-ours b is e = grind arith
 
   by-request : (r : Request) → refusal c false r l ≡ None → IsUnmanaged (of_aim c (aim_of_request r l) l).line
   by-request (Establish service tei) none = by-asked service tei link.Establish (place_in l tei)
@@ -94,38 +78,14 @@ module _ (c : Config) (l : Line) (user : c.side ≡ User) (s : IsSound c l) (h :
 
   -- a call takes none of nothing
   took : (t : Taken) → IsOne c l t → IsUnmanaged t.line
-  took t (inl x) =
-      let is = ap (λ (u : Taken). u.line.management) x.1 in
-      record {
-        messages = ap (λ (m : Management). m.waiting) is ∙ ap (λ ms. drop 1 ms) h.messages;
-        remembered = ap (λ (m : Management). m.remembered) is ∙ h.remembered;
-        check = ap (λ (m : Management). m.check) is ∙ h.check;
-      }
-  took t (inr (inl x)) = same t.line (ap (λ (u : Taken). u.line.management) x.1)
-  took t (inr (inr x)) = same t.line (ap (λ (u : Taken). u.line.management) x.is)
+  took t o = grind (arith, same)
 
   by-next : IsUnmanaged (option_map_or line_of (taken c l) l)
   by-next = next_walk c l (IsOne c l) (λ o m. IsUnmanaged m) (taken-one c l s) h took
 
 pub unmanaged-stays : (c : Config) (e : Event) (l : Line) → c.side ≡ User → IsSound c l → IsUnmanaged l → IsUnmanaged (after c e l)
 unfolding after
-unmanaged-stays c (hears e) l user s h = by-heard c l user s h e
-unmanaged-stays c (expiry (T200 service tei)) l user s h = by-timer c l user s h service tei LinkTimer.T200 (place_in l tei)
-unmanaged-stays c (expiry (T203 service tei)) l user s h = by-timer c l user s h service tei LinkTimer.T203 (place_in l tei)
-unmanaged-stays c (expiry T201) l user s h =
-    let none = idle-t201 l.management h.check in
-    by-management c l user s h teis.expiry
-    (record {
-      messages = ap (λ x. x.now.waiting) none ∙ h.messages;
-      remembered = ap (λ x. x.now.remembered) none ∙ h.remembered;
-      check = ap (λ x. x.now.check) none ∙ h.check;
-    })
-unmanaged-stays c (request r) l user s h = go (refusal c false r l) refl
-  where
-    go : (o : Option Refusal) → refusal c false r l ≡ o → IsUnmanaged (of_aim c (unless_refused o (aim_of_request r l)) l).line
-    go None none = by-request c l user s h r none
-    go (Some why) is = h
-unmanaged-stays c next l user s h = by-next c l user s h
+unmanaged-stays c e l user s h = grind (arith, by-heard, by-timer, idle-t201, by-management, by-request, by-next)
 
 pub users-manage-nothing : UsersManageNothing
 users-manage-nothing = record { begins = λ c. record { messages = refl; remembered = refl; check = refl }; stays = unmanaged-stays }

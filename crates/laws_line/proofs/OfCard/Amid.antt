@@ -8,18 +8,14 @@ use Rattle.laws_line.proofs.Ordered.{next-goes}
 use Rattle.laws_line.proofs.OfCard.Meanwhile.{at-another, at-next, few-lines, line-sound}
 
 is-the-next : (w : line_event.Event) → is_take w ≡ true → w ≡ next
-is-the-next next is = refl
-is-the-next other is = absurd (cc)
+is-the-next w is = grind arith
 
 module _ (number link tei : ℕ) (f : ControlFrame) where
   -- an event at the line finds room, or changes nothing
   own-line : (card : Card) (e : Event) (x : Line) (b : Bool) → number < length card.lines → e.line ≡ number
       → (get_or (cond b card.lines (set card.lines e.line x)) number (fresh_line card.config) ≡ line_at number card)
       ⊎ (get_or (cond b card.lines (set card.lines e.line x)) number (fresh_line card.config) ≡ x)
-  own-line card e x true few same = inl refl
-  own-line card e x false few same =
-      inr (subst (λ n. get_or (set card.lines e.line x) n (fresh_line card.config) ≡ x) same
-      (get_or-set_same card.lines e.line x (fresh_line card.config) (subst (λ n. n < length card.lines) (sym same) few)))
+  own-line card e x b few same = grind (arith, get_or-set_same)
 
   abbrev Waits : Line → List ControlFrame → List ControlFrame → Type 0
   Waits l before behind = (link_at link l).waiting ≡ before ++ f ∷ behind
@@ -33,9 +29,7 @@ module _ (number link tei : ℕ) (f : ControlFrame) where
       × (frames_before card.config l' link (length before) ≤ frames_before card.config l link (length before) + (go_first l' - go_first l))
 
   unmoved : (card : Card) (before behind : List ControlFrame) (l l' : Line) → l' ≡ l → Waits l before behind → Farther card before l l'
-  unmoved card before behind l l' same waits =
-      subst (λ x. Farther card before l x) (sym same)
-      ((behind, waits), omega arith)
+  unmoved card before behind l l' same waits = grind arith
 
   on-first : (card : Card) (events : List Event) → StaysAt number link tei card events → On (line_at number card)
   unfolding StaysAt
@@ -121,8 +115,7 @@ module _ (number link tei : ℕ) (f : ControlFrame) where
 
       with-kind : (b : Bool) → (e.line == number && is_take e.what) ≡ b
           → frames_before card.config (line_at number card) link (length before) + (cond b 0 come + rest) < cond b 1 0 + takes_of number events
-      with-kind b is =
-          subst (λ x. frames_before card.config (line_at number card) link (length before) + (cond x 0 come + rest) < cond x 1 0 + takes_of number events) is less
+      with-kind b is = grind (arith, come, rest)
 
       by-kind : (b : Bool) → (e.line == number && is_take e.what) ≡ b
           → ((before' behind' : List ControlFrame) → Waits (line_at number (after e card)) before' behind' → Less (after e card) events before'

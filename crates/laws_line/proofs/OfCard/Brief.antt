@@ -1,5 +1,5 @@
 -- What laws of whole runs say in brief.
-use Rattle.laws_line.proofs.Vocabulary.{⊎_elim, ◌≡◌, ◌≢◌, ℕ, List, Option, Some, None, refl, sym, ap, ◌∙◌, inl, inr, get_or-set_other, Config, next, Line, link_number, link_count, link_at, Taken, taken, Card, line_at, IsAtLine, AreAtLines, moment_of, each_moment, has_lines, line_sound, fresh as fresh_link, IsOneEvent, IsOfPart, line_of_link as of_link, line_of_management as of_management, of_units, of_group, of_down, of_next, IsIdle, IsOwed, line_contents_of as contents_of, CardEvent as Event, card_after as after, card_answer as answer, CardIsSound as IsSound, LinksStay, LeavesOthers, OthersStay, TellsCause, CausesAreTold}
+use Rattle.laws_line.proofs.Vocabulary.{arith, ⊎_elim, ◌≡◌, ◌≢◌, ℕ, List, Option, Some, None, refl, ap, ◌∙◌, inl, inr, get_or-set_other, Config, next, Line, link_number, link_count, link_at, Taken, taken, Card, line_at, IsAtLine, AreAtLines, moment_of, each_moment, has_lines, line_sound, fresh as fresh_link, IsOneEvent, IsOfPart, line_of_link as of_link, line_of_management as of_management, of_units, of_group, of_down, of_next, IsIdle, IsOwed, line_contents_of as contents_of, CardEvent as Event, card_after as after, card_answer as answer, CardIsSound as IsSound, LinksStay, LeavesOthers, OthersStay, TellsCause, CausesAreTold}
 use Rattle.model_line.specs.Event as line_event
 use Rattle.model_line.specs.Machine as lines
 use Rattle.model_line.specs.Sound as line
@@ -73,8 +73,7 @@ module _ (card : Card) (e : Event) (s : IsSound card) (here : IsAtLine card e) w
       other apart = ⊎_elim (λ x. by-part apart x) (λ x. none-change x.0) own.none
 
       go : (what : line_event.Event) → e.what ≡ what → LinksStay (link_count c) l then
-      go line_event.next is = called is
-      go another is = other (λ n. cc (sym is ∙ n))
+      go what is = grind (arith, called, other)
 
   leaves-others : LeavesOthers (moment_of card e)
   leaves-others = record { lines = (one-in card e s here).others; links = links-stay }

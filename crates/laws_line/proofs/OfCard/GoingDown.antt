@@ -1,5 +1,5 @@
 -- A line of a card goes down.
-use Rattle.laws_line.proofs.Vocabulary.{◌≡◌, ℕ, ◌<◌, ◌==◌, ◌&&◌, Bool, true, false, cond, List, [], ◌∷◌, length, get_or, set, refl, sym, ap, ◌∙◌, subst, arith, eq-eqb, true≢false, get_or-set_same, All-head, All-tail, Config, request, Line, fresh_line, Request, Deactivate, Down, Card, line_at, is_full, at, IsAtLine, AreAtLines, after_all, after_is_sound, has_lines, line_sound, eqb-true, All, map, after_events, takes_down, IsDown, CardEvent as Event, card_after as after, CardIsSound as IsSound, happens_at, LineLinesGoDown as LinesGoDown}
+use Rattle.laws_line.proofs.Vocabulary.{◌≡◌, ℕ, ◌<◌, ◌==◌, Bool, true, false, cond, List, [], ◌∷◌, length, refl, sym, ap, ◌∙◌, subst, arith, eq-eqb, true≢false, get_or-set_same, All-head, All-tail, Config, request, Line, Request, Card, line_at, at, IsAtLine, AreAtLines, after_all, after_is_sound, has_lines, line_sound, eqb-true, All, map, after_events, takes_down, IsDown, CardEvent as Event, card_after as after, CardIsSound as IsSound, happens_at, LineLinesGoDown as LinesGoDown}
 use Rattle.model_line.specs.Machine as lines
 use Rattle.laws_line.proofs.GoingDown.{lines-go-down}
 use Rattle.laws_line.proofs.OfCard.Meanwhile.{at-another}
@@ -7,17 +7,12 @@ use Rattle.laws_line.proofs.OfCard.Meanwhile.{at-another}
 -- What takes a line down takes no slot, so it finds room.
 no-slot : (c : Config) (l : Line) (r : Request) → takes_down r ≡ true → lines.takes_slot c (request r) l ≡ false
 unfolding lines.takes_slot
-no-slot c l Down is = refl
-no-slot c l (Deactivate service tei) is = refl
-no-slot c l other is = absurd (true≢false (sym is))
+no-slot c l r is = grind arith
 
 module _ (number : ℕ) where
   at-request : (card : Card) (r : Request) → takes_down r ≡ true → number < length card.lines
       → line_at number (after (at number (request r)) card) ≡ lines.after card.config (request r) (line_at number card)
-  at-request card r is few =
-      let new = lines.after card.config (request r) (line_at number card) in
-      ap (λ b. get_or (cond (b && is_full card) card.lines (set card.lines number new)) number (fresh_line card.config)) (no-slot card.config (line_at number card) r is)
-      ∙ get_or-set_same card.lines number new (fresh_line card.config) few
+  at-request card r is few = grind (arith, no-slot, get_or-set_same)
 
   -- the line after all of them
   pub line-after : (events : List Event) (card : Card) (rs : List Request) → IsSound card → number < card.config.lines → AreAtLines card events

@@ -1,5 +1,5 @@
 -- What each moment of a run makes of the contents of a link.
-use Rattle.laws_line.proofs.Vocabulary.{◌≡◌, ◌≢◌, ◌<◌, Bool, true, false, cond, ◌==◌, List, [], ◌∷◌, get_or, set, refl, sym, ap, ◌∙◌, subst, arith, eq-eqb, true≢false, fold, get_or-set_same, get_or-set_other, All-head, All-tail, History, IsCounted, is_pool_full, Line, fresh_line, link_at, link_count, line_not_pool, Card, line_at, LinkName, moments, after_all, IsAtLine, AreAtLines, moment_of, HasLines, has_lines, by_room, line_sound, after_lines, eqb-true, counted, no_share, CardEvent as Event, card_after as after, CardIsSound as IsSound, link_named, share_in, one_more, line_begun as begun, IsCountedIn}
+use Rattle.laws_line.proofs.Vocabulary.{◌≡◌, ◌≢◌, ◌<◌, Bool, true, false, cond, ◌==◌, List, [], ◌∷◌, get_or, set, refl, sym, ap, ◌∙◌, subst, arith, eq-eqb, true≢false, fold, get_or-set_same, get_or-set_other, All-head, All-tail, History, IsCounted, is_pool_full, Line, fresh_line, link_at, link_count, line_not_pool, Card, line_at, LinkName, moments, after_all, IsAtLine, AreAtLines, moment_of, HasLines, has_lines, by_room, line_sound, after_lines, eqb-true, counted, no_share, CardEvent as Event, card_after as after, CardIsSound as IsSound, link_named, share_in, one_more, IsCountedIn}
 use Rattle.model_line.specs.Machine as lines
 use Rattle.laws_line.specs.Share as line
 use Rattle.laws_line.proofs.Kept.{Goes, stays, event-goes}
@@ -54,5 +54,4 @@ run-counts name card (e ∷ events) h has all few is =
     (All-tail (IsAtLine card) e events all) few (record { accepted = x.0; acknowledged = x.1 })
 
 pub run-counted : (card : Card) (events : List Event) → IsSound card → AreAtLines card events → IsCountedIn card events
-run-counted card events s all name named =
-    run-counts name card events (begun name card) (has_lines card s) all named.1 (record { accepted = refl; acknowledged = refl })
+run-counted card events s all name named = grind (arith, run-counts, has_lines)

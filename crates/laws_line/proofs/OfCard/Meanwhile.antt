@@ -1,5 +1,5 @@
 -- A line of a card after so many calls for its next frame, whatever happened at the other lines meanwhile.
-use Rattle.laws_line.proofs.Vocabulary.{◌≡◌, ◌≢◌, ℕ, zero, suc, ◌+◌, ◌<◌, ◌≤◌, ◌==◌, Bool, true, false, cond, List, [], ◌∷◌, ◌++◌, length, get_or, set, refl, sym, ap, subst, ◌∙◌, arith, eqb-false, get_or-set_same, get_or-set_other, All-nil, All-cons, All-head, All-tail, All-get_or, ControlFrame, Config, next, Line, fresh_line, taken, Card, line_at, at, wants_room, IsAtLine, AreAtLines, after_all, after_is_sound, eqb-true, HasNothing, after_takes, frames_to_go, IsEnough, control_text, IsTakenWithin, CardEvent as Event, card_after as after, CardIsSound as IsSound, AreTakesAt, takes_at, IsTakenAmong, IsIdleAmong, IsWaiting}
+use Rattle.laws_line.proofs.Vocabulary.{◌≡◌, ◌≢◌, ℕ, zero, suc, ◌+◌, ◌<◌, ◌≤◌, ◌==◌, Bool, true, false, cond, List, [], ◌∷◌, ◌++◌, length, get_or, set, refl, sym, ap, ◌∙◌, arith, eqb-false, get_or-set_same, get_or-set_other, All-nil, All-cons, All-head, All-tail, All-get_or, ControlFrame, Config, next, Line, fresh_line, taken, Card, line_at, at, wants_room, IsAtLine, AreAtLines, after_all, after_is_sound, eqb-true, HasNothing, after_takes, frames_to_go, IsEnough, control_text, IsTakenWithin, CardEvent as Event, card_after as after, CardIsSound as IsSound, AreTakesAt, takes_at, IsTakenAmong, IsIdleAmong, IsWaiting}
 use Rattle.model_line.specs.Machine as lines
 use Rattle.model_line.specs.Sound as line_sound
 use Rattle.laws_line.proofs.Draining.{drains, idles}
@@ -8,8 +8,7 @@ use Rattle.laws_line.proofs.Ordered.{enough-goes}
 -- One event, by whether it finds room.
 elsewhere : (card : Card) (number : ℕ) (e : Event) (x : Line) (b : Bool) → number ≢ e.line
     → get_or (cond b card.lines (set card.lines e.line x)) number (fresh_line card.config) ≡ line_at number card
-elsewhere card number e x true apart = refl
-elsewhere card number e x false apart = get_or-set_other card.lines e.line number x (fresh_line card.config) apart
+elsewhere card number e x b apart = grind (arith, get_or-set_other)
 
 pub at-another : (card : Card) (number : ℕ) (e : Event) → number ≢ e.line → line_at number (after e card) ≡ line_at number card
 at-another card number e apart = elsewhere card number e (lines.after card.config e.what (line_at e.line card)) (wants_room e card) apart
@@ -98,20 +97,11 @@ line-sound card number s few = All-get_or (line_sound.IsSound card.config) card.
 
 pub card-drains : (card : Card) (number : ℕ) (events : List Event) → IsSound card → number < card.config.lines → AreAtLines card events → AreTakesAt number events
     → frames_to_go card.config (line_at number card) ≤ takes_at number events → HasNothing card.config (line_at number (after_all card events))
-card-drains card number events s few lines takes less =
-    subst (HasNothing card.config) (sym (line-after number events card s few lines takes))
-    (drains card.config s.config (takes_at number events) (line_at number card) (line-sound card number s few) less)
+card-drains card number events s few lines takes less = grind (arith, line-after, drains, line-sound)
 
 pub card-idles : (card : Card) (number : ℕ) (events : List Event) → IsSound card → number < card.config.lines → AreAtLines card events → AreTakesAt number events
     → HasNothing card.config (line_at number card) → IsIdleAmong card number events
-card-idles card number events s few lines takes nothing =
-    let there = line-after number events card s few lines takes in
-    let x = idles card.config (takes_at number events) (line_at number card) (line-sound card number s few) nothing in
-    record {
-      nothing = subst (HasNothing card.config) (sym there) x.nothing;
-      none = ap (taken card.config) there ∙ x.none;
-      same = there ∙ x.same;
-    }
+card-idles card number events s few lines takes nothing = grind (arith, line-after, idles, line-sound)
 
 module _ (card : Card) (number : ℕ) (s : IsSound card) (few : number < card.config.lines) (events : List Event) (all : AreAtLines card events) (takes : AreTakesAt number events) where
   pub taken-from : (frame : List ℕ) → IsTakenWithin card.config (takes_at number events) (line_at number card) frame → IsTakenAmong card number events frame

@@ -1,11 +1,12 @@
 -- In a moment of a run one part of one line has one event, and all else is as it was.
-use Rattle.laws_line.proofs.Vocabulary.{⊎_elim, ◌≡◌, ◌≢◌, ℕ, true, List, get_or, refl, sym, ap, ◌∙◌, subst, arith, inr, true≢false, and_parts, get_or-set_same, get_or-set_other, PoolFull, Service, Config, refused, Line, fresh_line, Card, line_at, is_full, IsAtLine, AreAtLines, moment_of, each_moment, has_lines, by_room, line_sound, Down, IsOneEvent, IsOf, IsOfManagement, CardEvent as Event, card_after as after, card_answer as answer, CardIsSound as IsSound, IsOneEventIn, HasOneEvent}
+use Rattle.laws_line.proofs.Vocabulary.{◌≡◌, ◌≢◌, ℕ, true, List, get_or, sym, ap, ◌∙◌, subst, arith, true≢false, and_parts, get_or-set_same, PoolFull, Service, Config, refused, Line, fresh_line, Card, line_at, is_full, IsAtLine, AreAtLines, moment_of, each_moment, has_lines, by_room, line_sound, Down, IsOneEvent, IsOf, IsOfManagement, CardEvent as Event, card_after as after, card_answer as answer, CardIsSound as IsSound, IsOneEventIn, HasOneEvent}
 use Rattle.lapd_tei.specs.Events as teis
 use Rattle.model_bits.specs.Stream as stream
 use Rattle.model_link.specs.Events as link
 use Rattle.model_line.specs.Event as line_event
 use Rattle.model_line.specs.Machine as lines
 use Rattle.laws_line.proofs.Parts.{one-event}
+use Rattle.laws_line.proofs.OfCard.Meanwhile.{at-another}
 
 -- A request that finds the pool full changes nothing, and is an event of no part; and nothing else takes a slot.
 module _ (c : Config) (l : Line) (e : line_event.Event) (takes : lines.takes_slot c e l ≡ true) where
@@ -26,37 +27,17 @@ module _ (c : Config) (l : Line) (e : line_event.Event) (takes : lines.takes_slo
   no-down is = true≢false (sym takes ∙ ap (λ e. lines.takes_slot c e l) is)
 
   no-link : (service : Service) (tei : ℕ) (event : link.Event) → IsOf c e (refused PoolFull) service tei event → ⊥
-  no-link service tei (link.received (link.frame parts)) by = no-heard (stream.frame by.octets) by.by
-  no-link service tei (link.expired timer) by = no-expiry _ by
-  no-link service tei (link.requested asked full) by = true≢false (sym by.1)
-  no-link service tei link.offer by = no-take by
-  no-link service tei link.cleared by = true≢false (sym by.1)
-  no-link service tei other by = ⊎_elim (λ x. no-heard _ x.0) (λ x. no-heard _ x.0) by.by
+  no-link service tei event by = grind (arith, no-heard, no-expiry, no-take)
 
   no-management : (event : teis.Event) → IsOfManagement c e (refused PoolFull) event → ⊥
-  no-management (teis.message info) by = no-heard (stream.frame by.heard.octets) by.heard.by
-  no-management teis.expiry by = no-expiry _ by
-  no-management teis.down by = by
-  no-management other by = true≢false (sym by.1)
+  no-management event by = grind (arith, no-heard, no-expiry)
 
   pub no-event : IsOneEvent c e l l (refused PoolFull)
-  no-event = record {
-    link = λ service tei place event other on by. absurd (no-link service tei event by);
-    management = λ event by. absurd (no-management event by);
-    units = λ unit granted. absurd (true≢false (sym granted.granted));
-    down = λ is. absurd (no-down is);
-    takes = λ is. absurd (no-take is);
-    none = inr (refl, tt);
-  }
+  no-event = grind (arith, no-link, no-management, no-down, no-take)
 
 module _ (card : Card) (e : Event) (s : IsSound card) (here : IsAtLine card e) where
   abbrev l : Line
   l = line_at e.line card
-
-  apart : (other : ℕ) → other ≢ e.line → line_at other (after e card) ≡ line_at other card
-  apart other away =
-      by_room (λ ls a. get_or ls other (fresh_line card.config) ≡ line_at other card) e card (λ full. refl)
-      (λ room. get_or-set_other card.lines e.line other (lines.after card.config e.what l) (fresh_line card.config) away)
 
   at-line : IsOneEvent card.config e.what l (line_at e.line (after e card)) (answer e card)
   at-line =
@@ -69,7 +50,7 @@ module _ (card : Card) (e : Event) (s : IsSound card) (here : IsAtLine card e) w
       (one-event card.config e.what l (line_sound card e.line (has_lines card s) here)))
 
   pub one-in : IsOneEventIn (moment_of card e)
-  one-in = record { own = at-line; others = apart }
+  one-in = record { own = at-line; others = λ other away. at-another card other e away }
 
 pub one-all : (card : Card) (events : List Event) → IsSound card → AreAtLines card events → HasOneEvent card events
 one-all card events s all = each_moment IsOneEventIn one-in card events s all

@@ -1,27 +1,14 @@
 -- What is taken after a list of events.
-use Rattle.laws_line.proofs.Vocabulary.{◌≡◌, ℕ, ◌<◌, cond, slice_get, List, [], ◌∷◌, Option, Some, None, refl, sym, subst, inl, inr, is_information, Config, next, Line, link_at, link_count, Taken, taken, Card, line_at, after_all, AreAtLines, always_sound, has_lines, line_sound, IsOfLink, IsOwed, IsIdle, line_contents_of as contents_of, IsServed, CardEvent as Event, card_after as after, CardIsSound as IsSound, accepted_at, IsServedIn}
+use Rattle.laws_line.proofs.Vocabulary.{arith, ◌≡◌, ℕ, ◌<◌, slice_get, List, Option, Some, None, sym, subst, inl, inr, Config, next, Line, link_count, Taken, taken, Card, line_at, after_all, AreAtLines, always_sound, has_lines, line_sound, IsOfLink, IsOwed, IsIdle, line_contents_of as contents_of, IsServed, CardEvent as Event, card_after as after, CardIsSound as IsSound, accepted_at, IsServedIn}
 use Rattle.model_line.specs.Machine as lines
 use Rattle.laws_line.proofs.Serving.{served}
 use Rattle.laws_line.proofs.OfCard.Keeping.{run-counted}
+use Rattle.model_card.proofs.Runs.{config_stays}
 
 -- the same of other lists of contents that are the same
 module _ (c : Config) (one other : ℕ → List (List ℕ)) (same : (number : ℕ) → number < link_count c → one number ≡ other number) (l : Line) where
   of-link : (then : Line) (frame : List ℕ) → IsOfLink c one l then frame → IsOfLink c other l then frame
-  of-link then frame x = record {
-    number = x.number;
-    few = x.few;
-    its_turn = x.its_turn;
-    tei = x.tei;
-    on_line = x.on_line;
-    command = x.command;
-    control = x.control;
-    information = x.information;
-    spelled = x.spelled;
-    in_order = x.in_order;
-    carried = subst (λ all. x.information ≡ cond (is_information x.control) (slice_get all (link_at x.number l).s) None) (same x.number x.few) x.carried;
-    counted = x.counted;
-    line = x.line;
-  }
+  of-link then frame x = grind (arith, slice_get)
 
   owed : (then : Line) (frame : List ℕ) → IsOwed c one l then frame → IsOwed c other l then frame
   owed then frame (inl x) = inl x
@@ -37,16 +24,11 @@ module _ (c : Config) (one other : ℕ → List (List ℕ)) (same : (number : �
       go None x = x
       go (Some t) x = owed (lines.after c next l) t.frame x
 
-pub after-config : (card : Card) (events : List Event) → (after_all card events).config ≡ card.config
-unfolding after_all
-after-config card [] = refl
-after-config card (e ∷ events) = after-config (after e card) events
-
 pub served-in : (card : Card) (events : List Event) → IsSound card → AreAtLines card events → IsServedIn card events
 served-in card events s all number within =
     let end = after_all card events in
     let sound = always_sound card events s all in
-    let config : end.config ≡ card.config = after-config card events in
+    let config : end.config ≡ card.config = config_stays card events in
     let there : number < end.config.lines = subst (λ (c : Config). number < c.lines) (sym config) within in
     let l = line_at number end in
     let now : IsServed end.config (contents_of l) l = served end.config l (line_sound end number (has_lines end sound) there) in

@@ -1,5 +1,6 @@
 -- What the grammar spells: the head of a frame is octets, and a frame is not too short.
-use Rattle.laws_line.proofs.Vocabulary.{◌≡◌, ℕ, ◌+◌, ◌*◌, ◌%◌, ◌<◌, ◌≤◌, ◌⊎◌, inl, inr, Bool, true, false, cond, List, [], ◌∷◌, ◌++◌, length, slice_index, refl, arith, All-nil, All-cons, All-append, Address, Side, User, Network, Control, Information, ReceiveReady, ReceiveNotReady, Reject, Sabme, Disc, Ui, Ua, Dm, Frmr, AreOctets, cr_bit, second_octet, one_of, row, head_of, spelling, Seq, FrameXid as Xid}
+use Rattle.laws_line.proofs.Vocabulary.{ℕ, ◌<◌, ◌≤◌, Bool, [], ◌∷◌, arith, All-nil, All-cons, Address, Side, Control, AreOctets, cr_bit, second_octet, row, head_of, Seq}
+pub use Rattle.model_line.proofs.NotShort.{IsNotShort, not_short as not-short}
 
 one : (x : ℕ) → x < 256 → AreOctets (x ∷ [])
 one x small = All-cons (λ octet. octet < 256) x [] small (All-nil (λ octet. octet < 256))
@@ -8,70 +9,13 @@ both : (x y : ℕ) → x < 256 → y < 256 → AreOctets (x ∷ y ∷ [])
 both x y small few = All-cons (λ octet. octet < 256) x (y ∷ []) small (one y few)
 
 second : (first : ℕ) (nr : Seq) (pf : Bool) → first < 256 → AreOctets (first ∷ second_octet nr pf ∷ [])
-second first nr true small = let range : nr.value < 128 = nr.in_range in both first (second_octet nr true) small (omega (arith, range))
-second first nr false small = let range : nr.value < 128 = nr.in_range in both first (second_octet nr false) small (omega (arith, range))
-
-by-pf : (without with_pf : ℕ) (pf : Bool) → without < 256 → with_pf < 256 → AreOctets (one_of without with_pf pf)
-by-pf without with_pf true small few = one with_pf few
-by-pf without with_pf false small few = one without small
+second first nr pf small = grind (arith, both)
 
 field : (c : Control) → AreOctets (row c).field
-field (Information ns nr p) = let range : ns.value < 128 = ns.in_range in second (2 * ns.value) nr p (omega (arith, range))
-field (ReceiveReady nr pf) = second 0x01 nr pf (omega arith)
-field (ReceiveNotReady nr pf) = second 0x05 nr pf (omega arith)
-field (Reject nr pf) = second 0x09 nr pf (omega arith)
-field (Sabme pf) = by-pf 0x6F 0x7F pf (omega arith) (omega arith)
-field (Disc pf) = by-pf 0x43 0x53 pf (omega arith) (omega arith)
-field (Ui pf) = by-pf 0x03 0x13 pf (omega arith) (omega arith)
-field (Ua pf) = by-pf 0x63 0x73 pf (omega arith) (omega arith)
-field (Dm pf) = by-pf 0x0F 0x1F pf (omega arith) (omega arith)
-field (Frmr pf) = by-pf 0x87 0x97 pf (omega arith) (omega arith)
-field (Xid pf) = by-pf 0xAF 0xBF pf (omega arith) (omega arith)
+field c = grind (arith, second, one)
 
 few-cr : (side : Side) (command : Bool) → cr_bit side command ≤ 1
-few-cr User true = omega arith
-few-cr User false = omega arith
-few-cr Network true = omega arith
-few-cr Network false = omega arith
+few-cr side command = grind arith
 
 pub head : (side : Side) (a : Address) (c : Control) → a.sapi < 64 → a.tei < 128 → AreOctets (head_of side a c)
-head side a c sapi tei =
-    All-append (λ octet. octet < 256) ((4 * a.sapi + 2 * cr_bit side a.command) ∷ (2 * a.tei + 1) ∷ []) (row c).field
-    (both (4 * a.sapi + 2 * cr_bit side a.command) (2 * a.tei + 1) (omega (arith, sapi, few-cr side a.command)) (omega (arith, tei))) (field c)
-
--- not too short
-abbrev pub IsNotShort : List ℕ → Type 0
-IsNotShort octets = (4 ≤ length octets) ⊎ ((length octets ≡ 3) × (slice_index octets 2 % 4 ≡ 3))
-
-behind-four : (a b c d : ℕ) (info : List ℕ) → 4 ≤ length (a ∷ b ∷ c ∷ d ∷ info)
-behind-four a b c d info = omega arith
-
-third : (without with_pf : ℕ) (pf : Bool) → without % 4 ≡ 3 → with_pf % 4 ≡ 3 → cond pf with_pf without % 4 ≡ 3
-third without with_pf true h k = k
-third without with_pf false h k = h
-
-one-octet : (a b without with_pf : ℕ) (pf : Bool) (info : List ℕ) → without % 4 ≡ 3 → with_pf % 4 ≡ 3 → IsNotShort (a ∷ b ∷ (one_of without with_pf pf ++ info))
-one-octet a b without with_pf pf [] h k = inr (refl, third without with_pf pf h k)
-one-octet a b without with_pf pf (x ∷ info) h k = inl (behind-four a b (cond pf with_pf without) x info)
-
-pub not-short : (side : Side) (a : Address) (c : Control) (info : List ℕ) → IsNotShort (spelling side (record { address = a; control = c; info = info }))
-not-short side a c info = go c
-  where
-    first : ℕ
-    first = 4 * a.sapi + 2 * cr_bit side a.command
-
-    last : ℕ
-    last = 2 * a.tei + 1
-
-    go : (c : Control) → IsNotShort (first ∷ last ∷ ((row c).field ++ info))
-    go (Information ns nr p) = inl (behind-four first last (2 * ns.value) (second_octet nr p) info)
-    go (ReceiveReady nr pf) = inl (behind-four first last 0x01 (second_octet nr pf) info)
-    go (ReceiveNotReady nr pf) = inl (behind-four first last 0x05 (second_octet nr pf) info)
-    go (Reject nr pf) = inl (behind-four first last 0x09 (second_octet nr pf) info)
-    go (Sabme pf) = one-octet first last 0x6F 0x7F pf info refl refl
-    go (Disc pf) = one-octet first last 0x43 0x53 pf info refl refl
-    go (Ui pf) = one-octet first last 0x03 0x13 pf info refl refl
-    go (Ua pf) = one-octet first last 0x63 0x73 pf info refl refl
-    go (Dm pf) = one-octet first last 0x0F 0x1F pf info refl refl
-    go (Frmr pf) = one-octet first last 0x87 0x97 pf info refl refl
-    go (Xid pf) = one-octet first last 0xAF 0xBF pf info refl refl
+head side a c sapi tei = grind (arith, both, few-cr, field)

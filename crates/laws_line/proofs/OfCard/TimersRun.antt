@@ -1,8 +1,9 @@
 -- A caller that obeys the orders runs the timers that are needed: over runs of a card.
-use Rattle.laws_line.proofs.Vocabulary.{◌≡◌, ◌≢◌, ℕ, ◌<◌, ◌==◌, Bool, true, false, cond, List, [], ◌∷◌, get_or, set, refl, sym, ap, ◌∙◌, subst, arith, eq-eqb, true≢false, and_parts, get_or-set_same, get_or-set_other, get_or-replicate, All-head, All-tail, Timer, Config, Line, fresh_line, Card, line_at, is_full, moments, after_all, IsAtLine, AreAtLines, after_is_sound, moment_of, has_lines, by_room, line_sound, eqb-true, is_needed, runs_then, left_by, HaveTheirTimers, CardEvent as Event, card_fresh as fresh, card_after as after, card_answer as answer, CardIsSound as IsSound, RunsWhatIsNeeded, line_one_more as one_more, runs_at_callers, AllHaveTheirTimers}
+use Rattle.laws_line.proofs.Vocabulary.{◌≡◌, ◌≢◌, ℕ, ◌<◌, ◌==◌, Bool, true, false, cond, List, [], ◌∷◌, get_or, set, refl, sym, ap, ◌∙◌, subst, arith, eq-eqb, true≢false, and_parts, get_or-set_same, get_or-replicate, All-head, All-tail, Timer, Config, Line, fresh_line, Card, line_at, is_full, moments, after_all, IsAtLine, AreAtLines, after_is_sound, moment_of, has_lines, by_room, line_sound, eqb-true, is_needed, runs_then, left_by, HaveTheirTimers, CardEvent as Event, card_fresh as fresh, card_after as after, card_answer as answer, CardIsSound as IsSound, RunsWhatIsNeeded, line_one_more as one_more, runs_at_callers, AllHaveTheirTimers}
 use Rattle.model_line.specs.Event as line_event
 use Rattle.model_line.specs.Machine as lines
 use Rattle.laws_line.proofs.TimersFollow.{timely-line, followed, begins-timely, begins-with-none}
+use Rattle.laws_line.proofs.OfCard.Meanwhile.{at-another}
 
 -- a request that finds the pool full is no expiry, and orders nothing
 module _ (card : Card) (e : Event) (s : IsSound card) (timely : AllHaveTheirTimers card) (here : IsAtLine card e) where
@@ -17,8 +18,7 @@ module _ (card : Card) (e : Event) (s : IsSound card) (timely : AllHaveTheirTime
 
   left-by : (what : line_event.Event) → lines.takes_slot card.config what (line_at e.line card) ≡ true → (timer : Timer) (b : Bool) → left_by what timer b ≡ b
   unfolding lines.takes_slot
-  left-by (line_event.expiry other) takes timer b = absurd (true≢false (sym takes))
-  left-by other takes timer b = refl
+  left-by what takes timer b = grind arith
 
   -- at the event's line
   own-line : (timer : Timer) → runs_then timer (is_needed timer (line_at e.line card)) e.what (answer e card) ≡ is_needed timer (line_at e.line (after e card))
@@ -29,11 +29,6 @@ module _ (card : Card) (e : Event) (s : IsSound card) (timely : AllHaveTheirTime
       followed card.config e.what (line_at e.line card) timer s.config (line_sound card e.line (has_lines card s) here) (timely.lines e.line here)
       ∙ ap (is_needed timer) (sym now))
 
-  apart : (other : ℕ) → other ≢ e.line → line_at other (after e card) ≡ line_at other card
-  apart other away =
-      by_room (λ ls a. get_or ls other (fresh_line card.config) ≡ line_at other card) e card (λ full. refl)
-      (λ room. get_or-set_other card.lines e.line other (lines.after card.config e.what (line_at e.line card)) (fresh_line card.config) away)
-
   -- at any line
   pub moment-runs : (line : ℕ) (timer : Timer) → one_more line timer (is_needed timer (line_at line card)) (moment_of card e) ≡ is_needed timer (line_at line (after e card))
   moment-runs line timer = go (e.line == line) refl
@@ -41,7 +36,7 @@ module _ (card : Card) (e : Event) (s : IsSound card) (timely : AllHaveTheirTime
       go : (b : Bool) → (e.line == line) ≡ b → cond b (runs_then timer (is_needed timer (line_at line card)) e.what (answer e card)) (is_needed timer (line_at line card))
           ≡ is_needed timer (line_at line (after e card))
       go true is = subst (λ n. runs_then timer (is_needed timer (line_at n card)) e.what (answer e card) ≡ is_needed timer (line_at n (after e card))) (eqb-true e.line line is) (own-line timer)
-      go false other = ap (is_needed timer) (sym (apart line (λ same. true≢false (sym (eq-eqb e.line line (sym same)) ∙ other))))
+      go false other = ap (is_needed timer) (sym (at-another card line e (λ same. true≢false (sym (eq-eqb e.line line (sym same)) ∙ other))))
 
   own-timely : HaveTheirTimers (line_at e.line (after e card))
   own-timely =
@@ -56,7 +51,7 @@ module _ (card : Card) (e : Event) (s : IsSound card) (timely : AllHaveTheirTime
       go : (line : ℕ) → line < card.config.lines → (b : Bool) → (line == e.line) ≡ b → HaveTheirTimers (line_at line (after e card))
       go line within true is = subst (λ n. HaveTheirTimers (line_at n (after e card))) (sym (eqb-true line e.line is)) own-timely
       go line within false other =
-          subst (λ (x : Line). HaveTheirTimers x) (sym (apart line (λ same. true≢false (sym (eq-eqb line e.line same) ∙ other)))) (timely.lines line within)
+          subst (λ (x : Line). HaveTheirTimers x) (sym (at-another card line e (λ same. true≢false (sym (eq-eqb line e.line same) ∙ other)))) (timely.lines line within)
 
 -- Over a run.
 pub needed-run : (card : Card) (events : List Event) → IsSound card → AllHaveTheirTimers card → AreAtLines card events → RunsWhatIsNeeded card events
@@ -78,6 +73,4 @@ pub needs-none : (c : Config) (line : ℕ) (timer : Timer) → line < c.lines �
 needs-none c line timer within = ap (is_needed timer) (get_or-replicate c.lines line (fresh_line c) (fresh_line c) within) ∙ begins-with-none c timer
 
 pub begins-timely-card : (c : Config) → AllHaveTheirTimers (fresh c)
-begins-timely-card c = record {
-  lines = λ line within. subst (λ (l : Line). HaveTheirTimers l) (sym (get_or-replicate c.lines line (fresh_line c) (fresh_line c) within)) (begins-timely c);
-}
+begins-timely-card c = grind (arith, get_or-replicate, begins-timely)

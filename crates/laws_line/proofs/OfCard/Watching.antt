@@ -1,8 +1,9 @@
 -- What is watched at a line from moment to moment, and keeps in step with the line, does so over whole runs.
-use Rattle.laws_line.proofs.Vocabulary.{◌≡◌, ◌≢◌, ℕ, ◌==◌, Bool, true, false, cond, List, [], ◌∷◌, get_or, refl, sym, ap, ◌∙◌, subst, arith, eq-eqb, true≢false, fold, and_parts, get_or-set_same, get_or-set_other, All-head, All-tail, PoolFull, Config, Answer, refused, Line, fresh_line, Request, Card, line_at, is_full, Moment, moments, after_all, IsAtLine, AreAtLines, after_is_sound, has_lines, by_room, line_sound, eqb-true, CardEvent as Event, card_after as after, card_answer as answer, CardIsSound as IsSound}
+use Rattle.laws_line.proofs.Vocabulary.{◌≡◌, ℕ, ◌==◌, Bool, true, cond, List, [], ◌∷◌, get_or, refl, sym, ap, ◌∙◌, arith, eq-eqb, fold, and_parts, get_or-set_same, All-head, All-tail, PoolFull, Config, Answer, refused, Line, fresh_line, Request, Card, line_at, is_full, Moment, moments, after_all, IsAtLine, AreAtLines, after_is_sound, has_lines, by_room, line_sound, eqb-true, CardEvent as Event, card_after as after, card_answer as answer, CardIsSound as IsSound}
 use Rattle.model_line.specs.Event as line_event
 use Rattle.model_line.specs.Machine as lines
 use Rattle.model_line.specs.Sound as line
+use Rattle.laws_line.proofs.OfCard.Meanwhile.{at-another}
 
 module _ {X : Type 0} (seen : Line → X) (watch : X → line_event.Event → Answer → X)
     (steps : (c : Config) (e : line_event.Event) (l : Line) → line.IsSound c l → watch (seen l) e (lines.answer c e l) ≡ seen (lines.after c e l))
@@ -13,8 +14,7 @@ module _ {X : Type 0} (seen : Line → X) (watch : X → line_event.Event → An
   module _ (card : Card) (e : Event) (s : IsSound card) (here : IsAtLine card e) where
     full-rests : (what : line_event.Event) → lines.takes_slot card.config what (line_at e.line card) ≡ true → (x : X) → watch x what (refused PoolFull) ≡ x
     unfolding lines.takes_slot
-    full-rests (line_event.request r) takes x = rests x r
-    full-rests other takes x = absurd (true≢false (sym takes))
+    full-rests what takes x = grind arith
 
     own-line : watch (seen (line_at e.line card)) e.what (answer e card) ≡ seen (line_at e.line (after e card))
     own-line =
@@ -24,16 +24,9 @@ module _ {X : Type 0} (seen : Line → X) (watch : X → line_event.Event → An
         steps card.config e.what (line_at e.line card) (line_sound card e.line (has_lines card s) here)
         ∙ ap seen (sym (get_or-set_same card.lines e.line (lines.after card.config e.what (line_at e.line card)) (fresh_line card.config) (omega (arith, s.count, here)))))
 
-    apart : (other : ℕ) → other ≢ e.line → line_at other (after e card) ≡ line_at other card
-    apart other away =
-        by_room (λ ls a. get_or ls other (fresh_line card.config) ≡ line_at other card) e card (λ full. refl)
-        (λ room. get_or-set_other card.lines e.line other (lines.after card.config e.what (line_at e.line card)) (fresh_line card.config) away)
-
     moment-seen : (number : ℕ) (b : Bool) → (e.line == number) ≡ b
         → cond b (watch (seen (line_at number card)) e.what (answer e card)) (seen (line_at number card)) ≡ seen (line_at number (after e card))
-    moment-seen number true is =
-        subst (λ n. watch (seen (line_at n card)) e.what (answer e card) ≡ seen (line_at n (after e card))) (eqb-true e.line number is) own-line
-    moment-seen number false other = ap seen (sym (apart number (λ same. true≢false (sym (eq-eqb e.line number (sym same)) ∙ other))))
+    moment-seen number b is = grind (arith, eqb-true, own-line, at-another, eq-eqb)
 
   pub run-seen : (card : Card) (events : List Event) → IsSound card → AreAtLines card events → (number : ℕ)
       → fold (one_more number) (seen (line_at number card)) (moments card events) ≡ seen (line_at number (after_all card events))

@@ -1,10 +1,11 @@
 -- The laws of a line's takes wherever they come in a list of events.
-use Rattle.laws_line.proofs.Vocabulary.{◌≡◌, ◌<◌, List, [], ◌∷◌, ◌++◌, length, refl, sym, ap, subst, arith, All-nil, All-cons, All-head, All-tail, Config, gave, next_of, Card, line_at, IsAtLine, AreAtLines, after_all, after_is_sound, always_sound, option_map, All, HasNothing, CardEvent as Event, card_after as after, CardIsSound as IsSound, Wherever, WaitingIsTaken, CallsComeToAnEnd}
+use Rattle.laws_line.proofs.Vocabulary.{◌<◌, List, [], ◌∷◌, ◌++◌, length, sym, ap, subst, arith, All-nil, All-cons, All-head, All-tail, Config, gave, next_of, Card, line_at, IsAtLine, AreAtLines, after_all, after_is_sound, always_sound, option_map, All, HasNothing, CardEvent as Event, card_after as after, CardIsSound as IsSound, Wherever, WaitingIsTaken, CallsComeToAnEnd}
 use Rattle.model_line.specs.Machine as lines
 use Rattle.laws_line.proofs.Bounds.{to-go-few}
 use Rattle.laws_line.proofs.Soon.{few-before, others-fit}
 use Rattle.laws_line.proofs.OfCard.Amid.{taken-amid}
 use Rattle.laws_line.proofs.OfCard.Meanwhile.{IsServed, line-sound, card-drains, card-idles}
+pub use Rattle.model_card.proofs.Runs.{config_stays as config-stays}
 
 -- What holds of all of a list holds of its parts.
 pub all-left : {X : Type 0} (P : X → Type 0) (xs ys : List X) → All P (xs ++ ys) → All P xs
@@ -27,11 +28,6 @@ behind P law card (e ∷ front) rest s all =
 
 wherever : (P : Card → List Event → Type 0) → Law P → (m : Card) (events : List Event) → IsSound m → AreAtLines m events → Wherever P m events
 wherever P law m events s all front rest split = behind P law m front rest s (subst (AreAtLines m) split all)
-
-pub config-stays : (card : Card) (events : List Event) → (after_all card events).config ≡ card.config
-unfolding after_all
-config-stays card [] = refl
-config-stays card (e ∷ events) = config-stays (after e card) events
 
 -- What waits is taken.
 waiting : Law WaitingIsTaken

@@ -1,5 +1,5 @@
 -- The control frames of a link that wait are those that were due, and have not begun: a moment of a card.
-use Rattle.laws_trace.proofs.Vocabulary.{◌≡◌, ℕ, ◌==◌, ◌&&◌, ◌||◌, Bool, true, false, cond, List, [], ◌++◌, get_or, length, take, ◌-◌, Option, Some, None, refl, sym, ap, ◌∙◌, subst, arith, eq-eqb, true≢false, append-nil, option_map_or, and_parts, get_or-set_same, Service, ControlFrame, Config, Line, fresh_line, link_of, state_of, Deactivate, lost_in, deactivates, Card, line_at, is_full, has_lines, by_room, line_sound, AllHaveTheirTimers, eqb-true, IsAtLine, Seen, seen, Event, request, after, card_answer as answer, CardIsSound as IsSound}
+use Rattle.laws_trace.proofs.Vocabulary.{◌≡◌, ℕ, ◌==◌, ◌&&◌, ◌||◌, Bool, true, false, cond, List, [], get_or, ◌-◌, Option, None, refl, sym, ap, ◌∙◌, subst, arith, eq-eqb, true≢false, append-nil, option_map_or, and_parts, get_or-set_same, Service, ControlFrame, Config, Line, fresh_line, link_of, state_of, lost_in, deactivates, Card, line_at, is_full, has_lines, by_room, line_sound, AllHaveTheirTimers, eqb-true, IsAtLine, Seen, seen, Event, after, card_answer as answer, CardIsSound as IsSound}
 use Rattle.model_line.specs.Machine as lines
 use Rattle.model_card.specs.Event as card
 use Rattle.laws_trace.proofs.ControlsWatched.{command_of}
@@ -13,8 +13,7 @@ use Rattle.laws_trace.proofs.Standing.{standing, stand-is, event-stands, event-c
 use Rattle.laws_trace.proofs.StandingOfLink.{calm, IsStanding}
 
 none-mapped : (o : Option ℕ) (xs : List ControlFrame) → xs ≡ [] → option_map_or (λ s. xs) o xs ≡ []
-none-mapped None xs none = none
-none-mapped (Some state) xs none = none
+none-mapped o xs none = grind arith
 
 -- between two events no frame is kept in mind
 pub as-calm : (w : Standing) → w.told.frame ≡ None → w ≡ calm w.told.count w.busy w.rejected
@@ -23,8 +22,7 @@ as-calm w quiet = ap (λ o. record { told = record { frame = o; count = w.told.c
 -- a request that takes a slot deactivates nothing
 none-ended : (service : Service) (tei : ℕ) (c : Config) (e : Event) (l : Line) → lines.takes_slot c e l ≡ true → deactivates service tei e ≡ false
 unfolding lines.takes_slot
-none-ended service tei c (request (Deactivate its by)) l takes = absurd (true≢false (sym takes))
-none-ended service tei c other l takes = refl
+none-ended service tei c e l takes = grind arith
 
 module _ (service : Service) (tei : ℕ) where
   -- What a moment is to the control frames of a link, and how the link stands behind it.
@@ -42,20 +40,7 @@ module _ (service : Service) (tei : ℕ) where
     Stands l = IsCount (link_of service tei l) n × IsStanding (link_of service tei l) busy rejected
 
     idle : (c : Config) (time up : Bool) (l : Line) (lost : ℕ) → time ≡ false → up ≡ false → Stands l → Moves c was time up l [] lost l
-    idle c time up l lost none still stands = record {
-      passes = λ a b.
-          sym (ap (λ b. cond b [] (waits service tei l ++ due_here service tei c was was time l [] lost l)) still ∙ ap (λ xs. waits service tei l ++ xs) no-due
-          ∙ append-nil (waits service tei l));
-      quiet_is = refl;
-      count = stands.0;
-      stands = stands.1;
-    }
-      where
-        no-due : due_here service tei c was was time l [] lost l ≡ []
-        no-due =
-            ap (λ xs. take (length (xs ++ cond time (command_of was (state_of service tei l)) []) - lost) (xs ++ cond time (command_of was (state_of service tei l)) [])) (none-mapped (state_of service tei l) [] refl)
-            ∙ ap (λ b. take (length (cond b (command_of was (state_of service tei l)) []) - lost) (cond b (command_of was (state_of service tei l)) [])) none
-            ∙ none-taken (0 - lost)
+    idle c time up l lost none still stands = grind (arith, waits, due_here, append-nil, command_of, none-mapped, none-taken)
 
     no-time : (l : Line) (n : ℕ) → n ≡ 0 → (differ (state_of service tei l) (state_of service tei l) || n == 1) ≡ false
     no-time l n none = ap (λ n. differ (state_of service tei l) (state_of service tei l) || n == 1) none ∙ ap (λ b. b || false) (differ-self (state_of service tei l))

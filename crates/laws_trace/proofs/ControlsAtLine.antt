@@ -1,5 +1,5 @@
 -- The control frames of a link that wait and go: one event of a line.
-use Rattle.laws_trace.proofs.Vocabulary.{◌≡◌, ℕ, ◌+◌, ◌-◌, ◌≤◌, ◌==◌, ◌&&◌, ◌||◌, Bool, true, false, cond, List, [], ◌++◌, drop, length, map, take, zero, suc, Some, None, refl, sym, ap, ◌∙◌, subst, inl, inr, append-nil, true≢false, flat_map, not, option_to_list, is_some, list_any, option_map_or, le-ltb, BadTei, NoLink, Service, same_service, place_of-is, takes_contents, as_heard, moves, as_response, event-follows, HasItsTimer, ControlFrame, Terms, restarts, eligible, Link, is_multiple_frame, state_number, delivery, event-delivers, Config, next, Answer, Deactivate, at_deactivated, Line, link_in, link_number, link_of, place_in, has_tei, state_of, terms, aim_of, unless_refused, IsInRange, terms_in_range, lost_in, notes_of, is_data_of, deactivates, is_deactivation, both-true, IsBy, HaveTheirTimers, eqb-true, fresh_link as fresh, Event, refusal, Request, line_after as after, answer, line_frame_of as frame_of, IsSound, of_link, trace_frame_in as frame_in, Seen, seen, request}
+use Rattle.laws_trace.proofs.Vocabulary.{arith, ◌≡◌, ℕ, ◌+◌, ◌-◌, ◌≤◌, ◌==◌, ◌&&◌, ◌||◌, Bool, true, false, cond, List, [], ◌++◌, drop, length, map, take, Some, None, refl, sym, ap, ◌∙◌, subst, inl, inr, append-nil, true≢false, flat_map, not, option_to_list, is_some, list_any, option_map_or, le-ltb, BadTei, NoLink, Service, same_service, place_of-is, takes_contents, as_heard, moves, as_response, event-follows, HasItsTimer, ControlFrame, Terms, restarts, Link, is_multiple_frame, state_number, event-delivers, Config, next, Answer, Deactivate, at_deactivated, Line, link_in, link_number, link_of, place_in, has_tei, state_of, terms, aim_of, unless_refused, IsInRange, terms_in_range, lost_in, notes_of, is_data_of, deactivates, is_deactivation, both-true, IsBy, HaveTheirTimers, eqb-true, fresh_link as fresh, Event, refusal, Request, line_after as after, answer, line_frame_of as frame_of, IsSound, of_link, trace_frame_in as frame_in, Seen, seen, request}
 use Rattle.model_link.specs.Events as link
 use Rattle.model_link.specs.Machine as links
 use Rattle.model_link.specs.Sound as link_sound
@@ -26,8 +26,7 @@ use Rattle.laws_trace.proofs.Facts.{as-busy, same-state}
 use Rattle.laws_trace.proofs.LineAtEnd.{link-at-end}
 
 pub none-taken : (n : ℕ) → take {A = ControlFrame} n [] ≡ []
-none-taken zero = refl
-none-taken (suc n) = refl
+none-taken n = grind arith
 
 module _ (service : Service) (tei : ℕ) where
   abbrev pub waits : Line → List ControlFrame
@@ -85,13 +84,7 @@ module _ (service : Service) (tei : ℕ) where
 
     time-is : (there here : ℕ) (n : ℕ) → place_in l tei ≡ Some here → place_in new tei ≡ Some there → option_map_or one_more (expired_of service tei e) 0 ≡ n
         → time_at l e new ≡ (moves own.state (link_of service tei new).state || n == 1)
-    time-is there here n on on-next ticks-are =
-        let from : state_of service tei l ≡ Some (state_number own.state) = state-on service tei l here on in
-        let to : state_of service tei new ≡ Some (state_number (link_of service tei new).state) = state-on service tei new there on-next in
-        ap (λ o. differ o (state_of service tei new) || option_map_or one_more (expired_of service tei e) 0 == 1) from
-        ∙ ap (λ o. differ (Some (state_number own.state)) o || option_map_or one_more (expired_of service tei e) 0 == 1) to
-        ∙ ap (λ b. b || option_map_or one_more (expired_of service tei e) 0 == 1) (differs own.state (link_of service tei new).state)
-        ∙ ap (λ n. moves own.state (link_of service tei new).state || n == 1) ticks-are
+    time-is there here n on on-next ticks-are = grind (arith, state-on, differ, one_more, expired_of, differs)
 
     none-put : Put ≡ [] → Due ≡ []
     none-put none = ap (λ xs. take (length xs - lost_in a) xs) none ∙ none-taken (0 - lost_in a)
@@ -164,10 +157,7 @@ module _ (service : Service) (tei : ℕ) where
           go other is = refl
 
       none-exact : has_tei tei l ≡ true → has_tei tei new ≡ true → waits new ≡ cond (deactivates service tei e) [] (drop (length begins) (waits l) ++ Due)
-      none-exact was-on is-on =
-          ap (λ (k : Link). controls k.waiting) (x.stays was-on is-on)
-          ∙ sym (ap (λ b. cond b [] (drop (length begins) (waits l) ++ Due)) (not-down was-on) ∙ ap (λ xs. drop (length xs) (waits l) ++ Due) none-begins
-          ∙ ap (λ xs. waits l ++ xs) (none-put (none-puts was-on is-on)) ∙ append-nil (waits l))
+      none-exact was-on is-on = grind (arith, controls, not-down, none-begins, none-put, none-puts, append-nil)
 
     -- An event of the link.
     module _ (x : HasOne c service tei e l new a) where
@@ -205,14 +195,7 @@ module _ (service : Service) (tei : ℕ) where
           ∙ ap (λ d. cond (restarts t x.event own) 0 (cond d (m + 1) m)) (data-noted c ranged l s e service tei m count x)
 
       takes : is_multiple_frame own.state ≡ true → restarts t x.event own ≡ false → delivers ≡ takes_contents (as_heard t x.event) own
-      takes up on = delivered on ∙ taken-is t own up x.event
-        where
-          delivered : restarts t x.event own ≡ false → delivers ≡ is_some (delivery own.r (eligible t x.event own))
-          delivered on =
-              elim (event-delivers t own x.event) [
-                | inl y ↦ ap is_some y.delivered
-                | inr y ↦ absurd (true≢false (sym y.begins ∙ on))
-              ]
+      takes up on = grind (arith, taken-is, is_some, event-delivers)
 
       pub numbered : IsNumbered t x.event own m busy rejected now.told.count now.busy now.rejected
       numbered = record {
@@ -240,10 +223,7 @@ module _ (service : Service) (tei : ℕ) where
           ∙ ap (λ (k : Link). put_by c.n201 was now x.event own.state k.state) x.is
 
       pub none-due : x.event ≡ link.offer → (there : ℕ) → place_in new tei ≡ Some there → Put ≡ []
-      none-due offer there on =
-          put-is there on ∙ ap (λ e. put_by c.n201 was now e own.state (links.after t e own).state) offer
-          ∙ ap (λ to. cond (moves own.state to || false) (command_of now (Some (state_number to))) []) (event-follows t link.offer own).leaves.state
-          ∙ ap (λ b. cond (b || false) (command_of now (Some (state_number own.state))) []) (same-state own.state)
+      none-due offer there on = grind (arith, put-is, put_by, command_of, event-follows, same-state)
 
       begins-is : begins ≡ flat_map (begun_of c service tei) (frames_given c t x.event own)
       begins-is = begun-is c service tei e l ∙ ap (flat_map (begun_of c service tei)) x.begins

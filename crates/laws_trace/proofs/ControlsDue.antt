@@ -1,5 +1,5 @@
 -- What an event of a link makes due are control frames.
-use Rattle.laws_trace.proofs.Vocabulary.{◌≡◌, ℕ, ◌==◌, ◌&&◌, ◌||◌, Bool, true, false, cond, List, [], ◌∷◌, ◌++◌, Some, refl, ap, ◌∙◌, not, flat_map, All, nat_lt, length, All-nil, All-cons, All-append, All-head, All-tail, Information, ReceiveReady, ReceiveNotReady, Reject, Sabme, Disc, Ua, Dm, seq, State, AwaitingEstablishment, AwaitingRelease, TimerRecovery, ControlFrame, received, requested, state_number, moves, as_response, Control, LinkEvent as Event, frame}
+use Rattle.laws_trace.proofs.Vocabulary.{arith, ◌≡◌, ℕ, ◌==◌, ◌||◌, Bool, true, false, cond, List, [], ◌∷◌, ◌++◌, Some, refl, ap, ◌∙◌, flat_map, All, nat_lt, length, All-nil, All-cons, All-append, All-head, All-tail, State, ControlFrame, received, requested, state_number, moves, as_response, Control, LinkEvent as Event, frame}
 use Rattle.laws_trace.proofs.ControlsWatched.{control_in, receipt, polled, to_information, while_up, answer_to, changed, command_of}
 use Rattle.laws_trace.proofs.DeliveriesWatched.{Standing}
 use Rattle.laws_trace.proofs.MovesOfLink.{ticks}
@@ -21,13 +21,11 @@ one : (f : ControlFrame) → IsControl f → All IsControl (f ∷ [])
 one f h = All-cons IsControl f [] h (All-nil IsControl)
 
 if-all : (b : Bool) (xs ys : List ControlFrame) → All IsControl xs → All IsControl ys → All IsControl (cond b xs ys)
-if-all true xs ys h i = h
-if-all false xs ys h i = i
+if-all b xs ys h i = grind arith
 
 if-one : (command b : Bool) (x y : Control) → IsControl (record { command = command; control = x }) → IsControl (record { command = command; control = y })
     → All IsControl (record { command = command; control = cond b x y } ∷ [])
-if-one command true x y h i = one (record { command = command; control = x }) h
-if-one command false x y h i = one (record { command = command; control = y }) i
+if-one command b x y h i = grind (arith, one)
 
 none-at-all : All IsControl []
 none-at-all = All-nil IsControl
@@ -39,28 +37,13 @@ all-up : (state : ℕ) (xs : List ControlFrame) → All IsControl xs → All IsC
 all-up state xs h = if-all _ xs [] h none-at-all
 
 all-answers : (was now : Standing) (state : ℕ) (command too_long : Bool) (control : Control) → All IsControl (answer_to was now state command too_long control)
-all-answers was now state command too_long (Sabme p) = if-one false (state == 6) (Dm p) (Ua p) refl refl
-all-answers was now state command too_long (Disc p) = if-one false (state == 4 || state == 5) (Dm p) (Ua p) refl refl
-all-answers was now state command false (Information ns nr p) =
-    all-up state (to_information p was now) (if-all (now.rejected && not was.rejected) (as_response (Reject (seq now.told.count) p)) (polled now p) (one _ refl) (all-polled now p))
-all-answers was now state command too_long (ReceiveReady nr p) = all-up state (polled now (command && p)) (all-polled now (command && p))
-all-answers was now state command too_long (ReceiveNotReady nr p) = all-up state (polled now (command && p)) (all-polled now (command && p))
-all-answers was now state command too_long (Reject nr p) = all-up state (polled now (command && p)) (all-polled now (command && p))
-all-answers was now state command b other = none-at-all
-
-all-changed : (was now : Standing) → All IsControl (changed was now)
-all-changed was now = if-all (cond was.busy (not now.busy) now.busy) (as_response (receipt now false)) [] (if-one false now.busy _ _ refl refl) none-at-all
+all-answers was now state command too_long control = grind (arith, if-one, all-up, to_information, if-all, polled, one, all-polled)
 
 all-answers-of : (n201 : ℕ) (was now : Standing) (state : ℕ) (e : Event) → All IsControl (answers_of n201 was now state e)
-all-answers-of n201 was now state (received (frame f)) = all-answers was now state f.address.command (nat_lt n201 (length f.info)) f.control
-all-answers-of n201 was now state (requested r full) = all-up state (changed was now) (all-changed was now)
-all-answers-of n201 was now state other = none-at-all
+all-answers-of n201 was now state e = grind (arith, all-answers, if-all, none-at-all, changed, receipt, if-one)
 
 all-commands : (now : Standing) (to : State) → All IsControl (command_of now (Some (state_number to)))
-all-commands now AwaitingEstablishment = one _ refl
-all-commands now AwaitingRelease = one _ refl
-all-commands now TimerRecovery = if-one true now.busy _ _ refl refl
-all-commands now other = none-at-all
+all-commands now to = grind (arith, one, if-one, none-at-all)
 
 -- What an event puts.
 abbrev pub put_by : ℕ → Standing → Standing → Event → State → State → List ControlFrame

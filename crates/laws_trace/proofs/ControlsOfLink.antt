@@ -1,5 +1,5 @@
 -- What an event of a link puts is what it makes due.
-use Rattle.laws_trace.proofs.Vocabulary.{◌≡◌, ℕ, ◌+◌, ◌-◌, ◌≤◌, ◌==◌, ◌&&◌, ◌||◌, Bool, true, false, cond, List, [], ◌∷◌, ◌++◌, length, take, drop, zero, suc, Some, refl, sym, ap, ◌∙◌, subst, arith, true≢false, not, nat_lt, flat_map-append, All-take, Information, ReceiveReady, ReceiveNotReady, Reject, Sabme, Disc, Ua, Dm, Parts, seq, HasItsTimer, needed_in, State, TeiAssigned, AwaitingEstablishment, AwaitingRelease, Established, TimerRecovery, ControlFrame, Terms, LinkTimer, restarts, undefined, wrong_size, overlong, received, expired, requested, offer, cleared, Received, Link, is_multiple_frame, may_repeat, state_number, runs, establishes, busy_asked, takes_contents, as_heard, moves, by_expiry, state_after, is_overlong, receipt_as, as_response, as_command, is_next, to_supervisory, to_sabme, to_disc, answers, command_in, commands, put, behind, waiting_left, event-follows, Seq, length-drop, Control, T200, T203, LinkEvent as Event, frame, LinkRequest as Request, LinkEstablish as Establish, LinkRelease as Release, LinkData as Data, LinkSetBusy as SetBusy, LinkClearBusy as ClearBusy, room, link_after as after, link_told as told, false_from_ne_true}
+use Rattle.laws_trace.proofs.Vocabulary.{◌≡◌, ℕ, ◌+◌, ◌-◌, ◌≤◌, ◌==◌, ◌&&◌, ◌||◌, Bool, true, false, cond, List, [], ◌∷◌, ◌++◌, length, take, drop, zero, suc, Some, refl, sym, ap, ◌∙◌, subst, arith, not, nat_lt, flat_map-append, All-take, Information, ReceiveReady, ReceiveNotReady, Reject, Sabme, Disc, Ua, Dm, Parts, seq, HasItsTimer, needed_in, State, ControlFrame, Terms, LinkTimer, restarts, undefined, wrong_size, overlong, received, expired, requested, offer, cleared, Received, Link, is_multiple_frame, state_number, establishes, busy_asked, takes_contents, as_heard, moves, by_expiry, state_after, is_overlong, receipt_as, as_response, as_command, is_next, to_supervisory, to_sabme, to_disc, answers, command_in, commands, put, behind, waiting_left, event-follows, Seq, length-drop, Control, T200, LinkEvent as Event, frame, LinkRequest as Request, LinkEstablish as Establish, LinkRelease as Release, LinkData as Data, LinkSetBusy as SetBusy, LinkClearBusy as ClearBusy, room, link_after as after, link_told as told, false_from_ne_true}
 use Rattle.laws_link.specs.Waiting as waiting
 use Rattle.laws_trace.proofs.ControlsWatched.{control_in, receipt, polled, to_information, while_up, answer_to, changed, command_of}
 use Rattle.laws_trace.proofs.DeliveriesWatched.{Standing}
@@ -25,43 +25,31 @@ pub record IsNumbered (t : Terms) (e : Event) (l : Link) (m : ℕ) (busy rejecte
 by-information : (busy next rejecting p : Bool) (r : ℕ)
     → cond (not busy && (not next && not rejecting)) (as_response (Reject (seq r) p)) (cond p (as_response (receipt_as busy (cond (not busy && next) (r + 1) r) true)) [])
     ≡ to_information p (calm r busy rejecting) (calm (cond (not busy && next) (r + 1) r) busy (cond (not busy && next) false (cond (not busy) true rejecting)))
-by-information true next true p r = refl
-by-information true next false p r = refl
-by-information false true rejecting p r = refl
-by-information false false true p r = refl
-by-information false false false p r = refl
+by-information busy next rejecting p r = grind arith
 
 -- SetBusy and ClearBusy.
 by-set : (busy rejected : Bool) (r : ℕ) → cond (not busy) (as_response (receipt_as true r false)) [] ≡ changed (calm r busy rejected) (calm r true rejected)
-by-set true rejected r = refl
-by-set false rejected r = refl
+by-set busy rejected r = grind arith
 
 by-clear : (busy rejected : Bool) (r : ℕ) → cond busy (as_response (receipt_as false r false)) [] ≡ changed (calm r busy rejected) (calm r false rejected)
-by-clear true rejected r = refl
-by-clear false rejected r = refl
+by-clear busy rejected r = grind arith
 
 by-none : (busy rejected : Bool) (r : ℕ) → [] ≡ changed (calm r busy rejected) (calm r busy rejected)
-by-none true rejected r = refl
-by-none false rejected r = refl
+by-none busy rejected r = grind arith
 
 -- SABME and DISC.
 by-sabme : (s : State) (p : Bool) → to_sabme s p ≡ cond (state_number s == 6) (Dm p) (Ua p)
-by-sabme TeiAssigned p = refl
-by-sabme other p = refl
+by-sabme s p = grind arith
 
 by-disc : (s : State) (p : Bool) → to_disc s p ≡ cond (state_number s == 4 || state_number s == 5) (Dm p) (Ua p)
-by-disc TeiAssigned p = refl
-by-disc other p = refl
+by-disc s p = grind arith
 
 if-both : (a b : Bool) (xs : List ControlFrame) → cond (a && b) xs [] ≡ cond a (cond b xs []) []
-if-both true b xs = refl
-if-both false b xs = refl
+if-both a b xs = grind arith
 
 -- States 7 and 8 are those of multiple-frame operation.
 pub both-up : (s : State) (xs ys : List ControlFrame) → (is_multiple_frame s ≡ true → xs ≡ ys) → cond (is_multiple_frame s) xs [] ≡ while_up (state_number s) ys
-both-up Established xs ys h = h refl
-both-up TimerRecovery xs ys h = h refl
-both-up other xs ys h = refl
+both-up s xs ys h = grind arith
 
 module _ (t : Terms) (l : Link) (m : ℕ) (busy rejected : Bool) (n : ℕ) (busy_now rejected_now : Bool) where
   abbrev Seen : Event → Type 0
@@ -85,15 +73,7 @@ module _ (t : Terms) (l : Link) (m : ℕ) (busy rejected : Bool) (n : ℕ) (busy
       → xs ≡ D (calm l.r l.own_busy l.rejecting)
       (calm (number_after (as_heard t e) l) (busy_asked e l.own_busy) (rejected_behind false (takes_contents (as_heard t e) l) e l.own_busy l.rejecting))
       → xs ≡ D was now
-  as-seen e D xs h up on due =
-      let number = number_after (as_heard t e) l in
-      let takes = takes_contents (as_heard t e) l in
-      subst (λ r. xs ≡ D was (calm n busy_now r)) (h.rejected_on up on)
-      (subst (λ b. xs ≡ D was (calm n b (rejected_behind false takes e busy rejected))) (h.busy_on up on)
-      (subst (λ n. xs ≡ D was (calm n (busy_asked e busy) (rejected_behind false takes e busy rejected))) (h.number_on up on)
-      (subst (λ r. xs ≡ D (calm m busy r) (calm number (busy_asked e busy) (rejected_behind false takes e busy r))) (h.rejected_is up)
-      (subst (λ b. xs ≡ D (calm m b l.rejecting) (calm number (busy_asked e b) (rejected_behind false takes e b l.rejecting))) (h.busy_is up)
-      (subst (λ m. xs ≡ D (calm m l.own_busy l.rejecting) (calm number (busy_asked e l.own_busy) (rejected_behind false takes e l.own_busy l.rejecting))) (h.number_is up) due)))))
+  as-seen e D xs h up on due = grind (arith, was, calm, rejected_behind)
 
   -- A frame is heard as itself, but for an I-frame whose information is too long, which has no answer.
   by-size : (f : Parts) (ns nr : Seq) (p long : Bool) → nat_lt t.n201 (length f.info) ≡ long → let e = received (frame (record f { control = Information ns nr p })) in
@@ -139,47 +119,25 @@ module _ (t : Terms) (l : Link) (m : ℕ) (busy rejected : Bool) (n : ℕ) (busy
   answers-are (requested Establish full) other h = sym (either-none (is_multiple_frame l.state)) ∙ by-request Establish full [] h (by-none l.own_busy l.rejecting l.r)
   answers-are (requested Release full) other h = sym (either-none (is_multiple_frame l.state)) ∙ by-request Release full [] h (by-none l.own_busy l.rejecting l.r)
   answers-are (requested (Data contents) full) other h = sym (either-none (is_multiple_frame l.state)) ∙ by-request (Data contents) full [] h (by-none l.own_busy l.rejecting l.r)
-  answers-are (requested SetBusy full) other h =
-      if-both (is_multiple_frame l.state) (not l.own_busy) (as_response (receipt_as true l.r false))
-      ∙ by-request SetBusy full (cond (not l.own_busy) (as_response (receipt_as true l.r false)) []) h (by-set l.own_busy l.rejecting l.r)
-  answers-are (requested ClearBusy full) other h =
-      if-both (is_multiple_frame l.state) l.own_busy (as_response (receipt_as false l.r false))
-      ∙ by-request ClearBusy full (cond l.own_busy (as_response (receipt_as false l.r false)) []) h (by-clear l.own_busy l.rejecting l.r)
+  answers-are (requested SetBusy full) other h = grind (arith, if-both, by-request, by-set)
+  answers-are (requested ClearBusy full) other h = grind (arith, if-both, by-request, by-clear)
   answers-are offer other h = absurd other
   answers-are cleared other h = absurd other
   answers-are any other h = refl
 
   -- Commands: those of a state that awaits an answer, where T200 expires, or the link comes there.
   never-other : (e : Event) → IsNoOther e → let to = state_after t e l in (moves l.state to || waiting.is_time e l) ≡ true → enquires to ≡ true → (timer : LinkTimer) × (e ≡ expired timer)
-  never-other (expired timer) other move lead = (timer, refl)
-  never-other (received what) other move lead = absurd (none-heard t what l move lead)
-  never-other (requested r full) other move lead = absurd (none-asked t r full l move lead)
-  never-other any other move lead = absurd other
+  never-other e other move lead = grind (arith, none-heard, none-asked)
 
   by-expiry-up : (s : State) (timer : LinkTimer) (ran again : Bool) → enquires (cond ran (by_expiry s timer again) s) ≡ true → is_multiple_frame s ≡ true
-  by-expiry-up TeiAssigned timer true again up = absurd (true≢false (sym up))
-  by-expiry-up TeiAssigned timer false again up = absurd (true≢false (sym up))
-  by-expiry-up AwaitingEstablishment T200 true true up = absurd (true≢false (sym up))
-  by-expiry-up AwaitingEstablishment T200 true false up = absurd (true≢false (sym up))
-  by-expiry-up AwaitingEstablishment T203 true again up = absurd (true≢false (sym up))
-  by-expiry-up AwaitingEstablishment timer false again up = absurd (true≢false (sym up))
-  by-expiry-up AwaitingRelease T200 true true up = absurd (true≢false (sym up))
-  by-expiry-up AwaitingRelease T200 true false up = absurd (true≢false (sym up))
-  by-expiry-up AwaitingRelease T203 true again up = absurd (true≢false (sym up))
-  by-expiry-up AwaitingRelease timer false again up = absurd (true≢false (sym up))
-  by-expiry-up other timer ran again up = refl
+  by-expiry-up s timer ran again up = grind arith
 
   command-is : (to : State) → (enquires to ≡ true → as_command (receipt_as l.own_busy l.r true) ≡ as_command (receipt now true)) → command_in to l ≡ command_of now (Some (state_number to))
-  command-is TimerRecovery h = h refl
-  command-is other h = refl
+  command-is to h = grind arith
 
   enquired : (e : Event) (timer : LinkTimer) → e ≡ expired timer → Seen e → enquires (state_after t e l) ≡ true
       → as_command (receipt_as l.own_busy l.r true) ≡ as_command (receipt now true)
-  enquired e timer is h lead =
-      let seen : Seen (expired timer) = subst Seen is h in
-      as-seen (expired timer) (λ was now. as_command (receipt now true)) (as_command (receipt_as l.own_busy l.r true)) seen
-      (by-expiry-up l.state timer (runs timer l.running) (may_repeat t l) (subst (λ e. enquires (state_after t e l) ≡ true) is lead))
-      (goes-on (expired timer) (λ is. establishes t l (expired timer) is)) refl
+  enquired e timer is h lead = grind (arith, as-seen, was, receipt, now, by-expiry-up, enquires, goes-on)
 
   abbrev Timed : Event → Type 0
   Timed e = let to = state_after t e l in commands e l to ≡ cond (moves l.state to || waiting.is_time e l) (command_of now (Some (state_number to))) []
@@ -196,14 +154,7 @@ module _ (t : Terms) (l : Link) (m : ℕ) (busy rejected : Bool) (n : ℕ) (busy
 
   -- What is heard in place of a frame leads to no enquiry.
   received-times : (what : Received) → Timed (received what)
-  received-times what = go (moves l.state to || waiting.is_time (received what) l) refl
-    where
-      to : State
-      to = state_after t (received what) l
-
-      go : (b : Bool) → (moves l.state to || waiting.is_time (received what) l) ≡ b → cond b (command_in to l) [] ≡ cond b (command_of now (Some (state_number to))) []
-      go false move = refl
-      go true move = command-is to (λ lead. absurd (none-heard t what l move lead))
+  received-times what = grind (arith, command_of, now, command-is, none-heard)
 
   heard-times : (e : Event) → IsNoOther e → Seen e → Timed (as_heard t e)
   heard-times (received (frame f)) other h = received-times (cond (is_overlong t f.control f.info) overlong (frame f))
@@ -215,32 +166,18 @@ module _ (t : Terms) (l : Link) (m : ℕ) (busy rejected : Bool) (n : ℕ) (busy
   heard-times any other h = absurd other
 
   same-ticks : (e : Event) → ticks (as_heard t e) ≡ ticks e
-  same-ticks (received (frame f)) = refl
-  same-ticks other = refl
+  same-ticks e = grind arith
 
   -- Where a command is due by the timer, T200 runs.
   again : (e : Event) → l.running ≡ Some T200 → waiting.is_time e l ≡ (ticks e == 1)
-  again (expired T200) is = ap (runs T200) is
-  again other is = refl
-
-  if-same : (b d : Bool) → cond {A = List ControlFrame} b [] [] ≡ cond d [] []
-  if-same b d = either-none b ∙ sym (either-none d)
+  again e is = grind arith
 
   abbrev Whenever : Event → State → State → Type 0
   Whenever e from to =
       cond (moves from to || waiting.is_time e l) (command_of now (Some (state_number to))) [] ≡ cond (moves from to || ticks e == 1) (command_of now (Some (state_number to))) []
 
-  while-there : (e : Event) (to : State) → l.running ≡ Some T200
-      → cond (waiting.is_time e l) (command_of now (Some (state_number to))) [] ≡ cond (ticks e == 1) (command_of now (Some (state_number to))) []
-  while-there e to is = ap (λ b. cond b (command_of now (Some (state_number to))) []) (again e is)
-
   whenever : (e : Event) (from to : State) → l.running ≡ needed_in from l → Whenever e from to
-  whenever e from TeiAssigned is = if-same (moves from TeiAssigned || waiting.is_time e l) (moves from TeiAssigned || ticks e == 1)
-  whenever e from Established is = if-same (moves from Established || waiting.is_time e l) (moves from Established || ticks e == 1)
-  whenever e AwaitingEstablishment AwaitingEstablishment is = while-there e AwaitingEstablishment is
-  whenever e AwaitingRelease AwaitingRelease is = while-there e AwaitingRelease is
-  whenever e TimerRecovery TimerRecovery is = while-there e TimerRecovery is
-  whenever e other any is = refl
+  whenever e from to is = grind (arith, either-none, ticks, to, is, command_of, now, again)
 
   pub put-is : (e : Event) → IsNoOther e → HasItsTimer l → Seen e → let to = state_after t (as_heard t e) l in put (as_heard t e) l to ≡ put_by t.n201 was now e l.state to
   put-is e other timed h =
@@ -252,10 +189,7 @@ module _ (t : Terms) (l : Link) (m : ℕ) (busy rejected : Bool) (n : ℕ) (busy
 
 -- Of those that are put as many wait as there is room for.
 as-many : (n : ℕ) (xs : List ControlFrame) → take n xs ≡ take (length xs - length (drop n xs)) xs
-as-many zero xs = ap (λ n. take n xs) (none-left (length xs))
-  where
-    none-left : (n : ℕ) → 0 ≡ n - n
-    none-left n = omega arith
+as-many zero xs = grind arith
 as-many (suc n) [] = refl
 as-many (suc n) (x ∷ xs) =
     ap (λ ys. x ∷ ys) (as-many n xs)
@@ -299,10 +233,7 @@ puts t e l m busy rejected n busy_now rejected_now other timed h =
     is = subst (λ s. put heard l s ≡ put_by t.n201 was now e l.state s) (sym to-is) (put-is t l m busy rejected n busy_now rejected_now e other timed h)
 
     others : (e : Event) → IsNoOther e → waiting_left t (as_heard t e) l to ≡ behind t l (put (as_heard t e) l to)
-    others (received (frame f)) other = refl
-    others offer other = absurd other
-    others cleared other = absurd other
-    others any other = refl
+    others e other = grind arith
 
     waits : (after t e l).waiting ≡ l.waiting ++ take (room t l) due
     waits = (event-follows t e l).leaves.waiting ∙ others e other ∙ ap (λ fs. l.waiting ++ take (room t l) fs) is

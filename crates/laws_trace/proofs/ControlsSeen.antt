@@ -1,8 +1,7 @@
 -- What is seen of the control frames of a link, and which are due by it.
-use Rattle.laws_trace.proofs.Vocabulary.{◌≡◌, ℕ, ◌==◌, ◌&&◌, Bool, true, false, cond, List, [], ◌∷◌, ◌++◌, map, drop, Option, Some, None, refl, sym, ap, ◌∙◌, ◌⊎◌, inl, inr, eq-eqb, append-nil, true≢false, Result, Ok, Err, All, IfSome, flat_map, option_to_list, nat_lt, length, All-head, All-tail, Ui, ReadFault, Service, Parts, reading, sapi_of, reading-again, event-follows, ControlFrame, Terms, Link, address_at, IsGiven, Given, orders_for, given_is_frame, Config, Effect, hears, expiry, request, next, Answer, Line, place_in, terms, aim_of, of_request, unless_refused_told, heard_side, message_of, aim_of_reading, aim_of_heard, at_side, IsMalformed, IsTooLong, is_granted, IsBy, Brings, BringsMalformed, sapi-is, same-sapi, both-true, Refusal, eqb-true, unwrap_or, information_of, begun as course_begun, Event, told, answer, line_frame_of as frame_of, Request, trace_frame_in as frame_in, Seen, heard, seen, seen_told, seen_granted, refusal, drop-nil, link_after as after, link_given_of as given_of, offer_among, LinkIsInRange as IsInRange, LinkIsSound as IsSound, trace_begun as begun}
+use Rattle.laws_trace.proofs.Vocabulary.{arith, ◌≡◌, ℕ, ◌==◌, ◌&&◌, Bool, true, false, cond, List, [], ◌∷◌, ◌++◌, map, drop, Option, Some, None, refl, sym, ap, ◌∙◌, inl, inr, eq-eqb, append-nil, Result, Ok, Err, All, IfSome, flat_map, option_to_list, nat_lt, length, All-head, All-tail, Ui, ReadFault, Service, Parts, reading, sapi_of, reading-again, event-follows, ControlFrame, Terms, Link, address_at, IsGiven, Given, orders_for, given_is_frame, Config, Effect, hears, Answer, Line, place_in, terms, aim_of, unless_refused_told, message_of, aim_of_reading, aim_of_heard, at_side, is_granted, IsBy, Brings, BringsMalformed, sapi-is, same-sapi, both-true, Refusal, eqb-true, unwrap_or, information_of, begun as course_begun, Event, answer, line_frame_of as frame_of, Request, trace_frame_in as frame_in, Seen, heard, seen, seen_told, seen_granted, drop-nil, link_after as after, link_given_of as given_of, offer_among, LinkIsInRange as IsInRange, LinkIsSound as IsSound, trace_begun as begun}
 use Rattle.model_bits.specs.Stream as stream
 use Rattle.model_link.specs.Events as link
-use Rattle.laws_line.specs.Requests as requests
 use Rattle.laws_trace.proofs.ControlsWatched.{of_link, control_in, controls_at, while_up, answer_to, changed, answers_at, answers_to_frame}
 use Rattle.laws_trace.proofs.DeliveriesWatched.{Standing}
 use Rattle.laws_trace.proofs.Addressed.{addressed-is}
@@ -25,26 +24,17 @@ module _ (c : Config) (service : Service) (tei : ℕ) where
 
   -- What is seen to go are the frames that begin.
   none-told : (a : Answer) → controls_begun (seen_told a) ≡ []
-  none-told (told t) = refl
-  none-told other = refl
+  none-told a = grind arith
 
   none-given : (o : Option Refusal) (x : Effect) → [] ≡ flat_map begun_of (frame_in (unless_refused_told o x))
-  none-given None x = refl
-  none-given (Some why) x = refl
+  none-given o x = grind arith
 
   none-granted : (r : Request) (a : Answer) → controls_begun (seen_granted r a ++ seen_told a) ≡ []
-  none-granted r (told t) = refl
-  none-granted r other = refl
-
-  by-begun : (frames : List (List ℕ)) → controls_begun (map begun frames) ≡ flat_map begun_of frames
-  by-begun [] = refl
-  by-begun (f ∷ frames) = ap (λ xs. begun_of f ++ xs) (by-begun frames)
+  none-granted r a = grind arith
 
   pub begun-is : (e : Event) (l : Line) → controls_begun (seen e (answer c e l)) ≡ flat_map begun_of (frame_in (answer c e l))
   unfolding answer
-  begun-is (request r) l = none-granted r (answer c (request r) l) ∙ none-given (refusal c false r l) (of_request c r l)
-  begun-is next l = by-begun (frame_in (answer c next l))
-  begun-is other l = none-told (answer c other l)
+  begun-is e l = grind (arith, none-granted, none-given, none-told)
 
   -- Frames of others are no control frames of this link.
   foreign : (frame : List ℕ) → IsForeign c service tei frame → begun_of frame ≡ []
@@ -120,17 +110,14 @@ module _ (c : Config) (service : Service) (tei : ℕ) where
     To r = answers_to_frame c service tei was now state r
 
     pub told-none : (a : Answer) → answers_seen (seen_told a) ≡ []
-    told-none (told t) = refl
-    told-none other = refl
+    told-none a = grind arith
 
     pub begun-none : (frames : List (List ℕ)) → answers_seen (map begun frames) ≡ []
     begun-none [] = refl
     begun-none (f ∷ frames) = begun-none frames
 
     pub heard-answers : (e : Event) (a : Answer) (what : stream.Event) → e ≡ hears what → answers_seen (seen e a) ≡ answers_at c service tei was now state (heard what)
-    heard-answers e a what is =
-        ap (λ e. answers_seen (seen e a)) is ∙ ap (λ xs. answers_at c service tei was now state (heard what) ++ xs) (told-none a)
-        ∙ append-nil (answers_at c service tei was now state (heard what))
+    heard-answers e a what is = grind (arith, answers_at, told-none, append-nil)
 
     -- by an event of the link
     frame-answers : (e : Event) (a : Answer) (frame : Parts) → Brings c e service tei frame
@@ -140,36 +127,16 @@ module _ (c : Config) (service : Service) (tei : ℕ) where
         ∙ ap (λ b. cond b (answer_to was now state frame.address.command (nat_lt c.n201 (length frame.info)) frame.control) []) here
       where
         here : (frame.address.sapi == sapi_of service && frame.address.tei == tei) ≡ true
-        here =
-            ap (λ b. b && frame.address.tei == tei) (eq-eqb frame.address.sapi (sapi_of service) (sapi-is frame.address.sapi service x.sapi))
-            ∙ eq-eqb frame.address.tei tei x.tei_is
+        here = grind (arith, eq-eqb, sapi-is)
 
     malformed-answers : (e : Event) (a : Answer) (what : link.Received) → BringsMalformed c e service tei what → answers_seen (seen e a) ≡ []
-    malformed-answers e a what b = by-end b.by
-      where
-        by-fault : (octets : List ℕ) (what : link.Received) → IsMalformed c b.address octets what → To (reading (heard_side c) octets) ≡ []
-        by-fault octets link.overlong is = absurd is
-        by-fault octets (link.frame frame) is = absurd is
-        by-fault octets other is = ap To is
-
-        by-end : ((e ≡ hears (stream.frame b.octets)) × IsMalformed c b.address b.octets what) ⊎ ((e ≡ hears (stream.overlong b.octets)) × IsTooLong c b.address b.octets what)
-            → answers_seen (seen e a) ≡ []
-        by-end (inl y) = heard-answers e a (stream.frame b.octets) y.0 ∙ by-fault b.octets what y.1
-        by-end (inr y) = heard-answers e a (stream.overlong b.octets) y.0
+    malformed-answers e a what b = grind (arith, heard-answers)
 
     pub asked-answers : (r : Request) (a : Answer) → is_granted a ≡ true → answers_seen (seen_granted r a ++ seen_told a) ≡ while_up state (changed was now)
-    asked-answers r (told t) is = append-nil (while_up state (changed was now))
-    asked-answers r other is = absurd (true≢false (sym is))
+    asked-answers r a is = grind (arith, append-nil, while_up, changed)
 
     pub event-answers : (e : Event) (a : Answer) (event : link.Event) → IsBy c e a service tei event → answers_seen (seen e a) ≡ answers_of c.n201 was now state event
-    event-answers e a (link.received (link.frame frame)) x = frame-answers e a frame x
-    event-answers e a (link.received link.undefined) x = malformed-answers e a link.undefined x
-    event-answers e a (link.received link.wrong_size) x = malformed-answers e a link.wrong_size x
-    event-answers e a (link.received link.overlong) x = malformed-answers e a link.overlong x
-    event-answers e a (link.expired timer) x = ap (λ e. answers_seen (seen e a)) x ∙ told-none a
-    event-answers e a (link.requested asked full) x = ap (λ e. answers_seen (seen e a)) x.0 ∙ asked-answers (requests.of_link service tei asked) a x.1
-    event-answers e a link.offer x = ap (λ e. answers_seen (seen e a)) x ∙ begun-none (frame_in a)
-    event-answers e a link.cleared x = absurd x
+    event-answers e a event x = grind (arith, frame-answers, malformed-answers, told-none, asked-answers, begun-none)
 
     -- by another event, while layer 3 is as busy as before
     module _ (l : Line) (place : ℕ) (on : place_in l tei ≡ Some place) where
@@ -186,19 +153,13 @@ module _ (c : Config) (service : Service) (tei : ℕ) where
               ∙ ap (λ b. b && tei == tei) (same-itself service) ∙ eq-eqb tei tei refl
 
           go : (b : Bool) → (frame.address.sapi == sapi_of service && frame.address.tei == tei) ≡ b → cond b (answer_to was now state frame.address.command (nat_lt c.n201 (length frame.info)) frame.control) [] ≡ []
-          go true is = absurd (true≢false (sym (aimed is) ∙ aims))
-          go false is = refl
+          go b is = grind (arith, aimed)
 
       heard-none : (e : stream.Event) → is_at_link service tei (aim_of_heard c l e) ≡ false → answers_at c service tei was now state (heard e) ≡ []
-      heard-none (stream.frame octets) aims = read-none (reading (heard_side c) octets) aims
-      heard-none other aims = refl
+      heard-none e aims = grind (arith, read-none)
 
       request-none : (r : Request) (a : Answer) → while_up state (changed was now) ≡ [] → answers_seen (seen_granted r a ++ seen_told a) ≡ []
-      request-none r (told t) same = append-nil (while_up state (changed was now)) ∙ same
-      request-none r other same = refl
+      request-none r a same = grind (arith, append-nil, while_up, changed)
 
       pub none-answered : (e : Event) (a : Answer) → while_up state (changed was now) ≡ [] → is_at_link service tei (aim_of c e l) ≡ false → answers_seen (seen e a) ≡ []
-      none-answered (hears what) a same aims = heard-answers (hears what) a what refl ∙ heard-none what aims
-      none-answered (expiry timer) a same aims = told-none a
-      none-answered (request r) a same aims = request-none r a same
-      none-answered next a same aims = begun-none (frame_in a)
+      none-answered e a same aims = grind (arith, heard-answers, heard-none, told-none, request-none, begun-none)

@@ -1,12 +1,11 @@
 -- I-frames of a link that go out, as they are read.
-use Rattle.laws_trace.proofs.Vocabulary.{◌≡◌, ℕ, ◌==◌, ◌&&◌, Bool, true, false, cond, List, [], Option, Some, None, refl, ap, ◌∙◌, subst, eq-eqb, inl, inr, true≢false, IfSome, option_map_or, Information, Ui, Service, Parts, reading, sapi_of, reading-again, Link, address_at, is_information, Given, given_is_frame, Config, NextFrame, terms, same-sapi, unwrap_or, Control, information_of, line_frame_of as frame_of, given, IsGiven, LinkIsInRange as IsInRange, LinkIsSound as IsSound}
+use Rattle.laws_trace.proofs.Vocabulary.{arith, ◌≡◌, ℕ, ◌==◌, ◌&&◌, Bool, true, false, cond, List, [], Option, Some, None, refl, ap, ◌∙◌, subst, eq-eqb, inl, inr, IfSome, option_map_or, Ui, Service, Parts, reading, sapi_of, reading-again, Link, address_at, is_information, Given, given_is_frame, Config, NextFrame, terms, same-sapi, unwrap_or, Control, information_of, line_frame_of as frame_of, given, IsGiven, LinkIsInRange as IsInRange, LinkIsSound as IsSound}
 use Rattle.laws_trace.proofs.TimersWatched.{Sent, sent_by, sent_in}
 use Rattle.laws_trace.proofs.OneLink.{IsForeign}
 use Rattle.laws_trace.proofs.ReadAgain.{read-again}
 
 pub none-sent : (control : Control) (info : List ℕ) → is_information control ≡ false → sent_by control info ≡ None
-none-sent (Information ns nr p) info e = absurd (true≢false e)
-none-sent other info e = refl
+none-sent control info e = grind arith
 
 -- Frames of others, and what a link gives.
 module _ (c : Config) (service : Service) (tei : ℕ) where
@@ -14,8 +13,7 @@ module _ (c : Config) (service : Service) (tei : ℕ) where
   sent_of octets = sent_in service tei (reading c.side octets)
 
   either-none : (b : Bool) → cond {A = Option Sent} b None None ≡ None
-  either-none true = refl
-  either-none false = refl
+  either-none b = grind arith
 
   pub foreign : (frame : List ℕ) → IsForeign c service tei frame → sent_of frame ≡ None
   foreign frame (inl x) =

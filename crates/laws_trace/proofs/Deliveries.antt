@@ -1,5 +1,5 @@
 -- What is told is what was heard.
-use Rattle.laws_trace.proofs.Vocabulary.{◌≡◌, ℕ, ◌%◌, ◌≤◌, ◌==◌, ◌&&◌, Bool, true, false, cond, List, [], ◌∷◌, length, Option, Some, None, refl, sym, ap, ◌∙◌, arith, eq-eqb, ◌⊎◌, inl, inr, true≢false, All, ◌||◌, not, nat_le, count_by, option_to_list, list_any, and_parts, All-head, All-tail, sum_by-cons, none-some, Seq, Address, Note, Service, Parts, reading, sapi_of, service_of, same_service, Terms, Arrived, restarts, eligible, eligible_of, is_eligible, Link, is_multiple_frame, notes-own, establishes, unit_heard, in_ui_frame, Config, hears, Answer, Line, link_in, terms, aim_of, heard_side, group_tei, IsInRange, IsMalformed, IsTooLong, notes_of, contents_in, is_data_of, is_unit_of, tells_contents, IsBy, Brings, BringsMalformed, contents-heard, sapi-is, read-aim, read-event, told-once, group-read, Control, link_information_of as information_of, IsOwn, Event, answer, IsSound, result_ok, frame_of, is_for, is_ui, Information, Ui, NoteData as Data, Unit, IsHeard, IsHeardAtLink, IsHeardByGroup}
+use Rattle.laws_trace.proofs.Vocabulary.{◌≡◌, ℕ, ◌%◌, ◌≤◌, ◌==◌, ◌&&◌, Bool, true, false, cond, List, [], ◌∷◌, length, Option, Some, None, refl, sym, ap, ◌∙◌, arith, eq-eqb, inl, inr, true≢false, All, ◌||◌, not, nat_le, count_by, list_any, and_parts, All-head, All-tail, sum_by-cons, none-some, Seq, Note, Service, Parts, service_of, same_service, Terms, Arrived, restarts, eligible, eligible_of, is_eligible, Link, is_multiple_frame, notes-own, establishes, unit_heard, Config, hears, Answer, Line, link_in, terms, aim_of, group_tei, IsInRange, notes_of, contents_in, is_data_of, is_unit_of, tells_contents, IsBy, Brings, BringsMalformed, contents-heard, sapi-is, read-aim, read-event, told-once, group-read, Control, link_information_of as information_of, IsOwn, Event, answer, IsSound, result_ok, frame_of, is_for, is_ui, Information, Unit, IsHeard, IsHeardAtLink, IsHeardByGroup}
 use Rattle.model_bits.specs.Stream as stream
 use Rattle.model_link.specs.Events as link
 use Rattle.model_link.specs.Machine as links
@@ -34,12 +34,10 @@ some-own t q P h (n ∷ ns) own e = go (q n) refl e (λ any. some-own t q P h ns
 
 module _ (service : Service) (tei : ℕ) where
   pub data-tells : (n : Note) → is_data_of service tei n ≡ true → tells_contents n ≡ true
-  data-tells (Data s n) e = refl
-  data-tells other e = absurd (true≢false (sym e))
+  data-tells n e = grind arith
 
   pub unit-tells : (n : Note) → is_unit_of service tei n ≡ true → tells_contents n ≡ true
-  unit-tells (Unit s n) e = refl
-  unit-tells other e = absurd (true≢false (sym e))
+  unit-tells n e = grind arith
 
   module _ (t : Terms) where
     abbrev pub IsIts : Type 0
@@ -49,12 +47,10 @@ module _ (service : Service) (tei : ℕ) where
     its s n own e = ap (λ z. same_service z service && t.tei == tei) (sym own.0) ∙ ap (λ m. same_service s service && m == tei) (sym own.1) ∙ e
 
     pub data-own : (n : Note) → IsOwn t n → is_data_of service tei n ≡ true → IsIts
-    data-own (Data s n) own e = its s n own e
-    data-own other own e = absurd (true≢false (sym e))
+    data-own n own e = grind (arith, its)
 
     pub unit-own : (n : Note) → IsOwn t n → is_unit_of service tei n ≡ true → IsIts
-    unit-own (Unit s n) own e = its s n own e
-    unit-own other own e = absurd (true≢false (sym e))
+    unit-own n own e = grind (arith, its)
 
 -- An event that is none of the link notes no contents of it.
 module _ (c : Config) (ranged : IsInRange c) (l : Line) (s : IsSound c l) (e : Event) (service : Service) (tei : ℕ) where
@@ -65,10 +61,7 @@ module _ (c : Config) (ranged : IsInRange c) (l : Line) (s : IsSound c l) (e : E
   has-contents : (q : Note → Bool) → ((n : Note) → q n ≡ true → tells_contents n ≡ true) → list_any q (notes_of a) ≡ true
       → (o : Option (List ℕ)) → contents_in a ≡ o → (contents : List ℕ) × (contents_in a ≡ Some contents)
   has-contents q h some (Some contents) is = (contents, is)
-  has-contents q h some None is =
-      let many = any-counted q tells_contents h (notes_of a) some in
-      let none : count_by tells_contents (notes_of a) ≡ 0 = told-once c e l ranged s ∙ ap (λ o. length (option_to_list o)) is in
-      absurd (omega (arith, many, none))
+  has-contents q h some None is = grind (arith, any-counted, told-once)
 
   noted-aim : (q : Note → Bool) → ((t : Terms) (n : Note) → IsOwn t n → q n ≡ true → (same_service t.service service && t.tei == tei) ≡ true)
       → list_any q (notes_of a) ≡ true → (contents : List ℕ) → IsHeardAtLink c l e a contents → is_at_link service tei (aim_of c e l) ≡ true
@@ -104,32 +97,16 @@ module _ (c : Config) (ranged : IsInRange c) (l : Line) (s : IsSound c l) (e : E
 -- The frame that an event of the link brings.
 module _ (c : Config) (e : Event) (a : Answer) (service : Service) (tei : ℕ) where
   its-address : (f : Parts) → service_of f.address.sapi ≡ Some service → f.address.tei ≡ tei → is_for service tei f.address ≡ true
-  its-address f sapi is =
-      ap (λ b. b && f.address.tei == tei) (eq-eqb f.address.sapi (sapi_of service) (sapi-is f.address.sapi service sapi)) ∙ eq-eqb f.address.tei tei is
+  its-address f sapi is = grind (arith, eq-eqb, sapi-is)
 
   pub brings-frame : (f : Parts) → Brings c e service tei f → (frame_by c e ≡ Some f) × (is_for service tei f.address ≡ true)
   brings-frame f x = (ap (frame_by c) x.by ∙ ap result_ok x.read, its-address f x.sapi x.tei_is)
 
-  is-fault : (address : Address) (octets : List ℕ) (what : link.Received) → IsMalformed c address octets what → result_ok (reading (heard_side c) octets) ≡ None
-  is-fault address octets link.overlong is = absurd is
-  is-fault address octets (link.frame parts) is = absurd is
-  is-fault address octets other is = ap result_ok is
-
   pub brings-none : (what : link.Received) → BringsMalformed c e service tei what → frame_by c e ≡ None
-  brings-none what x = go x.by
-    where
-      go : ((e ≡ hears (stream.frame x.octets)) × IsMalformed c x.address x.octets what) ⊎ ((e ≡ hears (stream.overlong x.octets)) × IsTooLong c x.address x.octets what)
-          → frame_by c e ≡ None
-      go (inl y) = ap (frame_by c) y.0 ∙ is-fault x.address x.octets what y.1
-      go (inr y) = ap (frame_by c) y.0
+  brings-none what x = grind arith
 
   pub heard-by : (what : link.Received) → BringsMalformed c e service tei what → (heard : stream.Event) × (e ≡ hears heard)
-  heard-by what x = go x.by
-    where
-      go : ((e ≡ hears (stream.frame x.octets)) × IsMalformed c x.address x.octets what) ⊎ ((e ≡ hears (stream.overlong x.octets)) × IsTooLong c x.address x.octets what)
-          → (heard : stream.Event) × (e ≡ hears heard)
-      go (inl y) = (stream.frame x.octets, y.0)
-      go (inr y) = (stream.overlong x.octets, y.0)
+  heard-by what x = grind arith
 
   none-begins : (le : link.Event) (k : Link) → ((restarts (terms c service tei) le k ≡ true) → ⊥) → (ns : List Note) → frame_by c e ≡ None
       → begins service tei (frame_by c e) ns ≡ restarts (terms c service tei) le k
@@ -138,11 +115,7 @@ module _ (c : Config) (e : Event) (a : Answer) (service : Service) (tei : ℕ) w
   -- whether the numbers begin with it
   pub one-begins : (le : link.Event) → IsBy c e a service tei le → (k : Link)
       → begins service tei (frame_by c e) (links.told (terms c service tei) le k).notes ≡ restarts (terms c service tei) le k
-  one-begins (link.received (link.frame f)) by k =
-      let t = terms c service tei in
-      let x = brings-frame f by in
-      let ns = (links.told t (link.received (link.frame f)) k).notes in
-      ap (λ o. begins service tei o ns) x.0 ∙ ap (λ b. b && begins_by f.control ns) x.1 ∙ begins-is t f k
+  one-begins (link.received (link.frame f)) by k = grind (arith, brings-frame, begins, begins_by, begins-is)
   one-begins (link.received link.undefined) by k = none-begins (link.received link.undefined) k (establishes (terms c service tei) k (link.received link.undefined)) (links.told (terms c service tei) (link.received link.undefined) k).notes (brings-none link.undefined by)
   one-begins (link.received link.wrong_size) by k = none-begins (link.received link.wrong_size) k (establishes (terms c service tei) k (link.received link.wrong_size)) (links.told (terms c service tei) (link.received link.wrong_size) k).notes (brings-none link.wrong_size by)
   one-begins (link.received link.overlong) by k = none-begins (link.received link.overlong) k (establishes (terms c service tei) k (link.received link.overlong)) (links.told (terms c service tei) (link.received link.overlong) k).notes (brings-none link.overlong by)
@@ -184,28 +157,9 @@ module _ (c : Config) (e : Event) (a : Answer) (service : Service) (tei : ℕ) w
   pub data-of : (le : link.Event) → IsBy c e a service tei le → (k : Link) (n : ℕ) → (is_multiple_frame k.state ≡ true → k.r ≡ n) → (contents : List ℕ)
       → (i : Arrived) → eligible (terms c service tei) le k ≡ Some i → i.contents ≡ contents → i.ns.value ≡ k.r % 128
       → IsOfFrame service tei (record { frame = frame_by c e; count = n }) (λ control. number_in control ≡ Some (n % 128)) (Some contents)
-  data-of (link.received (link.frame f)) by k n up contents i h same number =
-      let x = brings-frame f by in
-      let y = carried (terms c service tei) k f.control f.info i h in
-      record {
-        frame = f;
-        heard = x.0;
-        whose = x.1;
-        control = ap number_in y.is ∙ ap (λ (s : Seq). Some s.value) (sym y.number) ∙ ap (λ m. Some m) (number ∙ ap (λ m. m % 128) (up y.up));
-        told = ap (λ o. Some o) (sym same ∙ y.contents);
-      }
-  data-of other by k n up contents i h same number = absurd (none-some i h)
+  data-of le by k n up contents i h same number = grind (arith, brings-frame, carried, number_in, none-some)
 
   -- a UI that is told
-  ui-of : (f : Parts) (contents : List ℕ) → (ct : Control) → f.control ≡ ct → in_ui_frame ct f.info ≡ Some contents
-      → (p : Bool) × (f.control ≡ Ui p) × (Some contents ≡ Some f.info)
-  ui-of f contents (Ui p) is h = (p, is, sym h)
-  ui-of f contents other is h = absurd (none-some contents h)
-
   pub unit-of : (le : link.Event) → IsBy c e a service tei le → (n : ℕ) (contents : List ℕ) → unit_heard le ≡ Some contents
       → IsOfFrame service tei (record { frame = frame_by c e; count = n }) (λ control. is_ui control ≡ true) (Some contents)
-  unit-of (link.received (link.frame f)) by n contents h =
-      let x = brings-frame f by in
-      let y = ui-of f contents f.control refl h in
-      record { frame = f; heard = x.0; whose = x.1; control = ap is_ui y.1; told = y.2 }
-  unit-of other by n contents h = absurd (none-some contents h)
+  unit-of le by n contents h = grind (arith, brings-frame, none-some)

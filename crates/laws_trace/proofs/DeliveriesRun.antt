@@ -1,5 +1,5 @@
 -- What is told is what was heard: over runs.
-use Rattle.laws_trace.proofs.Vocabulary.{length, nat_le, le-leb, within, ◌≡◌, ℕ, ◌+◌, ◌%◌, ◌&&◌, Bool, true, false, cond, List, Option, Some, None, refl, sym, ap, ◌∙◌, subst, eq-eqb, ◌==◌, Result, Ok, Err, true≢false, ◌⊎◌, inl, inr, is_some, Note, list_any, option_or, option_map_or, none-some, ReadFault, reading, sapi_of, same_service, Service, Parts, Terms, restarts, Link, is_multiple_frame, event-delivers, delivered-at_once, notes-own, event-tells, unit_heard, event-unit, within-is, Config, hears, Answer, Line, place_in, link_in, link_of, terms, aim_of, aim_of_heard, aim_of_reading, message_of, heard_side, group_tei, IsInRange, at_side, notes_of, contents_in, is_data_of, is_unit_of, own-all, addressed-is, sapi-is, same-sapi, service-same, both-true, told-once, eqb-true, fresh_link as fresh, Event, line_after as after, answer, IsSound, result_ok, frame_of, is_for, is_ui, ReleaseConfirm, ReleaseIndication}
+use Rattle.laws_trace.proofs.Vocabulary.{arith, length, nat_le, le-leb, within, ◌≡◌, ℕ, ◌+◌, ◌%◌, ◌&&◌, Bool, true, false, cond, List, Option, Some, None, refl, sym, ap, ◌∙◌, subst, eq-eqb, ◌==◌, Result, Ok, Err, true≢false, ◌⊎◌, inl, inr, is_some, Note, list_any, option_or, option_map_or, none-some, ReadFault, reading, sapi_of, same_service, Service, Parts, Terms, restarts, Link, is_multiple_frame, event-delivers, delivered-at_once, notes-own, event-tells, unit_heard, event-unit, within-is, Config, hears, Answer, Line, place_in, link_in, link_of, terms, aim_of, aim_of_heard, aim_of_reading, message_of, heard_side, group_tei, IsInRange, at_side, notes_of, contents_in, is_data_of, is_unit_of, own-all, addressed-is, sapi-is, same-sapi, service-same, both-true, told-once, eqb-true, fresh_link as fresh, Event, line_after as after, answer, IsSound, result_ok, frame_of, is_for, is_ui, ReleaseConfirm, ReleaseIndication}
 use Rattle.model_bits.specs.Stream as stream
 use Rattle.model_link.specs.Events as link
 use Rattle.model_link.specs.Machine as links
@@ -18,12 +18,7 @@ abbrev pub IsSmall : ℕ → Option (List ℕ) → Type 0
 IsSmall n contents = option_map_or (λ (octets : List ℕ). nat_le (length octets) n) contents false ≡ true
 
 within-small : (n : ℕ) (o : Option (List ℕ)) (contents : List ℕ) → within n o ≡ Some contents → IsSmall n (Some contents)
-within-small n None contents e = absurd (none-some contents e)
-within-small n (Some octets) contents e = go (nat_le (length octets) n) refl e
-  where
-    go : (b : Bool) → nat_le (length octets) n ≡ b → cond b (Some octets) None ≡ Some contents → IsSmall n (Some contents)
-    go true is e = let same : octets ≡ contents = cc e in subst (λ x. nat_le (length x) n ≡ true) same is
-    go false is e = absurd (none-some contents e)
+within-small n o contents e = grind (arith, none-some, nat_le)
 
 -- V(R) is what was counted, while the link is up.
 abbrev pub IsCount : Link → ℕ → Type 0
@@ -52,8 +47,7 @@ event-aims c l service tei place on (hears what) f is for = heard-aims-at c l se
 event-aims c l service tei place on other f is for = absurd (none-some f is)
 
 and-false : (a b : Bool) → (a ≡ true → ⊥) → (a && b) ≡ false
-and-false true b h = absurd (h refl)
-and-false false b h = refl
+and-false a b h = grind arith
 
 module _ (c : Config) (ranged : IsInRange c) (l : Line) (s : IsSound c l) (e : Event) (service : Service) (tei : ℕ) (n : ℕ) (before : IsCount (link_of service tei l) n) where
   abbrev a : Answer
@@ -103,8 +97,7 @@ module _ (c : Config) (ranged : IsInRange c) (l : Line) (s : IsSound c l) (e : E
       where
         alone : (contents : List ℕ) → (links.told t x.event k).unit ≡ Some contents
             → ((links.told t x.event k).delivered ≡ None) ⊎ ((links.told t x.event k).unit ≡ None) → (links.told t x.event k).delivered ≡ None
-        alone contents is (inl none) = none
-        alone contents is (inr none) = absurd (none-some contents (sym none ∙ is))
+        alone contents is o = grind (arith, none-some)
 
         go : (o : Option (List ℕ)) → (links.told t x.event k).unit ≡ o → P (contents_in a)
         go None is = absurd (true≢false (sym some ∙ unit-noted ∙ ap is_some is))
@@ -129,9 +122,7 @@ module _ (c : Config) (ranged : IsInRange c) (l : Line) (s : IsSound c l) (e : E
         r-is = ap (λ (y : Link). y.r) x.is
 
         count-is : (b : Bool) → restarts t x.event k ≡ b → counted service tei w (notes_of a) ≡ cond b 0 (cond (is_some (links.told t x.event k).delivered) (n + 1) n)
-        count-is b is =
-            ap (λ b. cond b 0 (cond (list_any (is_data_of service tei) (notes_of a)) (n + 1) n)) (begins-is ∙ is)
-            ∙ ap (λ d. cond b 0 (cond d (n + 1) n)) data-noted
+        count-is b is = grind (arith, begins-is, data-noted)
 
         go : (b : Bool) → restarts t x.event k ≡ b → (link_of service tei (after c e l)).r ≡ counted service tei w (notes_of a)
         go true is =
@@ -195,12 +186,7 @@ module _ (c : Config) (ranged : IsInRange c) (l : Line) (s : IsSound c l) (e : E
 
         go : (link_of service tei (after c e l) ≡ k) ⊎ (link_of service tei (after c e l) ≡ fresh)
             → (link_of service tei (after c e l)).r ≡ counted service tei w (notes_of a)
-        go (inl same) =
-            let was = ap (λ (y : Link). is_multiple_frame y.state) (sym same) ∙ up in
-            ap (λ (y : Link). y.r) same ∙ before was
-            ∙ ap (λ b. cond b 0 n) (sym (by-frame (frame_by c e) refl was))
-            ∙ ap (λ d. cond (begins service tei (frame_by c e) (notes_of a)) 0 (cond d (n + 1) n)) (unless _ no-data)
-        go (inr new) = absurd (true≢false (sym up ∙ ap (λ (y : Link). is_multiple_frame y.state) new))
+        go o = grind (arith, by-frame, frame_by, begins, unless, no-data)
 
   -- Its deactivation.
   pub ended-notes : (q : Note → Bool) → ((s : Service) (n : ℕ) → q (ReleaseIndication s n) ≡ false) → ((s : Service) (n : ℕ) → q (ReleaseConfirm s n) ≡ false)
@@ -221,19 +207,6 @@ module _ (c : Config) (ranged : IsInRange c) (l : Line) (s : IsSound c l) (e : E
   event-told = go (event-goes c e l service tei s)
     where
       go : Goes c service tei e l (after c e l) a → IsHeard service tei w (notes_of a) (contents_in a) × IsCount (link_of service tei (after c e l)) (counted service tei w (notes_of a))
-      go (inl x) = (
-        record { data_is = λ some. absurd (no-data x some); unit_is = λ some. group-told x some; once = told-once c e l ranged s },
-        none-counts x,
-      )
-      go (inr (inr x)) = (
-        record {
-          data_is = λ some. absurd (true≢false (sym some ∙ ended-notes (is_data_of service tei) (λ s n. refl) (λ s n. refl) x));
-          unit_is = λ some. absurd (true≢false (sym some ∙ ended-notes (is_unit_of service tei) (λ s n. refl) (λ s n. refl) x));
-          once = told-once c e l ranged s;
-        },
-        λ up. absurd (true≢false (sym up ∙ ap (λ (y : Link). is_multiple_frame y.state) x.is)),
-      )
-      go (inr (inl x)) = (
-        record { data_is = one-data x; unit_is = one-unit x; once = told-once c e l ranged s },
-        one-counts x,
-      )
+      go (inl x) = grind (arith, no-data, group-told, told-once, none-counts)
+      go (inr (inr x)) = grind (arith, ended-notes, told-once)
+      go (inr (inl x)) = grind (arith, one-data, one-unit, told-once, one-counts)

@@ -1,7 +1,6 @@
 -- What is wrong with what is seen of a link: one event of its line.
-use Rattle.laws_trace.proofs.Vocabulary.{◌≡◌, ℕ, ◌==◌, ◌&&◌, Bool, true, false, cond, List, [], ◌∷◌, ◌++◌, Option, Some, None, Result, Ok, Err, refl, sym, ap, ◌∙◌, subst, true≢false, ◌⊎◌, inl, inr, append-nil, option_to_list, option_map_or, Unserved, Address, ReadFault, Undefined, WrongSize, ErrorCode, Long, Service, Parts, reading, long_reading, Config, hears, expiry, Answer, heard_side, aim_of_heard, aim_of_reading, aim_of_long, drop_for, Line, place_in, terms, aim_of, IsMalformed, IsTooLong, IsBy, BringsMalformed, nat_lt, length, eqb-true, Event, option_and_then, result_ok, result_err, frame_of, its_frame, is_for, faulty_long, malformed, fault_of, wrong_frame, given_up, wrong, is_up, and-false, G, H, I, L, N, O, cond_both}
+use Rattle.laws_trace.proofs.Vocabulary.{arith, ◌≡◌, ℕ, true, false, cond, List, [], ◌++◌, Some, None, Result, ap, ◌∙◌, ◌⊎◌, append-nil, option_to_list, option_map_or, Address, ReadFault, ErrorCode, Long, Service, Parts, Config, hears, Answer, aim_of_reading, aim_of_long, Line, place_in, terms, aim_of, IsMalformed, IsTooLong, IsBy, BringsMalformed, nat_lt, length, eqb-true, Event, option_and_then, result_ok, result_err, its_frame, is_for, faulty_long, fault_of, wrong_frame, wrong, is_up, and-false, cond_both}
 use Rattle.model_bits.specs.Stream as stream
-use Rattle.lapd_frame.specs.declared.overlong.Long.TheVariants as long
 use Rattle.model_link.specs.Events as link
 use Rattle.laws_trace.proofs.DeliveriesRun.{heard-aims-at}
 use Rattle.laws_trace.proofs.LinkLed.{addressed-none, own-address}
@@ -14,86 +13,26 @@ abbrev wrong_parts : Config → ℕ → ℕ → Parts → List ErrorCode
 wrong_parts c was to f = wrong_frame (nat_lt c.n201 (length f.info)) f.address.command f.control was to
 
 -- Where the state stays, or the TEI has left, T200 gave nothing up.
-none-given-up : (n m : ℕ) → (n ≡ m) ⊎ (m ≡ 1) → given_up n m ≡ []
-none-given-up n m (inr off) = ap (given_up n) off ∙ go (n == 5) (n == 6) (n == 8)
-  where
-    go : (a b c : Bool) → cond (a && false) (G ∷ []) (cond (b && false) (H ∷ []) (cond (c && false) (I ∷ []) [])) ≡ []
-    go a b c = rw (and-false a, and-false b, and-false c) refl
-none-given-up n m (inl same) = ap (given_up n) (sym same) ∙ go (n == 5) refl (n == 6) refl (n == 8) refl
-  where
-    go : (a : Bool) → (n == 5) ≡ a → (b : Bool) → (n == 6) ≡ b → (c : Bool) → (n == 8) ≡ c → given_up n n ≡ []
-    go true is b other c third = subst (λ n. given_up n n ≡ []) (sym (eqb-true n 5 is)) refl
-    go false is true other c third = subst (λ n. given_up n n ≡ []) (sym (eqb-true n 6 other)) refl
-    go false is false other true third = subst (λ n. given_up n n ≡ []) (sym (eqb-true n 8 third)) refl
-    go false is false other false third = rw (is, other, third) refl
-
 module _ (c : Config) (service : Service) (tei : ℕ) where
-  no-letter : (b : Bool) (letter : ErrorCode) → b ≡ false → cond b (Some letter) None ≡ None
-  no-letter b letter none = ap (λ b. cond b (Some letter) None) none
-
   -- no event of the link
   module _ (l : Line) (place : ℕ) (on : place_in l tei ≡ Some place) where
     no-fault : (r : Result Parts ReadFault) → is_at_link service tei (aim_of_reading c l r) ≡ false → option_and_then (fault_of service tei) (result_err r) ≡ None
-    no-fault (Err (Undefined address)) aims = no-letter (is_for service tei address) L (addressed-none c service tei nothing_yet l place on address link.undefined (drop_for Unserved) aims)
-    no-fault (Err (WrongSize address)) aims = no-letter (is_for service tei address) N (addressed-none c service tei nothing_yet l place on address link.wrong_size (drop_for Unserved) aims)
-    no-fault other aims = refl
+    no-fault r aims = grind (arith, addressed-none, nothing_yet)
 
     no-long : (r : Result Long ReadFault) → is_at_link service tei (aim_of_long l r) ≡ false → faulty_long service tei r ≡ None
-    no-long (Err (Undefined address)) aims = no-letter (is_for service tei address) L (addressed-none c service tei nothing_yet l place on address link.undefined (drop_for Unserved) aims)
-    no-long (Err (WrongSize address)) aims = no-letter (is_for service tei address) N (addressed-none c service tei nothing_yet l place on address link.wrong_size (drop_for Unserved) aims)
-    no-long (Ok (long.Information address)) aims = no-letter (is_for service tei address) O (addressed-none c service tei nothing_yet l place on address link.overlong (drop_for Unserved) aims)
-    no-long other aims = refl
-
-    none-malformed : (e : stream.Event) → is_at_link service tei (aim_of_heard c l e) ≡ false → malformed c service tei e ≡ None
-    none-malformed (stream.frame octets) aims = no-fault (reading (heard_side c) octets) aims
-    none-malformed (stream.overlong head) aims = no-long (long_reading (heard_side c) head) aims
-    none-malformed (stream.dropped cause) aims = refl
-
-    none-its : (e : stream.Event) → is_at_link service tei (aim_of_heard c l e) ≡ false → its_frame service tei (frame_of c e) ≡ None
-    none-its e aims = go (frame_of c e) refl
-      where
-        go : (o : Option Parts) → frame_of c e ≡ o → its_frame service tei o ≡ None
-        go None is = refl
-        go (Some f) is =
-            cond_both (is_for service tei f.address) (Some f) None (λ o. o ≡ None)
-            (λ for. absurd (true≢false (sym (heard-aims-at c l service tei place on e f is for) ∙ aims))) (λ other. refl)
+    no-long r aims = grind (arith, addressed-none, nothing_yet)
 
     pub none-wrong : (e : Event) → is_at_link service tei (aim_of c e l) ≡ false → (n m : ℕ) → (n ≡ m) ⊎ (m ≡ 1) → wrong c service tei e n m ≡ []
-    none-wrong (hears e) aims n m stays =
-        ap (λ o. cond (is_up n) (option_to_list o) [] ++ option_map_or (wrong_parts c n m) (its_frame service tei (frame_of c e)) []) (none-malformed e aims)
-        ∙ ap (λ o. cond (is_up n) [] [] ++ option_map_or (wrong_parts c n m) o []) (none-its e aims) ∙ ap (λ xs. xs ++ []) (either-none (is_up n))
-    none-wrong (expiry timer) aims n m stays = none-given-up n m stays
-    none-wrong other aims n m stays = refl
+    none-wrong e aims n m stays = grind (arith, no-fault, no-long, cond_both, heard-aims-at, either-none, and-false, eqb-true)
 
   -- one event of it
   module _ (e : Event) (a : Answer) (from to : ℕ) where
     abbrev Wrong : link.Event → Type 0
     Wrong event = wrong c service tei e from to ≡ errors_of (terms c service tei) event from to
 
-    by-letter : (b : Bool) (letter : ErrorCode) → b ≡ true → cond (is_up from) (option_to_list (cond b (Some letter) None)) [] ++ [] ≡ cond (is_up from) (letter ∷ []) []
-    by-letter b letter is = ap (λ b. cond (is_up from) (option_to_list (cond b (Some letter) None)) [] ++ []) is ∙ append-nil (cond (is_up from) (letter ∷ []) [])
-
-    abbrev By-reading : Result Parts ReadFault → List ErrorCode
-    By-reading r = cond (is_up from) (option_to_list (option_and_then (fault_of service tei) (result_err r))) [] ++ option_map_or (wrong_parts c from to) (its_frame service tei (result_ok r)) []
-
-    abbrev By-long : Result Long ReadFault → List ErrorCode
-    By-long r = cond (is_up from) (option_to_list (faulty_long service tei r)) [] ++ []
-
     wrong-malformed : (address : Address) (octets : List ℕ) (what : link.Received) → is_for service tei address ≡ true
         → ((e ≡ hears (stream.frame octets)) × IsMalformed c address octets what) ⊎ ((e ≡ hears (stream.overlong octets)) × IsTooLong c address octets what) → Wrong (link.received what)
-    wrong-malformed address octets what for (inl y) = ap (λ e. wrong c service tei e from to) y.0 ∙ go what y.1
-      where
-        go : (what : link.Received) → IsMalformed c address octets what → By-reading (reading (heard_side c) octets) ≡ errors_of (terms c service tei) (link.received what) from to
-        go link.undefined is = ap By-reading is ∙ by-letter (is_for service tei address) L for
-        go link.wrong_size is = ap By-reading is ∙ by-letter (is_for service tei address) N for
-        go other is = absurd is
-    wrong-malformed address octets what for (inr y) = ap (λ e. wrong c service tei e from to) y.0 ∙ go what y.1
-      where
-        go : (what : link.Received) → IsTooLong c address octets what → By-long (long_reading (heard_side c) octets) ≡ errors_of (terms c service tei) (link.received what) from to
-        go link.undefined is = ap By-long is ∙ by-letter (is_for service tei address) L for
-        go link.wrong_size is = ap By-long is ∙ by-letter (is_for service tei address) N for
-        go link.overlong is = ap By-long is ∙ by-letter (is_for service tei address) O for
-        go (link.frame f) is = absurd is
+    wrong-malformed address octets what for o = grind (arith, errors_of, append-nil)
 
     brings-malformed : (what : link.Received) → BringsMalformed c e service tei what → Wrong (link.received what)
     brings-malformed what y = wrong-malformed y.address y.octets what (own-address c service tei nothing_yet a y.address y.sapi y.tei_is) y.by

@@ -1,5 +1,5 @@
 -- What the observer of a line knows of its TEIs is what TEI management has, and what is due by an event is what that tells.
-use Rattle.laws_trace.proofs.Vocabulary.{◌≡◌, ℕ, ◌+◌, ◌*◌, ◌/◌, ◌%◌, ◌≤◌, ◌<◌, ◌==◌, ◌&&◌, ◌||◌, Bool, true, false, cond, not, List, [], ◌∷◌, length, drop, ◌-◌, ◌++◌, length-append, Option, Some, None, IfSome, option_map, option_map_or, refl, sym, ap, ◌∙◌, subst, arith, eq-eqb, true≢false, filter, is_some, nat_le, nat_lt, find, range_with_len, leb-true, leb-false, Management, Remembered, Period, First, Second, Message, IdentityAssigned, IdentityDenied, IdentityCheckRequest, IdentityRemove, heard_of_type, heard_in, IsSoundCheck, free_place, free_tei-is, Config, eqb-true, ltb-true, ltb-false, Removed, Doubled, Check, TeiCourse as Course, tei_begun as begun, by_message, Checked, Managed, nothing_due, owes, gives, asked, leaves, over, checks, may_check, responded, ran_out, managing_is_on as is_on, is_of_teis, is_of_t201, begin_check, check_is, end_check, leave, lose_one, no_room, send, unserved, tei_with_message as with_message, false_from_ne_true}
+use Rattle.laws_trace.proofs.Vocabulary.{◌≡◌, ℕ, ◌+◌, ◌*◌, ◌/◌, ◌%◌, ◌==◌, ◌&&◌, Bool, true, false, cond, not, List, [], ◌∷◌, length, drop, ◌-◌, ◌++◌, length-append, Option, Some, None, IfSome, option_map, option_map_or, refl, sym, ap, ◌∙◌, subst, arith, eq-eqb, filter, is_some, nat_le, nat_lt, find, range_with_len, leb-true, leb-false, Management, Remembered, Period, First, Second, Message, IdentityAssigned, IdentityDenied, IdentityRemove, heard_of_type, heard_in, IsSoundCheck, free_place, free_tei-is, Config, eqb-true, ltb-true, ltb-false, Removed, Doubled, Check, TeiCourse as Course, tei_begun as begun, by_message, Checked, Managed, nothing_due, owes, gives, asked, leaves, over, checks, may_check, responded, ran_out, managing_is_on as is_on, is_of_teis, is_of_t201, begin_check, check_is, end_check, leave, lose_one, no_room, send, unserved, tei_with_message as with_message, false_from_ne_true}
 use Rattle.lapd_tei.specs.Rows as rows
 use Rattle.lapd_tei.specs.Sound.{IsSound}
 use Rattle.lapd_tei.specs.Table as table
@@ -43,22 +43,13 @@ find-same f g h [] = refl
 find-same f g h (x ∷ xs) = ap (λ b. cond b (Some x) (find f xs)) (h x) ∙ ap (λ o. cond (g x) (Some x) o) (find-same f g h xs)
 
 some-seen : (o : Option Check) → is_some (option_map seen_check o) ≡ is_some o
-some-seen None = refl
-some-seen (Some check) = refl
+some-seen o = grind arith
 
 abbrev is_checked : ℕ → Option Checked → Bool
 is_checked tei o = option_map_or (λ (check : Checked). check.tei == tei) o false
 
 checked-seen : (tei : ℕ) (o : Option Check) → is_checked tei (option_map seen_check o) ≡ rows.is_checked tei o
-checked-seen tei None = refl
-checked-seen tei (Some check) = refl
-
-more-than-none : (n : ℕ) → not (n + 1 == 0) ≡ true
-more-than-none n = go (n + 1 == 0) refl
-  where
-    go : (b : Bool) → (n + 1 == 0) ≡ b → not b ≡ true
-    go true is = let none : n + 1 ≡ 0 = eqb-true (n + 1) 0 is in absurd (omega (arith, none))
-    go false is = refl
+checked-seen tei o = grind arith
 
 three-of : (n k : ℕ) → k ≡ n + 1 → n - 3 ≡ k - 4
 three-of n k e = omega (arith, e)
@@ -92,14 +83,6 @@ module _ (on : List ℕ) (m : Management) (h : AreOn on m.places) (order : IfSom
   pub may-is : (tei : ℕ) → may_check tei w ≡ rows.may_be_checked tei m
   may-is tei = ap (λ b. b && not (is_some w.check)) (h.same tei) ∙ ap (λ b. table.is_on tei m.places && not b) (some-seen m.check)
 
-  pub verify-leads : (tei : ℕ) → Leads (cond (may_check tei w) (checks tei None w) w) (rows.verify tei (begun m))
-  verify-leads tei =
-      subst (λ b. Leads (cond b (checks tei None w) w) (rows.verify tei (begun m))) (sym (may-is tei)) (go (rows.may_be_checked tei m))
-    where
-      go : (b : Bool) → Leads (cond b (checks tei None w) w) ((cond b (begin_check tei) unserved) (begun m))
-      go true = begins-check tei
-      go false = none-due
-
   pub there : (check : Check) → m.check ≡ Some check → IsSoundCheck m.places check
   there check is = subst (λ o. IfSome o (IsSoundCheck m.places)) is s.checked
 
@@ -121,67 +104,22 @@ module _ (on : List ℕ) (m : Management) (h : AreOn on m.places) (order : IfSom
 
     one-more : (p : Period) → let k = record check { period = p } in
         Some (record { tei = k.tei; answered = true; before = earlier p k.first }) ≡ Some (seen_check (rows.counted k))
-    one-more First = ap (λ b. Some (record { tei = check.tei; answered = b; before = None })) (sym (more-than-none check.first))
-    one-more Second = ap (λ b. Some (record { tei = check.tei; answered = b; before = Some (not (check.first == 0)) })) (sym (more-than-none check.second))
-
-    counted-order : (p : Period) → let k = record check { period = p } in InOrder k → InOrder (rows.counted k)
-    counted-order First k = k
-    counted-order Second k = λ first. absurd (true≢false first)
+    one-more p = grind (arith, eqb-true)
 
     answers-once : Leads answered (check_is (Some (rows.counted check)) (begun m))
-    answers-once = record {
-      notes = refl;
-      orders = refl;
-      lost = refl;
-      begins = refl;
-      granted = refl;
-      follows = record {
-        is = ap (λ (o : Option Checked). record w { check = o }) (one-more check.period);
-        on = h;
-        order = counted-order check.period (in-order check is);
-      };
-    }
+    answers-once = grind (arith, one-more, in-order)
 
     is-second : nat_le 2 (rows.responses (rows.counted check)) ≡ not (rows.responses check == 0)
-    is-second = go check.period (there check is).first (there check is).second
-      where
-        count : (n : ℕ) → n ≤ 1 → nat_le 2 (n + 1) ≡ not (n == 0)
-        count n few = by-test (n == 0) refl (nat_le 2 (n + 1)) refl
-          where
-            by-test : (a : Bool) → (n == 0) ≡ a → (b : Bool) → nat_le 2 (n + 1) ≡ b → b ≡ not a
-            by-test true zero true two = let none : n ≡ 0 = eqb-true n 0 zero in let most : 2 ≤ n + 1 = leb-true 2 (n + 1) two in absurd (omega (arith, none, most))
-            by-test true zero false two = refl
-            by-test false some true two = refl
-            by-test false some false two =
-                let less : n + 1 < 2 = leb-false 2 (n + 1) two in
-                let none : n ≡ 0 = omega (arith, less) in
-                absurd (true≢false (sym (eq-eqb n 0 none) ∙ some))
-
-        go : (p : Period) → check.first ≤ 1 → check.second ≤ 1 → let k = record check { period = p } in nat_le 2 (rows.responses (rows.counted k)) ≡ not (rows.responses k == 0)
-        go First first second = count check.first first
-        go Second first second = count check.second second
+    is-second = grind (arith, there, nat_le, eqb-true, leb-true, leb-false, eq-eqb)
 
     counts : (check.tei == tei) ≡ true → Leads (cond (not (rows.responses check == 0)) doubling answered) (rows.count tei (rows.counted check) (begun m))
-    counts own = subst (λ b. Leads (cond b doubling answered) (rows.count tei (rows.counted check) (begun m))) is-second (go (nat_le 2 (rows.responses (rows.counted check))))
-      where
-        go : (b : Bool) → Leads (cond b doubling answered) ((cond b (rows.doubled tei) (check_is (Some (rows.counted check)))) (begun m))
-        go true = doubles own
-        go false = answers-once
+    counts own = grind (arith, is-second, nat_le, doubles, answers-once)
 
     responds-so : Leads (responded tei w (seen_check check)) (rows.respond tei (Some check) (begun m))
-    responds-so = go (check.tei == tei) refl
-      where
-        go : (b : Bool) → (check.tei == tei) ≡ b
-            → Leads (cond (not b) w (cond (not (rows.responses check == 0)) doubling answered)) ((cond b (rows.count tei (rows.counted check)) unserved) (begun m))
-        go true own = counts own
-        go false own = none-due
+    responds-so = grind (arith, counts, none-due)
 
   pub respond-leads : (tei : ℕ) → Leads (option_map_or (responded tei w) w.check w) (rows.respond tei m.check (begun m))
-  respond-leads tei = go m.check refl
-    where
-      go : (o : Option Check) → m.check ≡ o → Leads (option_map_or (responded tei w) (option_map seen_check o) w) (rows.respond tei o (begun m))
-      go None is = none-due
-      go (Some check) is = responds-so tei check is
+  respond-leads tei = grind (arith, option_map, none-due, responds-so)
 
   -- T201 runs out.
   module _ (check : Check) (is : m.check ≡ Some check) where
@@ -189,20 +127,7 @@ module _ (on : List ℕ) (m : Management) (h : AreOn on m.places) (order : IfSom
     unanswered = record (leaves check.tei w) { notes = Removed check.tei ∷ [] }
 
     asks-again : check.second ≡ 0 → Leads (checks check.tei (Some (not (check.first == 0))) w) (rows.expire_period check First (begun m))
-    asks-again none = record {
-      notes = refl;
-      orders = refl;
-      lost = refl;
-      begins = refl;
-      granted = refl;
-      follows = record {
-        is =
-            ap (λ n. record w { check = Some (record { tei = check.tei; answered = not (n == 0); before = Some (not (check.first == 0)) }); owed = with_message (IdentityCheckRequest check.tei) m.waiting })
-            (sym none);
-        on = h;
-        order = λ first. absurd (true≢false first);
-      };
-    }
+    asks-again none = grind arith
 
     ends : Leads (over w) (end_check (begun m))
     ends = record { notes = refl; orders = refl; lost = refl; begins = refl; granted = refl; follows = record { is = refl; on = h; order = tt } }
@@ -212,16 +137,9 @@ module _ (on : List ℕ) (m : Management) (h : AreOn on m.places) (order : IfSom
         subst (λ b. Leads (record (left b check.tei) { notes = Removed check.tei ∷ [] }) (rows.removed check.tei (begun m))) (sym (own-check check.tei check is (eq-eqb check.tei check.tei refl)))
         (record { notes = refl; orders = refl; lost = refl; begins = refl; granted = refl; follows = record { is = refl; on = leaves-on on m.places h check.tei s.table; order = tt } })
 
-    by-answers : (a b : Bool) → Leads (cond (not a || not b) (over w) unanswered) ((cond (a && b) (rows.removed check.tei) end_check) (begun m))
-    by-answers true true = removes
-    by-answers true false = ends
-    by-answers false true = ends
-    by-answers false false = ends
-
     by-period : (p : Period) → check.period ≡ p
         → Leads (ran_out w (record { tei = check.tei; answered = not (rows.responses (record check { period = p }) == 0); before = earlier p check.first })) (rows.expire_period check p (begun m))
-    by-period First at = asks-again (in-order check is (ap is_second at))
-    by-period Second at = by-answers (check.first == 0) (check.second == 0)
+    by-period p at = grind (arith, asks-again, in-order, removes, ends)
 
   pub expire-leads : Leads (option_map_or (ran_out w) w.check w) (rows.expire (begun m))
   expire-leads = go m.check refl
@@ -246,24 +164,10 @@ module _ (on : List ℕ) (m : Management) (h : AreOn on m.places) (order : IfSom
   -- A terminal asks for a TEI.
   module _ (c : Config) (places : length m.places ≡ c.terminals) where
     pub fewer-on : (place : ℕ) → free_place m.places ≡ Some place → nat_lt (length on) c.terminals ≡ true
-    fewer-on place free = go (nat_lt (length on) c.terminals) refl
-      where
-        go : (b : Bool) → nat_lt (length on) c.terminals ≡ b → b ≡ true
-        go true is = refl
-        go false is =
-            let most = ltb-false (length on) c.terminals is in
-            let fewer = free-fewer m.places place free in
-            let size = h.size in
-            absurd (omega (arith, most, fewer, size, places))
+    fewer-on place free = grind (arith, ltb-false, free-fewer)
 
     pub all-on : free_place m.places ≡ None → nat_lt (length on) c.terminals ≡ false
-    all-on none =
-        false_from_ne_true (nat_lt (length on) c.terminals)
-        (λ is.
-        let less = ltb-true (length on) c.terminals is in
-        let all = none-free m.places none in
-        let size = h.size in
-        omega (arith, less, all, size, places))
+    all-on none = grind (arith, false_from_ne_true, ltb-true, none-free)
 
     abbrev lowest : Option ℕ
     lowest = find (λ tei. not (is_on tei w)) (range_with_len 64 63)
@@ -306,14 +210,10 @@ module _ (on : List ℕ) (m : Management) (h : AreOn on m.places) (order : IfSom
 
       -- and where there is none
       lose : (message : Message) → no_room m.waiting ≡ true → Leads (owes message w) (lose_one (begun m))
-      lose message full =
-          subst (λ b. Leads (record w { owed = cond b m.waiting (m.waiting ++ message ∷ []); lost = cond b 1 0 }) (lose_one (begun m))) (sym full)
-          (record { notes = refl; orders = refl; lost = refl; begins = refl; granted = refl; follows = record { is = refl; on = h; order = order } })
+      lose message full = grind arith
 
       loses : (o : Option Remembered) (b : Bool) → no_room m.waiting ≡ true → Leads (gives ri o (cond (b && false) lowest None) w) (lose_one (begun m))
-      loses (Some r) b full = lose (IdentityAssigned ri r.tei) full
-      loses None true full = lose (IdentityDenied ri) full
-      loses None false full = lose (IdentityDenied ri) full
+      loses o b full = grind (arith, lose)
 
       pub request-leads : Leads (asked c ri w) (rows.request ri (begun m))
       request-leads = go (no_room m.waiting) refl
@@ -326,16 +226,13 @@ module _ (on : List ℕ) (m : Management) (h : AreOn on m.places) (order : IfSom
   -- What a terminal says.
   module _ (c : Config) (places : length m.places ≡ c.terminals) where
     by-both : {X Y : Type 0} (P : X → Y → Type 0) (b : Bool) (u v : X) (x y : Y) → P u x → P v y → P (cond b u v) (cond b x y)
-    by-both P true u v x y h k = h
-    by-both P false u v x y h k = k
+    by-both P b u v x y h k = grind arith
 
     otherwise : {X Y : Type 0} (P : X → Y → Type 0) (b : Bool) (u v : X) (x y : Y) → P u x → P v y → P (cond (not b) v u) (cond b x y)
-    otherwise P true u v x y h k = h
-    otherwise P false u v x y h k = k
+    otherwise P b u v x y h k = grind arith
 
     verifies : (action : ℕ) (b : Bool) → Leads (cond (b && may_check action w) (checks action None w) w) (rows.serve (cond b (heard_of_type 7 0 action) None) (begun m))
-    verifies action true = verify-leads action
-    verifies action false = none-due
+    verifies action b = grind (arith, may-is, begins-check, none-due)
 
     by-type-leads : (type ri action : ℕ)
         → Leads (cond (type == 1 && action == 127) (asked c ri w) (cond (type == 5) (option_map_or (responded action w) w.check w) (cond (type == 7 && may_check action w) (checks action None w) w)))

@@ -35,8 +35,7 @@ pub record Comes (d : Managed) (t : LineTold) (new : Management) : Type 0 where
   pub follows : Follows d new
 
 teis-of-teis : (x : Course) (d : Managed) → Leads d x → (others : List Note) → All IsOther others → filter is_of_teis (x.told.notes ++ others) ≡ d.notes
-teis-of-teis x d h others are =
-    filter-append is_of_teis x.told.notes others ∙ ap (λ ns. filter is_of_teis x.told.notes ++ ns) (none-of-teis others are) ∙ append-nil (filter is_of_teis x.told.notes) ∙ h.notes
+teis-of-teis x d h others are = grind (arith, filter-append, none-of-teis, append-nil)
 
 module _ (c : Config) (l : Line) where
   managed : (me : teis.Event) (d : Managed) → Leads d (teis.course me l.management) → let y = of_aim c (at_management me) l in Comes d y.told y.line.management
@@ -67,21 +66,18 @@ module _ (c : Config) (l : Line) where
       record { stays = refl; others = none-of-teis (links.told t event x).notes (link-others t event x); orders = told-orders t event x; none = refl }
 
   timer-aims : (service : Service) (tei : ℕ) (timer : LinkTimer) (o : Option ℕ) → IsUnmanaged (at_timer service tei timer o)
-  timer-aims service tei timer None = none-aims nothing refl refl
-  timer-aims service tei timer (Some place) = link-aims service tei place (link.expired timer)
+  timer-aims service tei timer o = grind (arith, none-aims, link-aims)
 
   pub asked-aims : (service : Service) (tei : ℕ) (asked : link.Request) (o : Option ℕ) → IsUnmanaged (at_requested service tei asked o)
   asked-aims service tei asked None = none-aims nothing refl refl
   asked-aims service tei asked (Some place) = link-aims service tei place (link.requested asked false)
 
   pub deactivated-aims : (service : Service) (tei : ℕ) (o : Option ℕ) → IsUnmanaged (at_deactivated service tei o)
-  deactivated-aims service tei None = none-aims nothing refl refl
-  deactivated-aims service tei (Some place) = link-aims service tei place link.cleared
+  deactivated-aims service tei o = grind (arith, none-aims, link-aims)
 
 -- One event of a line.
 first-goes : (ms : List Message) (m : Message) → slice_get ms 0 ≡ Some m → take 1 ms ≡ m ∷ []
-first-goes [] m is = absurd (cc is)
-first-goes (n ∷ ms) m is = let same : n ≡ m = cc is in ap (λ x. x ∷ []) same
+first-goes ms m is = grind arith
 
 -- Where no request of management is granted or refused, nothing is said of it.
 pub none-granted : (d : Managed) → d.granted ≡ None → (its so : Bool) → d.granted ≡ Some so → its ≡ so
@@ -98,20 +94,11 @@ module _ (c : Config) (l : Line) (s : IsSound c l) (on : List ℕ) (h : AreOn on
   known = here on m h order s.management
 
   pub managed-shows : (e : Event) (d : Managed) (me : teis.Event) → Leads d (teis.course me m) → let y = of_aim c (at_management me) l in Shows c l e d (told y.told) y.line.management
-  managed-shows e d me leads =
-      let x = managed c l me d leads in
-      record { as_due = record { notes = x.notes; orders = x.orders; begins = none-begins; granted = none-granted d leads.granted true }; lost = inl x.lost; follows = x.follows }
-    where
-      none-begins : [] ≡ map (frame_of c.side) d.begins
-      none-begins = ap (map (frame_of c.side)) (sym leads.begins)
+  managed-shows e d me leads = grind (arith, managed, none-granted)
 
   pub unmanaged-shows : (e : Event) (aim : Aim) → is_management (aim_of c e l) ≡ false → IsUnmanaged c l aim
       → let y = of_aim c aim l in Shows c l e w (told y.told) y.line.management
-  unmanaged-shows e aim none x = record {
-    as_due = record { notes = x.others; orders = x.orders; begins = refl; granted = none-granted w refl true };
-    lost = inr (refl, none);
-    follows = subst (Follows w) (sym x.stays) known;
-  }
+  unmanaged-shows e aim none x = grind (arith, none-granted, Follows, known)
 
   -- What is heard.
   abbrev Heard : stream.Event → Aim → Option (List ℕ) → Type 0
@@ -132,8 +119,7 @@ module _ (c : Config) (l : Line) (s : IsSound c l) (on : List ℕ) (h : AreOn on
 
   pub hears-shows : (e : stream.Event) → Shows c l (hears e) (by_event c (hears e) w) (answer c (hears e) l) (after c (hears e) l).management
   unfolding after answer
-  hears-shows e =
-      subst (λ (d : Managed). let y = of_aim c (aim_of_heard c l e) l in Shows c l (hears e) d (told y.told) y.line.management) (sym (message-is-read c w e)) (by-cases e (heard-cases c l e))
+  hears-shows e = grind (arith, message-is-read, by-cases, heard-cases)
 
   -- An expiry.
   pub expiry-shows : (timer : Timer) → Shows c l (expiry timer) (by_event c (expiry timer) w) (answer c (expiry timer) l) (after c (expiry timer) l).management

@@ -1,5 +1,5 @@
 -- What is due of TEI management by a request, and by any event of a line, is what its answer shows.
-use Rattle.laws_trace.proofs.Vocabulary.{IdentityRemove, ◌≡◌, ℕ, ◌==◌, ◌&&◌, Bool, true, false, cond, not, List, [], ◌∷◌, length, Option, Some, None, IfSome, is_some, refl, sym, ap, ◌∙◌, subst, true≢false, inl, arith, leb-true, leb-false, nat_le, nat_lt, list_any, Refusal, Management, free_place, on-range, Config, at_management, of_aim, hears, expiry, request, next, Line, place_in, has_tei, unless_refused, unless_refused_told, wrong_side, bad_tei, no_link, tei_taken, table_full, check_running, control_full, Assign, Remove, Deactivate, aim_of_request, has_management, passed, Down, at_no_link, filter, option_map, Stop, T201, ltb-true, ltb-false, tei_begun as begun, Event, told, line_after as after, answer, refusal, Request, Establish, Release, Data, Checking, SetBusy, ClearBusy, IsSound, Managed, owes, leaves, checks, may_check, grants, managing_by_event as by_event, due, is_of_t201, by-down, stop_of, Check, false_from_ne_true}
+use Rattle.laws_trace.proofs.Vocabulary.{IdentityRemove, ◌≡◌, ℕ, ◌==◌, ◌&&◌, Bool, true, false, cond, not, List, [], ◌∷◌, length, Option, Some, None, IfSome, is_some, refl, sym, ap, ◌∙◌, subst, inl, arith, leb-true, leb-false, nat_le, nat_lt, list_any, Refusal, Management, free_place, on-range, Config, at_management, of_aim, hears, expiry, request, next, Line, place_in, has_tei, unless_refused, unless_refused_told, wrong_side, bad_tei, no_link, tei_taken, table_full, check_running, control_full, Assign, Remove, Deactivate, aim_of_request, has_management, passed, Down, at_no_link, filter, option_map, Stop, T201, ltb-true, ltb-false, tei_begun as begun, Event, told, line_after as after, answer, refusal, Request, Establish, Release, Data, Checking, SetBusy, ClearBusy, IsSound, Managed, owes, leaves, checks, may_check, grants, managing_by_event as by_event, due, is_of_t201, by-down, stop_of, Check, false_from_ne_true}
 use Rattle.lapd_tei.specs.Events as teis
 use Rattle.model_link.specs.Events as link
 use Rattle.laws_trace.proofs.Follows.{Follows, Leads, InOrder, seen_check, as_seen, here, assign-leads, remove-leads, begins-check, may-is, fewer-on, all-on}
@@ -8,34 +8,13 @@ use Rattle.laws_trace.proofs.ManagingNotes.{is_management}
 use Rattle.laws_trace.proofs.FollowsLine.{Shows, IsUnmanaged, none-granted, asked-aims, deactivated-aims, managed-shows, unmanaged-shows, hears-shows, expiry-shows, next-shows}
 
 -- The rows that refuse a request of management.
-refused-3 : (a b d : Bool) (x y z : Refusal) → is_some (cond a (Some x) (cond b (Some y) (cond d (Some z) None))) ≡ not (not a && not b && not d)
-refused-3 true b d x y z = refl
-refused-3 false true d x y z = refl
-refused-3 false false true x y z = refl
-refused-3 false false false x y z = refl
-
 refused-4 : (side bad on full : Bool) (x y z u : Refusal) → (on ≡ true → bad ≡ false)
     → is_some (cond (not side) (Some x) (cond bad (Some y) (cond (not on) (Some z) (cond full (Some u) None)))) ≡ not (side && on && not full)
-refused-4 false bad on full x y z u low = refl
-refused-4 true true true full x y z u low = absurd (true≢false (low refl))
-refused-4 true false true true x y z u low = refl
-refused-4 true bad on full x y z u low = refl
+refused-4 side bad on full x y z u low = grind arith
 
 refused-5 : (side bad on runs full : Bool) (x y z u v : Refusal) → (on ≡ true → bad ≡ false)
     → is_some (cond (not side) (Some x) (cond bad (Some y) (cond (not on) (Some z) (cond runs (Some u) (cond full (Some v) None))))) ≡ not (side && (on && not runs) && not full)
-refused-5 false bad on runs full x y z u v low = refl
-refused-5 true true true runs full x y z u v low = absurd (true≢false (low refl))
-refused-5 true false true true full x y z u v low = refl
-refused-5 true false true false true x y z u v low = refl
-refused-5 true bad on runs full x y z u v low = refl
-
-low-test : (tei : ℕ) → nat_le tei 126 ≡ not (nat_lt 126 tei)
-low-test tei = go (nat_le tei 126) refl (nat_lt 126 tei) refl
-  where
-    go : (a : Bool) → nat_le tei 126 ≡ a → (b : Bool) → nat_lt 126 tei ≡ b → a ≡ not b
-    go true low true high = let x = leb-true tei 126 low in let y = ltb-true 126 tei high in absurd (omega (arith, x, y))
-    go false low false high = let x = leb-false tei 126 low in let y = ltb-false 126 tei high in absurd (omega (arith, x, y))
-    go b low other high = refl
+refused-5 side bad on runs full x y z u v low = grind arith
 
 module _ (c : Config) (l : Line) (s : IsSound c l) (on : List ℕ) (h : AreOn on l.management.places) (order : IfSome l.management.check InOrder) where
   abbrev m : Management
@@ -64,10 +43,7 @@ module _ (c : Config) (l : Line) (s : IsSound c l) (on : List ℕ) (h : AreOn on
   by-grant r after may same granted = go (refusal c false r l) refl may same
     where
       go : (o : Option Refusal) → refusal c false r l ≡ o → (g : Bool) → is_some o ≡ not g → Answers r (grants g after w) o
-      go None is true same = granted is
-      go None is false same = absurd (true≢false (sym same))
-      go (Some why) is true same = absurd (true≢false same)
-      go (Some why) is false same = refused-shows r after why
+      go o is g same = grind (arith, granted, refused-shows)
 
   course-is : (e : teis.Event) → teis.refusal e m ≡ None → teis.course e m ≡ teis.step e (begun m)
   unfolding teis.course
@@ -90,30 +66,21 @@ module _ (c : Config) (l : Line) (s : IsSound c l) (on : List ℕ) (h : AreOn on
   three a b d x y z e f g = rw (e, f, g) refl
 
   is-there : (o : Option ℕ) → not (is_some o) ≡ false → (place : ℕ) × (o ≡ Some place)
-  is-there None e = absurd (true≢false e)
-  is-there (Some place) e = (place, refl)
+  is-there o e = grind arith
 
   on-low : (tei : ℕ) → has_tei tei l ≡ true → nat_lt 126 tei ≡ false
   on-low tei there =
       false_from_ne_true (nat_lt 126 tei) (λ high. let x = ltb-true 126 tei high in let y = on-range m.places tei s.management.table there in omega (arith, x, y))
 
   room-is : nat_lt (length on) c.terminals ≡ not (not (is_some (free_place m.places)))
-  room-is = go (free_place m.places) refl
-    where
-      go : (o : Option ℕ) → free_place m.places ≡ o → nat_lt (length on) c.terminals ≡ not (not (is_some o))
-      go None is = all-on on m h order s.management c s.places is
-      go (Some place) is = fewer-on on m h order s.management c s.places place is
+  room-is = grind (arith, is_some, all-on, fewer-on)
 
   assign-shows : (tei : ℕ) → Answers (Assign tei) (by_event c (request (Assign tei)) w) (refusal c false (Assign tei) l)
   unfolding teis.refusal
   assign-shows tei = by-grant (Assign tei) (record w { on = tei ∷ on }) (nat_le tei 126 && not (list_any (λ y. y == tei) on) && nat_lt (length on) c.terminals) same granted
     where
       same : is_some (refusal c false (Assign tei) l) ≡ not (nat_le tei 126 && not (list_any (λ y. y == tei) on) && nat_lt (length on) c.terminals)
-      same =
-          refused-3 (nat_lt 126 tei) (has_tei tei l) (not (is_some (free_place m.places))) _ _ _
-          ∙ sym (ap (λ b. not (b && not (list_any (λ y. y == tei) on) && nat_lt (length on) c.terminals)) (low-test tei)
-          ∙ ap (λ b. not (not (nat_lt 126 tei) && not b && nat_lt (length on) c.terminals)) (h.same tei)
-          ∙ ap (λ b. not (not (nat_lt 126 tei) && not (has_tei tei l) && b)) room-is)
+      same = grind (arith, is_some, nat_le, leb-true, ltb-true, leb-false, ltb-false, room-is)
 
       granted : refusal c false (Assign tei) l ≡ None → Answers (Assign tei) (grants true (record w { on = tei ∷ on }) w) None
       granted none =
@@ -128,9 +95,7 @@ module _ (c : Config) (l : Line) (s : IsSound c l) (on : List ℕ) (h : AreOn on
   remove-shows tei = by-grant (Remove tei) (owes (IdentityRemove tei) (leaves tei w)) (has_management c.side && list_any (λ y. y == tei) on && not (nat_le 4 (length m.waiting))) same granted
     where
       same : is_some (refusal c false (Remove tei) l) ≡ not (has_management c.side && list_any (λ y. y == tei) on && not (nat_le 4 (length m.waiting)))
-      same =
-          refused-4 (has_management c.side) (nat_lt 126 tei) (has_tei tei l) (nat_le 4 (length m.waiting)) _ _ _ _ (on-low tei)
-          ∙ ap (λ b. not (has_management c.side && b && not (nat_le 4 (length m.waiting)))) (sym (h.same tei))
+      same = grind (arith, refused-4, nat_le, on-low)
 
       granted : refusal c false (Remove tei) l ≡ None → Answers (Remove tei) (grants true (owes (IdentityRemove tei) (leaves tei w)) w) None
       granted none =
@@ -145,9 +110,7 @@ module _ (c : Config) (l : Line) (s : IsSound c l) (on : List ℕ) (h : AreOn on
   check-shows tei = by-grant (Checking tei) (checks tei None w) (has_management c.side && may_check tei w && not (nat_le 4 (length m.waiting))) same granted
     where
       same : is_some (refusal c false (Checking tei) l) ≡ not (has_management c.side && may_check tei w && not (nat_le 4 (length m.waiting)))
-      same =
-          refused-5 (has_management c.side) (nat_lt 126 tei) (has_tei tei l) (is_some m.check) (nat_le 4 (length m.waiting)) _ _ _ _ _ (on-low tei)
-          ∙ ap (λ b. not (has_management c.side && b && not (nat_le 4 (length m.waiting)))) (sym (may-is on m h order s.management tei))
+      same = grind (arith, refused-5, is_some, nat_le, on-low, may-is)
 
       granted : refusal c false (Checking tei) l ≡ None → Answers (Checking tei) (grants true (checks tei None w) w) None
       granted none =
@@ -164,8 +127,7 @@ module _ (c : Config) (l : Line) (s : IsSound c l) (on : List ℕ) (h : AreOn on
 
   -- That the line is down.
   stopped : (o : Option Check) → filter is_of_t201 (stop_of o) ≡ cond (is_some (option_map seen_check o)) (Stop T201 ∷ []) []
-  stopped None = refl
-  stopped (Some check) = refl
+  stopped o = grind arith
 
   abbrev down : Managed
   down = by_event c (request Down) w

@@ -1,5 +1,5 @@
 -- Which of the frames that begin are those of a link.
-use Rattle.laws_trace.proofs.Vocabulary.{◌≡◌, ℕ, ◌==◌, ◌&&◌, ◌||◌, not, Bool, true, false, cond, List, [], ◌∷◌, Some, None, refl, ap, ◌∙◌, eq-eqb, inl, inr, All, filter, list_any, option_map_or, All-head, All-tail, Ui, Service, Parts, reading-again, sapi_of, address_at, IsGiven, Given, Config, terms, same-sapi, unwrap_or, information_of, line_frame_of as frame_of, result_ok, its_frame, is_frame_of, is_ui}
+use Rattle.laws_trace.proofs.Vocabulary.{arith, ◌≡◌, ℕ, ◌==◌, ◌&&◌, ◌||◌, not, Bool, true, false, cond, List, [], ◌∷◌, Some, None, refl, ap, ◌∙◌, eq-eqb, inl, inr, All, filter, list_any, option_map_or, All-head, All-tail, Ui, Service, Parts, reading-again, sapi_of, address_at, IsGiven, Given, Config, terms, same-sapi, unwrap_or, information_of, line_frame_of as frame_of, result_ok, its_frame, is_frame_of, is_ui}
 use Rattle.laws_trace.proofs.OneLink.{IsForeign}
 use Rattle.laws_trace.proofs.ReadAgain.{read-again}
 use Rattle.laws_trace.proofs.Spelled.{whole-parts, given-spells}
@@ -10,8 +10,7 @@ plain f = not (is_ui f.control)
 module _ (c : Config) (service : Service) (tei : ℕ) where
   -- no UI, and none of another link
   no-ui : (b : Bool) (f : Parts) → plain f ≡ false → option_map_or plain (cond b (Some f) None) false ≡ false
-  no-ui true f ui = ui
-  no-ui false f ui = refl
+  no-ui b f ui = grind arith
 
   pub foreign : (frame : List ℕ) → IsForeign c service tei frame → is_frame_of c service tei frame ≡ false
   foreign frame (inl x) =

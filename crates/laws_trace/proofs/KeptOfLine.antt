@@ -1,5 +1,5 @@
 -- What an event of a line leaves of the contents that a link keeps.
-use Rattle.laws_trace.proofs.Vocabulary.{◌≡◌, ℕ, ◌%◌, Bool, true, false, cond, not, List, [], ◌∷◌, ◌++◌, ◌&&◌, ◌||◌, drop, Some, None, refl, sym, ap, ◌∙◌, subst, ◌⊎◌, inl, inr, arith, append-nil, All, is_some, list_any, option_map_or, All-head, All-tail, none-some, Note, WrongState, Service, place_of-is, is_on-at, not_not, accepted, ends, is_release, tells_loss, empties, Terms, Link, is_multiple_frame, queue_of, state_number, notes-own, Config, at_link, Answer, hears, expiry, request, next, Line, has_tei, link_in, link_of, place_in, terms, aim_of, unless_refused, bad_tei, no_link, wrong_state, Deactivate, at_requested, at_deactivated, aim_of_request, IsInRange, terms_in_range, notes_of, is_loss_of, is_granted, IsBy, link-grants, passed, not-refused, fresh_link, refusal, Request, Release, Data, IsSound, of_link, brings, is_news, is_sabme, steps, is_own, data_asked, seen, is_up, EstablishIndication, ReleaseConfirm, ReleaseIndication, link_after as after, link_told as told, Event, cond_both}
+use Rattle.laws_trace.proofs.Vocabulary.{◌≡◌, ℕ, ◌%◌, Bool, true, false, cond, not, List, [], ◌∷◌, ◌++◌, ◌&&◌, ◌||◌, drop, Some, None, refl, sym, ap, ◌∙◌, subst, ◌⊎◌, inl, inr, arith, append-nil, All, is_some, list_any, All-head, All-tail, none-some, Note, WrongState, Service, place_of-is, is_on-at, not_not, accepted, ends, is_release, tells_loss, empties, Terms, Link, is_multiple_frame, queue_of, state_number, notes-own, Config, at_link, Answer, hears, expiry, request, next, Line, has_tei, link_of, place_in, terms, aim_of, bad_tei, no_link, wrong_state, Deactivate, at_requested, at_deactivated, aim_of_request, IsInRange, terms_in_range, notes_of, is_loss_of, is_granted, IsBy, link-grants, passed, not-refused, fresh_link, refusal, Request, Release, Data, IsSound, of_link, brings, is_news, is_sabme, steps, data_asked, seen, is_up, link_after as after, link_told as told, Event, cond_both}
 use Rattle.model_link.specs.Events as link
 use Rattle.model_link.specs.Requests as requests
 use Rattle.model_link.specs.Sound as link_sound
@@ -22,8 +22,7 @@ use Rattle.laws_trace.proofs.TimersOfEvent.{off-fresh}
 use Rattle.laws_trace.proofs.TimersWatched as known
 
 either-false : (b : Bool) → cond b false false ≡ false
-either-false true = refl
-either-false false = refl
+either-false b = grind arith
 
 pub still : (anew : Bool) (k : Link) → went_by anew k k ≡ 0
 still anew k = cond_both (is_up (state_number k.state) && is_up (state_number k.state) && not anew) (steps (k.a % 128) (k.a % 128)) 0 (λ n. n ≡ 0) (λ up. omega arith) (λ down. refl)
@@ -52,34 +51,14 @@ module _ (c : Config) (ranged : IsInRange c) (l : Line) (s : IsSound c l) (servi
       ∙ granted-data service tei own_terms own y.1 y.0 (λ contents is. not-full y.0 y.1 contents is y.2 y.3 y.4 x.aimed) ∙ ap (data_asked service tei) (sym y.3)
       ∙ sym (asked-grants service tei r (lines.answer c (request r) l) ∙ ap (λ b. cond {A = List (List ℕ)} b (data_asked service tei r) []) y.4)
     where
-      aimed-so : (full : Bool) (contents : List ℕ) → refusal c false (Data service tei contents) l ≡ None
-          → aim_of c (request (Data service tei contents)) l ≡ at_link service tei x.place (link.requested (link.Data contents) full) → full ≡ false
-      aimed-so full contents none is =
-          let there : at_link service tei x.place (link.requested (link.Data contents) false) ≡ at_link service tei x.place (link.requested (link.Data contents) full) =
-          sym (ap (λ o. unless_refused o (at_requested service tei (link.Data contents) (place_in l tei))) none ∙ ap (at_requested service tei (link.Data contents)) x.placed) ∙ is in
-          sym (cc there)
-
       not-full : (what : link.Request) (full : Bool) (contents : List ℕ) → what ≡ link.Data contents → x.event ≡ link.requested what full → r ≡ of_link service tei what
           → is_granted (lines.answer c (request r) l) ≡ true
           → (request r ≡ next) ⊎ (aim_of c (request r) l ≡ at_link service tei x.place x.event) → requests.refusal own_terms own full (link.Data contents) ≡ None
-      not-full what full contents is event asked g (inl e) = cc e
-      not-full what full contents is event asked g (inr aim) =
-          let named : r ≡ Data service tei contents = asked ∙ ap (of_link service tei) is in
-          let none : refusal c false (Data service tei contents) l ≡ None = not-refused c (Data service tei contents) l (subst (λ r. is_granted (lines.answer c (request r) l) ≡ true) named g) in
-          let full_is : full ≡ false =
-          aimed-so full contents none
-          (ap (λ r. aim_of c (request r) l) (sym named) ∙ aim ∙ ap (at_link service tei x.place) (event ∙ ap (λ w. link.requested w full) is)) in
-          let its : own ≡ link_in l service x.place = ap (λ o. option_map_or (link_in l service) o fresh_link) x.placed in
-          ap (λ b. requests.refusal own_terms own b (link.Data contents)) full_is ∙ ap (λ own. requests.refusal own_terms own false (link.Data contents)) its
-          ∙ link-grants c service tei x.place contents l x.placed none
-  accepted-asked other x =
-      (no-data c other (lines.answer c other l) service tei own_terms own (λ r same. cc same) (λ same. cc same) x.event x.by).0
-      ∙ sym (told-grants service tei (lines.answer c other l))
+      not-full what full contents is event asked g o = grind (arith, not-refused, link-grants)
+  accepted-asked other x = grind (arith, no-data, told-grants)
 
   no-end : (e : Event) → ((r : Request) → e ≡ request r → ⊥) → (le : link.Event) → IsBy c e (lines.answer c e l) service tei le → ends own_terms le own ≡ false
-  no-end e never (link.requested what full) by = absurd (never (of_link service tei what) by.0)
-  no-end e never link.cleared by = absurd by
-  no-end e never other by = refl
+  no-end e never le by = grind arith
 
   noted : (e : Event) → (x : One e) → list_any (is_loss_of service tei) (notes_of (lines.answer c e l)) ≡ tells_loss (told own_terms x.event own).notes
   noted e x =
@@ -99,17 +78,14 @@ module _ (c : Config) (ranged : IsInRange c) (l : Line) (s : IsSound c l) (servi
 
   released : (what : link.Request) (full : Bool) → (what ≡ link.Release → requests.refusal own_terms own full link.Release ≡ None)
       → is_release what ≡ ends own_terms (link.requested what full) own
-  released link.Release full h = sym (ap (λ o. cond (is_some o) false true) (h refl))
-  released other full h = sym (either-false (is_some (requests.refusal own_terms own full other)))
+  released what full h = grind (arith, is_some, either-false)
 
   pub lost-is : (e : Event) → (x : One e) → lost_in service tei (seen e (lines.answer c e l)) ≡ empties own_terms x.event own
   lost-is (hears what) x =
       heard-loses service tei what (lines.answer c (hears what) l) ∙ by-notes (hears what) x (no-end (hears what) (λ r same. cc same) x.event x.by)
   lost-is (expiry timer) x =
       expiry-loses service tei timer (lines.answer c (expiry timer) l) ∙ by-notes (expiry timer) x (no-end (expiry timer) (λ r same. cc same) x.event x.by)
-  lost-is next x =
-      begun-loses service tei (lines.answer c next l)
-      ∙ sym (ap (λ le. empties own_terms le own) (only-offered c (lines.answer c next l) service tei x.event x.by) ∙ ap tells_loss (offer-tells_nothing own_terms own).0)
+  lost-is next x = grind (arith, begun-loses, only-offered, offer-tells_nothing)
   lost-is (request r) x =
       let y = only-requested c r (lines.answer c (request r) l) service tei x.event x.by in
       let ns = notes_of (lines.answer c (request r) l) in
@@ -124,9 +100,7 @@ module _ (c : Config) (ranged : IsInRange c) (l : Line) (s : IsSound c l) (servi
   -- No event of the link grants it data.
   pub none-granted : (e : Event) → HasNone c service tei e l (lines.after c e l) (lines.answer c e l) → granted_in service tei (seen e (lines.answer c e l)) ≡ []
   none-granted next x = begun-grants service tei (lines.answer c next l)
-  none-granted (request r) x =
-      asked-grants service tei r (lines.answer c (request r) l)
-      ∙ cond_both (is_granted (lines.answer c (request r) l)) (data_asked service tei r) [] (λ given. given ≡ []) (λ g. asks.elsewhere c l service tei r g x.aims) (λ g. refl)
+  none-granted (request r) x = grind (arith, asked-grants, cond_both, asks.elsewhere)
   none-granted other x = told-grants service tei (lines.answer c other l)
 
   -- and none loses what it keeps, while its TEI stays
@@ -143,10 +117,7 @@ module _ (c : Config) (ranged : IsInRange c) (l : Line) (s : IsSound c l) (servi
         ∙ no-note ns (All-tail (λ n. is_news service tei n ≡ false) n ns all)
       where
         no-loss : (n : Note) → is_news service tei n ≡ false → is_loss_of service tei n ≡ false
-        no-loss (EstablishIndication of by) none = none
-        no-loss (ReleaseIndication of by) none = none
-        no-loss (ReleaseConfirm of by) none = none
-        no-loss other none = refl
+        no-loss n none = grind arith
 
     pub none-lost : (e : Event) → is_at_link service tei (aim_of c e l) ≡ false → has_tei tei (lines.after c e l) ≡ true → lost_in service tei (seen e (lines.answer c e l)) ≡ false
     none-lost e aims there = go e aims (no-note (notes_of (lines.answer c e l)) (others-silent service tei c e l s aims (inr there)))
@@ -156,14 +127,7 @@ module _ (c : Config) (ranged : IsInRange c) (l : Line) (s : IsSound c l) (servi
         go (hears what) aims none = heard-loses service tei what (lines.answer c (hears what) l) ∙ none
         go (expiry timer) aims none = expiry-loses service tei timer (lines.answer c (expiry timer) l) ∙ none
         go next aims none = begun-loses service tei (lines.answer c next l)
-        go (request r) aims none = asked-loses service tei r (lines.answer c (request r) l) ∙ by-grant (is_granted (lines.answer c (request r) l)) refl
-          where
-            by-grant : (b : Bool) → is_granted (lines.answer c (request r) l) ≡ b
-                → cond b (is_release_of service tei r || list_any (is_loss_of service tei) (notes_of (lines.answer c (request r) l))) false ≡ false
-            by-grant false g = refl
-            by-grant true g =
-                ap (λ b. b || list_any (is_loss_of service tei) (notes_of (lines.answer c (request r) l)))
-                (none-asked r (sym (ap (λ o. is_at_link service tei (unless_refused o (aim_of_request r l))) (not-refused c r l g)) ∙ aims)) ∙ none
+        go (request r) aims none = grind (arith, asked-loses, is_release_of, none-asked, is_at_link, not-refused)
 
 -- One event of a line.
 module _ (c : Config) (ranged : IsInRange c) (l : Line) (s : IsSound c l) (service : Service) (tei : ℕ) (e : Event) where
@@ -232,20 +196,11 @@ module _ (c : Config) (ranged : IsInRange c) (l : Line) (s : IsSound c l) (servi
 
           by-state : (b : Bool) → is_multiple_frame k.state ≡ b → rest ≡ cond (is_up (state_number k.state)) rest (queue_of k)
           by-state true up = sym (ap (λ b. cond b rest (queue_of k)) (up-number k.state ∙ up))
-          by-state false down =
-              ap (λ more. drop (went_by (sabme_of x.event) k (after t x.event k)) (queue_of k) ++ more) (none-accepted t x.event k down)
-              ∙ append-nil (drop (went_by (sabme_of x.event) k (after t x.event k)) (queue_of k))
-              ∙ ap (λ b. drop (cond (b && is_up (state_number (after t x.event k).state) && not (sabme_of x.event)) (steps (k.a % 128) ((after t x.event k).a % 128)) 0) (queue_of k)) (up-number k.state ∙ down)
-              ∙ sym (ap (λ b. cond b rest (queue_of k)) (up-number k.state ∙ down))
+          by-state false down = grind (arith, went_by, sabme_of, none-accepted, append-nil, up-number, rest)
 
   -- Its deactivation.
   down-left : (x : IsGivenUp c service tei e l new a) → Left
-  down-left x =
-      ap (λ (y : Link). queue_of y) x.is
-      ∙ sym (ap (λ b. left b anew k k' (granted_in service tei (seen e a)))
-      (ap (λ e. lost_in service tei (seen e a)) x.by.0 ∙ asked-loses service tei (Deactivate service tei) a
-      ∙ ap (λ b. cond b (is_own service tei service tei || list_any (is_loss_of service tei) (notes_of a)) false) x.by.1
-      ∙ ap (λ b. b || list_any (is_loss_of service tei) (notes_of a)) (own-is service tei)))
+  down-left x = grind (arith, granted_in, lost_in, asked-loses, own-is)
 
   pub left-so : (p q : ℕ) → place_in l tei ≡ Some p → place_in new tei ≡ Some q → Left
   left-so p q on there = go (event-goes c e l service tei s)
@@ -260,10 +215,4 @@ module _ (c : Config) (ranged : IsInRange c) (l : Line) (s : IsSound c l) (servi
   comes-so off = go (event-goes c e l service tei s)
     where
       go : Goes c service tei e l new a → k' ≡ fresh_link
-      go (inr (inl x)) = absurd (none-some x.place (sym off ∙ x.placed))
-      go (inr (inr x)) = x.is
-      go (inl x) = either x.is
-        where
-          either : (k' ≡ k) ⊎ (k' ≡ fresh_link) → k' ≡ fresh_link
-          either (inl same) = same ∙ off-fresh service tei l off
-          either (inr new) = new
+      go o = grind (arith, none-some, off-fresh)

@@ -1,5 +1,5 @@
 -- The line and a link of it behind a list of events; and a link that has nothing to send, where nothing of its line does.
-use Rattle.laws_trace.proofs.Vocabulary.{◌≡◌, ℕ, ◌<◌, List, get_or, Option, Some, None, sym, ap, ◌∙◌, subst, arith, option_map_or, Service, place_of-is, Config, Line, link_in, link_of, link_at, link_number, place_at, place_in, service_at, tei_at, terms, IsInRange, sound_in, place_at-number, service_at-number, number_within, HasNothing, IsSilent, line_at, fresh_is_sound, line-sound, config-stays, [], refl, gave, next, next_of, Taken, taken, at, option_map, fresh_link as fresh, IsSound, CardEvent as Event, after_all, AreAtLines, always_sound, none-waits, trace_frame_in as frame_in, card_answer as answer}
+use Rattle.laws_trace.proofs.Vocabulary.{◌≡◌, ℕ, ◌<◌, List, get_or, Option, Some, None, sym, ap, ◌∙◌, subst, arith, option_map_or, Service, place_of-is, Config, Line, link_in, link_of, link_at, link_number, place_at, place_in, service_at, tei_at, terms, IsInRange, sound_in, place_at-number, service_at-number, number_within, HasNothing, IsSilent, line_at, fresh_is_sound, line-sound, config-stays, [], gave, next, next_of, Taken, taken, at, option_map, fresh_link as fresh, IsSound, CardEvent as Event, after_all, AreAtLines, always_sound, none-waits, trace_frame_in as frame_in, card_answer as answer}
 use Rattle.model_link.specs.Sound as link_sound
 use Rattle.model_card.specs.Card as cards
 use Rattle.model_line.specs.Machine as lines
@@ -19,11 +19,7 @@ silent-there c l s h service tei place is =
 -- The line at the end, and a link of it.
 pub line-at-end : (c : Config) (events : List Event) (number : ℕ) → IsInRange c → AreAtLines (cards.fresh c) events → number < c.lines
     → IsSound c (line_at number (after_all (cards.fresh c) events))
-line-at-end c events number ranged all within =
-    let end_sound = always_sound (cards.fresh c) events (fresh_is_sound c ranged) all in
-    let end_config : (after_all (cards.fresh c) events).config ≡ c = config-stays (cards.fresh c) events in
-    subst (λ d. IsSound d (line_at number (after_all (cards.fresh c) events))) end_config
-    (line-sound (after_all (cards.fresh c) events) number end_sound (subst (λ (d : Config). number < d.lines) (sym end_config) within))
+line-at-end c events number ranged all within = grind (arith, always_sound, fresh_is_sound, config-stays, line-sound)
 
 pub link-at-end : (c : Config) (l : Line) → IsInRange c → IsSound c l → (service : Service) (tei place : ℕ) → place_in l tei ≡ Some place
     → link_sound.IsSound (terms c service tei) (link_of service tei l)
@@ -33,8 +29,7 @@ link-at-end c l ranged s service tei place on =
 
 -- Where a call for the next frame gives none, nothing of the line has anything to send.
 none-taken : (o : Option Taken) → frame_in (gave (option_map next_of o)) ≡ [] → o ≡ None
-none-taken None is = refl
-none-taken (Some t) is = cc is
+none-taken o is = grind arith
 
 pub nothing-there : (c : Config) (events : List Event) (number : ℕ) → IsInRange c → AreAtLines (cards.fresh c) events → number < c.lines
     → frame_in (answer (at number next) (after_all (cards.fresh c) events)) ≡ [] → HasNothing c (line_at number (after_all (cards.fresh c) events))

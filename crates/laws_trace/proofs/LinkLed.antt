@@ -1,7 +1,6 @@
 -- Which state a link moves to: one event of a line, by what is seen of it.
-use Rattle.laws_trace.proofs.Vocabulary.{◌≡◌, ℕ, ◌==◌, ◌&&◌, Bool, true, false, cond, List, [], ◌∷◌, ◌++◌, length, map, Option, Some, None, Result, Ok, Err, refl, sym, ap, ◌∙◌, eq-eqb, true≢false, ◌⊎◌, inl, inr, fold, is_some, nat_lt, option_map_or, Unserved, Address, ReadFault, Undefined, WrongSize, ErrorCode, L, N, O, Long, Refusal, Service, Timer, Parts, reading, long_reading, sapi_of, service_of, same_service, place_of-is, is_on-at, LinkTimer, Config, Aim, Effect, at_link, hears, expiry, request, next, Answer, aim_of_expiry, at_timer, Line, has_tei, place_in, terms, aim_of, unless_refused, unless_refused_told, of_request, heard_side, addressed, aim_of_heard, aim_of_reading, aim_of_long, drop_for, message_of, Deactivate, aim_of_request, at_requested, at_deactivated, at_side, IsMalformed, IsTooLong, is_granted, IsBy, BringsMalformed, timer_of, IsDeactivated, addressed-is, sapi-is, service-same, both-true, eqb-true, T200, T203, Event, told, answer, refusal, Request, Establish, Release, option_and_then, result_ok, result_err, is_for, faulty_long, fault_of, trace_frame_in as frame_in, is_own, seen, seen_told, seen_granted, is_up, and-false, and-true, of_link, Seen, trace_begun as begun, heard}
+use Rattle.laws_trace.proofs.Vocabulary.{arith, ◌≡◌, ℕ, ◌==◌, ◌&&◌, Bool, true, false, cond, List, [], ◌∷◌, ◌++◌, length, map, Option, Some, None, Result, Ok, Err, refl, sym, ap, ◌∙◌, eq-eqb, true≢false, ◌⊎◌, fold, is_some, nat_lt, option_map_or, Unserved, Address, ReadFault, Undefined, WrongSize, ErrorCode, L, N, Refusal, Service, Timer, Parts, sapi_of, service_of, same_service, place_of-is, is_on-at, LinkTimer, Config, Aim, Effect, at_link, hears, expiry, request, next, Answer, aim_of_expiry, at_timer, Line, has_tei, place_in, terms, aim_of, unless_refused_told, of_request, addressed, aim_of_heard, aim_of_reading, drop_for, message_of, Deactivate, aim_of_request, at_requested, at_deactivated, at_side, IsMalformed, IsTooLong, is_granted, IsBy, BringsMalformed, timer_of, IsDeactivated, addressed-is, sapi-is, service-same, both-true, eqb-true, T200, T203, Event, answer, refusal, Request, Establish, Release, option_and_then, result_ok, result_err, is_for, fault_of, trace_frame_in as frame_in, is_own, seen, seen_told, seen_granted, is_up, and-false, and-true, of_link, Seen, trace_begun as begun, heard}
 use Rattle.model_bits.specs.Stream as stream
-use Rattle.lapd_frame.specs.declared.overlong.Long.TheVariants as long
 use Rattle.lapd_frame.specs.declared.timers.Timer.TheVariants as timers
 use Rattle.model_link.specs.Events as link
 use Rattle.laws_trace.proofs.MovesWatched.{by_frame, by_parts, by_request, by_seen, by_expiry, led}
@@ -19,8 +18,7 @@ pub on-line : (x : Line) (tei place : ℕ) → place_in x tei ≡ Some place →
 on-line x tei place on = is_on-at x.management.places place tei (place_of-is x.management.places tei place on).1
 
 granted-is : (o : Option Refusal) (x : Effect) → is_granted (unless_refused_told o x) ≡ true → o ≡ None
-granted-is None x e = refl
-granted-is (Some why) x e = absurd (true≢false (sym e))
+granted-is o x e = grind arith
 
 pub none-refused : (c : Config) (r : Request) (l : Line) → is_granted (answer c (request r) l) ≡ true → refusal c false r l ≡ None
 unfolding answer
@@ -35,16 +33,10 @@ module _ (c : Config) (service : Service) (tei : ℕ) (k : Known) where
   by_heard x e = by_seen c service tei k x (heard e)
 
   told-leads : (x : ℕ) (a : Answer) → by_all x (seen_told a) ≡ x
-  told-leads x (told t) = refl
-  told-leads x other = refl
+  told-leads x a = grind arith
 
   granted-leads : (x : ℕ) (r : Request) (a : Answer) → is_granted a ≡ true → by_all x (seen_granted r a ++ seen_told a) ≡ by_request service tei x r
-  granted-leads x r (told t) e = refl
-  granted-leads x r other e = absurd (true≢false (sym e))
-
-  refused-leads : (x : ℕ) (r : Request) (a : Answer) → is_granted a ≡ false → by_all x (seen_granted r a ++ seen_told a) ≡ x
-  refused-leads x r (told t) e = absurd (true≢false e)
-  refused-leads x r other e = refl
+  granted-leads x r a e = grind arith
 
   begun-leads : (x : ℕ) (frames : List (List ℕ)) → by_all x (map begun frames) ≡ x
   begun-leads x [] = refl
@@ -54,18 +46,11 @@ module _ (c : Config) (service : Service) (tei : ℕ) (k : Known) where
   abbrev by_reading : ℕ → Result Parts ReadFault → ℕ
   by_reading x r = cond (is_up x && is_some (option_and_then (fault_of service tei) (result_err r))) 5 (by_parts c service tei k x (result_ok r))
 
-  abbrev by_long : ℕ → Result Long ReadFault → ℕ
-  by_long x r = cond (is_up x && is_some (faulty_long service tei r)) 5 x
-
   no-fault : (x y : ℕ) (b : Bool) (code : ErrorCode) → b ≡ false → cond (is_up x && is_some (cond b (Some code) None)) 5 y ≡ y
   no-fault x y b code none = ap (λ b. cond (is_up x && is_some (cond b (Some code) None)) 5 y) none ∙ ap (λ b. cond b 5 y) (and-false (is_up x))
 
-  a-fault : (x y : ℕ) (b : Bool) (code : ErrorCode) → b ≡ true → cond (is_up x && is_some (cond b (Some code) None)) 5 y ≡ cond (is_up x) 5 y
-  a-fault x y b code some = ap (λ b. cond (is_up x && is_some (cond b (Some code) None)) 5 y) some ∙ ap (λ b. cond b 5 y) (and-true (is_up x))
-
   own-frame : (x : ℕ) (f : Parts) → is_for service tei f.address ≡ true → by_reading x (Ok f) ≡ by_frame k x f.address.command (nat_lt c.n201 (length f.info)) f.control
-  own-frame x f for =
-      no-fault x (by_parts c service tei k x (Some f)) false L refl ∙ ap (λ b. cond b (by_frame k x f.address.command (nat_lt c.n201 (length f.info)) f.control) x) for
+  own-frame x f for = grind (arith, no-fault, by_parts, by_frame)
 
   -- No event of the link.
   module _ (l : Line) (place : ℕ) (on : place_in l tei ≡ Some place) where
@@ -94,16 +79,8 @@ module _ (c : Config) (service : Service) (tei : ℕ) (k : Known) where
             absurd (true≢false (sym (own-is service tei) ∙ sym (ap (λ aim. is_at_link service tei (at_side c f aim)) is) ∙ aims))
     read-none x other aims = no-fault x x false L refl
 
-    long-none : (x : ℕ) (r : Result Long ReadFault) → is_at_link service tei (aim_of_long l r) ≡ false → by_long x r ≡ x
-    long-none x (Err (Undefined address)) aims = no-fault x x (is_for service tei address) L (addressed-none address link.undefined (drop_for Unserved) aims)
-    long-none x (Err (WrongSize address)) aims = no-fault x x (is_for service tei address) N (addressed-none address link.wrong_size (drop_for Unserved) aims)
-    long-none x (Ok (long.Information address)) aims = no-fault x x (is_for service tei address) O (addressed-none address link.overlong (drop_for Unserved) aims)
-    long-none x other aims = no-fault x x false L refl
-
     heard-none : (x : ℕ) (e : stream.Event) → is_at_link service tei (aim_of_heard c l e) ≡ false → by_heard x e ≡ x
-    heard-none x (stream.frame octets) aims = read-none x (reading (heard_side c) octets) aims
-    heard-none x (stream.overlong head) aims = long-none x (long_reading (heard_side c) head) aims
-    heard-none x (stream.dropped cause) aims = no-fault x x false L refl
+    heard-none x e aims = grind (arith, read-none, no-fault, addressed-none)
 
     -- an expiry, or a request, of another link
     pub elsewhere : (its : Service) (by : ℕ) (what : link.Event) (to : Option ℕ → Aim) → ((p : ℕ) → to (Some p) ≡ at_link its by p what)
@@ -133,52 +110,27 @@ module _ (c : Config) (service : Service) (tei : ℕ) (k : Known) where
     none-asked x other aims = refl
 
     pub none-ticks : (e : Event) → is_at_link service tei (aim_of c e l) ≡ false → expired_of service tei e ≡ None
-    none-ticks (expiry timer) aims = none-expired timer aims
-    none-ticks other aims = refl
+    none-ticks e aims = grind (arith, none-expired)
 
     pub none-led : (n x : ℕ) (e : Event) → is_at_link service tei (aim_of c e l) ≡ false → led c service tei k n e (seen e (answer c e l)) x ≡ x
     none-led n x (hears what) aims = told-leads (by_heard x what) (answer c (hears what) l) ∙ heard-none x what aims
-    none-led n x (expiry timer) aims =
-        told-leads (option_map_or (by_expiry c.n200 k n x) (expired_of service tei (expiry timer)) x) (answer c (expiry timer) l)
-        ∙ ap (λ o. option_map_or (by_expiry c.n200 k n x) o x) (none-expired timer aims)
-    none-led n x (request r) aims = go (is_granted (answer c (request r) l)) refl
-      where
-        go : (b : Bool) → is_granted (answer c (request r) l) ≡ b → by_all x (seen_granted r (answer c (request r) l) ++ seen_told (answer c (request r) l)) ≡ x
-        go false e = refused-leads x r (answer c (request r) l) e
-        go true e =
-            granted-leads x r (answer c (request r) l) e
-            ∙ none-asked x r (ap (λ o. is_at_link service tei (unless_refused o (aim_of_request r l))) (sym (none-refused c r l e)) ∙ aims)
+    none-led n x (expiry timer) aims = grind (arith, told-leads, by_expiry, expired_of, none-expired)
+    none-led n x (request r) aims = grind (arith, granted-leads, none-asked, is_at_link, none-refused)
     none-led n x next aims = begun-leads x (frame_in (answer c next l))
 
   -- One event of the link.
   module _ (a : Answer) where
     -- its deactivation
     pub ended-leads : (n x : ℕ) (e : Event) → IsDeactivated e a service tei → led c service tei k n e (seen e a) x ≡ 4
-    ended-leads n x e by =
-        ap (λ e. led c service tei k n e (seen e a) x) by.0 ∙ granted-leads x (Deactivate service tei) a by.1 ∙ ap (λ b. cond b 4 x) (own-is service tei)
+    ended-leads n x e by = grind (arith, led, granted-leads, own-is)
 
     pub own-address : (address : Address) → service_of address.sapi ≡ Some service → address.tei ≡ tei → is_for service tei address ≡ true
-    own-address address sapi is =
-        ap (λ b. b && address.tei == tei) (eq-eqb address.sapi (sapi_of service) (sapi-is address.sapi service sapi)) ∙ eq-eqb address.tei tei is
+    own-address address sapi is = grind (arith, eq-eqb, sapi-is)
 
     malformed-leads : (n x : ℕ) (e : Event) (address : Address) (octets : List ℕ) (what : link.Received) → is_for service tei address ≡ true
         → ((e ≡ hears (stream.frame octets)) × IsMalformed c address octets what) ⊎ ((e ≡ hears (stream.overlong octets)) × IsTooLong c address octets what)
         → led c service tei k n e (seen e a) x ≡ cond (is_up x) 5 x
-    malformed-leads n x e address octets what for (inl y) =
-        ap (λ e. led c service tei k n e (seen e a) x) y.0 ∙ told-leads (by_heard x (stream.frame octets)) a ∙ go what y.1
-      where
-        go : (what : link.Received) → IsMalformed c address octets what → by_reading x (reading (heard_side c) octets) ≡ cond (is_up x) 5 x
-        go link.undefined is = ap (by_reading x) is ∙ a-fault x x (is_for service tei address) L for
-        go link.wrong_size is = ap (by_reading x) is ∙ a-fault x x (is_for service tei address) N for
-        go other is = absurd is
-    malformed-leads n x e address octets what for (inr y) =
-        ap (λ e. led c service tei k n e (seen e a) x) y.0 ∙ told-leads (by_heard x (stream.overlong octets)) a ∙ go what y.1
-      where
-        go : (what : link.Received) → IsTooLong c address octets what → by_long x (long_reading (heard_side c) octets) ≡ cond (is_up x) 5 x
-        go link.undefined is = ap (by_long x) is ∙ a-fault x x (is_for service tei address) L for
-        go link.wrong_size is = ap (by_long x) is ∙ a-fault x x (is_for service tei address) N for
-        go link.overlong is = ap (by_long x) is ∙ a-fault x x (is_for service tei address) O for
-        go (link.frame f) is = absurd is
+    malformed-leads n x e address octets what for o = grind (arith, led, told-leads, is_some, and-true)
 
     abbrev Leads : ℕ → ℕ → Event → link.Event → Type 0
     Leads n x e event = led c service tei k n e (seen e a) x ≡ expected (terms c service tei) k n event x
@@ -187,44 +139,23 @@ module _ (c : Config) (service : Service) (tei : ℕ) (k : Known) where
     brings-malformed n x e what y = malformed-leads n x e y.address y.octets what (own-address y.address y.sapi y.tei_is) y.by
 
     asked-leads : (x : ℕ) (asked : link.Request) → by_request service tei x (of_link service tei asked) ≡ expected (terms c service tei) k 0 (link.requested asked false) x
-    asked-leads x link.Establish = ap (λ b. cond (b && x == 4) 5 x) (own-is service tei)
-    asked-leads x link.Release = ap (λ b. cond (b && is_up x) 6 x) (own-is service tei)
-    asked-leads x other = refl
+    asked-leads x asked = grind (arith, own-is)
 
     full-or-not : (n x : ℕ) (asked : link.Request) (full : Bool) → expected (terms c service tei) k 0 (link.requested asked false) x ≡ expected (terms c service tei) k n (link.requested asked full) x
-    full-or-not n x link.Establish full = refl
-    full-or-not n x other full = refl
+    full-or-not n x asked full = grind arith
 
     ticked : (timer : LinkTimer) → expired_of service tei (expiry (timer_of service tei timer)) ≡ Some timer
-    ticked T200 = ap (λ b. cond b (Some T200) None) (own-is service tei)
-    ticked T203 = ap (λ b. cond b (Some T203) None) (own-is service tei)
+    ticked timer = grind (arith, own-is)
 
     pub one-led : (n x : ℕ) (e : Event) (event : link.Event) → IsBy c e a service tei event → Leads n x e event
-    one-led n x e (link.received (link.frame f)) y =
-        ap (λ e. led c service tei k n e (seen e a) x) y.by
-        ∙ told-leads (by_heard x (stream.frame y.octets)) a ∙ ap (by_reading x) y.read ∙ own-frame x f (own-address f.address y.sapi y.tei_is)
+    one-led n x e (link.received (link.frame f)) y = grind (arith, led, told-leads, own-frame, own-address)
     one-led n x e (link.received link.undefined) y = brings-malformed n x e link.undefined y
     one-led n x e (link.received link.wrong_size) y = brings-malformed n x e link.wrong_size y
     one-led n x e (link.received link.overlong) y = brings-malformed n x e link.overlong y
-    one-led n x e (link.expired timer) y =
-        ap (λ e. led c service tei k n e (seen e a) x) y
-        ∙ told-leads (option_map_or (by_expiry c.n200 k n x) (expired_of service tei (expiry (timer_of service tei timer))) x) a
-        ∙ ap (λ o. option_map_or (by_expiry c.n200 k n x) o x) (ticked timer)
-    one-led n x e (link.requested asked full) y =
-        ap (λ e. led c service tei k n e (seen e a) x) y.0
-        ∙ granted-leads x (of_link service tei asked) a y.1 ∙ asked-leads x asked ∙ full-or-not n x asked full
+    one-led n x e (link.expired timer) y = grind (arith, led, told-leads, by_expiry, expired_of, ticked)
+    one-led n x e (link.requested asked full) y = grind (arith, led, granted-leads, asked-leads, full-or-not)
     one-led n x e link.offer y = ap (λ e. led c service tei k n e (seen e a) x) y ∙ begun-leads x (frame_in a)
     one-led n x e link.cleared y = absurd y
 
-    malformed-ticks : (e : Event) (what : link.Received) → BringsMalformed c e service tei what → option_map_or one_more (expired_of service tei e) 0 ≡ 0
-    malformed-ticks e what y = ap (λ e. option_map_or one_more (expired_of service tei e) 0) (heard-by c e a service tei what y).1
-
     pub one-ticks : (e : Event) (event : link.Event) → IsBy c e a service tei event → option_map_or one_more (expired_of service tei e) 0 ≡ ticks event
-    one-ticks e (link.received (link.frame f)) y = ap (λ e. option_map_or one_more (expired_of service tei e) 0) y.by
-    one-ticks e (link.received link.undefined) y = malformed-ticks e link.undefined y
-    one-ticks e (link.received link.wrong_size) y = malformed-ticks e link.wrong_size y
-    one-ticks e (link.received link.overlong) y = malformed-ticks e link.overlong y
-    one-ticks e (link.expired timer) y = ap (λ e. option_map_or one_more (expired_of service tei e) 0) y ∙ ap (λ o. option_map_or one_more o 0) (ticked timer)
-    one-ticks e (link.requested asked full) y = ap (λ e. option_map_or one_more (expired_of service tei e) 0) y.0
-    one-ticks e link.offer y = ap (λ e. option_map_or one_more (expired_of service tei e) 0) y
-    one-ticks e link.cleared y = absurd y
+    one-ticks e event y = grind (arith, one_more, expired_of, heard-by, ticked)

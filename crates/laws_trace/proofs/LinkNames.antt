@@ -1,5 +1,5 @@
 -- The links of the frames that begin.
-use Rattle.laws_trace.proofs.Vocabulary.{◌≡◌, ◌≢◌, ℕ, ◌/◌, ◌%◌, ◌==◌, Bool, true, false, cond, not, List, map, filter, slice_index, Some, refl, sym, ap, ◌∙◌, arith, eqb-false, Call, Packet, sapi_of, Side, Parts, Config, Line, service_at, place_at, tei_at, eqb-true, IsSound, reads, Seen, frames_begun, is_ui}
+use Rattle.laws_trace.proofs.Vocabulary.{◌≡◌, ℕ, ◌/◌, Bool, cond, not, List, map, filter, slice_index, Some, arith, eqb-false, Call, Packet, sapi_of, Side, Parts, Config, Line, service_at, place_at, tei_at, eqb-true, IsSound, reads, Seen, frames_begun, is_ui}
 
 -- All that are no UI are of a link, by the address, whether command or response.
 pub record LinkName : Type 0 where
@@ -21,24 +21,7 @@ named number tei = record { sapi = sapi_of (service_at number); tei = tei }
 module _ (c : Config) where
   -- One link has one name.
   by-sapi : (b d : Bool) → sapi_of (cond b Call Packet) ≡ sapi_of (cond d Call Packet) → b ≡ d
-  by-sapi true true e = refl
-  by-sapi true false e = absurd (omega (arith, e))
-  by-sapi false true e = absurd (omega (arith, e))
-  by-sapi false false e = refl
-
-  same-half : (n m : ℕ) (b : Bool) → (n % 2 == 0) ≡ b → (m % 2 == 0) ≡ b → n / 2 ≡ m / 2 → n ≡ m
-  same-half n m true e f half = let x = eqb-true (n % 2) 0 e in let y = eqb-true (m % 2) 0 f in omega (arith, x, y, half)
-  same-half n m false e f half =
-      let x : n % 2 ≡ 1 = odd n (eqb-false (n % 2) 0 e) in
-      let y : m % 2 ≡ 1 = odd m (eqb-false (m % 2) 0 f) in
-      omega (arith, x, y, half)
-    where
-      odd : (k : ℕ) → k % 2 ≢ 0 → k % 2 ≡ 1
-      odd k apart = omega (arith, apart)
+  by-sapi b d e = grind arith
 
   pub same-number : (l : Line) → IsSound c l → (n m tei other : ℕ) → tei_at (place_at n) l ≡ Some tei → tei_at (place_at m) l ≡ Some other → named n tei ≡ named m other → n ≡ m
-  same-number l s n m tei other on on' e =
-      let tei-same : tei ≡ other = ap (λ (x : LinkName). x.tei) e in
-      let half : n / 2 ≡ m / 2 = s.management.table.once (n / 2) (m / 2) tei on (on' ∙ ap Some (sym tei-same)) in
-      let parity : (n % 2 == 0) ≡ (m % 2 == 0) = by-sapi (n % 2 == 0) (m % 2 == 0) (ap (λ (x : LinkName). x.sapi) e) in
-      same-half n m (n % 2 == 0) refl (sym parity) half
+  same-number l s n m tei other on on' e = grind (arith, by-sapi, eqb-true, eqb-false)

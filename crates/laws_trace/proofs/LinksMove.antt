@@ -22,19 +22,13 @@ abbrev pub IsCountOf : Service → ℕ → ℕ → Line → Type 0
 IsCountOf service tei n l = let x = link_of service tei l in Counts x.state n x.repeats
 
 pub no-event : (event : link.Event) (c : Config) (e : line_event.Event) (a : Answer) (service : Service) (tei : ℕ) → IsBy c e a service tei event → event ≡ link.cleared → ⊥
-no-event link.cleared c e a service tei by same = by
-no-event other c e a service tei by same = cc same
+no-event event c e a service tei by same = grind arith
 
 no-more : (n m : ℕ) → m ≡ 0 → n + m ≡ n
 no-more n m none = omega (arith, none)
 
 pub same-way : (a b : ℕ) → (a == b) ≡ (b == a)
-same-way a b = go (a == b) refl (b == a) refl
-  where
-    go : (x : Bool) → (a == b) ≡ x → (y : Bool) → (b == a) ≡ y → x ≡ y
-    go true is y other = sym (eq-eqb b a (sym (eqb-true a b is))) ∙ other
-    go false is false other = refl
-    go false is true other = absurd (true≢false (sym (eq-eqb a b (sym (eqb-true b a other))) ∙ is))
+same-way a b = grind (arith, eq-eqb, eqb-true)
 
 pub differs : (from to : State) → differ (told_state from) (told_state to) ≡ moves from to
 differs from to = ap not (same-way (state_number to) (state_number from))
@@ -148,12 +142,10 @@ module _ (c : Config) (ranged : IsInRange c) (l : Line) (s : IsSound c l) (timed
 -- A request that finds the pool full.
 pub none-expires : (c : Config) (service : Service) (tei : ℕ) (e : line_event.Event) (l : Line) → lines.takes_slot c e l ≡ true → expired_of service tei e ≡ None
 unfolding lines.takes_slot
-none-expires c service tei (line_event.expiry timer) l takes = absurd (true≢false (sym takes))
-none-expires c service tei other l takes = refl
+none-expires c service tei e l takes = grind arith
 
 pub differ-self : (o : Option ℕ) → differ o o ≡ false
-differ-self None = refl
-differ-self (Some state) = ap not (eq-eqb state state refl)
+differ-self o = grind (arith, eq-eqb)
 
 module _ (service : Service) (tei number : ℕ) where
   -- One event of a card.
@@ -172,9 +164,7 @@ module _ (service : Service) (tei number : ℕ) where
     counts_then to = cond (differ (state_of service tei l) to) 0 (n + option_map_or one_more (expired_of service tei e.what) 0)
 
     still : lines.takes_slot card.config e.what l ≡ true → counts_then (state_of service tei l) ≡ n
-    still takes =
-        ap (λ b. cond b 0 (n + option_map_or one_more (expired_of service tei e.what) 0)) (differ-self (state_of service tei l))
-        ∙ no-more n (option_map_or one_more (expired_of service tei e.what) 0) (ap (λ o. option_map_or one_more o 0) (none-expires card.config service tei e.what l takes))
+    still takes = grind (arith, one_more, expired_of, differ-self, no-more, none-expires)
 
     pub own-counted : IsCountOf service tei (counts_then (state_of service tei (line_at e.line (after e card)))) (line_at e.line (after e card))
     own-counted =
@@ -191,9 +181,7 @@ module _ (service : Service) (tei number : ℕ) where
 
     unmoved : (o : Option ℕ) → expired_of service tei e.what ≡ None → (b : Answer) → seen e.what b ≡ []
         → IfSome o (λ state. state ≡ option_map_or (led card.config service tei k n e.what (seen e.what b)) o 4)
-    unmoved None none b nothing = tt
-    unmoved (Some state) none b nothing =
-        sym (ap (λ t. led card.config service tei k n e.what t state) nothing ∙ ap (λ o. option_map_or (λ timer. by_expiry card.config.n200 k n state timer) o state) none)
+    unmoved o none b nothing = grind (arith, led, by_expiry)
 
     pub own-led : IsLed (line_at e.line (after e card)) (answer e card)
     own-led =

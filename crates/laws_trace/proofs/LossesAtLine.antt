@@ -1,5 +1,5 @@
 -- How many of the control frames of a link that are due one event of its line loses.
-use Rattle.laws_trace.proofs.Vocabulary.{◌≡◌, ℕ, ◌+◌, ◌-◌, ◌≤◌, Bool, false, true, List, [], length, drop, refl, sym, ap, ◌∙◌, subst, arith, true≢false, inl, inr, Some, Service, as_heard, put, event-follows, ControlFrame, Terms, Link, Config, Answer, Line, has_tei, link_of, place_in, terms, IsInRange, lost_in, deactivates, IsBy, HaveTheirTimers, length-drop, room, Event, line_after as after, answer, IsSound, is_empty, seen}
+use Rattle.laws_trace.proofs.Vocabulary.{◌≡◌, ℕ, ◌+◌, ◌-◌, Bool, false, true, List, [], length, refl, sym, ap, ◌∙◌, subst, arith, true≢false, inl, inr, Some, Service, as_heard, put, event-follows, ControlFrame, Terms, Link, Config, Answer, Line, has_tei, link_of, place_in, terms, IsInRange, lost_in, deactivates, IsBy, HaveTheirTimers, length-drop, Event, line_after as after, answer, IsSound, is_empty, seen}
 use Rattle.model_link.specs.Events as link
 use Rattle.model_link.specs.Machine as links
 use Rattle.model_link.specs.Sound as link_sound
@@ -18,12 +18,7 @@ use Rattle.laws_trace.proofs.StandingOfLink.{calm, IsStanding}
 -- What an event of a link loses found no place.
 link-loses : (t : Terms) (e : link.Event) (l : Link) → link_sound.IsSound t l
     → (links.told t e l).lost ≡ length l.waiting + length (put (as_heard t e) l (links.after t e l).state) - t.control
-link-loses t e l s =
-    let frames = put (as_heard t e) l (links.after t e l).state in
-    let lost : (links.told t e l).lost ≡ length (drop (room t l) frames) = (event-follows t e l).leaves.lost_is in
-    let dropped : length (drop (room t l) frames) ≡ length frames - (t.control - length l.waiting) = length-drop (room t l) frames in
-    let few : length l.waiting ≤ t.control = s.ring in
-    omega (arith, lost, dropped, few)
+link-loses t e l s = grind (arith, event-follows, length-drop)
 
 module _ (service : Service) (tei : ℕ) (c : Config) (ranged : IsInRange c) (e : Event) (l : Line) (s : IsSound c l) (timed : HaveTheirTimers l) (m : ℕ) (busy rejected : Bool)
     (count : IsCount (link_of service tei l) m) (stands : IsStanding (link_of service tei l) busy rejected) where

@@ -1,6 +1,6 @@
 -- What an event of TEI management is to the link of a service with a TEI: it stays as it is, or its TEI comes or
 -- leaves; and it orders what stops the timer of a link whose TEI leaves.
-use Rattle.laws_trace.proofs.Vocabulary.{◌≡◌, ℕ, ◌==◌, Bool, true, false, List, ◌++◌, Option, Some, None, refl, sym, ap, ◌∙◌, eq-eqb, true≢false, ◌⊎◌, inl, inr, is_some, none-some, Service, Order, Call, Packet, Management, IsSoundTable, Change, Gained, Left, t201_follows, Link, Config, told_of_management, of_change, Line, has_tei, link_in, link_of, terms, some-same, is-off, has-no-place, [], ◌&&◌, append-nil, arith, get_or, set, get_or-set_other, option_map_or, filter-append, same_service, is_on-at, place_of-is, has-place, place_in, link_number, orders_for, Terms, eqb-true, fresh_link as fresh, line_after as after, IsSound, is_order_of, HasJoined, HasLeft, TeiIsInRange as IsInRange, Moves, changes_are_told, sound-after, elsewhere, emptied, emptied-read, filled-read, same-read, and-false}
+use Rattle.laws_trace.proofs.Vocabulary.{◌≡◌, ℕ, ◌==◌, Bool, true, false, List, ◌++◌, Option, Some, None, refl, sym, ap, ◌∙◌, eq-eqb, true≢false, ◌⊎◌, inl, inr, is_some, none-some, Service, Order, Call, Packet, Management, IsSoundTable, Change, Gained, Left, t201_follows, Link, Config, told_of_management, of_change, Line, has_tei, link_in, link_of, terms, some-same, is-off, has-no-place, [], append-nil, arith, get_or, set, get_or-set_other, option_map_or, filter-append, is_on-at, place_of-is, has-place, place_in, link_number, orders_for, Terms, eqb-true, fresh_link as fresh, line_after as after, IsSound, HasJoined, HasLeft, TeiIsInRange as IsInRange, Moves, changes_are_told, sound-after, elsewhere, emptied, emptied-read, filled-read, same-read, and-false}
 use Rattle.lapd_tei.specs.Events as teis
 use Rattle.laws_trace.proofs.OrdersOfLink.{its_orders, of-event, none-ordered, management-orders-none}
 use Rattle.laws_trace.proofs.Facts.{its-own}
@@ -97,17 +97,7 @@ module _ (c : Config) (l : Line) (s : IsSound c l) (service : Service) (tei : �
         go (Some place) on = absurd (true≢false (sym (is_on-at l.management.places place tei (place_of-is l.management.places tei place on).1) ∙ off))
 
     comes-ordered : (by place : ℕ) → HasJoined l.management.places m.places by place → (b : Bool) → (by == tei) ≡ b → Ordered (Some (Gained by place))
-    comes-ordered by place joined false other = own-orders-none ∙ as-before (Some (Gained by place)) (gained-elsewhere by place joined other)
-    comes-ordered by place joined true same = own-orders-none ∙ go (comes by place joined true same)
-      where
-        off : has_tei tei l ≡ false
-        off = ap (λ n. has_tei n l) (sym (eqb-true by tei same)) ∙ joined.was_off
-
-        go : Stays (Some (Gained by place)) → [] ≡ orders_for its (link_of service tei l).running None (link_of service tei (next (Some (Gained by place)))).running
-        go (inl kept) = as-before (Some (Gained by place)) kept
-        go (inr anew) =
-            sym (ap (λ (x : Link). orders_for its (link_of service tei l).running None x.running) (anew.0)
-            ∙ ap (λ (x : Link). orders_for its x.running None None) (fresh-off off))
+    comes-ordered by place joined b other = grind (arith, own-orders-none, as-before, gained-elsewhere, comes, eqb-true, fresh-off)
 
     -- but where the TEI leaves, that its timer stops.
     module _ (place : ℕ) where
@@ -121,41 +111,16 @@ module _ (c : Config) (l : Line) (s : IsSound c l) (service : Service) (tei : �
       split : (n : ℕ) → its_orders service tei (of_both n)
           ≡ its_orders service tei (orders_for (terms c Call n) (link_in l Call place).running None None)
           ++ its_orders service tei (orders_for (terms c Packet n) second_link.running None None)
-      split n =
-          let first = orders_for (terms c Call n) (link_in l Call place).running None None in
-          let second = orders_for (terms c Packet n) second_link.running None None in
-          filter-append (is_order_of service tei) (first ++ second) own_orders ∙ ap (λ xs. its_orders service tei (first ++ second) ++ xs) own-orders-none
-          ∙ append-nil (its_orders service tei (first ++ second)) ∙ filter-append (is_order_of service tei) first second
+      split n = grind (arith, filter-append, its_orders, own-orders-none, append-nil)
 
       others-left : (n : ℕ) → (n == tei) ≡ false → its_orders service tei (of_both n) ≡ []
-      others-left n other =
-          split n
-          ∙ ap (λ xs. xs ++ its_orders service tei (orders_for (terms c Packet n) second_link.running None None))
-          (of-event (terms c Call n) service tei false (away (same_service Call service)) (link_in l Call place).running None None)
-          ∙ of-event (terms c Packet n) service tei false (away (same_service Packet service)) second_link.running None None
-        where
-          away : (b : Bool) → (b && n == tei) ≡ false
-          away b = ap (λ d. b && d) other ∙ and-false b
+      others-left n other = grind (arith, split, its_orders, of-event, and-false)
 
       second-is : second_link ≡ link_in l Packet place
       second-is = get_or-set_other l.links (link_number place Call) (link_number place Packet) fresh fresh (λ e. omega (arith, e))
 
       its-left : (z : Service) → service ≡ z → its_orders service tei (of_both tei) ≡ orders_for its (link_in l service place).running None None
-      its-left Call is =
-          split tei
-          ∙ ap (λ xs. xs ++ its_orders service tei (orders_for (terms c Packet tei) second_link.running None None))
-          (of-event (terms c Call tei) service tei true (ap (λ z. same_service Call z && tei == tei) is ∙ its-own Call tei) (link_in l Call place).running None None)
-          ∙ ap (λ xs. orders_for (terms c Call tei) (link_in l Call place).running None None ++ xs)
-          (of-event (terms c Packet tei) service tei false (ap (λ z. same_service Packet z && tei == tei) is) second_link.running None None)
-          ∙ append-nil (orders_for (terms c Call tei) (link_in l Call place).running None None)
-          ∙ ap (λ z. orders_for (terms c z tei) (link_in l z place).running None None) (sym is)
-      its-left Packet is =
-          split tei
-          ∙ ap (λ xs. xs ++ its_orders service tei (orders_for (terms c Packet tei) second_link.running None None))
-          (of-event (terms c Call tei) service tei false (ap (λ z. same_service Call z && tei == tei) is) (link_in l Call place).running None None)
-          ∙ of-event (terms c Packet tei) service tei true (ap (λ z. same_service Packet z && tei == tei) is ∙ its-own Packet tei) second_link.running None None
-          ∙ ap (λ (x : Link). orders_for (terms c Packet tei) x.running None None) second-is
-          ∙ ap (λ z. orders_for (terms c z tei) (link_in l z place).running None None) (sym is)
+      its-left z is = grind (arith, split, its_orders, of-event, its-own, append-nil, second-is)
 
     leaves-ordered : (by place : ℕ) → HasLeft l.management.places m.places by place → (b : Bool) → (by == tei) ≡ b → Ordered (Some (Left by place))
     leaves-ordered by place gone false other = others-left place by other ∙ as-before (Some (Left by place)) (left-elsewhere by place gone other)

@@ -1,7 +1,6 @@
 -- Which aims of a line are none of TEI management, and that what a line tells behind what TEI management tells changes nothing.
-use Rattle.laws_trace.proofs.Vocabulary.{◌≡◌, ℕ, ◌==◌, ◌&&◌, Bool, true, false, cond, List, [], ◌∷◌, ◌++◌, Option, Some, None, refl, sym, ap, ◌∙◌, subst, append-nil, append_assoc, option_map_or, true≢false, ◌⊎◌, inl, inr, All, filter, not, Result, Ok, Err, All-nil, All-cons, All-head, All-tail, All-append, filter-append, Tei, Unserved, Address, Side, Network, User, Ui, ReadFault, Undefined, WrongSize, Note, Long, Service, Start, Stop, Call, Packet, Parts, reading, long_reading, service_of, TeiTold, Change, Left, Link, runs, timer_at, order_for, orders_for, LinkTimer, Terms, notes-own, Config, Aim, at_management, told_of_management, of_change, Line, link_in, terms, place_in, management_sapi, group_tei, drop_for, at_place, to_service, addressed, message_of, aim_of_reading, unless_at_link, aim_of_long, aim_of_heard, heard_side, managed_at, at_side, has_management, Control, T200, T203, line_of_link as of_link, result_ok, frame_of, Managed, by_message, is_of_teis, is_of_t201, is_ui, Assigned, Doubled, Removed, course, link_told as told}
+use Rattle.laws_trace.proofs.Vocabulary.{arith, ◌≡◌, ℕ, ◌==◌, ◌&&◌, Bool, true, false, cond, List, [], ◌∷◌, ◌++◌, Option, Some, None, refl, sym, ap, ◌∙◌, append-nil, append_assoc, option_map_or, ◌⊎◌, inr, All, filter, Result, Ok, Err, All-nil, All-cons, All-head, All-tail, All-append, filter-append, Tei, Unserved, Address, ReadFault, Undefined, WrongSize, Note, Long, Service, Call, Packet, Parts, reading, long_reading, service_of, TeiTold, Change, Left, Link, orders_for, LinkTimer, Terms, notes-own, Config, Aim, at_management, told_of_management, of_change, Line, link_in, terms, management_sapi, group_tei, drop_for, at_place, to_service, addressed, message_of, aim_of_reading, aim_of_long, aim_of_heard, heard_side, at_side, has_management, Control, line_of_link as of_link, result_ok, frame_of, Managed, by_message, is_of_teis, is_of_t201, is_ui, course, link_told as told}
 use Rattle.model_bits.specs.Stream as stream
-use Rattle.lapd_frame.specs.declared.overlong.Long.TheVariants as long
 use Rattle.lapd_tei.specs.Events as teis
 use Rattle.model_link.specs.Events as link
 use Rattle.model_link.proofs.OwnNotes.{IsOwn}
@@ -12,10 +11,7 @@ abbrev pub IsOther : Note → Type 0
 IsOther n = is_of_teis n ≡ false
 
 own-other : (t : Terms) (n : Note) → IsOwn t n → IsOther n
-own-other t (Assigned n) own = absurd own
-own-other t (Removed n) own = absurd own
-own-other t (Doubled n) own = absurd own
-own-other t other own = refl
+own-other t n own = grind arith
 
 others-own : (t : Terms) (ns : List Note) → All (IsOwn t) ns → All IsOther ns
 others-own t [] h = All-nil IsOther
@@ -29,21 +25,8 @@ none-of-teis [] h = refl
 none-of-teis (n ∷ ns) h = ap (λ b. cond b (n ∷ filter is_of_teis ns) (filter is_of_teis ns)) (All-head IsOther n ns h) ∙ none-of-teis ns (All-tail IsOther n ns h)
 
 -- The orders of a link are none of T201.
-own-orders : (t : Terms) (timer : LinkTimer) (before started after : Option LinkTimer) → filter is_of_t201 (order_for t timer before started after) ≡ []
-own-orders t timer before started after = go timer (runs timer started && runs timer after) (runs timer before && not (runs timer after))
-  where
-    go : (k : LinkTimer) (a b : Bool) → filter is_of_t201 (cond a (Start (timer_at t k) ∷ []) (cond b (Stop (timer_at t k) ∷ []) [])) ≡ []
-    go T200 true b = refl
-    go T200 false true = refl
-    go T200 false false = refl
-    go T203 true b = refl
-    go T203 false true = refl
-    go T203 false false = refl
-
 pub link-orders : (t : Terms) (before started after : Option LinkTimer) → filter is_of_t201 (orders_for t before started after) ≡ []
-link-orders t before started after =
-    filter-append is_of_t201 (order_for t T200 before started after) (order_for t T203 before started after)
-    ∙ ap (λ xs. xs ++ filter is_of_t201 (order_for t T203 before started after)) (own-orders t T200 before started after) ∙ own-orders t T203 before started after
+link-orders t before started after = grind (arith, filter-append)
 
 pub told-orders : (t : Terms) (e : link.Event) (l : Link) → filter is_of_t201 (told t e l).orders ≡ []
 told-orders t e l = link-orders t l.running (course t e l).started (course t e l).link.running
@@ -99,12 +82,10 @@ pub message-is-read : (c : Config) (w : Managed) (e : stream.Event) → option_m
 message-is-read c w e = go (frame_of c e)
   where
     by-test : (b : Bool) (info : List ℕ) → cond b (by_message c w info) w ≡ option_map_or (by_message c w) (cond b (Some info) None) w
-    by-test true info = refl
-    by-test false info = refl
+    by-test b info = grind arith
 
     go : (o : Option Parts) → option_map_or (by_frame c w) o w ≡ option_map_or (by_message c w) (message_by c o) w
-    go None = refl
-    go (Some f) = by-test (has_management c.side && is_message_to f) f.info
+    go o = grind (arith, by-test)
 
 pub record OfMessage (aim : Aim) (said : Option (List ℕ)) : Type 0 where
   pub info : List ℕ
@@ -119,42 +100,18 @@ abbrev pub Cases : Aim → Option (List ℕ) → Type 0
 Cases aim said = OfMessage aim said ⊎ OfOther aim said
 
 no-place : (service : Service) (tei : ℕ) (what : link.Received) (o : Option ℕ) → is_management (at_place service tei what o) ≡ false
-no-place service tei what None = refl
-no-place service tei what (Some place) = refl
+no-place service tei what o = grind arith
 
 module _ (c : Config) (l : Line) where
-  no-service : (tei : ℕ) (what : link.Received) (o : Option Service) → is_management (to_service l tei what o) ≡ false
-  no-service tei what None = refl
-  no-service tei what (Some service) = no-place service tei what (place_in l tei)
-
   no-message : (address : Address) (what : link.Received) (aim : Aim) → is_management aim ≡ false → is_management (addressed l address what aim) ≡ false
-  no-message address what aim none = go (address.sapi == management_sapi) (address.tei == group_tei)
-    where
-      go : (a b : Bool) → is_management (cond a (cond b aim (drop_for Tei)) (to_service l address.tei what (service_of address.sapi))) ≡ false
-      go true true = none
-      go true false = refl
-      go false b = no-service address.tei what (service_of address.sapi)
+  no-message address what aim none = grind (arith, no-place)
 
   by-control : (control : Control) (info : List ℕ) → Cases (message_of control info) (cond (is_ui control) (Some info) None)
-  by-control (Ui p) info = inl (record { info = info; aim_is = refl; said_is = refl })
-  by-control other info = inr (record { aim_is = refl; said_is = refl })
+  by-control control info = grind arith
 
   -- On the user's side none is served.
   at-side : (f : Parts) (b : Bool) (said : Option (List ℕ)) (aim : Aim) → Cases aim (cond b said None) → Cases (at_side c f aim) (cond (has_management c.side && b) said None)
-  at-side f b said aim (inl x) = subst (λ aim. Cases (at_side c f aim) (cond (has_management c.side && b) said None)) (sym x.aim_is) (go c.side)
-    where
-      go : (side : Side) → Cases (managed_at side (teis.message x.info)) (cond (has_management side && b) said None)
-      go Network = inl (record { info = x.info; aim_is = refl; said_is = x.said_is })
-      go User = inr (record { aim_is = refl; said_is = refl })
-  at-side f b said aim (inr x) = inr (record { aim_is = by-aim aim x.aim_is; said_is = none (has_management c.side) })
-    where
-      by-aim : (aim : Aim) → is_management aim ≡ false → is_management (at_side c f aim) ≡ false
-      by-aim (at_management event) other = absurd (true≢false other)
-      by-aim any other = refl
-
-      none : (h : Bool) → cond (h && b) said None ≡ None
-      none true = x.said_is
-      none false = refl
+  at-side f b said aim o = grind arith
 
   by-reading : (r : Result Parts ReadFault) → Cases (aim_of_reading c l r) (message_by c (result_ok r))
   by-reading (Ok f) =
@@ -162,23 +119,13 @@ module _ (c : Config) (l : Line) where
     where
       go : (a b : Bool) → Cases (cond a (cond b (message_of f.control f.info) (drop_for Tei)) (to_service l f.address.tei (link.frame f) (service_of f.address.sapi)))
           (cond ((a && b) && is_ui f.control) (Some f.info) None)
-      go true true = by-control f.control f.info
-      go true false = inr (record { aim_is = refl; said_is = refl })
-      go false b = inr (record { aim_is = no-service f.address.tei (link.frame f) (service_of f.address.sapi); said_is = refl })
+      go a b = grind (arith, by-control, no-place)
   by-reading (Err (Undefined address)) = inr (record { aim_is = no-message address link.undefined (drop_for Unserved) refl; said_is = refl })
   by-reading (Err (WrongSize address)) = inr (record { aim_is = no-message address link.wrong_size (drop_for Unserved) refl; said_is = refl })
   by-reading other = inr (record { aim_is = refl; said_is = refl })
 
-  not-linked : (aim : Aim) → is_management aim ≡ false → is_management (unless_at_link aim) ≡ false
-  not-linked (at_management event) none = absurd (true≢false none)
-  not-linked other none = refl
-
   by-long : (r : Result Long ReadFault) → is_management (aim_of_long l r) ≡ false
-  by-long (Ok (long.Information address)) = no-message address link.overlong (drop_for Unserved) refl
-  by-long (Ok (long.Unnumbered address)) = not-linked (addressed l address link.overlong (drop_for Unserved)) (no-message address link.overlong (drop_for Unserved) refl)
-  by-long (Err (Undefined address)) = no-message address link.undefined (drop_for Unserved) refl
-  by-long (Err (WrongSize address)) = no-message address link.wrong_size (drop_for Unserved) refl
-  by-long other = refl
+  by-long r = grind (arith, no-message)
 
   pub heard-cases : (e : stream.Event) → Cases (aim_of_heard c l e) (message_in c e)
   heard-cases (stream.frame octets) = by-reading (reading (heard_side c) octets)

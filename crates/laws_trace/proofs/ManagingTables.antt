@@ -1,12 +1,10 @@
 -- The table of TEIs, and the list of those on a line that an observer has: what is on it after a TEI came or left, and how
 -- many are.
-use Rattle.laws_trace.proofs.Vocabulary.{◌≡◌, ℕ, zero, suc, ◌+◌, ◌<◌, ◌≤◌, ◌==◌, ◌&&◌, ◌||◌, Bool, true, false, cond, not, List, [], ◌∷◌, length, replicate, set, get_or, Option, Some, None, refl, sym, ap, ◌∙◌, subst, arith, eq-eqb, true≢false, filter, nat_lt, list_any, prefix_len, any-filter_same, none-some, IsAt, IsSoundTable, Places, is_free, has, is_on, place_of, free_place, freed, place_of-is, is_on-at, free_place-is, is-off, eqb-true, ltb-false, false_from_ne_true}
+use Rattle.laws_trace.proofs.Vocabulary.{◌≡◌, ℕ, zero, suc, ◌+◌, ◌<◌, ◌≤◌, ◌==◌, ◌&&◌, ◌||◌, Bool, true, false, cond, not, List, [], ◌∷◌, length, replicate, set, get_or, Option, Some, None, refl, sym, ap, ◌∙◌, subst, arith, eq-eqb, true≢false, filter, list_any, prefix_len, any-filter_same, none-some, IsAt, IsSoundTable, Places, is_free, has, is_on, place_of, free_place, freed, place_of-is, is_on-at, free_place-is, is-off, eqb-true, ltb-false, false_from_ne_true}
 
 -- A TEI that comes.
 swap : (a b c : Bool) → (a || (b || c)) ≡ (b || (a || c))
-swap true true c = refl
-swap true false c = refl
-swap false b c = refl
+swap a b c = grind arith
 
 set-any : (x tei : ℕ) (places : Places) (place : ℕ) → place < length places → get_or places place None ≡ None → is_on x (set places place (Some tei)) ≡ ((tei == x) || is_on x places)
 set-any x tei [] place within free = absurd (omega (arith, within))
@@ -19,8 +17,7 @@ on-coming places place tei x free = let at = free_place-is places place free in 
 
 -- A TEI that leaves.
 holder : (x : ℕ) (o : Option ℕ) → has x o ≡ true → o ≡ Some x
-holder x None is = absurd (true≢false (sym is))
-holder x (Some own) is = ap Some (eqb-true own x is)
+holder x o is = grind (arith, eqb-true)
 
 abbrev IsAlone : Places → ℕ → ℕ → Type 0
 IsAlone places place tei = (j : ℕ) → IsAt places j tei → j ≡ place
@@ -45,10 +42,7 @@ clear-same x (o ∷ places) (suc i) within alone =
 
 clear-other : (x tei : ℕ) (places : Places) (place : ℕ) → place < length places → get_or places place None ≡ Some tei → (x == tei) ≡ false → is_on x (set places place None) ≡ is_on x places
 clear-other x tei [] place within at other = absurd (omega (arith, within))
-clear-other x tei (o ∷ places) zero within at other = ap (λ b. b || is_on x places) (sym (ap (has x) at ∙ apart))
-  where
-    apart : (tei == x) ≡ false
-    apart = false_from_ne_true (tei == x) (λ is. true≢false (sym (eq-eqb x tei (sym (eqb-true tei x is))) ∙ other))
+clear-other x tei (o ∷ places) zero within at other = grind (arith, false_from_ne_true, eq-eqb, eqb-true)
 clear-other x tei (o ∷ places) (suc i) within at other = ap (λ b. has x o || b) (clear-other x tei places i (omega (arith, within)) at other)
 
 pub on-leaving : (places : Places) (tei x : ℕ) → IsSoundTable places → is_on x (freed places (place_of tei places)) ≡ (not (x == tei) && is_on x places)
@@ -77,8 +71,7 @@ taken (None ∷ places) = taken places
 taken (Some tei ∷ places) = taken places + 1
 
 one-taken : (o : Option ℕ) (ps qs : Places) (n : ℕ) → taken ps ≡ taken qs + n → taken (o ∷ ps) ≡ taken (o ∷ qs) + n
-one-taken None ps qs n e = e
-one-taken (Some tei) ps qs n e = omega (arith, e)
+one-taken o ps qs n e = grind arith
 
 taken-coming : (places : Places) (place tei : ℕ) → place < length places → get_or places place None ≡ None → taken (set places place (Some tei)) ≡ taken places + 1
 taken-coming [] place tei within free = absurd (omega (arith, within))
@@ -111,12 +104,7 @@ all-taken (None ∷ places) e = absurd (omega (arith, e))
 all-taken (Some tei ∷ places) e = let rest = all-taken places (omega (arith, e)) in omega (arith, rest)
 
 pub none-free : (places : Places) → free_place places ≡ None → taken places ≡ length places
-none-free places = go (nat_lt (prefix_len (λ o. not (is_free o)) places) (length places)) refl
-  where
-    go : (b : Bool) → nat_lt (prefix_len (λ o. not (is_free o)) places) (length places) ≡ b
-        → cond b (Some (prefix_len (λ o. not (is_free o)) places)) None ≡ None → taken places ≡ length places
-    go true e h = absurd (none-some _ (sym h))
-    go false e h = all-taken places (ltb-false _ _ e)
+none-free places = grind (arith, none-some, all-taken, ltb-false)
 
 -- How often a list has a TEI.
 abbrev pub times : ℕ → List ℕ → ℕ
@@ -131,43 +119,25 @@ others x ys = filter (λ y. not (y == x)) ys
 
 others-length : (x : ℕ) (ys : List ℕ) → length ys ≡ length (others x ys) + times x ys
 others-length x [] = refl
-others-length x (y ∷ ys) = go (y == x) (others-length x ys)
-  where
-    go : (b : Bool) → length ys ≡ length (others x ys) + times x ys → length (y ∷ ys) ≡ length (cond (not b) (y ∷ others x ys) (others x ys)) + cond b (times x ys + 1) (times x ys)
-    go true e = omega (arith, e)
-    go false e = omega (arith, e)
+others-length x (y ∷ ys) = grind (arith, others-length x ys)
 
 none-times : (x : ℕ) (ys : List ℕ) → among x ys ≡ false → times x ys ≡ 0
 none-times x [] off = refl
 none-times x (y ∷ ys) off = go (y == x) off (λ off. none-times x ys off)
   where
     go : (b : Bool) → (b || among x ys) ≡ false → (among x ys ≡ false → times x ys ≡ 0) → cond b (times x ys + 1) (times x ys) ≡ 0
-    go true off rest = absurd (true≢false off)
-    go false off rest = rest off
+    go b off rest = grind arith
 
 some-times : (x : ℕ) (ys : List ℕ) → among x ys ≡ true → 1 ≤ times x ys
 some-times x [] on = absurd (true≢false (sym on))
 some-times x (y ∷ ys) on = go (y == x) on (λ on. some-times x ys on)
   where
     go : (b : Bool) → (b || among x ys) ≡ true → (among x ys ≡ true → 1 ≤ times x ys) → 1 ≤ cond b (times x ys + 1) (times x ys)
-    go true on rest = omega arith
-    go false on rest = rest on
+    go b on rest = grind arith
 
 fewer-times : (x tei : ℕ) (ys : List ℕ) → times x (others tei ys) ≤ times x ys
 fewer-times x tei [] = omega arith
-fewer-times x tei (y ∷ ys) = go (y == tei) (fewer-times x tei ys)
-  where
-    more : (b : Bool) → times x (others tei ys) ≤ times x ys → cond b (times x (others tei ys) + 1) (times x (others tei ys)) ≤ cond b (times x ys + 1) (times x ys)
-    more true e = omega (arith, e)
-    more false e = e
-
-    less : (b : Bool) → times x (others tei ys) ≤ times x ys → times x (others tei ys) ≤ cond b (times x ys + 1) (times x ys)
-    less true e = omega (arith, e)
-    less false e = e
-
-    go : (a : Bool) → times x (others tei ys) ≤ times x ys → times x (cond (not a) (y ∷ others tei ys) (others tei ys)) ≤ cond (y == x) (times x ys + 1) (times x ys)
-    go true e = less (y == x) e
-    go false e = more (y == x) e
+fewer-times x tei (y ∷ ys) = grind (arith, fewer-times x tei ys)
 
 -- The TEIs on a line, as an observer has them: each once, and as many as places are taken.
 pub record AreOn (on : List ℕ) (places : Places) : Type 0 where
@@ -199,8 +169,7 @@ module _ (on : List ℕ) (places : Places) (h : AreOn on places) where
   }
     where
       go : (x : ℕ) (b : Bool) → (tei == x) ≡ b → cond b (times x on + 1) (times x on) ≤ 1
-      go x true is = let none : times x on ≡ 0 = none-times x on (subst (λ n. among n on ≡ false) (eqb-true tei x is) (h.same tei ∙ off)) in omega (arith, none)
-      go x false is = h.once x
+      go x b is = grind (arith, none-times, eqb-true)
 
   size-leaving : (tei : ℕ) (o : Option ℕ) → place_of tei places ≡ o → length (others tei on) ≡ taken (freed places o)
   size-leaving tei None is =
@@ -218,8 +187,4 @@ module _ (on : List ℕ) (places : Places) (h : AreOn on places) where
       omega (arith, some, most, all, less, size)
 
   pub leaves-on : (tei : ℕ) → IsSoundTable places → AreOn (others tei on) (freed places (place_of tei places))
-  leaves-on tei sound = record {
-    same = λ x. on-filtered on tei x ∙ ap (λ b. not (x == tei) && b) (h.same x) ∙ sym (on-leaving places tei x sound);
-    size = size-leaving tei (place_of tei places) refl;
-    once = λ x. let fewer = fewer-times x tei on in let most = h.once x in omega (arith, fewer, most);
-  }
+  leaves-on tei sound = grind (arith, on-filtered, on-leaving, size-leaving, fewer-times)

@@ -1,5 +1,5 @@
 -- Frames of a link, and their names.
-use Rattle.laws_trace.proofs.Vocabulary.{◌≡◌, ℕ, ◌==◌, ◌&&◌, ◌||◌, not, Bool, true, false, cond, List, [], ◌∷◌, ◌++◌, map, filter, list_any, Some, None, refl, sym, ap, ◌∙◌, eq-eqb, true≢false, option_map_or, and_parts, map-append, filter-append, All, All-head, All-tail, Parts, Service, reading-again, sapi_of, Config, eqb-true, result_ok, IsSpelled, its_frame, is_frame_of, is_ui, or-true}
+use Rattle.laws_trace.proofs.Vocabulary.{arith, ◌≡◌, ℕ, ◌==◌, ◌&&◌, ◌||◌, not, Bool, true, false, cond, List, [], ◌∷◌, ◌++◌, map, filter, list_any, Some, None, refl, ap, ◌∙◌, eq-eqb, option_map_or, and_parts, map-append, filter-append, All, All-head, All-tail, Parts, Service, reading-again, sapi_of, Config, eqb-true, result_ok, IsSpelled, its_frame, is_frame_of, is_ui, or-true}
 use Rattle.laws_trace.proofs.LinkNames.{LinkName, named_in, is_of_a_link}
 use Rattle.laws_trace.proofs.Turns.{name-is}
 
@@ -8,8 +8,7 @@ module _ (c : Config) where
   names fs = map named_in (filter (is_of_a_link c.side) fs)
 
   pub names-append : (front behind : List (List ℕ)) → names (front ++ behind) ≡ names front ++ names behind
-  names-append front behind =
-      ap (map named_in) (filter-append (is_of_a_link c.side) front behind) ∙ map-append named_in (filter (is_of_a_link c.side) front) (filter (is_of_a_link c.side) behind)
+  names-append front behind = grind (arith, named_in, filter-append, is_of_a_link, map-append)
 
   module _ (service : Service) (tei : ℕ) where
     abbrev pub name : LinkName
@@ -33,30 +32,14 @@ module _ (c : Config) where
       named = ap named_in h.1.octets_are ∙ name-is c.side parts.address parts.control parts.info
 
       pub own-name : is_frame_of c service tei f ≡ true → (is_of_a_link c.side f ≡ true) × (named_in f ≡ name)
-      own-name is = go (is-its parts) refl (sym read ∙ is)
-        where
-          go : (b : Bool) → is-its parts ≡ b → option_map_or (λ (f : Parts). not (is_ui f.control)) (cond b (Some parts) None) false ≡ true → (is_of_a_link c.side f ≡ true) × (named_in f ≡ name)
-          go false its none = absurd (true≢false (sym none))
-          go true its some =
-              let both = and_parts (parts.address.sapi == sapi_of service) (parts.address.tei == tei) its in
-              let sapi = eqb-true parts.address.sapi (sapi_of service) both.0 in
-              let by = eqb-true parts.address.tei tei both.1 in
-              (kind ∙ some, named ∙ ap (λ n. record { sapi = n; tei = parts.address.tei }) sapi ∙ ap (λ n. record { sapi = sapi_of service; tei = n }) by)
+      own-name is = grind (arith, read, is_of_a_link, named_in, and_parts, eqb-true, kind, named)
 
       pub name-own : is_of_a_link c.side f ≡ true → named_in f ≡ name → is_frame_of c service tei f ≡ true
-      name-own is its =
-          let same = sym named ∙ its in
-          let sapi : parts.address.sapi ≡ sapi_of service = ap (λ (n : LinkName). n.sapi) same in
-          let by : parts.address.tei ≡ tei = ap (λ (n : LinkName). n.tei) same in
-          read ∙ ap (λ b. option_map_or (λ (f : Parts). not (is_ui f.control)) (cond (b && parts.address.tei == tei) (Some parts) None) false) (eq-eqb parts.address.sapi (sapi_of service) sapi)
-          ∙ ap (λ b. option_map_or (λ (f : Parts). not (is_ui f.control)) (cond b (Some parts) None) false) (eq-eqb parts.address.tei tei by)
-          ∙ sym kind ∙ is
+      name-own is its = grind (arith, named, LinkName, read, eq-eqb, kind)
 
     -- A frame of the link among others has its name among theirs, and so the other way round.
     pub its-name : (a : List ℕ) (behind : List (List ℕ)) → IsSpelled c a → is_frame_of c service tei a ≡ true → names (a ∷ behind) ≡ name ∷ names behind
-    its-name a behind h is =
-        let x = own-name a h is in
-        ap (λ b. map named_in (cond b (a ∷ filter (is_of_a_link c.side) behind) (filter (is_of_a_link c.side) behind))) x.0 ∙ ap (λ n. n ∷ names behind) x.1
+    its-name a behind h is = grind (arith, own-name, named_in, is_of_a_link)
 
     none-there : (front back : List LinkName) → [] ≡ front ++ name ∷ back → ⊥
     none-there [] back e = cc e

@@ -1,5 +1,5 @@
 -- What layer 3 is told of establishments and releases: the law.
-use Rattle.laws_trace.proofs.Vocabulary.{◌≡◌, ℕ, ◌<◌, ◌==◌, ◌&&◌, not, Bool, true, false, cond, List, [], ◌∷◌, get_or, set, Option, Some, None, refl, sym, ap, ◌∙◌, subst, arith, eq-eqb, true≢false, fold, filter, list_any, option_map_or, and_parts, get_or-set_same, get_or-replicate, All-head, All-tail, PoolFull, Service, Link, Config, request, Answer, refused, Line, fresh_line, link_of, link_in, state_of, IsInRange, Card, line_at, is_full, at, moments, fresh_is_sound, after_is_sound, has_lines, by_room, line_sound, AllHaveTheirTimers, timely-after, begins-timely-card, notes_of, nowhere, eqb-true, unwrap_or, fresh_link, Request, Establish, fresh, CardEvent as Event, after, card_answer as answer, Moment, after_all, IsAtLine, AreAtLines, is_news, is_sabme, is_xid, releases, wrong, moment_of, seen, Always, CardIsSound as IsSound, and-false}
+use Rattle.laws_trace.proofs.Vocabulary.{◌≡◌, ℕ, ◌<◌, ◌==◌, ◌&&◌, not, Bool, true, false, cond, List, [], ◌∷◌, get_or, set, Option, Some, None, refl, sym, ap, ◌∙◌, subst, arith, eq-eqb, true≢false, fold, filter, list_any, option_map_or, and_parts, get_or-set_same, get_or-replicate, All-head, All-tail, PoolFull, Service, Link, Config, Answer, refused, Line, fresh_line, link_of, link_in, state_of, IsInRange, Card, line_at, is_full, at, moments, fresh_is_sound, after_is_sound, has_lines, by_room, line_sound, AllHaveTheirTimers, timely-after, begins-timely-card, notes_of, nowhere, eqb-true, unwrap_or, fresh_link, fresh, CardEvent as Event, after, card_answer as answer, Moment, after_all, IsAtLine, AreAtLines, is_news, is_sabme, is_xid, releases, wrong, moment_of, seen, Always, CardIsSound as IsSound, and-false}
 use Rattle.model_line.specs.Event as line_event
 use Rattle.model_line.specs.Machine as lines
 use Rattle.laws_trace.proofs.NewsWatched.{establishes, asked, Owing, none_owed, owing, due, NewsIsTold}
@@ -30,8 +30,7 @@ module _ (service : Service) (tei number : ℕ) where
     asked_then to b = cond (is_state 5 to && differ (state_of service tei l) to) (establishes service tei e.what b) was
 
     still : (o : Option ℕ) (b : Answer) → cond (is_state 5 o && differ o o) (establishes service tei e.what b) was ≡ was
-    still o b = ap (λ d. cond (is_state 5 o && d) (establishes service tei e.what b) was) (differ-self o)
-        ∙ ap (λ d. cond d (establishes service tei e.what b) was) (and-false (is_state 5 o))
+    still o b = grind (arith, is_state, establishes, differ-self, and-false)
 
     pub own-asked : IsAskedOf service tei (asked_then (state_of service tei (line_at e.line (after e card))) (answer e card)) (line_at e.line (after e card))
     own-asked =
@@ -51,21 +50,7 @@ module _ (service : Service) (tei number : ℕ) where
     refused-due : (what : line_event.Event) → lines.takes_slot card.config what l ≡ true → (from to seen_to : ℕ) → from ≡ to
         → [] ≡ due service tei (wrong card.config service tei what from seen_to) was (list_any (brings is_xid card.config service tei) (seen what (refused PoolFull))) (list_any (brings is_sabme card.config service tei) (seen what (refused PoolFull))) (releases service tei what (refused PoolFull)) outstanding from to
     unfolding lines.takes_slot
-    refused-due (request r) takes from to seen_to same =
-        sym (ap (λ b. due service tei [] was false false b outstanding from to) (no-release r) ∙ ap (λ n. due service tei [] was false false false outstanding n to) same ∙ nothing-due to)
-      where
-        no-release : (r : Request) → releases service tei (request r) (refused PoolFull) ≡ false
-        no-release (Establish its by) = refl
-        no-release other = refl
-
-        nothing-due : (n : ℕ) → due service tei [] was false false false outstanding n n ≡ []
-        nothing-due n = go (n == 7) refl (n == 4) refl
-          where
-            go : (x : Bool) → (n == 7) ≡ x → (y : Bool) → (n == 4) ≡ y → due service tei [] was false false false outstanding n n ≡ []
-            go true is y other = subst (λ n. due service tei [] was false false false outstanding n n ≡ []) (sym (eqb-true n 7 is)) refl
-            go false is true other = subst (λ n. due service tei [] was false false false outstanding n n ≡ []) (sym (eqb-true n 4 other)) refl
-            go false is false other = rw (is, other) refl
-    refused-due other takes from to seen_to same = absurd (true≢false (sym takes))
+    refused-due what takes from to seen_to same = grind (arith, due, eqb-true)
 
     pub own-due : IsDue (line_at e.line (after e card)) (answer e card)
     own-due =
@@ -99,11 +84,7 @@ module _ (service : Service) (tei number : ℕ) where
       where
         go : (b : Bool) → (e.line == number) ≡ b
             → IsAskedOf service tei (cond (b && is_state 5 (state_of service tei later) && differ (state_of service tei (line_at number card)) (state_of service tei later)) (establishes service tei e.what (answer e card)) was) later
-        go true is =
-            let same = eqb-true e.line number is in
-            subst (λ m. IsAskedOf service tei (cond (is_state 5 (state_of service tei (line_at m (after e card)))
-            && differ (state_of service tei (line_at m card)) (state_of service tei (line_at m (after e card)))) (establishes service tei e.what (answer e card)) was) (line_at m (after e card))) same
-            (own-asked card s e here was (subst (λ m. IsAskedOf service tei was (line_at m card)) (sym same) asks) outstanding (subst (λ m. IsOwed service tei outstanding (line_at m card)) (sym same) owes))
+        go true is = grind (arith, eqb-true, IsAskedOf, is_state, differ, establishes, own-asked, IsOwed)
         go false other =
             subst (IsAskedOf service tei was) (sym (apart card e number (λ same. true≢false (sym (eq-eqb e.line number (sym same)) ∙ other)))) asks
 

@@ -1,5 +1,5 @@
 -- What layer 3 is told of the establishment and release of a link: one event of its line.
-use Rattle.laws_trace.proofs.Vocabulary.{◌≡◌, ℕ, ◌==◌, ◌&&◌, Bool, false, cond, List, [], Option, Some, None, refl, sym, ap, ◌∙◌, subst, true≢false, inl, inr, filter, list_any, option_map_or, none-some, ErrorCode, Service, State, TeiAssigned, AwaitingEstablishment, Terms, Link, state_number, Config, Answer, Line, has_tei, link_of, place_in, state_of, terms, notes_of, is-off, moves, unwrap_or, Control, fresh_link, IsSound, is_news, is_sabme, is_xid, releases, wrong, seen, cleared, link_after as after, Event, and-false}
+use Rattle.laws_trace.proofs.Vocabulary.{arith, ◌≡◌, ℕ, ◌==◌, ◌&&◌, Bool, false, cond, List, [], Option, Some, None, refl, sym, ap, ◌∙◌, subst, true≢false, inl, inr, filter, list_any, none-some, ErrorCode, Service, State, AwaitingEstablishment, Terms, Link, state_number, Config, Answer, Line, has_tei, link_of, place_in, state_of, terms, notes_of, is-off, moves, unwrap_or, Control, fresh_link, IsSound, is_news, is_sabme, is_xid, releases, wrong, seen, cleared, link_after as after, Event, and-false}
 use Rattle.model_line.specs.Machine as lines
 use Rattle.laws_trace.proofs.NewsWatched.{establishes, due}
 use Rattle.laws_trace.proofs.TimersWatched.{brings, control_in}
@@ -40,8 +40,7 @@ module _ (c : Config) (l : Line) (s : IsSound c l) (service : Service) (tei : �
 
   -- nothing is due where the link stays in its state
   unmoved : (state : State) (outstanding : Bool) → due service tei [] was false false false outstanding (state_number state) (state_number state) ≡ []
-  unmoved TeiAssigned outstanding = refl
-  unmoved other outstanding = refl
+  unmoved state outstanding = grind arith
 
   abbrev then_asked : Option ℕ → Option ℕ → Bool
   then_asked from to = cond (is_state 5 to && differ from to) (establishes service tei e a) was
@@ -54,8 +53,7 @@ module _ (c : Config) (l : Line) (s : IsSound c l) (service : Service) (tei : �
 
   -- a deactivation brings no frame
   ended-heard : (which : Control → Bool) → IsGivenUp c service tei e l (lines.after c e l) a → heard which ≡ false
-  ended-heard which x =
-      seen-brings c service tei which e a ∙ ap (λ e. option_map_or which (control_in service tei (frame_by c e)) false) x.by.0
+  ended-heard which x = grind (arith, seen-brings, control_in, frame_by)
 
   abbrev Errors : ℕ → ℕ → List ErrorCode
   Errors from seen = wrong c service tei e from seen
@@ -212,14 +210,11 @@ module _ (c : Config) (l : Line) (s : IsSound c l) (service : Service) (tei : �
       number n m is = cc is
 
       left-line : (o : Option ℕ) → place_in (lines.after c e l) tei ≡ o → state_of service tei (lines.after c e l) ≡ None → place_in (lines.after c e l) tei ≡ None
-      left-line None off none = off
-      left-line (Some there) still none = absurd (none-some (state_number next.state) (sym none ∙ state-on service tei (lines.after c e l) there still))
+      left-line o off none = grind (arith, none-some, state-on)
 
       by-place : (o : Option ℕ) → place_in l tei ≡ o → state_of service tei (lines.after c e l) ≡ None → Due from 4 1
       by-place None off none = absurd (none-some from (sym (off-state service tei l off) ∙ was-in))
-      by-place (Some place) on none =
-          subst (λ n. Due n 4 1) (number (state_number own.state) from (sym (state-on service tei l place on) ∙ was-in))
-          (gone-due place on (left-line (place_in (lines.after c e l) tei) refl none))
+      by-place (Some place) on none = grind (arith, number, state-on, gone-due, left-line)
 
       go : (o : Option ℕ) → state_of service tei (lines.after c e l) ≡ o → Due from (unwrap_or o 4) (unwrap_or o 1)
       go (Some to) is-in = both-due from to was-in is-in

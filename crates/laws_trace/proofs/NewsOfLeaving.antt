@@ -1,8 +1,7 @@
 -- Where the TEI of a link leaves its line, what is told of the link is what the end of the TEI tells.
-use Rattle.laws_trace.proofs.Vocabulary.{◌≡◌, ℕ, ◌==◌, ◌&&◌, ◌||◌, not, Bool, true, false, List, [], ◌++◌, Option, Some, None, refl, sym, ap, ◌∙◌, subst, arith, eq-eqb, true≢false, ◌⊎◌, inl, inr, append-nil, filter, option_map_or, get_or-set_other, filter-append, Note, Refusal, Service, Call, Packet, Timer, T201, same_service, Management, is_on, Change, Gained, Left, place_of-is, is_on-at, event-follows, told_cleared, State, TeiAssigned, Terms, LinkTimer, Link, state_number, Config, Aim, at_none, at_link, at_management, of_aim, of_change, told_of_management, Answer, hears, expiry, request, next, dropped, at_timer, aim_of_expiry, Line, has_tei, link_in, link_of, link_number, place_in, terms, aim_of, unless_refused, unless_refused_told, aim_of_heard, Assign, Remove, Deactivate, at_requested, at_deactivated, aim_of_request, group_told, IsProper, heard_aims, request_proper, notes_of, has-place, ByChange, noted, Down, at_no_link, IfSome, line_of, Taken, taken, IsOne, taken-one, eqb-true, TimerT200 as T200, TimerT203 as T203, fresh_link as fresh, line_of_link as of_link, Event, line_after as after, answer, refusal, Request, Establish, Release, Data, Checking as Check, SetBusy, ClearBusy, IsSound, is_news, releases, by-down, or-true, HasLeft, TeiIsInRange as IsInRange, Moves, changes_are_told, link_told as told, false_from_ne_true}
+use Rattle.laws_trace.proofs.Vocabulary.{◌≡◌, ℕ, ◌==◌, ◌&&◌, ◌||◌, not, Bool, true, false, List, [], ◌++◌, Option, Some, None, refl, sym, ap, ◌∙◌, subst, arith, eq-eqb, true≢false, ◌⊎◌, inl, inr, append-nil, filter, option_map_or, get_or-set_other, filter-append, Note, Refusal, Service, Call, Packet, Timer, same_service, Management, is_on, Change, Gained, Left, place_of-is, is_on-at, event-follows, Terms, Link, state_number, Config, Aim, at_none, at_link, at_management, of_aim, of_change, told_of_management, Answer, hears, expiry, request, next, dropped, aim_of_expiry, Line, has_tei, link_in, link_of, link_number, place_in, terms, aim_of, unless_refused, unless_refused_told, aim_of_heard, Assign, Remove, Deactivate, at_requested, at_deactivated, aim_of_request, group_told, IsProper, heard_aims, request_proper, notes_of, has-place, ByChange, noted, Down, at_no_link, IfSome, line_of, Taken, taken, IsOne, taken-one, eqb-true, fresh_link as fresh, line_of_link as of_link, Event, line_after as after, answer, refusal, Request, Establish, Release, Data, Checking as Check, SetBusy, ClearBusy, IsSound, is_news, releases, by-down, or-true, HasLeft, TeiIsInRange as IsInRange, Moves, changes_are_told, link_told as told, false_from_ne_true}
 use Rattle.model_bits.specs.Stream as stream
 use Rattle.lapd_tei.specs.Events as teis
-use Rattle.model_link.specs.declared.timers.LinkTimer.TheVariants as link_timer
 use Rattle.model_link.specs.Events as link
 use Rattle.laws_trace.proofs.NewsWatched.{due}
 use Rattle.laws_trace.proofs.LinkLed.{own-is}
@@ -15,9 +14,7 @@ unfolding after
 next-keeps tei c l s on = go (taken c l) (taken-one c l s)
   where
     took : (t : Taken) → IsOne c l t → has_tei tei t.line ≡ true
-    took t (inl x) = subst (λ (u : Taken). has_tei tei u.line ≡ true) (sym x.1) on
-    took t (inr (inl x)) = subst (λ (u : Taken). has_tei tei u.line ≡ true) (sym x.1) on
-    took t (inr (inr x)) = subst (λ (u : Taken). has_tei tei u.line ≡ true) (sym x.is) on
+    took t o = grind arith
 
     go : (o : Option Taken) → IfSome o (IsOne c l) → has_tei tei (option_map_or line_of o l) ≡ true
     go None x = on
@@ -26,11 +23,7 @@ next-keeps tei c l s on = go (taken c l) (taken-one c l s)
 -- What the end of a TEI tells of its link is due as the link would come to state 4.
 pub cleared-due : (t : Terms) (l : Link) (was outstanding : Bool)
     → filter (is_news t.service t.tei) (told t link.cleared l).notes ≡ due t.service t.tei [] was false false false outstanding (state_number l.state) 4
-cleared-due t l was outstanding = ap (filter (is_news t.service t.tei)) (event-follows t link.cleared l).leaves.tells ∙ by-state l.state
-  where
-    by-state : (here : State) → filter (is_news t.service t.tei) (told_cleared here t) ≡ due t.service t.tei [] was false false false outstanding (state_number here) 4
-    by-state TeiAssigned = refl
-    by-state other = rw (own-is t.service t.tei) refl
+cleared-due t l was outstanding = grind (arith, event-follows, due, own-is)
 
 module _ (service : Service) (tei : ℕ) (c : Config) (l : Line) (s : IsSound c l) (place : ℕ) (on : place_in l tei ≡ Some place) where
   abbrev own : Link
@@ -114,10 +107,7 @@ module _ (service : Service) (tei : ℕ) (c : Config) (l : Line) (s : IsSound c 
     changed (Some (Left by place')) gone is off = go (by == tei) refl
       where
         go : (b : Bool) → (by == tei) ≡ b → Leaves (of_change c (Some (Left by place')) (told_of_management (teis.told me l.management)) at).told.notes
-        go true same =
-            let it = eqb-true by tei same in
-            subst (λ n. HasLeft l.management.places m.places n place' → ByChange me (Some (Left n place')) ns
-            → Leaves (of_change c (Some (Left n place')) (told_of_management (teis.told me l.management)) at).told.notes) (sym it) (its-own place') gone is
+        go true same = grind (arith, eqb-true, its-own)
         go false other =
             let apart = false_from_ne_true (tei == by) (λ is. true≢false (sym (eq-eqb by tei (sym (eqb-true tei by is))) ∙ other)) in
             absurd (true≢false (sym (ap (is_on tei) gone.is_free ∙ ap (λ o. is_on tei (Rattle.lapd_tei.specs.Words.freed l.management.places o)) (sym (has-place l.management.places by place' s.management.table gone.was_there))
@@ -126,17 +116,11 @@ module _ (service : Service) (tei : ℕ) (c : Config) (l : Line) (s : IsSound c 
     managed : Gone (at_management me)
     managed off = changed (teis.told me l.management).change (changes_are_told me l.management fits s.management) (noted me l.management s.management) off
 
-  timer-gone : (its : Service) (by : ℕ) (timer : LinkTimer) (o : Option ℕ) → Gone (at_timer its by timer o)
-  timer-gone its by timer None = stays (at_timer its by timer None) refl
-  timer-gone its by timer (Some place') = stays (at_timer its by timer (Some place')) refl
-
   asked-gone : (its : Service) (by : ℕ) (what : link.Request) (o : Option ℕ) → Gone (at_requested its by what o)
-  asked-gone its by what None = stays (at_requested its by what None) refl
-  asked-gone its by what (Some place') = stays (at_requested its by what (Some place')) refl
+  asked-gone its by what o = grind (arith, stays)
 
   deactivated-gone : (its : Service) (by : ℕ) (o : Option ℕ) → Gone (at_deactivated its by o)
-  deactivated-gone its by None = stays (at_deactivated its by None) refl
-  deactivated-gone its by (Some place') = stays (at_deactivated its by (Some place')) refl
+  deactivated-gone its by o = grind (arith, stays)
 
   pub heard-gone : (e : stream.Event) → Gone (aim_of_heard c l e)
   heard-gone e =
@@ -144,9 +128,7 @@ module _ (service : Service) (tei : ℕ) (c : Config) (l : Line) (s : IsSound c 
       (λ parts its to. stays (at_none (group_told its parts.info)) refl) e
 
   pub expiry-gone : (timer : Timer) → Gone (aim_of_expiry timer l)
-  expiry-gone (T200 its by) = timer-gone its by link_timer.T200 (place_in l by)
-  expiry-gone (T203 its by) = timer-gone its by link_timer.T203 (place_in l by)
-  expiry-gone T201 = managed teis.expiry tt
+  expiry-gone timer = grind (arith, stays, managed)
 
   pub request-gone : (r : Request) → IsProper c l (aim_of_request r l) → Gone (aim_of_request r l)
   request-gone (Establish its by) proper = asked-gone its by link.Establish (place_in l by)
@@ -185,21 +167,11 @@ leaving-due service tei c e l s place on off was outstanding =
 -- No request to release a link takes its TEI off the line.
 pub none-released : (service : Service) (tei : ℕ) (c : Config) (e : Event) (l : Line) → has_tei tei l ≡ true → has_tei tei (after c e l) ≡ false → (a : Answer) → releases service tei e a ≡ false
 unfolding after
-none-released service tei c (request (Release its by)) l on off a = go (refusal c false (Release its by) l) (place_in l by) off
-  where
-    go : (why : Option Refusal) (o : Option ℕ) → has_tei tei (of_aim c (unless_refused why (at_requested its by link.Release o)) l).line ≡ false → releases service tei (request (Release its by)) a ≡ false
-    go (Some why) o off = absurd (true≢false (sym on ∙ off))
-    go None None off = absurd (true≢false (sym on ∙ off))
-    go None (Some place) off = absurd (true≢false (sym on ∙ off))
-none-released service tei c other l on off a = refl
+none-released service tei c e l on off a = grind arith
 
 -- An event of a link keeps its TEI on the line.
 pub one-stays : (service : Service) (tei : ℕ) (c : Config) (e : Event) (l : Line) → IsSound c l → has_tei tei l ≡ true → (place : ℕ) (event : link.Event)
     → (e ≡ next) ⊎ (aim_of c e l ≡ at_link service tei place event) → has_tei tei (after c e l) ≡ true
 unfolding after
 one-stays service tei c e l s on place event (inl is) = subst (λ e. has_tei tei (after c e l) ≡ true) (sym is) (next-keeps tei c l s on)
-one-stays service tei c e l s on place event (inr aimed) = by-event e aimed
-  where
-    by-event : (e : Event) → aim_of c e l ≡ at_link service tei place event → has_tei tei (after c e l) ≡ true
-    by-event next aimed = next-keeps tei c l s on
-    by-event other aimed = ap (λ aim. has_tei tei (of_aim c aim l).line) aimed ∙ on
+one-stays service tei c e l s on place event (inr aimed) = grind (arith, next-keeps)

@@ -1,41 +1,21 @@
 -- What a link tells of establishments and releases: each event of it; and who asked for the establishment that it awaits.
-use Rattle.laws_trace.proofs.Vocabulary.{◌≡◌, ◌==◌, ◌&&◌, not, Bool, true, false, cond, List, [], refl, sym, ◌∙◌, subst, filter, Parts, State, TeiAssigned, AwaitingEstablishment, Terms, LinkTimer, Received, undefined, wrong_size, overlong, received, expired, requested, offer, cleared, Link, state_number, may_repeat, runs, notes-own, asked_left, asks_establishment, as_heard, state_after, moves, by_expiry, told_by, told_expired, event-follows, Note, T200, T203, LinkEvent as Event, LinkRequest as Request, frame, LinkEstablish as Establish, is_news, given_up}
+use Rattle.laws_trace.proofs.Vocabulary.{arith, ◌≡◌, ◌==◌, ◌&&◌, not, Bool, false, cond, List, [], refl, sym, ◌∙◌, subst, filter, Parts, State, AwaitingEstablishment, Terms, LinkTimer, Received, undefined, wrong_size, overlong, received, expired, requested, offer, cleared, Link, state_number, may_repeat, runs, notes-own, asked_left, asks_establishment, as_heard, state_after, moves, by_expiry, told_by, told_expired, event-follows, Note, LinkEvent as Event, LinkRequest as Request, frame, is_news, given_up}
 use Rattle.model_link.specs.Machine as links
 use Rattle.laws_trace.proofs.NewsWatched.{due}
 use Rattle.laws_trace.proofs.NewsRows.{all-news, errors_of, xid_of, sabme_of, released_of, Fits, Told, nothing-fits, by-control}
 
 module _ (t : Terms) (l : Link) where
   malformed : (here : State) (what : Received) → ((f : Parts) → what ≡ frame f → ⊥) → Told t l here (received what)
-  malformed here (frame f) none = absurd (none f refl)
-  malformed TeiAssigned other none = refl
-  malformed here other none = refl
+  malformed here what none = grind arith
 
   abbrev Expires : State → LinkTimer → Bool → Bool → Type 0
   Expires here timer runs again = let to = cond runs (by_expiry here timer again) here in Fits t l (given_up (state_number here) (state_number to)) false false false here to (told_expired here t to)
 
   expires : (here : State) (timer : LinkTimer) (runs again : Bool) → Expires here timer runs again
-  expires TeiAssigned T200 true true = refl
-  expires here T200 true true = refl
-  expires TeiAssigned T200 true again = refl
-  expires here T200 true again = refl
-  expires TeiAssigned T200 false true = refl
-  expires here T200 false true = refl
-  expires TeiAssigned T200 runs again = refl
-  expires here T200 runs again = refl
-  expires TeiAssigned T203 true true = refl
-  expires here T203 true true = refl
-  expires TeiAssigned T203 true again = refl
-  expires here T203 true again = refl
-  expires TeiAssigned timer false true = refl
-  expires here timer false true = refl
-  expires TeiAssigned timer runs again = refl
-  expires here timer runs again = refl
+  expires here timer runs again = grind arith
 
   asks : (here : State) (r : Request) (full : Bool) → Told t l here (requested r full)
-  asks TeiAssigned Establish full = refl
-  asks here Establish full = refl
-  asks TeiAssigned other full = refl
-  asks here other full = refl
+  asks here r full = grind arith
 
   told : (e : Event) → (e ≡ cleared → ⊥) → let to = state_after t (as_heard t e) l in
       Fits t l (errors_of t e (state_number l.state) (state_number to)) (xid_of e) (sabme_of e) (released_of e) l.state to (told_by t (as_heard t e) l to)
@@ -69,19 +49,12 @@ module _ (t : Terms) (l : Link) (was : Bool) where
   left from e to = cond (moves from to && (state_number to == 5)) (asks_establishment e) l.asked
 
   left-is : (e : Event) → (e ≡ cleared → ⊥) → (to : State) → asked_left (as_heard t e) l to ≡ left l.state e to
-  left-is (received (frame f)) some to = refl
-  left-is cleared some to = absurd (some refl)
-  left-is other some to = refl
+  left-is e some to = grind arith
 
   asking : (e : Event) (from to : State) → Asks from was l.asked
       → Asks to (cond ((state_number to == 5) && moves from to) (asks_establishment e) was) (left from e to)
-  asking e AwaitingEstablishment AwaitingEstablishment asks = asks
-  asking e other AwaitingEstablishment asks = refl
-  asking e other any asks = tt
+  asking e from to asks = grind arith
 
   pub event-asking : (e : Event) → (e ≡ cleared → ⊥) → Asks l.state was l.asked
       → let y = links.after t e l in Asks y.state (cond ((state_number y.state == 5) && moves l.state y.state) (asks_establishment e) was) y.asked
-  event-asking e some asks =
-      let y = links.after t e l in
-      subst (λ b. Asks y.state (cond ((state_number y.state == 5) && moves l.state y.state) (asks_establishment e) was) b) (sym ((event-follows t e l).leaves.asked ∙ left-is e some y.state))
-      (asking e l.state y.state asks)
+  event-asking e some asks = grind (arith, event-follows, left-is, asking)

@@ -1,8 +1,7 @@
 -- Where no event is one of a link, and its TEI stays on the line, nothing is told of its establishment or its release.
-use Rattle.laws_trace.proofs.Vocabulary.{◌≡◌, ℕ, ◌==◌, ◌&&◌, Bool, true, false, cond, List, [], ◌∷◌, ◌++◌, Option, Some, None, refl, sym, ap, ◌∙◌, subst, true≢false, ◌⊎◌, inl, inr, All, filter, All-nil, All-cons, All-append, All-head, All-tail, All-weaker, Note, Refusal, Service, Call, Packet, Timer, T201, same_service, is_on-at, Management, IsAt, IsSoundTable, Change, Gained, Left, Terms, LinkTimer, Link, notes-own, Config, Aim, at_link, at_management, of_aim, of_change, told_of_management, hears, expiry, request, next, at_timer, aim_of_expiry, Line, has_tei, link_in, place_in, terms, aim_of, unless_refused, unless_refused_told, aim_of_heard, group_tei, Assign, Remove, Deactivate, at_requested, at_deactivated, aim_of_request, IsProper, heard_aims, request_proper, notes_of, is-off, has-no-place, ByChange, noted, Down, eqb-true, TimerT200 as T200, TimerT203 as T203, IsOwn, fresh_link as fresh, line_of_link as of_link, Event, line_after as after, answer, refusal, Request, Establish, Release, Data, Checking as Check, SetBusy, ClearBusy, IsSound, is_own, is_news, by-down, Assigned, Doubled, Error, EstablishConfirm, EstablishIndication, ReleaseConfirm, ReleaseIndication, Removed, Unit, NoteXid as Xid, changes_are_told, sound-after, HasLeft, TeiIsInRange as IsInRange, Moves, link_told as told, emptied}
+use Rattle.laws_trace.proofs.Vocabulary.{arith, ◌≡◌, ℕ, ◌==◌, ◌&&◌, Bool, true, false, cond, List, [], ◌∷◌, ◌++◌, Option, Some, None, refl, sym, ap, ◌∙◌, true≢false, ◌⊎◌, inl, inr, All, filter, All-nil, All-cons, All-append, All-head, All-tail, All-weaker, Note, Service, Call, Packet, Timer, same_service, is_on-at, Management, IsAt, IsSoundTable, Change, Left, Terms, LinkTimer, Link, notes-own, Config, Aim, at_link, at_management, of_aim, of_change, told_of_management, at_timer, aim_of_expiry, Line, has_tei, link_in, place_in, terms, aim_of, aim_of_heard, group_tei, Assign, Remove, Deactivate, at_requested, at_deactivated, aim_of_request, IsProper, heard_aims, request_proper, notes_of, is-off, has-no-place, ByChange, noted, Down, eqb-true, IsOwn, fresh_link as fresh, line_of_link as of_link, Event, line_after as after, answer, Request, Establish, Release, Data, Checking as Check, SetBusy, ClearBusy, IsSound, is_own, is_news, by-down, Unit, changes_are_told, sound-after, HasLeft, TeiIsInRange as IsInRange, Moves, link_told as told, emptied}
 use Rattle.model_bits.specs.Stream as stream
 use Rattle.lapd_tei.specs.Events as teis
-use Rattle.model_link.specs.declared.timers.LinkTimer.TheVariants as link_timer
 use Rattle.model_link.specs.Events as link
 use Rattle.laws_trace.proofs.OneLink.{is_at_link}
 
@@ -19,26 +18,13 @@ module _ (service : Service) (tei : ℕ) where
   away t other s n own = ap (λ z. is_own service tei z n) own.0 ∙ ap (λ m. is_own service tei t.service m) own.1 ∙ other
 
   other-note : (t : Terms) → is_own service tei t.service t.tei ≡ false → (n : Note) → IsOwn t n → No n
-  other-note t other (EstablishIndication s n) own = away t other s n own
-  other-note t other (EstablishConfirm s n) own = away t other s n own
-  other-note t other (ReleaseIndication s n) own = away t other s n own
-  other-note t other (ReleaseConfirm s n) own = away t other s n own
-  other-note t other (Error s n k) own = away t other s n own
-  other-note t other (Xid s n) own = away t other s n own
-  other-note t other any own = refl
+  other-note t other n own = grind (arith, away)
 
   pub other-link : (t : Terms) → is_own service tei t.service t.tei ≡ false → (what : link.Event) (x : Link) → All No (told t what x).notes
   other-link t other what x = All-weaker (IsOwn t) No (other-note t other) (told t what x).notes (notes-own t what x)
 
   pub tei-note : (e : teis.Event) (o : Option Change) (ns : List Note) → ByChange e o ns → All No ns
-  tei-note e None ns is = subst (All No) (sym is) (All-nil No)
-  tei-note (teis.message octets) (Some (Gained by place)) ns is = subst (All No) (sym is) (All-cons No (Assigned by) [] refl (All-nil No))
-  tei-note (teis.assign asked) (Some (Gained by place)) ns is = subst (All No) (sym is.1) (All-nil No)
-  tei-note other (Some (Gained by place)) ns is = absurd is
-  tei-note (teis.message octets) (Some (Left by place)) ns is = subst (All No) (sym is) (All-cons No (Doubled by) [] refl (All-nil No))
-  tei-note teis.expiry (Some (Left by place)) ns is = subst (All No) (sym is) (All-cons No (Removed by) [] refl (All-nil No))
-  tei-note (teis.remove asked) (Some (Left by place)) ns is = subst (All No) (sym is.1) (All-nil No)
-  tei-note other (Some (Left by place)) ns is = absurd is
+  tei-note e o ns is = grind arith
 
   module _ (c : Config) (l : Line) (s : IsSound c l) where
     -- its TEI was not on the line, or stays on it
@@ -79,8 +65,7 @@ module _ (service : Service) (tei : ℕ) where
               ∙ is-off m.places tei (has-no-place m.places tei (emptied fresh itself refl c l s m table place None gone.is_free gone.within tei refl was-there))))
 
       and-none : (a b : Bool) → b ≡ false → (a && b) ≡ false
-      and-none true b none = none
-      and-none false b none = refl
+      and-none a b none = grind arith
 
       changed : (o : Option Change) → Moves l.management.places o m.places → ByChange me o ns
           → Stays (of_change c o (told_of_management (teis.told me l.management)) at).line → All No (of_change c o (told_of_management (teis.told me l.management)) at).told.notes
@@ -102,16 +87,13 @@ module _ (service : Service) (tei : ℕ) where
     of-link its by place what aims there = other-link (terms c its by) aims what (link_in l its place)
 
     timer-silent : (its : Service) (by : ℕ) (timer : LinkTimer) (o : Option ℕ) → Silent (at_timer its by timer o)
-    timer-silent its by timer None aims there = All-nil No
-    timer-silent its by timer (Some place) aims there = of-link its by place (link.expired timer) aims there
+    timer-silent its by timer o aims there = grind (arith, of-link)
 
     asked-silent : (its : Service) (by : ℕ) (what : link.Request) (o : Option ℕ) → Silent (at_requested its by what o)
-    asked-silent its by what None aims there = All-nil No
-    asked-silent its by what (Some place) aims there = of-link its by place (link.requested what false) aims there
+    asked-silent its by what o aims there = grind (arith, of-link)
 
     deactivated-silent : (its : Service) (by : ℕ) (o : Option ℕ) → Silent (at_deactivated its by o)
-    deactivated-silent its by None aims there = All-nil No
-    deactivated-silent its by (Some place) aims there = of-link its by place link.cleared aims there
+    deactivated-silent its by o aims there = grind (arith, of-link)
 
     pub heard-silent : (e : stream.Event) → Silent (aim_of_heard c l e)
     heard-silent e =
@@ -119,9 +101,7 @@ module _ (service : Service) (tei : ℕ) where
         (λ parts its to aims there. All-cons No (Unit its group_tei) [] refl (All-nil No)) e
 
     pub expiry-silent : (timer : Timer) → Silent (aim_of_expiry timer l)
-    expiry-silent (T200 its by) = timer-silent its by link_timer.T200 (place_in l by)
-    expiry-silent (T203 its by) = timer-silent its by link_timer.T203 (place_in l by)
-    expiry-silent T201 = managed teis.expiry tt
+    expiry-silent timer = grind (arith, timer-silent, managed)
 
     pub request-silent : (r : Request) → IsProper c l (aim_of_request r l) → Silent (aim_of_request r l)
     request-silent (Establish its by) proper = asked-silent its by link.Establish (place_in l by)
@@ -139,13 +119,4 @@ module _ (service : Service) (tei : ℕ) where
   -- Any event of a line.
   pub others-silent : (c : Config) (e : Event) (l : Line) → IsSound c l → is_at_link service tei (aim_of c e l) ≡ false → (has_tei tei l ≡ false) ⊎ (has_tei tei (after c e l) ≡ true) → All No (notes_of (answer c e l))
   unfolding after answer
-  others-silent c (hears what) l s aims there = heard-silent c l s what aims there
-  others-silent c (expiry timer) l s aims there = expiry-silent c l s timer aims there
-  others-silent c (request r) l s aims there = go (refusal c false r l) (request_proper c l r) aims there
-    where
-      go : (o : Option Refusal) → IsProper c l (unless_refused o (aim_of_request r l)) → is_at_link service tei (unless_refused o (aim_of_request r l)) ≡ false
-          → (has_tei tei l ≡ false) ⊎ (has_tei tei (of_aim c (unless_refused o (aim_of_request r l)) l).line ≡ true)
-          → All No (notes_of (unless_refused_told o (of_aim c (unless_refused o (aim_of_request r l)) l)))
-      go None proper aims there = request-silent c l s r proper aims there
-      go (Some why) proper aims there = All-nil No
-  others-silent c next l s aims there = All-nil No
+  others-silent c e l s aims there = grind (arith, heard-silent, expiry-silent, request_proper, is_at_link, request-silent)

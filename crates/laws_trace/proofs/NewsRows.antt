@@ -1,5 +1,5 @@
 -- What a link tells of establishments, releases and errors, by each frame that it hears.
-use Rattle.laws_trace.proofs.Vocabulary.{◌≡◌, ℕ, ◌==◌, ◌&&◌, not, Bool, true, false, cond, List, [], ◌∷◌, ◌++◌, length, refl, sym, ap, ◌∙◌, All, filter, nat_lt, is_some, All-head, All-tail, Address, Information, ReceiveReady, ReceiveNotReady, Reject, Sabme, Ui, Ua, Dm, ErrorCode, Note, Service, Seq, named, State, TeiAssigned, AwaitingEstablishment, Established, TimerRecovery, Terms, undefined, wrong_size, overlong, received, expired, requested, Link, state_number, takes_contents, as_heard, state_after, by_frame, told_by, numbered_as, final_as, Control, NoteXid as Xid, LinkEvent as Event, frame, LinkRelease as Release, IsOwn, is_own, is_up, is_news, is_sabme, is_xid, wrong_number, wrong_frame, given_up, F, L, N, O, NoteData as Data, Error, EstablishConfirm, EstablishIndication, ReleaseConfirm, ReleaseIndication, Unit}
+use Rattle.laws_trace.proofs.Vocabulary.{arith, ◌≡◌, ℕ, ◌==◌, ◌&&◌, not, Bool, true, false, cond, List, [], ◌∷◌, ◌++◌, length, refl, sym, ap, ◌∙◌, All, filter, nat_lt, is_some, All-head, All-tail, Address, Information, ReceiveReady, ReceiveNotReady, Reject, ErrorCode, Note, Service, Seq, named, State, AwaitingEstablishment, Established, TimerRecovery, Terms, undefined, wrong_size, overlong, received, expired, requested, Link, state_number, as_heard, state_after, by_frame, told_by, numbered_as, final_as, Control, NoteXid as Xid, LinkEvent as Event, frame, LinkRelease as Release, IsOwn, is_own, is_up, is_news, is_sabme, is_xid, wrong_number, wrong_frame, given_up, F, L, N, O, NoteData as Data, Error, EstablishConfirm, EstablishIndication, ReleaseConfirm, ReleaseIndication}
 use Rattle.laws_trace.proofs.NewsWatched.{due}
 use Rattle.laws_trace.proofs.LinkLed.{own-is}
 use Rattle.laws_trace.proofs.TimerRows.{in_state}
@@ -18,13 +18,7 @@ its : (t : Terms) (s : Service) (n : ℕ) → (s ≡ t.service) × (n ≡ t.tei)
 its t s n own = ap (λ z. is_own t.service t.tei z n) own.0 ∙ ap (λ m. is_own t.service t.tei t.service m) own.1 ∙ own-is t.service t.tei
 
 own-news : (t : Terms) (n : Note) → IsOwn t n → is_news t.service t.tei n ≡ is_kind n
-own-news t (EstablishIndication s n) own = its t s n own
-own-news t (EstablishConfirm s n) own = its t s n own
-own-news t (ReleaseIndication s n) own = its t s n own
-own-news t (ReleaseConfirm s n) own = its t s n own
-own-news t (Error s n k) own = its t s n own
-own-news t (Xid s n) own = its t s n own
-own-news t other own = refl
+own-news t n own = grind (arith, its)
 
 pub all-news : (t : Terms) (ns : List Note) → All (IsOwn t) ns → filter (is_news t.service t.tei) ns ≡ filter is_kind ns
 all-news t [] all = refl
@@ -61,55 +55,23 @@ module _ (t : Terms) (l : Link) where
   Fits errors xid sabme released from to ns = filter is_kind ns ≡ due t.service t.tei errors l.asked xid sabme released (not (l.s == l.a)) (state_number from) (state_number to)
 
   stays : (here : State) (outstanding : Bool) → due t.service t.tei [] l.asked false false false outstanding (state_number here) (state_number here) ≡ []
-  stays TeiAssigned outstanding = refl
-  stays other outstanding = refl
+  stays here outstanding = grind arith
 
   pub nothing-fits : (here : State) (ns : List Note) → filter is_kind ns ≡ [] → Fits [] false false false here here ns
   nothing-fits here ns none = none ∙ sym (stays here (not (l.s == l.a)))
 
-  unit-fits : (here : State) (long : Bool) → Fits [] false false false here here (cond long [] (Unit t.service t.tei ∷ []))
-  unit-fits here true = nothing-fits here [] refl
-  unit-fits here false = nothing-fits here (Unit t.service t.tei ∷ []) refl
-
   -- An N(R) in state 7 or 8, behind what else is told.
   information-7 : (invalid taken : Bool) → let to = cond invalid AwaitingEstablishment Established in
       Fits (wrong_number false 7 (state_number to)) false false false Established to (cond taken (Data t.service t.tei ∷ []) [] ++ numbered_as t to)
-  information-7 true true = refl
-  information-7 false true = refl
-  information-7 b other = refl
-
-  information-8 : (invalid taken : Bool) → let to = cond invalid AwaitingEstablishment TimerRecovery in
-      Fits (wrong_number false 8 (state_number to)) false false false TimerRecovery to (cond taken (Data t.service t.tei ∷ []) [] ++ numbered_as t to)
-  information-8 true true = refl
-  information-8 false true = refl
-  information-8 b other = refl
+  information-7 invalid taken = grind arith
 
   final-7 : (invalid final : Bool) → let to = cond invalid AwaitingEstablishment Established in
       Fits (wrong_number final 7 (state_number to)) false false false Established to (final_as t false final ++ numbered_as t to)
-  final-7 true true = refl
-  final-7 false true = refl
-  final-7 b other = refl
-
-  final-8 : (invalid ends : Bool) → let to = cond invalid AwaitingEstablishment (cond ends Established TimerRecovery) in
-      Fits (wrong_number false 8 (state_number to)) false false false TimerRecovery to (numbered_as t to)
-  final-8 true true = refl
-  final-8 false true = refl
-  final-8 b other = refl
+  final-7 invalid final = grind arith
 
   -- SABME in states 7 and 8, and UA with F=1 in state 5, by whether contents are outstanding.
   anew-7 : (none : Bool) → filter is_kind (Error t.service t.tei F ∷ cond none [] (EstablishIndication t.service t.tei ∷ [])) ≡ due t.service t.tei (F ∷ []) l.asked false true false (not none) 7 7
-  anew-7 true = refl
-  anew-7 false = refl
-
-  anew-8 : (none : Bool) → filter is_kind (Error t.service t.tei F ∷ cond none [] (EstablishIndication t.service t.tei ∷ [])) ≡ due t.service t.tei (F ∷ []) l.asked false true false (not none) 8 7
-  anew-8 true = refl
-  anew-8 false = refl
-
-  agreed : (asked none : Bool) → let ns = cond asked (EstablishConfirm t.service t.tei ∷ []) (cond none [] (EstablishIndication t.service t.tei ∷ [])) in
-      filter is_kind ns ≡ due t.service t.tei [] asked false false false (not none) 5 7
-  agreed true true = refl
-  agreed false true = refl
-  agreed b other = refl
+  anew-7 none = grind arith
 
   abbrev pub Told : State → Event → Type 0
   Told here e =
@@ -126,43 +88,19 @@ module _ (t : Terms) (l : Link) where
       Fits (wrong_frame too_long address.command (Information ns nr p) (state_number here) (state_number to)) false false false here to (told_by t e (in_state here l) to)
 
   information : (here : State) (too_long : Bool) (address : Address) (ns nr : Seq) (p : Bool) (info : List ℕ) → Informed here too_long address ns nr p info
-  information Established false address ns nr p info =
-      information-7 (not (is_some (named l.a l.s nr))) (takes_contents (part address (Information ns nr p) info) (in_state Established l))
-  information TimerRecovery false address ns nr p info =
-      information-8 (not (is_some (named l.a l.s nr))) (takes_contents (part address (Information ns nr p) info) (in_state TimerRecovery l))
-  information here true address ns nr p info = refl
-  information here other address ns nr p info = refl
+  information here too_long address ns nr p info = grind (arith, information-7, is_some, in_state)
 
   by-ReceiveReady : (command f : Bool) (nr : Seq) → let to = cond (not (is_some (named l.a l.s nr))) AwaitingEstablishment (by_frame TimerRecovery command (ReceiveReady nr f)) in
       Fits (wrong_number (not command && f) 8 (state_number to)) false false false TimerRecovery to (final_as t true (not command && f) ++ numbered_as t to)
-  by-ReceiveReady false true nr = final-8 (not (is_some (named l.a l.s nr))) true
-  by-ReceiveReady b other nr = final-8 (not (is_some (named l.a l.s nr))) false
+  by-ReceiveReady command f nr = grind (arith, is_some)
 
   by-ReceiveNotReady : (command f : Bool) (nr : Seq) → let to = cond (not (is_some (named l.a l.s nr))) AwaitingEstablishment (by_frame TimerRecovery command (ReceiveNotReady nr f)) in
       Fits (wrong_number (not command && f) 8 (state_number to)) false false false TimerRecovery to (final_as t true (not command && f) ++ numbered_as t to)
-  by-ReceiveNotReady false true nr = final-8 (not (is_some (named l.a l.s nr))) true
-  by-ReceiveNotReady b other nr = final-8 (not (is_some (named l.a l.s nr))) false
+  by-ReceiveNotReady command f nr = grind (arith, is_some)
 
   by-Reject : (command f : Bool) (nr : Seq) → let to = cond (not (is_some (named l.a l.s nr))) AwaitingEstablishment (by_frame TimerRecovery command (Reject nr f)) in
       Fits (wrong_number (not command && f) 8 (state_number to)) false false false TimerRecovery to (final_as t true (not command && f) ++ numbered_as t to)
-  by-Reject false true nr = final-8 (not (is_some (named l.a l.s nr))) true
-  by-Reject b other nr = final-8 (not (is_some (named l.a l.s nr))) false
+  by-Reject command f nr = grind (arith, is_some)
 
   pub by-control : (here : State) (address : Address) (control : Control) (info : List ℕ) → Told here (part address control info)
-  by-control here address (Information ns nr p) info = information here (nat_lt t.n201 (length info)) address ns nr p info
-  by-control Established address (ReceiveReady nr f) info = final-7 (not (is_some (named l.a l.s nr))) (not address.command && f)
-  by-control TimerRecovery address (ReceiveReady nr f) info = by-ReceiveReady address.command f nr
-  by-control Established address (ReceiveNotReady nr f) info = final-7 (not (is_some (named l.a l.s nr))) (not address.command && f)
-  by-control TimerRecovery address (ReceiveNotReady nr f) info = by-ReceiveNotReady address.command f nr
-  by-control Established address (Reject nr f) info = final-7 (not (is_some (named l.a l.s nr))) (not address.command && f)
-  by-control TimerRecovery address (Reject nr f) info = by-Reject address.command f nr
-  by-control Established address (Sabme p) info = anew-7 (l.s == l.a)
-  by-control TimerRecovery address (Sabme p) info = anew-8 (l.s == l.a)
-  by-control TeiAssigned address (Ui p) info = unit-fits TeiAssigned (nat_lt t.n201 (length info))
-  by-control here address (Ui p) info = unit-fits here (nat_lt t.n201 (length info))
-  by-control AwaitingEstablishment address (Ua true) info = agreed l.asked (l.s == l.a)
-  by-control here address (Ua true) info = refl
-  by-control TeiAssigned address (Dm true) info = refl
-  by-control here address (Dm true) info = refl
-  by-control TeiAssigned address other info = refl
-  by-control here address other info = refl
+  by-control here address control info = grind (arith, information, final-7, is_some, by-ReceiveReady, by-ReceiveNotReady, by-Reject, anew-7)

@@ -1,12 +1,10 @@
 -- Nothing is told as lost in vain: the law.
-use Rattle.laws_trace.proofs.Vocabulary.{◌≡◌, ℕ, zero, suc, ◌+◌, ◌-◌, ◌<◌, ◌≤◌, ◌==◌, ◌&&◌, ◌||◌, not, Bool, true, false, cond, List, [], ◌++◌, length, get_or, Option, Some, None, refl, sym, ap, ◌∙◌, subst, ◌⊎◌, inl, inr, arith, eq-eqb, true≢false, fold, nat_lt, le-ltb, and_parts, option_map_or, get_or-set_same, PoolFull, Refusal, Service, Call, Timer, place_of-is, is_on-at, service-same, LinkTimer, ControlFrame, Config, Aim, at_none, at_link, at_management, at_units, of_aim, at_timer, aim_of_expiry, aim_of_heard, hears, expiry, request, next, Answer, refused, Line, fresh_line, has_tei, link_of, place_in, aim_of, unless_refused, unless_refused_told, Deactivate, at_requested, at_deactivated, aim_of_request, heard_aims, IsInRange, lost_in, deactivates, is_granted, IsBy, HaveTheirTimers, AllHaveTheirTimers, Card, line_at, is_full, at, fresh_is_sound, has_lines, by_room, line_sound, config-stays, at_no_link, Event, refusal, Request, Establish, Release, Data, SetBusy, ClearBusy, IsSound, after, card_answer as answer, Moment, after_all, AreAtLines, always_sound, put_in, managing_is_on as is_on, due, managed_after, Observed, View, in_state, by_event, enters, view_of, view_behind, moment_of, is_empty, outgoing_of, is_own, seen, trace_of, Always, by-down, TimerT200 as T200, T201, TimerT203 as T203, fresh}
+use Rattle.laws_trace.proofs.Vocabulary.{◌≡◌, ℕ, zero, ◌+◌, ◌-◌, ◌<◌, ◌≤◌, ◌==◌, ◌&&◌, Bool, true, false, cond, List, [], length, get_or, Option, Some, None, refl, sym, ap, ◌∙◌, subst, ◌⊎◌, inl, inr, arith, eq-eqb, true≢false, fold, le-ltb, and_parts, option_map_or, get_or-set_same, PoolFull, Refusal, Service, Call, Timer, place_of-is, is_on-at, service-same, ControlFrame, Config, Aim, at_none, at_link, at_management, at_units, of_aim, aim_of_expiry, aim_of_heard, hears, expiry, request, next, Answer, refused, Line, fresh_line, has_tei, link_of, aim_of, unless_refused, unless_refused_told, at_requested, aim_of_request, heard_aims, IsInRange, lost_in, deactivates, IsBy, HaveTheirTimers, AllHaveTheirTimers, Card, line_at, is_full, at, fresh_is_sound, has_lines, by_room, line_sound, config-stays, at_no_link, Event, refusal, Request, IsSound, after, card_answer as answer, Moment, after_all, AreAtLines, always_sound, put_in, managing_is_on as is_on, due, managed_after, Observed, View, by_event, view_of, view_behind, moment_of, is_empty, outgoing_of, seen, trace_of, Always, by-down, fresh}
 use Rattle.model_bits.specs.Stream as stream
-use Rattle.model_link.specs.declared.timers.LinkTimer.TheVariants as link_timer
 use Rattle.model_link.specs.Events as link
 use Rattle.model_line.specs.Machine as lines
 use Rattle.model_card.specs.Event as card_event
 use Rattle.model_card.specs.Sound as card_sound
-use Rattle.laws_trace.specs.ControlFrames as now_due
 use Rattle.laws_trace.specs.NoLossInVain.{puts_by, NoLossInVain}
 use Rattle.laws_trace.proofs.ObservedControls.{unchanged}
 use Rattle.laws_trace.proofs.Addressed.{at-some-place}
@@ -42,36 +40,17 @@ module _ (c : Config) (l : Line) where
   heard-none : (e : stream.Event) → NoLoss (aim_of_heard c l e)
   heard-none e = heard_aims c l NoLoss (λ cause. refl) (λ its by place what at. tt) (λ info. tt) (λ parts service to. refl) e
 
-  timer-none : (its : Service) (by : ℕ) (k : LinkTimer) (o : Option ℕ) → NoLoss (at_timer its by k o)
-  timer-none its by k None = refl
-  timer-none its by k (Some place) = tt
-
   expiry-none : (timer : Timer) → NoLoss (aim_of_expiry timer l)
-  expiry-none (T200 its by) = timer-none its by link_timer.T200 (place_in l by)
-  expiry-none (T203 its by) = timer-none its by link_timer.T203 (place_in l by)
-  expiry-none T201 = tt
+  expiry-none timer = grind arith
 
   asked-none : (its : Service) (by : ℕ) (asked : link.Request) (o : Option ℕ) → NoLoss (at_requested its by asked o)
-  asked-none its by asked None = refl
-  asked-none its by asked (Some place) = tt
-
-  deactivated-none : (its : Service) (by : ℕ) (o : Option ℕ) → NoLoss (at_deactivated its by o)
-  deactivated-none its by None = refl
-  deactivated-none its by (Some place) = tt
+  asked-none its by asked o = grind arith
 
   request-none : (r : Request) → NoLoss (aim_of_request r l)
-  request-none (Establish its by) = asked-none its by link.Establish (place_in l by)
-  request-none (Release its by) = asked-none its by link.Release (place_in l by)
-  request-none (Data its by contents) = asked-none its by (link.Data contents) (place_in l by)
-  request-none (SetBusy its by) = asked-none its by link.SetBusy (place_in l by)
-  request-none (ClearBusy its by) = asked-none its by link.ClearBusy (place_in l by)
-  request-none (Deactivate its by) = deactivated-none its by (place_in l by)
-  request-none other = tt
+  request-none r = grind (arith, asked-none)
 
 no-next : (c : Config) (e : Event) (a : Answer) (service : Service) (tei : ℕ) (le : link.Event) → (e ≡ next → ⊥) → IsBy c e a service tei le → IsNoOther le
-no-next c e a service tei link.offer other by = absurd (other by)
-no-next c e a service tei link.cleared other by = absurd by
-no-next c e a service tei any other by = tt
+no-next c e a service tei le other by = grind arith
 
 -- A link that stays on the line loses so many by an event.
 abbrev Puts : Service → ℕ → ℕ → Bool → Bool → Config → Line → Event → Answer → Line → List ControlFrame
@@ -144,8 +123,7 @@ event-loses-some c ranged l s timed (request r) unmanaged some = go (refusal c f
 event-loses-some c ranged l s timed next unmanaged some = absurd (none-less some)
 
 none-or-some : (n : ℕ) → (n ≡ 0) ⊎ (0 < n)
-none-or-some zero = inl refl
-none-or-some (suc n) = inr (omega arith)
+none-or-some n = grind arith
 
 card-loses : (k : Card) (number : ℕ) (e : Event) → card_sound.IsSound k → AllHaveTheirTimers k → number < k.config.lines → is_management (aim_of k.config e (line_at number k)) ≡ false
     → let a = answer (at number e) k in 0 < lost_in a → LosesSome k.config (line_at number k) e a (line_at number (after (at number e) k))
@@ -187,19 +165,7 @@ own-loses service tei n busy rejected k number e s timely here count stands was-
 
 down-none : (c : Config) (service : Service) (tei : ℕ) (o : Observed) (what : Event) (a : Answer) (m : Moment) → m.event.what ≡ what → deactivates service tei what ≡ true
     → put_in c service tei o (by_event c service tei what a o) m ≡ []
-down-none c service tei o (request (Deactivate its by)) a m is down =
-    ap (λ what. now_due.answers c service tei o q what ++ cond (enters o q) (now_due.command_of q) []) is ∙ go (is_granted a)
-  where
-    q : Observed
-    q = by_event c service tei (request (Deactivate its by)) a o
-
-    stays : enters o o ≡ false
-    stays = ap (λ b. not b || nat_lt o.expiries o.expiries) (eq-eqb o.state o.state refl) ∙ le-ltb o.expiries o.expiries (omega arith)
-
-    go : (g : Bool) → let q = cond g (cond (is_own service tei its by) (in_state 4) o) o in now_due.changed o q ++ cond (enters o q) (now_due.command_of q) [] ≡ []
-    go true = ap (λ b. let q = cond b (in_state 4) o in now_due.changed o q ++ cond (enters o q) (now_due.command_of q) []) down ∙ either-none (enters o (in_state 4))
-    go false = ap (λ xs. xs ++ cond (enters o o) (now_due.command_of o) []) (unchanged o o (λ up. refl)) ∙ ap (λ b. cond b (now_due.command_of o) []) stays
-down-none c service tei o other a m is down = absurd (true≢false (sym down))
+down-none c service tei o what a m is down = grind (arith, eq-eqb, le-ltb, either-none, unchanged)
 
 module _ (c : Config) (events : List card_event.Event) (number : ℕ) (ranged : IsInRange c) (all : AreAtLines (fresh c) events) (within : number < c.lines) (what : Event) where
   abbrev k : Card
@@ -268,10 +234,7 @@ module _ (c : Config) (events : List card_event.Event) (number : ℕ) (ranged : 
           waiting-now c number ranged within service tei events all p.0 p.1 ∙ all-wait c events number ranged all within service tei p.0 p.1
 
       link-is : u.link ≡ by_event c service tei what its-answer v.link
-      link-is =
-          ap (λ b. cond (not b) (in_state 1) (cond (is_on tei v.teis) (cond (number == number) (by_event c service tei what its-answer v.link) v.link) (in_state 4))) (then-on ∙ on-then)
-          ∙ ap (λ b. cond b (cond (number == number) (by_event c service tei what its-answer v.link) v.link) (in_state 4)) (was-on ∙ on)
-          ∙ ap (λ b. cond b (by_event c service tei what its-answer v.link) v.link) (eq-eqb number number refl)
+      link-is = grind (arith, then-on, was-on, eq-eqb)
 
       loses : is_empty (puts_by c number events what service tei) ≡ false
           → lost_in its-answer ≡ length (outgoing_of c service tei number events).waiting + length (puts_by c number events what service tei) - c.control
@@ -299,11 +262,7 @@ module _ (c : Config) (events : List card_event.Event) (number : ℕ) (ranged : 
       where
         go : (b : Bool) → Stays ≡ b → is_empty (cond b (put_in c service tei v.link u.link (moment_of c events number what)) []) ≡ false
             → lost_in its-answer ≡ length (outgoing_of c service tei number events).waiting + length (puts_by c number events what service tei) - c.control
-        go false off some = absurd (true≢false some)
-        go true on some =
-            let parts = and_parts (is_on tei u.teis) (is_on tei v.teis) on in
-            loses (sym was-on ∙ parts.1) (sym then-on ∙ parts.0)
-            (ap (λ b. is_empty (cond b (put_in c service tei v.link u.link (moment_of c events number what)) [])) on ∙ some)
+        go b off some = grind (arith, and_parts, loses, was-on, then-on)
 
   of-messages : ((service : Service) (tei : ℕ) → puts_by c number events what service tei ≡ []) → lost_in its-answer ≡ messages
   of-messages none = go (shows-behind c events number ranged all within what).lost
@@ -324,12 +283,7 @@ module _ (c : Config) (events : List card_event.Event) (number : ℕ) (ranged : 
           omega (arith, exact, puts, few, some)
 
       go : (lost_in its-answer ≡ messages) ⊎ ((messages ≡ 0) × (is_management (aim_of c what l) ≡ false)) → lost_in its-answer ≡ messages
-      go (inl same) = same
-      go (inr y) = by-lost (none-or-some (lost_in its-answer))
-        where
-          by-lost : (lost_in its-answer ≡ 0) ⊎ (0 < lost_in its-answer) → lost_in its-answer ≡ messages
-          by-lost (inl nothing) = nothing ∙ sym y.0
-          by-lost (inr some) = absurd (some-lost (subst (λ (d : Config). is_management (aim_of d what l) ≡ false) (sym kept) y.1) some)
+      go o = grind (arith, none-or-some, some-lost, is_management, kept)
 
 pub no-loss-in-vain : Always NoLossInVain
 no-loss-in-vain c events number ranged all within what = record {

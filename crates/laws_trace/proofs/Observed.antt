@@ -1,6 +1,5 @@
 -- What an observer knows of a link is what follows its parts: over runs.
-use Rattle.laws_trace.proofs.Vocabulary.{◌≡◌, ℕ, ◌+◌, ◌==◌, ◌&&◌, ◌||◌, not, Bool, true, false, cond, Option, Some, None, is_some, refl, sym, ap, ◌∙◌, subst, arith, eq-eqb, true≢false, fold, nat_lt, IfSome, option_map_or, Service, State, TeiAssigned, AwaitingEstablishment, AwaitingRelease, TimerRecovery, LinkTimer, state_number, Config, expiry, Answer, eqb-true, T200, T203, Observed, in_state, by_event, is_own, seen, Event, cond_both}
-use Rattle.lapd_frame.specs.declared.timers.Timer.TheVariants as timers
+use Rattle.laws_trace.proofs.Vocabulary.{◌≡◌, ℕ, ◌+◌, ◌==◌, ◌&&◌, ◌||◌, not, Bool, cond, Option, Some, None, is_some, sym, ap, subst, arith, eq-eqb, fold, IfSome, option_map_or, Service, State, LinkTimer, state_number, Config, Answer, eqb-true, Observed, in_state, by_event, seen, Event, cond_both}
 use Rattle.laws_trace.proofs.States as states
 use Rattle.laws_trace.proofs.TimersWatched.{Known, learned}
 use Rattle.laws_trace.proofs.States.{is_state, differ}
@@ -24,10 +23,6 @@ abbrev pub IsSeen : Option ℕ → Known → Bool → Bool → ℕ → Observed 
 IsSeen None k asked owed n o = o ≡ in_state 1
 IsSeen (Some s) k asked owed n o = IsObserved s k asked owed n o
 
-when-true : (b : Bool) (P : Type 0) → b ≡ true → When b P → P
-when-true true P e w = w
-when-true false P e w = absurd (true≢false (sym e))
-
 abbrev is_counted : ℕ → Bool
 is_counted s = s == 5 || (s == 6 || s == 8)
 
@@ -35,55 +30,20 @@ is_counted s = s == 5 || (s == 6 || s == 8)
 module _ (s to : ℕ) (k l : Known) (new asked owed : Bool) (more : ℕ → ℕ) (n : ℕ) (p q : Observed) (m : Moved s to l new more p q) (h : IsObserved s k asked owed n p) where
   asks-on : (a : Bool) → (to == 5) ≡ a → (b : Bool) → (s == 5) ≡ b → (d : Bool) → (to == s) ≡ d → When a (q.asked ≡ cond b p.asked new) → When b (p.asked ≡ asked)
       → When a (q.asked ≡ cond (a && not d) new asked)
-  asks-on false t b u d e x y = tt
-  asks-on true t true u true e x y = x ∙ y
-  asks-on true t true u false e x y = absurd (true≢false (sym (eq-eqb to s (eqb-true to 5 t ∙ sym (eqb-true s 5 u))) ∙ e))
-  asks-on true t false u false e x y = x
-  asks-on true t false u true e x y = absurd (true≢false (sym (subst (λ z. (z == 5) ≡ true) (eqb-true to s e) t) ∙ u))
-
-  owes-on : (a b : Bool) → When a (q.outstanding ≡ cond b p.outstanding (not (p.next == p.acknowledged))) → When b (p.outstanding ≡ owed)
-      → When (not b) (owed ≡ not (k.next == k.acknowledged)) → When a (q.outstanding ≡ cond a owed (not (l.next == l.acknowledged)))
-  owes-on false b x y z = tt
-  owes-on true true x y z = x ∙ y
-  owes-on true false x y z = x ∙ ap (λ (v : Known). not (v.next == v.acknowledged)) h.known_is ∙ sym z
-
-  rests-on : (a : Bool) → When (not a) (cond a owed (not (l.next == l.acknowledged)) ≡ not (l.next == l.acknowledged))
-  rests-on true = tt
-  rests-on false = refl
+  asks-on a t b u d e x y = grind (arith, eq-eqb, eqb-true)
 
   counts-on : (d : Bool) → (s == to) ≡ d → (e : Bool) → (to == s) ≡ e → (a : Bool) → is_counted to ≡ a → When a (q.expiries ≡ cond d (more p.expiries) 0)
       → When (is_counted s) (p.expiries ≡ n) → When a (q.expiries ≡ cond (not e) 0 (more n))
-  counts-on d x e y false z u v = tt
-  counts-on true x true y true z u v = u ∙ ap more (when-true (is_counted s) (p.expiries ≡ n) (subst (λ r. is_counted r ≡ true) (sym (eqb-true s to x)) z) v)
-  counts-on false x false y true z u v = u
-  counts-on true x false y true z u v = absurd (true≢false (sym (eq-eqb to s (sym (eqb-true s to x))) ∙ y))
-  counts-on false x true y true z u v = absurd (true≢false (sym (eq-eqb s to (sym (eqb-true to s y))) ∙ x))
+  counts-on d x e y a z u v = grind (arith, eqb-true, eq-eqb)
 
   joined : IsObserved to l (cond (to == 5 && not (to == s)) new asked) (cond (to == 5) owed (not (l.next == l.acknowledged))) (cond (not (to == s)) 0 (more n)) q
-  joined = record {
-    state_is = m.state_is;
-    known_is = m.known_is;
-    asks = asks-on (to == 5) refl (s == 5) refl (to == s) refl m.asks h.asks;
-    owes = owes-on (to == 5) (s == 5) m.owes h.owes h.rests;
-    rests = rests-on (to == 5);
-    counts = counts-on (s == to) refl (to == s) refl (is_counted to) refl m.counts h.counts;
-  }
+  joined = grind (arith, asks-on, Known, counts-on)
 
 module _ (c : Config) (service : Service) (tei : ℕ) where
   -- How often T200 expired counts in states 5, 6 and 8 alone.
-  either-4 : (a b : Bool) → cond {A = ℕ} a 4 4 ≡ cond {A = ℕ} b 4 4
-  either-4 true true = refl
-  either-4 true false = refl
-  either-4 false true = refl
-  either-4 false false = refl
-
   count-counts : (k : Known) (x : State) (n m : ℕ) → When (is_counted (state_number x)) (m ≡ n) → (timer : Option LinkTimer) → let s = state_number x in
       option_map_or (moves.by_expiry c.n200 k n s) timer s ≡ option_map_or (moves.by_expiry c.n200 k m s) timer s
-  count-counts k TeiAssigned n m h (Some T200) = either-4 (nat_lt n c.n200) (nat_lt m c.n200)
-  count-counts k AwaitingEstablishment n m h timer = ap (λ n. option_map_or (moves.by_expiry c.n200 k n 5) timer 5) (sym h)
-  count-counts k AwaitingRelease n m h timer = ap (λ n. option_map_or (moves.by_expiry c.n200 k n 6) timer 6) (sym h)
-  count-counts k TimerRecovery n m h timer = ap (λ n. option_map_or (moves.by_expiry c.n200 k n 8) timer 8) (sym h)
-  count-counts k other n m h any = refl
+  count-counts k x n m h timer = grind (arith, moves.by_expiry)
 
   abbrev pub counted_by : Event → ℕ
   counted_by what = option_map_or states.one_more (states.expired_of service tei what) 0
@@ -92,14 +52,7 @@ module _ (c : Config) (service : Service) (tei : ℕ) where
   nothing-more n = omega arith
 
   grown-is : (what : Event) (n : ℕ) → grown c service tei what n ≡ n + counted_by what
-  grown-is (expiry (timers.T200 of by)) n = go (is_own service tei of by)
-    where
-      go : (b : Bool) → cond b one_more none_more n ≡ n + option_map_or states.one_more (cond b (Some T200) None) 0
-      go true = refl
-      go false = nothing-more n
-  grown-is (expiry (timers.T203 of by)) n =
-      cond_both (is_own service tei of by) (Some T203) None (λ o. n ≡ n + option_map_or states.one_more o 0) (λ own. nothing-more n) (λ other. nothing-more n)
-  grown-is other n = nothing-more n
+  grown-is what n = grind (arith, one_more, none_more, states.one_more, nothing-more, cond_both)
 
   -- An event of the line, where the TEI is on it before and behind.
   module _ (x : State) (k : Known) (shape : Shape x k) (asked owed : Bool) (n : ℕ) (o : Observed) (h : IsObserved (state_number x) k asked owed n o) (what : Event) (a : Answer) where
@@ -135,13 +88,9 @@ module _ (c : Config) (service : Service) (tei : ℕ) where
     pub goes-on : (to : Option ℕ) → IfSome to (λ state. state ≡ leads n) → let from = Some s in let l = learned c service tei from to k (seen what a) in
         IsSeen to l (cond (is_state 5 to && differ from to) (news.establishes service tei what a) asked) (cond (is_state 5 to) owed (not (l.next == l.acknowledged)))
         (cond (differ from to) 0 (n + counted_by what)) (cond (not (is_some to)) (in_state 1) (by_event c service tei what a o))
-    goes-on None led = refl
-    goes-on (Some to) led = subst (λ to. Follows to (n + counted_by what) (by_event c service tei what a o)) (sym led) observed
+    goes-on to led = grind (arith, observed)
 
   -- One that comes to the line.
   pub comes : (to : ℕ) → to ≡ 4 → (k : Known) (new asked owed : Bool) (n : ℕ) (what : Event) (a : Answer) → let l = learned c service tei None (Some to) k (seen what a) in
       IsObserved to l (cond (is_state 5 (Some to) && differ None (Some to)) new asked) (cond (is_state 5 (Some to)) owed (not (l.next == l.acknowledged))) n (in_state 4)
-  comes to is k new asked owed n what a =
-      subst (λ to. let l = learned c service tei None (Some to) k (seen what a) in
-      IsObserved to l (cond (is_state 5 (Some to) && differ None (Some to)) new asked) (cond (is_state 5 (Some to)) owed (not (l.next == l.acknowledged))) n (in_state 4)) (sym is)
-      (record { state_is = refl; known_is = refl; asks = tt; owes = tt; rests = refl; counts = tt })
+  comes to is k new asked owed n what a = grind (arith, learned, is_state, differ)

@@ -1,5 +1,5 @@
 -- The control frames of a link that are due by what the observer knows are those that are due by how the link stands.
-use Rattle.laws_trace.proofs.Vocabulary.{◌≡◌, ℕ, ◌+◌, ◌%◌, ◌==◌, ◌&&◌, not, Bool, true, false, cond, length, List, [], ◌++◌, Option, Some, None, is_some, refl, sym, ap, ◌∙◌, subst, true≢false, nat_lt, Result, Ok, Err, option_map_or, seq, Information, ReceiveReady, ReceiveNotReady, Reject, Sabme, Disc, ReadFault, Service, Timer, Parts, reading, Config, hears, expiry, request, next, Answer, gave, heard_side, Deactivate, as_response, is_granted, Control, told, Request, Establish, Release, SetBusy, ClearBusy, result_ok, brought, frame_of, its_frame, is_for, malformed, Managed, due, Observed, in_state, awaits, anew, enquires, observer_by_frame as by_frame, by_t200, observer_by_expiry as by_expiry, observer_by_request as by_request, by_event, sends, is_own, is_up, heard, seen_told, seen_granted, TimerT200 as T200, T201, TimerT203 as T203, cond_both}
+use Rattle.laws_trace.proofs.Vocabulary.{arith, ◌≡◌, ℕ, ◌+◌, ◌==◌, ◌&&◌, not, Bool, true, false, cond, length, List, [], ◌++◌, Option, Some, None, is_some, refl, sym, ap, ◌∙◌, true≢false, nat_lt, Result, Ok, Err, option_map_or, seq, Information, ReceiveReady, ReceiveNotReady, Reject, Sabme, Disc, ReadFault, Service, Timer, Parts, reading, Config, request, Answer, heard_side, as_response, is_granted, Control, told, Request, SetBusy, ClearBusy, result_ok, brought, frame_of, its_frame, is_for, Managed, due, Observed, in_state, awaits, enquires, observer_by_expiry as by_expiry, observer_by_request as by_request, by_event, sends, is_own, is_up, heard, seen_told, seen_granted, TimerT200 as T200, T201, TimerT203 as T203, cond_both}
 use Rattle.model_bits.specs.Stream as stream
 use Rattle.model_line.specs.Event as line_event
 use Rattle.laws_trace.specs.ControlFrames as now_due
@@ -13,21 +13,7 @@ use Rattle.laws_trace.proofs.Facts.{either-none, as-busy}
 -- What the link says, by the observer and by how it stands.
 module _ (q : Observed) (u : Standing) (same : Same q u.told.count u.busy u.rejected) where
   pub receipt-is : (pf : Bool) → old.receipt u pf ≡ now_due.receipt q pf
-  receipt-is pf =
-      ap (λ b. cond b (ReceiveNotReady (seq u.told.count) pf) (ReceiveReady (seq u.told.count) pf)) (sym same.busy_is)
-      ∙ ap (λ n. cond q.own_busy (ReceiveNotReady (seq n) pf) (ReceiveReady (seq n) pf)) (sym same.count_is)
-
-  polled-is : (p : Bool) → old.polled u p ≡ now_due.polled q p
-  polled-is true = ap as_response (receipt-is true)
-  polled-is false = refl
-
-  -- layer 3 comes to be busy, or is so no more
-  changed-is : (o : Observed) (w : Standing) → Same o w.told.count w.busy w.rejected
-      → old.changed w u ≡ cond (cond o.own_busy (not q.own_busy) q.own_busy) (as_response (now_due.receipt q false)) []
-  changed-is o w before =
-      ap (λ b. cond (cond b (not u.busy) u.busy) (as_response (old.receipt u false)) []) (sym before.busy_is)
-      ∙ ap (λ b. cond (cond o.own_busy (not b) b) (as_response (old.receipt u false)) []) (sym same.busy_is)
-      ∙ ap (λ r. cond (cond o.own_busy (not q.own_busy) q.own_busy) (as_response r) []) (receipt-is false)
+  receipt-is pf = grind arith
 
 module _ (c : Config) (service : Service) (tei : ℕ) (o q : Observed) (w u : Standing) (before : is_up o.state ≡ true → Same o w.told.count w.busy w.rejected) where
   abbrev Answered : Parts → Control → Type 0
@@ -38,19 +24,10 @@ module _ (c : Config) (service : Service) (tei : ℕ) (o q : Observed) (w u : St
   informed : (p long up : Bool) → is_up o.state ≡ up → (up ≡ true → long ≡ false → Same q u.told.count u.busy u.rejected)
       → cond long [] (cond up (old.to_information p w u) [])
       ≡ cond up (cond long [] (cond (q.rejected && not o.rejected) (as_response (Reject (seq q.count) p)) (now_due.polled q p))) []
-  informed p true true is behind = refl
-  informed p true false is behind = refl
-  informed p false false is behind = refl
-  informed p false true is behind =
-      let same = behind refl refl in
-      ap (λ b. cond (b && not w.rejected) (as_response (Reject (seq u.told.count) p)) (old.polled u p)) (sym same.rejected_is)
-      ∙ ap (λ b. cond (q.rejected && not b) (as_response (Reject (seq u.told.count) p)) (old.polled u p)) (sym (before is).rejected_is)
-      ∙ ap (λ n. cond (q.rejected && not o.rejected) (as_response (Reject (seq n) p)) (old.polled u p)) (sym same.count_is)
-      ∙ ap (λ r. cond (q.rejected && not o.rejected) (as_response (Reject (seq q.count) p)) r) (polled-is q u same p)
+  informed p long up is behind = grind (arith, old.polled, receipt-is)
 
   received : (p up : Bool) → (up ≡ true → Same q u.told.count u.busy u.rejected) → cond up (old.polled u p) [] ≡ cond up (now_due.polled q p) []
-  received p true behind = polled-is q u (behind refl) p
-  received p false behind = refl
+  received p up behind = grind (arith, receipt-is)
 
   by-control : (f : Parts) (control : Control) → (is_up o.state ≡ true → is_answered (nat_lt c.n201 (length f.info)) control ≡ true → Same q u.told.count u.busy u.rejected) → Answered f control
   by-control f (Information ns nr p) behind = informed p (nat_lt c.n201 (length f.info)) (is_up o.state) refl (λ up short. behind up (ap not short))
@@ -87,33 +64,18 @@ module _ (c : Config) (service : Service) (tei : ℕ) (o q : Observed) (w u : St
           on false behind = refl
 
   pub by-heard : (e : stream.Event) → Behind e → Answers e
-  by-heard (stream.frame octets) behind = by-frame octets behind
-  by-heard other behind = refl
+  by-heard e behind = grind (arith, by-frame)
 
   -- A request.
   pub asked-answers-is : (r : Request) (a : Answer) → (is_up q.state ≡ true → Same q u.told.count u.busy u.rejected) → (is_up o.state ≡ false → is_up q.state ≡ false)
       → (is_granted a ≡ true → is_up o.state ≡ true → is_up q.state ≡ false → old.changed w u ≡ [])
       → answers_seen c service tei w u o.state (seen_granted r a ++ seen_told a) ≡ cond (is_granted a) (now_due.changed o q) []
-  asked-answers-is r (told t) behind down as_before = asked-answers c service tei w u o.state r (told t) refl ∙ go (is_up o.state) refl (is_up q.state) refl
-    where
-      go : (b : Bool) → is_up o.state ≡ b → (d : Bool) → is_up q.state ≡ d
-          → cond b (old.changed w u) [] ≡ cond (d && cond o.own_busy (not q.own_busy) q.own_busy) (as_response (now_due.receipt q false)) []
-      go true was true is = changed-is q u (behind is) o w (before was)
-      go true was false is = as_before refl was is
-      go false was true is = absurd (true≢false (sym is ∙ down was))
-      go false was false is = refl
-  asked-answers-is r other behind down as_before = refl
+  asked-answers-is r a behind down as_before = grind (arith, asked-answers, old.changed, old.receipt, receipt-is)
 
 -- What is kept while layer 3 asks for something else.
 module _ (service : Service) (tei : ℕ) where
   pub stays-down : (r : Request) (o : Observed) → is_up o.state ≡ false → is_up (by_request service tei r o).state ≡ false
-  stays-down (Establish of by) o down =
-      cond_both (is_own service tei of by && o.state == 4) (record (in_state 5) { asked = true }) o (λ (q : Observed). is_up q.state ≡ false) (λ own. refl) (λ other. down)
-  stays-down (Release of by) o down = cond_both (is_own service tei of by && is_up o.state) (in_state 6) o (λ (q : Observed). is_up q.state ≡ false) (λ own. refl) (λ other. down)
-  stays-down (Deactivate of by) o down = cond_both (is_own service tei of by) (in_state 4) o (λ (q : Observed). is_up q.state ≡ false) (λ own. refl) (λ other. down)
-  stays-down (SetBusy of by) o down = cond_both (is_own service tei of by) (record o { own_busy = true }) o (λ (q : Observed). is_up q.state ≡ false) (λ own. down) (λ other. down)
-  stays-down (ClearBusy of by) o down = cond_both (is_own service tei of by) (record o { own_busy = false }) o (λ (q : Observed). is_up q.state ≡ false) (λ own. down) (λ other. down)
-  stays-down other o down = down
+  stays-down r o down = grind (arith, cond_both)
 
   -- layer 3 is as busy as before, unless it says so
   abbrev pub busies : Request → Bool
@@ -122,70 +84,37 @@ module _ (service : Service) (tei : ℕ) where
   busies other = false
 
   pub still-busy : (r : Request) (busy : Bool) → busies r ≡ false → busy_asked service tei busy r ≡ busy
-  still-busy (SetBusy of by) busy is = absurd (true≢false is)
-  still-busy (ClearBusy of by) busy is = absurd (true≢false is)
-  still-busy other busy is = refl
+  still-busy r busy is = grind arith
 
   pub none-led : (c : Config) (r : Request) (w : Managed) → busies r ≡ true → (due c (request r) w).on ≡ w.on
-  none-led c (SetBusy of by) w is = refl
-  none-led c (ClearBusy of by) w is = refl
-  none-led c other w is = absurd (true≢false (sym is))
+  none-led c r w is = grind arith
 
   -- where it says so, the link stays up
   pub stays-up : (r : Request) (o : Observed) → busies r ≡ true → (by_request service tei r o).state ≡ o.state
-  stays-up (SetBusy of by) o is = cond_both (is_own service tei of by) (record o { own_busy = true }) o (λ (q : Observed). q.state ≡ o.state) (λ own. refl) (λ other. refl)
-  stays-up (ClearBusy of by) o is = cond_both (is_own service tei of by) (record o { own_busy = false }) o (λ (q : Observed). q.state ≡ o.state) (λ own. refl) (λ other. refl)
-  stays-up other o is = absurd (true≢false (sym is))
+  stays-up r o is = grind (arith, cond_both)
 
 -- Where no frame comes, and nothing is granted, layer 3 is as busy as before.
 abbrev pub AsBusy : Observed → Observed → Type 0
 AsBusy o q = is_up q.state ≡ true → q.own_busy ≡ o.own_busy
 
 either-so : (o : Observed) (b : Bool) (p q : Observed) → AsBusy o p → AsBusy o q → AsBusy o (cond b p q)
-either-so o true p q h i = h
-either-so o false p q h i = i
+either-so o b p q h i = grind arith
 
 down-so : (o : Observed) (n : ℕ) → is_up n ≡ false → AsBusy o (in_state n)
 down-so o n down up = absurd (true≢false (sym up ∙ down))
 
 pub unchanged : (o q : Observed) → AsBusy o q → now_due.changed o q ≡ []
-unchanged o q same = go (is_up q.state) refl
-  where
-    go : (b : Bool) → is_up q.state ≡ b → cond (b && cond o.own_busy (not q.own_busy) q.own_busy) (as_response (now_due.receipt q false)) [] ≡ []
-    go false down = refl
-    go true up =
-        ap (λ busy. cond (cond o.own_busy (not busy) busy) (as_response (now_due.receipt q false)) []) (same up)
-        ∙ as-busy o.own_busy (as_response (now_due.receipt q false))
+unchanged o q same = grind (arith, as-busy)
 
 module _ (c : Config) (service : Service) (tei : ℕ) (o : Observed) where
   ran-out : (timer : Timer) → AsBusy o (by_expiry c service tei timer o)
   ran-out T201 = λ up. refl
   ran-out (T203 of by) = either-so o (is_own service tei of by && (o.state == 7 && not (awaits o))) (enquires o) o (λ up. refl) (λ up. refl)
-  ran-out (T200 of by) =
-      either-so o (is_own service tei of by) (by_t200 c.n200 o) o
-      (either-so o (o.state == 7) (cond (awaits o) (enquires o) o) (cond (not (awaits o)) o last) (either-so o (awaits o) (enquires o) o (λ up. refl) (λ up. refl))
-      (either-so o (not (awaits o)) o last (λ up. refl)
-      (either-so o (nat_lt o.expiries c.n200) (record o { expiries = o.expiries + 1 }) (cond (o.state == 8) (anew o) (in_state 4)) (λ up. refl)
-      (either-so o (o.state == 8) (anew o) (in_state 4) (λ up. refl) (down-so o 4 refl)))))
-      (λ up. refl)
-    where
-      last : Observed
-      last = cond (nat_lt o.expiries c.n200) (record o { expiries = o.expiries + 1 }) (cond (o.state == 8) (anew o) (in_state 4))
+  ran-out (T200 of by) = grind (arith, either-so, down-so)
 
   sent-so : (f : Option Parts) → AsBusy o (option_map_or (λ (f : Parts). sends o f.control) f o)
-  sent-so None = λ up. refl
-  sent-so (Some f) = by-control f.control
-    where
-      by-control : (control : Control) → AsBusy o (sends o control)
-      by-control (Information ns nr p) = either-so o (is_up o.state) (record o { next = (ns.value + 1) % 128 }) o (λ up. refl) (λ up. refl)
-      by-control other = λ up. refl
+  sent-so f = grind (arith, either-so)
 
   pub as-busy-before : (what : line_event.Event) (a : Answer) → brought c service tei what ≡ None → ((r : Request) → what ≡ request r → is_granted a ≡ false)
       → AsBusy o (by_event c service tei what a o)
-  as-busy-before (hears e) a none idle =
-      subst (λ f. AsBusy o (cond (is_up o.state && is_some (malformed c service tei e)) (anew o) (option_map_or (by_frame c o) f o))) (sym none)
-      (either-so o (is_up o.state && is_some (malformed c service tei e)) (anew o) o (λ up. refl) (λ up. refl))
-  as-busy-before (expiry timer) a none idle = ran-out timer
-  as-busy-before (request r) a none idle = subst (λ b. AsBusy o (cond b (by_request service tei r o) o)) (sym (idle r refl)) (λ up. refl)
-  as-busy-before next (gave (Some f)) none idle = sent-so (its_frame service tei (result_ok (reading c.side f.octets)))
-  as-busy-before next other none idle = λ up. refl
+  as-busy-before what a none idle = grind (arith, is_some, either-so, ran-out, sent-so)

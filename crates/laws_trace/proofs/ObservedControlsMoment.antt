@@ -1,5 +1,5 @@
 -- The control frames of a link that are due in a moment, by what the observer knows.
-use Rattle.laws_trace.proofs.Vocabulary.{◌≡◌, inl, inr, ℕ, ◌<◌, ◌+◌, ◌-◌, ◌==◌, ◌&&◌, ◌||◌, not, Bool, true, false, cond, length, take, List, [], ◌++◌, Option, Some, None, is_some, refl, sym, ap, ◌∙◌, subst, eq-eqb, arith, le-ltb, true≢false, nat_lt, list_any, option_map_or, none-some, Sabme, Disc, Service, Parts, State, AwaitingEstablishment, AwaitingRelease, TimerRecovery, LinkTimer, state_number, Config, hears, expiry, request, next, Answer, Line, link_of, place_in, state_of, ControlFrame, as_response, as_command, lost_in, is_granted, AllHaveTheirTimers, Card, line_at, at, eqb-true, lt-ltb, T200, Request, CardEvent as Event, after, card_answer as answer, Moment, IsAtLine, brought, frame_of, its_frame, managing_is_on as is_on, led, due, Observed, View, in_state, by_event, by_heard, observer_by_request as by_request, enters, views, is_up, Seen, trace_frame_in as frame_in, seen, seen_told, seen_granted, seen_in, CardIsSound as IsSound}
+use Rattle.laws_trace.proofs.Vocabulary.{◌≡◌, inl, inr, ℕ, ◌<◌, ◌+◌, ◌-◌, ◌==◌, ◌&&◌, ◌||◌, not, Bool, true, false, cond, length, take, List, [], ◌++◌, Option, Some, None, is_some, refl, sym, ap, ◌∙◌, subst, eq-eqb, arith, le-ltb, true≢false, nat_lt, option_map_or, none-some, Service, Parts, State, LinkTimer, state_number, Config, hears, expiry, request, next, Answer, Line, link_of, place_in, state_of, ControlFrame, as_response, lost_in, is_granted, AllHaveTheirTimers, Card, line_at, at, eqb-true, lt-ltb, Request, CardEvent as Event, after, card_answer as answer, Moment, IsAtLine, brought, frame_of, its_frame, managing_is_on as is_on, led, due, Observed, View, in_state, by_event, by_heard, observer_by_request as by_request, enters, views, is_up, Seen, trace_frame_in as frame_in, seen, seen_told, seen_granted, seen_in, CardIsSound as IsSound}
 use Rattle.model_bits.specs.Stream as stream
 use Rattle.model_line.specs.Event as line_event
 use Rattle.laws_trace.specs.ControlFrames as now_due
@@ -11,7 +11,7 @@ use Rattle.laws_trace.proofs.MovesWatched.{repeated}
 use Rattle.laws_trace.proofs.NewsWatched as news
 use Rattle.laws_trace.proofs.NewsWatched.{Owing, owing}
 use Rattle.laws_trace.proofs.ObservedAnswers.{is_answered, card-answered}
-use Rattle.laws_trace.proofs.ObservedControls.{receipt-is, by-heard, asked-answers-is, busies, still-busy, none-led, stays-up, AsBusy, unchanged, as-busy-before}
+use Rattle.laws_trace.proofs.ObservedControls.{by-heard, asked-answers-is, busies, still-busy, none-led, stays-up, AsBusy, unchanged, as-busy-before}
 use Rattle.laws_trace.proofs.ObservedCount.{Same, Agree, when-holds}
 use Rattle.laws_trace.proofs.ObservedCounted.{Stands, agrees-then}
 use Rattle.laws_trace.proofs.ObservedFacts.{Facts, facts, state-is, differs-is}
@@ -23,7 +23,7 @@ use Rattle.laws_trace.proofs.States.{is_state, differ, expired_of, one_more}
 use Rattle.laws_trace.proofs.TimersOfEvent.{state-on, off-state}
 use Rattle.laws_trace.proofs.TimersWatched.{Known, watch}
 use Rattle.laws_trace.proofs.ObservedControlsSeen.{none-mapped, frame-leads, granted-busy, asked-moves}
-use Rattle.laws_trace.proofs.Facts.{either-none, as-busy, not-one}
+use Rattle.laws_trace.proofs.Facts.{either-none, as-busy}
 use Rattle.laws_trace.proofs.Runs.{apart}
 
 module _ (service : Service) (tei number : ℕ) where
@@ -97,8 +97,7 @@ module _ (service : Service) (tei number : ℕ) where
     -- Where the TEI is not on the line.
     module _ (off : from ≡ None) (first : o ≡ in_state 1) where
       comes : (is : Bool) → to ≡ Some (cond (not is) (in_state 1) (in_state 4)).state → (u : Standing) → old.command_of u to ≡ []
-      comes true is u = ap (old.command_of u) is
-      comes false is u = ap (old.command_of u) is
+      comes is o u = grind (arith, old.command_of)
 
       none-commanded : (u : Standing) → old.command_of u to ≡ []
       none-commanded u = go behind
@@ -111,12 +110,7 @@ module _ (service : Service) (tei number : ℕ) where
               ∙ ap (λ was. Some (cond (not on-then) (in_state 1) (cond was (cond (e.line == number) (by_event c service tei e.what a o) o) (in_state 4))).state) (on-is-so ∙ ap is_some off)) u
 
       off-puts : Puts true
-      off-puts =
-          let u = stands-by true in
-          let time = differ from to || (option_map_or one_more (expired_of service tei e.what) 0 == 1) in
-          ap (λ st. option_map_or (λ state. answers_seen c service tei was u state (seen e.what a)) st [] ++ cond time (old.command_of u to) []) off
-          ∙ ap (λ xs. cond time xs []) (none-commanded u) ∙ either-none time
-          ∙ sym (ap (λ (o' : Observed). cond (not (o'.state == 1)) (now_due.put_in c service tei o q its) []) first)
+      off-puts = grind (arith, differ, one_more, expired_of, answers_seen, old.command_of, none-commanded, either-none)
 
     -- Where it is.
     module _ (mine : (e.line == number) ≡ true) (x : State) (there : from ≡ Some (state_number x)) (own : IsObserved (state_number x) k asked w.outstanding m o) where
@@ -139,15 +133,10 @@ module _ (service : Service) (tei number : ℕ) where
       agrees-here = subst (λ b. Agree q (stands-by b)) mine agrees
 
       q-is : (is : Bool) → on-then ≡ is → q ≡ cond (not is) (in_state 1) (by_event c service tei e.what a o)
-      q-is is then =
-          ap (λ is. cond (not is) (in_state 1) (cond on-before (cond (e.line == number) (by_event c service tei e.what a o) o) (in_state 4))) then
-          ∙ ap (λ on. cond (not is) (in_state 1) (cond on (cond (e.line == number) (by_event c service tei e.what a o) o) (in_state 4))) was-on
-          ∙ ap (λ b. cond (not is) (in_state 1) (cond b (by_event c service tei e.what a o) o)) mine
+      q-is is then = grind (arith, was-on)
 
       on-by : (known : (due c e.what v.teis).on ≡ v.teis.on) → on-then ≡ true
-      on-by known =
-          ap (λ b. is_on tei (cond b (due c e.what v.teis) v.teis)) mine
-          ∙ ap (λ on. list_any (λ n. n == tei) on) known ∙ was-on
+      on-by known = grind (arith, was-on)
 
       -- a frame that comes
       heard-there : (e' : stream.Event) → e.what ≡ hears e' → (f : Parts) → its_frame service tei (frame_of c e') ≡ Some f → is_up o.state ≡ true
@@ -210,8 +199,7 @@ module _ (service : Service) (tei number : ℕ) where
 
       by-default : (f : Option Parts) → (f ≡ None → now_due.changed o q ≡ [])
           → option_map_or (λ (f : Parts). now_due.answer_to c o q f f.control) f [] ≡ option_map_or (λ (f : Parts). now_due.answer_to c o q f f.control) f (now_due.changed o q)
-      by-default None none = sym (none refl)
-      by-default (Some f) none = refl
+      by-default f none = grind arith
 
       asked-so : (r : Request) → e.what ≡ request r → (b : Bool) → is_granted a ≡ b → cond b (now_due.changed o q) [] ≡ now_due.changed o q
       asked-so r is true granted = refl
@@ -243,8 +231,7 @@ module _ (service : Service) (tei number : ℕ) where
       again = option_map_or one_more (expired_of service tei e.what) 0
 
       more-is : (n : ℕ) (timer : Option LinkTimer) → nat_lt n (n + option_map_or one_more timer 0) ≡ (option_map_or one_more timer 0 == 1)
-      more-is n (Some T200) = lt-ltb n (n + 1) (omega arith)
-      more-is n other = le-ltb n (n + 0) (omega arith)
+      more-is n timer = grind (arith, lt-ltb, le-ltb)
 
       abbrev C : List ControlFrame
       C = now_due.command_of q
@@ -259,69 +246,29 @@ module _ (service : Service) (tei number : ℕ) where
       count-is same = ap (λ b. cond (not b) m (cond (differ from to) 0 (m + again))) mine ∙ ap (λ b. cond b 0 (m + again)) (differs same)
 
       silent : C ≡ [] → Commands
-      silent none =
-          ap (λ xs. cond (not (o.state == q.state) || (again == 1)) xs []) none ∙ either-none (not (o.state == q.state) || (again == 1))
-          ∙ sym (ap (λ xs. cond (enters o q) xs []) none ∙ either-none (enters o q))
+      silent none = grind (arith, either-none)
 
       counted : (s : ℕ) → q.state ≡ s → (s == 5 || (s == 6 || s == 8)) ≡ true → q.expiries ≡ m' → Commands
-      counted s is awaiting then = go (o.state == q.state) refl
-        where
-          earlier : (o.state == q.state) ≡ true → o.expiries ≡ m
-          earlier same =
-              when-holds (state_number x == 5 || (state_number x == 6 || state_number x == 8)) (o.expiries ≡ m)
-              (ap (λ s. s == 5 || (s == 6 || s == 8)) (sym own.state_is ∙ eqb-true o.state q.state same ∙ is) ∙ awaiting) own.counts
-
-          go : (b : Bool) → (o.state == q.state) ≡ b → Commands
-          go false other =
-              ap (λ b. cond (not b || (again == 1)) C []) other ∙ sym (ap (λ b. cond (not b || nat_lt o.expiries q.expiries) C []) other)
-          go true same =
-              ap (λ b. cond (not (o.state == q.state) || b) C [])
-              (sym (ap (λ n. nat_lt n q.expiries) (earlier same) ∙ ap (nat_lt m) (then ∙ count-is same) ∙ more-is m (expired_of service tei e.what)))
-
-      abbrev command_at : ℕ → List ControlFrame
-      command_at s = cond (s == 5) (as_command (Sabme true)) (cond (s == 6) (as_command (Disc true)) (cond (s == 8) (as_command (now_due.receipt q true)) []))
+      counted s is awaiting then = grind (arith, when-holds, eqb-true, count-is, more-is, expired_of)
 
       by-state : (y : State) → IsObserved (state_number y) l' asks' owes' m' q → Commands
-      by-state AwaitingEstablishment i = counted 5 i.state_is refl i.counts
-      by-state AwaitingRelease i = counted 6 i.state_is refl i.counts
-      by-state TimerRecovery i = counted 8 i.state_is refl i.counts
-      by-state other i = silent (ap command_at i.state_is)
+      by-state y i = grind (arith, counted, silent)
 
       commands-so : Facts to l' asks' owes' m' q → Commands
-      commands-so (inl y) = silent (ap command_at (ap (λ (p : Observed). p.state) y.2))
-      commands-so (inr y) = by-state y.0 y.2
+      commands-so o = grind (arith, silent, by-state)
 
       time-so : cond (differ from to || (again == 1)) C [] ≡ cond (enters o q) C []
-      time-so =
-          ap (λ b. cond (b || (again == 1)) C []) (sym (differs-is from to k l' asked asks' w.outstanding owes' m m' o q before behind)) ∙ commands-so behind
+      time-so = grind (arith, differs-is, before, behind, commands-so)
 
       command-so : old.command_of u' to ≡ now_due.command_of q
-      command-so =
-          ap (λ b. cond b (as_command (Sabme true)) (cond (is_state 6 to) (as_command (Disc true)) (cond (is_state 8 to) (as_command (old.receipt u' true)) []))) (sym (state-is to l' asks' owes' m' q 5 refl behind))
-          ∙ ap (λ b. cond (q.state == 5) (as_command (Sabme true)) (cond b (as_command (Disc true)) (cond (is_state 8 to) (as_command (old.receipt u' true)) []))) (sym (state-is to l' asks' owes' m' q 6 refl behind))
-          ∙ ap (λ b. cond (q.state == 5) (as_command (Sabme true)) (cond (q.state == 6) (as_command (Disc true)) (cond b (as_command (old.receipt u' true)) []))) (sym (state-is to l' asks' owes' m' q 8 refl behind))
-          ∙ ap (λ xs. cond (q.state == 5) (as_command (Sabme true)) (cond (q.state == 6) (as_command (Disc true)) xs)) (enquiry (q.state == 8) refl)
-        where
-          enquiry : (b : Bool) → (q.state == 8) ≡ b → cond b (as_command (old.receipt u' true)) [] ≡ cond b (as_command (now_due.receipt q true)) []
-          enquiry false other = refl
-          enquiry true is = ap as_command (receipt-is q u' (agrees-here (ap is_up (eqb-true q.state 8 is))) true)
+      command-so = grind (arith, is_state, old.receipt, state-is, behind, agrees-here, eqb-true)
 
       on-puts : Puts true
-      on-puts =
-          let commands = cond (differ from to || (again == 1)) (old.command_of u' to) [] in
-          ap (λ st. option_map_or (λ state. answers_seen c service tei was u' state (seen e.what a)) st [] ++ commands) from-is
-          ∙ ap (λ xs. xs ++ commands) (answers-so e.what refl)
-          ∙ ap (λ xs. now_due.answers c service tei o q e.what ++ cond (differ from to || (again == 1)) xs []) command-so
-          ∙ ap (λ xs. now_due.answers c service tei o q e.what ++ xs) time-so
-          ∙ sym (ap (λ b. cond (not b) (now_due.put_in c service tei o q its) []) (ap (λ s. s == 1) state ∙ not-one x))
+      on-puts = grind (arith, differ, old.command_of, answers_seen, from-is, answers-so, command-so, time-so)
 
     pub puts-by : (b : Bool) → (e.line == number) ≡ b → Puts b
     puts-by false other = other-puts (apart card e number (λ same. true≢false (sym (eq-eqb e.line number (sym same)) ∙ other)))
-    puts-by true mine = go before
-      where
-        go : Facts from k asked w.outstanding m o → Puts true
-        go (inl y) = off-puts y.0 y.2
-        go (inr y) = on-puts mine y.0 y.1 y.2
+    puts-by true mine = grind (arith, before, Facts, off-puts, on-puts)
 
     abbrev u-then : Standing
     u-then = standing service tei c (calm n busy rejected) (seen_in number its)

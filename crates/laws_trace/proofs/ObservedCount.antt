@@ -1,5 +1,5 @@
 -- What an observer knows of this side of a link is how the link stands by what is heard and noted: over runs.
-use Rattle.laws_trace.proofs.Vocabulary.{◌≡◌, ℕ, ◌+◌, ◌&&◌, ◌||◌, not, Bool, true, false, cond, Some, refl, sym, ap, ◌∙◌, subst, true≢false, list_any, Service, State, is_multiple_frame, state_number, Config, hears, Answer, Line, link_of, place_in, IsInRange, notes_of, is_data_of, Event, IsSound, brought, Observed, by_event, is_up, answer}
+use Rattle.laws_trace.proofs.Vocabulary.{arith, ◌≡◌, ℕ, ◌+◌, ◌&&◌, ◌||◌, not, Bool, true, false, cond, Some, refl, sym, ap, ◌∙◌, subst, list_any, Service, State, is_multiple_frame, state_number, Config, Answer, Line, link_of, place_in, IsInRange, notes_of, is_data_of, Event, IsSound, brought, Observed, by_event, is_up, answer}
 use Rattle.laws_trace.proofs.Counting.{begins}
 use Rattle.laws_trace.proofs.Deliveries.{frame_by}
 use Rattle.laws_trace.proofs.DeliveriesRun.{IsCount}
@@ -21,8 +21,7 @@ abbrev pub Agree : Observed → Standing → Type 0
 Agree o w = is_up o.state ≡ true → Same o w.told.count w.busy w.rejected
 
 pub when-holds : (b : Bool) (P : Type 0) → b ≡ true → When b P → P
-when-holds true P e w = w
-when-holds false P e w = absurd (true≢false (sym e))
+when-holds b P e w = grind arith
 
 -- One event of a line, where the TEI is on it.
 module _ (service : Service) (tei : ℕ) (c : Config) (ranged : IsInRange c) (l : Line) (s : IsSound c l) (e : Event) (place : ℕ) (on : place_in l tei ≡ Some place) (n : ℕ)
@@ -69,8 +68,7 @@ module _ (service : Service) (tei : ℕ) (c : Config) (ranged : IsInRange c) (l 
       (when-holds (is_up q.state) (Stood u (begins_by c service tei its f) (taken_by c service tei o f) (informs c service tei f) b o q) up h)))
 
   still-busy : (e : Event) (b : Bool) → (brings_information service tei (frame_by c e) && not (asked_busy service tei e a b)) ≡ (brings_information service tei (frame_by c e) && not b)
-  still-busy (hears what) b = refl
-  still-busy other b = refl
+  still-busy e b = grind arith
 
   pub stands-behind : is_up q.state ≡ true → Same q now.told.count now.busy now.rejected
   stands-behind up = go (is_up (state_number its)) refl

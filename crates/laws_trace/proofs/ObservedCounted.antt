@@ -1,5 +1,5 @@
 -- What an observer knows of this side of a link, after a list of events.
-use Rattle.laws_trace.proofs.Vocabulary.{◌≡◌, ℕ, ◌==◌, not, Bool, true, false, cond, List, [], ◌∷◌, Option, Some, None, is_some, refl, sym, ap, ◌∙◌, subst, true≢false, inl, inr, fold, and_parts, All-head, All-tail, fold-append, PoolFull, Service, state_number, Config, refused, Line, link_of, place_in, state_of, Card, line_at, is_full, moments, after_is_sound, has_lines, by_room, line_sound, AllHaveTheirTimers, timely-after, eqb-true, CardEvent as Event, after, card_answer as answer, Moment, after_all, IsAtLine, AreAtLines, managing_is_on as is_on, led, Observed, View, in_state, by_event, views, seen, seen_in, trace, CardIsSound as IsSound}
+use Rattle.laws_trace.proofs.Vocabulary.{arith, ◌≡◌, ℕ, ◌==◌, not, Bool, true, false, cond, List, [], ◌∷◌, Option, Some, None, is_some, refl, sym, ap, ◌∙◌, subst, true≢false, inl, inr, fold, and_parts, All-head, All-tail, fold-append, PoolFull, Service, state_number, Config, refused, Line, link_of, place_in, state_of, Card, line_at, is_full, moments, after_is_sound, has_lines, by_room, line_sound, AllHaveTheirTimers, timely-after, eqb-true, CardEvent as Event, after, card_answer as answer, Moment, after_all, IsAtLine, AreAtLines, managing_is_on as is_on, led, Observed, View, in_state, by_event, views, seen, seen_in, trace, CardIsSound as IsSound}
 use Rattle.model_line.specs.Event as line_event
 use Rattle.model_line.specs.Machine as lines
 use Rattle.laws_trace.proofs.ControlFrames.{moment, as-calm}
@@ -20,8 +20,7 @@ use Rattle.laws_trace.proofs.ObservedFacts.{Facts, facts}
 -- A request that finds the pool full moves nothing.
 pub still : (c : Config) (service : Service) (tei : ℕ) (e : line_event.Event) (l : Line) (o : Observed) → lines.takes_slot c e l ≡ true → by_event c service tei e (refused PoolFull) o ≡ o
 unfolding lines.takes_slot
-still c service tei (line_event.request r) l o takes = refl
-still c service tei other l o takes = absurd (true≢false (sym takes))
+still c service tei e l o takes = grind arith
 
 module _ (service : Service) (tei number : ℕ) where
   abbrev pub Stands : ℕ → Bool → Bool → Line → Type 0

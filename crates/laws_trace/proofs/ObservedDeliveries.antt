@@ -1,5 +1,5 @@
 -- What layer 3 is told of what is heard, by what the observer knows of the link.
-use Rattle.laws_trace.proofs.Vocabulary.{List, nat_le, ◌&&◌, ◌≡◌, ℕ, ◌<◌, ◌||◌, Bool, true, false, cond, Option, Some, None, option_map, refl, sym, ap, ◌∙◌, subst, true≢false, inl, inr, fold, count_by, length, option_to_list, list_any, option_map_or, and_parts, none-some, PoolFull, Service, Parts, state_number, Config, hears, request, Answer, refused, Line, link_of, place_in, state_of, IsInRange, notes_of, contents_in, is_data_of, is_unit_of, tells_contents, line_at, is_full, at, has_lines, by_room, line_sound, IsSound, fresh, card_answer as answer, after_all, AreAtLines, is_unit_for, is_unit_taken, Deliveries, brought, its_frame, is_for, Observed, in_state, view_of, is_up, trace_of, Always, is_ui, Managed, Event}
+use Rattle.laws_trace.proofs.Vocabulary.{arith, List, nat_le, ◌≡◌, ℕ, ◌<◌, ◌||◌, Bool, true, false, Option, Some, None, option_map, refl, sym, ap, ◌∙◌, subst, true≢false, inl, inr, fold, count_by, length, option_to_list, list_any, option_map_or, and_parts, none-some, PoolFull, Service, Parts, state_number, Config, Answer, refused, Line, link_of, place_in, state_of, IsInRange, notes_of, contents_in, is_data_of, is_unit_of, tells_contents, line_at, is_full, at, has_lines, by_room, line_sound, IsSound, fresh, card_answer as answer, after_all, AreAtLines, is_unit_for, is_unit_taken, Deliveries, brought, is_for, Observed, in_state, view_of, is_up, trace_of, Always, is_ui, Managed, Event}
 use Rattle.model_line.specs.Machine as lines
 use Rattle.laws_trace.proofs.Deliveries.{frame_by}
 use Rattle.laws_trace.proofs.DeliveriesKept.{run-stands}
@@ -35,8 +35,7 @@ module _ (service : Service) (tei : ℕ) (c : Config) (ranged : IsInRange c) (l 
   a = lines.answer c e l
 
   brought-is : (e : Event) (f : Parts) → frame_by c e ≡ Some f → is_for service tei f.address ≡ true → brought c service tei e ≡ Some f
-  brought-is (hears what) f is for = ap (its_frame service tei) is ∙ ap (λ b. cond b (Some f) None) for
-  brought-is other f is for = absurd (none-some f is)
+  brought-is e f is for = grind (arith, none-some)
 
   heard : IsHeard service tei (record { frame = frame_by c e; count = n }) (notes_of a) (contents_in a)
   heard = (event-told c ranged l s e service tei n count).0
@@ -59,8 +58,7 @@ module _ (service : Service) (tei : ℕ) (c : Config) (ranged : IsInRange c) (l 
   }
 
   none-taken : (f : Option Parts) → taken_by c service tei (in_state 1) f ≡ false
-  none-taken None = refl
-  none-taken (Some f) = refl
+  none-taken f = grind arith
 
   off-told : place_in l tei ≡ None → o ≡ in_state 1 → Told c service tei o (brought c service tei e) a
   off-told off is = with-data (go (event-goes c e l service tei s) ∙ sym (ap (λ o. taken_by c service tei o (brought c service tei e)) is ∙ none-taken (brought c service tei e)))
@@ -87,28 +85,20 @@ module _ (service : Service) (tei : ℕ) (c : Config) (ranged : IsInRange c) (l 
       go None off (inl y) = off-told off y.2
       go None off (inr y) = absurd (none-some (state_number y.0) (sym (off-state service tei l off) ∙ y.1))
       go (Some place) on (inl y) = let x = link_of service tei l in absurd (none-some (state_number x.state) (sym y.0 ∙ state-on service tei l place on))
-      go (Some place) on (inr y) =
-          let x = link_of service tei l in
-          let some : Some (state_number y.0) ≡ Some (state_number x.state) = sym y.1 ∙ state-on service tei l place on in
-          let inner : state_number y.0 ≡ state_number x.state = cc some in
-          on-told place on (y.2.state_is ∙ inner)
+      go (Some place) on (inr y) = grind (arith, state-on, on-told)
 
 -- A request that finds the pool full tells nothing.
 none-told : (c : Config) (service : Service) (tei : ℕ) (o : Observed) (e : Event) (l : Line) → lines.takes_slot c e l ≡ true → Told c service tei o (brought c service tei e) (refused PoolFull)
 unfolding lines.takes_slot
-none-told c service tei o (request r) l takes =
-    record { data_is = refl; unit_is = λ some. absurd (true≢false (sym some)); contents_are = λ some. absurd (true≢false (sym some)); once = refl; small = λ some. absurd (true≢false (sym some)) }
-none-told c service tei o other l takes = absurd (true≢false (sym takes))
+none-told c service tei o e l takes = grind arith
 
 -- A UI of which unit data is told, with its contents, is taken.
 taken-so : (c : Config) (tei : ℕ) (w : Managed) (frame : Option Parts) (contents : Option (List ℕ)) → option_map_or (is_unit_for c tei w) frame false ≡ true
     → contents ≡ option_map (λ (f : Parts). f.info) frame → IsSmall c.n201 contents → option_map_or (is_unit_taken c tei w) frame false ≡ true
-taken-so c tei w None contents comes is small = comes
-taken-so c tei w (Some f) contents comes is small = ap (λ b. b && nat_le (length f.info) c.n201) comes ∙ subst (IsSmall c.n201) is small
+taken-so c tei w frame contents comes is small = grind (arith, nat_le, IsSmall)
 
 or-right : (b u : Bool) → u ≡ true → (b || u) ≡ true
-or-right true u is = refl
-or-right false u is = is
+or-right b u is = grind arith
 
 pub deliveries-so : Always Deliveries
 deliveries-so c events number ranged all within service tei before what behind is =

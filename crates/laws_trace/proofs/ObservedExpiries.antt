@@ -1,5 +1,5 @@
 -- How often T200 of a link expired, to an observer: it rises by an expiry of it alone.
-use Rattle.laws_trace.proofs.Vocabulary.{◌≡◌, ℕ, ◌+◌, ◌%◌, ◌==◌, ◌&&◌, ◌||◌, not, Bool, true, false, cond, length, Option, Some, None, refl, sym, ap, ◌∙◌, subst, arith, true≢false, is_some, nat_lt, le-ltb, option_map_or, Information, ReceiveReady, ReceiveNotReady, Reject, Sabme, Ui, Ua, Dm, Service, Parts, reading, Seq, Config, hears, expiry, request, next, Answer, refused, gave, Deactivate, is_granted, eqb-true, lt-ltb, result_ok, Control, Xid, Event, told, Request, Establish, Release, SetBusy, ClearBusy, frame_of, its_frame, malformed, Observed, in_state, awaits, anew, observer_takes as takes, observer_is_invalid as is_invalid, numbered, receipt, while_up, while_down, observer_by_frame as by_frame, observer_by_request as by_request, by_t200, enquires, enters, sends, by_event, is_own, is_up, or-true, TimerT200 as T200, T201, TimerT203 as T203}
+use Rattle.laws_trace.proofs.Vocabulary.{◌≡◌, ℕ, ◌==◌, ◌&&◌, ◌||◌, not, Bool, true, false, cond, Option, Some, None, refl, sym, ap, ◌∙◌, subst, arith, is_some, nat_lt, le-ltb, option_map_or, Information, ReceiveReady, ReceiveNotReady, Reject, Ui, Ua, Dm, Service, Parts, reading, Seq, Config, hears, expiry, request, next, Answer, refused, gave, Deactivate, is_granted, eqb-true, lt-ltb, result_ok, Control, Xid, Event, told, Request, Establish, Release, SetBusy, ClearBusy, its_frame, Observed, in_state, awaits, anew, receipt, while_up, while_down, observer_by_frame as by_frame, observer_by_request as by_request, by_t200, enquires, enters, sends, by_event, is_own, is_up, or-true, TimerT200 as T200, T201, TimerT203 as T203}
 
 abbrev pub IsNoMore : Observed → Observed → Type 0
 IsNoMore o q = nat_lt o.expiries q.expiries ≡ false
@@ -11,25 +11,15 @@ pub zero : (o : Observed) → nat_lt o.expiries 0 ≡ false
 zero o = le-ltb o.expiries 0 (omega arith)
 
 pub either : (o : Observed) (b : Bool) (p q : Observed) → IsNoMore o p → IsNoMore o q → IsNoMore o (cond b p q)
-either o true p q h i = h
-either o false p q h i = i
+either o b p q h i = grind arith
 
 module _ (o : Observed) where
   received : (final again busy : Bool) (nr : Seq) → IsNoMore o (receipt final again busy nr o)
-  received final again busy nr =
-      either o (is_invalid o nr) (anew o) (cond (o.state == 8 && final) ended later) (zero o) (either o (o.state == 8 && final) ended later (same o) (same o))
-    where
-      ended : Observed
-      ended = record o { state = 7; acknowledged = nr.value; next = nr.value; busy = busy }
-
-      later : Observed
-      later = record o { acknowledged = nr.value; next = cond (again && o.state == 7) nr.value o.next; busy = busy }
+  received final again busy nr = grind (arith, either, same)
 
   up : (long command : Bool) (control : Control) → IsNoMore o (while_up long command control o)
   up long command (Dm f) = either o (o.state == 8 || not f) (anew o) o (zero o) (same o)
-  up long command (Information ns nr p) =
-      either o long (anew o) (numbered nr (takes ns o)) (zero o)
-      (either o (is_invalid (takes ns o) nr) (anew (takes ns o)) (record (takes ns o) { acknowledged = nr.value }) (zero o) (same o))
+  up long command (Information ns nr p) = grind (arith, either, same)
   up long command (ReceiveReady nr pf) = received (not command && pf) false false nr
   up long command (ReceiveNotReady nr pf) = received (not command && pf) false true nr
   up long command (Reject nr pf) = received (not command && pf) true false nr
@@ -39,25 +29,17 @@ module _ (o : Observed) where
   up long command other = zero o
 
   down : (control : Control) → IsNoMore o (while_down control o)
-  down (Sabme p) = either o (o.state == 4) (in_state 7) o (zero o) (same o)
-  down (Ua f) = either o (f && o.state == 5) (in_state 7) (cond (f && o.state == 6) (in_state 4) o) (zero o) (either o (f && o.state == 6) (in_state 4) o (zero o) (same o))
-  down (Dm f) = either o (f && (o.state == 5 || o.state == 6)) (in_state 4) o (zero o) (same o)
-  down other = same o
+  down control = grind (arith, either, same)
 
   sent : (control : Control) → IsNoMore o (sends o control)
-  sent (Information ns nr p) = either o (is_up o.state) (record o { next = (ns.value + 1) % 128 }) o (same o) (same o)
-  sent other = same o
+  sent control = grind (arith, either, same)
 
   module _ (c : Config) (service : Service) (tei : ℕ) where
     framed : (f : Option Parts) → IsNoMore o (option_map_or (by_frame c o) f o)
-    framed None = same o
-    framed (Some f) =
-        either o (is_up o.state) (while_up (nat_lt c.n201 (length f.info)) f.address.command f.control o) (while_down f.control o)
-        (up (nat_lt c.n201 (length f.info)) f.address.command f.control) (down f.control)
+    framed f = grind (arith, same, either, up, down)
 
     begun : (f : Option Parts) → IsNoMore o (option_map_or (λ (f : Parts). sends o f.control) f o)
-    begun None = same o
-    begun (Some f) = sent f.control
+    begun f = grind (arith, same, sent)
 
     asked : (r : Request) → IsNoMore o (by_request service tei r o)
     asked (Establish of by) = either o (is_own service tei of by && o.state == 4) (record (in_state 5) { asked = true }) o (zero o) (same o)
@@ -69,9 +51,7 @@ module _ (o : Observed) where
 
     -- by another event than an expiry of T200
     pub no-more : (what : Event) (a : Answer) → ((of : Service) (by : ℕ) → what ≡ expiry (T200 of by) → is_own service tei of by ≡ false) → IsNoMore o (by_event c service tei what a o)
-    no-more (hears e) a other =
-        either o (is_up o.state && is_some (malformed c service tei e)) (anew o) (option_map_or (by_frame c o) (its_frame service tei (frame_of c e)) o) (zero o)
-        (framed (its_frame service tei (frame_of c e)))
+    no-more (hears e) a other = grind (arith, either, is_some, framed)
     no-more (request r) a other = either o (is_granted a) (by_request service tei r o) o (asked r) (same o)
     no-more next (told t) other = same o
     no-more next (refused why) other = same o
@@ -88,26 +68,5 @@ module _ (o : Observed) where
   pub enquired : o.state ≡ 7 → enters o (enquires o) ≡ true
   enquired is = moved 7 (enquires o) is refl
 
-  not-four : awaits o ≡ true → (b : Bool) → (o.state == 4) ≡ b → (o.state == 4) ≡ false
-  not-four waits false is = is
-  not-four waits true is =
-      absurd (true≢false (sym waits ∙ ap (λ s. s == 5 || s == 6 || s == 8 || (s == 7 && (o.busy || not (o.next == o.acknowledged)))) (eqb-true o.state 4 is)))
-
   pub t200-enters : (n200 : ℕ) → awaits o ≡ true → enters o (by_t200 n200 o) ≡ true
-  t200-enters n200 waits = by-seven (o.state == 7) refl
-    where
-      last : Observed
-      last = cond (o.state == 8) (anew o) (in_state 4)
-
-      by-last : (b : Bool) → (o.state == 8) ≡ b → enters o (cond b (anew o) (in_state 4)) ≡ true
-      by-last true is = moved 8 (anew o) (eqb-true o.state 8 is) refl
-      by-last false is = ap (λ b. not b || nat_lt o.expiries 0) (not-four waits (o.state == 4) refl)
-
-      by-count : (b : Bool) → enters o (cond b (record o { expiries = o.expiries + 1 }) last) ≡ true
-      by-count true = ap (λ b. not (o.state == o.state) || b) (lt-ltb o.expiries (o.expiries + 1) (omega arith)) ∙ or-true (not (o.state == o.state))
-      by-count false = by-last (o.state == 8) refl
-
-      by-seven : (b : Bool) → (o.state == 7) ≡ b
-          → enters o (cond b (cond (awaits o) (enquires o) o) (cond (not (awaits o)) o (cond (nat_lt o.expiries n200) (record o { expiries = o.expiries + 1 }) last))) ≡ true
-      by-seven true is = ap (λ b. enters o (cond b (enquires o) o)) waits ∙ enquired (eqb-true o.state 7 is)
-      by-seven false is = ap (λ b. enters o (cond (not b) o (cond (nat_lt o.expiries n200) (record o { expiries = o.expiries + 1 }) last))) waits ∙ by-count (nat_lt o.expiries n200)
+  t200-enters n200 waits = grind (arith, moved, eqb-true, lt-ltb, or-true, enquired)

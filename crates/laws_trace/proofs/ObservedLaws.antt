@@ -1,5 +1,5 @@
 -- What the observer knows of a link gives the laws of it, by what follows its parts.
-use Rattle.laws_trace.proofs.Vocabulary.{◌≡◌, ℕ, ◌<◌, ◌==◌, ◌&&◌, ◌||◌, inl, inr, not, Bool, false, cond, List, [], ◌∷◌, ◌++◌, map, Option, Some, None, is_some, refl, sym, ap, ◌∙◌, subst, fold, filter, nat_le, if◌then◌else◌, list_any, Note, EstablishIndication, EstablishConfirm, ReleaseIndication, ReleaseConfirm, Error, Service, State, LinkTimer, state_number, Config, orders_in, Line, state_of, IsInRange, obeyed, notes_of, timer_of, left_by, runs_at_callers, line_at, at, moments, unwrap_or, NoteXid as Xid, fresh, CardEvent as Event, after, Moment, after_all, AreAtLines, managing_is_on as is_on, NewsIsTold, Observed, View, is_outstanding, awaits, view_of, moment_of, view_behind, TimersRun, Seen, seen, Always, renews}
+use Rattle.laws_trace.proofs.Vocabulary.{arith, ◌≡◌, ℕ, ◌<◌, ◌==◌, ◌&&◌, ◌||◌, inl, inr, not, Bool, false, cond, List, [], ◌∷◌, ◌++◌, map, Option, Some, None, is_some, refl, sym, ap, ◌∙◌, subst, fold, filter, nat_le, if◌then◌else◌, list_any, Note, EstablishIndication, EstablishConfirm, ReleaseIndication, ReleaseConfirm, Error, Service, State, LinkTimer, state_number, Config, orders_in, Line, state_of, IsInRange, obeyed, notes_of, timer_of, left_by, runs_at_callers, line_at, at, moments, unwrap_or, NoteXid as Xid, fresh, CardEvent as Event, after, Moment, after_all, AreAtLines, managing_is_on as is_on, NewsIsTold, Observed, View, is_outstanding, awaits, view_of, moment_of, view_behind, TimersRun, Seen, seen, Always, renews}
 use Rattle.model_line.specs.Event as line_event
 use Rattle.laws_trace.specs.LinksMove.{LinksMove}
 use Rattle.laws_trace.proofs.MovesWatched.{repeated}
@@ -51,8 +51,7 @@ module _ (c : Config) (events : List Event) (number : ℕ) (ranged : IsInRange c
   on-line-now = on-is service tei number k was_asked w.outstanding n its_line v holds
 
   pub moved-so : state_of service tei its_line ≡ cond (is_on tei v.teis) (Some v.link.state) None
-  moved-so =
-      told-so (state_of service tei its_line) k was_asked w.outstanding n v.link known-now ∙ ap (λ b. cond b (Some v.link.state) None) (sym on-line-now)
+  moved-so = grind (arith, told-so, known-now, on-line-now)
 
   pub numbers-now : known_of v.link ≡ k
   numbers-now = numbers-are (state_of service tei its_line) k was_asked w.outstanding n v.link known-now
@@ -84,8 +83,7 @@ module _ (c : Config) (events : List Event) (number : ℕ) (ranged : IsInRange c
     known-then = facts service tei l then_asked x.outstanding r next_line u (holds-behind c events number ranged all within service tei what)
 
     pub moves-so : not (v.link.state == u.link.state) ≡ differ (state_of service tei its_line) (state_of service tei next_line)
-    moves-so =
-        differs-is (state_of service tei its_line) (state_of service tei next_line) k l was_asked then_asked w.outstanding x.outstanding n r v.link u.link known-now known-then
+    moves-so = grind (arith, differs-is, known-now, known-then)
 
 pub links-move-so : Always LinksMove
 links-move-so c events number ranged all within service tei = moved-so c events number ranged all within service tei

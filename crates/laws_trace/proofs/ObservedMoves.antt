@@ -1,5 +1,5 @@
 -- How an event moves what an observer knows of a link: the state, the numbers, what layer 3 asked and how often T200 expired.
-use Rattle.laws_trace.proofs.Vocabulary.{◌≡◌, ℕ, ◌+◌, ◌==◌, ◌&&◌, ◌||◌, not, Bool, true, false, cond, List, length, Option, Some, None, Result, Ok, Err, ReadFault, refl, sym, subst, is_some, nat_lt, option_map_or, Information, ReceiveReady, ReceiveNotReady, Reject, Ui, Ua, Dm, Frmr, Service, Timer, Parts, reading, Seq, State, TeiAssigned, AwaitingEstablishment, AwaitingRelease, Established, TimerRecovery, LinkTimer, state_number, Config, hears, expiry, request, next, Answer, LineTold, gave, Deactivate, Control, Xid, T200, T203, Event, told, Request, Establish, Release, SetBusy, ClearBusy, result_ok, frame_of, its_frame, is_for, malformed, Observed, in_state, awaits, anew, while_up, while_down, observer_by_frame as by_frame, by_t200, observer_by_expiry as by_expiry, enquires, sends, by_event, observer_takes as takes, is_own, is_up, seen}
+use Rattle.laws_trace.proofs.Vocabulary.{arith, ◌≡◌, ℕ, ◌+◌, ◌==◌, ◌&&◌, ◌||◌, not, Bool, true, false, cond, length, Option, Some, None, Result, Ok, Err, ReadFault, refl, sym, subst, is_some, nat_lt, option_map_or, Information, ReceiveReady, ReceiveNotReady, Reject, Ui, Ua, Dm, Frmr, Service, Timer, Parts, reading, Seq, State, TeiAssigned, AwaitingEstablishment, AwaitingRelease, Established, TimerRecovery, LinkTimer, state_number, Config, hears, expiry, request, next, Answer, LineTold, gave, Deactivate, Control, Xid, T200, T203, Event, told, Request, Establish, Release, SetBusy, ClearBusy, result_ok, frame_of, its_frame, is_for, malformed, Observed, in_state, awaits, anew, while_up, while_down, observer_by_frame as by_frame, by_t200, observer_by_expiry as by_expiry, enquires, sends, by_event, observer_takes as takes, is_own, is_up, seen}
 use Rattle.lapd_frame.specs.declared.timers.Timer.TheVariants as timers
 use Rattle.laws_trace.proofs.TimersWatched.{Sent, sent_by, sent_in, Known, nothing_yet}
 use Rattle.laws_trace.proofs.States as states
@@ -19,50 +19,39 @@ Frame x k long command control =
 
 -- In state 4.
 in_4 : (long command : Bool) (control : Control) → Frame TeiAssigned nothing_yet long command control
-in_4 long command (Ua true) o = record { state_is = refl; known_is = refl; asks = tt; owes = tt; counts = tt }
-in_4 long command (Dm true) o = record { state_is = refl; known_is = refl; asks = tt; owes = tt; counts = tt }
-in_4 long command other o = record { state_is = refl; known_is = refl; asks = tt; owes = tt; counts = tt }
+in_4 long command control o = grind arith
 
 -- In state 5.
 in_5 : (long command : Bool) (control : Control) → Frame AwaitingEstablishment nothing_yet long command control
-in_5 long command (Ua true) o = record { state_is = refl; known_is = refl; asks = tt; owes = tt; counts = tt }
-in_5 long command (Dm true) o = record { state_is = refl; known_is = refl; asks = tt; owes = tt; counts = tt }
-in_5 long command other o = record { state_is = refl; known_is = refl; asks = refl; owes = refl; counts = refl }
+in_5 long command control o = grind arith
 
 -- In state 6.
 in_6 : (long command : Bool) (control : Control) → Frame AwaitingRelease nothing_yet long command control
-in_6 long command (Ua true) o = record { state_is = refl; known_is = refl; asks = tt; owes = tt; counts = tt }
-in_6 long command (Dm true) o = record { state_is = refl; known_is = refl; asks = tt; owes = tt; counts = tt }
-in_6 long command other o = record { state_is = refl; known_is = refl; asks = tt; owes = tt; counts = refl }
+in_6 long command control o = grind arith
 
 module _ (k : Known) where
   -- An N(R) in state 7 or 8, by whether it is invalid.
   info_7 : (ns nr : Seq) (p : Bool) (count : ℕ) (rejected invalid : Bool) (o : Observed) → let to = cond {A = ℕ} invalid 5 7 in let q = at_state 7 k o in
       let r = record q { count = count; rejected = rejected } in
       Moved 7 to (heard_known 7 to k (Some (Information ns nr p))) false none_more q (cond invalid (anew r) (record r { acknowledged = nr.value }))
-  info_7 ns nr p count rejected true o = record { state_is = refl; known_is = refl; asks = refl; owes = refl; counts = refl }
-  info_7 ns nr p count rejected false o = record { state_is = refl; known_is = refl; asks = tt; owes = tt; counts = tt }
+  info_7 ns nr p count rejected invalid o = grind arith
 
   info_8 : (ns nr : Seq) (p : Bool) (count : ℕ) (rejected invalid : Bool) (o : Observed) → let to = cond {A = ℕ} invalid 5 8 in let q = at_state 8 k o in
       let r = record q { count = count; rejected = rejected } in
       Moved 8 to (heard_known 8 to k (Some (Information ns nr p))) false none_more q (cond invalid (anew r) (record r { acknowledged = nr.value }))
-  info_8 ns nr p count rejected true o = record { state_is = refl; known_is = refl; asks = refl; owes = refl; counts = refl }
-  info_8 ns nr p count rejected false o = record { state_is = refl; known_is = refl; asks = tt; owes = tt; counts = refl }
+  info_8 ns nr p count rejected invalid o = grind arith
 
   -- RR, RNR and REJ.
   receipt_7 : (nr : Seq) (again busy invalid final : Bool) (o : Observed) → let to = cond {A = ℕ} invalid 5 (cond {A = ℕ} (7 == 8 && final) 7 7) in let q = at_state 7 k o in
       Moved 7 to (cond (to == 7 || to == 8) (known.number_heard nr.value (again && to == 7) busy k) nothing_yet) false none_more q
       (cond invalid (anew q) (cond (7 == 8 && final) (record q { state = 7; acknowledged = nr.value; next = nr.value; busy = busy })
       (record q { acknowledged = nr.value; next = cond {A = ℕ} (again && 7 == 7) nr.value q.next; busy = busy })))
-  receipt_7 nr again busy true final o = record { state_is = refl; known_is = refl; asks = refl; owes = refl; counts = refl }
-  receipt_7 nr again busy false final o = record { state_is = refl; known_is = refl; asks = tt; owes = tt; counts = tt }
+  receipt_7 nr again busy invalid final o = grind arith
 
   receipt_8 : (nr : Seq) (busy invalid final : Bool) (o : Observed) → let to = cond {A = ℕ} invalid 5 (cond {A = ℕ} final 7 8) in let q = at_state 8 k o in
       Moved 8 to (cond (to == 7 || to == 8) (known.number_heard nr.value (to == 7) busy k) nothing_yet) false none_more q
       (cond invalid (anew q) (cond final (record q { state = 7; acknowledged = nr.value; next = nr.value; busy = busy }) (record q { acknowledged = nr.value; busy = busy })))
-  receipt_8 nr busy true final o = record { state_is = refl; known_is = refl; asks = refl; owes = refl; counts = refl }
-  receipt_8 nr busy false true o = record { state_is = refl; known_is = refl; asks = tt; owes = tt; counts = tt }
-  receipt_8 nr busy false false o = record { state_is = refl; known_is = refl; asks = tt; owes = tt; counts = refl }
+  receipt_8 nr busy invalid final o = grind arith
 
   -- In state 7.
   in_7 : (long command : Bool) (control : Control) → Frame Established k long command control
@@ -104,11 +93,7 @@ abbrev Stays : State → Known → Type 0
 Stays x k = (new : Bool) (o : Observed) → let s = state_number x in let p = at_state s k o in Moved s s (cond (s == 7 || s == 8) k nothing_yet) new none_more p p
 
 stays : (x : State) (k : Known) → Shape x k → Stays x k
-stays TeiAssigned k shape = subst (Stays TeiAssigned) (sym shape) (λ new o. record { state_is = refl; known_is = refl; asks = tt; owes = tt; counts = tt })
-stays AwaitingEstablishment k shape = subst (Stays AwaitingEstablishment) (sym shape) (λ new o. record { state_is = refl; known_is = refl; asks = refl; owes = refl; counts = refl })
-stays AwaitingRelease k shape = subst (Stays AwaitingRelease) (sym shape) (λ new o. record { state_is = refl; known_is = refl; asks = tt; owes = tt; counts = refl })
-stays Established k shape = λ new o. record { state_is = refl; known_is = refl; asks = tt; owes = tt; counts = tt }
-stays TimerRecovery k shape = λ new o. record { state_is = refl; known_is = refl; asks = tt; owes = tt; counts = refl }
+stays x k shape = grind arith
 
 module _ (c : Config) (service : Service) (tei : ℕ) where
   -- What is heard, by whether it is malformed, and as it is read.
@@ -122,8 +107,7 @@ module _ (c : Config) (service : Service) (tei : ℕ) where
   of-frame : (x : State) (k : Known) → Shape x k → (o : Observed) (f : Parts) (b : Bool) → let s = state_number x in let p = at_state s k o in
       let to = cond {A = ℕ} b (moves.by_frame k s f.address.command (nat_lt c.n201 (length f.info)) f.control) s in
       Moved s to (heard_known s to k (cond b (Some f.control) None)) false none_more p (option_map_or (by_frame c p) (cond b (Some f) None) p)
-  of-frame x k shape o f true = frame-moves x k shape (nat_lt c.n201 (length f.info)) f.address.command f.control o
-  of-frame x k shape o f false = stays x k shape false o
+  of-frame x k shape o f b = grind (arith, frame-moves, stays)
 
   parts : (x : State) (k : Known) → Shape x k → (o : Observed) (f : Option Parts) → let s = state_number x in let p = at_state s k o in
       let to = moves.by_parts c service tei k s f in
@@ -147,37 +131,18 @@ module _ (c : Config) (service : Service) (tei : ℕ) where
       let to = cond {A = ℕ} again s (cond {A = ℕ} (s == 8) 5 4) in
       When (s == 5 || (s == 6 || s == 8)) (Moved s to (cond (to == 7 || to == 8) k nothing_yet) false one_more p
       (cond again (record p { expiries = p.expiries + 1 }) (cond (s == 8) (anew p) (in_state 4))))
-  repeated AwaitingEstablishment k shape o true =
-      subst (λ k. let p = at_state 5 k o in Moved 5 5 (cond (5 == 7 || 5 == 8) k nothing_yet) false one_more p (record p { expiries = p.expiries + 1 })) (sym shape) (record { state_is = refl; known_is = refl; asks = refl; owes = refl; counts = refl })
-  repeated AwaitingEstablishment k shape o false =
-      subst (λ k. let p = at_state 5 k o in Moved 5 4 (cond (4 == 7 || 4 == 8) k nothing_yet) false one_more p (in_state 4)) (sym shape) (record { state_is = refl; known_is = refl; asks = tt; owes = tt; counts = tt })
-  repeated AwaitingRelease k shape o true =
-      subst (λ k. let p = at_state 6 k o in Moved 6 6 (cond (6 == 7 || 6 == 8) k nothing_yet) false one_more p (record p { expiries = p.expiries + 1 })) (sym shape) (record { state_is = refl; known_is = refl; asks = tt; owes = tt; counts = refl })
-  repeated AwaitingRelease k shape o false =
-      subst (λ k. let p = at_state 6 k o in Moved 6 4 (cond (4 == 7 || 4 == 8) k nothing_yet) false one_more p (in_state 4)) (sym shape) (record { state_is = refl; known_is = refl; asks = tt; owes = tt; counts = tt })
-  repeated TimerRecovery k shape o true = record { state_is = refl; known_is = refl; asks = tt; owes = tt; counts = refl }
-  repeated TimerRecovery k shape o false = record { state_is = refl; known_is = refl; asks = refl; owes = refl; counts = refl }
-  repeated other k shape o again = tt
+  repeated x k shape o again = grind (arith, at_state, Moved, nothing_yet, one_more)
 
   not_counted : (k : Known) → k ≡ nothing_yet → (o : Observed) (again : Bool) → let p = at_state 4 k o in let to = cond {A = ℕ} again 4 4 in
       Moved 4 to (cond (to == 7 || to == 8) k nothing_yet) false one_more p p
-  not_counted k shape o true = subst (λ k. let p = at_state 4 k o in Moved 4 4 nothing_yet false one_more p p) (sym shape) (record { state_is = refl; known_is = refl; asks = tt; owes = tt; counts = tt })
-  not_counted k shape o false = subst (λ k. let p = at_state 4 k o in Moved 4 4 nothing_yet false one_more p p) (sym shape) (record { state_is = refl; known_is = refl; asks = tt; owes = tt; counts = tt })
+  not_counted k shape o again = grind (arith, at_state, Moved, nothing_yet, one_more)
 
   enquiry : (k : Known) (o : Observed) (more : ℕ → ℕ) (b : Bool) → let p = at_state 7 k o in let to = cond {A = ℕ} b 8 7 in
       Moved 7 to (cond (to == 7 || to == 8) k nothing_yet) false more p (cond b (enquires p) p)
-  enquiry k o more true = record { state_is = refl; known_is = refl; asks = tt; owes = tt; counts = refl }
-  enquiry k o more false = record { state_is = refl; known_is = refl; asks = tt; owes = tt; counts = tt }
+  enquiry k o more b = grind arith
 
   t200-moves : (x : State) (k : Known) → Shape x k → (o : Observed) → let p = at_state (state_number x) k o in Expires T200 x k one_more p (by_t200 c.n200 p)
-  t200-moves TeiAssigned k shape o = not_counted k shape o (nat_lt o.expiries c.n200)
-  t200-moves Established k shape o = enquiry k o one_more (known.awaits k (Some 7))
-  t200-moves other k shape o = repeated other k shape o (nat_lt o.expiries c.n200)
-
-  t203-moves : (x : State) (k : Known) → Shape x k → (o : Observed) → let p = at_state (state_number x) k o in
-      Expires T203 x k none_more p (cond (p.state == 7 && not (awaits p)) (enquires p) p)
-  t203-moves Established k shape o = enquiry k o none_more (not (known.awaits k (Some 7)))
-  t203-moves other k shape o = stays other k shape false o
+  t200-moves x k shape o = grind (arith, not_counted, enquiry, one_more, known.awaits, repeated)
 
   abbrev pub grown : Event → ℕ → ℕ
   grown (expiry (timers.T200 of by)) = cond (is_own service tei of by) one_more none_more
@@ -196,19 +161,15 @@ module _ (c : Config) (service : Service) (tei : ℕ) where
 
   by-t200 : (x : State) (k : Known) → Shape x k → (o : Observed) (b : Bool) → let p = at_state (state_number x) k o in
       Timed x k (cond b one_more none_more) (cond b (Some T200) None) p (cond b (by_t200 c.n200 p) p)
-  by-t200 x k shape o true = t200-moves x k shape o
-  by-t200 x k shape o false = stays x k shape false o
+  by-t200 x k shape o b = grind (arith, t200-moves, stays)
 
   by-t203 : (x : State) (k : Known) → Shape x k → (o : Observed) (b : Bool) → let p = at_state (state_number x) k o in
       Timed x k none_more (cond b (Some T203) None) p (cond (b && (p.state == 7 && not (awaits p))) (enquires p) p)
-  by-t203 x k shape o true = t203-moves x k shape o
-  by-t203 x k shape o false = stays x k shape false o
+  by-t203 x k shape o b = grind (arith, enquiry, none_more, known.awaits, stays)
 
   timer-moves : (x : State) (k : Known) → Shape x k → (o : Observed) (timer : Timer) → let p = at_state (state_number x) k o in
       Timed x k (grown (expiry timer)) (states.expired_of service tei (expiry timer)) p (by_expiry c service tei timer p)
-  timer-moves x k shape o (timers.T200 of by) = by-t200 x k shape o (is_own service tei of by)
-  timer-moves x k shape o (timers.T203 of by) = by-t203 x k shape o (is_own service tei of by)
-  timer-moves x k shape o timers.T201 = stays x k shape false o
+  timer-moves x k shape o timer = grind (arith, by-t200, by-t203, stays)
 
   -- What is asked.
   abbrev Asked : State → Known → Bool → ℕ → Observed → Observed → Type 0
@@ -216,27 +177,19 @@ module _ (c : Config) (service : Service) (tei : ℕ) where
 
   establish : (x : State) (k : Known) → Shape x k → (o : Observed) (b : Bool) → let s = state_number x in let p = at_state s k o in
       Asked x k b (cond {A = ℕ} (b && s == 4) 5 s) p (cond (b && p.state == 4) (record (in_state 5) { asked = true }) p)
-  establish x k shape o false = stays x k shape false o
-  establish TeiAssigned k shape o true =
-      subst (λ k. let p = at_state 4 k o in Moved 4 5 nothing_yet true none_more p (record (in_state 5) { asked = true })) (sym shape) (record { state_is = refl; known_is = refl; asks = refl; owes = refl; counts = refl })
-  establish other k shape o true = stays other k shape true o
+  establish x k shape o b = grind (arith, stays, at_state, Moved, nothing_yet, none_more)
 
   release : (x : State) (k : Known) → Shape x k → (o : Observed) (b : Bool) → let s = state_number x in let p = at_state s k o in
       Asked x k false (cond {A = ℕ} (b && is_up s) 6 s) p (cond (b && is_up p.state) (in_state 6) p)
-  release x k shape o false = stays x k shape false o
-  release Established k shape o true = record { state_is = refl; known_is = refl; asks = tt; owes = tt; counts = refl }
-  release TimerRecovery k shape o true = record { state_is = refl; known_is = refl; asks = tt; owes = tt; counts = refl }
-  release other k shape o true = stays other k shape false o
+  release x k shape o b = grind (arith, stays)
 
   deactivate : (x : State) (k : Known) → Shape x k → (o : Observed) (b : Bool) → let s = state_number x in let p = at_state s k o in
       Asked x k false (cond {A = ℕ} b 4 s) p (cond b (in_state 4) p)
-  deactivate x k shape o false = stays x k shape false o
-  deactivate x k shape o true = record { state_is = refl; known_is = refl; asks = tt; owes = tt; counts = tt }
+  deactivate x k shape o b = grind (arith, stays)
 
   busy : (x : State) (k : Known) → Shape x k → (o : Observed) (now b : Bool) → let s = state_number x in let p = at_state s k o in
       Asked x k false s p (cond b (record p { own_busy = now }) p)
-  busy x k shape o now false = stays x k shape false o
-  busy x k shape o now true = let h = stays x k shape false o in record { state_is = h.state_is; known_is = h.known_is; asks = h.asks; owes = h.owes; counts = h.counts }
+  busy x k shape o now b = grind (arith, stays)
 
   asked-moves : (x : State) (k : Known) → Shape x k → (o : Observed) (r : Request) (t : LineTold) → EventMoves x k o (request r) (told t)
   asked-moves x k shape o (Establish of by) t = establish x k shape o (is_own service tei of by)
@@ -252,14 +205,7 @@ module _ (c : Config) (service : Service) (tei : ℕ) where
 
   information-moves : (x : State) (k : Known) → Shape x k → (o : Observed) (ns nr : Seq) (pf : Bool) → let p = at_state (state_number x) k o in
       Sends x k p (Some (record { ns = ns.value })) (sends p (Information ns nr pf))
-  information-moves Established k shape o ns nr pf = record { state_is = refl; known_is = refl; asks = tt; owes = tt; counts = tt }
-  information-moves TimerRecovery k shape o ns nr pf = record { state_is = refl; known_is = refl; asks = tt; owes = tt; counts = refl }
-  information-moves other k shape o ns nr pf = stays other k shape false o
-
-  control-moves : (x : State) (k : Known) → Shape x k → (o : Observed) (control : Control) (info : List ℕ) → let p = at_state (state_number x) k o in
-      Sends x k p (sent_by control info) (sends p control)
-  control-moves x k shape o (Information ns nr pf) info = information-moves x k shape o ns nr pf
-  control-moves x k shape o other info = stays x k shape false o
+  information-moves x k shape o ns nr pf = grind (arith, stays)
 
   sent-moves : (x : State) (k : Known) → Shape x k → (o : Observed) (r : Result Parts ReadFault) → let p = at_state (state_number x) k o in
       Sends x k p (sent_in service tei r) (option_map_or (λ (f : Parts). sends p f.control) (its_frame service tei (result_ok r)) p)
@@ -268,8 +214,7 @@ module _ (c : Config) (service : Service) (tei : ℕ) where
     where
       go : (b : Bool) → let p = at_state (state_number x) k o in
           Sends x k p (cond b (sent_by f.control f.info) None) (option_map_or (λ (f : Parts). sends p f.control) (cond b (Some f) None) p)
-      go true = control-moves x k shape o f.control f.info
-      go false = stays x k shape false o
+      go b = grind (arith, information-moves, stays)
 
   pub event-moves : (x : State) (k : Known) → Shape x k → (o : Observed) (what : Event) (a : Answer) → EventMoves x k o what a
   event-moves x k shape o (hears e) (told t) = heard-moves x k shape o (is_some (malformed c service tei e)) (frame_of c e)

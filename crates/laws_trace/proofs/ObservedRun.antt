@@ -1,5 +1,5 @@
 -- What an observer knows of a link after a list of events.
-use Rattle.laws_trace.proofs.Vocabulary.{◌≡◌, ℕ, ◌+◌, ◌<◌, ◌==◌, ◌&&◌, ◌⊎◌, inl, inr, not, Bool, true, false, cond, List, [], ◌∷◌, Option, Some, None, is_some, refl, sym, ap, ◌∙◌, subst, eq-eqb, true≢false, fold, IfSome, option_map_or, get_or-replicate, All-head, All-tail, Service, State, Established, TimerRecovery, Link, state_number, Config, Line, fresh_line, link_of, place_in, state_of, has_tei, IsInRange, is-off, nowhere, Card, line_at, at, moments, fresh_is_sound, after_is_sound, AllHaveTheirTimers, timely-after, begins-timely-card, eqb-true, fresh_link, fresh, CardEvent as Event, after, card_answer as answer, Moment, after_all, IsAtLine, AreAtLines, managing_is_on as is_on, led, Observed, View, at_first, in_state, by_event, views, view_of, moment_of, view_behind, seen, CardIsSound as IsSound}
+use Rattle.laws_trace.proofs.Vocabulary.{arith, ◌≡◌, ℕ, ◌+◌, ◌<◌, ◌==◌, ◌&&◌, ◌⊎◌, not, Bool, true, false, cond, List, [], ◌∷◌, Option, Some, None, is_some, refl, sym, ap, ◌∙◌, subst, eq-eqb, true≢false, fold, IfSome, option_map_or, get_or-replicate, All-head, All-tail, Service, State, Link, state_number, Config, Line, fresh_line, link_of, place_in, state_of, has_tei, IsInRange, is-off, nowhere, Card, line_at, at, moments, fresh_is_sound, after_is_sound, AllHaveTheirTimers, timely-after, begins-timely-card, eqb-true, fresh_link, fresh, CardEvent as Event, after, card_answer as answer, Moment, after_all, IsAtLine, AreAtLines, managing_is_on as is_on, led, Observed, View, at_first, in_state, by_event, views, view_of, moment_of, view_behind, seen, CardIsSound as IsSound}
 use Rattle.model_line.specs.Event as line_event
 use Rattle.laws_trace.proofs.MovesWatched.{repeated}
 use Rattle.laws_trace.proofs.TimersWatched.{Known, nothing_yet, learned, watch}
@@ -20,11 +20,6 @@ use Rattle.laws_trace.proofs.NewsWatched as news
 use Rattle.laws_trace.proofs.Runs.{apart}
 
 -- A state is told where the TEI is on the line.
-shape-of : (x : State) (k : Known) (a s : ℕ) (busy : Bool) → Agrees x k a s busy → Shape x k
-shape-of Established k a s busy h = tt
-shape-of TimerRecovery k a s busy h = tt
-shape-of other k a s busy h = h
-
 abbrev pub IsFrom : Option ℕ → Known → Type 0
 IsFrom from k = ((from ≡ None) × (k ≡ nothing_yet)) ⊎ ((x : State) × (from ≡ Some (state_number x)) × Shape x k)
 
@@ -33,8 +28,7 @@ module _ (service : Service) (tei : ℕ) where
   from-is l k h = go (place_in l tei) refl
     where
       go : (o : Option ℕ) → place_in l tei ≡ o → IsFrom (state_of service tei l) k
-      go None off = inl (off-state service tei l off, subst (λ (y : Link). Agrees y.state k y.a y.s y.peer_busy) (off-fresh service tei l off) h)
-      go (Some place) on = let x = link_of service tei l in inr (x.state, state-on service tei l place on, shape-of x.state k x.a x.s x.peer_busy h)
+      go o off = grind (arith, off-state, Agrees, off-fresh, state-on)
 
   pub is-told : (l : Line) → has_tei tei l ≡ is_some (state_of service tei l)
   is-told l = go (place_in l tei) refl
@@ -56,41 +50,14 @@ module _ (service : Service) (tei : ℕ) where
 
     moves-on : (from : Option ℕ) → IsFrom from k → IsSeen from k asked owed n o → (to : Option ℕ) (e : Event) (card : Card) → Led from to e card
         → Seen from to e card (cond (not (is_some to)) (in_state 1) (cond (is_some from) (by_event c service tei e.what (answer e card) o) (in_state 4)))
-    moves-on from (inl y) h to e card led =
-        subst (λ from. Seen from to e card (cond (not (is_some to)) (in_state 1) (cond (is_some from) (by_event c service tei e.what (answer e card) o) (in_state 4)))) (sym y.0)
-        (off to (subst (λ from. Led from to e card) y.0 led))
-      where
-        off : (to : Option ℕ) → Led None to e card → Seen None to e card (cond (not (is_some to)) (in_state 1) (in_state 4))
-        off None led = refl
-        off (Some state) led = comes c service tei state led k (news.establishes service tei e.what (answer e card)) asked owed 0 e.what (answer e card)
-    moves-on from (inr y) h to e card led =
-        subst (λ from. Seen from to e card (cond (not (is_some to)) (in_state 1) (cond (is_some from) (by_event c service tei e.what (answer e card) o) (in_state 4)))) (sym y.1)
-        (goes-on c service tei y.0 k y.2 asked owed n o (subst (λ from. IsSeen from k asked owed n o) y.1 h) e.what (answer e card) to (subst (λ from. Led from to e card) y.1 led))
+    moves-on from o h to e card led = grind (arith, is_some, comes, news.establishes, goes-on, IsSeen)
 
     -- nothing at this line
     renewed : (from : Option ℕ) → IsSeen from k asked owed n o → IsSeen from k asked (cond (is_state 5 from) owed (not (k.next == k.acknowledged))) n o
-    renewed None h = h
-    renewed (Some s) h = go (s == 5) refl
-      where
-        go : (b : Bool) → (s == 5) ≡ b → IsSeen (Some s) k asked (cond b owed (not (k.next == k.acknowledged))) n o
-        go true is = h
-        go false is =
-            record {
-              state_is = h.state_is;
-              known_is = h.known_is;
-              asks = h.asks;
-              owes = subst (λ b. When b (o.outstanding ≡ not (k.next == k.acknowledged))) (sym is) tt;
-              rests = rest (not (s == 5));
-              counts = h.counts;
-            }
-          where
-            rest : (b : Bool) → When b (not (k.next == k.acknowledged) ≡ not (k.next == k.acknowledged))
-            rest true = refl
-            rest false = tt
+    renewed from h = grind (arith, IsSeen, When)
 
     stays-so : (from : Option ℕ) → IsSeen from k asked owed n o → IsSeen from k asked owed n (cond (not (is_some from)) (in_state 1) (cond (is_some from) o (in_state 4)))
-    stays-so None h = refl
-    stays-so (Some s) h = h
+    stays-so from h = grind arith
 
 -- What is known beside it.
 pub record Holds (service : Service) (tei : ℕ) (k : Known) (asked owed : Bool) (n : ℕ) (l : Line) (v : View) : Type 0 where

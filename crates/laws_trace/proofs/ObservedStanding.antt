@@ -1,6 +1,6 @@
 -- How an event of a line moves what an observer knows of this side of a link: how many contents were told, whether layer 3
 -- is busy, and whether an I-frame is rejected.
-use Rattle.laws_trace.proofs.Vocabulary.{◌≡◌, ℕ, ◌+◌, ◌==◌, ◌&&◌, ◌||◌, not, Bool, true, false, cond, length, Option, Some, None, refl, ap, is_some, nat_lt, option_map_or, Information, ReceiveReady, ReceiveNotReady, Reject, Sabme, Ua, Dm, Service, Timer, Parts, reading, State, TeiAssigned, AwaitingEstablishment, AwaitingRelease, Established, TimerRecovery, state_number, Config, hears, expiry, request, next, Answer, LineTold, gave, Deactivate, Control, Event, told, Request, Establish, Release, SetBusy, ClearBusy, brings_next, result_ok, brought, frame_of, its_frame, malformed, Observed, in_state, awaits, anew, observer_takes as takes, observer_is_next as is_next, observer_is_invalid as is_invalid, while_up, while_down, observer_by_frame as by_frame, by_t200, observer_by_expiry as by_expiry, enquires, sends, by_event, is_own, is_up, TimerT200 as T200, T201, TimerT203 as T203, Disc, Frmr}
+use Rattle.laws_trace.proofs.Vocabulary.{arith, ◌≡◌, ℕ, ◌+◌, ◌==◌, ◌&&◌, ◌||◌, not, Bool, true, false, cond, Option, Some, refl, is_some, option_map_or, Information, ReceiveReady, ReceiveNotReady, Reject, Sabme, Ua, Dm, Service, Timer, Parts, reading, State, TeiAssigned, AwaitingEstablishment, AwaitingRelease, Established, TimerRecovery, state_number, Config, hears, expiry, request, next, Answer, LineTold, gave, Control, Event, told, Request, brings_next, result_ok, brought, frame_of, its_frame, malformed, Observed, in_state, awaits, anew, observer_takes as takes, observer_is_next as is_next, observer_is_invalid as is_invalid, while_up, while_down, observer_by_frame as by_frame, by_t200, observer_by_expiry as by_expiry, enquires, sends, by_event, is_up, Disc, Frmr}
 use Rattle.laws_trace.specs.Deliveries.{is_taken}
 use Rattle.laws_trace.proofs.ObservedShape.{When}
 use Rattle.laws_trace.proofs.Standing.{asked_busy}
@@ -28,55 +28,26 @@ Frame x long command control =
     When (is_up q.state) (Stood (is_up s) (begun_by s control) (is_up s && (not long && brings_next p control)) (is_information control) p.own_busy p q)
 
 in_4 : (long command : Bool) (control : Control) → Frame TeiAssigned long command control
-in_4 long command (Sabme p) o = record { before = refl; count_is = refl; busy_is = refl; rejected_is = refl }
-in_4 long command (Ua true) o = tt
-in_4 long command (Dm true) o = tt
-in_4 long command other o = tt
+in_4 long command control o = grind arith
 
 in_5 : (long command : Bool) (control : Control) → Frame AwaitingEstablishment long command control
-in_5 long command (Ua true) o = record { before = refl; count_is = refl; busy_is = refl; rejected_is = refl }
-in_5 long command (Dm true) o = tt
-in_5 long command other o = tt
+in_5 long command control o = grind arith
 
 in_6 : (long command : Bool) (control : Control) → Frame AwaitingRelease long command control
-in_6 long command (Ua true) o = tt
-in_6 long command (Dm true) o = tt
-in_6 long command other o = tt
-
-when-so : {P : Type 0} → (b : Bool) → P → When b P
-when-so true x = x
-when-so false x = tt
+in_6 long command control o = grind arith
 
 -- An N(R) in states 7 and 8, by whether it is invalid.
 numbered-so : (s : ℕ) → is_up s ≡ true → (information taken invalid : Bool) (ack : ℕ) (p r : Observed) → r.state ≡ s → Stood (is_up s) false taken information p.own_busy p r
     → When (is_up (cond invalid (anew r) (record r { acknowledged = ack })).state) (Stood (is_up s) false taken information p.own_busy p (cond invalid (anew r) (record r { acknowledged = ack })))
-numbered-so s up information taken true ack p r is h = tt
-numbered-so s up information taken false ack p r is h = when-so (is_up r.state) (record { before = h.before; count_is = h.count_is; busy_is = h.busy_is; rejected_is = h.rejected_is })
+numbered-so s up information taken invalid ack p r is h = grind arith
 
 receipt-so : (s : ℕ) → is_up s ≡ true → (busy invalid final : Bool) (ack again : ℕ) (p : Observed)
     → let q = cond invalid (anew p) (cond final (record p { state = 7; acknowledged = ack; next = ack; busy = busy }) (record p { acknowledged = ack; next = again; busy = busy })) in
     When (is_up q.state) (Stood (is_up s) false false false p.own_busy p q)
-receipt-so s up busy true final ack again p = tt
-receipt-so s up busy false true ack again p = record { before = ap (λ b. b || false) up; count_is = refl; busy_is = refl; rejected_is = refl }
-receipt-so s up busy false false ack again p = when-so (is_up p.state) (record { before = ap (λ b. b || false) up; count_is = refl; busy_is = refl; rejected_is = refl })
+receipt-so s up busy invalid final ack again p = grind arith
 
 in_7 : (long command : Bool) (control : Control) → Frame Established long command control
-in_7 true command (Information ns nr p) o = tt
-in_7 false command (Information ns nr p) o = let p = in_number 7 o in numbered-so 7 refl true (is_next p ns) (is_invalid (takes ns p) nr) nr.value p (takes ns p) refl record { before = refl; count_is = refl; busy_is = refl; rejected_is = refl }
-in_7 true command (ReceiveReady nr f) o = receipt-so 7 refl false (is_invalid (in_number 7 o) nr) (7 == 8 && (not command && f)) nr.value (cond (false && 7 == 7) nr.value o.next) (in_number 7 o)
-in_7 false command (ReceiveReady nr f) o = receipt-so 7 refl false (is_invalid (in_number 7 o) nr) (7 == 8 && (not command && f)) nr.value (cond (false && 7 == 7) nr.value o.next) (in_number 7 o)
-in_7 true command (ReceiveNotReady nr f) o = receipt-so 7 refl true (is_invalid (in_number 7 o) nr) (7 == 8 && (not command && f)) nr.value (cond (false && 7 == 7) nr.value o.next) (in_number 7 o)
-in_7 false command (ReceiveNotReady nr f) o = receipt-so 7 refl true (is_invalid (in_number 7 o) nr) (7 == 8 && (not command && f)) nr.value (cond (false && 7 == 7) nr.value o.next) (in_number 7 o)
-in_7 true command (Reject nr f) o = receipt-so 7 refl false (is_invalid (in_number 7 o) nr) (7 == 8 && (not command && f)) nr.value (cond (true && 7 == 7) nr.value o.next) (in_number 7 o)
-in_7 false command (Reject nr f) o = receipt-so 7 refl false (is_invalid (in_number 7 o) nr) (7 == 8 && (not command && f)) nr.value (cond (true && 7 == 7) nr.value o.next) (in_number 7 o)
-in_7 long command (Disc p) o = tt
-in_7 long command (Frmr f) o = tt
-in_7 long command (Dm false) o = tt
-in_7 long command (Sabme p) o = record { before = refl; count_is = refl; busy_is = refl; rejected_is = refl }
-in_7 true command (Ua true) o = record { before = refl; count_is = refl; busy_is = refl; rejected_is = refl }
-in_7 false command (Ua true) o = record { before = refl; count_is = refl; busy_is = refl; rejected_is = refl }
-in_7 true command other o = record { before = refl; count_is = refl; busy_is = refl; rejected_is = refl }
-in_7 false command other o = record { before = refl; count_is = refl; busy_is = refl; rejected_is = refl }
+in_7 long command control o = grind (arith, numbered-so, receipt-so)
 
 in_8 : (long command : Bool) (control : Control) → Frame TimerRecovery long command control
 in_8 true command (Information ns nr p) o = tt
@@ -96,18 +67,9 @@ in_8 false command (Ua true) o = record { before = refl; count_is = refl; busy_i
 in_8 true command other o = record { before = refl; count_is = refl; busy_is = refl; rejected_is = refl }
 in_8 false command other o = record { before = refl; count_is = refl; busy_is = refl; rejected_is = refl }
 
-pub frame-stands : (x : State) (long command : Bool) (control : Control) → Frame x long command control
-frame-stands TeiAssigned = in_4
-frame-stands AwaitingEstablishment = in_5
-frame-stands AwaitingRelease = in_6
-frame-stands Established = in_7
-frame-stands TimerRecovery = in_8
-
 -- Nothing moves.
 rests : (x : State) (o : Observed) → let p = in_number (state_number x) o in When (is_up (state_number x)) (Stood (is_up (state_number x)) false false false p.own_busy p p)
-rests Established o = record { before = refl; count_is = refl; busy_is = refl; rejected_is = refl }
-rests TimerRecovery o = record { before = refl; count_is = refl; busy_is = refl; rejected_is = refl }
-rests other o = tt
+rests x o = grind arith
 
 module _ (c : Config) (service : Service) (tei : ℕ) where
   abbrev pub begins_by : State → Option Parts → Bool
@@ -127,76 +89,44 @@ module _ (c : Config) (service : Service) (tei : ℕ) where
 
   parts : (x : State) (o : Observed) (f : Option Parts) → let p = in_number (state_number x) o in let q = option_map_or (by_frame c p) f p in
       When (is_up q.state) (Stood (is_up (state_number x)) (begins_by x f) (taken_by p f) (informs f) p.own_busy p q)
-  parts x o None = rests x o
-  parts x o (Some f) = frame-stands x (nat_lt c.n201 (length f.info)) f.address.command f.control o
+  parts x o f = grind (arith, rests, in_4, in_5, in_6, in_7, in_8)
 
   heard-stands : (x : State) (o : Observed) (m : Bool) (f : Option Parts) → Heard x o m f
-  heard-stands Established o true f = tt
-  heard-stands Established o false f = parts Established o f
-  heard-stands TimerRecovery o true f = tt
-  heard-stands TimerRecovery o false f = parts TimerRecovery o f
-  heard-stands other o m f = parts other o f
+  heard-stands x o m f = grind (arith, parts)
 
   abbrev Quiet : State → Observed → Observed → Type 0
   Quiet x o q = let p = in_number (state_number x) o in When (is_up q.state) (Stood (is_up (state_number x)) false false false p.own_busy p q)
 
   enquiry : (o : Observed) (b : Bool) → let p = in_number 7 o in Quiet Established o (cond b (enquires p) p)
-  enquiry o true = record { before = refl; count_is = refl; busy_is = refl; rejected_is = refl }
-  enquiry o false = record { before = refl; count_is = refl; busy_is = refl; rejected_is = refl }
+  enquiry o b = grind arith
 
   again : (x : State) (o : Observed) (b : Bool) → let s = state_number x in let p = in_number s o in
       Quiet x o (cond b (record p { expiries = p.expiries + 1 }) (cond (s == 8) (anew p) (in_state 4)))
-  again Established o true = record { before = refl; count_is = refl; busy_is = refl; rejected_is = refl }
-  again TimerRecovery o true = record { before = refl; count_is = refl; busy_is = refl; rejected_is = refl }
-  again other o true = tt
-  again other o b = tt
+  again x o b = grind arith
 
   t200 : (x : State) (o : Observed) (b : Bool) → let p = in_number (state_number x) o in Quiet x o (cond b (by_t200 c.n200 p) p)
-  t200 x o false = rests x o
-  t200 TeiAssigned o true = tt
-  t200 Established o true = enquiry o (awaits (in_number 7 o))
-  t200 other o true = again other o (nat_lt o.expiries c.n200)
+  t200 x o b = grind (arith, rests, enquiry, again)
 
   t203 : (x : State) (o : Observed) (b : Bool) → let p = in_number (state_number x) o in Quiet x o (cond (b && (p.state == 7 && not (awaits p))) (enquires p) p)
-  t203 x o false = rests x o
-  t203 Established o true = enquiry o (not (awaits (in_number 7 o)))
-  t203 TimerRecovery o true = rests TimerRecovery o
-  t203 other o true = tt
+  t203 x o b = grind (arith, rests, enquiry)
 
   timer-stands : (x : State) (o : Observed) (timer : Timer) → Quiet x o (by_expiry c service tei timer (in_number (state_number x) o))
-  timer-stands x o (T200 of by) = t200 x o (is_own service tei of by)
-  timer-stands x o (T203 of by) = t203 x o (is_own service tei of by)
-  timer-stands x o T201 = rests x o
+  timer-stands x o timer = grind (arith, t200, t203, rests)
 
   establish : (x : State) (o : Observed) (b : Bool) → let p = in_number (state_number x) o in Quiet x o (cond (b && p.state == 4) (record (in_state 5) { asked = true }) p)
-  establish x o false = rests x o
-  establish Established o true = record { before = refl; count_is = refl; busy_is = refl; rejected_is = refl }
-  establish TimerRecovery o true = record { before = refl; count_is = refl; busy_is = refl; rejected_is = refl }
-  establish other o true = tt
+  establish x o b = grind (arith, rests)
 
   release : (x : State) (o : Observed) (b : Bool) → let p = in_number (state_number x) o in Quiet x o (cond (b && is_up p.state) (in_state 6) p)
-  release x o false = rests x o
-  release TeiAssigned o true = tt
-  release other o true = tt
+  release x o b = grind (arith, rests)
 
   deactivate : (x : State) (o : Observed) (b : Bool) → let p = in_number (state_number x) o in Quiet x o (cond b (in_state 4) p)
-  deactivate x o false = rests x o
-  deactivate x o true = tt
+  deactivate x o b = grind (arith, rests)
 
   abbrev Busied : State → Observed → Bool → Observed → Type 0
   Busied x o busy q = let p = in_number (state_number x) o in When (is_up q.state) (Stood (is_up (state_number x)) false false false busy p q)
 
-  comes-busy : (x : State) (o : Observed) (b : Bool) → let p = in_number (state_number x) o in Busied x o (b || p.own_busy) (cond b (record p { own_busy = true }) p)
-  comes-busy x o false = rests x o
-  comes-busy Established o true = record { before = refl; count_is = refl; busy_is = refl; rejected_is = refl }
-  comes-busy TimerRecovery o true = record { before = refl; count_is = refl; busy_is = refl; rejected_is = refl }
-  comes-busy other o true = tt
-
   ends-busy : (x : State) (o : Observed) (b : Bool) → let p = in_number (state_number x) o in Busied x o (not b && p.own_busy) (cond b (record p { own_busy = false }) p)
-  ends-busy x o false = rests x o
-  ends-busy Established o true = record { before = refl; count_is = refl; busy_is = refl; rejected_is = refl }
-  ends-busy TimerRecovery o true = record { before = refl; count_is = refl; busy_is = refl; rejected_is = refl }
-  ends-busy other o true = tt
+  ends-busy x o b = grind (arith, rests)
 
   -- An event of the line.
   abbrev pub EventStands : State → Observed → Event → Answer → Type 0
@@ -205,24 +135,10 @@ module _ (c : Config) (service : Service) (tei : ℕ) where
       When (is_up q.state) (Stood (is_up (state_number x)) (begins_by x f) (taken_by p f) (informs f) (asked_busy service tei what a p.own_busy) p q)
 
   asked-stands : (x : State) (o : Observed) (r : Request) (t : LineTold) → EventStands x o (request r) (told t)
-  asked-stands x o (Establish of by) t = establish x o (is_own service tei of by)
-  asked-stands x o (Release of by) t = release x o (is_own service tei of by)
-  asked-stands x o (Deactivate of by) t = deactivate x o (is_own service tei of by)
-  asked-stands x o (SetBusy of by) t = comes-busy x o (is_own service tei of by)
-  asked-stands x o (ClearBusy of by) t = ends-busy x o (is_own service tei of by)
-  asked-stands x o other t = rests x o
-
-  control-stands : (x : State) (o : Observed) (control : Control) → Quiet x o (sends (in_number (state_number x) o) control)
-  control-stands TeiAssigned o (Information ns nr pf) = tt
-  control-stands AwaitingEstablishment o (Information ns nr pf) = tt
-  control-stands AwaitingRelease o (Information ns nr pf) = tt
-  control-stands Established o (Information ns nr pf) = record { before = refl; count_is = refl; busy_is = refl; rejected_is = refl }
-  control-stands TimerRecovery o (Information ns nr pf) = record { before = refl; count_is = refl; busy_is = refl; rejected_is = refl }
-  control-stands x o other = rests x o
+  asked-stands x o r t = grind (arith, establish, release, deactivate, rests, ends-busy)
 
   sent-stands : (x : State) (o : Observed) (f : Option Parts) → let p = in_number (state_number x) o in Quiet x o (option_map_or (λ (f : Parts). sends p f.control) f p)
-  sent-stands x o None = rests x o
-  sent-stands x o (Some f) = control-stands x o f.control
+  sent-stands x o f = grind (arith, rests)
 
   pub event-stands-so : (x : State) (o : Observed) (what : Event) (a : Answer) → EventStands x o what a
   event-stands-so x o (hears e) a = heard-stands x o (is_some (malformed c service tei e)) (its_frame service tei (frame_of c e))

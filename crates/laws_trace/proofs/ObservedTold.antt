@@ -1,5 +1,5 @@
 -- What an event of a line tells of data, by what an observer knows of the link; and when the numbers begin.
-use Rattle.laws_trace.proofs.Vocabulary.{◌≡◌, ℕ, ◌%◌, ◌==◌, ◌&&◌, ◌≤◌, ◌<◌, not, Bool, true, false, cond, List, length, Option, Some, None, refl, sym, ap, ◌∙◌, arith, inl, inr, true≢false, nat_lt, nat_le, is_some, list_any, option_map_or, leb-true, leb-false, none-some, Information, ReceiveReady, ReceiveNotReady, Reject, Sabme, Disc, Ui, Ua, Dm, Frmr, Service, Parts, Seq, State, TeiAssigned, Terms, restarts, eligible, eligible_of, Link, is_multiple_frame, state_number, in_sequence, as_heard, state_after, numbers_begin, event-follows, data-is, establishes, Config, hears, Answer, Line, link_of, place_in, terms, IsInRange, notes_of, is_data_of, IsBy, ltb-true, ltb-false, Control, Xid, link_information_of as information_of, Event, IsSound, brings_next, brought, frame_of, its_frame, is_for, Observed, is_up, link_after as after}
+use Rattle.laws_trace.proofs.Vocabulary.{◌≡◌, ℕ, ◌%◌, ◌==◌, ◌&&◌, not, Bool, true, false, cond, List, length, Option, Some, None, refl, sym, ap, ◌∙◌, arith, inl, inr, true≢false, nat_lt, nat_le, is_some, list_any, option_map_or, leb-true, leb-false, none-some, Sabme, Ua, Service, Parts, Seq, State, Terms, restarts, eligible, eligible_of, Link, is_multiple_frame, state_number, in_sequence, as_heard, state_after, numbers_begin, event-follows, data-is, establishes, Config, Answer, Line, link_of, place_in, terms, IsInRange, notes_of, is_data_of, IsBy, ltb-true, ltb-false, Control, link_information_of as information_of, Event, IsSound, brings_next, brought, its_frame, is_for, Observed, is_up, link_after as after}
 use Rattle.model_link.specs.Events as link
 use Rattle.model_line.specs.Machine as lines
 use Rattle.laws_trace.proofs.Counting as counting
@@ -22,12 +22,10 @@ module _ (t : Terms) (f : Parts) where
       let e = link.received (link.frame (record f { control = control })) in numbers_begin e l.state (state_after t e l) ≡ begun_by (state_number l.state) control
 
   by-sabme : (p : Bool) (here : State) (l : Link) → Numbers (Sabme p) (record l { state = here })
-  by-sabme p TeiAssigned l = refl
-  by-sabme p other l = refl
+  by-sabme p here l = grind arith
 
   by-ua : (here : State) (l : Link) → Numbers (Ua true) (record l { state = here })
-  by-ua TeiAssigned l = refl
-  by-ua other l = refl
+  by-ua here l = grind arith
 
   followed : (control : Control) (l : Link) → let e = link.received (link.frame (record f { control = control })) in as_heard t e ≡ e → Numbers control l → Restarts control l
   followed control l heard is =
@@ -37,49 +35,16 @@ module _ (t : Terms) (f : Parts) where
       x.numbers ∙ ap (λ e. numbers_begin e l.state (after t (link.received (link.frame (record f { control = control }))) l).state) heard ∙ ap (numbers_begin e l.state) state ∙ is
 
   by-control : (control : Control) (l : Link) → Restarts control l
-  by-control (Sabme p) l = followed (Sabme p) l refl (in-state (Numbers (Sabme p)) l (λ here. by-sabme p here l))
-  by-control (Ua true) l = followed (Ua true) l refl (in-state (Numbers (Ua true)) l (λ here. by-ua here l))
-  by-control (Ua false) l = sym (unless _ (λ is. (establishes t l (link.received (link.frame (record f { control = Ua false }))) is).by))
-  by-control (Information ns nr p) l = sym (unless _ (λ is. (establishes t l (link.received (link.frame (record f { control = Information ns nr p }))) is).by))
-  by-control (ReceiveReady nr p) l = sym (unless _ (λ is. (establishes t l (link.received (link.frame (record f { control = ReceiveReady nr p }))) is).by))
-  by-control (ReceiveNotReady nr p) l = sym (unless _ (λ is. (establishes t l (link.received (link.frame (record f { control = ReceiveNotReady nr p }))) is).by))
-  by-control (Reject nr p) l = sym (unless _ (λ is. (establishes t l (link.received (link.frame (record f { control = Reject nr p }))) is).by))
-  by-control (Disc p) l = sym (unless _ (λ is. (establishes t l (link.received (link.frame (record f { control = Disc p }))) is).by))
-  by-control (Ui p) l = sym (unless _ (λ is. (establishes t l (link.received (link.frame (record f { control = Ui p }))) is).by))
-  by-control (Dm p) l = sym (unless _ (λ is. (establishes t l (link.received (link.frame (record f { control = Dm p }))) is).by))
-  by-control (Frmr p) l = sym (unless _ (λ is. (establishes t l (link.received (link.frame (record f { control = Frmr p }))) is).by))
-  by-control (Xid p) l = sym (unless _ (λ is. (establishes t l (link.received (link.frame (record f { control = Xid p }))) is).by))
+  by-control control l = grind (arith, followed, in-state, by-sabme, by-ua, unless)
 
   pub restarts-so : (l : Link) → restarts t (link.received (link.frame f)) l ≡ begun_by (state_number l.state) f.control
   restarts-so l = by-control f.control l
 
 -- What is due to be delivered, by what an observer knows.
-size-fits : (n m : ℕ) → nat_le n m ≡ not (nat_lt m n)
-size-fits n m = go (nat_le n m) refl (nat_lt m n) refl
-  where
-    go : (b : Bool) → nat_le n m ≡ b → (d : Bool) → nat_lt m n ≡ d → b ≡ not d
-    go true le true lt = let a : n ≤ m = leb-true n m le in let b : m < n = ltb-true m n lt in absurd (omega (arith, a, b))
-    go false le false lt = let a : m < n = leb-false n m le in let b : n ≤ m = ltb-false m n lt in absurd (omega (arith, a, b))
-    go b le other lt = refl
-
 module _ (t : Terms) (own : Link) (p : Observed) (is : p.state ≡ state_number own.state) (count_is : is_multiple_frame own.state ≡ true → own.r ≡ p.count)
     (busy_is : is_multiple_frame own.state ≡ true → own.own_busy ≡ p.own_busy) where
-  by-bits : (ns : Seq) (info : List ℕ) (n : ℕ) (fit up busy : Bool) → is_some (in_sequence n (cond (fit && up && not busy) (Some (record { ns = ns; contents = info })) None))
-      ≡ (up && (fit && (not busy && ns.value == n % 128)))
-  by-bits ns info n true true true = refl
-  by-bits ns info n true true false = go (ns.value == n % 128)
-    where
-      go : (b : Bool) → is_some (cond b (Some info) None) ≡ b
-      go true = refl
-      go false = refl
-  by-bits ns info n true false busy = refl
-  by-bits ns info n false true busy = refl
-  by-bits ns info n false false busy = refl
-
   and-none : (a b : Bool) → (a && (b && false)) ≡ false
-  and-none true true = refl
-  and-none true false = refl
-  and-none false b = refl
+  and-none a b = grind arith
 
   abbrev Due : Control → List ℕ → Type 0
   Due control info =
@@ -87,16 +52,10 @@ module _ (t : Terms) (own : Link) (p : Observed) (is : p.state ≡ state_number 
       ≡ (is_up p.state && (not (nat_lt t.n201 (length info)) && brings_next p control))
 
   by-up : (up : Bool) → is_multiple_frame own.state ≡ up → (ns : Seq) (fit : Bool) → (up && (fit && (not own.own_busy && ns.value == own.r % 128))) ≡ (up && (fit && (not p.own_busy && ns.value == p.count % 128)))
-  by-up false down ns fit = refl
-  by-up true up ns fit = ap (λ b. fit && (not b && ns.value == own.r % 128)) (busy_is up) ∙ ap (λ n. fit && (not p.own_busy && ns.value == n % 128)) (count_is up)
+  by-up up down ns fit = grind arith
 
   due-so : (control : Control) (info : List ℕ) → Due control info
-  due-so (Information ns nr f) info =
-      by-bits ns info own.r (nat_le (length info) t.n201) (is_multiple_frame own.state) own.own_busy
-      ∙ by-up (is_multiple_frame own.state) refl ns (nat_le (length info) t.n201)
-      ∙ ap (λ b. is_multiple_frame own.state && (b && (not p.own_busy && ns.value == p.count % 128))) (size-fits (length info) t.n201)
-      ∙ ap (λ b. b && (not (nat_lt t.n201 (length info)) && (not p.own_busy && ns.value == p.count % 128))) (sym (number-up own.state) ∙ ap is_up (sym is))
-  due-so other info = sym (and-none (is_up p.state) (not (nat_lt t.n201 (length info))))
+  due-so control info = grind (arith, is_some, nat_le, by-up, leb-true, ltb-true, leb-false, ltb-false, number-up, and-none)
 
 -- One event of a line, where the TEI is on it.
 module _ (c : Config) (ranged : IsInRange c) (l : Line) (s : IsSound c l) (e : Event) (service : Service) (tei place : ℕ) (on : place_in l tei ≡ Some place) where
@@ -113,32 +72,24 @@ module _ (c : Config) (ranged : IsInRange c) (l : Line) (s : IsSound c l) (e : E
   its = brought c service tei e
 
   brought-is : (e : Event) (f : Parts) → frame_by c e ≡ Some f → is_for service tei f.address ≡ true → brought c service tei e ≡ Some f
-  brought-is (hears what) f is for = ap (its_frame service tei) is ∙ ap (λ b. cond b (Some f) None) for
-  brought-is other f is for = absurd (none-some f is)
+  brought-is e f is for = grind (arith, none-some)
 
   none-brought : (e : Event) → frame_by c e ≡ None → brought c service tei e ≡ None
-  none-brought (hears what) is = ap (its_frame service tei) is
-  none-brought other is = refl
+  none-brought e is = grind arith
 
   not-for : HasNone c service tei e l (lines.after c e l) a → (f : Parts) → frame_by c e ≡ Some f → (b : Bool) → is_for service tei f.address ≡ b → is_for service tei f.address ≡ false
   not-for x f is false other = other
   not-for x f is true for = absurd (true≢false (sym (event-aims c l service tei place on e f is for) ∙ x.aims))
 
   none-of-it : HasNone c service tei e l (lines.after c e l) a → (o : Option Parts) → frame_by c e ≡ o → brought c service tei e ≡ None
-  none-of-it x None is = none-brought e is
-  none-of-it x (Some f) is = by-frame e is
-    where
-      by-frame : (e' : Event) → frame_by c e' ≡ Some f → brought c service tei e' ≡ None
-      by-frame (hears what) is' = ap (its_frame service tei) is' ∙ ap (λ b. cond b (Some f) None) (not-for x f is (is_for service tei f.address) refl)
-      by-frame other is' = refl
+  none-of-it x o is = grind (arith, none-brought, frame_by, not-for)
 
   -- when the numbers begin
   abbrev Begins : Type 0
   Begins = begins service tei (frame_by c e) (notes_of a) ≡ begins_by c service tei own.state its
 
   none-begins : (x : HasNone c service tei e l (lines.after c e l) a) → (o : Option Parts) → frame_by c e ≡ o → begins service tei o (notes_of a) ≡ false
-  none-begins x None is = refl
-  none-begins x (Some f) is = ap (λ b. b && counting.begins_by f.control (notes_of a)) (not-for x f is (is_for service tei f.address) refl)
+  none-begins x o is = grind (arith, counting.begins_by, not-for)
 
   no-restart : (event : link.Event) → (restarts t event own ≡ true → ⊥) → frame_by c e ≡ None → restarts t event own ≡ begins_by c service tei own.state its
   no-restart event never none = sym (unless (restarts t event own) never) ∙ sym (ap (begins_by c service tei own.state) (none-brought e none))
@@ -167,16 +118,13 @@ module _ (c : Config) (ranged : IsInRange c) (l : Line) (s : IsSound c l) (e : E
   informs-so = by-event e
     where
       by-address : (f : Parts) (b : Bool) → (b && is_information f.control) ≡ option_map_or (λ (f : Parts). is_information f.control) (cond b (Some f) None) false
-      by-address f true = refl
-      by-address f false = refl
+      by-address f b = grind arith
 
       by-frame : (o : Option Parts) → brings_information service tei o ≡ option_map_or (λ (f : Parts). is_information f.control) (its_frame service tei o) false
-      by-frame None = refl
-      by-frame (Some f) = by-address f (is_for service tei f.address)
+      by-frame o = grind (arith, by-address)
 
       by-event : (e : Event) → brings_information service tei (frame_by c e) ≡ informs c service tei (brought c service tei e)
-      by-event (hears what) = by-frame (frame_of c what)
-      by-event other = refl
+      by-event e = grind (arith, by-frame)
 
   -- what is told of data
   module _ (p : Observed) (n : ℕ) (count : IsCount own n) (is : p.state ≡ state_number own.state) (count_is : is_multiple_frame own.state ≡ true → own.r ≡ p.count)

@@ -1,12 +1,12 @@
 -- Where the contents that are granted, and the frames that are heard, are octets, so are those of each frame that
 -- begins: the law.
-use Rattle.laws_trace.proofs.Vocabulary.{◌≡◌, ℕ, zero, suc, ◌<◌, ◌≤◌, Bool, true, false, cond, List, [], ◌∷◌, ◌++◌, drop, get_or, replicate, slice_get, Option, Some, None, IfSome, option_map, refl, sym, ap, ◌∙◌, subst, arith, ◌⊎◌, inl, inr, All, is_some, option_or, option_map_or, flat_map-append, get_or-replicate, All-nil, All-cons, All-head, All-tail, All-append, All-drop, AreOctets, Address, Side, Ui, Refusal, Service, sapi_of, action_of, Message, accepted, share, IsOffered, Carries, number_sent, kept-after, given-is-offered, Seq, Link, queue_of, address_at, Given, Terms, Config, request, next, Answer, gave, Line, UnitData, link_count, link_number, service_at, place_at, place_in, tei_at, link_at, link_in, link_of, terms, fresh_line, Taken, with_unit, unit_frame, first_taken, round, taken, next_of, line_of, IsInRange, IsSoundAt, IsUnitData, round_below, unit_asked, units_asked, is_granted, IsBy, OfLink, of-links, IsOne, taken-one, has-place, units-wait, number-is, fresh_is_sound, head, unwrap_or, Control, head_of, information_of, message_frame, fresh_link, Event, told, line_after as after, answer, with_message, Request, IsSound, fresh, all-left as all-front, all-right as all-back, contents_given, GivesOctets, FramesAreOctets, trace_frame_in as frame_in, Seen, granted, seen_told, seen, frames_begun, Always, units_behind, units_left, link_refusal as refusal, Data, Down, LineUnit as Unit, frame_begun, seen_granted}
+use Rattle.laws_trace.proofs.Vocabulary.{◌≡◌, ℕ, zero, suc, ◌<◌, ◌≤◌, Bool, true, false, cond, List, [], ◌∷◌, ◌++◌, drop, get_or, replicate, slice_get, Option, Some, None, IfSome, option_map, refl, sym, ap, ◌∙◌, subst, arith, ◌⊎◌, inl, inr, All, is_some, option_or, option_map_or, flat_map-append, get_or-replicate, All-nil, All-head, All-tail, All-append, All-drop, AreOctets, Address, Side, Refusal, Service, action_of, Message, accepted, share, IsOffered, Carries, number_sent, kept-after, given-is-offered, Seq, Link, queue_of, address_at, Given, Terms, Config, request, next, Answer, gave, Line, UnitData, link_count, link_number, service_at, place_at, place_in, tei_at, link_at, link_in, link_of, terms, fresh_line, Taken, with_unit, unit_frame, first_taken, round, taken, next_of, line_of, IsInRange, IsSoundAt, IsUnitData, round_below, units_asked, is_granted, IsBy, OfLink, of-links, IsOne, taken-one, has-place, units-wait, number-is, fresh_is_sound, head, unwrap_or, Control, head_of, message_frame, fresh_link, Event, line_after as after, answer, with_message, Request, IsSound, fresh, all-left as all-front, all-right as all-back, contents_given, GivesOctets, FramesAreOctets, trace_frame_in as frame_in, Seen, seen_told, seen, frames_begun, Always, units_left, link_refusal as refusal, Data, frame_begun, seen_granted}
 use Rattle.model_link.specs.Events as link
 use Rattle.model_link.specs.Machine as links
 use Rattle.model_link.specs.Sound as link_sound
 use Rattle.laws_trace.proofs.OneLink.{Goes, event-goes}
 use Rattle.laws_trace.proofs.Runs.{run-shows}
-use Rattle.laws_trace.proofs.SmallMessages.{IsSmall, message-octets}
+use Rattle.laws_trace.proofs.SmallMessages.{IsSmall}
 use Rattle.laws_trace.proofs.SmallMessagesWait.{messages-after}
 use Rattle.laws_trace.proofs.Units.{none-told, none-requested, given-frames}
 use Rattle.laws_trace.proofs.Spelled.{Anything}
@@ -49,12 +49,10 @@ module _ (c : Config) (ranged : IsInRange c) (l : Line) (s : IsSound c l) (k : A
   IsExact t = AreOctets t.frame
 
   message-exact : (m : Message) → IsSmall m → action_of m ≤ 127 → AreOctets (message_frame c.side m)
-  message-exact m small low =
-      whole-octets c.side (record { sapi = 63; command = true; tei = 127 }) (Ui false) (information_of m) (omega arith) (omega arith) (message-octets m small low)
+  message-exact m small low = grind (arith, whole-octets)
 
   unit-exact : (u : UnitData) → u.tei ≤ 127 → IsUnit u → AreOctets (unit_frame c u)
-  unit-exact u low h =
-      whole-octets c.side (record { sapi = sapi_of u.service; command = true; tei = u.tei }) (Ui false) u.contents (small-sapi u.service) (omega (arith, low)) h
+  unit-exact u low h = grind (arith, whole-octets, small-sapi)
 
   -- the link at its number is that of its service with its TEI
   kept-at : (number tei : ℕ) → tei_at (place_at number) l ≡ Some tei → All AreOctets (queue_of (link_at number l))
@@ -78,8 +76,7 @@ module _ (c : Config) (ranged : IsInRange c) (l : Line) (s : IsSound c l) (k : A
       (offered-octets own-link.contents own-link.a own-link.s (number_sent x.what.frame.control) x.what.contents (kept-at x.number x.tei x.on_line) sound.ordered offered))
 
   first-exact : (o : Option Taken) → IfSome o (OfLink c l) → IfSome o IsExact
-  first-exact None x = tt
-  first-exact (Some t) x = link-exact t x
+  first-exact o x = grind (arith, link-exact)
 
   any-exact : (ms : List Message) (us : List UnitData) → All IsSmall ms → All (λ m. action_of m ≤ 127) ms → All (IsUnitData c) us → All IsUnit us
       → IfSome (option_or (option_map (with_message l) (option_map (message_frame c.side) (slice_get ms 0))) (option_or (option_map (with_unit c l) (slice_get us 0)) (first_taken c l (round c l)))) IsExact
@@ -87,32 +84,23 @@ module _ (c : Config) (ranged : IsInRange c) (l : Line) (s : IsSound c l) (k : A
   any-exact [] (u ∷ us) small low units octets = unit-exact u (All-head (IsUnitData c) u us units).tei (All-head IsUnit u us octets)
   any-exact [] [] small low units octets = first-exact (first_taken c l (round c l)) (of-links c l s (round c l) (round_below c l))
 
-  taken-exact : IfSome (taken c l) IsExact
-  taken-exact = any-exact l.management.waiting l.units k.messages s.management.queue.actions s.units k.units
-
 by-next : (o : Option Taken) → IfSome o (λ t. AreOctets t.frame) → All AreOctets (frame_in (gave (option_map next_of o)))
-by-next None h = All-nil AreOctets
-by-next (Some t) h = All-cons AreOctets t.frame [] h (All-nil AreOctets)
+by-next o h = grind arith
 
 event-exact : (c : Config) → IsInRange c → (e : Event) (l : Line) → IsSound c l → AreKept l → All AreOctets (frames_begun (seen e (answer c e l)))
 unfolding answer
-event-exact c ranged (request r) l s k = subst (All AreOctets) (sym (none-requested r (answer c (request r) l))) (All-nil AreOctets)
-event-exact c ranged next l s k = subst (All AreOctets) (sym (given-frames (option_map next_of (taken c l)))) (by-next (taken c l) (taken-exact c ranged l s k))
-event-exact c ranged other l s k = subst (All AreOctets) (sym (none-told (answer c other l))) (All-nil AreOctets)
+event-exact c ranged e l s k = grind (arith, none-requested, given-frames, option_map, by-next, any-exact, none-told)
 
 -- What a link keeps, where what is granted are octets.
 granted-seen : (r : Request) (a : Answer) → is_granted a ≡ true → All GivesOctets (seen_granted r a ++ seen_told a) → AreOctets (contents_given r)
-granted-seen r (told t) is h = All-head GivesOctets (granted r) (seen_told (told t)) h
-granted-seen r other is h = absurd (cc is)
+granted-seen r a is h = grind arith
 
 module _ (c : Config) (e : Event) (l : Line) (s : IsSound c l) (ranged : IsInRange c) (k : AreKept l) (gives : All GivesOctets (seen e (answer c e l))) (service : Service) (tei : ℕ) where
   by-refusal : (o : Option Refusal) (contents : List ℕ) → AreOctets contents → All AreOctets (cond (is_some o) [] (contents ∷ []))
-  by-refusal None contents h = All-cons AreOctets contents [] h (All-nil AreOctets)
-  by-refusal (Some why) contents h = All-nil AreOctets
+  by-refusal o contents h = grind arith
 
   none-accepted : (o : Option Refusal) → All AreOctets (cond (is_some o) [] [])
-  none-accepted None = All-nil AreOctets
-  none-accepted (Some why) = All-nil AreOctets
+  none-accepted o = grind arith
 
   accepted-octets : (t : Terms) (x : Link) (event : link.Event) → IsBy c e (answer c e l) service tei event → All AreOctets (accepted t event x)
   accepted-octets t x (link.requested (link.Data contents) full) by =
@@ -148,21 +136,11 @@ module _ (c : Config) (e : Event) (l : Line) (s : IsSound c l) (ranged : IsInRan
       (left-octets (share t x.event own).empties (share t x.event own).acknowledged (queue_of own) (accepted t x.event own) (k.links service tei) (accepted-octets t own x.event x.by)))
 
 -- The unit data that waits then.
-asked-exact : (r : Request) → AreOctets (contents_given r) → All IsUnit (unit_asked r)
-asked-exact (Unit service tei contents) h = All-cons IsUnit (record { service = service; tei = tei; contents = contents }) [] h (All-nil IsUnit)
-asked-exact other h = All-nil IsUnit
-
 by-grant : (r : Request) (a : Answer) → All GivesOctets (seen_granted r a ++ seen_told a) → All IsUnit (units_asked (request r) a)
-by-grant r (told t) h = asked-exact r (granted-seen r (told t) refl h)
-by-grant r other h = All-nil IsUnit
+by-grant r a h = grind (arith, granted-seen)
 
 left-exact : (r : Request) (a : Answer) (us : List UnitData) → All IsUnit us → All IsUnit (units_left r a us)
-left-exact r (told t) us h = behind r
-  where
-    behind : (r : Request) → All IsUnit (units_behind r us)
-    behind Down = All-nil IsUnit
-    behind other = h
-left-exact r other us h = h
+left-exact r a us h = grind arith
 
 next-units : (c : Config) (l : Line) → IsSound c l → All IsUnit l.units → All IsUnit (option_map_or line_of (taken c l) l).units
 next-units c l s h = go (taken c l) (taken-one c l s)
@@ -173,8 +151,7 @@ next-units c l s h = go (taken c l) (taken-one c l s)
     took t (inr (inr x)) = subst (λ (u : Taken). All IsUnit u.line.units) (sym x.is) h
 
     go : (o : Option Taken) → IfSome o (IsOne c l) → All IsUnit (option_map_or line_of o l).units
-    go None x = h
-    go (Some t) x = took t x
+    go o x = grind (arith, took)
 
 units-after : (c : Config) (e : Event) (l : Line) → IsSound c l → All GivesOctets (seen e (answer c e l)) → All IsUnit l.units → All IsUnit (after c e l).units
 unfolding after

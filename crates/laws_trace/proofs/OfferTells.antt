@@ -1,21 +1,15 @@
 -- An offer of a link tells layer 3 nothing.
-use Rattle.laws_trace.proofs.Vocabulary.{◌≡◌, Bool, true, false, cond, List, [], ◌∷◌, None, refl, ControlFrame, Terms, Link, ◌then◌, changed, Course, begun as course_begun, T200, offer, course, give_information, is_awaiting_acknowledgement, may_send_information, offer_among, with_one_sent, pending_is, start}
+use Rattle.laws_trace.proofs.Vocabulary.{arith, ◌≡◌, Bool, cond, List, [], None, ControlFrame, Terms, Link, Course, begun as course_begun, offer, course, offer_among}
 
 module _ (t : Terms) (x : Link) where
   abbrev pub TellsNothing : Course → Type 0
   TellsNothing k = (k.notes ≡ []) × (k.delivered ≡ None) × (k.unit ≡ None) × (k.lost ≡ 0)
 
   choose : (b : Bool) (u v : Course) → TellsNothing u → TellsNothing v → TellsNothing (cond b u v)
-  choose true u v h k = h
-  choose false u v h k = k
+  choose b u v h k = grind arith
 
   offers : (ws : List ControlFrame) → TellsNothing (offer_among t ws (course_begun x))
-  offers (f ∷ fs) = (refl, refl, refl, refl)
-  offers [] =
-      let sent = (give_information then changed with_one_sent then pending_is false) (course_begun x) in
-      choose (may_send_information t x) _ _
-      (choose (is_awaiting_acknowledgement sent.link) sent (start T200 sent) (refl, refl, refl, refl) (refl, refl, refl, refl))
-      (choose x.pending _ _ (refl, refl, refl, refl) (refl, refl, refl, refl))
+  offers ws = grind (arith, choose)
 
   pub offer-tells_nothing : TellsNothing (course t offer x)
   offer-tells_nothing = offers x.waiting

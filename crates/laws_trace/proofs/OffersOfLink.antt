@@ -1,5 +1,5 @@
 -- What a link gives next is what an observer has it offer.
-use Rattle.laws_trace.proofs.Vocabulary.{◌≡◌, ℕ, zero, suc, ◌+◌, ◌%◌, ◌<◌, ◌≤◌, ◌==◌, ◌&&◌, not, nat_lt, Bool, true, false, cond, List, [], ◌∷◌, drop, length, slice_get, Option, Some, None, refl, sym, ap, ◌∙◌, subst, inl, inr, arith, true≢false, and_parts, fold, Service, place_of-is, Information, ReceiveReady, Seq, seq, given-in-order, given-is-offered, IsInOrder, IsOffered, State, Established, ControlFrame, Terms, Link, is_multiple_frame, is_information, state_number, Given, Config, Line, link_of, place_in, terms, window, IsInRange, IsSilent, terms_in_range, line_at, moments, take, map, ◌++◌, ltb-true, lt-ltb, Control, line_frame_of as frame_of, IsSound, fresh, CardEvent as Event, after_all, AreAtLines, is_seq, number_sent, Carries, text, may_go, offers, View, steps, view_of, Outgoing, outgoing_of, is_up, offer, link_after as after, given}
+use Rattle.laws_trace.proofs.Vocabulary.{◌≡◌, ℕ, zero, suc, ◌+◌, ◌%◌, ◌<◌, ◌≤◌, ◌==◌, ◌&&◌, not, nat_lt, Bool, true, false, cond, List, [], ◌∷◌, drop, length, slice_get, Option, Some, None, refl, sym, ap, ◌∙◌, subst, inl, inr, arith, and_parts, fold, Service, place_of-is, Information, ReceiveReady, Seq, seq, given-in-order, given-is-offered, IsInOrder, IsOffered, State, Established, ControlFrame, Terms, Link, is_multiple_frame, is_information, state_number, Given, Config, Line, link_of, place_in, terms, window, IsInRange, IsSilent, terms_in_range, line_at, moments, take, map, ◌++◌, ltb-true, lt-ltb, line_frame_of as frame_of, IsSound, fresh, CardEvent as Event, after_all, AreAtLines, is_seq, Carries, text, may_go, offers, View, steps, view_of, Outgoing, outgoing_of, is_up, offer, link_after as after, given}
 use Rattle.model_link.specs.Sound as link_sound
 use Rattle.laws_link.specs.Sending.{MayGo}
 use Rattle.laws_trace.proofs.LineAtEnd.{line-at-end, link-at-end}
@@ -37,29 +37,15 @@ module _ (c : Config) (service : Service) (tei : ℕ) (o : Outgoing) where
   abbrev information : List ℕ → List ℕ
   information contents = text c service tei true (Information (seq o.view.link.next) (seq o.view.link.count) false) contents
 
-  take-own : (b : Bool) (x : List ℕ) → take 1 (cond b (x ∷ []) []) ≡ cond b (x ∷ []) []
-  take-own true x = refl
-  take-own false x = refl
-
   by-left : (left : List (List ℕ)) (b : Bool) → may_go c service o.view.link ≡ b → take 1 (map information (cond b left []) ++ by_itself c service tei o) ≡ sends c service tei o left
-  by-left (x ∷ xs) true may = sym (ap (λ b. cond b (information x ∷ []) (by_itself c service tei o)) may)
-  by-left (x ∷ xs) false may = take-own o.owes _ ∙ sym (ap (λ b. cond b (information x ∷ []) (by_itself c service tei o)) may)
-  by-left [] true may = take-own o.owes _
-  by-left [] false may = take-own o.owes _
+  by-left left b may = grind arith
 
   offers-are : offers c service tei o ≡ offers_behind c service tei o o.waiting
-  offers-are = go o.waiting
-    where
-      go : (ws : List ControlFrame)
-          → take 1 (map (λ (f : ControlFrame). text c service tei f.command f.control []) ws ++ map information (cond (may_go c service o.view.link) (unsent o) []) ++ by_itself c service tei o)
-          ≡ offers_behind c service tei o ws
-      go (f ∷ fs) = refl
-      go [] = by-left (unsent o) (may_go c service o.view.link) refl
+  offers-are = grind (arith, by-left)
 
 -- Lists.
 drop-none : (n : ℕ) → drop {A = List ℕ} n [] ≡ []
-drop-none zero = refl
-drop-none (suc n) = refl
+drop-none n = grind arith
 
 drop-twice : (xs : List (List ℕ)) (a n m : ℕ) → a + m ≡ n → drop m (drop a xs) ≡ drop n xs
 drop-twice xs zero n m is = let same : m ≡ n = omega (arith, is) in ap (λ k. drop k xs) same
@@ -76,24 +62,15 @@ at-front (y ∷ xs) zero x is = (xs, ap (λ z. z ∷ xs) (some-same is))
 at-front (y ∷ xs) (suc n) x is = at-front xs n x is
 
 some-left : (xs : List (List ℕ)) (n : ℕ) (x : List ℕ) (rest : List (List ℕ)) → drop n xs ≡ x ∷ rest → n < length xs
-some-left [] n x rest is = absurd (no-first (sym (drop-none n) ∙ is))
-  where
-    no-first : [] ≡ x ∷ rest → ⊥
-    no-first e = cc e
+some-left [] n x rest is = grind (arith, drop-none)
 some-left (y ∷ xs) zero x rest is = omega arith
 some-left (y ∷ xs) (suc n) x rest is = let few = some-left xs n x rest is in omega (arith, few)
 
-none-numbered : (control : Control) → link_sound.is_information control ≡ false → number_sent control ≡ None
-none-numbered (Information ns nr p) e = absurd (true≢false e)
-none-numbered other e = refl
-
 bare-contents : (all : List (List ℕ)) (j : ℕ) (f : ControlFrame) (contents : Option (List ℕ)) → link_sound.is_information f.control ≡ false → IsOffered all j f contents → contents ≡ None
-bare-contents all j f contents bare offered =
-    subst (λ o. elim o as (λ o. Type 0) [ None ↦ contents ≡ None | Some ns ↦ Carries all j ns contents ]) (none-numbered f.control bare) offered
+bare-contents all j f contents bare offered = grind arith
 
 seven : (s : State) → (state_number s == 7) ≡ true → s ≡ Established
-seven Established is = refl
-seven other is = absurd (true≢false (sym is))
+seven s is = grind arith
 
 module _ (c : Config) (events : List Event) (number : ℕ) (ranged : IsInRange c) (all : AreAtLines (fresh c) events) (within : number < c.lines) (service : Service) (tei place : ℕ)
     (on : place_in (line_at number (after_all (fresh c) events)) tei ≡ Some place) where
@@ -148,9 +125,7 @@ module _ (c : Config) (events : List Event) (number : ℕ) (ranged : IsInRange c
     seen_up = ap is_up (seen-before c events number ranged all within service tei place on).state_is ∙ up-number own.state ∙ up
 
     count-is : o.view.link.count ≡ own.r
-    count-is =
-        ap (λ (v : View). v.link.count) view
-        ∙ ((agrees-now c events number ranged all within service tei) seen_up).count_is ∙ sym ((run-stands c events number ranged all within service tei).1 up)
+    count-is = grind (arith, view, agrees-now, seen_up, run-stands)
 
     acknowledged-is : o.view.link.acknowledged ≡ own.a % 128
     acknowledged-is = ap (λ (v : View). v.link.acknowledged) view ∙ ap (λ (z : Known). z.acknowledged) numbers ∙ known.acknowledged
@@ -180,13 +155,7 @@ module _ (c : Config) (events : List Event) (number : ℕ) (ranged : IsInRange c
   Few = nat_lt (steps o.view.link.acknowledged o.view.link.next) (window c service)
 
   may-so : MayGo t own → may_go c service o.view.link ≡ true
-  may-so may =
-      let up : is_multiple_frame own.state ≡ true = ap is_multiple_frame may.state in
-      let whole = steps-are up in
-      let less : own.s < own.a + window c service = may.window in
-      ap (λ n. n == 7 && (not o.view.link.busy && Few)) (state-is ∙ ap state_number may.state)
-      ∙ ap (λ b. not b && Few) (busy-is up ∙ may.free)
-      ∙ lt-ltb (steps o.view.link.acknowledged o.view.link.next) (window c service) (omega (arith, whole, less))
+  may-so may = grind (arith, steps-are, state-is, busy-is, lt-ltb)
 
   goes-so : may_go c service o.view.link ≡ true → (contents : List ℕ) (rest : List (List ℕ)) → unsent o ≡ contents ∷ rest → MayGo t own
   goes-so may contents rest left =
@@ -216,9 +185,7 @@ module _ (c : Config) (events : List Event) (number : ℕ) (ranged : IsInRange c
   behind-none none = offers-are c service tei o ∙ ap (offers_behind c service tei o) (waits-are ∙ none)
 
   pub nothing-offered : IsSilent t own → offers c service tei o ≡ []
-  nothing-offered silent =
-      behind-none silent.waiting ∙ none-sent silent.information
-      ∙ ap (λ b. cond b (text c service tei false (ReceiveReady (seq o.view.link.count) false) [] ∷ []) []) (owes-are ∙ silent.pending)
+  nothing-offered silent = grind (arith, behind-none, none-sent, owes-are)
 
   -- What is given is offered.
   abbrev Offers : Given → Type 0
@@ -226,8 +193,7 @@ module _ (c : Config) (events : List Event) (number : ℕ) (ranged : IsInRange c
 
   with-frame : (g : Given) (f : ControlFrame) (contents : Option (List ℕ)) → g.frame ≡ f → g.contents ≡ contents
       → frame_of c t g ≡ frame_of c t (record { frame = f; contents = contents; orders = g.orders })
-  with-frame g f contents is has = ap (λ f. frame_of c t (record { frame = f; contents = g.contents; orders = g.orders })) is
-      ∙ ap (λ o. frame_of c t (record { frame = f; contents = o; orders = g.orders })) has
+  with-frame g f contents is has = grind arith
 
   seq-again : (n : ℕ) → seq (n % 128) ≡ seq n
   unfolding seq

@@ -1,6 +1,6 @@
 -- What an event of a line is to the link of a service with a TEI, at whatever place the TEI is: one event of this link,
 -- its deactivation, or none.
-use Rattle.laws_trace.proofs.Vocabulary.{◌≡◌, ℕ, ◌==◌, ◌&&◌, Bool, true, false, List, [], ◌∷◌, map, slice_get, Option, Some, None, IfSome, option_map, refl, sym, ap, ◌∙◌, subst, ◌⊎◌, inl, inr, ⊎_elim, All, option_to_list, option_or, option_map_or, All-nil, All-cons, none-some, Refusal, Service, Order, same_service, IsAt, Message, Terms, Link, Sent, Given, Config, hears, expiry, request, next, Answer, gave, Aim, at_none, at_link, at_management, at_units, of_aim, aim_of_expiry, orders_in, Line, UnitData, link_number, service_at, place_at, place_in, has_tei, link_at, link_in, link_of, terms, with_link, aim_of, unless_refused, unless_refused_told, aim_of_heard, Taken, taken, with_unit, unit_frame, with_given_frame, first_taken, round, next_of, line_of, aim_of_request, IsProper, heard_proper, expiry_proper, request_proper, round_below, lost_in, notes_of, contents_in, IsBy, IsDeactivated, IsOf, by-or-down, OfLink, of-links, services-equal, both-true, has-place, Ties, heard-ties, expiry-ties, request-ties, number-is, at_no_link, orders_for, eqb-true, message_frame, fresh_link as fresh, Event, told, line_after as after, answer, with_message, line_frame_of as frame_of, refusal, IsSound, trace_frame_in as frame_in, by-down, Timer, LinkTimer, at_timer, Deactivate, at_requested, at_deactivated, heard_aims, Request, Establish, Release, Data, SetBusy, ClearBusy, TimerT200 as T200, T201, TimerT203 as T203, given}
+use Rattle.laws_trace.proofs.Vocabulary.{arith, ◌≡◌, ℕ, ◌==◌, ◌&&◌, Bool, true, false, List, [], ◌∷◌, map, slice_get, Option, Some, None, IfSome, option_map, refl, sym, ap, ◌∙◌, subst, ◌⊎◌, inl, inr, ⊎_elim, All, option_to_list, option_or, option_map_or, All-nil, All-cons, none-some, Refusal, Service, Order, same_service, IsAt, Message, Terms, Link, Given, Config, hears, expiry, request, next, Answer, gave, Aim, at_none, at_link, at_management, at_units, of_aim, aim_of_expiry, orders_in, Line, UnitData, link_number, service_at, place_at, place_in, has_tei, link_at, link_in, link_of, terms, with_link, aim_of, unless_refused, unless_refused_told, aim_of_heard, Taken, with_unit, unit_frame, with_given_frame, first_taken, round, next_of, line_of, aim_of_request, IsProper, heard_proper, expiry_proper, request_proper, round_below, lost_in, notes_of, contents_in, IsBy, IsDeactivated, IsOf, by-or-down, OfLink, of-links, services-equal, both-true, has-place, Ties, heard-ties, expiry-ties, request-ties, number-is, at_no_link, orders_for, eqb-true, message_frame, fresh_link as fresh, Event, told, line_after as after, answer, with_message, line_frame_of as frame_of, refusal, IsSound, trace_frame_in as frame_in, by-down, Timer, LinkTimer, at_timer, at_requested, at_deactivated, heard_aims, Request, given}
 use Rattle.model_link.specs.Events as link
 use Rattle.model_link.specs.Machine as links
 use Rattle.laws_line.proofs.Readings as read
@@ -10,7 +10,6 @@ use Rattle.laws_trace.proofs.OfferTells.{offer-tells_nothing}
 use Rattle.laws_trace.proofs.OrdersOfLink.{its_orders, none-ordered, stop-orders-none, other-ordered}
 use Rattle.laws_line.proofs.Downs.{given_up}
 use Rattle.model_bits.specs.Stream as stream
-use Rattle.model_link.specs.declared.timers.LinkTimer.TheVariants as link_timer
 
 -- Which events of a line give a frame: of a link, only an offer.
 -- The frame that an offer of a link gives; no other event gives one.
@@ -29,30 +28,19 @@ module _ (c : Config) (l : Line) where
   heard-silent what = heard_aims c l Silent (λ cause. refl) (λ its by place what at. refl) (λ info. tt) (λ parts service to. refl) what
 
   timer-silent : (its : Service) (by : ℕ) (k : LinkTimer) (o : Option ℕ) → Silent (at_timer its by k o)
-  timer-silent its by k None = refl
-  timer-silent its by k (Some place) = refl
+  timer-silent its by k o = grind arith
 
   pub expiry-silent : (timer : Timer) → Silent (aim_of_expiry timer l)
-  expiry-silent (T200 its by) = timer-silent its by link_timer.T200 (place_in l by)
-  expiry-silent (T203 its by) = timer-silent its by link_timer.T203 (place_in l by)
-  expiry-silent T201 = tt
+  expiry-silent timer = grind (arith, timer-silent)
 
   asked-silent : (its : Service) (by : ℕ) (asked : link.Request) (o : Option ℕ) → Silent (at_requested its by asked o)
-  asked-silent its by asked None = refl
-  asked-silent its by asked (Some place) = refl
+  asked-silent its by asked o = grind arith
 
   deactivated-silent : (its : Service) (by : ℕ) (o : Option ℕ) → Silent (at_deactivated its by o)
-  deactivated-silent its by None = refl
-  deactivated-silent its by (Some place) = refl
+  deactivated-silent its by o = grind arith
 
   pub request-silent : (r : Request) → Silent (aim_of_request r l)
-  request-silent (Establish its by) = asked-silent its by link.Establish (place_in l by)
-  request-silent (Release its by) = asked-silent its by link.Release (place_in l by)
-  request-silent (Data its by contents) = asked-silent its by (link.Data contents) (place_in l by)
-  request-silent (SetBusy its by) = asked-silent its by link.SetBusy (place_in l by)
-  request-silent (ClearBusy its by) = asked-silent its by link.ClearBusy (place_in l by)
-  request-silent (Deactivate its by) = deactivated-silent its by (place_in l by)
-  request-silent other = tt
+  request-silent r = grind (arith, asked-silent, deactivated-silent)
 
 -- Whether an event of the line is one at this link.
 abbrev pub is_at_link : Service → ℕ → Aim → Bool
@@ -129,10 +117,7 @@ module _ (c : Config) (l : Line) (s : IsSound c l) (service : Service) (tei : �
   -- Nothing is ordered of a link that stays as it is.
   quiet : (new : Line) → link_of service tei new ≡ link_of service tei l → (orders : List Order) → its_orders service tei orders ≡ []
       → its_orders service tei orders ≡ orders_for (terms c service tei) (link_of service tei l).running None (link_of service tei new).running
-  quiet new same orders none =
-      none
-      ∙ sym (ap (λ (x : Link). orders_for (terms c service tei) (link_of service tei l).running None x.running) same
-      ∙ none-ordered (terms c service tei) (link_of service tei l).running)
+  quiet new same orders none = grind (arith, none-ordered)
 
   -- What an aim comes to.
   module _ (e : Event) (a : Answer) (none_begins : frame_in a ≡ []) where
@@ -248,14 +233,7 @@ module _ (c : Config) (l : Line) (s : IsSound c l) (service : Service) (tei : �
 
   -- what a link gives, it orders as well
   pub given-orders : (t : Terms) (x : Link) (g : Given) → links.given t x ≡ Some g → g.orders ≡ (links.told t link.offer x).orders
-  given-orders t x g = go (links.course t link.offer x).sent
-    where
-      go : (o : Option Sent) → links.given_of t x (links.course t link.offer x) o ≡ Some g → g.orders ≡ (links.told t link.offer x).orders
-      go None e = absurd (none-some g e)
-      go (Some sent) e = ap (λ (h : Given). h.orders) (sym (some-same-given e))
-        where
-          some-same-given : {u v : Given} → Some u ≡ Some v → u ≡ v
-          some-same-given e = cc e
+  given-orders t x g = grind (arith, none-some)
 
   took-link : (its : Service) (by place : ℕ) (g : Given) → (at : IsAt l.management.places place by) → links.given (terms c its by) (link_in l its place) ≡ Some g
       → (b : Bool) → (same_service its service && by == tei) ≡ b → Took (with_given_frame c l (link_number place its) (terms c its by) g)
@@ -296,8 +274,7 @@ module _ (c : Config) (l : Line) (s : IsSound c l) (service : Service) (tei : �
       (same_service (service_at x.number) service && x.tei == tei) refl))
 
   took-first : (o : Option Taken) → IfSome o (OfLink c l) → IfSome o Took
-  took-first None x = tt
-  took-first (Some t) x = took-one t x
+  took-first o x = grind (arith, took-one)
 
   took-any : (m : Option Message) (u : Option UnitData)
       → IfSome (option_or (option_map (with_message l) (option_map (message_frame c.side) m)) (option_or (option_map (with_unit c l) u) (first_taken c l (round c l)))) Took
@@ -319,33 +296,7 @@ module _ (c : Config) (l : Line) (s : IsSound c l) (service : Service) (tei : �
 
   next-goes : Goes c service tei next l (after c next l) (answer c next l)
   unfolding after answer
-  next-goes = go (gave-it (taken c l) (took-any (slice_get l.management.waiting 0) (slice_get l.units 0)))
-    where
-      go : let a = gave (option_map next_of (taken c l)) in Gave (option_map_or line_of (taken c l) l) (frame_in a) (orders_in a)
-          → Goes c service tei next l (option_map_or line_of (taken c l) l) (gave (option_map next_of (taken c l)))
-      go (inl x) =
-          inl (record {
-            is = inl x.0;
-            stays = λ was there. x.0;
-            aims = refl;
-            orders = quiet (option_map_or line_of (taken c l) l) x.0 (orders_in (gave (option_map next_of (taken c l)))) x.2;
-            begins = x.1;
-          })
-      go (inr x) =
-          let q = offer-tells_nothing Own (link_of service tei l) in
-          inr (inl (record {
-            place = x.0;
-            placed = x.1;
-            event = link.offer;
-            by = refl;
-            aimed = inl refl;
-            is = x.2;
-            notes = sym q.0;
-            contents = sym (ap (λ o. option_or o (links.told Own link.offer (link_of service tei l)).unit) q.1 ∙ q.2);
-            lost = sym q.3;
-            orders = x.4;
-            begins = x.3;
-          }))
+  next-goes = grind (arith, gave-it, took-any, slice_get, option_map, stays, quiet, offer-tells_nothing)
 
 pub event-goes : (c : Config) (e : Event) (l : Line) (service : Service) (tei : ℕ) → IsSound c l → Goes c service tei e l (after c e l) (answer c e l)
 unfolding after answer

@@ -1,5 +1,5 @@
 -- Whose frames a card hears, and whose it sends: the law.
-use Rattle.laws_trace.proofs.Vocabulary.{◌≡◌, ℕ, ◌==◌, Bool, true, false, cond, List, length, drop, slice_index, Option, Some, None, Result, Ok, Err, refl, ap, ◌∙◌, subst, IfOk, Address, Side, Network, User, ReadFault, BadExtension, Undefined, WrongSize, Short, is_short, has_bad_extension, Parts, cr_bit, other_side, allows, takes, row, address_of, checked, control_of, header_of, start_of, completed, reading, heard_side, Control}
+use Rattle.laws_trace.proofs.Vocabulary.{arith, ◌≡◌, ℕ, ◌==◌, Bool, true, cond, List, slice_index, Option, Result, Ok, Err, ap, ◌∙◌, subst, IfOk, Address, Side, Network, User, ReadFault, Undefined, Short, Parts, cr_bit, other_side, checked, header_of, completed, reading, heard_side, Control}
 use Rattle.laws_trace.specs.OtherSide.{bit_in, TheOtherSideIsHeard}
 
 -- A frame that is read is a command by its C/R bit.
@@ -17,40 +17,24 @@ module _ (side : Side) (octets : List ℕ) where
   Begins r = IfOk r (λ h. IsTold h.0)
 
   unless-short : (b : Bool) (r : Result Parts ReadFault) → Reads r → Reads (cond b (Err Short) r)
-  unless-short true r h = tt
-  unless-short false r h = h
-
-  of-size : (b : Bool) (a : Address) (control : Control) (info : List ℕ) → IsTold a
-      → Reads (cond b (Ok (record { address = a; control = control; info = info })) (Err (WrongSize a)))
-  of-size true a control info h = h
-  of-size false a control info h = tt
+  unless-short b r h = grind arith
 
   whole : (r : Result (Address × Control) ReadFault) → Begins r → Reads (completed octets r)
-  whole (Ok h) told = of-size (takes (row h.1).info (length (drop (start_of h.1) octets))) h.0 h.1 (drop (start_of h.1) octets) told
-  whole (Err fault) told = tt
+  whole r told = grind arith
 
   allowed : (b : Bool) (a : Address) (control : Control) → IsTold a → Begins (cond b (Ok (a, control)) (Err (Undefined a)))
-  allowed true a control h = h
-  allowed false a control h = tt
+  allowed b a control h = grind arith
 
   begun : (a : Address) (o : Option Control) → IsTold a → Begins (checked a o)
-  begun a None h = tt
-  begun a (Some control) h = allowed (allows (row control).kind a.command) a control h
-
-  extended : (b : Bool) (r : Result (Address × Control) ReadFault) → Begins r → Begins (cond b (Err BadExtension) r)
-  extended true r h = tt
-  extended false r h = h
+  begun a o h = grind (arith, allowed)
 
   header-told : (second third fourth : ℕ) → Begins (header_of side first second third fourth)
   unfolding header_of
-  header-told second third fourth =
-      extended (has_bad_extension first second) (checked (address_of side first second) (control_of third fourth)) (begun (address_of side first second) (control_of third fourth) refl)
+  header-told second third fourth = grind (arith, begun)
 
   told : Reads (reading side octets)
   unfolding reading
-  told =
-      unless-short (is_short octets) (completed octets (header_of side first (slice_index octets 1) (slice_index octets 2) (slice_index octets 3)))
-      (whole (header_of side first (slice_index octets 1) (slice_index octets 2) (slice_index octets 3)) (header-told (slice_index octets 1) (slice_index octets 2) (slice_index octets 3)))
+  told = grind (arith, unless-short, slice_index, whole, header-told)
 
   pub by-bit : (frame : Parts) → reading side octets ≡ Ok frame → frame.address.command ≡ (bit_in octets == cr_bit side true)
   by-bit frame read = subst Reads read told

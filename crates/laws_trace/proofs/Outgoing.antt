@@ -1,5 +1,5 @@
 -- What a link has to send is what an observer has: what it keeps.
-use Rattle.laws_trace.proofs.Vocabulary.{◌≡◌, ℕ, ◌%◌, ◌<◌, ◌==◌, ◌&&◌, Bool, true, false, cond, not, List, [], ◌∷◌, ◌++◌, drop, get_or, Option, Some, None, refl, sym, ap, ◌∙◌, subst, arith, eq-eqb, true≢false, append-nil, append_assoc, fold, and_parts, get_or-set_same, get_or-replicate, fold-append, none-some, Service, Link, queue_of, state_number, Config, Answer, Line, fresh_line, has_tei, link_of, place_in, IsInRange, is-off, nowhere, Card, line_at, is_full, at, moments, has_lines, by_room, line_sound, all-left, notes_of, eqb-true, fresh_link, fresh, CardEvent as Event, after, card_answer as answer, Moment, after_all, IsAtLine, AreAtLines, managing_is_on as is_on, due, brings, is_sabme, Observed, View, steps, views, view_of, moment_of, view_behind, Outgoing, data_granted, went_on, keeps, watches, nothing_yet, outgoing_of, is_up, seen, CardIsSound as IsSound}
+use Rattle.laws_trace.proofs.Vocabulary.{◌≡◌, ℕ, ◌<◌, ◌==◌, ◌&&◌, Bool, true, false, cond, List, [], ◌∷◌, ◌++◌, drop, get_or, Option, Some, None, refl, sym, ap, ◌∙◌, subst, arith, eq-eqb, true≢false, append-nil, append_assoc, fold, and_parts, get_or-set_same, get_or-replicate, fold-append, none-some, Service, Link, queue_of, state_number, Config, Answer, Line, fresh_line, has_tei, link_of, place_in, IsInRange, is-off, nowhere, Card, line_at, is_full, at, moments, has_lines, by_room, line_sound, all-left, notes_of, eqb-true, fresh_link, fresh, CardEvent as Event, after, card_answer as answer, Moment, after_all, IsAtLine, AreAtLines, managing_is_on as is_on, due, brings, is_sabme, Observed, View, views, view_of, moment_of, view_behind, Outgoing, data_granted, went_on, keeps, watches, nothing_yet, outgoing_of, is_up, seen, CardIsSound as IsSound}
 use Rattle.model_line.specs.Event as line_event
 use Rattle.model_line.specs.Machine as lines
 use Rattle.laws_trace.proofs.KeptOfLine.{left, still, left-so, comes-so}
@@ -22,8 +22,7 @@ module _ (card : Card) (number : ℕ) (what : line_event.Event) (s : IsSound car
   own = link_of service tei l
 
   either : (b : Bool) → cond b (queue_of own) (queue_of own) ≡ queue_of own
-  either true = refl
-  either false = refl
+  either b = grind arith
 
   abbrev Left : Line → Answer → Type 0
   Left m a =
@@ -59,30 +58,12 @@ module _ (lost anew : Bool) (k x : Link) (o p : Observed) (was : IsSeenAs k o) (
   leaving kept = cond lost [] (cond (is_up o.state) (drop (went_on anew o p) kept ++ more) kept)
 
   pub left-as : leaving (queue_of k) ≡ left lost anew k x more
-  left-as = ap (λ s. cond lost [] (cond (is_up s) (drop (went_on anew o p) (queue_of k) ++ more) (queue_of k))) was.state_is ∙ ap (cond lost []) (go (is_up (state_number k.state)) refl)
-    where
-      numbers : (u : Bool) → is_up (state_number k.state) ≡ u → u ≡ true → (v : Bool) → is_up (state_number x.state) ≡ v
-          → cond (v && not anew) (steps o.acknowledged p.acknowledged) 0 ≡ cond (u && v && not anew) (steps (k.a % 128) (x.a % 128)) 0
-      numbers false down up v to = absurd (true≢false (sym up))
-      numbers true up is false to = refl
-      numbers true up is true to =
-          ap (λ n. cond (not anew) (steps n p.acknowledged) 0) (was.acknowledged_is (sym (up-number k.state) ∙ up))
-          ∙ ap (λ n. cond (not anew) (steps (k.a % 128) n) 0) (now.acknowledged_is (sym (up-number x.state) ∙ to))
-
-      went : is_up (state_number k.state) ≡ true → went_on anew o p ≡ went_by anew k x
-      went up =
-          ap (λ s. cond (is_up s && not anew) (steps o.acknowledged p.acknowledged) 0) now.state_is
-          ∙ numbers (is_up (state_number k.state)) refl up (is_up (state_number x.state)) refl
-
-      go : (u : Bool) → is_up (state_number k.state) ≡ u → cond u (drop (went_on anew o p) (queue_of k) ++ more) (queue_of k) ≡ cond u (drop (went_by anew k x) (queue_of k) ++ more) (queue_of k)
-      go false down = refl
-      go true up = ap (λ n. drop n (queue_of k) ++ more) (went up)
+  left-as = grind (arith, up-number, went_by)
 
 -- A call for the next frame tells nothing.
 next-quiet : (card : Card) (number : ℕ) (what : line_event.Event) → what ≡ line_event.next → notes_of (answer (at number what) card) ≡ []
 unfolding lines.answer lines.takes_slot
-next-quiet card number line_event.next is = refl
-next-quiet card number other is = cc is
+next-quiet card number what is = grind arith
 
 -- What is known of the link is what the observer of it knows.
 pub same-view : (c : Config) (service : Service) (tei number : ℕ) (ms : List Moment) (o : Outgoing)
@@ -103,9 +84,7 @@ module _ (c : Config) (number : ℕ) (ranged : IsInRange c) (within : number < c
 
   then-is : (before : List Event) (e : Event) → outgoing_of c service tei number (before ++ e ∷ []) ≡ watches c service tei number (outgoing_of c service tei number before) (with_event before e)
   unfolding moments
-  then-is before e =
-      ap (fold (watches c service tei number) nothing_yet) (moments-both (fresh c) before (e ∷ []))
-      ∙ fold-append (watches c service tei number) nothing_yet (moments (fresh c) before) (with_event before e ∷ [])
+  then-is before e = grind (arith, moments-both, fold-append)
 
   line-then : (before : List Event) (e : Event) → its (before ++ e ∷ []) ≡ line_at number (after e (after_all (fresh c) before))
   unfolding after_all

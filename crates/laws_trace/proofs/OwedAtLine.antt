@@ -1,5 +1,5 @@
 -- Whether a link owes an acknowledgement behind one event of its line.
-use Rattle.laws_trace.proofs.Vocabulary.{◌≡◌, ℕ, ◌&&◌, ◌||◌, not, Bool, true, false, List, [], ◌∷◌, map, Option, Some, None, is_some, list_any, option_to_list, refl, sym, ap, ◌∙◌, subst, inl, inr, Service, place_of-is, as_heard, state_after, put, owed_behind, event-follows, given-in-order, IsInOrder, ControlFrame, Terms, Link, is_multiple_frame, Given, given_is_frame, Config, next, Answer, Line, has_tei, link_of, place_in, terms, IsInRange, terms_in_range, notes_of, is_data_of, IsBy, HaveTheirTimers, Event, line_after as after, answer, line_frame_of as frame_of, IsSound, is_frame_of, is_empty, trace_frame_in as frame_in, seen, is_ui, and-false, false_from_ne_true}
+use Rattle.laws_trace.proofs.Vocabulary.{arith, ◌≡◌, ℕ, ◌&&◌, ◌||◌, not, Bool, true, false, List, [], ◌∷◌, map, Option, Some, None, is_some, list_any, option_to_list, refl, sym, ap, ◌∙◌, subst, inl, inr, Service, place_of-is, as_heard, state_after, put, owed_behind, event-follows, given-in-order, IsInOrder, ControlFrame, Terms, Link, is_multiple_frame, Given, given_is_frame, Config, next, Answer, Line, has_tei, link_of, place_in, terms, IsInRange, terms_in_range, notes_of, is_data_of, IsBy, HaveTheirTimers, Event, line_after as after, answer, line_frame_of as frame_of, IsSound, is_frame_of, is_empty, trace_frame_in as frame_in, seen, is_ui, and-false, false_from_ne_true}
 use Rattle.model_link.specs.Events as link
 use Rattle.model_link.specs.Machine as links
 use Rattle.model_link.specs.Sound as link_sound
@@ -24,14 +24,10 @@ abbrev pub Owed : Bool → Bool → List ControlFrame → Bool → Bool → Bool
 Owed was now puts begins owes = (was && now && is_empty puts && not begins) && owes
 
 pub stays-owed : (up owes : Bool) → (owes ≡ true → up ≡ true) → owes ≡ Owed up up [] false (owes || false)
-stays-owed true true h = refl
-stays-owed true false h = refl
-stays-owed false true h = sym (h refl)
-stays-owed false false h = refl
+stays-owed up owes h = grind arith
 
 never-down : (was : Bool) (puts : List ControlFrame) (begins owes : Bool) → false ≡ Owed was false puts begins owes
-never-down true puts begins owes = refl
-never-down false puts begins owes = refl
+never-down was puts begins owes = grind arith
 
 never-owed : (was now : Bool) (puts : List ControlFrame) (begins : Bool) → false ≡ Owed was now puts begins false
 never-owed was now puts begins = sym (and-false (was && now && is_empty puts && not begins))
@@ -101,12 +97,7 @@ module _ (service : Service) (tei : ℕ) (c : Config) (ranged : IsInRange c) (e 
 
     so-pends : (puts : List ControlFrame) → Put ≡ puts → (some noted : Bool) → begins ≡ some → told ≡ noted → Then puts some noted
         → (link_of service tei new).pending ≡ Owed (up own) (up (link_of service tei new)) Put (is_empty own.waiting && begins) (own.pending || told)
-    so-pends puts put-so some noted begun told-so h =
-        ap (λ (k : Link). k.pending) x.is ∙ h
-        ∙ ap (λ ps. Owed (up own) (up later) ps (is_empty own.waiting && some) (own.pending || noted)) (sym put-so)
-        ∙ ap (λ b. Owed (up own) (up later) Put (is_empty own.waiting && b) (own.pending || noted)) (sym begun)
-        ∙ ap (λ b. Owed (up own) (up later) Put (is_empty own.waiting && begins) (own.pending || b)) (sym told-so)
-        ∙ ap (λ (k : Link). Owed (up own) (up k) Put (is_empty own.waiting && begins) (own.pending || told)) (sym x.is)
+    so-pends puts put-so some noted begun told-so h = grind arith
 
     quiet : IsNoOther x.event → frames_given c t x.event own ≡ [] → Pends
     quiet other none was-on is-on =
@@ -121,8 +112,7 @@ module _ (service : Service) (tei : ℕ) (c : Config) (ranged : IsInRange c) (e 
         heard = as_heard (terms c service tei) x.event
 
         with-none : (b : Bool) → b ≡ (b && not false)
-        with-none true = refl
-        with-none false = refl
+        with-none b = grind arith
 
         put-so : (there : ℕ) → place_in new tei ≡ Some there → Put ≡ put heard own (state_after t heard own)
         put-so there on =
@@ -199,9 +189,7 @@ module _ (service : Service) (tei : ℕ) (c : Config) (ranged : IsInRange c) (e 
             ∙ ap (λ ws. Owed (up own) (up later) [] (is_empty ws && some-begins) (own.pending || false)) (sym some)
 
     by-event : (event : link.Event) → x.event ≡ event → IsBy c e a service tei event → Pends
-    by-event link.offer is by = offered is by
-    by-event link.cleared is by = absurd by
-    by-event other is by = quiet (subst IsNoOther (sym is) tt) (ap (λ e. frames_given c t e own) is)
+    by-event event is by = grind (arith, offered, quiet, IsNoOther, frames_given)
 
   pub event-pends : Pends
   event-pends = go (event-goes c e l service tei s)
@@ -209,6 +197,4 @@ module _ (service : Service) (tei : ℕ) (c : Config) (ranged : IsInRange c) (e 
       go : Goes c service tei e l new a → Pends
       go (inl x) = none-pends x
       go (inr (inl x)) = by-event x x.event refl x.by
-      go (inr (inr x)) = λ was-on is-on.
-          ap (λ (k : Link). k.pending) x.is ∙ never-down (up own) Put (is_empty own.waiting && begins) (own.pending || told)
-          ∙ ap (λ (k : Link). Owed (up own) (up k) Put (is_empty own.waiting && begins) (own.pending || told)) (sym x.is)
+      go (inr (inr x)) = grind (arith, never-down)

@@ -1,5 +1,5 @@
 -- A link owes an acknowledgement where an observer has it so.
-use Rattle.laws_trace.proofs.Vocabulary.{◌≡◌, ℕ, ◌<◌, ◌==◌, ◌&&◌, ◌||◌, not, Bool, true, false, cond, List, [], ◌++◌, get_or, Some, None, refl, sym, ap, ◌∙◌, subst, arith, eq-eqb, fold, and_parts, list_any, option_map_or, get_or-set_same, PoolFull, Service, ControlFrame, Link, is_multiple_frame, state_number, Config, Answer, refused, Line, fresh_line, has_tei, link_of, place_in, state_of, IsInRange, notes_of, is_data_of, Card, line_at, is_full, at, moments, has_lines, by_room, line_sound, AllHaveTheirTimers, fresh, CardEvent as Event, Moment, after_all, IsAtLine, AreAtLines, put_in, is_frame_of, managing_is_on as is_on, Observed, View, views, view_of, moment_of, view_behind, Outgoing, outgoing_of, is_empty, still_owes, trace_frame_in as frame_in, is_up, Seen, seen, trace_of, and-false, line_after as after, answer, takes_slot, CardIsSound as IsSound}
+use Rattle.laws_trace.proofs.Vocabulary.{◌≡◌, ℕ, ◌<◌, ◌==◌, ◌&&◌, ◌||◌, not, Bool, true, false, cond, List, [], get_or, Some, None, refl, sym, ap, ◌∙◌, subst, arith, eq-eqb, fold, and_parts, list_any, option_map_or, get_or-set_same, PoolFull, Service, ControlFrame, Link, is_multiple_frame, state_number, Config, Answer, refused, Line, fresh_line, has_tei, link_of, place_in, state_of, IsInRange, notes_of, is_data_of, Card, line_at, is_full, at, moments, has_lines, by_room, line_sound, AllHaveTheirTimers, fresh, CardEvent as Event, Moment, after_all, IsAtLine, AreAtLines, put_in, is_frame_of, managing_is_on as is_on, Observed, View, views, view_of, moment_of, view_behind, Outgoing, outgoing_of, is_empty, still_owes, trace_frame_in as frame_in, is_up, Seen, seen, trace_of, and-false, line_after as after, answer, takes_slot, CardIsSound as IsSound}
 use Rattle.model_line.specs.Event as line_event
 use Rattle.model_card.specs.Machine as cards
 use Rattle.laws_trace.specs.Outgoing as outgoing
@@ -50,20 +50,11 @@ module _ (service : Service) (tei n : ℕ) (busy rejected : Bool) where
       (link_of service tei x).pending ≡ Owed (up l) (up x) (Put c now l what t x) (is_empty own.waiting && list_any (is_frame_of c service tei) (frame_in a)) (own.pending || list_any (is_data_of service tei) (notes_of a))
 
   pub no-put : (c : Config) (l : Line) (what : line_event.Event) → option_map_or one_more (expired_of service tei what) 0 ≡ 0 → Put c was l what [] l ≡ []
-  no-put c l what no-time =
-      ap (λ xs. xs ++ cond (time_of l what l) (command_of was (state_of service tei l)) []) (none-mapped (state_of service tei l) [] refl)
-      ∙ ap (λ k. cond (differ (state_of service tei l) (state_of service tei l) || k == 1) (command_of was (state_of service tei l)) []) no-time
-      ∙ ap (λ b. cond (b || false) (command_of was (state_of service tei l)) []) (differ-self (state_of service tei l))
+  no-put c l what no-time = grind (arith, command_of, none-mapped, differ, differ-self)
 
   idle : (c : Config) (l : Line) (what : line_event.Event) (why : Answer) → frame_in why ≡ [] → notes_of why ≡ [] → IsStanding (link_of service tei l) busy rejected
       → option_map_or one_more (expired_of service tei what) 0 ≡ 0 → Pends c was l what [] why l
-  idle c l what why none silent stands no-time was-on is-on =
-      let own = link_of service tei l in
-      stays-owed (up l) own.pending stands.pends_up
-      ∙ ap (λ b. Owed (up l) (up l) [] b (own.pending || false)) (sym (and-false (is_empty own.waiting)))
-      ∙ ap (λ fs. Owed (up l) (up l) [] (is_empty own.waiting && list_any (is_frame_of c service tei) fs) (own.pending || false)) (sym none)
-      ∙ ap (λ ns. Owed (up l) (up l) [] (is_empty own.waiting && list_any (is_frame_of c service tei) (frame_in why)) (own.pending || list_any (is_data_of service tei) ns)) (sym silent)
-      ∙ ap (λ puts. Owed (up l) (up l) puts (is_empty own.waiting && list_any (is_frame_of c service tei) (frame_in why)) (own.pending || list_any (is_data_of service tei) (notes_of why))) (sym (no-put c l what no-time))
+  idle c l what why none silent stands no-time was-on is-on = grind (arith, stays-owed, Owed, and-false, no-put)
 
   pub own-pends : (m : Card) (e : Event) → IsSound m → AllHaveTheirTimers m → IsAtLine m e → let l = line_at e.line m in
       IsCount (link_of service tei l) n → IsStanding (link_of service tei l) busy rejected → let a = cards.answer e m in
@@ -90,9 +81,7 @@ Pending = List ControlFrame × Bool
 
 either-pair : (stays here : Bool) (xs ys : List ControlFrame) (b d : Bool)
     → (cond stays (cond here xs ys) [], stays && cond here b d) ≡ cond {A = Pending} stays (cond here (xs, b) (ys, d)) ([], false)
-either-pair true true xs ys b d = refl
-either-pair true false xs ys b d = refl
-either-pair false here xs ys b d = refl
+either-pair stays here xs ys b d = grind arith
 
 module _ (c : Config) (number : ℕ) (ranged : IsInRange c) (within : number < c.lines) (service : Service) (tei : ℕ) where
   abbrev line_of : List Event → Line

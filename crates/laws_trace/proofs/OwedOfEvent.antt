@@ -1,12 +1,12 @@
 -- Whether I-frames are outstanding, as an observer knows it: one event of a line.
-use Rattle.laws_trace.proofs.Vocabulary.{◌≡◌, ℕ, ◌+◌, ◌%◌, ◌≤◌, ◌==◌, not, Bool, true, false, length, Option, Some, None, refl, sym, ap, ◌∙◌, subst, arith, eq-eqb, true≢false, ◌⊎◌, inl, inr, Service, place_of-is, State, TeiAssigned, AwaitingEstablishment, Established, TimerRecovery, Link, Config, Line, link_of, place_in, state_of, terms, IsInRange, terms_in_range, HaveTheirTimers, fresh_link as fresh, Event, line_after as after, answer, IsSound, offer, begun}
+use Rattle.laws_trace.proofs.Vocabulary.{◌≡◌, ℕ, ◌+◌, ◌≤◌, ◌==◌, not, Bool, true, false, length, Option, Some, None, refl, sym, ap, ◌∙◌, subst, arith, eq-eqb, true≢false, inl, inr, Service, place_of-is, State, TeiAssigned, Link, Config, Line, link_of, place_in, state_of, terms, IsInRange, terms_in_range, HaveTheirTimers, Event, line_after as after, answer, IsSound, offer, begun}
 use Rattle.model_link.specs.Machine as links
 use Rattle.model_link.specs.Sound as link_sound
 use Rattle.laws_trace.proofs.TimersWatched.{Known}
 use Rattle.laws_trace.proofs.States.{is_state}
 use Rattle.laws_trace.proofs.OneLink.{HasOne, Goes, event-goes}
 use Rattle.laws_trace.proofs.TimerActs.{Timing, timing}
-use Rattle.laws_trace.proofs.TimerClaims.{Agrees, IsKnown, Kept, told_state}
+use Rattle.laws_trace.proofs.TimerClaims.{Agrees, Kept, told_state}
 use Rattle.laws_trace.proofs.TimerEvents.{event-good}
 use Rattle.laws_trace.proofs.TimersAreTimely.{outstanding-is}
 use Rattle.laws_trace.proofs.TimersOfEvent.{IsTrueOf, state-on, off-fresh, off-state}
@@ -24,28 +24,18 @@ module _ (c : Config) (ranged : IsInRange c) (l : Line) (s : IsSound c l) (servi
   none-owed : Agrees TeiAssigned k own.a own.s own.peer_busy → own.s ≡ own.a → not (k.next == k.acknowledged) ≡ not (own.s == own.a)
   none-owed none same = ap (λ (k : Known). not (k.next == k.acknowledged)) none ∙ sym (ap not (eq-eqb own.s own.a same))
 
-  while-known : own.a ≤ own.s → own.s ≤ own.a + 127 → IsKnown k own.a own.s own.peer_busy → not (k.next == k.acknowledged) ≡ not (own.s == own.a)
-  while-known ordered within known =
-      ap (λ n. not (n == k.acknowledged)) known.next ∙ ap (λ n. not (own.s % 128 == n)) known.acknowledged
-      ∙ ap not (outstanding-is service tei k own.a own.s ordered within)
-
   settled : link_sound.IsSound (terms c service tei) own → length own.contents ≡ own.a → own.s ≡ own.a
   settled sound all = let low : own.a ≤ own.s = sound.ordered in let high : own.s ≤ length own.contents = sound.accepted in omega (arith, low, high, all)
 
   by-state : (here : State) → is_state 5 (told_state here) ≡ false → Agrees here k own.a own.s own.peer_busy → link_sound.IsSettledIn here own
       → link_sound.IsSound (terms c service tei) own → own.s ≤ own.a + 127 → not (k.next == k.acknowledged) ≡ not (own.s == own.a)
-  by-state AwaitingEstablishment off known rest sound within = absurd (true≢false off)
-  by-state Established off known rest sound within = while-known sound.ordered within known
-  by-state TimerRecovery off known rest sound within = while-known sound.ordered within known
-  by-state other off known rest sound within = none-owed known (settled sound rest)
+  by-state here off known rest sound within = grind (arith, outstanding-is, none-owed, settled)
 
   pub known-owes : is_state 5 (state_of service tei l) ≡ false → IsOwed service tei (not (k.next == k.acknowledged)) l
   known-owes off = go (place_in l tei) refl
     where
       go : (o : Option ℕ) → place_in l tei ≡ o → not (k.next == k.acknowledged) ≡ not (own.s == own.a)
-      go None gone =
-          let new : own ≡ fresh = off-fresh service tei l gone in
-          none-owed (subst (λ (x : Link). Agrees x.state k x.a x.s x.peer_busy) new agrees) (ap (λ (x : Link). x.s) new ∙ sym (ap (λ (x : Link). x.a) new))
+      go None gone = grind (arith, off-fresh, none-owed, Agrees)
       go (Some place) on =
           let placed = (place_of-is l.management.places tei place on).1 in
           let sound : link_sound.IsSound (terms c service tei) own = link-at-end c l ranged s service tei place on in
@@ -65,15 +55,10 @@ module _ (c : Config) (ranged : IsInRange c) (l : Line) (s : IsSound c l) (timed
   Same y = not (y.s == y.a) ≡ not (was.s == was.a)
 
   by-kept : (y : Link) → is_state 5 (told_state y.state) ≡ true → Kept y.state (timing (begun was)) (record (timing (begun was)) { a = y.a; s = y.s }) → Same y
-  by-kept y in_5 kept = go y.state in_5 kept
-    where
-      go : (here : State) → is_state 5 (told_state here) ≡ true → Kept here (timing (begun was)) (record (timing (begun was)) { a = y.a; s = y.s }) → Same y
-      go AwaitingEstablishment is kept = ap (λ n. not (n == y.a)) kept.1 ∙ ap (λ n. not (was.s == n)) kept.0
-      go other is kept = absurd (true≢false (sym is))
+  by-kept y in_5 kept = grind (arith, is_state, told_state, Kept, timing)
 
   shape : (here : State) (y : Timing) → Kept here (timing (begun was)) y → Kept here (timing (begun was)) (record (timing (begun was)) { a = y.a; s = y.s })
-  shape AwaitingEstablishment y kept = kept
-  shape other y kept = tt
+  shape here y kept = grind arith
 
   pub five-owes : (outstanding : Bool) → IsOwed service tei outstanding l → is_state 5 (state_of service tei (after c e l)) ≡ true → IsOwed service tei outstanding (after c e l)
   five-owes outstanding owes in_5 = go (place_in (after c e l) tei) refl
@@ -104,8 +89,4 @@ module _ (c : Config) (ranged : IsInRange c) (l : Line) (s : IsSound c l) (timed
           by-goes : Goes c service tei e l (after c e l) (answer c e l) → Same next
           by-goes (inr (inl x)) = by-one x
           by-goes (inr (inr x)) = absurd (true≢false (sym now ∙ ap (λ (y : Link). is_state 5 (told_state y.state)) x.is))
-          by-goes (inl x) = either x.is
-            where
-              either : (next ≡ was) ⊎ (next ≡ fresh) → Same next
-              either (inl same) = ap (λ (y : Link). not (y.s == y.a)) same
-              either (inr new) = absurd (true≢false (sym now ∙ ap (λ (y : Link). is_state 5 (told_state y.state)) new))
+          by-goes (inl x) = grind (arith, now, is_state, told_state)

@@ -1,5 +1,5 @@
 -- Whether a link owes an acknowledgement behind one of its events.
-use Rattle.laws_trace.proofs.Vocabulary.{◌≡◌, ◌&&◌, ◌||◌, Bool, true, false, List, [], ◌∷◌, refl, sym, ap, ◌∙◌, true≢false, inl, inr, is_some, Sabme, Ua, Parts, flag_left, takes_contents, unless_put, owed_in, pending_left, as_heard, is_overlong, numbers_begin, state_after, put, event-follows, State, AwaitingEstablishment, Established, TimerRecovery, ControlFrame, Terms, restarts, eligible, overlong, received, offer, cleared, Link, is_multiple_frame, delivery, event-delivers, Control, LinkEvent as Event, frame, is_empty, or_comm, link_after as after, link_told as told, cond_both, false_from_ne_true}
+use Rattle.laws_trace.proofs.Vocabulary.{arith, ◌≡◌, ◌&&◌, ◌||◌, Bool, true, false, List, refl, sym, ap, ◌∙◌, true≢false, is_some, Ua, Parts, flag_left, takes_contents, unless_put, owed_in, pending_left, as_heard, numbers_begin, state_after, put, event-follows, State, ControlFrame, Terms, restarts, received, Link, is_multiple_frame, event-delivers, LinkEvent as Event, frame, is_empty, or_comm, link_after as after, link_told as told, cond_both, false_from_ne_true}
 use Rattle.laws_trace.proofs.Begins.{in-state, up-before}
 use Rattle.laws_trace.proofs.CommandsCaused.{IsNoOther}
 use Rattle.laws_trace.proofs.ReceiptsNumbered.{PendsUp, pends-up, taken-is}
@@ -12,29 +12,16 @@ module _ (t : Terms) where
   Puts e l = is_multiple_frame l.state ≡ true → numbers_begin e l.state (state_after t e l) ≡ true → is_empty (put e l (state_after t e l)) ≡ false
 
   puts-ua : (f : Parts) (here : State) (l : Link) → Puts (received (frame (record f { control = Ua true }))) (record l { state = here })
-  puts-ua f Established l up is = never is
-  puts-ua f TimerRecovery l up is = never is
-  puts-ua f other l up is = never up
-
-  puts-frame : (f : Parts) (control : Control) (l : Link) → Puts (received (frame (record f { control = control }))) l
-  puts-frame f (Sabme p) l = λ up is. refl
-  puts-frame f (Ua true) l = in-state (Puts (received (frame (record f { control = Ua true })))) l (λ here. puts-ua f here l)
-  puts-frame f other l = λ up is. never is
+  puts-ua f here l up is = grind (arith, never)
 
   puts-begun : (e : Event) (l : Link) → IsNoOther e → Puts (as_heard t e) l
-  puts-begun (received (frame f)) l other =
-      cond_both (is_overlong t f.control f.info) overlong (frame f) (λ what. Puts (received what) l) (λ long up is. never is) (λ short. puts-frame f f.control l)
-  puts-begun offer l other = absurd other
-  puts-begun cleared l other = absurd other
-  puts-begun any l other = λ up is. never is
+  puts-begun e l other = grind (arith, cond_both, never, in-state, puts-ua)
 
 awaiting-down : (s : State) → is_awaiting s ≡ true → is_multiple_frame s ≡ false
-awaiting-down AwaitingEstablishment is = refl
-awaiting-down other is = never is
+awaiting-down s is = grind (arith, never)
 
 unless-empty : (frames : List ControlFrame) (owed : Bool) → unless_put frames owed ≡ (is_empty frames && owed)
-unless-empty [] owed = refl
-unless-empty (f ∷ frames) owed = refl
+unless-empty frames owed = grind arith
 
 module _ (t : Terms) (e : Event) (l : Link) (other : IsNoOther e) (owed : PendsUp l) where
   abbrev next : Link
@@ -59,10 +46,7 @@ module _ (t : Terms) (e : Event) (l : Link) (other : IsNoOther e) (owed : PendsU
   begin-is = (event-follows t e l).numbers ∙ ap (numbers_begin heard l.state) state-is
 
   left-so : (e : Event) (to : State) → IsNoOther e → let h = as_heard t e in pending_left h l to ≡ flag_left h l to (owed_in to (unless_put (put h l to) (takes_contents h l || l.pending))) l.pending
-  left-so (received (frame f)) to other = refl
-  left-so offer to other = absurd other
-  left-so cleared to other = absurd other
-  left-so any to other = refl
+  left-so e to other = grind arith
 
   left-is : next.pending ≡ flag_left heard l to (owed_in to owes) l.pending
   left-is = (event-follows t e l).leaves.pending ∙ ap (pending_left heard l) state-is ∙ left-so e to other
@@ -75,14 +59,7 @@ module _ (t : Terms) (e : Event) (l : Link) (other : IsNoOther e) (owed : PendsU
   none-begun begins = left-is ∙ off-where-begun t (owed_in to owes) l.pending heard l (sym begin-is ∙ begins) (λ waits. none-down l owed (awaiting-down l.state waits))
 
   takes : is_multiple_frame l.state ≡ true → restarts t e l ≡ false → takes_contents heard l ≡ delivers
-  takes up on = sym (delivered ∙ taken-is t l up e)
-    where
-      delivered : delivers ≡ is_some (delivery l.r (eligible t e l))
-      delivered =
-          elim (event-delivers t l e) [
-            | inl y ↦ ap is_some y.delivered
-            | inr y ↦ absurd (true≢false (sym y.begins ∙ on))
-          ]
+  takes up on = grind (arith, taken-is, is_some, event-delivers)
 
   pub pends-then : next.pending ≡ ((is_multiple_frame l.state && is_multiple_frame next.state && is_empty (put heard l to)) && (l.pending || delivers))
   pends-then = go (is_multiple_frame l.state) refl (is_multiple_frame next.state) refl (restarts t e l) refl
@@ -94,8 +71,4 @@ module _ (t : Terms) (e : Event) (l : Link) (other : IsNoOther e) (owed : PendsU
       go false was true up true begins = none-begun begins
       go true was true up true begins = none-begun begins ∙ sym (ap (λ b. b && (l.pending || delivers)) (puts-begun t e l other was (sym begin-is ∙ begins)))
       go false was true up false on = absurd (true≢false (sym (up-before t e l up on) ∙ was))
-      go true was true up false on =
-          let stays : is_multiple_frame to ≡ true = ap is_multiple_frame (sym state-is) ∙ up in
-          left-is ∙ as-left t (owed_in to owes) l.pending heard l to was stays (sym begin-is ∙ on)
-          ∙ ap (λ b. b && owes) stays ∙ unless-empty (put heard l to) (takes_contents heard l || l.pending)
-          ∙ ap (λ b. is_empty (put heard l to) && (b || l.pending)) (takes was on) ∙ ap (λ b. is_empty (put heard l to) && b) (or_comm delivers l.pending)
+      go true was true up false on = grind (arith, state-is, left-is, as-left, begin-is, unless-empty, takes, or_comm)

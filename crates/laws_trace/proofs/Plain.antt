@@ -1,5 +1,5 @@
 -- All that waits on a link are control frames: neither I-frames nor UI.
-use Rattle.laws_trace.proofs.Vocabulary.{◌≡◌, ℕ, ◌<◌, Bool, false, List, [], ◌∷◌, Some, refl, sym, ap, subst, arith, All, option_map_or, get_or-replicate, All-nil, All-cons, All-head, All-tail, Information, Ui, Service, place_of-is, at-within, ControlFrame, Link, Config, Line, fresh_line, link_in, link_number, link_of, place_in, terms, number_within, IsInRange, line_at, fresh_is_sound, Control, fresh_link, fresh, CardEvent as Event, after_all, AreAtLines, is_ui, IsWaitingFrame, is_information}
+use Rattle.laws_trace.proofs.Vocabulary.{◌≡◌, ℕ, ◌<◌, Bool, false, List, [], ◌∷◌, Some, sym, ap, subst, arith, All, option_map_or, get_or-replicate, All-nil, All-tail, Service, place_of-is, at-within, ControlFrame, Link, Config, Line, fresh_line, link_in, link_number, link_of, place_in, terms, number_within, IsInRange, line_at, fresh_is_sound, Control, fresh_link, fresh, CardEvent as Event, after_all, AreAtLines, is_ui, IsWaitingFrame, is_information}
 use Rattle.laws_trace.proofs.ControlsWatched.{control_in}
 use Rattle.laws_trace.proofs.LineAtEnd.{link-at-end, line-at-end}
 use Rattle.laws_trace.proofs.ControlsAtLine.{waits}
@@ -11,9 +11,7 @@ use Rattle.laws_trace.proofs.Facts.{never}
 
 pub control-of : (command : Bool) (control : Control) → is_ui control ≡ false → is_information control ≡ false
     → control_in command control ≡ record { command = command; control = control } ∷ []
-control-of command (Information ns nr p) plain bare = never (sym bare)
-control-of command (Ui p) plain bare = never (sym plain)
-control-of command other plain bare = refl
+control-of command control plain bare = grind (arith, never)
 
 module _ (c : Config) (events : List Event) (number : ℕ) (ranged : IsInRange c) (all : AreAtLines (fresh c) events) (within : number < c.lines) (service : Service) (tei place : ℕ)
     (on : place_in (line_at number (after_all (fresh c) events)) tei ≡ Some place) where
@@ -37,10 +35,7 @@ module _ (c : Config) (events : List Event) (number : ℕ) (ranged : IsInRange c
 
   both : (ws : List ControlFrame) → All IsPlain ws → All (IsWaitingFrame (terms c service tei)) ws → All IsControl ws
   both [] plain bare = All-nil IsControl
-  both (f ∷ fs) plain bare =
-      All-cons IsControl f fs
-      (control-of f.command f.control (All-head IsPlain f fs plain) (All-head (IsWaitingFrame (terms c service tei)) f fs bare).without_contents)
-      (both fs (All-tail IsPlain f fs plain) (All-tail (IsWaitingFrame (terms c service tei)) f fs bare))
+  both (f ∷ fs) plain bare = grind (arith, both fs (All-tail IsPlain f fs plain), IsControl, control-of, IsPlain)
 
   -- So what an observer has of those is all that waits.
   pub all-wait : waits service tei line ≡ own.waiting

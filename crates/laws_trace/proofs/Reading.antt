@@ -1,5 +1,5 @@
 -- Which frames that a line begins are unit data.
-use Rattle.laws_trace.proofs.Vocabulary.{◌≡◌, ℕ, ◌≤◌, ◌==◌, ◌&&◌, Bool, true, false, List, refl, ap, ◌∙◌, Result, arith, not, Address, Side, Ui, ReadFault, Service, Call, Packet, Parts, spelling, sapi_of, reading-again, Config, UnitData, management_sapi, unit_frame, option_map_or, Control, result_ok, is_ui, is_unit}
+use Rattle.laws_trace.proofs.Vocabulary.{◌≡◌, ℕ, ◌≤◌, ◌==◌, ◌&&◌, Bool, true, false, List, refl, ap, ◌∙◌, Result, arith, not, Address, Side, Ui, ReadFault, Service, Parts, spelling, sapi_of, reading-again, Config, UnitData, management_sapi, unit_frame, option_map_or, Control, result_ok, is_ui, is_unit}
 use Rattle.laws_trace.proofs.Facts.{small-sapi}
 use Rattle.laws_trace.proofs.ReadAgain.{read-again}
 
@@ -13,8 +13,7 @@ other-frame side a c other info = read-again side (λ r. carries_unit r ≡ fals
 
 -- Unit data is, with the SAPI of its service.
 by-service : (service : Service) → not (sapi_of service == management_sapi) ≡ true
-by-service Call = refl
-by-service Packet = refl
+by-service service = grind arith
 
 pub unit-is : (c : Config) (u : UnitData) → u.tei ≤ 127 → is_unit c.side (unit_frame c u) ≡ true
 unit-is c u small =

@@ -9,20 +9,16 @@ use Rattle.laws_trace.proofs.TimersAreTimely.{config-now}
 
 -- Why an answer to a request refuses.
 refused-so : (o : Option Refusal) (outcome : Effect) → refusal_in (unless_refused_told o outcome) ≡ o
-refused-so None outcome = refl
-refused-so (Some why) outcome = refl
+refused-so o outcome = grind arith
 
 -- A TEI that is on the line has a link.
 has-room : (tei : ℕ) (on : Bool) (x : Room) → nat_lt 126 tei ≡ false → on ≡ true → unless (cond (nat_lt 126 tei) (Some BadTei) (cond (not on) (Some NoLink) None)) x ≡ Ok x
-has-room tei on x low is =
-    ap (λ b. unless (cond b (Some BadTei) (cond (not on) (Some NoLink) None)) x) low ∙ ap (λ b. unless (cond (not b) (Some NoLink) None) x) is
+has-room tei on x low is = grind arith
 
 -- In states 4, 5 and 6 data is refused for the state.
 while-down : (tei : ℕ) (on up : Bool) (rest : Option Refusal) → nat_lt 126 tei ≡ false → on ≡ true → up ≡ false
     → cond (nat_lt 126 tei) (Some BadTei) (cond (not on) (Some NoLink) (cond (not up) (Some WrongState) rest)) ≡ Some WrongState
-while-down tei on up rest low is down =
-    ap (λ b. cond b (Some BadTei) (cond (not on) (Some NoLink) (cond (not up) (Some WrongState) rest))) low
-    ∙ ap (λ b. cond (not b) (Some NoLink) (cond (not up) (Some WrongState) rest)) is ∙ ap (λ b. cond (not b) (Some WrongState) rest) down
+while-down tei on up rest low is down = grind arith
 
 on-place : (l : Line) (tei : ℕ) → has_tei tei l ≡ true → (o : Option ℕ) → place_in l tei ≡ o → (place : ℕ) × (place_in l tei ≡ Some place)
 on-place l tei on (Some place) is = (place, is)

@@ -1,5 +1,5 @@
 -- What holds of every event of a line, and of what it shows, holds of the trace of a run.
-use Rattle.laws_trace.proofs.Vocabulary.{◌≡◌, ◌≢◌, ℕ, ◌==◌, Bool, true, false, cond, List, [], ◌∷◌, ◌++◌, get_or, refl, sym, ◌∙◌, subst, arith, eq-eqb, true≢false, and_parts, get_or-set_same, get_or-set_other, All-head, All-tail, PoolFull, Config, refused, Line, fresh_line, Card, line_at, is_full, moments, after_is_sound, has_lines, by_room, line_sound, eqb-true, CardEvent as Event, after, card_answer as answer, after_all, IsAtLine, AreAtLines, CardIsSound as IsSound, Seen, seen, trace}
+use Rattle.laws_trace.proofs.Vocabulary.{◌≡◌, ◌≢◌, ℕ, ◌==◌, Bool, true, false, cond, List, [], ◌∷◌, ◌++◌, get_or, refl, sym, subst, arith, eq-eqb, and_parts, get_or-set_same, get_or-set_other, All-head, All-tail, PoolFull, Config, refused, Line, fresh_line, Card, line_at, is_full, moments, after_is_sound, has_lines, by_room, line_sound, eqb-true, CardEvent as Event, after, card_answer as answer, after_all, IsAtLine, AreAtLines, CardIsSound as IsSound, Seen, seen, trace}
 use Rattle.model_line.specs.Event as line_event
 use Rattle.model_line.specs.Machine as lines
 use Rattle.model_line.specs.Sound as line
@@ -7,14 +7,11 @@ use Rattle.model_line.specs.Sound as line
 -- A request that finds the pool full shows nothing, and no other event does find it.
 pub nothing-seen : (c : Config) (e : line_event.Event) (l : Line) → lines.takes_slot c e l ≡ true → seen e (refused PoolFull) ≡ []
 unfolding lines.takes_slot
-nothing-seen c (line_event.request r) l takes = refl
-nothing-seen c other l takes = absurd (true≢false (sym takes))
+nothing-seen c e l takes = grind arith
 
 -- An event of one line leaves the others as they are.
 pub apart : (card : Card) (e : Event) (other : ℕ) → other ≢ e.line → line_at other (after e card) ≡ line_at other card
-apart card e other away =
-    by_room (λ ls a. get_or ls other (fresh_line card.config) ≡ line_at other card) e card (λ full. refl)
-    (λ room. get_or-set_other card.lines e.line other (lines.after card.config e.what (line_at e.line card)) (fresh_line card.config) away)
+apart card e other away = grind (arith, by_room, get_or-set_other)
 
 -- An invariant of lines, and what a trace is to the line before it and the one after it.
 module _ (Stands : Config → Line → Type 0) (Shows : Config → Line → List Seen → Line → Type 0)
@@ -47,9 +44,7 @@ module _ (Stands : Config → Line → Type 0) (Shows : Config → Line → List
       let same = eqb-true e.line number is in
       subst (λ n. Both card.config (line_at n card) (seen e.what (answer e card)) (line_at n (after e card))) same
       (own-line card e s here (subst (λ n. Stands card.config (line_at n card)) (sym same) stands))
-  moment card e number s here stands false other =
-      let away : number ≢ e.line = λ same. true≢false (sym (eq-eqb e.line number (sym same)) ∙ other) in
-      subst (λ (x : Line). Both card.config (line_at number card) [] x) (sym (apart card e number away)) (rests card.config (line_at number card), stands)
+  moment card e number s here stands false other = grind (arith, eq-eqb, apart)
 
   pub run-shows : (card : Card) (events : List Event) (number : ℕ) → IsSound card → AreAtLines card events → Stands card.config (line_at number card)
       → Both card.config (line_at number card) (trace number (moments card events)) (line_at number (after_all card events))

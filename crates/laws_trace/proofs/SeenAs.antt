@@ -1,5 +1,5 @@
 -- What an observer knows of a link of a TEI on the line: its state, and in states 7 and 8 V(A).
-use Rattle.laws_trace.proofs.Vocabulary.{◌≡◌, ℕ, ◌%◌, ◌<◌, ◌==◌, Bool, true, false, List, Some, refl, sym, ap, ◌∙◌, subst, true≢false, fold, Service, State, TeiAssigned, AwaitingEstablishment, Established, TimerRecovery, Link, is_multiple_frame, state_number, Config, Line, has_tei, link_of, place_in, IsInRange, line_at, at, moments, fresh, CardEvent as Event, after, after_all, AreAtLines, managing_is_on as is_on, Observed, View, view_of, moment_of, view_behind, is_up}
+use Rattle.laws_trace.proofs.Vocabulary.{arith, ◌≡◌, ℕ, ◌%◌, ◌<◌, ◌==◌, Bool, true, false, List, Some, fold, Service, State, Link, is_multiple_frame, state_number, Config, Line, has_tei, link_of, place_in, IsInRange, line_at, at, moments, fresh, CardEvent as Event, after, after_all, AreAtLines, managing_is_on as is_on, Observed, View, view_of, moment_of, view_behind, is_up}
 use Rattle.model_line.specs.Event as line_event
 use Rattle.laws_trace.proofs.MovesWatched.{repeated}
 use Rattle.laws_trace.proofs.NewsWatched as news
@@ -16,14 +16,11 @@ use Rattle.laws_trace.proofs.TimersWatched.{Known, nothing_yet, watch}
 
 -- States 7 and 8 are those of multiple-frame operation.
 pub up-number : (state : State) → is_up (state_number state) ≡ is_multiple_frame state
-up-number TeiAssigned = refl
-up-number other = refl
+up-number state = grind arith
 
 -- In these it is known how far a link is.
 pub known-up : (state : State) (k : Known) (a s : ℕ) (busy : Bool) → is_multiple_frame state ≡ true → Agrees state k a s busy → IsKnown k a s busy
-known-up Established k a s busy up h = h
-known-up TimerRecovery k a s busy up h = h
-known-up other k a s busy up h = absurd (true≢false (sym up))
+known-up state k a s busy up h = grind arith
 
 pub record IsSeenAs (k : Link) (o : Observed) : Type 0 where
   pub state_is : o.state ≡ state_number k.state
@@ -32,18 +29,7 @@ pub record IsSeenAs (k : Link) (o : Observed) : Type 0 where
 
 seen-as : (service : Service) (tei : ℕ) (k : Known) (asked owed : Bool) (n : ℕ) (l : Line) (v : View) → Holds service tei k asked owed n l v → IsAskedOf service tei asked l
     → (place : ℕ) → place_in l tei ≡ Some place → IsSeenAs (link_of service tei l) v.link
-seen-as service tei k asked owed n l v h asks place on =
-    let x = link_of service tei l in
-    let seen : IsObserved (state_number x.state) k asked owed n v.link = subst (λ st. IsSeen st k asked owed n v.link) (state-on service tei l place on) h.link_is in
-    record {
-      state_is = seen.state_is;
-      acknowledged_is = λ up. ap (λ (z : Known). z.acknowledged) seen.known_is ∙ (known-up x.state k x.a x.s x.peer_busy up h.true_of).acknowledged;
-      asked_is = by-state x.state x.asked seen.asks asks;
-    }
-  where
-    by-state : (here : State) (its : Bool) → When (state_number here == 5) (v.link.asked ≡ asked) → Asks here asked its → (state_number here == 5) ≡ true → v.link.asked ≡ its
-    by-state AwaitingEstablishment its was is five = was ∙ is
-    by-state other its was is five = absurd (true≢false (sym five))
+seen-as service tei k asked owed n l v h asks place on = grind (arith, IsObserved, IsSeen, state-on, Known, known-up, When, Asks)
 
 -- After a list of events, and behind one more.
 module _ (c : Config) (events : List Event) (number : ℕ) (ranged : IsInRange c) (all : AreAtLines (fresh c) events) (within : number < c.lines) (service : Service) (tei : ℕ) where

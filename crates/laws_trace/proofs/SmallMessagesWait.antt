@@ -1,10 +1,7 @@
 -- The messages of TEI management that wait stay small: what it hears are octets.
-use Rattle.laws_trace.proofs.Vocabulary.{◌≡◌, ℕ, ◌<◌, ◌==◌, Bool, true, false, cond, List, [], ◌∷◌, ◌++◌, length, drop, Option, Some, None, IfSome, refl, sym, subst, inl, inr, Result, Ok, Err, All, option_map_or, All-drop, All-head, AreOctets, Tei, Unserved, Address, ReadFault, Undefined, WrongSize, Long, Refusal, Service, Timer, Parts, reading, long_reading, service_of, reading-found, Change, Gained, Left, Config, Aim, at_management, told_of_management, of_change, of_aim, LineTold, hears, expiry, request, next, Answer, aim_of_expiry, at_timer, Line, place_in, unless_refused, management_sapi, group_tei, drop_for, at_place, to_service, addressed, message_of, aim_of_reading, unless_at_link, aim_of_long, aim_of_heard, heard_side, Taken, taken, line_of, aim_of_request, at_requested, at_deactivated, side_aims, IsOne, taken-one, at_no_link, All-nil, Control, head_of, Event, line_after as after, refusal, Request, IsSound, HasOctets, GivesOctets, seen, by-down, Ui, TimerT200 as T200, T201, TimerT203 as T203, ClearBusy, Data, Deactivate, Establish, Release, SetBusy, heard, seen_told}
+use Rattle.laws_trace.proofs.Vocabulary.{arith, ◌≡◌, ℕ, ◌<◌, false, List, [], ◌∷◌, ◌++◌, length, drop, Option, IfSome, refl, subst, Result, Ok, Err, All, option_map_or, All-drop, All-head, AreOctets, Unserved, Address, ReadFault, Undefined, WrongSize, Long, Refusal, Service, Timer, Parts, reading, reading-found, Change, Config, Aim, at_management, of_change, of_aim, LineTold, hears, expiry, request, next, Answer, aim_of_expiry, Line, unless_refused, drop_for, at_place, addressed, message_of, aim_of_reading, aim_of_long, aim_of_heard, heard_side, Taken, taken, line_of, aim_of_request, side_aims, IsOne, taken-one, Control, head_of, Event, line_after as after, refusal, Request, IsSound, HasOctets, GivesOctets, seen, by-down, heard, seen_told}
 use Rattle.model_bits.specs.Stream as stream
-use Rattle.lapd_frame.specs.declared.overlong.Long.TheVariants as long
-use Rattle.lapd_tei.specs.Events as teis
 use Rattle.model_link.specs.Events as link
-use Rattle.model_link.specs.declared.timers.LinkTimer.TheVariants as link_timer
 use Rattle.laws_trace.proofs.SmallMessages.{IsSmall, IsOfOctets, after-small}
 
 -- What TEI management hears are octets.
@@ -14,24 +11,13 @@ IsOfOctetsAt other = Unit {0}
 
 module _ (c : Config) (l : Line) where
   place-aims : (service : Service) (tei : ℕ) (what : link.Received) (o : Option ℕ) → IsOfOctetsAt (at_place service tei what o)
-  place-aims service tei what None = tt
-  place-aims service tei what (Some place) = tt
-
-  service-aims : (tei : ℕ) (what : link.Received) (o : Option Service) → IsOfOctetsAt (to_service l tei what o)
-  service-aims tei what None = tt
-  service-aims tei what (Some service) = place-aims service tei what (place_in l tei)
+  place-aims service tei what o = grind arith
 
   addressed-aims : (address : Address) (what : link.Received) (message : Aim) → IsOfOctetsAt message → IsOfOctetsAt (addressed l address what message)
-  addressed-aims address what message h = go (address.sapi == management_sapi) (address.tei == group_tei)
-    where
-      go : (known group : Bool) → IsOfOctetsAt (cond known (cond group message (drop_for Tei)) (to_service l address.tei what (service_of address.sapi)))
-      go true true = h
-      go true false = tt
-      go false group = service-aims address.tei what (service_of address.sapi)
+  addressed-aims address what message h = grind (arith, place-aims)
 
   message-aims : (k : Control) (info : List ℕ) → AreOctets info → IsOfOctetsAt (message_of k info)
-  message-aims (Ui p) info h = h
-  message-aims other info h = tt
+  message-aims k info h = grind arith
 
   info-octets : (octets : List ℕ) (parts : Parts) → AreOctets octets → reading (heard_side c) octets ≡ Ok parts → AreOctets parts.info
   info-octets octets parts h is =
@@ -51,80 +37,36 @@ module _ (c : Config) (l : Line) where
   reading-aims octets h (Err (WrongSize address)) is = addressed-aims address link.wrong_size (drop_for Unserved) tt
   reading-aims octets h other is = tt
 
-  unless-aims : (aim : Aim) → IsOfOctetsAt aim → IsOfOctetsAt (unless_at_link aim)
-  unless-aims (at_management event) h = h
-  unless-aims other h = tt
-
   long-aims : (r : Result Long ReadFault) → IsOfOctetsAt (aim_of_long l r)
-  long-aims (Ok (long.Information address)) = addressed-aims address link.overlong (drop_for Unserved) tt
-  long-aims (Ok (long.Unnumbered address)) = unless-aims (addressed l address link.overlong (drop_for Unserved)) (addressed-aims address link.overlong (drop_for Unserved) tt)
-  long-aims (Err (Undefined address)) = addressed-aims address link.undefined (drop_for Unserved) tt
-  long-aims (Err (WrongSize address)) = addressed-aims address link.wrong_size (drop_for Unserved) tt
-  long-aims other = tt
+  long-aims r = grind (arith, addressed-aims)
 
   heard-aims : (e : stream.Event) → HasOctets e → IsOfOctetsAt (aim_of_heard c l e)
-  heard-aims (stream.frame octets) h = reading-aims octets h (reading (heard_side c) octets) refl
-  heard-aims (stream.overlong head) h = long-aims (long_reading (heard_side c) head)
-  heard-aims (stream.dropped cause) h = tt
+  heard-aims e h = grind (arith, reading-aims, long-aims)
 
 timer-aims : (l : Line) (timer : Timer) → IsOfOctetsAt (aim_of_expiry timer l)
-timer-aims l (T200 service tei) = by-place (place_in l tei)
-  where
-    by-place : (o : Option ℕ) → IsOfOctetsAt (at_timer service tei link_timer.T200 o)
-    by-place None = tt
-    by-place (Some place) = tt
-timer-aims l (T203 service tei) = by-place (place_in l tei)
-  where
-    by-place : (o : Option ℕ) → IsOfOctetsAt (at_timer service tei link_timer.T203 o)
-    by-place None = tt
-    by-place (Some place) = tt
-timer-aims l T201 = tt
-
-at-asked : (service : Service) (tei : ℕ) (what : link.Request) (o : Option ℕ) → IsOfOctetsAt (at_requested service tei what o)
-at-asked service tei what None = tt
-at-asked service tei what (Some place) = tt
-
-at-down : (service : Service) (tei : ℕ) (o : Option ℕ) → IsOfOctetsAt (at_deactivated service tei o)
-at-down service tei None = tt
-at-down service tei (Some place) = tt
+timer-aims l timer = grind arith
 
 asked-aims : (l : Line) (r : Request) → IsOfOctetsAt (aim_of_request r l)
-asked-aims l (Establish service tei) = at-asked service tei link.Establish (place_in l tei)
-asked-aims l (Release service tei) = at-asked service tei link.Release (place_in l tei)
-asked-aims l (Data service tei contents) = at-asked service tei (link.Data contents) (place_in l tei)
-asked-aims l (SetBusy service tei) = at-asked service tei link.SetBusy (place_in l tei)
-asked-aims l (ClearBusy service tei) = at-asked service tei link.ClearBusy (place_in l tei)
-asked-aims l (Deactivate service tei) = at-down service tei (place_in l tei)
-asked-aims l other = tt
+asked-aims l r = grind arith
 
 request-aims : (l : Line) (r : Request) (o : Option Refusal) → IsOfOctetsAt (unless_refused o (aim_of_request r l))
-request-aims l r None = asked-aims l r
-request-aims l r (Some why) = tt
+request-aims l r o = grind (arith, asked-aims)
 
 -- The messages that wait then.
 changed-small : (c : Config) (o : Option Change) (t : LineTold) (l : Line) → All IsSmall l.management.waiting → All IsSmall (of_change c o t l).line.management.waiting
-changed-small c None t l h = h
-changed-small c (Some (Gained tei place)) t l h = h
-changed-small c (Some (Left tei place)) t l h = h
+changed-small c o t l h = grind arith
 
 aim-small : (c : Config) (aim : Aim) (l : Line) → IsOfOctetsAt aim → All IsSmall l.management.waiting → All IsSmall (of_aim c aim l).line.management.waiting
-aim-small c (at_management e) l fits h =
-    changed-small c (teis.told e l.management).change (told_of_management (teis.told e l.management)) (record l { management = teis.after e l.management })
-    (after-small e l.management fits h)
-aim-small c at_no_link l fits h = by-down c l (λ f. All IsSmall f.line.management.waiting) (All-nil IsSmall)
-aim-small c other l fits h = h
+aim-small c aim l o h = grind (arith, changed-small, after-small, by-down, IsSmall)
 
 next-small : (c : Config) (l : Line) → IsSound c l → All IsSmall l.management.waiting → All IsSmall (option_map_or line_of (taken c l) l).management.waiting
 next-small c l s h = go (taken c l) (taken-one c l s)
   where
     took : (t : Taken) → IsOne c l t → All IsSmall t.line.management.waiting
-    took t (inl x) = subst (λ (u : Taken). All IsSmall u.line.management.waiting) (sym x.1) (All-drop IsSmall 1 l.management.waiting h)
-    took t (inr (inl x)) = subst (λ (u : Taken). All IsSmall u.line.management.waiting) (sym x.1) h
-    took t (inr (inr x)) = subst (λ (u : Taken). All IsSmall u.line.management.waiting) (sym x.is) h
+    took t o = grind (arith, IsSmall)
 
     go : (o : Option Taken) → IfSome o (IsOne c l) → All IsSmall (option_map_or line_of o l).management.waiting
-    go None x = h
-    go (Some t) x = took t x
+    go o x = grind (arith, took)
 
 pub messages-after : (c : Config) (e : Event) (l : Line) (a : Answer) → IsSound c l → All GivesOctets (seen e a) → All IsSmall l.management.waiting → All IsSmall (after c e l).management.waiting
 unfolding after

@@ -1,5 +1,5 @@
 -- Each frame that begins on a line is one that the grammar has, of a service or of TEI management: the law.
-use Rattle.laws_trace.proofs.Vocabulary.{◌≡◌, ◌≤◌, true, false, List, [], ◌∷◌, ◌++◌, slice_get, Option, Some, None, IfSome, option_map, refl, sym, subst, arith, All, option_or, flat_map-append, All-nil, All-cons, All-head, All-append, Service, Call, Packet, Parts, Spells, Ui, sapi_of, Message, address_at, IsGiven, Given, Terms, given_is_frame, Config, request, next, gave, Line, UnitData, service_at, place_at, terms, link_at, Taken, with_unit, unit_frame, first_taken, round, taken, next_of, IsInRange, IsSoundAt, IsUnitData, round_below, terms_in_range, OfLink, of-links, fresh_is_sound, Card, ℕ, moments, unwrap_or, information_of, message_frame, Event, line_after as after, answer, with_message, line_frame_of as frame_of, IsSound, fresh, is_of_use, IsSpelled, FramesAreRead, AreAtLines, trace_frame_in as frame_in, Seen, seen, trace, frames_begun, Always, given, frame_begun}
+use Rattle.laws_trace.proofs.Vocabulary.{◌≡◌, ◌≤◌, true, false, List, [], ◌∷◌, ◌++◌, slice_get, Option, Some, None, IfSome, option_map, refl, sym, subst, arith, All, option_or, flat_map-append, All-nil, All-head, All-append, Service, Parts, Spells, Ui, sapi_of, Message, address_at, IsGiven, Given, Terms, given_is_frame, Config, request, next, gave, Line, UnitData, service_at, place_at, terms, link_at, Taken, with_unit, unit_frame, first_taken, round, taken, next_of, IsInRange, IsSoundAt, IsUnitData, round_below, terms_in_range, OfLink, of-links, fresh_is_sound, Card, ℕ, moments, unwrap_or, information_of, message_frame, Event, line_after as after, answer, with_message, line_frame_of as frame_of, IsSound, fresh, is_of_use, IsSpelled, FramesAreRead, AreAtLines, trace_frame_in as frame_in, Seen, seen, trace, frames_begun, Always, given, frame_begun}
 use Rattle.model_link.specs.Sound as link_sound
 use Rattle.model_card.specs.Event as card_event
 use Rattle.model_card.specs.Sound as card_sound
@@ -8,8 +8,7 @@ use Rattle.laws_trace.proofs.Units.{given-frames, none-told, none-requested}
 use Rattle.laws_trace.proofs.Facts.{small-sapi}
 
 of-a-service : (service : Service) → is_of_use (sapi_of service) ≡ true
-of-a-service Call = refl
-of-a-service Packet = refl
+of-a-service service = grind arith
 
 -- messages of TEI management, and unit data
 message-spelled : (c : Config) (m : Message) → IsSpelled c (message_frame c.side m)
@@ -52,8 +51,7 @@ module _ (c : Config) (ranged : IsInRange c) (l : Line) (s : IsSound c l) where
       subst Spelled (sym x.is) (given-spelled c own x.what (link-given t x))
 
   first-spelled : (o : Option Taken) → IfSome o (OfLink c l) → IfSome o Spelled
-  first-spelled None x = tt
-  first-spelled (Some t) x = link-spelled t x
+  first-spelled o x = grind (arith, link-spelled)
 
   any-spelled : (m : Option Message) (us : List UnitData) → All (IsUnitData c) us
       → IfSome (option_or (option_map (with_message l) (option_map (message_frame c.side) m)) (option_or (option_map (with_unit c l) (slice_get us 0)) (first_taken c l (round c l)))) Spelled
@@ -75,8 +73,7 @@ joins : (c : Config) (k l m : Line) (t u : List Seen) → AreSpelled c k t l →
 joins c k l m t u h i = subst (All (IsSpelled c)) (sym (flat_map-append frame_begun t u)) (All-append (IsSpelled c) (frames_begun t) (frames_begun u) h i)
 
 by-next : (c : Config) (o : Option Taken) → IfSome o (λ t. IsSpelled c t.frame) → All (IsSpelled c) (frame_in (gave (option_map next_of o)))
-by-next c None h = All-nil (IsSpelled c)
-by-next c (Some t) h = All-cons (IsSpelled c) t.frame [] h (All-nil (IsSpelled c))
+by-next c o h = grind arith
 
 event-spelled : (c : Config) → IsInRange c → (e : Event) (l : Line) → IsSound c l → AreSpelled c l (seen e (answer c e l)) (after c e l)
 unfolding answer

@@ -1,6 +1,5 @@
 -- How a link stands, to whoever watches it: over runs.
-use Rattle.laws_trace.proofs.Vocabulary.{◌≡◌, ℕ, ◌==◌, ◌&&◌, ◌||◌, Bool, true, false, cond, List, [], ◌∷◌, ◌++◌, map, Option, Some, None, refl, sym, ap, ◌∙◌, subst, eq-eqb, ◌⊎◌, inl, inr, true≢false, fold, not, is_some, list_any, option_map_or, and_parts, Service, Parts, same_service, Terms, restarts, Link, is_multiple_frame, Config, hears, expiry, request, next, Answer, LineTold, Line, place_in, link_in, link_of, terms, aim_of, unless_refused, of_heard, at_requested, IsInRange, notes_of, is_data_of, is_granted, IsBy, not-refused, eqb-true, fresh_link as fresh, Event, told, line_after as after, answer, Request, SetBusy, ClearBusy, IsSound, of_link, trace_frame_in as frame_in, is_own, Seen, heard, trace_noted as noted, lost, seen, seen_told, seen_granted, frame_of, is_for, trace_begun as begun}
-use Rattle.model_bits.specs.Stream as stream
+use Rattle.laws_trace.proofs.Vocabulary.{arith, ◌≡◌, ℕ, ◌==◌, ◌&&◌, ◌||◌, Bool, true, false, cond, List, Option, Some, None, refl, sym, ap, ◌∙◌, subst, eq-eqb, inl, inr, true≢false, fold, not, is_some, list_any, option_map_or, and_parts, Service, Parts, same_service, Terms, restarts, Link, is_multiple_frame, Config, request, Answer, Line, place_in, link_in, link_of, terms, aim_of, unless_refused, at_requested, IsInRange, notes_of, is_data_of, is_granted, IsBy, not-refused, eqb-true, fresh_link as fresh, Event, told, line_after as after, answer, Request, SetBusy, ClearBusy, IsSound, is_own, Seen, seen, is_for}
 use Rattle.laws_link.specs.Flags as flags
 use Rattle.model_link.specs.Events as link
 use Rattle.model_link.specs.Machine as links
@@ -15,14 +14,7 @@ use Rattle.laws_trace.proofs.Facts.{never}
 
 -- However a fresh link is said to stand.
 pub fresh-stands : (busy rejected : Bool) → IsStanding fresh busy rejected
-fresh-stands busy rejected = record {
-  busy_is = λ up. never up;
-  rejected_is = λ up. never up;
-  not_busy = λ at. never at;
-  not_rejecting = λ at. never at;
-  pends_up = λ is. never is;
-  pends_free = λ is. never is;
-}
+fresh-stands busy rejected = grind (arith, never)
 
 module _ (service : Service) (tei : ℕ) where
   abbrev pub granted_busy : Request → Answer → Bool → Bool
@@ -48,44 +40,10 @@ module _ (service : Service) (tei : ℕ) where
     abbrev pub standing : Standing → List Seen → Standing
     standing w t = fold (stand c service tei) w t
 
-    heard-stand : (e : stream.Event) (m : ℕ) (busy rejected : Bool) (t : LineTold) →
-        let f = frame_of c e in
-        standing (calm m busy rejected) (heard e ∷ noted t.notes t.contents ∷ lost t.lost ∷ [])
-        ≡ record {
-          told = quiet (counted service tei (record { frame = f; count = m }) t.notes);
-          busy = cond (begins service tei f t.notes) false busy;
-          rejected = cond (begins service tei f t.notes || list_any (is_data_of service tei) t.notes) false (cond (brings_information service tei f && not busy) true rejected);
-        }
-    heard-stand e m busy rejected t = refl
-
-    abbrev ByNotes : Bool → ℕ → Bool → Answer → Standing
-    ByNotes busy m rejected a =
-        record {
-          told = quiet (counted service tei (quiet m) (notes_of a));
-          busy = busy;
-          rejected = cond (list_any (is_data_of service tei) (notes_of a)) false rejected;
-        }
-
-    told-stand : (m : ℕ) (busy rejected : Bool) (a : Answer) → standing (calm m busy rejected) (seen_told a) ≡ ByNotes busy m rejected a
-    told-stand m busy rejected (told t) = refl
-    told-stand m busy rejected other = refl
-
-    asked-stand : (r : Request) (m : ℕ) (busy rejected : Bool) (a : Answer)
-        → standing (calm m busy rejected) (seen_granted r a ++ seen_told a) ≡ ByNotes (granted_busy r a busy) m rejected a
-    asked-stand r m busy rejected (told t) = refl
-    asked-stand r m busy rejected other = refl
-
-    pub begun-stand : (frames : List (List ℕ)) (m : ℕ) (busy rejected : Bool) → standing (calm m busy rejected) (map begun frames) ≡ calm m busy rejected
-    begun-stand [] m busy rejected = refl
-    begun-stand (f ∷ frames) m busy rejected = begun-stand frames m busy rejected
-
     pub stand-is : (e : Event) (l : Line) (m : ℕ) (busy rejected : Bool)
         → standing (calm m busy rejected) (seen e (answer c e l)) ≡ behind c e l (answer c e l) m busy rejected
     unfolding answer
-    stand-is (hears what) l m busy rejected = heard-stand what m busy rejected (of_heard c what l).told
-    stand-is (expiry timer) l m busy rejected = told-stand m busy rejected (answer c (expiry timer) l)
-    stand-is (request r) l m busy rejected = asked-stand r m busy rejected (answer c (request r) l)
-    stand-is next l m busy rejected = begun-stand (frame_in (answer c next l)) m busy rejected
+    stand-is e l m busy rejected = grind arith
 
   -- What an event of the line is to its link.
   module _ (c : Config) (e : Event) (a : Answer) where
@@ -103,20 +61,8 @@ module _ (service : Service) (tei : ℕ) where
     brings-is link.cleared by = absurd by
     brings-is other by = ap (λ e. brings_information service tei (frame_by c e)) by
 
-    asked-by : (what : link.Request) (full : Bool) (a : Answer) (busy : Bool) → is_granted a ≡ true → granted_busy (of_link service tei what) a busy ≡ flags.busy_asked (link.requested what full) busy
-    asked-by link.SetBusy full (told t) busy g = ap (λ b. b || busy) own-true
-    asked-by link.ClearBusy full (told t) busy g = ap (λ b. not b && busy) own-true
-    asked-by other full (told t) busy g = refl
-    asked-by what full other busy g = never g
-
     asked-is : (le : link.Event) (busy : Bool) → IsBy c e a service tei le → asked_busy e a busy ≡ flags.busy_asked le busy
-    asked-is (link.received (link.frame f)) busy by = ap (λ e. asked_busy e a busy) by.by
-    asked-is (link.received link.undefined) busy by = ap (λ e. asked_busy e a busy) (heard-by c e a service tei link.undefined by).1
-    asked-is (link.received link.wrong_size) busy by = ap (λ e. asked_busy e a busy) (heard-by c e a service tei link.wrong_size by).1
-    asked-is (link.received link.overlong) busy by = ap (λ e. asked_busy e a busy) (heard-by c e a service tei link.overlong by).1
-    asked-is (link.requested what full) busy by = ap (λ e. asked_busy e a busy) by.0 ∙ asked-by what full a busy by.1
-    asked-is link.cleared busy by = absurd by
-    asked-is other busy by = ap (λ e. asked_busy e a busy) by
+    asked-is le busy by = grind (arith, heard-by, own-true, never)
 
   -- A request for a link that is on the line is an event of this link.
   module _ (c : Config) (l : Line) (place : ℕ) (on : place_in l tei ≡ Some place) where
@@ -141,12 +87,7 @@ module _ (service : Service) (tei : ℕ) where
     busy-elsewhere other busy g away = refl
 
     asked-elsewhere : (e : Event) (busy : Bool) → is_at_link service tei (aim_of c e l) ≡ false → asked_busy e (answer c e l) busy ≡ busy
-    asked-elsewhere (request r) busy away = go (answer c (request r) l) refl
-      where
-        go : (a : Answer) → answer c (request r) l ≡ a → granted_busy r a busy ≡ busy
-        go (told t) is = busy-elsewhere r busy (ap is_granted is) away
-        go other is = refl
-    asked-elsewhere other busy away = refl
+    asked-elsewhere e busy away = grind (arith, busy-elsewhere)
 
   -- One event of a line.
   module _ (c : Config) (ranged : IsInRange c) (l : Line) (s : IsSound c l) (e : Event) (m : ℕ) (count : IsCount (link_of service tei l) m)
@@ -177,9 +118,7 @@ module _ (service : Service) (tei : ℕ) where
       delivers = is_some (links.told t x.event own).delivered
 
       pub busy-is : now.busy ≡ busy_behind (restarts t x.event own) x.event busy
-      busy-is =
-          ap (λ b. cond b false (asked_busy e a busy)) one-restarts
-          ∙ ap (λ b. cond (restarts t x.event own) false b) (asked-is c e a x.event busy x.by)
+      busy-is = grind (arith, one-restarts, asked-is)
 
       pub rejected-is : now.rejected ≡ rejected_behind (restarts t x.event own) delivers x.event busy rejected
       rejected-is =
@@ -190,10 +129,7 @@ module _ (service : Service) (tei : ℕ) where
           ∙ ap (λ b. cond (restarts t x.event own || delivers) false (cond (b && not busy) true rejected)) (brings-is c e a x.event x.by)
 
       one-stands : Stands (link_of service tei (after c e l))
-      one-stands =
-          subst Stands (sym x.is)
-          (both-are (links.after t x.event own) (busy_behind (restarts t x.event own) x.event busy) (rejected_behind (restarts t x.event own) delivers x.event busy rejected)
-          busy-is rejected-is (link-stands t x.event own busy rejected stands))
+      one-stands = grind (arith, both-are, busy_behind, rejected_behind, busy-is, rejected-is, link-stands)
 
       one-free : list_any (is_data_of service tei) (notes_of a) ≡ true → asked_busy e a busy ≡ false
       one-free some = go (links.told t x.event own).delivered refl
@@ -220,10 +156,7 @@ module _ (service : Service) (tei : ℕ) where
 
       by-frame : (o : Option Parts) → frame_by c e ≡ o → is_multiple_frame own.state ≡ true
           → (begins service tei o (notes_of a) ≡ false) × (brings_information service tei o ≡ false)
-      by-frame None is up = (refl, refl)
-      by-frame (Some f) is up =
-          let other = not-for f is up (is_for service tei f.address) refl in
-          (ap (λ b. b && begins_by f.control (notes_of a)) other, ap (λ b. b && is_information f.control) other)
+      by-frame o is up = grind (arith, not-for, begins_by, is_information)
 
       untold : (b : Bool) → list_any (is_data_of service tei) (notes_of a) ≡ b → list_any (is_data_of service tei) (notes_of a) ≡ false
       untold false is = is
@@ -235,28 +168,10 @@ module _ (service : Service) (tei : ℕ) where
           ap (λ b. cond b false (asked_busy e a busy)) (by-frame (frame_by c e) refl up).0 ∙ asked-elsewhere c l on.0 on.1 e busy x.aims
 
       rejected-stays : is_multiple_frame own.state ≡ true → now.rejected ≡ rejected
-      rejected-stays up =
-          let f = by-frame (frame_by c e) refl up in
-          let d = list_any (is_data_of service tei) (notes_of a) in
-          ap (λ b. cond (b || d) false (cond (brings_information service tei (frame_by c e) && not busy) true rejected)) f.0
-          ∙ ap (λ d. cond d false (cond (brings_information service tei (frame_by c e) && not busy) true rejected)) (untold d refl)
-          ∙ ap (λ b. cond (b && not busy) true rejected) f.1
+      rejected-stays up = grind (arith, by-frame, frame_by, brings_information, untold)
 
       none-stands : Stands (link_of service tei (after c e l))
-      none-stands = go x.is
-        where
-          go : (link_of service tei (after c e l) ≡ own) ⊎ (link_of service tei (after c e l) ≡ fresh) → Stands (link_of service tei (after c e l))
-          go (inl same) =
-              subst Stands (sym same)
-              (record {
-                busy_is = λ up. stands.busy_is up ∙ sym (busy-stays up);
-                rejected_is = λ up. stands.rejected_is up ∙ sym (rejected-stays up);
-                not_busy = stands.not_busy;
-                not_rejecting = stands.not_rejecting;
-                pends_up = stands.pends_up;
-                pends_free = stands.pends_free;
-              })
-          go (inr new) = anew-stands new
+      none-stands = grind (arith, busy-stays, rejected-stays, anew-stands)
 
     -- So of every event.
     pub event-stands : Stands (link_of service tei (after c e l)) × (list_any (is_data_of service tei) (notes_of a) ≡ true → asked_busy e a busy ≡ false)

@@ -1,5 +1,5 @@
 -- How a link stands behind an event: own busy, and whether REJ stands.
-use Rattle.laws_trace.proofs.Vocabulary.{◌≡◌, ℕ, ◌&&◌, ◌||◌, Bool, true, false, cond, List, [], ◌∷◌, ◌++◌, length, Option, Some, None, refl, sym, ap, ◌∙◌, true≢false, inl, inr, not, is_some, nat_lt, nat_le, and_parts, and_right, or_parts, or_from, or_right, none-some, Seq, Information, Sabme, Ua, Parts, State, TeiAssigned, AwaitingEstablishment, AwaitingRelease, Established, TimerRecovery, ControlFrame, Terms, Arrived, information_in, is_eligible, eligible_of, restarts, eligible, Received, overlong, received, expired, requested, offer, cleared, Link, is_multiple_frame, delivery, event-delivers, delivered-at_once, flag_left, busy_asked, own_busy_left, rejecting_heard, takes_contents, unless_put, owed_in, owed_behind, pending_left, as_heard, is_anew, is_clearing, leads_by_sabme, leads_by_agreement, comes_to, moves, numbers_begin, state_after, is_next, as_response, receipt_as, commands, put, event-follows, Control, LinkEvent as Event, frame, LinkEstablish as Establish, LinkRelease as Release, LinkData as Data, LinkSetBusy as SetBusy, LinkClearBusy as ClearBusy}
+use Rattle.laws_trace.proofs.Vocabulary.{arith, ◌≡◌, ℕ, ◌&&◌, ◌||◌, Bool, true, false, cond, List, [], ◌++◌, Some, None, refl, sym, ap, ◌∙◌, not, is_some, nat_le, and_parts, and_right, or_parts, or_from, or_right, none-some, Seq, Information, Sabme, Ua, Parts, State, AwaitingEstablishment, ControlFrame, Terms, Arrived, is_eligible, restarts, eligible, Received, overlong, received, expired, requested, offer, cleared, Link, is_multiple_frame, delivery, event-delivers, delivered-at_once, flag_left, busy_asked, own_busy_left, rejecting_heard, takes_contents, unless_put, owed_in, owed_behind, pending_left, as_heard, is_anew, is_clearing, leads_by_sabme, leads_by_agreement, comes_to, numbers_begin, state_after, as_response, receipt_as, put, event-follows, Control, LinkEvent as Event, frame, LinkEstablish as Establish, LinkRelease as Release, LinkData as Data, LinkSetBusy as SetBusy, LinkClearBusy as ClearBusy}
 use Rattle.model_link.specs.Machine as links
 use Rattle.laws_trace.proofs.Counting.{Watched}
 use Rattle.laws_trace.proofs.DeliveriesWatched.{Standing, is_information}
@@ -26,39 +26,21 @@ module _ (t : Terms) (x flag : Bool) where
       numbers_begin e l.state (state_after t e l) ≡ true → (is_awaiting l.state ≡ true → flag ≡ false) → flag_left e l (state_after t e l) x flag ≡ false
 
   off-sabme : (f : Parts) (p : Bool) (here : State) (l : Link) → Off (received (frame (record f { control = Sabme p }))) (record l { state = here })
-  off-sabme f p AwaitingEstablishment l is h = never is
-  off-sabme f p AwaitingRelease l is h = never is
-  off-sabme f p other l is h = refl
+  off-sabme f p here l is h = grind (arith, never)
 
   off-ua : (f : Parts) (here : State) (l : Link) → Off (received (frame (record f { control = Ua true }))) (record l { state = here })
-  off-ua f AwaitingEstablishment l is h = h refl
-  off-ua f other l is h = never is
-
-  off-frame : (f : Parts) (control : Control) (l : Link) → Off (received (frame (record f { control = control }))) l
-  off-frame f (Sabme p) l = in-state (Off (received (frame (record f { control = Sabme p })))) l (λ here. off-sabme f p here l)
-  off-frame f (Ua true) l = in-state (Off (received (frame (record f { control = Ua true })))) l (λ here. off-ua f here l)
-  off-frame f other l = λ is h. never is
+  off-ua f here l is h = grind (arith, never)
 
   pub off-where-begun : (e : Event) (l : Link) → Off e l
-  off-where-begun (received (frame f)) l is h = off-frame f f.control l is h
-  off-where-begun cleared l is h = ap (λ b. cond b false (cond (is_multiple_frame l.state) x flag)) (or_right (comes_to 5 l.state TeiAssigned) true refl)
-  off-where-begun other l is h = never is
+  off-where-begun e l is h = grind (arith, in-state, off-sabme, off-ua, never, or_right)
 
   -- and so it is in state 5;
-  either-off : (b : Bool) → flag ≡ false → cond b false flag ≡ false
-  either-off true off = refl
-  either-off false off = off
-
   off-awaiting : (e : Event) (from to : State) (l : Link) → is_awaiting to ≡ true → (is_awaiting from ≡ true → flag ≡ false) → flag_left e (record l { state = from }) to x flag ≡ false
-  off-awaiting e AwaitingEstablishment AwaitingEstablishment l is h = either-off (leads_by_sabme e AwaitingEstablishment || is_clearing e) (h refl)
-  off-awaiting e other AwaitingEstablishment l is h = refl
-  off-awaiting e from other l is h = never is
+  off-awaiting e from to l is h = grind (arith, never)
 
   -- while the link stays up, it is as the event leaves it.
   not-five : (from to : State) → is_multiple_frame to ≡ true → comes_to 5 from to ≡ false
-  not-five from Established up = and_right (moves from Established) false refl
-  not-five from TimerRecovery up = and_right (moves from TimerRecovery) false refl
-  not-five from other up = never up
+  not-five from to up = grind (arith, and_right, never)
 
   not-anew : (e : Event) (from to : State) → is_multiple_frame to ≡ true → numbers_begin e from to ≡ false → is_anew e from to ≡ false
   not-anew e from to up on =
@@ -67,27 +49,12 @@ module _ (t : Terms) (x flag : Bool) where
       or_from (comes_to 5 from to) (leads_by_sabme e to || is_clearing e) (not-five from to up) (or_from (leads_by_sabme e to) (is_clearing e) first.0 second.1)
 
   pub as-left : (e : Event) (l : Link) (to : State) → is_multiple_frame l.state ≡ true → is_multiple_frame to ≡ true → numbers_begin e l.state to ≡ false → flag_left e l to x flag ≡ x
-  as-left e l to was up on =
-      ap (λ b. cond b false (cond (is_multiple_frame l.state) x flag)) (not-anew e l.state to up on) ∙ ap (λ b. cond b x flag) was
+  as-left e l to was up on = grind (arith, not-anew)
 
 -- An acknowledgement is owed only while own busy is off.
 free : (anew up owed pending x busy : Bool) → (up ≡ true → owed ≡ true → x ≡ false) → (pending ≡ true → busy ≡ false) → cond anew false (cond up owed pending) ≡ true
     → cond anew false (cond up x busy) ≡ false
-free true up owed pending x busy h k is = refl
-free false true owed pending x busy h k is = h refl is
-free false false owed pending x busy h k is = k is
-
-taken-free : (r : Received) (l : Link) → takes_contents (received r) l ≡ true → l.own_busy ≡ false
-taken-free (frame f) l is = by f.control is
-  where
-    off : (busy next : Bool) → (not busy && next) ≡ true → busy ≡ false
-    off true next is = never is
-    off false next is = refl
-
-    by : (control : Control) → takes_contents (received (frame (record f { control = control }))) l ≡ true → l.own_busy ≡ false
-    by (Information ns nr p) is = off l.own_busy (is_next ns l) is
-    by other is = never is
-taken-free other l is = never is
+free anew up owed pending x busy h k is = grind arith
 
 module _ (t : Terms) (l : Link) (to : State) (pends : l.pending ≡ true → l.own_busy ≡ false) where
   abbrev Owed : Event → Bool
@@ -97,56 +64,34 @@ module _ (t : Terms) (l : Link) (to : State) (pends : l.pending ≡ true → l.o
   second a b is = (and_parts a b is).1
 
   unput : (frames : List ControlFrame) (owed : Bool) → unless_put frames owed ≡ true → (frames ≡ []) × (owed ≡ true)
-  unput [] owed is = (refl, is)
-  unput (f ∷ frames) owed is = never is
+  unput frames owed is = grind (arith, never)
 
   owed-so : (e : Event) → Owed e ≡ true → (put e l to ≡ []) × ((takes_contents e l || l.pending) ≡ true)
   owed-so e is = unput (put e l to) (takes_contents e l || l.pending) (second (is_multiple_frame to) (unless_put (put e l to) (takes_contents e l || l.pending)) is)
 
   by-either : (r : Received) (b : Bool) → takes_contents (received r) l ≡ b → (b || l.pending) ≡ true → l.own_busy ≡ false
-  by-either r true is any = taken-free r l is
-  by-either r false is any = pends any
+  by-either r b is any = grind (arith, never)
 
   off-all : (anew up busy : Bool) → busy ≡ false → cond anew false (cond up busy busy) ≡ false
-  off-all true up busy off = refl
-  off-all false true busy off = off
-  off-all false false busy off = off
+  off-all anew up busy off = grind arith
 
   owed-is : (frames : List ControlFrame) (owed : Bool) → owed_behind frames owed ≡ true → owed ≡ true
-  owed-is [] owed is = never is
-  owed-is (f ∷ frames) owed is = is
+  owed-is frames owed is = grind (arith, never)
 
   set-put : (up busy : Bool) (rest : List ControlFrame) → up ≡ true → busy ≡ false → cond (up && not busy) (as_response (receipt_as true l.r false)) [] ++ rest ≡ [] → ⊥
-  set-put true true rest up off none = true≢false off
-  set-put true false rest up off none = cc none
-  set-put false busy rest up off none = true≢false (sym up)
+  set-put up busy rest o off none = grind arith
 
   still-free : (e : Event) → pending_left e l to ≡ true → own_busy_left e l to ≡ false
   still-free (received r) is =
       let e = received r in
       free (is_anew e l.state to) (is_multiple_frame l.state) (Owed e) l.pending l.own_busy l.own_busy
       (λ up owed. by-either r (takes_contents e l) refl (owed-so e owed).1) pends is
-  still-free (expired timer) is =
-      let e = expired timer in
-      free (is_anew e l.state to) (is_multiple_frame l.state) (Owed e) l.pending l.own_busy l.own_busy (λ up owed. pends (owed-so e owed).1) pends is
-  still-free (requested Establish full) is =
-      let e = requested Establish full in
-      free (is_anew e l.state to) (is_multiple_frame l.state) (Owed e) l.pending l.own_busy l.own_busy (λ up owed. pends (owed-so e owed).1) pends is
-  still-free (requested Release full) is =
-      let e = requested Release full in
-      free (is_anew e l.state to) (is_multiple_frame l.state) (Owed e) l.pending l.own_busy l.own_busy (λ up owed. pends (owed-so e owed).1) pends is
-  still-free (requested (Data contents) full) is =
-      let e = requested (Data contents) full in
-      free (is_anew e l.state to) (is_multiple_frame l.state) (Owed e) l.pending l.own_busy l.own_busy (λ up owed. pends (owed-so e owed).1) pends is
-  still-free (requested SetBusy full) is =
-      let e = requested SetBusy full in
-      free (is_anew e l.state to) (is_multiple_frame l.state) (Owed e) l.pending true l.own_busy
-      (λ up owed.
-      let x = owed-so e owed in
-      absurd (set-put (is_multiple_frame l.state) l.own_busy (commands e l to) up (pends x.1) x.0)) pends is
-  still-free (requested ClearBusy full) is =
-      let e = requested ClearBusy full in
-      free (is_anew e l.state to) (is_multiple_frame l.state) (Owed e) l.pending false l.own_busy (λ up owed. refl) pends is
+  still-free (expired timer) is = grind (arith, free, owed-so)
+  still-free (requested Establish full) is = grind (arith, free, owed-so)
+  still-free (requested Release full) is = grind (arith, free, owed-so)
+  still-free (requested (Data contents) full) is = grind (arith, free, owed-so)
+  still-free (requested SetBusy full) is = grind (arith, free, owed-so, set-put)
+  still-free (requested ClearBusy full) is = grind (arith, free)
   still-free offer is = off-all (is_anew offer l.state to) (is_multiple_frame l.state) l.own_busy (pends (owed-is l.waiting l.pending is))
   still-free cleared is =
       free (is_anew cleared l.state to) (is_multiple_frame l.state) (Owed cleared) l.pending l.own_busy l.own_busy (λ up owed. pends (owed-so cleared owed).1) pends is
@@ -171,10 +116,6 @@ busy_behind anew e busy = cond anew false (busy_asked e busy)
 abbrev pub rejected_behind : Bool → Bool → Event → Bool → Bool → Bool
 rejected_behind anew delivers e busy rejected = cond (anew || delivers) false (cond (brings e && not busy) true rejected)
 
-as-asked : (t : Terms) (e : Event) (busy : Bool) → busy_asked (as_heard t e) busy ≡ busy_asked e busy
-as-asked t (received (frame f)) busy = refl
-as-asked t other busy = refl
-
 -- REJ stands from an I-frame out of sequence on.
 module _ (t : Terms) (l : Link) (up : is_multiple_frame l.state ≡ true) where
   abbrev Same : Event → Type 0
@@ -182,24 +123,16 @@ module _ (t : Terms) (l : Link) (up : is_multiple_frame l.state ≡ true) where
       is_multiple_frame (state_after t (as_heard t e) l) ≡ true
       → rejecting_heard (as_heard t e) l ≡ rejected_behind false (takes_contents (as_heard t e) l) e l.own_busy l.rejecting
 
-  in-information : (busy next rejecting : Bool) → cond busy rejecting (not next) ≡ cond (not busy && next) false (cond (not busy) true rejecting)
-  in-information true next rejecting = refl
-  in-information false true rejecting = refl
-  in-information false false rejecting = refl
-
   by-size : (f : Parts) (ns nr : Seq) (p b : Bool) → let r = cond b overlong (frame (record f { control = Information ns nr p })) in
       is_multiple_frame (state_after t (received r) l) ≡ true
       → rejecting_heard (received r) l ≡ rejected_behind false (takes_contents (received r) l) (received (frame (record f { control = Information ns nr p }))) l.own_busy l.rejecting
-  by-size f ns nr p true stays = never (sym (ap (λ b. is_multiple_frame (cond (b && true) AwaitingEstablishment l.state)) up) ∙ stays)
-  by-size f ns nr p false stays = in-information l.own_busy (is_next ns l) l.rejecting
+  by-size f ns nr p b stays = grind (arith, never)
 
   by-control : (f : Parts) (control : Control) → Same (received (frame (record f { control = control })))
-  by-control f (Information ns nr p) = by-size f ns nr p (nat_lt t.n201 (length f.info))
-  by-control f other = λ stays. refl
+  by-control f control = grind (arith, by-size)
 
   rejecting-same : (e : Event) → Same e
-  rejecting-same (received (frame f)) = by-control f f.control
-  rejecting-same other = λ stays. refl
+  rejecting-same e = grind (arith, by-control)
 
 module _ (t : Terms) (e : Event) (l : Link) (busy rejected : Bool) (stands : IsStanding l busy rejected) where
   abbrev next : Link
@@ -230,10 +163,7 @@ module _ (t : Terms) (e : Event) (l : Link) (busy rejected : Bool) (stands : IsS
   up-is up = ap is_multiple_frame (sym state-is) ∙ up
 
   busy-behind : is_multiple_frame next.state ≡ true → (b : Bool) → restarts t e l ≡ b → next.own_busy ≡ busy_behind b e busy
-  busy-behind up true is = own-is ∙ off-where-begun t (busy_asked heard l.own_busy) l.own_busy heard l (sym begin-is ∙ is) stands.not_busy
-  busy-behind up false is =
-      let was = up-before t e l up is in
-      own-is ∙ as-left t (busy_asked heard l.own_busy) l.own_busy heard l to was (up-is up) (sym begin-is ∙ is) ∙ as-asked t e l.own_busy ∙ ap (busy_asked e) (stands.busy_is was)
+  busy-behind up b is = grind (arith, own-is, off-where-begun, begin-is, up-before, as-left, up-is)
 
   rejected-behind : is_multiple_frame next.state ≡ true → (b : Bool) → restarts t e l ≡ b → next.rejecting ≡ rejected_behind b delivers e busy rejected
   rejected-behind up true is = rejecting-is ∙ off-where-begun t (rejecting_heard heard l) l.rejecting heard l (sym begin-is ∙ is) stands.not_rejecting
@@ -245,11 +175,7 @@ module _ (t : Terms) (e : Event) (l : Link) (busy rejected : Bool) (stands : IsS
       ∙ ap (rejected_behind false delivers e busy) (stands.rejected_is was)
     where
       delivered : restarts t e l ≡ false → delivers ≡ is_some (delivery l.r (eligible t e l))
-      delivered on =
-          elim (event-delivers t l e) [
-            | inl y ↦ ap is_some y.delivered
-            | inr y ↦ absurd (true≢false (sym y.begins ∙ on))
-          ]
+      delivered on = grind (arith, event-delivers, is_some)
 
   pub link-stands : IsStanding next (busy_behind (restarts t e l) e busy) (rejected_behind (restarts t e l) delivers e busy rejected)
   link-stands = record {
@@ -266,23 +192,11 @@ module _ (t : Terms) (l : Link) (busy : Bool) where
   abbrev Free : Event → Type 0
   Free e = (is_multiple_frame l.state ≡ true) × (l.own_busy ≡ false) × (busy_asked e busy ≡ busy)
 
-  not-true : (b : Bool) → not b ≡ true → b ≡ false
-  not-true true is = never is
-  not-true false is = refl
-
   fits : (b : Bool) (j i : Arrived) → is_eligible t l j ≡ b → cond b (Some j) None ≡ Some i → (is_multiple_frame l.state ≡ true) × (l.own_busy ≡ false)
-  fits false j i is e = absurd (none-some i e)
-  fits true j i is e =
-      let x = and_parts (nat_le (length j.contents) t.n201 && is_multiple_frame l.state) (not l.own_busy) is in
-      ((and_parts (nat_le (length j.contents) t.n201) (is_multiple_frame l.state) x.0).1, not-true l.own_busy x.1)
-
-  eligible-free : (o : Option Arrived) (i : Arrived) → eligible_of t l o ≡ Some i → (is_multiple_frame l.state ≡ true) × (l.own_busy ≡ false)
-  eligible-free None i e = absurd (none-some i e)
-  eligible-free (Some j) i e = fits (is_eligible t l j) j i refl e
+  fits b j i is e = grind (arith, none-some, and_parts, nat_le, never)
 
   by-event : (e : Event) (i : Arrived) → eligible t e l ≡ Some i → Free e
-  by-event (received r) i is = let x = eligible-free (information_in (received r)) i is in (x.0, x.1, refl)
-  by-event other i is = absurd (none-some i is)
+  by-event e i is = grind (arith, none-some)
 
   pub delivers-free : (e : Event) (contents : List ℕ) → (links.told t e l).delivered ≡ Some contents → Free e
   delivers-free e contents is = let x = delivered-at_once t e l contents is in by-event e x.0 x.1

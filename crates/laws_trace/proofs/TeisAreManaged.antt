@@ -35,10 +35,7 @@ pub moment-follows : (k : Card) (e : Event) (number : ℕ) (w : Managed) → IsS
 moment-follows k e number w s here h = go (e.line == number) refl
   where
     go : (b : Bool) → (e.line == number) ≡ b → Follows (cond b (due k.config e.what w) w) (line_at number (after e k)).management
-    go true is =
-        let same = eqb-true e.line number is in
-        subst (λ n. Follows (due k.config e.what w) (line_at n (after e k)).management) same
-        (own-shows k e w s here (subst (λ n. Follows w (line_at n k).management) (sym same) h)).follows
+    go true is = grind (arith, eqb-true, Follows, own-shows)
     go false other =
         subst (λ (x : Line). Follows w x.management) (sym (apart k e number (λ same. true≢false (sym (eq-eqb e.line number (sym same)) ∙ other)))) h
 

@@ -1,6 +1,5 @@
 -- What the steps of the tables do to what timers depend on: the state, V(A), V(S), whether the terminal is busy, and the timer.
-use Rattle.laws_trace.proofs.Vocabulary.{◌≡◌, ℕ, ◌==◌, ◌&&◌, Bool, true, false, cond, List, [], Option, Some, None, refl, ap, ◌∙◌, nat_lt, length, Ua, ErrorCode, Seq, named, State, TeiAssigned, AwaitingEstablishment, Established, Terms, LinkTimer, Link, is_asked, has_outstanding, is_own_busy, is_rejecting, ◌then◌, depending_on, by_bit, T200, T203, Course, Step, nothing, acknowledge, link_answer as answer, by_number, clear_flags, count_received, deliver, discard, enter, error, establish_confirm, establish_indication, peer_busy_is, pending_is, re_establish, reject, rejecting_is, response, link_send as send, start, zero_numbers, Particulars, answered, contents_in_7_8, link_dropped as dropped, failed, link_in_sequence as in_sequence, information_in_7_8, is_final, link_is_next as is_next, out_of_sequence, sabme_in_7_8, supervisory}
-use Rattle.lapd_frame.specs.declared.notes.ErrorCode.TheVariants as code
+use Rattle.laws_trace.proofs.Vocabulary.{arith, ◌≡◌, ℕ, ◌==◌, Bool, true, false, cond, List, [], Option, Some, None, refl, ap, ◌∙◌, nat_lt, length, Ua, Seq, named, State, TeiAssigned, AwaitingEstablishment, Established, Terms, LinkTimer, Link, is_asked, has_outstanding, ◌then◌, depending_on, by_bit, T200, T203, Course, Step, nothing, link_answer as answer, by_number, discard, enter, establish_confirm, establish_indication, start, zero_numbers, Particulars, information_in_7_8, is_final, sabme_in_7_8, supervisory}
 use Rattle.model_link.specs.Established as seven
 use Rattle.model_link.specs.TimerRecovery as eight
 use Rattle.model_link.specs.AwaitingEstablishment as five
@@ -75,109 +74,46 @@ pub both : (f g : Step) (F G : Timing → Timing) → Acts f F → Acts g G → 
 both f g F G h k = record { acts = λ c. k.acts (f c) ∙ ap G (h.acts c) }
 
 pub whichever : (test : Link → Bool) (f g : Step) (F : Timing → Timing) → Acts f F → Acts g F → Acts (depending_on test f g) F
-whichever test f g F h k = record { acts = λ c. go c (test c.link) }
-  where
-    go : (c : Course) (b : Bool) → timing (cond b (f c) (g c)) ≡ F (timing c)
-    go c true = h.acts c
-    go c false = k.acts c
+whichever test f g F h k = grind arith
 
 pub by-bit : (b : Bool) (f g : Step) (F G : Timing → Timing) → Acts f F → Acts g G → Acts (by_bit b f g) (by_test b F G)
-by-bit true f g F G h k = record { acts = h.acts }
-by-bit false f g F G h k = record { acts = k.acts }
+by-bit b f g F G h k = grind arith
 
 pub either-bit : (b : Bool) (f g : Step) (F : Timing → Timing) → Acts f F → Acts g F → Acts (by_bit b f g) F
-either-bit true f g F h k = record { acts = h.acts }
-either-bit false f g F h k = record { acts = k.acts }
+either-bit b f g F h k = grind arith
 
 -- by a choice that depends on it
-pub by-choice : (test : Link → Bool) (t : Timing → Bool) → ((c : Course) → test c.link ≡ t (timing c)) → (f g : Step) (F G : Timing → Timing) → Acts f F → Acts g G
-    → Acts (depending_on test f g) (λ x. cond (t x) (F x) (G x))
-by-choice test t same f g F G h k = record { acts = λ c. go c (test c.link) ∙ ap (λ b. cond b (F (timing c)) (G (timing c))) (same c) }
-  where
-    go : (c : Course) (b : Bool) → timing (cond b (f c) (g c)) ≡ cond b (F (timing c)) (G (timing c))
-    go c true = h.acts c
-    go c false = k.acts c
-
 module _ (t : Terms) where
-  pub failed-acts : (e : ErrorCode) → Acts (failed t e) fails
-  failed-acts e = record { acts = λ c. refl }
-
   pub by-number : (nr : Seq) (step : ℕ → Step) (F : ℕ → Timing → Timing) → ((n : ℕ) → Acts (step n) (F n))
       → Acts (by_number t nr step) (λ x. by_name (named x.a x.s nr) fails F x)
-  by-number nr step F h = record { acts = λ c. go c (named c.link.a c.link.s nr) }
-    where
-      go : (c : Course) (o : Option ℕ)
-          → timing (elim o as (λ o. Course) [ None ↦ (error t code.J then re_establish t) c | Some n ↦ step n c ]) ≡ by_name o fails F (timing c)
-      go c None = refl
-      go c (Some n) = (h n).acts c
+  by-number nr step F h = grind arith
 
   pub answers : (b : Bool) → Acts (by_bit b (answer t) nothing) itself
   answers b = either-bit b (answer t) nothing itself (record { acts = λ c. refl }) (record { acts = λ c. refl })
 
-  -- what comes of contents
-  pub contents-acts : (ns : Seq) (p : Bool) (octets : List ℕ) → Acts (contents_in_7_8 t ns p octets) itself
-  contents-acts ns p octets =
-      whichever is_own_busy (dropped t p) (depending_on (is_next ns) (in_sequence t p octets) (out_of_sequence t p)) itself
-      (answers p)
-      (whichever (is_next ns) (in_sequence t p octets) (out_of_sequence t p) itself in-sequence out-of-sequence)
-    where
-      in-sequence : Acts (in_sequence t p octets) itself
-      in-sequence =
-          both (count_received then rejecting_is false then deliver t octets) (by_bit p (answer t) (pending_is true)) itself itself
-          (record { acts = λ c. refl })
-          (either-bit p (answer t) (pending_is true) itself (record { acts = λ c. refl }) (record { acts = λ c. refl }))
-
-      out-of-sequence : Acts (out_of_sequence t p) itself
-      out-of-sequence =
-          whichever is_rejecting (by_bit p (answer t) nothing) (rejecting_is true then reject t p) itself (answers p) (record { acts = λ c. refl })
-
   -- an I-frame, and a supervisory frame
   pub information-acts : (ns nr : Seq) (p : Bool) (octets : List ℕ) (effect : ℕ → Step) (F : ℕ → Timing → Timing) → ((n : ℕ) → Acts (effect n) (F n))
       → Acts (information_in_7_8 t ns nr p octets effect) (informs (nat_lt t.n201 (length octets)) nr F)
-  information-acts ns nr p octets effect F h =
-      by-bit (nat_lt t.n201 (length octets)) (failed t code.O) (contents_in_7_8 t ns p octets then by_number t nr effect) fails
-      (λ x. by_name (named x.a x.s nr) fails F x) (failed-acts code.O)
-      (both (contents_in_7_8 t ns p octets) (by_number t nr effect) itself (λ x. by_name (named x.a x.s nr) fails F x) (contents-acts ns p octets)
-      (by-number nr effect F h))
+  information-acts ns nr p octets effect F h = grind (arith, by-bit, both, whichever, answers, either-bit, by-number)
 
   pub supervisory-acts : (own : Particulars) (busy command pf : Bool) (nr : Seq) (effect : Bool → ℕ → Step) (F : ℕ → Timing → Timing)
       → ((b : Bool) → Acts (own.told_of b) itself) → ((n : ℕ) → Acts (effect (is_final command pf) n) (F n))
       → Acts (supervisory t own busy command pf nr effect) (supervises busy nr F)
-  supervisory-acts own busy command pf nr effect F told h =
-      let final = is_final command pf in
-      both (peer_busy_is busy) (answered t command pf then own.told_of final then by_number t nr (effect final)) (with_busy busy)
-      (λ x. by_name (named x.a x.s nr) fails F x) (record { acts = λ c. refl })
-      (both (answered t command pf) (own.told_of final then by_number t nr (effect final)) itself (λ x. by_name (named x.a x.s nr) fails F x)
-      (answers (command && pf))
-      (both (own.told_of final) (by_number t nr (effect final)) itself (λ x. by_name (named x.a x.s nr) fails F x) (told final)
-      (by-number nr (effect final) F h)))
+  supervisory-acts own busy command pf nr effect F told h = grind (arith, both, answers, by-number)
 
   -- What a valid N(R) does.
   pub acknowledged-acts : (n : ℕ) → Acts (seven.acknowledged_in_7 n) (acknowledged n)
-  acknowledged-acts n =
-      by-choice (seven.is_all_sent n) (λ x. n == x.s) (λ c. refl) (acknowledge n then start T203) _ (λ x. starts T203 (acknowledges n x)) _
-      (record { acts = λ c. refl })
-      (by-choice (seven.is_beyond_acknowledged n) (λ x. nat_lt x.a n) (λ c. refl) (acknowledge n then start T200) nothing (λ x. starts T200 (acknowledges n x)) itself
-      (record { acts = λ c. refl }) (record { acts = λ c. refl }))
+  acknowledged-acts n = grind arith
 
   pub informed-acts : (n : ℕ) → Acts (seven.acknowledged_by_information_in_7 n) (informed n)
-  informed-acts n =
-      by-choice (λ l. l.peer_busy) (λ x. x.busy) (λ c. refl) (acknowledge n) (seven.acknowledged_in_7 n) (acknowledges n) (acknowledged n) (record { acts = λ c. refl })
-      (acknowledged-acts n)
+  informed-acts n = grind (arith, acknowledged-acts)
 
   pub recovers-acts : (timer : LinkTimer) (final : Bool) (n : ℕ) → Acts (eight.acknowledged_in_8 timer final n) (recovers timer final n)
-  recovers-acts timer true n = record { acts = λ c. refl }
-  recovers-acts timer false n = record { acts = λ c. refl }
+  recovers-acts timer final n = grind arith
 
   -- SABME in states 7 and 8, and UA in state 5
   pub sabme-acts : (p : Bool) → Acts (sabme_in_7_8 t p) (λ x. with_busy false (begins x))
-  sabme-acts p = record { acts = λ c. go c (has_outstanding c.link) }
-    where
-      go : (c : Course) (b : Bool) → let d = (send t (response (Ua p)) then clear_flags then error t code.F) c in
-          timing ((zero_numbers then start T203 then enter Established) (cond b ((discard then establish_indication t) d) d))
-          ≡ with_busy false (begins (timing c))
-      go c true = refl
-      go c false = refl
+  sabme-acts p = grind arith
 
   pub agreed-acts : Acts (five.frame_in_5 t [] (Ua true)) begins
   agreed-acts = record { acts = λ c. go c (is_asked c.link) (has_outstanding c.link) }
@@ -186,6 +122,4 @@ module _ (t : Terms) where
           timing ((zero_numbers then start T203 then enter Established)
           (cond asked (establish_confirm t c) (cond outstanding ((discard then establish_indication t) c) c)))
           ≡ begins (timing c)
-      go c true b = refl
-      go c false true = refl
-      go c false false = refl
+      go c asked outstanding = grind arith

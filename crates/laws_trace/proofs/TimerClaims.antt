@@ -42,9 +42,6 @@ pub record Good (k : Known) (ran : LinkTimer → Bool) (x y : Timing) (o : Optio
 not-both : {X : Type 0} (b : Bool) → b ≡ false → b ≡ true → X
 not-both b none some = absurd (true≢false (sym some ∙ none))
 
-not-t203 : {X : Type 0} → runs T203 (Some T200) ≡ true → X
-not-t203 e = cc e
-
 not-t200 : {X : Type 0} → runs T200 (Some T203) ≡ true → X
 not-t200 e = cc e
 
@@ -63,23 +60,13 @@ module _ (k : Known) (ran : LinkTimer → Bool) (a s : ℕ) (busy : Bool) (r : O
   released-7 = record { agrees = refl; anew = go; kept = tt }
     where
       go : (timer : LinkTimer) → ran timer ≡ true → runs timer (Some T200) ≡ true → runs timer (Some T200) ≡ anew_by timer Established AwaitingRelease k None
-      go T200 was now = refl
-      go T203 was now = not-t203 now
+      go timer was now = grind arith
 
   pub released-8 : Good k ran (at TimerRecovery) (record (awaits AwaitingRelease (at TimerRecovery)) { s = a }) None
   released-8 = record { agrees = refl; anew = go; kept = tt }
     where
       go : (timer : LinkTimer) → ran timer ≡ true → runs timer (Some T200) ≡ true → runs timer (Some T200) ≡ anew_by timer TimerRecovery AwaitingRelease k None
-      go T200 was now = refl
-      go T203 was now = not-t203 now
-
-  -- T200 or T203 expires in state 7.
-  pub expired-7 : IsKnown k a s busy → Good k ran (at Established) (awaits TimerRecovery (at Established)) None
-  expired-7 known = record { agrees = known; anew = go; kept = tt }
-    where
-      go : (timer : LinkTimer) → ran timer ≡ true → runs timer (Some T200) ≡ true → runs timer (Some T200) ≡ anew_by timer Established TimerRecovery k None
-      go T200 was now = refl
-      go T203 was now = not-t203 now
+      go timer was now = grind arith
 
   -- The link is down: no timer ran.
   module _ (none : (timer : LinkTimer) → ran timer ≡ false) where
@@ -95,16 +82,6 @@ module _ (k : Known) (ran : LinkTimer → Bool) (a s : ℕ) (busy : Bool) (r : O
     pub asked-4 : Good k ran (at TeiAssigned) (fails (at TeiAssigned)) None
     asked-4 = record { agrees = refl; anew = λ timer was now. never timer was; kept = (refl, refl) }
 
-    -- T200 has expired, and awaits the answer to another command
-    pub again-5 : Good k ran (at AwaitingEstablishment) (awaits AwaitingEstablishment (at AwaitingEstablishment)) None
-    again-5 = record { agrees = refl; anew = λ timer was now. never timer was; kept = (refl, refl) }
-
-    pub again-6 : Good k ran (at AwaitingRelease) (awaits AwaitingRelease (at AwaitingRelease)) None
-    again-6 = record { agrees = refl; anew = λ timer was now. never timer was; kept = tt }
-
-    pub again-8 : IsKnown k a s busy → Good k ran (at TimerRecovery) (awaits TimerRecovery (at TimerRecovery)) None
-    again-8 known = record { agrees = known; anew = λ timer was now. never timer was; kept = tt }
-
   -- T200 runs, and it awaits an answer to SABME or DISC.
   module _ (only : ran T203 ≡ false) where
     by-t200 : (y : Timing) (from : State) (o : Option Control) → (ran T200 ≡ true → runs T200 y.running ≡ true → runs T200 y.started ≡ anew_by T200 from y.state k o)
@@ -116,11 +93,7 @@ module _ (k : Known) (ran : LinkTimer → Bool) (a s : ℕ) (busy : Bool) (r : O
     same-5 o = record { agrees = refl; anew = λ timer was now. refl; kept = (refl, refl) }
 
     pub agreed-5 : k ≡ nothing_yet → busy ≡ false → Good k ran (at AwaitingEstablishment) (begins (at AwaitingEstablishment)) (Some (Ua true))
-    agreed-5 none calm = record {
-      agrees = subst (λ k. IsKnown k 0 0 busy) (sym none) (record { acknowledged = refl; next = refl; busy_is = sym calm });
-      anew = by-t200 (begins (at AwaitingEstablishment)) AwaitingEstablishment (Some (Ua true)) (λ was now. not-t200 now);
-      kept = tt;
-    }
+    agreed-5 none calm = grind (arith, by-t200, begins, not-t200)
 
     pub same-6 : (o : Option Control) → Good k ran (at AwaitingRelease) (at AwaitingRelease) o
     same-6 o = record { agrees = refl; anew = λ timer was now. refl; kept = tt }
@@ -134,42 +107,20 @@ module _ (k : Known) (ran : LinkTimer → Bool) (a s : ℕ) (busy : Bool) (r : O
       failed-8 b o = record { agrees = refl; anew = by-t200 (fails (with_busy b (at TimerRecovery))) TimerRecovery o (λ was now. refl); kept = (refl, refl) }
 
       pub sabme-8 : (p : Bool) → Good k ran (at TimerRecovery) (with_busy false (begins (at TimerRecovery))) (Some (Sabme p))
-      sabme-8 p = record {
-        agrees = record { acknowledged = refl; next = refl; busy_is = refl };
-        anew = by-t200 (with_busy false (begins (at TimerRecovery))) TimerRecovery (Some (Sabme p)) (λ was now. not-t200 now);
-        kept = tt;
-      }
-
-      named-value : (nr : Seq) (n : ℕ) → named a s nr ≡ Some n → nr.value ≡ n % 128
-      named-value nr n is = seq-value nr n (named-is_seq a s n nr is)
+      sabme-8 p = grind (arith, by-t200, with_busy, begins, not-t200)
 
       pub informed-8 : (over : Bool) (ns nr : Seq) (p : Bool) → Good k ran (at TimerRecovery) (informs over nr acknowledges (at TimerRecovery)) (Some (Information ns nr p))
       informed-8 true ns nr p = failed-8 busy (Some (Information ns nr p))
       informed-8 false ns nr p = go (named a s nr) refl
         where
           go : (o : Option ℕ) → named a s nr ≡ o → Good k ran (at TimerRecovery) (by_name o fails acknowledges (at TimerRecovery)) (Some (Information ns nr p))
-          go None is = failed-8 busy (Some (Information ns nr p))
-          go (Some n) is =
-              record { agrees = record { acknowledged = named-value nr n is; next = known.next; busy_is = known.busy_is }; anew = λ timer was now. refl; kept = tt }
+          go o is = grind (arith, failed-8, seq-value, named-is_seq)
 
       -- RR, RNR and REJ: a response with F=1 ends the recovery
       pub supervised-8 : (b : Bool) (timer : LinkTimer) (o : Option Control) (nr : Seq) → option_map_or (listens false false k) o k ≡ number_heard nr.value false b k
           → option_map_or (listens true true k) o k ≡ number_heard nr.value true b k → (final : Bool)
           → Good k ran (at TimerRecovery) (supervises b nr (recovers timer final) (at TimerRecovery)) o
-      supervised-8 b timer o nr stays leads final = go final (named a s nr) refl
-        where
-          go : (final : Bool) (m : Option ℕ) → named a s nr ≡ m → Good k ran (at TimerRecovery) (by_name m fails (recovers timer final) (with_busy b (at TimerRecovery))) o
-          go final None is = failed-8 b o
-          go true (Some n) is = record {
-            agrees = subst (λ k. IsKnown k n n b) (sym leads) (record { acknowledged = named-value nr n is; next = named-value nr n is; busy_is = refl });
-            anew = by-t200 (recovers timer true n (with_busy b (at TimerRecovery))) TimerRecovery o (λ was now. now);
-            kept = tt;
-          }
-          go false (Some n) is = record {
-            agrees = subst (λ k. IsKnown k n s b) (sym stays) (record { acknowledged = named-value nr n is; next = known.next; busy_is = refl });
-            anew = λ timer was now. refl;
-            kept = tt;
-          }
+      supervised-8 b timer o nr stays leads final = grind (arith, by_name, fails, recovers, with_busy, failed-8, seq-value, named-is_seq, by-t200)
 
   -- State 7: T200 runs where an acknowledgement is awaited, or the terminal is busy, else T203.
   module _ (ordered : a ≤ s) (within : s ≤ a + 127) (known : IsKnown k a s busy) (idle : ran T203 ≡ true → (s ≡ a) × (busy ≡ false)) where
@@ -178,28 +129,21 @@ module _ (k : Known) (ran : LinkTimer → Bool) (a s : ℕ) (busy : Bool) (r : O
     same-7 o same none = record { agrees = subst (λ k. IsKnown k a s busy) (sym same) known; anew = λ timer was now. sym (none timer); kept = tt }
 
     failing : (b : Bool) (o : Option Control) (timer : LinkTimer) → runs timer (Some T200) ≡ true → runs timer (Some T200) ≡ anew_by timer Established AwaitingEstablishment k o
-    failing b o T200 now = refl
-    failing b o T203 now = not-t203 now
+    failing b o timer now = grind arith
 
     pub failed-7 : (b : Bool) (o : Option Control) → Good k ran (at Established) (fails (with_busy b (at Established))) o
     failed-7 b o = record { agrees = refl; anew = λ timer was now. failing b o timer now; kept = (refl, refl) }
 
     by-t203 : (o : Option Control) (timer : LinkTimer) → renews T203 k (Sabme true) ≡ true → option_map_or (renews T203 k) o false ≡ true → runs timer (Some T203) ≡ true
         → runs timer (Some T203) ≡ anew_by timer Established Established k o
-    by-t203 o T200 h renewed now = not-t200 now
-    by-t203 o T203 h renewed now = sym renewed
+    by-t203 o timer h renewed now = grind (arith, not-t200)
 
     by-t200-7 : (o : Option Control) (timer : LinkTimer) → option_map_or (renews T200 k) o false ≡ true → runs timer (Some T200) ≡ true
         → runs timer (Some T200) ≡ anew_by timer Established Established k o
-    by-t200-7 o T203 renewed now = not-t203 now
-    by-t200-7 o T200 renewed now = sym renewed
+    by-t200-7 o timer renewed now = grind arith
 
     pub sabme-7 : (p : Bool) → Good k ran (at Established) (with_busy false (begins (at Established))) (Some (Sabme p))
-    sabme-7 p = record {
-      agrees = record { acknowledged = refl; next = refl; busy_is = refl };
-      anew = λ timer was now. by-t203 (Some (Sabme p)) timer refl refl now;
-      kept = tt;
-    }
+    sabme-7 p = grind (arith, by-t203)
 
     value-7 : (nr : Seq) (n : ℕ) → named a s nr ≡ Some n → nr.value ≡ n % 128
     value-7 nr n is = seq-value nr n (named-is_seq a s n nr is)
@@ -216,15 +160,13 @@ module _ (k : Known) (ran : LinkTimer → Bool) (a s : ℕ) (busy : Bool) (r : O
             absurd (omega (arith, same, more, high, within))
 
     same-number : (nr : Seq) (n : ℕ) → named a s nr ≡ Some n → n ≡ a → not (nr.value == k.acknowledged) ≡ false
-    same-number nr n is same =
-        ap not (eq-eqb nr.value k.acknowledged (value-7 nr n is ∙ ap (λ n. n % 128) same ∙ sym known.acknowledged))
+    same-number nr n is same = grind (arith, eq-eqb, value-7)
 
     -- RR, and I while the terminal is not busy
     module _ (o : Option Control) (nr : Seq) (again : Bool) (heard : option_map_or (listens false true k) o k ≡ number_heard nr.value false again k)
         (t200_by : option_map_or (renews T200 k) o false ≡ not (nr.value == k.acknowledged)) (t203_by : option_map_or (renews T203 k) o false ≡ true) where
       quiet-now : (n : ℕ) → named a s nr ≡ Some n → n ≡ a → (n == s) ≡ false → (timer : LinkTimer) → ran timer ≡ true → false ≡ option_map_or (renews timer k) o false
-      quiet-now n is same other T200 was = sym (t200_by ∙ same-number nr n is same)
-      quiet-now n is same other T203 was = absurd (true≢false (sym (eq-eqb n s (same ∙ sym (idle was).0)) ∙ other))
+      quiet-now n is same other timer was = grind (arith, same-number, eq-eqb)
 
       pub acknowledged-7 : (n : ℕ) → named a s nr ≡ Some n → Good k ran (at Established) (acts.acknowledged n (with_busy again (at Established))) o
       acknowledged-7 n is = go (n == s) refl (nat_lt a n) refl
@@ -233,9 +175,7 @@ module _ (k : Known) (ran : LinkTimer → Bool) (a s : ℕ) (busy : Bool) (r : O
           x = with_busy again (at Established)
 
           numbers : (m : ℕ) → n ≡ m → IsKnown (option_map_or (listens false true k) o k) m s again
-          numbers m same =
-              subst (λ k. IsKnown k m s again) (sym heard)
-              (record { acknowledged = value-7 nr n is ∙ ap (λ n. n % 128) same; next = known.next; busy_is = refl })
+          numbers m same = grind (arith, value-7)
 
           go : (all : Bool) → (n == s) ≡ all → (more : Bool) → nat_lt a n ≡ more
               → Good k ran (at Established) (cond all (starts T203 (acknowledges n x)) (cond more (starts T200 (acknowledges n x)) x)) o
@@ -264,12 +204,7 @@ module _ (k : Known) (ran : LinkTimer → Bool) (a s : ℕ) (busy : Bool) (r : O
       where
         go : (o : Option ℕ) → named a s nr ≡ o
             → Good k ran (at Established) (by_name o fails (λ n x. starts T200 (acknowledges n x)) (with_busy true (at Established))) (Some (ReceiveNotReady nr p))
-        go None is = failed-7 true (Some (ReceiveNotReady nr p))
-        go (Some n) is = record {
-          agrees = record { acknowledged = value-7 nr n is; next = known.next; busy_is = refl };
-          anew = λ timer was now. by-t200-7 (Some (ReceiveNotReady nr p)) timer refl now;
-          kept = tt;
-        }
+        go o is = grind (arith, failed-7, value-7, by-t200-7)
 
     pub reject-7 : (nr : Seq) (p : Bool)
         → Good k ran (at Established) (supervises false nr (λ n x. record (starts T203 x) { a = n; s = n }) (at Established)) (Some (Reject nr p))
@@ -277,12 +212,7 @@ module _ (k : Known) (ran : LinkTimer → Bool) (a s : ℕ) (busy : Bool) (r : O
       where
         go : (o : Option ℕ) → named a s nr ≡ o
             → Good k ran (at Established) (by_name o fails (λ n x. record (starts T203 x) { a = n; s = n }) (with_busy false (at Established))) (Some (Reject nr p))
-        go None is = failed-7 false (Some (Reject nr p))
-        go (Some n) is = record {
-          agrees = record { acknowledged = value-7 nr n is; next = value-7 nr n is; busy_is = refl };
-          anew = λ timer was now. by-t203 (Some (Reject nr p)) timer refl refl now;
-          kept = tt;
-        }
+        go o is = grind (arith, failed-7, value-7, by-t203)
 
     pub informed-7 : (over : Bool) (ns nr : Seq) (p : Bool) → Good k ran (at Established) (informs over nr informed (at Established)) (Some (Information ns nr p))
     informed-7 true ns nr p = failed-7 busy (Some (Information ns nr p))
@@ -293,19 +223,13 @@ module _ (k : Known) (ran : LinkTimer → Bool) (a s : ℕ) (busy : Bool) (r : O
 
         -- the terminal is busy, so T200 runs
         while-busy : busy ≡ true → (timer : LinkTimer) → ran timer ≡ true → false ≡ option_map_or (renews timer k) o false
-        while-busy is T200 was = sym (ap (λ b. not b && not (nr.value == k.acknowledged)) (known.busy_is ∙ is))
-        while-busy is T203 was = not-both busy (idle was).1 is
+        while-busy is timer was = grind (arith, not-both)
 
         by-busy : (b : Bool) → busy ≡ b → (n : ℕ) → named a s nr ≡ Some n → Good k ran (at Established) (cond b (acknowledges n (at Established)) (acts.acknowledged n (at Established))) o
-        by-busy true is n names = record {
-          agrees = record { acknowledged = value-7 nr n names; next = known.next; busy_is = known.busy_is };
-          anew = λ timer was now. while-busy is timer was;
-          kept = tt;
-        }
+        by-busy true is n names = grind (arith, value-7, while-busy)
         by-busy false is n names =
             acknowledged-7 o nr busy (ap (λ b. number_heard nr.value false b k) known.busy_is)
             (ap (λ b. not b && not (nr.value == k.acknowledged)) (known.busy_is ∙ is)) refl n names
 
         go : (m : Option ℕ) → named a s nr ≡ m → Good k ran (at Established) (by_name m fails informed (at Established)) o
-        go None is = failed-7 busy o
-        go (Some n) is = by-busy busy refl n is
+        go m is = grind (arith, failed-7, o, by-busy)

@@ -1,8 +1,8 @@
 -- What is known of a link, and when its timers are started anew: any event of a link but an offer.
-use Rattle.laws_trace.proofs.Vocabulary.{◌≡◌, ℕ, ◌≤◌, ◌+◌, ◌==◌, ◌||◌, not, Bool, true, false, cond, List, Option, Some, None, refl, sym, ap, ◌∙◌, subst, arith, true≢false, nat_lt, if◌then◌else◌, Sabme, Disc, Refusal, HasItsTimer, IsCalmIn, needed_in, State, TeiAssigned, AwaitingEstablishment, AwaitingRelease, Established, TimerRecovery, Terms, LinkTimer, received, expired, requested, offer, cleared, undefined, wrong_size, overlong, Link, is_own_busy, course, ◌then◌, runs, is_timer, eqb-true, Control, T200, T203, LinkEvent as Event, frame, LinkIsSound as IsSound, Course, Step, begun, nothing, G, H, I, L, N, O, LinkClearBusy as ClearBusy, LinkData as Data, LinkEstablish as Establish, LinkRelease as Release, LinkRequest as Request, LinkSetBusy as SetBusy, expired_step, clear_busy_in_7_8, data_in_7_8, failed, set_busy_in_7_8, refusal_of_contents, request_step, command, discard, enquire, enter, error, no_timer, release_confirm, release_indication, repeated, link_send as send, start}
+use Rattle.laws_trace.proofs.Vocabulary.{◌≡◌, ℕ, ◌≤◌, ◌+◌, ◌==◌, ◌||◌, not, Bool, true, false, cond, List, Option, Some, None, refl, sym, ap, ◌∙◌, subst, arith, if◌then◌else◌, HasItsTimer, IsCalmIn, needed_in, State, TeiAssigned, AwaitingEstablishment, AwaitingRelease, Established, TimerRecovery, Terms, LinkTimer, received, expired, requested, offer, cleared, undefined, wrong_size, overlong, Link, is_own_busy, course, ◌then◌, runs, is_timer, eqb-true, Control, T200, T203, LinkEvent as Event, frame, LinkIsSound as IsSound, Step, begun, nothing, L, N, O, LinkClearBusy as ClearBusy, LinkData as Data, LinkEstablish as Establish, LinkRelease as Release, LinkRequest as Request, LinkSetBusy as SetBusy, expired_step, clear_busy_in_7_8, set_busy_in_7_8, request_step, command}
 use Rattle.laws_trace.proofs.TimersWatched.{Known}
 use Rattle.laws_trace.proofs.TimerActs.{timing, Acts, itself, whichever}
-use Rattle.laws_trace.proofs.TimerClaims.{IsKnown, Agrees, Good, again-5, again-6, again-8, asked-4, ended, expired-7, failed-8, released-7, released-8, same-4, same-5, same-6, same-7, same-8, stopped}
+use Rattle.laws_trace.proofs.TimerClaims.{IsKnown, Agrees, Good, asked-4, ended, failed-8, released-7, released-8, same-4, same-5, same-6, same-7, same-8, stopped}
 use Rattle.laws_trace.proofs.TimerRows.{in_state}
 use Rattle.laws_trace.proofs.TimerRows as rows
 
@@ -29,19 +29,8 @@ module _ (t : Terms) (k : Known) (l : Link) where
   refused : (ran : LinkTimer → Bool) (here : State) → Facts ran here → Row ran here (λ c. c) None
   refused ran here facts = rows.unchanged t k ran l here facts (λ c. c) (record { acts = λ c. refl })
 
-  data-acts : (octets : List ℕ) (o : Option Refusal) (c : Course)
-      → timing (elim o as (λ o. Course) [ None ↦ data_in_7_8 octets c | Some _ ↦ c ]) ≡ timing c
-  data-acts octets None c = refl
-  data-acts octets (Some why) c = refl
-
   content : (ran : LinkTimer → Bool) (octets : List ℕ) (full : Bool) (here : State) → Facts ran here → Row ran here (request_step t (Data octets) full) None
-  content ran octets full Established facts =
-      subst (λ y. Good k ran (timing (begun (in_state Established l))) y None)
-      (sym (data-acts octets (refusal_of_contents t (in_state Established l) full octets) (begun (in_state Established l)))) (refused ran Established facts)
-  content ran octets full TimerRecovery facts =
-      subst (λ y. Good k ran (timing (begun (in_state TimerRecovery l))) y None)
-      (sym (data-acts octets (refusal_of_contents t (in_state TimerRecovery l) full octets) (begun (in_state TimerRecovery l)))) (refused ran TimerRecovery facts)
-  content ran octets full other facts = refused ran other facts
+  content ran octets full here facts = grind (arith, Good, timing, in_state, refused)
 
   sets-busy : Acts (set_busy_in_7_8 t) itself
   sets-busy = whichever is_own_busy nothing _ itself (record { acts = λ c. refl }) (record { acts = λ c. refl })
@@ -72,68 +61,26 @@ module _ (t : Terms) (k : Known) (l : Link) where
       Good k (ran_before (expired timer) r) (timing c) (timing (expired_step t timer c)) None
 
   none-runs : (timer other : LinkTimer) → ran_before (expired timer) None other ≡ false
-  none-runs T200 T200 = refl
-  none-runs T200 T203 = refl
-  none-runs T203 T200 = refl
-  none-runs T203 T203 = refl
-
-  t200-gone : (other : LinkTimer) → ran_before (expired T200) (Some T200) other ≡ false
-  t200-gone T200 = refl
-  t200-gone T203 = refl
+  none-runs timer other = grind arith
 
   expires-4 : (timer : LinkTimer) → Expires timer TeiAssigned None
-  expires-4 T200 = same-4 k (ran_before (expired T200) None) l.a l.s l.peer_busy None (none-runs T200) None
-  expires-4 T203 = same-4 k (ran_before (expired T203) None) l.a l.s l.peer_busy None (none-runs T203) None
+  expires-4 timer = grind (arith, same-4, none-runs)
 
   -- T200 in states 5 and 6
   expires-5 : (timer : LinkTimer) → Expires timer AwaitingEstablishment (Some T200)
-  expires-5 T203 = same-5 k (ran_before (expired T203) (Some T200)) l.a l.s l.peer_busy (Some T200) refl None
-  expires-5 T200 = go (nat_lt l.repeats t.n200)
-    where
-      c : Course
-      c = begun (with_running AwaitingEstablishment (Some T200))
-
-      go : (again : Bool) → Good k (ran_before (expired T200) (Some T200)) (timing c)
-          (timing (cond again ((send t (command (Sabme true)) then repeated then start T200) c)
-          ((discard then error t G then release_indication t then no_timer then enter TeiAssigned) c))) None
-      go true = again-5 k (ran_before (expired T200) (Some T200)) l.a l.s l.peer_busy (Some T200) t200-gone
-      go false = ended k (ran_before (expired T200) (Some T200)) l.a l.s l.peer_busy (Some T200) AwaitingEstablishment None
+  expires-5 timer = grind (arith, same-5, Good, timing, ended)
 
   expires-6 : (timer : LinkTimer) → Expires timer AwaitingRelease (Some T200)
-  expires-6 T203 = same-6 k (ran_before (expired T203) (Some T200)) l.a l.s l.peer_busy (Some T200) refl None
-  expires-6 T200 = go (nat_lt l.repeats t.n200)
-    where
-      c : Course
-      c = begun (with_running AwaitingRelease (Some T200))
-
-      go : (again : Bool) → Good k (ran_before (expired T200) (Some T200)) (timing c)
-          (timing (cond again ((send t (command (Disc true)) then repeated then start T200) c)
-          ((error t H then release_confirm t then no_timer then enter TeiAssigned) c))) None
-      go true = again-6 k (ran_before (expired T200) (Some T200)) l.a l.s l.peer_busy (Some T200) t200-gone
-      go false = stopped k (ran_before (expired T200) (Some T200)) l.a l.s l.peer_busy (Some T200) AwaitingRelease None
+  expires-6 timer = grind (arith, same-6, Good, timing, stopped)
 
   -- and in state 8
   expires-8 : IsKnown k l.a l.s l.peer_busy → (timer : LinkTimer) → Expires timer TimerRecovery (Some T200)
-  expires-8 known T203 = same-8 k (ran_before (expired T203) (Some T200)) l.a l.s l.peer_busy (Some T200) refl known None refl
-  expires-8 known T200 = go (nat_lt l.repeats t.n200)
-    where
-      c : Course
-      c = begun (with_running TimerRecovery (Some T200))
-
-      go : (again : Bool) → Good k (ran_before (expired T200) (Some T200)) (timing c)
-          (timing (cond again ((enquire t then repeated then start T200) c) (failed t I c))) None
-      go true = again-8 k (ran_before (expired T200) (Some T200)) l.a l.s l.peer_busy (Some T200) t200-gone known
-      go false = failed-8 k (ran_before (expired T200) (Some T200)) l.a l.s l.peer_busy (Some T200) refl known l.peer_busy None
+  expires-8 known timer = grind (arith, same-8, Good, timing, failed-8)
 
   -- either in state 7
   expires-7 : IsKnown k l.a l.s l.peer_busy → l.a ≤ l.s → l.s ≤ l.a + 127 → (timer running : LinkTimer) → (running ≡ T203 → (l.s ≡ l.a) × (l.peer_busy ≡ false))
       → Expires timer Established (Some running)
-  expires-7 known ordered within T200 T200 idle = expired-7 k (ran_before (expired T200) (Some T200)) l.a l.s l.peer_busy (Some T200) known
-  expires-7 known ordered within T203 T203 idle = expired-7 k (ran_before (expired T203) (Some T203)) l.a l.s l.peer_busy (Some T203) known
-  expires-7 known ordered within T200 T203 idle =
-      same-7 k (ran_before (expired T200) (Some T203)) l.a l.s l.peer_busy (Some T203) ordered within known (λ was. idle refl) None refl (λ timer. refl)
-  expires-7 known ordered within T203 T200 idle =
-      same-7 k (ran_before (expired T203) (Some T200)) l.a l.s l.peer_busy (Some T200) ordered within known (λ was. absurd (true≢false (sym was))) None refl (λ timer. refl)
+  expires-7 known ordered within timer running idle = grind (arith, same-7)
 
 -- A link that runs the timer that it needs.
 module _ (t : Terms) (k : Known) (l : Link) (s : IsSound t l) (small : t.k ≤ 127) (timed : HasItsTimer l) (agrees : Agrees l.state k l.a l.s l.peer_busy) where
@@ -142,19 +89,10 @@ module _ (t : Terms) (k : Known) (l : Link) (s : IsSound t l) (small : t.k ≤ 1
 
   -- T203 runs in state 7 where nothing is outstanding, and the terminal is not busy
   idle : (r : Option LinkTimer) → r ≡ needed_in Established l → runs T203 r ≡ true → (l.s ≡ l.a) × (l.peer_busy ≡ false)
-  idle r is now = go (l.s == l.a) refl l.peer_busy refl (ap (runs T203) (sym is) ∙ now)
-    where
-      go : (none : Bool) → (l.s == l.a) ≡ none → (busy : Bool) → l.peer_busy ≡ busy → runs T203 (cond (not none || busy) (Some T200) (Some T203)) ≡ true
-          → (l.s ≡ l.a) × (l.peer_busy ≡ false)
-      go true same false free now = (eqb-true l.s l.a same, free)
-      go b same other free now = absurd (true≢false (sym now))
+  idle r is now = grind (arith, eqb-true)
 
   facts-in : (here : State) → l.running ≡ needed_in here l → IsCalmIn here l → Agrees here k l.a l.s l.peer_busy → rows.Facts t k (ran_with l.running) l here
-  facts-in TeiAssigned is calm known = λ timer. ap (runs timer) is
-  facts-in AwaitingEstablishment is calm known = (ap (runs T203) is, known, calm)
-  facts-in AwaitingRelease is calm known = ap (runs T203) is
-  facts-in Established is calm known = (known, s.ordered, within, λ now. idle l.running is now)
-  facts-in TimerRecovery is calm known = (ap (runs T203) is, known)
+  facts-in here is calm known = grind (arith, within, idle)
 
   facts : rows.Facts t k (ran_with l.running) l l.state
   facts = facts-in l.state timed.running timed.calm agrees
@@ -167,9 +105,7 @@ module _ (t : Terms) (k : Known) (l : Link) (s : IsSound t l) (small : t.k ≤ 1
   expires-in timer Established is known = go (not (l.s == l.a) || l.peer_busy) refl
     where
       go : (b : Bool) → (not (l.s == l.a) || l.peer_busy) ≡ b → Expires t k l timer Established l.running
-      go true waits =
-          subst (Expires t k l timer Established) (sym (is ∙ ap (λ b. cond b (Some T200) (Some T203)) waits))
-          (expires-7 t k l known s.ordered within timer T200 (λ e. cc e))
+      go true waits = grind (arith, expires-7, within)
       go false waits =
           let running : l.running ≡ Some T203 = is ∙ ap (λ b. cond b (Some T200) (Some T203)) waits in
           subst (Expires t k l timer Established) (sym running) (expires-7 t k l known s.ordered within timer T203 (λ e. idle l.running is (ap (runs T203) running)))

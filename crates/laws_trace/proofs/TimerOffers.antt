@@ -1,5 +1,5 @@
 -- What is known of a link, and its timers, over an offer; and what its orders start.
-use Rattle.laws_trace.proofs.Vocabulary.{◌≡◌, ℕ, ◌+◌, ◌%◌, ◌&&◌, ◌||◌, Bool, true, false, cond, List, [], ◌∷◌, Option, Some, None, refl, sym, ap, ◌∙◌, subst, arith, true≢false, All, not, nat_lt, length, option_map_or, All-head, seq, ControlFrame, State, AwaitingEstablishment, Established, TimerRecovery, Terms, LinkTimer, Link, outstanding, is_established, IsWaitingFrame, Given, runs, unwrap_or, T200, T203, LinkIsSound as IsSound, Course, begun, offer, course, given, link_given_of as given_of, first_unsent, give_waiting, may_send_information, next_information, offer_among, send_acknowledgement, send_information, start}
+use Rattle.laws_trace.proofs.Vocabulary.{◌≡◌, ℕ, ◌+◌, ◌%◌, ◌&&◌, ◌||◌, Bool, true, false, cond, List, [], ◌∷◌, Option, Some, None, refl, arith, All, option_map_or, All-head, seq, ControlFrame, State, Terms, LinkTimer, Link, is_established, IsWaitingFrame, Given, runs, unwrap_or, T200, LinkIsSound as IsSound, Course, begun, offer, course, given, link_given_of as given_of, first_unsent, give_waiting, may_send_information, next_information, offer_among, send_acknowledgement, send_information, start}
 use Rattle.laws_trace.proofs.TimersWatched.{Sent, sent_by, Known, nothing_yet, sends}
 use Rattle.laws_trace.proofs.States.{is_state}
 use Rattle.laws_trace.proofs.DataGoesOut.{none-sent}
@@ -19,28 +19,15 @@ pub record Offered (k : Known) (l : Link) (y : Timing) (o : Option Sent) : Type 
 abbrev pub given_sent : Given → Option Sent
 given_sent g = sent_by g.frame.control (unwrap_or g.contents [])
 
-same-kept : (here : State) (x : Timing) → Kept here x x
-same-kept AwaitingEstablishment x = (refl, refl)
-same-kept other x = tt
-
-up-kept : (here : State) → is_established here ≡ true → (x y : Timing) → Kept here x y
-up-kept AwaitingEstablishment up x y = absurd (true≢false (sym up))
-up-kept other up x y = tt
-
 pub same-known : (here : State) (k : Known) (a s : ℕ) (busy : Bool) → Agrees here k a s busy → Agrees here (sent_known here k None) a s busy
-same-known Established k a s busy h = h
-same-known TimerRecovery k a s busy h = h
-same-known other k a s busy h = refl
+same-known here k a s busy h = grind arith
 
 one-more : (here : State) (k : Known) (a s : ℕ) (busy : Bool) (sent : Sent) → is_established here ≡ true → sent.ns ≡ s % 128 → Agrees here k a s busy
     → Agrees here (sent_known here k (Some sent)) a (s + 1) busy
-one-more Established k a s busy sent up ns h =
-    record { acknowledged = h.acknowledged; next = ap (λ n. (n + 1) % 128) ns ∙ (let e : (s % 128 + 1) % 128 ≡ (s + 1) % 128 = omega arith in e); busy_is = h.busy_is }
-one-more other k a s busy sent up ns h = absurd (true≢false (sym up))
+one-more here k a s busy sent up ns h = grind arith
 
 first-of : (a b c d : Bool) → (a && b && c && d) ≡ true → a ≡ true
-first-of true b c d e = refl
-first-of false b c d e = absurd (true≢false (sym e))
+first-of a b c d e = grind arith
 
 module _ (t : Terms) (k : Known) (l : Link) (s : IsSound t l) (agrees : Agrees l.state k l.a l.s l.peer_busy) where
   abbrev Claim : Course → Type 0
@@ -48,10 +35,7 @@ module _ (t : Terms) (k : Known) (l : Link) (s : IsSound t l) (agrees : Agrees l
 
   -- nothing but what goes changes
   stays : (c : Course) → timing c ≡ timing (begun l) → option_map_or given_sent (given_of t l c c.sent) None ≡ None → Claim c
-  stays c same none =
-      subst (λ y. Offered k l y (option_map_or given_sent (given_of t l c c.sent) None)) (sym same)
-      (subst (Offered k l (timing (begun l))) (sym none)
-      (record { state = refl; agrees = same-known l.state k l.a l.s l.peer_busy agrees; quiet = λ timer was now. refl; kept = same-kept l.state (timing (begun l)) }))
+  stays c same none = grind (arith, timing, same-known)
 
   by-waiting : (ws : List ControlFrame) → All (IsWaitingFrame t) ws → Claim (offer_among t ws (begun l))
   unfolding seq
@@ -62,26 +46,16 @@ module _ (t : Terms) (k : Known) (l : Link) (s : IsSound t l) (agrees : Agrees l
       sent : Course
       sent = record (begun l) { link = record l { s = l.s + 1; pending = false }; sent = Some (record { frame = next_information l; contents = first_unsent l }) }
 
-      by-pending : (b : Bool) → Claim (cond b (send_acknowledgement (begun l)) (begun l))
-      by-pending true = stays (send_acknowledgement (begun l)) refl refl
-      by-pending false = stays (begun l) refl refl
-
       went : is_established l.state ≡ true
           → Agrees l.state (sent_known l.state k (Some (record { ns = l.s % 128 }))) l.a (l.s + 1) l.peer_busy
       went up = one-more l.state k l.a l.s l.peer_busy (record { ns = l.s % 128 }) up refl agrees
 
-      newly : (timer : LinkTimer) → runs T200 l.running ≡ false → runs timer l.running ≡ true → runs timer (Some T200) ≡ true → runs timer (Some T200) ≡ false
-      newly T200 off was now = absurd (true≢false (sym was ∙ off))
-      newly T203 off was now = refl
-
       by-timer : is_established l.state ≡ true → (b : Bool) → runs T200 l.running ≡ b → Claim (cond b sent (start T200 sent))
-      by-timer up true on = record { state = refl; agrees = went up; quiet = λ timer was now. refl; kept = up-kept l.state up (timing (begun l)) (timing sent) }
-      by-timer up false off = record { state = refl; agrees = went up; quiet = λ timer was now. newly timer off was now; kept = up-kept l.state up (timing (begun l)) (timing (start T200 sent)) }
+      by-timer up b on = grind (arith, went, timing, sent)
 
       by-send : (b : Bool) → may_send_information t l ≡ b
           → Claim (cond b (send_information (begun l)) (cond l.pending (send_acknowledgement (begun l)) (begun l)))
-      by-send true may = by-timer (first-of (is_established l.state) (not l.peer_busy) (nat_lt (outstanding l) t.k) (nat_lt l.s (length l.contents)) may) (runs T200 l.running) refl
-      by-send false may = by-pending l.pending
+      by-send b may = grind (arith, by-timer, first-of, stays)
 
   pub offer-good : Offered k l (timing (course t offer l)) (option_map_or given_sent (given t l) None)
   offer-good = by-waiting l.waiting s.frames

@@ -1,9 +1,9 @@
 -- What is known of a link, and when its timers are started anew: each row of the tables, except for offers.
-use Rattle.laws_trace.proofs.Vocabulary.{◌≡◌, ℕ, ◌≤◌, ◌+◌, Bool, true, false, List, Option, Some, None, refl, sym, subst, nat_lt, length, option_map_or, Information, ReceiveReady, ReceiveNotReady, Reject, Sabme, Disc, Ui, Ua, Dm, Frmr, ErrorCode, State, TeiAssigned, AwaitingEstablishment, AwaitingRelease, Established, TimerRecovery, Terms, LinkTimer, Link, Control, Xid, T200, T203, Step, begun, nothing, A, C, D, frame_in, malformed_in, is_final, ua_in_7_8, acknowledge, deliver_unit, error, leave_unserved, unit_data}
+use Rattle.laws_trace.proofs.Vocabulary.{arith, ◌≡◌, ℕ, ◌≤◌, ◌+◌, Bool, true, false, List, Option, Some, None, refl, sym, subst, nat_lt, length, option_map_or, Information, ReceiveReady, ReceiveNotReady, Reject, Sabme, Disc, Ui, Ua, Dm, Frmr, ErrorCode, State, TeiAssigned, AwaitingEstablishment, AwaitingRelease, Established, TimerRecovery, Terms, LinkTimer, Link, Control, Xid, T200, T203, Step, begun, nothing, A, C, D, frame_in, malformed_in, is_final, ua_in_7_8, acknowledge, error, unit_data}
 use Rattle.model_link.specs.Established as seven
 use Rattle.model_link.specs.TimerRecovery as eight
 use Rattle.laws_trace.proofs.TimersWatched.{Known, nothing_yet, listens, renews}
-use Rattle.laws_trace.proofs.TimerActs.{Timing, timing, Acts, itself, either-bit, acknowledged, acknowledged-acts, acknowledges, agreed-acts, begins, fails, information-acts, informed, informed-acts, informs, recovers, recovers-acts, sabme-acts, starts, supervises, supervisory-acts, with_busy}
+use Rattle.laws_trace.proofs.TimerActs.{Timing, timing, Acts, itself, either-bit, acknowledged, acknowledged-acts, acknowledges, begins, fails, information-acts, informed, informed-acts, informs, recovers, recovers-acts, sabme-acts, starts, supervises, supervisory-acts, with_busy}
 use Rattle.laws_trace.proofs.TimerClaims.{IsKnown, Good}
 use Rattle.laws_trace.proofs.TimerClaims as claims
 
@@ -11,13 +11,11 @@ abbrev pub in_state : State → Link → Link
 in_state here l = record l { state = here }
 
 each-timer : (P : LinkTimer → Type 0) → P T200 → P T203 → (timer : LinkTimer) → P timer
-each-timer P x y T200 = x
-each-timer P x y T203 = y
+each-timer P x y timer = grind arith
 
 -- UI in any state
 unit-acts : (t : Terms) (octets : List ℕ) → Acts (unit_data t octets) itself
-unit-acts t octets =
-    either-bit (nat_lt t.n201 (length octets)) leave_unserved (deliver_unit t octets) itself (record { acts = λ c. refl }) (record { acts = λ c. refl })
+unit-acts t octets = grind (arith, either-bit, itself)
 
 module _ (t : Terms) (k : Known) (ran : LinkTimer → Bool) (l : Link) where
   -- What holds of a link in each state.
@@ -42,11 +40,7 @@ module _ (t : Terms) (k : Known) (ran : LinkTimer → Bool) (l : Link) where
   same-4 none o = claims.same-4 k ran l.a l.s l.peer_busy l.running none o
 
   in-4 : ((timer : LinkTimer) → ran timer ≡ false) → (b : Bool) (octets : List ℕ) (control : Control) → Row TeiAssigned (frame_in TeiAssigned t b octets control) (Some control)
-  in-4 none b octets (Sabme p) = claims.sabme-4 k ran l.a l.s l.peer_busy l.running none p
-  in-4 none b octets (Ua true) = same-4 none (Some (Ua true))
-  in-4 none b octets (Ua false) = same-4 none (Some (Ua false))
-  in-4 none b octets (Ui p) = moved TeiAssigned (Some (Ui p)) (unit_data t octets) itself (unit-acts t octets) (same-4 none (Some (Ui p)))
-  in-4 none b octets other = same-4 none (Some other)
+  in-4 none b octets control = grind (arith, claims.sabme-4, same-4, moved, itself, unit-acts)
 
   -- State 5.
   same-5 : ran T203 ≡ false → (o : Option Control) → Good k ran (at AwaitingEstablishment) (at AwaitingEstablishment) o
@@ -54,29 +48,20 @@ module _ (t : Terms) (k : Known) (ran : LinkTimer → Bool) (l : Link) where
 
   in-5 : Facts AwaitingEstablishment → (b : Bool) (octets : List ℕ) (control : Control)
       → Row AwaitingEstablishment (frame_in AwaitingEstablishment t b octets control) (Some control)
-  in-5 facts b octets (Ua true) =
-      moved AwaitingEstablishment (Some (Ua true)) (frame_in AwaitingEstablishment t b octets (Ua true)) begins (record { acts = (agreed-acts t).acts })
-      (claims.agreed-5 k ran l.a l.s l.peer_busy l.running facts.0 facts.1 facts.2)
-  in-5 facts b octets (Dm true) = claims.ended k ran l.a l.s l.peer_busy l.running AwaitingEstablishment (Some (Dm true))
-  in-5 facts b octets (Ui p) = moved AwaitingEstablishment (Some (Ui p)) (unit_data t octets) itself (unit-acts t octets) (same-5 facts.0 (Some (Ui p)))
-  in-5 facts b octets other = same-5 facts.0 (Some other)
+  in-5 facts b octets control = grind (arith, moved, begins, claims.agreed-5, claims.ended, itself, unit-acts)
 
   -- State 6.
   same-6 : ran T203 ≡ false → (o : Option Control) → Good k ran (at AwaitingRelease) (at AwaitingRelease) o
   same-6 only o = claims.same-6 k ran l.a l.s l.peer_busy l.running only o
 
   in-6 : ran T203 ≡ false → (b : Bool) (octets : List ℕ) (control : Control) → Row AwaitingRelease (frame_in AwaitingRelease t b octets control) (Some control)
-  in-6 only b octets (Ua true) = claims.stopped k ran l.a l.s l.peer_busy l.running AwaitingRelease (Some (Ua true))
-  in-6 only b octets (Dm true) = claims.stopped k ran l.a l.s l.peer_busy l.running AwaitingRelease (Some (Dm true))
-  in-6 only b octets (Ui p) = moved AwaitingRelease (Some (Ui p)) (unit_data t octets) itself (unit-acts t octets) (same-6 only (Some (Ui p)))
-  in-6 only b octets other = same-6 only (Some other)
+  in-6 only b octets control = grind (arith, claims.stopped, moved, itself, unit-acts, same-6)
 
   -- State 7.
   module _ (facts : Facts Established) where
     same-7 : (o : Option Control) → option_map_or (listens false true k) o k ≡ k
         → option_map_or (renews T200 k) o false ≡ false → option_map_or (renews T203 k) o false ≡ false → Good k ran (at Established) (at Established) o
-    same-7 o same one two =
-        claims.same-7 k ran l.a l.s l.peer_busy l.running facts.1 facts.2 facts.0 facts.3 o same (each-timer (λ timer. option_map_or (renews timer k) o false ≡ false) one two)
+    same-7 o same one two = grind (arith, claims.same-7, each-timer, renews)
 
     failed-7 : (o : Option Control) → Good k ran (at Established) (fails (at Established)) o
     failed-7 o = claims.failed-7 k ran l.a l.s l.peer_busy l.running facts.1 facts.2 facts.0 facts.3 l.peer_busy o
@@ -170,16 +155,8 @@ module _ (t : Terms) (k : Known) (ran : LinkTimer → Bool) (l : Link) where
   by-frame TimerRecovery facts b octets control = in-8 facts b octets control
 
   pub malformed : (here : State) → Facts here → (e : ErrorCode) → Row here (malformed_in here t e) None
-  malformed TeiAssigned facts e = same-4 facts None
-  malformed AwaitingEstablishment facts e = same-5 facts.0 None
-  malformed AwaitingRelease facts e = same-6 facts None
-  malformed Established facts e = failed-7 facts None
-  malformed TimerRecovery facts e = failed-8 facts None
+  malformed here facts e = grind (arith, same-4, same-5, same-6, failed-7, failed-8)
 
   -- Nothing of it changes.
   pub unchanged : (here : State) → Facts here → (f : Step) → Acts f itself → Row here f None
-  unchanged TeiAssigned facts f h = moved TeiAssigned None f itself h (same-4 facts None)
-  unchanged AwaitingEstablishment facts f h = moved AwaitingEstablishment None f itself h (same-5 facts.0 None)
-  unchanged AwaitingRelease facts f h = moved AwaitingRelease None f itself h (same-6 facts None)
-  unchanged Established facts f h = moved Established None f itself h (same-7 facts None refl refl refl)
-  unchanged TimerRecovery facts f h = moved TimerRecovery None f itself h (same-8 facts None refl)
+  unchanged here facts f h = grind (arith, moved, itself, same-4, same-5, same-6, same-7, same-8)

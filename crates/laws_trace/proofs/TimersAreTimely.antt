@@ -1,5 +1,5 @@
 -- When the timers of links run, and when they are started: the law.
-use Rattle.laws_trace.proofs.Vocabulary.{◌≡◌, ℕ, ◌+◌, ◌%◌, ◌==◌, ◌&&◌, ◌||◌, ◌<◌, ◌≤◌, not, Bool, true, false, cond, List, [], ◌∷◌, ◌++◌, get_or, set, Option, Some, None, refl, sym, ap, ◌∙◌, subst, arith, eq-eqb, true≢false, fold, option_map_or, and_parts, get_or-set_same, get_or-replicate, All-nil, All-cons, All-head, All-tail, PoolFull, Service, HasItsTimer, needed_in, State, TeiAssigned, Established, TimerRecovery, LinkTimer, Link, obeyed, runs, Config, refused, orders_in, Line, fresh_line, link_of, link_in, link_number, place_in, state_of, terms, IsInRange, sound_in, terms_in_range, place_of-is, Card, line_at, is_full, at, moments, fresh_is_sound, after_is_sound, has_lines, by_room, line_sound, runs_at_callers, AllHaveTheirTimers, needed-run, needs-none, timely-all, timely-after, begins-timely-card, timer_of, is_needed, left_by, HaveTheirTimers, nowhere, Timer, eqb-true, T200, T203, fresh_link, fresh, CardEvent as Event, after, card_answer as answer, Moment, after_all, IsAtLine, AreAtLines, CardIsSound as IsSound, seen, Always, or_comm}
+use Rattle.laws_trace.proofs.Vocabulary.{◌≡◌, ℕ, ◌+◌, ◌%◌, ◌==◌, ◌&&◌, ◌||◌, ◌<◌, ◌≤◌, not, Bool, true, false, cond, List, [], ◌∷◌, ◌++◌, get_or, set, Option, Some, None, refl, sym, ap, ◌∙◌, subst, arith, eq-eqb, true≢false, fold, option_map_or, and_parts, get_or-set_same, get_or-replicate, All-nil, All-cons, All-head, All-tail, PoolFull, Service, HasItsTimer, needed_in, State, LinkTimer, Link, obeyed, runs, Config, refused, orders_in, Line, fresh_line, link_of, link_in, link_number, place_in, state_of, terms, IsInRange, sound_in, terms_in_range, place_of-is, Card, line_at, is_full, at, moments, fresh_is_sound, after_is_sound, has_lines, by_room, line_sound, runs_at_callers, AllHaveTheirTimers, needed-run, needs-none, timely-all, timely-after, begins-timely-card, timer_of, is_needed, left_by, HaveTheirTimers, nowhere, Timer, eqb-true, T200, T203, fresh_link, fresh, CardEvent as Event, after, card_answer as answer, Moment, after_all, IsAtLine, AreAtLines, CardIsSound as IsSound, seen, Always, or_comm}
 use Rattle.lapd_frame.specs.declared.timers.Timer.TheVariants as timers
 use Rattle.model_link.specs.Sound as link_sound
 use Rattle.model_line.specs.Event as line_event
@@ -16,23 +16,10 @@ module _ (service : Service) (tei number : ℕ) where
   -- Where the pool is full, nothing is seen, and nothing changes.
   same-state : (state : State) (k : Known) (a s : ℕ) (busy : Bool) → Agrees state k a s busy
       → cond (is_state 7 (told_state state) || is_state 8 (told_state state)) k nothing_yet ≡ k
-  same-state Established k a s busy h = refl
-  same-state TimerRecovery k a s busy h = refl
-  same-state other k a s busy h = sym h
+  same-state state k a s busy h = grind arith
 
   pub none-learned : (c : Config) (l : Line) (k : Known) → IsTrueOf service tei k l → learned c service tei (state_of service tei l) (state_of service tei l) k [] ≡ k
-  none-learned c l k h = go (place_in l tei) refl
-    where
-      x : Link
-      x = link_of service tei l
-
-      go : (o : Option ℕ) → place_in l tei ≡ o → learned c service tei (state_of service tei l) (state_of service tei l) k [] ≡ k
-      go None off =
-          ap (λ o. learned c service tei o o k []) (off-state service tei l off)
-          ∙ sym (subst (λ (x : Link). Agrees x.state k x.a x.s x.peer_busy) (off-fresh service tei l off) h)
-      go (Some place) on =
-          ap (λ o. learned c service tei o o k []) (state-on service tei l place on)
-          ∙ same-state (link_of service tei l).state k (link_of service tei l).a (link_of service tei l).s (link_of service tei l).peer_busy h
+  none-learned c l k h = grind (arith, learned, off-state, Agrees, off-fresh, state-on, same-state)
 
   -- One event of a card.
   module _ (card : Card) (s : IsSound card) (timely : AllHaveTheirTimers card) (e : Event) (here : IsAtLine card e) where
@@ -81,8 +68,7 @@ module _ (service : Service) (tei number : ℕ) where
 
     -- what is ordered of the timers of the link
     idle : (needs : Bool) (its : Timer) → order_by false needs needs its ≡ []
-    idle true its = refl
-    idle false its = refl
+    idle needs its = grind arith
 
     abbrev pub Ordered : Line → line_event.Answer → Type 0
     Ordered x a =
@@ -122,16 +108,7 @@ module _ (service : Service) (tei number : ℕ) where
       where
         -- nothing is due where nothing is seen
         never : (l : Line) (k : Known) → IsTrueOf service tei k l → (timer : LinkTimer) (was : Bool) → (was && (not was || is_anew card.config service tei timer k (state_of service tei l) (state_of service tei l) [])) ≡ false
-        never l k h timer false = refl
-        never l k h timer true = by-place (place_in l tei) refl
-          where
-            by-state : (state : State) → is_anew card.config service tei timer k (told_state state) (told_state state) [] ≡ false
-            by-state TeiAssigned = refl
-            by-state other = refl
-
-            by-place : (o : Option ℕ) → place_in l tei ≡ o → is_anew card.config service tei timer k (state_of service tei l) (state_of service tei l) [] ≡ false
-            by-place None off = ap (λ o. is_anew card.config service tei timer k o o []) (off-state service tei l off)
-            by-place (Some place) on = ap (λ o. is_anew card.config service tei timer k o o []) (state-on service tei l place on) ∙ by-state (link_of service tei l).state
+        never l k h timer was = grind (arith, is_anew, told_state, off-state, state-on)
 
   -- Over a run.
   pub run-known : (card : Card) (events : List Event) → IsSound card → AllHaveTheirTimers card → AreAtLines card events → (k : Known) → IsTrueOf service tei k (line_at number card)
@@ -198,31 +175,10 @@ module _ (service : Service) (tei : ℕ) (k : Known) where
 
   -- an I-frame is outstanding where V(S) is not V(A), also modulo 128
   pub outstanding-is : (a s : ℕ) → a ≤ s → s ≤ a + 127 → (s % 128 == a % 128) ≡ (s == a)
-  outstanding-is a s ordered within = go (s == a) refl (s % 128 == a % 128) refl
-    where
-      go : (b : Bool) → (s == a) ≡ b → (d : Bool) → (s % 128 == a % 128) ≡ d → (s % 128 == a % 128) ≡ b
-      go true same d is = eq-eqb (s % 128) (a % 128) (ap (λ n. n % 128) (eqb-true s a same))
-      go false other false is = is
-      go false other true is =
-          let equal : s % 128 ≡ a % 128 = eqb-true (s % 128) (a % 128) is in
-          let same : s ≡ a = omega (arith, equal, ordered, within) in
-          absurd (true≢false (sym (eq-eqb s a same) ∙ other))
+  outstanding-is a s ordered within = grind (arith, eq-eqb, eqb-true)
 
   pub by-state : (state : State) (l : Link) → Agrees state k l.a l.s l.peer_busy → l.a ≤ l.s → l.s ≤ l.a + 127 → Run (told_state state) (needed_in state l)
-  by-state Established l h ordered within =
-      subst (λ b. (runs T200 (cond b (Some T200) (Some T203)) ≡ (k.busy || not (k.next == k.acknowledged)))
-      × (runs T203 (cond b (Some T200) (Some T203)) ≡ not (k.busy || not (k.next == k.acknowledged)))) same (either (k.busy || not (k.next == k.acknowledged)))
-    where
-      same : (k.busy || not (k.next == k.acknowledged)) ≡ (not (l.s == l.a) || l.peer_busy)
-      same =
-          ap (λ b. b || not (k.next == k.acknowledged)) h.busy_is
-          ∙ ap (λ n. l.peer_busy || not (n == k.acknowledged)) h.next ∙ ap (λ n. l.peer_busy || not (l.s % 128 == n)) h.acknowledged
-          ∙ ap (λ b. l.peer_busy || not b) (outstanding-is l.a l.s ordered within) ∙ or_comm l.peer_busy (not (l.s == l.a))
-
-      either : (b : Bool) → (runs T200 (cond b (Some T200) (Some T203)) ≡ b) × (runs T203 (cond b (Some T200) (Some T203)) ≡ not b)
-      either true = (refl, refl)
-      either false = (refl, refl)
-  by-state other l h ordered within = (refl, refl)
+  by-state state l h ordered within = grind (arith, outstanding-is, or_comm)
 
 -- The law: a module once more, so that its parts have names.
 module _ (c : Config) (events : List Event) (number : ℕ) (ranged : IsInRange c) (all : AreAtLines (fresh c) events) (within : number < c.lines) (service : Service) (tei : ℕ) where
@@ -248,9 +204,7 @@ module _ (c : Config) (events : List Event) (number : ℕ) (ranged : IsInRange c
   runs-so timer = callers-run c events number ranged all within service tei timer ∙ needed-is service tei its_line its-timers timer
 
   run-in : (o : Option ℕ) → place_in its_line tei ≡ o → Run service tei is_known (state_of service tei its_line) its_link.running
-  run-in None off =
-      subst (λ state. Run service tei is_known state its_link.running) (sym (off-state service tei its_line off))
-      (subst (λ (x : Link). Run service tei is_known None x.running) (sym (off-fresh service tei its_line off)) (refl, refl))
+  run-in None off = grind (arith, off-state, off-fresh)
   run-in (Some place) on =
       let s = sound-now c events number ranged all within service tei in
       let sound_line = line_sound at_end number (has_lines at_end s) here-now in

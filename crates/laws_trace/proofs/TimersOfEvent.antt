@@ -1,5 +1,5 @@
 -- What is known of a link stays true: each event of a line.
-use Rattle.laws_trace.proofs.Vocabulary.{◌≡◌, ℕ, ◌&&◌, ◌||◌, Bool, true, false, cond, List, [], ◌∷◌, map, Option, Some, None, option_map, refl, sym, ap, ◌∙◌, subst, true≢false, ◌⊎◌, inl, inr, All, option_to_list, option_map_or, All-head, Service, Parts, place_of-is, HasItsTimer, needed, State, Terms, LinkTimer, Link, is_same, Given, runs, is_timer, Config, hears, next, Answer, NextFrame, gave, Line, link_in, link_of, link_number, place_in, state_of, state_in, terms, taken, next_of, IsInRange, terms_in_range, IsBy, timer_of, is_needed, left_by, HaveTheirTimers, T200, T203, fresh_link as fresh, Event, line_after as after, answer, line_frame_of as frame_of, IsSound, is_for, trace_frame_in as frame_in, seen, none-some}
+use Rattle.laws_trace.proofs.Vocabulary.{arith, ◌≡◌, ℕ, ◌&&◌, ◌||◌, Bool, true, false, cond, List, [], ◌∷◌, map, Option, Some, None, option_map, refl, sym, ap, ◌∙◌, subst, true≢false, ◌⊎◌, inl, inr, All, option_to_list, option_map_or, All-head, Service, Parts, place_of-is, HasItsTimer, State, Terms, LinkTimer, Link, is_same, Given, runs, is_timer, Config, hears, next, Answer, NextFrame, gave, Line, link_in, link_of, link_number, place_in, state_of, state_in, terms, taken, next_of, IsInRange, terms_in_range, IsBy, timer_of, is_needed, left_by, HaveTheirTimers, T200, T203, fresh_link as fresh, Event, line_after as after, answer, line_frame_of as frame_of, IsSound, is_for, trace_frame_in as frame_in, seen, none-some}
 use Rattle.model_bits.specs.Stream as stream
 use Rattle.model_link.specs.Events as link
 use Rattle.model_link.specs.Machine as links
@@ -38,40 +38,22 @@ module _ (service : Service) (tei : ℕ) where
   needed-is l h T200 = go (place_in l tei) refl
     where
       go : (o : Option ℕ) → place_in l tei ≡ o → is_needed (timer_of service tei T200) l ≡ runs T200 (link_of service tei l).running
-      go None off =
-          ap (λ o. option_map_or (λ place. runs T200 (needed (link_in l service place))) o false) off ∙ sym (ap (λ (x : Link). runs T200 x.running) (off-fresh l off))
-      go (Some place) on =
-          ap (λ o. option_map_or (λ place. runs T200 (needed (link_in l service place))) o false) on
-          ∙ ap (runs T200) (sym (h.links (link_number place service)).running)
-          ∙ sym (ap (λ o. runs T200 (option_map_or (link_in l service) o fresh).running) on)
+      go o off = grind (arith, off-fresh)
   needed-is l h T203 = go (place_in l tei) refl
     where
       go : (o : Option ℕ) → place_in l tei ≡ o → is_needed (timer_of service tei T203) l ≡ runs T203 (link_of service tei l).running
-      go None off =
-          ap (λ o. option_map_or (λ place. runs T203 (needed (link_in l service place))) o false) off ∙ sym (ap (λ (x : Link). runs T203 x.running) (off-fresh l off))
-      go (Some place) on =
-          ap (λ o. option_map_or (λ place. runs T203 (needed (link_in l service place))) o false) on
-          ∙ ap (runs T203) (sym (h.links (link_number place service)).running)
-          ∙ sym (ap (λ o. runs T203 (option_map_or (link_in l service) o fresh).running) on)
+      go o off = grind (arith, off-fresh)
 
 -- The link of a TEI that comes to the line is a fresh one.
 pub comes : (c : Config) (e : Event) (l : Line) → IsSound c l → (service : Service) (tei : ℕ) → place_in l tei ≡ None → link_of service tei (after c e l) ≡ fresh
 comes c e l s service tei off = go (event-goes c e l service tei s)
   where
     go : Goes c service tei e l (after c e l) (answer c e l) → link_of service tei (after c e l) ≡ fresh
-    go (inr (inl x)) = absurd (none-some x.place (sym off ∙ x.placed))
-    go (inr (inr x)) = x.is
-    go (inl x) = either x.is
-      where
-        either : (link_of service tei (after c e l) ≡ link_of service tei l) ⊎ (link_of service tei (after c e l) ≡ fresh) → link_of service tei (after c e l) ≡ fresh
-        either (inl same) = same ∙ off-fresh service tei l off
-        either (inr new) = new
+    go o = grind (arith, none-some, off-fresh)
 
 -- the caller's timers that ran, by the event of the link
 same-timer : (service : Service) (tei : ℕ) (one other : LinkTimer) → is_same (timer_of service tei one) (timer_of service tei other) ≡ is_timer one other
-same-timer service tei T200 T203 = refl
-same-timer service tei T203 T200 = refl
-same-timer service tei other any = its-own service tei
+same-timer service tei one other = grind (arith, its-own)
 
 module _ (c : Config) (ranged : IsInRange c) (l : Line) (s : IsSound c l) (timed : HaveTheirTimers l) (service : Service) (tei : ℕ) (k : Known)
     (agrees : IsTrueOf service tei k l) (e : Event) where
@@ -107,9 +89,7 @@ module _ (c : Config) (ranged : IsInRange c) (l : Line) (s : IsSound c l) (timed
   learned_so from to = learned c service tei from to k (seen e a)
 
   learned-in : (from to : State) → learned_so (told_state from) (told_state to) ≡ learns_in from to
-  learned-in from to =
-      let i = is_state 7 (told_state to) in
-      ap (λ k. cond (i || is_state 8 (told_state to)) k nothing_yet) (seen-learns c service tei k e l (is_state 8 (told_state from) && i) i)
+  learned-in from to = grind (arith, is_state, told_state, nothing_yet, seen-learns)
 
   abbrev now_known : Known
   now_known = learned_so (state_of service tei l) (state_of service tei (after c e l))
@@ -119,13 +99,10 @@ module _ (c : Config) (ranged : IsInRange c) (l : Line) (s : IsSound c l) (timed
   begins-true x K is none = subst (λ (x : Link). Agrees x.state K x.a x.s x.peer_busy) (sym is) none
 
   off-known : place_in (after c e l) tei ≡ None → IsTrueOf service tei now_known (after c e l)
-  off-known off =
-      begins-true new now_known (off-fresh service tei (after c e l) off) (ap (learned_so (state_of service tei l)) (off-state service tei (after c e l) off))
+  off-known off = grind (arith, begins-true, off-fresh, off-state)
 
   fresh-known : (place : ℕ) → place_in (after c e l) tei ≡ Some place → new ≡ fresh → IsTrueOf service tei now_known (after c e l)
-  fresh-known place on is =
-      begins-true new now_known is
-      (ap (learned_so (state_of service tei l)) (state-on service tei (after c e l) place on ∙ ap (λ (x : Link). told_state x.state) is))
+  fresh-known place on is = grind (arith, begins-true, state-on, told_state)
 
   -- What is heard or begins is none of the link's.
   module _ (x : HasNone c service tei e l (after c e l) a) where
@@ -137,8 +114,7 @@ module _ (c : Config) (ranged : IsInRange c) (l : Line) (s : IsSound c l) (timed
         by-whom f is false for = refl
 
         go : (o : Option Parts) → frame_by c e ≡ o → control_in service tei o ≡ None
-        go None is = refl
-        go (Some f) is = by-whom f is (is_for service tei f.address) refl
+        go o is = grind (arith, by-whom)
 
     none-goes : (e : Event) → All (IsForeign c service tei) (frame_in (answer c e l)) → sent_at c service tei k e l ≡ None
     unfolding answer
@@ -186,13 +162,7 @@ module _ (c : Config) (ranged : IsInRange c) (l : Line) (s : IsSound c l) (timed
   bare : (what : link.Received) → (link.received what ≡ link.offer → ⊥) → (link.received what ≡ link.cleared → ⊥) → control_of (link.received what) ≡ None
       → (heard : stream.Event) → e ≡ hears heard → frame_by c e ≡ None → ((timer : LinkTimer) → ran_before (link.received what) own.running timer ≡ runs timer own.running)
       → IsOther (link.received what)
-  bare what no-offer no-cleared none heard by without same = record {
-    no_offer = no-offer;
-    no_cleared = no-cleared;
-    control = ap (control_in service tei) without ∙ sym none;
-    sent = ap (λ e. sent_at c service tei k e l) by;
-    left = λ timer. ap (λ e. left_by e (timer_of service tei timer) (runs timer own.running)) by ∙ sym (same timer);
-  }
+  bare what no-offer no-cleared none heard by without same = grind (arith, control_in, sent_at)
 
   other : (event : link.Event) → (event ≡ link.offer → ⊥) → IsBy c e a service tei event → IsOther event
   other (link.received (link.frame f)) not_offer by =
@@ -206,21 +176,8 @@ module _ (c : Config) (ranged : IsInRange c) (l : Line) (s : IsSound c l) (timed
       }
   other (link.received what) not_offer by =
       let x = heard-by c e a service tei what by in bare what not_offer (λ same. cc same) refl x.0 x.1 (brings-none c e a service tei what by) (λ timer. refl)
-  other (link.expired expired) not_offer by = record {
-    no_offer = not_offer;
-    no_cleared = λ same. cc same;
-    control = ap (λ e. control_in service tei (frame_by c e)) by;
-    sent = ap (λ e. sent_at c service tei k e l) by;
-    left = λ timer. ap (λ e. left_by e (timer_of service tei timer) (runs timer own.running)) by
-        ∙ ap (λ b. cond b false (runs timer own.running)) (same-timer service tei expired timer);
-  }
-  other (link.requested asked full) not_offer by = record {
-    no_offer = not_offer;
-    no_cleared = λ same. cc same;
-    control = ap (λ e. control_in service tei (frame_by c e)) by.0;
-    sent = ap (λ e. sent_at c service tei k e l) by.0;
-    left = λ timer. ap (λ e. left_by e (timer_of service tei timer) (runs timer own.running)) by.0;
-  }
+  other (link.expired expired) not_offer by = grind (arith, control_in, frame_by, sent_at, same-timer)
+  other (link.requested asked full) not_offer by = grind (arith, control_in, frame_by, sent_at)
   other link.offer not_offer by = absurd (not_offer refl)
   other link.cleared not_offer by = absurd by
 
@@ -255,12 +212,10 @@ module _ (c : Config) (ranged : IsInRange c) (l : Line) (s : IsSound c l) (timed
 
     -- an offer
     none-sent : (o : Option NextFrame) → frame_in (gave o) ≡ [] → sent_with c service tei o ≡ None
-    none-sent None e = refl
-    none-sent (Some f) e = cc e
+    none-sent o e = grind arith
 
     its-sent : (o : Option NextFrame) (frame : List ℕ) → frame_in (gave o) ≡ frame ∷ [] → sent_with c service tei o ≡ sent_of c service tei frame
-    its-sent None frame e = cc e
-    its-sent (Some f) frame e = let same : f.octets ≡ frame = cc e in ap (sent_of c service tei) same
+    its-sent o frame e = grind (arith, sent_of)
 
     sent-is : e ≡ next → x.event ≡ link.offer → sent_at c service tei k e l ≡ option_map_or given_sent (links.given t own) None
     unfolding answer
@@ -299,9 +254,7 @@ module _ (c : Config) (ranged : IsInRange c) (l : Line) (s : IsSound c l) (timed
     either {X = X} one two = go x.event x.by (λ not_offer. one (other x.event not_offer x.by)) two
       where
         go : (event : link.Event) → IsBy c e a service tei event → ((event ≡ link.offer → ⊥) → X) → (e ≡ next → event ≡ link.offer → X) → X
-        go link.offer by one two = two by refl
-        go link.cleared by one two = absurd by
-        go other by one two = one (λ same. cc same)
+        go event by one two = grind (arith, other)
 
     one-known : IsTrueOf service tei now_known (after c e l)
     one-known = go (place_in (after c e l) tei) refl
@@ -314,10 +267,4 @@ module _ (c : Config) (ranged : IsInRange c) (l : Line) (s : IsSound c l) (timed
   event-known = go (event-goes c e l service tei s)
     where
       go : Goes c service tei e l (after c e l) a → IsTrueOf service tei now_known (after c e l)
-      go (inl x) = none-known x
-      go (inr (inl x)) = one-known x
-      go (inr (inr x)) = ended (place_in (after c e l) tei) refl
-        where
-          ended : (o : Option ℕ) → place_in (after c e l) tei ≡ o → IsTrueOf service tei now_known (after c e l)
-          ended None off = off-known off
-          ended (Some there) on = fresh-known there on x.is
+      go o = grind (arith, none-known, one-known, off-known, fresh-known)

@@ -1,5 +1,5 @@
 -- What is ordered of the timers of a link is what is due: the law.
-use Rattle.laws_trace.proofs.Vocabulary.{◌≡◌, ℕ, ◌+◌, ◌<◌, ◌==◌, ◌&&◌, ◌||◌, not, Bool, true, false, cond, List, [], ◌∷◌, ◌++◌, refl, sym, ap, ◌∙◌, subst, ⊎_elim, eq-eqb, true≢false, and_parts, is_some, fold, fold-append, nat_lt, All-nil, All-cons, All-append, Service, Order, Timer, LinkTimer, obeyed, Config, hears, expiry, request, next, orders_in, IsInRange, timer_of, is_needed, left_by, Card, line_at, at, moments, runs_at_callers, eqb-true, T200, T203, fresh, CardEvent as Event, after, Moment, after_all, IsAtLine, AreAtLines, runs_then, one_more, Managed, managing_is_on as is_on, due, brings, Observed, View, in_state, at_first, anew, awaits, enquires, enters, by_t200, by_event, views, view_of, moment_of, view_behind, TimersAreTimely, is_own, Always, or-false}
+use Rattle.laws_trace.proofs.Vocabulary.{arith, ◌≡◌, ℕ, ◌+◌, ◌<◌, ◌==◌, ◌&&◌, ◌||◌, not, Bool, true, false, cond, List, [], ◌∷◌, ◌++◌, refl, sym, ap, ◌∙◌, subst, ⊎_elim, eq-eqb, true≢false, and_parts, is_some, fold, fold-append, nat_lt, All-nil, All-cons, All-append, Service, Order, Timer, LinkTimer, obeyed, Config, hears, expiry, request, next, orders_in, IsInRange, timer_of, is_needed, left_by, Card, line_at, at, moments, runs_at_callers, eqb-true, T200, T203, fresh, CardEvent as Event, after, Moment, after_all, IsAtLine, AreAtLines, runs_then, one_more, Managed, managing_is_on as is_on, due, brings, Observed, View, in_state, anew, awaits, enquires, enters, by_t200, by_event, view_of, moment_of, view_behind, TimersAreTimely, is_own, Always, or-false}
 use Rattle.lapd_frame.specs.declared.timers.Timer.TheVariants as timers
 use Rattle.model_line.specs.Event as line_event
 use Rattle.laws_trace.specs.TimersAreTimely as timely
@@ -15,8 +15,7 @@ plain : (w d x r : Bool) → x ≡ false → (not w || (d || r)) ≡ (not w || (
 plain w d x r none = ap (λ b. not w || (b || r)) (sym (or-false d)) ∙ ap (λ x. not w || ((d || x) || r)) (sym none)
 
 ended : (w d x r : Bool) → (w ≡ true → (d || x) ≡ true) → true ≡ (not w || ((d || x) || r))
-ended false d x r leads = refl
-ended true d x r leads = sym (ap (λ b. b || r) (leads refl))
+ended w d x r leads = grind arith
 
 module _ (c : Config) (events : List Event) (number : ℕ) (ranged : IsInRange c) (all : AreAtLines (fresh c) events) (within : number < c.lines) (service : Service) (tei : ℕ) (what : line_event.Event) where
   abbrev card : Card
@@ -46,9 +45,7 @@ module _ (c : Config) (events : List Event) (number : ℕ) (ranged : IsInRange c
 
   view-then : view_of c service tei number longer ≡ view_behind c service tei number events what
   unfolding moments
-  view-then =
-      ap (fold (views c service tei number) at_first) (moments-both (fresh c) events (at number what ∷ []))
-      ∙ fold-append (views c service tei number) at_first (moments (fresh c) events) (m ∷ [])
+  view-then = grind (arith, moments-both, fold-append)
 
   -- Which of its timers run at a caller's, before and then.
   its-run : (timer : LinkTimer) → runs_at_callers number (timer_of service tei timer) false (moments (fresh c) events) ≡ timely.runs timer o
@@ -91,10 +88,7 @@ module _ (c : Config) (events : List Event) (number : ℕ) (ranged : IsInRange c
       (either o (number == number) (by_event c service tei what m.answer o) o h (same o)) (zero o))
 
   stays-on : is_on tei v.teis ≡ true → then-on ≡ true → q ≡ by_event c service tei what m.answer o
-  stays-on before then =
-      ap (λ b. cond (not b) (in_state 1) (cond (is_on tei v.teis) (cond (number == number) (by_event c service tei what m.answer o) o) (in_state 4))) then
-      ∙ ap (λ b. cond b (cond (number == number) (by_event c service tei what m.answer o) o) (in_state 4)) before
-      ∙ ap (λ b. cond b (by_event c service tei what m.answer o) o) (eq-eqb number number refl)
+  stays-on before then = grind (arith, eq-eqb)
 
   -- a timer runs only of a TEI on the line
   there : (timer : LinkTimer) → timely.runs timer o ≡ true → is_on tei v.teis ≡ true
@@ -103,8 +97,7 @@ module _ (c : Config) (events : List Event) (number : ℕ) (ranged : IsInRange c
       (λ y. on-line-now c events number ranged all within service tei ∙ ap is_some y.1) (known-now c events number ranged all within service tei)
     where
       off : (timer : LinkTimer) → timely.runs timer (in_state 1) ≡ false
-      off T200 = refl
-      off T203 = refl
+      off timer = grind arith
 
 -- Whether one is started, by the event.
 module _ (c : Config) (events : List Event) (number : ℕ) (ranged : IsInRange c) (all : AreAtLines (fresh c) events) (within : number < c.lines) (service : Service) (tei : ℕ) where
@@ -121,13 +114,10 @@ module _ (c : Config) (events : List Event) (number : ℕ) (ranged : IsInRange c
   by-plain : (timer : LinkTimer) (what : line_event.Event) → IsNoMore was (view_behind c service tei number events what).link
       → let q = (view_behind c service tei number events what).link in
       (not (timely.runs timer was) || moved_or_renewed c service tei timer was q what) ≡ (not (timely.runs timer was) || timely.is_anew c service tei timer was q what)
-  by-plain timer what none =
-      let q = (view_behind c service tei number events what).link in
-      plain (timely.runs timer was) (not (was.state == q.state)) (nat_lt was.expiries q.expiries) (was.state == 7 && brings (timely.renews timer was.acknowledged was.busy) c service tei what) none
+  by-plain timer what none = grind (arith, plain)
 
   other-event : (what : line_event.Event) → ((of : Service) (by : ℕ) → what ≡ expiry (timers.T200 of by) → is_own service tei of by ≡ false) → IsNoMore was (view_behind c service tei number events what).link
-  other-event what other =
-      no-rise c events number ranged all within service tei what (no-more was c service tei what (moment_of c events number what).answer other)
+  other-event what other = grind (arith, no-rise, no-more)
 
   abbrev then_of : line_event.Event → Observed
   then_of what = (view_behind c service tei number events what).link
@@ -135,11 +125,7 @@ module _ (c : Config) (events : List Event) (number : ℕ) (ranged : IsInRange c
   -- what a timer that ran leads to as one of the link expires
   on-then : (timer : LinkTimer) (what : line_event.Event) → ((w : Managed) → is_on tei (due c what w) ≡ is_on tei w) → timely.runs timer was ≡ true
       → then_of what ≡ by_event c service tei what (moment_of c events number what).answer was
-  on-then timer what keeps runs =
-      let on = there c events number ranged all within service tei what timer runs in
-      let teis = (view_of c service tei number events).teis in
-      stays-on c events number ranged all within service tei what on
-      (ap (λ b. is_on tei (cond b (due c what teis) teis)) (eq-eqb number number refl) ∙ keeps teis ∙ on)
+  on-then timer what keeps runs = grind (arith, there, stays-on, eq-eqb)
 
   abbrev renewed : LinkTimer → line_event.Event → Bool
   renewed timer what = was.state == 7 && brings (timely.renews timer was.acknowledged was.busy) c service tei what
@@ -216,29 +202,16 @@ module _ (c : Config) (events : List Event) (number : ℕ) (ranged : IsInRange c
     abbrev now : Observed
     now = (view_behind c service tei number events what).link
 
-    abbrev moves : Bool
-    moves = moved_or_renewed c service tei timer was (view_behind c service tei number events what).link what
-
     abbrev due_of : Bool
     due_of = timely.runs timer now && (not (timely.runs timer was) || timely.is_anew c service tei timer was now what)
 
     started : obeyed its_timer false (orders_in (moment_of c events number what).answer) ≡ due_of
-    started =
-        started-so c events number ranged all within service tei timer what
-        ∙ ap (λ b. b && (not (left_by what its_timer (runs_at_callers number its_timer false (moments (fresh c) events))) || moves))
-        (obeys-then c events number ranged all within service tei what timer)
-        ∙ ap (λ r. timely.runs timer now && (not (left_by what its_timer r) || moves)) (its-run c events number ranged all within service tei what timer)
-        ∙ ap (λ b. timely.runs timer now && b) (due-so timer what)
+    started = grind (arith, started-so, obeys-then, its-run, due-so)
 
     ordered : order_by (obeyed its_timer false (orders_in (moment_of c events number what).answer)) (is_needed its_timer (line_at number (after_all (fresh c) events)))
         (is_needed its_timer (line_at number (after (at number what) (after_all (fresh c) events)))) its_timer
         ≡ order_by due_of (timely.runs timer was) (timely.runs timer now) its_timer
-    ordered =
-        let line = line_at number (after_all (fresh c) events) in
-        let later = line_at number (after (at number what) (after_all (fresh c) events)) in
-        ap (λ b. order_by b (is_needed its_timer line) (is_needed its_timer later) its_timer) started
-        ∙ ap (λ b. order_by due_of b (is_needed its_timer later) its_timer) (needs c events number ranged all within service tei what timer)
-        ∙ ap (λ b. order_by due_of (timely.runs timer was) b its_timer) (needs-then c events number ranged all within service tei what timer)
+    ordered = grind (arith, order_by, started, needs, needs-then)
 
 pub timers-are-timely : Always TimersAreTimely
 timers-are-timely c events number ranged all within service tei what =

@@ -1,5 +1,5 @@
 -- The timers of a link are started as they are due: each event of a line.
-use Rattle.laws_trace.proofs.Vocabulary.{◌≡◌, ℕ, ◌&&◌, ◌||◌, not, Bool, true, false, cond, Option, Some, None, refl, sym, ap, ◌∙◌, subst, true≢false, inl, inr, option_map_or, Service, Timer, place_of-is, is_on-at, HasItsTimer, State, TeiAssigned, Terms, LinkTimer, Link, is_same, obeyed, runs, timer_at, Config, expiry, Answer, orders_in, Line, link_of, place_in, has_tei, state_of, terms, IsInRange, timer_of, is_needed, left_by, HaveTheirTimers, followed, timely-line, List, ◌++◌, Order, order_for, orders_for, Control, T200, T203, Event, line_after as after, answer, IsSound, seen, and-false, and-true, offer}
+use Rattle.laws_trace.proofs.Vocabulary.{arith, ◌≡◌, ℕ, ◌&&◌, ◌||◌, not, Bool, true, false, Option, Some, None, refl, sym, ap, ◌∙◌, subst, true≢false, inl, inr, option_map_or, Service, Timer, place_of-is, is_on-at, HasItsTimer, State, Terms, LinkTimer, Link, obeyed, runs, timer_at, Config, Answer, orders_in, Line, link_of, place_in, has_tei, state_of, terms, IsInRange, timer_of, is_needed, left_by, HaveTheirTimers, followed, timely-line, List, ◌++◌, Order, order_for, orders_for, Control, T200, T203, Event, line_after as after, answer, IsSound, seen, and-false, and-true, offer}
 use Rattle.lapd_frame.specs.declared.timers.Timer.TheVariants as timers
 use Rattle.model_link.specs.Machine as links
 use Rattle.model_link.specs.Sound as link_sound
@@ -71,23 +71,14 @@ module _ (c : Config) (ranged : IsInRange c) (l : Line) (s : IsSound c l) (timed
 
     -- a timer that ran was needed
     ran-needed : (e : Event) (b : Bool) → left_by e its b ≡ true → b ≡ true
-    ran-needed (expiry other) b h = go (is_same other its) h
-      where
-        go : (same : Bool) → cond same false b ≡ true → b ≡ true
-        go true h = absurd (true≢false (sym h))
-        go false h = h
-    ran-needed other b h = h
+    ran-needed e b h = grind arith
 
     differ-same : (state : State) → differ (told_state state) (told_state state) ≡ false
-    differ-same TeiAssigned = refl
-    differ-same other = refl
+    differ-same state = grind arith
 
     due-so : (place there : ℕ) → place_in l tei ≡ Some place → place_in (after c e l) tei ≡ Some there → (to : State) → new.state ≡ to → (o : Option Control)
         → control_in service tei (frame_by c e) ≡ o → is_due ≡ anew_by timer own.state to k o
-    due-so place there on stays to is o control =
-        ap (λ p. is_anew c service tei timer k p (state_of service tei (after c e l)) (seen e a)) (state-on service tei l place on)
-        ∙ ap (λ p. is_anew c service tei timer k (told_state own.state) p (seen e a)) (state-on service tei (after c e l) there stays ∙ ap told_state is)
-        ∙ ap (λ b. differ (told_state own.state) (told_state to) || (is_state 7 (told_state own.state) && b)) (seen-brings c service tei (renews timer k) e a ∙ ap (λ o. option_map_or (renews timer k) o false) control)
+    due-so place there on stays to is o control = grind (arith, is_anew, state-on, told_state, differ, is_state, seen-brings, renews)
 
     none-due : (place there : ℕ) → place_in l tei ≡ Some place → place_in (after c e l) tei ≡ Some there → new.state ≡ own.state
         → control_in service tei (frame_by c e) ≡ None → is_due ≡ false
@@ -99,11 +90,7 @@ module _ (c : Config) (ranged : IsInRange c) (l : Line) (s : IsSound c l) (timed
     Started = was ≡ true → is_needed its (after c e l) ≡ true → obeyed its false (orders_in a) ≡ is_due
 
     at-own : timer_of service tei timer ≡ timer_at t timer
-    at-own = go timer
-      where
-        go : (timer : LinkTimer) → timer_of service tei timer ≡ timer_at t timer
-        go T200 = refl
-        go T203 = refl
+    at-own = grind arith
 
     starts-by : (before started later : Option LinkTimer) → obeyed its false (orders_for t before started later) ≡ (runs timer started && runs timer later)
     starts-by before started later = ap (λ u. obeyed u false (orders_for t before started later)) at-own ∙ starts-own t timer before started later

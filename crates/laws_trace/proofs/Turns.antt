@@ -1,5 +1,5 @@
 -- Links take turns: over runs of a card of which a line is only called for its next frame.
-use Rattle.laws_trace.proofs.Vocabulary.{◌≡◌, ℕ, ◌+◌, ◌*◌, ◌/◌, ◌<◌, ◌≤◌, Bool, true, false, List, Result, refl, ap, ◌∙◌, arith, not, Address, Side, User, Network, Ui, ReadFault, Parts, cr_bit, spelling, reading-again, option_map_or, Control, is_ui, result_ok}
+use Rattle.laws_trace.proofs.Vocabulary.{◌≡◌, ℕ, ◌+◌, ◌*◌, ◌/◌, ◌<◌, ◌≤◌, Bool, true, false, List, Result, refl, ap, arith, not, Address, Side, Ui, ReadFault, Parts, cr_bit, spelling, reading-again, option_map_or, Control, is_ui, result_ok}
 use Rattle.laws_trace.proofs.LinkNames.{named_in, is_of_a_link}
 use Rattle.laws_trace.proofs.ReadAgain.{read-again}
 
@@ -19,10 +19,7 @@ ui-frame side a info sapi tei command =
 
 -- Its name is its address.
 bit-few : (side : Side) (command : Bool) → cr_bit side command ≤ 1
-bit-few User true = omega arith
-bit-few User false = omega arith
-bit-few Network true = omega arith
-bit-few Network false = omega arith
+bit-few side command = grind arith
 
 by-bit : (bit : ℕ) → bit ≤ 1 → (sapi : ℕ) → (4 * sapi + 2 * bit) / 4 ≡ sapi
 by-bit bit few sapi = omega (arith, few)
@@ -30,9 +27,5 @@ by-bit bit few sapi = omega (arith, few)
 by-first : (side : Side) (sapi : ℕ) (command : Bool) → (4 * sapi + 2 * cr_bit side command) / 4 ≡ sapi
 by-first side sapi command = by-bit (cr_bit side command) (bit-few side command) sapi
 
-by-second : (tei : ℕ) → (2 * tei + 1) / 2 ≡ tei
-by-second tei = omega arith
-
 pub name-is : (side : Side) (a : Address) (c : Control) (info : List ℕ) → named_in (spelling side (record { address = a; control = c; info = info })) ≡ record { sapi = a.sapi; tei = a.tei }
-name-is side a c info =
-    ap (λ s. record { sapi = s; tei = (2 * a.tei + 1) / 2 }) (by-first side a.sapi a.command) ∙ ap (λ t. record { sapi = a.sapi; tei = t }) (by-second a.tei)
+name-is side a c info = grind (arith, by-first)

@@ -1,5 +1,5 @@
 -- A TEI that is on a line before an event and behind it keeps its place.
-use Rattle.laws_trace.proofs.Vocabulary.{◌≡◌, ◌≢◌, ℕ, ◌==◌, Bool, true, false, get_or, Option, Some, None, refl, sym, ap, ◌∙◌, subst, arith, eq-eqb, true≢false, none-some, get_or-set_same, get_or-set_other, Places, is_on, Change, Gained, Left, Refusal, Config, IsInRange, ranges_of, Aim, at_management, at_no_link, of_aim, of_change, told_of_management, IsProper, heard_proper, expiry_proper, request_proper, aim_of_heard, aim_of_request, unless_refused, hears, expiry, request, next, Line, fresh_line, next-moves, Card, line_at, by_room, has_lines, eqb-true, aim_of_expiry, refusal, IsSound, CardEvent as Event, after, IsAtLine, line_sound, by-down, Moves, changes_are_told}
+use Rattle.laws_trace.proofs.Vocabulary.{◌≡◌, ◌≢◌, ℕ, ◌==◌, Bool, true, false, get_or, Option, Some, None, refl, sym, ap, ◌∙◌, subst, arith, eq-eqb, true≢false, none-some, get_or-set_same, get_or-set_other, Places, is_on, Change, Gained, Left, Config, IsInRange, ranges_of, Aim, at_management, at_no_link, of_aim, of_change, told_of_management, IsProper, heard_proper, expiry_proper, request_proper, aim_of_heard, hears, expiry, request, next, Line, fresh_line, next-moves, Card, line_at, by_room, has_lines, eqb-true, aim_of_expiry, IsSound, CardEvent as Event, after, IsAtLine, line_sound, by-down, Moves, changes_are_told}
 use Rattle.lapd_tei.specs.Events as teis
 use Rattle.model_line.specs.Event as line_event
 use Rattle.model_line.specs.Machine as lines
@@ -13,9 +13,7 @@ module _ (c : Config) (ranged : IsInRange c) (l : Line) (s : IsSound c l) (p tei
 
   by-change : (o : Option Change) (new : Places) → Moves l.management.places o new → is_on tei new ≡ true → get_or new p None ≡ Some tei
   by-change None new same on = ap (λ ps. get_or ps p None) same ∙ at
-  by-change (Some (Gained by place)) new joined on =
-      let away : p ≢ place = λ same. none-some tei (sym joined.was_free ∙ ap (λ q. get_or l.management.places q None) (sym same) ∙ at) in
-      ap (λ ps. get_or ps p None) joined.is_there ∙ get_or-set_other l.management.places place p (Some by) None away ∙ at
+  by-change (Some (Gained by place)) new joined on = grind (arith, none-some, get_or-set_other)
   by-change (Some (Left by place)) new gone on =
       let away : p ≢ place = λ same. left (ap (λ q. get_or l.management.places q None) (sym same) ∙ at) in
       ap (λ ps. get_or ps p None) gone.is_free ∙ get_or-set_other l.management.places place p None None away ∙ at
@@ -30,9 +28,7 @@ module _ (c : Config) (ranged : IsInRange c) (l : Line) (s : IsSound c l) (p tei
     where
       go : (o : Option Change) → Moves l.management.places o (teis.after me l.management).places
           → Keeps (of_change c o (told_of_management (teis.told me l.management)) (record l { management = teis.after me l.management })).line
-      go None m on = by-change None (teis.after me l.management).places m on
-      go (Some (Gained by place)) m on = by-change (Some (Gained by place)) (teis.after me l.management).places m on
-      go (Some (Left by place)) m on = by-change (Some (Left by place)) (teis.after me l.management).places m on
+      go o m on = grind (arith, by-change)
   by-aim at_no_link proper on = by-down c l (λ y. Keeps y.line) (λ on. at) on
   by-aim other proper on = at
 
@@ -40,11 +36,7 @@ module _ (c : Config) (ranged : IsInRange c) (l : Line) (s : IsSound c l) (p tei
   unfolding lines.after
   keeps (hears what) = by-aim (aim_of_heard c l what) (heard_proper c l what)
   keeps (expiry timer) = by-aim (aim_of_expiry timer l) (expiry_proper c l timer)
-  keeps (request r) = go (refusal c false r l) refl
-    where
-      go : (o : Option Refusal) → refusal c false r l ≡ o → Keeps (of_aim c (unless_refused o (aim_of_request r l)) l).line
-      go None none = by-aim (aim_of_request r l) (subst (λ o. IsProper c l (unless_refused o (aim_of_request r l))) none (request_proper c l r))
-      go (Some why) some = λ on. at
+  keeps (request r) = grind (arith, by-aim, request_proper)
   keeps next = λ on. subst (λ ps. get_or ps p None ≡ Some tei) (sym (next-moves c 0 l s (omega (arith, (ranges_of c ranged).terminals.least))).places) at
 
 -- So it does on a card.
@@ -63,7 +55,4 @@ keeps-there card e number p tei s here at = go (e.line == number) refl
         (λ room. subst (Stays p tei) (sym (get_or-set_same card.lines e.line (lines.after c e.what l) (fresh_line c) (omega (arith, s.count, here)))) (keeps c s.config l (line_sound card e.line (has_lines card s) here) p tei at e.what))
 
     go : (b : Bool) → (e.line == number) ≡ b → Stays p tei (line_at number (after e card))
-    go true is =
-        let same : e.line ≡ number = eqb-true e.line number is in
-        subst (λ n. Stays p tei (line_at n (after e card))) same (own (subst (λ n. get_or (line_at n card).management.places p None ≡ Some tei) (sym same) at))
-    go false other = subst (Stays p tei) (sym (apart card e number (λ same. true≢false (sym (eq-eqb e.line number (sym same)) ∙ other)))) (λ on. at)
+    go b is = grind (arith, eqb-true, own, apart, eq-eqb)

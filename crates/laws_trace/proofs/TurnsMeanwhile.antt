@@ -1,5 +1,5 @@
 -- Links take turns, whatever else happens meanwhile: the law.
-use Rattle.laws_trace.proofs.Vocabulary.{◌≡◌, ◌≢◌, ℕ, ◌<◌, ◌==◌, true, false, cond, List, [], ◌∷◌, ◌++◌, Some, refl, sym, ap, ◌∙◌, subst, arith, true≢false, All, get_or-replicate, All-head, All-tail, Service, sapi_of, Config, Line, fresh_line, service_at, place_at, tei_at, Card, line_at, at, moments, fresh_is_sound, all-left, all-right, config-stays, link_number, link_in, place_in, has_tei, at-within, place_of-is, number_within, place_at-number, service_at-number, append-nil, append_assoc, option_map_or, list_any, IsSilent, terms, link_at, length, fresh, CardEvent as Event, after, card_answer as answer, after_all, IsAtLine, AreAtLines, CardIsSound as IsSound, always_sound, is_own, Always, seen, trace, frames_begun, IsAmong, IsSpelled, managed_after, fresh_link, All-cons, All-nil}
+use Rattle.laws_trace.proofs.Vocabulary.{◌≡◌, ◌≢◌, ℕ, ◌<◌, ◌==◌, true, false, cond, List, [], ◌∷◌, ◌++◌, Some, refl, sym, ap, ◌∙◌, subst, arith, All, get_or-replicate, All-head, All-tail, Service, sapi_of, Config, Line, fresh_line, tei_at, Card, line_at, at, moments, fresh_is_sound, all-left, all-right, config-stays, link_number, link_in, place_in, has_tei, at-within, place_of-is, number_within, place_at-number, service_at-number, append-nil, append_assoc, option_map_or, list_any, IsSilent, terms, link_at, length, fresh, CardEvent as Event, after, card_answer as answer, after_all, IsAtLine, AreAtLines, CardIsSound as IsSound, always_sound, is_own, Always, seen, trace, frames_begun, IsAmong, IsSpelled, managed_after, fresh_link, All-cons, All-nil}
 use Rattle.model_line.specs.Sound as line
 use Rattle.model_card.proofs.Runs.{after_all-append}
 use Rattle.laws_trace.specs.TurnsMeanwhile.{IsKeptWaiting, LinksTakeTurnsMeanwhile}
@@ -135,11 +135,7 @@ module _ (c : Config) (number : ℕ) (ranged : line.IsInRange c) (within : numbe
 
 -- Two links have two numbers.
 two-links : (first second : Service) (tei its p q : ℕ) (l : Line) → is_own first tei second its ≡ false → tei_at p l ≡ Some tei → tei_at q l ≡ Some its → link_number p first ≢ link_number q second
-two-links first second tei its p q l away here there same =
-    let service : first ≡ second = sym (service_at-number p first) ∙ ap service_at same ∙ service_at-number q second in
-    let place : p ≡ q = sym (place_at-number p first) ∙ ap place_at same ∙ place_at-number q second in
-    let by : tei ≡ its = some-same (sym here ∙ ap (λ n. tei_at n l) place ∙ there) in
-    true≢false (sym (ap (λ s. is_own s tei second its) service ∙ ap (λ n. is_own second n second its) by ∙ own-is second its) ∙ away)
+two-links first second tei its p q l away here there same = grind (arith, service_at-number, place_at-number, some-same, own-is)
 
 pub links-take-turns-meanwhile : Always LinksTakeTurnsMeanwhile
 unfolding moments

@@ -1,5 +1,5 @@
 -- How the turn goes round the links of a line while whatever happens there: one keeps its place, and another has something to send.
-use Rattle.laws_trace.proofs.Vocabulary.{◌≡◌, ◌≢◌, ℕ, ◌+◌, ◌<◌, ◌≤◌, ◌==◌, ◌⊎◌, ⊎_elim, Bool, true, false, cond, List, [], ◌∷◌, ◌++◌, get_or, map, Option, Some, None, option_map, refl, sym, ap, ◌∙◌, subst, inl, inr, arith, eq-eqb, true≢false, All, filter, and_parts, flat_map-append, get_or-set_same, map-append, filter-append, Address, sapi_of, Config, request, next, Answer, gave, Line, fresh_line, link_count, service_at, place_at, tei_at, Taken, taken, next_of, way_round, in_turn, IsSilentAt, IsOfLink, IsOwed, IsIdle, contents_of, comes-first, served, turn-stays, Card, line_at, is_full, by_room, eqb-true, unwrap_or, information_of, CardEvent as Event, after, card_answer as answer, IsAtLine, CardIsSound as IsSound, trace_frame_in as frame_in, Seen, seen, frames_begun, IsAmong, frame_begun}
+use Rattle.laws_trace.proofs.Vocabulary.{◌≡◌, ◌≢◌, ℕ, ◌+◌, ◌<◌, ◌≤◌, ◌==◌, ◌⊎◌, ⊎_elim, Bool, true, false, cond, List, [], ◌∷◌, ◌++◌, get_or, map, Option, Some, None, option_map, refl, sym, ap, ◌∙◌, subst, inl, inr, arith, eq-eqb, true≢false, All, filter, and_parts, flat_map-append, get_or-set_same, map-append, filter-append, Address, sapi_of, Config, request, next, Answer, gave, Line, fresh_line, link_count, service_at, place_at, tei_at, Taken, taken, next_of, way_round, in_turn, IsSilentAt, IsOfLink, IsOwed, IsIdle, contents_of, comes-first, served, turn-stays, Card, line_at, is_full, by_room, eqb-true, unwrap_or, information_of, CardEvent as Event, after, card_answer as answer, IsAtLine, CardIsSound as IsSound, trace_frame_in as frame_in, Seen, seen, frames_begun, IsAmong}
 use Rattle.model_line.specs.Event as line_event
 use Rattle.model_line.specs.Machine as lines
 use Rattle.model_line.specs.Sound as line
@@ -48,8 +48,7 @@ module _ (c : Config) (one tei other its : ℕ) where
       turned (comes-first (link_count c) l.turn h.sound.turn (IsSilentAt c l) other number g.passed g.behind h.there.few g.place g.all_silent h.there.speaks)
     where
       turned : (number ≡ other) ⊎ (way (number + 1) + 1 ≤ way l.turn) → (other ≡ number) ⊎ (way (number + 1) + 1 ≤ way l.turn)
-      turned (inl same) = inl (sym same)
-      turned (inr less) = inr less
+      turned o = grind arith
 
   too-near : (a b w : ℕ) → a ≡ b → a + 1 ≤ w → w ≤ b → ⊥
   too-near a b w e f g = omega (arith, e, f, g)
@@ -106,8 +105,7 @@ module _ (c : Config) (one tei other its : ℕ) where
     no-name frame names none walk = subst (λ b. Walk l (map named_in (cond b (frame ∷ []) []) ++ names)) (sym none) walk
 
     a-name : (frame : List ℕ) (name : LinkName) (names : List LinkName) → is_of_a_link c.side frame ≡ true → named_in frame ≡ name → Walk l (name ∷ names) → Walk l (names-in (frame ∷ []) ++ names)
-    a-name frame name names is named walk =
-        subst (λ b. Walk l (map named_in (cond b (frame ∷ []) []) ++ names)) (sym is) (subst (λ n. Walk l (n ∷ names)) (sym named) walk)
+    a-name frame name names is named walk = grind (arith, named_in)
 
     abbrev new : Line
     new = lines.after c next l
@@ -152,9 +150,7 @@ module _ (c : Config) (one tei other its : ℕ) where
         none-begins other (lines.answer c other l) names (none-told (lines.answer c other l)) (turn-stays c other l) walk
 
 pub names-both : (c : Config) (t u : List Seen) → links_begun c (t ++ u) ≡ links_begun c t ++ links_begun c u
-names-both c t u =
-    ap (map named_in) (ap (filter (is_of_a_link c.side)) (flat_map-append frame_begun t u) ∙ filter-append (is_of_a_link c.side) (frames_begun t) (frames_begun u))
-    ∙ map-append named_in (filter (is_of_a_link c.side) (frames_begun t)) (filter (is_of_a_link c.side) (frames_begun u))
+names-both c t u = grind (arith, named_in, is_of_a_link, flat_map-append, filter-append, map-append)
 
 -- A run.
 module _ (number one tei other its : ℕ) where
@@ -177,9 +173,6 @@ module _ (number one tei other its : ℕ) where
   pub moment-walk : (card : Card) (e : Event) → IsSound card → IsAtLine card e → Meets card.config one tei other its (line_at number card) → NoneWaits card.config (line_at number card)
       → (b : Bool) → (e.line == number) ≡ b → (names : List LinkName) → WalkOf card (line_at number (after e card)) names
       → WalkOf card (line_at number card) (links_begun card.config (cond b (seen e.what (answer e card)) []) ++ names)
-  moment-walk card e s here h plain true same names walk =
-      let is = eqb-true e.line number same in
-      subst (λ n. WalkOf card (line_at n (after e card)) names → WalkOf card (line_at n card) (links_begun card.config (seen e.what (answer e card)) ++ names)) is
-      (own-walk card e s here (subst (λ n. Meets card.config one tei other its (line_at n card)) (sym is) h) (subst (λ n. NoneWaits card.config (line_at n card)) (sym is) plain) names) walk
+  moment-walk card e s here h plain true same names walk = grind (arith, eqb-true, links_begun, own-walk, NoneWaits)
   moment-walk card e s here h plain false away names walk =
       subst (λ (x : Line). WalkOf card x names) (apart card e number (λ same. true≢false (sym (eq-eqb e.line number (sym same)) ∙ away))) walk

@@ -1,5 +1,5 @@
 -- Unit data goes out in the order in which it was granted, over runs.
-use Rattle.laws_trace.proofs.Vocabulary.{◌≡◌, ℕ, ◌<◌, ◌≤◌, ◌==◌, ◌&&◌, Bool, true, false, cond, List, [], ◌∷◌, ◌++◌, drop, map, slice_get, Option, Some, None, option_map, refl, sym, ap, ◌∙◌, subst, inl, inr, append-nil, All, not, filter, get_or-replicate, map-append, All-nil, All-head, Ui, sapi_of, IsInOrder, Link, ControlFrame, Config, hears, expiry, request, next, NextFrame, Answer, gave, Line, UnitData, link_count, link_at, service_at, terms, fresh_line, management_sapi, Taken, taken, unit_frame, next_of, IsInRange, IsUnitData, IsOfLink, IsOwed, IsIdle, contents_of, units_asked, unit_asked, event-follows, event-happens, served, units-wait, fold, information_of, fresh_link as fresh, Event, told, line_after as after, answer, Request, IsSound, trace_frame_in as frame_in, Seen, seen_told, seen_granted, seen, frames_begun, IsFront, units_behind, units_left, is_ui, is_down, is_unit, waits, Down, LineUnit as Unit, trace_begun as begun, granted}
+use Rattle.laws_trace.proofs.Vocabulary.{arith, ◌≡◌, ℕ, ◌<◌, ◌≤◌, ◌==◌, ◌&&◌, Bool, true, false, cond, List, [], ◌∷◌, ◌++◌, drop, map, slice_get, Option, Some, None, option_map, refl, sym, ap, ◌∙◌, subst, inl, inr, append-nil, All, not, filter, get_or-replicate, map-append, All-nil, All-head, Ui, sapi_of, IsInOrder, Link, ControlFrame, Config, hears, expiry, request, next, NextFrame, Answer, gave, Line, UnitData, link_count, link_at, service_at, terms, fresh_line, management_sapi, Taken, taken, unit_frame, next_of, IsInRange, IsUnitData, IsOfLink, IsOwed, IsIdle, contents_of, units_asked, unit_asked, event-follows, event-happens, served, units-wait, fold, information_of, fresh_link as fresh, Event, line_after as after, answer, Request, IsSound, trace_frame_in as frame_in, Seen, seen_told, seen_granted, seen, frames_begun, IsFront, units_behind, units_left, is_ui, is_down, is_unit, waits, trace_begun as begun, granted}
 use Rattle.laws_trace.proofs.NoUi.{IsPlain, all-left}
 use Rattle.laws_trace.proofs.Reading.{other-frame, unit-is}
 use Rattle.laws_trace.specs.Units as units
@@ -65,40 +65,31 @@ joins c k l m t u h i = behind c (frames c k) (frames c l) (frames c m) t u h i
 
 -- Events but calls begin nothing, and what is granted waits.
 pub none-told : (a : Answer) → frames_begun (seen_told a) ≡ []
-none-told (told t) = refl
-none-told other = refl
+none-told a = grind arith
 
 pub none-requested : (r : Request) (a : Answer) → frames_begun (seen_granted r a ++ seen_told a) ≡ []
-none-requested r (told t) = refl
-none-requested r other = refl
+none-requested r a = grind arith
 
 -- what a request that is granted leaves of them
 left-is : (c : Config) (r : Request) (us : List UnitData) → map (unit_frame c) (units_behind r us ++ unit_asked r) ≡ left_by c r (map (unit_frame c) us)
-left-is c (Unit service tei contents) us = map-append (unit_frame c) us (record { service = service; tei = tei; contents = contents } ∷ [])
-left-is c Down us = refl
-left-is c other us = map-append (unit_frame c) us []
+left-is c r us = grind (arith, map-append)
 
 told-goes : (c : Config) (waiting left : List (List ℕ)) (a : Answer) → left ≡ waiting → Goes c waiting (seen_told a) left
 unfolding Goes
-told-goes c waiting left (told t) same = (waiting, refl, (waiting, refl, same))
-told-goes c waiting left other same = same
+told-goes c waiting left a same = grind arith
 
 request-goes : (c : Config) (before after : Line) (r : Request) (a : Answer) → after.units ≡ units_left r a before.units ++ units_asked (request r) a
     → Passes c before (seen_granted r a ++ seen_told a) after
 unfolding Goes
-request-goes c before after r (told t) is =
-    (frames c after, ap (map (unit_frame c)) is ∙ left-is c r before.units, (frames c after, refl, (frames c after, refl, refl)))
-request-goes c before after r other is = ap (map (unit_frame c)) (is ∙ append-nil before.units)
+request-goes c before after r a is = grind (arith, left-is, append-nil)
 
 -- A call begins the oldest unit data, or a frame that is none.
 pub given-frames : (o : Option NextFrame) → frames_begun (map begun (frame_in (gave o))) ≡ frame_in (gave o)
-given-frames None = refl
-given-frames (Some f) = refl
+given-frames o = grind arith
 
 -- the oldest goes
 first-goes : (c : Config) (us : List UnitData) (u : UnitData) → slice_get us 0 ≡ Some u → unit_frame c u ∷ map (unit_frame c) (drop 1 us) ≡ map (unit_frame c) us
-first-goes c [] u is = absurd (cc)
-first-goes c (v ∷ us) u is = let same : v ≡ u = cc in ap (λ x. unit_frame c x ∷ map (unit_frame c) us) (sym same)
+first-goes c us u is = grind arith
 
 pub first-of : (c : Config) (us : List UnitData) (u : UnitData) → slice_get us 0 ≡ Some u → All (IsUnitData c) us → u.tei ≤ 127
 first-of c [] u is h = absurd (cc)
@@ -164,25 +155,16 @@ left-is-waiting c [] waiting left same = sym same
 left-is-waiting c (s ∷ t) waiting left (kept, step, more) = ap (λ ws. fold (waits c) ws t) (one s step) ∙ left-is-waiting c t kept left more
   where
     asks : (r : Request) → waits c waiting (granted r) ≡ left_by c r waiting
-    asks (Unit service tei contents) = refl
-    asks Down = refl
-    asks other = sym (append-nil waiting)
+    asks r = grind (arith, append-nil)
 
     goes : (octets : List ℕ) (b : Bool) → Begun b waiting octets kept → cond b (drop 1 waiting) waiting ≡ kept
-    goes octets true is = ap (drop 1) is
-    goes octets false is = sym is
+    goes octets b is = grind arith
 
     one : (s : Seen) → Step c waiting s kept → waits c waiting s ≡ kept
-    one (begun octets) is = goes octets (is_unit c.side octets) is
-    one (granted r) is = asks r ∙ sym is
-    one other is = sym is
+    one s is = grind (arith, goes, asks)
 
 -- and of what begins the unit data is the first of them.
 pub begun-first : (c : Config) (fs : List (List ℕ)) (waiting left : List (List ℕ)) → Goes c waiting (map begun fs) left → IsFront (filter (is_unit c.side) fs) waiting
 unfolding Goes
 begun-first c [] waiting left same = record { rest = waiting; whole_is = refl }
-begun-first c (f ∷ fs) waiting left (kept, step, more) = go (is_unit c.side f) step (begun-first c fs kept left more)
-  where
-    go : (b : Bool) → Begun b waiting f kept → IsFront (filter (is_unit c.side) fs) kept → IsFront (cond b (f ∷ filter (is_unit c.side) fs) (filter (is_unit c.side) fs)) waiting
-    go true is x = record { rest = x.rest; whole_is = is ∙ ap (λ ws. f ∷ ws) x.whole_is }
-    go false same x = record { rest = x.rest; whole_is = sym same ∙ x.whole_is }
+begun-first c (f ∷ fs) waiting left (kept, step, more) = grind (arith, begun-first c fs kept left more)

@@ -1,5 +1,5 @@
 -- Unit data is told of TEIs on the line, or of the group.
-use Rattle.laws_trace.proofs.Vocabulary.{◌≡◌, ℕ, ◌<◌, ◌==◌, ◌&&◌, ◌||◌, not, Bool, true, false, cond, length, List, ◌∷◌, ◌++◌, Option, Some, None, is_some, refl, sym, ap, ◌∙◌, subst, eq-eqb, true≢false, ◌⊎◌, inl, inr, nat_le, Result, Ok, Err, list_any, option_map_or, and_parts, leb-true, Side, User, Network, ReadFault, Service, Parts, reading, same_service, Config, Answer, hears, group_tei, heard_side, Line, has_tei, state_of, has_management, IsInRange, line_at, at, has_lines, by_room, line_sound, notes_of, is_unit_of, eqb-true, IsSound, fresh, CardEvent as Event, card_answer as answer, after_all, AreAtLines, is_unit_for, result_ok, brought, frame_of, its_frame, is_for, managing_is_on as is_on, view_of, is_ui, or-true}
+use Rattle.laws_trace.proofs.Vocabulary.{arith, ◌≡◌, ℕ, ◌<◌, ◌==◌, ◌&&◌, ◌||◌, not, Bool, true, false, cond, length, List, ◌∷◌, ◌++◌, Option, Some, None, is_some, refl, sym, ap, ◌∙◌, subst, eq-eqb, true≢false, ◌⊎◌, inl, inr, nat_le, Result, Ok, Err, list_any, option_map_or, and_parts, leb-true, Side, User, ReadFault, Service, Parts, reading, same_service, Config, Answer, hears, group_tei, heard_side, Line, has_tei, state_of, has_management, IsInRange, line_at, at, has_lines, by_room, line_sound, notes_of, is_unit_of, eqb-true, IsSound, fresh, CardEvent as Event, card_answer as answer, after_all, AreAtLines, is_unit_for, result_ok, brought, frame_of, its_frame, is_for, managing_is_on as is_on, view_of, is_ui, or-true}
 use Rattle.model_bits.specs.Stream as stream
 use Rattle.model_line.specs.Event as line_event
 use Rattle.model_line.specs.Machine as lines
@@ -56,14 +56,11 @@ abbrev IsHere : Config → Service → ℕ → ℕ → List Event → Bool
 IsHere c service tei number before = is_on tei (view_of c service tei number before).teis || (not (has_management c.side) && tei == 127)
 
 user-so : (side : Side) → not (has_management side) ≡ true → side ≡ User
-user-so User is = refl
-user-so Network is = absurd (true≢false (sym is))
+user-so side is = grind arith
 
 here-so : (c : Config) (service : Service) (tei number : ℕ) (before : List Event) → IsThere c service tei number before → IsHere c service tei number before ≡ true
 here-so c service tei number before (inl on) = ap (λ b. b || (not (has_management c.side) && tei == 127)) on
-here-so c service tei number before (inr y) =
-    ap (λ side. is_on tei (view_of c service tei number before).teis || (not (has_management side) && tei == 127)) y.0
-    ∙ ap (λ b. is_on tei (view_of c service tei number before).teis || b) (eq-eqb tei 127 y.1) ∙ or-true (is_on tei (view_of c service tei number before).teis)
+here-so c service tei number before (inr y) = grind (arith, eq-eqb, or-true)
 
 pub unit-is : (c : Config) (before : List Event) (number : ℕ) → IsInRange c → AreAtLines (fresh c) before → number < c.lines → (service : Service) (tei : ℕ) (what : line_event.Event)
     (frame : Option Parts) → (list_any (is_unit_of service tei) (notes_of (answer (at number what) (after_all (fresh c) before))) ≡ true → option_map_or (λ (f : Parts). is_ui f.control) frame false ≡ true)
@@ -106,9 +103,7 @@ module _ (c : Config) (events : List Event) (number : ℕ) (ranged : IsInRange c
           (record { read = read; whose = for; control = y.0; size = leb-true (length f.info) c.n201 x.1; there = there y.1 })).0
 
   by-heard : (e : stream.Event) (behind : List Event) → events ≡ before ++ at number (hears e) ∷ behind → Comes (its_frame service tei (frame_of c e)) → Told (hears e)
-  by-heard (stream.frame octets) behind split some = by-frame octets behind split (reading (heard_side c) octets) refl some
-  by-heard other behind split some = absurd (true≢false (sym some))
+  by-heard e behind split some = grind (arith, by-frame)
 
   pub units-are : (what : line_event.Event) (behind : List Event) → events ≡ before ++ at number what ∷ behind → Comes (brought c service tei what) → Told what
-  units-are (hears e) behind split some = by-heard e behind split some
-  units-are other behind split some = absurd (true≢false (sym some))
+  units-are what behind split some = grind (arith, by-heard)

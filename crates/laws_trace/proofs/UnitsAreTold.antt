@@ -1,5 +1,5 @@
 -- Unit data that is heard is told: the law.
-use Rattle.laws_trace.proofs.Vocabulary.{◌≡◌, ℕ, ◌≤◌, ◌==◌, ◌&&◌, ◌||◌, Bool, true, false, cond, List, length, Option, Some, None, refl, sym, ap, ◌∙◌, subst, true≢false, ◌⊎◌, inl, inr, Ok, is_some, ◌∷◌, ◌++◌, list_any, option_or, le-leb, none-some, User, Ui, Service, Call, Packet, Parts, reading, sapi_of, service_of, in_ui_frame, in_sequence, within, event-unit, data-is, Terms, eligible_of, Link, notes-own, event-tells, Config, hears, Answer, heard_side, Line, link_of, place_in, state_of, terms, IsToGroup, IsInRange, line_at, at, notes_of, contents_in, is_unit_of, group-read, own-all, service-same, both-true, IsBy, card_answer as answer, eqb-true, Control, link_information_of as information_of, Event as LineEvent, IsSound, fresh, CardEvent as Event, after_all, AreAtLines, result_ok, is_for, Always, is_ui, link_told as told}
+use Rattle.laws_trace.proofs.Vocabulary.{arith, ◌≡◌, ℕ, ◌≤◌, ◌==◌, ◌&&◌, ◌||◌, Bool, true, false, List, length, Option, Some, None, refl, sym, ap, ◌∙◌, subst, true≢false, ◌⊎◌, inl, inr, Ok, is_some, ◌∷◌, ◌++◌, list_any, option_or, le-leb, none-some, User, Ui, Service, Parts, reading, sapi_of, service_of, in_ui_frame, in_sequence, within, event-unit, data-is, Terms, eligible_of, Link, notes-own, event-tells, Config, hears, Answer, heard_side, Line, link_of, place_in, state_of, terms, IsToGroup, IsInRange, line_at, at, notes_of, contents_in, is_unit_of, group-read, own-all, service-same, both-true, IsBy, card_answer as answer, eqb-true, Control, link_information_of as information_of, Event as LineEvent, IsSound, fresh, CardEvent as Event, after_all, AreAtLines, result_ok, is_for, Always, is_ui, link_told as told}
 use Rattle.model_bits.specs.Stream as stream
 use Rattle.model_link.specs.Events as link
 use Rattle.model_link.specs.Sound as link_sound
@@ -13,25 +13,15 @@ use Rattle.laws_trace.proofs.TimersOfEvent.{off-state}
 
 -- A UI is one.
 which-ui : (control : Control) → is_ui control ≡ true → (p : Bool) × (control ≡ Ui p)
-which-ui (Ui p) is = (p, refl)
-which-ui other is = absurd (true≢false (sym is))
+which-ui control is = grind arith
 
 its-service : (service : Service) → service_of (sapi_of service) ≡ Some service
-its-service Call = refl
-its-service Packet = refl
+its-service service = grind arith
 
 -- The event of the link is the frame.
 is-frame : (c : Config) (e : LineEvent) (a : Answer) (service : Service) (tei : ℕ) (f : Parts) → frame_by c e ≡ Some f → (le : link.Event)
     → IsBy c e a service tei le → le ≡ link.received (link.frame f)
-is-frame c e a service tei f is (link.received (link.frame g)) by =
-    let same : g ≡ f = cc (sym (brings-frame c e a service tei g by).0 ∙ is) in
-    ap (λ f. link.received (link.frame f)) same
-is-frame c e a service tei f is (link.received link.undefined) by = absurd (none-some f (sym (brings-none c e a service tei link.undefined by) ∙ is))
-is-frame c e a service tei f is (link.received link.wrong_size) by = absurd (none-some f (sym (brings-none c e a service tei link.wrong_size by) ∙ is))
-is-frame c e a service tei f is (link.received link.overlong) by = absurd (none-some f (sym (brings-none c e a service tei link.overlong by) ∙ is))
-is-frame c e a service tei f is (link.requested asked full) by = absurd (none-some f (sym (ap (λ e. frame_by c e) by.0) ∙ is))
-is-frame c e a service tei f is link.cleared by = absurd by
-is-frame c e a service tei f is other by = absurd (none-some f (sym (ap (λ e. frame_by c e) by) ∙ is))
+is-frame c e a service tei f is le by = grind (arith, brings-frame, none-some, brings-none, frame_by)
 
 abbrev Tells : Service → ℕ → List ℕ → Answer → Type 0
 Tells service tei info a = (list_any (is_unit_of service tei) (notes_of a) ≡ true) × (contents_in a ≡ Some info)
@@ -75,9 +65,7 @@ module _ (c : Config) (ranged : IsInRange c) (l : Line) (s : IsSound c l) (servi
       ∙ ap (λ control. in_sequence k.r (eligible_of t k (information_of control f.info))) (which-ui f.control ui).1
 
   due : within c.n201 (in_ui_frame f.control f.info) ≡ Some f.info
-  due =
-      ap (λ control. within c.n201 (in_ui_frame control f.info)) (which-ui f.control ui).1
-      ∙ ap (λ b. cond b (Some f.info) None) (le-leb (length f.info) c.n201 size)
+  due = grind (arith, which-ui, le-leb)
 
   one : (x : HasOne c service tei e l (lines.after c e l) (lines.answer c e l)) → Tells service tei f.info (lines.answer c e l)
   one x =

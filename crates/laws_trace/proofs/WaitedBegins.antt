@@ -1,5 +1,5 @@
 -- What waited on a link begins, where a line is only called for its next frame, as often as the configuration says: the law.
-use Rattle.laws_trace.proofs.Vocabulary.{◌≡◌, ℕ, ◌<◌, ◌≤◌, cond, List, [], ◌∷◌, ◌++◌, Some, option_map, refl, sym, ap, ◌∙◌, subst, inl, arith, eq-eqb, All, flat_map-append, ControlFrame, Config, next, gave, taken, next_of, frames_to_go, most_frames, control_text, HasNothing, to-go-few, Card, line_at, at, moments, fresh_is_sound, AreTakesAt, takes_at, IsTakenAmong, IsWaiting, line-sound, card-drains, card-waits, all-left, all-right, config-stays, fresh, CardEvent as Event, after, card_answer as answer, after_all, IsAtLine, AreAtLines, CardIsSound as IsSound, always_sound, Always, trace_frame_in as frame_in, trace, seen, frames_begun, IsAmong, IsInRange, frame_begun, seen_in}
+use Rattle.laws_trace.proofs.Vocabulary.{◌≡◌, ℕ, ◌<◌, ◌≤◌, List, [], ◌∷◌, ◌++◌, Some, option_map, refl, sym, ap, ◌∙◌, subst, arith, eq-eqb, All, flat_map-append, ControlFrame, Config, next, gave, taken, next_of, frames_to_go, most_frames, control_text, HasNothing, to-go-few, Card, line_at, at, moments, fresh_is_sound, AreTakesAt, takes_at, IsTakenAmong, IsWaiting, line-sound, card-drains, card-waits, all-left, all-right, config-stays, fresh, CardEvent as Event, after, card_answer as answer, after_all, IsAtLine, AreAtLines, CardIsSound as IsSound, always_sound, Always, trace_frame_in as frame_in, trace, frames_begun, IsAmong, IsInRange}
 use Rattle.model_line.specs.Machine as lines
 use Rattle.laws_trace.specs.WaitedBegins.{AllThatWaitedBegins}
 use Rattle.laws_trace.proofs.Units.{given-frames}
@@ -18,20 +18,12 @@ moments-both card (e ∷ front) behind = ap (λ ms. record { card = card; event 
 
 frames-both : (number : ℕ) (card : Card) (front behind : List Event)
     → frames_begun (trace number (moments card (front ++ behind))) ≡ frames_begun (trace number (moments card front)) ++ frames_begun (trace number (moments (after_all card front) behind))
-frames-both number card front behind =
-    ap (λ ms. frames_begun (trace number ms)) (moments-both card front behind)
-    ∙ ap frames_begun (flat_map-append (seen_in number) (moments card front) (moments (after_all card front) behind))
-    ∙ flat_map-append frame_begun (trace number (moments card front)) (trace number (moments (after_all card front) behind))
+frames-both number card front behind = grind (arith, moments-both, flat_map-append)
 
 begun-here : (number : ℕ) (card : Card) (back : List Event) (frame : List ℕ) → frame_in (gave (option_map next_of (taken card.config (line_at number card)))) ≡ frame ∷ []
     → frames_begun (trace number (moments card (at number next ∷ back))) ≡ frame ∷ frames_begun (trace number (moments (after (at number next) card) back))
 unfolding moments lines.answer lines.takes_slot
-begun-here number card back frame is =
-    let rest = trace number (moments (after (at number next) card) back) in
-    let own = seen next (answer (at number next) card) in
-    ap (λ b. frames_begun (cond b own [] ++ rest)) (eq-eqb number number refl)
-    ∙ flat_map-append frame_begun own rest
-    ∙ ap (λ fs. fs ++ frames_begun rest) (given-frames (option_map next_of (taken card.config (line_at number card))) ∙ is)
+begun-here number card back frame is = grind (arith, eq-eqb, flat_map-append, given-frames, option_map)
 
 begun-is-seen : (number : ℕ) (card : Card) (events : List Event) (frame : List ℕ) → IsTakenAmong card number events frame → IsAmong frame (frames_begun (trace number (moments card events)))
 begun-is-seen number card events frame x =
@@ -73,25 +65,15 @@ module _ (c : Config) (events : List Event) (number : ℕ) (ranged : IsInRange c
   later = subst (λ (c : Config). All (λ (e : Event). e.line < c.lines) calls) (sym kept) (all-right (IsAtLine (fresh c)) before calls these)
 
   pub short : frames_to_go card.config (line_at number card) ≤ takes_at number calls
-  short =
-      let most : frames_to_go card.config (line_at number card) ≤ most_frames card.config = to-go-few card.config (line_at number card) (line-sound card number sound few) in
-      let many : most_frames card.config ≤ takes_at number calls = subst (λ c. most_frames c ≤ takes_at number calls) (sym kept) enough in
-      omega (arith, most, many)
+  short = grind (arith, to-go-few, line-sound, sound, few, kept)
 
   -- nothing that may go is left
   pub drained : HasNothing c (line_at number (after_all (fresh c) events))
-  drained =
-      let last : after_all (fresh c) events ≡ after_all card calls = ap (after_all (fresh c)) split ∙ after-both (fresh c) before calls in
-      let nothing = card-drains card number calls sound few later only short in
-      subst (λ x. HasNothing c (line_at number x)) (sym last) (subst (λ d. HasNothing d (line_at number (after_all card calls))) kept nothing)
+  drained = grind (arith, after-both, card-drains, sound, few, later, short, kept)
 
   pub waited : (link tei : ℕ) (front : List ControlFrame) (f : ControlFrame) (behind : List ControlFrame) → IsWaiting c (line_at number card) link tei front f behind
       → IsAmong (control_text c link tei f) (frames_begun (trace number (moments card calls)))
-  waited link tei front f behind h =
-      begun-is-seen number card calls (control_text c link tei f)
-      (subst (λ d. IsTakenAmong card number calls (control_text d link tei f)) kept
-      (card-waits card number sound few calls later only link tei front f behind (subst (λ d. IsWaiting d (line_at number card) link tei front f behind) (sym kept) h) (inl short)))
+  waited link tei front f behind h = grind (arith, begun-is-seen, kept, card-waits, sound, few, later, short)
 
 pub all-that-waited-begins : Always AllThatWaitedBegins
-all-that-waited-begins c events number ranged all within before calls split only enough link tei front f behind h =
-    waited c events number ranged all within before calls split only enough link tei front f behind h
+all-that-waited-begins c events number ranged all within before calls split only enough link tei front f behind h = grind (arith, waited)

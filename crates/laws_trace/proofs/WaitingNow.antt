@@ -1,5 +1,5 @@
 -- The control frames of a link that wait are those that an observer has.
-use Rattle.laws_trace.proofs.Vocabulary.{◌≡◌, ℕ, ◌<◌, ◌-◌, ◌==◌, ◌&&◌, false, cond, not, List, [], ◌++◌, drop, take, length, Some, refl, sym, ap, ◌∙◌, subst, eq-eqb, fold, Service, ControlFrame, Link, Config, Line, link_of, place_in, lost_in, IsInRange, at, moments, deactivates, fresh, CardEvent as Event, Moment, after_all, AreAtLines, Observed, View, views, view_of, moment_of, view_behind, put_in, outgoing_of, seen, seen_in, trace_of, true, Bool, true≢false, All, ◌∷◌, map, flat_map, filter, Option, None, option_to_list, inl, inr, append-nil, Information, Ui, place_of-is, given-in-order, IsInOrder, All-head, Refusal, Terms, Given, IsGiven, given_is_frame, Effect, of_request, request, next, Answer, unless_refused_told, is_information, terms, terms_in_range, PoolFull, and_parts, line_at, is_full, by_room, Control, refusal, IsSound, line_frame_of as frame_of, Card, card_answer as answer, is_frame_of, trace_frame_in as frame_in, is_ui, drop-nil, offer, link_after as after, given}
+use Rattle.laws_trace.proofs.Vocabulary.{arith, ◌≡◌, ℕ, ◌<◌, ◌-◌, ◌==◌, ◌&&◌, false, cond, not, List, [], ◌++◌, drop, take, length, Some, refl, sym, ap, ◌∙◌, subst, eq-eqb, fold, Service, ControlFrame, Link, Config, Line, link_of, place_in, lost_in, IsInRange, at, moments, deactivates, fresh, CardEvent as Event, Moment, after_all, AreAtLines, Observed, View, views, view_of, moment_of, view_behind, put_in, outgoing_of, seen, seen_in, trace_of, true, Bool, All, ◌∷◌, map, flat_map, filter, Option, None, option_to_list, inl, inr, append-nil, place_of-is, given-in-order, IsInOrder, All-head, Refusal, Terms, Given, IsGiven, given_is_frame, Effect, next, Answer, unless_refused_told, is_information, terms, terms_in_range, PoolFull, and_parts, line_at, is_full, by_room, Control, IsSound, line_frame_of as frame_of, Card, card_answer as answer, is_frame_of, trace_frame_in as frame_in, is_ui, drop-nil, offer, link_after as after, given}
 use Rattle.model_line.specs.Event as line_event
 use Rattle.laws_trace.specs.Outgoing as outgoing
 use Rattle.laws_trace.proofs.ControlFrames.{moment}
@@ -36,9 +36,7 @@ use Rattle.laws_trace.proofs.Plain.{own-plain}
 -- Where control frames of a link wait, each frame of it that begins is one of them.
 -- What is neither an I-frame nor a UI is a control frame.
 single : (command : Bool) (control : Control) → is_information control ≡ false → is_ui control ≡ false → length (control_in command control) ≡ 1
-single command (Information ns nr p) bare plain = absurd (true≢false bare)
-single command (Ui p) bare plain = absurd (true≢false plain)
-single command other bare plain = refl
+single command control bare plain = grind arith
 
 module _ (c : Config) (events : List Event) (number : ℕ) (ranged : IsInRange c) (all : AreAtLines (fresh c) events) (within : number < c.lines) (service : Service) (tei : ℕ) where
   abbrev card : Card
@@ -61,8 +59,7 @@ module _ (c : Config) (events : List Event) (number : ℕ) (ranged : IsInRange c
   sound = line-at-end c events number ranged all within
 
   empty : own.waiting ≡ [] → (n m : ℕ) → drop n (waits service tei line) ≡ drop m (waits service tei line)
-  empty none n m =
-      ap (λ ws. drop n (controls ws)) none ∙ drop-nil n ∙ sym (ap (λ ws. drop m (controls ws)) none ∙ drop-nil m)
+  empty none n m = grind (arith, controls, drop-nil)
 
   module _ (place : ℕ) (on : place_in line tei ≡ Some place) where
     safe : link_sound.IsSound t own
@@ -100,8 +97,7 @@ module _ (c : Config) (events : List Event) (number : ℕ) (ranged : IsInRange c
 
   -- An event that is no call begins none.
   none-given : (o : Option Refusal) (x : Effect) → frame_in (unless_refused_told o x) ≡ []
-  none-given None x = refl
-  none-given (Some why) x = refl
+  none-given o x = grind arith
 
   abbrev Begun : line_event.Event → Answer → Type 0
   Begun what a =
@@ -109,17 +105,14 @@ module _ (c : Config) (events : List Event) (number : ℕ) (ranged : IsInRange c
 
   any-leaves : (what : line_event.Event) → Leaves (frame_in (lines.answer c what line))
   unfolding lines.answer
-  any-leaves (request r) = subst Leaves (sym (none-given (refusal c false r line) (of_request c r line))) refl
-  any-leaves next = line-leaves
-  any-leaves other = refl
+  any-leaves what = grind (arith, none-given, line-leaves)
 
   line-begun : (what : line_event.Event) → Begun what (lines.answer c what line)
   line-begun what = any-leaves what ∙ ap (λ xs. drop (length xs) (waits service tei line)) (sym (begun-is c service tei what line))
 
   full-begun : (what : line_event.Event) → lines.takes_slot c what line ≡ true → Begun what (line_event.refused PoolFull)
   unfolding lines.takes_slot
-  full-begun (request r) takes = refl
-  full-begun other takes = absurd (true≢false (sym takes))
+  full-begun what takes = grind arith
 
   pub begun-leaves : (what : line_event.Event) → Begun what (answer (at number what) card)
   begun-leaves what =

@@ -1,20 +1,9 @@
 -- As octets a frame that the grammar has is one that it has, with the same address and control field.
-use Rattle.laws_trace.proofs.Vocabulary.{◌≡◌, ℕ, ◌%◌, ◌<◌, Bool, true, false, cond, List, [], ◌∷◌, ◌++◌, length, map, refl, sym, ap, ◌∙◌, subst, arith, IsTrue, All, filter, map-append, All-head, All-tail, AreOctets, Address, Side, Parts, Spells, row, spelling, takes, reading-again, Config, head, as_octets, Control, head_of, IsSpelled, is_unit}
+use Rattle.laws_trace.proofs.Vocabulary.{◌≡◌, ℕ, ◌%◌, ◌<◌, cond, List, [], ◌∷◌, ◌++◌, map, refl, sym, ap, ◌∙◌, arith, All, filter, map-append, All-head, All-tail, Address, Side, Parts, Spells, spelling, reading-again, Config, head, as_octets, Control, head_of, IsSpelled, is_unit}
+use Rattle.model_card.proofs.OfPorts.AsOctets.{as_many, exact}
 use Rattle.laws_trace.proofs.Reading.{carries_unit}
 
--- octets are as they were
-exact : (numbers : List ℕ) → AreOctets numbers → as_octets numbers ≡ numbers
-exact [] h = refl
-exact (x ∷ xs) h =
-    let small : x < 256 = All-head (λ octet. octet < 256) x xs h in
-    let same : x % 256 ≡ x = omega (arith, small) in
-    ap (λ n. n ∷ as_octets xs) same ∙ ap (λ ns. x ∷ ns) (exact xs (All-tail (λ octet. octet < 256) x xs h))
-
-as_many : (numbers : List ℕ) → length (as_octets numbers) ≡ length numbers
-as_many [] = refl
-as_many (x ∷ xs) = let rest = as_many xs in omega (arith, rest)
-
--- so a head is
+-- A head is as it was.
 sent : (side : Side) (a : Address) (c : Control) (info : List ℕ) → a.sapi < 64 → a.tei < 128
     → as_octets (spelling side (record { address = a; control = c; info = info })) ≡ spelling side (record { address = a; control = c; info = as_octets info })
 sent side a c info sapi tei =
@@ -24,15 +13,7 @@ abbrev parts_sent : Parts → Parts
 parts_sent parts = record parts { info = as_octets parts.info }
 
 still_spells : (side : Side) (parts : Parts) (octets : List ℕ) → Spells side parts octets → Spells side (parts_sent parts) (as_octets octets)
-still_spells side parts octets h = record {
-  is_frame = record {
-    sapi = h.is_frame.sapi;
-    tei = h.is_frame.tei;
-    kind = h.is_frame.kind;
-    size = subst (λ n. IsTrue (takes (row parts.control).info n)) (sym (as_many parts.info)) h.is_frame.size;
-  };
-  octets_are = ap as_octets h.octets_are ∙ sent side parts.address parts.control parts.info h.is_frame.sapi h.is_frame.tei;
-}
+still_spells side parts octets h = grind (arith, as_many, sent)
 
 pub still_spelled : (c : Config) (octets : List ℕ) → IsSpelled c octets → IsSpelled c (as_octets octets)
 still_spelled c octets (parts, spells, served) = (parts_sent parts, still_spells c.side parts octets spells, served)
@@ -45,11 +26,7 @@ same_kind c octets (parts, spells, served) =
 
 one_more : (c : Config) (frame : List ℕ) → is_unit c.side (as_octets frame) ≡ is_unit c.side frame → (more kept : List (List ℕ)) → more ≡ map as_octets kept
     → cond (is_unit c.side (as_octets frame)) (as_octets frame ∷ more) more ≡ map as_octets (cond (is_unit c.side frame) (frame ∷ kept) kept)
-one_more c frame same more kept rest = ap (λ b. cond b (as_octets frame ∷ more) more) same ∙ go (is_unit c.side frame)
-  where
-    go : (b : Bool) → cond b (as_octets frame ∷ more) more ≡ map as_octets (cond b (frame ∷ kept) kept)
-    go true = ap (λ fs. as_octets frame ∷ fs) rest
-    go false = rest
+one_more c frame same more kept rest = grind arith
 
 pub same_units : (c : Config) (frames : List (List ℕ)) → All (IsSpelled c) frames → filter (is_unit c.side) (map as_octets frames) ≡ map as_octets (filter (is_unit c.side) frames)
 same_units c [] h = refl

@@ -1,5 +1,5 @@
 -- Where a line was only pulled, as often as the configuration says, the latest call for its next frame gave none.
-use Rattle.laws_trace.proofs.Vocabulary.{◌≡◌, ℕ, zero, suc, ◌+◌, ◌<◌, ◌≤◌, ◌==◌, Bool, true, false, cond, List, [], ◌∷◌, ◌++◌, Option, None, option_map, refl, sym, ap, ◌∙◌, subst, arith, append_assoc, eq-eqb, All, option_to_list, flat_map-append, All-nil, All-cons, All-head, All-tail, Config, NextFrame, taken, next_of, most_frames, HasNothing, Card, line_at, AreTakesAt, takes_at, card-idles, all-left, all-right, config-stays, OctetCard, port_at, answer_of_call, call_answered, calls_answered, moments_meant, pulls_at, pulls_behind, asked_at, refines, pulls_are_takes, fresh_octets_sound, moments-append, eqb-true, answer as line_answer, takes_slot, moments as frame_moments, after_all as frames_after, ports_fresh as fresh, ports_after as after, meant, PortsEvent as Event, PortsAreAtLines as AreAtLines, ports_after_all as after_all, meant_all, EndsInPulls, gave, next, IsInRange, config_stays}
+use Rattle.laws_trace.proofs.Vocabulary.{◌≡◌, ℕ, zero, suc, ◌+◌, ◌<◌, ◌≤◌, ◌==◌, Bool, true, false, cond, List, [], ◌∷◌, ◌++◌, Option, None, option_map, refl, sym, ap, ◌∙◌, subst, arith, append_assoc, eq-eqb, All, flat_map-append, All-nil, All-cons, All-head, All-tail, Config, NextFrame, taken, next_of, most_frames, HasNothing, Card, line_at, AreTakesAt, takes_at, card-idles, all-left, all-right, config-stays, OctetCard, port_at, calls_answered, moments_meant, pulls_at, pulls_behind, asked_at, refines, pulls_are_takes, fresh_octets_sound, moments-append, eqb-true, answer as line_answer, takes_slot, moments as frame_moments, after_all as frames_after, ports_fresh as fresh, ports_after as after, PortsEvent as Event, PortsAreAtLines as AreAtLines, ports_after_all as after_all, meant_all, EndsInPulls, gave, next, IsInRange, config_stays}
 use Rattle.model_card.specs.Card as cards
 use Rattle.model_card.specs.Event as frames
 use Rattle.model_card.specs.Machine as machine
@@ -15,10 +15,7 @@ use Rattle.model_card.proofs.OfPorts.Sound.{always_sound}
 meant_both : (m : OctetCard) (front behind : List Event) → meant_all m (front ++ behind) ≡ meant_all m front ++ meant_all (after_all m front) behind
 unfolding after_all meant_all
 meant_both m [] behind = refl
-meant_both m (e ∷ front) behind =
-    let now = option_to_list (meant e m) in
-    ap (λ fs. now ++ fs) (meant_both (after e m) front behind)
-    ∙ sym (append_assoc now (meant_all (after e m) front) (meant_all (after_all (after e m) front) behind))
+meant_both m (e ∷ front) behind = grind (arith, meant_both (after e m) front behind, append_assoc)
 
 -- both count calls alike
 same_takes : (number : ℕ) (fs : List frames.Event) → pulls.takes_at number fs ≡ takes_at number fs
@@ -68,8 +65,7 @@ behind_one number f fs h x =
     }
   where
     go : (b : Bool) → takes_at number fs ≡ 1 + takes_at number x.front → cond b 1 0 + takes_at number fs ≡ 1 + (cond b 1 0 + takes_at number x.front)
-    go true counted = omega (arith, counted)
-    go false counted = omega (arith, counted)
+    go b counted = grind arith
 
 latest : (number : ℕ) (fs : List frames.Event) → AreTakesAt number fs → 0 < takes_at number fs → IsLatest number fs
 latest number [] only some = absurd (omega (arith, some))
@@ -82,20 +78,15 @@ latest number (f ∷ fs) only some = by_count (takes_at number fs) refl (latest 
 -- ---- what calls are answered with
 
 is_off : (b : Bool) (n : ℕ) → cond b 1 0 + n ≡ 0 → b ≡ false
-is_off true n h = let more : 1 + n ≡ 0 = h in absurd (omega (arith, more))
-is_off false n h = refl
+is_off b n h = grind arith
 
 none_left : (b : Bool) (n : ℕ) → cond b 1 0 + n ≡ 0 → n ≡ 0
-none_left true n h = let more : 1 + n ≡ 0 = h in absurd (omega (arith, more))
-none_left false n h = let less : 0 + n ≡ 0 = h in omega (arith, less)
+none_left b n h = grind arith
 
 none_behind : (number : ℕ) (card : Card) (fs : List frames.Event) → takes_at number fs ≡ 0 → calls_answered number (runs.moments card fs) ≡ []
 unfolding frame_moments
 none_behind number card [] none = refl
-none_behind number card (f ∷ fs) none =
-    let rest = calls_answered number (runs.moments (machine.after f card) fs) in
-    ap (λ b. cond b (answer_of_call (machine.answer f card)) [] ++ rest) (is_off (f.line == number) (takes_at number fs) none)
-    ∙ none_behind number (machine.after f card) fs (none_left (f.line == number) (takes_at number fs) none)
+none_behind number card (f ∷ fs) none = grind (arith, none_behind number (machine.after f card) fs, is_off, none_left)
 
 gives_none : (card : Card) (number : ℕ) → taken card.config (line_at number card) ≡ None → asked_at card number next ≡ gave None
 unfolding line_answer takes_slot
@@ -104,21 +95,12 @@ gives_none card number none = ap (λ o. gave (option_map next_of o)) none
 call_gives_none : (number : ℕ) (card : Card) (back : List frames.Event) → taken card.config (line_at number card) ≡ None → takes_at number back ≡ 0
     → calls_answered number (runs.moments card (frames.at number next ∷ back)) ≡ None ∷ []
 unfolding frame_moments
-call_gives_none number card back nothing none =
-    let rest = calls_answered number (runs.moments (machine.after (frames.at number next) card) back) in
-    ap (λ b. cond b (answer_of_call (asked_at card number next)) [] ++ rest) (eq-eqb number number refl)
-    ∙ ap (λ a. answer_of_call a ++ rest) (gives_none card number nothing)
-    ∙ ap (λ os. None ∷ os) (none_behind number (machine.after (frames.at number next) card) back none)
+call_gives_none number card back nothing none = grind (arith, asked_at, eq-eqb, gives_none, none_behind)
 
 gave_none : (number : ℕ) (card : Card) (front back : List frames.Event) → let there = runs.after_all card front in
     taken there.config (line_at number there) ≡ None → takes_at number back ≡ 0
     → calls_answered number (runs.moments card (front ++ frames.at number next ∷ back)) ≡ calls_answered number (runs.moments card front) ++ None ∷ []
-gave_none number card front back nothing none =
-    let there = runs.after_all card front in
-    let rest = frames.at number next ∷ back in
-    ap (calls_answered number) (moments-append card front rest)
-    ∙ flat_map-append (call_answered number) (runs.moments card front) (runs.moments there rest)
-    ∙ ap (λ os. calls_answered number (runs.moments card front) ++ os) (call_gives_none number there back nothing none)
+gave_none number card front back nothing none = grind (arith, moments-append, flat_map-append, call_gives_none)
 
 -- ---- of a line that was only pulled
 

@@ -1,5 +1,5 @@
 -- What a receiver hears of a line are frames, and in the end all of them: the laws.
-use Rattle.laws_trace.proofs.Vocabulary.{◌≡◌, ℕ, ◌<◌, List, [], ◌∷◌, map, sym, subst, All, All-nil, All-cons, All-head, All-tail, AreOctets, Config, IsInRange, all-left, as_octets, octets_given, frames_to_hear, OfEachLine, meant_all, refines, given_frames_are_heard, heard_frames_are_octets, IsSpelled, contents_given, Seen, trace_of, frames_begun, ports_fresh as fresh, PortsEvent as Event, PortsAreAtLines as AreAtLines}
+use Rattle.laws_trace.proofs.Vocabulary.{arith, ◌≡◌, ℕ, ◌<◌, List, [], ◌∷◌, map, subst, All, All-nil, All-cons, All-head, All-tail, Config, IsInRange, all-left, as_octets, octets_given, frames_to_hear, OfEachLine, meant_all, refines, given_frames_are_heard, heard_frames_are_octets, IsSpelled, Seen, trace_of, frames_begun, ports_fresh as fresh, PortsEvent as Event, PortsAreAtLines as AreAtLines}
 use Rattle.model_bits.specs.Stream as stream
 use Rattle.model_card.specs.Card as cards
 use Rattle.model_card.specs.Event as frames
@@ -40,10 +40,7 @@ module _ (c : Config) (events : List Event) (number : ℕ) (ranged : IsInRange c
       (subst (All (IsReadable c)) out.heard (all_readable c (frames_to_hear c events number) spelled))
 
   pub are_octets : GivenAreOctets c events number
-  are_octets granted =
-      let given = subst (λ rs. All AreOctets (map contents_given rs)) (sym (requests_are number (fresh c) events)) granted in
-      let heard = trace_hears number (cards.fresh c) meaning (heard_frames_are_octets (fresh c) events) in
-      subst (All AreOctets) begun (frames-are-octets c meaning number ranged lines within (gives t heard given))
+  are_octets granted = grind (arith, requests_are, trace_hears, heard_frames_are_octets, begun, frames-are-octets, lines, gives)
 
 pub only-frames-are-heard : OfEachLine OnlyFramesAreHeard
 only-frames-are-heard c events number ranged all within = readable c events number ranged all within

@@ -1,13 +1,11 @@
 -- What an observer sees of the events of frames that events of octets mean, in the words of ports.
-use Rattle.laws_trace.proofs.Vocabulary.{◌≡◌, ℕ, ◌==◌, Bool, true, false, cond, List, [], ◌∷◌, ◌++◌, map, Option, None, Some, option_map, refl, sym, ap, ◌∙◌, append-nil, All, flat_map, option_to_list, flat_map-append, All-nil, All-cons, All-head, All-tail, All-append, AreOctets, PoolFull, Card, OctetCard, port_at, answer_to, frame_moment, meant_in, frames_given, given_of, HearsOctets, Port, gained, given_in, is_due, answer_of, meant_all, asked_at, gives_at_next, neither, refines, answer as line_answer, Request, moments as frame_moments, contents_given, GivesOctets, Seen, seen, seen_told, seen_granted, trace_frame_in as frame_in, seen_in, trace, frames_begun, ports_after as after, meant, PortsEvent as Event, if_granted, request_granted, requests_of, unless_refused_told, HasOctets, trace_begun as begun, frame_begun, granted, heard, lost, trace_noted as noted, octets_of}
-use Rattle.model_bits.specs.Stream as stream
+use Rattle.laws_trace.proofs.Vocabulary.{arith, ◌≡◌, ℕ, ◌==◌, Bool, cond, List, [], ◌∷◌, ◌++◌, map, Option, None, option_map, refl, sym, ap, ◌∙◌, append-nil, All, flat_map, option_to_list, flat_map-append, All-nil, All-cons, All-head, All-tail, All-append, AreOctets, PoolFull, Card, OctetCard, port_at, answer_to, frame_moment, meant_in, frames_given, given_of, HearsOctets, Port, given_in, answer_of, meant_all, asked_at, gives_at_next, refines, answer as line_answer, Request, moments as frame_moments, contents_given, GivesOctets, Seen, seen, seen_told, seen_granted, trace_frame_in as frame_in, seen_in, trace, frames_begun, ports_after as after, meant, PortsEvent as Event, if_granted, request_granted, requests_of, unless_refused_told, HasOctets, trace_begun as begun, granted, heard, lost, trace_noted as noted, octets_of}
 use Rattle.model_line.specs.Event as line
 use Rattle.model_card.specs.Event as frames
 use Rattle.model_card.specs.Machine as machine
 use Rattle.model_card.specs.Run as runs
 use Rattle.laws_trace.proofs.Units.{none-told, none-requested}
 unfoldable use Rattle.model_card.specs.ports.Card.{answer}
-use Rattle.model_card.specs.ports.HeardOctets as comes
 use Rattle.model_card.specs.ports.Port as port
 use Rattle.model_card.specs.ports.Run.{Moment}
 unfoldable use Rattle.model_card.specs.ports.Run.{moments}
@@ -15,9 +13,7 @@ unfoldable use Rattle.model_card.specs.ports.Run.{moments}
 -- ---- the frames that begin are those that the card of frames gives
 
 by_call : (a : line.Answer) → frames_begun (map begun (frame_in a)) ≡ option_to_list (option_map octets_of (given_in a))
-by_call (line.gave None) = refl
-by_call (line.gave (Some next)) = refl
-by_call other = refl
+by_call a = grind arith
 
 by_none : (t : List Seen) (a : line.Answer) → frames_begun t ≡ [] → given_in a ≡ None → frames_begun t ≡ option_to_list (option_map octets_of (given_in a))
 by_none t a none given = none ∙ ap (λ o. option_to_list (option_map octets_of o)) (sym given)
@@ -35,21 +31,12 @@ abbrev there : Card → frames.Event → runs.Moment
 there card f = record { card = card; event = f; answer = machine.answer f card }
 
 by_moment : (number : ℕ) (card : Card) (f : frames.Event) → frames_begun (seen_in number (there card f)) ≡ given_of number (there card f)
-by_moment number card f = go (f.line == number)
-  where
-    go : (b : Bool) → let a = machine.answer f card in
-        frames_begun (cond b (seen f.what a) []) ≡ cond b (option_to_list (option_map octets_of (given_in a))) []
-    go true = by_event card f.line f.what
-    go false = refl
+by_moment number card f = grind (arith, option_map, by_event)
 
 pub begun_given : (number : ℕ) (card : Card) (fs : List frames.Event) → frames_begun (trace number (runs.moments card fs)) ≡ frames_given number (runs.moments card fs)
 unfolding frame_moments
 begun_given number card [] = refl
-begun_given number card (f ∷ fs) =
-    let rest = trace number (runs.moments (machine.after f card) fs) in
-    flat_map-append frame_begun (seen_in number (there card f)) rest
-    ∙ ap (λ given. given ++ frames_begun rest) (by_moment number card f)
-    ∙ ap (λ given. given_of number (there card f) ++ given) (begun_given number (machine.after f card) fs)
+begun_given number card (f ∷ fs) = grind (arith, begun_given number (machine.after f card) fs, flat_map-append, by_moment)
 
 -- ---- the requests that are seen to be granted are those whose answers grant them
 
@@ -68,45 +55,25 @@ in_trace number [] = refl
 in_trace number (m ∷ ms) = flat_map-append request_seen (seen_in number m) (trace number ms) ∙ ap (λ rs. seen_at number m ++ rs) (in_trace number ms)
 
 none_asked : (a : line.Answer) → requests_seen (seen_told a) ≡ []
-none_asked (line.told t) = refl
-none_asked other = refl
-
-none_called : (given : List (List ℕ)) → requests_seen (map begun given) ≡ []
-none_called [] = refl
-none_called (octets ∷ given) = none_called given
+none_asked a = grind arith
 
 -- a request is answered by what it is told, or refused
 by_grant : (r : Request) (full : Bool) (o : Option _) (outcome : _) → let a = cond full (line.refused PoolFull) (unless_refused_told o outcome) in
     requests_seen (seen_granted r a ++ seen_told a) ≡ if_granted r (answer_of a)
-by_grant r true o outcome = refl
-by_grant r false None outcome = refl
-by_grant r false (Some why) outcome = refl
+by_grant r full o outcome = grind arith
 
 by_request : (card : Card) (n : ℕ) (r : Request) → let a = asked_at card n (line.request r) in requests_seen (seen_granted r a ++ seen_told a) ≡ if_granted r (answer_of a)
 unfolding line_answer
 by_request card n r = by_grant r (machine.wants_room (frames.at n (line.request r)) card) _ _
 
 at_line : (b : Bool) (t : List Seen) (rs : List Request) → requests_seen t ≡ rs → requests_seen (cond b t []) ++ [] ≡ cond b rs []
-at_line true t rs h = append-nil (requests_seen t) ∙ h
-at_line false t rs h = refl
+at_line b t rs h = grind (arith, append-nil)
 
 -- what one event of octets means
 by_meaning : (number n n201 : ℕ) (m : OctetCard) (what : port.Event) (p : Port) → let o = option_map (frames.at n) (port.meant n201 what p) in
     flat_map (seen_at number) (option_to_list (option_map (frame_moment m) o))
     ≡ cond (n == number) (request_granted what (port.answer what (option_map (answer_to m.card) o) p)) []
-by_meaning number n n201 m (port.octet value) p = go (gained n201 p.received value)
-  where
-    go : (o : Option stream.Event) → flat_map (seen_at number) (option_to_list (option_map (frame_moment m) (option_map (frames.at n) (option_map line.hears o)))) ≡ cond (n == number) [] []
-    go None = neither (n == number)
-    go (Some e) = let a = asked_at m.card n (line.hears e) in at_line (n == number) (seen (line.hears e) a) [] (none_asked a)
-by_meaning number n n201 m (port.expiry timer) p = let a = asked_at m.card n (line.expiry timer) in at_line (n == number) (seen_told a) [] (none_asked a)
-by_meaning number n n201 m (port.request r) p =
-    let a = asked_at m.card n (line.request r) in at_line (n == number) (seen_granted r a ++ seen_told a) (if_granted r (answer_of a)) (by_request m.card n r)
-by_meaning number n n201 m port.pull p = go (is_due p)
-  where
-    go : (due : Bool) → flat_map (seen_at number) (option_to_list (option_map (frame_moment m) (option_map (frames.at n) (cond due (Some line.next) None)))) ≡ cond (n == number) [] []
-    go false = neither (n == number)
-    go true = let a = asked_at m.card n line.next in at_line (n == number) (seen line.next a) [] (none_called (frame_in a))
+by_meaning number n n201 m what p = grind (arith, option_map, asked_at, at_line, none_asked, by_request)
 
 abbrev here : OctetCard → Event → Moment
 here m e = record { card = m; event = e; answer = answer e m }
@@ -118,11 +85,7 @@ by_octet number m e = by_meaning number e.line m.card.config.n201 m e.what (port
 by_octets : (number : ℕ) (m : OctetCard) (events : List Event) → flat_map (seen_at number) (flat_map meant_in (moments m events)) ≡ flat_map (requests_of number) (moments m events)
 unfolding moments
 by_octets number m [] = refl
-by_octets number m (e ∷ events) =
-    let rest = flat_map meant_in (moments (after e m) events) in
-    flat_map-append (seen_at number) (meant_in (here m e)) rest
-    ∙ ap (λ rs. rs ++ flat_map (seen_at number) rest) (by_octet number m e)
-    ∙ ap (λ rs. requests_of number (here m e) ++ rs) (by_octets number (after e m) events)
+by_octets number m (e ∷ events) = grind (arith, by_octets number (after e m) events, flat_map-append, by_octet)
 
 pub requests_are : (number : ℕ) (m : OctetCard) (events : List Event)
     → requests_seen (trace number (runs.moments m.card (meant_all m events))) ≡ flat_map (requests_of number) (moments m events)
@@ -137,29 +100,8 @@ abbrev pub HearsIn : Seen → Type 0
 HearsIn (heard e) = HasOctets e
 HearsIn other = Unit {0}
 
-same_word : (e : stream.Event) → comes.HasOctets e → HasOctets e
-same_word (stream.frame octets) h = h
-same_word other h = tt
-
-told_hears : (a : line.Answer) → All HearsIn (seen_told a)
-told_hears (line.told t) =
-    All-cons HearsIn (noted t.notes t.contents) (lost t.lost ∷ []) tt (All-cons HearsIn (lost t.lost) [] tt (All-nil HearsIn))
-told_hears other = All-nil HearsIn
-
-granted_hears : (r : Request) (a : line.Answer) → All HearsIn (seen_granted r a)
-granted_hears r (line.told t) = All-cons HearsIn (granted r) [] tt (All-nil HearsIn)
-granted_hears r other = All-nil HearsIn
-
-begun_hears : (given : List (List ℕ)) → All HearsIn (map begun given)
-begun_hears [] = All-nil HearsIn
-begun_hears (octets ∷ given) = All-cons HearsIn (begun octets) (map begun given) tt (begun_hears given)
-
 event_hears : (b : Bool) (what : line.Event) (a : line.Answer) → HearsOctets what → All HearsIn (cond b (seen what a) [])
-event_hears false what a h = All-nil HearsIn
-event_hears true (line.hears e) a h = All-cons HearsIn (heard e) (seen_told a) (same_word e h) (told_hears a)
-event_hears true (line.expiry timer) a h = told_hears a
-event_hears true (line.request r) a h = All-append HearsIn (seen_granted r a) (seen_told a) (granted_hears r a) (told_hears a)
-event_hears true line.next a h = begun_hears (frame_in a)
+event_hears b what a h = grind arith
 
 abbrev pub HearsAt : frames.Event → Type 0
 HearsAt f = HearsOctets f.what

@@ -1,5 +1,5 @@
 -- Unit data between times at which a line is down: what begins are fronts of what is granted, one behind the other.
-use Rattle.laws_trace.proofs.Vocabulary.{◌≡◌, ℕ, Bool, true, false, cond, List, [], ◌∷◌, ◌++◌, map, refl, sym, ap, ◌∙◌, subst, append_assoc, append-nil, filter, filter-append, flat_map-append, map-append, fold, Config, as_octets, Seen, IsFront, frames_begun, is_down, is_unit, Asked, with_request, AreFronts}
+use Rattle.laws_trace.proofs.Vocabulary.{arith, ◌≡◌, ℕ, Bool, true, false, cond, List, [], ◌∷◌, ◌++◌, map, refl, sym, ap, ◌∙◌, subst, append_assoc, append-nil, filter-append, flat_map-append, map-append, fold, Config, as_octets, Seen, IsFront, is_down, is_unit, Asked, with_request, AreFronts}
 use Rattle.laws_trace.specs.Trace as traces
 use Rattle.laws_trace.specs.Units.{unit_asked}
 use Rattle.laws_trace.proofs.OfOctets.Seen.{requests_seen}
@@ -35,27 +35,14 @@ module _ (c : Config) where
   asked_by asked t = fold (with_request c) asked (requests_seen t)
 
   same : (begun waiting left : List (List ℕ)) (asked : Asked) → left ≡ waiting → Spans begun waiting asked → Spans (begun ++ []) left asked
-  same begun waiting left asked is x = record {
-    before = x.before;
-    since = x.since;
-    begun_is = append-nil begun ∙ x.begun_is;
-    fronts = x.fronts;
-    waits = ap (λ ws. x.since ++ ws) is ∙ x.waits;
-  }
+  same begun waiting left asked is x = grind (arith, append-nil)
 
   step : (begun waiting left : List (List ℕ)) (asked : Asked) (s : Seen) → Step c waiting s left → Spans begun waiting asked
       → Spans (begun ++ units_begun c (s ∷ [])) left (asked_by asked (s ∷ []))
   step begun waiting left asked (traces.begun octets) is x = go (is_unit c.side octets) is
     where
       go : (b : Bool) → Begun b waiting octets left → Spans (begun ++ cond b (octets ∷ []) []) left asked
-      go false is = same begun waiting left asked is x
-      go true is = record {
-        before = x.before;
-        since = x.since ++ octets ∷ [];
-        begun_is = ap (λ xs. xs ++ octets ∷ []) x.begun_is ∙ append_assoc x.before x.since (octets ∷ []);
-        fronts = x.fronts;
-        waits = append_assoc x.since (octets ∷ []) left ∙ ap (λ ws. x.since ++ ws) (sym is) ∙ x.waits;
-      }
+      go b is = grind (arith, same, append_assoc)
   step begun waiting left asked (traces.granted r) is x = go (is_down r) is
     where
       go : (b : Bool) → left ≡ cond b [] (waiting ++ unit_asked c r)
@@ -88,11 +75,7 @@ module _ (c : Config) where
       (subst (λ a. Spans ((begun ++ units_begun c (s ∷ [])) ++ units_begun c t) left a) (sym (rest s)) all)
     where
       whole : (s : Seen) → (begun ++ units_begun c (s ∷ [])) ++ units_begun c t ≡ begun ++ units_begun c (s ∷ t)
-      whole s =
-          append_assoc begun (units_begun c (s ∷ [])) (units_begun c t)
-          ∙ ap (λ xs. begun ++ xs)
-          (sym (ap (filter (is_unit c.side)) (flat_map-append traces.frame_begun (s ∷ []) t) ∙ filter-append (is_unit c.side) (frames_begun (s ∷ [])) (frames_begun t)))
+      whole s = grind (arith, append_assoc, units_begun, flat_map-append, filter-append)
 
       rest : (s : Seen) → asked_by asked (s ∷ t) ≡ asked_by (asked_by asked (s ∷ [])) t
-      rest (traces.heard e) = refl
-      rest other = refl
+      rest s = grind arith

@@ -23,9 +23,7 @@ module _ (c : Config) (events : List Event) (number : ℕ) (ranged : IsInRange c
 
   -- as octets the unit data that is given is what it was
   pub units_given : filter (is_unit c.side) (map as_octets given) ≡ map as_octets (units_begun c (t c events number ranged all within))
-  units_given =
-      same_units c given (spelled c events number ranged all within)
-      ∙ ap (λ fs. map as_octets (filter (is_unit c.side) fs)) (sym (begun c events number ranged all within))
+  units_given = grind (arith, same_units, spelled, begun)
 
   abbrev asks : Asked
   asks = units_to_hear c events number

@@ -69,5 +69,4 @@ module _ (c : Config) (events : List Event) (number : ℕ) (ranged : IsInRange c
       }
 
 pub all-that-waited-is-heard : OfEachLine AllThatWaitedIsHeard
-all-that-waited-is-heard c events number ranged all within h link tei front f behind waits =
-    heard c events number ranged all within h link tei front f behind waits
+all-that-waited-is-heard c events number ranged all within h link tei front f behind waits = grind (arith, heard)

@@ -4,12 +4,10 @@ use Rattle.model_link.specs.Link as machine
 
 -- a mark says which of both it is
 pub unmarked : (b : Bool) → digit false ≡ digit b → b ≡ false
-unmarked true e = absurd (omega (arith, e))
-unmarked false e = refl
+unmarked b e = grind arith
 
 pub marked : (b : Bool) → digit true ≡ digit b → b ≡ true
-marked true e = refl
-marked false e = absurd (omega (arith, e))
+marked b e = grind arith
 
 -- the marks of a test are those of another that answers the same
 marked_as : (a : Marks) (p q : ℕ → Bool) → ((number : ℕ) → p number ≡ q number) → AreMarked a p → AreMarked a q
@@ -18,11 +16,7 @@ marked_as a p q same h = λ number few. h number few ∙ ap digit (same number)
 -- one is set: the tests differ there alone
 pub marked_one : (number : ℕ) (w : Bool) (a b : Marks) (p q : ℕ → Bool) → Sets number w a b → q number ≡ w
     → ((other : ℕ) → other ≢ number → q other ≡ p other) → AreMarked a p → AreMarked b q
-marked_one number w a b p q sets here apart h = λ other few.
-    ⊎_elim
-    (λ this. subst (λ n. IsMark b n (q n)) (sym this) (sets.here ∙ ap digit (sym here)))
-    (λ away. sets.others other few away ∙ h other few ∙ ap digit (sym (apart other away)))
-    (cases_eq other number)
+marked_one number w a b p q sets here apart h = grind (arith, cases_eq)
 
 -- a link with these parameters
 gives_has : (links : List Link) (ms : List machine.Link) (number : ℕ) (t : Terms) → HasTerms links number t → gives_at links ms number ≡ gives (machine_at ms number) t
@@ -30,25 +24,17 @@ gives_has links ms number t has = ap (λ o. option_map_or (gives (machine_at ms 
 
 -- one that begins gives nothing
 gives_fresh : (links : List Link) (ms : List machine.Link) (number : ℕ) → machine_at ms number ≡ machine.fresh → gives_at links ms number ≡ false
-gives_fresh links ms number fresh = go (slice_get (terms_in links) number)
-  where
-    go : (o : Option Terms) → option_map_or (gives (machine_at ms number)) o false ≡ false
-    go None = refl
-    go (Some t) = ap (λ m. gives m t) fresh ∙ ap is_some (fresh_gives_nothing t)
+gives_fresh links ms number fresh = grind (arith, slice_get, is_some, fresh_gives_nothing)
 
 -- another link than the one that changes
 gives_other : (old new : List Link) (ms : List machine.Link) (number other : ℕ) (l : machine.Link) → other ≢ number → slice_get (terms_in new) other ≡ slice_get (terms_in old) other
     → gives_at new (set ms number l) other ≡ gives_at old ms other
-gives_other old new ms number other l apart same =
-    ap (λ m. option_map_or (gives m) (slice_get (terms_in new) other) false) (get_or-set_other ms number other l machine.fresh apart)
-    ∙ ap (λ o. option_map_or (gives (machine_at ms other)) o false) same
+gives_other old new ms number other l apart same = grind (arith, slice_get, get_or-set_other)
 
 -- a link has become another, and is awake if that gives something
 pub awake_set : (a b : Marks) (old new : List Link) (ms : List machine.Link) (number : ℕ) (l : machine.Link) (w : Bool) (t : Terms) → Sets number w a b → terms_in new ≡ terms_in old → HasTerms new number t
     → w ≡ gives (machine_at (set ms number l) number) t → AreAwake a old ms → AreAwake b new (set ms number l)
-awake_set a b old new ms number l w t sets same has told h =
-    marked_one number w a b (gives_at old ms) (gives_at new (set ms number l)) sets (gives_has new (set ms number l) number t has ∙ sym told)
-    (λ other apart. gives_other old new ms number other l apart (ap (λ ts. slice_get ts other) same)) h
+awake_set a b old new ms number l w t sets same has told h = grind (arith, marked_one, gives_has, gives_other, slice_get)
 
 -- one that has begun anew
 begins_at : (ms : List machine.Link) (number : ℕ) → machine_at (set ms number machine.fresh) number ≡ machine.fresh
@@ -58,21 +44,13 @@ begins_at (m ∷ ms) (suc number) = begins_at ms number
 
 pub awake_cleared : (a b : Marks) (old new : List Link) (ms : List machine.Link) (number : ℕ) → Sets number false a b → terms_in new ≡ terms_in old
     → AreAwake a old ms → AreAwake b new (set ms number machine.fresh)
-awake_cleared a b old new ms number sets same h =
-    marked_one number false a b (gives_at old ms) (gives_at new (set ms number machine.fresh)) sets (gives_fresh new (set ms number machine.fresh) number (begins_at ms number))
-    (λ other apart. gives_other old new ms number other machine.fresh apart (ap (λ ts. slice_get ts other) same)) h
+awake_cleared a b old new ms number sets same h = grind (arith, marked_one, gives_fresh, begins_at, gives_other, slice_get)
 
 -- one that begins with other parameters was asleep, and stays so
 pub awake_begun : (a : Marks) (old new : List Link) (ms : List machine.Link) (number : ℕ)
     → ((other : ℕ) → other ≢ number → slice_get (terms_in new) other ≡ slice_get (terms_in old) other)
     → machine_at ms number ≡ machine.fresh → AreAwake a old ms → AreAwake a new (set ms number machine.fresh)
-awake_begun a old new ms number same fresh h =
-    marked_as a (gives_at old ms) (gives_at new (set ms number machine.fresh))
-    (λ other.
-    ⊎_elim
-    (λ this. ap (gives_at old ms) this ∙ gives_fresh old ms number fresh ∙ sym (gives_fresh new (set ms number machine.fresh) number (begins_at ms number)) ∙ ap (gives_at new (set ms number machine.fresh)) (sym this))
-    (λ apart. sym (gives_other old new ms number other machine.fresh apart (same other apart)))
-    (cases_eq other number)) h
+awake_begun a old new ms number same fresh h = grind (arith, marked_as, gives_fresh, begins_at, gives_other, cases_eq)
 
 -- all begin
 all_fresh : (n number : ℕ) → machine_at (replicate n machine.fresh) number ≡ machine.fresh
@@ -86,8 +64,4 @@ awake_first a links n h = marked_as a (λ number. false) (gives_at links (replic
 -- a link that is awake gives something, and one that is asleep gives nothing
 pub awake_gives : (a : Marks) (links : List Link) (ms : List machine.Link) (number : ℕ) (t : Terms) (b : Bool) → number < 64 → AreAwake a links ms → HasTerms links number t → IsMark a number b
     → is_some (given t (machine_at ms number)) ≡ b
-awake_gives a links ms number t b few h has is = sym (same b (gives_at links ms number) (sym is ∙ h number few) ∙ gives_has links ms number t has)
-  where
-    same : (b g : Bool) → digit b ≡ digit g → b ≡ g
-    same true g e = sym (marked g e)
-    same false g e = sym (unmarked g e)
+awake_gives a links ms number t b few h has is = grind (arith, gives_has, marked, unmarked)

@@ -6,12 +6,10 @@ use Rattle.lapd_line.proofs.UnitSteps.{waiting}
 
 -- where no unit data waits, none is given up
 none_less : (ds : List UnitData) → slice_get ds 0 ≡ None → ds ≡ drop 1 ds
-none_less [] none = refl
-none_less (d ∷ ds) none = absurd (none-some d (sym none))
+none_less ds none = grind (arith, none-some)
 
 pub no_unit_given_up : (e : LinkLayer) (s : Store) → None ≡ slice_get e.units.waiting 0 → (others : List Owned) (m : Line) → Stands e s others m → Stands e s others (record m { units = drop 1 m.units })
-no_unit_given_up e s none others m st =
-    subst (λ ds. Stands e s others (record m { units = ds })) (none_less m.units (none_for e.units.waiting m.units none st.addressed)) st
+no_unit_given_up e s none others m st = grind (arith, none_less, none_for)
 
 -- as many as wait are all
 pub all_given_up : (e new : LinkLayer) (s t : Store) (count : ℕ) → length e.units.waiting ≤ count

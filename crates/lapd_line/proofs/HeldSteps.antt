@@ -33,13 +33,11 @@ sum_next f a (suc n) =
 -- the link at a place has the parameters of its TEI, or begins
 held_at : (c : Config) (number : ℕ) (ts : Terms) (l : machine.Link) (o : Option ℕ) → ((t : ℕ) → o ≡ Some t → ts ≡ terms c (service_at number) t) → IsSoundAt c number l o
     → held ts l ≡ held (terms c (service_at number) (unwrap_or o 0)) l
-held_at c number ts l None same is = ap (held ts) is ∙ sym (ap (held (terms c (service_at number) 0)) is)
-held_at c number ts l (Some t) same is = ap (λ u. held u l) (same t refl)
+held_at c number ts l o same is = grind arith
 
 pub held_there : (e : LinkLayer) (store : Store) (others : List Owned) (m : Line) (number : ℕ) (ts : Terms) → Stands e store others m → number < link_count e.config → HasTerms e.links number ts
     → held ts (machine_at m.links number) ≡ held_by_link e.config m number
-held_there e store others m number ts st within has =
-    held_at e.config number ts (link_at number m) (tei_at (place_at number) m) (λ t at. same_Some _ _ (sym has ∙ st.terms number t within at)) (st.sound.links number within)
+held_there e store others m number ts st within has = grind (arith, held_at, same_Some)
 
 terms_there : (links : List Link) (number : ℕ) → number < length links → (ts : Terms) × HasTerms links number ts
 terms_there [] number within = absurd (omega (arith, within))
@@ -55,21 +53,17 @@ held_place e store others m number result st within h =
     h e.config ts store (beside_links e m others) m.links has (links_part e store others m st) ∙ held_there e store others m number ts st within has
 
 pub held_more : (f : ℕ → ℕ) (number octets result : ℕ) → octets ≡ sum_by f (range_with_len 0 number) → result ≡ f number → octets + result ≡ sum_by f (range_with_len 0 (number + 1))
-held_more f number octets result so_far here =
-    let same : f (0 + number) ≡ f number = ap f (omega arith) in
-    omega (arith, so_far, here, same, sum_next f 0 number)
+held_more f number octets result so_far here = grind (arith, sum_next)
 
 pub both : {x y r s : ℕ} → x ≡ r → y ≡ s → x + y ≡ r + s
 both a b = omega (arith, a, b)
 
 -- a frame that is received is kept as far as there is room
 kept_few : (room n : ℕ) (b : Bool) → 4 ≤ room → nat_lt room n ≡ b → cond b 4 n ≤ room
-kept_few room n true four e = four
-kept_few room n false four e = omega (arith, ltb-false room n e)
+kept_few room n b four e = grind (arith, ltb-false)
 
 gap_few : {G : Type 0} (room : ℕ) (size : G → ℕ) (o : Option G) → 4 ≤ room → option_map_or (λ g. kept_count room (size g)) o 0 ≤ room
-gap_few room size None four = omega arith
-gap_few room size (Some g) four = kept_few room (size g) (nat_lt room (size g)) four refl
+gap_few room size o four = grind (arith, kept_few, nat_lt)
 
 pub received_few : (n201 : ℕ) (octets : List ℕ) → octets_held n201 octets ≤ n201 + 6
 received_few n201 octets = gap_few (room_for n201) (λ g. length (unstuffed (reverse g)) / 8) (open_gap (reverse (bits octets))) (omega arith)

@@ -13,8 +13,7 @@ use Rattle.lapd_line.specs.declared.requests.TeiRequest.TheVariants as tei_reque
 
 -- a test that refuses, and its opposite
 turned : {X : Type 0} (b : Bool) (x y : X) → cond (not b) x y ≡ cond b y x
-turned true x y = refl
-turned false x y = refl
+turned b x y = grind arith
 
 module _ (c : Config) (full : Bool) (service : Service) (tei : ℕ) (l : Line) where
   -- the rows of a request of a link are what is asked of the TEI and of the link
@@ -51,20 +50,7 @@ check_rows c full tei l = refl
 
 -- a granted request does the same, whether the pool is full or not
 pub granted_same : (t : Terms) (m : machine.Link) (full : Bool) (request : link.Request) → links.refusal t m full request ≡ None → links.refusal t m false request ≡ None
-granted_same t m full request = go (serves m.state request) request
-  where
-    room : (x y : Bool) (f : Bool) → cond x (Some TooLong) (cond y (Some QueueFull) (cond f (Some PoolFull) None)) ≡ None → cond x (Some TooLong) (cond y (Some QueueFull) None) ≡ None
-    room true y f e = e
-    room false true f e = e
-    room false false f e = refl
-
-    go : (b : Bool) (r : link.Request) → cond b (refusal_for_room t m full r) (Some WrongState) ≡ None → cond b (refusal_for_room t m false r) (Some WrongState) ≡ None
-    go true link.Establish e = e
-    go true link.Release e = e
-    go true (link.Data octets) e = room (nat_lt t.n201 (length octets)) (links.is_queue_full t m) full e
-    go true link.SetBusy e = e
-    go true link.ClearBusy e = e
-    go false r e = e
+granted_same t m full request = grind (arith, nat_lt)
 
 -- a TEI without a place is not on the line
 none_any : {X : Type 0} (p : X → Bool) (xs : List X) → length xs ≤ prefix_len (λ x. not (p x)) xs → list_any p xs ≡ false
@@ -73,15 +59,10 @@ none_any p (x ∷ xs) e = go (p x) (none_any p xs) e
   where
     go : (b : Bool) → (length xs ≤ prefix_len (λ y. not (p y)) xs → list_any p xs ≡ false)
         → length (x ∷ xs) ≤ cond (not b) (1 + prefix_len (λ y. not (p y)) xs) 0 → b || list_any p xs ≡ false
-    go true rest e = absurd (omega (arith, e))
-    go false rest e = rest (omega (arith, e))
+    go b rest e = grind arith
 
 pub off_line : (places : Places) (tei : ℕ) → place_of tei places ≡ None → is_on tei places ≡ false
-off_line places tei = go (nat_lt (prefix_len (λ x. not (has tei x)) places) (length places)) refl
-  where
-    go : (b : Bool) → nat_lt (prefix_len (λ x. not (has tei x)) places) (length places) ≡ b → cond b (Some (prefix_len (λ x. not (has tei x)) places)) None ≡ None → is_on tei places ≡ false
-    go true e h = absurd (none-some _ (sym h))
-    go false e h = none_any (has tei) places (ltb-false _ _ e)
+off_line places tei = grind (arith, nat_lt, none-some, none_any, ltb-false)
 
 -- where the link of a request is, the link refuses, or not
 module _ (e : LinkLayer) (s : Store) (others : List Owned) (m : Line) (st : Stands e s others m) (service : Service) (tei : ℕ) (full : Bool) (request : link.Request) where
@@ -118,8 +99,7 @@ module _ (e : LinkLayer) (s : Store) (others : List Owned) (m : Line) (st : Stan
 
 -- what is granted is the same, whether the pool is full or not
 same_step : (t : Terms) (l : machine.Link) (full : Bool) (request : link.Request) → links.refusal t l full request ≡ None → answers.course t (link.requested request full) l ≡ answers.course t (link.requested request false) l
-same_step t l full request granted =
-    ap (λ o. elim o [ None ↦ links.granted t request (begun l) | Some _ ↦ begun l ]) (granted ∙ sym (granted_same t l full request granted))
+same_step t l full request granted = grind (arith, granted_same)
 
 pub asked_serves : (e : LinkLayer) (s t : Store) (new : List Link) (awake : Marks) (service : Service) (tei place number : ℕ) (full : Bool) (request : link.Request) (answer : BareReport) (outcome : BareReport) {looked : Bool}
     → Standing e s → place_of tei e.teis.places ≡ Some place → (place ≤ 8 → number ≡ link_number place service)

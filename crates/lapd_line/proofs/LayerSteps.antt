@@ -32,12 +32,7 @@ abbrev pub beside_links : LinkLayer → Line → List Owned → List Owned
 beside_links e m others = unit_pairs e.units.waiting m.units ++ others
 
 pub links_part : (e : LinkLayer) (s : Store) (others : List Owned) (m : Line) → Stands e s others m → LinksStand e.config e.links s (beside_links e m others) m.links
-links_part e s others m st = record {
-  wide = st.wide;
-  same = st.count ∙ sym st.sound.count;
-  fits = st.links;
-  held = subst (Holds s) (append_assoc (links_pairs e.links m.links) (unit_pairs e.units.waiting m.units) others) st.held;
-}
+links_part e s others m st = grind (arith, append_assoc)
 
 -- the way back: where the links and their machines have changed, and the turn, and nothing else
 pub links_turned : (e : LinkLayer) (s t : Store) (others : List Owned) (m : Line) (new : List Link) (ms : List machine.Link) (awake : Marks) (turn turn' : ℕ)

@@ -49,8 +49,7 @@ take_link c links s others ms number x within is st =
 
 -- a link has the parameters that it has
 pub terms_at : (links : List Link) (number : ℕ) (x : Link) (terms : Terms) → number < length links → x ≡ get_or links number x → HasTerms links number terms → terms_of x ≡ terms
-terms_at links number x terms within is has =
-    ap terms_of is ∙ same_Some _ _ (sym (slice_get-map terms_of links number ∙ ap (λ o. option_map terms_of o) (slice_get-get_or links number x within)) ∙ has)
+terms_at links number x terms within is has = grind (arith, same_Some, slice_get-map, option_map, slice_get-get_or)
 
 pub terms_stay : (links : List Link) (number : ℕ) (x y : Link) → x ≡ get_or links number x → terms_of y ≡ terms_of x → terms_in (set links number y) ≡ terms_in links
 terms_stay links number x y is same = map-set_same terms_of links number y x (same ∙ ap terms_of is)
@@ -116,17 +115,11 @@ same_many new old same = sym (length-map new terms_of) ∙ ap (λ l. length l) s
 -- the parameters of a link whose TEI has come to the line
 pub opened_terms : (old : Terms) (c : Config) (service : Service) (tei k n200 : ℕ) → k ≡ window c service → n200 ≡ c.n200 → old.queue ≡ c.queue → old.control ≡ c.control
     → record old { service = service; tei = tei; k = k; n200 = n200; n201 = c.n201 } ≡ terms c service tei
-opened_terms old c service tei k n200 is_k is_n200 queue control =
-    ap (λ x. record old { service = service; tei = tei; k = x; n200 = n200; n201 = c.n201 }) is_k
-    ∙ ap (λ x. record old { service = service; tei = tei; k = window c service; n200 = x; n201 = c.n201 }) is_n200
-    ∙ ap (λ x. record old { service = service; tei = tei; k = window c service; n200 = c.n200; n201 = c.n201; queue = x }) queue
-    ∙ ap (λ x. record old { service = service; tei = tei; k = window c service; n200 = c.n200; n201 = c.n201; queue = c.queue; control = x }) control
+opened_terms old c service tei k n200 is_k is_n200 queue control = grind arith
 
 -- what holds of a result, by what holds of another
 pub on_ok : {A E P Q : Type 0} (r : Result A E) → (P → Q) → OnOk r P → OnOk r Q
-on_ok (Ok a) f h = f h
-on_ok (Err e) f h = h
+on_ok r f h = grind arith
 
 pub both_ok : {A E P Q R : Type 0} (r : Result A E) → (P → Q → R) → OnOk r P → OnOk r Q → OnOk r R
-both_ok (Ok a) f p q = f p q
-both_ok (Err e) f p q = q
+both_ok r f p q = grind arith

@@ -7,15 +7,11 @@ use Rattle.std.specs.Int.{w64}
 
 -- a bit is 1 exactly where it is a mark
 pub one_bit : (x : ℕ) → x < 2 → x ≡ digit (x == 1)
-one_bit zero low = refl
-one_bit (suc zero) low = refl
-one_bit (suc (suc x)) low = absurd (omega (arith, low))
+one_bit x low = grind arith
 
 -- a bit of what is left from one bit on
 shifted_bit : (n from number : ℕ) → from ≤ number → bit_at n number ≡ bit_at (n / 2 ^ from) (number - from)
-shifted_bit n from number low =
-    let there : number ≡ from + (number - from) = omega (arith, low) in
-    ap (bit_at n) there ∙ sym (ap (λ x. x % 2) (shr-shr n from (number - from)))
+shifted_bit n from number low = grind (arith, shr-shr)
 
 -- where nothing is left, there is none
 pub none_from : (n from : ℕ) → n / 2 ^ from ≡ 0 → NoneFrom n from
@@ -34,11 +30,7 @@ lowest_from n from some fits =
 
 -- whether a number has a bit that is 1
 pub none_marked : (n : ℕ) → not (n == 0) ≡ false → (number : ℕ) → number < 64 → bit_at n number ≡ 0
-none_marked n none number few = ap (λ x. bit_at x number) (eqb-true n 0 (is_true (n == 0) none)) ∙ bit_at-zero number
-  where
-    is_true : (b : Bool) → not b ≡ false → b ≡ true
-    is_true true h = refl
-    is_true false h = absurd (true≢false h)
+none_marked n none number few = grind (arith, eqb-true, bit_at-zero)
 
 pub some_marked : (n : ℕ) → n < 2 ^ 64 → not (n == 0) ≡ true → (number : ℕ) × (number < 64) × (bit_at n number ≡ 1)
 some_marked n fits some =
@@ -46,8 +38,7 @@ some_marked n fits some =
     (trailing_zeros w64 n, lowest.0, lowest.1)
   where
     over : (n : ℕ) → not (n == 0) ≡ true → 0 < n
-    over zero h = absurd (cc)
-    over (suc n) h = omega arith
+    over n h = grind arith
 
 -- only a bit below 64 is 1
 pub low_bit : (n number : ℕ) → n < 2 ^ 64 → bit_at n number ≡ 1 → number < 64
@@ -61,12 +52,4 @@ pub around_behind : (m : Marks) (turn number : ℕ) → number < 64 → IsLowest
 around_behind m turn number few (low, one, others) = (Some number, ((low, few, one), others), refl)
 
 pub around_before : (m : Marks) (turn : ℕ) (first : Option ℕ) → NoneFrom m.bits turn → MatchOption first (NoneFrom m.bits 0) (IsLowestFrom m.bits 0) → IsFirstAround m turn 64 first
-around_before m turn None behind none = (None, (_, λ number low below. behind number low), (_, λ number low below. none number low))
-around_before m turn (Some number) behind (low, one, others) =
-    (None, (_, λ number low below. behind number low), ((low, below_turn, one), others))
-  where
-    below_turn : number < turn
-    below_turn = elim (cases_lt number turn) [
-      | inl before ↦ before
-      | inr after ↦ absurd (omega (arith, one, behind number after))
-    ]
+around_before m turn first behind none = grind (arith, cases_lt)

@@ -8,20 +8,16 @@ use Rattle.lapd_line.proofs.AwakeSteps.{awake_gives, marked}
 use Rattle.lapd_line.proofs.PullTakesLinks.{Known, known, low_link, among, none_of, asleep_gives_nothing, round_is}
 
 some_or : (x y : Option Taken) → is_some (option_or x y) ≡ (is_some x || is_some y)
-some_or None y = refl
-some_or (Some x) y = refl
+some_or x y = grind arith
 
 some_map : {A B : Type 0} (f : A → B) (o : Option A) → is_some (option_map f o) ≡ is_some o
-some_map f None = refl
-some_map f (Some x) = refl
+some_map f o = grind arith
 
 or_true : (b : Bool) → (b || true) ≡ true
-or_true true = refl
-or_true false = refl
+or_true b = grind arith
 
 or_false : (b : Bool) → (b || false) ≡ b
-or_false true = refl
-or_false false = refl
+or_false b = grind arith
 
 -- unit data waits where its ring holds some
 unit_waits : (us : List QueuedUnit) (ds : List UnitData) → AreFor us ds → is_some (slice_get ds 0) ≡ is_some (slice_get us 0)
@@ -102,15 +98,7 @@ module _ (e : LinkLayer) (s : Store) (others : List Owned) (m : Line) (st : Stan
   -- a message, unit data or a frame of a link
   waits_is : (message unit link : Bool) → message ≡ is_some (offered e.config.side e.teis) → unit ≡ is_some (slice_get e.units.waiting 0)
       → is_some (first_taken e.config m (round e.config m)) ≡ link → (message || (unit || link)) ≡ has_next e.config m
-  waits_is message unit link is_message is_unit is_link =
-      let of_message : is_some (message_taken e.config m) ≡ message =
-      some_map (with_message m) (offered e.config.side m.management) ∙ ap (λ t. is_some (offered e.config.side t)) st.management ∙ sym is_message in
-      let of_unit : is_some (unit_taken e.config m) ≡ unit = some_map (with_unit e.config m) (slice_get m.units 0) ∙ unit_waits e.units.waiting m.units st.addressed ∙ sym is_unit in
-      sym (some_or (message_taken e.config m) (option_or (unit_taken e.config m) (first_taken e.config m (round e.config m)))
-      ∙ ap (λ b. b || is_some (option_or (unit_taken e.config m) (first_taken e.config m (round e.config m)))) of_message
-      ∙ ap (λ b. message || b) (some_or (unit_taken e.config m) (first_taken e.config m (round e.config m)))
-      ∙ ap (λ b. message || (b || is_some (first_taken e.config m (round e.config m)))) of_unit
-      ∙ ap (λ b. message || (unit || b)) is_link)
+  waits_is message unit link is_message is_unit is_link = grind (arith, is_some, some_map, slice_get, unit_waits, some_or)
 
   pub waits_with_link : (true ≡ false → AreMarked e.awake (λ number. false)) → (true ≡ true → (number : ℕ) × (number < 64) × IsMark e.awake number true) → true ≡ has_next e.config m
   waits_with_link none some =

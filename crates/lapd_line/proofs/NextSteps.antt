@@ -25,16 +25,10 @@ next_taken {old} {s} {e} {t} {f} {g} {orders} h = record {
 }
   where
     stands : (others : List Owned) (m : machine.Line) (o : Option Taken) (os : Option (List Order)) → Took o os m e t others f g → Stands (record old { layer = e }) t others (option_map_or line_of o m)
-    stands others m None None (there, same) = record { layer = there }
-    stands others m (Some k) (Some os) has = record { layer = has.stands }
-    stands others m None (Some os) has = absurd has
-    stands others m (Some k) None has = absurd has
+    stands others m o os has = grind arith
 
     given : (others : List Owned) (m : machine.Line) (o : Option Taken) (os : Option (List Order)) → Took o os m e t others f g → IsNext (option_map next_of o) os f g
-    given others m None None has = has.1
-    given others m (Some k) (Some os) has = (has.orders, has.loaded)
-    given others m None (Some os) has = absurd has
-    given others m (Some k) None has = absurd has
+    given others m o os has = grind arith
 
 -- where there is none, the line stays
 pub none_next : (c : Config) (m : machine.Line) → taken c m ≡ None → after c next m ≡ m
@@ -48,11 +42,7 @@ none_given c m none = ap gave none
 
 -- none waits, where the line says so
 pub nothing_waits : (c : Config) (m : machine.Line) → false ≡ has_next c m → taken c m ≡ None
-nothing_waits c m none = go (taken c m) none
-  where
-    go : (o : Option Taken) → false ≡ is_some o → o ≡ None
-    go None e = refl
-    go (Some k) e = absurd (false≢true e)
+nothing_waits c m none = grind (arith, is_some)
 
 module _ {old : FrameLine} {s : Store} {f : Loading} {mid : FrameLine} {t : Store} {g : Loading} {given : Option (List Order)} (h : TakesNext old s f mid t g given) where
   -- and the line goes on, where what this shows is counted
@@ -71,8 +61,7 @@ module _ {old : FrameLine} {s : Store} {f : Loading} {mid : FrameLine} {t : Stor
   gave_none none others m st = go (option_map next_of (taken (config_of old) m)) refl (subst (λ o. IsNext (option_map next_of (taken (config_of old) m)) o f g) none (h.next others m st))
     where
       go : (o : Option line_event.NextFrame) → option_map next_of (taken (config_of old) m) ≡ o → IsNext o None f g → (answer (config_of old) next m ≡ gave None) × (g ≡ f)
-      go None is same = (none_given (config_of old) m is, same)
-      go (Some n) is gone = absurd gone
+      go o is same = grind (arith, none_given)
 
   pub none_leads : given ≡ None → Leads next old s mid t
   none_leads none = next_leads mid.counters [] refl (λ others m st. ap (answer_shown (config_of old).side) (gave_none none others m st).0)
@@ -113,9 +102,7 @@ pub record IsWritten (before octets : List ℕ) (k : ℕ) : Type 0 where
   pub rest : drop k octets ≡ drop k before
 
 written_in : (before octets frame : List ℕ) (k : ℕ) → k ≡ length frame → octets ≡ frame ++ drop k before → IsWritten before octets k
-written_in before octets frame k count is =
-    let all : length octets ≡ length frame + length (drop k before) = ap (λ l. length l) is ∙ length-append frame (drop k before) in
-    record { fits = omega (arith, all, count); rest = ap (drop k) is ∙ drop-append-drop k before frame k (omega arith) (sym count) }
+written_in before octets frame k count is = grind (arith, length-append, drop-append-drop)
 
 module _ {old : FrameLine} {s : Store} {mid : FrameLine} {t : Store} {before octets : List ℕ} {n k place there : ℕ} {given : Option (List Order)} (orders : ShortList Order)
     (h : TakesNext old s (in_octets before n place) mid t (in_octets octets k there) given) (some : given ≡ Some (listed orders)) where

@@ -1,5 +1,5 @@
 -- What an event does to a line and its port.
-use Rattle.lapd_line.proofs.Vocabulary.{◌≡◌, ℕ, ◌<◌, Bool, true, false, List, [], ◌∷◌, ◌++◌, length, Option, Some, None, is_some, option_map, refl, sym, ap, ◌∙◌, subst, cond, lt-ltb, option_map_or, IsSome, Owned, Store, SameLimits, ShortList, Order, Timer, Cause, Config, Counters, with_all, hears, next, gave, expiry, LineTold, answer_shown, counted, taken, next_of, drop_costs_nothing, may_send, cause_in, FrameLine, Leads, LeadsIfHeard, config_of, orders_taken, IsLoaded, IsSaid, PortStands, Pulls, with_frame, OctetsLead, OctetsStand, octets_config}
+use Rattle.lapd_line.proofs.Vocabulary.{arith, ◌≡◌, ℕ, ◌<◌, Bool, true, false, List, [], ◌∷◌, ◌++◌, length, Option, Some, None, is_some, option_map, refl, sym, ap, ◌∙◌, subst, cond, lt-ltb, option_map_or, IsSome, Owned, Store, SameLimits, ShortList, Order, Timer, Cause, Config, Counters, with_all, hears, next, gave, expiry, LineTold, answer_shown, counted, taken, next_of, drop_costs_nothing, may_send, cause_in, FrameLine, Leads, LeadsIfHeard, config_of, orders_taken, IsLoaded, IsSaid, PortStands, Pulls, with_frame, OctetsLead, OctetsStand, octets_config}
 use Rattle.model_bits.specs.Stream as stream
 use Rattle.model_line.specs.Event as line
 use Rattle.model_line.specs.Line as lines
@@ -61,24 +61,10 @@ octet_leads {old} {new} {s} {t} {value} h brings goes_on leads = go h brings lea
       counted = λ others l st. leads.counted others l.line st.frames ∙ ap (counted_if old l) (sym (is c.n201 l.port st.port));
     }
 
-abbrev cause_told : port.Answer → Option Cause
-cause_told (port.told x) = x.cause
-cause_told other = None
-
 -- where the answer names a cause, what may be sent stays
 pub drop_leaves : (c : Config) (value : ℕ) (l : OctetLine) (t : LineTold) → port.told t ≡ answer c (port.octet value) l → IsSome t.cause
     → may_send c (after c (port.octet value) l).line ≡ may_send c l.line
-drop_leaves c value l t says some = go (gained c.n201 l.port.received value) (ap cause_told says)
-  where
-    go : (h : Option stream.Event) → t.cause ≡ cause_told (option_map_or port.answer_of (option_map (λ f. line_answer c f l.line) (option_map hears h)) (port.told line.nothing))
-        → may_send c (option_map_or (λ f. line_after c f l.line) (option_map hears h) l.line) ≡ may_send c l.line
-    go None is = refl
-    go (Some e) is = drop_costs_nothing c e l.line (subst IsSome (is ∙ same (line_answer c (hears e) l.line)) some)
-      where
-        same : (a : line.Answer) → cause_told (port.answer_of a) ≡ cause_in a
-        same (line.told x) = refl
-        same (line.refused why) = refl
-        same (line.gave frame) = refl
+drop_leaves c value l t says some = grind (arith, option_map, drop_costs_nothing)
 
 -- ---- an expiry and a request
 
@@ -104,8 +90,7 @@ said_to c l o = option_map (λ f. line_answer c f l.line) o
 
 -- the line is called exactly where an item is due
 said_if_due : (c : Config) (l : OctetLine) (due : Bool) → is_some (said_to c l (called due)) ≡ due
-said_if_due c l true = refl
-said_if_due c l false = refl
+said_if_due c l due = grind arith
 
 -- it begins nothing where none is due
 pub not_due : {line : Line} {s : Store} {others : List Owned} {l : OctetLine} → OctetsStand line s others l → is_due l.port ≡ false → frame_begun (said (octets_config line) pull l) ≡ None
@@ -115,12 +100,7 @@ not_due {line} {l = l} st is = ap (λ b. frame_begun (said_to (octets_config lin
 begins_nothing : (c : Config) (l : OctetLine) (k : Counters) (due : Bool) → frame_begun (said_to c l (called due)) ≡ None
     → (option_map_or (λ f. line_after c f l.line) (called due) l.line ≡ l.line) × (option_map_or (λ f. counted c f l.line k) (called due) k ≡ k)
 unfolding line_answer
-begins_nothing c l k false none = (refl, refl)
-begins_nothing c l k true none = (none_next c l.line (none_taken next_of (taken c l.line) none), ap (λ a. with_all k (answer_shown c.side a)) (none_given c l.line none))
-  where
-    none_taken : {X Y : Type 0} (f : X → Y) (o : Option X) → option_map f o ≡ None → o ≡ None
-    none_taken f None e = refl
-    none_taken f (Some x) e = absurd (cc)
+begins_nothing c l k due none = grind (arith, none_next, none_given, option_map)
 
 -- What a port makes of what is said for a pull.
 abbrev pub PullsAs : Port → Option (ShortList Order) → Pulled → Port → Type 0

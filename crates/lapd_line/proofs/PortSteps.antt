@@ -1,5 +1,5 @@
 -- What a port does.
-use Rattle.lapd_line.proofs.Vocabulary.{◌≡◌, ℕ, ◌≤◌, Bool, true, false, List, [], ◌∷◌, ◌++◌, length, take, slice_get, Option, Some, None, is_some, option_map, option_to_list, fold, fold-append, inl, inr, ◌⊎◌, refl, sym, ap, ◌∙◌, subst, append_assoc, cond, le-ltb, same_Some, option_map_or, unwrap_or, bits, low_bits, number_of, Framing, runs_low, refilled, with_idle, Item, idle, frame, line_text, bits-push, heard_in, Head, head_shown, listed, ShortList, Order, Owned, Store, next, answer_shown, answer, without_octets, Cause, in_bits, Loading, TakesNext, FrameLine, Management, type_of, config_of, orders_taken, IsLoaded, IsSaid, PortStands, or_heard, or_latest, with_frame, left_is, one_item, text_of}
+use Rattle.lapd_line.proofs.Vocabulary.{arith, ◌≡◌, ℕ, ◌≤◌, Bool, true, false, List, [], ◌∷◌, ◌++◌, length, take, slice_get, Option, Some, None, is_some, option_map, option_to_list, fold, fold-append, inl, inr, ◌⊎◌, refl, sym, ap, ◌∙◌, subst, append_assoc, cond, le-ltb, same_Some, option_map_or, unwrap_or, bits, low_bits, number_of, Framing, runs_low, refilled, with_idle, Item, idle, frame, line_text, bits-push, heard_in, Head, head_shown, listed, ShortList, Order, Owned, Store, next, answer_shown, answer, without_octets, Cause, in_bits, Loading, TakesNext, FrameLine, Management, type_of, config_of, orders_taken, IsLoaded, IsSaid, PortStands, or_heard, or_latest, with_frame, left_is, one_item, text_of}
 use Rattle.lapd_bits.specs.declared.ended.Ended.{Ended}
 use Rattle.lapd_bits.specs.declared.ended.Ended.TheVariants as ended
 use Rattle.model_bits.specs.Framer as framer
@@ -27,35 +27,20 @@ gained_is n201 octet received o is = ap (λ l. slice_get l (length (heard_in n20
 
 -- an octet that ended nothing brought no event
 pub nothing_heard : (o : Option stream.Event) → ended.Nothing ≡ without_octets o → o ≡ None
-nothing_heard None e = refl
-nothing_heard (Some (stream.frame octets)) e = absurd (cc)
-nothing_heard (Some (stream.overlong head)) e = absurd (cc)
-nothing_heard (Some (stream.dropped cause)) e = absurd (cc)
+nothing_heard o e = grind arith
 
 pub is_dropped : (o : Option stream.Event) (cause : Cause) → ended.Dropped cause ≡ without_octets o → o ≡ Some (stream.dropped cause)
-is_dropped None cause e = absurd (cc)
-is_dropped (Some (stream.frame octets)) cause e = absurd (cc)
-is_dropped (Some (stream.overlong head)) cause e = absurd (cc)
-is_dropped (Some (stream.dropped other)) cause e = cc
+is_dropped o cause e = grind arith
 
 -- how the latest frame began is what it was, with what the octet has ended
 pub latest_more : (n201 octet : ℕ) (received : List ℕ) (o : Option stream.Event) → heard_in n201 (received ++ octet ∷ []) ≡ heard_in n201 received ++ option_to_list o
     → fold (or_heard n201) None (heard_in n201 (received ++ octet ∷ [])) ≡ or_latest n201 (fold (or_heard n201) None (heard_in n201 received)) o
-latest_more n201 octet received o is = ap (fold (or_heard n201) None) is ∙ fold-append (or_heard n201) None (heard_in n201 received) (option_to_list o) ∙ ended o
-  where
-    ended : (e : Option stream.Event) → fold (or_heard n201) (fold (or_heard n201) None (heard_in n201 received)) (option_to_list e) ≡ or_latest n201 (fold (or_heard n201) None (heard_in n201 received)) e
-    ended None = refl
-    ended (Some e) = refl
+latest_more n201 octet received o is = grind (arith, fold-append, option_to_list)
 
 -- what ended nothing, or was dropped, leaves it
 pub latest_left : (n201 : ℕ) (before : Option Head) (o : Option stream.Event) (e : Ended) → e ≡ without_octets o → (e ≡ ended.Nothing) ⊎ ((cause : Cause) × (e ≡ ended.Dropped cause))
     → or_latest n201 before o ≡ before
-latest_left n201 before None e told is = refl
-latest_left n201 before (Some (stream.dropped cause)) e told is = refl
-latest_left n201 before (Some (stream.frame octets)) e told (inl is) = absurd (cc)
-latest_left n201 before (Some (stream.frame octets)) e told (inr (cause, is)) = absurd (cc)
-latest_left n201 before (Some (stream.overlong head)) e told (inl is) = absurd (cc)
-latest_left n201 before (Some (stream.overlong head)) e told (inr (cause, is)) = absurd (cc)
+latest_left n201 before o e told is = grind arith
 
 -- ---- what goes
 
@@ -125,20 +110,10 @@ loaded p one left text is =
 goes_on : (p : machine.Port) (f : Framing) (said : Option Answer) → is_some said ≡ is_due p → IsTextOf p
     → framer.Stands f (with_frame (frame_begun said) p).items p.given
     → record (with_frame (frame_begun said) p) { items = with_idle f.left (with_frame (frame_begun said) p).items } ≡ with_item said p
-goes_on p f None due text st =
-    ap (λ low. record p { items = cond low (p.items ++ idle ∷ []) p.items }) (ap runs_low (sym (left_is p f.left st.text)) ∙ sym due)
-goes_on p f (Some a) due text st = go (given_in a) st
-  where
-    go : (o : Option NextFrame) → framer.Stands f (with_frame o p).items p.given
-        → record (with_frame o p) { items = with_idle f.left (with_frame o p).items } ≡ record p { items = p.items ++ machine.item_of o ∷ [] }
-    go None st = ap (λ low. record p { items = cond low (p.items ++ idle ∷ []) p.items }) (ap runs_low (sym (left_is p f.left st.text)) ∙ sym due)
-    go (Some one) st =
-        let items = p.items ++ frame one.octets ∷ [] in
-        ap (λ low. record p { items = cond low (items ++ idle ∷ []) items }) (loaded p one f.left text st.text)
+goes_on p f said due text st = grind (arith, left_is, loaded)
 
 same_given : (p : machine.Port) (o : Option NextFrame) → (with_frame o p).given ≡ p.given
-same_given p None = refl
-same_given p (Some one) = refl
+same_given p o = grind arith
 
 -- the octet that a port gives next is the framer's
 next_is : (q : machine.Port) (f g : Framing) (octet : ℕ) → Gives f g octet → framer.Stands f q.items q.given
@@ -174,15 +149,4 @@ module _ {port : Port} {g : Framing} {octet : ℕ} (gives : Gives port.framer g 
   -- and answers what it answers
   pub given_told : (none told : ShortList Order) (taken_one : Bool) → taken_one ≡ is_some taken → listed none ≡ [] → told ≡ unwrap_or taken none
       → pulled octet taken_one (listed told) ≡ machine.answer pull said p
-  given_told none told taken_one one empty told_is =
-      ap (λ x. pulled octet x (listed told)) one
-      ∙ ap (λ x. pulled octet (is_some taken) (listed x)) told_is
-      ∙ same_answer taken (frame_begun said) is.orders
-      ∙ ap (λ x. pulled x (is_some (frame_begun said)) (option_map_or orders_with (frame_begun said) [])) (sym octet_is)
-    where
-      same_answer : (r : Option (ShortList Order)) (o : Option NextFrame) → orders_taken r ≡ option_map orders_with o
-          → pulled octet (is_some r) (listed (unwrap_or r none)) ≡ pulled octet (is_some o) (option_map_or orders_with o [])
-      same_answer None None e = ap (pulled octet false) empty
-      same_answer (Some r) (Some n) e = ap (pulled octet true) (same_Some (listed r) n.orders e)
-      same_answer None (Some n) e = absurd (cc)
-      same_answer (Some r) None e = absurd (cc)
+  given_told none told taken_one one empty told_is = grind (arith, is_some, octet_is, option_map, same_Some)

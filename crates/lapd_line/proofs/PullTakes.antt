@@ -1,5 +1,5 @@
 -- What a pull takes: the entities and the line without it.
-use Rattle.lapd_line.proofs.Vocabulary.{◌≡◌, List, Option, Some, None, ◌∙◌, subst, option_or, Order, Owned, Store, Config, Line, Taken, LinkLayer, Stands, Loading, Took, Takes}
+use Rattle.lapd_line.proofs.Vocabulary.{arith, ◌≡◌, List, Option, Some, None, ◌∙◌, subst, option_or, Order, Owned, Store, Config, Line, Taken, LinkLayer, Stands, Loading, Took, Takes}
 
 -- what one source gives, or else another
 pub takes_or : {first second : Config → Line → Option Taken} {a b c : LinkLayer} {s t u : Store} {f g h : Loading} {orders : Option (List Order)}
@@ -14,13 +14,10 @@ takes_or {first} {second} {a} {b} {c} {s} {t} {u} {f} {g} {h} {orders} none then
 }
   where
     again : (others : List Owned) (m : Line) → Stands b t others m → g ≡ f → Took (second a.config m) orders m c u others f h
-    again others m st same =
-        subst (λ x. Took (second a.config m) orders m c u others x h) same
-        (subst (λ x. Took (second x m) orders m c u others g h) none.config (then.took others m st))
+    again others m st same = grind arith
 
     go : (others : List Owned) (m : Line) (o : Option Taken) → Took o None m b t others f g → Took (option_or o (second a.config m)) orders m c u others f h
-    go others m None (st, same) = again others m st same
-    go others m (Some k) h = absurd h
+    go others m o h = grind (arith, again)
 
 pub takes_first : (second : Config → Line → Option Taken) {first : Config → Line → Option Taken} {a b : LinkLayer} {s t : Store} {f g : Loading} {orders : List Order}
     → Takes first a s f b t g (Some orders) → Takes (λ config m. option_or (first config m) (second config m)) a s f b t g (Some orders)
@@ -33,8 +30,7 @@ takes_first second {first} {a} {b} {s} {t} {f} {g} {orders} some = record {
 }
   where
     go : (others : List Owned) (m : Line) (o : Option Taken) → Took o (Some orders) m b t others f g → Took (option_or o (second a.config m)) (Some orders) m b t others f g
-    go others m None h = absurd h
-    go others m (Some k) h = h
+    go others m o h = grind arith
 
 -- the same of two sources that are the same for every past that stands
 pub takes_as : {first second : Config → Line → Option Taken} {a b : LinkLayer} {s t : Store} {f g : Loading} {orders : Option (List Order)}

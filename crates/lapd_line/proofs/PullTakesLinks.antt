@@ -75,9 +75,7 @@ pub record CanSend (e : LinkLayer) (number : ℕ) (new : List Link) (o : Offer) 
   pub size : length info ≤ e.config.n201
 
 size_of : (s : Store) (most : ℕ) (slot : Option ℕ) (info : List ℕ) → info ≡ unwrap_or (contents_in s slot) [] → IfSome slot (HasMessage s most) → length info ≤ most
-size_of s most None info is h = omega (arith, ap (λ l. length l) is)
-size_of s most (Some slot) info is (octets, there, size) =
-    omega (arith, size, ap (λ l. length l) is, ap (λ o. length (unwrap_or o [])) there)
+size_of s most slot info is h = grind arith
 
 pub given_used : (e : LinkLayer) (s : Store) (number : ℕ) (new : List Link) (o : Offer) → number < link_count e.config → Standing e s → Offers number e.links new (Some o)
     → IfSome o.contents (λ slot. IsUsed s slot)
@@ -147,8 +145,7 @@ range_append a (suc n) k =
     ∙ ap (λ l. a ∷ l) (range_append (a + 1) n k ∙ ap (λ b. range_with_len (a + 1) n ++ range_with_len b k) first)
 
 either_assoc : (x y z : Option Taken) → option_or (option_or x y) z ≡ option_or x (option_or y z)
-either_assoc None y z = refl
-either_assoc (Some x) y z = refl
+either_assoc x y z = grind arith
 
 first_append : (c : Config) (m : Line) (xs ys : List ℕ) → first_taken c m (xs ++ ys) ≡ option_or (first_taken c m xs) (first_taken c m ys)
 first_append c m [] ys = refl
@@ -175,8 +172,7 @@ found from number to {a} {b} {c} {s} {t} {u} {f} {g} {h} {orders} order within b
     (takes_first (among (number + 1) (to - (number + 1))) {first = λ c m. link_taken c m number} now))
 
 no_value : {A : Type 0} (o : Option A) → is_some o ≡ false → o ≡ None
-no_value None none = refl
-no_value (Some x) none = absurd (true≢false none)
+no_value o none = grind arith
 
 -- links that are asleep have nothing to give
 pub asleep_gives_nothing : (e : LinkLayer) (s : Store) (others : List Owned) (m : Line) (number : ℕ) → number < link_count e.config → Stands e s others m → IsMark e.awake number false → link_taken e.config m number ≡ None
@@ -207,8 +203,7 @@ passed from number {a} {s} {f} within asleep order = record {
 
 -- where one gives something, that is taken
 taken_some : (o : Option (ShortList Order)) → is_some o ≡ true → is_some (orders_taken o) ≡ true
-taken_some None some = some
-taken_some (Some orders) some = refl
+taken_some o some = grind arith
 
 found_some : (from number to : ℕ) {a b c : LinkLayer} {s t u : Store} {f g h : Loading} (orders : Option (List Order)) → is_some orders ≡ true → from ≤ number → number < to
     → Takes (among from (number - from)) a s f b t g None → Takes (λ c m. link_taken c m number) b t g c u h orders

@@ -20,9 +20,7 @@ first_within e s (Some number) (others, m, st) (Some k, ((low, below, awake), af
 
 -- and is awake
 pub first_marked : (e : LinkLayer) (first : Option ℕ) → IsFirstAround e.awake e.turn 64 first → IfSome first (λ number. IsMark e.awake number true)
-first_marked e None around = _
-first_marked e (Some number) (None, _, ((low, below, awake), others)) = awake
-first_marked e (Some number) (Some k, ((low, below, awake), after), found) = subst (λ n. IsMark e.awake n true) (same_Some k number (sym found)) awake
+first_marked e first around = grind (arith, same_Some)
 
 -- Where no link is awake, nothing is taken.
 pub round_none : (e : LinkLayer) (s : Store) (f : Loading) → Standing e s → IsFirstAround e.awake e.turn (length e.links) None

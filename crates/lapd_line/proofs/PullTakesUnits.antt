@@ -55,8 +55,7 @@ oldest e s others m u st is =
 
 -- it goes as a UI command
 sapi_small : (service : Service) → sapi_of service < 64
-sapi_small Call = omega arith
-sapi_small Packet = omega arith
+sapi_small service = grind arith
 
 pub is_frame : (service : Service) (sapi tei : ℕ) → sapi ≡ sapi_of service → tei ≤ 127 → IsFrame (record { address = record { sapi = sapi; command = true; tei = tei }; control = Ui false; info = [] })
 is_frame service sapi tei is fits = record { sapi = omega (arith, is, sapi_small service); tei = omega (arith, fits); kind = refl; size = refl }
@@ -84,15 +83,7 @@ none_for [] (d ∷ ds) none h = absurd h
 none_for (u ∷ us) ds none h = absurd (none-some u none)
 
 pub no_unit : (e : LinkLayer) (s : Store) (f : Loading) → None ≡ slice_get e.units.waiting 0 → Takes (λ c m. unit_taken c m) e s f e s f None
-no_unit e s f none = record {
-  config = refl;
-  limits = record { slots = refl; width = refl };
-  room = refl;
-  reference = refl;
-  took = λ others m st.
-      let same : unit_taken e.config m ≡ None = ap (λ o. option_map (with_unit e.config m) o) (none_for e.units.waiting m.units none st.addressed) in
-      subst (λ o. Took o None m e s others f f) (sym same) (st, refl);
-}
+no_unit e s f none = grind (arith, option_map, none_for)
 
 pub unit_loaded : (e : LinkLayer) (s t : Store) (f g : Loading) (u : QueuedUnit) (sapi : ℕ) (octets : List ℕ) → slice_get e.units.waiting 0 ≡ Some u
     → sapi ≡ sapi_of u.service → contents_of s u.slot ≡ Some octets → t ≡ without s u.slot → SameLimits s t → room_in g ≡ room_in f → reference_in g ≡ reference_in f

@@ -1,13 +1,12 @@
 -- What is written into a report in which nothing is told yet.
-use Rattle.lapd_line.proofs.Vocabulary.{◌≡◌, ℕ, ◌||◌, Bool, true, false, false≢true, List, Option, Some, None, drop, refl, sym, ap, ◌∙◌, Cause, listed, told_with, nothing, told_of_link, BareReport, told_in}
+use Rattle.lapd_line.proofs.Vocabulary.{arith, ◌≡◌, ℕ, ◌||◌, Bool, true, false, false≢true, List, Option, Some, None, drop, refl, sym, ap, ◌∙◌, Cause, listed, told_with, nothing, told_of_link, BareReport, told_in}
 use Rattle.std.specs.Option.{option_or}
 use Rattle.std.specs.Prelude.{if◌then◌else◌}
 use Rattle.model_line.specs.Effect.{unserved_cause}
 use Rattle.lapd_line.specs.Reports.{IsClear}
 
 none_else : (o : Option Cause) → option_or o None ≡ o
-none_else None = refl
-none_else (Some cause) = refl
+none_else o = grind arith
 
 -- a cause alone,
 pub cause_alone : {r : BareReport} (octets : List ℕ) (cause : Option Cause) → IsClear r → told_in octets (record r { cause = cause }) ≡ record nothing { cause = cause }
@@ -26,25 +25,13 @@ clear_tells_nothing {r} octets clear = cause_alone octets r.cause clear ∙ ap (
 -- or what a link told
 pub link_told : (octets info : List ℕ) (r : BareReport) (start : ℕ) → info ≡ drop start octets
     → told_in octets (record r { start = start; cause = None }) ≡ told_of_link (told_with info r)
-link_told octets info r start is =
-    let same = sym is in
-    let alone = none_else (unserved_cause r.unserved) in λ i. record {
-      notes = listed r.notes;
-      contents = option_or (if r.delivered then Some (same i) else None) (if r.unit then Some (same i) else None);
-      cause = alone i;
-      orders = listed r.orders;
-      lost = r.lost;
-    }
+link_told octets info r start is = grind (arith, none_else)
 
 -- contents are lent where they were delivered
 pub some_lent : (delivered unit : Bool) (contents : List ℕ) → (delivered || unit) ≡ true
     → Some contents ≡ option_or (if delivered then Some contents else None) (if unit then Some contents else None)
-some_lent true unit contents is = refl
-some_lent false true contents is = refl
-some_lent false false contents is = absurd (false≢true is)
+some_lent delivered unit contents is = grind arith
 
 pub none_lent : (delivered unit : Bool) (contents : List ℕ) → (delivered || unit) ≡ false
     → None ≡ option_or (if delivered then Some contents else None) (if unit then Some contents else None)
-none_lent true unit contents is = absurd (false≢true (sym is))
-none_lent false true contents is = absurd (false≢true (sym is))
-none_lent false false contents is = refl
+none_lent delivered unit contents is = grind arith

@@ -45,10 +45,7 @@ module _ (e : LinkLayer) (before : Management) (what : teis.Event) (outcome : Te
   -- what the machine makes of it
   pub followed : (s : Store) (others : List Owned) (m : Line) → Stands (with_management before e) s others m
       → of_management e.config what m ≡ of_change e.config outcome.change (told_of_management (told_of outcome)) (record m { management = e.teis })
-  followed s others m st =
-      ap (λ b. of_change e.config (teis.told what b).change (told_of_management (teis.told what b)) (record m { management = teis.after what b })) st.management
-      ∙ ap (λ t. of_change e.config t.change (told_of_management t) (record m { management = teis.after what before })) (sym is.told)
-      ∙ ap (λ n. of_change e.config outcome.change (told_of_management (told_of outcome)) (record m { management = n })) (sym is.after)
+  followed s others m st = grind arith
 
   -- so they stand again, where the links do
   pub rebuilt : (s t : Store) (others : List Owned) (m : Line) (new : List Link) (ms : List machine.Link) (awake : Marks)

@@ -18,8 +18,7 @@ has_place places tei = go (place_of tei places) refl
 
 -- a row of refusals that does not hold, and what comes after it
 row_passed : (b : Bool) (why : Refusal) (rest : Option Refusal) → cond b (Some why) rest ≡ None → (b ≡ false) × (rest ≡ None)
-row_passed true why rest e = cc
-row_passed false why rest e = (refl, e)
+row_passed b why rest e = grind arith
 
 -- an answer that stands after it is the answer of all
 row_passes : {answer rest : Option Refusal} (b : Bool) (why : Refusal) → b ≡ false → answer ≡ rest → answer ≡ cond b (Some why) rest
@@ -27,8 +26,7 @@ row_passes {answer} {rest} b why is same = same ∙ sym (ap (λ t. cond t (Some 
 
 -- neither of two is that not one of them is
 neither : (a b : Bool) → (not a && not b) ≡ not (a || b)
-neither true b = refl
-neither false b = refl
+neither a b = grind arith
 
 -- as many wait as the machine has
 pub waiting : (e : LinkLayer) (s : Store) (others : List Owned) (m : Line) → Stands e s others m → length e.units.waiting ≡ length m.units
@@ -56,13 +54,7 @@ pub record HasPlace (e : LinkLayer) (s : Store) (octets : ℕ) : Type 0 where
 -- unit data that is not refused is proper for the line, and the pool is not full
 granted : (c : Config) (full : Bool) (service : Service) (tei : ℕ) (contents : List ℕ) (m : Line) → refusal c full (asked.Unit service tei contents) m ≡ None
     → IsProper c m (at_units (record { service = service; tei = tei; contents = contents })) × (full ≡ false)
-granted c full service tei contents m e =
-    let bad = row_passed _ _ _ e in
-    let unknown = row_passed _ _ _ bad.1 in
-    let long = row_passed _ _ _ unknown.1 in
-    let queue = row_passed _ _ _ long.1 in
-    let pool = row_passed _ _ _ queue.1 in
-    ((record { tei = unit_tei c.side tei bad.0; size = ltb-false c.n201 (length contents) long.0 }, leb-false c.unit_queue (length m.units) queue.0), pool.0)
+granted c full service tei contents m e = grind (arith, row_passed, unit_tei, ltb-false, leb-false)
 
 -- the answer of the code is that of the machine, whatever the contents of this length
 pub refused_so : (e : LinkLayer) (s : Store) (service : Service) (tei : ℕ) (contents : List ℕ) (slots used : ℕ) (answer : Option Refusal) → used ≡ used_slots s

@@ -19,18 +19,10 @@ sums c (m ∷ ms) = joined (held_in c m) (octets_of c m) _ _ _ _ _ (sum_by-cons 
 
 -- the limits are small numbers
 limit_most : (lines terminals control slots n201 : ℕ) → lines ≤ 64 → terminals ≤ 8 → control ≤ 16 → slots ≤ 8192 → n201 ≤ 260 → lines * (8 * control * terminals + 32 + 12) + slots * n201 + lines * (2 * n201 + 10) ≤ 2232192
-limit_most lines terminals control slots n201 few_lines few_terminals few_control few_slots narrow =
-    let frames : 8 * control * terminals ≤ 8 * control * 8 = mul-le-mul_left (8 * control) few_terminals in
-    let each : 8 * control * terminals + 32 + 12 ≤ 1068 = omega (arith, frames, few_control) in
-    let line : lines * (8 * control * terminals + 32 + 12) ≤ lines * 1068 = mul-le-mul_left lines each in
-    let port : lines * (2 * n201 + 10) ≤ lines * 530 = mul-le-mul_left lines (omega (arith, narrow)) in
-    let lies : slots * n201 ≤ slots * 260 = mul-le-mul_left slots narrow in
-    omega (arith, line, port, lies, few_lines, few_slots)
+limit_most lines terminals control slots n201 few_lines few_terminals few_control few_slots narrow = grind (arith, mul-le-mul_left)
 
 pub octets_small : (c : Config) → IsInRange c → octets.limit c ≤ 2232192
-octets_small c range =
-    let r = ranges_of c range in
-    limit_most c.lines c.terminals c.control c.slots c.n201 r.lines.most r.terminals.most r.control.most r.slots.most r.n201.most
+octets_small c range = grind (arith, ranges_of, limit_most)
 
 pub limit_small : (c : Config) → IsInRange c → limit c ≤ 2232192
 limit_small c range = omega (arith, octets_small c range)

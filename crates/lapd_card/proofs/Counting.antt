@@ -1,19 +1,10 @@
 -- What is counted over a run.
-use Rattle.lapd_card.proofs.Vocabulary.{◌≡◌, ℕ, ◌<◌, ◌==◌, Bool, true, false, cond, List, [], ◌∷◌, ◌++◌, length, length-set, get_or, set, refl, sym, ap, subst, ◌∙◌, eqb-true, eqb-false, get_or-set_same, get_or-set_other, fold-append, Counters, More, none_counted, value_in, with_more, with_all, counters_are_numbers, shown, Card, Event, after, Moment, moments, after_all, moment_counted, all_counted, moment_of, shown_at, all_shown, CountersAreNumbers}
+use Rattle.lapd_card.proofs.Vocabulary.{arith, ◌≡◌, ℕ, ◌<◌, ◌==◌, cond, List, [], ◌∷◌, ◌++◌, length, length-set, get_or, set, refl, sym, ap, subst, ◌∙◌, eqb-true, eqb-false, get_or-set_same, get_or-set_other, fold-append, Counters, More, none_counted, with_more, with_all, counters_are_numbers, shown, Card, Event, after, Moment, moments, after_all, moment_counted, all_counted, moment_of, shown_at, all_shown, CountersAreNumbers}
 
 -- what is shown at a line is counted there, and at no other
 at_place : (all : List Counters) (line : ℕ) (shows : List More) (number : ℕ) → number < length all
     → get_or (set all line (with_all (get_or all line none_counted) shows)) number none_counted ≡ with_all (get_or all number none_counted) (cond (line == number) shows [])
-at_place all line shows number within = go (line == number) refl
-  where
-    here : ℕ → Counters
-    here n = with_all (get_or all n none_counted) shows
-
-    go : (b : Bool) → (line == number) ≡ b → get_or (set all line (here line)) number none_counted ≡ with_all (get_or all number none_counted) (cond b shows [])
-    go true is =
-        ap (λ n. get_or (set all n (here n)) number none_counted) (eqb-true line number is)
-        ∙ get_or-set_same all number (here number) none_counted within
-    go false is = get_or-set_other all line number (here line) none_counted (λ e. eqb-false line number is (sym e))
+at_place all line shows number within = grind (arith, eqb-true, get_or-set_same, get_or-set_other, eqb-false)
 
 -- so after moments the counters of a line have counted what those at it show
 at_places : (all : List Counters) (ms : List Moment) (number : ℕ) → number < length all
@@ -25,9 +16,7 @@ at_places all (m ∷ ms) number within =
     ∙ sym (fold-append with_more (get_or all number none_counted) (shown_at number m) (all_shown number ms))
 
 pub numbers_in_runs : CountersAreNumbers
-numbers_in_runs all ms number counter within are =
-    ap (λ k. value_in k counter) (at_places all ms number within)
-    ∙ counters_are_numbers (get_or all number none_counted) (all_shown number ms) counter are.whole (are.few counter)
+numbers_in_runs all ms number counter within are = grind (arith, at_places, counters_are_numbers)
 
 -- a list with one event more has one moment more
 pub moments-more : (card : Card) (es : List Event) (e : Event) → moments card (es ++ e ∷ []) ≡ moments card es ++ moment_of (after_all card es) e ∷ []

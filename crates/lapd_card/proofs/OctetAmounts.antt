@@ -16,9 +16,7 @@ held_more n201 ps i frames within so_far more = omega (arith, so_far, more, sum_
 module _ {S : Type 0} (store : S → Store) {card self : Held S} (same : card ≡ self) (past : HasPast store card) where
   -- its information fields are short, and its lines few
   pub narrow : card.frames.config.n201 ≤ 260
-  narrow =
-      let (m, s) = past in
-      subst (λ c. c.n201 ≤ 260) s.frames.config (ranges_of m.card.config s.reached.config).n201.most
+  narrow = grind (arith, ranges_of)
 
   few_ports : length card.ports ≤ 64
   few_ports =
@@ -27,10 +25,7 @@ module _ {S : Type 0} (store : S → Store) {card self : Held S} (same : card �
       omega (arith, few, ports-all store card past)
 
   pub frames_small : {n : ℕ} → n ≤ limit card.frames.config → n ≤ 2232192
-  frames_small few =
-      let (m, s) = past in
-      let small = subst (λ c. limit c ≤ 2232192) s.frames.config (limit_small m.card.config s.reached.config) in
-      omega (arith, few, small)
+  frames_small few = grind (arith, limit_small)
 
   pub of_machine : {items : List Port} → items ≡ card.ports → (m : OctetCard) → Stands store card m → length items ≡ length m.ports
   of_machine is m s = ap length is ∙ s.ports.count
@@ -45,9 +40,7 @@ module _ {S : Type 0} (store : S → Store) {card self : Held S} (same : card �
     }
 
     pub few_held : {held one : ℕ} → held ≤ 2232192 + i * 530 → one ≤ 530 → i < length items → Fits w32 (held + one)
-    few_held so_far few here =
-        let place : i < 64 = omega (arith, here, few_ports, ap length is) in
-        grind (arith, so_far, few, place)
+    few_held so_far few here = grind (arith, few_ports)
 
     pub all_held : length items ≤ i → (m : OctetCard) → Stands store card m → sum_by (held_at m.card.config.n201) (take i m.ports) ≡ sum_by (held_at m.card.config.n201) m.ports
     all_held all m s = ap (sum_by (held_at m.card.config.n201)) (take_all i m.ports (omega (arith, all, of_machine is m s)))

@@ -1,6 +1,6 @@
 -- A law of the machine holds of the events of a list at a card of octets, and of every front of it: of frames it is said of
 -- what they mean.
-use Rattle.lapd_card.proofs.Vocabulary.{◌≡◌, ℕ, ◌<◌, ◌↔◌, List, take, sym, ap, subst, ◌∙◌, All-map, All-take, All-weaker, All, Config, IsInRange, Refusal, refused_by_the_table, Card, IsSound, ArePriced, frames_by_event, IsAmortised, IsAmortisedFromZero, IsNeverFull, IsNumbered, IsNumberedFromZero, frames_amortised, frames_amortised_from_zero, pool_never_full, deliveries_numbered, Store, OctetCard}
+use Rattle.lapd_card.proofs.Vocabulary.{arith, ◌≡◌, ℕ, ◌<◌, ◌↔◌, List, take, sym, ap, subst, ◌∙◌, All-map, All-take, All-weaker, All, Config, IsInRange, Refusal, refused_by_the_table, Card, IsSound, ArePriced, frames_by_event, IsAmortised, IsAmortisedFromZero, IsNeverFull, IsNumbered, IsNumberedFromZero, frames_amortised, frames_amortised_from_zero, pool_never_full, deliveries_numbered, Store, OctetCard}
 use Rattle.model_line.specs.Event as line
 use Rattle.model_card.specs.Card as cards
 use Rattle.model_card.specs.Event as frames
@@ -37,9 +37,7 @@ events_at_lines store card events within m s =
 
 -- a request is refused as the card of frames refuses it
 same_refusal : (a : line.Answer) (why : Refusal) → (answer_of a ≡ port.refused why) ↔ (a ≡ line.refused why)
-same_refusal (line.told t) why = ((λ e. cc), (λ e. cc))
-same_refusal (line.refused other) why = ((λ e. cc), (λ e. cc))
-same_refusal (line.gave next) why = ((λ e. cc), (λ e. cc))
+same_refusal a why = grind arith
 
 pub refused_by_table : RefusedByTheTable
 refused_by_table = record {

@@ -1,5 +1,5 @@
 -- An event at a card is one at one of its lines.
-use Rattle.lapd_card.proofs.Vocabulary.{if◌then◌else◌, ◌≡◌, ℕ, ◌<◌, ◌-◌, false, List, [], ◌++◌, length, nat_le, refl, sym, ap, subst, ◌∙◌, Some, None, IsSome, Option, Ok, Err, Result, IfOk, IfErr, IfSome, OnErr, lt-ltb, append-nil, set-get_or, set, map, flat_map, sum_by, zip, Refusal, Service, none_counted, Report, report_told, Config, refusal, Request, slots_of, octets_of, Card, line_at, used, is_full, state, Event, at, wants_room, after, refused_by_the_table, IfErr-weaker, IfOk-weaker, moment_counted, Store, used_slots, stored_octets, used_slots-held, stored_octets-held, slots-machines, octets-machines, slots-pairs, octets-pairs, owned_octets, Owned, FrameLine, config_of, Held, counters_of, IsFit, owned, Stands, HasPast, Leads, answer_of_result, Room, room_in, room, RefusesBy, refuses_by}
+use Rattle.lapd_card.proofs.Vocabulary.{arith, if◌then◌else◌, ◌≡◌, ℕ, ◌<◌, ◌-◌, false, List, [], ◌++◌, length, nat_le, refl, sym, ap, subst, ◌∙◌, Some, None, IsSome, Option, Ok, Err, Result, IfOk, IfErr, IfSome, OnErr, lt-ltb, append-nil, set-get_or, set, map, flat_map, sum_by, zip, Refusal, Service, none_counted, Report, report_told, Config, refusal, Request, slots_of, octets_of, Card, line_at, used, is_full, state, Event, at, wants_room, after, refused_by_the_table, IfErr-weaker, IfOk-weaker, moment_counted, Store, used_slots, stored_octets, used_slots-held, stored_octets-held, slots-machines, octets-machines, slots-pairs, octets-pairs, owned_octets, Owned, FrameLine, config_of, Held, counters_of, IsFit, owned, Stands, HasPast, Leads, answer_of_result, Room, room_in, room, RefusesBy, refuses_by}
 use Rattle.lapd_line.specs.Stands as line
 use Rattle.model_bits.specs.Stream as stream
 use Rattle.model_line.specs.Event as line_event
@@ -140,13 +140,7 @@ module _ {S : Type 0} (store : S → Store) {r : Request} {card self : Held S} {
 
   -- one that is refused leaves the card as it is
   pub request_unchanged : (result : Result Report Refusal) → Requested store r card i slots x result y t w → OnErr result (record { config = card.config; lines = set card.lines i y; shelf = t; waiting = w } ≡ self)
-  request_unchanged (Ok report) asked = tt
-  request_unchanged (Err why) asked =
-      ap (λ l. record { config = card.config; lines = set card.lines i l; shelf = t; waiting = w }) (asked.unchanged ∙ call.is)
-      ∙ ap (λ l. record { config = card.config; lines = l; shelf = t; waiting = w }) (set-get_or card.lines i x)
-      ∙ ap (λ h. record { config = card.config; lines = card.lines; shelf = h; waiting = w }) asked.kept
-      ∙ ap (λ h. record { config = card.config; lines = card.lines; shelf = card.shelf; waiting = h }) asked.unmarked
-      ∙ call.same
+  request_unchanged result asked = grind (arith, set-get_or)
 
   pub request_leads : (result : Result Report Refusal) → Requested store r card i slots x result y t w
       → Leads store (at i (line_event.request r)) self (record { config = card.config; lines = set card.lines i y; shelf = t; waiting = w })

@@ -75,9 +75,7 @@ module _ {S : Type 0} (store : S → Store) where
       ((subst (λ c. Stands store c m) (sym same) s).waiting, all, omega (arith, most, all))
 
   pub few-lines : (card : Held S) → HasPast store card → length card.lines ≤ 64
-  few-lines card (m, s) =
-      let few : m.config.lines ≤ 64 = (ranges_of m.config s.reached.config).lines.most in
-      omega (arith, few, s.lines.count, (reached-sound m s.reached).count)
+  few-lines card o = grind (arith, ranges_of, reached-sound)
 
   module _ {card self : Held S} {i : ℕ} {x : FrameLine} (call : Called store card self i x) where
     focused_at : (m : Card) → Stands store self m → Focused m.config card.lines (store card.shelf) m.lines i x

@@ -1,11 +1,10 @@
 -- An event at a card of octets: what it means to the card of frames, and what becomes of its port.
-use Rattle.lapd_card.proofs.Vocabulary.{◌≡◌, ◌⊎◌, inl, inr, ℕ, ◌<◌, Bool, true, false, List, [], ◌∷◌, ◌++◌, length, refl, sym, ap, subst, ◌∙◌, cond, lt-ltb, set, set-get_or, Option, None, Some, IsSome, IfSome, is_some, option_map, option_map_or, option_to_list, Result, Ok, Err, OnErr, All-cons, All-nil, All-head, Refusal, Report, ShortList, Order, Store, Counters, none_counted, all_counted, moment_counted, moment_of, Card, line_at, may_send, frames_by_event, reached-sound, Timer, Request, BareReport, Port, PortStands, told_in, told_if, latest_in, latest_frame, with_frame, orders_taken, IsLoaded, IsSaid, Pulls, OctetCard, port_at, counters_in}
+use Rattle.lapd_card.proofs.Vocabulary.{arith, ◌≡◌, ◌⊎◌, ℕ, ◌<◌, Bool, true, false, List, [], ◌∷◌, ◌++◌, length, refl, sym, ap, subst, ◌∙◌, cond, lt-ltb, set, set-get_or, Option, None, Some, IsSome, IfSome, is_some, option_map, option_map_or, option_to_list, Result, Ok, Err, OnErr, All-cons, All-nil, All-head, Refusal, Report, ShortList, Order, Store, Counters, all_counted, moment_counted, moment_of, Card, line_at, may_send, frames_by_event, reached-sound, Timer, Request, BareReport, Port, PortStands, told_in, told_if, latest_in, latest_frame, with_frame, orders_taken, IsLoaded, IsSaid, Pulls, OctetCard, port_at, counters_in}
 use Rattle.lapd_bits.specs.Ended.{without_octets}
 use Rattle.lapd_bits.specs.declared.ended.Ended.{Ended}
 use Rattle.lapd_bits.specs.declared.ended.Ended.TheVariants as ended
 use Rattle.model_bits.specs.Stream as stream
 use Rattle.model_line.specs.Event as line
-use Rattle.model_line.specs.Line as lines
 unfoldable use Rattle.model_line.specs.Machine.{after as line_after, answer as line_answer, takes_slot}
 use Rattle.model_line.specs.Taken.{Taken, taken, next_of}
 use Rattle.model_card.specs.ByEvent as by_event
@@ -77,20 +76,16 @@ Tells store i (Some e) old bare =
 -- as it does where something is heard
 pub if_leads : {S : Type 0} (store : S → Store) (i : ℕ) (old new : frame_card.Held S) (h : Option stream.Event) → IsSome h → IfSome h (λ e. frame.Leads store (frames.at i (line.hears e)) old new)
     → LeadsIfHeard store i h old new
-if_leads store i old new None some leads = absurd (cc)
-if_leads store i old new (Some e) some leads = leads
+if_leads store i old new h some leads = grind arith
 
 pub if_tells : {S : Type 0} (store : S → Store) (i : ℕ) (old : frame_card.Held S) (bare : BareReport) (h : Option stream.Event) → IsSome h
     → IfSome h (λ e. (m : Card) → frame.Stands store old m → line.told (told_in (octets_of h) bare) ≡ machine.answer (frames.at i (line.hears e)) m)
     → Tells store i h old (Some bare)
-if_tells store i old bare None some says = absurd (cc)
-if_tells store i old bare (Some e) some says = says
+if_tells store i old bare h some says = grind arith
 
 -- a frame, overlong or not, is something
 pub ended_something : (h : Option stream.Event) {e : Ended} → e ≡ without_octets h → ((n : ℕ) × (e ≡ ended.Frame n)) ⊎ (e ≡ ended.Overlong) → IsSome h
-ended_something (Some x) told is = refl
-ended_something None told (inl (n, is)) = absurd (cc)
-ended_something None told (inr is) = absurd (cc)
+ended_something h told is = grind arith
 
 module _ {S : Type 0} (store : S → Store) {card : Held S} {i : ℕ} {x : Port} (call : Called store card i x) where
   -- ---- an octet
@@ -99,18 +94,15 @@ module _ {S : Type 0} (store : S → Store) {card : Held S} {i : ℕ} {x : Port}
       (brings : (n201 : ℕ) (p : port.Port) → PortStands n201 x p → gained n201 p.received value ≡ latest_in y)
       (goes_on : (n201 : ℕ) (p : port.Port) → PortStands n201 x p → PortStands n201 y (record p { received = p.received ++ value ∷ [] })) where
     stays : (f : frame_card.Held S) (h : Option stream.Event) → LeadsIfHeard store i h card.frames f → f.config ≡ card.frames.config
-    stays f None same = ap (λ c. c.config) same
-    stays f (Some e) leads = leads.config
+    stays f h same = grind arith
 
     frames_stand : (f : frame_card.Held S) (h : Option stream.Event) → LeadsIfHeard store i h card.frames f → (m : OctetCard) → Stands store card m
         → frame.Stands store f (option_map_or (card_after m.card) (heard_at i h) m.card)
-    frames_stand f None same m s = subst (λ c. frame.Stands store c m.card) (sym same) s.frames
-    frames_stand f (Some e) leads m s = leads.stands m.card s.frames
+    frames_stand f h same m s = grind arith
 
     frames_count : (f : frame_card.Held S) (h : Option stream.Event) → LeadsIfHeard store i h card.frames f → (m : OctetCard) → Stands store card m
         → counters_in f.lines ≡ all_counted (counters_in card.frames.lines) (option_to_list (option_map (frame_moment m) (heard_at i h)))
-    frames_count f None same m s = ap (λ c. counters_in c.lines) same
-    frames_count f (Some e) leads m s = leads.counted m.card s.frames
+    frames_count f h same m s = grind arith
 
     pub octet_leads : (f : frame_card.Held S) → LeadsIfHeard store i (latest_in y) card.frames f → Leads store (at i (port.octet value)) card (record { frames = f; ports = set card.ports i y })
     unfolding after meant
@@ -130,8 +122,7 @@ module _ {S : Type 0} (store : S → Store) {card : Held S} {i : ℕ} {x : Port}
 
     tells : (h : Option stream.Event) (bare : Option BareReport) → Tells store i h card.frames bare → (m : OctetCard) → Stands store card m
         → port.told (told_if (octets_of h) bare) ≡ option_map_or answer_of (option_map (answer_to m.card) (heard_at i h)) (port.told line.nothing)
-    tells None bare none m s = ap (λ b. port.told (told_if [] b)) none
-    tells (Some e) bare says m s = ap answer_of (says m.card s.frames)
+    tells h bare none m s = grind arith
 
     pub octet_told : (bare : Option BareReport) → Tells store i (latest_in y) card.frames bare → (m : OctetCard) → Stands store card m
         → port.told (told_if (latest_frame y) bare) ≡ answer (at i (port.octet value)) m
@@ -162,16 +153,11 @@ module _ {e : port.Event} {f : line.Event} (on : IsPassedOn e f) where
 
   pub passed_after : (i : ℕ) (m : OctetCard) → after (at i e) m ≡ record { card = machine.after (frames.at i f) m.card; ports = m.ports }
   unfolding after
-  passed_after i m =
-      ap (λ o. record { card = option_map_or (card_after m.card) o m.card; ports = set m.ports i (port.after e (said (at i e) m) (port_at i m)) }) (meant_is i m)
-      ∙ ap (λ p. record { card = machine.after (frames.at i f) m.card; ports = set m.ports i p }) (on.leaves (said (at i e) m) (port_at i m))
-      ∙ ap (λ ps. record { card = machine.after (frames.at i f) m.card; ports = ps }) (set-get_or m.ports i port.fresh_port)
+  passed_after i m = grind (arith, meant_is, set-get_or)
 
   pub passed_answer : (i : ℕ) (m : OctetCard) → answer (at i e) m ≡ answer_of (machine.answer (frames.at i f) m.card)
   unfolding answer
-  passed_answer i m =
-      on.answers (said (at i e) m) (port_at i m)
-      ∙ ap (λ o. option_map_or answer_of (option_map (answer_to m.card) o) (port.told line.nothing)) (meant_is i m)
+  passed_answer i m = grind (arith, meant_is)
 
   pub passed_leads : {S : Type 0} (store : S → Store) {card : Held S} {i : ℕ} {g : frame_card.Held S} → i < line_count card
       → frame.Leads store (frames.at i f) card.frames g → Leads store (at i e) card (record { frames = g; ports = card.ports })
@@ -196,8 +182,7 @@ module _ {e : port.Event} {f : line.Event} (on : IsPassedOn e f) where
 
 -- a request is answered as the card of frames answers it
 pub same_result : (result : Result Report Refusal) → answer_of_result result ≡ answer_of (frame_reply.answer_of_result result)
-same_result (Ok report) = refl
-same_result (Err why) = refl
+same_result result = grind arith
 
 -- and where it is refused, the card of octets is as it was, too
 pub same_card : {T E S : Type 0} (result : Result T E) {f : frame_card.Held S} (g : frame_card.Held S) {ports : List Port} {self : Held S} → record { frames = f; ports = ports } ≡ self → OnErr result (g ≡ f)
@@ -215,8 +200,7 @@ abbrev called : ℕ → Bool → Option frames.Event
 called i due = option_map (frames.at i) (asked due)
 
 said_if_due : (card : Card) (i : ℕ) (due : Bool) → is_some (option_map (answer_to card) (called i due)) ≡ due
-said_if_due card i true = refl
-said_if_due card i false = refl
+said_if_due card i due = grind arith
 
 next_answer : (card : Card) (i : ℕ) → machine.answer (frames.at i line.next) card ≡ line.gave (option_map next_of (taken card.config (line_at i card)))
 unfolding line_answer takes_slot
@@ -224,8 +208,7 @@ next_answer card i = refl
 
 -- none is given where none is taken
 none_taken : (o : Option Taken) → option_map next_of o ≡ None → o ≡ None
-none_taken None is = refl
-none_taken (Some t) is = absurd (cc)
+none_taken o is = grind arith
 
 pub quiet_gives : (card : Card) (i : ℕ) → taken card.config (line_at i card) ≡ None → given_in (machine.answer (frames.at i line.next) card) ≡ None
 quiet_gives card i none = ap given_in (next_answer card i) ∙ ap (option_map next_of) none
@@ -233,25 +216,17 @@ quiet_gives card i none = ap given_in (next_answer card i) ∙ ap (option_map ne
 -- and then nothing changes, and nothing is counted
 pub none_leaves : (card : Card) (i : ℕ) → given_in (machine.answer (frames.at i line.next) card) ≡ None → machine.after (frames.at i line.next) card ≡ card
 unfolding line_after takes_slot
-none_leaves card i none =
-    let is = none_taken (taken card.config (line_at i card)) (sym (ap given_in (next_answer card i)) ∙ none) in
-    ap (λ o. record card { lines = set card.lines i (option_map_or (λ (t : Taken). t.line) o (line_at i card)) }) is
-    ∙ ap (λ ls. record card { lines = ls }) (set-get_or card.lines i (lines.fresh_line card.config))
+none_leaves card i none = grind (arith, none_taken, next_answer, set-get_or)
 
 pub none_counts : (card : Card) (i : ℕ) (all : List Counters) → given_in (machine.answer (frames.at i line.next) card) ≡ None → moment_counted all (moment_of card (frames.at i line.next)) ≡ all
-none_counts card i all none =
-    let is = next_answer card i ∙ ap line.gave (sym (ap given_in (next_answer card i)) ∙ none) in
-    ap (λ a. moment_counted all (record { card = card; event = frames.at i line.next; answer = a })) is
-    ∙ set-get_or all i none_counted
+none_counts card i all none = grind (arith, next_answer, set-get_or)
 
 none_begun_leaves : (card : Card) (i : ℕ) (due : Bool) → frame_begun (option_map (answer_to card) (called i due)) ≡ None → option_map_or (card_after card) (called i due) card ≡ card
-none_begun_leaves card i true none = none_leaves card i none
-none_begun_leaves card i false none = refl
+none_begun_leaves card i due none = grind (arith, none_leaves)
 
 none_begun_counts : (m : OctetCard) (i : ℕ) (all : List Counters) (due : Bool) → frame_begun (option_map (answer_to m.card) (called i due)) ≡ None
     → all ≡ all_counted all (option_to_list (option_map (frame_moment m) (called i due)))
-none_begun_counts m i all true none = sym (none_counts m.card i all none)
-none_begun_counts m i all false none = refl
+none_begun_counts m i all due none = grind (arith, none_counts)
 
 -- no frame is begun where none is due, or none waits
 pub not_due : (m : OctetCard) (i : ℕ) → is_due (port_at i m) ≡ false → frame_begun (said (at i port.pull) m) ≡ None
@@ -263,8 +238,7 @@ unfolding meant
 quiet m i none = go (is_due (port_at i m))
   where
     go : (due : Bool) → frame_begun (option_map (answer_to m.card) (called i due)) ≡ None
-    go true = quiet_gives m.card i none
-    go false = refl
+    go due = grind (arith, quiet_gives)
 
 -- A port gives the next octet, with a frame that was taken for it or none.
 abbrev pub Gives : Port → Option (ShortList Order) → Pulled → Port → Type 0
@@ -314,8 +288,7 @@ module _ {S : Type 0} (store : S → Store) {card : Held S} {i : ℕ} {x : Port}
 
     pub next_told : (m : OctetCard) → Stands store card m → pulled_of pulled ≡ answer (at i port.pull) m
     unfolding answer meant
-    next_told m s =
-        (pulls_next m s).told ∙ ap (λ b. port.answer port.pull (option_map (answer_to m.card) (called i b)) (port_at i m)) (sym (due m s))
+    next_told m s = grind (arith, pulls_next, due)
 
     pub next_leads : Leads store (at i port.pull) card (record { frames = f; ports = set card.ports i y })
     unfolding after meant

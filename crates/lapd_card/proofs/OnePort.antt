@@ -1,5 +1,5 @@
 -- One port of a card of octets, taken out of its ports and put back; and what leads such a card on.
-use Rattle.lapd_card.proofs.Vocabulary.{◌≡◌, ◌≢◌, ℕ, ◌<◌, ◌==◌, Bool, true, false, List, [], ◌∷◌, ◌++◌, length, refl, sym, ap, subst, ◌∙◌, arith, true≢false, eqb-true, eq-eqb, get_or, set, length-set, get_or-set_same, get_or-set_other, set-set, slice_get, slice_get-get_or, Some, IfSome, All, All-push, Config, Store, BareReport, Card, Port, PortStands, latest_frame, told_if, OctetCard, port_at, PortsStand, told_at, told_of, told_if_at, option_map_or, nothing, None, Option}
+use Rattle.lapd_card.proofs.Vocabulary.{◌≡◌, ◌≢◌, ℕ, ◌<◌, ◌==◌, Bool, true, false, List, [], ◌∷◌, ◌++◌, length, refl, sym, ap, subst, ◌∙◌, arith, true≢false, eqb-true, eq-eqb, get_or, set, length-set, get_or-set_same, get_or-set_other, set-set, slice_get, slice_get-get_or, Some, IfSome, All, All-push, Config, Store, BareReport, Card, Port, PortStands, latest_frame, told_if, OctetCard, port_at, PortsStand, told_at, told_of, told_if_at, option_map_or, nothing, Option}
 use Rattle.model_card.specs.ports.Card.{after, said, fresh}
 use Rattle.model_card.specs.ports.Event.{Event, at}
 use Rattle.model_card.specs.ports.Port as port
@@ -43,9 +43,7 @@ pub told_there : (ports : List Port) (i : ℕ) (x : Port) (outcome : BareReport)
 told_there ports i x outcome within is = ap (λ there. option_map_or (told_of outcome) there nothing) (slice_get-get_or ports i x within ∙ ap Some (sym is))
 
 pub told_if_there : (ports : List Port) (i : ℕ) (y : Port) (outcome : Option BareReport) → i < length ports → told_if_at (set ports i y) i outcome ≡ told_if (latest_frame y) outcome
-told_if_there ports i y None within = refl
-told_if_there ports i y (Some outcome) within =
-    told_there (set ports i y) i y outcome (omega (arith, within, length-set ports i y)) (sym (get_or-set_same ports i y y within))
+told_if_there ports i y outcome within = grind (arith, told_there, length-set, get_or-set_same)
 
 -- what holds of the port at a place
 pub at_place : (ports : List Port) (i : ℕ) (x : Port) (P : Port → Type 0) → i < length ports → x ≡ get_or ports i x → IfSome (slice_get ports i) P → P x

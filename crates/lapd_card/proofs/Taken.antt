@@ -1,6 +1,6 @@
 -- A list of events, one by one, and what a sink has taken of it.
-use Rattle.lapd_card.proofs.Vocabulary.{◌≡◌, ℕ, ◌+◌, zero, suc, List, [], ◌∷◌, ◌++◌, map, take, refl, sym, ap, subst, ◌∙◌, Some, slice_get, arith, false≢true, none-some, same_Some, is_err, OnOk, fold-append, Card, Event, one_more, run, moments, moment_of, moment_counted, all_counted, run_is_moments, after_all, Counters, Taken}
-use Rattle.std.specs.Prelude.{Result, Ok, Err, OnErr, true, false}
+use Rattle.lapd_card.proofs.Vocabulary.{◌≡◌, ℕ, ◌+◌, zero, suc, List, [], ◌∷◌, ◌++◌, map, take, refl, sym, ap, subst, ◌∙◌, Some, slice_get, arith, none-some, same_Some, is_err, OnOk, fold-append, Card, Event, one_more, run, moments, moment_of, moment_counted, all_counted, run_is_moments, after_all, Counters, Taken}
+use Rattle.std.specs.Prelude.{Result, OnErr, true, false}
 use Rattle.lapd_card.proofs.Counting.{moments-more}
 
 -- one reply more
@@ -15,10 +15,7 @@ next-one f (y ∷ ys) zero x is = ap (λ z. f z ∷ []) (same_Some y x is)
 next-one f (y ∷ ys) (suc at) x is = ap (λ l. f y ∷ l) (next-one f ys at x is)
 
 pub one-more : {X Y : Type 0} (f : X → Y) (xs : List X) (at : ℕ) (x : X) → slice_get xs at ≡ Some x → take (at + 1) (map f xs) ≡ take at (map f xs) ++ f x ∷ []
-one-more f xs at x is = ap (λ n. take n (map f xs)) one_more_is ∙ next-one f xs at x is
-  where
-    one_more_is : at + 1 ≡ suc at
-    one_more_is = omega arith
+one-more f xs at x is = grind (arith, next-one)
 
 pub one-at : {X Y : Type 0} (f : X → Y) (xs : List X) (at : ℕ) (x : X) → slice_get xs at ≡ Some x → slice_get (map f xs) at ≡ Some (f x)
 one-at f [] at x is = absurd (none-some x is)
@@ -42,9 +39,7 @@ moments-count all m es e =
 
 -- what holds where a reply was taken, and where it was not
 pub at_ok : {T E : Type 0} (r : Result T E) (P : Type 0) → is_err r ≡ false → OnOk r P → P
-at_ok (Ok x) P is p = p
-at_ok (Err y) P is p = absurd (false≢true (sym is))
+at_ok r P is p = grind arith
 
 pub at_err : {T E : Type 0} (r : Result T E) (P : Type 0) → is_err r ≡ true → OnErr r P → P
-at_err (Ok x) P is p = absurd (false≢true is)
-at_err (Err y) P is p = p
+at_err r P is p = grind arith

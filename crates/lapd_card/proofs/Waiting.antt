@@ -28,8 +28,7 @@ pub record Looked (i : ℕ) (old : Marks) (y : FrameLine) (new : Marks) : Type 0
 
 -- a mark says whether its test holds
 pub same_marks : (a b : Bool) → digit a ≡ digit b → a ≡ b
-same_marks true b is = sym (marked b is)
-same_marks false b is = sym (unmarked b is)
+same_marks a b is = grind (arith, marked, unmarked)
 
 -- a line of the card
 pub at_line_of_card : (i : ℕ) (m : Card) → i < m.config.lines → has_next i m ≡ lines.has_next m.config (line_at i m)
@@ -41,11 +40,7 @@ nothing_waits_at i m within none = nothing_waits m.config (line_at i m) (none �
 -- so all are marked, where one line has become another
 pub waiting_set : (i : ℕ) (m : Card) (l : machine.Line) (b : Bool) (old new : Marks) → i < m.config.lines → i < length m.lines → b ≡ lines.has_next m.config l → Sets i b old new
     → AreMarked old (waits_on m) → AreMarked new (waits_on (record m { lines = set m.lines i l }))
-waiting_set i m l b old new within there told sets h =
-    marked_one i b old new (waits_on m) (waits_on (record m { lines = set m.lines i l })) sets
-    (at_line_of_card i (record m { lines = set m.lines i l }) within ∙ ap (lines.has_next m.config) (get_or-set_same m.lines i l (fresh_line m.config) there) ∙ sym told)
-    (λ other apart. ap (λ x. nat_lt other m.config.lines && lines.has_next m.config x) (get_or-set_other m.lines i other l (fresh_line m.config) apart))
-    h
+waiting_set i m l b old new within there told sets h = grind (arith, marked_one, at_line_of_card, get_or-set_same, nat_lt, get_or-set_other)
 
 -- On a line as it begins no frame waits.
 all_same : {X : Type 0} (n number : ℕ) (x : X) → get_or (replicate n x) number x ≡ x
@@ -64,13 +59,7 @@ pub fresh_waits : (c : Config) → lines.has_next c (fresh_line c) ≡ false
 fresh_waits c = ap is_some (fresh_takes_none c (round c (fresh_line c)))
 
 pub none_marked_first : (c : Config) (marks : Marks) → AreMarked marks (λ number. false) → AreMarked marks (waits_on (fresh c))
-none_marked_first c marks h = λ number few.
-    h number few
-    ∙ ap digit (sym (ap (λ l. nat_lt number c.lines && lines.has_next c l) (all_same c.lines number (fresh_line c)) ∙ ap (λ b. nat_lt number c.lines && b) (fresh_waits c) ∙ and_false (nat_lt number c.lines)))
-  where
-    and_false : (b : Bool) → (b && false) ≡ false
-    and_false true = refl
-    and_false false = refl
+none_marked_first c marks h = grind (arith, nat_lt, all_same, fresh_waits)
 
 -- The first of some numbers for which a test holds.
 find_first : (p : ℕ → Bool) (from n number : ℕ) → from ≤ number → number < from + n → p number ≡ true → ((k : ℕ) → from ≤ k → k < number → p k ≡ false)

@@ -21,5 +21,6 @@ pub mod WorkedResting
 pub mod WorkedArriving
 pub mod WorkedAnswering
 pub mod WorkedSettling
+pub mod WorkedImpatient
 pub mod WorkedEnding
 pub mod WorkedBroken

@@ -84,6 +84,7 @@ pub mod LooseRounds
 pub mod UaSettled
 pub mod UaRings
 pub mod UaSettles
+pub mod UaComes
 pub mod PremisesMet
 pub mod BothMet
 pub mod RecoveryMet

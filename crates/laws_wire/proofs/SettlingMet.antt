@@ -3,13 +3,14 @@ use Rattle.laws_wire.proofs.Vocabulary.{◌≡◌, ℕ, ◌≤◌, [], ◌∷◌
 use Rattle.lapd_frame.specs.declared.timers.Timer.TheVariants.{T200}
 use Rattle.lapd_tei.specs.Events as teis
 use Rattle.model_line.specs.Machine as lines
-use Rattle.laws_wire.specs.Answering.{uncalled, seen}
-use Rattle.laws_wire.specs.Settling.{most_moves, near_expires, HasLeft, HasTold, IsAtRest}
+use Rattle.laws_wire.specs.Answering.{IsAtRest, uncalled, seen}
+use Rattle.laws_wire.specs.Settling.{most_moves, none_busy, busy, near_expires, HasLeft, HasTold}
 use Rattle.laws_wire.specs.WorkedAnswering.{loses_ua}
 use Rattle.laws_wire.specs.WorkedSettling.{is_ready, ready, ready_seen, ready_free, ready_still, ready_near, ready_left, ua_lost, lost_near, lost_still}
 use Rattle.laws_wire.proofs.AnsweringMet.{only-turns, patient-first}
 use Rattle.laws_wire.proofs.PremisesMet.{can, all-of}
 use Rattle.laws_wire.proofs.RecoveryMet.{none-told, heard-it}
+use Rattle.laws_wire.proofs.UaComes.{lossy-calls-come-to-rest}
 use Rattle.laws_wire.proofs.UaMoves.{both-patient, lossy-moves-come-to-an-end, lossy-rounds-come-to-rest}
 use Rattle.laws_wire.proofs.UaSettles.{lossy-calls-are-answered, lossy-calls-settle}
 
@@ -50,3 +51,12 @@ may-lost = none-told
 told-again : heard_in (rounds 1 (doing_all (near_expires Call 0) (doing_all ua_lost begins))).near ≡ confirmed Call 0 ∷ []
 told-again =
     (lossy-calls-are-answered Call user network 0 0 0 ua_lost can full-lost (only-turns ua_lost refl begins) lost_still lost_near may-lost).1
+
+free-lost : busy ua_lost begins none_busy ≡ none_busy
+unfolding lines.after lines.answer lines.takes_slot reading header_of control_of unnumbered_of supervisory_of teis.course teis.refusal seq distance_of named doing_all busy
+free-lost = refl
+
+comes : (n : ℕ) × (n ≤ most_moves 7 ua_lost begins) × IsStill (rounds n (doing_all ua_lost begins))
+comes =
+    let x = lossy-calls-come-to-rest Call user network 0 0 0 7 ua_lost can full-lost (omega arith) (omega arith) (only-turns ua_lost refl begins) free-lost in
+    (x.0, x.1, x.2)

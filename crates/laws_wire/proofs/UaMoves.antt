@@ -123,7 +123,7 @@ unfolding StayPatient doing_all
 both-patient [] es w h g = g
 both-patient (d ∷ ds) es w h g = (h.0, both-patient ds es (doing d w) h.1 g)
 
-reports-append : (ds es : List Doing) (w : Wire) → reports (ds ++ es) w ≡ reports ds w + reports es (doing_all ds w)
+pub reports-append : (ds es : List Doing) (w : Wire) → reports (ds ++ es) w ≡ reports ds w + reports es (doing_all ds w)
 unfolding reports doing_all
 reports-append [] es w = omega arith
 reports-append (d ∷ ds) es w =
@@ -147,7 +147,7 @@ unfolding many StayPatient
 many-patient zero w = tt
 many-patient (suc n) w = (tt, (tt, (tt, (tt, many-patient n (rounded w)))))
 
-none-reported : (n : ℕ) (w : Wire) → reports (many n) w ≡ 0
+pub none-reported : (n : ℕ) (w : Wire) → reports (many n) w ≡ 0
 unfolding many reports
 none-reported zero w = refl
 none-reported (suc n) w = let rest : reports (many n) (rounded w) ≡ 0 = none-reported n (rounded w) in omega (arith, rest)

@@ -52,7 +52,7 @@ none-first (x ∷ xs) ys e = absurd (cc)
 none-before : (s s' : Station) → More s s' → heard_in s' ≡ [] → heard_in s ≡ []
 none-before s s' x e = none-first (heard_in s) (flat_map for_layer_3 x.more) (sym (flat_map-append for_layer_3 s.told x.more) ∙ sym (ap (flat_map for_layer_3) x.told) ∙ e)
 
-told-still : (ds : List Doing) (w : Wire) → (heard_in w.near ≡ [] → ⊥) → heard_in (doing_all ds w).near ≡ [] → ⊥
+pub told-still : (ds : List Doing) (w : Wire) → (heard_in w.near ≡ [] → ⊥) → heard_in (doing_all ds w).near ≡ [] → ⊥
 unfolding doing_all
 told-still [] w h = h
 told-still (at_near act ∷ ds) w h = told-still ds (acting act w) (λ e. h (none-before w.near (acting act w).near (near-more act w) e))

@@ -14,8 +14,7 @@ use Rattle.laws_wire.specs.Facing.{granted_of}
 use Rattle.laws_wire.specs.Recovering.{rounds, both_expire, with_t200_expired, BothMayRepeat}
 use Rattle.laws_wire.specs.Timely.{MayRepeat}
 use Rattle.laws_wire.specs.Resting.{moves, expiries, most_frames}
-use Rattle.laws_wire.specs.Answering.{IsFullTalk, StayPatient, Called, uncalled, seen, all_kept, all_of_calls}
-pub use Rattle.laws_wire.specs.Answering.{IsAtRest}
+use Rattle.laws_wire.specs.Answering.{IsFullTalk, StayPatient, IsAtRest, Called, uncalled, seen, all_kept, all_of_calls}
 
 -- How often layer 3 of an end was granted to say that it is busy, or ready again: for each RNR or RR goes, at most once.
 abbrev pub is_of_busy : Request → Bool
@@ -113,3 +112,16 @@ LossyCallsSettle =
     (service : Service) (c d : Config) (line other tei : ℕ) (ds : List Doing) → CanCall c line d other tei → All (IsFullTalk service tei) ds →
     let begun = calling service tei c line d other in StayPatient ds begun → busy ds begun none_busy ≡ none_busy →
     Settles service tei (seen service tei ds begun uncalled) (doing_all ds begun)
+
+-- So rest comes, at any time of such a call, where nothing more is asked for and nothing more is lost: rounds lead to where no turn is
+-- left, and T200 expires at the end that calls; they lead there again, and it expires at both; and then as many rounds as contents were
+-- granted in all, and three more, lead to rest.
+abbrev pub LossyCallsComeToRest : Type 0
+LossyCallsComeToRest =
+    (service : Service) (c d : Config) (line other tei k : ℕ) (ds : List Doing) → CanCall c line d other tei → All (IsFullTalk service tei) ds →
+    (terms c service tei).k ≤ k → (terms d service tei).k ≤ k → let begun = calling service tei c line d other in let w = doing_all ds begun in
+    StayPatient ds begun → busy ds begun none_busy ≡ none_busy →
+    (n : ℕ) × (n ≤ most_moves k ds begun) × IsStill (rounds n w) × (MayRepeat service tei (rounds n w).near →
+    let w' = doing_all (near_expires service tei) (rounds n w) in
+    (m : ℕ) × (m ≤ most_moves k ds begun + 2 * (k + 2) + 1) × IsStill (rounds m w') × (BothMayRepeat service tei (rounds m w') →
+    IsAtRest service tei (rounds (granted_of w + 3) (with_t200_expired service tei (rounds m w')))))

@@ -14,7 +14,7 @@ use Rattle.laws_wire.specs.Losing.{heard_in}
 use Rattle.laws_wire.specs.Recovering.{rounds, with_t200_expired}
 use Rattle.laws_wire.specs.Resting.{moves, expiries, most_frames}
 use Rattle.laws_wire.specs.Arriving.{runs_t200}
-use Rattle.laws_wire.specs.Answering.{uncalled, error_f, seen}
+use Rattle.laws_wire.specs.Answering.{IsAtRest, uncalled, error_f, seen}
 use Rattle.laws_wire.specs.Settling.{reports, most_moves, none_busy, busy, HasLeft, near_expires}
 use Rattle.laws_wire.specs.WorkedAnswering.{loses_ua}
 use Rattle.laws_wire.specs.Worked.{begins, establishes}
@@ -146,6 +146,18 @@ lost_near = refl
 told_again : heard_in (rounds 1 (doing_all (near_expires Call 0) (doing_all ua_lost begins))).near ≡ confirmed Call 0 ∷ []
 unfolding lines.after lines.answer lines.takes_slot reading header_of control_of unnumbered_of supervisory_of teis.course teis.refusal seq distance_of named doing_all rounds
 told_again = refl
+
+-- There no turn is left, and once T200 expires at both ends, which does nothing as it runs at neither, three rounds lead to rest.
+abbrev rung : Wire
+rung = rounds 1 (doing_all (near_expires Call 0) (doing_all ua_lost begins))
+
+rung_still : IsStill rung
+unfolding lines.after lines.answer lines.takes_slot reading header_of control_of unnumbered_of supervisory_of teis.course teis.refusal seq distance_of named doing_all rounds
+rung_still = record { near = refl; far = refl; near_way = refl; far_way = refl }
+
+rung_rests : IsAtRest Call 0 (rounds 3 (with_t200_expired Call 0 rung))
+unfolding lines.after lines.answer lines.takes_slot reading header_of control_of unnumbered_of supervisory_of teis.course teis.refusal seq distance_of named doing_all rounds
+rung_rests = (record { near = refl; far = refl; near_way = refl; far_way = refl }, refl, refl)
 
 -- RNR and RR are to be counted: here they go nine times each, and are lost. Forty moves, and without them the bound would be 36.
 abbrev asks_much : List Doing

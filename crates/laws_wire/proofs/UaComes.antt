@@ -1,0 +1,252 @@
+-- A call in which UA may be lost and an end may be busy comes to rest, from any time of it on.
+use Rattle.laws_wire.proofs.Vocabulary.{◌≡◌, ◌≢◌, ℕ, zero, suc, ◌+◌, ◌-◌, ◌*◌, ◌≤◌, List, [], ◌∷◌, ◌++◌, length, map, drop, refl, sym, ap, subst, ◌∙◌, arith, length-append, length-map, All, All-cons, All-nil, All-append, Service, IsInRange, Config, LineTold, terms, Wire, times_out, gives, takes, at_near, at_far, Doing, doing, doing_all, IsStill, calling, CanCall, granted_of, confirmed, data_told, heard_in, IsFullTalk, StayPatient, MayRepeat, BothMayRepeat, with_t200_expired, rounds, expiries, most_frames, expiry}
+use Rattle.std.proofs.lemmas.List.{length-drop}
+use Rattle.lapd_frame.specs.declared.timers.Timer.TheVariants as timers
+use Rattle.laws_wire.specs.Answering.{IsAtRest, Called, uncalled, seen, all_kept, all_of_calls, ToldSo}
+use Rattle.laws_wire.specs.Settling.{reports, most_moves, none_busy, Busy, busy, busy_behind, HasLeft, near_expires, LossyCallsComeToRest}
+use Rattle.laws_wire.proofs.Answered.{same-granted}
+use Rattle.laws_wire.proofs.Awaited.{open-here}
+use Rattle.laws_wire.proofs.LossyRun.{setting}
+use Rattle.laws_wire.proofs.RestedRounds.{doing-append, expiries-append, many, many-rounds, none-expires, none-more}
+use Rattle.laws_wire.proofs.TimelyUp.{hushed, none-open}
+use Rattle.laws_wire.proofs.Talking.{Face}
+use Rattle.laws_wire.proofs.UaLostRun.{Goes}
+use Rattle.laws_wire.proofs.UaMoves.{both-patient, many-full, many-patient, none-reported, reports-append, rests-in}
+use Rattle.laws_wire.proofs.UaSettles.{patient-before, lossy-calls-are-answered, lossy-calls-settle}
+use Rattle.laws_wire.proofs.UaTold.{patient-goes, lossy-calls-come-through}
+use Rattle.laws_wire.proofs.UaWeighs.{Seen, seen-in}
+use Rattle.laws_wire.proofs.UnderwayRounds.{told-still}
+
+-- ---- own busy is not asked for
+
+busy-append : (ds es : List Doing) (w : Wire) (x : Busy) → busy (ds ++ es) w x ≡ busy es (doing_all ds w) (busy ds w x)
+unfolding busy doing_all
+busy-append [] es w x = refl
+busy-append (d ∷ ds) es w x = busy-append ds es (doing d w) (busy_behind d w x)
+
+none-busier : (n : ℕ) (w : Wire) (x : Busy) → busy (many n) w x ≡ x
+unfolding many busy
+none-busier zero w x = refl
+none-busier (suc n) w x = none-busier n (doing (at_near takes) (doing (at_far gives) (doing (at_far takes) (doing (at_near gives) w)))) x
+
+-- ---- where no turn is left T200 of the end that calls is timely
+
+module _ (service : Service) (tei : ℕ) (c d : Config) (p q : ℕ) (face : Face c d) (back : Face d c) (rt : IsInRange (terms c service tei)) (ru : IsInRange (terms d service tei)) (v : ℕ)
+    (wide_c : 2 * (terms c service tei).k ≤ v) (wide_d : 2 * (terms d service tei).k ≤ v) where
+  seen-long : (w : Wire) → Seen service tei c d p q face back rt ru v wide_c wide_d w → IsStill w → MayRepeat service tei w.near → StayPatient (near_expires service tei) w
+  unfolding StayPatient
+  seen-long w s still may =
+      let near-quiet = hushed service tei c p s.past_n w.near s.n s.near still.near still.near_way in
+      let far-quiet = hushed service tei d q s.past_m w.far s.m s.far still.far still.far_way in
+      ((λ awaits. open-here service tei c d p q w.near w.far s.n s.m s.near.stands s.far.stands (none-open service tei s.n s.m near-quiet far-quiet), may), tt)
+
+  goes-long : (x : Called) (w : Wire) → Goes service tei c d p q face back rt ru x w → IsStill w → MayRepeat service tei w.near → StayPatient (near_expires service tei) w
+  goes-long x w h still may =
+      let still' = subst IsStill h.is still in
+      let may' = subst (λ (w : Wire). MayRepeat service tei w.near) h.is may in
+      subst (StayPatient (near_expires service tei)) (sym h.is)
+      (patient-before h.earlier (near_expires service tei) h.v
+      (seen-long h.v (seen-in service tei c d p q face back rt ru v wide_c wide_d x h.v h.phase)
+      (record { near = still'.near; far = still'.far; near_way = still'.near_way; far_way = still'.far_way }) may'))
+
+module _ (service : Service) (c d : Config) (line other tei k : ℕ) (can : CanCall c line d other tei) where
+  abbrev begun : Wire
+  begun = calling service tei c line d other
+
+  wide : (a b : ℕ) → (2 * a ≤ 2 * a + 2 * b) × (2 * b ≤ 2 * a + 2 * b)
+  wide a b = (omega arith, omega arith)
+
+  long : (ds : List Doing) → All (IsFullTalk service tei) ds → StayPatient ds begun → IsStill (doing_all ds begun) → MayRepeat service tei (doing_all ds begun).near
+      → StayPatient (near_expires service tei) (doing_all ds begun)
+  long ds talk patient =
+      let s = setting service c d line other tei can in
+      let less = wide (terms c service tei).k (terms d service tei).k in
+      goes-long service tei c d 0 0 s.face s.back s.near s.far (2 * (terms c service tei).k + 2 * (terms d service tei).k) less.0 less.1 (seen service tei ds begun uncalled) (doing_all ds begun)
+      (patient-goes service c d line other tei ds can talk patient)
+
+  -- of what is told no more is missing than was granted
+  few-left : (a b g kept heard : ℕ) → kept ≡ suc (a - b) → a ≤ g → 1 ≤ heard → kept ≤ heard + g
+  few-left a b g kept heard e le some = omega (arith, e, le, some)
+
+  module _ (ds : List Doing) (talk : All (IsFullTalk service tei) ds) (patient : StayPatient ds begun) (told : heard_in (doing_all ds begun).near ≢ []) where
+    abbrev x : Called
+    x = seen service tei ds begun uncalled
+
+    abbrev w : Wire
+    w = doing_all ds begun
+
+    some-heard : (hs : List LineTold) → hs ≢ [] → 1 ≤ length hs
+    some-heard [] some = absurd (some refl)
+    some-heard (h ∷ hs) some = omega arith
+
+    law : ToldSo service tei x w
+    law = lossy-calls-come-through service c d line other tei ds can talk patient
+
+    near-left : length (all_kept service tei x w.far) ≤ length (heard_in w.near) + granted_of w
+    near-left =
+        few-left (length w.far.granted) x.given_up (granted_of w) (length (all_kept service tei x w.far)) (length (heard_in w.near))
+        (ap suc (length-map (drop x.given_up w.far.granted) (data_told service tei) ∙ length-drop x.given_up w.far.granted)) (omega arith) (some-heard (heard_in w.near) told)
+
+    far-left : length (all_of_calls service tei x w.near) ≤ length (heard_in w.far) + granted_of w
+    far-left =
+        let at-once = law.far_at_once in
+        let rest : List LineTold = at-once.0 in
+        let all : length (heard_in w.far) ≡ length x.told + length rest = sym (ap length at-once.1) ∙ length-append x.told rest in
+        let long : length (all_of_calls service tei x w.near) ≡ length x.told + length w.near.granted =
+        length-append x.told (map (data_told service tei) w.near.granted) ∙ ap (λ y. length x.told + y) (length-map w.near.granted (data_told service tei)) in
+        omega (arith, all, long)
+
+    left : HasLeft service tei (granted_of w) x w
+    left = (near-left, far-left)
+
+    rest : busy ds begun none_busy ≡ none_busy → IsStill w → BothMayRepeat service tei w → IsAtRest service tei (rounds (granted_of w + 3) (with_t200_expired service tei w))
+    rest free still may = ((lossy-calls-settle service c d line other tei ds can talk patient free).settles (granted_of w) (still, told, may) left).1
+
+module _ (service : Service) (c d : Config) (line other tei k : ℕ) (ds : List Doing) (can : CanCall c line d other tei) (talk : All (IsFullTalk service tei) ds) (wide-near : (terms c service tei).k ≤ k)
+    (wide-far : (terms d service tei).k ≤ k) (patient : StayPatient ds (calling service tei c line d other)) (free : busy ds (calling service tei c line d other) none_busy ≡ none_busy) where
+  abbrev first : Wire
+  first = calling service tei c line d other
+
+  abbrev at : Wire
+  at = doing_all ds first
+
+  abbrev calls : List Doing
+  calls = near_expires service tei
+
+  rest-1 : (n : ℕ) × (n ≤ most_moves k ds first) × IsStill (rounds n at)
+  rest-1 = rests-in service c d line other tei k ds can talk wide-near wide-far patient
+
+  -- as rounds have led to where no turn is left
+  module _ (n : ℕ) (still : IsStill (rounds n at)) (may : MayRepeat service tei (rounds n at).near) where
+    abbrev ds1 : List Doing
+    ds1 = ds ++ many n
+
+    abbrev at-1 : Wire
+    at-1 = rounds n at
+
+    is-1 : doing_all ds1 first ≡ at-1
+    is-1 = doing-append ds (many n) first ∙ many-rounds n at
+
+    talk-1 : All (IsFullTalk service tei) ds1
+    talk-1 = All-append (IsFullTalk service tei) ds (many n) talk (many-full service tei n)
+
+    patient-1 : StayPatient ds1 first
+    patient-1 = both-patient ds (many n) first patient (many-patient n at)
+
+    calls-so : StayPatient calls (doing_all ds1 first)
+    calls-so = long service c d line other tei k can ds1 talk-1 patient-1 (subst IsStill (sym is-1) still) (subst (λ (w : Wire). MayRepeat service tei w.near) (sym is-1) may)
+
+    -- T200 of the end that calls expires
+    abbrev ds2 : List Doing
+    ds2 = ds1 ++ calls
+
+    abbrev at-2 : Wire
+    at-2 = doing_all calls at-1
+
+    is-2 : doing_all ds2 first ≡ at-2
+    is-2 = doing-append ds1 calls first ∙ ap (doing_all calls) is-1
+
+    talk-2 : All (IsFullTalk service tei) ds2
+    talk-2 = All-append (IsFullTalk service tei) ds1 calls talk-1 (All-cons (IsFullTalk service tei) (at_near (times_out (timers.T200 service tei))) [] (refl, refl) (All-nil (IsFullTalk service tei)))
+
+    patient-2 : StayPatient ds2 first
+    patient-2 = both-patient ds1 calls first patient-1 calls-so
+
+    -- and so many rounds
+    module _ (r : ℕ) where
+      abbrev ds3 : List Doing
+      ds3 = ds2 ++ many r
+
+      is-3 : doing_all ds3 first ≡ rounds r at-2
+      is-3 = doing-append ds2 (many r) first ∙ many-rounds r (doing_all ds2 first) ∙ ap (rounds r) is-2
+
+      talk-3 : All (IsFullTalk service tei) ds3
+      talk-3 = All-append (IsFullTalk service tei) ds2 (many r) talk-2 (many-full service tei r)
+
+      patient-3 : StayPatient ds3 first
+      patient-3 = both-patient ds2 (many r) first patient-2 (many-patient r (doing_all ds2 first))
+
+      free-3 : busy ds3 first none_busy ≡ none_busy
+      unfolding busy
+      free-3 =
+          busy-append ds2 (many r) first none_busy ∙ none-busier r (doing_all ds2 first) (busy ds2 first none_busy) ∙ busy-append ds1 calls first none_busy
+          ∙ busy-append ds (many n) first none_busy ∙ none-busier n at (busy ds first none_busy) ∙ free
+
+      expired-3 : expiries ds3 ≡ expiries ds + 1
+      unfolding expiries
+      expired-3 =
+          let a : expiries ds3 ≡ expiries ds2 + expiries (many r) = expiries-append ds2 (many r) in
+          let b : expiries ds2 ≡ expiries ds1 + 1 = expiries-append ds1 calls in
+          let e : expiries ds1 ≡ expiries ds + expiries (many n) = expiries-append ds (many n) in
+          omega (arith, a, b, e, none-expires r, none-expires n)
+
+      granted-3 : granted_of (rounds r at-2) ≡ granted_of at
+      unfolding doing_all
+      granted-3 =
+          sym (ap granted_of (many-rounds r at-2)) ∙ none-more r at-2
+          ∙ ap (λ (xs : List (List ℕ)). length xs + length at-1.far.granted) (same-granted (expiry (timers.T200 service tei)) at-1.near refl) ∙ sym (ap granted_of (many-rounds n at)) ∙ none-more n at
+
+      reports-3 : reports ds3 first ≡ reports ds first
+      unfolding reports
+      reports-3 =
+          let a : reports ds3 first ≡ reports ds2 first + reports (many r) (doing_all ds2 first) = reports-append ds2 (many r) first in
+          let b : reports ds2 first ≡ reports ds1 first + 0 = reports-append ds1 calls first in
+          let e : reports ds1 first ≡ reports ds first + reports (many n) at = reports-append ds (many n) first in
+          omega (arith, a, b, e, none-reported r (doing_all ds2 first), none-reported n at)
+
+      most-3 : most_moves k ds3 first ≡ most_moves k ds first + 2 * (k + 2)
+      most-3 = (λ i. 2 * (most_frames k (expired-3 i) (granted_of (is-3 i)) + reports-3 i)) ∙ (λ i. 2 * (most_frames k (expiries ds + 1) (granted-3 i) + reports ds first)) ∙ sum (granted_of at) (expiries ds) (reports ds first)
+        where
+          sum : (g x r : ℕ) → 2 * (most_frames k (x + 1) g + r) ≡ 2 * (most_frames k x g + r) + 2 * (k + 2)
+          sum g x r = omega arith
+
+    -- one round, and it was told
+    told-1 : heard_in (rounds 1 at-2).near ≢ []
+    told-1 = by-heard (heard_in at-1.near) refl
+      where
+        by-heard : (hs : List LineTold) → heard_in at-1.near ≡ hs → heard_in (rounds 1 at-2).near ≢ []
+        by-heard [] e none =
+            let law = (lossy-calls-are-answered service c d line other tei ds1 can talk-1) patient-1 (subst IsStill (sym is-1) still) (ap (λ (w : Wire). heard_in w.near) is-1 ∙ e)
+            (subst (λ (w : Wire). MayRepeat service tei w.near) (sym is-1) may) in
+            let told : heard_in (rounds 1 at-2).near ≡ confirmed service tei ∷ [] = subst (λ w. heard_in (rounds 1 (doing_all calls w)).near ≡ confirmed service tei ∷ []) is-1 law.1 in
+            let wrong : confirmed service tei ∷ [] ≡ [] = sym told ∙ none in
+            absurd (cc)
+        by-heard (h ∷ hs) e none =
+            told-still (calls ++ many 1) at-1 (λ nothing. let wrong : h ∷ hs ≡ [] = sym e ∙ nothing in absurd (cc))
+            (ap (λ (w : Wire). heard_in w.near) (doing-append calls (many 1) at-1 ∙ many-rounds 1 at-2) ∙ none)
+
+    -- and then rounds lead there again
+    rest-2 : (m : ℕ) × (m ≤ most_moves k ds first + 2 * (k + 2)) × IsStill (rounds m (rounds 1 at-2))
+    rest-2 =
+        let x = rests-in service c d line other tei k (ds3 1) can (talk-3 1) wide-near wide-far (patient-3 1) in
+        (x.0, subst (λ b. x.0 ≤ b) (most-3 1) x.1, subst (λ w. IsStill (rounds x.0 w)) (is-3 1) x.2)
+
+    told-so : (m : ℕ) → heard_in (rounds m (rounds 1 at-2)).near ≢ []
+    told-so m none = told-still (many m) (rounds 1 at-2) told-1 (ap (λ (w : Wire). heard_in w.near) (many-rounds m (rounds 1 at-2)) ∙ none)
+
+    one-more : (m : ℕ) → rounds m (rounds 1 at-2) ≡ rounds (suc m) at-2
+    unfolding rounds
+    one-more m = refl
+
+    rests-at : (m : ℕ) → IsStill (rounds (suc m) at-2) → BothMayRepeat service tei (rounds (suc m) at-2) → IsAtRest service tei (rounds (granted_of at + 3) (with_t200_expired service tei (rounds (suc m) at-2)))
+    rests-at m still may =
+        let r = suc m in
+        let is = is-3 r in
+        let told = λ (none : heard_in (doing_all (ds3 r) first).near ≡ []). told-so m (ap (λ (w : Wire). heard_in w.near) (one-more m ∙ sym is) ∙ none) in
+        let y = rest service c d line other tei k can (ds3 r) (talk-3 r) (patient-3 r) told (free-3 r) (subst IsStill (sym is) still) (subst (BothMayRepeat service tei) (sym is) may) in
+        subst (λ g. IsAtRest service tei (rounds (g + 3) (with_t200_expired service tei (rounds r at-2)))) (granted-3 r)
+        (subst (λ w. IsAtRest service tei (rounds (granted_of w + 3) (with_t200_expired service tei w))) is y)
+
+pub lossy-calls-come-to-rest : LossyCallsComeToRest
+lossy-calls-come-to-rest service c d line other tei k ds can talk wide-near wide-far = λ patient free.
+    let x = rest-1 service c d line other tei k ds can talk wide-near wide-far patient free in
+    let n = x.0 in (
+      n,
+      x.1,
+      x.2,
+      λ may.
+          let y = rest-2 service c d line other tei k ds can talk wide-near wide-far patient free n x.2 may in
+          let m = y.0 in
+          let still = subst IsStill (one-more service c d line other tei k ds can talk wide-near wide-far patient free n x.2 may m) y.2 in
+          (suc m, (let less = y.1 in omega (arith, less)), still, λ both. rests-at service c d line other tei k ds can talk wide-near wide-far patient free n x.2 may m still both),
+    )

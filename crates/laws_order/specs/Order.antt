@@ -91,7 +91,8 @@ tallies c service tei number o m =
     let anew = m.event.line == number && brings is_sabme c service tei m.event.what in
     record {
       view = now;
-      acknowledged = if is_up was.state && is_up now.link.state && not anew then o.acknowledged + steps was.acknowledged now.link.acknowledged else 0;
+      acknowledged =
+          if is_up was.state && is_up now.link.state && not anew then o.acknowledged + steps was.acknowledged now.link.acknowledged else 0;
     }
 
 abbrev pub tally_of : Config → Service → ℕ → ℕ → List card.Event → Tally

@@ -3,8 +3,8 @@ use Rattle.laws_wire.proofs.Vocabulary.{◌≡◌, ℕ, ◌≤◌, [], ◌∷◌
 use Rattle.lapd_frame.specs.declared.timers.Timer.TheVariants.{T200}
 use Rattle.lapd_tei.specs.Events as teis
 use Rattle.model_line.specs.Machine as lines
-use Rattle.laws_wire.specs.Answering.{uncalled, seen}
-use Rattle.laws_wire.specs.Settling.{most_moves, none_busy, busy, near_expires, HasLeft, HasTold, IsAtRest}
+use Rattle.laws_wire.specs.Answering.{IsAtRest, uncalled, seen}
+use Rattle.laws_wire.specs.Settling.{most_moves, none_busy, busy, near_expires, HasLeft, HasTold}
 use Rattle.laws_wire.specs.WorkedAnswering.{loses_ua}
 use Rattle.laws_wire.specs.WorkedSettling.{is_ready, ready, ready_seen, ready_free, ready_still, ready_near, ready_left, ua_lost, lost_near, lost_still}
 use Rattle.laws_wire.proofs.AnsweringMet.{only-turns, patient-first}

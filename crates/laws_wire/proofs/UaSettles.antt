@@ -4,8 +4,8 @@ use Rattle.lapd_frame.specs.declared.timers.Timer.TheVariants as timers
 use Rattle.laws_link.specs.two.Needed.{HasItsTimer}
 use Rattle.laws_link.proofs.OfTwo.Needing.{timely-fresh}
 use Rattle.laws_wire.specs.Facing.{line_of}
-use Rattle.laws_wire.specs.Answering.{Called, uncalled, seen, all_kept}
-use Rattle.laws_wire.specs.Settling.{none_busy, busy, HasLeft, HasTold, IsAtRest, Settles, near_expires, LossyCallsAreAnswered, LossyCallsSettle}
+use Rattle.laws_wire.specs.Answering.{IsAtRest, Called, uncalled, seen, all_kept}
+use Rattle.laws_wire.specs.Settling.{none_busy, busy, HasLeft, HasTold, Settles, near_expires, LossyCallsAreAnswered, LossyCallsSettle}
 use Rattle.laws_wire.proofs.Acting.{ranges}
 use Rattle.laws_wire.proofs.Awaited.{open-here, link-is}
 use Rattle.laws_wire.proofs.Calling.{end, asked, its_ua, sabme, ua}

@@ -22,5 +22,6 @@ pub mod WorkedArriving
 pub mod WorkedAnswering
 pub mod WorkedSettling
 pub mod WorkedReports
+pub mod WorkedImpatient
 pub mod WorkedEnding
 pub mod WorkedBroken

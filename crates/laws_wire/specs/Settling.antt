@@ -14,8 +14,7 @@ use Rattle.laws_wire.specs.Facing.{granted_of}
 use Rattle.laws_wire.specs.Recovering.{rounds, both_expire, with_t200_expired, BothMayRepeat}
 use Rattle.laws_wire.specs.Timely.{MayRepeat}
 use Rattle.laws_wire.specs.Resting.{moves, expiries, most_frames}
-use Rattle.laws_wire.specs.Answering.{IsFullTalk, StayPatient, Called, uncalled, seen, all_kept, all_of_calls}
-pub use Rattle.laws_wire.specs.Answering.{IsAtRest}
+use Rattle.laws_wire.specs.Answering.{IsFullTalk, StayPatient, IsAtRest, Called, uncalled, seen, all_kept, all_of_calls}
 
 -- How often layer 3 of an end was granted to say that it is busy, or ready again: for each RNR or RR goes, at most once.
 abbrev pub is_of_busy : Request → Bool

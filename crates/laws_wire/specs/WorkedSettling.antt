@@ -14,8 +14,8 @@ use Rattle.laws_wire.specs.Losing.{heard_in}
 use Rattle.laws_wire.specs.Recovering.{rounds, with_t200_expired}
 use Rattle.laws_wire.specs.Resting.{moves, expiries, most_frames}
 use Rattle.laws_wire.specs.Arriving.{runs_t200}
-use Rattle.laws_wire.specs.Answering.{uncalled, error_f, seen}
-use Rattle.laws_wire.specs.Settling.{reports, most_moves, none_busy, busy, HasLeft, IsAtRest, near_expires}
+use Rattle.laws_wire.specs.Answering.{IsAtRest, uncalled, error_f, seen}
+use Rattle.laws_wire.specs.Settling.{reports, most_moves, none_busy, busy, HasLeft, near_expires}
 use Rattle.laws_wire.specs.WorkedAnswering.{loses_ua}
 use Rattle.laws_wire.specs.Worked.{begins, establishes}
 

@@ -23,7 +23,10 @@ pub record Pair : Type 0 where
   pub back : List (List ℕ)
 
 abbrev pub as_wire : Pair → Wire
-as_wire w = record { near = w.near; far = record { card = w.far.card.card; line = w.far.line; way = w.back; granted = w.far.granted; told = w.far.told } }
+as_wire w = record {
+  near = w.near;
+  far = record { card = w.far.card.card; line = w.far.line; way = w.back; granted = w.far.granted; told = w.far.told };
+}
 
 -- What is done: at the card of frames as on a wire; at the other layer 3 asks for something, an octet is pulled, or one comes.
 pub data Doing : Type 0 where
@@ -47,8 +50,12 @@ left_by (Some e) way = drop 1 way
 abbrev pub doing : Doing → Pair → Pair
 doing (by_frames act) w = let v = frames.acting act (as_wire w) in record { near = v.near; far = w.far; back = v.far.way }
 doing (asks r) w = record w { far = happens (port.request r) w.far }
-doing pulls w = record w { far = happens port.pull w.far; back = w.back ++ flat_map frames_by (option_to_list (said (at w.far.line port.pull) w.far.card)) }
-doing (hears value) w = record { near = record w.near { way = left_by (brings value w.far) w.near.way }; far = happens (port.octet value) w.far; back = w.back }
+doing pulls w =
+    let begun = option_to_list (said (at w.far.line port.pull) w.far.card) in
+    record w { far = happens port.pull w.far; back = w.back ++ flat_map frames_by begun }
+doing (hears value) w =
+    let left = left_by (brings value w.far) w.near.way in
+    record { near = record w.near { way = left }; far = happens (port.octet value) w.far; back = w.back }
 
 abbrev pub IsTalk : Service → ℕ → Doing → Pair → Type 0
 IsTalk service tei (by_frames act) w = IsCallOf service tei act
@@ -74,11 +81,13 @@ CallsAreOfFrames =
 -- Two cards that have just begun, with the TEI assigned: layer 3 of either asks for the establishment.
 abbrev pub begun_by_frames : Service → ℕ → Config → ℕ → Config → ℕ → Pair
 begun_by_frames service tei c number d other =
-    record { near = frames.happens (line.request (Establish service tei)) (call.assigned c number tei); far = assigned d other tei; back = [] }
+    let calls = frames.happens (line.request (Establish service tei)) (call.assigned c number tei) in
+    record { near = calls; far = assigned d other tei; back = [] }
 
 abbrev pub begun_by_octets : Service → ℕ → Config → ℕ → Config → ℕ → Pair
 begun_by_octets service tei c number d other =
-    record { near = call.assigned c number tei; far = happens (port.request (Establish service tei)) (assigned d other tei); back = [] }
+    let calls = happens (port.request (Establish service tei)) (assigned d other tei) in
+    record { near = call.assigned c number tei; far = calls; back = [] }
 
 -- The call comes through: it is one of two cards of frames, from where such a call begins, and so is what layer 3 of each is told.
 abbrev pub IsThrough : Service → ℕ → Wire → Wire → Type 0

@@ -122,8 +122,11 @@ module _ (service : Service) (tei : ℕ) (c d : Config) (p q : ℕ) (face : Face
     told-before : ToldSo service tei x w
     told-before = record {
       far_at_once = (so-far x v h).1.1;
-      near = (subst (λ all. IsBeginningOf all (heard_in v.near)) all-is (so-far x v h).0, λ (still, none, none').
-          loose-told service tei d c q p back x.told first_near (turned v) (loose-turned-up service tei c d p q first_near x.told v (phase-up x v h none)) (still-turned (still-there still)) none' ∙ all-is);
+      near = (
+        subst (λ all. IsBeginningOf all (heard_in v.near)) all-is (so-far x v h).0,
+        λ (still, none, none').
+            loose-told service tei d c q p back x.told first_near (turned v) (loose-turned-up service tei c d p q first_near x.told v (phase-up x v h none)) (still-turned (still-there still)) none' ∙ all-is,
+      );
       far = ((so-far x v h).1.0, λ (still, none, none'). loose-told service tei c d p q face first_near x.told v (phase-up x v h none) (still-there still) none);
       rest = λ (still, none, none'). (
         loose-rests service tei c d p q face first_near x.told v (phase-up x v h none) (still-there still) none,

@@ -14,9 +14,7 @@ none-less a s k e e' less = omega (arith, e, e', less)
 module _ (service : Service) (tei : ℕ) where
   -- the link of a station that stands for an end
   its-link : (c : Config) (place : ℕ) (past : Past) (s : Station) (n : End) → Holds c service tei place past s n → own_link service tei s ≡ n.link
-  its-link c place past s n h =
-      let own : Stands s.card.config service tei place s n = subst (λ k. Stands k service tei place s n) (sym h.stands.config) h.stands in
-      link-is service tei place s (line_sound s.card s.line (has_lines s.card own.sound) own.within) own.speaks.placed ∙ own.speaks.link
+  its-link c place past s n h = grind (arith, Stands, link-is, line_sound, has_lines)
 
   speaks : (c d : Config) (p q : ℕ) (past other : Past) (s u : Station) (n m : End) → Holds c service tei p past s n → Holds d service tei q other u m → Steady n
       → HasArrived n.link.contents n m → answered next s ≡ gave None → s.way ≡ [] → Speaks service tei s u

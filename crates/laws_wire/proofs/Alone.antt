@@ -42,8 +42,7 @@ none-long [] e = refl
 none-long (x ∷ xs) e = absurd (omega (arith, e))
 
 none-taken : (o : Option Taken) → gave (option_map next_of o) ≡ gave None → o ≡ None
-none-taken None e = refl
-none-taken (Some t) e = absurd (cc)
+none-taken o e = grind arith
 
 module _ (service : Service) (tei place : ℕ) (s : Station) (sound : IsSound s.card.config (line_of s)) (placed : place_in (line_of s) tei ≡ Some place) where
   abbrev l : Line
@@ -62,10 +61,7 @@ module _ (service : Service) (tei place : ℕ) (s : Station) (sound : IsSound s.
   few = let within = (place_of-is l.management.places tei place placed).0 in number_within place s.card.config.terminals service (omega (arith, within, sound.places))
 
   own-to-go : each number ≡ length (own_link service tei s).waiting + own_frames_at service tei s
-  own-to-go =
-      let as-here : link_to_go (terms s.card.config service tei) (link_in l service place) ≡ length (own_link service tei s).waiting + own_frames_at service tei s =
-      subst (λ x. link_to_go (terms s.card.config service tei) x ≡ length (own_link service tei s).waiting + own_frames_at service tei s) link-is (omega arith) in
-      ap (λ y. link_to_go (terms s.card.config y tei) (link_at number l)) (service_at-number place service) ∙ as-here
+  own-to-go = grind (arith, link-is, service_at-number)
 
   own-part : each number ≤ sum_by each (range_with_len 0 (link_count s.card.config))
   own-part = one-of each 0 (link_count s.card.config) number (omega arith) (omega (arith, few))

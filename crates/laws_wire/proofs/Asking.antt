@@ -34,12 +34,7 @@ abbrev pub with_more : List ℕ → End → End
 with_more octets n = record n { link = record n.link { contents = n.link.contents ++ octets ∷ [] } }
 
 pub asked-form : (octets : List ℕ) (n : End) → refusal n.terms n.link false (Data octets) ≡ None → with_link (requested (Data octets) false) n ≡ with_more octets n
-asked-form octets n e =
-    ap (λ (o : Option Refusal). having (elim o [ None ↦ granted n.terms (Data octets) (begun n.link) | Some _ ↦ begun n.link ])) e
-    ∙ ap (λ ds. record (with_more octets n) { delivered = ds }) (append-nil n.delivered)
-  where
-    having : Course → End
-    having c = record n { link = c.link; delivered = n.delivered ++ Rattle.std.specs.Prelude.option_to_list c.delivered }
+asked-form octets n e = grind (arith, append-nil)
 
 four-more : (len s w p more : ℕ) → s ≤ len → more ≡ len + 1 → 4 * (more - s) + w + p ≡ (4 * (len - s) + w + p) + 4
 four-more len s w p more low e = omega (arith, low, e)

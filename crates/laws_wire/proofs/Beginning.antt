@@ -40,8 +40,7 @@ abbrev frees : ℕ → Places
 frees n = replicate n None
 
 free-is : (n : ℕ) → 1 ≤ n → free_place (frees n) ≡ Some 0
-free-is zero some = absurd (omega (arith, some))
-free-is (suc k) some = ap (λ b. cond {A = Option ℕ} b (Some 0) None) (lt-ltb 0 (length (frees (suc k))) (omega arith))
+free-is n some = grind (arith, lt-ltb)
 
 module _ (tei n : ℕ) (some : 1 ≤ n) where
   joined : teis.course (teis.assign tei) (empty n) ≡ join tei 0 (tei_begun (empty n))
@@ -71,15 +70,11 @@ module _ (service : Service) (tei : ℕ) (c : Config) (ranged : line_sound.IsInR
 
   after-is : lines.after c (request (Assign tei)) l ≡ on_line.line
   unfolding lines.after
-  after-is =
-      ap (λ o. (of_aim c (unless_refused o (at_management (teis.assign tei))) l).line) none
-      ∙ ap (λ x. (with_course x).line) (joined tei c.terminals some-terminals)
+  after-is = grind (arith, none, joined, some-terminals)
 
   answer-is : lines.answer c (request (Assign tei)) l ≡ told nothing
   unfolding lines.answer
-  answer-is =
-      ap (λ o. unless_refused_told o (of_aim c (unless_refused o (at_management (teis.assign tei))) l)) none
-      ∙ ap (λ x. told (with_course x).told) (joined tei c.terminals some-terminals)
+  answer-is = grind (arith, none, joined, some-terminals)
 
   links-fresh : (number : ℕ) → link_at number on_line.line ≡ fresh
   links-fresh number = set-fresh (set l.links (link_number 0 Call) fresh) (link_number 0 Packet) number (λ k. set-fresh l.links (link_number 0 Call) k (all-fresh (link_count c)))
@@ -113,9 +108,7 @@ module _ (service : Service) (tei : ℕ) (c : Config) (ranged : line_sound.IsInR
 
     next-line : line_at line (assigned c line tei).card ≡ on_line.line
     unfolding lines.takes_slot
-    next-line =
-        get_or-set_same m.lines line (lines.after c its (line_at line m)) l (let many : length m.lines ≡ c.lines = length-replicate c.lines l in omega (arith, many, within))
-        ∙ ap (lines.after c its) same-line ∙ after-is
+    next-line = grind (arith, get_or-set_same, length-replicate, same-line, after-is)
 
     told-nothing : answered its first ≡ told nothing
     unfolding lines.takes_slot

@@ -161,8 +161,7 @@ module _ (service : Service) (tei : ℕ) where
     NearFirst w weight = crossed.NearFirst service tei c d p q face back rt ru w weight
 
     near-goes : (w : Wire) (weight : ℕ) → Crossing w weight ⊎ NearFirst w weight → Goes true w weight
-    near-goes w weight (inl h) = inl h
-    near-goes w weight (inr h) = inr (inr h)
+    near-goes w weight o = grind arith
 
     crossed-near : (act : Act) → IsTalkOf service tei act → (w : Wire) (weight : ℕ) → Crossing w weight → Went true w (acting act w) weight (if is_turn_of act w then 1 else 0)
     crossed-near act is w weight h =
@@ -178,22 +177,10 @@ module _ (service : Service) (tei : ℕ) where
     swapped x y weight is = omega (arith, is)
 
     turned-crossing : (w : Wire) (weight : ℕ) → Crossing w weight → CrossingTurned (turned w) weight
-    turned-crossing w weight h = record {
-      own = h.other;
-      other = h.own;
-      order = turned-order h.own h.other h.order;
-      both = turned-both service tei c d p q unheard unheard w _ _ h.both;
-      is = swapped (crossed.turns_left h.own) (crossed.turns_left h.other) weight h.is;
-    }
+    turned-crossing w weight h = grind (arith, turned-order, turned-both, unheard, swapped, crossed.turns_left)
 
     crossing-back : (v : Wire) (weight : ℕ) → CrossingTurned v weight → Crossing (turned v) weight
-    crossing-back v weight h = record {
-      own = h.other;
-      other = h.own;
-      order = turned-order h.own h.other h.order;
-      both = turned-both service tei d c q p unheard unheard v _ _ h.both;
-      is = swapped (crossed.turns_left h.own) (crossed.turns_left h.other) weight h.is;
-    }
+    crossing-back v weight h = grind (arith, turned-order, turned-both, unheard, swapped, crossed.turns_left)
 
     far-goes : (v : Wire) (weight : ℕ) → CrossingTurned v weight ⊎ FarFirst v weight → Goes true (turned v) weight
     far-goes v weight (inl h) = inl (crossing-back v weight h)
@@ -263,33 +250,19 @@ module _ (service : Service) (tei : ℕ) where
       pub price : b + weight + (4 * granted_of w + cost both) ≤ before + (4 * granted_of (doing k w) + cost (both || calls_back k w))
 
     or-none : (both b : Bool) → b ≡ false → (both || b) ≡ both
-    or-none true b none = refl
-    or-none false b none = none
+    or-none both b none = grind arith
 
     none-called : (both : Bool) (k : Doing) (w : Wire) (before b : ℕ) → calls_back k w ≡ false → Went both w (doing k w) before b → Stepped both k w before b
-    none-called both k w before b none x =
-        let same : both ≡ (both || calls_back k w) = sym (or-none both (calls_back k w) none) in
-        record {
-          weight = x.weight;
-          goes = subst (λ y. Goes y (doing k w) x.weight) same x.goes;
-          price = subst (λ y. b + x.weight + (4 * granted_of w + cost both) ≤ before + (4 * granted_of (doing k w) + cost y)) same (plus-cost b x.weight (granted_of w) (cost both) before (granted_of (doing k w)) x.price);
-        }
-      where
-        plus-cost : (b x g k before g' : ℕ) → b + x + 4 * g ≤ before + 4 * g' → b + x + (4 * g + k) ≤ before + (4 * g' + k)
-        plus-cost b x g k before g' h = omega (arith, h)
+    none-called both k w before b none x = grind (arith, or-none, granted_of)
 
     not-moved : (both : Bool) (w w' : Wire) (weight : ℕ) → w' ≡ w → Goes both w weight → Went both w w' weight 0
     not-moved both w w' weight same h = stayed both w w' weight 0 refl (ap granted_of same) (subst (λ x. Goes both x weight) (sym same) h)
 
     near-asks : (both : Bool) (w : Wire) (weight : ℕ) → Goes both w weight → Stepped both (at_near (requests (Establish service tei))) w weight 0
-    near-asks both w weight h =
-        none-called both (at_near (requests (Establish service tei))) w weight 0 refl
-        (not-moved both w (doing (at_near (requests (Establish service tei))) w) weight (ap (λ s. record w { near = s }) (near-refuses both w weight h).same) h)
+    near-asks both w weight h = grind (arith, none-called, not-moved, near-refuses)
 
     far-refused : (both : Bool) (w : Wire) (weight : ℕ) → Goes both w weight → Refuses service tei w.far → Stepped both (at_far (requests (Establish service tei))) w weight 0
-    far-refused both w weight h down =
-        none-called both (at_far (requests (Establish service tei))) w weight 0 down.none
-        (not-moved both w (doing (at_far (requests (Establish service tei))) w) weight (ap (λ s. record w { far = s }) down.same) h)
+    far-refused both w weight h down = grind (arith, none-called, not-moved)
 
     called-price : (x before g g' : ℕ) → x ≡ before + 4 → g' ≡ g → 0 + x + (4 * g + 0) ≤ before + (4 * g' + 4)
     called-price x before g g' is same = omega (arith, is, same)

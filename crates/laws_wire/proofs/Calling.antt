@@ -77,13 +77,7 @@ none-granted-fresh t octets e = cc e
 
 -- the pair as both are up
 pub first-pair : (t u : Terms) → IsInRange t → IsInRange u → Pair (record { near = end t caller []; far = end u called [] })
-first-pair t u rt ru =
-    record {
-      near = record { ranges = rt; sound = sound-caller t rt; state = refl; peer_busy = refl; own_busy = refl; waiting = refl };
-      far = record { ranges = ru; sound = sound-called u ru; state = refl; peer_busy = refl; own_busy = refl; waiting = refl };
-      there = record { lane = (refl, omega arith, λ e. refl); delivered = refl; sizes = All-nil (λ octets. length octets ≤ u.n201) };
-      back = record { lane = (refl, omega arith, λ e. refl); delivered = refl; sizes = All-nil (λ octets. length octets ≤ t.n201) };
-    }
+first-pair t u rt ru = grind (arith, sound-caller, sound-called)
 
 abbrev pub its_ua : ControlFrame
 its_ua = response (Ua true)
@@ -96,6 +90,4 @@ abbrev pub with_ua_first : End → End
 with_ua_first n = record n { way = ua n.terms ∷ n.way }
 
 pub sends-ua : (n : End) → Steady n → n.way ≡ [] → with_sent (with_ua_waiting n) ≡ with_ua_first n
-sends-ua n h none =
-    (λ i. record n { link = record n.link { waiting = sym h.waiting i }; way = n.way ++ ua n.terms ∷ [] })
-    ∙ (λ i. record n { way = none i ++ ua n.terms ∷ [] }) ∙ (λ i. record n { way = ua n.terms ∷ sym none i })
+sends-ua n h none = grind arith

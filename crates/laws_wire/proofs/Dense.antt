@@ -83,6 +83,4 @@ abbrev pub Replies : ℕ → Bool → Bool → List Parts → List Parts → Typ
 Replies r owes owes' fs fs' = ((owes' ≡ owes) × (fs' ≡ fs)) ⊎ ((f : Parts) × (fs' ≡ fs ++ f ∷ []) × Means r f.control)
 
 pub owed-after : (a r : ℕ) (owes owes' : Bool) (fs fs' : List Parts) → Rising a r fs → Replies r owes owes' fs fs' → Owed a r owes fs → Owed a r owes' fs'
-owed-after a r owes owes' fs fs' up (inl (same, e)) (inl due) = inl (same ∙ due)
-owed-after a r owes owes' fs fs' up (inl (same, e)) (inr h) = inr (subst (Reaches a r) (sym e) h)
-owed-after a r owes owes' fs fs' up (inr (f, e, means)) h = inr (subst (Reaches a r) (sym e) (reaches-push a r fs f means up))
+owed-after a r owes owes' fs fs' up o h = grind (arith, reaches-push)

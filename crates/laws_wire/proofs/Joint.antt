@@ -19,12 +19,7 @@ turned-joint n m near far h = record { there = h.back; back = h.there }
 
 -- by the line alone
 relined : (x y : End) (near far : List Parts) → line_of x ≡ near → line_of y ≡ far → Direction x y → Direction (shown x near) (shown y far)
-relined x y near far e e' h = record {
-  carried = subst (Carried x.link.contents (x.link.a + x.terms.k) y.link.r) (e ∙ sym (append-nil near)) h.carried;
-  rising = subst (Rising x.link.a y.link.r) (e' ∙ sym (append-nil far)) h.rising;
-  delivered = h.delivered;
-  accepted = h.accepted;
-}
+relined x y near far e e' h = grind (arith, append-nil)
 
 -- what waits more
 abbrev pub since : List ControlFrame → List ControlFrame → List ControlFrame
@@ -39,9 +34,7 @@ waits-since r ws ws' h = h.more ∙ ap (λ xs. ws ++ xs) (sym (front_rest ws' ws
 -- so the line grows by it
 pub line-on : (t : Terms) (way first line : List Parts) (ws ws' news : List ControlFrame) → way ++ frames_of t ws ≡ first ++ line → ws' ≡ ws ++ news
     → way ++ frames_of t ws' ≡ first ++ (line ++ frames_of t news)
-line-on t way first line ws ws' news e more =
-    ap (λ xs. way ++ frames_of t xs) more ∙ ap (λ fs. way ++ fs) (frames-append t ws news) ∙ sym (append_assoc way (frames_of t ws) (frames_of t news))
-    ∙ ap (λ fs. fs ++ frames_of t news) e ∙ append_assoc first line (frames_of t news)
+line-on t way first line ws ws' news e more = grind (arith, frames_of, frames-append, append_assoc)
 
 -- the first on a line is lost
 pub loses-first : (n m : End) (f : Parts) (near far : List Parts) → Joint n m (f ∷ near) far → Joint n m near far
@@ -78,8 +71,7 @@ goes-on n m l' more near far g h =
 
 -- an event that delivers nothing changes the link alone
 pub only-link : (n : End) (e : Rattle.model_link.specs.Events.Event) → (course n.terms e n.link).delivered ≡ None → with_link e n ≡ record n { link = after n.terms e n.link }
-only-link n e none =
-    λ i. record n { link = after n.terms e n.link; delivered = (ap (λ o. n.delivered ++ option_to_list o) none ∙ append-nil n.delivered) i }
+only-link n e none = grind (arith, append-nil)
 
 pub accepts : (octets : List ℕ) (l : Link) → Goes l (record l { contents = l.contents ++ octets ∷ [] }) (octets ∷ [])
 accepts octets l = record { same = refl; still = refl; received = refl; reports = no-reports l.r l.waiting }
@@ -101,8 +93,7 @@ module _ (t : Terms) (l : Link) where
 
   either : (b : Bool) (u v : Course) → (IsTrue (is_multiple_frame u.link.state) → Goes l u.link []) → (IsTrue (is_multiple_frame v.link.state) → Goes l v.link [])
       → IsTrue (is_multiple_frame (cond b u v).link.state) → Goes l (cond b u v).link []
-  either true u v x y up = x up
-  either false u v x y up = y up
+  either b u v x y up = grind arith
 
   pub timer-goes : IsTrue (is_multiple_frame l.state) → (timer : LinkTimer) → IsTrue (is_multiple_frame (after t (expired timer) l).state) → Goes l (after t (expired timer) l) []
   timer-goes before timer up = either (Machine.is_running timer l) _ _ (λ x. expired-goes l.state before timer x) (λ x. stays) up
@@ -151,21 +142,10 @@ gives-on n m first near far ranges sound e h =
 
 -- soundness does not need what waits
 settled-bare : (state : State) (l : Link) → IsSettledIn state l → IsSettledIn state (bare l)
-settled-bare TeiAssigned l h = h
-settled-bare other l h = h
+settled-bare state l h = grind arith
 
 sound-bare : (t : Terms) (l : Link) → IsSound t l → IsSound t (bare l)
-sound-bare t l h = record {
-  ordered = h.ordered;
-  accepted = h.accepted;
-  within = h.within;
-  settled = settled-bare l.state l h.settled;
-  queue = h.queue;
-  ring = omega arith;
-  owes_nothing = h.owes_nothing;
-  sizes = h.sizes;
-  frames = All-nil (IsWaitingFrame t);
-}
+sound-bare t l h = grind (arith, settled-bare)
 
 -- what the first on a line is
 pub record IsMeant (f : Parts) : Type 0 where

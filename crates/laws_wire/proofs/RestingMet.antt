@@ -20,11 +20,7 @@ near-fair : HasNoError (doing_all rejects_one begins).near
 near-fair = subst (All IsFair) (sym near-told) (All-cons IsFair (confirmed Call 0) [] refl (All-nil IsFair))
 
 far-fair : HasNoError (doing_all rejects_one begins).far
-far-fair =
-    let one : LineTold = data_told Call 0 (0xAB ∷ []) in
-    let two : LineTold = data_told Call 0 (0xCD ∷ []) in
-    subst (All IsFair) (sym far-told)
-    (All-cons IsFair (indicated Call 0) (one ∷ two ∷ []) refl (All-cons IsFair one (two ∷ []) refl (All-cons IsFair two [] refl (All-nil IsFair))))
+far-fair = grind (arith, IsFair, far-told)
 
 bounded : moves rejects_one begins ≤ 2 * most_frames 7 (expiries rejects_one) (granted_of (doing_all rejects_one begins))
 bounded =

@@ -20,12 +20,10 @@ joined-price : (b k w w1 w2 g g1 g2 x x1 x2 : ℕ) → b + w1 + (4 * g + x) ≤ 
 joined-price b k w w1 w2 g g1 g2 x x1 x2 h i = omega (arith, h, i)
 
 or-none : (both : Bool) → both ≡ (both || false)
-or-none true = refl
-or-none false = refl
+or-none both = grind arith
 
 pub or-both : (a b c : Bool) → ((a || b) || c) ≡ (a || (b || c))
-or-both true b c = refl
-or-both false b c = refl
+or-both a b c = grind arith
 
 -- where two ends that are up are still, all has arrived
 pub arrived : (n m : End) → Pair (pair_of n m) → given n.terms n.link ≡ None → given m.terms m.link ≡ None → n.way ≡ [] → m.way ≡ []
@@ -170,8 +168,7 @@ module _ (service : Service) (tei : ℕ) where
 
 -- A call from two cards that have just begun.
 few-turns : (both : Bool) (b k g g' : ℕ) → b + k + (4 * g + 0) ≤ 4 + (4 * g' + cost both) → b ≤ (if both then 8 else 4) + 4 * g'
-few-turns true b k g g' h = omega (arith, h)
-few-turns false b k g g' h = omega (arith, h)
+few-turns both b k g g' h = grind arith
 
 module _ (service : Service) (c d : Config) (line other tei : ℕ) (ds : List Doing) (can : CanCall c line d other tei) (called : All (IsCall service tei) ds) where
   face : Face c d

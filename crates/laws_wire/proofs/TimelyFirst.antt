@@ -14,14 +14,7 @@ pub use Rattle.laws_wire.proofs.Answered.{lost-none, takes-none}
 -- ---- the ends
 
 nothing-yet : Flow 0 0 false false [] []
-nothing-yet = record {
-  order = omega arith;
-  one = omega arith;
-  rejected = λ some. absurd (omega (arith, some));
-  asked = omega arith;
-  last = λ some. tt;
-  answered = λ some. absurd (omega (arith, some));
-}
+nothing-yet = grind (arith, answered)
 
 module _ (t u : Terms) (rt : IsInRange t) (ru : IsInRange u) (same : t.n201 ≡ u.n201) (k : ℕ) where
   abbrev pub near_end : End
@@ -31,67 +24,16 @@ module _ (t u : Terms) (rt : IsInRange t) (ru : IsInRange u) (same : t.n201 ≡ 
   far_end = end u called []
 
   sound-answered : IsSound t (answered k [])
-  sound-answered =
-      let s = sound-caller t rt in
-      record {
-        ordered = s.ordered;
-        accepted = s.accepted;
-        within = s.within;
-        settled = s.settled;
-        queue = s.queue;
-        ring = s.ring;
-        owes_nothing = s.owes_nothing;
-        sizes = s.sizes;
-        frames = s.frames;
-      }
+  sound-answered = grind (arith, sound-caller)
 
   near-begins : Begins near_end
-  near-begins = record {
-    ranges = rt;
-    sound = sound-answered;
-    state = refl;
-    a = refl;
-    s = refl;
-    r = refl;
-    peer_busy = refl;
-    own_busy = refl;
-    rejecting = refl;
-    pending = refl;
-    waiting = refl;
-    way = refl;
-    delivered = refl;
-  }
+  near-begins = grind (arith, sound-answered)
 
   far-begins : Begins far_end
-  far-begins = record {
-    ranges = ru;
-    sound = sound-called u ru;
-    state = refl;
-    a = refl;
-    s = refl;
-    r = refl;
-    peer_busy = refl;
-    own_busy = refl;
-    rejecting = refl;
-    pending = refl;
-    waiting = refl;
-    way = refl;
-    delivered = refl;
-  }
+  far-begins = grind (arith, sound-called)
 
   pub firm-first : Firm near_end far_end
-  firm-first = record {
-    joined = joined-first near_end far_end near-begins far-begins;
-    same = same;
-    there = nothing-yet;
-    back = nothing-yet;
-    near_sane = record { timed = record { timer = inr (refl, omega arith) }; heeds = record { heeds = λ busy. absurd (true≢false (sym busy)) } };
-    far_sane = record { timed = record { timer = inr (refl, omega arith) }; heeds = record { heeds = λ busy. absurd (true≢false (sym busy)) } };
-    near_free = refl;
-    far_free = refl;
-    near_tame = record { peer_free = refl; waiting = All-nil WaitsSo; way = All-nil IsFreeFrame };
-    far_tame = record { peer_free = refl; waiting = All-nil WaitsSo; way = All-nil IsFreeFrame };
-  }
+  firm-first = grind (arith, joined-first, near-begins, far-begins, nothing-yet, WaitsSo, IsFreeFrame)
 
   pub near-ready : IsReady near_end
   near-ready = record { ranges = rt; sound = sound-answered; state = refl; peer_busy = refl; own_busy = refl; waiting = refl; way = refl }

@@ -25,14 +25,10 @@ module _ (t : Terms) (l : Link) where
   Keeps c = c.link.rejecting ≡ l.rejecting
 
   either-keeps : (b : Bool) (u v : Course) → Keeps u → Keeps v → Keeps (cond b u v)
-  either-keeps true u v x y = x
-  either-keeps false u v x y = y
+  either-keeps b u v x y = grind arith
 
   among-keeps : (ws : List ControlFrame) → Keeps (Offers.offer_among t ws (begun l))
-  among-keeps [] =
-      either-keeps (Offers.may_send_information t l) _ _ (either-keeps (Offers.is_awaiting_acknowledgement (Offers.with_one_sent l)) _ _ refl refl)
-      (either-keeps l.pending _ _ refl refl)
-  among-keeps (f ∷ fs) = refl
+  among-keeps ws = grind (arith, either-keeps)
 
   pub offer-rejecting : (after t link.offer l).rejecting ≡ l.rejecting
   offer-rejecting = among-keeps l.waiting
@@ -47,8 +43,7 @@ module _ (service : Service) (tei : ℕ) (d : Config) (q : ℕ) (past : List Lin
   gives-informs = ap informs (gives-reads service tei d q s M h.stands)
 
   pub flagged-at : (b : Bool) → b ≡ has_outstanding M.link → (b || gives_information s) ≡ has_outstanding (links.after M.terms link.offer M.link)
-  flagged-at b e =
-      ap (λ x. b || x) gives-informs ∙ flagged M.terms M.link (sound service tei q past d s M h) b (ranges service tei q past d s M h) e
+  flagged-at b e = grind (arith, gives-informs, flagged, sound, ranges)
 
   pub none-informed : given M.terms M.link ≡ None → gives_information s ≡ false
   none-informed none = gives-informs ∙ ap (λ o. informs (frame_given M.terms o)) none

@@ -19,8 +19,7 @@ use Rattle.laws_wire.proofs.UaPhases.{IsAway, IsWaiting, Comes, away-loses, away
 use Rattle.laws_wire.proofs.UaRenewed.{more_told, TookSabme, sabme-renews}
 
 and-false : (b : Bool) → (b && false) ≡ false
-and-false true = refl
-and-false false = refl
+and-false b = grind arith
 
 module _ (service : Service) (tei : ℕ) (c d : Config) (p q : ℕ) (face : Face c d) (back : Face d c) (rt : IsInRange (terms c service tei)) (ru : IsInRange (terms d service tei)) where
   abbrev pub its_near : List LineTold
@@ -112,8 +111,7 @@ module _ (service : Service) (tei : ℕ) (c d : Config) (p q : ℕ) (face : Face
   done act w = turned (acting act (turned w))
 
   rings-far : (P P' : Station → Type 0) (ws : List ControlFrame) (way : List Parts) (w w' : Wire) → w'.near ≡ w.near → (P w.far → P' w'.far) → R P ws way w → R P' ws way w'
-  rings-far P P' ws way w w' same on h =
-      record { repeats = h.repeats; near = subst (λ s. Held c service tei p [] s (end (terms c service tei) (ringing h.repeats ws) way)) (sym same) h.near; far = on h.far }
+  rings-far P P' ws way w w' same on h = grind (arith, Held, end, ringing)
 
   all-far : (P P' : Station → Type 0) (w w' : Wire) → w'.near ≡ w.near → (P w.far → P' w'.far) → Rs P w → Rs P' w'
   all-far P P' w w' same on (inl h) = inl (rings-far P P' [] [] w w' same on h)
@@ -218,9 +216,7 @@ module _ (service : Service) (tei : ℕ) (c d : Config) (p q : ℕ) (face : Face
     down-far h act not is = all-far Down Down w (done act w) (far-same act not (turned w)) (λ y. down-acts y act not is) h
 
     there : (P : Station → Type 0) → Rs P w → P w.far
-    there P (inl h) = h.far
-    there P (inr (inl h)) = h.far
-    there P (inr (inr h)) = h.far
+    there P o = grind arith
 
     down-takes : Rs Down w → ((takes_sabme w ≡ false) × Rs Down (done takes w)) ⊎ ((takes_sabme w ≡ true) × R (Waiting (indicated service tei ∷ []) false) [] [] (done takes w))
     down-takes (inl h) =
@@ -322,8 +318,7 @@ module _ (service : Service) (tei : ℕ) (c d : Config) (p q : ℕ) (face : Face
     taken = with_sabme service tei (length (g ++ v.far.granted)) x
 
     by-sent : (b : Bool) (y : List (List ℕ)) → cond b (length (g ++ y)) x.given_up ≡ length (g ++ cond b y [])
-    by-sent true y = refl
-    by-sent false y = up ∙ ap length (sym (append-nil g))
+    by-sent b y = grind (arith, append-nil)
 
     sabme-goes : TookSabme service tei c d p q face back rt ru x.told x.sent v (done takes v) → (length x.told == 0) ≡ false → Goes taken (done takes (with_before g v))
     sabme-goes k some =

@@ -34,19 +34,11 @@ module _ (service : Service) (tei v : ℕ) where
   module _ (g : List (List ℕ)) (w a b : Wire) where
     near-alike : (act : Act) → P (cond {A = ℕ} (is_move_of act w) 1 0) (expiries_of act) (reports_of act w) a b
         → P (cond {A = ℕ} (is_move_of act (with_before g w)) 1 0) (expiries_of act) (reports_of act (with_before g w)) a b
-    near-alike (requests r) h = h
-    near-alike (times_out timer) h = h
-    near-alike gives h = h
-    near-alike takes h = h
-    near-alike loses h = h
+    near-alike act h = grind arith
 
     far-alike : (act : Act) → P (cond {A = ℕ} (is_move_of act (turned w)) 1 0) (expiries_of act) (reports_of act (turned w)) a b
         → P (cond {A = ℕ} (is_move_of act (turned (with_before g w))) 1 0) (expiries_of act) (reports_of act (turned (with_before g w))) a b
-    far-alike (requests r) h = h
-    far-alike (times_out timer) h = h
-    far-alike gives h = h
-    far-alike takes h = h
-    far-alike loses h = h
+    far-alike act h = grind arith
 
   -- one after the other
   both-pay : (moved expired reported moved' expired' reported' : ℕ) (w w' w'' : Wire) → P moved expired reported w w' → P moved' expired' reported' w' w''
@@ -112,9 +104,7 @@ lossy-moves-come-to-an-end service c d line other tei k ds can talk wide-near wi
     h.granted h.falls)
   where
     total : (moved last first eight x six more g none r : ℕ) → first ≡ eight → none ≡ 0 → g ≡ none + more → moved + last ≤ first + x + six * more + r → moved ≤ eight + x + six * g + r
-    total moved last first eight x six more g none r e f h less =
-        let same : g ≡ more = omega (arith, f, h) in
-        subst (λ g. moved ≤ eight + x + six * g + r) (sym same) (omega (arith, e, less))
+    total moved last first eight x six more g none r e f h less = grind arith
 
 -- ---- rounds
 

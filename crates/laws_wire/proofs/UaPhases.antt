@@ -199,20 +199,7 @@ module _ (service : Service) (tei : ℕ) (c d : Config) (p q : ℕ) (face : Face
 
     -- as it gives, the poised link stays so
     rest-poised : (f : ControlFrame) (fs : List ControlFrame) → M'.link.waiting ≡ f ∷ fs → Poised u (record M'.link { waiting = fs }) h.post
-    rest-poised f fs e =
-        let l = record M'.link { waiting = f ∷ fs } in
-        let sane : Sane l = subst Sane (λ i. record M'.link { waiting = e i }) h.poised.sane in
-        record {
-          up = h.poised.up;
-          a = h.poised.a;
-          s = h.poised.s;
-          r = h.poised.r;
-          rejecting = h.poised.rejecting;
-          sane = sane-after u link.offer l sane;
-          reports = h.poised.reports;
-          idle = h.poised.idle;
-          one = h.poised.one;
-        }
+    rest-poised f fs e = grind (arith, sane-after)
 
     module _ (f : ControlFrame) (fs : List ControlFrame) (e : M'.link.waiting ≡ f ∷ fs) where
       abbrev went : End

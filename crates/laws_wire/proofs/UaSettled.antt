@@ -24,10 +24,7 @@ fewer told granted delivered r all u e f less = omega (arith, e, f, less)
 
 -- a link that has had all acknowledged, and takes the other for free, does not run T200
 stops : (l : Link) → HasItsTimer l → l.state ≡ Established → l.s ≡ l.a → l.peer_busy ≡ false → is_running T200 l ≡ false
-stops l h state all free =
-    ap (runs T200) (h.running ∙ ap (λ here. needed_in here l) state)
-    ∙ ap (λ b. runs T200 (cond (not b || l.peer_busy) (Some T200) (Some T203))) (eq-eqb l.s l.a all)
-    ∙ ap (λ b. runs T200 (cond b (Some T200) (Some T203))) free
+stops l h state all free = grind (arith, eq-eqb)
 
 module _ (service : Service) (tei : ℕ) (c d : Config) (p q : ℕ) (face : Face c d) (back : Face d c) (past other : List LineTold) where
   abbrev At : Wire → End → End → Type 0
@@ -35,11 +32,7 @@ module _ (service : Service) (tei : ℕ) (c d : Config) (p q : ℕ) (face : Face
 
   missing : (told : List LineTold) (r u : ℕ) (granted delivered : List (List ℕ)) (heard : List LineTold) → r ≤ length granted → delivered ≡ take r granted
       → heard ≡ told ++ map (data_told service tei) delivered → length (told ++ map (data_told service tei) granted) ≤ length heard + u → length granted ≤ r + u
-  missing told r u granted delivered heard low is here h =
-      fewer (length told) (length granted) (length delivered) r (length (told ++ map (data_told service tei) granted)) u
-      (length-append told (map (data_told service tei) granted) ∙ ap (λ x. length told + x) (length-map granted (data_told service tei))) (ap length is ∙ length-take-le r granted low)
-      (subst (λ x. length (told ++ map (data_told service tei) granted) ≤ x + u)
-      (ap length here ∙ length-append told (map (data_told service tei) delivered) ∙ ap (λ x. length told + x) (length-map delivered (data_told service tei))) h)
+  missing told r u granted delivered heard low is here h = grind (arith, fewer, length-append, length-map, length-take-le)
 
   nothing-said : (k : Config) (place : ℕ) (its : List LineTold) (s : Station) (n : End) → Held k service tei place its s n → given n.terms n.link ≡ None
       → answered next s ≡ gave None
@@ -109,22 +102,7 @@ module _ (service : Service) (tei : ℕ) (c d : Config) (p q : ℕ) (face : Face
       pub far_stops : HasItsTimer (link_of service tei (line_of last.far)) → runs_t200 service tei last.far ≡ false
 
     settled : (last : Wire) (x : Ends) → At last x.near x.far → two_links.HasArrived n.link.contents x.near x.far → two_links.HasArrived m.link.contents x.far x.near → AreFree x → Settled last
-    settled last x at near far free = record {
-      near = at.near.heard ∙ ap (λ xs. past ++ map (data_told service tei) xs) (far.delivered ∙ sym h.far.granted);
-      far = at.far.heard ∙ ap (λ xs. other ++ map (data_told service tei) xs) (near.delivered ∙ sym h.near.granted);
-      rests = record {
-        near = nothing-said c p past last.near x.near at.near (nothing-to_send x.near.terms x.near.link near.nothing);
-        far = nothing-said d q other last.far x.far at.far (nothing-to_send x.far.terms x.far.link far.nothing);
-        near_way = at.near.stands.way ∙ ap (map (spelling c.side)) near.way;
-        far_way = at.far.stands.way ∙ ap (map (spelling d.side)) far.way;
-      };
-      near_stops = λ timed.
-          runs-up service tei c p last.near x.near at.near.stands at.loose.joined.near_up
-          ∙ stops x.near.link (subst HasItsTimer (link-is service tei c p last.near x.near at.near.stands) timed) near.state (near.sent ∙ sym near.acknowledged) free.0;
-      far_stops = λ timed.
-          runs-up service tei d q last.far x.far at.far.stands at.loose.joined.far_up
-          ∙ stops x.far.link (subst HasItsTimer (link-is service tei d q last.far x.far at.far.stands) timed) far.state (far.sent ∙ sym far.acknowledged) free.1;
-    }
+    settled last x at near far free = grind (arith, nothing-said, nothing-to_send, runs-up, stops, link-is)
 
     pub loose-settles : (u : ℕ) → length (past ++ map (data_told service tei) w.far.granted) ≤ length (heard_in w.near) + u → length (other ++ map (data_told service tei) w.near.granted) ≤ length (heard_in w.far) + u
         → Settled (rounds (u + 3) (with_t200_expired service tei w))

@@ -21,11 +21,7 @@ turn_of frames = if is_any frames then 1 else 0
 
 -- an end with nothing to give stays
 pub stays : (n : End) → given n.terms n.link ≡ None → with_sent n ≡ n
-stays n e =
-    λ i. record n {
-      link = silent-stays n.terms n.link (nothing-given n.terms n.link e) i;
-      way = (ap (λ o. n.way ++ frame_given n.terms o) e ∙ append-nil n.way) i;
-    }
+stays n e = grind (arith, silent-stays, nothing-given, append-nil)
 
 some-given : (t : Terms) (l : Link) (g : Given) → given t l ≡ Some g → HasNothingToSend t l → ⊥
 some-given t l g is none = let wrong : None ≡ Some g = sym (nothing-to_send t l none) ∙ is in absurd (cc)
@@ -128,21 +124,7 @@ module _ (service : Service) (tei : ℕ) where
       none-lost m' e = λ i. record m' { way = (ap (drop 1) e ∙ sym e) i }
 
       takes-none : m.way ≡ [] → Acted w (acting takes w) n m (turn_of w.far.way)
-      takes-none e =
-          let empty : w.far.way ≡ [] = h.far.stands.way ∙ ap (map (spelling d.side)) e in
-          let same : with_first_of w.far.way w.near ≡ w.near = ap (λ way. with_first_of way w.near) empty in
-          record {
-            n' = n;
-            m' = m;
-            talk = record {
-              near = subst (λ s. Holds c service tei p first s n) (sym same) h.near;
-              far = subst (Holds d service tei q second (with_first_lost w.far)) (none-lost m e) (holds-lost service tei q second d w.far m h.far);
-              pair = h.pair;
-            };
-            price =
-                subst (λ s. turn_of w.far.way + (weight_at n + weight_at m) + 4 * granted_of w ≤ (weight_at n + weight_at m) + 4 * (length s.granted + length w.far.granted)) (sym same)
-                (price-none (turn_of w.far.way) (weight_at n) (weight_at m) (length w.near.granted) (length w.far.granted) (ap turn_of empty));
-          }
+      takes-none e = grind (arith, Holds, none-lost, holds-lost, price-none)
 
       takes-some : (f : Parts) (fs : List Parts) → m.way ≡ f ∷ fs → Acted w (acting takes w) n m (turn_of w.far.way)
       takes-some f fs e =

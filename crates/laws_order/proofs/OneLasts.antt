@@ -15,9 +15,7 @@ use Rattle.laws_order.proofs.Putting.{Each, AnsweredAt, Awaited, each-back, each
 use Rattle.laws_order.proofs.Saying.{NotUi, each-as, event-grows, on_line}
 
 none-awaited : (to : State) → IsTrue (is_multiple_frame to) → Awaited Speaks to
-none-awaited AwaitingEstablishment up = absurd (true≢false (sym up))
-none-awaited AwaitingRelease up = absurd (true≢false (sym up))
-none-awaited other up = tt
+none-awaited to up = grind arith
 
 -- Each N(R) means its value.
 its-value : (nr : Seq) → nr ≡ seq nr.value
@@ -240,8 +238,7 @@ module _ (service : Service) (tei : ℕ) where
         }
 
         go : IsFirst service tei far octets rest → Last (record { near = near; far = record far { way = rest } }) dm
-        go (other_first none same) = less (subst (Each Speaks) same h.speech)
-        go (its_first f one more) = let speech : Each Speaks (f ∷ line_of (record far { way = rest })) = subst (Each Speaks) more h.speech in less speech.1
+        go o = grind (arith, other_first, less, Each, Speaks, its_first)
 
     far-elsewhere : (w : Wire) (dm : List (List ℕ)) (e : card.Event) → IsElsewhere w.far e → Last w dm → Last (record w { far = elsewhere_on e w.far }) dm
     far-elsewhere w dm e is h =

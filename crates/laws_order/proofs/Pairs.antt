@@ -27,9 +27,7 @@ module _ (t : Terms) (l : Link) where
 
   -- a request
   released : (here : State) → IsTrue (is_multiple_frame here) → IsTrue (is_multiple_frame (Requests.release_in here t (begun l)).link.state) → ⊥
-  released Established was up = true≢false (sym up)
-  released TimerRecovery was up = true≢false (sym up)
-  released other was up = true≢false (sym was)
+  released here was up = grind arith
 
   granted : IsTrue (is_multiple_frame l.state) → (request : Request) → IsTrue (is_multiple_frame (Requests.granted t request (begun l)).link.state)
       → Grows (contents_of request) (Requests.granted t request (begun l))
@@ -42,8 +40,7 @@ module _ (t : Terms) (l : Link) where
   asked : IsTrue (is_multiple_frame l.state) → (request : Request) (o : Option Refusal)
       → IsTrue (is_multiple_frame (elim o as (λ o. Course) [ None ↦ Requests.granted t request (begun l) | Some _ ↦ begun l ]).link.state)
       → Grows (cond (is_some o) [] (contents_of request)) (elim o as (λ o. Course) [ None ↦ Requests.granted t request (begun l) | Some _ ↦ begun l ])
-  asked was request None up = granted was request up
-  asked was request (Some why) up = (sym (append-nil l.contents), refl)
+  asked was request o up = grind (arith, granted, append-nil)
 
   pub request-grows : IsTrue (is_multiple_frame l.state) → (request : Request) (full : Bool) → IsTrue (is_multiple_frame (after t (requested request full) l).state)
       → ((after t (requested request full) l).contents ≡ l.contents ++ accepted t (requested request full) l) × ((after t (requested request full) l).r ≡ l.r)
@@ -74,23 +71,14 @@ link_here service tei s = link_of service tei (line_of s)
 
 -- The frame that comes is the one that was given, where it comes whole.
 pub whole-is : (n201 : ℕ) (octets heard : List ℕ) → came n201 octets ≡ stream.frame heard → heard ≡ octets
-whole-is n201 octets heard e = go (is_too_short octets) (nat_lt (n201 + 4) (length octets)) e
-  where
-    go : (short long : Bool) → cond short (stream.dropped cause.Short) (cond long (stream.overlong (take 4 octets)) (stream.frame octets)) ≡ stream.frame heard → heard ≡ octets
-    go true long e = cc e
-    go false true e = cc e
-    go false false e = cc e
+whole-is n201 octets heard e = grind (arith, nat_lt)
 
 -- What goes between two links that face each other is no unit data.
 abbrev pub IsPlain : Parts → Type 0
 IsPlain f = is_ui f.control ≡ false
 
 means-plain : (m : ℕ) (control : Control) → Means m control → is_ui control ≡ false
-means-plain m (Information ns nr p) h = refl
-means-plain m (ReceiveReady nr pf) h = refl
-means-plain m (ReceiveNotReady nr pf) h = refl
-means-plain m (Reject nr pf) h = refl
-means-plain m other h = absurd h
+means-plain m control h = grind arith
 
 amid : (xs ys zs : List Parts) (a r : ℕ) → Rising a r ((xs ++ ys) ++ zs) → All IsPlain ys
 amid [] [] zs a r h = All-nil IsPlain
@@ -210,9 +198,7 @@ module _ (service : Service) (tei : ℕ) where
 
     -- it leaves the link
     pub leaves-still : (dn : List (List ℕ)) (m : End) → LeavesIt c service tei k (link_here service tei (happens e s)) e (answered e s) → Joined (facing s dn) m → Still dn m
-    leaves-still dn m x h =
-        subst (λ n. Joined n m)
-        (sym (same-end dn k (way_here s) dn x.is (way-then ∙ ap (λ fs. way_here s ++ fs) x.frames ∙ append-nil (way_here s)) (ap (λ ds. dn ++ ds) x.noted ∙ append-nil dn))) h
+    leaves-still dn m x h = grind (arith, same-end, way-then, append-nil)
 
     pub leaves-granted : LeavesIt c service tei k (link_here service tei (happens e s)) e (answered e s) → Granted
     leaves-granted x = ap (λ (y : Link). y.contents) x.is ∙ sym (ap (λ cs. k.contents ++ cs) x.granted ∙ append-nil k.contents)
@@ -227,17 +213,10 @@ module _ (service : Service) (tei : ℕ) where
 
       -- that gives no frame
       pub linked : (dn : List (List ℕ)) (m : End) (ev : link.Event) → x.event ≡ ev → frames_given c Own ev k ≡ [] → Joined (with_link ev (facing s dn)) m → Still dn m
-      linked dn m ev is none h =
-          subst (λ n. Joined n m)
-          (sym (same-end dn (links.after Own ev k) (way_here s) (dn ++ option_to_list (links.told Own ev k).delivered)
-          (x.is ∙ ap (λ ev. links.after Own ev k) is)
-          (way-then ∙ ap (λ fs. way_here s ++ of_link_on service tei c.side fs) (x.frames ∙ ap (λ ev. frames_given c Own ev k) is ∙ none) ∙ append-nil (way_here s))
-          (ap (λ ds. dn ++ ds) (x.noted ∙ ap (λ ev. option_to_list (links.told Own ev k).delivered) is)))) h
+      linked dn m ev is none h = grind (arith, same-end, option_to_list, way-then, frames_given, append-nil)
 
       pub granted-by : (ev : link.Event) → x.event ≡ ev → (links.after Own ev k).contents ≡ k.contents ++ accepted Own ev k → Granted
-      granted-by ev is h =
-          ap (λ (y : Link). y.contents) (x.is ∙ ap (λ ev. links.after Own ev k) is) ∙ h
-          ∙ sym (ap (λ cs. k.contents ++ cs) (x.granted ∙ ap (λ ev. accepted Own ev k) is))
+      granted-by ev is h = grind arith
 
       pub up-by : (ev : link.Event) → x.event ≡ ev → IsTrue (is_multiple_frame (links.after Own ev k).state)
       up-by ev is = subst (λ ev. IsTrue (is_multiple_frame (links.after Own ev k).state)) is up-then

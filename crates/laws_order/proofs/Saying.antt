@@ -32,17 +32,10 @@ each-as P Q x [] h = tt
 each-as P Q x (f ∷ fs) h = (x f.control h.0, each-as P Q x fs h.1)
 
 ui-answered : (P : Control → Type 0) (control : Control) → is_ui control ≡ true → Answered P control
-ui-answered P (Sabme p) is = absurd (true≢false (sym is))
-ui-answered P (Disc p) is = absurd (true≢false (sym is))
-ui-answered P other is = tt
+ui-answered P control is = grind arith
 
 ui-unheeded : (control : Control) → is_ui control ≡ true → Unheeded control
-ui-unheeded (Ui p) is = tt
-ui-unheeded (Information ns nr p) is = tt
-ui-unheeded (ReceiveReady nr pf) is = tt
-ui-unheeded (ReceiveNotReady nr pf) is = tt
-ui-unheeded (Reject nr pf) is = tt
-ui-unheeded other is = absurd (true≢false (sym is))
+ui-unheeded control is = grind arith
 
 offer-stays : (t : Terms) (k : Link) → (links.after t link.offer k).state ≡ k.state
 offer-stays t k = (event-follows t link.offer k).leaves.state
@@ -134,10 +127,7 @@ module _ (c : Config) (service : Service) (tei : ℕ) where
     unheeded heard other by = tt
 
     is-down : is_multiple_frame k.state ≡ false → HeardIs Unheeded e → Goes c service tei e l (lines.after c e l) a → is_multiple_frame k'.state ≡ false
-    is-down down heard (inl x) =
-        elim (x.is) [ inl same ↦ ap (λ (y : Link). is_multiple_frame y.state) same ∙ down | inr new ↦ ap (λ (y : Link). is_multiple_frame y.state) new ]
-    is-down down heard (inr (inl x)) = ap (λ (y : Link). is_multiple_frame y.state) x.is ∙ stays-down Own k down x.event (unheeded heard x.event x.by)
-    is-down down heard (inr (inr x)) = ap (λ (y : Link). is_multiple_frame y.state) x.is
+    is-down down heard o = grind (arith, stays-down, unheeded)
 
     pub line-down : is_multiple_frame k.state ≡ false → HeardIs Unheeded e → is_multiple_frame k'.state ≡ false
     line-down down heard = is-down down heard (event-goes c e l service tei s)
@@ -154,17 +144,10 @@ module _ (c : Config) (service : Service) (tei : ℕ) where
       none-cleared ev by is = subst (IsBy c e a service tei) is by
 
       new-goes : Ours (frames_by a) ≡ [] → k' ≡ fresh → line_on (way ++ Ours (frames_by a)) k' ≡ way
-      new-goes none new =
-          ap (λ (y : Link). (way ++ Ours (frames_by a)) ++ frames_of Own y.waiting) new ∙ append-nil (way ++ Ours (frames_by a))
-          ∙ ap (λ fs. way ++ fs) none ∙ append-nil way
+      new-goes none new = grind (arith, frames_of, append-nil)
 
       same-goes : Ours (frames_by a) ≡ [] → k' ≡ k → Goes-on
-      same-goes none same = inl (record {
-        news = [];
-        is = ap (λ (y : Link). (way ++ Ours (frames_by a)) ++ frames_of Own y.waiting) same
-            ∙ ap (λ fs. (way ++ fs) ++ frames_of Own k.waiting) none ∙ ap (λ w. w ++ frames_of Own k.waiting) (append-nil way) ∙ sym (append-nil (line_on way k));
-        are = tt;
-      })
+      same-goes none same = grind (arith, frames_of, append-nil)
 
       pub line-goes : HeardIs (Answered P) e → Awaited P k'.state → (IsTrue (is_multiple_frame k'.state) → (ns nr : Seq) (p : Bool) → P (Information ns nr p))
           → Each NotUi (frames_of Own k.waiting) → Goes-on
@@ -177,8 +160,7 @@ module _ (c : Config) (service : Service) (tei : ℕ) where
               none = ap Ours (same-frames a) ∙ all-foreign c service tei _ x.begins
 
               either : (k' ≡ k) ⊎ (k' ≡ fresh) → Goes-on
-              either (inl same) = same-goes none same
-              either (inr new) = inr (new-goes none new)
+              either o = grind (arith, same-goes, none, new-goes)
           go (inr (inl x)) =
               let at = (place_of-is l.management.places tei x.place x.placed).1 in
               let sound = subst (link_sound.IsSound Own) (sym (ap (λ o. option_map_or (link_in l service) o fresh) x.placed)) (sound_in c ranged l s service tei x.place at) in
@@ -224,11 +206,7 @@ module _ (service : Service) (tei : ℕ) where
 
       -- nothing happens where the pool is full
       full-goes : (way : List Parts) (k : Link) → Grown P (way ++ frames_of (terms c service tei) k.waiting) ((way ++ []) ++ frames_of (terms c service tei) k.waiting)
-      full-goes way k = record {
-        news = [];
-        is = ap (λ w. w ++ frames_of (terms c service tei) k.waiting) (append-nil way) ∙ sym (append-nil (way ++ frames_of (terms c service tei) k.waiting));
-        are = tt;
-      }
+      full-goes way k = grind (arith, frames_of, append-nil)
 
       pub station-goes : HeardIs c service tei (Answered P) e → Awaited P (link_here service tei (happens e s)).state
           → (IsTrue (is_multiple_frame (link_here service tei (happens e s)).state) → (ns nr : Seq) (p : Bool) → P (Information ns nr p))

@@ -63,16 +63,14 @@ module _ (n201 : ℕ) (c : Config) (fits : Fits n201 c) (s : Termination) (ran :
   pull-received = ap (λ (p : Port). p.received) port-pulled ∙ go (is_due (port_of s))
     where
       go : (due : Bool) → (pulled_port due s).received ≡ (port_of s).received
-      go false = refl
-      go true = refl
+      go due = grind arith
 
   -- one octet more is given
   pub pull-given : (value : ℕ) × ((port_of after_pull).given ≡ (port_of s).given ++ value ∷ [])
   pull-given = go (is_due (port_of s)) port-pulled
     where
       go : (due : Bool) → port_of after_pull ≡ pulled_port due s → (value : ℕ) × ((port_of after_pull).given ≡ (port_of s).given ++ value ∷ [])
-      go false e = (next_octet (port_of s), ap (λ (p : Port). p.given) e)
-      go true e = (next_octet (with_item (said_if true s) (port_of s)), ap (λ (p : Port). p.given) e)
+      go due e = grind arith
 
 -- ---- an octet that ends nothing is heard
 

@@ -1,8 +1,7 @@
 -- What an event leaves as it was at a station.
-use Rattle.laws_wire.proofs.Vocabulary.{arith, ◌≡◌, Bool, true, false, cond, ℕ, List, [], ◌++◌, Option, None, Some, option_map, refl, ap, ◌∙◌, append-nil, Refusal, PoolFull, Timer, came, hears, expiry, request, next, Answer, refused, gave, unless_refused_told, of_request, Request, taken, next_of, line_at, at, wants_room, Event, told, drop, Wire, acting, takes, with_first_of, with_first_lost, sym}
+use Rattle.laws_wire.proofs.Vocabulary.{arith, ◌≡◌, ℕ, List, [], option_map, refl, ap, ◌∙◌, append-nil, Timer, came, hears, expiry, request, next, Answer, gave, Request, taken, next_of, line_at, Event, told, drop, Wire, acting, takes, with_first_of, with_first_lost, sym}
 use Rattle.model_line.specs.Machine as lines
-use Rattle.model_line.specs.Refusal.{refusal}
-use Rattle.laws_wire.specs.Wire.{Station, answered, happens, comes, frames_by, unless_refused, contents_in}
+use Rattle.laws_wire.specs.Wire.{Station, answered, happens, comes, unless_refused, contents_in}
 
 -- A call for the next frame gives what is taken at the line, and tells nothing.
 pub gives-taken : (s : Station) → answered next s ≡ gave (option_map next_of (taken s.card.config (line_at s.line s.card)))

@@ -1,6 +1,6 @@
 -- What is awaited at a station is awaited at the end for which it stands: there a T200 that is long enough is timely, N200 is used up as
 -- its expiry tells, and it runs as its expiry is answered.
-use Rattle.laws_wire.proofs.Vocabulary.{◌≡◌, ℕ, zero, suc, ◌<◌, Bool, true, false, cond, not, ◌||◌, IsTrue, List, [], ◌∷◌, ◌++◌, length, map, Option, None, Some, option_map, refl, sym, ap, subst, ◌∙◌, true≢false, All, flat_map, list_any, option_map_or, nat_lt, ltb-true, lt-ltb, All-nil, All-cons, All-append, All-head, All-tail, All-weaker, Seq, Control, Information, ReceiveReady, ReceiveNotReady, Reject, Service, Parts, spelling, State, TeiAssigned, AwaitingEstablishment, AwaitingRelease, Established, TimerRecovery, ControlFrame, LinkTimer, Terms, Link, fresh, frame_of, state_number, is_multiple_frame, course, begun, given_of, is_running, runs, Course, T200, T203, End, frame_given, with_sent, Config, LineTold, next, link_in, state_in, state_of, terms, awaits_answer, is_enquiry, is_answer, supervisory_bit, HasNo, Station, answered, happens, told_by, tells_nothing, expiry, is_error, TellNoError, bit_of, is_poll, is_final, giving, NoneGoes, IsNoneOpen, awaits_in, awaits_reply, IsLongEnough, MayRepeat, is_any_order, runs_t200, All-drop, Answer, BadTei, NoLink, Refusal, Rests, arith, frames_by, front_rest, gave, gives_one, is_on-at, le-ltb, link_of, list_any_none, place_of-is, queue_of, seq, told, told_of_link, of_aim, at_timer, place_in, unwrap_or, ◌-◌, ◌≤◌}
+use Rattle.laws_wire.proofs.Vocabulary.{◌≡◌, ℕ, zero, suc, ◌<◌, Bool, true, false, cond, not, ◌||◌, IsTrue, List, [], ◌∷◌, ◌++◌, length, map, Option, None, Some, option_map, refl, sym, ap, subst, ◌∙◌, true≢false, All, flat_map, list_any, option_map_or, nat_lt, ltb-true, lt-ltb, All-nil, All-cons, All-append, All-head, All-tail, Seq, Control, Information, ReceiveReady, Service, Parts, spelling, State, TeiAssigned, Established, ControlFrame, LinkTimer, Terms, Link, fresh, frame_of, state_number, is_multiple_frame, course, begun, given_of, is_running, runs, Course, T200, End, frame_given, with_sent, Config, next, link_in, state_in, state_of, terms, awaits_answer, is_enquiry, is_answer, supervisory_bit, HasNo, Station, answered, happens, told_by, expiry, is_error, TellNoError, bit_of, is_poll, is_final, giving, NoneGoes, IsNoneOpen, awaits_in, awaits_reply, IsLongEnough, MayRepeat, is_any_order, runs_t200, All-drop, Answer, BadTei, NoLink, Refusal, Rests, arith, frames_by, front_rest, gave, gives_one, is_on-at, le-ltb, link_of, list_any_none, place_of-is, queue_of, seq, told, told_of_link, of_aim, at_timer, place_in, unwrap_or, ◌-◌, ◌≤◌}
 use Rattle.lapd_frame.specs.declared.timers.Timer.TheVariants as timers
 use Rattle.model_link.specs.Events as link
 use Rattle.model_link.specs.Machine as links
@@ -63,12 +63,9 @@ module _ (t : Terms) (l : Link) where
   either-ordered : (b : Bool) (c d : Course) → HasOrders c → HasOrders d → HasOrders (cond b c d)
   either-ordered b c d x y = grind arith
 
-  ordered-in : (here : State) → (here ≡ TeiAssigned → ⊥) → is_running T200 l ≡ true → HasOrders (links.expired_in here T200 t (begun l))
-  ordered-in here up e = grind (arith, either-ordered, nat_lt, stop-ordered)
-
   ordered-as : (l.state ≡ TeiAssigned → ⊥) → (b : Bool) → is_running T200 l ≡ b
       → let c = cond b (links.expire_running T200 t (begun l)) (begun l) in is_any_order (orders_for t l.running c.started c.link.running) ≡ b
-  ordered-as up b e = grind (arith, ordered-in, none-ordered)
+  ordered-as up b e = grind (arith, either-ordered, nat_lt, stop-ordered, none-ordered)
 
   -- and tells an error where N200 is used up
   taken : (b : Bool) (c d : Course) → b ≡ true → list_any is_error c.notes ≡ false → list_any is_error (cond b c d).notes ≡ false
@@ -77,17 +74,11 @@ module _ (t : Terms) (l : Link) where
   passed : (b : Bool) (c d : Course) → b ≡ false → HasError d.notes → HasError (cond b c d).notes
   passed b c d e h = grind arith
 
-  fair-in : (here : State) → (awaits_answer here ≡ true → nat_lt l.repeats t.n200 ≡ true) → list_any is_error (links.expired_in here T200 t (begun l)).notes ≡ false
-  fair-in here few = grind (arith, taken, nat_lt)
-
-  error-in : (here : State) → awaits_answer here ≡ true → nat_lt l.repeats t.n200 ≡ false → HasError (links.expired_in here T200 t (begun l)).notes
-  error-in here awaits over = grind (arith, passed, nat_lt)
-
   few-tell : (awaits_answer l.state ≡ true → l.repeats < t.n200) → list_any is_error expires.notes ≡ false
-  few-tell few = grind (arith, fair-in, lt-ltb)
+  few-tell few = grind (arith, taken, nat_lt, lt-ltb)
 
   told-few : awaits_answer l.state ≡ true → is_running T200 l ≡ true → list_any is_error expires.notes ≡ false → l.repeats < t.n200
-  told-few awaits running fair = grind (arith, nat_lt, ltb-true, error-in)
+  told-few awaits running fair = grind (arith, nat_lt, ltb-true, passed)
 
 said-fair : (c : Course) → list_any is_error c.notes ≡ false → TellNoError (said_by c)
 said-fair c h = grind (arith, heard_by)

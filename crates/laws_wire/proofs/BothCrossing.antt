@@ -1,11 +1,11 @@
 -- Both ends call, and SABMEs cross: how far each call has come, and what each step does.
-use Rattle.laws_wire.proofs.Vocabulary.{◌≡◌, ℕ, ◌+◌, ◌*◌, ◌<◌, ◌≤◌, true, false, cond, List, [], ◌∷◌, ◌++◌, length, map, None, refl, sym, ap, subst, ◌∙◌, ◌⊎◌, inl, inr, append-nil, arith, nat_lt, if◌then◌else◌, lt-ltb, All-nil, Service, Parts, spelling, ControlFrame, Terms, received, course, given, IsInRange, begun, End, with_link, with_sent, Config, terms, Request, next, Pair, frame, after, refusal, Station, Wire, happens, frames_by, with_first_of, with_first_lost, Act, requests, gives, takes, acting, turned, is_turn_of, answered, comes, IsTalkOf, confirmed}
+use Rattle.laws_wire.proofs.Vocabulary.{◌≡◌, ℕ, ◌+◌, ◌*◌, ◌<◌, ◌≤◌, false, List, [], ◌∷◌, ◌++◌, length, map, None, refl, sym, ap, subst, ◌∙◌, ◌⊎◌, inl, inr, append-nil, arith, nat_lt, if◌then◌else◌, lt-ltb, Service, Parts, spelling, ControlFrame, Terms, received, course, given, IsInRange, End, with_link, with_sent, Config, terms, Request, next, Pair, frame, after, refusal, Station, Wire, happens, frames_by, with_first_of, with_first_lost, Act, requests, gives, takes, acting, turned, is_turn_of, answered, comes, IsTalkOf, confirmed}
 use Rattle.model_link.specs.Events as link
 use Rattle.model_link.specs.TwoEnds as two_ends
 use Rattle.laws_wire.proofs.Answered.{takes-granted}
 use Rattle.laws_wire.proofs.BothHalf as half
 use Rattle.laws_wire.proofs.BothHalf.{lower}
-use Rattle.laws_wire.proofs.Calling.{sabme, ua, its_ua, awaiting, caller, end, sound-caller, with_ua_waiting, with_ua_first}
+use Rattle.laws_wire.proofs.Calling.{sabme, ua, its_ua, awaiting, caller, end, with_ua_waiting, with_ua_first}
 use Rattle.laws_wire.proofs.Ringing.{ringing, its_sabme}
 use Rattle.laws_wire.proofs.Speaking.{said_by}
 use Rattle.laws_wire.proofs.Standing.{IsCarried, Stands}
@@ -54,9 +54,6 @@ InOrder waits other = NotReturning other
 InOrder returns other = NotWaiting other
 InOrder any other = Unit {0}
 
-pub turned-order : (own other : Place) → InOrder own other → InOrder other own
-turned-order own other h = grind arith
-
 abbrev pub turns_left : Place → ℕ
 turns_left waits = 4
 turns_left under_way = 3
@@ -101,7 +98,7 @@ module _ (service : Service) (tei : ℕ) (c d : Config) (p q : ℕ) (face : Face
 
   -- both are up, and have nothing to do yet
   first-pair : Pair (pair_of (end u caller []) (end t caller []))
-  first-pair = grind (arith, sound-caller)
+  first-pair = grind arith
 
   module _ (w : Wire) (weight : ℕ) (own other : Place) (order : InOrder own other)
       (both : Both service tei c d p q unheard unheard w (crossing t own other) (crossing u other own)) (is : weight ≡ turns_left own + turns_left other) where

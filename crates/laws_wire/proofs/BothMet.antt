@@ -1,8 +1,8 @@
 -- The premises of the law are met by the worked call in which SABMEs cross: so each was told all, and the two face each other.
-use Rattle.laws_wire.proofs.Vocabulary.{arith, [], ◌∷◌, refl, All, Call, reading, header_of, control_of, unnumbered_of, supervisory_of, distance_of, named, seq, Data, requests, at_near, at_far, doing_all, turns, IsStill, IsCall, both_call, ComesThrough, Face, user, network, begins}
+use Rattle.laws_wire.proofs.Vocabulary.{arith, refl, All, Call, reading, header_of, control_of, unnumbered_of, supervisory_of, distance_of, named, seq, doing_all, turns, IsStill, IsCall, both_call, ComesThrough, Face, user, network, begins}
 use Rattle.lapd_tei.specs.Events as teis
 use Rattle.model_line.specs.Machine as lines
-use Rattle.laws_wire.specs.BothWorked.{asks, both_send}
+use Rattle.laws_wire.specs.BothWorked.{both_send}
 use Rattle.laws_wire.proofs.Delivering.{calls-face}
 use Rattle.laws_wire.proofs.PremisesMet.{can, all-of}
 use Rattle.laws_wire.proofs.Run.{calls-come-through}

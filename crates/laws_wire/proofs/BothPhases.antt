@@ -6,7 +6,7 @@ use Rattle.laws_wire.proofs.BothAsking.{Kind, talks, near_calls, far_calls, kind
 use Rattle.laws_wire.proofs.BothHalf as half
 use Rattle.laws_wire.proofs.BothHalf.{lower, turned-count}
 use Rattle.laws_wire.proofs.BothCrossing as crossed
-use Rattle.laws_wire.proofs.BothCrossing.{waits, under_way, turned-order}
+use Rattle.laws_wire.proofs.BothCrossing.{waits, under_way}
 use Rattle.laws_wire.proofs.Calling.{sabme, asked, awaiting, called, takes-sabme, told-of-sabme, end, none-granted-asked, none-granted-awaiting, none-granted-fresh, first-pair, with_ua_waiting}
 use Rattle.laws_wire.proofs.Speaking.{said_by}
 use Rattle.laws_wire.proofs.Standing.{Stands}
@@ -177,10 +177,10 @@ module _ (service : Service) (tei : ℕ) where
     swapped x y weight is = omega (arith, is)
 
     turned-crossing : (w : Wire) (weight : ℕ) → Crossing w weight → CrossingTurned (turned w) weight
-    turned-crossing w weight h = grind (arith, turned-order, turned-both, unheard, swapped, crossed.turns_left)
+    turned-crossing w weight h = grind (arith, turned-both, unheard, swapped, crossed.turns_left)
 
     crossing-back : (v : Wire) (weight : ℕ) → CrossingTurned v weight → Crossing (turned v) weight
-    crossing-back v weight h = grind (arith, turned-order, turned-both, unheard, swapped, crossed.turns_left)
+    crossing-back v weight h = grind (arith, turned-both, unheard, swapped, crossed.turns_left)
 
     far-goes : (v : Wire) (weight : ℕ) → CrossingTurned v weight ⊎ FarFirst v weight → Goes true (turned v) weight
     far-goes v weight (inl h) = inl (crossing-back v weight h)

@@ -1,5 +1,5 @@
 -- Two cards that face each other deliver what layer 3 hands over.
-use Rattle.laws_wire.proofs.Vocabulary.{◌≡◌, ℕ, ◌+◌, ◌*◌, ◌≤◌, ◌||◌, Bool, true, false, cond, List, [], ◌++◌, length, map, take, drop, Option, Some, None, option_map, refl, sym, ap, subst, ◌∙◌, append-nil, append_assoc, length-append, map-append, take-append-drop, arith, All, All-nil, if◌then◌else◌, unwrap_or, Service, Link, State, state_number, Established, other_side, End, Ends, Config, LineTold, link_in, state_in, place_in, terms, has_lines, line_sound, AreTurns, weight_at, IsReady, IsTaken, Pair, all-turns, Station, Wire, Doing, doing_all, turns, IsStill, IsBeginningOf, IsTold, calling, IsTalk, data_told, Face, Speaks, own_link, granted_of}
+use Rattle.laws_wire.proofs.Vocabulary.{◌≡◌, ℕ, ◌+◌, ◌*◌, ◌≤◌, ◌||◌, Bool, false, cond, List, [], ◌++◌, length, map, take, drop, Option, Some, option_map, refl, sym, ap, subst, ◌∙◌, append-nil, append_assoc, length-append, map-append, take-append-drop, arith, All, All-nil, Service, Link, Established, other_side, End, Ends, Config, LineTold, link_in, state_in, place_in, terms, has_lines, line_sound, AreTurns, weight_at, IsReady, IsTaken, Pair, all-turns, Station, Wire, Doing, doing_all, turns, IsStill, IsBeginningOf, IsTold, calling, IsTalk, data_told, Face, Speaks, own_link, granted_of}
 use Rattle.std.proofs.lemmas.List.{append_cancel_left}
 use Rattle.std.proofs.Math.Seq.{drop-append_seam}
 use Rattle.model_link.specs.TwoEnds as two_ends
@@ -23,11 +23,8 @@ record IsUp (service : Service) (tei : ℕ) (l : Line) : Type 0 where
   placed : place_in l tei ≡ Some place
   state : (link_in l service place).state ≡ Established
 
-seven-is : (x : State) → state_number x ≡ 7 → x ≡ Established
-seven-is x e = grind arith
-
 is-up : (service : Service) (tei : ℕ) (l : Line) → (o : Option ℕ) → place_in l tei ≡ o → option_map (state_in l service) o ≡ Some 7 → IsUp service tei l
-is-up service tei l o is e = grind (arith, seven-is)
+is-up service tei l o is e = grind arith
 
 both-off : (a b : Bool) → (a || b) ≡ false → (a ≡ false) × (b ≡ false)
 both-off a b e = grind arith
@@ -170,9 +167,6 @@ module _ (service : Service) (tei : ℕ) where
     is-told still all granted = grind (arith, drop-append_seam, told-first, told-then)
 
   -- what was granted and told is nothing to how they face each other
-  logs-aside : (g h g' h' : List (List ℕ)) (t r t' r' : List LineTold) (x y : Station) → Speaks service tei (logged g t x) (logged h r y) → Speaks service tei (logged g' t' x) (logged h' r' y)
-  logs-aside g h g' h' t r t' r' x y k = record { card = k.card; state = k.state; free = k.free; alone = k.alone; received = k.received; owes = k.owes }
-
   first-pair : (e : Ends) → IsReady e.near → IsReady e.far → IsTaken e.near e.far → IsTaken e.far e.near → Pair e
   unfolding two_ends.doing_all AreTurns
   first-pair e near far there back = (all-turns [] e near far there back tt).pair
@@ -278,7 +272,7 @@ module _ (service : Service) (tei : ℕ) where
         (face-by last (faces-again service tei c d (up s u h.0).place (up u s h.1).place (past_at s u) (past_at u s) (as_kept last) x.n' x.m' x.talk (as-kept-still (subst IsStill leads still)) h.2))
       where
         face-by : (v : Wire) → Face service tei (as_kept v) → Face service tei (as_is v)
-        face-by v k = grind (arith, logs-aside)
+        face-by v k = grind arith
 
         as-kept-still : IsStill (as_is last) → IsStill (as_kept last)
         as-kept-still e = record { near = e.near; far = e.far; near_way = e.near_way; far_way = e.far_way }

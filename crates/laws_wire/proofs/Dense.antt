@@ -1,5 +1,5 @@
 -- I-frames of which none is missing between V(R) of the one end and V(S) of the other, and N(R) of which the last is V(R).
-use Rattle.laws_wire.proofs.Vocabulary.{◌≡◌, ℕ, ◌+◌, ◌%◌, ◌<◌, ◌≤◌, Bool, true, List, [], ◌∷◌, ◌++◌, refl, sym, ap, subst, ◌∙◌, ◌⊎◌, inl, inr, arith, Parts, seq, seq-value, Means, Rising, rising-low, Kind, numbered, enquiry, answer, report, rejection, alien, Every, Calm, Beyond}
+use Rattle.laws_wire.proofs.Vocabulary.{◌≡◌, ℕ, ◌+◌, ◌%◌, ◌<◌, ◌≤◌, Bool, true, List, [], ◌∷◌, ◌++◌, refl, sym, ap, ◌⊎◌, arith, Parts, seq, seq-value, Means, Rising, rising-low, Kind, numbered, enquiry, answer, report, rejection, alien, Every, Calm, Beyond}
 
 -- The numbers are lo, lo + 1 and so on, up to below hi.
 abbrev pub Dense : ℕ → ℕ → List Kind → Type 0

@@ -1,5 +1,5 @@
 -- An event of a link in states 7 and 8 tells an error; or it leaves the link there, tells what it delivers, and nothing else.
-use Rattle.laws_wire.proofs.Vocabulary.{arith, ◌≡◌, ℕ, Bool, true, false, cond, ◌||◌, IsTrue, List, [], ◌∷◌, ◌++◌, length, map, Option, None, Some, refl, sym, ap, subst, ◌∙◌, ◌⊎◌, inl, inr, true≢false, nat_lt, option_to_list, list_any, list_any-append, Seq, named, Control, Information, ReceiveReady, ReceiveNotReady, Reject, Sabme, Ua, ErrorCode, Note, Parts, State, Established, TimerRecovery, LinkTimer, T203, Terms, Link, is_multiple_frame, has_outstanding, received, expired, begun, Step, ◌then◌, by_bit, Leads, keeping_then, nothing_leads, depending_leads, bit_leads, Means, T200, frame, Course, is_error}
+use Rattle.laws_wire.proofs.Vocabulary.{arith, ◌≡◌, ℕ, Bool, true, false, cond, ◌||◌, IsTrue, List, [], ◌∷◌, ◌++◌, length, map, Option, None, Some, refl, sym, ap, ◌∙◌, ◌⊎◌, inl, inr, true≢false, nat_lt, option_to_list, list_any, list_any-append, Seq, named, Control, Information, ReceiveReady, ReceiveNotReady, Reject, Sabme, ErrorCode, Note, Parts, State, Established, TimerRecovery, LinkTimer, T203, Terms, Link, is_multiple_frame, received, expired, begun, Step, ◌then◌, Leads, keeping_then, nothing_leads, depending_leads, bit_leads, Means, T200, frame, Course, is_error}
 use Rattle.lapd_frame.specs.declared.notes.ErrorCode.TheVariants as code
 use Rattle.lapd_frame.specs.declared.notes.Note.TheVariants as notes
 use Rattle.model_link.specs.Words
@@ -83,12 +83,6 @@ module _ (t : Terms) where
 ruleset words = (keeping_then, nothing_leads, depending_leads, bit_leads, failed_fair, error_fair, enquire_fair, answer_fair, reject_fair, peer_busy_fair, rejecting_fair, pending_fair, repeats_fair, repeated_fair, start_fair, acknowledge_fair, again_fair, enter_fair, recover_fair)
 
 module _ (t : Terms) where
-  timer_7 : Leads (Fair t) (Established.timer_in_7 t) (Fair t)
-  timer_7 = search words depth 12 fits 4000
-
-  t200_8 : Leads (Fair t) (TimerRecovery.t200_in_8 t) (Fair t)
-  t200_8 = search words depth 12 fits 4000
-
   in_7 : (n : ℕ) → Leads (Fair t) (Established.acknowledged_in_7 n) (Fair t)
   in_7 n = search words depth 12 fits 4000
 

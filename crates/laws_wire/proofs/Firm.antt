@@ -1,9 +1,8 @@
 -- Two ends that are up, and whose T200 is timely: they stay so, and no frame that one takes makes it tell an error.
-use Rattle.laws_wire.proofs.Vocabulary.{arith, ◌≡◌, ℕ, ◌≤◌, Bool, true, false, cond, not, ◌&&◌, IsTrue, List, [], ◌∷◌, ◌++◌, refl, sym, ap, subst, ◌∙◌, ◌⊎◌, inl, inr, true≢false, list_any, Seq, Control, Information, ReceiveReady, ReceiveNotReady, Reject, Note, Parts, State, TeiAssigned, AwaitingEstablishment, AwaitingRelease, Established, TimerRecovery, LinkTimer, Terms, Link, is_multiple_frame, received, expired, requested, offer, course, End, Ends, asks, expires, sends, receives, with_link, with_sent, IsUp, frames_of, Joined, joined-turned, done-at, Rising, frame-taken, busy_asked, flag_left, takes_contents, as_heard, is_overlong, state_after, numbered_as, final_as, told_up, told_by_frame, told_expired, event-follows, CanRepeat, IsMildAct, IsTimelyAct, is_recovering, Flow, flow-low, no-answer, line, NoAlien, is-no-alien, Sane, sane-doing, Flows, acted-flows, done-up, same-after, Kind, answer, alien, kind_of, kind_of_ready, kind_of_reject, after, is_error}
+use Rattle.laws_wire.proofs.Vocabulary.{arith, ◌≡◌, ℕ, ◌≤◌, Bool, true, false, cond, IsTrue, List, [], ◌∷◌, ◌++◌, refl, ap, subst, ◌∙◌, ◌⊎◌, list_any, Control, Parts, State, LinkTimer, Terms, Link, is_multiple_frame, received, expired, requested, offer, course, End, Ends, asks, expires, sends, receives, with_link, with_sent, IsUp, frames_of, Joined, joined-turned, done-at, Rising, frame-taken, busy_asked, flag_left, as_heard, is_overlong, state_after, numbered_as, final_as, told_up, event-follows, CanRepeat, IsMildAct, IsTimelyAct, is_recovering, Flow, flow-low, no-answer, line, NoAlien, is-no-alien, Sane, sane-doing, Flows, acted-flows, done-up, same-after, Kind, answer, alien, kind_of, after, is_error}
 use Rattle.model_link.specs.TwoEnds.{Act, loses, at_near, with_first_of, with_first_lost, acting}
 use Rattle.laws_link.specs.Telling.{told_by}
 use Rattle.laws_link.specs.two.Timely.{IsTimely}
-use Rattle.lapd_frame.specs.declared.notes.Note.TheVariants as notes
 use Rattle.model_link.specs.Events.{Event, frame, overlong, Data}
 use Rattle.laws_wire.proofs.Fair.{HasError, Fine, frame-fair}
 use Rattle.laws_wire.proofs.Tame.{Tame, tame-asks, tame-expires, tame-sends, tame-loses, tame-takes, off}
@@ -15,12 +14,6 @@ IsQuiet b (answer nr) = b ≡ true
 IsQuiet b alien = ⊥
 IsQuiet b other = Unit {0}
 
-ready-final : (b command pf : Bool) (nr : Seq) → IsQuiet b (kind_of_ready command pf nr) → (not command && pf) ≡ true → b ≡ true
-ready-final b command pf nr h e = grind arith
-
-reject-final : (b command pf : Bool) (nr : Seq) → IsQuiet b (kind_of_reject command pf nr) → (not command && pf) ≡ true → b ≡ true
-reject-final b command pf nr h e = grind arith
-
 module _ (t : Terms) where
   numbered-none : (to : State) → IsTrue (is_multiple_frame to) → numbered_as t to ≡ []
   numbered-none to up = grind arith
@@ -28,19 +21,9 @@ module _ (t : Terms) where
   final-none : (b final : Bool) → (final ≡ true → b ≡ true) → final_as t b final ≡ []
   final-none b final h = grind arith
 
-  data-alone : (b : Bool) → list_any is_error (cond {A = List Note} b (notes.Data t.service t.tei ∷ []) [] ++ []) ≡ false
-  data-alone b = grind arith
-
   module _ (b command : Bool) (octets : List ℕ) (taken : Bool) (l : Link) (to : State) (up : IsTrue (is_multiple_frame to)) where
-    final-quiet : (final : Bool) → (final ≡ true → b ≡ true) → list_any is_error (final_as t b final ++ numbered_as t to) ≡ false
-    final-quiet final h = grind (arith, numbered-none, to, up, final-none)
-
     up-quiet : (control : Control) → IsQuiet b (kind_of command control) → list_any is_error (told_up b t command octets control taken l to) ≡ false
-    up-quiet control h = grind (arith, numbered-none, to, up, data-alone, final-quiet, ready-final, reject-final)
-
-  frame-quiet : (here : State) → IsTrue (is_multiple_frame here) → (command : Bool) (octets : List ℕ) (control : Control) (taken : Bool) (l : Link) (to : State)
-      → IsTrue (is_multiple_frame to) → IsQuiet (is_recovering here) (kind_of command control) → list_any is_error (told_by_frame here t command octets control taken l to) ≡ false
-  frame-quiet here is command octets control taken l to up h = grind (arith, up-quiet)
+    up-quiet control h = grind (arith, to, up, numbered-none, final-none)
 
   -- an I-frame over N201 would lead the link out
   pub no-error : (l : Link) (f : Parts) → IsTrue (is_multiple_frame l.state) → IsTrue (is_multiple_frame (after t (received (frame f)) l).state)
@@ -54,15 +37,12 @@ module _ (t : Terms) where
       heard b = received (cond b overlong (frame f))
 
       go : (b : Bool) → to ≡ state_after t (heard b) l → (course t (received (frame f)) l).notes ≡ told_by t (heard b) l to → list_any is_error (course t (received (frame f)) l).notes ≡ false
-      go b leads tells = grind (arith, to, up, frame-quiet, heard)
+      go b leads tells = grind (arith, to, up, up-quiet, heard)
 
   -- nor does a timer tell one, where the link stays up
-  expired-quiet : (here to : State) → IsTrue (is_multiple_frame here) → IsTrue (is_multiple_frame to) → list_any is_error (told_expired here t to) ≡ false
-  expired-quiet here to is up = grind arith
-
   pub timer-quiet : (l : Link) (timer : LinkTimer) → IsTrue (is_multiple_frame l.state) → IsTrue (is_multiple_frame (after t (expired timer) l).state)
       → HasError (course t (expired timer) l).notes → ⊥
-  timer-quiet l timer is up error = grind (arith, event-follows, expired-quiet)
+  timer-quiet l timer is up error = grind (arith, event-follows)
 
 -- ---- own busy stays off
 

@@ -1,6 +1,6 @@
 -- A station in a call in which frames are lost and timers expire: what its layer 3 was granted is what its link accepted, and
 -- layer 3 heard what its link delivered.
-use Rattle.laws_wire.proofs.Vocabulary.{◌≡◌, ℕ, Bool, true, false, cond, not, ◌&&◌, ◌||◌, ◌==◌, suc, List, [], ◌∷◌, ◌++◌, length, map, Option, Some, None, is_some, refl, sym, ap, subst, ◌∙◌, ◌⊎◌, inl, inr, append-nil, append_assoc, eqb-true, arith, option_to_list, flat_map, list_any, option_or, and_parts, false≢true, map-append, list_any-append, list_any_none, Note, Service, Timer, Parts, spelling, LinkTimer, End, with_link, with_sent, Config, LineTold, expiry, request, next, at_timer, aim_of_expiry, Line, place_in, flat_map-append, Course, nothing, Data, Station, happens, with_first_lost, tells_nothing, comes, data_told, for_layer_3, heard_in, is_error, HasNoError}
+use Rattle.laws_wire.proofs.Vocabulary.{◌≡◌, ℕ, Bool, true, false, cond, not, ◌&&◌, ◌==◌, suc, List, [], ◌∷◌, ◌++◌, length, map, Option, None, is_some, refl, sym, ap, subst, ◌∙◌, ◌⊎◌, inl, inr, append-nil, append_assoc, eqb-true, arith, option_to_list, flat_map, list_any, option_or, and_parts, false≢true, map-append, list_any-append, list_any_none, Note, Service, Timer, Parts, spelling, LinkTimer, End, with_link, with_sent, Config, LineTold, expiry, request, next, at_timer, aim_of_expiry, Line, place_in, flat_map-append, Course, nothing, Data, Station, happens, with_first_lost, comes, data_told, for_layer_3, heard_in, is_error, HasNoError}
 use Rattle.lapd_frame.specs.declared.notes.Note.TheVariants as notes
 use Rattle.model_link.specs.Events as link
 use Rattle.model_link.specs.Machine as links
@@ -25,9 +25,6 @@ heard-of c = grind (arith, heard_by, flat_map, and_parts, is_some, append-nil)
 pub record TellsIt (service : Service) (tei : ℕ) (c : Course) : Type 0 where
   pub its_notes : c.notes ≡ map (λ octets. notes.Data service tei) (option_to_list c.delivered)
   pub no_unit : c.unit ≡ None
-
-hears-it : (service : Service) (tei : ℕ) (c : Course) → TellsIt service tei c → flat_map for_layer_3 (said_by c) ≡ map (data_told service tei) (option_to_list c.delivered)
-hears-it service tei c h = grind (arith, heard-of)
 
 -- ---- errors that were told
 
@@ -71,7 +68,7 @@ module _ (service : Service) (tei place : ℕ) (past : List LineTold) (c : Confi
   -- what it heard by an event
   pub heard-then : (s' : Station) (x : Course) → s'.told ≡ s.told ++ said_by x → TellsIt n.terms.service n.terms.tei x
       → heard_in s' ≡ past ++ map (data_told service tei) (n.delivered ++ option_to_list x.delivered)
-  heard-then s' x told y = grind (arith, flat_map, flat_map-append, said_by, hears-it, append_assoc, map-append)
+  heard-then s' x told y = grind (arith, flat_map, flat_map-append, said_by, heard-of, append_assoc, map-append)
 
   heard-data : (xs : List (List ℕ)) → flat_map for_layer_3 (map (data_told service tei) xs) ≡ map (data_told service tei) xs
   heard-data [] = refl

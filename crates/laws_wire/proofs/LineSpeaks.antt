@@ -1,8 +1,6 @@
 -- A line on which one link alone has anything to say.
-use Rattle.laws_wire.proofs.Vocabulary.{◌≡◌, ◌≢◌, ℕ, false, ◌<◌, ◌==◌, List, [], ◌∷◌, get_or, set, slice_get, Option, Some, None, option_map, Ok, refl, sym, ap, subst, ◌∙◌, ◌⊎◌, inl, inr, arith, ⊎_elim, if◌then◌else◌, All, option_map_or, option_or, cases_eq, get_or-set_same, get_or-set_other, All-head, All-tail, Service, Call, Packet, Timer, Parts, reading, sapi_of, service_of, IsAt, place_of-is, Terms, LinkTimer, Link, fresh, Given, Config, Aim, at_link, told_of_link, of_aim, hears, expiry, request, next, at_timer, aim_of_expiry, Line, link_number, service_at, place_at, tei_at, terms, terms_at, link_at, link_in, link_count, place_in, unless_refused, unless_refused_told, of_heard, of_request, management_sapi, group_tei, drop_for, at_place, to_service, addressed, message_of, aim_of_heard, aim_of_reading, heard_side, at_side, Taken, with_message, with_unit, unit_taken, with_given_frame, link_taken, first_taken, taken, Request, at_requested, aim_of_request, IsSoundAt, came, place_at-number, service_at-number, number_within, round_below, IsSilent, none-waits, sends-none, nothing-given, nothing-to_send, silent-stays, told}
-use Rattle.std.specs.Option.{unwrap_or}
+use Rattle.laws_wire.proofs.Vocabulary.{◌≡◌, ◌≢◌, ℕ, false, ◌<◌, ◌==◌, List, [], ◌∷◌, set, slice_get, Option, Some, None, option_map, Ok, refl, sym, ap, subst, ◌∙◌, ◌⊎◌, inl, arith, ⊎_elim, if◌then◌else◌, All, option_map_or, option_or, cases_eq, get_or-set_same, get_or-set_other, All-head, All-tail, Service, Timer, Parts, reading, sapi_of, service_of, IsAt, place_of-is, Terms, LinkTimer, Link, Given, Config, Aim, at_link, told_of_link, of_aim, hears, expiry, request, next, at_timer, aim_of_expiry, Line, link_number, service_at, place_at, tei_at, terms, terms_at, link_at, link_in, link_count, place_in, unless_refused, of_heard, of_request, management_sapi, group_tei, drop_for, at_place, to_service, addressed, message_of, aim_of_heard, aim_of_reading, heard_side, at_side, Taken, with_given_frame, link_taken, first_taken, taken, Request, at_requested, aim_of_request, IsSoundAt, came, place_at-number, service_at-number, number_within, round_below, IsSilent, none-waits, sends-none, nothing-given, nothing-to_send, silent-stays, told}
 use Rattle.model_bits.specs.Stream as stream
-use Rattle.lapd_tei.specs.Messages.{frame_of as message_frame}
 use Rattle.model_link.specs.Events as link
 use Rattle.model_link.specs.Machine as links
 use Rattle.model_link.specs.Sound as link_sound
@@ -47,9 +45,6 @@ module _ (c : Config) (service : Service) (tei place : ℕ) (l : Line) (s : IsSo
       let sound = own link_sound.IsSound (subst (IsSoundAt c number (link_at number l)) own-place (s.links number few)) in
       nothing-to_send t x (sends-none t x sound (own IsSilent ((none-waits c l s none).links number few tei own-place)))
 
-  own-taken : link_taken c l number ≡ option_map (with_given_frame c l number t) (links.given t x)
-  own-taken = grind (arith, option_map, own-terms)
-
   other-taken : (n : ℕ) → n < link_count c → n ≢ number → link_taken c l n ≡ None
   other-taken n low other = ap (λ o. option_map (with_given_frame c l n (terms_at c n l)) o) (h.silent n low other)
 
@@ -75,7 +70,7 @@ module _ (c : Config) (service : Service) (tei place : ℕ) (l : Line) (s : IsSo
 
   -- so what is taken is what it gives
   pub takes-own : taken c l ≡ option_map (with_given_frame c l number t) (links.given t x)
-  takes-own = grind (arith, by-round, option_map, none-given, own-taken, first-is, round_below)
+  takes-own = grind (arith, by-round, option_map, none-given, own-terms, first-is, round_below)
 
   -- the line with another link in its place
   pub with-own : (y : Link) (l' : Line) → l'.management ≡ l.management → l'.units ≡ l.units → l'.links ≡ set l.links number y → Speaks c service tei place y l'

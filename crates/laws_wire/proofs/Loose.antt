@@ -1,6 +1,6 @@
 -- Two ends that are up, either of which may be busy, and whose T200 is timely: they stay up, and no frame that one takes makes it tell an
 -- error.
-use Rattle.laws_wire.proofs.Vocabulary.{◌≡◌, ◌-◌, ◌≤◌, Bool, true, false, not, ◌&&◌, IsTrue, length, Some, refl, sym, ap, subst, ◌∙◌, ◌⊎◌, inl, inr, true≢false, arith, nat_lt, lt-ltb, ltb-false, take_all, State, Established, TimerRecovery, T203, is_multiple_frame, is_established, runs, End, Ends, Joined, joined-turned, done-at, rising-low, IsTimedIn, HeedsIn, IsTimelyAct, HasNothingToSend, Sane, sane-doing, Flows, acted-flows, same-after, T200, line_of}
+use Rattle.laws_wire.proofs.Vocabulary.{◌≡◌, ◌-◌, ◌≤◌, true, false, length, Some, refl, sym, ap, ◌∙◌, ◌⊎◌, true≢false, arith, nat_lt, lt-ltb, ltb-false, take_all, State, Established, T203, runs, End, Ends, Joined, joined-turned, done-at, rising-low, IsTimedIn, IsTimelyAct, HasNothingToSend, Sane, sane-doing, Flows, acted-flows, same-after, T200, line_of}
 use Rattle.model_link.specs.TwoEnds.{Act, at_near, acting}
 use Rattle.laws_wire.proofs.Firm.{Firm, not-behind, up-after}
 
@@ -45,23 +45,14 @@ module _ (n m : End) (h : Loose n m) where
     running : n.link.running ≡ Some T200 → ⊥
     running e = true≢false (sym (ap (runs T200) e) ∙ none)
 
-    free-in : n.link.state ≡ Established → n.link.peer_busy ≡ false
-    free-in state = grind (arith, running)
-
     -- It is in state 7, all that it has is acknowledged, and has come.
     pub record HasAll : Type 0 where
       pub state : n.link.state ≡ Established
       pub acknowledged : n.link.a ≡ length n.link.contents
       pub delivered : m.delivered ≡ n.link.contents
 
-    low-r : n.link.a ≤ m.link.r
-    low-r = rising-low n.link.a m.link.r (line_of m) h.joined.there.rising
-
-    high-r : m.link.r ≤ n.link.s
-    high-r = not-behind n m h.there
-
     in-7 : n.link.state ≡ Established → (n.link.running ≡ Some T200) ⊎ ((n.link.running ≡ Some T203) × (n.link.s ≤ n.link.a)) → HasAll
-    in-7 e o = grind (arith, running, low-r, high-r, sent-all, free-in, take_all)
+    in-7 e o = grind (arith, running, rising-low, line_of, not-behind, sent-all, take_all)
 
     by-state : (here : State) → n.link.state ≡ here → IsTimedIn n.link.state n.link → HasAll
     by-state here e timed = grind (arith, in-7, running)

@@ -1,5 +1,5 @@
 -- Two stations that are up, either of which may be busy, where each timer is timely: both stay up, whatever is lost.
-use Rattle.laws_wire.proofs.Vocabulary.{arith, ◌≡◌, ℕ, Bool, true, false, cond, List, [], ◌∷◌, ◌++◌, length, drop, map, Option, None, Some, refl, sym, ap, subst, ◌∙◌, ◌⊎◌, inl, inr, append-nil, Refusal, Service, Timer, TimerRecovery, Terms, LinkTimer, T203, Link, course, begun, End, with_link, with_sent, offer-gave, Config, LineTold, request, Line, place_in, Request, at_requested, aim_of_request, awaits_answer, IsMildRequest, CanRepeat, HasNothingToSend, nothing-given, runs, T200, Course, Data, SetBusy, ClearBusy, Station, Wire, happens, Act, requests, times_out, gives, takes, loses, acting, turned, IsStill, contents_of, data_told, heard_in, IsTimelyOf, runs_t200, IsAsked, IsFullTalkOf, Rests}
+use Rattle.laws_wire.proofs.Vocabulary.{arith, ◌≡◌, ℕ, Bool, false, cond, List, [], ◌∷◌, ◌++◌, length, drop, map, Option, None, Some, refl, sym, ap, subst, ◌∙◌, ◌⊎◌, inl, inr, append-nil, Refusal, Service, Timer, TimerRecovery, Terms, LinkTimer, T203, Link, course, begun, End, with_link, with_sent, offer-gave, Config, LineTold, request, Line, place_in, Request, at_requested, aim_of_request, awaits_answer, IsMildRequest, CanRepeat, HasNothingToSend, nothing-given, runs, T200, Course, Data, SetBusy, ClearBusy, Station, Wire, happens, Act, requests, times_out, gives, takes, loses, acting, turned, IsStill, contents_of, data_told, heard_in, IsTimelyOf, runs_t200, IsAsked, IsFullTalkOf, Rests}
 use Rattle.lapd_frame.specs.declared.timers.Timer.TheVariants as timers
 use Rattle.model_link.specs.Events as link
 use Rattle.model_link.specs.Requests as requests

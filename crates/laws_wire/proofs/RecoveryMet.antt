@@ -1,11 +1,8 @@
 -- The premises of the law on what is lost are met: by the worked call in which SABME is lost, and then an I-frame of each end.
-use Rattle.laws_wire.proofs.Vocabulary.{◌≡◌, ◌≢◌, ℕ, ◌+◌, ◌≤◌, false, List, [], ◌∷◌, length, map, refl, sym, ap, subst, ◌∙◌, arith, All, All-nil, All-cons, Call, reading, header_of, control_of, unnumbered_of, supervisory_of, distance_of, named, seq, LineTold, Data, Wire, requests, times_out, gives, loses, at_near, at_far, acting, doing_all, turns, IsStill, confirmed, indicated, data_told, heard_in, IsRoughTalk, is_poll, is_final, IsNoneOpen, MayRepeat, StayTimely, with_t200_expired, HasNoErrors, BothMayRepeat, HasMissing, HasArrived, StayStill, user, network, begins, loses_three, lost, recovered, Bool, Control, NoneGoes, Parts, Station, flat_map, giving, happens, next, suc, zero, Option, None, Some, gave, option_map, option_map_or, next_of, Taken, taken, answered, line_at, set, set-get_or, fresh_line, frames_by, told_by, append-nil, ◌++◌}
+use Rattle.laws_wire.proofs.Vocabulary.{◌≡◌, ◌≢◌, ℕ, ◌+◌, ◌≤◌, List, [], ◌∷◌, length, map, refl, sym, ap, subst, ◌∙◌, arith, All, All-nil, All-cons, Call, reading, header_of, control_of, unnumbered_of, supervisory_of, distance_of, named, seq, LineTold, Wire, times_out, gives, loses, at_near, acting, doing_all, turns, IsStill, confirmed, indicated, data_told, heard_in, IsRoughTalk, is_poll, is_final, IsNoneOpen, MayRepeat, StayTimely, with_t200_expired, HasNoErrors, BothMayRepeat, HasMissing, HasArrived, StayStill, user, network, begins, loses_three, lost, recovered, Bool, Control, NoneGoes, Station, flat_map, giving, happens, next, suc, zero, Option, None, gave, option_map, next_of, Taken, answered, set-get_or, append-nil}
 use Rattle.lapd_frame.specs.declared.timers.Timer.TheVariants.{T200}
 use Rattle.lapd_tei.specs.Events as teis
 use Rattle.model_line.specs.Machine as lines
-use Rattle.model_line.specs.Taken.{line_of}
-use Rattle.laws_wire.specs.Facing.{read_as}
-use Rattle.laws_wire.specs.Wire.{unless_refused}
 use Rattle.laws_wire.proofs.PremisesMet.{can, IsFair, all-of}
 use Rattle.laws_wire.proofs.StillIsTimely.{still-is-enough}
 use Rattle.laws_wire.proofs.TimelyRun.{what-is-lost-arrives}

@@ -1,5 +1,5 @@
 -- Rounds in which no error is told lead to where no turn is left.
-use Rattle.laws_wire.proofs.Vocabulary.{◌≡◌, ℕ, zero, suc, ◌+◌, ◌*◌, ◌<◌, ◌≤◌, Bool, true, false, cond, List, [], ◌∷◌, ◌++◌, length, Option, None, Some, option_map, refl, sym, ap, subst, ◌∙◌, arith, All, All-nil, All-cons, All-append, Service, Config, next, NextFrame, gave, terms, line_at, taken, next_of, Station, Wire, with_first_of, frames_by, is_any, Doing, at_near, at_far, acting, turned, doing, doing_all, IsStill, answered, calling, CanCall, granted_of, IsRoughTalk, round, rounds, HasNoErrors, is_move, moves, expiries, most_frames, RoundsComeToRest}
+use Rattle.laws_wire.proofs.Vocabulary.{◌≡◌, ℕ, zero, suc, ◌+◌, ◌*◌, ◌<◌, ◌≤◌, Bool, false, cond, List, [], ◌∷◌, ◌++◌, length, option_map, refl, sym, ap, subst, ◌∙◌, arith, All, All-nil, All-cons, All-append, Service, Config, terms, Station, Wire, with_first_of, is_any, Doing, at_near, at_far, acting, turned, doing, doing_all, IsStill, calling, CanCall, granted_of, IsRoughTalk, round, rounds, HasNoErrors, moves, expiries, most_frames, RoundsComeToRest}
 use Rattle.laws_wire.specs.Wire as wire
 use Rattle.laws_wire.proofs.Answered.{gives-taken, gives-granted, takes-granted}
 use Rattle.laws_wire.proofs.RestedRun.{moves-come-to-an-end}
@@ -94,15 +94,9 @@ no-front : (xs ys : List (List ℕ)) → xs ++ ys ≡ [] → xs ≡ []
 no-front [] ys e = refl
 no-front (x ∷ xs) ys e = absurd (cc)
 
-none-more-given : (s : Station) → is_any (frames_by (answered next s)) ≡ false → answered next s ≡ gave None
-none-more-given s e = grind (arith, gives-taken, option_map)
-
-first-zero : (a b c d : ℕ) → a + (b + (c + (d + 0))) ≡ 0 → (a ≡ 0) × (b ≡ 0) × (c ≡ 0) × (d ≡ 0)
-first-zero a b c d e = (omega (arith, e), omega (arith, e), omega (arith, e), omega (arith, e))
-
 still-if : (w : Wire) → moves round w ≡ 0 → IsStill w
 unfolding moves
-still-if w e = grind (arith, none-more-given, no-front, first-zero, no-bit, no-way)
+still-if w e = grind (arith, gives-taken, option_map, no-front, no-bit, no-way)
 
 -- So among more rounds than there are moves one finds no turn left.
 pub record Rests (n : ℕ) (w : Wire) : Type 0 where

@@ -1,5 +1,5 @@
 -- A station at whose line one link alone speaks stands for an end of two links that face each other.
-use Rattle.laws_wire.proofs.Vocabulary.{arith, ◌≡◌, true≢false, ℕ, ◌+◌, ◌<◌, ◌≤◌, Bool, true, false, cond, List, [], ◌++◌, length, map, set, Option, Some, None, IfSome, option_map, Ok, refl, sym, ap, subst, ◌∙◌, ◌⊎◌, inl, inr, append-nil, All, get_or-set_same, set-get_or, map-append, All-nil, All-cons, All-append, Refusal, PoolFull, Service, Timer, Parts, spelling, reading, sapi_of, Terms, LinkTimer, frame_of, Given, End, with_link, with_sent, frame_given, given_is_frame, Config, came, hears, expiry, request, next, Answer, refused, gave, at_timer, aim_of_expiry, Line, fresh_line, place_in, link_number, terms, unless_refused, unless_refused_told, of_request, heard_side, with_given_frame, next_of, Request, at_requested, aim_of_request, sound_in, given_short, terms_in_range, Card, line_at, wants_room, after_is_sound, has_lines, line_sound, Event, Station, answered, happens, comes, told_by, frames_by, contents_of}
+use Rattle.laws_wire.proofs.Vocabulary.{arith, ◌≡◌, ℕ, ◌+◌, ◌<◌, ◌≤◌, Bool, true, false, cond, List, [], ◌++◌, length, map, set, Option, Some, None, IfSome, option_map, Ok, refl, sym, ap, subst, ◌∙◌, ◌⊎◌, inl, inr, append-nil, All, get_or-set_same, set-get_or, map-append, All-nil, All-cons, All-append, Refusal, PoolFull, Service, Timer, Parts, spelling, reading, sapi_of, Terms, LinkTimer, frame_of, Given, End, with_link, with_sent, frame_given, given_is_frame, Config, came, hears, expiry, request, next, Answer, refused, gave, at_timer, aim_of_expiry, Line, fresh_line, place_in, link_number, terms, unless_refused, unless_refused_told, of_request, heard_side, with_given_frame, next_of, Request, at_requested, aim_of_request, sound_in, given_short, terms_in_range, Card, line_at, wants_room, after_is_sound, has_lines, line_sound, Event, Station, answered, happens, comes, told_by, frames_by, contents_of}
 use Rattle.std.specs.Option.{unwrap_or}
 use Rattle.model_bits.specs.Stream.{frame}
 use Rattle.model_link.specs.Events as link

@@ -1,5 +1,5 @@
 -- Where T200 expires only as no turn is left it is long enough: the law with this premise follows.
-use Rattle.laws_wire.proofs.Vocabulary.{arith, ◌≡◌, ℕ, false, List, [], ◌∷◌, inl, inr, All, list_any, All-head, All-tail, Service, fresh, IsInRange, End, Config, LineTold, expiry, terms, Station, Wire, happens, Act, times_out, loses, Doing, at_near, at_far, turned, doing, doing_all, IsStill, calling, is_error, HasNoError, answered, told_by, IsRoughTalkOf, IsRoughTalk, IsNoneOpen, MayRepeat, IsTimelyOf, IsSpared, IsTimely, StayTimely, IsStillOf, IsSparedStill, IsStillDoing, StayStill, WhatIsLostArrivesFromRest}
+use Rattle.laws_wire.proofs.Vocabulary.{arith, ◌≡◌, ℕ, false, List, [], ◌∷◌, inl, inr, All, list_any, All-head, All-tail, Service, fresh, IsInRange, End, Config, LineTold, expiry, terms, Station, Wire, happens, Act, Doing, at_near, at_far, turned, doing, doing_all, IsStill, calling, is_error, HasNoError, answered, told_by, IsRoughTalkOf, IsRoughTalk, IsNoneOpen, MayRepeat, IsTimelyOf, IsSpared, IsTimely, StayTimely, IsStillOf, IsSparedStill, IsStillDoing, StayStill, WhatIsLostArrivesFromRest}
 use Rattle.lapd_frame.specs.declared.timers.Timer.TheVariants.{T200}
 use Rattle.laws_wire.proofs.Awaited.{all-behind, open-here}
 use Rattle.laws_wire.proofs.Calling.{end}

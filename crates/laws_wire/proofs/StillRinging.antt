@@ -1,5 +1,5 @@
 -- An end that rings, whatever the other does.
-use Rattle.laws_wire.proofs.Vocabulary.{arith, ◌≡◌, ℕ, false, List, [], map, drop, None, sym, ap, subst, ◌∙◌, ◌⊎◌, inl, inr, All, option_to_list, Service, Timer, Parts, ControlFrame, Terms, LinkTimer, course, End, with_link, with_sent, Config, terms, expiry, request, next, refusal, Course, Data, Station, happens, with_first_lost}
+use Rattle.laws_wire.proofs.Vocabulary.{◌≡◌, ℕ, false, List, [], map, drop, None, sym, ap, subst, ◌∙◌, ◌⊎◌, inl, inr, All, option_to_list, Service, Timer, Parts, ControlFrame, Terms, LinkTimer, course, End, with_link, with_sent, Config, terms, expiry, request, next, refusal, Course, Data, Station, happens, with_first_lost}
 use Rattle.model_link.specs.declared.timers.LinkTimer.TheVariants as link_timer
 use Rattle.model_link.specs.Events as link
 use Rattle.laws_wire.proofs.Calling.{end}

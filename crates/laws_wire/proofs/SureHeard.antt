@@ -1,7 +1,6 @@
 -- What the other end does leaves what an end sends as sure as it was, where nothing more is lost.
-use Rattle.laws_wire.proofs.Vocabulary.{◌≡◌, ℕ, ◌+◌, ◌≤◌, ◌==◌, Bool, true, false, cond, IsTrue, List, [], ◌∷◌, ◌++◌, refl, sym, ap, subst, ◌∙◌, inl, inr, true≢false, eq-eqb, arith, Control, Information, ReceiveReady, ReceiveNotReady, Reject, Sabme, Disc, Ui, Ua, Dm, Frmr, Xid, Parts, Seq, seq, LinkTimer, Terms, received, expired, Link, is_multiple_frame, frame_of, frame_step, begun, End, with_link, with_sent, has_room, ready_to_receive, response, frames_of, Rising, is_recovering, Takes, Heard, most, offer-goes, heard, line, Longer, line-longer, NoAlien, Kind, numbered, enquiry, answer, report, rejection, alien, kind_of, kinds_of, kinds-append, tally, tally-push, one_enquiry, one_answer, frame, after, line_of}
+use Rattle.laws_wire.proofs.Vocabulary.{◌≡◌, ℕ, ◌+◌, ◌≤◌, Bool, true, false, cond, IsTrue, List, [], ◌∷◌, refl, sym, ap, subst, ◌∙◌, inl, inr, eq-eqb, arith, Control, ReceiveReady, ReceiveNotReady, Parts, Seq, seq, LinkTimer, Terms, received, expired, Link, is_multiple_frame, frame_of, frame_step, begun, End, with_link, with_sent, has_room, ready_to_receive, response, frames_of, Rising, is_recovering, Takes, Heard, most, offer-goes, heard, line, Longer, line-longer, NoAlien, Kind, numbered, enquiry, answer, report, rejection, alien, kind_of, kinds_of, kinds-append, tally, tally-push, one_enquiry, one_answer, frame, after, line_of}
 use Rattle.laws_link.specs.two.Timely.{IsTimely}
-use Rattle.model_link.specs.MultipleFrame.{is_next}
 use Rattle.laws_wire.proofs.Asking.{with_more}
 use Rattle.laws_wire.proofs.Dense.{Dense, Owed, Replies, owed-after}
 use Rattle.laws_wire.proofs.Firm.{Firm}

@@ -1,5 +1,5 @@
 -- The next phases of such a call: the other end is up, and its UA waits, or is on its way before all else.
-use Rattle.laws_wire.proofs.Vocabulary.{arith, ◌≡◌, ℕ, false, List, [], ◌∷◌, ◌++◌, None, refl, sym, ap, subst, ◌∙◌, ◌⊎◌, inl, inr, All-tail, Service, Timer, Parts, spelling, Terms, TimerRecovery, LinkTimer, T203, course, given, IsInRange, End, with_link, with_sent, offer-gave, Config, expiry, request, next, terms, awaits_answer, CanRepeat, T200, refusal, Data, Station, Wire, happens, with_first_of, Act, requests, times_out, gives, takes, loses, acting, turned, IsStill, comes, confirmed, indicated, IsRoughTalkOf, is_final, IsLongEnough, IsTimelyOf, IsSpared, gives_one, is_ua, true, true≢false}
+use Rattle.laws_wire.proofs.Vocabulary.{arith, ◌≡◌, ℕ, false, List, [], ◌∷◌, None, refl, sym, ap, subst, ◌∙◌, ◌⊎◌, inl, inr, All-tail, Service, Timer, Parts, spelling, Terms, TimerRecovery, LinkTimer, T203, course, given, IsInRange, End, with_link, with_sent, offer-gave, Config, expiry, request, next, terms, awaits_answer, CanRepeat, T200, refusal, Data, Station, Wire, happens, with_first_of, Act, requests, times_out, gives, takes, loses, acting, turned, IsStill, comes, confirmed, indicated, IsRoughTalkOf, is_final, IsLongEnough, IsTimelyOf, IsSpared, gives_one, is_ua, true, true≢false}
 use Rattle.lapd_frame.specs.declared.timers.Timer.TheVariants as timers
 use Rattle.model_link.specs.Events as link
 use Rattle.laws_link.specs.two.Timely as two_links_timely

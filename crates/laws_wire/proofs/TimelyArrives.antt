@@ -1,5 +1,5 @@
 -- Where both ends are up and no turn is left: once T200 expires, so many rounds are enough for all that is missing.
-use Rattle.laws_wire.proofs.Vocabulary.{◌≡◌, ℕ, suc, ◌+◌, ◌<◌, ◌≤◌, false, List, [], ◌∷◌, ◌++◌, length, map, take, None, refl, sym, ap, subst, ◌∙◌, ◌⊎◌, inl, inr, arith, All, length-map, length-take-le, All-nil, All-cons, Service, Timer, spelling, ControlFrame, TimerRecovery, given, End, Ends, with_link, rising-low, Config, LineTold, next, gave, IsCutOff, HasNo, Asking, Resting, expires-one, all-recovered, enquiry_with, nothing-to_send, awaits_answer, T200, line_of, Station, Wire, times_out, acting, turned, IsStill, answered, confirmed, indicated, data_told, heard_in, is_poll, is_final, StayTimely, both_expire, rounds, HasMissing, HasArrived, with_t200_expired, BothMayRepeat, is_ua, runs}
+use Rattle.laws_wire.proofs.Vocabulary.{◌≡◌, ℕ, suc, ◌+◌, ◌<◌, ◌≤◌, false, List, [], ◌∷◌, ◌++◌, length, map, take, None, refl, sym, ap, subst, ◌∙◌, arith, length-map, length-take-le, Service, Timer, spelling, ControlFrame, TimerRecovery, given, End, Ends, with_link, rising-low, Config, LineTold, next, gave, IsCutOff, HasNo, expires-one, all-recovered, enquiry_with, nothing-to_send, awaits_answer, T200, line_of, Station, Wire, times_out, acting, turned, IsStill, answered, confirmed, indicated, data_told, heard_in, is_poll, is_final, StayTimely, both_expire, rounds, HasMissing, HasArrived, with_t200_expired, BothMayRepeat, is_ua, runs}
 use Rattle.lapd_frame.specs.declared.timers.Timer.TheVariants as timers
 use Rattle.model_link.specs.Events as link
 use Rattle.laws_link.specs.two.CutOff as cut_off

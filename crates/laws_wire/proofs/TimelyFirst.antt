@@ -1,8 +1,8 @@
 -- The ends as an establishment leaves them, and what changes nothing at a station or on a wire.
-use Rattle.laws_wire.proofs.Vocabulary.{◌≡◌, ℕ, ◌≤◌, false, not, List, [], ◌∷◌, length, None, refl, sym, ap, subst, ◌∙◌, inl, inr, true≢false, arith, option_map_or, All-nil, Service, Terms, Link, fresh, given, serves, IsInRange, End, Begins, joined-first, Config, LineTold, request, next, Line, link_in, link_of, place_in, bad_tei, no_link, wrong_state, first_that_holds, Request, aim_of_request, at_requested, line_at, passed, IsReady, IsTaken, Flow, refusal, IsSound, Data, SetBusy, ClearBusy, Station, Wire, happens, loses, acting}
+use Rattle.laws_wire.proofs.Vocabulary.{◌≡◌, ℕ, ◌≤◌, false, not, List, [], ◌∷◌, length, None, refl, sym, ap, subst, ◌∙◌, inl, inr, true≢false, arith, option_map_or, All-nil, Service, Terms, Link, fresh, given, serves, IsInRange, End, joined-first, Config, LineTold, request, next, Line, link_in, link_of, place_in, bad_tei, no_link, wrong_state, first_that_holds, Request, aim_of_request, at_requested, line_at, passed, IsReady, IsTaken, Flow, refusal, IsSound, Data, SetBusy, ClearBusy, Station, Wire, happens, loses, acting}
 use Rattle.model_link.specs.Events as link
 use Rattle.model_line.specs.Refusal.{refusal as refusal_on}
-use Rattle.laws_wire.proofs.Calling.{end, called, sound-caller, sound-called}
+use Rattle.laws_wire.proofs.Calling.{end, called, sound-called}
 use Rattle.laws_wire.proofs.Tame.{WaitsSo, IsFreeFrame}
 use Rattle.laws_wire.proofs.Firm.{Firm}
 use Rattle.laws_wire.proofs.Held.{Held, held-given, held-asked}
@@ -24,16 +24,10 @@ module _ (t u : Terms) (rt : IsInRange t) (ru : IsInRange u) (same : t.n201 ≡ 
   far_end = end u called []
 
   sound-answered : IsSound t (answered k [])
-  sound-answered = grind (arith, sound-caller)
-
-  near-begins : Begins near_end
-  near-begins = grind (arith, sound-answered)
-
-  far-begins : Begins far_end
-  far-begins = grind (arith, sound-called)
+  sound-answered = grind arith
 
   pub firm-first : Firm near_end far_end
-  firm-first = grind (arith, joined-first, near-begins, far-begins, nothing-yet, WaitsSo, IsFreeFrame)
+  firm-first = grind (arith, joined-first, sound-answered, sound-called, nothing-yet, WaitsSo, IsFreeFrame)
 
   pub near-ready : IsReady near_end
   near-ready = record { ranges = rt; sound = sound-answered; state = refl; peer_busy = refl; own_busy = refl; waiting = refl; way = refl }

@@ -1,5 +1,5 @@
 -- A whole call in which timers are timely: both ends stay up, and what was lost arrives.
-use Rattle.laws_wire.proofs.Vocabulary.{◌≡◌, ℕ, suc, ◌+◌, ◌<◌, Bool, true, false, cond, not, ◌&&◌, ◌||◌, ◌==◌, List, [], ◌∷◌, ◌++◌, length, map, is_some, refl, sym, ap, subst, ◌∙◌, inl, inr, eqb-true, arith, All, flat_map, list_any, and_parts, or_parts, All-nil, All-cons, All-head, All-tail, list_any-append, Note, Service, Timer, Parts, ControlFrame, fresh, IsInRange, Ends, Config, LineTold, terms, all-arrived, T200, nothing, Station, Wire, Act, gives, takes, times_out, Doing, at_near, at_far, acting, turned, doing, doing_all, IsStill, calling, confirmed, indicated, data_told, for_layer_3, heard_in, is_error, HasNoError, IsRoughTalkOf, IsRoughTalk, is_poll, is_final, IsTimelyOf, IsSpared, IsTimely, StayTimely, both_expire, round, rounds, HasNoErrors, BothMayRepeat, HasMissing, HasArrived, with_t200_expired, WhatIsLostArrives, is_ua}
+use Rattle.laws_wire.proofs.Vocabulary.{◌≡◌, ℕ, suc, ◌+◌, ◌<◌, Bool, true, false, ◌==◌, List, [], ◌∷◌, ◌++◌, length, map, is_some, refl, sym, ap, subst, ◌∙◌, inl, inr, eqb-true, arith, All, flat_map, list_any, and_parts, or_parts, All-nil, All-cons, All-head, All-tail, list_any-append, Note, Service, Timer, Parts, ControlFrame, fresh, IsInRange, Ends, Config, LineTold, terms, all-arrived, T200, Station, Wire, Act, gives, takes, times_out, Doing, at_near, at_far, acting, turned, doing, doing_all, IsStill, calling, confirmed, indicated, data_told, for_layer_3, heard_in, is_error, HasNoError, IsRoughTalkOf, IsRoughTalk, is_poll, is_final, IsTimelyOf, IsSpared, IsTimely, StayTimely, both_expire, round, rounds, HasNoErrors, BothMayRepeat, HasMissing, HasArrived, with_t200_expired, WhatIsLostArrives, is_ua}
 use Rattle.lapd_frame.specs.declared.timers.Timer.TheVariants as timers
 use Rattle.laws_link.specs.two.Rounds as two_links
 use Rattle.laws_wire.proofs.Awaited.{NoneOpen, gives-none-of, open-here}

@@ -1,5 +1,5 @@
 -- Turns alone, in any order.
-use Rattle.laws_wire.proofs.Vocabulary.{◌≡◌, ℕ, ◌+◌, ◌*◌, ◌≤◌, List, [], ◌∷◌, ◌++◌, refl, sym, ap, subst, ◌∙◌, arith, if◌then◌else◌, All, All-head, All-tail, All-weaker, All-append, Service, Config, terms, Wire, gives, takes, Doing, at_near, at_far, doing, doing_all, is_turn, turns, calling, CanCall, GivesOrTakes, granted_of, IsRoughTalk, HasNoErrors, moves, expiries, expiries_in, most_frames, IsTimely, StayTimely, LosesNothing}
+use Rattle.laws_wire.proofs.Vocabulary.{◌≡◌, ℕ, ◌+◌, ◌*◌, ◌≤◌, List, [], ◌∷◌, ◌++◌, refl, sym, ap, subst, ◌∙◌, arith, if◌then◌else◌, All, All-head, All-tail, All-weaker, All-append, Service, Config, terms, Wire, Doing, doing, doing_all, is_turn, turns, calling, CanCall, GivesOrTakes, granted_of, IsRoughTalk, HasNoErrors, moves, expiries, expiries_in, most_frames, IsTimely, StayTimely, LosesNothing}
 use Rattle.laws_wire.specs.Resting.{is_move}
 use Rattle.laws_wire.proofs.RestedRounds.{doing-append, moves-append, expiries-append, near-gives, near-takes, far-gives, far-takes}
 use Rattle.laws_wire.proofs.RestedRun.{moves-come-to-an-end}

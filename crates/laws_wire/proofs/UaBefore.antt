@@ -1,7 +1,7 @@
 -- Two cards on one wire, one of which was granted more before: nothing else is other.
-use Rattle.laws_wire.proofs.Vocabulary.{◌≡◌, ℕ, suc, ◌==◌, Bool, true, false, cond, List, [], ◌∷◌, ◌++◌, length, refl, sym, ap, append-nil, append_assoc, eqb-true, arith, LineTold, Service, End, Config, expiry, request, next, zero, subst, All, flat_map, Control, Parts, NoneGoes, giving, Event, is_poll, is_final, IsTimelyOf}
+use Rattle.laws_wire.proofs.Vocabulary.{◌≡◌, ℕ, suc, ◌==◌, Bool, false, cond, List, [], ◌∷◌, ◌++◌, length, refl, append-nil, append_assoc, eqb-true, arith, LineTold, Service, End, Config, next, zero, subst, All, flat_map, Control, Parts, NoneGoes, giving, Event, is_poll, is_final, IsTimelyOf}
 use Rattle.lapd_frame.specs.declared.timers.Timer.TheVariants as timers
-use Rattle.laws_wire.specs.Wire.{Station, Wire, answered, happens, with_first_of, with_first_lost, unless_refused, contents_in, Act, requests, times_out, gives, takes, loses, acting, turned}
+use Rattle.laws_wire.specs.Wire.{Station, Wire, answered, happens, unless_refused, contents_in, Act, requests, times_out, gives, takes, loses, acting, turned}
 use Rattle.laws_wire.specs.Facing.{read_as}
 use Rattle.laws_wire.proofs.Standing.{Stands}
 
@@ -23,11 +23,8 @@ split b g = grind (arith, append-nil)
 happens-before : (e : Event) (g : List (List ℕ)) (s : Station) → happens e (before g s) ≡ before g (happens e s)
 happens-before e g s = λ i. record (happens e s) { granted = append_assoc g s.granted (unless_refused (answered e s) (contents_in e)) i }
 
-first-before : (ways : List (List ℕ)) (g : List (List ℕ)) (s : Station) → with_first_of ways (before g s) ≡ before g (with_first_of ways s)
-first-before ways g s = grind (arith, happens-before)
-
 pub far-before : (act : Act) (g : List (List ℕ)) (w : Wire) → turned (acting act (turned (with_before g w))) ≡ with_before g (turned (acting act (turned w)))
-far-before act g w = grind (arith, happens-before, first-before)
+far-before act g w = grind (arith, append_assoc, happens-before)
 
 pub near-before : (act : Act) (g : List (List ℕ)) (w : Wire) → acting act (with_before g w) ≡ with_before g (acting act w)
 near-before act g w = grind arith

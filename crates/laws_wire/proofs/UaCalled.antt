@@ -1,5 +1,5 @@
 -- The link of the end that is called, before its caller is up: it has received nothing but SABME.
-use Rattle.laws_wire.proofs.Vocabulary.{◌≡◌, ℕ, ◌+◌, ◌<◌, ◌≤◌, ◌==◌, Bool, true, false, cond, not, ◌||◌, IsTrue, List, [], ◌∷◌, ◌++◌, take, drop, Option, None, Some, refl, sym, ap, subst, ◌∙◌, ◌⊎◌, inl, inr, append_assoc, true≢false, eqb-true, ne_eqb, arith, flat_map, list_any, All, All-head, front_rest, Refusal, Parts, State, TeiAssigned, AwaitingEstablishment, AwaitingRelease, Established, TimerRecovery, Sabme, LinkTimer, T203, ControlFrame, Terms, Link, is_multiple_frame, has_outstanding, received, requested, expired, offer, course, given, given_of, is_running, begun, frame_given, IsInRange, IsWaitingFrame, End, frame_of, frames_of, frames-append, kinds-append, has_room, Reports, still, at-first, offer-gave, Calm, Kind, enquiry, report, kind_of, kinds_of, tally, tally-push, one_enquiry, one_answer, one_rejection, line, most, is_recovering, Sane, IsMildRequest, frame, after, Course, ◌then◌, for_layer_3}
+use Rattle.laws_wire.proofs.Vocabulary.{◌≡◌, ℕ, ◌+◌, ◌<◌, ◌≤◌, Bool, true, false, cond, not, ◌||◌, IsTrue, List, [], ◌∷◌, ◌++◌, Option, None, Some, refl, sym, ap, subst, ◌∙◌, ◌⊎◌, inl, inr, append_assoc, eqb-true, ne_eqb, arith, flat_map, list_any, All, All-head, front_rest, Refusal, Parts, State, TeiAssigned, AwaitingEstablishment, AwaitingRelease, Established, TimerRecovery, Sabme, LinkTimer, T203, ControlFrame, Terms, Link, is_multiple_frame, has_outstanding, received, requested, expired, offer, course, given, given_of, is_running, begun, frame_given, IsInRange, IsWaitingFrame, End, frame_of, frames_of, frames-append, kinds-append, has_room, Reports, still, at-first, offer-gave, Calm, Kind, enquiry, report, kind_of, kinds_of, tally, tally-push, one_enquiry, one_answer, one_rejection, line, most, is_recovering, Sane, IsMildRequest, frame, after, Course, ◌then◌, for_layer_3}
 use Rattle.lapd_frame.specs.declared.notes.ErrorCode.TheVariants as code
 use Rattle.model_link.specs.Events as link
 use Rattle.model_link.specs.Machine

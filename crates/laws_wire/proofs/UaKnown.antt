@@ -2,7 +2,7 @@
 use Rattle.laws_wire.proofs.Vocabulary.{arith, ◌≡◌, ℕ, ◌*◌, ◌≤◌, Bool, true, false, cond, not, ◌&&◌, ◌||◌, IsTrue, List, [], ◌∷◌, ◌++◌, map, refl, sym, ap, subst, ◌∙◌, ◌⊎◌, inl, inr, true≢false, All, All-head, All-tail, Service, Timer, Parts, spelling, LinkTimer, Terms, Link, is_multiple_frame, after, IsInRange, End, with_link, Config, expiry, request, terms, next, Line, place_in, Request, Data, SetBusy, ClearBusy, at_requested, aim_of_request, sound-after, Station, Wire, happens, comes, with_first_of, Act, requests, times_out, gives, takes, loses, acting, turned, Doing, at_near, at_far, doing, doing_all, link_of, is_granted, answered, IsAsked, IsFullTalkOf, IsFullTalk, StayPatient}
 use Rattle.model_link.specs.Events as link
 use Rattle.laws_link.specs.Flags.{busy_asked}
-use Rattle.laws_link.specs.States.{as_heard, state_after, is_anew}
+use Rattle.laws_link.specs.States.{as_heard}
 use Rattle.laws_link.specs.two.Needed.{HasItsTimer}
 use Rattle.laws_link.proofs.EachRow.{each-row}
 use Rattle.laws_link.proofs.OfTwo.Needing.{timely-after}

@@ -1,9 +1,9 @@
 -- Where both ends are up, neither is busy and no turn is left: once T200 expires, so many rounds are enough for all that is missing, and it stops.
-use Rattle.laws_wire.proofs.Vocabulary.{◌≡◌, ℕ, ◌+◌, ◌≤◌, false, cond, not, ◌||◌, List, ◌++◌, length, map, take, None, Some, refl, sym, ap, subst, ◌∙◌, arith, length-map, length-append, length-take-le, eq-eqb, Service, Timer, spelling, Established, T200, T203, Link, given, End, Ends, with_link, Config, LineTold, next, gave, runs, is_running, IsCutOff, all-recovered, nothing-to_send, awaits_answer, Station, Wire, times_out, acting, turned, answered, IsStill, link_of, data_told, heard_in, is_poll, runs_t200, rounds, with_t200_expired, both_expire, BothMayRepeat, StayPatient}
+use Rattle.laws_wire.proofs.Vocabulary.{◌≡◌, ℕ, ◌+◌, ◌≤◌, false, List, ◌++◌, length, map, take, None, refl, sym, ap, subst, arith, length-map, length-append, length-take-le, eq-eqb, Service, Timer, Established, T200, Link, given, End, Ends, with_link, Config, LineTold, next, gave, runs, is_running, IsCutOff, all-recovered, nothing-to_send, awaits_answer, Station, Wire, times_out, acting, turned, answered, IsStill, link_of, data_told, heard_in, is_poll, runs_t200, rounds, with_t200_expired, both_expire, BothMayRepeat, StayPatient}
 use Rattle.lapd_frame.specs.declared.timers.Timer.TheVariants as timers
 use Rattle.model_link.specs.Events as link
 use Rattle.laws_link.specs.two.CutOff as cut_off
-use Rattle.laws_link.specs.two.Needed.{needed_in, HasItsTimer}
+use Rattle.laws_link.specs.two.Needed.{HasItsTimer}
 use Rattle.laws_link.specs.two.Rounds as two_links
 use Rattle.laws_link.proofs.OfTwo.Arriving.{AreFree}
 use Rattle.laws_link.proofs.OfTwo.Recovery.{free-recovered}

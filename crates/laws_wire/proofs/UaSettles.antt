@@ -1,5 +1,5 @@
 -- A call in which UA may be lost and an end may be busy comes to where no turn is left and T200 runs at neither end.
-use Rattle.laws_wire.proofs.Vocabulary.{◌≡◌, ◌≢◌, ℕ, ◌+◌, ◌≤◌, ◌*◌, Bool, false, List, [], ◌∷◌, ◌++◌, length, map, refl, sym, ap, subst, ◌∙◌, inl, inr, arith, All, All-cons, All-nil, All-append, Service, Parts, ControlFrame, fresh, IsInRange, End, Config, LineTold, terms, Station, Wire, times_out, at_near, at_far, acting, Doing, doing, doing_all, IsStill, link_of, calling, CanCall, confirmed, data_told, heard_in, IsFullTalk, StayPatient, MayRepeat, BothMayRepeat, both_expire, with_t200_expired, rounds}
+use Rattle.laws_wire.proofs.Vocabulary.{◌≡◌, ◌≢◌, ℕ, ◌+◌, ◌≤◌, ◌*◌, Bool, false, List, [], ◌∷◌, ◌++◌, length, map, refl, sym, ap, subst, ◌∙◌, inl, inr, arith, All, All-nil, All-append, Service, Parts, ControlFrame, fresh, IsInRange, End, Config, LineTold, terms, Station, Wire, times_out, at_near, at_far, acting, Doing, doing, doing_all, IsStill, link_of, calling, CanCall, confirmed, data_told, heard_in, IsFullTalk, StayPatient, MayRepeat, BothMayRepeat, both_expire, with_t200_expired, rounds}
 use Rattle.lapd_frame.specs.declared.timers.Timer.TheVariants as timers
 use Rattle.laws_link.specs.two.Needed.{HasItsTimer}
 use Rattle.laws_link.proofs.OfTwo.Needing.{timely-fresh}

@@ -1,5 +1,5 @@
 -- What is told in a call in which UA may be lost, from its phases.
-use Rattle.laws_wire.proofs.Vocabulary.{arith, ◌≡◌, ℕ, Bool, false, List, [], ◌∷◌, ◌++◌, length, map, take, drop, refl, sym, ap, append-nil, append_assoc, map-append, take-append-drop, subst, ◌∙◌, inl, inr, true≢false, All, front_rest, Service, Parts, ControlFrame, IsInRange, End, Config, LineTold, terms, Station, Wire, turned, Doing, doing_all, IsStill, CanCall, calling, confirmed, data_told, IsBeginningOf, heard_in, runs_t200}
+use Rattle.laws_wire.proofs.Vocabulary.{arith, ◌≡◌, ℕ, Bool, false, List, [], ◌∷◌, ◌++◌, length, map, take, drop, refl, sym, ap, append-nil, append_assoc, map-append, take-append-drop, subst, ◌∙◌, inl, inr, true≢false, All, front_rest, Service, Parts, ControlFrame, IsInRange, End, Config, LineTold, terms, Station, Wire, turned, Doing, doing_all, IsStill, CanCall, calling, data_told, IsBeginningOf, heard_in, runs_t200}
 use Rattle.laws_wire.specs.Answering.{IsFullTalk, StayPatient, Called, uncalled, seen, all_kept, ToldSo, LossyCallsComeThrough}
 use Rattle.laws_wire.proofs.Awaited.{runs-is}
 use Rattle.laws_wire.proofs.Calling.{end, sabme}

@@ -1,6 +1,6 @@
 -- What two ends still have to do, where v turns go again at most: what their links have to send, what is on their ways, and for
 -- each contents that are not delivered yet a REJ, v turns, and an acknowledgement.
-use Rattle.laws_wire.proofs.Vocabulary.{◌≡◌, ℕ, ◌+◌, ◌-◌, ◌*◌, ◌≤◌, List, [], ◌∷◌, length, map, refl, sym, ap, subst, ◌∙◌, arith, All, All-head, All-tail, Service, Parts, spelling, reading, Link, End, Config, Station}
+use Rattle.laws_wire.proofs.Vocabulary.{◌≡◌, ℕ, ◌+◌, ◌-◌, ◌*◌, ◌≤◌, List, [], ◌∷◌, length, map, refl, sym, ap, ◌∙◌, arith, All, All-head, All-tail, Service, Parts, spelling, reading, Link, End, Config, Station}
 use Rattle.laws_wire.proofs.Loads.{load, load_way}
 use Rattle.laws_wire.proofs.Standing.{IsCarried, Stands}
 
@@ -58,9 +58,6 @@ times-suc d x = omega arith
 pub accepts-more : (d len r : ℕ) → r ≤ len → d * (len + 1 - r) ≡ d * (len - r) + d
 accepts-more d len r low = let e : len + 1 - r ≡ (len - r) + 1 = omega (arith, low) in ap (λ x. d * x) e ∙ times-suc d (len - r)
 
-pub delivers-one : (d len r : ℕ) → r + 1 ≤ len → d * (len - (r + 1)) + d ≡ d * (len - r)
-delivers-one d len r low = let e : len - r ≡ (len - (r + 1)) + 1 = omega (arith, low) in sym (ap (λ x. d * x) e ∙ times-suc d (len - (r + 1)))
-
 sum : (a b c d : ℕ) → a ≡ c → b ≡ d → a + b ≡ c + d + 0
 sum a b c d e f = omega (arith, e, f)
 
@@ -77,4 +74,4 @@ module _ (v : ℕ) (n m n' m' : End) (same : n'.link.contents ≡ n.link.content
 
   -- one contents are delivered
   pub delivers : n'.link.r ≡ n.link.r + 1 → n'.link.r ≤ length m.link.contents → 1 + its n' + its m' ≤ its n + its m + (v + 4) → Fell v 1 0 0 n m n' m'
-  delivers e low less = grind (arith, sum, delivers-one)
+  delivers e low less = grind (arith, sum, times-suc)

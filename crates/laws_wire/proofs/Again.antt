@@ -25,9 +25,7 @@ module _ (service : Service) (tei : ℕ) where
       let there = its-link d q other u m k in
       record {
         card = (own.sound, own.within);
-        state =
-            ap (option_map (state_in (line_of s) service)) own.speaks.placed ∙ ap (λ (l : Link). Some (state_number l.state)) own.speaks.link
-            ∙ ap (λ x. Some (state_number x)) steady.state;
+        state = grind (arith, option_map) steps 600000;
         free = ap is_busy here ∙ ap (λ b. b || n.link.peer_busy) steady.own_busy ∙ steady.peer_busy;
         alone = still-alone service tei p s sound own.speaks.placed none way;
         received = ap (λ (l : Link). l.r) there ∙ got.received ∙ sym got.sent ∙ sym (ap (λ (l : Link). l.s) here);

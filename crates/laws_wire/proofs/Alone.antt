@@ -11,10 +11,7 @@ use Rattle.model_line.specs.Sound.{IsSound}
 -- a sum is no less than one, or two, of what it adds
 one-of : (f : ℕ → ℕ) (a k n : ℕ) → a ≤ n → n < a + k → f n ≤ sum_by f (range_with_len a k)
 one-of f a zero n low high = absurd (omega (arith, low, high))
-one-of f a (suc k) n low high =
-    let sum = sum_by-cons f a (range_with_len (a + 1) k) in
-    ⊎_elim (λ same. let is : f n ≡ f a = ap f same in omega (arith, is, sum))
-    (λ other. let rest = one-of f (a + 1) k n (omega (arith, low, other)) (omega (arith, high)) in omega (arith, rest, sum)) (cases_eq n a)
+one-of f a (suc k) n low high = grind (arith, one-of f (a + 1) k n, sum_by-cons, cases_eq)
 
 two-of : (f : ℕ → ℕ) (a k n j : ℕ) → j ≢ n → a ≤ n → n < a + k → a ≤ j → j < a + k → f n + f j ≤ sum_by f (range_with_len a k)
 two-of f a zero n j apart low high low' high' = absurd (omega (arith, low, high))

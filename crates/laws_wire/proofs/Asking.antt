@@ -24,9 +24,7 @@ module _ (t : Terms) (cs more : List (List ℕ)) where
 
   pub lane-asked : (r s lo hi : ℕ) (owed : Bool) (way : List Parts) → s ≤ length cs → Lane t cs r s lo hi owed way → Lane t (cs ++ more) r s lo hi owed way
   lane-asked r s lo hi owed [] high h = h
-  lane-asked r s lo hi owed (f ∷ fs) high (v, low, inl (here, rest)) =
-      let order = lane-order t cs (r + 1) s v hi owed fs rest in
-      (v, low, inl (informs-asked r v f (omega (arith, order, high)) here, lane-asked (r + 1) s v hi owed fs high rest))
+  lane-asked r s lo hi owed (f ∷ fs) high (v, low, inl (here, rest)) = grind (arith, lane-asked (r + 1) s v hi owed fs high rest, lane-order, informs-asked)
   lane-asked r s lo hi owed (f ∷ fs) high (v, low, inr (here, rest)) = (v, low, inr (here, lane-asked r s v hi owed fs high rest))
 
 -- An end that has more to send.

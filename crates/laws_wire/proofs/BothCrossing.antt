@@ -134,9 +134,7 @@ module _ (service : Service) (tei : ℕ) (c d : Config) (p q : ℕ) (face : Face
             both = record { near = subst (Holds c service tei p unheard (happens next w.near)) near sent; far = subst (Holds d service tei q unheard w.far) far both.far };
             is = refl;
           });
-          price =
-              lower _ weight (turns_left own' + turns_left other') (granted_of w) _ (one-at-most (frames_by (answered next w.near))) (is ∙ less)
-              (same-count service tei c d p q unheard unheard w (crossing t own other) (crossing u other own) both);
+          price = grind (arith, lower, granted_of, one-at-most, same-count, unheard) steps 600000;
         }
 
     -- ---- it takes

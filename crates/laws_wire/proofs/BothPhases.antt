@@ -125,9 +125,7 @@ module _ (service : Service) (tei : ℕ) where
             pair = first-pair t u rt ru;
             is = refl;
           })));
-          price =
-              lower _ weight 2 (granted_of w) _ (one-at-most w.near.way) h.is
-              (ap (λ (s' : Station). length w.near.granted + length s'.granted) same ∙ ap (λ xs. length w.near.granted + length xs) (takes-granted (spelling c.side f) s));
+          price = grind (arith, lower, granted_of, one-at-most, takes-granted) steps 600000;
         }
 
     from-called-far : (act : Act) → IsTalkOf service tei act → (w : Wire) (weight : ℕ) → IsCalled w weight → Went false w (turned (acting act (turned w))) weight (if is_turn_of act (turned w) then 1 else 0)
@@ -278,15 +276,11 @@ module _ (service : Service) (tei : ℕ) where
         record {
           weight = weight;
           goes = subst (λ y. Goes y (far_calls_back w) weight) (sym x.some) (so x.holds);
-          price =
-              subst (λ y. 0 + weight + (4 * granted_of w + 0) ≤ before + (4 * granted_of (far_calls_back w) + cost y)) (sym x.some)
-              (called-price weight before (granted_of w) (granted_of (far_calls_back w)) is (ap (λ xs. length w.near.granted + length xs) x.granted));
+          price = grind (arith, granted_of, called-price) steps 600000;
         }
 
     far-asks : (both : Bool) (w : Wire) (weight : ℕ) → Goes both w weight → Stepped both (at_far (requests (Establish service tei))) w weight 0
-    far-asks false w weight (inl h) =
-        calls-too w weight 8 h.both.far (ap (λ x. x + 4) (sym h.is))
-        (λ far. inl (record { own = waits; other = waits; order = tt; both = record { near = h.both.near; far = far }; is = refl }))
+    far-asks false w weight (inl h) = grind (arith, calls-too, waits)
     far-asks false w weight (inr (inl h)) =
         calls-too w weight 7 h.both.far (ap (λ x. x + 4) (sym h.is))
         (λ far. inl (record { own = under_way; other = waits; order = tt; both = record { near = h.both.near; far = far }; is = refl }))

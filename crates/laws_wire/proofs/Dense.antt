@@ -66,9 +66,7 @@ reaches-low a r (f ∷ fs) (m, up, means, rest) = let more : m ≤ r = reaches-l
 
 pub reaches-flat : (a r : ℕ) (fs : List Parts) → a ≡ r → Rising a r fs → Reaches a r fs
 reaches-flat a r [] e h = e
-reaches-flat a r (f ∷ fs) e (m, up, means, rest) =
-    let low : m ≤ r = rising-low m r fs rest in
-    (m, up, means, reaches-flat m r fs (omega (arith, e, up, low)) rest)
+reaches-flat a r (f ∷ fs) e (m, up, means, rest) = grind (arith, reaches-flat m r fs, rising-low)
 
 pub reaches-push : (a r : ℕ) (fs : List Parts) (f : Parts) → Means r f.control → Rising a r fs → Reaches a r (fs ++ f ∷ [])
 reaches-push a r [] f means h = (r, h, means, refl)

@@ -120,19 +120,14 @@ gives-on n m first near far ranges sound e h =
       line = g.line n.way ∙ ap (λ fs. fs ++ g.news) e ∙ append_assoc first near g.news;
       joint = record {
         there = record {
-          carried =
-              subst (λ cs. Carried cs (c.link.a + n.terms.k) m.link.r (line ++ [])) (sym g.same)
-              (subst (λ a. Carried n.link.contents (a + n.terms.k) m.link.r (line ++ [])) (sym g.acknowledged)
-              (subst (Carried n.link.contents (n.link.a + n.terms.k) m.link.r) (sym (append-nil line)) (g.carried m.link.r near up)));
+          carried = grind (arith, append-nil) steps 600000;
           rising = subst (λ a. Rising a m.link.r (far ++ [])) (sym g.acknowledged) h.there.rising;
           delivered = h.there.delivered ∙ ap (λ cs. take m.link.r cs) (sym g.same);
           accepted = subst (λ cs. m.link.r ≤ length cs) (sym g.same) h.there.accepted;
         };
         back = record {
           carried = subst (λ r. Carried m.link.contents (m.link.a + m.terms.k) r (far ++ [])) (sym g.received) h.back.carried;
-          rising =
-              subst (λ r. Rising m.link.a r (line ++ [])) (sym g.received)
-              (subst (Rising m.link.a n.link.r) (sym (append-nil line)) (g.rising m.link.a near its));
+          rising = grind (arith, append-nil) steps 600000;
           delivered = h.back.delivered ∙ ap (λ r. take r m.link.contents) (sym g.received);
           accepted = subst (λ r. r ≤ length m.link.contents) (sym g.received) h.back.accepted;
         };

@@ -82,10 +82,7 @@ module _ (c : Config) (service : Service) (tei place : ℕ) (l : Line) (s : IsSo
   goes-on = go (links.given t x) refl
     where
       go : (o : Option Given) → links.given t x ≡ o → Speaks c service tei place (links.after t link.offer x) (option_map_or line_of (taken c l) l)
-      go None none =
-          let nothing : taken c l ≡ None = takes-own ∙ ap (λ o. option_map (with_given_frame c l number t) o) none in
-          subst (λ y. Speaks c service tei place y (option_map_or line_of (taken c l) l)) (sym (silent-stays t x (nothing-given t x none)))
-          (subst (λ o. Speaks c service tei place x (option_map_or line_of o l)) (sym nothing) h)
+      go None none = grind (arith, takes-own, option_map, silent-stays, nothing-given)
       go (Some g) some =
           let own = with_given_frame c l number t g in
           let is : taken c l ≡ Some own = takes-own ∙ ap (λ o. option_map (with_given_frame c l number t) o) some in

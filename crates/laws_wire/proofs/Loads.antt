@@ -86,9 +86,7 @@ module _ (w : ℕ) (t : Terms) (l : Link) where
 
   offered : (ws : List ControlFrame) → l.waiting ≡ ws → Gives (Offers.offer_among t ws (begun l))
   offered [] e = tested (Offers.may_send_information t l) _ _ information (λ x. tested l.pending _ _ acknowledgement (λ y. idle))
-  offered (f ∷ fs) e =
-      let all : load_waiting w l.waiting ≡ 2 + brings w f.command f.control + load_waiting w fs = ap (load_waiting w) e in
-      record { contents = refl; received = refl; falls = omega (arith, all) }
+  offered (f ∷ fs) e = grind arith
 
   pub offer-gives : Gives (course t offer l)
   offer-gives = offered l.waiting refl

@@ -33,6 +33,4 @@ module _ (gn : List (List ℕ)) (tn : List LineTold) (gf : List (List ℕ)) (tf 
   pub turns-logged : (ds : List Doing) (w : Wire) → turns ds (L w) ≡ turns ds w
   unfolding turns
   turns-logged [] w = refl
-  turns-logged (d ∷ ds) w =
-      ap (λ b. (if b then 1 else 0) + turns ds (doing d (L w))) (same-turn d w)
-      ∙ ap (λ n. (if is_turn d w then 1 else 0) + n) (ap (turns ds) (one-logged d w) ∙ turns-logged ds (doing d w))
+  turns-logged (d ∷ ds) w = grind (arith, turns-logged ds (doing d w), same-turn, one-logged)

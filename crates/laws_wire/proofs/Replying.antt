@@ -117,9 +117,7 @@ module _ (t : Terms) (l : Link) where
       go : (here : State) → IsTrue (is_multiple_frame here) → IsUpIn (Machine.frame_in here t b octets (ReceiveReady nr pf) (begun l))
           → Same (Machine.frame_in here t b octets (ReceiveReady nr pf) (begun l)).link
       go Established before up = by-number Same nr Established.acknowledged_in_7 (c-7 t l false b pf) (in-7 (c-7 t l false b pf) (same-7 false b pf e)) up
-      go TimerRecovery before up =
-          by-number Same nr (TimerRecovery.acknowledged_in_8 T203 (MultipleFrame.is_final b pf)) (c-8 t l false b pf)
-          (in-8 T203 (MultipleFrame.is_final b pf) (c-8 t l false b pf) (same-8 false b pf e)) up
+      go TimerRecovery before up = grind (arith, by-number, c-8, in-8, same-8)
       go other before up = absurd (true≢false (sym before))
 
   pub reject-same : IsTrue (is_multiple_frame l.state) → (nr : Seq) (octets : List ℕ)

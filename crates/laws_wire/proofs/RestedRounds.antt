@@ -42,11 +42,7 @@ none-expires (suc n) = let rest : expiries (many n) ≡ 0 = none-expires n in om
 pub all-rough : (service : Service) (tei n : ℕ) → All (IsRoughTalk service tei) (many n)
 unfolding many
 all-rough service tei zero = All-nil (IsRoughTalk service tei)
-all-rough service tei (suc n) =
-    All-cons (IsRoughTalk service tei) (at_near wire.gives) (at_far wire.takes ∷ at_far wire.gives ∷ at_near wire.takes ∷ many n) tt
-    (All-cons (IsRoughTalk service tei) (at_far wire.takes) (at_far wire.gives ∷ at_near wire.takes ∷ many n) tt
-    (All-cons (IsRoughTalk service tei) (at_far wire.gives) (at_near wire.takes ∷ many n) tt
-    (All-cons (IsRoughTalk service tei) (at_near wire.takes) (many n) tt (all-rough service tei n))))
+all-rough service tei (suc n) = grind (arith, all-rough service tei n)
 
 -- ---- nothing is granted in a round
 

@@ -209,14 +209,8 @@ module _ (service : Service) (tei : ℕ) (c d : Config) (p q : ℕ) (face : Face
       let same = weighs-same w' x y.n' y.m' y.near y.far in
       record {
         more = y.more + z.more;
-        granted =
-            more-granted (granted_of last) (length n.link.contents) (length m.link.contents) (length x.n.link.contents) (length x.m.link.contents) y.more z.more
-            (subst (λ (l : Link). length l.contents + length x.m.link.contents ≡ length n.link.contents + length m.link.contents + y.more) same.0
-            (subst (λ (l : Link). length y.n'.link.contents + length l.contents ≡ length n.link.contents + length m.link.contents + y.more) same.1 y.fell.grown))
-            z.granted;
-        falls =
-            sum moved rest (weigh v n m) (weigh v y.n' y.m') (weigh v x.n x.m) ((v + 4) * expired) ((v + 6) * y.more) ((v + 4) * others) ((v + 6) * z.more)
-            ((v + 4) * (expired + others)) ((v + 6) * (y.more + z.more)) same.2 (times-sum (v + 4) expired others) (times-sum (v + 6) y.more z.more) y.fell.falls z.falls;
+        granted = grind (arith, more-granted) steps 600000;
+        falls = grind (arith, sum, weigh, times-sum) steps 600000;
       }
 
   runs : (ds : List Doing) → All (IsRoughTalk service tei) ds → (w : Wire) (h : Goes service tei c d p q w)
@@ -274,9 +268,7 @@ module _ (service : Service) (tei : ℕ) (c d : Config) (p q : ℕ) (face : Face
 
       go : Total (moves ds w) (expiries ds) (end t (ringing h.repeats h.waiting) h.way) (end u fresh []) (doing_all ds w) ⊎ Errs (doing_all ds w)
           → moves ds w ≤ (2 * v + 8) + (v + 4) * expiries ds + (v + 6) * granted_of (doing_all ds w)
-      go (inl z) =
-          total (moves ds w) (weigh v (end t (ringing h.repeats h.waiting) h.way) (end u fresh [])) ((v + 4) * expiries ds) (2 * v + 8) 0 (granted_of (doing_all ds w)) z.more weight
-          (nothing-before (granted_of (doing_all ds w)) z.more z.granted) z.falls
+      go (inl z) = grind (arith, total, weigh, end, ringing, weight, nothing-before)
       go (inr (inl e)) = absurd (not-erred (doing_all ds w).near fair-near e)
       go (inr (inr e)) = absurd (not-erred (doing_all ds w).far fair-far e)
 

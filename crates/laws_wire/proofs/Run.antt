@@ -124,10 +124,7 @@ module _ (service : Service) (tei : ℕ) where
         record {
           weight = rest.weight;
           goes = subst (λ y. On y (doing_all ds w1) rest.weight) same rest.goes;
-          price =
-              subst (λ y. ((if is_turn x w then 1 else 0) + turns ds w1) + rest.weight + (4 * granted_of w + cost both) ≤ k + (4 * granted_of (doing_all ds w1) + cost y)) same
-              (joined-price (if is_turn x w then 1 else 0) (turns ds w1) k one.weight rest.weight (granted_of w) (granted_of w1) (granted_of (doing_all ds w1)) (cost both) (cost both1) (cost (both1 || both_call ds w1))
-              one.price rest.price);
+          price = grind (arith, granted_of, cost, joined-price) steps 600000;
         }
 
     -- where SABMEs cross a turn is left

@@ -108,17 +108,7 @@ module _ (n m : End) (h : Firm n m) (wide : 3 ≤ n.terms.control) where
 
   gives-steady : (c : Course) → let way = n.way ++ frame_given n.terms (given_of n.terms n.link c c.sent) in
       c.link.state ≡ n.link.state → c.link.a ≡ n.link.a → Gives n.terms n.link c → Steady n m → Steady (record n { link = c.link; way = way }) m
-  gives-steady c state same gives x = record {
-    state = state ∙ x.state;
-    dense = dense gives;
-    owed = subst (λ a. Owed a m.link.r m.link.pending (line_of m)) (sym same) x.owed;
-  }
-    where
-      way : List Parts
-      way = n.way ++ frame_given n.terms (given_of n.terms n.link c c.sent)
-
-      dense : Gives n.terms n.link c → Dense m.link.r c.link.s (kinds_of (way ++ frames_of n.terms c.link.waiting))
-      dense o = grind (arith, Dense, kinds_of, way, frames_of, dense-push, kinds, dense-next)
+  gives-steady c state same gives x = grind (arith, Owed, line_of, Dense, kinds_of, frames_of, dense-push, kinds, dense-next)
 
   pub sure-sends : Sure n m → Sure (with_sent n) m
   sure-sends (inl x) = let o = offer-goes n.terms n.link in inl (gives-asking (course n.terms offer n.link) o.state o.gives x)

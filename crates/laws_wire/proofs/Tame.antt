@@ -111,10 +111,7 @@ module _ (t : Terms) (l : Link) (own : l.own_busy ≡ false) where
 
   offers-free : (ws : List ControlFrame) → All WaitsSo ws → GivesFree (Offers.offer_among t ws (begun l))
   offers-free (f ∷ fs) h = All-cons IsFreeFrame _ [] (All-head WaitsSo f fs h).free (All-nil IsFreeFrame)
-  offers-free [] h =
-      either-gives (Offers.may_send_information t l) _ _
-      (either-gives (Offers.is_awaiting_acknowledgement (Offers.with_one_sent l)) _ _ (All-cons IsFreeFrame _ [] refl (All-nil IsFreeFrame)) (All-cons IsFreeFrame _ [] refl (All-nil IsFreeFrame)))
-      (either-gives l.pending _ _ (All-cons IsFreeFrame _ [] refl (All-nil IsFreeFrame)) (All-nil IsFreeFrame))
+  offers-free [] h = grind (arith, either-gives)
 
 -- ---- an end, as something happens at it
 

@@ -98,16 +98,7 @@ module _ (t : Terms) (l : Link) (up : IsTrue (is_multiple_frame l.state)) (sane 
           reports = g.reports;
           grown = inl (k.waiting, same-most l.state _ k.state);
         }
-        by (inr (run, a)) g stays = record {
-          up = stays;
-          a = g.still;
-          s = a.s;
-          r = a.r;
-          rejecting = a.rejecting;
-          sane = sane-after t (expired timer) l sane;
-          reports = g.reports;
-          grown = asks a.state run a.waiting;
-        }
+        by (inr (run, a)) g stays = grind (arith, sane-after, asks)
 
 -- ---- UA waits, and this behind it: reports, and in state 8 an enquiry; no I-frame went
 
@@ -335,10 +326,7 @@ module _ (t : Terms) (l : Link) (sound : IsSound t l) where
   either-informs b u v x y = grind arith
 
   by-waiting : (ws : List ControlFrame) → l.waiting ≡ ws → Informs (Offers.offer_among t ws (begun l))
-  by-waiting [] e =
-      either-informs (Offers.may_send_information t l) _ _
-      (either-informs (Offers.is_awaiting_acknowledgement (Offers.with_one_sent l)) _ _ (inr (refl, refl)) (inr (refl, refl)))
-      (either-informs l.pending _ _ (inl (refl, refl)) (inl (refl, refl)))
+  by-waiting [] e = grind (arith, either-informs)
   by-waiting (f ∷ fs) e =
       inl (ap (λ b. b || false) (All-head (IsWaitingFrame t) f fs (subst (All (IsWaitingFrame t)) e sound.frames)).without_contents, refl)
 

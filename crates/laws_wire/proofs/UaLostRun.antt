@@ -178,23 +178,15 @@ module _ (service : Service) (tei : ℕ) (c d : Config) (p q : ℕ) (face : Face
     Takes = ((takes_sabme w ≡ false) × IsCalled past b (done takes w)) ⊎ ((takes_sabme w ≡ true) × TookSabme service tei c d p q face back rt ru past b w (done takes w))
 
     far-takes : IsCalled past b w → IsTimelyOf takes (turned w) → Takes
-    far-takes (inl (inl h)) x =
-        let none = empty-way w (end (terms c service tei) (ringing h.repeats []) []) [] h.near refl in
-        inl (no-sabme w none, stays w (IsCalled past b) none (inl (inl h)))
-    far-takes (inl (inr (inl h))) x =
-        let none = empty-way w (end (terms c service tei) (ringing h.repeats (its_sabme ∷ [])) []) [] h.near refl in
-        inl (no-sabme w none, stays w (IsCalled past b) none (inl (inr (inl h))))
+    far-takes (inl (inl h)) x = grind (arith, empty-way, end, ringing, no-sabme, stays)
+    far-takes (inl (inr (inl h))) x = grind (arith, empty-way, end, ringing, its_sabme, no-sabme, stays)
     far-takes (inl (inr (inr h))) x =
         inr (
           ap (λ way. is_any way && length (heard_in w.near) == 0) h.near.stands.way ∙ ap (λ ts. length ts == 0) h.near.heard,
           sabme-renews service tei c d p q face back rt ru past w h.repeats h.near b h.far,
         )
-    far-takes (inr (inl h)) x =
-        let none = empty-way w (end (terms c service tei) (ringing h.repeats []) []) [] h.near refl in
-        inl (no-sabme w none, stays w (IsCalled past b) none (inr (inl h)))
-    far-takes (inr (inr (inl h))) x =
-        let none = empty-way w (end (terms c service tei) (ringing h.repeats []) []) [] h.near refl in
-        inl (no-sabme w none, stays w (IsCalled past b) none (inr (inr (inl h))))
+    far-takes (inr (inl h)) x = grind (arith, empty-way, end, ringing, no-sabme, stays)
+    far-takes (inr (inr (inl h))) x = grind (arith, empty-way, end, ringing, no-sabme, stays)
     far-takes (inr (inr (inr h))) x = inl (told-no w h.n h.near, inr (inr (inr (up-far past w h takes tt x))))
 
   -- ---- while it is down
@@ -219,12 +211,8 @@ module _ (service : Service) (tei : ℕ) (c d : Config) (p q : ℕ) (face : Face
     there P o = grind arith
 
     down-takes : Rs Down w → ((takes_sabme w ≡ false) × Rs Down (done takes w)) ⊎ ((takes_sabme w ≡ true) × R (Waiting (indicated service tei ∷ []) false) [] [] (done takes w))
-    down-takes (inl h) =
-        let none = empty-way w (end (terms c service tei) (ringing h.repeats []) []) [] h.near refl in
-        inl (no-sabme w none, stays w (Rs Down) none (inl h))
-    down-takes (inr (inl h)) =
-        let none = empty-way w (end (terms c service tei) (ringing h.repeats (its_sabme ∷ [])) []) [] h.near refl in
-        inl (no-sabme w none, stays w (Rs Down) none (inr (inl h)))
+    down-takes (inl h) = grind (arith, empty-way, end, ringing, no-sabme, stays)
+    down-takes (inr (inl h)) = grind (arith, empty-way, end, ringing, its_sabme, no-sabme, stays)
     down-takes (inr (inr h)) =
         let was : phases.Rings service tei c d p q [] (sabme (terms c service tei) ∷ []) w = record { repeats = h.repeats; near = h.near; far = h.far } in
         let now = first_ringing.answers service tei c d p q face back rt ru w was in

@@ -21,9 +21,7 @@ module _ (service : Service) (tei v : ℕ) where
   pays-before : (moved expired reported : ℕ) (g : List (List ℕ)) (w w' : Wire) → P moved expired reported w w' → P moved expired reported (with_before g w) (with_before g w')
   pays-before moved expired reported g w w' h = record {
     more = h.more;
-    granted =
-        sum (length w.near.granted) (length w.far.granted) (length w'.near.granted) (length w'.far.granted) (length g) (length (g ++ w.far.granted))
-        (length (g ++ w'.far.granted)) h.more (length-append g w.far.granted) (length-append g w'.far.granted) h.granted;
+    granted = grind (arith, sum, length-append) steps 600000;
     falls = h.falls;
   }
     where
@@ -46,9 +44,7 @@ module _ (service : Service) (tei v : ℕ) where
   both-pay moved expired reported moved' expired' reported' w w' w'' h k = record {
     more = h.more + k.more;
     granted = all (granted_of w) (granted_of w') (granted_of w'') h.more k.more h.granted k.granted;
-    falls =
-        sum moved moved' (heft service tei v w) (heft service tei v w') (heft service tei v w'') ((v + 4) * expired) ((v + 4) * expired') ((v + 4) * (expired + expired'))
-        ((v + 6) * h.more) ((v + 6) * k.more) ((v + 6) * (h.more + k.more)) reported reported' (times-sum (v + 4) expired expired') (times-sum (v + 6) h.more k.more) h.falls k.falls;
+    falls = grind (arith, sum, heft, times-sum) steps 600000;
   }
     where
       all : (a b c x y : ℕ) → b ≡ a + x → c ≡ b + y → c ≡ a + (x + y)
@@ -123,11 +119,7 @@ reports-append (d ∷ ds) es w =
 pub many-full : (service : Service) (tei n : ℕ) → All (IsFullTalk service tei) (many n)
 unfolding many
 many-full service tei zero = All-nil (IsFullTalk service tei)
-many-full service tei (suc n) =
-    All-cons (IsFullTalk service tei) (at_near gives) (at_far takes ∷ at_far gives ∷ at_near takes ∷ many n) tt
-    (All-cons (IsFullTalk service tei) (at_far takes) (at_far gives ∷ at_near takes ∷ many n) tt
-    (All-cons (IsFullTalk service tei) (at_far gives) (at_near takes ∷ many n) tt
-    (All-cons (IsFullTalk service tei) (at_near takes) (many n) tt (many-full service tei n))))
+many-full service tei (suc n) = grind (arith, many-full service tei n, many)
 
 abbrev rounded : Wire → Wire
 rounded w = doing (at_near takes) (doing (at_far gives) (doing (at_far takes) (doing (at_near gives) w)))

@@ -334,20 +334,7 @@ module _ (service : Service) (tei : ℕ) (c d : Config) (p q : ℕ) (face : Face
             → Comes b (turned (acting loses (turned w))) ⊎ IsAway b (with_first_lost w.far)
         go (f ∷ fs) rising far =
             inl (record { repeats = h.repeats; near = h.near; m = h.m; stale = fs; far = far; rising = rising-lower rising.0 0 0 fs (omega arith) rising.3; loose = h.loose; rejecting = h.rejecting; flag = h.flag })
-        go [] rising far =
-            let low : h.m.link.a ≤ 0 = h.loose.joined.back.rising in
-            inr (record {
-              M = h.m;
-              held = far;
-              up = up-there;
-              a = omega (arith, low);
-              r = omega (arith, not-beyond);
-              rejecting = h.rejecting;
-              delivered = comes-none;
-              sane = h.loose.far_sane;
-              rising = h.loose.joined.there.rising;
-              flag = h.flag;
-            })
+        go [] rising far = grind (arith, up-there, not-beyond, comes-none)
 
     -- the near end takes what was before UA, or UA
     ignores-first : (f : Parts) (fs : List Parts) → h.stale ≡ f ∷ fs → Rising 0 0 (f ∷ fs) → Comes b (acting takes w)

@@ -74,10 +74,7 @@ module _ (service : Service) (tei : ℕ) (c d : Config) (p q : ℕ) (face : Face
   down-far v o = grind (arith, far-none)
 
   so-far : (x : Called) (v : Wire) → Phase service tei c d p q face back rt ru x v → NearSoFar v × FarSoFar x.told v
-  so-far x v (inl (told, sent, h)) = (
-    nothing-yet _ (heard_in v.near) (not-told service tei c d p q face back rt ru (Down service tei c d p q face back rt ru) v h),
-    subst (λ past. FarSoFar past v) (sym told) (down-far v h),
-  )
+  so-far x v (inl (told, sent, h)) = grind (arith, nothing-yet, not-told, Down, down-far)
   so-far x v (inr (some, h)) = called-so-far x.told x.sent v h
 
   -- ---- where no turn is left, and T200 runs at neither end

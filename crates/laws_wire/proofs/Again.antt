@@ -25,7 +25,7 @@ module _ (service : Service) (tei : ℕ) where
       let there = its-link d q other u m k in
       record {
         card = (own.sound, own.within);
-        state = grind (arith, option_map) steps 600000;
+        state = grind (arith, option_map);
         free = ap is_busy here ∙ ap (λ b. b || n.link.peer_busy) steady.own_busy ∙ steady.peer_busy;
         alone = still-alone service tei p s sound own.speaks.placed none way;
         received = ap (λ (l : Link). l.r) there ∙ got.received ∙ sym got.sent ∙ sym (ap (λ (l : Link). l.s) here);

@@ -134,7 +134,7 @@ module _ (service : Service) (tei : ℕ) (c d : Config) (p q : ℕ) (face : Face
             both = record { near = subst (Holds c service tei p unheard (happens next w.near)) near sent; far = subst (Holds d service tei q unheard w.far) far both.far };
             is = refl;
           });
-          price = grind (arith, lower, granted_of, one-at-most, same-count, unheard) steps 600000;
+          price = grind (arith, lower, granted_of, one-at-most, same-count, unheard);
         }
 
     -- ---- it takes

@@ -133,7 +133,7 @@ module _ (service : Service) (tei : ℕ) where
             pair = h.pair;
             is = refl;
           }));
-          price = grind (arith, lower, granted_of, one-at-most, gives-granted) steps 600000;
+          price = grind (arith, lower, granted_of, one-at-most, gives-granted);
         }
 
     from-answered-far : (act : Act) → IsTalkOf service tei act → (w : Wire) (weight : ℕ) → IsAnswered w weight → Stepped w (turned (acting act (turned w))) weight (if is_turn_of act (turned w) then 1 else 0)
@@ -226,7 +226,7 @@ module _ (service : Service) (tei : ℕ) where
             pair = turned-pair (with_sent m) (end t caller []) x.pair;
             is = refl;
           }));
-          price = grind (arith, given-price, end, caller, gives-granted) steps 600000;
+          price = grind (arith, given-price, end, caller, gives-granted);
         }
 
     from-awaited-far : (act : Act) → IsTalkOf service tei act → (w : Wire) (weight : ℕ) → IsAwaited w weight → Stepped w (turned (acting act (turned w))) weight (if is_turn_of act (turned w) then 1 else 0)

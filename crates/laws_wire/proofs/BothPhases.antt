@@ -125,7 +125,7 @@ module _ (service : Service) (tei : ℕ) where
             pair = first-pair t u rt ru;
             is = refl;
           })));
-          price = grind (arith, lower, granted_of, one-at-most, takes-granted) steps 600000;
+          price = grind (arith, lower, granted_of, one-at-most, takes-granted);
         }
 
     from-called-far : (act : Act) → IsTalkOf service tei act → (w : Wire) (weight : ℕ) → IsCalled w weight → Went false w (turned (acting act (turned w))) weight (if is_turn_of act (turned w) then 1 else 0)
@@ -276,7 +276,7 @@ module _ (service : Service) (tei : ℕ) where
         record {
           weight = weight;
           goes = subst (λ y. Goes y (far_calls_back w) weight) (sym x.some) (so x.holds);
-          price = grind (arith, granted_of, called-price) steps 600000;
+          price = grind (arith, granted_of, called-price);
         }
 
     far-asks : (both : Bool) (w : Wire) (weight : ℕ) → Goes both w weight → Stepped both (at_far (requests (Establish service tei))) w weight 0

@@ -120,14 +120,14 @@ gives-on n m first near far ranges sound e h =
       line = g.line n.way ∙ ap (λ fs. fs ++ g.news) e ∙ append_assoc first near g.news;
       joint = record {
         there = record {
-          carried = grind (arith, append-nil) steps 600000;
+          carried = grind (arith, append-nil);
           rising = subst (λ a. Rising a m.link.r (far ++ [])) (sym g.acknowledged) h.there.rising;
           delivered = h.there.delivered ∙ ap (λ cs. take m.link.r cs) (sym g.same);
           accepted = subst (λ cs. m.link.r ≤ length cs) (sym g.same) h.there.accepted;
         };
         back = record {
           carried = subst (λ r. Carried m.link.contents (m.link.a + m.terms.k) r (far ++ [])) (sym g.received) h.back.carried;
-          rising = grind (arith, append-nil) steps 600000;
+          rising = grind (arith, append-nil);
           delivered = h.back.delivered ∙ ap (λ r. take r m.link.contents) (sym g.received);
           accepted = subst (λ r. r ≤ length m.link.contents) (sym g.received) h.back.accepted;
         };

@@ -209,8 +209,8 @@ module _ (service : Service) (tei : ℕ) (c d : Config) (p q : ℕ) (face : Face
       let same = weighs-same w' x y.n' y.m' y.near y.far in
       record {
         more = y.more + z.more;
-        granted = grind (arith, more-granted) steps 600000;
-        falls = grind (arith, sum, weigh, times-sum) steps 600000;
+        granted = grind (arith, more-granted);
+        falls = grind (arith, sum, weigh, times-sum);
       }
 
   runs : (ds : List Doing) → All (IsRoughTalk service tei) ds → (w : Wire) (h : Goes service tei c d p q w)

@@ -124,7 +124,7 @@ module _ (service : Service) (tei : ℕ) where
         record {
           weight = rest.weight;
           goes = subst (λ y. On y (doing_all ds w1) rest.weight) same rest.goes;
-          price = grind (arith, granted_of, cost, joined-price) steps 600000;
+          price = grind (arith, granted_of, cost, joined-price);
         }
 
     -- where SABMEs cross a turn is left

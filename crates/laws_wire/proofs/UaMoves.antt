@@ -21,7 +21,7 @@ module _ (service : Service) (tei v : ℕ) where
   pays-before : (moved expired reported : ℕ) (g : List (List ℕ)) (w w' : Wire) → P moved expired reported w w' → P moved expired reported (with_before g w) (with_before g w')
   pays-before moved expired reported g w w' h = record {
     more = h.more;
-    granted = grind (arith, sum, length-append) steps 600000;
+    granted = grind (arith, sum, length-append);
     falls = h.falls;
   }
     where
@@ -44,7 +44,7 @@ module _ (service : Service) (tei v : ℕ) where
   both-pay moved expired reported moved' expired' reported' w w' w'' h k = record {
     more = h.more + k.more;
     granted = all (granted_of w) (granted_of w') (granted_of w'') h.more k.more h.granted k.granted;
-    falls = grind (arith, sum, heft, times-sum) steps 600000;
+    falls = grind (arith, sum, heft, times-sum);
   }
     where
       all : (a b c x y : ℕ) → b ≡ a + x → c ≡ b + y → c ≡ a + (x + y)

@@ -169,7 +169,7 @@ module _ (service : Service) (tei : ℕ) where
                 n' = with_more octets n;
                 m' = m;
                 talk = record { near = x.holds; far = h.far; pair = y.pair };
-                price = grind (arith, price-more, with_more, one-longer) steps 600000;
+                price = grind (arith, price-more, with_more, one-longer);
               }
 
       acts-request : (r : Request) → IsTalkOf service tei (requests r) → Acted w (acting (requests r) w) n m 0
@@ -198,7 +198,7 @@ module _ (service : Service) (tei : ℕ) where
         n' = x.m';
         m' = x.n';
         talk = turned-talk d c q p second first w' x.n' x.m' x.talk;
-        price = grind (arith, swapped) steps 600000;
+        price = grind (arith, swapped);
       }
 
   joined : (b k w w1 w2 g g1 g2 : ℕ) → b + w1 + 4 * g ≤ w + 4 * g1 → k + w2 + 4 * g1 ≤ w1 + 4 * g2 → (b + k) + w2 + 4 * g ≤ w + 4 * g2
@@ -216,5 +216,5 @@ module _ (service : Service) (tei : ℕ) where
         n' = rest.n';
         m' = rest.m';
         talk = rest.talk;
-        price = grind (arith, joined) steps 600000;
+        price = grind (arith, joined);
       }

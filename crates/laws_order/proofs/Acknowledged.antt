@@ -1,5 +1,5 @@
 -- How many contents an observer has counted as acknowledged is V(A) of the link, while that is in state 7 or 8.
-use Rattle.laws_order.proofs.Vocabulary.{◌≡◌, ℕ, ◌+◌, ◌-◌, ◌%◌, ◌<◌, ◌≤◌, ◌==◌, ◌&&◌, ◌||◌, not, Bool, true, false, cond, List, [], ◌∷◌, ◌++◌, get_or, Option, Some, None, refl, sym, ap, ◌∙◌, subst, arith, eq-eqb, eqb-true, and_parts, append-nil, append_assoc, true≢false, all-left, nowhere, get_or-replicate, ◌⊎◌, inl, inr, fold, list_any, get_or-set_same, fold-append, Control, Sabme, Disc, Ua, Dm, Frmr, Parts, Service, place_of-is, State, TeiAssigned, AwaitingEstablishment, AwaitingRelease, Established, TimerRecovery, Terms, received, overlong, cleared, Link, is_multiple_frame, Config, IsInRange, Answer, refused, PoolFull, Line, fresh_line, link_of, place_in, terms, terms_in_range, line_at, has_lines, by_room, is_overlong, is_faulty, by_frame, state_after, event-follows, after, Goes, event-goes, off-fresh, fresh, at, Tally, no_tally, tallies, tally_of}
+use Rattle.laws_order.proofs.Vocabulary.{◌≡◌, ℕ, ◌+◌, ◌-◌, ◌%◌, ◌<◌, ◌≤◌, ◌==◌, ◌&&◌, ◌||◌, not, Bool, true, false, cond, List, [], ◌∷◌, ◌++◌, get_or, Option, Some, None, refl, sym, ap, ◌∙◌, subst, arith, eq-eqb, eqb-true, and_parts, append-nil, append_assoc, true≢false, all-left, nowhere, get_or-replicate, ◌⊎◌, inl, inr, fold, list_any, get_or-set_same, fold-append, Control, Parts, Service, place_of-is, State, AwaitingEstablishment, Terms, received, overlong, Link, is_multiple_frame, Config, IsInRange, Answer, refused, PoolFull, Line, fresh_line, link_of, place_in, terms, terms_in_range, line_at, has_lines, by_room, is_overlong, by_frame, state_after, event-follows, after, Goes, event-goes, off-fresh, fresh, at, Tally, no_tally, tallies, tally_of}
 use Rattle.model_link.specs.Deliveries.{restarts}
 use Rattle.model_link.specs.Events as link
 use Rattle.model_link.specs.Events.{frame}
@@ -31,7 +31,7 @@ use Rattle.laws_trace.proofs.SeenAs.{IsSeenAs, seen-before, up-number}
 use Rattle.laws_trace.proofs.TimersAreTimely.{config-now, sound-now}
 use Rattle.laws_trace.proofs.WaitedBegins.{moments-both, after-both}
 use Rattle.laws_trace.specs.News.{brings, is_sabme}
-use Rattle.laws_trace.specs.Observer.{View, at_first, steps, views, view_of}
+use Rattle.laws_trace.specs.Observer.{View, steps, views, view_of}
 use Rattle.laws_trace.specs.Trace.{is_up}
 use Rattle.laws_order.proofs.Down.{stays-down}
 

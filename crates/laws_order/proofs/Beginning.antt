@@ -1,5 +1,5 @@
 -- Two ends that are in step to whoever watches them face each other as links do.
-use Rattle.laws_order.proofs.Vocabulary.{is_some, has_tei, on-line, LineTold, ◌≡◌, ℕ, zero, suc, ◌+◌, ◌-◌, ◌<◌, ◌≤◌, ◌==◌, true, false, IsTrue, List, [], ◌∷◌, ◌++◌, map, length, take, drop, slice_get, Option, Some, None, refl, sym, ap, ◌∙◌, subst, arith, length-drop, true≢false, All-append, All-cons, All-nil, option_map, option_map_or, unwrap_or, Control, Information, ReceiveReady, ReceiveNotReady, Reject, Service, Parts, ControlFrame, State, TeiAssigned, AwaitingRelease, Terms, T200, Link, is_multiple_frame, frame_of, state_number, Direction, frames_of, Carried, Means, Piece, Rising, Config, IsInRange, Line, link_in, link_of, place_in, terms, line_at, fresh_is_sound, frames_always_sound, Station, Wire, Act, requests, times_out, gives, takes, loses, turned, happens, Doing, station, assigned, calling, came, hears, expiry, request, next, Assign, Event, at, state_here, of_link_on, Past, Known, known, said_by, IsOfStep, AreOfStep, IsInStep, FaceInStep, kept_by}
+use Rattle.laws_order.proofs.Vocabulary.{is_some, has_tei, on-line, LineTold, ◌≡◌, ℕ, zero, suc, ◌+◌, ◌-◌, ◌<◌, ◌≤◌, ◌==◌, true, false, IsTrue, List, [], ◌∷◌, ◌++◌, map, length, take, drop, slice_get, Option, Some, None, refl, sym, ap, ◌∙◌, subst, arith, length-drop, true≢false, All-append, All-cons, All-nil, option_map, option_map_or, unwrap_or, Control, Service, Parts, ControlFrame, State, TeiAssigned, AwaitingRelease, Terms, T200, Link, is_multiple_frame, frame_of, state_number, Direction, frames_of, Carried, Means, Piece, Rising, Config, IsInRange, Line, link_in, link_of, place_in, terms, line_at, fresh_is_sound, frames_always_sound, Station, Wire, Act, requests, times_out, gives, takes, loses, turned, happens, Doing, station, assigned, calling, came, hears, expiry, request, next, Assign, Event, at, state_here, of_link_on, Past, Known, known, said_by, IsOfStep, AreOfStep, IsInStep, FaceInStep, kept_by}
 use Rattle.std.proofs.lemmas.List.{length-take}
 use Rattle.std.specs.Prelude.{min}
 use Rattle.std.proofs.lemmas.List.{drop-drop}

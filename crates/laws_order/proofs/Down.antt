@@ -1,6 +1,6 @@
 -- A link in states 4 to 6 stays there, whatever happens, as long as it hears I-frames, supervisory frames and unit data.
-use Rattle.laws_order.proofs.Vocabulary.{arith, ◌≡◌, ◌&&◌, Bool, true, false, cond, ap, ◌∙◌, refl, true≢false, Control, Information, ReceiveReady, ReceiveNotReady, Reject, Ui, Parts, State, TeiAssigned, AwaitingEstablishment, AwaitingRelease, Established, TimerRecovery, LinkTimer, T200, T203, Terms, received, overlong, Release, SetBusy, ClearBusy, expired, requested, offer, cleared, Link, is_multiple_frame, may_repeat, runs, is_overlong, is_faulty, by_frame, by_received, by_expiry, by_request, event-follows, after}
-use Rattle.model_link.specs.Events.{Event, frame, Request, Establish, Data}
+use Rattle.laws_order.proofs.Vocabulary.{arith, ◌≡◌, ◌&&◌, Bool, false, cond, ap, ◌∙◌, Control, Information, ReceiveReady, ReceiveNotReady, Reject, Ui, Parts, State, AwaitingEstablishment, LinkTimer, Terms, received, overlong, Link, is_multiple_frame, is_faulty, by_frame, by_received, by_expiry, by_request, event-follows, after}
+use Rattle.model_link.specs.Events.{Event, frame, Request}
 
 -- I-frames and supervisory frames; and what leaves such a link where it is.
 abbrev pub Speaks : Control → Type 0

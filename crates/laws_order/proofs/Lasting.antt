@@ -1,5 +1,5 @@
 -- Two cards of which one end, the far one, lasts in its establishment, whatever has become of the near one's: what goes to it.
-use Rattle.laws_order.proofs.Vocabulary.{◌≡◌, ℕ, zero, suc, ◌+◌, ◌<◌, ◌≤◌, false, List, [], ◌∷◌, ◌++◌, length, take, Option, Some, None, refl, sym, ap, ◌∙◌, arith, append-nil, inl, inr, slice_get, option_to_list, slice_get_within, Control, Information, ReceiveReady, ReceiveNotReady, Reject, Sabme, Disc, Ui, Ua, Dm, Frmr, Xid, Parts, carries-next, Carries, Piece, Carried, Means, Rising, Advance, HasNumber, is_ui}
+use Rattle.laws_order.proofs.Vocabulary.{◌≡◌, ℕ, zero, suc, ◌+◌, ◌<◌, ◌≤◌, false, List, [], ◌∷◌, ◌++◌, length, take, Option, Some, None, refl, sym, ap, ◌∙◌, arith, append-nil, inl, inr, slice_get, option_to_list, slice_get_within, Control, Information, ReceiveReady, ReceiveNotReady, Reject, Sabme, Disc, Parts, carries-next, Carries, Piece, Carried, Means, Rising, Advance, HasNumber, is_ui}
 use Rattle.laws_order.proofs.Down.{Speaks, Unheeded}
 use Rattle.laws_order.proofs.Putting.{Each, Answered, Reporting}
 

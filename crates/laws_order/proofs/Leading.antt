@@ -1,10 +1,9 @@
 -- Two cards whose links face each other: where anything that happens at one of them leads.
-use Rattle.laws_order.proofs.Vocabulary.{arith, ◌≡◌, ℕ, Bool, true, false, cond, List, [], ◌∷◌, ◌++◌, drop, get_or, Result, Ok, Err, refl, sym, ap, ◌∙◌, subst, append-nil, ◌⊎◌, inl, inr, get_or-set_other, ReadFault, Service, Parts, other_side, reading, Link, End, Joined, joined-turned, done-at, came, Config, hears, expiry, request, next, heard_side, fresh_line, link_of, line_at, after_is_sound, by_room, Seen, seen, Station, Wire, requests, times_out, gives, takes, loses, answered, happens, with_first_lost, Event, is_of_link, of_link_in, of_link_at, Deed, acts, disturbed, elsewhere, IsNotOf, IsElsewhere, IsPossibleAt, elsewhere_on, befalling, seen_by, data_noted, data_granted, of_link_on}
+use Rattle.laws_order.proofs.Vocabulary.{arith, ◌≡◌, ℕ, Bool, true, false, cond, List, [], ◌∷◌, ◌++◌, drop, Result, Ok, Err, refl, sym, ap, ◌∙◌, subst, append-nil, ◌⊎◌, inl, inr, get_or-set_other, ReadFault, Service, Parts, other_side, reading, Link, End, Joined, joined-turned, done-at, came, Config, hears, expiry, request, next, heard_side, link_of, line_at, after_is_sound, by_room, Seen, seen, Station, Wire, requests, times_out, gives, takes, loses, answered, happens, with_first_lost, Event, is_of_link, of_link_in, of_link_at, Deed, acts, disturbed, elsewhere, IsNotOf, IsElsewhere, IsPossibleAt, elsewhere_on, befalling, seen_by, data_noted, data_granted, of_link_on}
 use Rattle.laws_wire.specs.Wire.{comes}
 use Rattle.model_bits.specs.Stream as stream
 use Rattle.model_link.specs.Events as link
 use Rattle.model_link.specs.TwoEnds as two
-use Rattle.model_line.specs.Machine as lines
 use Rattle.model_card.specs.Event as card
 use Rattle.model_card.specs.Machine.{after}
 use Rattle.laws_order.proofs.Does.{Has, Does, IsKind}

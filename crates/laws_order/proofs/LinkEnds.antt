@@ -1,5 +1,5 @@
 -- An event of a link in state 7 or 8 leaves it there, or a note ends the establishment or renews it.
-use Rattle.laws_order.proofs.Vocabulary.{arith, ◌≡◌, ℕ, ◌==◌, ◌&&◌, ◌||◌, not, Bool, true, false, cond, IsTrue, List, [], ◌∷◌, ◌++◌, length, Some, None, refl, sym, ap, ◌∙◌, subst, eq-eqb, true≢false, ◌⊎◌, inl, inr, nat_lt, list_any, list_any-append, Control, Information, ReceiveReady, ReceiveNotReady, Reject, Sabme, Disc, Ui, Dm, Frmr, ErrorCode, Note, Parts, Seq, State, TeiAssigned, AwaitingEstablishment, AwaitingRelease, Established, TimerRecovery, LinkTimer, T200, T203, Terms, Link, is_multiple_frame, may_repeat, Received, received, undefined, wrong_size, overlong, expired, requested, offer, cleared, Release, Course, runs, takes_contents, as_heard, is_overlong, is_invalid, receipt_of, is_faulty, by_frame, by_received, by_expiry, by_request, state_after, is_anew, error, establish_indication, numbered_as, final_as, told_by, told_by_frame, told_malformed, told_expired, told_cleared, event-follows, service-same, is_own, is_ui, after, told, begun, ends_by_note}
+use Rattle.laws_order.proofs.Vocabulary.{arith, ◌≡◌, ℕ, ◌==◌, ◌&&◌, ◌||◌, not, Bool, true, false, cond, IsTrue, List, [], ◌∷◌, ◌++◌, Some, None, refl, sym, ap, ◌∙◌, subst, eq-eqb, ◌⊎◌, inl, inr, nat_lt, list_any, list_any-append, Control, Information, ReceiveReady, ReceiveNotReady, Reject, Sabme, Disc, Ui, Dm, Frmr, ErrorCode, Note, Parts, Seq, State, AwaitingEstablishment, Established, TimerRecovery, LinkTimer, Terms, Link, is_multiple_frame, Received, received, undefined, wrong_size, overlong, requested, Release, Course, as_heard, is_invalid, receipt_of, is_faulty, by_frame, by_received, by_expiry, by_request, state_after, is_anew, error, establish_indication, numbered_as, final_as, told_by, told_by_frame, told_malformed, told_expired, told_cleared, event-follows, service-same, is_own, is_ui, after, told, begun, ends_by_note}
 use Rattle.lapd_frame.specs.declared.notes.ErrorCode.TheVariants as code
 use Rattle.lapd_frame.specs.declared.notes.Note.TheVariants as notes
 use Rattle.model_link.specs.Events.{Event, frame, Request}

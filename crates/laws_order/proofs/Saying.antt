@@ -1,6 +1,6 @@
 -- The line from a station: the frames of the link that are on their way, and then those that wait; and what an event adds to it, in any
 -- state of the link.
-use Rattle.laws_order.proofs.Vocabulary.{◌≡◌, ℕ, ◌==◌, ◌&&◌, not, Bool, true, false, cond, IsTrue, List, [], ◌∷◌, ◌++◌, get_or, set, refl, sym, ap, ◌∙◌, subst, arith, append-nil, append_assoc, eq-eqb, true≢false, ◌⊎◌, inl, inr, All, option_map_or, get_or-set_same, All-nil, All-cons, Seq, Control, Information, ReceiveReady, ReceiveNotReady, Reject, Sabme, Disc, Ui, Service, Parts, sapi_of, place_of-is, Terms, Link, is_multiple_frame, frame_given, frames_of, frames-append, given_is_frame, Config, hears, Answer, heard_side, Line, fresh_line, link_in, link_of, terms, sound_in, terms_in_range, line_at, has_lines, by_room, event-follows, IsBy, sapi-is, is_for, is_ui, frames_given, Goes, event-goes, Station, answered, happens, frames_by, flat_map-append, fresh, Event, at, is_of_link, of_link_in, of_link_at, of_link_on}
+use Rattle.laws_order.proofs.Vocabulary.{◌≡◌, ℕ, ◌==◌, ◌&&◌, not, Bool, true, false, cond, IsTrue, List, [], ◌∷◌, ◌++◌, get_or, set, refl, sym, ap, ◌∙◌, subst, arith, append-nil, append_assoc, eq-eqb, ◌⊎◌, inl, inr, All, option_map_or, get_or-set_same, All-nil, All-cons, Seq, Control, Information, Service, Parts, sapi_of, place_of-is, Terms, Link, is_multiple_frame, frame_given, frames_of, frames-append, given_is_frame, Config, hears, Answer, heard_side, Line, fresh_line, link_in, link_of, terms, sound_in, terms_in_range, line_at, has_lines, by_room, event-follows, IsBy, sapi-is, is_for, is_ui, frames_given, Goes, event-goes, Station, answered, happens, frames_by, flat_map-append, fresh, Event, at, is_of_link, of_link_in, of_link_at, of_link_on}
 use Rattle.model_bits.specs.Stream as stream
 use Rattle.model_link.specs.Events as link
 use Rattle.model_link.specs.Machine as links

@@ -1,5 +1,5 @@
 -- What is seen of an event with its answer, of the link of a service with a TEI.
-use Rattle.laws_order.proofs.Vocabulary.{arith, ◌≡◌, ℕ, ◌||◌, Bool, true, false, cond, List, [], Some, None, refl, sym, ap, ◌∙◌, true≢false, append-nil, option_to_list, list_any, Refusal, Service, Config, hears, expiry, request, next, Answer, refused, gave, Line, notes_of, contents_in, is_data_of, is_granted, data_asked, frame_in, seen, frames_by, Request, data_noted, data_granted, ends_by_note, ends_by_request, ends_by}
+use Rattle.laws_order.proofs.Vocabulary.{arith, ◌≡◌, ℕ, Bool, true, cond, List, [], append-nil, option_to_list, list_any, Refusal, Service, Config, request, next, Answer, refused, Line, notes_of, contents_in, is_data_of, is_granted, data_asked, frame_in, seen, frames_by, Request, data_noted, data_granted, ends_by_note, ends_by_request, ends_by}
 use Rattle.model_line.specs.Event.{Event, told}
 use Rattle.model_line.specs.Machine as lines
 use Rattle.laws_order.proofs.LinkEnds.{or-true}

@@ -1,6 +1,5 @@
 -- What happens at an end of a circuit, as the card of frames inside has it.
-use Rattle.laws_order.proofs.Vocabulary.{arith, ◌≡◌, ℕ, Bool, true, false, cond, List, [], ◌++◌, Option, None, Some, option_map, refl, sym, ap, ◌∙◌, append-nil, option_map_or, Refusal, PoolFull, Effect, LineTold, nothing, refusal, Card, line_at, answer_to, card_after, answer_of, gained, is_due, Station, Request}
-use Rattle.model_bits.specs.Stream as stream
+use Rattle.laws_order.proofs.Vocabulary.{arith, ◌≡◌, ℕ, Bool, cond, List, [], Option, None, Some, option_map, append-nil, Refusal, PoolFull, Effect, LineTold, Card, answer_of, Station, Request}
 use Rattle.model_line.specs.Event as line
 use Rattle.model_line.specs.Machine as lines
 unfoldable use Rattle.model_line.specs.Machine.{answer as line_answer, takes_slot}
@@ -10,7 +9,6 @@ unfoldable use Rattle.model_card.specs.ports.Card.{after, answer, meant}
 use Rattle.model_card.specs.ports.Port as port
 use Rattle.laws_line.specs.Share as share
 use Rattle.laws_wire.specs.Wire as wire
-use Rattle.laws_wire.specs.Wire.{contents_of}
 use Rattle.laws_order.specs.circuit.Circuit.{Termination, port_of, happens, answered, told_by, unless_refused}
 use Rattle.laws_order.specs.circuit.Through.{is_granted}
 

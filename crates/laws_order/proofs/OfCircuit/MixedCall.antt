@@ -1,5 +1,5 @@
 -- What is done between a card of frames and one for octets is, at the card of frames inside, done on a wire of frames.
-use Rattle.laws_order.proofs.Vocabulary.{arith, ◌≡◌, ℕ, Bool, true, false, cond, List, [], ◌∷◌, ◌++◌, drop, flat_map, Option, None, Some, option_map, option_to_list, refl, sym, ap, ◌∙◌, subst, append-nil, All, All-nil, All-cons, All-head, All-tail, All-append, Service, other_side, Config, answer_to, is_due, Station, Wire, CanCall, calling, calls-come-through, twice-other, doing-append, IsCall}
+use Rattle.laws_order.proofs.Vocabulary.{arith, ◌≡◌, ℕ, Bool, true, false, cond, List, [], ◌∷◌, ◌++◌, drop, flat_map, Option, None, Some, option_map, option_to_list, refl, sym, ap, ◌∙◌, subst, append-nil, All, All-nil, All-cons, All-head, All-tail, All-append, Service, Config, answer_to, is_due, Station, Wire, CanCall, calling, calls-come-through, twice-other, doing-append, IsCall}
 use Rattle.model_bits.specs.Stream as stream
 use Rattle.model_line.specs.Event as line
 use Rattle.model_line.specs.Request.{Establish, Assign}

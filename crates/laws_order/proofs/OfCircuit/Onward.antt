@@ -1,11 +1,11 @@
 -- Beats as a list: what they leave, and what they add to what was told.
-use Rattle.laws_order.proofs.Vocabulary.{◌≡◌, ℕ, zero, suc, ◌+◌, List, [], ◌∷◌, ◌++◌, length, drop, Option, None, Some, option_to_list, refl, sym, ap, ◌∙◌, arith, append-nil, append_assoc, length-append, All, option_map_or, All-cons, All-nil, LineTold, said, answer_of, next_octet, with_item, beat}
+use Rattle.laws_order.proofs.Vocabulary.{◌≡◌, ℕ, zero, suc, ◌+◌, List, [], ◌∷◌, ◌++◌, length, drop, Option, option_to_list, refl, sym, ap, ◌∙◌, arith, append-nil, append_assoc, length-append, All, option_map_or, All-cons, All-nil, LineTold, said, answer_of, next_octet, with_item, beat}
 use Rattle.model_line.specs.Event as line
 unfoldable use Rattle.model_card.specs.ports.Card.{answer}
 use Rattle.model_card.specs.ports.Event.{at}
 use Rattle.model_card.specs.ports.Port as port
 unfoldable use Rattle.laws_order.specs.circuit.Beats.{beats}
-use Rattle.laws_order.specs.circuit.Circuit.{Termination, port_of, happens, told_by, unless_refused, with_first_of, Circuit, pulls, hears, OctetDoing, at_near, at_far, doing}
+use Rattle.laws_order.specs.circuit.Circuit.{Termination, port_of, happens, unless_refused, with_first_of, Circuit, pulls, hears, OctetDoing, at_near, at_far, doing}
 unfoldable use Rattle.laws_order.specs.circuit.Circuit.{doing_all}
 use Rattle.laws_order.proofs.OfCircuit.Projected.{doing_meant, heard-way}
 unfoldable use Rattle.laws_order.proofs.OfCircuit.Projected.{doings_meant}

@@ -1,5 +1,5 @@
 -- What a run keeps at one end of a circuit.
-use Rattle.laws_order.proofs.Vocabulary.{◌≡◌, ℕ, ◌<◌, ◌≤◌, ◌==◌, Bool, true, false, cond, List, [], ◌∷◌, ◌++◌, length, append_assoc, Option, None, Some, option_map, option_to_list, refl, sym, ap, ◌∙◌, subst, arith, append-nil, eq-eqb, All, All-append, All-cons, All-head, All-nil, AreOctets, Config, NextFrame, OctetCard, port_at, gained, is_due, left_of, longest_text, IsAtLine, AreAtLines, IsSoundPort, meant_at_lines, refined_card, on_its_way, heard_frames_are_octets, IsOnItsWay, pulls_are_takes, always_sound, fresh_octets_sound, port_sound, config_stays, moments-append, all-right, contents_given, HasOctets, GivesOctets, seen, seen_told, trace, trace_of, frames_begun, frames-are-octets, IsInRange}
+use Rattle.laws_order.proofs.Vocabulary.{◌≡◌, ℕ, ◌<◌, ◌≤◌, ◌==◌, Bool, cond, List, [], ◌∷◌, ◌++◌, length, append_assoc, Option, None, Some, option_map, option_to_list, refl, sym, ap, ◌∙◌, subst, arith, append-nil, eq-eqb, All, All-append, All-cons, All-head, All-nil, AreOctets, Config, NextFrame, OctetCard, port_at, gained, is_due, left_of, longest_text, IsAtLine, AreAtLines, IsSoundPort, meant_at_lines, refined_card, on_its_way, heard_frames_are_octets, IsOnItsWay, pulls_are_takes, always_sound, fresh_octets_sound, port_sound, config_stays, moments-append, all-right, contents_given, HasOctets, GivesOctets, seen, seen_told, trace, trace_of, frames_begun, frames-are-octets, IsInRange}
 use Rattle.std.proofs.lemmas.Grind.{flat_map-append}
 use Rattle.model_bits.specs.Stream as stream
 use Rattle.model_line.specs.Event as line
@@ -8,7 +8,7 @@ use Rattle.model_card.specs.Card as cards
 use Rattle.model_card.specs.Event as frames
 use Rattle.model_card.specs.Machine as machine
 use Rattle.model_card.specs.Run as runs
-unfoldable use Rattle.model_card.specs.Run.{after_all as frames_after, moments as frame_moments}
+unfoldable use Rattle.model_card.specs.Run.{moments as frame_moments}
 use Rattle.model_card.specs.ports.Card.{fresh}
 unfoldable use Rattle.model_card.specs.ports.Card.{after, meant}
 use Rattle.model_card.specs.ports.Event.{Event, at}
@@ -17,7 +17,6 @@ use Rattle.model_card.specs.ports.Port as port
 unfoldable use Rattle.model_card.specs.ports.Run.{after_all, meant_all}
 use Rattle.model_card.specs.ports.Sound.{IsSound}
 use Rattle.laws_trace.specs.Trace as traces
-use Rattle.laws_trace.specs.Trace.{begun}
 use Rattle.laws_order.specs.circuit.Circuit.{Termination, port_of, happens}
 
 -- ---- one event more

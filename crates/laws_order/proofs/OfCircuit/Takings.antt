@@ -1,6 +1,5 @@
 -- How often a frame is taken: at most half as often as there are turns, since each was given first.
-use Rattle.laws_order.proofs.Vocabulary.{◌≡◌, ℕ, ◌+◌, ◌*◌, ◌≤◌, Bool, false, List, [], ◌∷◌, ◌++◌, length, drop, None, Some, refl, ap, arith, length-append, All, if◌then◌else◌, All-head, All-tail, Service, Answer, Station, Wire, Act, Doing, frames_by, is_any, asks-way, takes-way, All-cons, All-nil, IsTalkOf, IsTalk}
-use Rattle.model_line.specs.Event as line
+use Rattle.laws_order.proofs.Vocabulary.{◌≡◌, ℕ, ◌+◌, ◌*◌, ◌≤◌, Bool, false, List, [], ◌∷◌, ◌++◌, length, drop, arith, length-append, All, if◌then◌else◌, All-head, All-tail, Service, Answer, Station, Wire, Act, Doing, frames_by, is_any, asks-way, takes-way, All-cons, All-nil, IsTalkOf, IsTalk}
 use Rattle.laws_wire.specs.Call as call
 use Rattle.laws_wire.specs.Wire as wire
 unfoldable use Rattle.laws_wire.specs.Wire.{doing_all, turns}

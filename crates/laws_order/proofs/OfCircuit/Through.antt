@@ -1,5 +1,5 @@
 -- A call by octets is a call of frames.
-use Rattle.laws_order.proofs.Vocabulary.{arith, ◌≡◌, ℕ, ◌<◌, List, [], ◌∷◌, ◌++◌, refl, sym, ap, ◌∙◌, subst, append-nil, All, append_cancel_left, All-nil, Service, Item, idle, heard_in, AreOctets, Config, Assign, frames_among, Port, fresh_port, IsAtLine, IsSoundPort, fresh_at, GivesOctets, CanCall, Wire, IsStill, calls-come-through, IsInRange, Bool, true, false, ◌||◌, cond, Option, None, Some, is_some, option_map, option_to_list, All-head, All-tail, gained, is_due, Request}
+use Rattle.laws_order.proofs.Vocabulary.{arith, ◌≡◌, ℕ, ◌<◌, List, [], ◌∷◌, ◌++◌, refl, sym, ap, ◌∙◌, subst, append-nil, All, append_cancel_left, All-nil, Service, Item, idle, heard_in, AreOctets, Config, Assign, frames_among, Port, fresh_port, IsAtLine, IsSoundPort, fresh_at, GivesOctets, CanCall, Wire, IsStill, calls-come-through, IsInRange, Bool, false, ◌||◌, cond, Option, None, Some, is_some, option_map, option_to_list, All-head, All-tail, is_due, Request}
 use Rattle.model_line.specs.Event as line_event
 use Rattle.model_line.specs.Request.{Request, Establish}
 unfoldable use Rattle.model_card.specs.Run.{moments as frame_moments}
@@ -14,7 +14,6 @@ use Rattle.laws_order.proofs.OfCircuit.AsFrames.{asked-as}
 use Rattle.laws_order.proofs.OfCircuit.OneWay.{Carries, all-given, framed}
 use Rattle.laws_order.proofs.OfCircuit.Projected.{as_wire, doings_meant, port-after, asked-way, Fits, Follows, Done, all-done}
 use Rattle.laws_order.proofs.OfCircuit.Ran.{Ran, goes-on, within-ports, sound-port, on-line}
-use Rattle.model_line.specs.Request as asked
 use Rattle.laws_line.specs.Share as share
 unfoldable use Rattle.laws_wire.specs.Call.{both_call as frames_both}
 unfoldable use Rattle.laws_wire.specs.Wire.{doing_all as frames_done}

@@ -1,7 +1,7 @@
 -- Where no turn is left the two cards face each other again.
-use Rattle.laws_wire.proofs.Vocabulary.{◌≡◌, ℕ, ◌<◌, ◌||◌, [], length, Some, None, option_map, sym, ap, subst, ◌∙◌, arith, Service, Link, state_number, End, Config, state_in, has_lines, line_sound, next, gave, Steady, Station, Wire, IsStill, answered, Face, Speaks, own_link, AreOpposite}
+use Rattle.laws_wire.proofs.Vocabulary.{◌≡◌, ℕ, ◌<◌, ◌||◌, [], length, None, option_map, sym, ap, subst, ◌∙◌, arith, Service, Link, End, Config, has_lines, line_sound, next, gave, Steady, Station, Wire, IsStill, answered, Face, Speaks, own_link, AreOpposite}
 use Rattle.laws_link.specs.two.Rounds.{HasArrived}
-use Rattle.laws_wire.specs.Facing.{line_of, is_busy}
+use Rattle.laws_wire.specs.Facing.{is_busy}
 use Rattle.laws_wire.proofs.Alone.{link-is, still-alone}
 use Rattle.laws_wire.proofs.Run.{arrived, none-given, way-empty}
 use Rattle.laws_wire.proofs.Standing.{Stands}

@@ -11,8 +11,8 @@ use Rattle.laws_wire.specs.Facing.{line_of}
 use Rattle.laws_wire.proofs.Awaited.{NoneOpen, closed, may-there, open-here, link-is, runs-up}
 use Rattle.laws_wire.proofs.Held.{Held}
 use Rattle.laws_wire.proofs.Loose.{loose-turned}
-use Rattle.laws_wire.proofs.LooseRounds.{rounds-at}
-use Rattle.laws_wire.proofs.LooseUp.{LooseAt, at-turned, at-expires}
+use Rattle.laws_wire.proofs.LooseRounds.{rounds-keep}
+use Rattle.laws_wire.proofs.LooseUp.{LooseAt, at-turned, at-expires, at-gives, at-takes}
 use Rattle.laws_wire.proofs.Standing.{Stands, gives-none}
 use Rattle.laws_wire.proofs.Talking.{Face}
 use Rattle.laws_wire.proofs.TimelyArrives.{cut-off, no-answer}
@@ -29,6 +29,14 @@ stops l h state all free = grind (arith, eq-eqb)
 module _ (service : Service) (tei : ℕ) (c d : Config) (p q : ℕ) (face : Face c d) (back : Face d c) (past other : List LineTold) where
   abbrev At : Wire → End → End → Type 0
   At w n m = LooseAt service tei c d p q past other w n m
+
+  -- so it is round after round
+  loose-rounds : (k : ℕ) (w : Wire) (e : Ends) → At w e.near e.far → At (rounds k w) (two_links.rounds k e).near (two_links.rounds k e).far
+  loose-rounds =
+      rounds-keep (λ w e. At w e.near e.far) (λ w e. LooseAt service tei d c q p other past w e.near e.far)
+      (λ w e. at-turned service tei c d p q past other w e.near e.far) (λ w e. at-turned service tei d c q p other past w e.near e.far)
+      (λ w e. at-gives service tei c d p q face past other w e.near e.far) (λ w e. at-gives service tei d c q p back other past w e.near e.far)
+      (λ w e. at-takes service tei c d p q face past other w e.near e.far) (λ w e. at-takes service tei d c q p back other past w e.near e.far)
 
   missing : (told : List LineTold) (r u : ℕ) (granted delivered : List (List ℕ)) (heard : List LineTold) → r ≤ length granted → delivered ≡ take r granted
       → heard ≡ told ++ map (data_told service tei) delivered → length (told ++ map (data_told service tei) granted) ≤ length heard + u → length granted ≤ r + u
@@ -116,4 +124,4 @@ module _ (service : Service) (tei : ℕ) (c d : Config) (p q : ℕ) (face : Face
         (subst (λ xs. length (past ++ map (data_told service tei) xs) ≤ length (heard_in w.near) + u) h.far.granted few-near) in
         let all = all-recovered u e near-cut far-cut there back_ in
         settled (rounds (u + 3) (with_t200_expired service tei w)) (two_links.rounds (u + 3) e')
-        (rounds-at service tei c d p q face back past other (u + 3) (with_t200_expired service tei w) e' both-expired) all.0 all.1 (free-recovered u e near-cut far-cut there back_)
+        (loose-rounds (u + 3) (with_t200_expired service tei w) e' both-expired) all.0 all.1 (free-recovered u e near-cut far-cut there back_)

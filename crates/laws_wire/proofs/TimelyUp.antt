@@ -12,7 +12,7 @@ use Rattle.laws_wire.proofs.Firm.{timer-quiet, Firm, firm-turned, firm-sends, fi
 use Rattle.laws_wire.proofs.Held.{Held, held-given, held-lost, held-taken, held-expired, Grants, held-asked}
 use Rattle.laws_wire.proofs.Joint.{timer-goes}
 use Rattle.laws_wire.proofs.LossyPhases.{for-data, Aims}
-use Rattle.laws_wire.proofs.LooseRounds.{rounds-keep}
+use Rattle.laws_wire.proofs.RoundsKeep.{rounds-keep}
 use Rattle.laws_wire.proofs.Standing.{IsCarried, Stands, still-gives-none}
 use Rattle.laws_wire.proofs.Talking.{Face, no-way}
 

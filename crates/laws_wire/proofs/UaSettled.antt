@@ -11,8 +11,8 @@ use Rattle.laws_wire.specs.Facing.{line_of}
 use Rattle.laws_wire.proofs.Awaited.{NoneOpen, closed, may-there, open-here, link-is, runs-up}
 use Rattle.laws_wire.proofs.Held.{Held}
 use Rattle.laws_wire.proofs.Loose.{loose-turned}
-use Rattle.laws_wire.proofs.LooseRounds.{rounds-keep}
 use Rattle.laws_wire.proofs.LooseUp.{LooseAt, at-turned, at-expires, at-gives, at-takes}
+use Rattle.laws_wire.proofs.RoundsKeep.{rounds-keep}
 use Rattle.laws_wire.proofs.Standing.{Stands, gives-none}
 use Rattle.laws_wire.proofs.Talking.{Face}
 use Rattle.laws_wire.proofs.TimelyArrives.{cut-off, no-answer}

@@ -1,5 +1,5 @@
 -- What happens at an end of a circuit, as the card of frames inside has it.
-use Rattle.laws_order.proofs.Vocabulary.{arith, ◌≡◌, ℕ, Bool, cond, List, [], Option, None, Some, option_map, append-nil, Refusal, PoolFull, Effect, LineTold, Card, answer_of, Station, Request}
+use Rattle.laws_order.proofs.Vocabulary.{arith, ◌≡◌, ℕ, Bool, cond, List, [], Option, None, Some, option_map, append-nil, Refusal, PoolFull, Effect, answer_of, Station, Request}
 use Rattle.model_line.specs.Event as line
 use Rattle.model_line.specs.Machine as lines
 unfoldable use Rattle.model_line.specs.Machine.{answer as line_answer, takes_slot}
@@ -27,10 +27,6 @@ if_meant (Some f) x = wire.happens f x
 -- An end is as the card of frames has it.
 abbrev IsAs : Termination → Station → Type 0
 IsAs s x = as_station x.way s ≡ x
-
--- the fields of one
-abbrev with_fields : Card → ℕ → List (List ℕ) → List (List ℕ) → List LineTold → Station
-with_fields card number way granted told = record { card = card; line = number; way = way; granted = granted; told = told }
 
 -- what is told and granted by an answer
 same-told : (a : line.Answer) → told_by (answer_of a) ≡ wire.told_by a
